@@ -1,0 +1,101 @@
+-- What a chain has given of a signal stays when the signal goes on, and is the beginning of what it gives of the whole.
+use Rattle.std.proofs.Common.{◌≡◌, ℕ, ◌*◌, ◌/◌, ℤ, List, [], ◌∷◌, ◌++◌, map, refl, sym, ap, ◌∙◌, nat_abs}
+use Rattle.dsp_defs.specs.Signal.{sample}
+use Rattle.dsp_defs.specs.Sums.{fir, sparse, decimate, interpolate, conv, conv_partial}
+use Rattle.dsp_defs.specs.Lattice.{lattice_fir, lattice_iir}
+use Rattle.dsp_defs.specs.Biquad.{biquad, biquad64}
+use Rattle.dsp_defs.specs.Adaptive.{Adapted, pid, lms}
+use Rattle.dsp_defs.specs.Matrix.{each_group, added, subtracted, scaled, transposed, multiplied}
+use Rattle.dsp_defs.specs.Streaming.{Begins, Continues, IsCausal}
+use Rattle.dsp_defs.specs.Block.{Frame, each_channel, whole, live, live_conv, live_conv_partial, FeedsThrough, EndsWith, whole_chain, live_chain, format_after, channels_after}
+use Rattle.dsp_defs.specs.declared.format.Fmt.{Fmt}
+use Rattle.dsp_defs.specs.declared.script.Block.{Block}
+use Rattle.dsp_defs.specs.declared.script.Block.TheVariants.{Fir, Sparse, Decimate, Interpolate, LatticeFir, LatticeIir, Biquad, Biquad64, Conv, ConvPartial, Correlate, Lms, Pid, MatAdd, MatSub, MatScale, MatTrans, MatMult, Power, Dot, CmplxDot, Max, Min}
+use Rattle.dsp_defs.proofs.Causal.{GivesByLength, each_channel_begins, map_causal}
+use Rattle.dsp_defs.proofs.Streaming.{causal_chain, continues_chain}
+use Rattle.std.proofs.lemmas.List.{append-nil, append_assoc}
+use Rattle.dsp_defs.proofs.BlockLaws.{fir_causal, sparse_causal, decimate_causal, interpolate_causal, each_group_causal, biquad_causal, biquad64_causal, pid_causal, lattice_fir_causal, lattice_iir_causal, lms_causal, live_conv_causal, live_conv_begins, live_conv_partial_causal, live_conv_partial_begins, values_by_length, by_length, length-biquad, length-biquad64, length-pid, length-lattice_fir, length-lattice_iir, live_conv_by_length, live_conv_partial_by_length}
+
+-- a block that works on each channel
+each_causal : (channels : ℕ) (f : List ℤ → List ℤ) → GivesByLength f → IsCausal f → IsCausal (each_channel channels f)
+each_causal channels f f_length f_causal = each_channel_begins f f f_length f_causal channels
+
+group_causal : (channels taken given : ℕ) (result : List ℤ → ℕ → ℤ) → IsCausal (each_channel channels (each_group taken given result))
+group_causal channels taken given result =
+    each_causal channels (each_group taken given result) (values_by_length (λ n. n / taken * given) _) (each_group_causal taken given result)
+
+same_causal : IsCausal (λ (x : List Frame). x)
+same_causal x more = (more, refl)
+
+pub live_causal : (format : Fmt) (channels : ℕ) (block : Block) → IsCausal (live format channels block)
+live_causal format channels (Conv taps) = each_causal channels (live_conv format taps) (live_conv_by_length format taps) (live_conv_causal format taps)
+live_causal format channels (ConvPartial first count taps) =
+    each_causal channels (live_conv_partial format first count taps) (live_conv_partial_by_length format first count taps) (live_conv_partial_causal format first count taps)
+live_causal format channels (Correlate taps) = λ x more. ([], refl)
+live_causal format channels (Fir taps) = each_causal channels (fir format taps) (values_by_length (λ n. n) _) (fir_causal format taps)
+live_causal format channels (Sparse taps delays) = each_causal channels (sparse format taps (map nat_abs delays)) (values_by_length (λ n. n) _) (sparse_causal format taps (map nat_abs delays))
+live_causal format channels (Decimate factor taps) = each_causal channels (decimate format factor taps) (values_by_length (λ n. n / factor) _) (decimate_causal format factor taps)
+live_causal format channels (Interpolate factor taps) = each_causal channels (interpolate format factor taps) (values_by_length (λ n. n * factor) _) (interpolate_causal format factor taps)
+live_causal format channels (LatticeFir k) = each_causal channels (lattice_fir k) (by_length (lattice_fir k) (length-lattice_fir k)) (lattice_fir_causal k)
+live_causal format channels (LatticeIir k v) = each_causal channels (lattice_iir format k v) (by_length (lattice_iir format k v) (length-lattice_iir format k v)) (lattice_iir_causal format k v)
+live_causal format channels (Biquad p coefficients) = each_causal channels (biquad format p coefficients) (by_length (biquad format p coefficients) (length-biquad format p coefficients)) (biquad_causal format p coefficients)
+live_causal format channels (Biquad64 p coefficients) = each_causal channels (biquad64 p coefficients) (by_length (biquad64 p coefficients) (length-biquad64 p coefficients)) (biquad64_causal p coefficients)
+live_causal format channels (Pid kp ki kd) = each_causal channels (pid format kp ki kd) (by_length (pid format kp ki kd) (length-pid format kp ki kd)) (pid_causal format kp ki kd)
+live_causal format channels (MatAdd rows columns matrix) = group_causal channels (rows * columns) (rows * columns) (added format matrix)
+live_causal format channels (MatSub rows columns matrix) = group_causal channels (rows * columns) (rows * columns) (subtracted format matrix)
+live_causal format channels (MatScale rows columns fract shift) = group_causal channels (rows * columns) (rows * columns) (scaled format fract shift)
+live_causal format channels (MatTrans rows columns) = group_causal channels (rows * columns) (rows * columns) (transposed rows columns)
+live_causal format channels (MatMult rows columns given matrix) = group_causal channels (rows * columns) (rows * given) (multiplied columns given matrix)
+live_causal format channels (Lms p mu taps) =
+    causal_chain (λ x. lms format p mu taps (map (λ f. (sample f 0, sample f 1)) x)) (map (λ (a : Adapted). a.output ∷ a.error ∷ []))
+    (causal_chain (map (λ f. (sample f 0, sample f 1))) (lms format p mu taps) (map_causal _) (lms_causal format p mu taps)) (map_causal _)
+live_causal format channels Power = same_causal
+live_causal format channels Dot = same_causal
+live_causal format channels CmplxDot = same_causal
+live_causal format channels Max = same_causal
+live_causal format channels Min = same_causal
+live_causal format channels _ = map_causal _
+
+pub whole_begins : (format : Fmt) (channels : ℕ) (block : Block) (x more : List Frame) → Begins (live format channels block x) (whole format channels block (x ++ more))
+whole_begins format channels (Conv taps) = each_channel_begins (live_conv format taps) (conv format taps) (live_conv_by_length format taps) (live_conv_begins format taps) channels
+whole_begins format channels (ConvPartial first count taps) =
+    each_channel_begins (live_conv_partial format first count taps) (conv_partial format first count taps) (live_conv_partial_by_length format first count taps) (live_conv_partial_begins format first count taps) channels
+whole_begins format channels (Correlate taps) = λ x more. (whole format channels (Correlate taps) (x ++ more), refl)
+whole_begins format channels block = live_causal format channels block
+
+-- ---- chains
+
+pub live_chain_causal : (format : Fmt) (channels : ℕ) (blocks : List Block) → IsCausal (live_chain format channels blocks)
+live_chain_causal format channels [] = same_causal
+live_chain_causal format channels (block ∷ blocks) =
+    causal_chain (live format channels block) (live_chain (format_after format block) (channels_after channels block) blocks) (live_causal format channels block) (live_chain_causal (format_after format block) (channels_after channels block) blocks)
+
+pub whole_chain_begins : (format : Fmt) (channels : ℕ) (blocks : List Block) (x more : List Frame) → Begins (live_chain format channels blocks x) (whole_chain format channels blocks (x ++ more))
+whole_chain_begins format channels [] x more = (more, refl)
+whole_chain_begins format channels (block ∷ blocks) x more =
+    let (ys, e) = whole_begins format channels block x more in
+    let (zs, e') = whole_chain_begins (format_after format block) (channels_after channels block) blocks (live format channels block x) ys in
+    (zs, ap (whole_chain (format_after format block) (channels_after channels block) blocks) e ∙ e')
+
+-- pieces that go through the blocks are what the chain gives
+pub feeds_through : (format : Fmt) (channels : ℕ) (blocks : List Block) (x more ys : List Frame) → FeedsThrough format channels blocks x more ys → Continues (live_chain format channels blocks) x more ys
+feeds_through format channels [] x more ys e = ap (λ r. x ++ r) (sym e)
+feeds_through format channels (block ∷ blocks) x more ys h =
+    continues_chain (live format channels block) (live_chain (format_after format block) (channels_after channels block) blocks) x more h.0 ys
+    h.1 (feeds_through (format_after format block) (channels_after channels block) blocks (live format channels block x) h.0 ys h.2)
+
+-- tails that go through the blocks are what the chain still has to give
+pub ends_with : (format : Fmt) (channels : ℕ) (blocks : List Block) (x ys : List Frame) → EndsWith format channels blocks x ys → whole_chain format channels blocks x ≡ live_chain format channels blocks x ++ ys
+ends_with format channels [] x ys e = sym (append-nil x) ∙ ap (λ r. x ++ r) (sym e)
+ends_with format channels (block ∷ blocks) x ys h =
+    let tail = h.0 in
+    let fed = h.1 in
+    let later = h.2 in
+    let f = format_after format block in
+    let c = channels_after channels block in
+    let given = live format channels block x in
+    ap (whole_chain f c blocks) h.3
+    ∙ ends_with f c blocks (given ++ tail) later h.5
+    ∙ ap (λ r. r ++ later) (feeds_through f c blocks given tail fed h.4)
+    ∙ append_assoc (live_chain f c blocks given) fed later
+    ∙ ap (λ r. live_chain f c blocks given ++ r) (sym h.6)

@@ -1,0 +1,10 @@
+pub mod Signal
+pub mod Streaming
+pub mod Causal
+pub mod BlockLaws
+pub mod ChainLaws
+pub mod BytesLaws
+pub mod FrameLaws
+pub mod OutputLaws
+pub mod CountLemmas
+pub mod FormatLemmas

@@ -1,0 +1,89 @@
+-- What a chain costs: multiplies, and turns of loops.
+use Rattle.std.specs.Prelude.{ℕ, zero, suc, ◌+◌, ◌-◌, ◌*◌, ◌/◌, ◌%◌, min, ℤ, List, [], ◌∷◌, length}
+use Rattle.std.specs.Int.{div_ceil}
+use Rattle.dsp_defs.specs.Formats.{lanes}
+use Rattle.dsp_defs.specs.Block.{format_after, channels_after}
+use Rattle.dsp_defs.specs.Shape.{whole_frames, live_frames}
+use Rattle.dsp_defs.specs.declared.format.Fmt.{Fmt}
+use Rattle.dsp_defs.specs.declared.format.Fmt.TheVariants.{Q15}
+use Rattle.dsp_defs.specs.declared.script.Block.{Block}
+use Rattle.dsp_defs.specs.declared.script.Block.TheVariants.{Scale, Mult, CmplxMult, CmplxMultReal, MagSquared, Fir, Sparse, Decimate, Interpolate, LatticeFir, LatticeIir, Biquad, Biquad64, Conv, ConvPartial, Correlate, Lms, Pid, MatScale, MatMult, Power, Dot, CmplxDot}
+
+-- the number of sections in a list of biquad coefficients
+abbrev pub section_count : Fmt → List ℤ → ℕ
+section_count Q15 coefficients = length coefficients / 6
+section_count _ coefficients = length coefficients / 5
+
+-- the multiplies for n frames taken on c channels and n' frames given
+abbrev pub block_cost : Fmt → ℕ → Block → ℕ → ℕ → ℕ
+block_cost format c (Scale fract shift) n n' = c * n
+block_cost format c Mult n n' = n
+block_cost format c CmplxMult n n' = 4 * n
+block_cost format c CmplxMultReal n n' = 2 * n
+block_cost format c MagSquared n n' = 2 * n
+block_cost format c (Fir taps) n n' = c * n * length taps
+block_cost format c (Sparse taps delays) n n' = c * n * length taps
+block_cost format c (Decimate factor taps) n n' = c * n' * length taps
+block_cost format c (Interpolate factor taps) n n' = c * n * length taps
+block_cost format c (LatticeFir k) n n' = c * n * (2 * length k)
+block_cost format c (LatticeIir k v) n n' = c * n * (3 * length k + 1)
+block_cost format c (Biquad post_shift coefficients) n n' = c * n * (5 * section_count format coefficients)
+block_cost format c (Biquad64 post_shift coefficients) n n' = c * n * (5 * section_count format coefficients)
+block_cost format c (Conv taps) n n' = c * n' * length taps
+block_cost format c (ConvPartial first count taps) n n' = c * n' * length taps
+block_cost format c (Correlate taps) n n' = c * n * length taps
+block_cost format c (Lms post_shift mu taps) n n' = n * (2 * length taps + 1)
+block_cost format c (Pid kp ki kd) n n' = c * n * 3
+block_cost format c (MatScale rows columns fract shift) n n' = c * n'
+block_cost format c (MatMult rows columns given matrix) n n' = c * (n / (rows * columns)) * rows * columns * given
+block_cost format c Power n n' = c * n
+block_cost format c Dot n n' = n
+block_cost format c CmplxDot n n' = 4 * n
+block_cost format c _ n n' = 0
+
+abbrev pub whole_block_cost : Fmt → ℕ → Block → ℕ → ℕ
+whole_block_cost format c block n = block_cost format c block n (whole_frames block n)
+
+abbrev pub live_block_cost : Fmt → ℕ → Block → ℕ → ℕ
+live_block_cost format c (Correlate taps) n = 0
+live_block_cost format c block n = block_cost format c block n (live_frames block n)
+
+-- the cost of a chain for n frames, of a whole signal and of one that may go on
+abbrev pub cost : Fmt → ℕ → List Block → ℕ → ℕ
+cost format c [] n = 0
+cost format c (block ∷ blocks) n =
+    whole_block_cost format c block n + cost (format_after format block) (channels_after c block) blocks (whole_frames block n)
+
+abbrev pub live_cost : Fmt → ℕ → List Block → ℕ → ℕ
+live_cost format c [] n = 0
+live_cost format c (block ∷ blocks) n =
+    live_block_cost format c block n + live_cost (format_after format block) (channels_after c block) blocks (live_frames block n)
+
+-- the turns of a loop over n elements by lanes
+abbrev pub lane_turns : Fmt → ℕ → ℕ
+lane_turns format n = n / lanes format + n % lanes format
+
+-- the turn bound of a block that went from m to n live frames taken
+abbrev pub block_turns : Fmt → ℕ → Block → ℕ → ℕ → ℕ
+block_turns format c (Fir taps) m n = c * length taps * lane_turns format (n - m)
+block_turns format c (Sparse taps delays) m n = c * length taps * lane_turns format (n - m)
+block_turns format c (Conv taps) m n = c * length taps * lane_turns format (n - m)
+block_turns format c (Interpolate factor taps) m n = c * length taps * lane_turns format (n - m)
+block_turns format c (Decimate factor taps) m n = c * (n / factor - m / factor) * lane_turns format (length taps)
+block_turns format c block m n = live_block_cost format c block n - live_block_cost format c block m
+
+-- the turn bound of a chain that went from m to n input frames
+abbrev pub chain_turns : Fmt → ℕ → List Block → ℕ → ℕ → ℕ
+chain_turns format c [] m n = 0
+chain_turns format c (block ∷ blocks) m n =
+    block_turns format c block m n + chain_turns (format_after format block) (channels_after c block) blocks (live_frames block m) (live_frames block n)
+
+-- the sum over blocks of `size` frames and a last shorter one
+abbrev pub turns_by_blocks : Fmt → ℕ → List Block → ℕ → ℕ → ℕ → ℕ
+turns_by_blocks format c blocks size n zero = 0
+turns_by_blocks format c blocks size n (suc i) =
+    turns_by_blocks format c blocks size n i + chain_turns format c blocks (i * size) (min (suc i * size) n)
+
+abbrev pub turns : Fmt → ℕ → List Block → ℕ → ℕ → ℕ
+turns format c blocks size n =
+    cost format c blocks n - live_cost format c blocks n + turns_by_blocks format c blocks size n (div_ceil n size)

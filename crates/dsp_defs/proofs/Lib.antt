@@ -8,3 +8,4 @@ pub mod FrameLaws
 pub mod OutputLaws
 pub mod CountLemmas
 pub mod FormatLemmas
+pub mod SumLemmas

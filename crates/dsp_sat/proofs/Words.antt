@@ -1,0 +1,80 @@
+-- Numbers of a width: their products and shifts, and wrapping by a Euclidean remainder.
+use Rattle.std.proofs.Common.{◌≡◌, pow_mono, ◌∙◌, ap, ℕ, ◌%◌, ◌≤ℤ◌, ◌+◌, ◌*◌, ◌≤◌, ◌<◌, ℤ, pos, negsuc, ◌^◌, ◌*ℤ◌, to_z, of_z, SFits, unsigned_abs, arith}
+use Rattle.std.specs.Int.{Width, int_wrap, int_rem_euclid}
+use Rattle.std.proofs.lemmas.Int.{to_z-of_z, fits_signed_mul, unsigned_abs-mul, wrapping_mul_is, int_wrap_fits, ints}
+use Rattle.std.proofs.Math.Pow.{shr_lt}
+use Rattle.std.proofs.Math.Nat.{mul-le-mul}
+use mir.Val.{bits as bits_of, hbits}
+use lib.Signed.{shr_z, mag, mag_shr}
+use Rattle.dsp_defs.specs.Numbers.{wrap, saturate, ◌>>◌}
+use Rattle.dsp_defs.specs.Elementwise.{shift_in}
+
+-- the remainder of v, taken at the width u and read as a signed number of the width w, is v wrapped
+pub remainder_wraps :
+    (w u : Width) (v r s : ℤ) → SFits u v → SFits u r → SFits w s →
+    r ≡ int_rem_euclid (to_z u (of_z u v)) (pos (2 ^ bits_of w)) →
+    s ≡ to_z w (unsigned_abs (to_z u (of_z u r))) → to_z w (of_z w s) ≡ wrap w v
+unfolding int_wrap
+remainder_wraps w u v r s fits_v fits_r fits_s remainder word =
+    to_z-of_z w s fits_s
+    ∙ word
+    ∙ ap (λ t. to_z w (unsigned_abs t)) (to_z-of_z u r fits_r ∙ remainder ∙ ap (λ t. int_rem_euclid t (pos (2 ^ bits_of w))) (to_z-of_z u v fits_v))
+
+pub abs_within : (w : Width) (z : ℤ) → SFits w z → unsigned_abs z ≤ 2 ^ hbits w
+abs_within w (pos n) fits = omega (arith, fits.sfits)
+abs_within w (negsuc n) fits = omega (arith, fits.sfits)
+
+-- a product of numbers of two widths, at a third
+pub product_fits :
+    (w u v : Width) (a b : ℤ) → SFits u a → SFits v b → 2 ^ hbits u * 2 ^ hbits v < 2 ^ hbits w → SFits w (a *ℤ b)
+product_fits w u v a b fits_a fits_b room =
+    fits_signed_mul w a b (2 ^ hbits u) (2 ^ hbits v) (abs_within u a fits_a) (abs_within v b fits_b) room
+
+mag_below : (z : ℤ) (m n : ℕ) → unsigned_abs z ≤ m → m < n → mag z < n
+mag_below (pos k) m n le below = omega arith
+mag_below (negsuc k) m n le below = omega arith
+
+-- a floor shift by k places gains k bits of room
+pub shift_fits : (w : Width) (z : ℤ) (k : ℕ) → mag z < 2 ^ (hbits w + k) → SFits w (shr_z z (2 ^ k))
+shift_fits w (pos n) k below = record { sfits = shr_lt (hbits w) k below }
+shift_fits w (negsuc n) k below = record { sfits = shr_lt (hbits w) k below }
+
+-- the product of numbers of two widths, shifted, at a third
+pub product_shift_fits :
+    (w u v : Width) (a b : ℤ) (k : ℕ) → SFits u a → SFits v b → 2 ^ hbits u * 2 ^ hbits v < 2 ^ (hbits w + k) →
+    SFits w (shr_z (a *ℤ b) (2 ^ k))
+product_shift_fits w u v a b k fits_a fits_b room =
+    shift_fits w (a *ℤ b) k
+    (mag_below (a *ℤ b) (2 ^ hbits u * 2 ^ hbits v) (2 ^ (hbits w + k))
+    (rw unsigned_abs-mul (mul-le-mul (abs_within u a fits_a) (abs_within v b fits_b))) room)
+
+-- a number that is shifted up at a wide type, and saturated
+pub shift_up-is :
+    (w u : Width) (bits most amount : ℕ) (x z places r : ℤ) → SFits u x → SFits w x → z ≡ to_z u (of_z u x) →
+    amount ≡ of_z w places → pos 0 ≤ℤ places → places ≤ℤ pos most → 2 ^ most < 2 ^ hbits w → 2 ^ hbits u * 2 ^ most < 2 ^ hbits w →
+    r ≡ saturate bits (to_z w (of_z w z * 2 ^ amount % 2 ^ bits_of w)) → r ≡ shift_in bits x places
+shift_up-is w u bits most amount x z (pos k) r fits_x wide is_x is_places up within small room is =
+    let few : k ≤ most = omega (arith, ints) in
+    let power : 2 ^ k ≤ 2 ^ most = pow_mono few in
+    let fits_power : SFits w (pos (2 ^ k)) = record { sfits = omega arith } in
+    let fits_product : SFits w (x *ℤ pos (2 ^ k)) =
+    fits_signed_mul w x (pos (2 ^ k)) (2 ^ hbits u) (2 ^ most) (abs_within u x fits_x) power room in
+    is
+    ∙ ap (λ t. saturate bits (to_z w (of_z w t * 2 ^ amount % 2 ^ bits_of w))) (is_x ∙ to_z-of_z u x fits_x)
+    ∙ ap (λ t. saturate bits (to_z w (of_z w x * 2 ^ t % 2 ^ bits_of w))) is_places
+    ∙ ap (saturate bits) (wrapping_mul_is w x (pos (2 ^ k)) wide fits_power ∙ int_wrap_fits w (x *ℤ pos (2 ^ k)) fits_product)
+shift_up-is w u bits most amount x z (negsuc k) r fits_x wide is_x is_places up within small room is = absurd (omega (arith, ints))
+
+-- a floor shift stays in the width
+pub shift_down_fits : (w : Width) (z : ℤ) (m : ℕ) → SFits w z → SFits w (shr_z z m)
+shift_down_fits w z m fits = record { sfits = omega (arith, fits.sfits, mag_shr z m) }
+
+-- a shift down at a type, as a floor shift
+pub shift_down-is :
+    (w : Width) (z value : ℤ) (amount places : ℕ) → SFits w z → z ≡ value → amount ≡ places →
+    to_z w (of_z w (shr_z (to_z w (of_z w z)) (2 ^ amount))) ≡ (value >> places)
+shift_down-is w z value amount places fits is_value is_places =
+    ap (λ t. to_z w (of_z w (shr_z t (2 ^ amount)))) (to_z-of_z w z fits)
+    ∙ to_z-of_z w (shr_z z (2 ^ amount)) (shift_down_fits w z (2 ^ amount) fits)
+    ∙ ap (λ t. t >> amount) is_value
+    ∙ ap (λ t. value >> t) is_places

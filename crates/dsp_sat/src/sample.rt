@@ -1,0 +1,128 @@
+ghost use Rattle.std.specs.Prelude.{◌≡◌, refl, ℕ, ℤ, pos, ◌+ℤ◌, ◌*ℤ◌, FitsSigned};
+ghost use Rattle.dsp_defs.specs.Numbers.{wrap, w8, w16, w32};
+ghost use Rattle.dsp_defs.specs.Formats.{word, word_bits, accumulator, close};
+ghost use Rattle.dsp_defs.specs.Elementwise.{mult, scale, IsScaleShift, shift, IsShift, negate, abs};
+ghost use Rattle.dsp_defs.specs.Sums.{sparse_term, sparse_close};
+ghost use Rattle.dsp_defs.specs.Counts.{Rises};
+ghost use Rattle.dsp_defs.specs.declared.format.Fmt.{Fmt};
+ghost use Rattle.dsp_defs.specs.declared.format.Fmt.TheVariants.{Q7, Q15, Q31};
+
+use dsp_defs::Steps;
+use std::sync::ledger::Ledger;
+
+/// A sample of one of the formats.
+pub trait Sample: Copy {
+    type Wide: Copy;
+
+    type Acc: Copy;
+
+    const WORD_BITS: u32;
+
+    ghost WORD_BITS: { ℕ };
+
+    ghost format: { Fmt };
+
+    ghost number: { Self → ℤ };
+
+    ghost wide: { Self.Wide → ℤ };
+
+    ghost total: { Self.Acc → ℤ };
+
+    fn zero() -> Self
+        ensures { number result ≡ pos 0 };
+
+    fn empty() -> Self::Acc
+        ensures { total result ≡ pos 0 };
+
+    fn number(self) -> i32
+        ensures value { result ≡ number self }
+        ensures fits { FitsSigned (word format) result };
+
+    fn of_number(value: i32) -> Self
+        requires { FitsSigned (word format) value }
+        ensures { number result ≡ value };
+
+    fn wide(p: Self::Wide) -> i64
+        ensures { result ≡ wide p };
+
+    fn accumulate(sum: Self::Acc, p: Self::Wide) -> Self::Acc
+        ensures { total result ≡ wrap (accumulator format) (total sum +ℤ wide p) };
+
+    fn close(sum: Self::Acc) -> Self
+        ensures { number result ≡ close format (total sum) };
+
+    fn product<L: Ledger>(a: Self, b: Self, steps: &mut Steps<L>) -> Self::Wide
+        ensures value { wide result ≡ number a *ℤ number b }
+        ensures steps { Rises steps.old steps.new 1 1 };
+
+    fn mult<L: Ledger>(a: Self, b: Self, steps: &mut Steps<L>) -> Self
+        ensures value { number result ≡ mult format (number a) (number b) }
+        ensures steps { Rises steps.old steps.new 1 1 };
+
+    fn scale<L: Ledger>(x: Self, factor: Self, places: i32, steps: &mut Steps<L>) -> Self
+        requires { IsScaleShift format places }
+        ensures value { number result ≡ scale format (number factor) places (number x) }
+        ensures steps { Rises steps.old steps.new 1 1 };
+
+    fn shift(x: Self, places: i32) -> Self
+        requires { IsShift format places }
+        ensures { number result ≡ shift format places (number x) };
+
+    fn negate(x: Self) -> Self
+        ensures { number result ≡ negate format (number x) };
+
+    fn abs(x: Self) -> Self
+        ensures { number result ≡ abs format (number x) };
+
+    fn sparse_term<L: Ledger>(b: Self, x: Self, steps: &mut Steps<L>) -> Self::Acc
+        ensures value { total result ≡ sparse_term format (number b) (number x) }
+        ensures steps { Rises steps.old steps.new 1 1 };
+
+    fn sparse_close(sum: Self::Acc) -> Self
+        ensures { number result ≡ sparse_close format (total sum) };
+
+    ghost has_word_bits: { WORD_BITS ≡ word_bits format };
+}
+
+pub trait WideSample: Sample {}
+
+pub fn product<T: Sample, L: Ledger>(a: T, b: T, steps: &mut Steps<L>) -> T::Wide
+    ensures value { T.wide result ≡ T.number a *ℤ T.number b }
+    ensures steps { Rises steps.old steps.new 1 1 }
+{
+    T::product(a, b, steps)
+}
+
+pub fn mult<T: Sample, L: Ledger>(a: T, b: T, steps: &mut Steps<L>) -> T
+    ensures value { T.number result ≡ mult T.format (T.number a) (T.number b) }
+    ensures steps { Rises steps.old steps.new 1 1 }
+{
+    T::mult(a, b, steps)
+}
+
+pub fn scale<T: Sample, L: Ledger>(x: T, factor: T, places: i32, steps: &mut Steps<L>) -> T
+    requires { IsScaleShift T.format places }
+    ensures value { T.number result ≡ scale T.format (T.number factor) places (T.number x) }
+    ensures steps { Rises steps.old steps.new 1 1 }
+{
+    T::scale(x, factor, places, steps)
+}
+
+pub fn shift<T: Sample>(x: T, places: i32) -> T
+    requires { IsShift T.format places }
+    ensures { T.number result ≡ shift T.format places (T.number x) }
+{
+    T::shift(x, places)
+}
+
+pub fn negate<T: Sample>(x: T) -> T
+    ensures { T.number result ≡ negate T.format (T.number x) }
+{
+    T::negate(x)
+}
+
+pub fn abs<T: Sample>(x: T) -> T
+    ensures { T.number result ≡ abs T.format (T.number x) }
+{
+    T::abs(x)
+}

@@ -1,0 +1,11 @@
+//! Rolling windows: the last samples of a signal's past, followed by its current block, as one slice.
+#![tactic(auto)]
+
+mod numbers;
+mod window;
+
+pub use numbers::is_sample;
+pub use window::Window;
+
+#[cfg(test)]
+mod tests;

@@ -176,6 +176,9 @@ module _ (format : Fmt) (b : List ℤ) (place : ℕ → ℕ) where
 live_conv-is : (format : Fmt) (b x : List ℤ) → live_conv format b x ≡ values (min (length x) (full_length (length x) (length b))) (λ n. close format (convolution_at b x n))
 live_conv-is format b x = take-values (length x) (full_length (length x) (length b)) (λ n. close format (convolution_at b x n))
 
+pub length-live_conv : (format : Fmt) (b x : List ℤ) → length (live_conv format b x) ≡ min (length x) (full_length (length x) (length b))
+length-live_conv format b x = ap length (live_conv-is format b x) ∙ length-values _ _
+
 pub live_conv_causal : (format : Fmt) (b : List ℤ) → IsCausal (live_conv format b)
 live_conv_causal format b x more =
     rw (live_conv-is format b x, live_conv-is format b (x ++ more))
@@ -207,6 +210,10 @@ live_conv_partial-is : (format : Fmt) (first count : ℕ) (b x : List ℤ) → l
 unfolding live_window_length
 live_conv_partial-is format first count b x =
     take-values (length x - first) (min count (full_length (length x) (length b) - first)) (λ n. close format (convolution_at b x (first + n)))
+
+pub length-live_conv_partial : (format : Fmt) (first count : ℕ) (b x : List ℤ) → length (live_conv_partial format first count b x) ≡ min (length x - first) (min count (full_length (length x) (length b) - first))
+unfolding live_window_length
+length-live_conv_partial format first count b x = ap length (live_conv_partial-is format first count b x) ∙ length-values _ _
 
 live_window_inside : (first count t n i : ℕ) → i < live_window_length first count t n → first + i < n
 unfolding live_window_length

@@ -8,4 +8,10 @@ pub mod FrameLaws
 pub mod OutputLaws
 pub mod CountLemmas
 pub mod FormatLemmas
+pub mod GcdLaws
+pub mod WaveLemmas
+pub mod WaveLaws
+pub mod KeptLaws
 pub mod SumLemmas
+pub mod UnitLaws
+pub mod WaveCuts

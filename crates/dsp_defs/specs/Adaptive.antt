@@ -12,24 +12,25 @@ pub record Adapted : Type 0 where
   pub error : ℤ
   pub weights : List ℤ
 
--- the sum of w_k * x(n-k) as a sample
+-- y = sat_16(wrap_32(s >> (15-p))), and wrap_32(wrap_64(s) >> (31-p)) in Q31
 abbrev pub lms_close : Fmt → ℕ → ℤ → ℤ
 lms_close Q7 p s = saturate 8 (s >> (7 - p))
 lms_close Q15 p s = saturate 16 (wrap w32 (s >> (15 - p)))
 lms_close Q31 p s = wrap w32 (wrap w64 s >> (31 - p))
 
--- alpha = e*mu, and w + alpha*x
+-- alpha = wrap_16(e*mu >> 15), wrap_32(e*mu >> 31)
 abbrev pub step_size : Fmt → ℤ → ℤ → ℤ
 step_size Q7 mu e = wrap w8 (e *ℤ mu >> 7)
 step_size Q15 mu e = wrap w16 (e *ℤ mu >> 15)
 step_size Q31 mu e = wrap w32 (e *ℤ mu >> 31)
 
+-- w(n+1) = sat_16(w + (alpha*x >> 15)), sat_32(w + wrap_32(2*(alpha*x >> 32)))
 abbrev pub weight_after : Fmt → ℤ → ℤ → ℤ → ℤ
 weight_after Q7 alpha w x = saturate 8 (w +ℤ (alpha *ℤ x >> 7))
 weight_after Q15 alpha w x = saturate 16 (w +ℤ (alpha *ℤ x >> 15))
 weight_after Q31 alpha w x = saturate 32 (w +ℤ wrap w32 (pos 2 *ℤ (alpha *ℤ x >> 32)))
 
--- from the weights w before sample n and the inputs x(n), x(n-1), ..
+-- from the weights w before sample n and the inputs x(n), x(n-1), ..: y = the sum of w_k*x(n-k), e = wrap_n(reference - y)
 abbrev pub adapted : Fmt → ℕ → ℤ → List ℤ → List ℤ → ℤ → Adapted
 adapted format p mu w xs reference =
     let y = lms_close format p (sum_below (length w) (λ k. sample w k *ℤ sample xs k)) in
@@ -46,12 +47,15 @@ weights_before first (a ∷ earlier) = a.weights
 abbrev pub reference_now : List (ℤ × ℤ) → ℤ
 reference_now samples = (get_or samples 0 (pos 0, pos 0)).1
 
+-- y of what was given
 abbrev pub outputs_of : Adapted → ℤ
 outputs_of a = a.output
 
+-- and e
 abbrev pub errors_of : Adapted → ℤ
 errors_of a = a.error
 
+-- what is given of sample n, from the samples up to it and what was given before
 abbrev pub lms_output : Fmt → ℕ → ℤ → List ℤ → List (ℤ × ℤ) → List Adapted → Adapted
 lms_output format p mu first samples earlier = adapted format p mu (weights_before first earlier) (map (λ (s : ℤ × ℤ). s.0) samples) (reference_now samples)
 
@@ -59,12 +63,13 @@ lms_output format p mu first samples earlier = adapted format p mu (weights_befo
 abbrev pub lms : Fmt → ℕ → ℤ → List ℤ → List (ℤ × ℤ) → List Adapted
 lms format p mu taps x = outputs (lms_output format p mu (reverse taps)) x
 
--- A0, A1 and A2
+-- the gains A0, A1 and A2
 pub record Gains : Type 0 where
   pub a0 : ℤ
   pub a1 : ℤ
   pub a2 : ℤ
 
+-- sat(kp+ki+kd), sat(-(2*kd+kp)), kd; in Q31 each sum is saturated, and wrap_32(-sat_32(sat_32(2*kd)+kp)) may wrap
 abbrev pub pid_gains : Fmt → ℤ → ℤ → ℤ → Gains
 pid_gains Q31 kp ki kd = record {
   a0 = saturate 32 (saturate 32 (kp +ℤ ki) +ℤ kd);
@@ -77,14 +82,16 @@ pid_gains format kp ki kd = record {
   a2 = kd;
 }
 
--- the sum of the three terms and y1 as a sample
+-- sat_16((s + y1*2^15) >> 15), and wrap_32((wrap_64(s) >> 31) + y1) in Q31
 abbrev pub pid_close : Fmt → ℤ → ℤ → ℤ
 pid_close Q7 s y1 = saturate 8 (s +ℤ y1 *ℤ pos 128 >> 7)
 pid_close Q15 s y1 = saturate 16 (s +ℤ y1 *ℤ pos 32768 >> 15)
 pid_close Q31 s y1 = wrap w32 ((wrap w64 s >> 31) +ℤ y1)
 
+-- y from A0*x + A1*x1 + A2*x2 and y1
 abbrev pub pid_output : Fmt → Gains → List ℤ → List ℤ → ℤ
 pid_output format g xs ys = pid_close format (g.a0 *ℤ sample xs 0 +ℤ g.a1 *ℤ sample xs 1 +ℤ g.a2 *ℤ sample xs 2) (sample ys 0)
 
+-- the controller of a whole signal
 abbrev pub pid : Fmt → ℤ → ℤ → ℤ → List ℤ → List ℤ
 pid format kp ki kd x = outputs (pid_output format (pid_gains format kp ki kd)) x

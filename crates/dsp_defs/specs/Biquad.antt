@@ -5,6 +5,7 @@ use Rattle.dsp_defs.specs.Signal.{sample, outputs}
 use Rattle.dsp_defs.specs.declared.format.Fmt.{Fmt}
 use Rattle.dsp_defs.specs.declared.format.Fmt.TheVariants.{Q7, Q15, Q31}
 
+-- the coefficients of a section
 pub record Section : Type 0 where
   pub b0 : ℤ
   pub b1 : ℤ
@@ -12,16 +13,18 @@ pub record Section : Type 0 where
   pub a1 : ℤ
   pub a2 : ℤ
 
--- a section in Q15 is written b0, 0, b1, b2, a1, a2, and in Q31 b0, b1, b2, a1, a2
+-- a section is written b0, 0, b1, b2, a1, a2 in Q15, where the second number is not used, and b0, b1, b2, a1, a2 in Q31
 abbrev pub sections : Fmt → List ℤ → List Section
-sections Q15 (b0 ∷ unused ∷ b1 ∷ b2 ∷ a1 ∷ a2 ∷ rest) = record { b0 = b0; b1 = b1; b2 = b2; a1 = a1; a2 = a2 } ∷ sections Q15 rest
-sections Q31 (b0 ∷ b1 ∷ b2 ∷ a1 ∷ a2 ∷ rest) = record { b0 = b0; b1 = b1; b2 = b2; a1 = a1; a2 = a2 } ∷ sections Q31 rest
-sections _ _ = []
+sections Q15 (b0 ∷ unused ∷ b1 ∷ b2 ∷ a1 ∷ a2 ∷ later) = record { b0 = b0; b1 = b1; b2 = b2; a1 = a1; a2 = a2 } ∷ sections Q15 later
+sections Q15 _ = []
+sections format (b0 ∷ b1 ∷ b2 ∷ a1 ∷ a2 ∷ later) = record { b0 = b0; b1 = b1; b2 = b2; a1 = a1; a2 = a2 } ∷ sections format later
+sections format _ = []
 
 -- b0*x + b1*x1 + b2*x2
 abbrev pub forward_sum : Section → List ℤ → ℤ
 forward_sum c xs = c.b0 *ℤ sample xs 0 +ℤ c.b1 *ℤ sample xs 1 +ℤ c.b2 *ℤ sample xs 2
 
+-- sat_16(s >> (15-p)), wrap_32(wrap_64(s) >> (31-p))
 abbrev pub section_close : Fmt → ℕ → ℤ → ℤ
 section_close Q7 p s = saturate 8 (s >> (7 - p))
 section_close Q15 p s = saturate 16 (s >> (15 - p))
@@ -31,13 +34,15 @@ section_close Q31 p s = wrap w32 (wrap w64 s >> (31 - p))
 abbrev pub section_output : Fmt → ℕ → Section → List ℤ → List ℤ → ℤ
 section_output format p c xs ys = section_close format p (forward_sum c xs +ℤ (c.a1 *ℤ sample ys 0 +ℤ c.a2 *ℤ sample ys 1))
 
+-- one section of a whole signal
 abbrev pub biquad_section : Fmt → ℕ → List ℤ → Section → List ℤ
 biquad_section format p x c = outputs (section_output format p c) x
 
+-- the sections one after another
 abbrev pub biquad : Fmt → ℕ → List ℤ → List ℤ → List ℤ
 biquad format p coefficients x = fold (biquad_section format p) x (sections format coefficients)
 
--- the 64-bit value Y that is fed back, from the accumulator
+-- the value that is fed back: Y = wrap_64(acc * 2^(p+1))
 abbrev pub fed_back : ℕ → ℤ → ℤ
 fed_back p acc = wrap w64 (acc *ℤ pos (2 ^ (p + 1)))
 
@@ -49,5 +54,6 @@ wide_output p c xs accs = wrap w64 (forward_sum c xs +ℤ (c.a1 *ℤ fed_back p 
 abbrev pub biquad64_section : ℕ → List ℤ → Section → List ℤ
 biquad64_section p x c = map (λ acc. wrap w32 (acc >> (31 - p))) (outputs (wide_output p c) x)
 
+-- the sections one after another
 abbrev pub biquad64 : ℕ → List ℤ → List ℤ → List ℤ
 biquad64 p coefficients x = fold (biquad64_section p) x (sections Q31 coefficients)

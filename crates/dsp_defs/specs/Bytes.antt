@@ -9,16 +9,18 @@ use Rattle.dsp_defs.specs.declared.format.Fmt.TheVariants.{Q7, Q15, Q31}
 use Rattle.dsp_defs.specs.declared.format.Container.{Container}
 use Rattle.dsp_defs.specs.declared.format.Container.TheVariants.{Wave}
 
--- the bytes of a sample
+-- how many bytes a sample has
 abbrev pub width : Fmt → ℕ
 width Q7 = 1
 width Q15 = 2
 width Q31 = 4
 
+-- the bytes of a sample
 abbrev pub bytes_of : Container → Fmt → ℤ → List ℕ
 bytes_of Wave Q7 x = nat_abs (x +ℤ pos 128) ∷ []
 bytes_of _ format x = to_le_bytes (word format) (cast_unsigned (word format) x)
 
+-- and the sample of such bytes
 abbrev pub sample_of : Container → Fmt → List ℕ → ℤ
 sample_of Wave Q7 bytes = pos (get_or bytes 0 0) -ℤ pos 128
 sample_of _ format bytes = cast_signed (word format) (from_le_bytes (word format) bytes)

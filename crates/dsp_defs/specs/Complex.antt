@@ -5,6 +5,7 @@ use Rattle.dsp_defs.specs.Formats.{word_bits}
 use Rattle.dsp_defs.specs.declared.format.Fmt.{Fmt}
 use Rattle.dsp_defs.specs.declared.format.Fmt.TheVariants.{Q7, Q15, Q31}
 
+-- a, sat_n(-b)
 abbrev pub cmplx_conj : Fmt → ℤ → ℤ → ℤ × ℤ
 cmplx_conj format a b = (a, saturate (word_bits format) (neg_ℤ b))
 
@@ -14,14 +15,17 @@ product_shift Q7 = 9
 product_shift Q15 = 17
 product_shift Q31 = 33
 
+-- (a*c >> w) - (b*d >> w), (a*d >> w) + (b*c >> w): each product is shifted first
 abbrev pub cmplx_mult : Fmt → ℤ → ℤ → ℤ → ℤ → ℤ × ℤ
 cmplx_mult format a b c d =
     let w = product_shift format in
     ((a *ℤ c >> w) -ℤ (b *ℤ d >> w), (a *ℤ d >> w) +ℤ (b *ℤ c >> w))
 
+-- sat_16(a*r >> 15), sat_16(b*r >> 15)
 abbrev pub cmplx_mult_real : ℤ → ℤ → ℤ → ℤ × ℤ
 cmplx_mult_real a b r = (saturate 16 (a *ℤ r >> 15), saturate 16 (b *ℤ r >> 15))
 
+-- (a*a + b*b) >> 17 in Q15, and (a*a >> 33) + (b*b >> 33) in Q31
 abbrev pub cmplx_mag_squared : Fmt → ℤ → ℤ → ℤ
 cmplx_mag_squared Q7 a b = a *ℤ a +ℤ b *ℤ b >> 9
 cmplx_mag_squared Q15 a b = a *ℤ a +ℤ b *ℤ b >> 17

@@ -13,7 +13,9 @@ pub mod Streaming
 pub mod Block
 pub mod Shape
 pub mod Bytes
+pub mod Wave
 pub mod Output
 pub mod Cost
+pub mod Kept
 pub mod Generator
 pub mod Counts

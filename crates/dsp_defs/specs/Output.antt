@@ -1,63 +1,116 @@
--- The output file: the header, the samples of the whole signal's values, and the pad byte.
-use Rattle.std.specs.Prelude.{ℕ, ◌+◌, ◌*◌, ◌/◌, ◌%◌, ◌^◌, ◌-◌, min, List, [], ◌∷◌, ◌++◌, nat_eq, if◌then◌else◌, codes, fold, Option, Some, None}
-use Rattle.std.specs.Int.{bytes_low_first}
-use Rattle.dsp_defs.specs.Block.{Frame, whole_chain, format_after, channels_after}
-use Rattle.dsp_defs.specs.Bytes.{width, coded}
+-- The output file: the header, the samples of what the chain gives, and the pad byte.
+use Rattle.std.specs.Prelude.{ℕ, ◌*◌, ◌/◌, List, [], ◌++◌, length, take, drop, fold, Option, Some, None, IsOk}
+use Rattle.std.specs.Option.{option_map}
+use Rattle.std.specs.Result.{result_unwrap_or}
+use Rattle.dsp_defs.specs.Block.{Frame, live_chain, whole_chain, format_after, channels_after}
+use Rattle.dsp_defs.specs.Shape.{frames_given, rate_after}
+use Rattle.dsp_defs.specs.Bytes.{width, coded, samples}
+use Rattle.dsp_defs.specs.Wave.{header_of, wave_header, pad}
 use Rattle.dsp_defs.specs.declared.format.Fmt.{Fmt}
-use Rattle.dsp_defs.specs.declared.format.Container.TheVariants.{Wave, Raw}
-use Rattle.dsp_defs.specs.declared.script.Block.{Block}
-use Rattle.dsp_defs.specs.declared.script.Block.TheVariants.{Decimate, Interpolate}
+use Rattle.dsp_defs.specs.declared.format.Container.{Container}
+use Rattle.dsp_defs.specs.declared.format.Container.TheVariants as Containers
+use Rattle.dsp_defs.specs.declared.format.InputKind.{InputKind}
+use Rattle.dsp_defs.specs.declared.format.InputKind.TheVariants.{Wave, Raw}
+use Rattle.dsp_defs.specs.declared.wave.Header.{Header}
+use Rattle.dsp_defs.specs.declared.wave.Wanted.{Wanted}
 use Rattle.dsp_defs.specs.declared.script.Script.{Script}
 
-abbrev pub u16_bytes : ℕ → List ℕ
-u16_bytes n = bytes_low_first 0 2 n
+-- ---- the input
 
-abbrev pub u32_bytes : ℕ → List ℕ
-u32_bytes n = bytes_low_first 0 4 n
+-- what the header of a script's input is to say
+abbrev pub wanted_of : Script → Wanted
+wanted_of script = record { format = script.input.format; channels = script.input.channels }
 
--- the sizes of a file of `frames` frames, and 2^32 - 1 where the number is not known
-abbrev pub data_size : Fmt → ℕ → Option ℕ → ℕ
-data_size format channels None = 2 ^ 32 - 1
-data_size format channels (Some frames) = frames * channels * width format
+-- where the samples stand in an input: raw samples are all of it, and without a good header there are none
+abbrev pub header_by : InputKind → Wanted → List ℕ → Header
+header_by (Raw rate) wanted bytes = record { rate = rate; start = 0; size = None }
+header_by Wave wanted bytes = result_unwrap_or (header_of bytes wanted) (record { rate = 0; start = length bytes; size = None })
 
-abbrev pub riff_size : Fmt → ℕ → Option ℕ → ℕ
-riff_size format channels None = 2 ^ 32 - 1
-riff_size format channels (Some frames) = let size = frames * channels * width format in 36 + size + size % 2
+-- of a script
+abbrev pub input_header : Script → List ℕ → Header
+input_header script bytes = header_by script.input.kind (wanted_of script) bytes
 
--- the 44 bytes before the samples of a WAVE file
-abbrev pub wave_header : Fmt → ℕ → ℕ → Option ℕ → List ℕ
-wave_header format channels rate frames =
-    let align = channels * width format in
-    codes "RIFF" ++ u32_bytes (riff_size format channels frames) ++ codes "WAVE"
-    ++ codes "fmt " ++ u32_bytes 16 ++ u16_bytes 1 ++ u16_bytes channels ++ u32_bytes rate
-    ++ u32_bytes (rate * align % 2 ^ 32) ++ u16_bytes align ++ u16_bytes (8 * width format)
-    ++ codes "data" ++ u32_bytes (data_size format channels frames)
+-- the bytes hold all of the input's header; raw samples have none
+abbrev pub HeaderIsThere : InputKind → Wanted → List ℕ → Type 0
+HeaderIsThere (Raw rate) wanted bytes = Unit {0}
+HeaderIsThere Wave wanted bytes = IsOk (header_of bytes wanted)
 
-abbrev pub pad : Fmt → ℕ → Option ℕ → List ℕ
-pad format channels None = []
-pad format channels (Some frames) = if nat_eq (frames * channels * width format % 2) 0 then [] else (0 ∷ [])
+-- of a script
+abbrev pub HasHeader : Script → List ℕ → Type 0
+HasHeader script bytes = HeaderIsThere script.input.kind (wanted_of script) bytes
 
--- the rate behind the blocks
-abbrev pub rate_after : ℕ → Block → ℕ
-rate_after rate (Interpolate factor taps) = min (rate * factor) (2 ^ 32 - 1)
-rate_after rate (Decimate factor taps) = rate / factor
-rate_after rate _ = rate
+-- the bytes at which a header says that there are samples: those declared, or all to the end
+abbrev pub sample_bytes : Header → List ℕ → List ℕ
+sample_bytes header bytes = elim header.size [ Some size ↦ take size (drop header.start bytes) | None ↦ drop header.start bytes ]
 
+-- the form of an input
+abbrev pub container_of : InputKind → Container
+container_of (Raw rate) = Containers.Raw
+container_of Wave = Containers.Wave
+
+-- of a script
+abbrev pub input_container : Script → Container
+input_container script = container_of script.input.kind
+
+-- the signal of all whole frames of the input
+abbrev pub input_signal : Script → List ℕ → List Frame
+input_signal script bytes = samples (input_container script) script.input.format script.input.channels (sample_bytes (input_header script bytes) bytes)
+
+-- the whole frames that a header declares, if it does
+abbrev pub declared_frames : Script → Header → Option ℕ
+declared_frames script header = option_map (λ size. size / (script.input.channels * width script.input.format)) header.size
+
+-- ---- the output
+
+-- the format of the output
 abbrev pub format_of : Script → Fmt
 format_of script = fold format_after script.input.format script.blocks
 
+-- its channels
 abbrev pub channels_of : Script → ℕ
 channels_of script = fold channels_after script.input.channels script.blocks
 
-abbrev pub whole_script : Script → List Frame → List Frame
-whole_script script x = whole_chain script.input.format script.input.channels script.blocks x
+-- its rate, where the input has this one
+abbrev pub rate_of : Script → ℕ → ℕ
+rate_of script rate = fold rate_after rate script.blocks
 
--- the bytes of the output for a signal at a rate; the length is known or not
-abbrev pub output_bytes : Script → ℕ → (List Frame → Option ℕ) → List Frame → List ℕ
-output_bytes script rate known x =
-    let y = whole_script script x in
-    let body = coded script.output (format_of script) y in
-    elim script.output [
-      | Raw ↦ body
-      | Wave ↦ wave_header (format_of script) (channels_of script) (fold rate_after rate script.blocks) (known y) ++ body ++ pad (format_of script) (channels_of script) (known y)
-    ]
+-- the bytes of what the chain has given of a signal that may go on
+abbrev pub live_bytes : Script → List Frame → List ℕ
+live_bytes script x = coded script.output (format_of script) (live_chain script.input.format script.input.channels script.blocks x)
+
+-- and of what it gives of a whole one
+abbrev pub whole_bytes : Script → List Frame → List ℕ
+whole_bytes script x = coded script.output (format_of script) (whole_chain script.input.format script.input.channels script.blocks x)
+
+-- the frames that the output is to have, where the input declares its own
+abbrev pub known_frames : Script → Header → Option ℕ
+known_frames script header = option_map (frames_given script.blocks) (declared_frames script header)
+
+-- the bytes before the samples; raw output has none
+abbrev pub output_header : Script → Header → List ℕ
+output_header script header = elim script.output [
+  | Containers.Raw ↦ []
+  | Containers.Wave ↦ wave_header (format_of script) (channels_of script) (rate_of script header.rate) (known_frames script header)
+]
+
+-- the pad byte behind them, if there is one
+abbrev pub output_pad : Script → Header → List ℕ
+output_pad script header = elim script.output [
+  | Containers.Raw ↦ []
+  | Containers.Wave ↦ pad (format_of script) (channels_of script) (known_frames script header)
+]
+
+-- the output of a whole input: the header, the samples of the whole signal's values, and the pad byte
+abbrev pub output : Script → List ℕ → List ℕ
+output script bytes =
+    let header = input_header script bytes in
+    output_header script header ++ whole_bytes script (input_signal script bytes) ++ output_pad script header
+
+-- the whole blocks of `block` frames of a signal
+abbrev pub whole_blocks : ℕ → List Frame → List Frame
+whole_blocks block x = take (length x / block * block) x
+
+-- what stands in the output when these bytes were taken: the header, and the samples of the live values of the whole blocks
+abbrev pub part : Script → ℕ → List ℕ → List ℕ
+part script block bytes =
+    output_header script (input_header script bytes) ++ live_bytes script (whole_blocks block (input_signal script bytes))

@@ -1,8 +1,10 @@
--- Streaming: what a block gives of further samples, after what it gave of those before.
+-- Words of contracts and proofs on signals that go on. No value of a block is defined here.
 use Rattle.std.specs.Prelude.{ℕ, ◌≡◌, ◌+◌, ℤ, pos, ◌*ℤ◌, List, [], ◌∷◌, ◌++◌, length, drop, replicate, reverse}
 use Rattle.dsp_defs.specs.Formats.{close}
 use Rattle.dsp_defs.specs.Signal.{sample, values, sum_below, outputs_of_history}
 use Rattle.dsp_defs.specs.declared.format.Fmt.{Fmt}
+
+-- ---- what is given of further samples
 
 -- what f gives of x followed by more is what it gives of x, and then ys
 abbrev pub Continues : {A B : Type 0} → (List A → List B) → List A → List A → List B → Type 0
@@ -15,6 +17,8 @@ Begins {A} xs ys = (rest : List A) × (ys ≡ xs ++ rest)
 -- what f gives of a signal stays the beginning of what it gives of each longer one
 abbrev pub IsCausal : {A B : Type 0} → (List A → List B) → Type 0
 IsCausal {A} f = (x more : List A) → Begins (f x) (f (x ++ more))
+
+-- ---- what is needed of the samples before
 
 -- the last numbers of x, as many as `count`, with zeros before the first
 abbrev pub last_of : ℕ → List ℤ → List ℤ
@@ -31,12 +35,15 @@ outputs_after next past earlier (x ∷ more) =
     let y = next (x ∷ past) earlier in
     y ∷ outputs_after next (x ∷ past) (y ∷ earlier) more
 
+-- ---- recurrences step by step
+
 -- A machine works sample by sample: `gives` is its output for a state and an input, and `moves` its next state.
--- The outputs for a list of inputs, and the state after it
+-- the outputs for a list of inputs
 abbrev pub run : {S A B : Type 0} → (S → A → B) → (S → A → S) → S → List A → List B
 run gives moves s [] = []
 run gives moves s (x ∷ more) = gives s x ∷ run gives moves (moves s x) more
 
+-- and the state after it
 abbrev pub state_after : {S A : Type 0} → (S → A → S) → S → List A → S
 state_after moves s [] = s
 state_after moves s (x ∷ more) = state_after moves (moves s x) more

@@ -28,12 +28,13 @@ abbrev pub interpolate : Fmt → ℕ → List ℤ → List ℤ → List ℤ
 interpolate format factor taps x =
     values (length x * factor) (λ i. close format (convolution_at (phase_taps factor (reverse taps) (i % factor)) x (i / factor)))
 
--- one product of the sparse filter, and the sample of their sum, which is wrapped to 32 bits
+-- one product of the sparse filter: b*x, and b*x >> 32 in Q31
 abbrev pub sparse_term : Fmt → ℤ → ℤ → ℤ
 sparse_term Q7 b x = b *ℤ x
 sparse_term Q15 b x = b *ℤ x
 sparse_term Q31 b x = b *ℤ x >> 32
 
+-- sat_8(wrap_32(s) >> 7), sat_16(wrap_32(s) >> 15), wrap_32(2*s): the accumulator has 32 bits in each format
 abbrev pub sparse_close : Fmt → ℤ → ℤ
 sparse_close Q7 s = saturate 8 (wrap w32 s >> 7)
 sparse_close Q15 s = saturate 16 (wrap w32 s >> 15)
@@ -44,7 +45,7 @@ abbrev pub sparse : Fmt → List ℤ → List ℕ → List ℤ → List ℤ
 sparse format b delays x =
     values (length x) (λ n. sparse_close format (sum_below (length b) (λ k. sparse_term format (sample b k) (delayed x n (get_or delays k 0)))))
 
--- the values of a full convolution of N and T numbers
+-- the values of a full convolution of N and T numbers: N+T-1, or 0 where N is 0
 abbrev pub full_length : ℕ → ℕ → ℕ
 full_length n t = if nat_eq n 0 then 0 else (n + t - 1)
 

@@ -4,19 +4,27 @@
 mod fault;
 mod format;
 mod laws;
+mod limits;
 mod list;
+mod measure;
 mod script;
 mod steps;
+mod wave;
 
 pub use fault::MakeFault;
 pub use format::{Container, Fmt, Input, InputKind};
-pub use laws::{frames_are_counted, given_bytes_stay, given_values_stay, samples_are_bytes};
+pub use laws::{
+    cut_header_is_named, divisor_is_greatest, frames_are_counted, given_bytes_stay,
+    given_values_stay, header_is_read_back, header_stays, kept_numbers_have_their_place,
+    part_stays, samples_are_bytes, unit_is_least,
+};
+pub use limits::{
+    DEFAULT_BLOCK_LENGTH, GENERATED_RATE, MAX_BLOCK_LENGTH, MAX_BLOCKS, MAX_CHANNELS,
+    MAX_CORRELATES, MAX_DELAY, MAX_FACTOR, MAX_GATHERED, MAX_GENERATED, MAX_INPUT, MAX_MATRIX_SIDE,
+    MAX_RIFF_SIZE, MAX_SAMPLES, MAX_SCRIPT, MAX_SECTIONS, MAX_STAGES, MAX_TAPS,
+};
 pub use list::List;
+pub use measure::Measure;
 pub use script::{Block, Blocks, Script};
 pub use steps::Steps;
-
-/// The greatest number of taps of a filter.
-pub const MAX_TAPS: usize = 4096;
-
-/// The greatest number of samples at any point of a chain per block.
-pub const MAX_SAMPLES: usize = 1_048_576;
+pub use wave::{Header, HeaderFault, Wanted};

@@ -15,3 +15,9 @@ pub mod KeptLaws
 pub mod SumLemmas
 pub mod UnitLaws
 pub mod WaveCuts
+pub mod FrameLemmas
+pub mod MemorylessLaws
+pub mod RowLaws
+pub mod TailLaws
+pub mod ChannelLaws
+pub mod NewRow

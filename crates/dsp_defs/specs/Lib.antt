@@ -19,3 +19,17 @@ pub mod Cost
 pub mod Kept
 pub mod Generator
 pub mod Counts
+pub mod Token
+pub mod Numeral
+pub mod Parameters
+pub mod Table
+pub mod Grammar
+pub mod Places
+pub mod Reading
+pub mod Canon
+pub mod Words
+pub mod Report
+pub mod Built
+pub mod Unit
+pub mod Row
+pub mod Filter

@@ -1,17 +1,25 @@
 //! The definitions that every crate of the library speaks of.
 #![tactic(auto)]
 
+mod command;
 mod fault;
+mod flow;
 mod format;
 mod laws;
 mod limits;
 mod list;
+mod list_rule;
 mod measure;
 mod script;
+mod script_fault;
+mod stage;
 mod steps;
 mod wave;
+mod word;
 
-pub use fault::MakeFault;
+pub use command::{Command, Places};
+pub use fault::{GatherFull, MakeFault, WindowFault};
+pub use flow::Flow;
 pub use format::{Container, Fmt, Input, InputKind};
 pub use laws::{
     cut_header_is_named, divisor_is_greatest, frames_are_counted, given_bytes_stay,
@@ -24,7 +32,11 @@ pub use limits::{
     MAX_RIFF_SIZE, MAX_SAMPLES, MAX_SCRIPT, MAX_SECTIONS, MAX_STAGES, MAX_TAPS,
 };
 pub use list::List;
+pub use list_rule::{Count, ListRule};
 pub use measure::Measure;
 pub use script::{Block, Blocks, Script};
+pub use script_fault::{ScriptFault, ScriptKind};
+pub use stage::Stage;
 pub use steps::Steps;
 pub use wave::{Header, HeaderFault, Wanted};
+pub use word::{Formats, Word};

@@ -1,0 +1,80 @@
+-- A row of units gives what the chain of their blocks gives.
+use Rattle.std.proofs.Common.{◌≡◌, ◌∙◌, ap, ap₂, refl, subst, ◌+◌, ℤ, List, [], ◌∷◌, ◌++◌, length, arith, false}
+use Rattle.dsp_defs.specs.Streaming.{Continues}
+use Rattle.dsp_defs.specs.Block.{Frame, live, live_chain, format_after, channels_after}
+use Rattle.dsp_defs.specs.Shape.{live_frames, frames_behind}
+use Rattle.dsp_defs.specs.Cost.{live_block_cost}
+use Rattle.dsp_defs.specs.Counts.{Counts}
+use Rattle.dsp_defs.specs.Unit.{UnitState, StandsFor, Feeds, IsOutput, most_frames, frames_in}
+use Rattle.dsp_defs.specs.Row.{Place, place_after, Passes, MadeFor, blocks_of, AllStand, FeedsRow, IsFed}
+use Rattle.dsp_defs.proofs.Streaming.{continues_chain}
+
+-- no units give the frames on
+pub feeds-none : (p : Place) (taken : List Frame) (counts : Counts) → FeedsRow p [] [] taken taken counts counts
+feeds-none p taken counts = record {
+  blocks = refl;
+  in_row = tt;
+  runs = tt;
+  values = λ x h. refl;
+  stands = λ x h. tt;
+  frames = λ n h. refl;
+  counts = λ n h. tt;
+  multiplies = λ n h. refl;
+}
+
+-- a unit, and the row behind it
+pub feeds-then :
+    (p : Place) (u v : UnitState) (us vs : List UnitState) (taken piece given : List Frame) (before between after : Counts) →
+    MadeFor p u → v.ended ≡ false → Feeds u v taken piece before between →
+    FeedsRow (place_after p u.block) us vs piece given between after →
+    FeedsRow p (u ∷ us) (v ∷ vs) taken given before after
+feeds-then p u v us vs taken piece given before between after made runs one row = record {
+  blocks = ap₂ (λ b bs. b ∷ bs) one.made.block row.blocks;
+  in_row = (
+    record { format = one.made.format ∙ made.format; channels = one.made.channels ∙ made.channels; capacity = one.made.capacity ∙ made.capacity },
+    rw one.made.block row.in_row,
+  );
+  runs = (runs, row.runs);
+  values = λ x h.
+      continues_chain (live p.format p.channels u.block) (live_chain (format_after p.format u.block) (channels_after p.channels u.block) (blocks_of us)) x taken piece given
+      (continues x h.0) (row.values (live p.format p.channels u.block x) h.1);
+  stands = λ x h.
+      let later : AllStand (format_after p.format u.block) (channels_after p.channels u.block) vs (live p.format p.channels u.block x ++ piece) = row.stands (live p.format p.channels u.block x) h.1 in
+      let same : live p.format p.channels u.block (x ++ taken) ≡ live p.format p.channels u.block x ++ piece = continues x h.0 in
+      (one.stands x h.0, rw (one.made.block, same) later);
+  frames = λ n h.
+      ap (frames_behind live_frames (blocks_of us)) (one.frames n h.0) ∙ row.frames (live_frames u.block n) h.1;
+  counts = λ n h.
+      let same = one.frames n h.0 in
+      (one.counts n h.0, rw (one.made.block, same) (row.counts (live_frames u.block n) h.1));
+  multiplies = λ n h.
+      let same = one.frames n h.0 in
+      let first : live_block_cost p.format p.channels u.block (n + length taken) + before.multiplies ≡ live_block_cost p.format p.channels u.block n + between.multiplies = rw (made.format, made.channels) at (one.multiplies n h.0) in
+      let second = row.multiplies (live_frames u.block n) h.1 in
+      rw same (omega (arith, first, second));
+}
+  where
+    continues : (x : List Frame) → StandsFor u x → Continues (live p.format p.channels u.block) x taken piece
+    continues x h = rw (made.format, made.channels) at (one.values x h)
+
+-- what a unit gives passes the place behind it
+pub output-passes : (p : Place) (u : UnitState) (given : List ℤ) → MadeFor p u → IsOutput u (most_frames u.block u.capacity) given → Passes (place_after p u.block) given
+output-passes p u given made output = record {
+  signal = rw (made.format, made.channels) at output.signal;
+  at_most = rw (made.channels, made.capacity) at output.at_most;
+}
+
+-- the same of samples
+pub fed-none : (p : Place) (frames : List ℤ) (counts : Counts) → Passes p frames → IsFed p [] [] frames frames counts counts
+fed-none p frames counts passes = record { passes = passes; feeds = feeds-none p (frames_in p.channels frames) counts }
+
+pub fed-then :
+    (p : Place) (u v : UnitState) (us vs : List UnitState) (frames piece given : List ℤ) (before between after : Counts) →
+    MadeFor p u → v.ended ≡ false → Feeds u v (frames_in u.channels frames) (frames_in (channels_after u.channels u.block) piece) before between →
+    IsFed (place_after p u.block) us vs piece given between after →
+    IsFed p (u ∷ us) (v ∷ vs) frames given before after
+fed-then p u v us vs frames piece given before between after made runs one row = record {
+  passes = row.passes;
+  feeds = feeds-then p u v us vs _ (frames_in (channels_after p.channels u.block) piece) _ before between after made runs
+      (subst (λ c. Feeds u v (frames_in c frames) (frames_in (channels_after c u.block) piece) before between) made.channels one) row.feeds;
+}

@@ -1,0 +1,127 @@
+-- Reading a text from left to right: the script, or the first item, or the end, that can't stand after the items before it.
+use Rattle.std.specs.Prelude.{ℕ, zero, suc, ◌==◌, ◌&&◌, ◌||◌, ⊤, is_some, Bool, false, List, [], ◌∷◌, length, Option, Some, None, Result, Ok, Err, nat_lt, if◌then◌else◌, codes}
+use Rattle.std.specs.Str.{bytes_eq}
+use Rattle.std.specs.Option.{option_map}
+use Rattle.dsp_defs.specs.declared.script_fault.ScriptKind.TheVariants.{TooLong, BadByte, UnknownWord, NoSuchForm, ChannelsHere, TooMany}
+use Rattle.dsp_defs.specs.declared.script_fault.ScriptFault.{ScriptFault}
+use Rattle.dsp_defs.specs.declared.format.Container.{Container}
+use Rattle.dsp_defs.specs.declared.format.Container.TheVariants as container
+use Rattle.dsp_defs.specs.declared.format.InputKind.{InputKind}
+use Rattle.dsp_defs.specs.declared.format.InputKind.TheVariants as kind
+use Rattle.dsp_defs.specs.declared.format.Input.{Input}
+use Rattle.dsp_defs.specs.declared.script.Block.{Block}
+use Rattle.dsp_defs.specs.declared.script.Script.{Script}
+use Rattle.dsp_defs.specs.declared.flow.Flow.{Flow}
+use Rattle.dsp_defs.specs.declared.word.Word.{Word}
+use Rattle.dsp_defs.specs.declared.limits.TheConstants.{MAX_SCRIPT, MAX_BLOCKS, MAX_CORRELATES, MAX_BLOCK_LENGTH, MAX_CHANNELS}
+use Rattle.dsp_defs.specs.Token.{Bad, Item, Rest, rest_of}
+use Rattle.dsp_defs.specs.Parameters.{Form, Done, Integer, Natural, Numbers, Conversion}
+use Rattle.dsp_defs.specs.Table.{word_by_name, has_form, channels_wanted, is_correlate, flow_after, parameters}
+use Rattle.dsp_defs.specs.Grammar.{input_flow}
+use Rattle.dsp_defs.specs.Places.{◌>>=◌, fault, Judge, next_at, meaning_of, choice, named, word_at, format_at, container_at, number_at, natural_at, list_at, conversion_at}
+
+-- ---- blocks
+
+-- the parameters of a form, and the block that they make
+unfoldable pub block_at : Form → Rest → Result (Block × Rest) ScriptFault
+block_at (Done made) rest = Ok (made, rest)
+block_at (Integer low high next) rest = number_at low high rest >>= λ n. block_at (next n.0) n.1
+block_at (Natural low high next) rest = natural_at low high rest >>= λ n. block_at (next n.0) n.1
+block_at (Numbers rule next) rest = list_at rule rest >>= λ numbers. block_at (next numbers.0) numbers.1
+block_at (Conversion from next) rest = conversion_at from rest >>= λ format. block_at (next format.0) format.1
+
+-- what may stand at a block's place: the output, or a block's word
+pub data Place : Type 0 where
+  Output : Place
+  Begin : Word → Place
+
+unfoldable pub place_of : List ℕ → Option Place
+place_of run = if bytes_eq run (codes "output") then Some Output else option_map (λ w. Begin w) (word_by_name run)
+
+-- the block is given the channels that it wants
+abbrev pub fed : ℕ → ℕ → Option ℕ → Result ⊤ ScriptFault
+fed offset got None = Ok tt
+fed offset got (Some wanted) = if got == wanted then Ok tt else fault offset (ChannelsHere got wanted)
+
+-- the block may begin here, where so many more blocks may come
+abbrev pub may_begin : ℕ → Bool → Flow → ℕ → Word → Result ⊤ ScriptFault
+may_begin left correlated flow offset w =
+    if left == 0 then fault offset (TooMany MAX_BLOCKS)
+    else if is_correlate w && correlated then fault offset (TooMany MAX_CORRELATES)
+    else if has_form w flow.format then fed offset flow.channels (channels_wanted w)
+    else fault offset (NoSuchForm flow.format)
+
+-- the word of the next block, or none where the output comes
+abbrev pub allowed : ℕ → Bool → Flow → ℕ → Place → Result (Option Word) ScriptFault
+allowed left correlated flow offset Output = Ok None
+allowed left correlated flow offset (Begin w) = may_begin left correlated flow offset w >>= λ _. Ok (Some w)
+
+abbrev pub next_block : ℕ → Bool → Flow → Judge (Option Word)
+next_block left correlated flow offset token = choice place_of offset token >>= λ place. allowed left correlated flow offset place
+
+unfoldable pub next_block_at : ℕ → Bool → Flow → Rest → Result (Option Word × Rest) ScriptFault
+next_block_at left correlated flow rest = next_at (next_block left correlated flow) rest
+
+-- the blocks up to the output, of which so many may come
+unfoldable pub blocks_at : ℕ → Bool → Flow → Rest → Result (List Block × Rest) ScriptFault
+blocks_at zero correlated flow rest = do
+  next ← next_block_at 0 correlated flow rest
+  Ok ([], next.1)
+blocks_at (suc left) correlated flow rest = do
+  next ← next_block_at (suc left) correlated flow rest
+  elim next.0 [
+    | None ↦ Ok ([], next.1)
+    | Some w ↦ (block_at (parameters w flow) next.1 >>= λ b. blocks_at left (correlated || is_correlate w) (flow_after b.0 flow) b.1 >>= λ more. Ok (b.0 ∷ more.0, more.1))
+  ]
+
+-- ---- scripts
+
+abbrev pub begins_with : List ℕ → List Item → Bool
+begins_with name [] = false
+begins_with name (item ∷ items) = is_some (meaning_of (named name) item.token)
+
+-- the block length, if there is one
+unfoldable pub length_at : Rest → Result (Option ℕ × Rest) ScriptFault
+length_at rest = if begins_with (codes "block") rest.items
+    then (word_at (codes "block") rest >>= λ name. natural_at 1 MAX_BLOCK_LENGTH name.1 >>= λ frames. Ok (Some frames.0, frames.1))
+    else Ok (None, rest)
+
+abbrev pub nothing_of : List Item → Result ⊤ ScriptFault
+nothing_of [] = Ok tt
+nothing_of (item ∷ items) = elim item.token [ Bad ↦ fault item.offset BadByte | _ ↦ fault item.offset UnknownWord ]
+
+-- raw samples come with their rate
+unfoldable pub kind_at : Container → Rest → Result (InputKind × Rest) ScriptFault
+kind_at container.Wave rest = Ok (kind.Wave, rest)
+kind_at container.Raw rest = natural_at 1 4294967295 rest >>= λ rate. Ok (kind.Raw rate.0, rate.1)
+
+unfoldable pub input_at : Rest → Result (Input × Rest) ScriptFault
+input_at rest = do
+  name ← word_at (codes "input") rest
+  container ← container_at name.1
+  format ← format_at container.1
+  channels ← natural_at 1 MAX_CHANNELS format.1
+  kind ← kind_at container.0 channels.1
+  Ok (record { kind = kind.0; format = format.0; channels = channels.0 }, kind.1)
+
+unfoldable pub script_at : Rest → Result Script ScriptFault
+script_at rest = do
+  name ← word_at (codes "dspfx") rest
+  version ← natural_at 1 1 name.1
+  input ← input_at version.1
+  frames ← length_at input.1
+  blocks ← blocks_at MAX_BLOCKS false (input_flow input.0) frames.1
+  output ← container_at blocks.1
+  _ ← nothing_of output.1.items
+  Ok (record { version = version.0; input = input.0; block = frames.0; blocks = blocks.0; output = output.0 })
+
+-- the script of a text, or its first fault
+unfoldable pub reading : List ℕ → Result Script ScriptFault
+reading text = if nat_lt MAX_SCRIPT (length text) then fault MAX_SCRIPT TooLong else script_at (rest_of 0 text)
+
+abbrev pub fault_in : {A : Type 0} → Result A ScriptFault → Option ScriptFault
+fault_in (Ok x) = None
+fault_in (Err f) = Some f
+
+abbrev pub first_fault : List ℕ → Option ScriptFault
+first_fault text = fault_in (reading text)

@@ -1,0 +1,43 @@
+-- Which words are a command, and where they name its script, its input and its output.
+use Rattle.std.specs.Prelude.{ℕ, ◌-◌, ◌^◌, Bool, not, ◌&&◌, nat_eq, nat_le, List, [], ◌∷◌, length, Option, Some, None, codes, if◌then◌else◌}
+use Rattle.std.specs.Option.{option_map}
+use Rattle.std.specs.Char.{is_ascii_digit}
+use Rattle.std.specs.List.{list_all}
+use Rattle.std.specs.Str.{bytes_eq}
+use Rattle.std.specs.Str.Parse.{digits_value}
+use Rattle.dsp_defs.specs.declared.command.Command.{Command}
+use Rattle.dsp_defs.specs.declared.command.Command.TheVariants.{Run, Print}
+use Rattle.dsp_defs.specs.declared.command.Places.{Places}
+
+-- a count: one to ten digits, of at most 2^32 - 1
+abbrev pub count_of : List ℕ → Option ℕ
+count_of word =
+    if nat_le 1 (length word) && nat_le (length word) 10 && list_all is_ascii_digit word && nat_le (digits_value 10 word) (2 ^ 32 - 1)
+    then Some (digits_value 10 word) else None
+
+-- a name is a text that isn't empty
+abbrev pub is_name : List ℕ → Bool
+is_name word = not (nat_eq (length word) 0)
+
+-- three names, of which the last differs from the others
+abbrev pub are_run_names : List ℕ → List ℕ → List ℕ → Bool
+are_run_names script input output =
+    is_name script && is_name input && is_name output && not (bytes_eq output script) && not (bytes_eq output input)
+
+-- `print SCRIPT`, `run SCRIPT IN OUT` and `run SCRIPT IN OUT block N`
+abbrev pub command_of : List (List ℕ) → Option Command
+command_of (verb ∷ script ∷ []) = if bytes_eq verb (codes "print") && is_name script then Some Print else None
+command_of (verb ∷ script ∷ input ∷ output ∷ []) =
+    if bytes_eq verb (codes "run") && are_run_names script input output then Some (Run None) else None
+command_of (verb ∷ script ∷ input ∷ output ∷ option ∷ count ∷ []) =
+    if bytes_eq verb (codes "run") && are_run_names script input output && bytes_eq option (codes "block")
+    then option_map (λ n. Run (Some n)) (count_of count) else None
+command_of words = None
+
+-- the verb is word 0, and the names follow it
+abbrev pub places_of_command : Command → Places
+places_of_command (Run block) = record { script = Some 1; input = Some 2; output = Some 3 }
+places_of_command Print = record { script = Some 1; input = None; output = None }
+
+abbrev pub places_of : List (List ℕ) → Option Places
+places_of words = option_map places_of_command (command_of words)

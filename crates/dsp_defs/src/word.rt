@@ -1,0 +1,51 @@
+/// The word that begins a block, one for each variant of `Block`.
+#[derive(Clone, Copy, Debug, PartialEq, Eq)]
+pub enum Word {
+    Offset,
+    Negate,
+    Abs,
+    Scale,
+    Shift,
+    Clip,
+    To,
+    Add,
+    Sub,
+    Mult,
+    Conj,
+    CmplxMult,
+    CmplxMultReal,
+    MagSquared,
+    Fir,
+    Sparse,
+    Decimate,
+    Interpolate,
+    LatticeFir,
+    LatticeIir,
+    Biquad,
+    Biquad64,
+    Conv,
+    ConvPartial,
+    Correlate,
+    Lms,
+    Pid,
+    MatAdd,
+    MatSub,
+    MatScale,
+    MatTrans,
+    MatMult,
+    Power,
+    Dot,
+    CmplxDot,
+    Max,
+    Min,
+    Route,
+}
+
+/// The formats in which a block has a form.
+#[derive(Clone, Copy, Debug, PartialEq, Eq)]
+pub enum Formats {
+    All,
+    NotQ7,
+    OnlyQ15,
+    OnlyQ31,
+}

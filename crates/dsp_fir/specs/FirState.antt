@@ -1,6 +1,9 @@
 -- What a contract sees of a FIR filter.
 use Rattle.std.specs.Prelude.{ℕ, ◌-◌, ◌≡◌, ℤ, pos, Bool, false, List, length, replicate, Option, Some, None, nat_le, ◌&&◌, if◌then◌else◌}
 use Rattle.dsp_defs.specs.Streaming.{last_of}
+use Rattle.dsp_defs.specs.Filter.{FilterState}
+use Rattle.dsp_defs.specs.declared.format.Fmt.{Fmt}
+use Rattle.dsp_defs.specs.declared.script.Block.TheVariants as Block
 use Rattle.dsp_defs.specs.declared.fault.MakeFault.{MakeFault}
 use Rattle.dsp_defs.specs.declared.fault.MakeFault.TheVariants.{Length, Range}
 
@@ -25,3 +28,13 @@ fir_fault taps block =
     if nat_le 1 taps && nat_le taps 4096
     then (if nat_le 1 block && nat_le block 1048576 then None else Some (Range (pos block)))
     else Some (Length taps 1)
+
+-- what a unit sees of the filter of one of its channels
+abbrev pub channel_state : Fmt → FirState → FilterState
+channel_state format f = record {
+  block = Block.Fir f.taps;
+  format = format;
+  capacity = f.block;
+  kept = f.past;
+  price = length f.taps;
+}

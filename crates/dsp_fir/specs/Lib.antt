@@ -1,1 +1,2 @@
 pub mod FirState
+pub mod FirUnit

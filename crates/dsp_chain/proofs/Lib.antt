@@ -1,0 +1,4 @@
+pub mod Room
+pub mod Tails
+pub mod ChainCalls
+pub mod Making

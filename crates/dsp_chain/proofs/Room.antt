@@ -1,0 +1,47 @@
+-- The room that a row of units needs.
+use Rattle.std.proofs.Common.{◌≡◌, ◌∙◌, ap, refl, sym, subst, false, ℕ, ◌*◌, ◌≤◌, ℤ, List, [], ◌∷◌, ◌++◌, length, take, drop, arith}
+use Rattle.std.proofs.lemmas.List.{take-append-le, take_all}
+use Rattle.dsp_defs.specs.Unit.{UnitState, frames_in, most_frames, IsOutput, Feeds}
+use Rattle.dsp_defs.specs.Block.{channels_after}
+use Rattle.dsp_defs.specs.Row.{Place, place_after, place_behind, place_room, Passes, blocks_of, InRow, IsFed}
+use Rattle.dsp_defs.specs.Counts.{Counts}
+use Rattle.dsp_defs.proofs.RowLaws.{fed-none, fed-then, output-passes}
+
+-- the samples that pass a place have room there
+pub passing-room : (p : Place) (samples : List ℤ) → Passes p samples → length samples ≤ place_room p
+passing-room p samples h =
+    let bound : length (frames_in p.channels samples) * p.channels ≤ p.capacity * p.channels = grind (arith, h.at_most) in
+    omega (arith, bound, h.signal.whole_frames)
+
+pub no-units : (us : List UnitState) → length us ≡ 0 → us ≡ []
+no-units [] e = refl
+no-units (u ∷ us) e = absurd (omega (arith, e))
+
+pub last-room : (us : List UnitState) (p : Place) (frames : List ℤ) (size : ℕ) → length us ≡ 0 → Passes p frames → place_room (place_behind p (blocks_of us)) ≤ size → length frames ≤ size
+last-room us p frames size none passes room =
+    let here : place_room p ≤ size = rw (no-units us none) at room in
+    omega (arith, passing-room p frames passes, here)
+
+pub last-fed : (us : List UnitState) (p : Place) (frames : List ℤ) (counts : Counts) → length us ≡ 0 → Passes p frames → IsFed p us us frames frames counts counts
+last-fed us p frames counts none passes = rw (no-units us none) (fed-none p frames counts passes)
+
+-- a unit at the front of the links, and the row behind it
+pub first-fed :
+    (p : Place) (links : List UnitState) (link u v : UnitState) (behind after : List UnitState) (frames piece given : List ℤ) (before between later : Counts) →
+    links ≡ link ∷ behind → u ≡ link → v.ended ≡ false → IsOutput u (most_frames u.block u.capacity) piece →
+    Feeds u v (frames_in u.channels frames) (frames_in (channels_after u.channels u.block) piece) before between →
+    ((q : Place) → InRow q behind → Passes q piece → IsFed q behind after piece given between later) →
+    InRow p links → IsFed p links (v ∷ after) frames given before later
+first-fed p links link u v behind after frames piece given before between later is_first same runs output one rest row =
+    let e : links ≡ u ∷ behind = is_first ∙ ap (λ f. f ∷ behind) (sym same) in
+    let here : InRow p (u ∷ behind) = subst (InRow p) e row in
+    subst (λ us. IsFed p us (v ∷ after) frames given before later) (sym e)
+    (fed-then p u v behind after frames piece given before between later here.0 runs one
+    (rest (place_after p u.block) here.1 (output-passes p u piece here.0 output)))
+
+-- a row that was written whole
+pub written-row : {X : Type 0} → (size : ℕ) (new old : List X) → length new ≡ size → take size (new ++ drop (length new) old) ≡ new
+written-row size new old e =
+    let fits : size ≤ length new = omega arith in
+    let full : length new ≤ size = omega arith in
+    take-append-le size new (drop (length new) old) fits ∙ take_all size new full

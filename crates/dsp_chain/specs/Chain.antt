@@ -1,0 +1,93 @@
+-- What a contract sees of a chain.
+use Rattle.std.specs.Prelude.{◌≡◌, ℕ, ◌+◌, ◌≤◌, ℤ, Bool, true, false, List, [], ◌∷◌, ◌++◌, length}
+use Rattle.dsp_defs.specs.Streaming.{Continues}
+use Rattle.dsp_defs.specs.Block.{Frame, live_chain, whole_chain}
+use Rattle.dsp_defs.specs.Counts.{Counts}
+use Rattle.dsp_defs.specs.Cost.{live_cost}
+use Rattle.dsp_defs.specs.Unit.{UnitState, frames_in}
+use Rattle.dsp_defs.specs.Row.{chain_products, place_after, Place, place_behind, place_room, Passes, blocks_of, AllStand, AllCount, Owes, Costs}
+use Rattle.dsp_chain.specs.declared.block_unit.BlockUnit.{BlockUnit}
+use Rattle.dsp_chain.specs.declared.block_unit.BlockUnit.TheVariants.{Fir}
+use Rattle.dsp_fir.specs.FirUnit.{unit_of, IsFirBlock}
+use Rattle.dsp_defs.specs.declared.limits.TheConstants.{MAX_SAMPLES}
+use Rattle.dsp_defs.specs.declared.script.Block.{Block}
+use Rattle.dsp_defs.specs.declared.script.Script.{Script}
+
+-- the unit that it holds
+abbrev pub state_of : BlockUnit → UnitState
+state_of (Fir u) = unit_of u
+
+-- the place of its input, its units, the frames that were fed, and whether its tail was begun
+pub record ChainState : Type 0 where
+  pub input : Place
+  pub units : List UnitState
+  pub frames : ℕ
+  pub ended : Bool
+
+abbrev pub output_of : ChainState → Place
+output_of c = place_behind c.input (blocks_of c.units)
+
+-- the chain has taken the frames x and can take more
+pub record ChainStandsFor (c : ChainState) (x : List Frame) : Type 0 where
+  pub running : c.ended ≡ false
+  pub counted : c.frames ≡ length x
+  pub units : AllStand c.input.format c.input.channels c.units x
+
+-- what the chain gives of all its frames while they go on
+abbrev pub live_of : ChainState → List Frame → List Frame
+live_of c = live_chain c.input.format c.input.channels (blocks_of c.units)
+
+-- the chain has the same input and the same blocks
+pub record SameChain (old new : ChainState) : Type 0 where
+  pub input : new.input ≡ old.input
+  pub blocks : blocks_of new.units ≡ blocks_of old.units
+
+-- the call took frames and gave the next live ones
+pub record FeedsChain (old new : ChainState) (frames given : List ℤ) (before after : Counts) : Type 0 where
+  pub same : SameChain old new
+  pub running : new.ended ≡ false
+  pub counted : new.frames ≡ old.frames + length (frames_in old.input.channels frames)
+  pub passes : Passes (output_of old) given
+  pub values : (x : List Frame) → ChainStandsFor old x → Continues (live_of old) x (frames_in old.input.channels frames) (frames_in (output_of old).channels given)
+  pub stands : (x : List Frame) → ChainStandsFor old x → ChainStandsFor new (x ++ frames_in old.input.channels frames)
+  pub multiplies : (n : ℕ) → AllCount old.units n → live_cost old.input.format old.input.channels (blocks_of old.units) (n + length (frames_in old.input.channels frames)) + before.multiplies ≡ live_cost old.input.format old.input.channels (blocks_of old.units) n + after.multiplies
+
+-- and of all its frames as a whole signal
+abbrev pub whole_of : ChainState → List Frame → List Frame
+whole_of c = whole_chain c.input.format c.input.channels (blocks_of c.units)
+
+-- the call gave the next frames that the chain owes, and none only where it owes none
+pub record FinishesChain (old new : ChainState) (given : List ℤ) (before after : Counts) : Type 0 where
+  pub same : SameChain old new
+  pub ended : new.ended ≡ true
+  pub counted : new.frames ≡ old.frames
+  pub passes : Passes (output_of old) given
+  pub begins : (x ys : List Frame) → ChainStandsFor old x → whole_of old x ≡ live_of old x ++ ys → Owes old.input old.units ys
+  pub owed : (ys : List Frame) → Owes old.input old.units ys → (later : List Frame) × (ys ≡ frames_in (output_of old).channels given ++ later) × Owes new.input new.units later
+  pub spent : given ≡ [] → (ys : List Frame) → Owes new.input new.units ys → ys ≡ []
+  pub cost_begins : (n total : ℕ) → AllCount old.units n → chain_products old.input.format old.input.channels (blocks_of old.units) n + before.multiplies ≡ live_cost old.input.format old.input.channels (blocks_of old.units) n + total → Costs old.input old.units before.multiplies total
+  pub costs : (total : ℕ) → Costs old.input old.units before.multiplies total → Costs new.input new.units after.multiplies total
+  pub cost_spent : given ≡ [] → (total : ℕ) → Costs new.input new.units after.multiplies total → after.multiplies ≡ total
+
+-- the first place of a script, for so many frames a call
+abbrev pub input_place : Script → ℕ → Place
+input_place script block = record { format = script.input.format; channels = script.input.channels; capacity = block }
+
+-- the block is one that is built, as a sound script has it at this place, and its samples fit
+pub record IsBuiltAt (p : Place) (block : Block) : Type 0 where
+  pub form : IsFirBlock p.format block
+  pub channels : 1 ≤ p.channels
+  pub capacity : 1 ≤ p.capacity
+  pub samples : place_room p ≤ MAX_SAMPLES
+
+-- the same of each block at its place
+abbrev pub AreBuilt : Place → List Block → Type 0
+AreBuilt p [] = Unit {0}
+AreBuilt p (block ∷ blocks) = IsBuiltAt p block × AreBuilt (place_after p block) blocks
+
+-- a chain of these blocks, that has taken nothing
+pub record IsNewChain (p : Place) (blocks : List Block) (c : ChainState) : Type 0 where
+  pub input : c.input ≡ p
+  pub blocks_are : blocks_of c.units ≡ blocks
+  pub stands : ChainStandsFor c []
+  pub counts : AllCount c.units 0

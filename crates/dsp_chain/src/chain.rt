@@ -1,0 +1,120 @@
+use crate::block_unit::BlockUnit;
+use crate::row::{Link, feed_row, finish_row};
+use dsp_defs::{Fmt, GatherFull, Input, Script, Steps, WindowFault};
+use std::alloc::{AllocError, Global};
+use std::marker::Model;
+use std::sync::ledger::Ledger;
+
+/// The units of a script.
+#[derive(Drop)]
+pub struct Chain {
+    links: Vec<Link<BlockUnit>>,
+    format: Fmt,
+    channels: usize,
+    capacity: usize,
+    room: usize,
+    frames: u64,
+    ended: bool,
+}
+
+impl Model for Chain {
+    ghost use Rattle.std.specs.Prelude.{◌≡◌, ◌≤◌, false};
+    ghost use Rattle.dsp_defs.specs.Row.{Place, InRow, EndsInOrder, AllRun, blocks_of, place_behind, place_room};
+    ghost use Rattle.dsp_chain.specs.Chain.{ChainState, AreBuilt};
+
+    ghost Value = { ChainState };
+
+    ghost view = { λ c. record { input = record { format = c.format; channels = c.channels; capacity = c.capacity }; units = c.links.items; frames = c.frames; ended = c.ended } };
+
+    ghost invariant = { λ c. (InRow (record { format = c.format; channels = c.channels; capacity = c.capacity }) c.links.items) × (EndsInOrder c.links.items) × (c.ended ≡ false → AllRun c.links.items) × (1 ≤ c.channels)
+        × (AreBuilt (record { format = c.format; channels = c.channels; capacity = c.capacity }) (blocks_of c.links.items))
+        × (c.room ≡ place_room (place_behind (record { format = c.format; channels = c.channels; capacity = c.capacity }) (blocks_of c.links.items))) };
+}
+
+impl Chain {
+    ghost use Rattle.std.specs.Prelude.{◌≡◌, ◌≤◌, ◌<◌, ◌+◌, ◌^◌, ◌↔◌, IsFalse, IfOk, IsErr, length, take};
+    ghost use Rattle.std.specs.Option.{option_map};
+    ghost use Rattle.dsp_defs.specs.Shape.{gathered, window_at};
+    ghost use Rattle.dsp_defs.specs.declared.fault.WindowFault.{WindowFault};
+    ghost use Rattle.dsp_defs.specs.Row.{Passes, place_room, blocks_of};
+    ghost use Rattle.dsp_defs.specs.Unit.{frames_in};
+    ghost use Rattle.dsp_chain.specs.Chain.{ChainState, output_of, FeedsChain, FinishesChain, input_place, AreBuilt, IsNewChain};
+    ghost use Rattle.dsp_defs.specs.declared.limits.TheConstants.{MAX_BLOCK_LENGTH, MAX_SAMPLES, MAX_GATHERED};
+
+    /// The chain of a script, for at most `block` frames a call. All memory of the chain is taken here.
+    pub fn new(alloc: Global, script: &Script, block: u64) -> Result<Chain, AllocError>
+        requires block { block ≤ MAX_BLOCK_LENGTH }
+        requires channels { 1 ≤ script.now.input.channels }
+        requires samples { place_room (input_place script.now block) ≤ MAX_SAMPLES }
+        requires built { AreBuilt (input_place script.now block) script.now.blocks }
+        ensures { IfOk result (IsNewChain (input_place script.now block) script.now.blocks) }
+    {
+        let Input {
+            format,
+            channels,
+            ..
+        } = script.input;
+        let capacity = block as usize;
+        let blocks = script.blocks.as_slice();
+        let mut links = Vec::with_capacity(alloc, blocks.len())?;
+        for block in blocks {
+            let unit = BlockUnit::new(alloc, block, format, channels, capacity)?;
+            links.push(Link::new(alloc, unit)?)?;
+        }
+        Ok(Chain {
+            links,
+            format,
+            channels: usize::from(channels),
+            capacity,
+            room: capacity * usize::from(channels),
+            frames: 0,
+            ended: false,
+        })
+    }
+
+    /// Writes the next live frames, and answers the number of their samples.
+    pub fn feed<L: Ledger>(
+        &mut self,
+        frames: &[i32],
+        out: &mut [i32],
+        steps: &mut Steps<L>,
+    ) -> Result<usize, GatherFull>
+        requires running { IsFalse self.old.ended }
+        requires passes { Passes self.old.input frames.now }
+        requires room { place_room (output_of self.old) ≤ length out.old }
+        requires count { self.old.frames + length (frames_in self.old.input.channels frames.now) ≤ 2 ^ 40 }
+        ensures within { IfOk result (λ given. given ≤ length out.old) }
+        ensures fed { IfOk result (λ given. FeedsChain self.old self.new frames.now (take given out.new) steps.old steps.new) }
+        ensures full { IsErr result ↔ MAX_GATHERED < gathered (blocks_of self.old.units) (self.old.frames + length (frames_in self.old.input.channels frames.now)) }
+    {
+        self.frames += (frames.len() / self.channels) as u64;
+        Ok(feed_row(self.links.as_mut_slice(), frames, out, steps))
+    }
+
+    /// The samples of `out` that one call needs at most.
+    pub fn room(&self) -> usize
+        ensures { result ≡ place_room (output_of self.now) }
+    {
+        self.room
+    }
+
+    /// The first partial convolution whose window ends past the full one, where the frames fed so far and `more` frames are the whole input.
+    pub fn window_fault(&self, more: u64) -> Option<WindowFault>
+        requires { self.now.frames + more ≤ 2 ^ 40 }
+        ensures { option_map (λ (fault : WindowFault). (fault.end, fault.length)) result ≡ window_at (blocks_of self.now.units) (self.now.frames + more) }
+    {
+        // No block that is built has a window.
+        let _frames = self.frames + more;
+        None
+    }
+
+    /// Writes the next frames of the tail, and answers the number of their samples: 0 where it is spent.
+    pub fn finish<L: Ledger>(&mut self, out: &mut [i32], steps: &mut Steps<L>) -> usize
+        requires room { place_room (output_of self.old) ≤ length out.old }
+        ensures within { result ≤ length out.old }
+        ensures finished { FinishesChain self.old self.new (take result out.new) steps.old steps.new }
+    {
+        self.ended = true;
+        finish_row(self.links.as_mut_slice(), out, steps)
+    }
+}

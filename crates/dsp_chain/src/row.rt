@@ -1,0 +1,103 @@
+ghost use Rattle.std.specs.Prelude.{◌≡◌, ◌≤◌, length, take};
+ghost use Rattle.dsp_defs.specs.Row.{Place, place_behind, place_room, Passes, blocks_of, InRow, AllRun, IsFed, EndsInOrder, IsFinishedFirst, IsFinished};
+
+use dsp_defs::{Stage, Steps};
+use std::alloc::{AllocError, Global};
+use std::marker::Model;
+use std::sync::ledger::Ledger;
+
+/// A unit with the samples that it wrote last.
+#[derive(Drop)]
+pub struct Link<S: Stage + Drop> {
+    stage: S,
+    row: Vec<i32>,
+}
+
+impl<S: Stage + Drop> Model for Link<S> {
+    ghost use Rattle.std.specs.Prelude.{◌≤◌, vec_len};
+    ghost use Rattle.dsp_defs.specs.Unit.{UnitState, room_of};
+
+    ghost Value = { UnitState };
+
+    ghost view = { λ l. S.unit l.stage };
+
+    ghost invariant = { λ l. room_of (S.unit l.stage) ≤ vec_len l.row };
+}
+
+impl<S: Stage + Drop> Link<S> {
+    ghost use Rattle.std.specs.Prelude.{◌≡◌, IfOk};
+
+    /// A unit with room for what it writes.
+    pub fn new(alloc: Global, stage: S) -> Result<Self, AllocError>
+        ensures { IfOk result (λ l. l ≡ S.unit stage) }
+    {
+        let row = vec![in alloc; 0; stage.room()]?;
+        Ok(Link { stage, row })
+    }
+}
+
+/// Feeds a row of units, and writes what the last one gives.
+pub fn feed_row<S: Stage + Drop, L: Ledger>(
+    links: &mut [Link<S>],
+    frames: &[i32],
+    out: &mut [i32],
+    steps: &mut Steps<L>,
+) -> usize
+    requires running { AllRun links.old }
+    requires passes { (p : Place) × InRow p links.old × Passes p frames.now × (place_room (place_behind p (blocks_of links.old)) ≤ length out.old) }
+    ensures within { result ≤ length out.old }
+    ensures fed { (p : Place) → InRow p links.old → Passes p frames.now → IsFed p links.old links.new frames.now (take result out.new) steps.old steps.new }
+{
+    let Some((link, behind)) = links.split_first_mut() else {
+        out[..frames.len()].copy_from_slice(frames);
+        return frames.len();
+    };
+    let count = link.stage.feed(frames, &mut link.row, steps);
+    feed_row(behind, &link.row[..count], out, steps)
+}
+
+/// Writes the next frames that come of the first unit's tail: none where it is spent.
+fn finish_first<S: Stage + Drop, L: Ledger>(
+    links: &mut [Link<S>],
+    out: &mut [i32],
+    steps: &mut Steps<L>,
+) -> usize
+    requires order { EndsInOrder links.old }
+    requires row { (p : Place) × InRow p links.old × (place_room (place_behind p (blocks_of links.old)) ≤ length out.old) }
+    ensures within { result ≤ length out.old }
+    ensures finished { (p : Place) → InRow p links.old → IsFinishedFirst p links.old links.new (take result out.new) steps.old steps.new }
+{
+    let Some((link, behind)) = links.split_first_mut() else {
+        return 0;
+    };
+    let count = link.stage.finish(&mut link.row, steps);
+    if count == 0 {
+        return 0;
+    }
+    let given = feed_row(behind, &link.row[..count], out, steps);
+    if given > 0 {
+        return given;
+    }
+    finish_first(links, out, steps)
+}
+
+/// Writes the next frames of the row's tail: none where it is spent.
+pub fn finish_row<S: Stage + Drop, L: Ledger>(
+    links: &mut [Link<S>],
+    out: &mut [i32],
+    steps: &mut Steps<L>,
+) -> usize
+    requires order { EndsInOrder links.old }
+    requires row { (p : Place) × InRow p links.old × (place_room (place_behind p (blocks_of links.old)) ≤ length out.old) }
+    ensures within { result ≤ length out.old }
+    ensures finished { (p : Place) → InRow p links.old → IsFinished p links.old links.new (take result out.new) steps.old steps.new }
+{
+    let given = finish_first(links, out, steps);
+    if given > 0 {
+        return given;
+    }
+    let Some((_spent, behind)) = links.split_first_mut() else {
+        return 0;
+    };
+    finish_row(behind, out, steps)
+}

@@ -1,0 +1,14 @@
+use Rattle.std.proofs.Common.{arith, ◌∙◌, length-drop}
+use Rattle.dsp_ports.proofs.Moved.{Gave-read}
+use Rattle.dsp_ports.proofs.filling.fill.Goals as goal
+
+pub loop-filled-preserved : goal.loop-filled-preserved
+loop-filled-preserved g c =
+    let kept = c.loop-filled.invariant in
+    let given = c.in-Ok.ensures in
+    record {
+      within = omega (arith, given.within, c.min-want.ensures, length-drop c.loop-filled.filled c.loop-filled.block);
+      room = omega (arith, given.within, c.min-want.ensures);
+      gave = Gave-read _ _ _ c.loop-filled.filled _ c.in-Ok.count c.loop-filled.block c.read.new.into (omega arith) given.within kept.gave given.gave;
+      faults = given.faults ∙ kept.faults;
+    }

@@ -1,0 +1,15 @@
+use Rattle.std.proofs.Common.{◌≡◌, ◌≤◌, ◌-◌, length, take}
+use Rattle.dsp_ports.specs.Ports.{Gave}
+use Rattle.dsp_ports.proofs.filling.fill.Given as goal
+
+abbrev pub invariant-loop-filled : goal.invariant-loop-filled
+invariant-loop-filled g l =
+    record {
+      within : l.filled ≤ length l.initial.block;
+      room : l.filled ≤ l.room;
+      gave : Gave (g.S.Source.state l.fn.input) (g.S.Source.state l.input) (take l.filled l.block);
+      faults : (g.S.Source.state l.input).faults ≡ (g.S.Source.state l.fn.input).faults;
+    }
+
+abbrev pub decreases-loop-filled : goal.decreases-loop-filled
+decreases-loop-filled g l = length l.block - l.filled

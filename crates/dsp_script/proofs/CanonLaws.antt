@@ -1,0 +1,283 @@
+-- The canonical text is read back.
+use Rattle.std.proofs.Common.{◌≡◌, ℕ, zero, suc, ℤ, pos, ◌+◌, ◌^◌, ◌<◌, ◌≤◌, Bool, true, false, cond, ◌&&◌, eqb, List, [], ◌∷◌, ◌++◌, length, map, get_or, drop, Option, Some, None, refl, sym, ap, subst, ◌∙◌, append_assoc, arith}
+use Rattle.std.specs.Prelude.{codes, nat_le}
+use Rattle.std.specs.Char.{is_ascii_digit}
+use Rattle.std.specs.Fmt.{decimal, signed_decimal}
+use Rattle.std.specs.List.{AllByRecursion, flat_map, join_by, list_all}
+use Rattle.std.specs.Option.{option_map}
+use Rattle.std.specs.Str.Parse.{AllDigits, digits_value}
+use Rattle.std.proofs.Math.IntN.{neg_ℤ}
+use Rattle.std.proofs.lemmas.Bool.Decides.{nat_tests}
+use Rattle.std.proofs.lemmas.Fmt.{decimal_is_IsNumeral_wide, length-decimal-le_wide}
+use Rattle.std.proofs.lemmas.List.Concat.{flat_map-cons}
+use Rattle.std.proofs.lemmas.Str.{digit_value_digit}
+use Rattle.std.proofs.lemmas.Str.Parse.{digit_from_value, digits_value_short, numerals_by_value, tells_digits}
+use Rattle.dsp_defs.specs.declared.limits.TheConstants.{MAX_SCRIPT}
+use Rattle.dsp_defs.specs.declared.script.Block.{Block}
+use Rattle.dsp_defs.specs.declared.format.Container.{Container}
+use Rattle.dsp_defs.specs.declared.format.InputKind.{InputKind}
+use Rattle.dsp_defs.specs.declared.format.InputKind.TheVariants as kind
+use Rattle.dsp_defs.specs.declared.format.Input.{Input}
+use Rattle.dsp_defs.specs.declared.script.Script.{Script}
+use Rattle.dsp_defs.specs.Token.{Token, Open, Close, Run, Bad, Item, items, items_from, is_run_byte}
+use Rattle.dsp_defs.specs.Numeral.{natural_of, value_of}
+use Rattle.dsp_defs.specs.Table.{name_of, format_name, container_name}
+use Rattle.dsp_defs.specs.Parameters.{Argument, Number, Listed, Format}
+use Rattle.dsp_defs.specs.Grammar.{Symbol, Name, Numeral, OpenBrace, CloseBrace, IsWritten, Spells, word_of, arguments, argument_symbols, block_symbols, input_symbols, length_symbols, symbols, Reads, IsSound, container_of, rate_symbols, output_symbols}
+use Rattle.dsp_defs.specs.Canon.{line, argument_text, arguments_text, block_line, input_line, length_line, canon, rate_text, output_line}
+use Rattle.dsp_script.proofs.Tokens.{EndsRun, run_begins}
+use Rattle.dsp_script.proofs.Steps.{both_true}
+use Rattle.dsp_script.proofs.Names.{IsRun, word_run, format_run, container_run}
+use Rattle.dsp_script.proofs.Numerals.{in_range}
+
+-- ---- numerals
+
+-- the number has a numeral, and the decimal text is one
+record IsNumeralOf (n : ℤ) : Type 0 where
+  run : IsRun (signed_decimal n)
+  value : value_of (signed_decimal n) ≡ Some n
+
+digits_all : (ds : List ℕ) → AllDigits 10 ds → list_all is_ascii_digit ds ≡ true
+digits_all [] h = refl
+digits_all (c ∷ cs) h = let r = digit_from_value c h.0 in let one : is_ascii_digit c ≡ true = grind (arith, nat_tests) in rw (one, digits_all cs h.1) refl
+
+all_digits : (ds : List ℕ) → list_all is_ascii_digit ds ≡ true → AllDigits 10 ds
+all_digits [] h = tt
+all_digits (c ∷ cs) h = let b = both_true (is_ascii_digit c) (list_all is_ascii_digit cs) h in let r = in_range c b.0 in (omega (arith, digit_value_digit c r), all_digits cs b.1)
+
+digits_run : (ds : List ℕ) → list_all is_ascii_digit ds ≡ true → list_all is_run_byte ds ≡ true
+digits_run [] h = refl
+digits_run (c ∷ cs) h = let b = both_true (is_ascii_digit c) (list_all is_ascii_digit cs) h in let r = in_range c b.0 in let one : is_run_byte c ≡ true = grind (arith, nat_tests) in rw (one, digits_run cs b.1) refl
+
+natural_decimal : (n : ℕ) → n < 10 ^ 20 → natural_of (decimal n) ≡ Some n
+natural_decimal n small =
+    let d = decimal_is_IsNumeral_wide n (omega arith) in
+    let most = length-decimal-le_wide 20 n (omega arith) small (omega arith) in
+    let some : nat_le 1 (length (decimal n)) ≡ true = grind (arith, nat_tests, d.0.0) in
+    let few : nat_le (length (decimal n)) 20 ≡ true = grind (arith, nat_tests, most) in
+    rw (some, few, digits_all (decimal n) d.0.1, d.1) refl
+
+chosen_some : (b : Bool) (v n : ℕ) → cond b (Some v) None ≡ Some n → (b ≡ true) × (v ≡ n)
+chosen_some true v n e = (refl, cc)
+chosen_some false v n e = absurd cc
+
+natural_below : (digits : List ℕ) (n : ℕ) → natural_of digits ≡ Some n → n < 10 ^ 20
+natural_below digits n e =
+    let t = chosen_some _ (digits_value 10 digits) n e in
+    let a = both_true (nat_le 1 (length digits) && nat_le (length digits) 20) (list_all is_ascii_digit digits) t.0 in
+    let b = both_true (nat_le 1 (length digits)) (nat_le (length digits) 20) a.0 in
+    let few : length digits ≤ 20 = grind (arith, nat_tests, b.1) in
+    rw (← t.1) (digits_value_short (numerals_by_value (AllDigits 10) tells_digits) digits 20 (all_digits digits a.1) few)
+
+first_digit : (ds : List ℕ) → AllDigits 10 ds → 0 < length ds → eqb (get_or ds 0 0) 45 ≡ false
+first_digit [] h some = absurd (omega arith)
+first_digit (c ∷ cs) h some = let r = digit_from_value c h.0 in grind (arith, nat_tests)
+
+numeral_positive : (n : ℕ) → n < 10 ^ 20 → IsNumeralOf (pos n)
+unfolding value_of
+numeral_positive n small =
+    let d = decimal_is_IsNumeral_wide n (omega arith) in
+    record { run = (digits_run (decimal n) (digits_all (decimal n) d.0.1), d.0.0); value = rw (first_digit (decimal n) d.0.1 d.0.0, natural_decimal n small) refl }
+
+numeral_negative : (n : ℕ) → n < 10 ^ 20 → IsNumeralOf (neg_ℤ (pos n))
+unfolding value_of
+numeral_negative zero small = numeral_positive 0 small
+numeral_negative (suc n) small =
+    let d = decimal_is_IsNumeral_wide (suc n) (omega arith) in
+    record { run = (digits_run (decimal (suc n)) (digits_all (decimal (suc n)) d.0.1), omega arith); value = rw (natural_decimal (suc n) small) refl }
+
+numeral_again : (run : List ℕ) (n : ℤ) → value_of run ≡ Some n → IsNumeralOf n
+unfolding value_of
+numeral_again run n e = tested (eqb (get_or run 0 0) 45) (natural_of (drop 1 run)) (natural_of run) refl refl e
+  where
+    tested : (b : Bool) (x y : Option ℕ) → natural_of (drop 1 run) ≡ x → natural_of run ≡ y → cond b (option_map (λ m. neg_ℤ (pos m)) x) (option_map (λ m. pos m) y) ≡ Some n → IsNumeralOf n
+    tested true None y p q e = absurd cc
+    tested false x None p q e = absurd cc
+    tested true (Some m) y p q e = let same : neg_ℤ (pos m) ≡ n = cc in subst IsNumeralOf same (numeral_negative m (natural_below (drop 1 run) m p))
+    tested false x (Some m) p q e = let same : pos m ≡ n = cc in subst IsNumeralOf same (numeral_positive m (natural_below run m q))
+
+-- ---- texts
+
+-- whatever place it stands at, the text has tokens that are written as the symbols
+abbrev Lexes : List ℕ → List Symbol → Type 0
+Lexes text symbols = (at : ℕ) → Spells (items_from false at text) symbols
+
+-- the same, behind a run
+record Follows (text : List ℕ) (symbols : List Symbol) : Type 0 where
+  ends : EndsRun text
+  lexes : Lexes text symbols
+
+nothing : Follows [] []
+unfolding items_from
+nothing = record { ends = tt; lexes = λ at. tt }
+
+after_newline : (text : List ℕ) (symbols : List Symbol) → Lexes text symbols → Follows (10 ∷ text) symbols
+unfolding items_from
+after_newline text symbols h = record { ends = refl; lexes = λ at. h (at + 1) }
+
+after_space : (text : List ℕ) (symbols : List Symbol) → Lexes text symbols → Follows (32 ∷ text) symbols
+unfolding items_from
+after_space text symbols h = record { ends = refl; lexes = λ at. h (at + 1) }
+
+after_open : (text : List ℕ) (symbols : List Symbol) → Lexes text symbols → Follows (123 ∷ text) (OpenBrace ∷ symbols)
+unfolding items_from
+after_open text symbols h = record { ends = refl; lexes = λ at. (tt, h (at + 1)) }
+
+after_close : (text : List ℕ) (symbols : List Symbol) → Lexes text symbols → Follows (125 ∷ text) (CloseBrace ∷ symbols)
+unfolding items_from
+after_close text symbols h = record { ends = refl; lexes = λ at. (tt, h (at + 1)) }
+
+all_run : (run : List ℕ) → list_all is_run_byte run ≡ true → AllByRecursion (λ b. is_run_byte b ≡ true) run
+all_run [] h = tt
+all_run (b ∷ run) h = let t = both_true (is_run_byte b) (list_all is_run_byte run) h in (t.0, all_run run t.1)
+
+after_run : (run text : List ℕ) (symbol : Symbol) (symbols : List Symbol) → IsRun run → IsWritten (Run run) symbol → Follows text symbols → Lexes (run ++ text) (symbol ∷ symbols)
+after_run run text symbol symbols is written follows = λ at. rw (run_begins at run text (all_run run is.0) is.1 follows.ends) (written, follows.lexes (at + length run))
+
+after_number : (n : ℤ) (text : List ℕ) (symbols : List Symbol) → IsNumeralOf n → Follows text symbols → Lexes (signed_decimal n ++ text) (Numeral n ∷ symbols)
+after_number n text symbols is follows = after_run (signed_decimal n) text (Numeral n) symbols is.run is.value follows
+
+-- ---- what can be written
+
+-- the numbers among the symbols have numerals
+abbrev IsWritable : Symbol → Type 0
+IsWritable (Numeral n) = IsNumeralOf n
+IsWritable symbol = Unit {0}
+
+abbrev AllWritable : List Symbol → Type 0
+AllWritable symbols = AllByRecursion IsWritable symbols
+
+writable : (token : Token) (symbol : Symbol) → IsWritten token symbol → IsWritable symbol
+writable token (Name name) h = tt
+writable token OpenBrace h = tt
+writable token CloseBrace h = tt
+writable (Run run) (Numeral n) h = numeral_again run n h
+writable Open (Numeral n) h = absurd h
+writable Close (Numeral n) h = absurd h
+writable Bad (Numeral n) h = absurd h
+
+all_writable : (items : List Item) (symbols : List Symbol) → Spells items symbols → AllWritable symbols
+all_writable items [] h = tt
+all_writable [] (symbol ∷ symbols) h = absurd h
+all_writable (item ∷ items) (symbol ∷ symbols) h = (writable item.token symbol h.0, all_writable items symbols h.1)
+
+writable_parts : (xs ys : List Symbol) → AllWritable (xs ++ ys) → AllWritable xs × AllWritable ys
+writable_parts [] ys h = (tt, h)
+writable_parts (x ∷ xs) ys h = let more = writable_parts xs ys h.1 in ((h.0, more.0), more.1)
+
+-- ---- arguments
+
+after_spaced : (numbers : List ℤ) (text : List ℕ) (symbols : List Symbol) → AllWritable (map Numeral numbers) → Follows text symbols → Follows (flat_map (λ n. codes " " ++ signed_decimal n) numbers ++ text) (map Numeral numbers ++ symbols)
+after_spaced [] text symbols w follows = follows
+after_spaced (n ∷ numbers) text symbols w follows =
+    let more = after_spaced numbers text symbols w.1 follows in
+    let regrouped : signed_decimal n ++ (flat_map (λ n. codes " " ++ signed_decimal n) numbers ++ text) ≡ (signed_decimal n ++ flat_map (λ n. codes " " ++ signed_decimal n) numbers) ++ text = sym (append_assoc (signed_decimal n) (flat_map (λ n. codes " " ++ signed_decimal n) numbers) text) in
+    after_space ((signed_decimal n ++ flat_map (λ n. codes " " ++ signed_decimal n) numbers) ++ text) (Numeral n ∷ map Numeral numbers ++ symbols) (subst (λ (t : List ℕ). Lexes t (Numeral n ∷ map Numeral numbers ++ symbols)) regrouped (after_number n _ (map Numeral numbers ++ symbols) w.0 more))
+
+after_joined : (numbers : List ℤ) (text : List ℕ) (symbols : List Symbol) → AllWritable (map Numeral numbers) → Follows text symbols → Lexes (join_by signed_decimal (codes " ") numbers ++ text) (map Numeral numbers ++ symbols)
+after_joined [] text symbols w follows = follows.lexes
+after_joined (n ∷ numbers) text symbols w follows =
+    let spaced = flat_map (λ n. codes " " ++ signed_decimal n) numbers in
+    let regrouped : signed_decimal n ++ (spaced ++ text) ≡ (signed_decimal n ++ spaced) ++ text = sym (append_assoc (signed_decimal n) spaced text) in
+    subst (λ (t : List ℕ). Lexes t (Numeral n ∷ map Numeral numbers ++ symbols)) regrouped (after_number n (spaced ++ text) (map Numeral numbers ++ symbols) w.0 (after_spaced numbers text symbols w.1 follows))
+
+after_argument : (a : Argument) (text : List ℕ) (symbols : List Symbol) → AllWritable (argument_symbols a) → Follows text symbols → Lexes (argument_text a ++ text) (argument_symbols a ++ symbols)
+after_argument (Number n) text symbols w follows = after_number n text symbols w.0 follows
+after_argument (Format f) text symbols w follows = after_run (format_name f) text (Name (format_name f)) symbols (format_run f) refl follows
+after_argument (Listed numbers) text symbols w follows =
+    let closed = after_close text symbols follows.lexes in
+    let inner = after_joined numbers (125 ∷ text) (CloseBrace ∷ symbols) (writable_parts (map Numeral numbers) (CloseBrace ∷ []) w.1).0 closed in
+    let joined = join_by signed_decimal (codes " ") numbers in
+    let opened = after_open (joined ++ 125 ∷ text) (map Numeral numbers ++ CloseBrace ∷ symbols) inner in
+    let text_is : 123 ∷ (joined ++ 125 ∷ text) ≡ argument_text (Listed numbers) ++ text = ap (λ (t : List ℕ). 123 ∷ t) (sym (append_assoc joined (125 ∷ []) text)) in
+    let symbols_is : OpenBrace ∷ (map Numeral numbers ++ CloseBrace ∷ symbols) ≡ argument_symbols (Listed numbers) ++ symbols = ap (λ (x : List Symbol). OpenBrace ∷ x) (sym (append_assoc (map Numeral numbers) (CloseBrace ∷ []) symbols)) in
+    subst (λ (t : List ℕ). Lexes t (argument_symbols (Listed numbers) ++ symbols)) text_is (subst (λ (x : List Symbol). Lexes (123 ∷ (joined ++ 125 ∷ text)) x) symbols_is opened.lexes)
+
+after_arguments : (args : List Argument) (text : List ℕ) (symbols : List Symbol) → AllWritable (flat_map argument_symbols args) → Follows text symbols → Follows (arguments_text args ++ text) (flat_map argument_symbols args ++ symbols)
+after_arguments [] text symbols w follows = follows
+after_arguments (a ∷ args) text symbols w follows =
+    let parts = writable_parts (argument_symbols a) (flat_map argument_symbols args) w in
+    let more = after_arguments args text symbols parts.1 follows in
+    let inner = after_argument a (arguments_text args ++ text) (flat_map argument_symbols args ++ symbols) parts.0 more in
+    let text_is : argument_text a ++ (arguments_text args ++ text) ≡ (argument_text a ++ arguments_text args) ++ text = sym (append_assoc (argument_text a) (arguments_text args) text) in
+    let symbols_is : argument_symbols a ++ (flat_map argument_symbols args ++ symbols) ≡ (argument_symbols a ++ flat_map argument_symbols args) ++ symbols = sym (append_assoc (argument_symbols a) (flat_map argument_symbols args) symbols) in
+    let regrouped = subst (λ (t : List ℕ). Lexes t ((argument_symbols a ++ flat_map argument_symbols args) ++ symbols)) text_is (subst (λ (x : List Symbol). Lexes (argument_text a ++ (arguments_text args ++ text)) x) symbols_is inner) in
+    after_space ((argument_text a ++ arguments_text args) ++ text) ((argument_symbols a ++ flat_map argument_symbols args) ++ symbols) regrouped
+
+-- ---- lines
+
+after_block : (b : Block) (text : List ℕ) (symbols : List Symbol) → AllWritable (block_symbols b) → Lexes text symbols → Lexes (block_line b ++ text) (block_symbols b ++ symbols)
+after_block b text symbols w h =
+    let args = after_arguments (arguments b) (10 ∷ text) symbols w.1 (after_newline text symbols h) in
+    let whole = after_run (name_of (word_of b)) (arguments_text (arguments b) ++ 10 ∷ text) (Name (name_of (word_of b))) (flat_map argument_symbols (arguments b) ++ symbols) (word_run (word_of b)) refl args in
+    let text_is : name_of (word_of b) ++ (arguments_text (arguments b) ++ 10 ∷ text) ≡ block_line b ++ text =
+    sym (append_assoc (name_of (word_of b) ++ arguments_text (arguments b)) (10 ∷ []) text ∙ append_assoc (name_of (word_of b)) (arguments_text (arguments b)) (10 ∷ text)) in
+    subst (λ (t : List ℕ). Lexes t (block_symbols b ++ symbols)) text_is whole
+
+after_blocks : (blocks : List Block) (text : List ℕ) (symbols : List Symbol) → AllWritable (flat_map block_symbols blocks) → Lexes text symbols → Lexes (flat_map block_line blocks ++ text) (flat_map block_symbols blocks ++ symbols)
+after_blocks [] text symbols w h = h
+after_blocks (b ∷ blocks) text symbols w h =
+    let parts = writable_parts (block_symbols b) (flat_map block_symbols blocks) (subst AllWritable (flat_map-cons block_symbols b blocks) w) in
+    let first = after_block b (flat_map block_line blocks ++ text) (flat_map block_symbols blocks ++ symbols) parts.0 (after_blocks blocks text symbols parts.1 h) in
+    let text_is : block_line b ++ (flat_map block_line blocks ++ text) ≡ flat_map block_line (b ∷ blocks) ++ text = sym (append_assoc (block_line b) (flat_map block_line blocks) text) ∙ ap (λ (t : List ℕ). t ++ text) (sym (flat_map-cons block_line b blocks)) in
+    let symbols_is : block_symbols b ++ (flat_map block_symbols blocks ++ symbols) ≡ flat_map block_symbols (b ∷ blocks) ++ symbols = sym (append_assoc (block_symbols b) (flat_map block_symbols blocks) symbols) ∙ ap (λ (x : List Symbol). x ++ symbols) (sym (flat_map-cons block_symbols b blocks)) in
+    subst (λ (t : List ℕ). Lexes t (flat_map block_symbols (b ∷ blocks) ++ symbols)) text_is (subst (λ (x : List Symbol). Lexes (block_line b ++ (flat_map block_line blocks ++ text)) x) symbols_is first)
+
+after_length : (frames : Option ℕ) (text : List ℕ) (symbols : List Symbol) → AllWritable (length_symbols frames) → Lexes text symbols → Lexes (length_line frames ++ text) (length_symbols frames ++ symbols)
+after_length None text symbols w h = h
+after_length (Some n) text symbols w h =
+    let number = after_number (pos n) (10 ∷ text) symbols w.1.0 (after_newline text symbols h) in
+    let whole = after_run (codes "block") (32 ∷ (decimal n ++ 10 ∷ text)) (Name (codes "block")) (Numeral (pos n) ∷ symbols) (refl, omega arith) refl (after_space (decimal n ++ 10 ∷ text) (Numeral (pos n) ∷ symbols) number) in
+    let text_is : codes "block " ++ (decimal n ++ 10 ∷ text) ≡ length_line (Some n) ++ text = ap (λ (t : List ℕ). codes "block " ++ t) (sym (append_assoc (decimal n) (10 ∷ []) text)) in
+    subst (λ (t : List ℕ). Lexes t (length_symbols (Some n) ++ symbols)) text_is whole
+
+after_rate : (k : InputKind) (text : List ℕ) (symbols : List Symbol) → AllWritable (rate_symbols k) → Follows text symbols → Follows (rate_text k ++ text) (rate_symbols k ++ symbols)
+after_rate kind.Wave text symbols w follows = follows
+after_rate (kind.Raw rate) text symbols w follows = after_space (decimal rate ++ text) (Numeral (pos rate) ∷ symbols) (after_number (pos rate) text symbols w.0 follows)
+
+after_input : (input : Input) (text : List ℕ) (symbols : List Symbol) → AllWritable (input_symbols input) → Lexes text symbols → Lexes (input_line input ++ text) (input_symbols input ++ symbols)
+after_input input text symbols w h =
+    let name = container_name (container_of input.kind) in
+    let after_channels = rate_text input.kind ++ 10 ∷ text in
+    let after_format = 32 ∷ (decimal input.channels ++ after_channels) in
+    let rates = rate_symbols input.kind ++ symbols in
+    let numbers = Numeral (pos input.channels) ∷ rates in
+    let channels = after_number (pos input.channels) after_channels rates w.1.1.1.0 (after_rate input.kind (10 ∷ text) symbols w.1.1.1.1 (after_newline text symbols h)) in
+    let format = after_run (format_name input.format) after_format (Name (format_name input.format)) numbers (format_run input.format) refl (after_space (decimal input.channels ++ after_channels) numbers channels) in
+    let container = after_run name (32 ∷ (format_name input.format ++ after_format)) (Name name) (Name (format_name input.format) ∷ numbers) (container_run (container_of input.kind)) refl (after_space (format_name input.format ++ after_format) (Name (format_name input.format) ∷ numbers) format) in
+    let whole = after_run (codes "input") (32 ∷ (name ++ 32 ∷ (format_name input.format ++ after_format))) (Name (codes "input")) (Name name ∷ Name (format_name input.format) ∷ numbers) (refl, omega arith) refl (after_space (name ++ 32 ∷ (format_name input.format ++ after_format)) (Name name ∷ Name (format_name input.format) ∷ numbers) container) in
+    let text_is : codes "input " ++ (name ++ 32 ∷ (format_name input.format ++ after_format)) ≡ input_line input ++ text = simp append_assoc in
+    subst (λ (t : List ℕ). Lexes t (input_symbols input ++ symbols)) text_is whole
+
+after_output : (output : Container) → Lexes (output_line output) (output_symbols output)
+after_output output =
+    let name = container_name output in
+    let last = after_run name (10 ∷ []) (Name name) [] (container_run output) refl (after_newline [] [] nothing.lexes) in
+    after_run (codes "output") (32 ∷ (name ++ 10 ∷ [])) (Name (codes "output")) (Name name ∷ []) (refl, omega arith) refl (after_space (name ++ 10 ∷ []) (Name name ∷ []) last)
+
+lines_joined : (a b c d e : List ℕ) → a ++ (b ++ (c ++ (d ++ e))) ≡ (((a ++ b) ++ c) ++ d) ++ e
+lines_joined a b c d e = simp append_assoc
+
+canon_lexes : (s : Script) → AllWritable (symbols s) → Lexes (canon s) (symbols s)
+canon_lexes s w =
+    let output = output_symbols s.output in
+    let nested : symbols s ≡ Name (codes "dspfx") ∷ Numeral (pos s.version) ∷ (input_symbols s.input ++ (length_symbols s.block ++ (flat_map block_symbols s.blocks ++ output))) = simp append_assoc in
+    let parts = subst AllWritable nested w in
+    let p1 = writable_parts (input_symbols s.input) (length_symbols s.block ++ (flat_map block_symbols s.blocks ++ output)) parts.1.1 in
+    let p2 = writable_parts (length_symbols s.block) (flat_map block_symbols s.blocks ++ output) p1.1 in
+    let p3 = writable_parts (flat_map block_symbols s.blocks) output p2.1 in
+    let blocks = after_blocks s.blocks (output_line s.output) output p3.0 (after_output s.output) in
+    let blocks_text = flat_map block_line s.blocks ++ output_line s.output in
+    let blocks_symbols = flat_map block_symbols s.blocks ++ output in
+    let frames = after_length s.block blocks_text blocks_symbols p2.0 blocks in
+    let input = after_input s.input (length_line s.block ++ blocks_text) (length_symbols s.block ++ blocks_symbols) p1.0 frames in
+    let input_text = input_line s.input ++ (length_line s.block ++ blocks_text) in
+    let input_symbols_all = input_symbols s.input ++ (length_symbols s.block ++ blocks_symbols) in
+    let version = after_number (pos s.version) (10 ∷ input_text) input_symbols_all parts.1.0 (after_newline input_text input_symbols_all input) in
+    let whole = after_run (codes "dspfx") (32 ∷ (decimal s.version ++ 10 ∷ input_text)) (Name (codes "dspfx")) (Numeral (pos s.version) ∷ input_symbols_all) (refl, omega arith) refl (after_space (decimal s.version ++ 10 ∷ input_text) (Numeral (pos s.version) ∷ input_symbols_all) version) in
+    let text_is : codes "dspfx " ++ (decimal s.version ++ 10 ∷ input_text) ≡ canon s =
+    sym (append_assoc (codes "dspfx " ++ decimal s.version) (10 ∷ []) input_text) ∙ lines_joined (line (codes "dspfx " ++ decimal s.version)) (input_line s.input) (length_line s.block) (flat_map block_line s.blocks) (output_line s.output) in
+    subst (λ (t : List ℕ). Lexes t (symbols s)) text_is (subst (λ (x : List Symbol). Lexes (codes "dspfx " ++ (decimal s.version ++ 10 ∷ input_text)) x) (sym nested) whole)
+
+pub canon_read : (s : Script) → IsSound s → length (canon s) ≤ MAX_SCRIPT → Reads (canon s) s
+canon_read s (text, reads) short = record { short = short; spelled = canon_lexes s (all_writable (items text) (symbols s) reads.spelled) 0; fit = reads.fit }

@@ -1,0 +1,12 @@
+pub mod Numerals
+pub mod Tokens
+pub mod Loops
+pub mod Names
+pub mod Steps
+pub mod ListLaws
+pub mod BlockLaws
+pub mod ScriptLaws
+pub mod CanonLaws
+pub mod Placed
+pub mod Paces
+pub mod Counts

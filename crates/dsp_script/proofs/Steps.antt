@@ -1,0 +1,329 @@
+-- One token: what a reader takes is written so, and what is written so is taken.
+use Rattle.std.proofs.Common.{◌≡◌, ◌≢◌, ℕ, ℤ, pos, ◌≤◌, Bool, true, false, cond, List, [], ◌∷◌, ◌++◌, Option, Some, None, Result, Ok, Err, refl, ap, ◌∙◌, arith}
+use Rattle.std.specs.Prelude.{⊤, find, unsigned_abs, ◌&&◌, int_le}
+use Rattle.std.specs.Str.{bytes_eq}
+use Rattle.std.proofs.lemmas.Int.{ints}
+use Rattle.std.proofs.lemmas.Slice.Eq.{bytes_eq-Decides}
+use Rattle.dsp_defs.specs.declared.script_fault.ScriptFault.{ScriptFault}
+use Rattle.dsp_defs.specs.declared.script_fault.ScriptKind.{ScriptKind}
+use Rattle.dsp_defs.specs.declared.format.Fmt.{Fmt}
+use Rattle.dsp_defs.specs.declared.format.Fmt.TheVariants.{Q7, Q15, Q31}
+use Rattle.dsp_defs.specs.declared.word.Word.{Word}
+use Rattle.dsp_defs.specs.declared.format.Container.{Container}
+use Rattle.dsp_defs.specs.Token.{Token, Open, Close, Run, Bad, Item, Rest}
+use Rattle.dsp_defs.specs.Numeral.{value_of}
+use Rattle.dsp_defs.specs.Table.{every_word, name_of, word_by_name, every_format, format_name, format_by_name, every_container, container_name, container_by_name}
+use Rattle.dsp_defs.specs.Parameters.{IsBetween}
+use Rattle.dsp_defs.specs.Grammar.{Symbol, Name, Numeral, OpenBrace, CloseBrace, IsWritten, Spells}
+use Rattle.dsp_defs.specs.Places.{◌>>=◌, or_fault, first_of, token_at, Judge, next_at, meaning_of, choice, named, word_at, format_at, is_between, number, number_at, natural_at, opening, open_at, another, conversion, conversion_at, container_at}
+use Rattle.dsp_script.proofs.Names.{format_again, container_again}
+
+-- ---- results
+
+pub bind_ok : {A B : Type 0} (r : Result A ScriptFault) (f : A → Result B ScriptFault) (y : B) → (r >>= f) ≡ Ok y → (x : A) × (r ≡ Ok x) × (f x ≡ Ok y)
+bind_ok (Ok x) f y e = (x, refl, e)
+bind_ok (Err d) f y e = absurd cc
+
+abbrev done : {A : Type 0} → A → Result A ScriptFault
+done x = Ok x
+
+pub ok_is : {A : Type 0} (x y : A) → done x ≡ done y → x ≡ y
+ok_is x y e = cc
+
+pub or_fault_ok : {A : Type 0} (offset : ℕ) (kind : ScriptKind) (o : Option A) (x : A) → or_fault offset kind o ≡ Ok x → o ≡ Some x
+or_fault_ok offset kind (Some y) x e = ap Some (ok_is y x e)
+or_fault_ok offset kind None x e = absurd cc
+
+-- a test that did not fail
+pub passed : {A : Type 0} (b : Bool) (d : ScriptFault) (x y : A) → cond b (Ok x) (Err d) ≡ Ok y → (b ≡ true) × (x ≡ y)
+passed true d x y e = (refl, ok_is x y e)
+passed false d x y e = absurd cc
+
+-- ---- tokens
+
+-- symbols are written at the front of the items, and these are left
+abbrev pub Strips : List Item → List Symbol → List Item → Type 0
+Strips items [] left = items ≡ left
+Strips [] (symbol ∷ symbols) left = ⊥
+Strips (item ∷ items) (symbol ∷ symbols) left = IsWritten item.token symbol × Strips items symbols left
+
+pub Strips-append : (items : List Item) (xs ys : List Symbol) (between left : List Item) → Strips items xs between → Strips between ys left → Strips items (xs ++ ys) left
+Strips-append items [] ys between left first then = rw first then
+Strips-append [] (x ∷ xs) ys between left first then = absurd first
+Strips-append (item ∷ items) (x ∷ xs) ys between left first then = (first.0, Strips-append items xs ys between left first.1 then)
+
+pub Strips-split : (items : List Item) (xs ys : List Symbol) (left : List Item) → Strips items (xs ++ ys) left → (between : List Item) × Strips items xs between × Strips between ys left
+Strips-split items [] ys left h = (items, refl, h)
+Strips-split [] (x ∷ xs) ys left h = absurd h
+Strips-split (item ∷ items) (x ∷ xs) ys left h = let more = Strips-split items xs ys left h.1 in (more.0, (h.0, more.1), more.2)
+
+pub Strips-from_spells : (items : List Item) (symbols : List Symbol) → Spells items symbols → Strips items symbols []
+Strips-from_spells [] [] h = refl
+Strips-from_spells [] (x ∷ xs) h = absurd h
+Strips-from_spells (item ∷ items) [] h = absurd h
+Strips-from_spells (item ∷ items) (x ∷ xs) h = (h.0, Strips-from_spells items xs h.1)
+
+pub spells_from_Strips : (items : List Item) (symbols : List Symbol) → Strips items symbols [] → Spells items symbols
+spells_from_Strips [] [] h = tt
+spells_from_Strips [] (x ∷ xs) h = absurd h
+spells_from_Strips (item ∷ items) [] h = absurd cc
+spells_from_Strips (item ∷ items) (x ∷ xs) h = (h.0, spells_from_Strips items xs h.1)
+
+-- a reader went from here to there over the symbols
+pub record Takes (rest after : Rest) (symbols : List Symbol) : Type 0 where
+  pub strips : Strips rest.items symbols after.items
+  pub end : rest.end ≡ after.end
+
+pub Takes-then : (a b c : Rest) (xs ys : List Symbol) → Takes a b xs → Takes b c ys → Takes a c (xs ++ ys)
+Takes-then a b c xs ys p q = record { strips = Strips-append a.items xs ys b.items c.items p.strips q.strips; end = p.end ∙ q.end }
+
+abbrev pub IsToken : Token → Type 0
+IsToken Bad = ⊥
+IsToken token = Unit {0}
+
+abbrev pub pair : {A B : Type 0} → A → B → Result (A × B) ScriptFault
+pair a b = Ok (a, b)
+
+pub pair_is : {A B : Type 0} (a c : A) (b d : B) → pair a b ≡ pair c d → (a ≡ c) × (b ≡ d)
+pair_is a c b d e = let p = ok_is (a, b) (c, d) e in (ap (λ (x : _ × _). x.0) p, ap (λ (x : _ × _). x.1) p)
+
+token_parts : (end : ℕ) (i : Item) (items : List Item) (item : Item) (after : Rest) → pair i (record { items = items; end = end }) ≡ pair item after → (i ∷ items ≡ item ∷ after.items) × (end ≡ after.end)
+token_parts end i items item after e =
+    let p = pair_is i item (record { items = items; end = end }) after e in
+    let left = ap (λ (r : Rest). r.items) p.1 in
+    (cc, ap (λ (r : Rest). r.end) p.1)
+
+first_takes : (end : ℕ) (items : List Item) (item : Item) (after : Rest) → first_of end items ≡ Ok (item, after) → (items ≡ item ∷ after.items) × (end ≡ after.end)
+first_takes end [] item after e = absurd cc
+first_takes end (i ∷ items) item after e =
+    (elim i.token as (λ (t : Token). first_of end (record { offset = i.offset; token = t } ∷ items) ≡ Ok (item, after) → (record { offset = i.offset; token = t } ∷ items ≡ item ∷ after.items) × (end ≡ after.end)) [
+      | Bad ↦ (λ h. absurd cc)
+      | Open ↦ (λ h. token_parts end (record { offset = i.offset; token = Open }) items item after h)
+      | Close ↦ (λ h. token_parts end (record { offset = i.offset; token = Close }) items item after h)
+      | Run run ↦ (λ h. token_parts end (record { offset = i.offset; token = Run run }) items item after h)
+    ]) e
+
+pub next_takes : {A : Type 0} (judge : Judge A) (rest after : Rest) (x : A) → next_at judge rest ≡ Ok (x, after) → (item : Item) × (rest.items ≡ item ∷ after.items) × (rest.end ≡ after.end) × (judge item.offset item.token ≡ Ok x)
+unfolding token_at
+next_takes judge rest after x e =
+    let a = bind_ok (first_of rest.end rest.items) _ (x, after) e in
+    let b = bind_ok (judge a.0.0.offset a.0.0.token) _ (x, after) a.2 in
+    let p = pair_is b.0 x a.0.1 after b.2 in
+    let t = first_takes rest.end rest.items a.0.0 a.0.1 a.1 in
+    (a.0.0, rw p.1 at t.0, rw p.1 at t.1, rw p.0 at b.1)
+
+first_again : (end : ℕ) (item : Item) (items : List Item) → IsToken item.token → first_of end (item ∷ items) ≡ Ok (item, record { items = items; end = end })
+first_again end item items is =
+    (elim item.token as (λ (t : Token). IsToken t → first_of end (record { offset = item.offset; token = t } ∷ items) ≡ pair (record { offset = item.offset; token = t }) (record { items = items; end = end })) [
+      | Bad ↦ (λ h. absurd h)
+      | Open ↦ (λ h. refl)
+      | Close ↦ (λ h. refl)
+      | Run run ↦ (λ h. refl)
+    ]) is
+
+pub next_again : {A : Type 0} (judge : Judge A) (item : Item) (items : List Item) (end : ℕ) (x : A) → IsToken item.token → judge item.offset item.token ≡ Ok x → next_at judge (record { items = item ∷ items; end = end }) ≡ Ok (x, record { items = items; end = end })
+unfolding token_at
+next_again judge item items end x is e = rw (first_again end item items is, e) refl
+
+-- ---- words
+
+pub find_passes : {A : Type 0} (p : A → Bool) (xs : List A) (x : A) → find p xs ≡ Some x → p x ≡ true
+find_passes p [] x e = absurd cc
+find_passes p (y ∷ ys) x e = cases (p y) refl e (find_passes p ys x)
+  where
+    cases : (b : Bool) → p y ≡ b → cond b (Some y) (find p ys) ≡ Some x → (find p ys ≡ Some x → p x ≡ true) → p x ≡ true
+    cases true h e later = let same : y ≡ x = cc in rw same at h
+    cases false h e later = later e
+
+pub named_is : (name run : List ℕ) (x : ⊤) → named name run ≡ Some x → run ≡ name
+named_is name run x e = tested (bytes_eq run name) refl e
+  where
+    tested : (b : Bool) → bytes_eq run name ≡ b → cond b (Some tt) None ≡ Some x → run ≡ name
+    tested true h e = (bytes_eq-Decides run name).0 h
+    tested false h e = absurd cc
+
+pub named_again : (name : List ℕ) → named name name ≡ Some tt
+named_again name = rw ((bytes_eq-Decides name name).1 refl) refl
+
+pub format_named : (run : List ℕ) (f : Fmt) → format_by_name run ≡ Some f → run ≡ format_name f
+unfolding format_by_name
+format_named run f e = (bytes_eq-Decides run (format_name f)).0 (find_passes (λ f. bytes_eq run (format_name f)) every_format f e)
+
+pub word_named : (run : List ℕ) (w : Word) → word_by_name run ≡ Some w → run ≡ name_of w
+unfolding word_by_name
+word_named run w e = (bytes_eq-Decides run (name_of w)).0 (find_passes (λ w. bytes_eq run (name_of w)) every_word w e)
+
+pub container_named : (run : List ℕ) (c : Container) → container_by_name run ≡ Some c → run ≡ container_name c
+unfolding container_by_name
+container_named run c e = (bytes_eq-Decides run (container_name c)).0 (find_passes (λ c. bytes_eq run (container_name c)) every_container c e)
+
+-- a word that has a meaning is a run
+pub meaning_run : {A : Type 0} (meaning : List ℕ → Option A) (token : Token) (x : A) → meaning_of meaning token ≡ Some x → (run : List ℕ) × (token ≡ Run run) × (meaning run ≡ Some x)
+meaning_run meaning Open x e = absurd cc
+meaning_run meaning Close x e = absurd cc
+meaning_run meaning Bad x e = absurd cc
+meaning_run meaning (Run run) x e = (run, refl, e)
+
+pub choice_run : {A : Type 0} (meaning : List ℕ → Option A) (offset : ℕ) (token : Token) (x : A) → choice meaning offset token ≡ Ok x → (run : List ℕ) × (token ≡ Run run) × (meaning run ≡ Some x)
+choice_run meaning offset token x e = meaning_run meaning token x (or_fault_ok offset _ (meaning_of meaning token) x e)
+
+-- ---- readers of one token
+
+pub one_taken : (rest after : Rest) (item : Item) (symbol : Symbol) → rest.items ≡ item ∷ after.items → rest.end ≡ after.end → IsWritten item.token symbol → Takes rest after (symbol ∷ [])
+one_taken rest after item symbol e end h = record { strips = rw e (h, refl); end = end }
+
+pub word_takes : (name : List ℕ) (rest after : Rest) (x : ⊤) → word_at name rest ≡ Ok (x, after) → Takes rest after (Name name ∷ [])
+unfolding word_at
+word_takes name rest after x e =
+    let n = next_takes (choice (named name)) rest after x e in
+    let run = choice_run (named name) n.0.offset n.0.token x n.3 in
+    one_taken rest after n.0 (Name name) n.1 n.2 (rw run.1 (named_is name run.0 x run.2))
+
+pub format_takes : (rest after : Rest) (f : Fmt) → format_at rest ≡ Ok (f, after) → Takes rest after (Name (format_name f) ∷ [])
+unfolding format_at
+format_takes rest after f e =
+    let n = next_takes (choice format_by_name) rest after f e in
+    let run = choice_run format_by_name n.0.offset n.0.token f n.3 in
+    one_taken rest after n.0 (Name (format_name f)) n.1 n.2 (rw run.1 (format_named run.0 f run.2))
+
+pub container_takes : (rest after : Rest) (c : Container) → container_at rest ≡ Ok (c, after) → Takes rest after (Name (container_name c) ∷ [])
+unfolding container_at
+container_takes rest after c e =
+    let n = next_takes (choice container_by_name) rest after c e in
+    let run = choice_run container_by_name n.0.offset n.0.token c n.3 in
+    one_taken rest after n.0 (Name (container_name c)) n.1 n.2 (rw run.1 (container_named run.0 c run.2))
+
+pub both_true : (a b : Bool) → (a && b) ≡ true → (a ≡ true) × (b ≡ true)
+both_true true true e = (refl, refl)
+both_true true false e = absurd cc
+both_true false b e = absurd cc
+
+pub between_is : (low high n : ℤ) → is_between low high n ≡ true → IsBetween low high n
+between_is low high n e = let both = both_true (int_le low n) (int_le n high) e in (grind (arith, ints), grind (arith, ints))
+
+pub number_takes : (low high : ℤ) (rest after : Rest) (n : ℤ) → number_at low high rest ≡ Ok (n, after) → Takes rest after (Numeral n ∷ []) × IsBetween low high n
+unfolding number_at
+number_takes low high rest after n e =
+    let t = next_takes (number low high) rest after n e in
+    let b = bind_ok (or_fault t.0.offset _ (meaning_of value_of t.0.token)) _ n t.3 in
+    let g = passed (is_between low high b.0) _ b.0 n b.2 in
+    let run = meaning_run value_of t.0.token b.0 (or_fault_ok t.0.offset _ (meaning_of value_of t.0.token) b.0 b.1) in
+    (one_taken rest after t.0 (Numeral n) t.1 t.2 (rw (run.1, run.2, g.1) refl), between_is low high n (rw g.1 at g.0))
+
+pub between_again : (low high n : ℤ) → IsBetween low high n → is_between low high n ≡ true
+between_again low high n h = let first : int_le low n ≡ true = grind (arith, ints) in let then : int_le n high ≡ true = grind (arith, ints) in rw (first, then) refl
+
+pub natural_takes : (low high : ℕ) (rest after : Rest) (n : ℕ) → natural_at low high rest ≡ Ok (n, after) → Takes rest after (Numeral (pos n) ∷ []) × (low ≤ n) × (n ≤ high)
+unfolding natural_at
+natural_takes low high rest after n e =
+    let b = bind_ok (number_at (pos low) (pos high) rest) _ (n, after) e in
+    let p = pair_is (unsigned_abs b.0.0) n b.0.1 after b.2 in
+    let t = number_takes (pos low) (pos high) rest b.0.1 b.0.0 b.1 in
+    let is : b.0.0 ≡ pos n = omega (arith, ints, p.0, t.1) in
+    (rw (is, p.1) at t.0, omega (arith, ints, t.1), omega (arith, ints, t.1))
+
+opening_is : (offset : ℕ) (token : Token) (x : ⊤) → opening offset token ≡ Ok x → token ≡ Open
+opening_is offset Open x e = refl
+opening_is offset Close x e = absurd cc
+opening_is offset (Run run) x e = absurd cc
+opening_is offset Bad x e = absurd cc
+
+pub open_takes : (rest after : Rest) (x : ⊤) → open_at rest ≡ Ok (x, after) → Takes rest after (OpenBrace ∷ [])
+unfolding open_at
+open_takes rest after x e =
+    let n = next_takes opening rest after x e in
+    one_taken rest after n.0 OpenBrace n.1 n.2 (rw (opening_is n.0.offset n.0.token x n.3) tt)
+
+another_is : (offset : ℕ) (from format f : Fmt) → another offset from format ≡ Ok f → (format ≡ f) × (f ≢ from)
+another_is offset Q7 Q7 f e = absurd cc
+another_is offset Q7 Q15 f e = let same = ok_is Q15 f e in (same, rw (← same) (λ h. absurd cc))
+another_is offset Q7 Q31 f e = let same = ok_is Q31 f e in (same, rw (← same) (λ h. absurd cc))
+another_is offset Q15 Q7 f e = let same = ok_is Q7 f e in (same, rw (← same) (λ h. absurd cc))
+another_is offset Q15 Q15 f e = absurd cc
+another_is offset Q15 Q31 f e = let same = ok_is Q31 f e in (same, rw (← same) (λ h. absurd cc))
+another_is offset Q31 Q7 f e = let same = ok_is Q7 f e in (same, rw (← same) (λ h. absurd cc))
+another_is offset Q31 Q15 f e = let same = ok_is Q15 f e in (same, rw (← same) (λ h. absurd cc))
+another_is offset Q31 Q31 f e = absurd cc
+
+another_again : (offset : ℕ) (from format : Fmt) → format ≢ from → another offset from format ≡ Ok format
+another_again offset Q7 Q7 ne = absurd (ne refl)
+another_again offset Q7 Q15 ne = refl
+another_again offset Q7 Q31 ne = refl
+another_again offset Q15 Q7 ne = refl
+another_again offset Q15 Q15 ne = absurd (ne refl)
+another_again offset Q15 Q31 ne = refl
+another_again offset Q31 Q7 ne = refl
+another_again offset Q31 Q15 ne = refl
+another_again offset Q31 Q31 ne = absurd (ne refl)
+
+pub conversion_takes : (from : Fmt) (rest after : Rest) (f : Fmt) → conversion_at from rest ≡ Ok (f, after) → Takes rest after (Name (format_name f) ∷ []) × (f ≢ from)
+unfolding conversion_at
+conversion_takes from rest after f e =
+    let n = next_takes (conversion from) rest after f e in
+    let b = bind_ok (choice format_by_name n.0.offset n.0.token) _ f n.3 in
+    let run = choice_run format_by_name n.0.offset n.0.token b.0 b.1 in
+    let other = another_is n.0.offset from b.0 f b.2 in
+    (one_taken rest after n.0 (Name (format_name f)) n.1 n.2 (rw run.1 (format_named run.0 b.0 run.2 ∙ ap format_name other.0)), other.1)
+
+-- ---- what is written is read again
+
+-- a token that is written as a symbol
+pub written_name : (token : Token) (name : List ℕ) → IsWritten token (Name name) → token ≡ Run name
+written_name (Run run) name h = rw h refl
+written_name Open name h = absurd h
+written_name Close name h = absurd h
+written_name Bad name h = absurd h
+
+pub written_number : (token : Token) (n : ℤ) → IsWritten token (Numeral n) → (run : List ℕ) × (token ≡ Run run) × (value_of run ≡ Some n)
+written_number (Run run) n h = (run, refl, h)
+written_number Open n h = absurd h
+written_number Close n h = absurd h
+written_number Bad n h = absurd h
+
+pub written_open : (token : Token) → IsWritten token OpenBrace → token ≡ Open
+written_open (Run run) h = absurd h
+written_open Open h = refl
+written_open Close h = absurd h
+written_open Bad h = absurd h
+
+pub written_close : (token : Token) → IsWritten token CloseBrace → token ≡ Close
+written_close (Run run) h = absurd h
+written_close Open h = absurd h
+written_close Close h = refl
+written_close Bad h = absurd h
+
+-- one token is written, and a judge that takes it reads it
+pub one_again : {A : Type 0} (judge : Judge A) (x : A) (symbol : Symbol) (items left : List Item) (end : ℕ) → Strips items (symbol ∷ []) left
+    → ((item : Item) → IsWritten item.token symbol → IsToken item.token × (judge item.offset item.token ≡ Ok x)) → next_at judge (record { items = items; end = end }) ≡ Ok (x, record { items = left; end = end })
+one_again judge x symbol [] left end h judged = absurd h
+one_again judge x symbol (item ∷ items) left end h judged =
+    let j = judged item h.0 in
+    rw (← h.1) (next_again judge item items end x j.0 j.1)
+
+pub word_read : (name : List ℕ) (items left : List Item) (end : ℕ) → Strips items (Name name ∷ []) left → word_at name (record { items = items; end = end }) ≡ Ok (tt, record { items = left; end = end })
+unfolding word_at
+word_read name items left end h = one_again (choice (named name)) tt (Name name) items left end h (λ item w. let e = written_name item.token name w in (rw e tt, rw (e, named_again name) refl))
+
+pub format_read : (f : Fmt) (items left : List Item) (end : ℕ) → Strips items (Name (format_name f) ∷ []) left → format_at (record { items = items; end = end }) ≡ Ok (f, record { items = left; end = end })
+unfolding format_at
+format_read f items left end h = one_again (choice format_by_name) f (Name (format_name f)) items left end h (λ item w. let e = written_name item.token (format_name f) w in (rw e tt, rw (e, format_again f) refl))
+
+pub container_read : (c : Container) (items left : List Item) (end : ℕ) → Strips items (Name (container_name c) ∷ []) left → container_at (record { items = items; end = end }) ≡ Ok (c, record { items = left; end = end })
+unfolding container_at
+container_read c items left end h = one_again (choice container_by_name) c (Name (container_name c)) items left end h (λ item w. let e = written_name item.token (container_name c) w in (rw e tt, rw (e, container_again c) refl))
+
+pub number_read : (low high n : ℤ) (items left : List Item) (end : ℕ) → IsBetween low high n → Strips items (Numeral n ∷ []) left → number_at low high (record { items = items; end = end }) ≡ Ok (n, record { items = left; end = end })
+unfolding number_at
+number_read low high n items left end fits h = one_again (number low high) n (Numeral n) items left end h (λ item w. let e = written_number item.token n w in (rw e.1 tt, rw (e.1, e.2, between_again low high n fits) refl))
+
+pub natural_read : (low high n : ℕ) (items left : List Item) (end : ℕ) → low ≤ n → n ≤ high → Strips items (Numeral (pos n) ∷ []) left → natural_at low high (record { items = items; end = end }) ≡ Ok (n, record { items = left; end = end })
+unfolding natural_at
+natural_read low high n items left end above below h = rw (number_read (pos low) (pos high) (pos n) items left end (omega (arith, ints), omega (arith, ints)) h) refl
+
+pub open_read : (items left : List Item) (end : ℕ) → Strips items (OpenBrace ∷ []) left → open_at (record { items = items; end = end }) ≡ Ok (tt, record { items = left; end = end })
+unfolding open_at
+open_read items left end h = one_again opening tt OpenBrace items left end h (λ item w. let e = written_open item.token w in (rw e tt, rw e refl))
+
+pub conversion_read : (from f : Fmt) (items left : List Item) (end : ℕ) → f ≢ from → Strips items (Name (format_name f) ∷ []) left → conversion_at from (record { items = items; end = end }) ≡ Ok (f, record { items = left; end = end })
+unfolding conversion_at
+conversion_read from f items left end ne h = one_again (conversion from) f (Name (format_name f)) items left end h (λ item w. let e = written_name item.token (format_name f) w in (rw e tt, rw (e, format_again f) (another_again item.offset from f ne)))

@@ -1,0 +1,27 @@
+-- What a function of the reader answers, against what the definitions read at its place.
+use Rattle.std.specs.Prelude.{◌≡◌, ◌≤◌, length, Result, Ok, Err}
+use Rattle.dsp_defs.specs.declared.script.Block.{Block}
+use Rattle.dsp_defs.specs.declared.script.Block.TheVariants.{Route}
+use Rattle.dsp_defs.specs.declared.script_fault.ScriptFault.{ScriptFault}
+use Rattle.dsp_script.specs.declared.fault.ParseFault.{ParseFault}
+use Rattle.dsp_script.specs.declared.fault.ParseFault.TheVariants as faults
+
+-- the answer, seen by view, is what reading gives
+abbrev pub Gives : {X Y : Type 0} → (X → Y) → Result X ScriptFault → Result Y ScriptFault → Type 0
+Gives view (Ok x) read = read ≡ Ok (view x)
+Gives view (Err f) read = read ≡ Err f
+
+-- the fault is what reading gives, unless it is want of memory
+abbrev pub Fails : {Y : Type 0} → ParseFault → Result Y ScriptFault → Type 0
+Fails faults.Memory read = Unit {0}
+Fails (faults.Script f) read = read ≡ Err f
+
+-- the answer, seen by view, is what reading gives, unless memory ran out
+abbrev pub GivesUnlessMemory : {X Y : Type 0} → (X → Y) → Result X ParseFault → Result Y ScriptFault → Type 0
+GivesUnlessMemory view (Ok x) read = read ≡ Ok (view x)
+GivesUnlessMemory view (Err e) read = Fails e read
+
+-- a route gives up to 16 channels
+abbrev pub HasFewChannels : Block → Type 0
+HasFewChannels (Route channels) = length channels ≤ 16
+HasFewChannels b = Unit {0}

@@ -1,0 +1,25 @@
+//! The script language: a text is read as a script, and a script is printed as its canonical text;
+//! its legal block lengths, the frames that a run gives and the products that it takes.
+#![tactic(auto)]
+
+mod fault;
+mod laws;
+mod lengths;
+mod numeral;
+mod places;
+mod printer;
+mod reader;
+mod rows;
+mod rules;
+mod table;
+mod token;
+
+pub use dsp_defs::{ScriptFault, ScriptKind};
+pub use fault::ParseFault;
+pub use laws::{canonical_text_is_read_back, one_reading};
+pub use lengths::{cost, default_block, frames_given, legal, unit};
+pub use printer::print;
+pub use reader::parse;
+
+#[cfg(test)]
+mod tests;

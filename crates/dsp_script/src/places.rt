@@ -1,0 +1,259 @@
+//! The places of a text: what is wanted there is read, or its fault is answered.
+
+ghost use Rattle.std.specs.Prelude.{◌≤◌, ◌≤ℤ◌, ◌<◌, IfOk, IfSome};
+ghost use Rattle.dsp_defs.specs.Parameters.{least, greatest};
+ghost use Rattle.dsp_defs.specs.Places.{format_at, container_at, word_at, number_at, natural_at, open_at, entry_at, entries_at, list_at, conversion_at};
+ghost use Rattle.dsp_defs.specs.Reading.{next_block_at};
+ghost use Rattle.dsp_script.specs.Answers.{Gives, GivesUnlessMemory};
+
+use crate::fault::ParseFault;
+use crate::token::{Cursor, Token};
+use crate::{numeral, rules, table};
+use dsp_defs::{
+    Container, Flow, Fmt, List, ListRule, MAX_BLOCKS, MAX_CORRELATES, MAX_FACTOR, MAX_MATRIX_SIDE,
+    ScriptFault, ScriptKind, Word,
+};
+use std::alloc::Global;
+
+/// This word.
+#[tactic(auto, unfolding(dsp_defs::specs::Places::word_at))]
+pub fn word(cursor: &mut Cursor<'_>, name: &[u8]) -> Result<(), ScriptFault>
+    ensures { Gives (λ _. (tt, cursor.new)) result (word_at name.now cursor.old) }
+{
+    let item = cursor.token()?;
+    match item.token {
+        Token::Run(run) if run == name => Ok(()),
+        _ => Err(item.fault(ScriptKind::UnknownWord)),
+    }
+}
+
+/// A format's word.
+#[tactic(auto, unfolding(dsp_defs::specs::Places::format_at))]
+pub fn format(cursor: &mut Cursor<'_>) -> Result<Fmt, ScriptFault>
+    ensures { Gives (λ f. (f, cursor.new)) result (format_at cursor.old) }
+{
+    let item = cursor.token()?;
+    if let Token::Run(run) = item.token {
+        if let Some(format) = table::format_by_name(run) {
+            return Ok(format);
+        }
+    }
+    Err(item.fault(ScriptKind::UnknownWord))
+}
+
+/// A container's word.
+#[tactic(auto, unfolding(dsp_defs::specs::Places::container_at))]
+pub fn container(cursor: &mut Cursor<'_>) -> Result<Container, ScriptFault>
+    ensures { Gives (λ c. (c, cursor.new)) result (container_at cursor.old) }
+{
+    let item = cursor.token()?;
+    if let Token::Run(run) = item.token {
+        if let Some(container) = table::container_by_name(run) {
+            return Ok(container);
+        }
+    }
+    Err(item.fault(ScriptKind::UnknownWord))
+}
+
+/// A number in a range.
+#[tactic(auto, unfolding(dsp_defs::specs::Places::number_at))]
+pub fn number(cursor: &mut Cursor<'_>, low: i64, high: i64) -> Result<i64, ScriptFault>
+    ensures value { Gives (λ n. (n, cursor.new)) result (number_at low high cursor.old) }
+    ensures range { IfOk result (λ n. (low ≤ℤ n) × (n ≤ℤ high)) }
+{
+    let item = cursor.token()?;
+    if let Token::Run(run) = item.token {
+        if let Some(value) = numeral::value(run) {
+            if i128::from(low) <= value && value <= i128::from(high) {
+                return Ok(value as i64);
+            }
+            return Err(item.fault(ScriptKind::OutOfRange { low, high }));
+        }
+    }
+    Err(item.fault(ScriptKind::BadNumber))
+}
+
+/// A number in a range that has no negative ones.
+#[tactic(auto, unfolding(dsp_defs::specs::Places::natural_at))]
+pub fn natural(cursor: &mut Cursor<'_>, low: u32, high: u32) -> Result<u32, ScriptFault>
+    ensures value { Gives (λ n. (n, cursor.new)) result (natural_at low high cursor.old) }
+    ensures range { IfOk result (λ n. (low ≤ n) × (n ≤ high)) }
+{
+    let value = number(cursor, i64::from(low), i64::from(high))?;
+    Ok(value as u32)
+}
+
+/// A number in a range within that of `u8`.
+pub fn byte(cursor: &mut Cursor<'_>, low: u8, high: u8) -> Result<u8, ScriptFault>
+    ensures { Gives (λ n. (n, cursor.new)) result (natural_at low high cursor.old) }
+{
+    let value = natural(cursor, u32::from(low), u32::from(high))?;
+    Ok(value as u8)
+}
+
+/// A number in a range within that of `i32`.
+#[tactic(auto, unfolding(dsp_defs::specs::Places::number_at))]
+pub fn integer(cursor: &mut Cursor<'_>, low: i32, high: i32) -> Result<i32, ScriptFault>
+    ensures { Gives (λ n. (n, cursor.new)) result (number_at low high cursor.old) }
+{
+    let value = number(cursor, i64::from(low), i64::from(high))?;
+    Ok(value as i32)
+}
+
+/// A number of the format's word.
+pub fn coefficient(cursor: &mut Cursor<'_>, format: Fmt) -> Result<i32, ScriptFault>
+    ensures { Gives (λ n. (n, cursor.new)) result (number_at (least format) (greatest format) cursor.old) }
+{
+    integer(cursor, rules::least(format), rules::greatest(format))
+}
+
+/// A side of a matrix.
+pub fn side(cursor: &mut Cursor<'_>) -> Result<u8, ScriptFault>
+    ensures { Gives (λ n. (n, cursor.new)) result (natural_at 1 MAX_MATRIX_SIDE cursor.old) }
+{
+    byte(cursor, 1, MAX_MATRIX_SIDE)
+}
+
+/// The factor of a decimator or an interpolator.
+pub fn factor(cursor: &mut Cursor<'_>) -> Result<u8, ScriptFault>
+    ensures { Gives (λ n. (n, cursor.new)) result (natural_at 1 MAX_FACTOR cursor.old) }
+{
+    byte(cursor, 1, MAX_FACTOR)
+}
+
+/// The brace before a list.
+#[tactic(auto, unfolding(dsp_defs::specs::Places::open_at))]
+pub fn open(cursor: &mut Cursor<'_>) -> Result<(), ScriptFault>
+    ensures { Gives (λ _. (tt, cursor.new)) result (open_at cursor.old) }
+{
+    let item = cursor.token()?;
+    match item.token {
+        Token::Open => Ok(()),
+        _ => Err(item.fault(ScriptKind::Missing)),
+    }
+}
+
+/// The next number of a list that has `count` numbers, or its end.
+#[tactic(auto, unfolding(dsp_defs::specs::Places::entry_at))]
+pub fn entry(
+    cursor: &mut Cursor<'_>,
+    rule: ListRule,
+    count: u64,
+) -> Result<Option<i32>, ScriptFault>
+    ensures value { Gives (λ n. (n, cursor.new)) result (entry_at rule count cursor.old) }
+    ensures room { IfOk result (λ n. IfSome n (λ _. count < rule.limit)) }
+{
+    let item = cursor.token()?;
+    match item.token {
+        Token::Close => {
+            if rules::is_complete(rule.count, count) {
+                Ok(None)
+            } else {
+                Err(item.fault(ScriptKind::Length {
+                    taps: count,
+                    factor: rules::factor_of(rule.count),
+                }))
+            }
+        }
+        Token::Open => Err(item.fault(ScriptKind::BadNumber)),
+        Token::Run(run) => {
+            let Some(value) = numeral::value(run) else {
+                return Err(item.fault(ScriptKind::BadNumber));
+            };
+            if rule.limit <= count {
+                return Err(item.fault(ScriptKind::TooMany { limit: rule.limit }));
+            }
+            if i128::from(rule.low) <= value && value <= i128::from(rule.high) {
+                return Ok(Some(value as i32));
+            }
+            Err(item.fault(ScriptKind::OutOfRange {
+                low: i64::from(rule.low),
+                high: i64::from(rule.high),
+            }))
+        }
+    }
+}
+
+/// The format after a conversion, which is another than the present one.
+#[tactic(auto, unfolding(dsp_defs::specs::Places::conversion_at))]
+pub fn conversion(cursor: &mut Cursor<'_>, from: Fmt) -> Result<Fmt, ScriptFault>
+    ensures { Gives (λ f. (f, cursor.new)) result (conversion_at from cursor.old) }
+{
+    let item = cursor.token()?;
+    if let Token::Run(run) = item.token {
+        if let Some(format) = table::format_by_name(run) {
+            if format == from {
+                return Err(item.fault(ScriptKind::NoSuchForm { format }));
+            }
+            return Ok(format);
+        }
+    }
+    Err(item.fault(ScriptKind::UnknownWord))
+}
+
+/// The word of the next block, or none where the output comes; so many more blocks may come.
+#[tactic(auto, unfolding(dsp_defs::specs::Reading::next_block_at, dsp_defs::specs::Reading::place_of))]
+pub fn next_block(
+    cursor: &mut Cursor<'_>,
+    left: usize,
+    correlated: bool,
+    flow: Flow,
+) -> Result<Option<Word>, ScriptFault>
+    ensures value { Gives (λ w. (w, cursor.new)) result (next_block_at left correlated flow cursor.old) }
+    ensures room { IfOk result (λ w. IfSome w (λ _. 0 < left)) }
+{
+    let item = cursor.token()?;
+    let Token::Run(run) = item.token else {
+        return Err(item.fault(ScriptKind::UnknownWord));
+    };
+    if run == b"output".as_slice() {
+        return Ok(None);
+    }
+    let Some(word) = table::word_by_name(run) else {
+        return Err(item.fault(ScriptKind::UnknownWord));
+    };
+    if left == 0 {
+        return Err(item.fault(ScriptKind::TooMany {
+            limit: MAX_BLOCKS as u64,
+        }));
+    }
+    if table::is_correlate(word) && correlated {
+        return Err(item.fault(ScriptKind::TooMany {
+            limit: MAX_CORRELATES as u64,
+        }));
+    }
+    let row = table::row_of(word);
+    if !table::admits(row.formats, flow.format) {
+        let format = flow.format;
+        return Err(item.fault(ScriptKind::NoSuchForm { format }));
+    }
+    if let Some(wanted) = row.channels {
+        let got = flow.channels;
+        if got != wanted {
+            return Err(item.fault(ScriptKind::ChannelsHere { got, wanted }));
+        }
+    }
+    Ok(Some(word))
+}
+
+/// The numbers of a list up to its end.
+pub fn entries(alloc: Global, cursor: &mut Cursor<'_>, rule: ListRule) -> Result<List, ParseFault>
+    ensures { GivesUnlessMemory (λ l. (l, cursor.new)) result (entries_at rule 0 cursor.old.end cursor.old.items) }
+{
+    let mut numbers = List::new(alloc);
+    let mut count = 0;
+    while let Some(number) = entry(cursor, rule, count)? {
+        numbers.push(number)?;
+        count += 1;
+    }
+    Ok(numbers)
+}
+
+/// A list in its braces.
+#[tactic(auto, unfolding(dsp_defs::specs::Places::list_at))]
+pub fn list(alloc: Global, cursor: &mut Cursor<'_>, rule: ListRule) -> Result<List, ParseFault>
+    ensures { GivesUnlessMemory (λ l. (l, cursor.new)) result (list_at rule cursor.old) }
+{
+    open(cursor)?;
+    entries(alloc, cursor, rule)
+}

@@ -1,0 +1,190 @@
+//! Reading a script.
+
+ghost use Rattle.std.specs.Prelude.{◌≡◌, ◌||◌, ℕ, false, Some, Ok, Err, IfOk};
+ghost use Rattle.dsp_defs.specs.declared.script.Script.{Script};
+ghost use Rattle.dsp_defs.specs.declared.script_fault.ScriptFault.{ScriptFault};
+ghost use Rattle.dsp_defs.specs.Table.{is_correlate, parameters};
+ghost use Rattle.dsp_defs.specs.Grammar.{input_flow, Reads};
+ghost use Rattle.dsp_defs.specs.Reading.{block_at, blocks_at, length_at, kind_at, input_at, script_at, reading, first_fault};
+ghost use Rattle.dsp_script.specs.Answers.{Gives, GivesUnlessMemory};
+
+use crate::fault::ParseFault;
+use crate::places::{byte, container, format, natural, next_block, word};
+use crate::token::Cursor;
+use crate::{rows, table};
+use dsp_defs::{
+    Block, Blocks, Container, Flow, Input, InputKind, MAX_BLOCK_LENGTH, MAX_BLOCKS, MAX_CHANNELS,
+    MAX_SCRIPT, Script, ScriptFault, ScriptKind, Word,
+};
+use std::alloc::Global;
+
+/// The parameters of a block, behind its word.
+#[tactic(auto, unfolding(dsp_defs::specs::Reading::block_at))]
+fn block(
+    alloc: Global,
+    cursor: &mut Cursor<'_>,
+    word: Word,
+    flow: Flow,
+) -> Result<Block, ParseFault>
+    ensures { GivesUnlessMemory (λ b. (b, cursor.new)) result (block_at (parameters word flow) cursor.old) }
+{
+    match word {
+        Word::Offset => Ok(rows::offset(cursor, flow)?),
+        Word::Negate => Ok(Block::Negate),
+        Word::Abs => Ok(Block::Abs),
+        Word::Scale => Ok(rows::scale(cursor, flow)?),
+        Word::Shift => Ok(rows::shift(cursor, flow)?),
+        Word::Clip => Ok(rows::clip(cursor, flow)?),
+        Word::To => Ok(rows::to(cursor, flow)?),
+        Word::Add => Ok(Block::Add),
+        Word::Sub => Ok(Block::Sub),
+        Word::Mult => Ok(Block::Mult),
+        Word::Conj => Ok(Block::Conj),
+        Word::CmplxMult => Ok(Block::CmplxMult),
+        Word::CmplxMultReal => Ok(Block::CmplxMultReal),
+        Word::MagSquared => Ok(Block::MagSquared),
+        Word::Fir => rows::fir(alloc, cursor, flow),
+        Word::Sparse => rows::sparse(alloc, cursor, flow),
+        Word::Decimate => rows::decimate(alloc, cursor, flow),
+        Word::Interpolate => rows::interpolate(alloc, cursor, flow),
+        Word::LatticeFir => rows::lattice_fir(alloc, cursor, flow),
+        Word::LatticeIir => rows::lattice_iir(alloc, cursor, flow),
+        Word::Biquad => rows::biquad(alloc, cursor, flow),
+        Word::Biquad64 => rows::biquad64(alloc, cursor, flow),
+        Word::Conv => rows::conv(alloc, cursor, flow),
+        Word::ConvPartial => rows::conv_partial(alloc, cursor, flow),
+        Word::Correlate => rows::correlate(alloc, cursor, flow),
+        Word::Lms => rows::lms(alloc, cursor, flow),
+        Word::Pid => Ok(rows::pid(cursor, flow)?),
+        Word::MatAdd => rows::mat_add(alloc, cursor, flow),
+        Word::MatSub => rows::mat_sub(alloc, cursor, flow),
+        Word::MatScale => Ok(rows::mat_scale(cursor, flow)?),
+        Word::MatTrans => Ok(rows::mat_trans(cursor, flow)?),
+        Word::MatMult => rows::mat_mult(alloc, cursor, flow),
+        Word::Power => Ok(Block::Power),
+        Word::Dot => Ok(Block::Dot),
+        Word::CmplxDot => Ok(Block::CmplxDot),
+        Word::Max => Ok(Block::Max),
+        Word::Min => Ok(Block::Min),
+        Word::Route => rows::route(alloc, cursor, flow),
+    }
+}
+
+/// A `correlate` stands before the next block.
+fn correlated_after(correlated: bool, word: Word) -> bool
+    ensures { result ≡ (correlated || is_correlate word) }
+{
+    correlated || table::is_correlate(word)
+}
+
+/// The blocks up to the output.
+fn blocks(alloc: Global, cursor: &mut Cursor<'_>, input: Input) -> Result<Blocks, ParseFault>
+    ensures { GivesUnlessMemory (λ b. (b, cursor.new)) result (blocks_at MAX_BLOCKS false (input_flow input) cursor.old) }
+{
+    let mut blocks = Blocks::new(alloc);
+    let mut left = MAX_BLOCKS;
+    let mut correlated = false;
+    let mut flow = table::input_flow(input);
+    while let Some(word) = next_block(cursor, left, correlated, flow)? {
+        let block = block(alloc, cursor, word, flow)?;
+        left -= 1;
+        correlated = correlated_after(correlated, word);
+        flow = table::flow_after(flow, &block);
+        blocks.push(block)?;
+    }
+    Ok(blocks)
+}
+
+/// The block length, if there is one.
+#[tactic(auto, unfolding(dsp_defs::specs::Reading::length_at))]
+fn length(cursor: &mut Cursor<'_>) -> Result<Option<u32>, ScriptFault>
+    ensures { Gives (λ n. (n, cursor.new)) result (length_at cursor.old) }
+{
+    if cursor.begins_with(b"block") {
+        word(cursor, b"block")?;
+        let frames = natural(cursor, 1, MAX_BLOCK_LENGTH)?;
+        Ok(Some(frames))
+    } else {
+        Ok(None)
+    }
+}
+
+/// The rate of raw samples.
+#[tactic(auto, unfolding(dsp_defs::specs::Reading::kind_at))]
+fn kind(cursor: &mut Cursor<'_>, container: Container) -> Result<InputKind, ScriptFault>
+    ensures { Gives (λ k. (k, cursor.new)) result (kind_at container cursor.old) }
+{
+    match container {
+        Container::Wave => Ok(InputKind::Wave),
+        Container::Raw => {
+            let rate = natural(cursor, 1, u32::MAX)?;
+            Ok(InputKind::Raw { rate })
+        }
+    }
+}
+
+/// The line of the input.
+#[tactic(auto, unfolding(dsp_defs::specs::Reading::input_at))]
+fn input(cursor: &mut Cursor<'_>) -> Result<Input, ScriptFault>
+    ensures { Gives (λ i. (i, cursor.new)) result (input_at cursor.old) }
+{
+    word(cursor, b"input")?;
+    let container = container(cursor)?;
+    let format = format(cursor)?;
+    let channels = byte(cursor, 1, MAX_CHANNELS)?;
+    let kind = kind(cursor, container)?;
+    Ok(Input {
+        kind,
+        format,
+        channels,
+    })
+}
+
+/// A whole script.
+#[tactic(auto, unfolding(dsp_defs::specs::Reading::script_at))]
+fn script(alloc: Global, cursor: &mut Cursor<'_>) -> Result<Script, ParseFault>
+    ensures { GivesUnlessMemory (λ s. s) result (script_at cursor.old) }
+{
+    word(cursor, b"dspfx")?;
+    let version = byte(cursor, 1, 1)?;
+    let input = input(cursor)?;
+    let block = length(cursor)?;
+    let blocks = blocks(alloc, cursor, input)?;
+    let output = container(cursor)?;
+    cursor.end()?;
+    Ok(Script {
+        version,
+        input,
+        block,
+        blocks,
+        output,
+    })
+}
+
+#[tactic(auto, unfolding(dsp_defs::specs::Reading::reading))]
+fn read(alloc: Global, text: &[u8]) -> Result<Script, ParseFault>
+    ensures { GivesUnlessMemory (λ s. s) result (reading text.now) }
+{
+    if text.len() > MAX_SCRIPT {
+        return Err(ParseFault::Script(ScriptFault {
+            offset: MAX_SCRIPT as u64,
+            kind: ScriptKind::TooLong,
+        }));
+    }
+    script(alloc, &mut Cursor::new(text))
+}
+
+/// The script that a text of any bytes reads as, version 1 of the language, or the text's first
+/// fault: the first token, or the end, that can't stand after the tokens before it, with its
+/// offset in bytes. A text of more than 1,048,576 bytes is too long before all else. Want of memory
+/// is `ParseFault::Memory`, and no fault of the text.
+pub fn parse(alloc: Global, text: &[u8]) -> Result<Script, ParseFault>
+    ensures reads { IfOk result (Reads text.now) }
+    ensures fault { (f : ScriptFault) → result ≡ Err (ParseFault.Script f) → first_fault text.now ≡ Some f }
+
+    // A text is answered by its script, or by its first fault, unless memory runs out.
+    ensures read { (s : Script) → Reads text.now s → GivesUnlessMemory (λ s. s) result (Ok s) }
+    ensures faulty { (f : ScriptFault) → first_fault text.now ≡ Some f → GivesUnlessMemory (λ s. s) result (Err f) }
+{
+    read(alloc, text)
+}

@@ -1,0 +1,269 @@
+//! The rows of the table: the parameters of each block that has some, behind its word.
+#![tactic(auto, unfolding(dsp_defs::specs::Reading::block_at))]
+
+ghost use Rattle.dsp_defs.specs.Reading.{block_at};
+ghost use Rattle.dsp_defs.specs.Table.{parameters};
+ghost use Rattle.dsp_script.specs.Answers.{Gives, GivesUnlessMemory};
+
+use crate::fault::ParseFault;
+use crate::places::{byte, coefficient, conversion, factor, integer, list, natural, side};
+use crate::rules;
+use crate::token::Cursor;
+use dsp_defs::{Block, Flow, ScriptFault, Word};
+use std::alloc::Global;
+
+/// `offset VALUE`
+pub fn offset(cursor: &mut Cursor<'_>, flow: Flow) -> Result<Block, ScriptFault>
+    ensures { Gives (λ b. (b, cursor.new)) result (block_at (parameters Word.Offset flow) cursor.old) }
+{
+    let value = coefficient(cursor, flow.format)?;
+    Ok(Block::Offset { value })
+}
+
+/// `scale FRACT SHIFT`
+pub fn scale(cursor: &mut Cursor<'_>, flow: Flow) -> Result<Block, ScriptFault>
+    ensures { Gives (λ b. (b, cursor.new)) result (block_at (parameters Word.Scale flow) cursor.old) }
+{
+    let fract = coefficient(cursor, flow.format)?;
+    let least = rules::least_scale(flow.format);
+    let greatest = rules::greatest_scale(flow.format);
+    let shift = integer(cursor, least, greatest)?;
+    Ok(Block::Scale { fract, shift })
+}
+
+/// `shift SHIFT`
+pub fn shift(cursor: &mut Cursor<'_>, flow: Flow) -> Result<Block, ScriptFault>
+    ensures { Gives (λ b. (b, cursor.new)) result (block_at (parameters Word.Shift flow) cursor.old) }
+{
+    let least = rules::least_shift(flow.format);
+    let greatest = rules::greatest_shift(flow.format);
+    let shift = integer(cursor, least, greatest)?;
+    Ok(Block::Shift { shift })
+}
+
+/// `clip LOW HIGH`
+pub fn clip(cursor: &mut Cursor<'_>, flow: Flow) -> Result<Block, ScriptFault>
+    ensures { Gives (λ b. (b, cursor.new)) result (block_at (parameters Word.Clip flow) cursor.old) }
+{
+    let low = coefficient(cursor, flow.format)?;
+    let high = integer(cursor, low, rules::greatest(flow.format))?;
+    Ok(Block::Clip { low, high })
+}
+
+/// `to FORMAT`
+pub fn to(cursor: &mut Cursor<'_>, flow: Flow) -> Result<Block, ScriptFault>
+    ensures { Gives (λ b. (b, cursor.new)) result (block_at (parameters Word.To flow) cursor.old) }
+{
+    let format = conversion(cursor, flow.format)?;
+    Ok(Block::To { format })
+}
+
+/// `fir {TAPS}`
+pub fn fir(alloc: Global, cursor: &mut Cursor<'_>, flow: Flow) -> Result<Block, ParseFault>
+    ensures { GivesUnlessMemory (λ b. (b, cursor.new)) result (block_at (parameters Word.Fir flow) cursor.old) }
+{
+    let taps = list(alloc, cursor, rules::taps(flow, 1))?;
+    Ok(Block::Fir { taps })
+}
+
+/// `sparse {TAPS} {DELAYS}`
+pub fn sparse(alloc: Global, cursor: &mut Cursor<'_>, flow: Flow) -> Result<Block, ParseFault>
+    ensures { GivesUnlessMemory (λ b. (b, cursor.new)) result (block_at (parameters Word.Sparse flow) cursor.old) }
+{
+    let taps = list(alloc, cursor, rules::sparse_taps(flow))?;
+    let count = taps.as_slice().len() as u64;
+    let delays = list(alloc, cursor, rules::delays(count))?;
+    Ok(Block::Sparse { taps, delays })
+}
+
+/// `decimate FACTOR {TAPS}`
+pub fn decimate(alloc: Global, cursor: &mut Cursor<'_>, flow: Flow) -> Result<Block, ParseFault>
+    ensures { GivesUnlessMemory (λ b. (b, cursor.new)) result (block_at (parameters Word.Decimate flow) cursor.old) }
+{
+    let factor = factor(cursor)?;
+    let taps = list(alloc, cursor, rules::taps(flow, 1))?;
+    Ok(Block::Decimate { factor, taps })
+}
+
+/// `interpolate FACTOR {TAPS}`
+pub fn interpolate(alloc: Global, cursor: &mut Cursor<'_>, flow: Flow) -> Result<Block, ParseFault>
+    ensures { GivesUnlessMemory (λ b. (b, cursor.new)) result (block_at (parameters Word.Interpolate flow) cursor.old) }
+{
+    let factor = factor(cursor)?;
+    let taps = list(alloc, cursor, rules::taps(flow, u64::from(factor)))?;
+    Ok(Block::Interpolate { factor, taps })
+}
+
+/// `lattice_fir {K}`
+pub fn lattice_fir(alloc: Global, cursor: &mut Cursor<'_>, flow: Flow) -> Result<Block, ParseFault>
+    ensures { GivesUnlessMemory (λ b. (b, cursor.new)) result (block_at (parameters Word.LatticeFir flow) cursor.old) }
+{
+    let k = list(alloc, cursor, rules::reflections(flow))?;
+    Ok(Block::LatticeFir { k })
+}
+
+/// `lattice_iir {K} {V}`
+pub fn lattice_iir(alloc: Global, cursor: &mut Cursor<'_>, flow: Flow) -> Result<Block, ParseFault>
+    ensures { GivesUnlessMemory (λ b. (b, cursor.new)) result (block_at (parameters Word.LatticeIir flow) cursor.old) }
+{
+    let k = list(alloc, cursor, rules::reflections(flow))?;
+    let count = k.as_slice().len() as u64 + 1;
+    let v = list(alloc, cursor, rules::exactly(flow, count))?;
+    Ok(Block::LatticeIir { k, v })
+}
+
+/// `biquad POST_SHIFT {COEFFICIENTS}`
+pub fn biquad(alloc: Global, cursor: &mut Cursor<'_>, flow: Flow) -> Result<Block, ParseFault>
+    ensures { GivesUnlessMemory (λ b. (b, cursor.new)) result (block_at (parameters Word.Biquad flow) cursor.old) }
+{
+    let post_shift = byte(cursor, 0, rules::greatest_biquad_shift(flow.format))?;
+    let coefficients = list(alloc, cursor, rules::sections(flow))?;
+    Ok(Block::Biquad {
+        post_shift,
+        coefficients,
+    })
+}
+
+/// `biquad64 POST_SHIFT {COEFFICIENTS}`
+pub fn biquad64(alloc: Global, cursor: &mut Cursor<'_>, flow: Flow) -> Result<Block, ParseFault>
+    ensures { GivesUnlessMemory (λ b. (b, cursor.new)) result (block_at (parameters Word.Biquad64 flow) cursor.old) }
+{
+    let post_shift = byte(cursor, 0, 30)?;
+    let coefficients = list(alloc, cursor, rules::sections(flow))?;
+    Ok(Block::Biquad64 {
+        post_shift,
+        coefficients,
+    })
+}
+
+/// `conv {TAPS}`
+pub fn conv(alloc: Global, cursor: &mut Cursor<'_>, flow: Flow) -> Result<Block, ParseFault>
+    ensures { GivesUnlessMemory (λ b. (b, cursor.new)) result (block_at (parameters Word.Conv flow) cursor.old) }
+{
+    let taps = list(alloc, cursor, rules::taps(flow, 1))?;
+    Ok(Block::Conv { taps })
+}
+
+/// `conv_partial FIRST COUNT {TAPS}`
+pub fn conv_partial(alloc: Global, cursor: &mut Cursor<'_>, flow: Flow) -> Result<Block, ParseFault>
+    ensures { GivesUnlessMemory (λ b. (b, cursor.new)) result (block_at (parameters Word.ConvPartial flow) cursor.old) }
+{
+    let first = natural(cursor, 0, u32::MAX)?;
+    let count = natural(cursor, 1, u32::MAX)?;
+    let taps = list(alloc, cursor, rules::taps(flow, 1))?;
+    Ok(Block::ConvPartial { first, count, taps })
+}
+
+/// `correlate {TAPS}`
+pub fn correlate(alloc: Global, cursor: &mut Cursor<'_>, flow: Flow) -> Result<Block, ParseFault>
+    ensures { GivesUnlessMemory (λ b. (b, cursor.new)) result (block_at (parameters Word.Correlate flow) cursor.old) }
+{
+    let taps = list(alloc, cursor, rules::taps(flow, 1))?;
+    Ok(Block::Correlate { taps })
+}
+
+/// `lms POST_SHIFT MU {TAPS}`
+pub fn lms(alloc: Global, cursor: &mut Cursor<'_>, flow: Flow) -> Result<Block, ParseFault>
+    ensures { GivesUnlessMemory (λ b. (b, cursor.new)) result (block_at (parameters Word.Lms flow) cursor.old) }
+{
+    let post_shift = byte(cursor, 0, rules::greatest_lms_shift(flow.format))?;
+    let mu = coefficient(cursor, flow.format)?;
+    let taps = list(alloc, cursor, rules::taps(flow, 1))?;
+    Ok(Block::Lms {
+        post_shift,
+        mu,
+        taps,
+    })
+}
+
+/// `pid KP KI KD`
+pub fn pid(cursor: &mut Cursor<'_>, flow: Flow) -> Result<Block, ScriptFault>
+    ensures { Gives (λ b. (b, cursor.new)) result (block_at (parameters Word.Pid flow) cursor.old) }
+{
+    let kp = coefficient(cursor, flow.format)?;
+    let ki = coefficient(cursor, flow.format)?;
+    let kd = coefficient(cursor, flow.format)?;
+    Ok(Block::Pid { kp, ki, kd })
+}
+
+/// `mat_add ROWS COLUMNS {MATRIX}`
+pub fn mat_add(alloc: Global, cursor: &mut Cursor<'_>, flow: Flow) -> Result<Block, ParseFault>
+    ensures { GivesUnlessMemory (λ b. (b, cursor.new)) result (block_at (parameters Word.MatAdd flow) cursor.old) }
+{
+    let rows = side(cursor)?;
+    let columns = side(cursor)?;
+    let count = u64::from(rows) * u64::from(columns);
+    let matrix = list(alloc, cursor, rules::exactly(flow, count))?;
+    Ok(Block::MatAdd {
+        rows,
+        columns,
+        matrix,
+    })
+}
+
+/// `mat_sub ROWS COLUMNS {MATRIX}`
+pub fn mat_sub(alloc: Global, cursor: &mut Cursor<'_>, flow: Flow) -> Result<Block, ParseFault>
+    ensures { GivesUnlessMemory (λ b. (b, cursor.new)) result (block_at (parameters Word.MatSub flow) cursor.old) }
+{
+    let rows = side(cursor)?;
+    let columns = side(cursor)?;
+    let count = u64::from(rows) * u64::from(columns);
+    let matrix = list(alloc, cursor, rules::exactly(flow, count))?;
+    Ok(Block::MatSub {
+        rows,
+        columns,
+        matrix,
+    })
+}
+
+/// `mat_scale ROWS COLUMNS FRACT SHIFT`
+pub fn mat_scale(cursor: &mut Cursor<'_>, flow: Flow) -> Result<Block, ScriptFault>
+    ensures { Gives (λ b. (b, cursor.new)) result (block_at (parameters Word.MatScale flow) cursor.old) }
+{
+    let rows = side(cursor)?;
+    let columns = side(cursor)?;
+    let fract = coefficient(cursor, flow.format)?;
+    let least = rules::least_matrix_shift(flow.format);
+    let greatest = rules::greatest_matrix_shift(flow.format);
+    let shift = integer(cursor, least, greatest)?;
+    Ok(Block::MatScale {
+        rows,
+        columns,
+        fract,
+        shift,
+    })
+}
+
+/// `mat_trans ROWS COLUMNS`
+pub fn mat_trans(cursor: &mut Cursor<'_>, flow: Flow) -> Result<Block, ScriptFault>
+    ensures { Gives (λ b. (b, cursor.new)) result (block_at (parameters Word.MatTrans flow) cursor.old) }
+{
+    let rows = side(cursor)?;
+    let columns = side(cursor)?;
+    Ok(Block::MatTrans { rows, columns })
+}
+
+/// `mat_mult ROWS COLUMNS GIVEN {MATRIX}`
+pub fn mat_mult(alloc: Global, cursor: &mut Cursor<'_>, flow: Flow) -> Result<Block, ParseFault>
+    ensures { GivesUnlessMemory (λ b. (b, cursor.new)) result (block_at (parameters Word.MatMult flow) cursor.old) }
+{
+    let rows = side(cursor)?;
+    let columns = side(cursor)?;
+    let given = side(cursor)?;
+    let count = u64::from(columns) * u64::from(given);
+    let matrix = list(alloc, cursor, rules::exactly(flow, count))?;
+    Ok(Block::MatMult {
+        rows,
+        columns,
+        given,
+        matrix,
+    })
+}
+
+/// `route {CHANNELS}`
+pub fn route(alloc: Global, cursor: &mut Cursor<'_>, flow: Flow) -> Result<Block, ParseFault>
+    ensures { GivesUnlessMemory (λ b. (b, cursor.new)) result (block_at (parameters Word.Route flow) cursor.old) }
+{
+    let channels = list(alloc, cursor, rules::routes(flow))?;
+    Ok(Block::Route { channels })
+}

@@ -1,0 +1,294 @@
+//! The table of blocks: their words, and where they may stand.
+
+ghost use Rattle.std.specs.Prelude.{◌≡◌};
+ghost use Rattle.dsp_defs.specs.Table.{row_of, word_by_name, format_name, format_by_name, container_name, container_by_name, admits, is_correlate, flow_after};
+ghost use Rattle.dsp_defs.specs.Grammar.{word_of, container_of, input_flow};
+ghost use Rattle.dsp_script.specs.Answers.{HasFewChannels};
+
+use dsp_defs::{Block, Container, Flow, Fmt, Formats, Input, InputKind, Word};
+
+/// Where a block may stand: its name, its formats, and the channels that it wants, where it wants
+/// a number of them.
+#[derive(Clone, Copy, Debug)]
+pub struct Row {
+    pub name: &'static str,
+    pub formats: Formats,
+    pub channels: Option<u8>,
+}
+
+/// A block that works on each channel, or that takes any number of them.
+fn each(name: &'static str, formats: Formats) -> Row
+    ensures name { result.name.now ≡ name.now }
+    ensures formats { result.formats ≡ formats }
+    ensures channels { result.channels ≡ None }
+{
+    Row {
+        name,
+        formats,
+        channels: None,
+    }
+}
+
+/// A block that wants so many channels.
+fn of_channels(wanted: u8, name: &'static str, formats: Formats) -> Row
+    ensures name { result.name.now ≡ name.now }
+    ensures formats { result.formats ≡ formats }
+    ensures channels { result.channels ≡ Some wanted }
+{
+    Row {
+        name,
+        formats,
+        channels: Some(wanted),
+    }
+}
+
+/// The row of a block.
+pub fn row_of(word: Word) -> Row
+    ensures name { result.name.now ≡ (row_of word).name }
+    ensures formats { result.formats ≡ (row_of word).formats }
+    ensures channels { result.channels ≡ (row_of word).channels }
+{
+    match word {
+        Word::Offset => each("offset", Formats::All),
+        Word::Negate => each("negate", Formats::All),
+        Word::Abs => each("abs", Formats::All),
+        Word::Scale => each("scale", Formats::All),
+        Word::Shift => each("shift", Formats::All),
+        Word::Clip => each("clip", Formats::All),
+        Word::To => each("to", Formats::All),
+        Word::Add => of_channels(2, "add", Formats::All),
+        Word::Sub => of_channels(2, "sub", Formats::All),
+        Word::Mult => of_channels(2, "mult", Formats::All),
+        Word::Conj => of_channels(2, "cmplx_conj", Formats::NotQ7),
+        Word::CmplxMult => of_channels(4, "cmplx_mult", Formats::NotQ7),
+        Word::CmplxMultReal => of_channels(3, "cmplx_mult_real", Formats::OnlyQ15),
+        Word::MagSquared => of_channels(2, "cmplx_mag_squared", Formats::NotQ7),
+        Word::Fir => each("fir", Formats::All),
+        Word::Sparse => each("sparse", Formats::All),
+        Word::Decimate => each("decimate", Formats::NotQ7),
+        Word::Interpolate => each("interpolate", Formats::NotQ7),
+        Word::LatticeFir => each("lattice_fir", Formats::OnlyQ15),
+        Word::LatticeIir => each("lattice_iir", Formats::NotQ7),
+        Word::Biquad => each("biquad", Formats::NotQ7),
+        Word::Biquad64 => each("biquad64", Formats::OnlyQ31),
+        Word::Conv => each("conv", Formats::All),
+        Word::ConvPartial => each("conv_partial", Formats::All),
+        Word::Correlate => each("correlate", Formats::All),
+        Word::Lms => of_channels(2, "lms", Formats::NotQ7),
+        Word::Pid => each("pid", Formats::NotQ7),
+        Word::MatAdd => each("mat_add", Formats::NotQ7),
+        Word::MatSub => each("mat_sub", Formats::NotQ7),
+        Word::MatScale => each("mat_scale", Formats::NotQ7),
+        Word::MatTrans => each("mat_trans", Formats::NotQ7),
+        Word::MatMult => each("mat_mult", Formats::OnlyQ15),
+        Word::Power => each("power", Formats::All),
+        Word::Dot => of_channels(2, "dot", Formats::All),
+        Word::CmplxDot => of_channels(4, "cmplx_dot", Formats::NotQ7),
+        Word::Max => each("max", Formats::All),
+        Word::Min => each("min", Formats::All),
+        Word::Route => each("route", Formats::All),
+    }
+}
+
+// ---- words
+
+const WORDS: [Word; 38] = [
+    Word::Offset,
+    Word::Negate,
+    Word::Abs,
+    Word::Scale,
+    Word::Shift,
+    Word::Clip,
+    Word::To,
+    Word::Add,
+    Word::Sub,
+    Word::Mult,
+    Word::Conj,
+    Word::CmplxMult,
+    Word::CmplxMultReal,
+    Word::MagSquared,
+    Word::Fir,
+    Word::Sparse,
+    Word::Decimate,
+    Word::Interpolate,
+    Word::LatticeFir,
+    Word::LatticeIir,
+    Word::Biquad,
+    Word::Biquad64,
+    Word::Conv,
+    Word::ConvPartial,
+    Word::Correlate,
+    Word::Lms,
+    Word::Pid,
+    Word::MatAdd,
+    Word::MatSub,
+    Word::MatScale,
+    Word::MatTrans,
+    Word::MatMult,
+    Word::Power,
+    Word::Dot,
+    Word::CmplxDot,
+    Word::Max,
+    Word::Min,
+    Word::Route,
+];
+
+/// The block's word that a run is.
+#[tactic(auto, unfolding(dsp_defs::specs::Table::word_by_name))]
+pub fn word_by_name(run: &[u8]) -> Option<Word>
+    ensures { result ≡ word_by_name run.now }
+{
+    WORDS
+        .iter()
+        .copied()
+        .find(|word| run == row_of(*word).name.as_bytes())
+}
+
+pub fn is_correlate(word: Word) -> bool
+    ensures { result ≡ is_correlate word }
+{
+    matches!(word, Word::Correlate)
+}
+
+/// The word that begins the block.
+pub fn word_of(block: &Block) -> Word
+    ensures { result ≡ word_of block.now }
+{
+    match block {
+        Block::Offset { .. } => Word::Offset,
+        Block::Negate => Word::Negate,
+        Block::Abs => Word::Abs,
+        Block::Scale { .. } => Word::Scale,
+        Block::Shift { .. } => Word::Shift,
+        Block::Clip { .. } => Word::Clip,
+        Block::To { .. } => Word::To,
+        Block::Add => Word::Add,
+        Block::Sub => Word::Sub,
+        Block::Mult => Word::Mult,
+        Block::Conj => Word::Conj,
+        Block::CmplxMult => Word::CmplxMult,
+        Block::CmplxMultReal => Word::CmplxMultReal,
+        Block::MagSquared => Word::MagSquared,
+        Block::Fir { .. } => Word::Fir,
+        Block::Sparse { .. } => Word::Sparse,
+        Block::Decimate { .. } => Word::Decimate,
+        Block::Interpolate { .. } => Word::Interpolate,
+        Block::LatticeFir { .. } => Word::LatticeFir,
+        Block::LatticeIir { .. } => Word::LatticeIir,
+        Block::Biquad { .. } => Word::Biquad,
+        Block::Biquad64 { .. } => Word::Biquad64,
+        Block::Conv { .. } => Word::Conv,
+        Block::ConvPartial { .. } => Word::ConvPartial,
+        Block::Correlate { .. } => Word::Correlate,
+        Block::Lms { .. } => Word::Lms,
+        Block::Pid { .. } => Word::Pid,
+        Block::MatAdd { .. } => Word::MatAdd,
+        Block::MatSub { .. } => Word::MatSub,
+        Block::MatScale { .. } => Word::MatScale,
+        Block::MatTrans { .. } => Word::MatTrans,
+        Block::MatMult { .. } => Word::MatMult,
+        Block::Power => Word::Power,
+        Block::Dot => Word::Dot,
+        Block::CmplxDot => Word::CmplxDot,
+        Block::Max => Word::Max,
+        Block::Min => Word::Min,
+        Block::Route { .. } => Word::Route,
+    }
+}
+
+const FORMATS: [Fmt; 3] = [Fmt::Q7, Fmt::Q15, Fmt::Q31];
+
+pub fn format_name(format: Fmt) -> &'static str
+    ensures { result.now ≡ format_name format }
+{
+    match format {
+        Fmt::Q7 => "q7",
+        Fmt::Q15 => "q15",
+        Fmt::Q31 => "q31",
+    }
+}
+
+/// The format that a run names.
+#[tactic(auto, unfolding(dsp_defs::specs::Table::format_by_name))]
+pub fn format_by_name(run: &[u8]) -> Option<Fmt>
+    ensures { result ≡ format_by_name run.now }
+{
+    FORMATS
+        .iter()
+        .copied()
+        .find(|format| run == format_name(*format).as_bytes())
+}
+
+const CONTAINERS: [Container; 2] = [Container::Wave, Container::Raw];
+
+pub fn container_name(container: Container) -> &'static str
+    ensures { result.now ≡ container_name container }
+{
+    match container {
+        Container::Wave => "wave",
+        Container::Raw => "raw",
+    }
+}
+
+/// The container of an input.
+pub fn container_of(kind: InputKind) -> Container
+    ensures { result ≡ container_of kind }
+{
+    match kind {
+        InputKind::Wave => Container::Wave,
+        InputKind::Raw { .. } => Container::Raw,
+    }
+}
+
+/// The container that a run names.
+#[tactic(auto, unfolding(dsp_defs::specs::Table::container_by_name))]
+pub fn container_by_name(run: &[u8]) -> Option<Container>
+    ensures { result ≡ container_by_name run.now }
+{
+    CONTAINERS
+        .iter()
+        .copied()
+        .find(|container| run == container_name(*container).as_bytes())
+}
+
+// ---- where a block may stand
+
+/// A block with these formats has a form in this one.
+pub fn admits(formats: Formats, format: Fmt) -> bool
+    ensures { result ≡ admits formats format }
+{
+    match formats {
+        Formats::All => true,
+        Formats::NotQ7 => matches!(format, Fmt::Q15 | Fmt::Q31),
+        Formats::OnlyQ15 => matches!(format, Fmt::Q15),
+        Formats::OnlyQ31 => matches!(format, Fmt::Q31),
+    }
+}
+
+/// What flows at the input.
+pub fn input_flow(input: Input) -> Flow
+    ensures { result ≡ input_flow input }
+{
+    Flow {
+        format: input.format,
+        channels: input.channels,
+    }
+}
+
+/// What flows behind a block.
+pub fn flow_after(flow: Flow, block: &Block) -> Flow
+    requires { HasFewChannels block.now }
+    ensures { result ≡ flow_after block.now flow }
+{
+    let format = match block {
+        Block::To { format } => *format,
+        _ => flow.format,
+    };
+    let channels = match block {
+        Block::Add | Block::Sub | Block::Mult | Block::MagSquared => 1,
+        Block::CmplxMult | Block::CmplxMultReal => 2,
+        Block::Route { channels } => channels.as_slice().len() as u8,
+        _ => flow.channels,
+    };
+    Flow { format, channels }
+}

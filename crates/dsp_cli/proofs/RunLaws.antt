@@ -1,0 +1,360 @@
+-- Each way in which the top call may end.
+use Rattle.std.proofs.Common.{◌≡◌, ◌⊎◌, ◌↔◌, ℕ, ◌^◌, List, refl, sym, ap, ◌∙◌, subst, arith, inl, inr, None, Some, Option, IsNone, IsSome, IfOk, IfErr, IsTrue, IsFalse, Bool, true, false, Result, Ok, Err}
+use Rattle.dsp_ports.specs.Ports.{SourceState, SinkState, Rose, IsSettled}
+use Rattle.dsp_defs.specs.Built.{built}
+use Rattle.dsp_defs.specs.Canon.{canon}
+use Rattle.dsp_defs.specs.Counts.{Counts}
+use Rattle.dsp_defs.specs.Report.{block_length_line, input_limit_line}
+use Rattle.dsp_defs.specs.Shape.{unit}
+use Rattle.dsp_defs.specs.Words.{command_of}
+use Rattle.dsp_defs.specs.declared.command.Command.{Command}
+use Rattle.dsp_defs.specs.declared.command.Command.TheVariants.{Run, Print}
+use Rattle.dsp_defs.specs.declared.script.Script.{Script}
+use Rattle.dsp_defs.specs.declared.script_fault.ScriptFault.{ScriptFault}
+use Rattle.dsp_cli.specs.Fault.{status_of, fault_line}
+use Rattle.dsp_cli.specs.Script.{IfScript, named_by, chosen, chosen_block, is_legal_for}
+use Rattle.dsp_cli.specs.Perform.{Untouched, RunsScript, Ran, MadeText, Performed, HasFault, FailsToLoad, StopsAtLength, StopsAtForm, StopsInStream, StopsAtWords, StopsAtRun, StopsBy, HasStatus}
+use Rattle.dsp_cli.specs.Run.{IsRun, IsDone, IsRefused, IsAnswer, IsRunnable, IsPrintable, Wrote, Tells}
+use Rattle.dsp_cli.specs.declared.fault.Fault.{Fault}
+use Rattle.dsp_cli.specs.declared.fault.Fault.TheVariants.{Usage, ScriptRead, Script as BadScript, BlockLength, NotBuilt, Memory, Stream}
+use Rattle.dsp_cli.specs.declared.streaming.LengthFault.TheVariants as length_fault
+use Rattle.dsp_cli.specs.declared.streaming.StreamFault.TheVariants.{Input, Output, Lengths}
+use Rattle.dsp_cli.specs.declared.top.Outcome.{Outcome}
+use Rattle.dsp_cli.specs.declared.top.Outcome.TheVariants as outcome
+use Rattle.dsp_cli.proofs.Told.{IfSome-always, told_length, told_script, told_sound, told_some, told_fault, told_faulty, use_script}
+use Rattle.dsp_cli.proofs.Ends.{Comes, Stands, Ends, done_not_stopped, refused_not_done, refused_not_stopped, run_or_print, run_command, print_command, stands_untouched, stands_ran, stands_stopped}
+
+-- ---- commands and their answers
+
+some_not_none : (command : Option Command) → IsSome command → command ≡ None → ⊥
+some_not_none None some none = cc
+some_not_none (Some command) some none = cc
+
+some_run : (words : List (List ℕ)) → IsRun words → IsSome (command_of words)
+some_run words run = subst IsSome (sym run.1) refl
+
+not_usage : (command : Option Command) (status : ℕ) → (status ≡ 1 → ⊥) → IsSome command → (status ≡ 1) ↔ IsNone command
+not_usage None status other some = absurd (cc)
+not_usage (Some command) status other some = (λ is. absurd (other is), λ none. absurd (cc))
+
+legal_not : {test : Bool} → IsTrue test → IsFalse test → ⊥
+legal_not is not = let same : true ≡ false = sym is ∙ not in cc
+
+abbrev faults_of : SinkState → ℕ
+faults_of state = state.faults
+
+abbrev source_faults : SourceState → ℕ
+source_faults state = state.faults
+
+-- a status that both commands may end with
+either_answers : (command : Option Command) (status : ℕ) → IsSome command → (status ≡ 2) ⊎ (status ≡ 6) ⊎ (status ≡ 10) → IsAnswer command status
+either_answers None status some is = absurd (cc)
+either_answers (Some (Run named)) status some (inl two) = inr (inr (inl two))
+either_answers (Some (Run named)) status some (inr (inl six)) = inr (inr (inr (inr (inl six))))
+either_answers (Some (Run named)) status some (inr (inr ten)) = inr (inr (inr (inr (inr (inl ten)))))
+either_answers (Some Print) status some is = inr is
+
+module _ (words : List (List ℕ)) (source read input now : SourceState) (sink after report told : SinkState) (before counts : Counts) where
+  abbrev Come : ℕ → Type 0
+  Come status = Comes words source read input now sink after report told before counts status
+
+  abbrev Stand : ℕ → Type 0
+  Stand status = Stands words source read input now sink after report told before counts status
+
+  abbrev End : ℕ → Type 0
+  End status = Ends words source read input now sink after report told before counts status
+
+  abbrev Runnable : ℕ → Type 0
+  Runnable status = IsRunnable words source input → (Rose source.faults read.faults → ⊥) → (Rose input.faults now.faults → ⊥) → (Rose sink.faults after.faults → ⊥) → (status ≡ 0) ⊎ (status ≡ 10)
+
+  abbrev Printable : ℕ → Type 0
+  Printable status = IsPrintable words source → (Rose source.faults read.faults → ⊥) → (Rose report.faults told.faults → ⊥) → (status ≡ 0) ⊎ (status ≡ 10)
+
+  -- ---- the words are no command
+
+  comes_usage : command_of words ≡ None → Come 1
+  comes_usage none =
+      record {
+        answer = subst (λ command. IsAnswer command 1) (sym none) refl;
+        usage = (λ _. subst IsNone (sym none) refl, λ _. refl);
+        faulty = λ some. absurd (some_not_none (command_of words) some none);
+        illegal = λ run. absurd (run_command words run none);
+        unbuilt = λ run. absurd (run_command words run none);
+        runnable = λ sound _ _ _. absurd (run_command words sound.run none);
+        printable = λ sound _ _. absurd (print_command words sound.print none);
+      }
+
+  stands_refused : (status : ℕ) → IsRefused status → Untouched input now sink after before counts → Stand status
+  stands_refused status refused untouched =
+      stands_untouched words source read input now sink after report told before counts status untouched
+      (λ done. absurd (refused_not_done status refused done)) (refused_not_stopped status refused)
+
+  ends_usage : StopsAtWords Usage words source read → Untouched input now sink after before counts → Tells (fault_line Usage) report told → End 1
+  ends_usage stops untouched tells =
+      record { cause = stops.script_same; tells = tells; comes = comes_usage stops.none; stands = stands_refused 1 (inl refl) untouched }
+
+  -- ---- the script isn't loaded
+
+  -- a failure of the script's source and want of memory may come in place of what the script asks for
+  comes_unread : (status : ℕ) → (status ≡ 6) ⊎ (status ≡ 10) → (status ≡ 1 → ⊥) → IsSome (command_of words) → Runnable status → Printable status → Come status
+  comes_unread status is other some runnable printable =
+      record {
+        answer = either_answers (command_of words) status some (inr is);
+        usage = not_usage (command_of words) status other some;
+        faulty = λ _. IfSome-always source.left _ (λ _ _ _. inr is);
+        illegal = λ _. IfSome-always source.left _ (λ _ _ _ _. inr is);
+        unbuilt = λ _. IfSome-always source.left _ (λ _ _ _ _ _. inr is);
+        runnable = runnable;
+        printable = printable;
+      }
+
+  ends_unread : IsSome (command_of words) → Rose source.faults read.faults → Untouched input now sink after before counts → Tells (fault_line ScriptRead) report told → End 6
+  ends_unread some risen untouched tells =
+      record {
+        cause = risen;
+        tells = tells;
+        comes = comes_unread 6 (inl refl) (λ is. omega arith) some (λ _ kept _ _. absurd (kept risen)) (λ _ kept _. absurd (kept risen));
+        stands = stands_refused 6 (inr (inr (inr (inl refl)))) untouched;
+      }
+
+  ends_memory : IsSome (command_of words) → Untouched input now sink after before counts → Tells (fault_line Memory) report told → End 10
+  ends_memory some untouched tells =
+      record {
+        cause = tt;
+        tells = tells;
+        comes = comes_unread 10 (inr refl) (λ is. omega arith) some (λ _ _ _ _. inr refl) (λ _ _ _. inr refl);
+        stands = stands_refused 10 (inr (inr (inr (inr (inl refl))))) untouched;
+      }
+
+  ends_faulty : (fault : ScriptFault) → IsSome (command_of words) → HasFault fault source read → Untouched input now sink after before counts → Tells (fault_line (BadScript fault)) report told → End 2
+  ends_faulty fault some has untouched tells =
+      record {
+        cause = record { some = told_some source read fault has; tells = told_fault source read fault _ has tells };
+        tells = tt;
+        comes = record {
+          answer = either_answers (command_of words) 2 some (inl refl);
+          usage = not_usage (command_of words) 2 (λ is. omega arith) some;
+          faulty = λ _. IfSome-always source.left _ (λ _ _ _. inl refl);
+          illegal = λ _. told_faulty source read fault _ has;
+          unbuilt = λ _. told_faulty source read fault _ has;
+          runnable = λ sound _ _ _. absurd (use_script source.left sound.text sound.script (λ _. ⊥) sound.told_text sound.reads (told_faulty source read fault (λ _. ⊥) has));
+          printable = λ sound _ _. absurd (use_script source.left sound.text sound.script (λ _. ⊥) sound.told_text sound.reads (told_faulty source read fault (λ _. ⊥) has));
+        };
+        stands = stands_refused 2 (inr (inl refl)) untouched;
+      }
+
+  -- ---- the words are a run, and its script was read
+
+  module _ (named : Option ℕ) (script : Script) (runs : RunsScript words source read named script) where
+    is_run : IsRun words
+    is_run = (named, runs.command)
+
+    chosen_is : chosen_block words script ≡ chosen named script
+    chosen_is = ap (λ command. chosen (named_by command) script) runs.command
+
+    for_script : (P : Script → Type 0) → P script → IfScript source.left P
+    for_script P holds = told_script source read script P runs.reads holds
+
+    run_answers : (status : ℕ) → IsAnswer (Some (Run named)) status → IsAnswer (command_of words) status
+    run_answers status is = subst (λ command. IsAnswer command status) (sym runs.command) is
+
+    no_print : (status : ℕ) → Printable status
+    no_print status sound _ _ = absurd (run_or_print words is_run sound.print)
+
+    ends_length : (block divisor : ℕ) → StopsAtLength block divisor named script → Untouched input now sink after before counts → Tells (fault_line (BlockLength block divisor)) report told → End 3
+    ends_length block divisor stops untouched tells =
+        let illegal : IsFalse (is_legal_for script (chosen_block words script)) = subst (λ n. IsFalse (is_legal_for script n)) (sym chosen_is) stops.illegal in
+        let told_illegal = for_script (λ s. IsFalse (is_legal_for s (chosen_block words s))) illegal in
+        record {
+          cause = record {
+            illegal = told_illegal;
+            tells = for_script (λ s. Tells (block_length_line (chosen_block words s) (unit s.input.channels s.blocks)) report told)
+                (subst (λ n. Tells (block_length_line n (unit script.input.channels script.blocks)) report told) (stops.block_is ∙ sym chosen_is)
+                (subst (λ n. Tells (block_length_line block n) report told) stops.divisor_is tells));
+          };
+          tells = tt;
+          comes = record {
+            answer = run_answers 3 (inr (inr (inr (inl refl))));
+            usage = not_usage (command_of words) 3 (λ is. omega arith) (some_run words is_run);
+            faulty = λ _. told_sound source read script _ runs.reads;
+            illegal = λ _. IfSome-always source.left _ (λ _ _ _ _. inl refl);
+            unbuilt = λ _. for_script _ (λ legal _. absurd (legal_not legal illegal));
+            runnable = λ sound _ _ _. absurd (legal_not sound.legal (use_script source.left sound.text sound.script _ sound.told_text sound.reads told_illegal));
+            printable = no_print 3;
+          };
+          stands = stands_refused 3 (inr (inr (inl refl))) untouched;
+        }
+
+    ends_form : StopsAtForm named script → Untouched input now sink after before counts → Tells (fault_line NotBuilt) report told → End 12
+    ends_form stops untouched tells =
+        let legal : IsTrue (is_legal_for script (chosen_block words script)) = subst (λ n. IsTrue (is_legal_for script n)) (sym chosen_is) stops.legal in
+        let told_form = for_script (λ s. IsTrue (is_legal_for s (chosen_block words s)) × IsFalse (built s)) (legal, stops.unbuilt) in
+        record {
+          cause = told_form;
+          tells = tells;
+          comes = record {
+            answer = run_answers 12 (inr (inr (inr (inr (inr (inr refl))))));
+            usage = not_usage (command_of words) 12 (λ is. omega arith) (some_run words is_run);
+            faulty = λ _. told_sound source read script _ runs.reads;
+            illegal = λ _. for_script _ (λ illegal. absurd (legal_not legal illegal));
+            unbuilt = λ _. IfSome-always source.left _ (λ _ _ _ _ _. inl refl);
+            runnable = λ sound _ _ _. absurd (legal_not sound.is_built (use_script source.left sound.text sound.script _ sound.told_text sound.reads told_form).1);
+            printable = no_print 12;
+          };
+          stands = stands_refused 12 (inr (inr (inr (inr (inr refl))))) untouched;
+        }
+
+    -- a legal block length and a built form: the stream was begun
+    comes_begun : (status : ℕ) → IsTrue (is_legal_for script (chosen named script)) → IsTrue (built script) → (status ≡ 1 → ⊥) → IsAnswer (Some (Run named)) status → Runnable status → Come status
+    comes_begun status is_legal is_built other answer runnable =
+        let legal : IsTrue (is_legal_for script (chosen_block words script)) = subst (λ n. IsTrue (is_legal_for script n)) (sym chosen_is) is_legal in
+        record {
+          answer = run_answers status answer;
+          usage = not_usage (command_of words) status other (some_run words is_run);
+          faulty = λ _. told_sound source read script _ runs.reads;
+          illegal = λ _. for_script _ (λ illegal. absurd (legal_not legal illegal));
+          unbuilt = λ _. for_script _ (λ _ unbuilt. absurd (legal_not is_built unbuilt));
+          runnable = runnable;
+          printable = no_print status;
+        }
+
+    ends_input : StopsInStream Input named script input now sink after before counts → Tells (fault_line (Stream Input)) report told → End 7
+    ends_input stream tells =
+        let stops = stream.stopped.stops in
+        record {
+          cause = stops.risen;
+          tells = tells;
+          comes = comes_begun 7 stream.legal stream.is_built (λ is. omega arith) (inr (inl (inr (inl refl)))) (λ _ _ kept _. absurd (kept stops.risen));
+          stands = stands_stopped words source read input now sink after report told before counts 7 named script runs Input stream.stopped (inr (inl refl))
+              (λ _. stops.wrote) (λ is. absurd (omega arith)) (λ all. absurd (omega (arith, all, stops.in_limit)));
+        }
+
+    ends_output : StopsInStream Output named script input now sink after before counts → Tells (fault_line (Stream Output)) report told → End 8
+    ends_output stream tells =
+        let stops = stream.stopped.stops in
+        record {
+          cause = stops.risen;
+          tells = tells;
+          comes = comes_begun 8 stream.legal stream.is_built (λ is. omega arith) (inr (inl (inr (inr refl)))) (λ _ _ _ kept. absurd (kept stops.risen));
+          stands = stands_stopped words source read input now sink after report told before counts 8 named script runs Output stream.stopped (inr (inr refl))
+              (λ is. elim is [ inl five ↦ absurd (omega arith) | inr seven ↦ absurd (omega arith) ]) (λ _. stops.wrote) (λ _. inr refl);
+        }
+
+    ends_limit : (taken most : ℕ) → StopsInStream (Lengths (length_fault.Input taken most)) named script input now sink after before counts → Tells (fault_line (Stream (Lengths (length_fault.Input taken most)))) report told → End 5
+    ends_limit taken most stream tells =
+        let stopped = stream.stopped in
+        let stops = stopped.stops in
+        record {
+          cause = omega (arith, stopped.gave.count, stops.all);
+          tells = subst (λ n. Tells (input_limit_line n (2 ^ 40)) report told) stops.at_limit (subst (λ n. Tells (input_limit_line taken n) report told) stops.limit tells);
+          comes = comes_begun 5 stream.legal stream.is_built (λ is. omega arith) (inr (inl (inl refl)))
+              (λ sound _ _ _. absurd (omega (arith, sound.short, stops.all, told_length input.left now.left stopped.given sound.bytes stopped.gave.front sound.told_bytes)));
+          stands = stands_stopped words source read input now sink after report told before counts 5 named script runs (Lengths (length_fault.Input taken most)) stopped (inl refl)
+              (λ _. stops.wrote) (λ is. absurd (omega arith)) (λ _. inl refl);
+        }
+
+    ends_ran : (frames : ℕ) → Ran named script frames input now sink after before counts → told ≡ report → End 0
+    ends_ran frames ran quiet =
+        record {
+          cause = record {
+            clean_script = runs.reads.read.no_fault;
+            clean_input = ran.done.no_input_fault;
+            clean_output = ran.done.no_output_fault;
+            clean_report = ap faults_of quiet;
+            quiet = λ _. quiet;
+            printed = λ print. absurd (run_or_print words is_run print);
+            settled = λ print. absurd (run_or_print words is_run print);
+          };
+          tells = tt;
+          comes = comes_begun 0 ran.legal ran.is_built (λ is. omega arith) (inl refl) (λ _ _ _ _. inl refl);
+          stands = stands_ran words source read input now sink after report told before counts 0 named script runs frames ran refl;
+        }
+
+  -- ---- the words are a print, and its script was read
+
+  module _ (text : List ℕ) (made : MadeText text words source read input now sink after before counts) where
+    comes_printed : (status : ℕ) → IsDone status → (status ≡ 1 → ⊥) → Printable status → Come status
+    comes_printed status done other printable =
+        record {
+          answer = subst (λ command. IsAnswer command status) (sym made.print) (inl done);
+          usage = not_usage (command_of words) status other (subst IsSome (sym made.print) refl);
+          faulty = λ _. told_sound source read made.script _ made.reads;
+          illegal = λ run. absurd (run_or_print words run made.print);
+          unbuilt = λ run. absurd (run_or_print words run made.print);
+          runnable = λ sound _ _ _. absurd (run_or_print words sound.run made.print);
+          printable = printable;
+        }
+
+    stands_printed : (status : ℕ) → IsDone status → Stand status
+    stands_printed status done =
+        stands_untouched words source read input now sink after report told before counts status made.untouched (λ _. made.print) (done_not_stopped status done)
+
+    for_canon : (P : List ℕ → Type 0) → P text → IfScript source.left (λ s. P (canon s))
+    for_canon P holds = told_script source read made.script (λ s. P (canon s)) made.reads (subst P made.canonical holds)
+
+    ends_printed : told.faults ≡ report.faults → Wrote text report told → IsSettled told → End 0
+    ends_printed kept wrote settled =
+        record {
+          cause = record {
+            clean_script = made.reads.read.no_fault;
+            clean_input = ap source_faults made.untouched.input_same;
+            clean_output = ap faults_of made.untouched.output_same;
+            clean_report = kept;
+            quiet = λ run. absurd (run_or_print words run made.print);
+            printed = λ _. for_canon (λ text. Wrote text report told) wrote;
+            settled = λ _. settled;
+          };
+          tells = tt;
+          comes = comes_printed 0 (inl refl) (λ is. omega arith) (λ _ _ _. inl refl);
+          stands = stands_printed 0 (inl refl);
+        }
+
+    ends_unprinted : Rose report.faults told.faults → Tells text report told → End 9
+    ends_unprinted risen tells =
+        record {
+          cause = record { risen = risen; tells = for_canon (λ text. Tells text report told) tells };
+          tells = tt;
+          comes = comes_printed 9 (inr refl) (λ is. omega arith) (λ _ _ kept. absurd (kept risen));
+          stands = stands_printed 9 (inr refl);
+        }
+
+  -- ---- all of them
+
+  ends_load : (fault : Fault) → IsSome (command_of words) → FailsToLoad fault source read → Untouched input now sink after before counts → Tells (fault_line fault) report told → End (status_of fault)
+  ends_load ScriptRead some fails untouched tells = ends_unread some fails untouched tells
+  ends_load (BadScript fault) some fails untouched tells = ends_faulty fault some fails untouched tells
+  ends_load Memory some fails untouched tells = ends_memory some untouched tells
+  ends_load Usage some fails untouched tells = absurd fails
+  ends_load (BlockLength block divisor) some fails untouched tells = absurd fails
+  ends_load NotBuilt some fails untouched tells = absurd fails
+  ends_load (Stream fault) some fails untouched tells = absurd fails
+
+  ends_run : (fault : Fault) → StopsAtRun fault words source read input now sink after before counts → Tells (fault_line fault) report told → End (status_of fault)
+  ends_run (BlockLength block divisor) stop tells = ends_length stop.named stop.script stop.runs block divisor stop.stops.0 stop.stops.1 tells
+  ends_run NotBuilt stop tells = ends_form stop.named stop.script stop.runs stop.stops.0 stop.stops.1 tells
+  ends_run Memory stop tells = ends_memory (some_run words (stop.named, stop.runs.command)) stop.stops tells
+  ends_run (Stream Input) stop tells = ends_input stop.named stop.script stop.runs stop.stops tells
+  ends_run (Stream Output) stop tells = ends_output stop.named stop.script stop.runs stop.stops tells
+  ends_run (Stream (Lengths (length_fault.Input taken most))) stop tells = ends_limit stop.named stop.script stop.runs taken most stop.stops tells
+  ends_run Usage stop tells = absurd stop.stops
+  ends_run ScriptRead stop tells = absurd stop.stops
+  ends_run (BadScript fault) stop tells = absurd stop.stops
+
+  ends_fault : (fault : Fault) → StopsBy fault words source read input now sink after before counts → Tells (fault_line fault) report told → End (status_of fault)
+  ends_fault fault (inl usage) tells =
+      let is = usage.0.usage in
+      let stops : StopsAtWords Usage words source read = record { usage = refl; none = usage.0.none; script_same = usage.0.script_same } in
+      subst (λ fault. End (status_of fault)) (sym is) (ends_usage stops usage.1 (subst (λ fault. Tells (fault_line fault) report told) is tells))
+  ends_fault fault (inr (inl load)) tells = ends_load fault load.0 load.1 load.2 tells
+  ends_fault fault (inr (inr run)) tells = ends_run fault run tells
+
+  pub ends : (outcome : Result Outcome Fault) (status : ℕ) → IfOk outcome (λ done. Performed done words source read input now sink after before counts)
+      → IfErr outcome (λ fault. StopsBy fault words source read input now sink after before counts) → HasStatus outcome status report told → End status
+  ends (Ok (outcome.Ran totals)) status whole none has =
+      subst End (sym has.0) (ends_ran whole.named whole.script whole.runs totals.frames_taken whole.ran has.1)
+  ends (Ok (outcome.Printed text)) status made none has =
+      elim has.way [
+        | inl well ↦ subst End (sym well.0) (ends_printed text.items made well.1 well.2 well.3)
+        | inr failed ↦ subst End (sym failed.0) (ends_unprinted text.items made failed.1 has.tells)
+      ]
+  ends (Err fault) status none stops has = subst End (sym has.0) (ends_fault fault stops has.1)

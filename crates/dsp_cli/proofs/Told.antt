@@ -1,0 +1,123 @@
+-- What is so of the bytes that a source tells, from what was taken of it.
+use Rattle.std.proofs.Common.{◌≡◌, ◌⊎◌, ℕ, ◌-◌, ◌<◌, ◌≤◌, List, ◌++◌, length, take, refl, sym, ap, ◌∙◌, subst, arith, append-nil, length-append, inl, inr, Option, None, Some, IsSome, IfSome, nat_lt, true}
+use Rattle.std.proofs.lemmas.Bool.Decides.{nat_tests}
+use Rattle.std.proofs.lemmas.List.{take_at}
+use Rattle.std.specs.Option.{option_map}
+use Rattle.std.specs.Io.KnownBytes.{prepend_known, IsAtEnd}
+use Rattle.dsp_ports.specs.Ports.{SourceState, Gave}
+use Rattle.dsp_defs.specs.Grammar.{Reads}
+use Rattle.dsp_defs.specs.Reading.{reading, first_fault}
+use Rattle.dsp_defs.specs.declared.script.Script.{Script}
+use Rattle.dsp_defs.specs.declared.script_fault.ScriptFault.{ScriptFault}
+use Rattle.dsp_defs.specs.declared.script_fault.ScriptKind.TheVariants.{TooLong}
+use Rattle.dsp_script.proofs.ScriptLaws.{one_script, reads_or_fails}
+use Rattle.dsp_cli.specs.Script.{IsReadWhole, IfScript, IfFault}
+use Rattle.dsp_cli.specs.Perform.{ReadsAs, HasFault}
+use Rattle.dsp_cli.specs.Run.{bytes_taken}
+
+pub IfSome-map : {A : Type 0} (o : Option A) (P Q : A → Type 0) → ((x : A) → P x → Q x) → IfSome o P → IfSome o Q
+IfSome-map None P Q f p = tt
+IfSome-map (Some x) P Q f p = f x p
+
+pub IfSome-always : {A : Type 0} (o : Option A) (P : A → Type 0) → ((x : A) → P x) → IfSome o P
+IfSome-always None P always = tt
+IfSome-always (Some x) P always = always x
+
+-- what was given to its end is all that was told
+pub told_whole : (left rest : Option (List ℕ)) (given : List ℕ) → left ≡ prepend_known given rest → IsAtEnd rest → IfSome left (λ all. all ≡ given)
+told_whole None rest given front ended = tt
+told_whole (Some all) None given front ended = absurd (cc)
+told_whole (Some all) (Some rest) given front ended =
+    let split : all ≡ given ++ rest = cc in
+    split ∙ ap (λ bytes. given ++ bytes) ended ∙ append-nil given
+
+-- what was given is the front of what was told
+told_front : (left rest : Option (List ℕ)) (given : List ℕ) (count : ℕ) → left ≡ prepend_known given rest → count ≡ length given → IfSome (option_map (take count) left) (λ bytes. bytes ≡ given)
+told_front None rest given count front is = tt
+told_front (Some all) None given count front is = absurd (cc)
+told_front (Some all) (Some rest) given count front is =
+    let split : all ≡ given ++ rest = cc in
+    ap (take count) split ∙ take_at given rest count (sym is)
+
+pub told_taken : (old new : SourceState) (given : List ℕ) → Gave old new given → IfSome (bytes_taken old new) (λ bytes. bytes ≡ given)
+told_taken old new given gave = told_front old.left new.left given (new.taken - old.taken) gave.front (omega (arith, gave.count))
+
+-- no more was given than was told
+pub told_length : (left rest : Option (List ℕ)) (given all : List ℕ) → left ≡ prepend_known given rest → left ≡ Some all → length given ≤ length all
+told_length left None given all front is = absurd (cc)
+told_length left (Some rest) given all front is =
+    let split : all ≡ given ++ rest = cc in
+    omega (arith, ap length split, length-append given rest)
+
+told_longer : (left rest : Option (List ℕ)) (given : List ℕ) → left ≡ prepend_known given rest → IfSome left (λ all. length given ≤ length all)
+told_longer None rest given front = tt
+told_longer (Some all) rest given front = told_length (Some all) rest given all front refl
+
+-- ---- the script
+
+-- the text that was read is the one that is told, or both are too long
+abbrev Same : List ℕ → List ℕ → Type 0
+Same text all = (all ≡ text) ⊎ ((1048576 < length text) × (1048576 < length all))
+
+told_text : (source now : SourceState) (text : List ℕ) → IsReadWhole source now text → IfSome source.left (Same text)
+told_text source now text read =
+    elim read.end [
+      | inl ended ↦ IfSome-map source.left (λ all. all ≡ text) (Same text) (λ all same. inl same) (told_whole source.left now.left text read.gave.front ended)
+      | inr long ↦ IfSome-map source.left (λ all. length text ≤ length all) (Same text) (λ all more. inr (omega arith, omega arith)) (told_longer source.left now.left text read.gave.front)
+    ]
+
+-- a text that is too long has that fault
+first_fault_long : (text : List ℕ) → 1048576 < length text → first_fault text ≡ Some (record { offset = 1048576; kind = TooLong })
+unfolding reading
+first_fault_long text long =
+    let test : nat_lt 1048576 (length text) ≡ true = grind (arith, nat_tests) in
+    rw test refl
+
+no_fault : (text : List ℕ) (script : Script) → Reads text script → first_fault text ≡ None
+no_fault text script reads = (reads_or_fails text).0 (script, reads)
+
+-- what holds of the script that was read holds of each that is told
+pub told_script : (source now : SourceState) (script : Script) (P : Script → Type 0) → ReadsAs source now script → P script → IfScript source.left P
+told_script source now script P loaded holds =
+    IfSome-map source.left (Same loaded.text) _
+    (λ all same other reads. elim same [
+      | inl is ↦ subst P (one_script loaded.text script other loaded.reads (subst (λ text. Reads text other) is reads)) holds
+      | inr long ↦ absurd (omega (arith, long.0, loaded.reads.short))
+    ])
+    (told_text source now loaded.text loaded.read)
+
+-- a script that was read has no fault
+pub told_sound : (source now : SourceState) (script : Script) (P : ScriptFault → Type 0) → ReadsAs source now script → IfFault source.left P
+told_sound source now script P loaded =
+    IfSome-map source.left (Same loaded.text) _
+    (λ all same fault first. elim same [
+      | inl is ↦ let none : first_fault all ≡ None = ap first_fault is ∙ no_fault loaded.text script loaded.reads in absurd (cc)
+      | inr long ↦ absurd (omega (arith, long.0, loaded.reads.short))
+    ])
+    (told_text source now loaded.text loaded.read)
+
+-- what holds of the fault that was read holds of that which is told
+told_first : (source now : SourceState) (fault : ScriptFault) → HasFault fault source now → IfSome source.left (λ all. first_fault all ≡ Some fault)
+told_first source now fault has =
+    IfSome-map source.left (Same has.text) _
+    (λ all same. elim same [
+      | inl is ↦ ap first_fault is ∙ has.first
+      | inr long ↦ first_fault_long all long.1 ∙ sym (first_fault_long has.text long.0) ∙ has.first
+    ])
+    (told_text source now has.text has.read)
+
+pub told_some : (source now : SourceState) (fault : ScriptFault) → HasFault fault source now → IfSome source.left (λ text. IsSome (first_fault text))
+told_some source now fault has = IfSome-map source.left _ _ (λ all first. subst IsSome (sym first) refl) (told_first source now fault has)
+
+pub told_fault : (source now : SourceState) (fault : ScriptFault) (P : ScriptFault → Type 0) → HasFault fault source now → P fault → IfFault source.left P
+told_fault source now fault P has holds =
+    IfSome-map source.left _ _ (λ all first other is. let same : fault ≡ other = cc in subst P same holds) (told_first source now fault has)
+
+-- a text with a fault is no script
+pub told_faulty : (source now : SourceState) (fault : ScriptFault) (P : Script → Type 0) → HasFault fault source now → IfScript source.left P
+told_faulty source now fault P has =
+    IfSome-map source.left _ _ (λ all first script reads. let none : first_fault all ≡ None = no_fault all script reads in absurd (cc)) (told_first source now fault has)
+
+-- what holds of each script that is told
+pub use_script : (left : Option (List ℕ)) (text : List ℕ) (script : Script) (P : Script → Type 0) → left ≡ Some text → Reads text script → IfScript left P → P script
+use_script left text script P is reads holds = subst (λ left. IfScript left P) is holds script reads

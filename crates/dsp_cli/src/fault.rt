@@ -1,0 +1,21 @@
+use crate::streaming::StreamFault;
+use dsp_script::ScriptFault;
+
+/// Why a run is not done.
+#[derive(Clone, Copy, Debug, PartialEq, Eq)]
+pub enum Fault {
+    /// The words are no command.
+    Usage,
+    /// The script's source failed.
+    ScriptRead,
+    /// The text is no script: its first fault.
+    Script(ScriptFault),
+    /// No block may have so many frames; `unit` divides each length that it may have, and is 0 where there is none.
+    BlockLength { block: u64, unit: u64 },
+    /// The script is of a form that is not built.
+    NotBuilt,
+    /// Want of memory.
+    Memory,
+    /// The stream stopped.
+    Stream(StreamFault),
+}

@@ -1,7 +1,7 @@
-ghost use Rattle.std.specs.Prelude.{◌≡◌, refl, ℕ, ℤ, pos, ◌+ℤ◌, ◌*ℤ◌, FitsSigned};
+ghost use Rattle.std.specs.Prelude.{◌≡◌, refl, ℕ, ℤ, pos, ◌+ℤ◌, ◌*ℤ◌, ◌≤ℤ◌, FitsSigned};
 ghost use Rattle.dsp_defs.specs.Numbers.{wrap, w8, w16, w32};
 ghost use Rattle.dsp_defs.specs.Formats.{word, word_bits, accumulator, close};
-ghost use Rattle.dsp_defs.specs.Elementwise.{mult, scale, IsScaleShift, shift, IsShift, negate, abs};
+ghost use Rattle.dsp_defs.specs.Elementwise.{add, sub, clip, mult, scale, IsScaleShift, shift, IsShift, negate, abs};
 ghost use Rattle.dsp_defs.specs.Sums.{sparse_term, sparse_close};
 ghost use Rattle.dsp_defs.specs.Counts.{Rises};
 ghost use Rattle.dsp_defs.specs.declared.format.Fmt.{Fmt};
@@ -74,9 +74,26 @@ pub trait Sample: Copy {
     fn abs(x: Self) -> Self
         ensures { number result ≡ abs format (number x) };
 
+    /// The saturating sum.
+    fn add(a: Self, b: Self) -> Self
+        ensures { number result ≡ add format (number a) (number b) };
+
+    /// The saturating difference.
+    fn sub(a: Self, b: Self) -> Self
+        ensures { number result ≡ sub format (number a) (number b) };
+
+    /// `x` clamped to `low..=high`.
+    fn clip(x: Self, low: Self, high: Self) -> Self
+        requires { number low ≤ℤ number high }
+        ensures { number result ≡ clip (number low) (number high) (number x) };
+
     fn sparse_term<L: Ledger>(b: Self, x: Self, steps: &mut Steps<L>) -> Self::Acc
         ensures value { total result ≡ sparse_term format (number b) (number x) }
         ensures steps { Rises steps.old steps.new 1 1 };
+
+    /// Adds a term of a sparse filter, wrapped to 32 bits.
+    fn sparse_add(sum: Self::Acc, term: Self::Acc) -> Self::Acc
+        ensures { total result ≡ wrap w32 (total sum +ℤ total term) };
 
     fn sparse_close(sum: Self::Acc) -> Self
         ensures { number result ≡ sparse_close format (total sum) };

@@ -16,7 +16,7 @@ pub fn saturating_shift(value: i32, places: i32) -> i32
     ensures { result ≡ shift_in 32 value places }
 {
     if places >= 0 {
-        crate::sat32(i128::from(value) << places)
+        crate::saturation::narrow32(i64::from(value) << places)
     } else {
         value >> -places
     }

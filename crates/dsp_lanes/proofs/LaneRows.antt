@@ -1,0 +1,141 @@
+-- Sums of products by lanes, in the words of filters.
+use Rattle.std.proofs.Common.{ℕ, ◌≡◌, ◌<◌, ◌≤◌, ◌+◌, zero, suc, List, [], ◌∷◌, ◌++◌, length, take, replicate, set, ℤ, pos, ◌+ℤ◌, ◌*ℤ◌, refl, sym, ap, ◌∙◌, arith}
+use Rattle.std.proofs.lemmas.Int.{ints, int_wrap-add_left, int_wrap-add_right}
+use Rattle.std.proofs.lemmas.List.{take_more_set, drop_more}
+use Rattle.std.proofs.lemmas.List.FromFn.{length-map-range_with_len, get_or-map-range_with_len}
+use Rattle.std.proofs.lemmas.Simd.{length-chunk, length-zip2, get_or-chunk, zip2-map, take_more_put_chunk, length-replicate}
+use Rattle.std.specs.List.{range_with_len}
+use Rattle.std.specs.Int.{int_wrap}
+use lib.IntN.{+ℤ_idr, +ℤ_idl, +ℤ_assoc}
+use lib.Lanes.{zip2, chunk, put_chunk}
+use mir.Syntax.{Width}
+use Rattle.dsp_defs.specs.Signal.{sample, sum_below, values}
+use Rattle.dsp_defs.proofs.Signal.{values_cong, values-add}
+use Rattle.dsp_defs.proofs.SumLemmas.{same_numbers}
+use Rattle.dsp_lanes.specs.Regrouped.{list_sum}
+
+pub chunk-values : (p n : ℕ) (xs : List ℤ) → p + n ≤ length xs → chunk p n xs ≡ values n (λ i. sample xs (p + i))
+chunk-values p n xs room =
+    let long : length (chunk p n xs) ≡ n = length-chunk p n xs room in
+    let wide : length (values n (λ i. sample xs (p + i))) ≡ n = length-map-range_with_len (λ i. sample xs (p + i)) 0 n in
+    same_numbers (chunk p n xs) (values n (λ i. sample xs (p + i))) (long ∙ sym wide)
+    (λ i lt.
+    let below : i < n = omega arith in
+    get_or-chunk p n xs i (pos 0) below ∙ sym (get_or-map-range_with_len (λ i. sample xs (p + i)) 0 n i i (pos 0) below (omega arith)))
+
+zip2-values : (f : ℤ → ℤ → ℤ) (n : ℕ) (a b : ℕ → ℤ) → zip2 f (values n a) (values n b) ≡ values n (λ i. f (a i) (b i))
+zip2-values f n a b = zip2-map f a b (range_with_len 0 n)
+
+pub values-zero : (n : ℕ) → replicate n (pos 0) ≡ values n (λ i. pos 0)
+values-zero n =
+    same_numbers (replicate n (pos 0)) (values n (λ i. pos 0)) (length-replicate n (pos 0) ∙ sym (length-map-range_with_len (λ i. pos 0) 0 n))
+    (λ i lt. let long : length (replicate n (pos 0)) ≡ n = length-replicate n (pos 0) in
+    zeros n i ∙ sym (get_or-map-range_with_len (λ i. pos 0) 0 n i i (pos 0) (omega arith) (omega arith)))
+  where
+    zeros : (n i : ℕ) → sample (replicate n (pos 0)) i ≡ pos 0
+    zeros zero i = refl
+    zeros (suc n) zero = refl
+    zeros (suc n) (suc i) = zeros n i
+
+-- ---- rows
+-- the sum of j taps over the window at a place
+abbrev pub row : List ℤ → List ℤ → ℕ → ℕ → ℤ
+row taps window j place = sum_below j (λ m. sample taps m *ℤ sample window (place + m))
+
+-- one tap more, in each lane
+pub row_lanes-more : (w : Width) (at n j m : ℕ) (taps window : List ℤ) (t : ℤ) → m ≡ j + 1 → t ≡ sample taps j → at + j + n ≤ length window
+    → zip2 (λ s x. int_wrap w (s +ℤ (t *ℤ x))) (values n (λ i. int_wrap w (row taps window j (at + i)))) (chunk (at + j) n window) ≡ values n (λ i. int_wrap w (row taps window m (at + i)))
+row_lanes-more w at n j m taps window t next is room =
+    let step : m ≡ suc j = omega arith in
+    ap (zip2 (λ s x. int_wrap w (s +ℤ (t *ℤ x))) (values n (λ i. int_wrap w (row taps window j (at + i))))) (chunk-values (at + j) n window room)
+    ∙ zip2-values (λ s x. int_wrap w (s +ℤ (t *ℤ x))) n (λ i. int_wrap w (row taps window j (at + i))) (λ i. sample window (at + j + i))
+    ∙ values_cong n (λ i. int_wrap w (int_wrap w (row taps window j (at + i)) +ℤ (t *ℤ sample window (at + j + i)))) (λ i. int_wrap w (row taps window m (at + i)))
+    (λ i lt.
+    let place : at + j + i ≡ at + i + j = omega arith in
+    int_wrap-add_left w (row taps window j (at + i)) (t *ℤ sample window (at + j + i))
+    ∙ (λ k. int_wrap w (row taps window j (at + i) +ℤ (is k *ℤ sample window (place k))))
+    ∙ ap (λ k. int_wrap w (row taps window k (at + i))) (sym step))
+
+-- one tap more, in a sum
+pub row-more : (w : Width) (at j m : ℕ) (taps window : List ℤ) (t x sum more : ℤ) → m ≡ j + 1 → t ≡ sample taps j → x ≡ sample window (at + j)
+    → sum ≡ int_wrap w (row taps window j at) → more ≡ int_wrap w (sum +ℤ t *ℤ x) → more ≡ int_wrap w (row taps window m at)
+row-more w at j m taps window t x sum more next is_t is_x summed added =
+    let step : m ≡ suc j = omega arith in
+    added
+    ∙ ap (λ s. int_wrap w (s +ℤ t *ℤ x)) summed
+    ∙ int_wrap-add_left w (row taps window j at) (t *ℤ x)
+    ∙ (λ k. int_wrap w (row taps window j at +ℤ is_t k *ℤ is_x k))
+    ∙ ap (λ k. int_wrap w (row taps window k at)) (sym step)
+
+-- the next group of outputs
+pub rows-group : (f : ℕ → ℤ) (at n : ℕ) (new old : List ℤ) → at + n ≤ length old → take at old ≡ values at f → new ≡ put_chunk at old (values n (λ i. f (at + i))) → take (at + n) new ≡ values (at + n) f
+rows-group f at n new old room done is =
+    let ys = values n (λ i. f (at + i)) in
+    let long : length ys ≡ n = length-map-range_with_len (λ i. f (at + i)) 0 n in
+    ap (take (at + n)) is
+    ∙ take_more_put_chunk at old ys (at + n) (omega arith) (omega arith)
+    ∙ ap (λ l. l ++ ys) done
+    ∙ sym (values-add at n f)
+
+-- the next output
+pub rows-one : (f : ℕ → ℤ) (at m : ℕ) (old : List ℤ) (v : ℤ) → m ≡ at + 1 → at < length old → take at old ≡ values at f → v ≡ f at → take m (set old at v) ≡ values m f
+rows-one f at m old v next room done is =
+    let here : at + 0 ≡ at = omega arith in
+    ap (λ k. take k (set old at v)) next
+    ∙ take_more_set old at v room
+    ∙ (λ i. done i ++ ((is ∙ ap f (sym here)) i ∷ []))
+    ∙ sym (values-add at 1 f)
+    ∙ ap (λ k. values k f) (sym next)
+
+-- ---- a sum by lanes
+list_sum-wraps : (w : Width) (lanes ps : List ℤ) → length lanes ≡ length ps → int_wrap w (list_sum (zip2 (λ s p. int_wrap w (s +ℤ p)) lanes ps)) ≡ int_wrap w (list_sum lanes +ℤ list_sum ps)
+list_sum-wraps w [] [] e = refl
+list_sum-wraps w [] (p ∷ ps) e = absurd (omega (arith, e))
+list_sum-wraps w (s ∷ lanes) [] e = absurd (omega (arith, e))
+list_sum-wraps w (s ∷ lanes) (p ∷ ps) e =
+    let rest = list_sum (zip2 (λ s p. int_wrap w (s +ℤ p)) lanes ps) in
+    int_wrap-add_left w (s +ℤ p) rest
+    ∙ sym (int_wrap-add_right w (s +ℤ p) rest)
+    ∙ ap (λ z. int_wrap w ((s +ℤ p) +ℤ z)) (list_sum-wraps w lanes ps (omega arith))
+    ∙ int_wrap-add_right w (s +ℤ p) (list_sum lanes +ℤ list_sum ps)
+    ∙ ap (int_wrap w) (omega (arith, ints))
+
+pub list_sum-zeros : (n : ℕ) → list_sum (replicate n (pos 0)) ≡ pos 0
+list_sum-zeros zero = refl
+list_sum-zeros (suc n) = +ℤ_idl (list_sum (replicate n (pos 0))) ∙ list_sum-zeros n
+
+-- the products of a group go on where those before it end
+products-group : (at n : ℕ) (xs ys : List ℤ) → at + n ≤ length xs → at + n ≤ length ys
+    → sum_below at (λ k. sample xs k *ℤ sample ys k) +ℤ list_sum (zip2 (λ x y. x *ℤ y) (chunk at n xs) (chunk at n ys)) ≡ sum_below (at + n) (λ k. sample xs k *ℤ sample ys k)
+products-group at zero xs ys room_x room_y =
+    let none : at + zero ≡ at = omega arith in
+    +ℤ_idr (sum_below at (λ k. sample xs k *ℤ sample ys k)) ∙ ap (λ m. sum_below m (λ k. sample xs k *ℤ sample ys k)) (sym none)
+products-group at (suc n) xs ys room_x room_y =
+    let f : ℕ → ℤ = λ k. sample xs k *ℤ sample ys k in
+    let next : suc at ≡ at + 1 = omega arith in
+    let more : suc at + n ≡ at + suc n = omega arith in
+    let rest = list_sum (zip2 (λ x y. x *ℤ y) (chunk (at + 1) n xs) (chunk (at + 1) n ys)) in
+    (λ i. sum_below at f +ℤ list_sum (zip2 (λ x y. x *ℤ y) (take (suc n) (drop_more xs at (pos 0) (omega arith) i)) (take (suc n) (drop_more ys at (pos 0) (omega arith) i))))
+    ∙ sym (+ℤ_assoc (sum_below at f) (f at) rest)
+    ∙ ap (λ k. sum_below (suc at) f +ℤ list_sum (zip2 (λ x y. x *ℤ y) (chunk k n xs) (chunk k n ys))) (sym next)
+    ∙ products-group (suc at) n xs ys (omega arith) (omega arith)
+    ∙ ap (λ m. sum_below m f) more
+
+pub dot-group : (w : Width) (at n : ℕ) (taps window lanes new : List ℤ) → at + n ≤ length taps → at + n ≤ length window → length lanes ≡ n
+    → int_wrap w (list_sum lanes) ≡ int_wrap w (sum_below at (λ k. sample taps k *ℤ sample window k))
+    → new ≡ zip2 (λ s p. int_wrap w (s +ℤ p)) lanes (zip2 (λ t x. t *ℤ x) (chunk at n taps) (chunk at n window))
+    → (length new ≡ n) × (int_wrap w (list_sum new) ≡ int_wrap w (sum_below (at + n) (λ k. sample taps k *ℤ sample window k)))
+dot-group w at n taps window lanes new room_t room_w long done is =
+    let long_t : length (chunk at n taps) ≡ n = length-chunk at n taps room_t in
+    let long_w : length (chunk at n window) ≡ n = length-chunk at n window room_w in
+    let ps = zip2 (λ t x. t *ℤ x) (chunk at n taps) (chunk at n window) in
+    let long_p : length ps ≡ n = length-zip2 (λ t x. t *ℤ x) (chunk at n taps) (chunk at n window) (omega arith) ∙ long_t in
+    let before = sum_below at (λ k. sample taps k *ℤ sample window k) in (
+      ap length is ∙ length-zip2 (λ s p. int_wrap w (s +ℤ p)) lanes ps (omega arith) ∙ long,
+      ap (λ l. int_wrap w (list_sum l)) is
+          ∙ list_sum-wraps w lanes ps (omega arith)
+          ∙ sym (int_wrap-add_left w (list_sum lanes) (list_sum ps))
+          ∙ ap (λ z. int_wrap w (z +ℤ list_sum ps)) done
+          ∙ int_wrap-add_left w before (list_sum ps)
+          ∙ ap (int_wrap w) (products-group at n taps window room_t room_w),
+    )

@@ -1,0 +1,10 @@
+pub mod WordLemmas
+pub mod SumLemmas
+pub mod LaneOps
+pub mod LaneSums
+pub mod LaneClosings
+pub mod LaneDelays
+pub mod HighProducts
+pub mod Groups
+pub mod LaneRows
+pub mod PairSums

@@ -1,0 +1,6 @@
+use Rattle.std.proofs.Common.{w32, FitsSigned}
+use Rattle.std.specs.List.{AllWithin}
+use Rattle.dsp_lanes.proofs.fits.q31_fit.Given as goal
+
+abbrev pub invariant-loop-sample : goal.invariant-loop-sample
+invariant-loop-sample l = AllWithin (FitsSigned w32) l.samples 0 l.sample-index

@@ -1,0 +1,15 @@
+use Rattle.std.proofs.Common.{arith, w16, w32}
+use Rattle.std.proofs.lemmas.Simd.{shifts_fit_splat}
+use Rattle.dsp_lanes.proofs.LaneClosings.{mult_closes, stored}
+use Rattle.dsp_lanes.proofs.q15.I16LaneKernels.mult_group.Goals as goal
+
+pub overflow_shr-out : goal.overflow_shr-out
+overflow_shr-out g c = shifts_fit_splat 32 _ g.row.L 15 (omega arith)
+
+pub overflow_cast-out : goal.overflow_cast-out
+overflow_cast-out g c = (mult_closes w16 w32 (omega arith) (omega arith) c.args.at g.row.L 15 c.args.a.now c.args.b.now c.q15_fit.ensures c.q15_fit-2.ensures c.requires.left c.requires.right).0
+
+pub returns : goal.returns
+returns g c =
+    stored c.args.at c.args.out.now _ _
+    (mult_closes w16 w32 (omega arith) (omega arith) c.args.at g.row.L 15 c.args.a.now c.args.b.now c.q15_fit.ensures c.q15_fit-2.ensures c.requires.left c.requires.right).1

@@ -1,0 +1,26 @@
+use Rattle.std.proofs.Common.{arith, w32, w64, ◌*ℤ◌, ◌+ℤ◌, ◌^◌}
+use Rattle.std.proofs.lemmas.Simd.{shifts_fit_splat, length-chunk}
+use lib.Lanes.{chunk}
+use lib.Signed.{shr_z}
+use Rattle.dsp_lanes.proofs.LaneOps.{group_fits}
+use Rattle.dsp_lanes.proofs.LaneDelays.{delays_stored}
+use Rattle.dsp_lanes.proofs.HighProducts.{delay_31}
+use Rattle.dsp_lanes.proofs.q31.I32LaneKernels.delay_group.Goals as goal
+
+pub overflow_shr-s : goal.overflow_shr-s
+overflow_shr-s g c = shifts_fit_splat 64 _ g.row.L 32 (omega arith)
+
+pub overflow_shl-sums : goal.overflow_shl-sums
+overflow_shl-sums g c = shifts_fit_splat 64 _ g.row.L 32 (omega arith)
+
+pub overflow_shr-sums : goal.overflow_shr-sums
+overflow_shr-sums g c = shifts_fit_splat 64 _ g.row.L 32 (omega arith)
+
+pub returns : goal.returns
+returns g c =
+    let at = c.args.at in
+    let n = g.row.L in
+    let sums = c.args.sums.now in
+    let window = c.args.window.now in
+    delays_stored (λ s x. s +ℤ shr_z (c.args.tap *ℤ x) (2 ^ 32)) at n sums window _ c.requires.room c.requires.window
+    (delay_31 n (chunk at n sums) c.args.tap (chunk at n window) (length-chunk at n window c.requires.window) (group_fits w64 at n sums c.sums_64_fit.ensures c.requires.room) c.ranges.tap (group_fits w32 at n window c.q31_fit.ensures c.requires.window))

@@ -1,0 +1,4 @@
+pub mod Turns
+pub mod Regrouped
+pub mod Narrow
+pub mod Pairs

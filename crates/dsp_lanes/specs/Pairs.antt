@@ -1,0 +1,12 @@
+-- Sums of products at places that lie two apart.
+use Rattle.std.specs.Prelude.{ℕ, ◌+◌, ℤ, ◌+ℤ◌, ◌*ℤ◌, List, [], ◌∷◌}
+use Rattle.dsp_defs.specs.Numbers.{wrap, w32}
+use Rattle.dsp_defs.specs.Signal.{sample}
+
+-- what the taps j and j+1 give to the sum whose window begins at a place
+abbrev pub pair_sum : List ℤ → List ℤ → ℕ → ℕ → ℤ
+pair_sum taps window j place = wrap w32 ((sample window (place + j) *ℤ sample taps j) +ℤ (sample window (place + j + 1) *ℤ sample taps (j + 1)))
+
+-- the values at four places that lie two apart
+abbrev pub four : (ℕ → ℤ) → ℕ → List ℤ
+four f place = f place ∷ f (place + 2) ∷ f (place + 4) ∷ f (place + 6) ∷ []

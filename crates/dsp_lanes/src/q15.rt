@@ -1,0 +1,134 @@
+use crate::fits::{q15_fit, sums_64_fit};
+use crate::kernels::{LaneKernels, RowKernels};
+use crate::pairs::{eight_rows, is_narrow};
+use crate::rows::{plain_double_group, plain_row_group};
+use dsp_defs::Steps;
+use std::simd::prelude::*;
+use std::sync::ledger::Ledger;
+
+impl<const L: usize> LaneKernels<L> for i16 {
+    type Sums = Simd<i64, L>;
+
+    ghost use Rattle.std.specs.Prelude.{FitsSigned};
+    ghost use Rattle.std.specs.Simd.Lanes.{Each1};
+    ghost use Rattle.std.specs.Int.{w64};
+
+    ghost lanes = { λ sums. sums };
+
+    ghost AreSums = { λ sums. Each1 (FitsSigned w64) sums };
+
+    #[inline(always)]
+    fn no_sums() -> Simd<i64, L> {
+        Simd::splat(0)
+    }
+
+    #[inline(always)]
+    fn add_products(sums: Simd<i64, L>, taps: &[i16], window: &[i16], at: usize) -> Simd<i64, L> {
+        q15_fit(taps);
+        q15_fit(window);
+        let t = Simd::<i16, L>::from_slice(&taps[at..]).cast::<i64>();
+        let x = Simd::<i16, L>::from_slice(&window[at..]).cast::<i64>();
+        sums + t * x
+    }
+
+    #[inline(always)]
+    fn add_multiples(sums: Simd<i64, L>, tap: i16, window: &[i16], at: usize) -> Simd<i64, L> {
+        q15_fit(window);
+        let t = Simd::<i16, L>::splat(tap).cast::<i64>();
+        let x = Simd::<i16, L>::from_slice(&window[at..]).cast::<i64>();
+        sums + t * x
+    }
+
+    #[inline(always)]
+    fn sum_lanes(sums: Simd<i64, L>) -> i64 {
+        sums.reduce_sum()
+    }
+
+    #[inline(always)]
+    fn close_group(sums: Simd<i64, L>, out: &mut [i16], at: usize) {
+        (sums >> Simd::splat(15))
+            .simd_min(Simd::splat(0x7fff))
+            .simd_max(Simd::splat(-0x8000))
+            .cast::<i16>()
+            .copy_to_slice(&mut out[at..]);
+    }
+
+    #[inline(always)]
+    fn mult_group(a: &[i16], b: &[i16], out: &mut [i16], at: usize) {
+        q15_fit(a);
+        q15_fit(b);
+        let x = Simd::<i16, L>::from_slice(&a[at..]).cast::<i32>();
+        let y = Simd::<i16, L>::from_slice(&b[at..]).cast::<i32>();
+        ((x * y) >> Simd::splat(15))
+            .simd_min(Simd::splat(0x7fff))
+            .simd_max(Simd::splat(-0x8000))
+            .cast::<i16>()
+            .copy_to_slice(&mut out[at..]);
+    }
+
+    #[inline(always)]
+    fn scale_group(a: &[i16], factor: i16, places: i32, out: &mut [i16], at: usize) {
+        q15_fit(a);
+        let x = Simd::<i16, L>::from_slice(&a[at..]).cast::<i32>();
+        let f = Simd::<i16, L>::splat(factor).cast::<i32>();
+        ((x * f) >> Simd::splat(15 - places))
+            .simd_min(Simd::splat(0x7fff))
+            .simd_max(Simd::splat(-0x8000))
+            .cast::<i16>()
+            .copy_to_slice(&mut out[at..]);
+    }
+
+    #[inline(always)]
+    fn delay_group(tap: i16, window: &[i16], sums: &mut [i64], at: usize) {
+        q15_fit(window);
+        sums_64_fit(sums);
+        let t = Simd::<i16, L>::splat(tap).cast::<i64>();
+        let x = Simd::<i16, L>::from_slice(&window[at..]).cast::<i64>();
+        let s = Simd::<i64, L>::from_slice(&sums[at..]) + t * x;
+        ((s << Simd::splat(32)) >> Simd::splat(32)).copy_to_slice(&mut sums[at..]);
+    }
+}
+
+impl<const L: usize> RowKernels<L> for i16 {
+    ghost use Rattle.dsp_lanes.specs.Narrow.{IsNarrow};
+
+    ghost AreSmall = { IsNarrow };
+
+    #[inline(always)]
+    fn are_small(taps: &[i16]) -> bool {
+        is_narrow(taps)
+    }
+
+    #[inline(always)]
+    fn row_group<M: Ledger>(
+        taps: &[i16],
+        window: &[i16],
+        small: bool,
+        out: &mut [i16],
+        at: usize,
+        steps: &mut Steps<M>,
+    ) {
+        if small && L == 8 {
+            eight_rows(taps, window, out, at, steps)
+        } else {
+            plain_row_group::<i16, L, M>(taps, window, out, at, steps)
+        }
+    }
+
+    #[inline(always)]
+    fn double_group<M: Ledger>(
+        taps: &[i16],
+        window: &[i16],
+        small: bool,
+        out: &mut [i16],
+        at: usize,
+        steps: &mut Steps<M>,
+    ) {
+        if small && L == 8 {
+            eight_rows(taps, window, out, at, steps);
+            eight_rows(taps, window, out, at + 8, steps);
+        } else {
+            plain_double_group::<i16, L, M>(taps, window, out, at, steps)
+        }
+    }
+}

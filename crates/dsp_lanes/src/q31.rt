@@ -1,0 +1,129 @@
+use crate::fits::{q31_fit, sums_64_fit};
+use crate::kernels::{LaneKernels, RowKernels};
+use crate::rows::{plain_double_group, plain_row_group};
+use dsp_defs::Steps;
+use std::simd::prelude::*;
+use std::sync::ledger::Ledger;
+
+impl<const L: usize> LaneKernels<L> for i32 {
+    type Sums = Simd<i64, L>;
+
+    ghost use Rattle.std.specs.Prelude.{FitsSigned};
+    ghost use Rattle.std.specs.Simd.Lanes.{Each1};
+    ghost use Rattle.std.specs.Int.{w64};
+
+    ghost lanes = { λ sums. sums };
+
+    ghost AreSums = { λ sums. Each1 (FitsSigned w64) sums };
+
+    #[inline(always)]
+    fn no_sums() -> Simd<i64, L> {
+        Simd::splat(0)
+    }
+
+    #[inline(always)]
+    fn add_products(sums: Simd<i64, L>, taps: &[i32], window: &[i32], at: usize) -> Simd<i64, L> {
+        q31_fit(taps);
+        q31_fit(window);
+        let t = Simd::<i32, L>::from_slice(&taps[at..]).cast::<i64>();
+        let x = Simd::<i32, L>::from_slice(&window[at..]).cast::<i64>();
+        sums + t * x
+    }
+
+    #[inline(always)]
+    fn add_multiples(sums: Simd<i64, L>, tap: i32, window: &[i32], at: usize) -> Simd<i64, L> {
+        q31_fit(window);
+        let t = Simd::<i32, L>::splat(tap).cast::<i64>();
+        let x = Simd::<i32, L>::from_slice(&window[at..]).cast::<i64>();
+        sums + t * x
+    }
+
+    #[inline(always)]
+    fn sum_lanes(sums: Simd<i64, L>) -> i64 {
+        sums.reduce_sum()
+    }
+
+    #[inline(always)]
+    fn close_group(sums: Simd<i64, L>, out: &mut [i32], at: usize) {
+        let high = sums >> Simd::splat(31);
+        ((high << Simd::splat(32)) >> Simd::splat(32))
+            .cast::<i32>()
+            .copy_to_slice(&mut out[at..]);
+    }
+
+    #[inline(always)]
+    fn mult_group(a: &[i32], b: &[i32], out: &mut [i32], at: usize) {
+        q31_fit(a);
+        q31_fit(b);
+        let x = Simd::<i32, L>::from_slice(&a[at..]).cast::<i64>();
+        let y = Simd::<i32, L>::from_slice(&b[at..]).cast::<i64>();
+        let high = ((x * y) >> Simd::splat(32))
+            .simd_min(Simd::splat(0x3fff_ffff))
+            .simd_max(Simd::splat(-0x4000_0000));
+        (high + high).cast::<i32>().copy_to_slice(&mut out[at..]);
+    }
+
+    #[inline(always)]
+    fn scale_group(a: &[i32], factor: i32, places: i32, out: &mut [i32], at: usize) {
+        q31_fit(a);
+        let x = Simd::<i32, L>::from_slice(&a[at..]).cast::<i64>();
+        let f = Simd::<i32, L>::splat(factor).cast::<i64>();
+        let high = (x * f) >> Simd::splat(32);
+        if places >= -1 {
+            let amount = (places + 1) as i64;
+            (high << Simd::splat(amount))
+                .simd_min(Simd::splat(0x7fff_ffff))
+                .simd_max(Simd::splat(-0x8000_0000))
+                .cast::<i32>()
+                .copy_to_slice(&mut out[at..]);
+        } else {
+            let amount = (-1 - places) as i64;
+            (high >> Simd::splat(amount))
+                .cast::<i32>()
+                .copy_to_slice(&mut out[at..]);
+        }
+    }
+
+    #[inline(always)]
+    fn delay_group(tap: i32, window: &[i32], sums: &mut [i64], at: usize) {
+        q31_fit(window);
+        sums_64_fit(sums);
+        let t = Simd::<i32, L>::splat(tap).cast::<i64>();
+        let x = Simd::<i32, L>::from_slice(&window[at..]).cast::<i64>();
+        let s = Simd::<i64, L>::from_slice(&sums[at..]) + ((t * x) >> Simd::splat(32));
+        ((s << Simd::splat(32)) >> Simd::splat(32)).copy_to_slice(&mut sums[at..]);
+    }
+}
+
+impl<const L: usize> RowKernels<L> for i32 {
+    ghost AreSmall = { λ _. Unit {0} };
+
+    #[inline(always)]
+    fn are_small(taps: &[i32]) -> bool {
+        true
+    }
+
+    #[inline(always)]
+    fn row_group<M: Ledger>(
+        taps: &[i32],
+        window: &[i32],
+        small: bool,
+        out: &mut [i32],
+        at: usize,
+        steps: &mut Steps<M>,
+    ) {
+        plain_row_group::<i32, L, M>(taps, window, out, at, steps)
+    }
+
+    #[inline(always)]
+    fn double_group<M: Ledger>(
+        taps: &[i32],
+        window: &[i32],
+        small: bool,
+        out: &mut [i32],
+        at: usize,
+        steps: &mut Steps<M>,
+    ) {
+        plain_double_group::<i32, L, M>(taps, window, out, at, steps)
+    }
+}

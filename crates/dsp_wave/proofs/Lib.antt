@@ -1,0 +1,3 @@
+pub mod SampleBytes
+pub mod GeneratorLemmas
+pub mod ReaderLaws

@@ -1,0 +1,4 @@
+pub mod Coding
+pub mod Generated
+pub mod Reading
+pub mod Taking

@@ -1,0 +1,46 @@
+-- What a header's reader answers, and what it has taken of its source by then.
+use Rattle.std.specs.Prelude.{◌≡◌, ℕ, ◌+◌, ◌^◌, ◌≤◌, ◌⊎◌, List, ◌++◌, length, Option, Result, Ok, Err}
+use Rattle.std.specs.Io.KnownBytes.{IsAtEnd}
+use Rattle.dsp_ports.specs.Ports.{SourceState, Rose, Gave}
+use Rattle.dsp_defs.specs.Wave.{chunks_behind, header_in}
+use Rattle.dsp_defs.specs.declared.wave.Wanted.{Wanted}
+use Rattle.dsp_defs.specs.declared.wave.Header.{Header}
+use Rattle.dsp_defs.specs.declared.wave.HeaderFault.{HeaderFault}
+use Rattle.dsp_defs.specs.declared.wave.HeaderFault.TheVariants.{NoSamples}
+use Rattle.dsp_wave.specs.declared.reader.HeaderOr.{HeaderOr}
+use Rattle.dsp_wave.specs.declared.reader.HeaderOr.TheVariants.{Fault, Read, Long}
+
+-- what bytes say of a header: the header, or its fault with the offset
+abbrev pub Says : Type 0
+Says = List ℕ → Result Header (HeaderFault × ℕ)
+
+-- what the bytes from a place on say, where the chunks before it have given this rate
+abbrev pub said_from : Wanted → ℕ → Option ℕ → Says
+said_from wanted place rate bytes = header_in wanted (place + length bytes) rate (chunks_behind 0 place bytes)
+
+-- the bytes say so whatever comes behind them, or they say so and are all there is
+abbrev pub IsSure : Says → SourceState → List ℕ → Result Header (HeaderFault × ℕ) → Type 0
+IsSure says now bytes answer = ((more : List ℕ) → says (bytes ++ more) ≡ answer) ⊎ (IsAtEnd now.left × (says bytes ≡ answer))
+
+-- the cause of an end without a header: a fault that the bytes have, a source that has failed, or 2^40 bytes from the
+-- file's begin that head no file
+abbrev pub HasCause : HeaderOr → Says → ℕ → SourceState → SourceState → List ℕ → Type 0
+HasCause (Fault fault offset) says place old now bytes = IsSure says now bytes (Err (fault, offset)) × (now.faults ≡ old.faults)
+HasCause Read says place old now bytes = (old.faults ≤ now.faults) × Rose old.faults now.faults
+HasCause Long says place old now bytes = (place + length bytes ≡ 2 ^ 40) × (says bytes ≡ Err (NoSamples, 2 ^ 40)) × (now.faults ≡ old.faults)
+
+-- no header came: what was taken, and why
+pub record Stopped (says : Says) (place : ℕ) (old now : SourceState) (error : HeaderOr) : Type 0 where
+  pub bytes : List ℕ
+  pub gave : Gave old now bytes
+  pub in_limit : place + length bytes ≤ 2 ^ 40
+  pub cause : HasCause error says place old now bytes
+
+-- the header came: exactly the bytes up to the first sample were taken, and they say so whatever comes behind them
+pub record Headed (says : Says) (place : ℕ) (old now : SourceState) (header : Header) : Type 0 where
+  pub bytes : List ℕ
+  pub gave : Gave old now bytes
+  pub in_limit : place + length bytes ≤ 2 ^ 40
+  pub said : (more : List ℕ) → says (bytes ++ more) ≡ Ok header
+  pub start : header.start ≡ place + length bytes
+  pub no_fault : now.faults ≡ old.faults

@@ -1,0 +1,49 @@
+-- What is taken of a source for a piece of a header.
+use Rattle.std.specs.Prelude.{◌≡◌, ℕ, ◌+◌, ◌^◌, ◌<◌, ◌≤◌, List, [], ◌++◌, length, Option, None}
+use Rattle.std.specs.Io.KnownBytes.{IsAtEnd}
+use Rattle.dsp_ports.specs.Ports.{SourceState, Rose, Gave}
+use Rattle.dsp_defs.specs.Wave.{Chunk, header_of}
+use Rattle.dsp_defs.specs.declared.wave.Wanted.{Wanted}
+use Rattle.dsp_defs.specs.declared.wave.HeaderFault.TheVariants.{NoSamples}
+use Rattle.dsp_wave.specs.declared.reader.HeaderOr.{HeaderOr}
+use Rattle.dsp_wave.specs.declared.reader.HeaderOr.TheVariants.{Fault, Read, Long}
+use Rattle.dsp_wave.specs.declared.reader.Next.{Next}
+use Rattle.dsp_wave.specs.declared.reader.Next.TheVariants.{Samples, Other}
+use Rattle.dsp_wave.specs.Reading.{Headed, said_from}
+
+-- so many bytes came
+pub record Came (place count : ℕ) (old now : SourceState) (bytes : List ℕ) : Type 0 where
+  pub long : length bytes ≡ count
+  pub gave : Gave old now bytes
+  pub in_limit : place + count ≤ 2 ^ 40
+  pub no_fault : now.faults ≡ old.faults
+
+-- why fewer came: the file has ended, the source has failed, or all was taken that may be
+abbrev pub IsMissed : HeaderOr → ℕ → SourceState → SourceState → List ℕ → Type 0
+IsMissed (Fault fault offset) place old now bytes = (fault ≡ NoSamples) × (offset ≡ place + length bytes) × IsAtEnd now.left × (now.faults ≡ old.faults)
+IsMissed Read place old now bytes = (old.faults ≤ now.faults) × Rose old.faults now.faults
+IsMissed Long place old now bytes = (place + length bytes ≡ 2 ^ 40) × (now.faults ≡ old.faults)
+
+pub record Missing (place count : ℕ) (old now : SourceState) (error : HeaderOr) : Type 0 where
+  pub bytes : List ℕ
+  pub short : length bytes < count
+  pub gave : Gave old now bytes
+  pub in_limit : place + length bytes ≤ 2 ^ 40
+  pub missed : IsMissed error place old now bytes
+
+-- the `fmt ` chunk of these 16 bytes, at an offset
+abbrev pub format_chunk : ℕ → List ℕ → Chunk
+format_chunk offset body = record { offset = offset; id = []; size = 16; body = body }
+
+-- the first 12 bytes came, and the file's chunks begin behind them
+pub record RiffRead (wanted : Wanted) (old now : SourceState) : Type 0 where
+  pub bytes : List ℕ
+  pub came : Came 0 12 old now bytes
+  pub said : (more : List ℕ) → header_of (bytes ++ more) wanted ≡ said_from wanted 12 None more
+
+-- the chunk that came, up to the samples or to the chunk behind it
+abbrev pub Chunked : Wanted → ℕ → Option ℕ → SourceState → SourceState → Next → Type 0
+Chunked wanted place rate old now (Samples header) = Headed (said_from wanted place rate) place old now header
+Chunked wanted place rate old now (Other later taken) =
+    (bytes : List ℕ) × Came place (length bytes) old now bytes × (taken ≡ place + length bytes) × (8 ≤ length bytes)
+    × ((more : List ℕ) → said_from wanted place rate (bytes ++ more) ≡ said_from wanted taken later more)

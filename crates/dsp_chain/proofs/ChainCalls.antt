@@ -23,6 +23,7 @@ chain-fed c d links news frames given before after links_are news_are input ende
     counted = count ∙ ap (λ n. n + length frames / c.input.channels) stands.counted ∙ ap (λ n. length x + n) (sym (length-frames_in c.input.channels frames)) ∙ sym (length-append x (frames_in c.input.channels frames));
     units = rw (input, news_are) (fed'.feeds.stands x stands.units);
   };
+  counts = λ n counts. rw news_are (fed'.feeds.counts n counts);
   multiplies = fed'.feeds.multiplies;
 }
   where

@@ -1,60 +1,114 @@
 -- A chain in the making: the units of the blocks so far.
-use Rattle.std.proofs.Common.{◌≡◌, ◌∙◌, ap, refl, sym, ℕ, List, [], ◌∷◌, ◌++◌, take, drop, None}
-use Rattle.dsp_defs.specs.Shape.{gathered, window_at}
-use Rattle.dsp_defs.specs.Unit.{UnitState, IsNew}
+use Rattle.std.proofs.Common.{◌≡◌, ◌∙◌, ap, refl, sym, subst, ℕ, ◌+◌, ◌<◌, ◌≤◌, Bool, ◌&&◌, List, [], ◌∷◌, ◌++◌, length, take, drop, get_or, None, IsTrue, arith}
+use Rattle.std.specs.List.{list_all}
+use Rattle.std.proofs.lemmas.Bool.Decides.{nat_tests}
+use Rattle.dsp_defs.specs.Shape.{whole_frames, gathered, window_at}
+use Rattle.dsp_defs.specs.Unit.{UnitState, IsNew, most_frames}
 use Rattle.dsp_defs.specs.Row.{Place, place_after, place_behind, blocks_of, InRow, AllNew}
 use Rattle.dsp_defs.proofs.NewRow.{place-more, blocks-more, row-more, new-more}
-use Rattle.dsp_fir.specs.FirUnit.{IsFirBlock}
-use Rattle.dsp_chain.specs.Chain.{AreBuilt}
+use Rattle.dsp_defs.proofs.ChainPlaces.{IsOpen, AllOpen, flow_at, few_channels_after}
+use Rattle.dsp_defs.specs.Grammar.{Suits}
+use Rattle.dsp_defs.specs.Block.{channels_after}
+use Rattle.std.proofs.lemmas.List.{drop_more}
+use Rattle.dsp_defs.specs.declared.limits.TheConstants.{MAX_CHANNELS}
+use Rattle.dsp_defs.specs.Table.{flow_after}
+use Rattle.dsp_chain.specs.Built.{is_built_block}
 use Rattle.dsp_defs.specs.declared.script.Block.{Block}
-use Rattle.dsp_defs.specs.declared.script.Block.TheVariants.{Fir}
+use Rattle.dsp_defs.specs.declared.script.Block.TheVariants.{Decimate, Interpolate, ConvPartial, Correlate, MatAdd, MatSub, MatScale, MatTrans, MatMult}
 
--- the blocks so far have new units in their places, and those left are built at theirs
-pub record Making (p : Place) (blocks : List Block) (i : ℕ) (us : List UnitState) : Type 0 where
+and_left : (a b : Bool) → IsTrue (a && b) → IsTrue a
+and_left a b h = grind (arith, nat_tests)
+
+and_right : (a b : Bool) → IsTrue (a && b) → IsTrue b
+and_right a b h = grind (arith, nat_tests)
+
+-- the blocks so far have new units in their places and end at `here`, and each of those left has its place open and is built
+pub record Making (p here : Place) (blocks : List Block) (i : ℕ) (us : List UnitState) : Type 0 where
   pub blocks_so_far : blocks_of us ≡ take i blocks
   pub row : InRow p us
   pub fresh : AllNew us
-  pub here : place_behind p (take i blocks) ≡ p
-  pub left : AreBuilt p (drop i blocks)
+  pub reached : place_behind p (take i blocks) ≡ here
+  pub few_channels : here.channels ≤ MAX_CHANNELS
+  pub places : AllOpen here (drop i blocks)
+  pub left : IsTrue (list_all is_built_block (drop i blocks))
 
--- a FIR block leaves its place as it is
-pub stays : (p : Place) (block : Block) → IsFirBlock p.format block → place_after p block ≡ p
-stays p (Fir taps) form = refl
-stays p _ form = absurd form
+-- no unit is made
+pub making-none : (p : Place) (blocks : List Block) → p.channels ≤ MAX_CHANNELS → AllOpen p blocks → IsTrue (list_all is_built_block blocks) → Making p p blocks 0 []
+making-none p blocks few places left = record { blocks_so_far = refl; row = tt; fresh = tt; reached = refl; few_channels = few; places = places; left = left }
 
+-- one more is
 pub making-more :
-    (p : Place) (blocks : List Block) (i j : ℕ) (us : List UnitState) (u : UnitState) (b : Block) → drop i blocks ≡ b ∷ drop j blocks → take j blocks ≡ take i blocks ++ b ∷ [] →
-    IsNew b p.format p.channels p.capacity u → Making p blocks i us → Making p blocks j (us ++ u ∷ [])
-making-more p blocks i j us u b first more is m = record {
+    (p here next : Place) (blocks : List Block) (i j : ℕ) (us : List UnitState) (u : UnitState) (b : Block) → drop i blocks ≡ b ∷ drop j blocks → take j blocks ≡ take i blocks ++ b ∷ [] →
+    next ≡ place_after here b → IsNew b here.format here.channels here.capacity u → Making p here blocks i us → Making p next blocks j (us ++ u ∷ [])
+making-more p here next blocks i j us u b first more step is m = record {
   blocks_so_far = blocks-more us u ∙ (λ k. m.blocks_so_far k ++ is.block k ∷ []) ∙ sym more;
   row = row-more p us u m.row (rw behind (record { format = is.format; channels = is.channels; capacity = is.capacity }));
   fresh = new-more us u m.fresh ((is.stands, is.counts), tt);
-  here = ap (place_behind p) more ∙ place-more p (take i blocks) b ∙ ap (λ q. place_after q b) m.here ∙ same;
-  left = rw same at built.1;
+  reached = ap (place_behind p) more ∙ place-more p (take i blocks) b ∙ ap (λ q. place_after q b) m.reached ∙ sym step;
+  few_channels = subst (λ (q : Place). q.channels ≤ MAX_CHANNELS) (sym step) (few_channels_after (flow_at here) b places.1 m.few_channels);
+  places = subst (λ (q : Place). AllOpen q (drop j blocks)) (sym step) places.2;
+  left = and_right (is_built_block b) (list_all is_built_block (drop j blocks)) left;
 }
   where
-    built : AreBuilt p (b ∷ drop j blocks)
-    built = rw first at m.left
+    places : AllOpen here (b ∷ drop j blocks)
+    places = subst (AllOpen here) first m.places
 
-    same : place_after p b ≡ p
-    same = stays p b built.0.form
+    left : IsTrue (list_all is_built_block (b ∷ drop j blocks))
+    left = subst (λ (bs : List Block). IsTrue (list_all is_built_block bs)) first m.left
 
-    behind : place_behind p (blocks_of us) ≡ p
-    behind = ap (place_behind p) m.blocks_so_far ∙ m.here
+    behind : place_behind p (blocks_of us) ≡ here
+    behind = ap (place_behind p) m.blocks_so_far ∙ m.reached
 
--- ---- chains of built blocks
+-- the blocks from one of them on
+pub next-first : (blocks : List Block) (i : ℕ) (b : Block) → i < length blocks → b ≡ get_or blocks i b → drop i blocks ≡ b ∷ drop (i + 1) blocks
+next-first blocks i b within read = drop_more blocks i b within ∙ ap (λ (e : Block). e ∷ drop (i + 1) blocks) (sym read)
 
-pub all-stay : (p : Place) (blocks : List Block) → AreBuilt p blocks → place_behind p blocks ≡ p
-all-stay p [] built = refl
-all-stay p (block ∷ blocks) built = all-stay (place_after p block) blocks built.1 ∙ stays p block built.0.form
+-- what the next block of a chain in the making needs
+pub record Next (here : Place) (b : Block) : Type 0 where
+  pub built : IsTrue (is_built_block b)
+  pub suits : Suits (flow_at here) b
+  pub open_here : IsOpen here
+  pub few_channels : channels_after here.channels b ≤ MAX_CHANNELS
+
+pub making-next : (p here : Place) (blocks : List Block) (i j : ℕ) (us : List UnitState) (b : Block) → drop i blocks ≡ b ∷ drop j blocks → Making p here blocks i us → Next here b
+making-next p here blocks i j us b first m = record {
+  built = and_left (is_built_block b) (list_all is_built_block (drop j blocks)) (subst (λ (bs : List Block). IsTrue (list_all is_built_block bs)) first m.left);
+  suits = places.1;
+  open_here = places.0;
+  few_channels = few_channels_after (flow_at here) b places.1 m.few_channels;
+}
+  where
+    places : AllOpen here (b ∷ drop j blocks)
+    places = subst (AllOpen here) first m.places
+
+-- ---- built blocks
+
+-- one gives as many frames as it takes
+pub keeps_frames : (block : Block) (n : ℕ) → IsTrue (is_built_block block) → most_frames block n ≡ n
+keeps_frames (Decimate factor taps) n built = absurd (cc)
+keeps_frames (Interpolate factor taps) n built = absurd (cc)
+keeps_frames (MatAdd rows columns matrix) n built = absurd (cc)
+keeps_frames (MatSub rows columns matrix) n built = absurd (cc)
+keeps_frames (MatScale rows columns fract shift) n built = absurd (cc)
+keeps_frames (MatTrans rows columns) n built = absurd (cc)
+keeps_frames (MatMult rows columns given matrix) n built = absurd (cc)
+keeps_frames block n built = refl
+
+-- so the place behind it is what flows there, for as many frames
+pub keeps-place : (here next : Place) (block : Block) → IsTrue (is_built_block block) → flow_at next ≡ flow_after block (flow_at here) → next.capacity ≡ here.capacity → next ≡ place_after here block
+keeps-place here next block built flow frames = λ i. record {
+  format = (flow i).format;
+  channels = (flow i).channels;
+  capacity = (frames ∙ sym (keeps_frames block here.capacity built)) i;
+}
 
 -- none of them has a window or gathers
-pub no-window : (p : Place) (blocks : List Block) (n : ℕ) → AreBuilt p blocks → window_at blocks n ≡ None
-no-window p [] n built = refl
-no-window p (Fir taps ∷ blocks) n built = no-window (place_after p (Fir taps)) blocks n built.1
-no-window p (_ ∷ blocks) n built = absurd built.0.form
+pub no-window : (blocks : List Block) (n : ℕ) → IsTrue (list_all is_built_block blocks) → window_at blocks n ≡ None
+no-window [] n built = refl
+no-window (ConvPartial first count taps ∷ blocks) n built = absurd (cc)
+no-window (block ∷ blocks) n built = no-window blocks (whole_frames block n) (and_right (is_built_block block) (list_all is_built_block blocks) built)
 
-pub no-gather : (p : Place) (blocks : List Block) (n : ℕ) → AreBuilt p blocks → gathered blocks n ≡ 0
-no-gather p [] n built = refl
-no-gather p (Fir taps ∷ blocks) n built = no-gather (place_after p (Fir taps)) blocks n built.1
-no-gather p (_ ∷ blocks) n built = absurd built.0.form
+pub no-gather : (blocks : List Block) (n : ℕ) → IsTrue (list_all is_built_block blocks) → gathered blocks n ≡ 0
+no-gather [] n built = refl
+no-gather (Correlate taps ∷ blocks) n built = absurd (cc)
+no-gather (block ∷ blocks) n built = no-gather blocks (whole_frames block n) (and_right (is_built_block block) (list_all is_built_block blocks) built)

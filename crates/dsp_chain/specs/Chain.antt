@@ -1,20 +1,21 @@
 -- What a contract sees of a chain.
-use Rattle.std.specs.Prelude.{◌≡◌, ℕ, ◌+◌, ◌≤◌, ℤ, Bool, true, false, List, [], ◌∷◌, ◌++◌, length}
+use Rattle.std.specs.Prelude.{◌≡◌, ℕ, ◌+◌, ℤ, Bool, true, false, List, [], ◌++◌, length}
 use Rattle.dsp_defs.specs.Streaming.{Continues}
 use Rattle.dsp_defs.specs.Block.{Frame, live_chain, whole_chain}
 use Rattle.dsp_defs.specs.Counts.{Counts}
 use Rattle.dsp_defs.specs.Cost.{live_cost}
 use Rattle.dsp_defs.specs.Unit.{UnitState, frames_in}
-use Rattle.dsp_defs.specs.Row.{chain_products, place_after, Place, place_behind, place_room, Passes, blocks_of, AllStand, AllCount, Owes, Costs}
+use Rattle.dsp_defs.specs.Row.{chain_products, Place, place_behind, Passes, blocks_of, AllStand, AllCount, Owes, Costs}
 use Rattle.dsp_chain.specs.declared.block_unit.BlockUnit.{BlockUnit}
-use Rattle.dsp_chain.specs.declared.block_unit.BlockUnit.TheVariants.{Fir}
-use Rattle.dsp_fir.specs.FirUnit.{unit_of, IsFirBlock}
-use Rattle.dsp_defs.specs.declared.limits.TheConstants.{MAX_SAMPLES}
+use Rattle.dsp_chain.specs.declared.block_unit.BlockUnit.TheVariants.{Vector, Complex, Fir}
+use Rattle.dsp_fir.specs.FirUnit.{unit_of}
 use Rattle.dsp_defs.specs.declared.script.Block.{Block}
 use Rattle.dsp_defs.specs.declared.script.Script.{Script}
 
 -- the unit that it holds
 abbrev pub state_of : BlockUnit → UnitState
+state_of (Vector u) = u
+state_of (Complex u) = u
 state_of (Fir u) = unit_of u
 
 -- the place of its input, its units, the frames that were fed, and whether its tail was begun
@@ -50,6 +51,7 @@ pub record FeedsChain (old new : ChainState) (frames given : List ℤ) (before a
   pub passes : Passes (output_of old) given
   pub values : (x : List Frame) → ChainStandsFor old x → Continues (live_of old) x (frames_in old.input.channels frames) (frames_in (output_of old).channels given)
   pub stands : (x : List Frame) → ChainStandsFor old x → ChainStandsFor new (x ++ frames_in old.input.channels frames)
+  pub counts : (n : ℕ) → AllCount old.units n → AllCount new.units (n + length (frames_in old.input.channels frames))
   pub multiplies : (n : ℕ) → AllCount old.units n → live_cost old.input.format old.input.channels (blocks_of old.units) (n + length (frames_in old.input.channels frames)) + before.multiplies ≡ live_cost old.input.format old.input.channels (blocks_of old.units) n + after.multiplies
 
 -- and of all its frames as a whole signal
@@ -72,18 +74,6 @@ pub record FinishesChain (old new : ChainState) (given : List ℤ) (before after
 -- the first place of a script, for so many frames a call
 abbrev pub input_place : Script → ℕ → Place
 input_place script block = record { format = script.input.format; channels = script.input.channels; capacity = block }
-
--- the block is one that is built, as a sound script has it at this place, and its samples fit
-pub record IsBuiltAt (p : Place) (block : Block) : Type 0 where
-  pub form : IsFirBlock p.format block
-  pub channels : 1 ≤ p.channels
-  pub capacity : 1 ≤ p.capacity
-  pub samples : place_room p ≤ MAX_SAMPLES
-
--- the same of each block at its place
-abbrev pub AreBuilt : Place → List Block → Type 0
-AreBuilt p [] = Unit {0}
-AreBuilt p (block ∷ blocks) = IsBuiltAt p block × AreBuilt (place_after p block) blocks
 
 -- a chain of these blocks, that has taken nothing
 pub record IsNewChain (p : Place) (blocks : List Block) (c : ChainState) : Type 0 where

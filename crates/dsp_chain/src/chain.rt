@@ -1,6 +1,6 @@
 use crate::block_unit::BlockUnit;
 use crate::row::{Link, feed_row, finish_row};
-use dsp_defs::{Fmt, GatherFull, Input, Script, Steps, WindowFault};
+use dsp_defs::{Flow, Fmt, GatherFull, Input, Script, Steps, WindowFault};
 use std::alloc::{AllocError, Global};
 use std::marker::Model;
 use std::sync::ledger::Ledger;
@@ -18,35 +18,41 @@ pub struct Chain {
 }
 
 impl Model for Chain {
-    ghost use Rattle.std.specs.Prelude.{◌≡◌, ◌≤◌, false};
+    ghost use Rattle.std.specs.Prelude.{◌≡◌, ◌≤◌, false, IsTrue};
+    ghost use Rattle.std.specs.List.{list_all};
     ghost use Rattle.dsp_defs.specs.Row.{Place, InRow, EndsInOrder, AllRun, blocks_of, place_behind, place_room};
-    ghost use Rattle.dsp_chain.specs.Chain.{ChainState, AreBuilt};
+    ghost use Rattle.dsp_chain.specs.Chain.{ChainState};
+    ghost use Rattle.dsp_chain.specs.Built.{is_built_block};
 
     ghost Value = { ChainState };
 
     ghost view = { λ c. record { input = record { format = c.format; channels = c.channels; capacity = c.capacity }; units = c.links.items; frames = c.frames; ended = c.ended } };
 
     ghost invariant = { λ c. (InRow (record { format = c.format; channels = c.channels; capacity = c.capacity }) c.links.items) × (EndsInOrder c.links.items) × (c.ended ≡ false → AllRun c.links.items) × (1 ≤ c.channels)
-        × (AreBuilt (record { format = c.format; channels = c.channels; capacity = c.capacity }) (blocks_of c.links.items))
+        × (IsTrue (list_all is_built_block (blocks_of c.links.items)))
         × (c.room ≡ place_room (place_behind (record { format = c.format; channels = c.channels; capacity = c.capacity }) (blocks_of c.links.items))) };
 }
 
 impl Chain {
-    ghost use Rattle.std.specs.Prelude.{◌≡◌, ◌≤◌, ◌<◌, ◌+◌, ◌^◌, ◌↔◌, IsFalse, IfOk, IsErr, length, take};
+    ghost use Rattle.std.specs.Prelude.{◌≡◌, ◌≤◌, ◌<◌, ◌+◌, ◌^◌, ◌↔◌, IsTrue, IsFalse, IfOk, IfErr, IsErr, length, take};
     ghost use Rattle.std.specs.Option.{option_map};
-    ghost use Rattle.dsp_defs.specs.Shape.{gathered, window_at};
+    ghost use Rattle.dsp_defs.specs.Shape.{gathered, held, window_at, is_legal};
+    ghost use Rattle.dsp_defs.specs.Grammar.{IsChain, input_flow};
+    ghost use Rattle.dsp_chain.specs.Built.{built};
     ghost use Rattle.dsp_defs.specs.declared.fault.WindowFault.{WindowFault};
     ghost use Rattle.dsp_defs.specs.Row.{Passes, place_room, blocks_of};
     ghost use Rattle.dsp_defs.specs.Unit.{frames_in};
-    ghost use Rattle.dsp_chain.specs.Chain.{ChainState, output_of, FeedsChain, FinishesChain, input_place, AreBuilt, IsNewChain};
-    ghost use Rattle.dsp_defs.specs.declared.limits.TheConstants.{MAX_BLOCK_LENGTH, MAX_SAMPLES, MAX_GATHERED};
+    ghost use Rattle.dsp_chain.specs.Chain.{ChainState, output_of, FeedsChain, FinishesChain, input_place, IsNewChain};
+    ghost use Rattle.dsp_defs.specs.declared.limits.TheConstants.{MAX_CHANNELS, MAX_GATHERED};
 
-    /// The chain of a script, for at most `block` frames a call. All memory of the chain is taken here.
+    /// The chain of a script, for a legal block length, the most frames of a call. All memory of the
+    /// chain is taken here, and it errs only where memory is wanting.
     pub fn new(alloc: Global, script: &Script, block: u64) -> Result<Chain, AllocError>
-        requires block { block ≤ MAX_BLOCK_LENGTH }
+        requires chain { IsChain (input_flow script.now.input) script.now.blocks }
         requires channels { 1 ≤ script.now.input.channels }
-        requires samples { place_room (input_place script.now block) ≤ MAX_SAMPLES }
-        requires built { AreBuilt (input_place script.now block) script.now.blocks }
+        requires few_channels { script.now.input.channels ≤ MAX_CHANNELS }
+        requires built { IsTrue (built script.now) }
+        requires legal { IsTrue (is_legal script.now.input.channels script.now.blocks block) }
         ensures { IfOk result (IsNewChain (input_place script.now block) script.now.blocks) }
     {
         let Input {
@@ -54,19 +60,22 @@ impl Chain {
             channels,
             ..
         } = script.input;
+        // Each block that is built gives as many frames as it takes.
         let capacity = block as usize;
+        let mut flow = Flow { format, channels };
         let blocks = script.blocks.as_slice();
         let mut links = Vec::with_capacity(alloc, blocks.len())?;
         for block in blocks {
-            let unit = BlockUnit::new(alloc, block, format, channels, capacity)?;
+            let unit = BlockUnit::new(alloc, block, flow.format, flow.channels, capacity)?;
             links.push(Link::new(alloc, unit)?)?;
+            flow = flow.after(block);
         }
         Ok(Chain {
             links,
             format,
             channels: usize::from(channels),
             capacity,
-            room: capacity * usize::from(channels),
+            room: capacity * usize::from(flow.channels),
             frames: 0,
             ended: false,
         })
@@ -86,6 +95,7 @@ impl Chain {
         ensures within { IfOk result (λ given. given ≤ length out.old) }
         ensures fed { IfOk result (λ given. FeedsChain self.old self.new frames.now (take given out.new) steps.old steps.new) }
         ensures full { IsErr result ↔ MAX_GATHERED < gathered (blocks_of self.old.units) (self.old.frames + length (frames_in self.old.input.channels frames.now)) }
+        ensures numbers { IfErr result (λ fault. (fault.held ≡ held (blocks_of self.old.units) self.old.frames) × (fault.held + fault.more ≡ gathered (blocks_of self.old.units) (self.old.frames + length (frames_in self.old.input.channels frames.now)))) }
     {
         self.frames += (frames.len() / self.channels) as u64;
         Ok(feed_row(self.links.as_mut_slice(), frames, out, steps))

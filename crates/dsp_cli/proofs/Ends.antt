@@ -1,25 +1,31 @@
 -- What the top call ensures, gathered in one record, and what is the same for many ways to end.
-use Rattle.std.proofs.Common.{◌≡◌, ◌⊎◌, ◌↔◌, ℕ, ◌+◌, ◌/◌, ◌^◌, ◌≤◌, ◌==◌, Bool, true, false, List, length, sym, ap, ◌∙◌, subst, arith, inl, inr, None, Some, Option, IsNone, IsSome, IfSome, IsTrue, IsFalse}
-use Rattle.std.specs.Io.KnownBytes.{IsAtEnd, append_known}
+use Rattle.std.proofs.Common.{◌≡◌, ◌⊎◌, ◌↔◌, ℕ, ◌+◌, ◌*◌, ◌/◌, ◌^◌, ◌<◌, ◌≤◌, ◌==◌, Bool, true, false, List, length, refl, sym, ap, ◌∙◌, subst, arith, inl, inr, None, Some, Option, IsNone, IsSome, IfSome, IsTrue, IsFalse}
+use Rattle.std.specs.Io.KnownBytes.{append_known}
 use Rattle.dsp_ports.specs.Ports.{SourceState, SinkState, Rose, Gave, IsSettled}
-use Rattle.dsp_defs.specs.Built.{built}
+use Rattle.dsp_chain.specs.Built.{built}
 use Rattle.dsp_defs.specs.Canon.{canon}
 use Rattle.dsp_defs.specs.Counts.{Counts}
-use Rattle.dsp_defs.specs.Output.{output, part}
+use Rattle.dsp_defs.specs.Output.{HasHeader, input_header, output, part}
 use Rattle.dsp_defs.specs.Reading.{first_fault}
-use Rattle.dsp_defs.specs.Report.{script_line, block_length_line}
+use Rattle.dsp_defs.specs.Report.{script_line, block_length_line, report_text}
 use Rattle.dsp_defs.specs.Shape.{unit}
 use Rattle.dsp_defs.specs.Streaming.{Begins}
 use Rattle.dsp_defs.specs.Words.{command_of}
 use Rattle.dsp_defs.specs.declared.command.Command.TheVariants.{Run, Print}
+use Rattle.dsp_defs.specs.declared.format.InputKind.TheVariants as kind
 use Rattle.dsp_defs.specs.declared.script.Script.{Script}
+use Rattle.dsp_session.specs.Session.{frame_bytes, cost_of}
+use Rattle.dsp_session.specs.Stream.{LagsByOne, Stopped, Done, IsTakenWhole, declared_bytes, frames_in_bytes}
+use Rattle.dsp_session.specs.declared.fault.StreamFault.{StreamFault}
+use Rattle.dsp_session.proofs.OpeningLaws.{some_frame}
+use Rattle.dsp_cli.specs.Fault.{summary_text}
 use Rattle.dsp_cli.specs.Script.{IfScript, IfFault, named_by, chosen, chosen_block, is_legal_for}
-use Rattle.dsp_cli.specs.Session.{frame_bytes, cost_of}
-use Rattle.dsp_cli.specs.Stream.{LagsByOne, Stopped}
 use Rattle.dsp_cli.specs.Perform.{Untouched, RunsScript, Ran}
-use Rattle.dsp_cli.specs.Run.{IsRun, IsPrint, IsDone, IsStopped, IsRefused, IsAnswer, IsRunnable, IsPrintable, count_taken, bytes_taken, Wrote, WroteFront, Tells, line_of_status}
-use Rattle.dsp_cli.specs.declared.streaming.StreamFault.{StreamFault}
-use Rattle.dsp_cli.proofs.Told.{IfSome-map, IfSome-always, told_whole, told_taken, told_script}
+use Rattle.dsp_cli.specs.Run.{IsRun, IsPrint, IsDone, IsBroken, IsStopped, IsRefused, IsAnswer, IsRunnable, IsPrintable, MayEndAtLimit, IfTaken, IfWhole, TookFrames, count_taken, bytes_taken, Wrote, WroteFront, WrotePart, Tells, TellsHeader, TellsLength, line_of_status}
+use Rattle.dsp_cli.specs.declared.report.Summary.{Summary}
+use Rattle.dsp_cli.proofs.CostGrows.{cost_more}
+use Rattle.dsp_cli.proofs.InputLaws.{declares_wave, frames_within, raw_frames, output_stays}
+use Rattle.dsp_cli.proofs.Told.{IfSome-map, IfSome-always, told_more, told_taken, told_script}
 
 -- one fact or another, by a test
 abbrev pub when : Bool → Type 0 → Type 0 → Type 0
@@ -34,9 +40,8 @@ module _ (words : List (List ℕ)) (source read input now : SourceState) (sink a
     pub clean_input : now.faults ≡ input.faults
     pub clean_output : after.faults ≡ sink.faults
     pub clean_report : told.faults ≡ report.faults
-    pub quiet : IsRun words → told ≡ report
     pub printed : IsPrint words → IfScript source.left (λ s. Wrote (canon s) report told)
-    pub settled : IsPrint words → IsSettled told
+    pub settled : IsSettled told
 
   pub record BadText : Type 0 where
     pub some : IfSome source.left (λ text. IsSome (first_fault text))
@@ -48,14 +53,15 @@ module _ (words : List (List ℕ)) (source read input now : SourceState) (sink a
 
   pub record BadReport : Type 0 where
     pub risen : Rose report.faults told.faults
-    pub tells : IfScript source.left (λ s. Tells (canon s) report told)
+    pub tells : IsPrint words → IfScript source.left (λ s. Tells (canon s) report told)
 
   abbrev pub Cause : ℕ → Type 0
   Cause status =
       when (status == 0) AllWell (when (status == 1) (read ≡ source) (when (status == 2) BadText (when (status == 3) BadLength
-      (when (status == 5) (now.taken ≡ input.taken + 2 ^ 40) (when (status == 6) (Rose source.faults read.faults) (when (status == 7) (Rose input.faults now.faults)
+      (when (status == 4) (TellsHeader source.left input report told) (when (status == 5) (TellsLength source.left input now sink after report told)
+      (when (status == 6) (Rose source.faults read.faults) (when (status == 7) (Rose input.faults now.faults)
       (when (status == 8) (Rose sink.faults after.faults) (when (status == 9) BadReport
-      (when (status == 12) (IfScript source.left (λ s. IsTrue (is_legal_for s (chosen_block words s)) × IsFalse (built s))) (Unit {0}))))))))))
+      (when (status == 12) (IfScript source.left (λ s. IsTrue (is_legal_for s (chosen_block words s)) × IsFalse (built s))) (Unit {0})))))))))))
 
   -- ---- where a status must come
 
@@ -68,24 +74,27 @@ module _ (words : List (List ℕ)) (source read input now : SourceState) (sink a
     pub faulty : IsSome (command_of words) → IfFault source.left (λ _. Unloaded 2 status)
     pub illegal : IsRun words → IfScript source.left (λ s. IsFalse (is_legal_for s (chosen_block words s)) → Unloaded 3 status)
     pub unbuilt : IsRun words → IfScript source.left (λ s. IsTrue (is_legal_for s (chosen_block words s)) → IsFalse (built s) → Unloaded 12 status)
-    pub runnable : IsRunnable words source input → (Rose source.faults read.faults → ⊥) → (Rose input.faults now.faults → ⊥) → (Rose sink.faults after.faults → ⊥) → (status ≡ 0) ⊎ (status ≡ 10)
+    pub runnable : IsRunnable words source input → (Rose source.faults read.faults → ⊥) → (Rose input.faults now.faults → ⊥) → (Rose sink.faults after.faults → ⊥) → (Rose report.faults told.faults → ⊥) → (status ≡ 0) ⊎ (status ≡ 10)
     pub printable : IsPrintable words source → (Rose source.faults read.faults → ⊥) → (Rose report.faults told.faults → ⊥) → (status ≡ 0) ⊎ (status ≡ 10)
 
   -- ---- what stands
 
   pub record Stands (status : ℕ) : Type 0 where
-    pub done : IsRun words → IsDone status → IfScript source.left (λ s. IfSome input.left (λ bytes. Wrote (output s bytes) sink after))
-    pub ended : IsRun words → IsDone status → IsAtEnd now.left
+    pub done : IsRun words → IsDone status → IfWhole source.left input (λ s bytes. Wrote (output s bytes) sink after)
+    pub ended : IsRun words → IsDone status → IfTaken source.left input now (λ s given. HasHeader s given × IsTakenWhole s given now)
     pub settled : IsRun words → IsDone status → IsSettled after
-    pub blocks : (status ≡ 5) ⊎ (status ≡ 7) → IfScript source.left (λ s. IfSome (bytes_taken input now) (λ bytes. Wrote (part s (chosen_block words s) bytes) sink after))
-    pub front : status ≡ 8 → IfScript source.left (λ s. IfSome (bytes_taken input now) (λ bytes.
-        WroteFront (part s (chosen_block words s) bytes) sink after ⊎ (WroteFront (output s bytes) sink after × IsAtEnd now.left)))
-    pub lag : IsRun words → IsDone status ⊎ IsStopped status → IfScript source.left (λ s. IfSome (bytes_taken input now) (λ bytes.
-        (written : List ℕ) × Wrote written sink after × LagsByOne s (chosen_block words s) bytes written))
+    pub broken : IsBroken status → IfTaken source.left input now (λ s given. WrotePart s (chosen_block words s) given sink after)
+    pub front : status ≡ 8 → IfTaken source.left input now (λ s given. HasHeader s given
+        × (WroteFront (part s (chosen_block words s) given) sink after ⊎ (WroteFront (output s given) sink after × IsTakenWhole s given now)))
+    pub lag : IsRun words → IsDone status ⊎ IsStopped status → IfTaken source.left input now (λ s given.
+        (written : List ℕ) × Wrote written sink after × (HasHeader s given → LagsByOne s (chosen_block words s) given written))
     pub untouched : IsRefused status ⊎ IsPrint words → (now ≡ input) × (after ≡ sink) × (counts ≡ before)
-    pub cost : IfScript source.left (λ s. counts.multiplies ≤ before.multiplies + cost_of s (count_taken input now / frame_bytes s))
-    pub exact : IsRun words → IsDone status → IfScript source.left (λ s. counts.multiplies ≡ before.multiplies + cost_of s (count_taken input now / frame_bytes s))
-    pub limited : now.taken ≡ input.taken + 2 ^ 40 → (status ≡ 5) ⊎ (status ≡ 8)
+    pub cost : IfTaken source.left input now (λ s given. counts.multiplies ≤ before.multiplies + cost_of s (frames_in_bytes s given))
+    pub most : IfScript source.left (λ s. counts.multiplies ≤ before.multiplies + cost_of s (count_taken input now / frame_bytes s))
+    pub exact : IsRun words → IsDone status → IfScript source.left (λ s. (frames : ℕ) × TookFrames s frames input now × (counts.multiplies ≡ before.multiplies + cost_of s frames))
+    pub reported : IsRun words → IsDone status → IfScript source.left (λ s. (frames : ℕ) × TookFrames s frames input now × Tells (report_text s frames) report told
+        × (status ≡ 0 → Wrote (report_text s frames) report told))
+    pub limited : now.taken ≡ input.taken + 2 ^ 40 → (status ≡ 5) ⊎ (status ≡ 8) ⊎ MayEndAtLimit source.left input now status
 
   pub record Ends (status : ℕ) : Type 0 where
     pub cause : Cause status
@@ -104,31 +113,39 @@ run_command words run none = let same : Some (Run run.0) ≡ None = sym run.1 �
 pub print_command : (words : List (List ℕ)) → IsPrint words → command_of words ≡ None → ⊥
 print_command words print none = let same : Some Print ≡ None = sym print ∙ none in cc
 
+not_broken : (status n : ℕ) → status ≡ n → (n ≡ 4 → ⊥) × (n ≡ 5 → ⊥) × (n ≡ 7 → ⊥) → IsBroken status → ⊥
+not_broken status n is other (inl a) = other.0 (sym is ∙ a)
+not_broken status n is other (inr (inl a)) = other.1 (sym is ∙ a)
+not_broken status n is other (inr (inr a)) = other.2 (sym is ∙ a)
+
+pub done_not_broken : (status : ℕ) → IsDone status → IsBroken status → ⊥
+done_not_broken status (inl a) broken = not_broken status 0 a (λ e. omega (arith, e), λ e. omega (arith, e), λ e. omega (arith, e)) broken
+done_not_broken status (inr a) broken = not_broken status 9 a (λ e. omega (arith, e), λ e. omega (arith, e), λ e. omega (arith, e)) broken
+
+pub eight_not_broken : (status : ℕ) → status ≡ 8 → IsBroken status → ⊥
+eight_not_broken status a broken = not_broken status 8 a (λ e. omega (arith, e), λ e. omega (arith, e), λ e. omega (arith, e)) broken
+
 pub done_not_stopped : (status : ℕ) → IsDone status → IsStopped status → ⊥
-done_not_stopped status (inl a) (inl b) = omega arith
-done_not_stopped status (inl a) (inr (inl b)) = omega arith
-done_not_stopped status (inl a) (inr (inr b)) = omega arith
-done_not_stopped status (inr a) (inl b) = omega arith
-done_not_stopped status (inr a) (inr (inl b)) = omega arith
-done_not_stopped status (inr a) (inr (inr b)) = omega arith
+done_not_stopped status done (inl broken) = done_not_broken status done broken
+done_not_stopped status (inl a) (inr b) = omega arith
+done_not_stopped status (inr a) (inr b) = omega arith
 
 -- a status that is neither 0 nor one of those in between
-pub refused_only : (status : ℕ) → IsRefused status → (status ≡ 0 → ⊥) × (status ≡ 5 → ⊥) × (status ≡ 7 → ⊥) × (status ≡ 8 → ⊥) × (status ≡ 9 → ⊥)
-refused_only status (inl a) = (λ b. omega arith, λ b. omega arith, λ b. omega arith, λ b. omega arith, λ b. omega arith)
-refused_only status (inr (inl a)) = (λ b. omega arith, λ b. omega arith, λ b. omega arith, λ b. omega arith, λ b. omega arith)
-refused_only status (inr (inr (inl a))) = (λ b. omega arith, λ b. omega arith, λ b. omega arith, λ b. omega arith, λ b. omega arith)
-refused_only status (inr (inr (inr (inl a)))) = (λ b. omega arith, λ b. omega arith, λ b. omega arith, λ b. omega arith, λ b. omega arith)
-refused_only status (inr (inr (inr (inr (inl a))))) = (λ b. omega arith, λ b. omega arith, λ b. omega arith, λ b. omega arith, λ b. omega arith)
-refused_only status (inr (inr (inr (inr (inr a))))) = (λ b. omega arith, λ b. omega arith, λ b. omega arith, λ b. omega arith, λ b. omega arith)
+pub refused_only : (status : ℕ) → IsRefused status → (status ≡ 0 → ⊥) × (status ≡ 8 → ⊥) × (status ≡ 9 → ⊥) × (IsBroken status → ⊥)
+refused_only status (inl a) = (λ b. omega arith, λ b. omega arith, λ b. omega arith, not_broken status 1 a (λ e. omega (arith, e), λ e. omega (arith, e), λ e. omega (arith, e)))
+refused_only status (inr (inl a)) = (λ b. omega arith, λ b. omega arith, λ b. omega arith, not_broken status 2 a (λ e. omega (arith, e), λ e. omega (arith, e), λ e. omega (arith, e)))
+refused_only status (inr (inr (inl a))) = (λ b. omega arith, λ b. omega arith, λ b. omega arith, not_broken status 3 a (λ e. omega (arith, e), λ e. omega (arith, e), λ e. omega (arith, e)))
+refused_only status (inr (inr (inr (inl a)))) = (λ b. omega arith, λ b. omega arith, λ b. omega arith, not_broken status 6 a (λ e. omega (arith, e), λ e. omega (arith, e), λ e. omega (arith, e)))
+refused_only status (inr (inr (inr (inr (inl a))))) = (λ b. omega arith, λ b. omega arith, λ b. omega arith, not_broken status 10 a (λ e. omega (arith, e), λ e. omega (arith, e), λ e. omega (arith, e)))
+refused_only status (inr (inr (inr (inr (inr a))))) = (λ b. omega arith, λ b. omega arith, λ b. omega arith, not_broken status 12 a (λ e. omega (arith, e), λ e. omega (arith, e), λ e. omega (arith, e)))
 
 pub refused_not_stopped : (status : ℕ) → IsRefused status → IsStopped status → ⊥
-refused_not_stopped status refused (inl a) = (refused_only status refused).1 a
-refused_not_stopped status refused (inr (inl a)) = (refused_only status refused).2 a
-refused_not_stopped status refused (inr (inr a)) = (refused_only status refused).3 a
+refused_not_stopped status refused (inl broken) = (refused_only status refused).3 broken
+refused_not_stopped status refused (inr a) = (refused_only status refused).1 a
 
 pub refused_not_done : (status : ℕ) → IsRefused status → IsDone status → ⊥
 refused_not_done status refused (inl a) = (refused_only status refused).0 a
-refused_not_done status refused (inr a) = (refused_only status refused).4 a
+refused_not_done status refused (inr a) = (refused_only status refused).2 a
 
 -- ---- what stands
 
@@ -147,12 +164,14 @@ module _ (words : List (List ℕ)) (source read input now : SourceState) (sink a
         done = λ run is. absurd (run_or_print words run (printed is));
         ended = λ run is. absurd (run_or_print words run (printed is));
         settled = λ run is. absurd (run_or_print words run (printed is));
-        blocks = λ is. elim is [ inl five ↦ absurd (going (inl five)) | inr seven ↦ absurd (going (inr (inl seven))) ];
-        front = λ is. absurd (going (inr (inr is)));
+        broken = λ is. absurd (going (inl is));
+        front = λ is. absurd (going (inr is));
         lag = λ run is. elim is [ inl done ↦ absurd (run_or_print words run (printed done)) | inr stopped ↦ absurd (going stopped) ];
         untouched = λ _. (untouched.input_same, untouched.output_same, untouched.counts_same);
-        cost = IfSome-always source.left _ (λ _ s _. omega (arith, ap multiplies_of untouched.counts_same));
+        cost = IfSome-always source.left _ (λ _ s _. IfSome-always (bytes_taken input now) _ (λ given. omega (arith, ap multiplies_of untouched.counts_same)));
+        most = IfSome-always source.left _ (λ _ s _. omega (arith, ap multiplies_of untouched.counts_same));
         exact = λ run is. absurd (run_or_print words run (printed is));
+        reported = λ run is. absurd (run_or_print words run (printed is));
         limited = λ is. absurd (omega (arith, ap taken_of untouched.input_same, is));
       }
 
@@ -166,66 +185,125 @@ module _ (words : List (List ℕ)) (source read input now : SourceState) (sink a
     for_script : (P : Script → Type 0) → P script → IfScript source.left P
     for_script P holds = told_script source read script P runs.reads holds
 
-    for_taken : (given : List ℕ) (P : List ℕ → Type 0) → Gave input now given → P given → IfSome (bytes_taken input now) P
-    for_taken given P gave holds = IfSome-map (bytes_taken input now) (λ bytes. bytes ≡ given) P (λ bytes same. subst P (sym same) holds) (told_taken input now given gave)
+    for_given : (given : List ℕ) (P : List ℕ → Type 0) → Gave input now given → P given → IfSome (bytes_taken input now) P
+    for_given given P gave holds = IfSome-map (bytes_taken input now) (λ bytes. bytes ≡ given) P (λ bytes same. subst P (sym same) holds) (told_taken input now given gave)
 
-    lags : (given written : List ℕ) → Gave input now given → Wrote written sink after → LagsByOne script (chosen named script) given written
-        → IfScript source.left (λ s. IfSome (bytes_taken input now) (λ bytes. (written : List ℕ) × Wrote written sink after × LagsByOne s (chosen_block words s) bytes written))
+    for_taken : (given : List ℕ) (P : Script → List ℕ → Type 0) → Gave input now given → P script given → IfTaken source.left input now P
+    for_taken given P gave holds = for_script (λ s. IfSome (bytes_taken input now) (P s)) (for_given given (P script) gave holds)
+
+    abbrev Lags : Script → List ℕ → Type 0
+    Lags s given = (written : List ℕ) × Wrote written sink after × (HasHeader s given → LagsByOne s (chosen_block words s) given written)
+
+    lags : (given written : List ℕ) → Gave input now given → Wrote written sink after → (HasHeader script given → LagsByOne script (chosen named script) given written) → IfTaken source.left input now Lags
     lags given written gave wrote lag =
-        for_script (λ s. IfSome (bytes_taken input now) (λ bytes. (written : List ℕ) × Wrote written sink after × LagsByOne s (chosen_block words s) bytes written))
-        (for_taken given (λ bytes. (written : List ℕ) × Wrote written sink after × LagsByOne script (chosen_block words script) bytes written) gave
-        (written, wrote, subst (λ block. LagsByOne script block given written) (sym chosen_is) lag))
+        for_taken given Lags gave (written, wrote, λ has. subst (λ block. LagsByOne script block given written) (sym chosen_is) (lag has))
+
+    count_is : (given : List ℕ) → Gave input now given → count_taken input now ≡ length given
+    count_is given gave = omega (arith, gave.count)
+
+    -- the cost for the frames in the bytes taken is at most that for as many bytes
+    within_most : (given : List ℕ) → Gave input now given → counts.multiplies ≤ before.multiplies + cost_of script (frames_in_bytes script given)
+        → counts.multiplies ≤ before.multiplies + cost_of script (count_taken input now / frame_bytes script)
+    within_most given gave within =
+        let more = cost_more script.input.format script.input.channels script.blocks (frames_in_bytes script given) (length given / frame_bytes script) (frames_within script given) in
+        subst (λ n. counts.multiplies ≤ before.multiplies + cost_of script (n / frame_bytes script)) (sym (count_is given gave)) (omega (arith, within, more))
+
+    took_frames : (given : List ℕ) (frames : ℕ) → Gave input now given → frames ≡ frames_in_bytes script given → TookFrames script frames input now
+    took_frames given frames gave is =
+        let same = count_is given gave in
+        record {
+          told = for_given given (λ given. frames ≡ frames_in_bytes script given) gave is;
+          most = subst (λ n. frames ≤ n / frame_bytes script) (sym same) (omega (arith, is, frames_within script given));
+          raw = elim (raw_frames script given) [ inl wave ↦ inl wave | inr raw ↦ inr (is ∙ raw ∙ ap (λ n. n / frame_bytes script) (sym same)) ];
+        }
 
     -- the run went over the whole input
-    pub stands_ran : (frames : ℕ) → Ran named script frames input now sink after before counts → status ≡ 0 → Stands words source read input now sink after report told before counts status
-    stands_ran frames ran zero_is =
-        let done = ran.done in
-        let taken : count_taken input now ≡ length done.given = omega (arith, done.gave.count) in
-        let exact : counts.multiplies ≡ before.multiplies + cost_of script (count_taken input now / frame_bytes script) =
-        done.cost ∙ ap (λ n. before.multiplies + cost_of script (n / frame_bytes script)) (sym taken) in
-        let stopped : IsStopped status → ⊥ = done_not_stopped status (inl zero_is) in
-        let refused : IsRefused status → ⊥ = λ is. refused_not_done status is (inl zero_is) in
-        record {
-          done = λ _ _. for_script _ (IfSome-map input.left (λ bytes. bytes ≡ done.given) (λ bytes. Wrote (output script bytes) sink after)
-              (λ bytes same. subst (λ bytes. Wrote (output script bytes) sink after) (sym same) done.put)
-              (told_whole input.left now.left done.given done.gave.front done.ended));
-          ended = λ _ _. done.ended;
-          settled = λ _ _. done.settled;
-          blocks = λ is. elim is [ inl five ↦ absurd (stopped (inl five)) | inr seven ↦ absurd (stopped (inr (inl seven))) ];
-          front = λ is. absurd (stopped (inr (inr is)));
-          lag = λ _ _. lags done.given (output script done.given) done.gave done.put done.lag;
-          untouched = λ is. elim is [ inl refuses ↦ absurd (refused refuses) | inr print ↦ absurd (run_or_print words is_run print) ];
-          cost = for_script _ (omega (arith, exact));
-          exact = λ _ _. for_script _ exact;
-          limited = λ is. absurd (omega (arith, is, done.gave.count, done.in_limit));
-        }
+    module _ (summary : Summary) (ran : Ran named script summary input now sink after before counts) (is_done : IsDone status)
+        (tells : Tells (summary_text summary) report told) (wrote : status ≡ 0 → Wrote (summary_text summary) report told) where
+      done : Done script (chosen named script) summary.totals.frames_taken input now sink after before.multiplies counts.multiplies
+      done = ran.done
+
+      given : List ℕ
+      given = done.given
+
+      frames : TookFrames script summary.totals.frames_taken input now
+      frames = took_frames done.given summary.totals.frames_taken done.gave done.frame_count
+
+      exact_count : counts.multiplies ≡ before.multiplies + cost_of script (frames_in_bytes script done.given)
+      exact_count = done.cost ∙ ap (λ n. before.multiplies + cost_of script n) done.frame_count
+
+      some : 0 < frame_bytes script
+      some = some_frame script (chosen named script) (record { sound = (runs.reads.text, runs.reads.reads); is_built = ran.is_built; legal = ran.legal })
+
+      at_limit : length done.given ≡ 2 ^ 40 → (size : ℕ) × ((input_header script done.given).size ≡ Some size)
+      at_limit all = by (input_header script done.given).size refl
+        where
+          by : (size : Option ℕ) → (input_header script done.given).size ≡ size → (n : ℕ) × ((input_header script done.given).size ≡ Some n)
+          by None is = absurd (omega (arith, all, done.room_left is))
+          by (Some n) is = (n, is)
+
+      is_declared : (header_size : Option ℕ) (n f : ℕ) → header_size ≡ Some n → IsSome (elim header_size [ Some size ↦ Some (size / f * f) | None ↦ None ])
+      is_declared header_size n f is = subst (λ (size : Option ℕ). IsSome (elim size [ Some size ↦ Some (size / f * f) | None ↦ None ])) (sym is) refl
+
+      pub stands_ran : Stands words source read input now sink after report told before counts status
+      stands_ran =
+          let stopped : IsStopped status → ⊥ = done_not_stopped status is_done in
+          let refused : IsRefused status → ⊥ = λ is. refused_not_done status is is_done in
+          record {
+            done = λ _ _. for_script (λ s. IfSome input.left (λ bytes. Wrote (output s bytes) sink after))
+                (told_more input.left now.left done.given (λ bytes. Wrote (output script bytes) sink after) done.gave.front
+                (λ more left. done.put ∙ ap (append_known sink.put) (sym (output_stays script done.given more done.has some now left done.whole))));
+            ended = λ _ _. for_taken done.given (λ s given. HasHeader s given × IsTakenWhole s given now) done.gave (done.has, done.whole);
+            settled = λ _ _. done.settled;
+            broken = λ is. absurd (stopped (inl is));
+            front = λ is. absurd (stopped (inr is));
+            lag = λ _ _. lags done.given (output script done.given) done.gave done.put (λ _. done.lag);
+            untouched = λ is. elim is [ inl refuses ↦ absurd (refused refuses) | inr print ↦ absurd (run_or_print words is_run print) ];
+            cost = for_taken done.given (λ s given. counts.multiplies ≤ before.multiplies + cost_of s (frames_in_bytes s given)) done.gave (omega (arith, exact_count));
+            most = for_script (λ s. counts.multiplies ≤ before.multiplies + cost_of s (count_taken input now / frame_bytes s)) (within_most done.given done.gave (omega (arith, exact_count)));
+            exact = λ _ _. for_script (λ s. (frames : ℕ) × TookFrames s frames input now × (counts.multiplies ≡ before.multiplies + cost_of s frames)) (summary.totals.frames_taken, frames, done.cost);
+            reported = λ _ _. for_script (λ s. (frames : ℕ) × TookFrames s frames input now × Tells (report_text s frames) report told × (status ≡ 0 → Wrote (report_text s frames) report told))
+                (summary.totals.frames_taken, frames, subst (λ text. Tells text report told) ran.text tells, λ zero_is. subst (λ text. Wrote text report told) ran.text (wrote zero_is));
+            limited = λ all.
+                let (size, declared) = at_limit (omega (arith, all, done.gave.count)) in
+                inr (inr (
+                  inr is_done,
+                  for_script (λ s. (s.input.kind ≡ kind.Wave) × (IsDone status → IfSome (bytes_taken input now) (λ given. IsSome (declared_bytes s (input_header s given))))) (
+                    declares_wave script done.given size declared,
+                    λ _. for_given done.given (λ given. IsSome (declared_bytes script (input_header script given))) done.gave
+                        (is_declared (input_header script done.given).size size (frame_bytes script) declared),
+                  ),
+                ));
+          }
 
     -- the stream stopped
     pub stands_stopped : (fault : StreamFault) → (stopped : Stopped script (chosen named script) fault input now sink after before.multiplies counts.multiplies) → IsStopped status
-        → ((status ≡ 5) ⊎ (status ≡ 7) → stopped.written ≡ part script (chosen named script) stopped.given)
-        → (status ≡ 8 → Begins stopped.written (part script (chosen named script) stopped.given) ⊎ (Begins stopped.written (output script stopped.given) × IsAtEnd now.left))
-        → (length stopped.given ≡ 2 ^ 40 → (status ≡ 5) ⊎ (status ≡ 8))
+        → (IsBroken status → WrotePart script (chosen named script) stopped.given sink after)
+        → (status ≡ 8 → HasHeader script stopped.given × (Begins stopped.written (part script (chosen named script) stopped.given) ⊎ (Begins stopped.written (output script stopped.given) × IsTakenWhole script stopped.given now)))
+        → (length stopped.given ≡ 2 ^ 40 → (status ≡ 5) ⊎ (status ≡ 8) ⊎ MayEndAtLimit source.left input now status)
         → Stands words source read input now sink after report told before counts status
     stands_stopped fault stopped is parts fronts limits =
         let given = stopped.given in
-        let block = chosen named script in
-        let taken : count_taken input now ≡ length given = omega (arith, stopped.gave.count) in
         let done : IsDone status → ⊥ = λ done. done_not_stopped status done is in
         record {
           done = λ _ ends. absurd (done ends);
           ended = λ _ ends. absurd (done ends);
           settled = λ _ ends. absurd (done ends);
-          blocks = λ five_seven. for_script _ (for_taken given (λ bytes. Wrote (part script (chosen_block words script) bytes) sink after) stopped.gave
-              (stopped.put ∙ ap (append_known sink.put) (parts five_seven ∙ ap (λ block. part script block given) (sym chosen_is))));
-          front = λ eight. for_script _ (for_taken given
-              (λ bytes. WroteFront (part script (chosen_block words script) bytes) sink after ⊎ (WroteFront (output script bytes) sink after × IsAtEnd now.left)) stopped.gave
-              (elim (fronts eight) [
-                | inl front ↦ inl (stopped.written, stopped.put, subst (λ block. Begins stopped.written (part script block given)) (sym chosen_is) front)
-                | inr front ↦ inr ((stopped.written, stopped.put, front.0), front.1)
-              ]));
+          broken = λ broken. for_taken given (λ s given. WrotePart s (chosen_block words s) given sink after) stopped.gave
+              (subst (λ block. WrotePart script block given sink after) (sym chosen_is) (parts broken));
+          front = λ eight. for_taken given
+              (λ s given. HasHeader s given × (WroteFront (part s (chosen_block words s) given) sink after ⊎ (WroteFront (output s given) sink after × IsTakenWhole s given now))) stopped.gave (
+                (fronts eight).0,
+                elim (fronts eight).1 [
+                  | inl front ↦ inl (stopped.written, stopped.put, subst (λ block. Begins stopped.written (part script block given)) (sym chosen_is) front)
+                  | inr front ↦ inr ((stopped.written, stopped.put, front.0), front.1)
+                ],
+              );
           lag = λ _ _. lags given stopped.written stopped.gave stopped.put stopped.lag;
           untouched = λ refuses. elim refuses [ inl refused ↦ absurd (refused_not_stopped status refused is) | inr print ↦ absurd (run_or_print words is_run print) ];
-          cost = for_script _ (subst (λ n. counts.multiplies ≤ before.multiplies + cost_of script (n / frame_bytes script)) (sym taken) stopped.cost);
+          cost = for_taken given (λ s given. counts.multiplies ≤ before.multiplies + cost_of s (frames_in_bytes s given)) stopped.gave stopped.cost;
+          most = for_script (λ s. counts.multiplies ≤ before.multiplies + cost_of s (count_taken input now / frame_bytes s)) (within_most given stopped.gave stopped.cost);
           exact = λ _ ends. absurd (done ends);
+          reported = λ _ ends. absurd (done ends);
           limited = λ all. limits (omega (arith, all, stopped.gave.count));
         }

@@ -1,7 +1,6 @@
-pub mod BuiltLaws
-pub mod SessionLaws
-pub mod SignalLaws
-pub mod StreamLaws
+pub mod CostGrows
+pub mod InputLaws
+pub mod EarlyEnds
 pub mod Told
 pub mod Ends
 pub mod RunLaws

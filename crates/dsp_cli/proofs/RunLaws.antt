@@ -1,34 +1,48 @@
 -- Each way in which the top call may end.
-use Rattle.std.proofs.Common.{◌≡◌, ◌⊎◌, ◌↔◌, ℕ, ◌^◌, List, refl, sym, ap, ◌∙◌, subst, arith, inl, inr, None, Some, Option, IsNone, IsSome, IfOk, IfErr, IsTrue, IsFalse, Bool, true, false, Result, Ok, Err}
-use Rattle.dsp_ports.specs.Ports.{SourceState, SinkState, Rose, IsSettled}
-use Rattle.dsp_defs.specs.Built.{built}
+use Rattle.std.proofs.Common.{◌≡◌, ◌⊎◌, ◌↔◌, ℕ, ◌^◌, ◌≤◌, List, ◌++◌, length, refl, sym, ap, ◌∙◌, subst, arith, inl, inr, None, Some, Option, IsNone, IsSome, IfSome, IfOk, IfErr, IsTrue, IsFalse, Bool, true, false, Result, Ok, Err}
+use Rattle.std.specs.Io.KnownBytes.{append_known}
+use Rattle.dsp_ports.specs.Ports.{SourceState, SinkState, Rose, Gave, IsSettled}
+use Rattle.dsp_chain.specs.Built.{built}
 use Rattle.dsp_defs.specs.Canon.{canon}
 use Rattle.dsp_defs.specs.Counts.{Counts}
-use Rattle.dsp_defs.specs.Report.{block_length_line, input_limit_line}
-use Rattle.dsp_defs.specs.Shape.{unit}
+use Rattle.dsp_defs.specs.Output.{HasHeader, input_header, known_frames, format_of, channels_of}
+use Rattle.dsp_defs.specs.Report.{block_length_line, input_limit_line, riff_line}
+use Rattle.dsp_defs.specs.Shape.{unit, gathered, window_at}
+use Rattle.dsp_defs.specs.Wave.{HeaderFits}
 use Rattle.dsp_defs.specs.Words.{command_of}
 use Rattle.dsp_defs.specs.declared.command.Command.{Command}
 use Rattle.dsp_defs.specs.declared.command.Command.TheVariants.{Run, Print}
+use Rattle.dsp_defs.specs.declared.format.Container.TheVariants as container
+use Rattle.dsp_defs.specs.declared.format.InputKind.TheVariants as kind
+use Rattle.dsp_defs.specs.declared.limits.TheConstants.{MAX_GATHERED}
 use Rattle.dsp_defs.specs.declared.script.Script.{Script}
 use Rattle.dsp_defs.specs.declared.script_fault.ScriptFault.{ScriptFault}
-use Rattle.dsp_cli.specs.Fault.{status_of, fault_line}
+use Rattle.dsp_defs.specs.declared.wave.HeaderFault.{HeaderFault}
+use Rattle.dsp_session.specs.Stream.{WrotePart as StreamWrote, Nothing, Part, IsTakenWhole, declared_bytes, frames_in_bytes}
+use Rattle.dsp_session.specs.declared.fault.LengthFault.{LengthFault}
+use Rattle.dsp_session.specs.declared.fault.LengthFault.TheVariants as length_fault
+use Rattle.dsp_session.specs.declared.fault.StreamFault.TheVariants.{Header, Input, Output, Lengths}
+use Rattle.dsp_session.proofs.OpeningLaws.{some_frame}
+use Rattle.dsp_cli.specs.Fault.{status_of, fault_line, summary_text}
 use Rattle.dsp_cli.specs.Script.{IfScript, named_by, chosen, chosen_block, is_legal_for}
-use Rattle.dsp_cli.specs.Perform.{Untouched, RunsScript, Ran, MadeText, Performed, HasFault, FailsToLoad, StopsAtLength, StopsAtForm, StopsInStream, StopsAtWords, StopsAtRun, StopsBy, HasStatus}
-use Rattle.dsp_cli.specs.Run.{IsRun, IsDone, IsRefused, IsAnswer, IsRunnable, IsPrintable, Wrote, Tells}
+use Rattle.dsp_cli.specs.Perform.{Untouched, RunsScript, Ran, MadeText, Performed, HasFault, FailsToLoad, StopsAtLength, StopsAtForm, StopsInStream, StopsAtWords, StopsAtRun, StopsBy, ReportsText, HasStatus}
+use Rattle.dsp_cli.specs.Run.{IsRun, IsDone, IsRefused, IsAnswer, IsRunnable, IsPrintable, InLimit, IfTaken, IfWhole, IsTooLong, IsOverfull, input_fault, Wrote, WrotePart, Tells, TellsLength, Taken, Gather, Window, Riff, bytes_taken}
 use Rattle.dsp_cli.specs.declared.fault.Fault.{Fault}
 use Rattle.dsp_cli.specs.declared.fault.Fault.TheVariants.{Usage, ScriptRead, Script as BadScript, BlockLength, NotBuilt, Memory, Stream}
-use Rattle.dsp_cli.specs.declared.streaming.LengthFault.TheVariants as length_fault
-use Rattle.dsp_cli.specs.declared.streaming.StreamFault.TheVariants.{Input, Output, Lengths}
+use Rattle.dsp_cli.specs.declared.report.Summary.{Summary}
 use Rattle.dsp_cli.specs.declared.top.Outcome.{Outcome}
 use Rattle.dsp_cli.specs.declared.top.Outcome.TheVariants as outcome
-use Rattle.dsp_cli.proofs.Told.{IfSome-always, told_length, told_script, told_sound, told_some, told_fault, told_faulty, use_script}
-use Rattle.dsp_cli.proofs.Ends.{Comes, Stands, Ends, done_not_stopped, refused_not_done, refused_not_stopped, run_or_print, run_command, print_command, stands_untouched, stands_ran, stands_stopped}
+use Rattle.dsp_cli.proofs.CostGrows.{gathered_more}
+use Rattle.dsp_cli.proofs.EarlyEnds.{header_wave, header_cause, header_part}
+use Rattle.dsp_cli.proofs.InputLaws.{header_stays, frames_stay, signal_stays, some_not_none, past_limit}
+use Rattle.dsp_cli.proofs.Told.{IfSome-map, IfSome-always, told_more, told_taken, told_script, told_sound, told_some, told_fault, told_faulty, use_script}
+use Rattle.dsp_cli.proofs.Ends.{Comes, Stands, Ends, done_not_broken, done_not_stopped, eight_not_broken, refused_not_done, refused_not_stopped, run_or_print, run_command, print_command, stands_untouched, stands_ran, stands_stopped}
 
 -- ---- commands and their answers
 
-some_not_none : (command : Option Command) → IsSome command → command ≡ None → ⊥
-some_not_none None some none = cc
-some_not_none (Some command) some none = cc
+command_not_none : (command : Option Command) → IsSome command → command ≡ None → ⊥
+command_not_none None some none = cc
+command_not_none (Some command) some none = cc
 
 some_run : (words : List (List ℕ)) → IsRun words → IsSome (command_of words)
 some_run words run = subst IsSome (sym run.1) refl
@@ -45,6 +59,12 @@ faults_of state = state.faults
 
 abbrev source_faults : SourceState → ℕ
 source_faults state = state.faults
+
+-- something stands in the way of a run over these bytes
+abbrev IsBlocked : Script → List ℕ → Type 0
+IsBlocked s bytes =
+    InLimit s bytes → window_at s.blocks (frames_in_bytes s bytes) ≡ None → gathered s.blocks (frames_in_bytes s bytes) ≤ MAX_GATHERED
+    → (s.output ≡ container.Wave → HeaderFits (format_of s) (channels_of s) (known_frames s (input_header s bytes))) → ⊥
 
 -- a status that both commands may end with
 either_answers : (command : Option Command) (status : ℕ) → IsSome command → (status ≡ 2) ⊎ (status ≡ 6) ⊎ (status ≡ 10) → IsAnswer command status
@@ -65,7 +85,7 @@ module _ (words : List (List ℕ)) (source read input now : SourceState) (sink a
   End status = Ends words source read input now sink after report told before counts status
 
   abbrev Runnable : ℕ → Type 0
-  Runnable status = IsRunnable words source input → (Rose source.faults read.faults → ⊥) → (Rose input.faults now.faults → ⊥) → (Rose sink.faults after.faults → ⊥) → (status ≡ 0) ⊎ (status ≡ 10)
+  Runnable status = IsRunnable words source input → (Rose source.faults read.faults → ⊥) → (Rose input.faults now.faults → ⊥) → (Rose sink.faults after.faults → ⊥) → (Rose report.faults told.faults → ⊥) → (status ≡ 0) ⊎ (status ≡ 10)
 
   abbrev Printable : ℕ → Type 0
   Printable status = IsPrintable words source → (Rose source.faults read.faults → ⊥) → (Rose report.faults told.faults → ⊥) → (status ≡ 0) ⊎ (status ≡ 10)
@@ -77,10 +97,10 @@ module _ (words : List (List ℕ)) (source read input now : SourceState) (sink a
       record {
         answer = subst (λ command. IsAnswer command 1) (sym none) refl;
         usage = (λ _. subst IsNone (sym none) refl, λ _. refl);
-        faulty = λ some. absurd (some_not_none (command_of words) some none);
+        faulty = λ some. absurd (command_not_none (command_of words) some none);
         illegal = λ run. absurd (run_command words run none);
         unbuilt = λ run. absurd (run_command words run none);
-        runnable = λ sound _ _ _. absurd (run_command words sound.run none);
+        runnable = λ sound _ _ _ _. absurd (run_command words sound.run none);
         printable = λ sound _ _. absurd (print_command words sound.print none);
       }
 
@@ -113,7 +133,7 @@ module _ (words : List (List ℕ)) (source read input now : SourceState) (sink a
       record {
         cause = risen;
         tells = tells;
-        comes = comes_unread 6 (inl refl) (λ is. omega arith) some (λ _ kept _ _. absurd (kept risen)) (λ _ kept _. absurd (kept risen));
+        comes = comes_unread 6 (inl refl) (λ is. omega arith) some (λ _ kept _ _ _. absurd (kept risen)) (λ _ kept _. absurd (kept risen));
         stands = stands_refused 6 (inr (inr (inr (inl refl)))) untouched;
       }
 
@@ -122,7 +142,7 @@ module _ (words : List (List ℕ)) (source read input now : SourceState) (sink a
       record {
         cause = tt;
         tells = tells;
-        comes = comes_unread 10 (inr refl) (λ is. omega arith) some (λ _ _ _ _. inr refl) (λ _ _ _. inr refl);
+        comes = comes_unread 10 (inr refl) (λ is. omega arith) some (λ _ _ _ _ _. inr refl) (λ _ _ _. inr refl);
         stands = stands_refused 10 (inr (inr (inr (inr (inl refl))))) untouched;
       }
 
@@ -137,7 +157,7 @@ module _ (words : List (List ℕ)) (source read input now : SourceState) (sink a
           faulty = λ _. IfSome-always source.left _ (λ _ _ _. inl refl);
           illegal = λ _. told_faulty source read fault _ has;
           unbuilt = λ _. told_faulty source read fault _ has;
-          runnable = λ sound _ _ _. absurd (use_script source.left sound.text sound.script (λ _. ⊥) sound.told_text sound.reads (told_faulty source read fault (λ _. ⊥) has));
+          runnable = λ sound _ _ _ _. absurd (use_script source.left sound.text sound.script (λ _. ⊥) sound.told_text sound.reads (told_faulty source read fault (λ _. ⊥) has));
           printable = λ sound _ _. absurd (use_script source.left sound.text sound.script (λ _. ⊥) sound.told_text sound.reads (told_faulty source read fault (λ _. ⊥) has));
         };
         stands = stands_refused 2 (inr (inl refl)) untouched;
@@ -161,6 +181,16 @@ module _ (words : List (List ℕ)) (source read input now : SourceState) (sink a
     no_print : (status : ℕ) → Printable status
     no_print status sound _ _ = absurd (run_or_print words is_run sound.print)
 
+    for_taken : (given : List ℕ) (P : Script → List ℕ → Type 0) → Gave input now given → P script given → IfTaken source.left input now P
+    for_taken given P gave holds =
+        for_script (λ s. IfSome (bytes_taken input now) (P s))
+        (IfSome-map (bytes_taken input now) (λ bytes. bytes ≡ given) (P script) (λ bytes same. subst (P script) (sym same) holds) (told_taken input now given gave))
+
+    -- what the stream says that it wrote
+    part_of : (block : ℕ) (given written : List ℕ) → after.put ≡ append_known sink.put written → StreamWrote script block given written sink after → WrotePart script block given sink after
+    part_of block given written put (Nothing none same) = inr (inl none, same)
+    part_of block given written put (Part has is kept) = inl (has, put ∙ ap (append_known sink.put) is)
+
     ends_length : (block divisor : ℕ) → StopsAtLength block divisor named script → Untouched input now sink after before counts → Tells (fault_line (BlockLength block divisor)) report told → End 3
     ends_length block divisor stops untouched tells =
         let illegal : IsFalse (is_legal_for script (chosen_block words script)) = subst (λ n. IsFalse (is_legal_for script n)) (sym chosen_is) stops.illegal in
@@ -179,7 +209,7 @@ module _ (words : List (List ℕ)) (source read input now : SourceState) (sink a
             faulty = λ _. told_sound source read script _ runs.reads;
             illegal = λ _. IfSome-always source.left _ (λ _ _ _ _. inl refl);
             unbuilt = λ _. for_script _ (λ legal _. absurd (legal_not legal illegal));
-            runnable = λ sound _ _ _. absurd (legal_not sound.legal (use_script source.left sound.text sound.script _ sound.told_text sound.reads told_illegal));
+            runnable = λ sound _ _ _ _. absurd (legal_not sound.legal (use_script source.left sound.text sound.script _ sound.told_text sound.reads told_illegal));
             printable = no_print 3;
           };
           stands = stands_refused 3 (inr (inr (inl refl))) untouched;
@@ -198,7 +228,7 @@ module _ (words : List (List ℕ)) (source read input now : SourceState) (sink a
             faulty = λ _. told_sound source read script _ runs.reads;
             illegal = λ _. for_script _ (λ illegal. absurd (legal_not legal illegal));
             unbuilt = λ _. IfSome-always source.left _ (λ _ _ _ _ _. inl refl);
-            runnable = λ sound _ _ _. absurd (legal_not sound.is_built (use_script source.left sound.text sound.script _ sound.told_text sound.reads told_form).1);
+            runnable = λ sound _ _ _ _. absurd (legal_not sound.is_built (use_script source.left sound.text sound.script _ sound.told_text sound.reads told_form).1);
             printable = no_print 12;
           };
           stands = stands_refused 12 (inr (inr (inr (inr (inr refl))))) untouched;
@@ -220,13 +250,14 @@ module _ (words : List (List ℕ)) (source read input now : SourceState) (sink a
 
     ends_input : StopsInStream Input named script input now sink after before counts → Tells (fault_line (Stream Input)) report told → End 7
     ends_input stream tells =
-        let stops = stream.stopped.stops in
+        let stopped = stream.stopped in
+        let stops = stopped.stops in
         record {
           cause = stops.risen;
           tells = tells;
-          comes = comes_begun 7 stream.legal stream.is_built (λ is. omega arith) (inr (inl (inr (inl refl)))) (λ _ _ kept _. absurd (kept stops.risen));
-          stands = stands_stopped words source read input now sink after report told before counts 7 named script runs Input stream.stopped (inr (inl refl))
-              (λ _. stops.wrote) (λ is. absurd (omega arith)) (λ all. absurd (omega (arith, all, stops.in_limit)));
+          comes = comes_begun 7 stream.legal stream.is_built (λ is. omega arith) (inr (inl (inl (inr (inr refl))))) (λ _ _ kept _ _. absurd (kept stops.risen));
+          stands = stands_stopped words source read input now sink after report told before counts 7 named script runs Input stopped (inl (inr (inr refl)))
+              (λ _. part_of (chosen named script) stopped.given stopped.written stopped.put stops.wrote) (λ is. absurd (omega arith)) (λ all. absurd (omega (arith, all, stops.in_limit)));
         }
 
     ends_output : StopsInStream Output named script input now sink after before counts → Tells (fault_line (Stream Output)) report told → End 8
@@ -235,40 +266,148 @@ module _ (words : List (List ℕ)) (source read input now : SourceState) (sink a
         record {
           cause = stops.risen;
           tells = tells;
-          comes = comes_begun 8 stream.legal stream.is_built (λ is. omega arith) (inr (inl (inr (inr refl)))) (λ _ _ _ kept. absurd (kept stops.risen));
-          stands = stands_stopped words source read input now sink after report told before counts 8 named script runs Output stream.stopped (inr (inr refl))
-              (λ is. elim is [ inl five ↦ absurd (omega arith) | inr seven ↦ absurd (omega arith) ]) (λ _. stops.wrote) (λ _. inr refl);
+          comes = comes_begun 8 stream.legal stream.is_built (λ is. omega arith) (inr (inl (inr refl))) (λ _ _ _ kept _. absurd (kept stops.risen));
+          stands = stands_stopped words source read input now sink after report told before counts 8 named script runs Output stream.stopped (inr refl)
+              (λ broken. absurd (eight_not_broken 8 refl broken)) (λ _. (stops.has, stops.wrote)) (λ _. inr (inl refl));
+        }
+
+    -- ---- a fault of the input's header, or its end before all declared frames
+
+    ends_header : (fault : HeaderFault) (offset : ℕ) → StopsInStream (Header fault offset) named script input now sink after before counts → Tells (fault_line (Stream (Header fault offset))) report told → End 4
+    ends_header fault offset stream tells =
+        let stopped = stream.stopped in
+        let wave = header_wave script (chosen named script) fault offset stopped.given stopped.written input now sink after stopped.stops in
+        let cause : IfScript source.left (λ s. (s.input.kind ≡ kind.Wave) × IfSome input.left (λ bytes. input_fault s bytes ≡ Some (fault, offset))) =
+        for_script (λ s. (s.input.kind ≡ kind.Wave) × IfSome input.left (λ bytes. input_fault s bytes ≡ Some (fault, offset)))
+        (wave, told_more input.left now.left stopped.given (λ bytes. input_fault script bytes ≡ Some (fault, offset)) stopped.gave.front (λ more left. header_cause script (chosen named script) fault offset stopped.given stopped.written input now sink after more left stopped.stops)) in
+        record {
+          cause = record { fault = fault; offset = offset; cause = cause; line = tells };
+          tells = tt;
+          comes = comes_begun 4 stream.legal stream.is_built (λ is. omega arith) (inr (inl (inl (inl refl))))
+              (λ sound _ _ _ _. absurd (some_not_none (input_fault sound.script sound.bytes) (fault, offset)
+              (subst (λ left. IfSome left (λ bytes. input_fault sound.script bytes ≡ Some (fault, offset))) sound.told_bytes
+              (use_script source.left sound.text sound.script (λ s. (s.input.kind ≡ kind.Wave) × IfSome input.left (λ bytes. input_fault s bytes ≡ Some (fault, offset))) sound.told_text sound.reads cause).1)
+              sound.good));
+          stands = stands_stopped words source read input now sink after report told before counts 4 named script runs (Header fault offset) stopped (inl (inl refl))
+              (λ _. header_part script (chosen named script) fault offset stopped.given stopped.written input now sink after stopped.put stopped.stops) (λ is. absurd (omega arith))
+              (λ all. inr (inr (
+                inl refl,
+                for_script (λ s. (s.input.kind ≡ kind.Wave) × (IsDone 4 → IfSome (bytes_taken input now) (λ given. IsSome (declared_bytes s (input_header s given)))))
+                    (wave, λ done. absurd (done_not_broken 4 done (inl refl))),
+              )));
+        }
+
+    -- ---- a length past its limit
+
+    -- where such bytes were taken, an input that begins with them isn't one that nothing stands in the way of
+    blocks : (given : List ℕ) → Gave input now given → ((more : List ℕ) → now.left ≡ Some more → IsBlocked script (given ++ more)) → IsRunnable words source input → ⊥
+    blocks given gave blocked sound =
+        let told : IfWhole source.left input IsBlocked = for_script (λ s. IfSome input.left (IsBlocked s)) (told_more input.left now.left given (IsBlocked script) gave.front blocked) in
+        let here : IsBlocked sound.script sound.bytes =
+        subst (λ left. IfSome left (IsBlocked sound.script)) sound.told_bytes (use_script source.left sound.text sound.script (λ s. IfSome input.left (IsBlocked s)) sound.told_text sound.reads told) in
+        here sound.in_limit sound.no_window sound.not_full sound.fits
+
+    ends_length_fault : (fault : LengthFault) (stream : StopsInStream (Lengths fault) named script input now sink after before counts) → TellsLength source.left input now sink after report told
+        → WrotePart script (chosen named script) stream.stopped.given sink after → (IsRunnable words source input → ⊥) → End 5
+    ends_length_fault fault stream cause wrote blocked =
+        record {
+          cause = cause;
+          tells = tt;
+          comes = comes_begun 5 stream.legal stream.is_built (λ is. omega arith) (inr (inl (inl (inr (inl refl))))) (λ sound _ _ _ _. absurd (blocked sound));
+          stands = stands_stopped words source read input now sink after report told before counts 5 named script runs (Lengths fault) stream.stopped (inl (inr (inl refl)))
+              (λ _. wrote) (λ is. absurd (omega arith)) (λ _. inl refl);
         }
 
     ends_limit : (taken most : ℕ) → StopsInStream (Lengths (length_fault.Input taken most)) named script input now sink after before counts → Tells (fault_line (Stream (Lengths (length_fault.Input taken most)))) report told → End 5
     ends_limit taken most stream tells =
         let stopped = stream.stopped in
         let stops = stopped.stops in
-        record {
-          cause = omega (arith, stopped.gave.count, stops.all);
-          tells = subst (λ n. Tells (input_limit_line n (2 ^ 40)) report told) stops.at_limit (subst (λ n. Tells (input_limit_line taken n) report told) stops.limit tells);
-          comes = comes_begun 5 stream.legal stream.is_built (λ is. omega arith) (inr (inl (inl refl)))
-              (λ sound _ _ _. absurd (omega (arith, sound.short, stops.all, told_length input.left now.left stopped.given sound.bytes stopped.gave.front sound.told_bytes)));
-          stands = stands_stopped words source read input now sink after report told before counts 5 named script runs (Lengths (length_fault.Input taken most)) stopped (inl refl)
-              (λ _. stops.wrote) (λ is. absurd (omega arith)) (λ _. inl refl);
-        }
+        ends_length_fault (length_fault.Input taken most) stream
+        (Taken (omega (arith, stopped.gave.count, stops.all))
+        (subst (λ n. Tells (input_limit_line n (2 ^ 40)) report told) stops.at_limit (subst (λ n. Tells (input_limit_line taken n) report told) stops.limit tells)))
+        (part_of (chosen named script) stopped.given stopped.written stopped.put stops.wrote)
+        (blocks stopped.given stopped.gave (λ more left limit _ _ _. past_limit script stopped.given more stops.all stops.wanted limit))
 
-    ends_ran : (frames : ℕ) → Ran named script frames input now sink after before counts → told ≡ report → End 0
-    ends_ran frames ran quiet =
-        record {
-          cause = record {
-            clean_script = runs.reads.read.no_fault;
-            clean_input = ran.done.no_input_fault;
-            clean_output = ran.done.no_output_fault;
-            clean_report = ap faults_of quiet;
-            quiet = λ _. quiet;
-            printed = λ print. absurd (run_or_print words is_run print);
-            settled = λ print. absurd (run_or_print words is_run print);
-          };
-          tells = tt;
-          comes = comes_begun 0 ran.legal ran.is_built (λ is. omega arith) (inl refl) (λ _ _ _ _. inl refl);
-          stands = stands_ran words source read input now sink after report told before counts 0 named script runs frames ran refl;
-        }
+    ends_full : (has more : ℕ) → StopsInStream (Lengths (length_fault.Gather has more)) named script input now sink after before counts → Tells (fault_line (Stream (Lengths (length_fault.Gather has more)))) report told → End 5
+    ends_full has more stream tells =
+        let stopped = stream.stopped in
+        let stops = stopped.stops in
+        let full : IsOverfull script (frames_in_bytes script stopped.given) has more = record { over = stops.over; before = stops.before; has_is = stops.held_is; more_is = stops.more_is } in
+        ends_length_fault (length_fault.Gather has more) stream
+        (Gather has more (for_taken stopped.given (λ s given. HasHeader s given × IsOverfull s (frames_in_bytes s given) has more) stopped.gave (stops.has, full)) tells)
+        (inl (stops.has, stopped.put ∙ ap (append_known sink.put) stops.wrote))
+        (blocks stopped.given stopped.gave (λ behind left _ _ few _.
+        let later = gathered_more script.blocks (frames_in_bytes script stopped.given) (frames_in_bytes script (stopped.given ++ behind)) (frames_stay script stopped.given behind stops.has) in
+        absurd (omega (arith, stops.over, later, few))))
+
+    ends_window : (end full : ℕ) → StopsInStream (Lengths (length_fault.Window end full)) named script input now sink after before counts → Tells (fault_line (Stream (Lengths (length_fault.Window end full)))) report told → End 5
+    ends_window end full stream tells =
+        let stopped = stream.stopped in
+        let stops = stopped.stops in
+        let some = some_frame script (chosen named script) (record { sound = (runs.reads.text, runs.reads.reads); is_built = stream.is_built; legal = stream.legal }) in
+        ends_length_fault (length_fault.Window end full) stream
+        (Window end full (for_taken stopped.given (λ s given. HasHeader s given × IsTakenWhole s given now × (window_at s.blocks (frames_in_bytes s given) ≡ Some (end, full))) stopped.gave (stops.has, stops.whole, stops.window)) tells)
+        (inl (stops.has, stopped.put ∙ ap (append_known sink.put) stops.wrote))
+        (blocks stopped.given stopped.gave (λ more left _ none _ _.
+        let same : frames_in_bytes script (stopped.given ++ more) ≡ frames_in_bytes script stopped.given = ap length (signal_stays script stopped.given more stops.has some now left stops.whole) in
+        let both : Some (end, full) ≡ None = sym stops.window ∙ ap (window_at script.blocks) (sym same) ∙ none in
+        cc))
+
+    ends_riff : (size most : ℕ) → StopsInStream (Lengths (length_fault.Riff size most)) named script input now sink after before counts → Tells (fault_line (Stream (Lengths (length_fault.Riff size most)))) report told → End 5
+    ends_riff size most stream tells =
+        let stopped = stream.stopped in
+        let stops = stopped.stops in
+        let long : IsTooLong script (input_header script stopped.given) size = record { wave = stops.wave; frames = stops.frames; known = stops.known; size_is = stops.size_is; over = stops.over } in
+        ends_length_fault (length_fault.Riff size most) stream
+        (Riff size
+        (for_taken stopped.given (λ s given. HasHeader s given × (length given ≡ (input_header s given).start) × IsTooLong s (input_header s given) size) stopped.gave (stops.has, stops.alone, long))
+        stops.untouched (subst (λ n. Tells (riff_line size n) report told) stops.limit tells))
+        (inr (inr (size, long), stops.untouched))
+        (blocks stopped.given stopped.gave (λ more left _ _ _ fits.
+        let known : known_frames script (input_header script (stopped.given ++ more)) ≡ Some stops.frames = ap (known_frames script) (header_stays script stopped.given more stops.has) ∙ stops.known in
+        let within = subst (HeaderFits (format_of script) (channels_of script)) known (fits stops.wave) in
+        absurd (omega (arith, within, stops.size_is, stops.over))))
+
+    ends_lengths : (fault : LengthFault) → StopsInStream (Lengths fault) named script input now sink after before counts → Tells (fault_line (Stream (Lengths fault))) report told → End 5
+    ends_lengths (length_fault.Input taken most) stream tells = ends_limit taken most stream tells
+    ends_lengths (length_fault.Gather has more) stream tells = ends_full has more stream tells
+    ends_lengths (length_fault.Window end full) stream tells = ends_window end full stream tells
+    ends_lengths (length_fault.Riff size most) stream tells = ends_riff size most stream tells
+
+    -- ---- the stream went over the whole input
+
+    module _ (summary : Summary) (ran : Ran named script summary input now sink after before counts) where
+      ends_reported : told.faults ≡ report.faults → Wrote (summary_text summary) report told → IsSettled told → Tells (summary_text summary) report told → End 0
+      ends_reported kept wrote settled tells =
+          record {
+            cause = record {
+              clean_script = runs.reads.read.no_fault;
+              clean_input = ran.done.no_input_fault;
+              clean_output = ran.done.no_output_fault;
+              clean_report = kept;
+              printed = λ print. absurd (run_or_print words is_run print);
+              settled = settled;
+            };
+            tells = tt;
+            comes = comes_begun 0 ran.legal ran.is_built (λ is. omega arith) (inl (inl refl)) (λ _ _ _ _ _. inl refl);
+            stands = stands_ran words source read input now sink after report told before counts 0 named script runs summary ran (inl refl) tells (λ _. wrote);
+          }
+
+      ends_unreported : Rose report.faults told.faults → Tells (summary_text summary) report told → End 9
+      ends_unreported risen tells =
+          record {
+            cause = record { risen = risen; tells = λ print. absurd (run_or_print words is_run print) };
+            tells = tt;
+            comes = comes_begun 9 ran.legal ran.is_built (λ is. omega arith) (inl (inr refl)) (λ _ _ _ _ kept. absurd (kept risen));
+            stands = stands_ran words source read input now sink after report told before counts 9 named script runs summary ran (inr refl) tells (λ is. absurd (omega arith));
+          }
+
+      ends_ran : (status : ℕ) → ReportsText (summary_text summary) status report told → End status
+      ends_ran status has =
+          elim has.way [
+            | inl well ↦ subst End (sym well.0) (ends_reported well.1 well.2 well.3 has.tells)
+            | inr failed ↦ subst End (sym failed.0) (ends_unreported failed.1 has.tells)
+          ]
 
   -- ---- the words are a print, and its script was read
 
@@ -281,7 +420,7 @@ module _ (words : List (List ℕ)) (source read input now : SourceState) (sink a
           faulty = λ _. told_sound source read made.script _ made.reads;
           illegal = λ run. absurd (run_or_print words run made.print);
           unbuilt = λ run. absurd (run_or_print words run made.print);
-          runnable = λ sound _ _ _. absurd (run_or_print words sound.run made.print);
+          runnable = λ sound _ _ _ _. absurd (run_or_print words sound.run made.print);
           printable = printable;
         }
 
@@ -300,9 +439,8 @@ module _ (words : List (List ℕ)) (source read input now : SourceState) (sink a
             clean_input = ap source_faults made.untouched.input_same;
             clean_output = ap faults_of made.untouched.output_same;
             clean_report = kept;
-            quiet = λ run. absurd (run_or_print words run made.print);
             printed = λ _. for_canon (λ text. Wrote text report told) wrote;
-            settled = λ _. settled;
+            settled = settled;
           };
           tells = tt;
           comes = comes_printed 0 (inl refl) (λ is. omega arith) (λ _ _ _. inl refl);
@@ -312,7 +450,7 @@ module _ (words : List (List ℕ)) (source read input now : SourceState) (sink a
     ends_unprinted : Rose report.faults told.faults → Tells text report told → End 9
     ends_unprinted risen tells =
         record {
-          cause = record { risen = risen; tells = for_canon (λ text. Tells text report told) tells };
+          cause = record { risen = risen; tells = λ _. for_canon (λ text. Tells text report told) tells };
           tells = tt;
           comes = comes_printed 9 (inr refl) (λ is. omega arith) (λ _ _ kept. absurd (kept risen));
           stands = stands_printed 9 (inr refl);
@@ -335,7 +473,8 @@ module _ (words : List (List ℕ)) (source read input now : SourceState) (sink a
   ends_run Memory stop tells = ends_memory (some_run words (stop.named, stop.runs.command)) stop.stops tells
   ends_run (Stream Input) stop tells = ends_input stop.named stop.script stop.runs stop.stops tells
   ends_run (Stream Output) stop tells = ends_output stop.named stop.script stop.runs stop.stops tells
-  ends_run (Stream (Lengths (length_fault.Input taken most))) stop tells = ends_limit stop.named stop.script stop.runs taken most stop.stops tells
+  ends_run (Stream (Header fault offset)) stop tells = ends_header stop.named stop.script stop.runs fault offset stop.stops tells
+  ends_run (Stream (Lengths fault)) stop tells = ends_lengths stop.named stop.script stop.runs fault stop.stops tells
   ends_run Usage stop tells = absurd stop.stops
   ends_run ScriptRead stop tells = absurd stop.stops
   ends_run (BadScript fault) stop tells = absurd stop.stops
@@ -350,8 +489,7 @@ module _ (words : List (List ℕ)) (source read input now : SourceState) (sink a
 
   pub ends : (outcome : Result Outcome Fault) (status : ℕ) → IfOk outcome (λ done. Performed done words source read input now sink after before counts)
       → IfErr outcome (λ fault. StopsBy fault words source read input now sink after before counts) → HasStatus outcome status report told → End status
-  ends (Ok (outcome.Ran totals)) status whole none has =
-      subst End (sym has.0) (ends_ran whole.named whole.script whole.runs totals.frames_taken whole.ran has.1)
+  ends (Ok (outcome.Ran summary)) status whole none has = ends_ran whole.named whole.script whole.runs summary whole.ran status has
   ends (Ok (outcome.Printed text)) status made none has =
       elim has.way [
         | inl well ↦ subst End (sym well.0) (ends_printed text.items made well.1 well.2 well.3)

@@ -31,6 +31,14 @@ told_whole (Some all) (Some rest) given front ended =
     let split : all ≡ given ++ rest = cc in
     split ∙ ap (λ bytes. given ++ bytes) ended ∙ append-nil given
 
+-- what holds of all that was given and of whatever is left holds of all that was told
+pub told_more : (left rest : Option (List ℕ)) (given : List ℕ) (P : List ℕ → Type 0) → left ≡ prepend_known given rest → ((more : List ℕ) → rest ≡ Some more → P (given ++ more)) → IfSome left P
+told_more None rest given P front holds = tt
+told_more (Some all) None given P front holds = absurd (cc)
+told_more (Some all) (Some more) given P front holds =
+    let split : all ≡ given ++ more = cc in
+    subst P (sym split) (holds more refl)
+
 -- what was given is the front of what was told
 told_front : (left rest : Option (List ℕ)) (given : List ℕ) (count : ℕ) → left ≡ prepend_known given rest → count ≡ length given → IfSome (option_map (take count) left) (λ bytes. bytes ≡ given)
 told_front None rest given count front is = tt

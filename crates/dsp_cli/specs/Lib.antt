@@ -1,6 +1,3 @@
-pub mod SessionState
-pub mod Session
-pub mod Stream
 pub mod Fault
 pub mod Script
 pub mod Run

@@ -1,23 +1,25 @@
 -- What was done, or why it stopped.
 use Rattle.std.specs.Prelude.{◌≡◌, ◌⊎◌, ℕ, List, Option, Some, None, IsSome, IsTrue, IsFalse, Result, Ok, Err}
 use Rattle.dsp_ports.specs.Ports.{SourceState, SinkState, Rose, IsSettled}
-use Rattle.dsp_defs.specs.Built.{built}
+use Rattle.dsp_chain.specs.Built.{built}
 use Rattle.dsp_defs.specs.Canon.{canon}
 use Rattle.dsp_defs.specs.Counts.{Counts}
 use Rattle.dsp_defs.specs.Grammar.{Reads}
 use Rattle.dsp_defs.specs.Reading.{first_fault}
+use Rattle.dsp_defs.specs.Report.{report_text}
 use Rattle.dsp_defs.specs.Shape.{unit}
 use Rattle.dsp_defs.specs.Words.{command_of}
 use Rattle.dsp_defs.specs.declared.command.Command.TheVariants.{Run}
 use Rattle.dsp_defs.specs.declared.script.Script.{Script}
 use Rattle.dsp_defs.specs.declared.script_fault.ScriptFault.{ScriptFault}
-use Rattle.dsp_cli.specs.Fault.{status_of, fault_line}
+use Rattle.dsp_session.specs.Stream.{Stopped, Done}
+use Rattle.dsp_session.specs.declared.fault.StreamFault.{StreamFault}
+use Rattle.dsp_cli.specs.Fault.{status_of, fault_line, summary_text}
 use Rattle.dsp_cli.specs.Script.{IsReadWhole, chosen, is_legal_for}
 use Rattle.dsp_cli.specs.Run.{IsPrint, Wrote, Tells}
-use Rattle.dsp_cli.specs.Stream.{Stopped, Done}
 use Rattle.dsp_cli.specs.declared.fault.Fault.{Fault}
 use Rattle.dsp_cli.specs.declared.fault.Fault.TheVariants.{Usage, ScriptRead, Script as BadText, BlockLength, NotBuilt, Memory, Stream}
-use Rattle.dsp_cli.specs.declared.streaming.StreamFault.{StreamFault}
+use Rattle.dsp_cli.specs.declared.report.Summary.{Summary}
 use Rattle.dsp_cli.specs.declared.top.Outcome.{Outcome}
 use Rattle.dsp_cli.specs.declared.top.Outcome.TheVariants as outcome
 
@@ -38,17 +40,18 @@ pub record RunsScript (words : List (List ℕ)) (source now : SourceState) (name
   pub command : command_of words ≡ Some (Run named)
   pub reads : ReadsAs source now script
 
--- the run went over the whole input
-pub record Ran (named : Option ℕ) (script : Script) (frames : ℕ) (input now : SourceState) (output after : SinkState) (before counts : Counts) : Type 0 where
+-- the run went over the whole input, and its report was made
+pub record Ran (named : Option ℕ) (script : Script) (summary : Summary) (input now : SourceState) (output after : SinkState) (before counts : Counts) : Type 0 where
   pub legal : IsTrue (is_legal_for script (chosen named script))
   pub is_built : IsTrue (built script)
-  pub done : Done script (chosen named script) frames input now output after before.multiplies counts.multiplies
+  pub done : Done script (chosen named script) summary.totals.frames_taken input now output after before.multiplies counts.multiplies
+  pub text : summary_text summary ≡ report_text script summary.totals.frames_taken
 
-pub record RanWhole (frames : ℕ) (words : List (List ℕ)) (source read input now : SourceState) (output after : SinkState) (before counts : Counts) : Type 0 where
+pub record RanWhole (summary : Summary) (words : List (List ℕ)) (source read input now : SourceState) (output after : SinkState) (before counts : Counts) : Type 0 where
   pub named : Option ℕ
   pub script : Script
   pub runs : RunsScript words source read named script
-  pub ran : Ran named script frames input now output after before counts
+  pub ran : Ran named script summary input now output after before counts
 
 -- the text of the script was made for the report
 pub record MadeText (text : List ℕ) (words : List (List ℕ)) (source read input now : SourceState) (output after : SinkState) (before counts : Counts) : Type 0 where
@@ -59,7 +62,7 @@ pub record MadeText (text : List ℕ) (words : List (List ℕ)) (source read inp
   pub untouched : Untouched input now output after before counts
 
 abbrev pub Performed : Outcome → List (List ℕ) → SourceState → SourceState → SourceState → SourceState → SinkState → SinkState → Counts → Counts → Type 0
-Performed (outcome.Ran totals) words source read input now output after before counts = RanWhole totals.frames_taken words source read input now output after before counts
+Performed (outcome.Ran summary) words source read input now output after before counts = RanWhole summary words source read input now output after before counts
 Performed (outcome.Printed text) words source read input now output after before counts = MadeText text.items words source read input now output after before counts
 
 -- the text that was read has a first fault
@@ -128,6 +131,6 @@ pub record ReportsText (text : List ℕ) (status : ℕ) (old new : SinkState) : 
 
 -- the status of an outcome, and what became of the report
 abbrev pub HasStatus : Result Outcome Fault → ℕ → SinkState → SinkState → Type 0
-HasStatus (Ok (outcome.Ran totals)) status old new = (status ≡ 0) × (new ≡ old)
+HasStatus (Ok (outcome.Ran summary)) status old new = ReportsText (summary_text summary) status old new
 HasStatus (Ok (outcome.Printed text)) status old new = ReportsText text.items status old new
 HasStatus (Err fault) status old new = (status ≡ status_of fault) × Tells (fault_line fault) old new

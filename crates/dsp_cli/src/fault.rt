@@ -1,5 +1,5 @@
-use crate::streaming::StreamFault;
 use dsp_script::ScriptFault;
+use dsp_session::StreamFault;
 
 /// Why a run is not done.
 #[derive(Clone, Copy, Debug, PartialEq, Eq)]

@@ -3,11 +3,10 @@
 
 mod command;
 mod fault;
+mod fault_line;
+mod line;
 mod report;
-mod runner;
 mod script;
-mod session;
-mod streaming;
 mod top;
 mod words;
 
@@ -17,4 +16,8 @@ pub use top::run;
 pub use words::Words;
 
 #[cfg(test)]
+mod chain_tests;
+#[cfg(test)]
 mod tests;
+#[cfg(test)]
+mod wave_tests;

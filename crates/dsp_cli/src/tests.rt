@@ -35,22 +35,26 @@ fn words_of(alloc: Global, texts: &[&str]) -> Result<Words, AllocError> {
     Ok(words)
 }
 
-const RUN: &[&str] = &["run", "s", "i", "o"];
+pub const RUN: &[&str] = &["run", "s", "i", "o"];
 
 const PRINT: &[&str] = &["print", "s"];
 
 const HALVES: &[u8] = b"dspfx 1 input raw q15 1 8000 fir {16384} output raw";
 
-/// A run, and what it answers, writes and reports. The calls of these numbers fail.
-struct Case {
-    words: &'static [&'static str],
-    script: &'static [u8],
-    input: &'static [u8],
-    failing_writes: &'static [u32],
-    failing_reports: &'static [u32],
-    status: u8,
-    output: &'static [u8],
-    report: &'static [u8],
+/// A run, and what it answers, writes and reports. The calls of these numbers fail, and so does a
+/// write behind so many bytes.
+#[derive(Drop)]
+pub struct Case<'a> {
+    pub words: &'a [&'a str],
+    pub script: &'a [u8],
+    pub input: &'a [u8],
+    pub failing_reads: &'a [u32],
+    pub room: usize,
+    pub failing_writes: &'a [u32],
+    pub failing_reports: &'a [u32],
+    pub status: u8,
+    pub output: &'a [u8],
+    pub report: &'a [u8],
 }
 
 const EXAMPLE: &[u8] = &[0xE8, 0x03, 0x18, 0xFC, 0xFF, 0xFF];
@@ -58,15 +62,30 @@ const EXAMPLE: &[u8] = &[0xE8, 0x03, 0x18, 0xFC, 0xFF, 0xFF];
 const USAGE: &[u8] =
     b"dspfx: usage: run SCRIPT IN OUT [block N], gen SEED FRAMES SCRIPT OUT, print SCRIPT\n";
 
-const CASES: &[Case] = &[
+const CASES: &[Case<'static>] = &[
     // 1000, -1000 and -1 are halved.
     Case {
         words: RUN,
         script: HALVES,
         input: EXAMPLE,
+        failing_reads: &[],
+        room: 64,
+        failing_writes: &[],
+        failing_reports: &[],
+        status: 0,
+        output: &[0xF4, 0x01, 0x0C, 0xFE, 0xFF, 0xFF],
+        report: b"dspfx: done\nin 3 frames of 1 channels q15\nout 3 frames of 1 channels q15\nmultiplies 3\n",
+    },
+    // All output stands where the report fails.
+    Case {
+        words: RUN,
+        script: HALVES,
+        input: EXAMPLE,
+        failing_reads: &[],
+        room: 64,
         failing_writes: &[],
         failing_reports: &[1],
-        status: 0,
+        status: 9,
         output: &[0xF4, 0x01, 0x0C, 0xFE, 0xFF, 0xFF],
         report: b"",
     },
@@ -75,17 +94,21 @@ const CASES: &[Case] = &[
         words: &["run", "s", "i", "o", "block", "0000000001"],
         script: b"dspfx 1 input raw q15 1 8000 fir {32767 32767} output raw",
         input: &[0xFF, 0x7F, 0xFF, 0x7F, 0xFF],
+        failing_reads: &[],
+        room: 64,
         failing_writes: &[],
         failing_reports: &[],
         status: 0,
         output: &[0xFE, 0x7F, 0xFF, 0x7F],
-        report: b"",
+        report: b"dspfx: done\nin 2 frames of 1 channels q15\nout 2 frames of 1 channels q15\nmultiplies 4\n",
     },
     // The sink fails at its first call.
     Case {
         words: RUN,
         script: HALVES,
         input: EXAMPLE,
+        failing_reads: &[],
+        room: 64,
         failing_writes: &[1],
         failing_reports: &[],
         status: 8,
@@ -97,16 +120,33 @@ const CASES: &[Case] = &[
         words: RUN,
         script: HALVES,
         input: EXAMPLE,
+        failing_reads: &[],
+        room: 64,
         failing_writes: &[3],
         failing_reports: &[2],
         status: 8,
         output: &[0xF4, 0x01, 0x0C, 0xFE, 0xFF, 0xFF],
         report: b"dspfx: output not written\n",
     },
+    // The sink takes three bytes and fails.
     Case {
         words: RUN,
-        script: b"dspfx 1 input raw q7 1 8000 fir {16} output raw",
+        script: HALVES,
         input: EXAMPLE,
+        failing_reads: &[],
+        room: 3,
+        failing_writes: &[],
+        failing_reports: &[],
+        status: 8,
+        output: &[0xF4, 0x01, 0x0C],
+        report: b"dspfx: output not written\n",
+    },
+    Case {
+        words: RUN,
+        script: b"dspfx 1 input raw q7 1 8000 power output raw",
+        input: EXAMPLE,
+        failing_reads: &[],
+        room: 64,
         failing_writes: &[],
         failing_reports: &[],
         status: 12,
@@ -117,6 +157,8 @@ const CASES: &[Case] = &[
         words: &["run", "a", "b", "b"],
         script: HALVES,
         input: EXAMPLE,
+        failing_reads: &[],
+        room: 64,
         failing_writes: &[],
         failing_reports: &[],
         status: 1,
@@ -128,6 +170,8 @@ const CASES: &[Case] = &[
         words: &[],
         script: HALVES,
         input: EXAMPLE,
+        failing_reads: &[],
+        room: 64,
         failing_writes: &[],
         failing_reports: &[1],
         status: 1,
@@ -138,6 +182,8 @@ const CASES: &[Case] = &[
         words: &["run", "a", "b", "c", "block"],
         script: HALVES,
         input: EXAMPLE,
+        failing_reads: &[],
+        room: 64,
         failing_writes: &[],
         failing_reports: &[],
         status: 1,
@@ -148,6 +194,8 @@ const CASES: &[Case] = &[
         words: &["run", "a", "b", "c", "block", "4294967296"],
         script: HALVES,
         input: EXAMPLE,
+        failing_reads: &[],
+        room: 64,
         failing_writes: &[],
         failing_reports: &[],
         status: 1,
@@ -158,6 +206,8 @@ const CASES: &[Case] = &[
         words: RUN,
         script: b"dspfx 1 input raw q15 1 8000 fir { 40000 } output raw",
         input: EXAMPLE,
+        failing_reads: &[],
+        room: 64,
         failing_writes: &[],
         failing_reports: &[],
         status: 2,
@@ -168,6 +218,8 @@ const CASES: &[Case] = &[
         words: RUN,
         script: b"dspfx 1 input raw q15 1 8000 interpolate 2 {1 2 3} output raw",
         input: EXAMPLE,
+        failing_reads: &[],
+        room: 64,
         failing_writes: &[],
         failing_reports: &[],
         status: 2,
@@ -178,6 +230,8 @@ const CASES: &[Case] = &[
         words: RUN,
         script: b"dspfx 1 input raw q7 1 8000 decimate",
         input: EXAMPLE,
+        failing_reads: &[],
+        room: 64,
         failing_writes: &[],
         failing_reports: &[],
         status: 2,
@@ -188,6 +242,8 @@ const CASES: &[Case] = &[
         words: RUN,
         script: b"dspfx 1 input raw q15 1 8000 add output raw",
         input: EXAMPLE,
+        failing_reads: &[],
+        room: 64,
         failing_writes: &[],
         failing_reports: &[],
         status: 2,
@@ -198,6 +254,8 @@ const CASES: &[Case] = &[
         words: RUN,
         script: b"",
         input: EXAMPLE,
+        failing_reads: &[],
+        room: 64,
         failing_writes: &[],
         failing_reports: &[],
         status: 2,
@@ -208,6 +266,8 @@ const CASES: &[Case] = &[
         words: &["run", "s", "i", "o", "block", "5"],
         script: b"dspfx 1 input raw q15 1 8000 decimate 2 {16384} output raw",
         input: EXAMPLE,
+        failing_reads: &[],
+        room: 64,
         failing_writes: &[],
         failing_reports: &[],
         status: 3,
@@ -218,6 +278,8 @@ const CASES: &[Case] = &[
         words: PRINT,
         script: HALVES,
         input: EXAMPLE,
+        failing_reads: &[],
+        room: 64,
         failing_writes: &[],
         failing_reports: &[],
         status: 0,
@@ -228,6 +290,8 @@ const CASES: &[Case] = &[
         words: PRINT,
         script: HALVES,
         input: EXAMPLE,
+        failing_reads: &[],
+        room: 64,
         failing_writes: &[],
         failing_reports: &[1],
         status: 9,
@@ -236,26 +300,85 @@ const CASES: &[Case] = &[
     },
 ];
 
+/// Runs the case, and tests what it answers, writes and reports.
+pub fn play(alloc: Global, rt: &impl Abort, case: &Case<'_>) -> Result<(), AllocError> {
+    let words = words_of(alloc, case.words)?;
+    let mut script = MemSource::new(alloc, case.script, 7, &[])?;
+    let mut input = MemSource::new(alloc, case.input, 3, case.failing_reads)?;
+    let mut output = MemSink::new(alloc, case.room, 5, case.failing_writes)?;
+    let mut report = MemSink::new(alloc, 512, 500, case.failing_reports)?;
+    let status = counted::<Brand>(
+        alloc,
+        &words,
+        &mut script,
+        &mut input,
+        &mut output,
+        &mut report,
+        Blank::new(2),
+    );
+    assert_eq!(rt; status, case.status);
+    assert_eq!(rt; output.bytes(), case.output);
+    assert_eq!(rt; report.bytes(), case.report);
+    Ok(())
+}
+
 #[test]
 fn each_case_answers_writes_and_reports(rt: HostRuntime) -> Result<(), Fail> {
     for case in CASES {
-        let words = words_of(rt.alloc(), case.words)?;
-        let mut script = MemSource::new(rt.alloc(), case.script, 7, &[])?;
-        let mut input = MemSource::new(rt.alloc(), case.input, 3, &[])?;
-        let mut output = MemSink::new(rt.alloc(), 64, 5, case.failing_writes)?;
-        let mut report = MemSink::new(rt.alloc(), 128, 100, case.failing_reports)?;
-        let status = counted::<Brand>(
-            rt.alloc(),
-            &words,
-            &mut script,
-            &mut input,
-            &mut output,
-            &mut report,
-            Blank::new(2),
-        );
-        assert_eq!(rt; status, case.status);
-        assert_eq!(rt; output.bytes(), case.output);
-        assert_eq!(rt; report.bytes(), case.report);
+        play(rt.alloc(), &rt, case)?;
+    }
+    Ok(())
+}
+
+/// 1000, -1000, -1, 1000, -1000 and -1, and their halves.
+const SIX: &[u8] = &[
+    0xE8, 0x03, 0x18, 0xFC, 0xFF, 0xFF, 0xE8, 0x03, 0x18, 0xFC, 0xFF, 0xFF,
+];
+
+const SIX_HALVES: &[u8] = &[
+    0xF4, 0x01, 0x0C, 0xFE, 0xFF, 0xFF, 0xF4, 0x01, 0x0C, 0xFE, 0xFF, 0xFF,
+];
+
+const BY_TWO: &[&str] = &["run", "s", "i", "o", "block", "2"];
+
+#[test]
+fn a_read_fails_at_each_place(rt: HostRuntime) -> Result<(), Fail> {
+    // Three bytes and one are a block, and the seventh read finds the end.
+    for (place, written) in [(1, 0), (2, 0), (3, 4), (4, 4), (5, 8), (6, 8), (7, 12)] {
+        let case = Case {
+            words: BY_TWO,
+            script: HALVES,
+            input: SIX,
+            failing_reads: &[place],
+            room: 64,
+            failing_writes: &[],
+            failing_reports: &[],
+            status: 7,
+            output: &SIX_HALVES[..written],
+            report: b"dspfx: input not read\n",
+        };
+        play(rt.alloc(), &rt, &case)?;
+    }
+    Ok(())
+}
+
+#[test]
+fn a_write_fails_at_each_place(rt: HostRuntime) -> Result<(), Fail> {
+    // Each block is one write, and the fourth call is the flush.
+    for (place, written) in [(1, 0), (2, 4), (3, 8), (4, 12)] {
+        let case = Case {
+            words: BY_TWO,
+            script: HALVES,
+            input: SIX,
+            failing_reads: &[],
+            room: 64,
+            failing_writes: &[place],
+            failing_reports: &[],
+            status: 8,
+            output: &SIX_HALVES[..written],
+            report: b"dspfx: output not written\n",
+        };
+        play(rt.alloc(), &rt, &case)?;
     }
     Ok(())
 }
@@ -278,7 +401,7 @@ fn long_run(
     }
     let mut input = MemSource::new(alloc, &bytes, 512, failing_reads)?;
     let mut output = MemSink::new(alloc, 4096, 4096, failing_writes)?;
-    let mut report = MemSink::new(alloc, 128, 100, &[])?;
+    let mut report = MemSink::new(alloc, 512, 500, &[])?;
     let status = counted::<Brand>(
         alloc,
         &words,

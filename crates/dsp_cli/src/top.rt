@@ -1,31 +1,30 @@
 ghost use Rattle.std.specs.Prelude.{◌≡◌, ◌↔◌, ◌⊎◌, ◌+◌, ◌/◌, ◌^◌, ◌≤◌, ℕ, List, IsNone, IsSome, IfSome, IfOk, IfErr, OnOk, IsTrue, IsFalse};
-ghost use Rattle.std.specs.Io.KnownBytes.{IsAtEnd};
 ghost use Rattle.dsp_ports.specs.Ports.{Rose, CountsFaults, IsSettled};
-ghost use Rattle.dsp_defs.specs.Built.{built};
+ghost use Rattle.dsp_chain.specs.Built.{built};
 ghost use Rattle.dsp_defs.specs.Canon.{canon};
 ghost use Rattle.dsp_defs.specs.Grammar.{IsSound};
-ghost use Rattle.dsp_defs.specs.Output.{output as output_of, part};
+ghost use Rattle.dsp_defs.specs.Output.{output as output_of, part, HasHeader};
 ghost use Rattle.dsp_defs.specs.Reading.{first_fault};
-ghost use Rattle.dsp_defs.specs.Report.{block_length_line, script_line};
+ghost use Rattle.dsp_defs.specs.Report.{block_length_line, report_text, script_line};
 ghost use Rattle.dsp_defs.specs.Shape.{unit};
 ghost use Rattle.dsp_defs.specs.Words.{command_of};
+ghost use Rattle.dsp_session.specs.Session.{frame_bytes, cost_of};
+ghost use Rattle.dsp_session.specs.Stream.{LagsByOne, IsTakenWhole, frames_in_bytes};
 ghost use Rattle.dsp_cli.specs.Script.{chosen, chosen_block, is_legal_for, IfScript, IfFault};
-ghost use Rattle.dsp_cli.specs.Session.{frame_bytes, cost_of};
-ghost use Rattle.dsp_cli.specs.Stream.{LagsByOne};
-ghost use Rattle.dsp_cli.specs.Perform.{ReadsAs, Ran, Performed, FailsToLoad, FailsToRun, StopsBy, HasStatus};
-ghost use Rattle.dsp_cli.specs.Run.{Wrote, WroteFront, Tells, IsRun, IsPrint, IsDone, IsStopped, IsRefused, IsAnswer, IsRunnable, IsPrintable, count_taken, bytes_taken, line_of_status};
+ghost use Rattle.dsp_cli.specs.Perform.{ReadsAs, Ran, Performed, FailsToLoad, FailsToRun, StopsBy, ReportsText, HasStatus};
+ghost use Rattle.dsp_cli.specs.Run.{Wrote, WroteFront, WrotePart, Tells, TellsHeader, TellsLength, TookFrames, IfTaken, IfWhole, IsRun, IsPrint, IsDone, IsStopped, IsBroken, IsRefused, IsAnswer, IsRunnable, IsPrintable, MayEndAtLimit, count_taken, bytes_taken, line_of_status};
 
 use crate::command::command;
 use crate::fault::Fault;
-use crate::report::{line_of, status_of};
-use crate::runner::Runner;
+use crate::fault_line::{line_of, status_of};
+use crate::report::{Summary, report_of};
 use crate::script::{ReadFault, read_script};
-use crate::session::is_built;
-use crate::streaming::Totals;
 use crate::words::Words;
-use dsp_defs::{Command, Script, Steps};
+use dsp_chain::is_built;
+use dsp_defs::{Command, Flow, Script, Steps};
 use dsp_ports::{Failed, Sink, Source, write_all};
-use dsp_script::{ParseFault, default_block, legal, parse, print, unit};
+use dsp_script::{ParseFault, default_block, legal, output_flow, parse, print, unit};
+use dsp_session::{Session, stream};
 use std::alloc::Global;
 use std::sync::ledger::Ledger;
 
@@ -33,7 +32,7 @@ use std::sync::ledger::Ledger;
 #[derive(Drop)]
 enum Outcome {
     /// A run went over the whole input.
-    Ran(Totals),
+    Ran(Summary),
     /// The text of the script is to be reported.
     Printed(Vec<u8>),
 }
@@ -74,9 +73,9 @@ fn run_script<S: Source, K: Sink, L: Ledger>(
     input: &mut S,
     output: &mut K,
     steps: &mut Steps<L>,
-) -> Result<Totals, Fault>
+) -> Result<Summary, Fault>
     requires { IsSound script.now }
-    ensures ok { IfOk result (λ totals. Ran named script.now totals.frames_taken (S.state input.old) (S.state input.new) (K.state output.old) (K.state output.new) steps.old steps.new) }
+    ensures ok { IfOk result (λ summary. Ran named script.now summary (S.state input.old) (S.state input.new) (K.state output.old) (K.state output.new) steps.old steps.new) }
     ensures err { IfErr result (λ fault. FailsToRun fault named script.now (S.state input.old) (S.state input.new) (K.state output.old) (K.state output.new) steps.old steps.new) }
 {
     let block = chosen(named, script);
@@ -87,11 +86,18 @@ fn run_script<S: Source, K: Sink, L: Ledger>(
     if !is_built(script) {
         return Err(Fault::NotBuilt);
     }
-    let Ok(mut runner) = Runner::new(alloc, script, block) else {
+    let Ok(mut session) = Session::new(alloc, script, block) else {
         return Err(Fault::Memory);
     };
-    match runner.stream(input, output, steps) {
-        Ok(totals) => Ok(totals),
+    match stream(&mut session, input, output, steps) {
+        Ok(totals) => Ok(Summary {
+            input: Flow {
+                format: script.input.format,
+                channels: script.input.channels,
+            },
+            output: output_flow(script),
+            totals,
+        }),
         Err(fault) => Err(Fault::Stream(fault)),
     }
 }
@@ -123,7 +129,7 @@ fn perform<P: Source, S: Source, K: Sink, L: Ledger>(
             Err(_) => Err(Fault::Memory),
         },
         Command::Run { block } => match run_script(alloc, block, &script, input, output, steps) {
-            Ok(totals) => Ok(Outcome::Ran(totals)),
+            Ok(summary) => Ok(Outcome::Ran(summary)),
             Err(fault) => Err(fault),
         },
     }
@@ -141,16 +147,23 @@ fn tell<R: Sink>(report: &mut R, text: &[u8]) -> Result<(), Failed>
     Ok(())
 }
 
+/// Reports a text, and answers the exit status of what was done.
+fn finish<R: Sink>(report: &mut R, text: &[u8]) -> u8
+    ensures { ReportsText text.now result (R.state report.old) (R.state report.new) }
+{
+    match tell(report, text) {
+        Ok(()) => 0,
+        Err(_) => 9,
+    }
+}
+
 /// Reports how a run went, and answers its exit status. A fault's status stands where its line isn't reported.
 fn settle<R: Sink>(outcome: Result<Outcome, Fault>, report: &mut R) -> u8
     ensures { HasStatus outcome result (R.state report.old) (R.state report.new) }
 {
     match outcome {
-        Ok(Outcome::Ran(_)) => 0,
-        Ok(Outcome::Printed(text)) => match tell(report, &text) {
-            Ok(()) => 0,
-            Err(_) => 9,
-        },
+        Ok(Outcome::Ran(summary)) => finish(report, &report_of(&summary)),
+        Ok(Outcome::Printed(text)) => finish(report, &text),
         Err(fault) => {
             let _ = tell(report, &line_of(&fault));
             status_of(&fault)
@@ -158,8 +171,9 @@ fn settle<R: Sink>(outcome: Result<Outcome, Fault>, report: &mut R) -> u8
     }
 }
 
-/// The top call: does what the words say over four ports, and answers the exit status. After a fault one line is
-/// tried on the report. A run takes its blocks in the length that the words name, else the script, else the default.
+/// The top call: does what the words say over four ports, and answers the exit status. A run that is done reports what
+/// came in, what went out and the multiplies; after a fault one line is tried on the report. A run takes its blocks in
+/// the length that the words name, else the script, else the default.
 pub fn run<P: Source, S: Source, K: Sink, R: Sink, L: Ledger>(
     alloc: Global,
     words: &Words,
@@ -176,8 +190,9 @@ pub fn run<P: Source, S: Source, K: Sink, R: Sink, L: Ledger>(
     ensures faulty { IsSome (command_of words.now) → IfFault (P.state script.old).left (λ _. (result ≡ 2) ⊎ (result ≡ 6) ⊎ (result ≡ 10)) }
     ensures bad_length { result ≡ 3 → IfScript (P.state script.old).left (λ s. IsFalse (is_legal_for s (chosen_block words.now s))) }
     ensures illegal { IsRun words.now → IfScript (P.state script.old).left (λ s. IsFalse (is_legal_for s (chosen_block words.now s)) → (result ≡ 3) ⊎ (result ≡ 6) ⊎ (result ≡ 10)) }
-    ensures lengths { result ≡ 5 → (S.state input.new).taken ≡ (S.state input.old).taken + 2 ^ 40 }
-    ensures limited { (S.state input.new).taken ≡ (S.state input.old).taken + 2 ^ 40 → (result ≡ 5) ⊎ (result ≡ 8) }
+    ensures header { result ≡ 4 → TellsHeader (P.state script.old).left (S.state input.old) (R.state report.old) (R.state report.new) }
+    ensures lengths { result ≡ 5 → TellsLength (P.state script.old).left (S.state input.old) (S.state input.new) (K.state output.old) (K.state output.new) (R.state report.old) (R.state report.new) }
+    ensures limited { (S.state input.new).taken ≡ (S.state input.old).taken + 2 ^ 40 → (result ≡ 5) ⊎ (result ≡ 8) ⊎ MayEndAtLimit (P.state script.old).left (S.state input.old) (S.state input.new) result }
     ensures script_read { result ≡ 6 → Rose (P.state script.old).faults (P.state script.new).faults }
     ensures input_read { result ≡ 7 → Rose (S.state input.old).faults (S.state input.new).faults }
     ensures output_written { result ≡ 8 → Rose (K.state output.old).faults (K.state output.new).faults }
@@ -187,38 +202,41 @@ pub fn run<P: Source, S: Source, K: Sink, R: Sink, L: Ledger>(
 
     // Where nothing stands in the way and no port fails, all is done, or memory is wanted.
     ensures runnable { IsRunnable words.now (P.state script.old) (S.state input.old) → (Rose (P.state script.old).faults (P.state script.new).faults → ⊥)
-        → (Rose (S.state input.old).faults (S.state input.new).faults → ⊥) → (Rose (K.state output.old).faults (K.state output.new).faults → ⊥) → (result ≡ 0) ⊎ (result ≡ 10) }
+        → (Rose (S.state input.old).faults (S.state input.new).faults → ⊥) → (Rose (K.state output.old).faults (K.state output.new).faults → ⊥)
+        → (Rose (R.state report.old).faults (R.state report.new).faults → ⊥) → (result ≡ 0) ⊎ (result ≡ 10) }
     ensures printable { IsPrintable words.now (P.state script.old) → (Rose (P.state script.old).faults (P.state script.new).faults → ⊥)
         → (Rose (R.state report.old).faults (R.state report.new).faults → ⊥) → (result ≡ 0) ⊎ (result ≡ 10) }
 
     // A run that is done has written exactly the output of the script for all the input.
-    ensures done { IsRun words.now → IsDone result → IfScript (P.state script.old).left (λ s. IfSome (S.state input.old).left (λ bytes. Wrote (output_of s bytes) (K.state output.old) (K.state output.new))) }
-    ensures ended { IsRun words.now → IsDone result → IsAtEnd (S.state input.new).left }
+    ensures done { IsRun words.now → IsDone result → IfWhole (P.state script.old).left (S.state input.old) (λ s bytes. Wrote (output_of s bytes) (K.state output.old) (K.state output.new)) }
+    ensures ended { IsRun words.now → IsDone result → IfTaken (P.state script.old).left (S.state input.old) (S.state input.new) (λ s given. HasHeader s given × IsTakenWhole s given (S.state input.new)) }
     ensures settled { IsRun words.now → IsDone result → IsSettled (K.state output.new) }
     ensures clean { result ≡ 0 → ((P.state script.new).faults ≡ (P.state script.old).faults) × ((S.state input.new).faults ≡ (S.state input.old).faults)
         × ((K.state output.new).faults ≡ (K.state output.old).faults) × ((R.state report.new).faults ≡ (R.state report.old).faults) }
 
     // What stands after the others.
-    ensures part { (result ≡ 5) ⊎ (result ≡ 7) → IfScript (P.state script.old).left (λ s. IfSome (bytes_taken (S.state input.old) (S.state input.new)) (λ bytes.
-        Wrote (part s (chosen_block words.now s) bytes) (K.state output.old) (K.state output.new))) }
-    ensures front { result ≡ 8 → IfScript (P.state script.old).left (λ s. IfSome (bytes_taken (S.state input.old) (S.state input.new)) (λ bytes.
-        WroteFront (part s (chosen_block words.now s) bytes) (K.state output.old) (K.state output.new)
-        ⊎ (WroteFront (output_of s bytes) (K.state output.old) (K.state output.new) × IsAtEnd (S.state input.new).left))) }
-    ensures lag { IsRun words.now → IsDone result ⊎ IsStopped result → IfScript (P.state script.old).left (λ s. IfSome (bytes_taken (S.state input.old) (S.state input.new)) (λ bytes.
-        (written : List ℕ) × Wrote written (K.state output.old) (K.state output.new) × LagsByOne s (chosen_block words.now s) bytes written)) }
+    ensures part { IsBroken result → IfTaken (P.state script.old).left (S.state input.old) (S.state input.new) (λ s given. WrotePart s (chosen_block words.now s) given (K.state output.old) (K.state output.new)) }
+    ensures front { result ≡ 8 → IfTaken (P.state script.old).left (S.state input.old) (S.state input.new) (λ s given. HasHeader s given
+        × (WroteFront (part s (chosen_block words.now s) given) (K.state output.old) (K.state output.new)
+        ⊎ (WroteFront (output_of s given) (K.state output.old) (K.state output.new) × IsTakenWhole s given (S.state input.new)))) }
+    ensures lag { IsRun words.now → IsDone result ⊎ IsStopped result → IfTaken (P.state script.old).left (S.state input.old) (S.state input.new) (λ s given.
+        (written : List ℕ) × Wrote written (K.state output.old) (K.state output.new) × (HasHeader s given → LagsByOne s (chosen_block words.now s) given written)) }
     ensures untouched { IsRefused result ⊎ IsPrint words.now → (S.state input.new ≡ S.state input.old) × (K.state output.new ≡ K.state output.old) × (steps.new ≡ steps.old) }
     ensures script_same { result ≡ 1 → P.state script.new ≡ P.state script.old }
 
     // The multiplies, for the whole frames taken.
-    ensures cost { IfScript (P.state script.old).left (λ s. steps.new.multiplies ≤ steps.old.multiplies + cost_of s (count_taken (S.state input.old) (S.state input.new) / frame_bytes s)) }
+    ensures cost { IfTaken (P.state script.old).left (S.state input.old) (S.state input.new) (λ s given. steps.new.multiplies ≤ steps.old.multiplies + cost_of s (frames_in_bytes s given)) }
+    ensures most { IfScript (P.state script.old).left (λ s. steps.new.multiplies ≤ steps.old.multiplies + cost_of s (count_taken (S.state input.old) (S.state input.new) / frame_bytes s)) }
     ensures exact_cost { IsRun words.now → IsDone result → IfScript (P.state script.old).left (λ s.
-        steps.new.multiplies ≡ steps.old.multiplies + cost_of s (count_taken (S.state input.old) (S.state input.new) / frame_bytes s)) }
+        (frames : ℕ) × TookFrames s frames (S.state input.old) (S.state input.new) × (steps.new.multiplies ≡ steps.old.multiplies + cost_of s frames)) }
 
-    // The report: nothing after a run that is done, the canonical text of a print, and the line of a fault.
-    ensures quiet { IsRun words.now → result ≡ 0 → R.state report.new ≡ R.state report.old }
+    // The report: what a run that is done says of itself, the canonical text of a print, and the line of a fault.
+    ensures reported { IsRun words.now → IsDone result → IfScript (P.state script.old).left (λ s.
+        (frames : ℕ) × TookFrames s frames (S.state input.old) (S.state input.new) × Tells (report_text s frames) (R.state report.old) (R.state report.new)
+        × (result ≡ 0 → Wrote (report_text s frames) (R.state report.old) (R.state report.new))) }
     ensures printed { IsPrint words.now → result ≡ 0 → IfScript (P.state script.old).left (λ s. Wrote (canon s) (R.state report.old) (R.state report.new)) }
-    ensures printed_settled { IsPrint words.now → result ≡ 0 → IsSettled (R.state report.new) }
-    ensures unprinted { result ≡ 9 → IfScript (P.state script.old).left (λ s. Tells (canon s) (R.state report.old) (R.state report.new)) }
+    ensures unprinted { IsPrint words.now → result ≡ 9 → IfScript (P.state script.old).left (λ s. Tells (canon s) (R.state report.old) (R.state report.new)) }
+    ensures report_settled { result ≡ 0 → IsSettled (R.state report.new) }
     ensures tells { IfSome (line_of_status result) (λ line. Tells line (R.state report.old) (R.state report.new)) }
     ensures tells_fault { result ≡ 2 → IfFault (P.state script.old).left (λ fault. Tells (script_line fault) (R.state report.old) (R.state report.new)) }
     ensures tells_length { result ≡ 3 → IfScript (P.state script.old).left (λ s. Tells (block_length_line (chosen_block words.now s) (unit s.input.channels s.blocks)) (R.state report.old) (R.state report.new)) }

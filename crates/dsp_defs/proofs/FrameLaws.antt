@@ -96,7 +96,7 @@ pub whole_frames_are_given : (block : Block) (n : ℕ) → window_end block n �
 whole_frames_are_given (ConvPartial first count taps) n h = grind (arith, common_steps)
 whole_frames_are_given block n h = refl
 
-window_cases : (block : Block) (blocks : List Block) (n : ℕ) → window_at (block ∷ blocks) n ≡ None → (window_end block n ≡ None) × (window_at blocks (whole_frames block n) ≡ None)
+pub window_cases : (block : Block) (blocks : List Block) (n : ℕ) → window_at (block ∷ blocks) n ≡ None → (window_end block n ≡ None) × (window_at blocks (whole_frames block n) ≡ None)
 window_cases block blocks n h = grind (arith, common_steps)
 
 pub frames_are_given : (blocks : List Block) (n : ℕ) → window_at blocks n ≡ None → frames_behind whole_frames blocks n ≡ frames_given blocks n

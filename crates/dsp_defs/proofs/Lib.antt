@@ -21,3 +21,6 @@ pub mod RowLaws
 pub mod TailLaws
 pub mod ChannelLaws
 pub mod NewRow
+pub mod CostLaws
+pub mod SampleLaws
+pub mod ChainPlaces

@@ -29,7 +29,6 @@ pub mod Reading
 pub mod Canon
 pub mod Words
 pub mod Report
-pub mod Built
 pub mod Unit
 pub mod Row
 pub mod Filter

@@ -1,17 +1,26 @@
--- The one line that a run which isn't done ends with.
+-- The lines that a run ends with.
 use Rattle.std.specs.Prelude.{ℕ, List, [], ◌++◌, codes}
 use Rattle.std.specs.Fmt.{decimal, signed_decimal}
+use Rattle.dsp_defs.specs.declared.format.Fmt.{Fmt}
+use Rattle.dsp_defs.specs.declared.script.Script.{Script}
 use Rattle.dsp_defs.specs.declared.script_fault.ScriptFault.{ScriptFault}
 use Rattle.dsp_defs.specs.declared.script_fault.ScriptKind.{ScriptKind}
 use Rattle.dsp_defs.specs.declared.script_fault.ScriptKind.TheVariants.{TooLong, BadByte, UnknownWord, BadNumber, OutOfRange, Missing, NoSuchForm, ChannelsHere, Length, TooMany}
+use Rattle.dsp_defs.specs.declared.wave.HeaderFault.{HeaderFault}
+use Rattle.dsp_defs.specs.declared.wave.HeaderFault.TheVariants.{NotRiff, NotWave, NoFormat, FormatSize, Tag, Bits, Channels, Align, NoSamples, Short}
 use Rattle.dsp_defs.specs.Canon.{line}
+use Rattle.dsp_defs.specs.Cost.{cost}
+use Rattle.dsp_defs.specs.Output.{format_of, channels_of}
+use Rattle.dsp_defs.specs.Shape.{frames_given}
 use Rattle.dsp_defs.specs.Table.{format_name}
 
 -- `, NAME VALUE`
 abbrev pub field : List ℕ → List ℕ → List ℕ
 field name value = codes ", " ++ name ++ codes " " ++ value
 
--- the name of a kind of fault
+-- ---- a run that isn't done
+
+-- the name of a kind of fault in a script
 abbrev pub kind_name : ScriptKind → List ℕ
 kind_name TooLong = codes "TooLong"
 kind_name BadByte = codes "BadByte"
@@ -33,21 +42,68 @@ kind_fields (Length taps factor) = field (codes "taps") (decimal taps) ++ field 
 kind_fields (TooMany limit) = field (codes "limit") (decimal limit)
 kind_fields kind = []
 
+-- the name of a fault of a WAVE input
+abbrev pub header_name : HeaderFault → List ℕ
+header_name NotRiff = codes "NotRiff"
+header_name NotWave = codes "NotWave"
+header_name NoFormat = codes "NoFormat"
+header_name (FormatSize got) = codes "FormatSize"
+header_name (Tag got) = codes "Tag"
+header_name (Bits got wanted) = codes "Bits"
+header_name (Channels got wanted) = codes "Channels"
+header_name (Align got wanted) = codes "Align"
+header_name NoSamples = codes "NoSamples"
+header_name (Short declared got) = codes "Short"
+
+-- its fields, in their order
+abbrev pub header_fields : HeaderFault → List ℕ
+header_fields (FormatSize got) = field (codes "got") (decimal got)
+header_fields (Tag got) = field (codes "got") (decimal got)
+header_fields (Bits got wanted) = field (codes "got") (decimal got) ++ field (codes "wanted") (decimal wanted)
+header_fields (Channels got wanted) = field (codes "got") (decimal got) ++ field (codes "wanted") (decimal wanted)
+header_fields (Align got wanted) = field (codes "got") (decimal got) ++ field (codes "wanted") (decimal wanted)
+header_fields (Short declared got) = field (codes "declared") (decimal declared) ++ field (codes "got") (decimal got)
+header_fields fault = []
+
+-- `KIND at OFFSET` and the kind's fields
+abbrev pub located : List ℕ → ℕ → List ℕ → List ℕ
+located kind offset fields = kind ++ codes " at " ++ decimal offset ++ fields
+
 -- the words are no command
 abbrev pub usage_line : List ℕ
 usage_line = line (codes "dspfx: usage: run SCRIPT IN OUT [block N], gen SEED FRAMES SCRIPT OUT, print SCRIPT")
 
--- `dspfx: script: KIND at OFFSET` and the kind's fields
+-- `dspfx: script: ` and the fault where it stands
 abbrev pub script_line : ScriptFault → List ℕ
-script_line fault = line (codes "dspfx: script: " ++ kind_name fault.kind ++ codes " at " ++ decimal fault.offset ++ kind_fields fault.kind)
+script_line fault = line (codes "dspfx: script: " ++ located (kind_name fault.kind) fault.offset (kind_fields fault.kind))
 
 -- `dspfx: block length N, unit U`
 abbrev pub block_length_line : ℕ → ℕ → List ℕ
 block_length_line block unit = line (codes "dspfx: block length " ++ decimal block ++ field (codes "unit") (decimal unit))
 
--- `dspfx: lengths: input taken T, limit L`
+-- `dspfx: header: ` and the fault where it stands
+abbrev pub header_line : HeaderFault → ℕ → List ℕ
+header_line fault offset = line (codes "dspfx: header: " ++ located (header_name fault) offset (header_fields fault))
+
+-- `dspfx: lengths: ` and two numbers with their names
+abbrev pub lengths_line : List ℕ → ℕ → List ℕ → ℕ → List ℕ
+lengths_line first a second b = line (codes "dspfx: lengths: " ++ first ++ codes " " ++ decimal a ++ field second (decimal b))
+
+-- `input taken T, limit L`
 abbrev pub input_limit_line : ℕ → ℕ → List ℕ
-input_limit_line taken limit = line (codes "dspfx: lengths: input taken " ++ decimal taken ++ field (codes "limit") (decimal limit))
+input_limit_line taken limit = lengths_line (codes "input taken") taken (codes "limit") limit
+
+-- `gather held H, more M`
+abbrev pub gather_line : ℕ → ℕ → List ℕ
+gather_line held more = lengths_line (codes "gather held") held (codes "more") more
+
+-- `window end E, length L`
+abbrev pub window_line : ℕ → ℕ → List ℕ
+window_line end length = lengths_line (codes "window end") end (codes "length") length
+
+-- `riff size S, limit L`
+abbrev pub riff_line : ℕ → ℕ → List ℕ
+riff_line size limit = lengths_line (codes "riff size") size (codes "limit") limit
 
 -- the script's source failed
 abbrev pub script_read_line : List ℕ
@@ -68,3 +124,25 @@ memory_line = line (codes "dspfx: want of memory")
 -- the script is sound, and of a form that isn't built
 abbrev pub not_built_line : List ℕ
 not_built_line = line (codes "dspfx: form not built")
+
+-- ---- a run that is done
+
+-- `dspfx: done`
+abbrev pub done_line : List ℕ
+done_line = line (codes "dspfx: done")
+
+-- `WORD N frames of C channels FORMAT`
+abbrev pub frames_line : List ℕ → ℕ → ℕ → Fmt → List ℕ
+frames_line word frames channels format =
+    line (word ++ codes " " ++ decimal frames ++ codes " frames of " ++ decimal channels ++ codes " channels " ++ format_name format)
+
+-- `multiplies COST`
+abbrev pub multiplies_line : ℕ → List ℕ
+multiplies_line multiplies = line (codes "multiplies " ++ decimal multiplies)
+
+-- what a run over n frames of input reports: what came in, what went out, and the multiplies
+abbrev pub report_text : Script → ℕ → List ℕ
+report_text script n =
+    done_line ++ frames_line (codes "in") n script.input.channels script.input.format
+    ++ frames_line (codes "out") (frames_given script.blocks n) (channels_of script) (format_of script)
+    ++ multiplies_line (cost script.input.format script.input.channels script.blocks n)

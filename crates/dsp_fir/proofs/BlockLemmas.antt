@@ -1,16 +1,16 @@
--- A block of a FIR filter, over the lists that its window shows.
-use Rattle.std.proofs.Common.{◌≡◌, ◌∙◌, ap, sym, ℕ, ◌+◌, ◌-◌, ◌<◌, ◌*ℤ◌, ℤ, pos, List, ◌++◌, length, map, take, drop, slice_range, arith}
-use Rattle.std.proofs.lemmas.List.{take-map, drop-map, get_or-drop, get_or-take, length-map}
+-- A block of a filter, over the lists that its window shows.
+use Rattle.std.proofs.Common.{◌≡◌, ◌∙◌, ap, sym, ℕ, ◌+◌, ◌-◌, ◌<◌, ℤ, pos, List, ◌++◌, length, map, take, drop, replicate, slice_range, arith}
+use Rattle.std.proofs.lemmas.List.{take-map, drop-map, get_or-drop, get_or-take, take-append-le, take_all, length-replicate}
 use Rattle.dsp_defs.specs.declared.format.Fmt.{Fmt}
-use Rattle.dsp_defs.specs.Formats.{close}
-use Rattle.dsp_defs.specs.Signal.{sample, sum_below}
+use Rattle.dsp_defs.specs.Signal.{sample}
 use Rattle.dsp_defs.specs.Streaming.{Continues, last_of, rows}
 use Rattle.dsp_defs.specs.Sums.{fir}
-use Rattle.dsp_defs.proofs.Signal.{sum_below_cong}
 use Rattle.dsp_defs.proofs.Streaming.{fir-append, fir_later-rows}
+use Rattle.dsp_window.specs.Rolling.{Rolling, last_samples}
+use Rattle.dsp_window.proofs.Rolls.{last_shows}
 
 -- a piece of a slice, as numbers
-sample-piece :
+pub sample-piece :
     {X : Type 0} → (number : X → ℤ) (xs : List X) (i m j : ℕ) → j < m →
     sample (map number (slice_range xs i (i + m))) j ≡ sample (map number xs) (i + j)
 sample-piece number xs i m j below =
@@ -21,15 +21,30 @@ sample-piece number xs i m j below =
     ∙ ap (λ l. sample l j) (sym (drop-map number i xs))
     ∙ get_or-drop i (map number xs) j (pos 0)
 
--- the closed sum over a piece of the window is a row
-pub piece-row :
-    {X : Type 0} → (number : X → ℤ) (format : Fmt) (taps window : List X) (i : ℕ) →
-    close format (sum_below (length taps) (λ k. sample (map number taps) k *ℤ sample (map number (slice_range window i (i + length taps))) k))
-    ≡ close format (sum_below (length (map number taps)) (λ j. sample (map number taps) j *ℤ sample (map number window) (i + j)))
-piece-row number format taps window i =
-    ap (close format)
-    (sum_below_cong (length taps) _ _ (λ j below. ap (λ v. sample (map number taps) j *ℤ v) (sample-piece number window i (length taps) j below))
-    ∙ ap (λ n. sum_below n (λ j. sample (map number taps) j *ℤ sample (map number window) (i + j))) (sym (length-map taps number)))
+-- what was written to the front of an output
+pub front-written : {X : Type 0} → (count : ℕ) (out old : List X) → length out ≡ count → take count (out ++ drop count old) ≡ out
+front-written count out old same =
+    take-append-le count out (drop count old) (omega arith) ∙ take_all count out (omega arith)
+
+-- ---- a window that has rolled
+
+-- a new window keeps zeros
+pub new-past : (w : Rolling) (p q room : ℕ) → w ≡ record { past = p; room = room; samples = replicate p (pos 0) } → p ≡ q → last_samples w.past w.samples ≡ replicate q (pos 0)
+new-past w p q room made same =
+    let all : length (replicate p (pos 0)) - p ≡ 0 = omega (arith, length-replicate p (pos 0)) in
+    ap (λ (v : Rolling). last_samples v.past v.samples) made ∙ ap (λ m. drop m (replicate p (pos 0))) all ∙ ap (λ n. replicate n (pos 0)) same
+
+module _ (old new : Rolling) (p : ℕ) (x block : List ℤ) (rolls : new ≡ record old { samples = last_samples old.past old.samples ++ block }) (kept : last_samples old.past old.samples ≡ last_of p x) where
+  -- it shows the last numbers of x and then the block
+  pub shows-after : new.samples ≡ last_of p x ++ block
+  shows-after = ap (λ (w : Rolling). w.samples) rolls ∙ ap (λ l. l ++ block) kept
+
+  -- it keeps the last numbers of x and the block
+  pub keeps-after : old.past ≡ p → last_samples new.past new.samples ≡ last_of p (x ++ block)
+  keeps-after past =
+      ap (λ n. last_samples n new.samples) (ap (λ (w : Rolling). w.past) rolls ∙ past) ∙ last_shows p new.samples x block shows-after
+
+-- ---- values
 
 -- the rows of the window go on where the filter's values for x end
 pub block-values :

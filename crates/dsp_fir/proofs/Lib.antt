@@ -1,2 +1,3 @@
 pub mod BlockLemmas
+pub mod DelayLemmas
 pub mod ChannelLemmas

@@ -22,12 +22,13 @@ new_fir taps block = record { taps = taps; past = replicate (length taps - 1) (p
 abbrev pub StandsFor : FirState → List ℤ → Type 0
 StandsFor fir x = fir.past ≡ last_of (length fir.taps - 1) x
 
+-- the fault of such a block
+abbrev pub block_fault : ℕ → Option MakeFault
+block_fault block = if nat_le 1 block && nat_le block 1048576 then None else Some (Range (pos block))
+
 -- the first fault of so many taps and such a block
 abbrev pub fir_fault : ℕ → ℕ → Option MakeFault
-fir_fault taps block =
-    if nat_le 1 taps && nat_le taps 4096
-    then (if nat_le 1 block && nat_le block 1048576 then None else Some (Range (pos block)))
-    else Some (Length taps 1)
+fir_fault taps block = if nat_le 1 taps && nat_le taps 4096 then block_fault block else Some (Length taps 1)
 
 -- what a unit sees of the filter of one of its channels
 abbrev pub channel_state : Fmt → FirState → FilterState

@@ -1,2 +1,3 @@
 pub mod FirState
+pub mod SparseState
 pub mod FirUnit

@@ -1,6 +1,6 @@
-use crate::sums::rows;
-use dsp_defs::{MAX_SAMPLES, MAX_TAPS, MakeFault, Steps};
-use dsp_sat::Sample;
+use crate::making::check_block;
+use dsp_defs::{MAX_TAPS, MakeFault, Steps};
+use dsp_lanes::{LaneSample, Lanes};
 use dsp_window::Window;
 use std::alloc::Global;
 use std::marker::Model;
@@ -8,13 +8,13 @@ use std::sync::ledger::Ledger;
 
 /// A finite impulse response filter on one channel (`arm_fir_q7`, `arm_fir_q15`, `arm_fir_q31`); `L` is the number of lanes.
 #[derive(Drop)]
-pub struct Fir<T: Sample, const L: usize> {
+pub struct Fir<T: LaneSample<L>, const L: usize> {
     taps: Vec<T>,
     window: Window<T>,
     ended: bool,
 }
 
-impl<T: Sample, const L: usize> Model for Fir<T, L> {
+impl<T: LaneSample<L>, const L: usize> Model for Fir<T, L> {
     ghost use Rattle.std.specs.Prelude.{◌≡◌, ◌≤◌, ◌+◌, length, map, vec_len};
     ghost use Rattle.dsp_window.specs.Rolling.{last_samples};
     ghost use Rattle.dsp_fir.specs.FirState.{FirState};
@@ -26,11 +26,12 @@ impl<T: Sample, const L: usize> Model for Fir<T, L> {
     ghost invariant = { λ f. (f.window.past + 1 ≡ vec_len f.taps) × (f.window.past ≤ length f.window.samples) };
 }
 
-impl<T: Sample, const L: usize> Fir<T, L> {
+impl<T: LaneSample<L>, const L: usize> Fir<T, L> {
     ghost use Rattle.std.specs.Prelude.{◌≡◌, ◌≤◌, ◌+◌, ◌*◌, ◌++◌, List, [], ℤ, true, length, map, take, drop, IfOk, IfErr, IsFalse, IsTrue, ◌↔◌, All, FitsSigned, MatchOption};
     ghost use Rattle.dsp_defs.specs.Formats.{word};
     ghost use Rattle.dsp_defs.specs.Streaming.{Continues};
     ghost use Rattle.dsp_defs.specs.Sums.{fir};
+    ghost use Rattle.dsp_lanes.specs.Turns.{lane_turns};
     ghost use Rattle.dsp_fir.specs.FirState.{StandsFor, new_fir, fir_fault};
 
     /// A filter that has taken nothing, from the taps in time-reversed order, `b[T-1]` to `b[0]`, for blocks of at most
@@ -47,11 +48,7 @@ impl<T: Sample, const L: usize> Fir<T, L> {
                 factor: 1,
             });
         }
-        if block == 0 || block > MAX_SAMPLES {
-            return Err(MakeFault::Range {
-                value: block as i128,
-            });
-        }
+        check_block(block)?;
         let Ok(window) = Window::new(alloc, taps.len() - 1, block) else {
             return Err(MakeFault::Memory);
         };
@@ -92,11 +89,12 @@ impl<T: Sample, const L: usize> Fir<T, L> {
         ensures running { IsFalse self.new.ended }
         ensures rest { drop result output.new ≡ drop result output.old }
         ensures multiplies { steps.new.multiplies ≡ steps.old.multiplies + length input.now * length self.old.taps }
-        ensures turns { steps.new.turns ≤ steps.old.turns + length input.now * length self.old.taps }
+        ensures turns { steps.new.turns ≤ steps.old.turns + length self.old.taps * lane_turns L (length input.now) }
     {
         let count = input.len();
         self.window.push_block(input);
-        rows(&self.taps, self.window.slice(), &mut output[..count], steps);
+        let output = &mut output[..count];
+        Lanes::<T, L>::rows(&self.taps, self.window.slice(), output, steps);
         count
     }
 

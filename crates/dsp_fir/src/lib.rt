@@ -2,12 +2,15 @@
 #![tactic(auto)]
 
 mod channel;
+mod delayed_rows;
 mod fir;
-mod sums;
+mod making;
+mod sparse;
 mod unit;
 
-pub use channel::FirChannel;
+pub use channel::{FirChannel, SparseChannel};
 pub use fir::Fir;
+pub use sparse::Sparse;
 pub use unit::Unit;
 
 #[cfg(test)]

@@ -6,6 +6,7 @@ mod fault;
 mod laws;
 mod lengths;
 mod numeral;
+mod output;
 mod places;
 mod printer;
 mod reader;
@@ -18,6 +19,7 @@ pub use dsp_defs::{ScriptFault, ScriptKind};
 pub use fault::ParseFault;
 pub use laws::{canonical_text_is_read_back, one_reading};
 pub use lengths::{cost, default_block, frames_given, legal, unit};
+pub use output::{output_flow, output_rate};
 pub use printer::print;
 pub use reader::parse;
 

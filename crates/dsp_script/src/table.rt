@@ -280,15 +280,5 @@ pub fn flow_after(flow: Flow, block: &Block) -> Flow
     requires { HasFewChannels block.now }
     ensures { result ≡ flow_after block.now flow }
 {
-    let format = match block {
-        Block::To { format } => *format,
-        _ => flow.format,
-    };
-    let channels = match block {
-        Block::Add | Block::Sub | Block::Mult | Block::MagSquared => 1,
-        Block::CmplxMult | Block::CmplxMultReal => 2,
-        Block::Route { channels } => channels.as_slice().len() as u8,
-        _ => flow.channels,
-    };
-    Flow { format, channels }
+    flow.after(block)
 }

@@ -21,7 +21,7 @@ pub record Came (place count : ℕ) (old now : SourceState) (bytes : List ℕ) :
 -- why fewer came: the file has ended, the source has failed, or all was taken that may be
 abbrev pub IsMissed : HeaderOr → ℕ → SourceState → SourceState → List ℕ → Type 0
 IsMissed (Fault fault offset) place old now bytes = (fault ≡ NoSamples) × (offset ≡ place + length bytes) × IsAtEnd now.left × (now.faults ≡ old.faults)
-IsMissed Read place old now bytes = (old.faults ≤ now.faults) × Rose old.faults now.faults
+IsMissed Read place old now bytes = (old.faults ≤ now.faults) × Rose old.faults now.faults × (place + length bytes < 2 ^ 40)
 IsMissed Long place old now bytes = (place + length bytes ≡ 2 ^ 40) × (now.faults ≡ old.faults)
 
 pub record Missing (place count : ℕ) (old now : SourceState) (error : HeaderOr) : Type 0 where

@@ -11,7 +11,7 @@ pub use coding::{Coding, bytes_of, sample_of, width};
 pub use generator::GenSource;
 pub use reader::{HeaderOr, read_header};
 pub use slices::{decode, encode};
-pub use writer::{HEADER_ROOM, riff_size, write_header};
+pub use writer::{HEADER_ROOM, pad, riff_size, write_header};
 
 #[cfg(test)]
 mod tests;

@@ -1,7 +1,7 @@
 ghost use Rattle.std.specs.Prelude.{◌≡◌, ◌+◌, ◌≤◌, ◌++◌, ℕ, List, length, Some};
 ghost use Rattle.arrayvec.specs.ArrayVec.{array_vec_len};
 ghost use Rattle.dsp_defs.specs.Bytes.{width};
-ghost use Rattle.dsp_defs.specs.Wave.{HeaderFits, Heads, data_size, riff_size, wave_header, written_size};
+ghost use Rattle.dsp_defs.specs.Wave.{HeaderFits, Heads, data_size, pad, riff_size, wave_header, written_size};
 ghost use Rattle.dsp_defs.specs.declared.limits.TheConstants.{MAX_CHANNELS};
 
 use arrayvec::ArrayVec;
@@ -34,6 +34,17 @@ pub fn riff_size(format: Fmt, channels: u8, frames: u64) -> u128
 {
     let data = data_size(format, channels, frames);
     36 + data + data % 2
+}
+
+/// What stands behind the samples of a WAVE file: the byte 0 where their number is known and they
+/// have an odd number of bytes, else nothing.
+pub fn pad(format: Fmt, channels: u8, frames: Option<u64>) -> &'static [u8]
+    ensures { result.now ≡ pad format channels frames }
+{
+    match frames {
+        Some(frames) if data_size(format, channels, frames) % 2 != 0 => &[0],
+        _ => &[],
+    }
 }
 
 pub(crate) fn append(header: &mut ArrayVec<u8, HEADER_ROOM>, field: &[u8])

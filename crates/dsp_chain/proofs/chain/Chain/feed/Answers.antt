@@ -30,7 +30,7 @@ returns-clause-fed g c =
 pub returns-clause-full : goal.returns-clause-full
 returns-clause-full g c =
     let p : Place = record { format = c.self.inside.format; channels = c.self.inside.channels; capacity = c.self.inside.capacity } in
-    rw (← c.self.view_is) (let none = no-gather p (blocks_of c.self.inside.links.items) (c.self.inside.frames + length (frames_in c.self.inside.channels c.args.frames.now)) c.self.invariant.4 in (λ e. absurd (true-false e), λ full. absurd (let few : 1048577 ≤ 0 = rw none at full in omega (arith, few))))
+    rw (← c.self.view_is) (let none = no-gather (blocks_of c.self.inside.links.items) (c.self.inside.frames + length (frames_in c.self.inside.channels c.args.frames.now)) c.self.invariant.4 in (λ e. absurd (true-false e), λ full. absurd (let few : 1048577 ≤ 0 = rw none at full in omega (arith, few))))
   where
     true-false : false ≡ true → ⊥
     true-false e = cc

@@ -1,32 +1,67 @@
-use Rattle.std.proofs.Common.{◌≡◌, ◌∙◌, ap, refl, sym, ◌+◌, ◌*◌, ◌<◌, [], ◌∷◌, ◌++◌, length, take, drop, get_or, arith}
-use Rattle.std.proofs.lemmas.List.{drop_more, take_more, take_all}
-use Rattle.dsp_defs.specs.Row.{blocks_of, place_behind, place_room}
+use Rattle.std.proofs.Common.{◌≡◌, ◌∙◌, ap, refl, sym, subst, ◌+◌, ◌*◌, ◌<◌, ◌≤◌, [], ◌∷◌, ◌++◌, length, take, drop, get_or, arith, List}
+use Rattle.std.proofs.lemmas.List.{take_more, take_all}
+use Rattle.dsp_defs.specs.Row.{Place, place_after, blocks_of, place_behind, place_room}
+use Rattle.dsp_defs.specs.Block.{channels_after}
 use Rattle.dsp_defs.specs.declared.script.Block.{Block}
 use Rattle.dsp_defs.specs.Unit.{UnitState}
 use Rattle.dsp_chain.specs.Chain.{input_place, state_of}
+use Rattle.dsp_defs.proofs.ChainPlaces.{legal_is_open}
 use Rattle.dsp_defs.proofs.NewRow.{new-stand, new-count, new-run}
 use Rattle.dsp_defs.proofs.TailLaws.{runs-in-order}
-use Rattle.dsp_chain.proofs.Making.{making-more, all-stay}
+use Rattle.dsp_chain.proofs.Making.{Making, making-none, making-more, keeps-place, Next, next-first, making-next}
 use Rattle.dsp_chain.proofs.chain.Chain.new.Goals as goal
+
+pub loop-block-init : goal.loop-block-init
+loop-block-init c =
+    let p = input_place c.args.script.now c.args.block in
+    subst (λ (us : List UnitState). Making p p c.as_slice-blocks.result.now 0 us) (sym (c.in_ok-links.ensures.items))
+    (subst (λ (blocks : List Block). Making p p blocks 0 []) (sym c.as_slice-blocks.ensures)
+    (making-none p c.args.script.now.blocks c.requires.few_channels (legal_is_open p c.args.script.now.blocks c.requires.chain c.requires.channels c.requires.legal) c.requires.built))
+
+pub new-requires : goal.new-requires
+new-requires c =
+    let blocks = c.as_slice-blocks.result.now in
+    let i = c.loop-block.block-index in
+    let b = c.block-item.result in
+    let here : Place = record { format = c.loop-block.flow.format; channels = c.loop-block.flow.channels; capacity = c.args.block } in
+    let next : Next here b = making-next (input_place c.args.script.now c.args.block) here blocks i (i + 1) c.loop-block.links.items b (next-first blocks i b c.loop-block-test.true c.block-item.is) c.loop-block.invariant in
+    record { built = next.built; suits = next.suits; channels = next.open_here.channels; frames = next.open_here.capacity; samples = next.open_here.samples }
+
+pub after-flow-requires : goal.after-flow-requires
+after-flow-requires c =
+    let blocks = c.as_slice-blocks.result.now in
+    let i = c.loop-block.block-index in
+    let b = c.block-item.result in
+    let here : Place = record { format = c.loop-block.flow.format; channels = c.loop-block.flow.channels; capacity = c.args.block } in
+    let next : Next here b = making-next (input_place c.args.script.now c.args.block) here blocks i (i + 1) c.loop-block.links.items b (next-first blocks i b c.loop-block-test.true c.block-item.is) c.loop-block.invariant in
+    let few : channels_after c.loop-block.flow.channels b ≤ 16 = next.few_channels in
+    omega (arith, few)
 
 pub loop-block-preserved : goal.loop-block-preserved
 loop-block-preserved c =
     let blocks = c.as_slice-blocks.result.now in
     let i = c.loop-block.block-index in
     let b = c.block-item.result in
-    let within : i < length blocks = omega arith in
+    let p = input_place c.args.script.now c.args.block in
+    let here : Place = record { format = c.loop-block.flow.format; channels = c.loop-block.flow.channels; capacity = c.args.block } in
+    let next : Place = record { format = c.after-flow.result.format; channels = c.after-flow.result.channels; capacity = c.args.block } in
+    let within : i < length blocks = c.loop-block-test.true in
     let read : b ≡ get_or blocks i b = c.block-item.is in
-    let first : drop i blocks ≡ b ∷ drop (i + 1) blocks = drop_more blocks i b within ∙ ap (λ (e : Block). e ∷ drop (i + 1) blocks) (sym read) in
+    let first : drop i blocks ≡ b ∷ drop (i + 1) blocks = next-first blocks i b within read in
     let more : take (i + 1) blocks ≡ take i blocks ++ b ∷ [] = take_more blocks i b within ∙ ap (λ (e : Block). take i blocks ++ e ∷ []) (sym read) in
     let pushed : c.push.new.self.items ≡ c.loop-block.links.items ++ state_of c.in_ok-unit.unit ∷ [] = c.in_ok-push.ensures.items ∙ ap (λ (u : UnitState). c.loop-block.links.items ++ u ∷ []) c.in_ok-new.ensures in
-    rw pushed (making-more (input_place c.args.script.now c.args.block) blocks i (i + 1) c.loop-block.links.items (state_of c.in_ok-unit.unit) b first more c.in_ok-unit.ensures c.loop-block.invariant)
+    let step : next ≡ place_after here b = keeps-place here next b (making-next p here blocks i (i + 1) c.loop-block.links.items b first c.loop-block.invariant).built c.after-flow.ensures refl in
+    rw pushed (making-more p here next blocks i (i + 1) c.loop-block.links.items (state_of c.in_ok-unit.unit) b first more step c.in_ok-unit.ensures c.loop-block.invariant)
 
 pub invariant_of-result : goal.invariant_of-result
 invariant_of-result c =
     let run = new-run c.loop-block.links.items c.loop-block.invariant.fresh in
     let p = input_place c.args.script.now c.args.block in
-    let blocks : blocks_of c.loop-block.links.items ≡ c.args.script.now.blocks = c.loop-block.invariant.blocks_so_far ∙ take_all c.loop-block.block-index c.as_slice-blocks.result.now (omega arith) ∙ c.as_slice-blocks.ensures in
-    let room : c.args.block * c.from-2.result ≡ place_room (place_behind p (blocks_of c.loop-block.links.items)) = ap (λ n. c.args.block * n) c.from-2.ensures ∙ sym (ap place_room (ap (place_behind p) blocks ∙ all-stay p c.args.script.now.blocks c.requires.built)) in
+    let n = c.loop-block.block-index in
+    let read = c.as_slice-blocks.result.now in
+    let so_far = c.loop-block.invariant.blocks_so_far in
+    let blocks : blocks_of c.loop-block.links.items ≡ c.args.script.now.blocks = so_far ∙ take_all n read (omega arith) ∙ c.as_slice-blocks.ensures in
+    let room : c.args.block * c.from-2.result ≡ place_room (place_behind p (blocks_of c.loop-block.links.items)) = ap (λ n. c.args.block * n) c.from-2.ensures ∙ sym (ap place_room (ap (place_behind p) so_far ∙ c.loop-block.invariant.reached)) in
     rw c.from.ensures (c.loop-block.invariant.row, runs-in-order c.loop-block.links.items run, λ _. run, c.requires.channels, rw blocks c.requires.built, room)
 
 pub returns : goal.returns

@@ -5,4 +5,4 @@ use Rattle.dsp_chain.proofs.chain.Chain.window_fault.Goals as goal
 
 pub returns : goal.returns
 returns c =
-    rw (← c.self.view_is) (sym (no-window _ (blocks_of c.self.inside.links.items) (c.self.inside.frames + c.args.more) c.self.invariant.4))
+    rw (← c.self.view_is) (sym (no-window (blocks_of c.self.inside.links.items) (c.self.inside.frames + c.args.more) c.self.invariant.4))

@@ -1,0 +1,37 @@
+-- Which blocks have a unit.
+use Rattle.std.specs.Prelude.{Bool, is_some, Option, Some, None}
+use Rattle.std.specs.List.{list_all}
+use Rattle.dsp_defs.specs.declared.script.Block.{Block}
+use Rattle.dsp_defs.specs.declared.script.Block.TheVariants.{Offset, Negate, Abs, Scale, Shift, Clip, To, Add, Sub, Mult, Route, Conj, CmplxMult, CmplxMultReal, MagSquared, Fir, Sparse}
+use Rattle.dsp_defs.specs.declared.script.Script.{Script}
+use Rattle.dsp_chain.specs.declared.built.Family.{Family}
+use Rattle.dsp_chain.specs.declared.built.Family.TheVariants as family
+
+-- the blocks whose unit a block is, where it is built
+abbrev pub family_of : Block → Option Family
+family_of (Offset value) = Some family.Vector
+family_of Negate = Some family.Vector
+family_of Abs = Some family.Vector
+family_of (Scale fract shift) = Some family.Vector
+family_of (Shift shift) = Some family.Vector
+family_of (Clip low high) = Some family.Vector
+family_of (To format) = Some family.Vector
+family_of Add = Some family.Vector
+family_of Sub = Some family.Vector
+family_of Mult = Some family.Vector
+family_of (Route channels) = Some family.Vector
+family_of Conj = Some family.Complex
+family_of CmplxMult = Some family.Complex
+family_of CmplxMultReal = Some family.Complex
+family_of MagSquared = Some family.Complex
+family_of (Fir taps) = Some family.Fir
+family_of (Sparse taps delays) = Some family.Fir
+family_of block = None
+
+-- the block has a unit
+abbrev pub is_built_block : Block → Bool
+is_built_block block = is_some (family_of block)
+
+-- each block of the script has one; its containers, formats and channels may be any
+abbrev pub built : Script → Bool
+built script = list_all is_built_block script.blocks

@@ -1,0 +1,141 @@
+-- Products of the parts of complex numbers, and sums of them that fit the word.
+use Rattle.std.proofs.Common.{◌≡◌, ◌≢◌, ◌∙◌, ap, refl, sym, subst, to_z, of_z, ℕ, ◌+◌, ◌-◌, ◌*◌, ◌^◌, ◌<◌, ◌≤◌, ℤ, pos, negsuc, ◌+ℤ◌, ◌-ℤ◌, ◌*ℤ◌, SFits, arith, lit<}
+use Rattle.std.specs.Prelude.{FitsSigned, nat_abs}
+use Rattle.std.specs.Int.{w8, w16, w32, w64}
+use Rattle.std.proofs.lemmas.Int.{unsigned_abs-mul, to_z-of_z, ints}
+use Rattle.std.proofs.Math.Nat.{mul-le-mul, div-le_of_le-mul, div-lt_iff_lt-mul}
+use lib.Signed.{shr_z}
+use Rattle.dsp_sat.proofs.Words.{abs_within, product_fits, shift_down-is}
+use Rattle.dsp_defs.specs.Numbers.{◌>>◌}
+use Rattle.dsp_defs.specs.Formats.{word, word_bits}
+use Rattle.dsp_defs.specs.Complex.{product_shift, cmplx_mag_squared}
+use Rattle.dsp_defs.specs.declared.format.Fmt.{Fmt}
+use Rattle.dsp_defs.specs.declared.format.Fmt.TheVariants.{Q7, Q15, Q31}
+
+pub product-small : (format : Fmt) (a b : ℤ) → FitsSigned (word format) a → FitsSigned (word format) b → nat_abs (a *ℤ b) ≤ 2 ^ (2 * word_bits format - 2)
+product-small Q7 a b f g = rw unsigned_abs-mul (mul-le-mul (abs_within w8 a f) (abs_within w8 b g))
+product-small Q15 a b f g = rw unsigned_abs-mul (mul-le-mul (abs_within w16 a f) (abs_within w16 b g))
+product-small Q31 a b f g = rw unsigned_abs-mul (mul-le-mul (abs_within w32 a f) (abs_within w32 b g))
+
+-- a floor shift divides the size
+shr-small : (z : ℤ) (k m : ℕ) → 0 < 2 ^ k → nat_abs z ≤ m * 2 ^ k → nat_abs (z >> k) ≤ m
+shr-small (pos n) k m some h = div-le_of_le-mul (2 ^ k) (omega (arith, h))
+shr-small (negsuc n) k m some h = let below : n < m * 2 ^ k = omega (arith, h) in let q = (div-lt_iff_lt-mul some).1 below in omega (arith, q)
+
+pub shifted-small : (format : Fmt) (z : ℤ) → nat_abs z ≤ 2 ^ (2 * word_bits format - 2) → nat_abs (z >> product_shift format) ≤ 2 ^ (word_bits format - 3)
+shifted-small Q7 z h = shr-small z 9 32 (lit< tt) h
+shifted-small Q15 z h = shr-small z 17 8192 (lit< tt) h
+shifted-small Q31 z h = shr-small z 33 536870912 (lit< tt) h
+
+-- sums and differences of two small numbers
+small-fits : (format : Fmt) (z : ℤ) → nat_abs z ≤ 2 * 2 ^ (word_bits format - 3) → FitsSigned (word format) z
+small-fits Q7 (pos n) h = record { sfits = omega (arith, h) }
+small-fits Q7 (negsuc n) h = record { sfits = omega (arith, h) }
+small-fits Q15 (pos n) h = record { sfits = omega (arith, h) }
+small-fits Q15 (negsuc n) h = record { sfits = omega (arith, h) }
+small-fits Q31 (pos n) h = record { sfits = omega (arith, h) }
+small-fits Q31 (negsuc n) h = record { sfits = omega (arith, h) }
+
+sum-small : (x y : ℤ) (m : ℕ) → nat_abs x ≤ m → nat_abs y ≤ m → nat_abs (x +ℤ y) ≤ 2 * m
+sum-small x y m h k = omega (arith, ints)
+
+difference-small : (x y : ℤ) (m : ℕ) → nat_abs x ≤ m → nat_abs y ≤ m → nat_abs (x -ℤ y) ≤ 2 * m
+difference-small x y m h k = omega (arith, ints)
+
+pub sum-fits : (format : Fmt) (x y : ℤ) → nat_abs x ≤ 2 ^ (word_bits format - 3) → nat_abs y ≤ 2 ^ (word_bits format - 3) → FitsSigned (word format) (x +ℤ y)
+sum-fits format x y h k = small-fits format (x +ℤ y) (sum-small x y (2 ^ (word_bits format - 3)) h k)
+
+pub difference-fits : (format : Fmt) (x y : ℤ) → nat_abs x ≤ 2 ^ (word_bits format - 3) → nat_abs y ≤ 2 ^ (word_bits format - 3) → FitsSigned (word format) (x -ℤ y)
+difference-fits format x y h k = small-fits format (x -ℤ y) (difference-small x y (2 ^ (word_bits format - 3)) h k)
+
+-- a number of the word is one of 32 bits
+pub word-in-32 : (format : Fmt) (z : ℤ) → FitsSigned (word format) z → SFits w32 z
+word-in-32 Q7 z f = record { sfits = omega (arith, f.sfits) }
+word-in-32 Q15 z f = record { sfits = omega (arith, f.sfits) }
+word-in-32 Q31 z f = f
+
+pub shift-is : (format : Fmt) → word_bits format + 1 ≡ product_shift format
+shift-is Q7 = refl
+shift-is Q15 = refl
+shift-is Q31 = refl
+
+-- a small number is one of 32 bits
+pub small-in-32 : (format : Fmt) (z : ℤ) → nat_abs z ≤ 2 ^ (word_bits format - 3) → SFits w32 z
+small-in-32 format z h = word-in-32 format z (small-fits format z (omega (arith, h)))
+
+-- the product of two numbers of the word, as one of 64 bits
+pub product-in-64 : (format : Fmt) (a b : ℤ) → FitsSigned (word format) a → FitsSigned (word format) b → SFits w64 (a *ℤ b)
+product-in-64 format a b f g = product_fits w64 w32 w32 a b (word-in-32 format a f) (word-in-32 format b g) (lit< tt)
+
+-- ---- as the code computes them
+
+module _ (format : Fmt) (x y : ℤ) (x_small : nat_abs x ≤ 2 ^ (word_bits format - 3)) (y_small : nat_abs y ≤ 2 ^ (word_bits format - 3)) where
+  same_x : to_z w32 (of_z w32 x) ≡ x
+  same_x = to_z-of_z w32 x (small-in-32 format x x_small)
+
+  same_y : to_z w32 (of_z w32 y) ≡ y
+  same_y = to_z-of_z w32 y (small-in-32 format y y_small)
+
+  pub difference-in-32 : SFits w32 (to_z w32 (of_z w32 x) -ℤ to_z w32 (of_z w32 y))
+  difference-in-32 = subst (SFits w32) (sym (λ i. same_x i -ℤ same_y i)) (word-in-32 format (x -ℤ y) (difference-fits format x y x_small y_small))
+
+  pub sum-in-32 : SFits w32 (to_z w32 (of_z w32 x) +ℤ to_z w32 (of_z w32 y))
+  sum-in-32 = subst (SFits w32) (sym (λ i. same_x i +ℤ same_y i)) (word-in-32 format (x +ℤ y) (sum-fits format x y x_small y_small))
+
+  pub difference-is : to_z w32 (of_z w32 (to_z w32 (of_z w32 x) -ℤ to_z w32 (of_z w32 y))) ≡ x -ℤ y
+  difference-is = to_z-of_z w32 (to_z w32 (of_z w32 x) -ℤ to_z w32 (of_z w32 y)) difference-in-32 ∙ (λ i. same_x i -ℤ same_y i)
+
+  pub sum-is : to_z w32 (of_z w32 (to_z w32 (of_z w32 x) +ℤ to_z w32 (of_z w32 y))) ≡ x +ℤ y
+  sum-is = to_z-of_z w32 (to_z w32 (of_z w32 x) +ℤ to_z w32 (of_z w32 y)) sum-in-32 ∙ (λ i. same_x i +ℤ same_y i)
+
+  pub difference-in-word : FitsSigned (word format) (to_z w32 (of_z w32 (to_z w32 (of_z w32 x) -ℤ to_z w32 (of_z w32 y))))
+  difference-in-word = subst (FitsSigned (word format)) (sym difference-is) (difference-fits format x y x_small y_small)
+
+  pub sum-in-word : FitsSigned (word format) (to_z w32 (of_z w32 (to_z w32 (of_z w32 x) +ℤ to_z w32 (of_z w32 y))))
+  sum-in-word = subst (FitsSigned (word format)) (sym sum-is) (sum-fits format x y x_small y_small)
+
+-- ---- squared magnitudes
+
+within : (z : ℤ) (m : ℕ) → nat_abs z ≤ 2 * m → 2 * m < 2 ^ 63 → SFits w64 z
+within (pos n) m h k = record { sfits = omega (arith, h, k) }
+within (negsuc n) m h k = record { sfits = omega (arith, h, k) }
+
+pub magnitude-wide : (format : Fmt) (a b : ℤ) → word_bits format ≡ 32 → cmplx_mag_squared format a b ≡ (a *ℤ a >> product_shift format) +ℤ (b *ℤ b >> product_shift format)
+magnitude-wide Q7 a b e = absurd (omega (arith, e))
+magnitude-wide Q15 a b e = absurd (omega (arith, e))
+magnitude-wide Q31 a b e = refl
+
+pub magnitude-narrow : (format : Fmt) (a b : ℤ) → word_bits format ≢ 32 → cmplx_mag_squared format a b ≡ (a *ℤ a +ℤ b *ℤ b >> product_shift format)
+magnitude-narrow Q7 a b e = refl
+magnitude-narrow Q15 a b e = refl
+magnitude-narrow Q31 a b e = absurd (e refl)
+
+pub sum-in-64 : (format : Fmt) (x y : ℤ) → word_bits format ≢ 32 → nat_abs x ≤ 2 ^ (2 * word_bits format - 2) → nat_abs y ≤ 2 ^ (2 * word_bits format - 2) → SFits w64 (x +ℤ y)
+sum-in-64 Q7 x y e h k = within (x +ℤ y) 16384 (sum-small x y 16384 h k) (lit< tt)
+sum-in-64 Q15 x y e h k = within (x +ℤ y) 1073741824 (sum-small x y 1073741824 h k) (lit< tt)
+sum-in-64 Q31 x y e h k = absurd (e refl)
+
+pub shifted-sum-fits : (format : Fmt) (x y : ℤ) → nat_abs x ≤ 2 ^ (2 * word_bits format - 2) → nat_abs y ≤ 2 ^ (2 * word_bits format - 2) → FitsSigned (word format) (x +ℤ y >> product_shift format)
+shifted-sum-fits Q7 x y h k = small-fits Q7 (x +ℤ y >> 9) (shr-small (x +ℤ y) 9 64 (lit< tt) (sum-small x y 16384 h k))
+shifted-sum-fits Q15 x y h k = small-fits Q15 (x +ℤ y >> 17) (shr-small (x +ℤ y) 17 16384 (lit< tt) (sum-small x y 1073741824 h k))
+shifted-sum-fits Q31 x y h k = small-fits Q31 (x +ℤ y >> 33) (shr-small (x +ℤ y) 33 1073741824 (lit< tt) (sum-small x y 4611686018427387904 h k))
+
+one-in-64 : (format : Fmt) (x : ℤ) → word_bits format ≢ 32 → nat_abs x ≤ 2 ^ (2 * word_bits format - 2) → SFits w64 x
+one-in-64 Q7 x e h = within x 8192 h (lit< tt)
+one-in-64 Q15 x e h = within x 536870912 h (lit< tt)
+one-in-64 Q31 x e h = absurd (e refl)
+
+module _ (format : Fmt) (x y : ℤ) (places : ℕ) (narrow : word_bits format ≢ 32) (x_small : nat_abs x ≤ 2 ^ (2 * word_bits format - 2)) (y_small : nat_abs y ≤ 2 ^ (2 * word_bits format - 2))
+    (amount : places ≡ product_shift format) where
+  both : to_z w64 (of_z w64 x) +ℤ to_z w64 (of_z w64 y) ≡ x +ℤ y
+  both = λ i. to_z-of_z w64 x (one-in-64 format x narrow x_small) i +ℤ to_z-of_z w64 y (one-in-64 format y narrow y_small) i
+
+  shifted : to_z w64 (of_z w64 (shr_z (to_z w64 (of_z w64 (to_z w64 (of_z w64 x) +ℤ to_z w64 (of_z w64 y)))) (2 ^ places))) ≡ (x +ℤ y >> product_shift format)
+  shifted = shift_down-is w64 _ (x +ℤ y) places (product_shift format) (subst (SFits w64) (sym both) (sum-in-64 format x y narrow x_small y_small)) both amount
+
+  pub magnitude-is : to_z w32 (of_z w32 (to_z w64 (of_z w64 (shr_z (to_z w64 (of_z w64 (to_z w64 (of_z w64 x) +ℤ to_z w64 (of_z w64 y)))) (2 ^ places))))) ≡ (x +ℤ y >> product_shift format)
+  magnitude-is =
+      ap (λ z. to_z w32 (of_z w32 z)) shifted ∙ to_z-of_z w32 (x +ℤ y >> product_shift format) (word-in-32 format (x +ℤ y >> product_shift format) (shifted-sum-fits format x y x_small y_small))
+
+  pub magnitude-in-word : FitsSigned (word format) (to_z w32 (of_z w32 (to_z w64 (of_z w64 (shr_z (to_z w64 (of_z w64 (to_z w64 (of_z w64 x) +ℤ to_z w64 (of_z w64 y)))) (2 ^ places))))))
+  magnitude-in-word = subst (FitsSigned (word format)) (sym magnitude-is) (shifted-sum-fits format x y x_small y_small)

@@ -1,0 +1,13 @@
+//! Blocks of complex samples: calls on slices of interleaved components, and the unit of a chain.
+#![tactic(auto)]
+
+mod calls;
+mod frames;
+mod operation;
+mod scalars;
+#[cfg(test)]
+mod tests;
+mod unit;
+
+pub use calls::{conj, mag_squared, mult_cmplx, mult_real};
+pub use unit::Unit;

@@ -1,0 +1,78 @@
+ghost use Rattle.std.specs.Prelude.{◌≡◌, ◌≤◌, ◌+◌, ◌*◌, length, take};
+ghost use Rattle.dsp_defs.specs.Block.{frames_in, channels_after};
+ghost use Rattle.dsp_defs.specs.Grammar.{Suits};
+ghost use Rattle.dsp_defs.specs.Unit.{IsSignal};
+ghost use Rattle.dsp_vector.specs.Memoryless.{Gives, price};
+
+use crate::frames::{Conjugate, Product, RealProduct, SquaredMagnitude, give_frames};
+use dsp_defs::{Block, Steps};
+use dsp_sat::WideSample;
+use std::sync::ledger::Ledger;
+
+/// What a block of this crate does with frames.
+#[derive(Clone, Copy)]
+pub(crate) enum Operation {
+    Conj,
+    CmplxMult,
+    CmplxMultReal,
+    MagSquared,
+}
+
+impl Operation {
+    ghost use Rattle.dsp_complex.specs.ComplexUnit.{block_of, IsComplexBlock};
+
+    /// The operation of a block.
+    pub fn new(block: &Block) -> Operation
+        requires { IsComplexBlock block.now }
+        ensures { block_of result ≡ block.now }
+    {
+        match block {
+            Block::Conj => Operation::Conj,
+            Block::CmplxMult => Operation::CmplxMult,
+            Block::CmplxMultReal => Operation::CmplxMultReal,
+            _ => Operation::MagSquared,
+        }
+    }
+
+    /// The channels of a frame that it gives of a frame of so many.
+    pub fn channels_given(self, channels: usize) -> usize
+        ensures { result ≡ channels_after channels (block_of self) }
+    {
+        match self {
+            Operation::Conj => channels,
+            Operation::CmplxMult | Operation::CmplxMultReal => 2,
+            Operation::MagSquared => 1,
+        }
+    }
+
+    /// Writes what it gives of samples of the format of T, frame by frame, and answers their number.
+    pub fn feed<T: WideSample, L: Ledger>(
+        self,
+        channels: usize,
+        frames: &[i32],
+        out: &mut [i32],
+        steps: &mut Steps<L>,
+    ) -> usize
+        requires suits { Suits (record { format = T.format; channels = channels }) (block_of self) }
+        requires some { 1 ≤ channels }
+        requires signal { IsSignal T.format channels frames.now }
+        requires room { length (frames_in channels frames.now) * channels_after channels (block_of self) ≤ length out.old }
+        ensures within { result ≤ length out.old }
+        ensures given { Gives T.format channels (block_of self) frames.now (take result out.new) }
+        ensures multiplies { steps.new.multiplies ≡ steps.old.multiplies + length (frames_in channels frames.now) * price (block_of self) channels }
+    {
+        let count = frames.len() / channels;
+        match self {
+            Operation::Conj => give_frames::<T, Conjugate, L>(Conjugate, frames, count, out, steps),
+            Operation::CmplxMult => give_frames::<T, Product, L>(
+                Product, frames, count, out, steps,
+            ),
+            Operation::CmplxMultReal => {
+                give_frames::<T, RealProduct, L>(RealProduct, frames, count, out, steps)
+            }
+            Operation::MagSquared => {
+                give_frames::<T, SquaredMagnitude, L>(SquaredMagnitude, frames, count, out, steps)
+            }
+        }
+    }
+}

@@ -1,0 +1,83 @@
+ghost use Rattle.std.specs.Prelude.{◌≡◌, ◌≤◌, ◌-◌, ◌*◌, ◌^◌, ◌*ℤ◌, nat_abs};
+ghost use Rattle.dsp_defs.specs.Complex.{cmplx_conj, cmplx_mag_squared, cmplx_mult, product_shift};
+ghost use Rattle.dsp_defs.specs.Counts.{Rises};
+ghost use Rattle.dsp_defs.specs.Formats.{word_bits};
+ghost use Rattle.dsp_defs.specs.Numbers.{floor_shift};
+
+use dsp_defs::Steps;
+use dsp_sat::WideSample;
+use std::sync::ledger::Ledger;
+
+/// A complex number.
+#[derive(Clone, Copy)]
+pub(crate) struct Complex<T> {
+    pub re: T,
+    pub im: T,
+}
+
+/// The conjugate.
+#[inline(always)]
+pub(crate) fn conjugate<T: WideSample>(a: Complex<T>) -> Complex<T>
+    ensures re { T.number result.re ≡ (cmplx_conj T.format (T.number a.re) (T.number a.im)).0 }
+    ensures im { T.number result.im ≡ (cmplx_conj T.format (T.number a.re) (T.number a.im)).1 }
+{
+    Complex {
+        re: a.re,
+        im: T::negate(a.im),
+    }
+}
+
+/// A product of two parts.
+#[inline(always)]
+fn product_of_parts<T: WideSample, L: Ledger>(a: T, b: T, steps: &mut Steps<L>) -> i64
+    ensures value { result ≡ T.number a *ℤ T.number b }
+    ensures small { nat_abs result ≤ 2 ^ (2 * word_bits T.format - 2) }
+    ensures steps { Rises steps.old steps.new 1 1 }
+{
+    steps.count(1, 1);
+    i64::from(a.number()) * i64::from(b.number())
+}
+
+/// A product of two parts, shifted so that the sum of two of them fits the word.
+#[inline(always)]
+fn shifted_product<T: WideSample, L: Ledger>(a: T, b: T, steps: &mut Steps<L>) -> i32
+    ensures value { result ≡ floor_shift (T.number a *ℤ T.number b) (product_shift T.format) }
+    ensures small { nat_abs result ≤ 2 ^ (word_bits T.format - 3) }
+    ensures steps { Rises steps.old steps.new 1 1 }
+{
+    (product_of_parts(a, b, steps) >> (T::WORD_BITS + 1)) as i32
+}
+
+/// The product.
+#[inline(always)]
+pub(crate) fn product<T: WideSample, L: Ledger>(
+    a: Complex<T>,
+    b: Complex<T>,
+    steps: &mut Steps<L>,
+) -> Complex<T>
+    ensures re { T.number result.re ≡ (cmplx_mult T.format (T.number a.re) (T.number a.im) (T.number b.re) (T.number b.im)).0 }
+    ensures im { T.number result.im ≡ (cmplx_mult T.format (T.number a.re) (T.number a.im) (T.number b.re) (T.number b.im)).1 }
+    ensures steps { Rises steps.old steps.new 4 4 }
+{
+    let re = shifted_product(a.re, b.re, steps) - shifted_product(a.im, b.im, steps);
+    let im = shifted_product(a.re, b.im, steps) + shifted_product(a.im, b.re, steps);
+    Complex {
+        re: T::of_number(re),
+        im: T::of_number(im),
+    }
+}
+
+/// The squared magnitude.
+#[inline(always)]
+pub(crate) fn squared<T: WideSample, L: Ledger>(a: Complex<T>, steps: &mut Steps<L>) -> T
+    ensures value { T.number result ≡ cmplx_mag_squared T.format (T.number a.re) (T.number a.im) }
+    ensures steps { Rises steps.old steps.new 2 2 }
+{
+    if T::WORD_BITS == 32 {
+        let sum = shifted_product(a.re, a.re, steps) + shifted_product(a.im, a.im, steps);
+        T::of_number(sum)
+    } else {
+        let sum = product_of_parts(a.re, a.re, steps) + product_of_parts(a.im, a.im, steps);
+        T::of_number((sum >> (T::WORD_BITS + 1)) as i32)
+    }
+}

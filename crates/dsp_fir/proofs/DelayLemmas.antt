@@ -1,0 +1,160 @@
+-- Delays of a sparse filter, and the sums that its taps add to.
+use Rattle.std.proofs.Common.{◌≡◌, ◌∙◌, ap, sym, refl, ℕ, zero, suc, ◌+◌, ◌-◌, ◌*◌, ◌<◌, ◌≤◌, ℤ, pos, ◌+ℤ◌, List, [], ◌∷◌, ◌++◌, length, map, get_or, slice_range, None, Some, true, false, drop, length-take-le, length-drop, arith, ⊎_elim}
+use Rattle.std.specs.Prelude.{All, fold, max, find, nat_lt, cond, Option, MatchOption, Result, Ok, Err}
+use Rattle.std.specs.Option.{option_map}
+use Rattle.std.specs.Simd.Lanes.{zip2}
+use Rattle.std.proofs.lemmas.Bool.{cases_lt}
+use Rattle.std.proofs.lemmas.Int.{int_wrap-add_left, int_wrap-mul_right}
+use Rattle.std.proofs.lemmas.Bool.Decides.{nat_tests}
+use Rattle.std.proofs.lemmas.List.{length-map}
+use Rattle.std.proofs.lemmas.List.FromFn.{length-map-range_with_len, get_or-map-range_with_len, fill_by_all}
+use Rattle.std.proofs.lemmas.Simd.{length-zip2, get_or-zip2}
+use Rattle.std.proofs.Math.Nat.{le-max_left, le-max_right, max-le}
+use Rattle.dsp_defs.specs.Numbers.{◌>>◌, saturate, wrap, w32}
+use Rattle.dsp_defs.specs.Signal.{sample, delayed, values, sum_below}
+use Rattle.dsp_defs.specs.Streaming.{Continues, last_of}
+use Rattle.dsp_defs.specs.Sums.{sparse, sparse_term, sparse_close}
+use Rattle.dsp_defs.proofs.FormatLemmas.{wrap-wrap}
+use Rattle.dsp_defs.proofs.Signal.{values_cong, values-add, sum_below_cong, delayed-append}
+use Rattle.dsp_defs.proofs.Streaming.{window_at}
+use Rattle.std.proofs.lemmas.List.{length-append}
+use Rattle.dsp_lanes.specs.Turns.{RisesWithin}
+use Rattle.dsp_defs.specs.Counts.{Counts}
+use Rattle.dsp_fir.specs.SparseState.{greatest_delay, delays_fault, delayed_sum, sparse_rows}
+use Rattle.dsp_defs.specs.declared.fault.MakeFault.{MakeFault}
+use Rattle.dsp_defs.specs.declared.fault.MakeFault.TheVariants.{Range}
+use Rattle.dsp_fir.proofs.BlockLemmas.{sample-piece}
+use Rattle.dsp_defs.specs.declared.format.Fmt.{Fmt}
+use Rattle.dsp_defs.specs.declared.format.Fmt.TheVariants.{Q7, Q15, Q31}
+
+-- ---- the greatest delay
+
+grows : (a : ℕ) (delays : List ℕ) → a ≤ fold max a delays
+grows a [] = omega arith
+grows a (d ∷ delays) = omega (arith, grows (max a d) delays, le-max_left a d)
+
+below_greatest : (a : ℕ) (delays : List ℕ) (k e : ℕ) → k < length delays → get_or delays k e ≤ fold max a delays
+below_greatest a [] k e h = absurd (omega (arith, h))
+below_greatest a (d ∷ delays) zero e h = omega (arith, grows (max a d) delays, le-max_right a d)
+below_greatest a (d ∷ delays) (suc k) e h = below_greatest (max a d) delays k e (omega (arith, h))
+
+pub delays-within : (delays : List ℕ) → All (λ d. d ≤ greatest_delay delays) delays
+delays-within delays k e h = below_greatest 0 delays k e h
+
+-- where none is over n, the greatest is not
+pub greatest-within : (n a : ℕ) (delays : List ℕ) → a ≤ n → find (λ d. nat_lt n d) delays ≡ None → fold max a delays ≤ n
+greatest-within n a [] h none = h
+greatest-within n a (d ∷ delays) h none =
+    ⊎_elim
+    (λ (over : n < d). let test : nat_lt n d ≡ true = grind (arith, nat_tests) in
+    absurd (some_is_some d (ap (λ t. cond t (Some d) (find (λ d. nat_lt n d) delays)) (sym test) ∙ none)))
+    (λ (fits : d ≤ n). let test : nat_lt n d ≡ false = grind (arith, nat_tests) in
+    greatest-within n (max a d) delays (max-le h fits) (ap (λ t. cond t (Some d) (find (λ d. nat_lt n d) delays)) (sym test) ∙ none))
+    (cases_lt n d)
+  where
+    some_is_some : (d : ℕ) → Some d ≡ None → ⊥
+    some_is_some d e = cc e
+
+-- delays without a fault are as they may be
+pub delays-fit : (delays : List ℕ) (u : Unit {0}) → MatchOption (delays_fault delays) (◌≡◌ {A = Result (Unit {0}) MakeFault} (Ok u) (Ok tt)) (λ e. ◌≡◌ {A = Result (Unit {0}) MakeFault} (Ok u) (Err e)) → greatest_delay delays ≤ 65535
+delays-fit delays u answer = greatest-within 65535 0 delays (omega arith) (none (find (λ d. nat_lt 65535 d) delays) answer)
+  where
+    none : (found : Option ℕ) → MatchOption (option_map (λ d. Range (pos d)) found) (◌≡◌ {A = Result (Unit {0}) MakeFault} (Ok u) (Ok tt)) (λ e. ◌≡◌ {A = Result (Unit {0}) MakeFault} (Ok u) (Err e)) → found ≡ None
+    none None answer = refl
+    none (Some d) answer = absurd (cc answer)
+
+-- ---- the sums
+
+pub taps-more :
+    {X : Type 0} → (number : X → ℤ) (format : Fmt) (taps : List ℤ) (delays : List ℕ) (past : ℕ) (window : List X) (sums new : List ℤ) (n k m d : ℕ) (t : ℤ) →
+    m ≡ k + 1 → t ≡ sample taps k → d ≡ get_or delays k 0 → d ≤ past → length window ≡ past + n →
+    sums ≡ values n (λ i. wrap w32 (delayed_sum format taps delays past (map number window) k i)) →
+    new ≡ zip2 (λ s x. wrap w32 (s +ℤ sparse_term format t x)) sums (map number (slice_range window (past - d) (past - d + n))) →
+    new ≡ values n (λ i. wrap w32 (delayed_sum format taps delays past (map number window) m i))
+taps-more number format taps delays past window sums new n k m d t next is_tap is_delay within long summed added =
+    fill_by_all (λ i. wrap w32 (delayed_sum format taps delays past (map number window) m i)) new n (pos 0) size each
+  where
+    f : ℤ → ℤ → ℤ
+    f s x = wrap w32 (s +ℤ sparse_term format t x)
+
+    piece : List ℤ
+    piece = map number (slice_range window (past - d) (past - d + n))
+
+    piece_long : length piece ≡ n
+    piece_long = length-map (slice_range window (past - d) (past - d + n)) number ∙ length-take-le (past - d + n - (past - d)) (drop (past - d) window) (omega (arith, length-drop (past - d) window)) ∙ omega arith
+
+    sums_long : length sums ≡ n
+    sums_long = ap length summed ∙ length-map-range_with_len _ 0 n
+
+    size : length new ≡ n
+    size = ap length added ∙ length-zip2 f sums piece (sums_long ∙ sym piece_long) ∙ sums_long
+
+    each : (i : ℕ) → i < n → sample new i ≡ wrap w32 (delayed_sum format taps delays past (map number window) m i)
+    each i h =
+        let s = delayed_sum format taps delays past (map number window) k i in
+        let place : past - d + i ≡ i + (past - get_or delays k 0) = omega (arith, is_delay) in
+        let x : sample piece i ≡ sample (map number window) (i + (past - get_or delays k 0)) = sample-piece number window (past - d) n i h ∙ ap (sample (map number window)) place in
+        let sum : sample sums i ≡ wrap w32 s = ap (λ l. sample l i) summed ∙ get_or-map-range_with_len (λ i. wrap w32 (delayed_sum format taps delays past (map number window) k i)) 0 n i i (pos 0) h (omega arith) in
+        let step : m ≡ suc k = omega arith in
+        ap (λ l. sample l i) added
+        ∙ get_or-zip2 f sums piece i (pos 0) (pos 0) (pos 0) (omega (arith, h, sums_long)) (omega (arith, h, piece_long))
+        ∙ (λ j. wrap w32 (sum j +ℤ sparse_term format (is_tap j) (x j)))
+        ∙ int_wrap-add_left w32 s (sparse_term format (sample taps k) (sample (map number window) (i + (past - get_or delays k 0))))
+        ∙ ap (λ c. wrap w32 (delayed_sum format taps delays past (map number window) c i)) (sym step)
+
+-- closing takes the wrap away
+sparse_close-wrap : (format : Fmt) (sum : ℤ) → sparse_close format (wrap w32 sum) ≡ sparse_close format sum
+sparse_close-wrap Q7 sum = ap (λ z. saturate 8 (z >> 7)) (wrap-wrap w32 sum)
+sparse_close-wrap Q15 sum = ap (λ z. saturate 16 (z >> 15)) (wrap-wrap w32 sum)
+sparse_close-wrap Q31 sum = int_wrap-mul_right w32 (pos 2) sum
+
+-- closed sums are the rows
+pub sums-close :
+    (format : Fmt) (taps : List ℤ) (delays : List ℕ) (past : ℕ) (window sums out : List ℤ) (n count : ℕ) → count ≡ length taps →
+    sums ≡ values n (λ i. wrap w32 (delayed_sum format taps delays past window count i)) →
+    out ≡ values n (λ i. sparse_close format (sample sums i)) → out ≡ sparse_rows format taps delays past window n
+sums-close format taps delays past window sums out n count all summed closed =
+    closed
+    ∙ values_cong n _ _
+    (λ i h. ap (sparse_close format)
+    (ap (λ l. sample l i) summed ∙ get_or-map-range_with_len (λ i. wrap w32 (delayed_sum format taps delays past window count i)) 0 n i i (pos 0) h (omega arith))
+    ∙ sparse_close-wrap format (delayed_sum format taps delays past window count i)
+    ∙ ap (λ c. sparse_close format (delayed_sum format taps delays past window c i)) all)
+
+-- one tap more is counted
+pub tap-counted : (a b c : Counts) (k m n t p q : ℕ) → m ≡ k + 1 → p ≡ n → q ≡ t → RisesWithin a b (k * n) (k * t) → RisesWithin b c p q → RisesWithin a c (m * n) (m * t)
+tap-counted a b c k m n t p q next same same' first second =
+    let products : m * n ≡ k * n + n = ap (λ j. j * n) next ∙ omega arith in
+    let turns : m * t ≡ k * t + t = ap (λ j. j * t) next ∙ omega arith in
+    record {
+      multiplies_rise = omega (arith, products);
+      turns_within = omega (arith, turns);
+    }
+
+-- ---- the signal
+
+-- the rows of the window go on where the filter's values for x end
+pub sparse-values :
+    (format : Fmt) (taps : List ℤ) (delays : List ℕ) (past : ℕ) (x block window out : List ℤ) (count : ℕ) → ((k : ℕ) → k < length taps → get_or delays k 0 ≤ past) →
+    window ≡ last_of past x ++ block → count ≡ length block → out ≡ sparse_rows format taps delays past window count → Continues (sparse format taps delays) x block out
+sparse-values format taps delays past x block window out count within shows same is =
+    rw (length-append x block)
+    (values-add (length x) (length block) output)
+    ∙ ap (λ front. front ++ values (length block) (λ i. output (length x + i))) (values_cong (length x) output _ before)
+    ∙ ap (λ later. sparse format taps delays x ++ later)
+    (values_cong (length block) (λ i. output (length x + i)) _ after
+    ∙ ap (λ w. sparse_rows format taps delays past w (length block)) (sym shows)
+    ∙ ap (sparse_rows format taps delays past window) (sym same)
+    ∙ sym is)
+  where
+    output : ℕ → ℤ
+    output n = sparse_close format (sum_below (length taps) (λ k. sparse_term format (sample taps k) (delayed (x ++ block) n (get_or delays k 0))))
+
+    before : (n : ℕ) → n < length x → output n ≡ sparse_close format (sum_below (length taps) (λ k. sparse_term format (sample taps k) (delayed x n (get_or delays k 0))))
+    before n h = ap (sparse_close format) (sum_below_cong (length taps) _ _ (λ k _. ap (sparse_term format (sample taps k)) (delayed-append x block n (get_or delays k 0) h)))
+
+    after : (i : ℕ) → i < length block → output (length x + i) ≡ sparse_close format (delayed_sum format taps delays past (last_of past x ++ block) (length taps) i)
+    after i _ = ap (sparse_close format)
+        (sum_below_cong (length taps) _ _
+        (λ k h. let near = within k h in
+        ap (sparse_term format (sample taps k)) (sym (window_at x block past i (past - get_or delays k 0) (get_or delays k 0) (omega (arith, near))))))

@@ -1,0 +1,67 @@
+-- What a contract sees of a sparse filter.
+use Rattle.std.specs.Prelude.{ℕ, ◌-◌, ◌+◌, ◌≡◌, ℤ, pos, Bool, false, List, length, map, replicate, fold, max, find, get_or, Option, Some, nat_le, nat_lt, nat_eq, ◌&&◌, if◌then◌else◌}
+use Rattle.std.specs.Option.{option_map, option_or}
+use Rattle.dsp_defs.specs.Signal.{sample, values, sum_below}
+use Rattle.dsp_defs.specs.Streaming.{last_of}
+use Rattle.dsp_defs.specs.Sums.{sparse_term, sparse_close}
+use Rattle.dsp_defs.specs.Filter.{FilterState}
+use Rattle.dsp_fir.specs.FirState.{block_fault}
+use Rattle.dsp_defs.specs.declared.format.Fmt.{Fmt}
+use Rattle.dsp_defs.specs.declared.script.Block.TheVariants as Block
+use Rattle.dsp_defs.specs.declared.fault.MakeFault.{MakeFault}
+use Rattle.dsp_defs.specs.declared.fault.MakeFault.TheVariants.{Length, Range}
+
+-- its taps and their delays as they were given, the last numbers that it took, the greatest length of a block, and whether `finish` was called
+pub record SparseState : Type 0 where
+  pub taps : List ℤ
+  pub delays : List ℕ
+  pub past : List ℤ
+  pub block : ℕ
+  pub ended : Bool
+
+-- how far back the filter reads
+abbrev pub greatest_delay : List ℕ → ℕ
+greatest_delay delays = fold max 0 delays
+
+-- a filter that has taken nothing
+abbrev pub new_sparse : List ℤ → List ℕ → ℕ → SparseState
+new_sparse taps delays block = record { taps = taps; delays = delays; past = replicate (greatest_delay delays) (pos 0); block = block; ended = false }
+
+-- the filter has taken the signal x: it keeps the last numbers of it, as many as its greatest delay, with zeros before
+abbrev pub StandsFor : SparseState → List ℤ → Type 0
+StandsFor sparse x = sparse.past ≡ last_of (greatest_delay sparse.delays) x
+
+-- ---- faults
+
+-- the first delay that is too great
+abbrev pub delays_fault : List ℕ → Option MakeFault
+delays_fault delays = option_map (λ d. Range (pos d)) (find (λ d. nat_lt 65535 d) delays)
+
+-- the first fault of so many taps, such delays and such a block
+abbrev pub sparse_fault : ℕ → List ℕ → ℕ → Option MakeFault
+sparse_fault taps delays block =
+    if nat_le 2 taps && nat_le taps 4096
+    then (if nat_eq (length delays) taps then option_or (delays_fault delays) (block_fault block) else Some (Length (length delays) taps))
+    else Some (Length taps 2)
+
+-- ---- values
+
+-- the sum over k < count of taps[k] * window[i + past - delays[k]]
+abbrev pub delayed_sum : Fmt → List ℤ → List ℕ → ℕ → List ℤ → ℕ → ℕ → ℤ
+delayed_sum format taps delays past window count i =
+    sum_below count (λ k. sparse_term format (sample taps k) (sample window (i + (past - get_or delays k 0))))
+
+-- the outputs over a window of the past and the block
+abbrev pub sparse_rows : Fmt → List ℤ → List ℕ → ℕ → List ℤ → ℕ → List ℤ
+sparse_rows format taps delays past window n = values n (λ i. sparse_close format (delayed_sum format taps delays past window (length taps) i))
+
+-- ---- a channel of a unit
+
+abbrev pub channel_state : Fmt → SparseState → FilterState
+channel_state format s = record {
+  block = Block.Sparse s.taps (map pos s.delays);
+  format = format;
+  capacity = s.block;
+  kept = s.past;
+  price = length s.taps;
+}

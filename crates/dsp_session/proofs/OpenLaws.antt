@@ -1,0 +1,156 @@
+-- Where a stream stops before the first sample.
+use Rattle.std.proofs.Common.{◌≡◌, ◌⊎◌, ℕ, ◌+◌, ◌*◌, ◌/◌, ◌<◌, ◌≤◌, ◌^◌, List, [], ◌∷◌, ◌++◌, length, take, drop, fold, Option, Some, None, Result, Ok, Err, refl, sym, ap, ◌∙◌, subst, arith, append-nil, append_assoc, inl, inr}
+use Rattle.std.proofs.lemmas.List.{take_all, take-append-drop}
+use Rattle.std.specs.Result.{IsOk}
+use Rattle.std.specs.Io.KnownBytes.{append_known}
+use Rattle.dsp_ports.specs.Ports.{SourceState, SinkState, Rose, Gave, Took}
+use Rattle.dsp_ports.proofs.Moved.{Took-nil}
+use Rattle.dsp_defs.specs.Block.{channels_after}
+use Rattle.dsp_defs.specs.Grammar.{IsChain}
+use Rattle.dsp_defs.specs.Output.{HasHeader, HeaderIsThere, input_header, output_header, output_pad, live_bytes, known_frames, wanted_of, format_of, channels_of, rate_of, part}
+use Rattle.dsp_defs.specs.Streaming.{Begins}
+use Rattle.dsp_defs.specs.Table.{flow_after}
+use Rattle.dsp_defs.specs.Wave.{header_of, wave_header, pad}
+use Rattle.dsp_defs.specs.declared.format.Container.TheVariants as container
+use Rattle.dsp_defs.specs.declared.flow.Flow.{Flow}
+use Rattle.dsp_defs.specs.declared.format.InputKind.TheVariants as kind
+use Rattle.dsp_defs.specs.declared.limits.TheConstants.{MAX_CHANNELS}
+use Rattle.dsp_defs.specs.declared.script.Block.{Block}
+use Rattle.dsp_defs.specs.declared.script.Script.{Script}
+use Rattle.dsp_defs.specs.declared.wave.Header.{Header}
+use Rattle.dsp_defs.specs.declared.wave.HeaderFault.{HeaderFault}
+use Rattle.dsp_defs.proofs.ChainPlaces.{few_channels_after}
+use Rattle.dsp_wave.specs.Reading.{IsSure}
+use Rattle.dsp_script.proofs.Paces.{IsLegal, legal_parts}
+use Rattle.dsp_session.specs.declared.fault.LengthFault.{LengthFault}
+use Rattle.dsp_session.specs.declared.fault.LengthFault.TheVariants as length_fault
+use Rattle.dsp_session.specs.declared.fault.StreamFault.{StreamFault}
+use Rattle.dsp_session.specs.declared.fault.StreamFault.TheVariants as fault
+use Rattle.dsp_session.specs.Session.{IsReady, frame_bytes, block_bytes, signal, cost_of}
+use Rattle.dsp_session.specs.Opening.{Opens, Opened, Unopened, IsUnopened, TooLong}
+use Rattle.dsp_session.specs.Stream.{StopsAt, Stopped, WrotePart, Nothing, LagsByOne, declared_bytes, frames_in_bytes}
+use Rattle.dsp_session.specs.Passing.{InDeclared}
+use Rattle.dsp_session.proofs.OpeningLaws.{some_frame, part_blocks}
+use Rattle.std.proofs.Math.Nat.{mul-le-mul}
+
+-- the output has few channels
+channels_stay_few : (flow : Flow) (blocks : List Block) → IsChain flow blocks → flow.channels ≤ MAX_CHANNELS → fold channels_after flow.channels blocks ≤ MAX_CHANNELS
+channels_stay_few flow [] chain few = few
+channels_stay_few flow (block ∷ blocks) chain few = channels_stay_few (flow_after block flow) blocks chain.1 (few_channels_after flow block chain.0 few)
+
+pub few_channels : (script : Script) (block : ℕ) → IsReady script block → channels_of script ≤ MAX_CHANNELS
+few_channels script block ready =
+    let fit = ready.sound.1.fit in
+    channels_stay_few (record { format = script.input.format; channels = script.input.channels }) script.blocks fit.chain fit.channels.1
+
+pub some_block : (script : Script) (block : ℕ) → IsReady script block → 0 < block_bytes script block
+some_block script block ready = mul-le-mul (legal_parts script.input.channels script.blocks block ready.legal).some (some_frame script block ready)
+
+-- what stands before the samples of a WAVE output, and behind them
+pub header_bytes : (script : Script) (header : Header) → script.output ≡ container.Wave → output_header script header ≡ wave_header (format_of script) (channels_of script) (rate_of script header.rate) (known_frames script header)
+header_bytes script header wave = rw wave refl
+
+pub pad_bytes : (script : Script) (header : Header) → script.output ≡ container.Wave → output_pad script header ≡ pad (format_of script) (channels_of script) (known_frames script header)
+pad_bytes script header wave = rw wave refl
+
+-- bytes that are known to have a fault have no header
+no_header : (script : Script) (fault : HeaderFault) (offset : ℕ) (given : List ℕ) (now : SourceState) → script.input.kind ≡ kind.Wave → IsSure (λ bytes. header_of bytes (wanted_of script)) now given (Err (fault, offset)) → HasHeader script given → ⊥
+no_header script fault offset given now wave sure has =
+    let faulty : header_of given (wanted_of script) ≡ Err (fault, offset) = said sure in
+    let there : IsOk (header_of given (wanted_of script)) = subst (λ k. HeaderIsThere k (wanted_of script) given) wave has in
+    let none : IsOk {T = Header} {E = HeaderFault × ℕ} (Err (fault, offset)) = subst IsOk faulty there in
+    absurd cc
+  where
+    said : IsSure (λ bytes. header_of bytes (wanted_of script)) now given (Err (fault, offset)) → header_of given (wanted_of script) ≡ Err (fault, offset)
+    said (inl all) = ap (λ bytes. header_of bytes (wanted_of script)) (sym (append-nil given)) ∙ all []
+    said (inr (end, here)) = here
+
+-- nothing was written before the header of the input was there
+module _ (script : Script) (block multiplies : ℕ) (input now : SourceState) (sink : SinkState) where
+  unwritten : (fault : StreamFault) (given : List ℕ) → Gave input now given → (HasHeader script given → ⊥) → StopsAt fault script block given [] input now sink sink → Stopped script block fault input now sink sink multiplies multiplies
+  unwritten fault given gave none stops =
+      record {
+        given = given;
+        written = [];
+        gave = gave;
+        put = (Took-nil sink).put;
+        stops = stops;
+        lag = λ has. absurd (none has);
+        cost = omega arith;
+      }
+
+  by_cause : (fault : StreamFault) (given : List ℕ) → Gave input now given → IsUnopened fault script given input now → Stopped script block fault input now sink sink multiplies multiplies
+  by_cause fault.Input given gave cause =
+      unwritten fault.Input given gave cause.2 (record { wrote = Nothing cause.2 refl; risen = cause.0; in_limit = cause.1 })
+  by_cause (fault.Header f offset) given gave cause =
+      unwritten (fault.Header f offset) given gave (no_header script f offset given now cause.0 cause.1)
+      (inl (record { wave = cause.0; sure = cause.1; untouched = refl; clean = cause.2 }))
+  by_cause (fault.Lengths (length_fault.Input taken limit)) given gave cause =
+      unwritten (fault.Lengths (length_fault.Input taken limit)) given gave cause.3
+      (record { wrote = Nothing cause.3 refl; all = cause.0; wanted = λ has. absurd (cause.3 has); at_limit = cause.1; limit = cause.2; clean = cause.4 })
+  by_cause _ given gave cause = absurd cause
+
+  pub stops_unopened : (fault : StreamFault) → Unopened script fault input now → Stopped script block fault input now sink sink multiplies multiplies
+  stops_unopened fault u = by_cause fault u.given u.gave u.cause
+
+-- the header of the input is there, and no sample was taken
+module _ (script : Script) (block multiplies : ℕ) (ready : IsReady script block) (header : Header) (input now : SourceState) (sink : SinkState) (opened : Opened script header input now) where
+  abbrev first : List ℕ
+  first = opened.first
+
+  header_is : input_header script first ≡ header
+  header_is = ap (input_header script) (sym (append-nil first)) ∙ opened.opens.said []
+
+  has : HasHeader script first
+  has = subst (HasHeader script) (append-nil first) (opened.opens.has [])
+
+  lags_none : (written : List ℕ) → LagsByOne script block first written
+  lags_none written =
+      let start : (input_header script first).start ≡ length first = ap (λ (h : Header). h.start) header_is ∙ opened.opens.start in
+      record { blocks = 0; taken = omega (arith, start); wrote = inl refl; one = omega (arith, start) }
+
+  stops_first : (fault : StreamFault) (after : SinkState) (written : List ℕ) → after.put ≡ append_known sink.put written → StopsAt fault script block first written input now sink after → Stopped script block fault input now sink after multiplies multiplies
+  stops_first fault after written put stops =
+      record {
+        given = first;
+        written = written;
+        gave = opened.gave;
+        put = put;
+        stops = stops;
+        lag = λ _. lags_none written;
+        cost = omega arith;
+      }
+
+  pub stops_too_long : (length : LengthFault) (known : Option ℕ) → known ≡ known_frames script header → TooLong length script known → Stopped script block (fault.Lengths length) input now sink sink multiplies multiplies
+  stops_too_long (length_fault.Riff size limit) known is (wave, frames, some, long) =
+      stops_first (fault.Lengths (length_fault.Riff size limit)) sink [] (Took-nil sink).put
+      (record {
+        has = has;
+        alone = sym (ap (λ (h : Header). h.start) header_is ∙ opened.opens.start);
+        wave = wave;
+        frames = frames;
+        known = ap (known_frames script) header_is ∙ sym is ∙ some;
+        size_is = long.size_is;
+        over = long.over;
+        limit = long.limit;
+        untouched = refl;
+        clean = opened.no_fault;
+      })
+  stops_too_long _ known is none = absurd none
+
+  none_declared : InDeclared (declared_bytes script header) 0
+  none_declared = by_size header.size
+    where
+      by_size : (size : Option ℕ) → InDeclared (elim size [ Some s ↦ Some (s / frame_bytes script * frame_bytes script) | None ↦ None ]) 0
+      by_size None = tt
+      by_size (Some size) = omega arith
+
+  pub stops_unwritten : (after : SinkState) (count : ℕ) → Took sink after (take count (output_header script header)) → Rose sink.faults after.faults → Stopped script block fault.Output input now sink after multiplies multiplies
+  stops_unwritten after count took risen =
+      let all = output_header script header in
+      let parted : part script block first ≡ all ++ live_bytes script (signal script []) =
+      ap (part script block) (sym (append-nil first)) ∙ part_blocks script (some_frame script block ready) header first opened.opens block 0 [] [] (omega arith) (some_block script block ready) none_declared in
+      let split : part script block first ≡ take count all ++ (drop count all ++ live_bytes script (signal script [])) =
+      parted ∙ ap (λ xs. xs ++ live_bytes script (signal script [])) (sym (take-append-drop count all)) ∙ append_assoc (take count all) (drop count all) (live_bytes script (signal script [])) in
+      stops_first fault.Output after (take count all) took.put
+      (record { has = has; wrote = inl (drop count all ++ live_bytes script (signal script []), split); risen = risen; clean = opened.no_fault })

@@ -1,0 +1,90 @@
+-- Behind the header of the input stand its samples, block after block.
+use Rattle.std.proofs.Common.{◌≡◌, ℕ, ◌+◌, ◌-◌, ◌*◌, ◌/◌, ◌<◌, ◌≤◌, ◌^◌, List, [], ◌++◌, length, take, drop, Option, Some, None, refl, sym, ap, ap₂, ◌∙◌, subst, arith, length-append, append-nil}
+use Rattle.std.proofs.lemmas.List.{drop_at, take_all, take_at}
+use Rattle.std.proofs.lemmas.Nat.{div-mul-add}
+use Rattle.std.proofs.Math.Nat.{mul_assoc}
+use Rattle.dsp_defs.specs.Block.{Frame}
+use Rattle.dsp_defs.specs.Bytes.{width}
+use Rattle.dsp_defs.specs.Output.{input_container, input_header, input_signal, sample_bytes, output_header, output_pad, live_bytes, whole_bytes, whole_blocks, output, part}
+use Rattle.dsp_defs.specs.declared.script.Script.{Script}
+use Rattle.dsp_defs.specs.declared.wave.Header.{Header}
+use Rattle.dsp_defs.proofs.SampleLaws.{width-some, length-samples, samples-nil, samples-append, samples-whole, count-whole}
+use Rattle.dsp_session.specs.Session.{IsReady, frame_bytes, block_bytes, signal}
+use Rattle.dsp_session.specs.Opening.{Opens}
+use Rattle.dsp_session.specs.Stream.{declared_bytes, frames_in_bytes}
+use Rattle.dsp_session.specs.Passing.{InDeclared}
+use Rattle.std.proofs.Math.Nat.{mul-le-mul}
+
+-- ---- frames and blocks
+
+some_product : (a b : ℕ) → 1 ≤ a → 1 ≤ b → 1 ≤ a * b
+some_product a b h k = mul-le-mul h k
+
+pub some_frame : (script : Script) (block : ℕ) → IsReady script block → 0 < frame_bytes script
+some_frame script block ready = some_product script.input.channels (width script.input.format) ready.sound.1.fit.channels.0 (width-some script.input.format)
+
+-- a number of frames that are whole blocks
+pub frames_of_blocks : (script : Script) (block blocks count : ℕ) → count ≡ blocks * block_bytes script block → count ≡ blocks * block * frame_bytes script
+frames_of_blocks script block blocks count is = is ∙ sym (mul_assoc blocks block (frame_bytes script))
+
+-- whole blocks of frames, and less than one more
+whole_blocks-append : (block blocks : ℕ) (x y : List Frame) → length x ≡ blocks * block → length y < block → whole_blocks block (x ++ y) ≡ x
+whole_blocks-append block blocks x y long short =
+    let all : length (x ++ y) ≡ blocks * block + length y = omega (arith, long, length-append x y) in
+    let count : length (x ++ y) / block ≡ blocks = ap (λ n. n / block) all ∙ div-mul-add blocks block (length y) short in
+    ap (λ n. take (n * block) (x ++ y)) count ∙ take_at x y (blocks * block) long
+
+div_less : (n b f : ℕ) → 0 < f → n < b * f → n / f < b
+div_less n b f some less = grind (arith)
+
+pub floor_within : (n f : ℕ) → n / f * f ≤ n
+floor_within n f = grind (arith)
+
+module _ (script : Script) (some : 0 < frame_bytes script) where
+  pub signal-nil : signal script [] ≡ []
+  signal-nil = samples-nil (input_container script) script.input.format script.input.channels
+
+  pub length-signal : (bytes : List ℕ) → length (signal script bytes) ≡ length bytes / frame_bytes script
+  length-signal bytes = length-samples (input_container script) script.input.format script.input.channels bytes
+
+  pub signal-append : (heard more : List ℕ) (n : ℕ) → length heard ≡ n * frame_bytes script → signal script (heard ++ more) ≡ signal script heard ++ signal script more
+  signal-append heard more n whole = samples-append (input_container script) script.input.format script.input.channels n heard more some whole
+
+  pub frames-whole : (bytes : List ℕ) (n : ℕ) → length bytes ≡ n * frame_bytes script → length (signal script bytes) ≡ n
+  frames-whole bytes n whole = length-signal bytes ∙ count-whole (input_container script) script.input.format script.input.channels n bytes [] some whole
+
+-- ---- behind the header
+
+module _ (script : Script) (some : 0 < frame_bytes script) (header : Header) (first : List ℕ) (opens : Opens script header first) where
+  dropped : (bytes : List ℕ) → drop header.start (first ++ bytes) ≡ bytes
+  dropped bytes = drop_at first bytes header.start (sym opens.start)
+
+  by_size : (bytes : List ℕ) (size : Option ℕ) → InDeclared (elim size [ Some s ↦ Some (s / frame_bytes script * frame_bytes script) | None ↦ None ]) (length bytes)
+      → elim size [ Some s ↦ take s (drop header.start (first ++ bytes)) | None ↦ drop header.start (first ++ bytes) ] ≡ bytes
+  by_size bytes None declared = dropped bytes
+  by_size bytes (Some size) declared = ap (take size) (dropped bytes) ∙ take_all size bytes (omega (arith, declared, floor_within size (frame_bytes script)))
+
+  samples_are : (bytes : List ℕ) → InDeclared (declared_bytes script header) (length bytes) → sample_bytes header (first ++ bytes) ≡ bytes
+  samples_are bytes declared = by_size bytes header.size declared
+
+  pub signal_is : (bytes : List ℕ) → InDeclared (declared_bytes script header) (length bytes) → input_signal script (first ++ bytes) ≡ signal script bytes
+  signal_is bytes declared = rw (opens.said bytes) (ap (signal script) (samples_are bytes declared))
+
+  pub frames_are : (bytes : List ℕ) → InDeclared (declared_bytes script header) (length bytes) → frames_in_bytes script (first ++ bytes) ≡ length (signal script bytes)
+  frames_are bytes declared = ap length (signal_is bytes declared)
+
+  pub output_is : (bytes : List ℕ) → InDeclared (declared_bytes script header) (length bytes) → output script (first ++ bytes) ≡ output_header script header ++ whole_bytes script (signal script bytes) ++ output_pad script header
+  output_is bytes declared = rw (signal_is bytes declared, opens.said bytes) refl
+
+  part_is : (block : ℕ) (bytes : List ℕ) → InDeclared (declared_bytes script header) (length bytes) → part script block (first ++ bytes) ≡ output_header script header ++ live_bytes script (whole_blocks block (signal script bytes))
+  part_is block bytes declared = rw (signal_is bytes declared, opens.said bytes) refl
+
+  -- the part of whole blocks, and of less than one more
+  pub part_blocks : (block blocks : ℕ) (heard bytes : List ℕ) → length heard ≡ blocks * block_bytes script block → length bytes < block_bytes script block → InDeclared (declared_bytes script header) (length (heard ++ bytes))
+      → part script block (first ++ (heard ++ bytes)) ≡ output_header script header ++ live_bytes script (signal script heard)
+  part_blocks block blocks heard bytes long short declared =
+      let whole = frames_of_blocks script block blocks (length heard) long in
+      let rest : length (signal script bytes) < block = rw (length-signal script some bytes) (div_less (length bytes) block (frame_bytes script) some short) in
+      part_is block (heard ++ bytes) declared
+      ∙ ap (λ x. output_header script header ++ live_bytes script (whole_blocks block x)) (signal-append script some heard bytes (blocks * block) whole)
+      ∙ ap (λ x. output_header script header ++ live_bytes script x) (whole_blocks-append block blocks (signal script heard) (signal script bytes) (frames-whole script some heard (blocks * block) whole) rest)

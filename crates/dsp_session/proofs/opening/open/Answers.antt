@@ -1,0 +1,17 @@
+use Rattle.std.proofs.lemmas.Result.{err_from_is_err_and}
+use Rattle.dsp_session.proofs.OpenLaws as laws
+use Rattle.dsp_session.proofs.opening.open.Goals as goal
+
+pub returns-in_err-header-clause-err : goal.returns-in_err-header-clause-err
+returns-in_err-header-clause-err g c block multiplies ready =
+    let (error, is, same) = err_from_is_err_and c.from_residual.result c.from_residual.ensures.1 in
+    rw (is, same) (laws.stops_unopened c.args.script.now block multiplies _ _ _ _ c.in_err-header.ensures.err)
+
+pub returns-in-Some-clause-err : goal.returns-in-Some-clause-err
+returns-in-Some-clause-err g c block multiplies ready =
+    laws.stops_too_long c.args.script.now block multiplies ready _ _ _ _ c.in_ok-header.ensures.ok _ _ c.known_frames-known.ensures c.in-Some.ensures.some
+
+pub returns-in-Err-clause-err : goal.returns-in-Err-clause-err
+returns-in-Err-clause-err g c block multiplies ready =
+    let (count, took) = c.in-Err.ensures.took in
+    laws.stops_unwritten c.args.script.now block multiplies ready _ _ _ _ c.in_ok-header.ensures.ok _ count took c.in-Err.ensures.faults.1

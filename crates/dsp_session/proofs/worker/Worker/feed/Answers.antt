@@ -1,0 +1,97 @@
+use Rattle.std.proofs.Common.{◌≡◌, ◌+◌, ◌*◌, ◌/◌, ◌<◌, ◌≤◌, ◌∙◌, List, length, take, drop, All, FitsSigned, ap, refl, sym, subst, arith}
+use Rattle.std.proofs.lemmas.List.{length-take-le}
+use Rattle.dsp_defs.specs.Bytes.{width}
+use Rattle.dsp_defs.specs.Formats.{word}
+use Rattle.dsp_defs.specs.Row.{Place, Passes, blocks_of}
+use Rattle.dsp_defs.specs.Unit.{frames_in}
+use Rattle.dsp_session.specs.Session.{signal, frame_bytes}
+use Rattle.dsp_chain.proofs.Room.{written-row}
+use Rattle.dsp_session.proofs.WorkerLaws as laws
+use Rattle.dsp_session.proofs.worker.Worker.feed.Goals as goal
+
+pub decode_front-count-requires : goal.decode_front-count-requires
+decode_front-count-requires g c =
+    let script = c.self.inside.script.now in
+    let whole = rw (← c.self.view_is) at c.requires.whole in
+    let few = rw (← c.self.view_is) at c.requires.block in
+    let bound = laws.row_room (length (signal script c.args.bytes.now)) c.self.inside.block script.input.channels (width script.input.format) few in
+    rw (c.self.invariant.2, c.as_mut_slice.ensures.len, c.self.invariant.5) (omega (arith, whole, bound))
+
+pub feed-requires-clause-passes : goal.feed-requires-clause-passes
+feed-requires-clause-passes g c =
+    let script = c.self.inside.script.now in
+    let ready = c.self.invariant.0.ready in
+    let whole = rw (← c.self.view_is) at c.requires.whole in
+    let few = rw (← c.self.view_is) at c.requires.block in
+    let row = laws.read_row script c.self.inside.block ready c.self.inside.input c.decode_front-count.result c.self.inside.samples.len c.args.bytes.now c.deref.result.now c.decode_front-count.new.samples c.self.inside.samples.items
+    c.self.invariant.1 c.self.invariant.2 (c.decode_front-count.auto.samples ∙ c.as_mut_slice.ensures.len) c.deref.ensures.value c.decode_front-count.ensures.values in
+    let same : take c.decode_front-count.result c.deref.result.now ≡ take c.decode_front-count.result c.decode_front-count.new.samples = row ∙ sym (rw (c.self.invariant.1, c.self.invariant.2) at c.decode_front-count.ensures.values) in
+    let fits : All (FitsSigned (word script.input.format)) (take c.decode_front-count.result c.deref.result.now) = rw (same, ← c.self.invariant.2) c.decode_front-count.ensures.fits in
+    rw c.self.invariant.0.input (laws.passes script c.self.inside.block ready c.args.bytes.now (take c.decode_front-count.result c.deref.result.now) whole row fits few)
+
+pub feed-requires-clause-count : goal.feed-requires-clause-count
+feed-requires-clause-count g c =
+    let script = c.self.inside.script.now in
+    let ready = c.self.invariant.0.ready in
+    let whole = rw (← c.self.view_is) at c.requires.whole in
+    let count = rw (← c.self.view_is) at c.requires.count in
+    let row = laws.read_row script c.self.inside.block ready c.self.inside.input c.decode_front-count.result c.self.inside.samples.len c.args.bytes.now c.deref.result.now c.decode_front-count.new.samples c.self.inside.samples.items
+    c.self.invariant.1 c.self.invariant.2 (c.decode_front-count.auto.samples ∙ c.as_mut_slice.ensures.len) c.deref.ensures.value c.decode_front-count.ensures.values in
+    let frames = laws.frames_are script c.self.inside.block ready c.args.bytes.now (take c.decode_front-count.result c.deref.result.now) whole row in
+    rw (c.self.invariant.0.input, frames) count
+
+pub invariant_of-self : goal.invariant_of-self
+invariant_of-self g c = absurd (laws.never_full c.self.inside.script.now c.self.inside.block c.self.invariant.0.ready _ _ c.self.invariant.0.blocks (c.in_err-count.ensures.full.0 refl))
+
+pub returns-in_err-count-clause-full : goal.returns-in_err-count-clause-full
+returns-in_err-count-clause-full g c = absurd (laws.never_full c.self.inside.script.now c.self.inside.block c.self.invariant.0.ready _ _ c.self.invariant.0.blocks (c.in_err-count.ensures.full.0 refl))
+
+pub returns-in_err-count-clause-numbers : goal.returns-in_err-count-clause-numbers
+returns-in_err-count-clause-numbers g c = absurd (laws.never_full c.self.inside.script.now c.self.inside.block c.self.invariant.0.ready _ _ c.self.invariant.0.blocks (c.in_err-count.ensures.full.0 refl))
+
+pub returns-in_err-count-clause-refused : goal.returns-in_err-count-clause-refused
+returns-in_err-count-clause-refused g c = absurd (laws.never_full c.self.inside.script.now c.self.inside.block c.self.invariant.0.ready _ _ c.self.invariant.0.blocks (c.in_err-count.ensures.full.0 refl))
+
+pub encode_front-self-inside-requires-clause-fits : goal.encode_front-self-inside-requires-clause-fits
+encode_front-self-inside-requires-clause-fits g c =
+    let holds = c.self.invariant.0 in
+    let same : c.deref-2.result.now ≡ c.feed.new.out = c.deref-2.ensures.value ∙ written-row c.self.inside.values.len c.feed.new.out c.self.inside.values.items (c.feed.auto.out ∙ c.as_mut_slice-2.ensures.len) in
+    rw (same, c.self.invariant.4, ← laws.gives_format c.self.inside.script.now c.self.inside.block holds.ready c.self.inside.chain c.feed.new.self holds.input holds.blocks) c.in_ok-count.ensures.fed.passes.signal.in_format
+
+pub returns-clause-given : goal.returns-clause-given
+returns-clause-given g c =
+    let front = c.encode_front-self-inside.new.bytes in
+    let long : length front ≡ c.self.inside.bytes.len = c.encode_front-self-inside.auto.bytes ∙ c.as_mut_slice-3.ensures.len in
+    rw (written-row c.self.inside.bytes.len front c.self.inside.bytes.items long) (sym (length-take-le c.encode_front-self-inside.result front (omega (arith, c.encode_front-self-inside.ensures.within, c.encode_front-self-inside.auto.bytes))))
+
+pub returns-clause-feeds : goal.returns-clause-feeds
+returns-clause-feeds g c x stands =
+    let script = c.self.inside.script.now in
+    let holds = c.self.invariant.0 in
+    let ready = holds.ready in
+    let whole = rw (← c.self.view_is) at c.requires.whole in
+    let row = laws.read_row script c.self.inside.block ready c.self.inside.input c.decode_front-count.result c.self.inside.samples.len c.args.bytes.now c.deref.result.now c.decode_front-count.new.samples c.self.inside.samples.items
+    c.self.invariant.1 c.self.invariant.2 (c.decode_front-count.auto.samples ∙ c.as_mut_slice.ensures.len) c.deref.ensures.value c.decode_front-count.ensures.values in
+    let frames = laws.frames_are script c.self.inside.block ready c.args.bytes.now (take c.decode_front-count.result c.deref.result.now) whole row in
+    let same : c.deref-2.result.now ≡ c.feed.new.out = c.deref-2.ensures.value ∙ written-row c.self.inside.values.len c.feed.new.out c.self.inside.values.items (c.feed.auto.out ∙ c.as_mut_slice-2.ensures.len) in
+    let out = laws.write_row script c.self.inside.block ready c.self.inside.output c.encode_front-self-inside.result c.self.inside.bytes.len (take c.in_ok-count.count c.feed.new.out) c.encode_front-self-inside.new.bytes c.self.inside.bytes.items
+    c.self.invariant.3 c.self.invariant.4 (c.encode_front-self-inside.auto.bytes ∙ c.as_mut_slice-3.ensures.len) (rw same at c.encode_front-self-inside.ensures.bytes) in
+    let is = rw (← c.self.view_is) at stands in
+    rw (← c.self.view_is)
+    (laws.feeds script c.self.inside.block ready c.self.inside.chain c.feed.new.self holds.input holds.blocks (take c.decode_front-count.result c.deref.result.now) (take c.in_ok-count.count c.feed.new.out) c.args.bytes.now _ frames out _ _ c.in_ok-count.ensures.fed x is.chain is.counts)
+
+pub returns-clause-multiplies : goal.returns-clause-multiplies
+returns-clause-multiplies g c x stands =
+    let script = c.self.inside.script.now in
+    let holds = c.self.invariant.0 in
+    let ready = holds.ready in
+    let whole = rw (← c.self.view_is) at c.requires.whole in
+    let row = laws.read_row script c.self.inside.block ready c.self.inside.input c.decode_front-count.result c.self.inside.samples.len c.args.bytes.now c.deref.result.now c.decode_front-count.new.samples c.self.inside.samples.items
+    c.self.invariant.1 c.self.invariant.2 (c.decode_front-count.auto.samples ∙ c.as_mut_slice.ensures.len) c.deref.ensures.value c.decode_front-count.ensures.values in
+    let frames = laws.frames_are script c.self.inside.block ready c.args.bytes.now (take c.decode_front-count.result c.deref.result.now) whole row in
+    let is = rw (← c.self.view_is) at stands in
+    rw (← c.self.view_is)
+    (laws.feed_costs script c.self.inside.block ready c.self.inside.chain c.feed.new.self holds.input holds.blocks (take c.decode_front-count.result c.deref.result.now) (take c.in_ok-count.count c.feed.new.out) c.args.bytes.now _ frames refl _ _ c.in_ok-count.ensures.fed x is.chain is.counts)
+
+pub returns-clause-full : goal.returns-clause-full
+returns-clause-full g c = rw (← c.self.view_is) ((λ e. absurd (cc)), (λ full. absurd (laws.never_full c.self.inside.script.now c.self.inside.block c.self.invariant.0.ready _ _ refl full)))

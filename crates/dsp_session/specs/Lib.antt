@@ -1,0 +1,5 @@
+pub mod SessionState
+pub mod Session
+pub mod Opening
+pub mod Stream
+pub mod Passing

@@ -1,0 +1,63 @@
+-- The begin of a stream: what is taken of the input before its first sample, and what is written before the first one.
+use Rattle.std.specs.Prelude.{◌≡◌, ℕ, ◌^◌, ◌<◌, ◌≤◌, List, ◌++◌, length, Option, Some, Err}
+use Rattle.dsp_ports.specs.Ports.{SourceState, SinkState, Rose, Gave, Took}
+use Rattle.dsp_defs.specs.Output.{HasHeader, input_header, output_header, wanted_of, format_of, channels_of}
+use Rattle.dsp_defs.specs.Wave.{header_of, riff_size}
+use Rattle.dsp_defs.specs.declared.format.Container.TheVariants as container
+use Rattle.dsp_defs.specs.declared.format.InputKind.TheVariants as kind
+use Rattle.dsp_defs.specs.declared.limits.TheConstants.{MAX_RIFF_SIZE}
+use Rattle.dsp_defs.specs.declared.script.Script.{Script}
+use Rattle.dsp_defs.specs.declared.wave.Header.{Header}
+use Rattle.dsp_wave.specs.Reading.{IsSure}
+use Rattle.dsp_session.specs.declared.fault.LengthFault.{LengthFault}
+use Rattle.dsp_session.specs.declared.fault.LengthFault.TheVariants as length_fault
+use Rattle.dsp_session.specs.declared.fault.StreamFault.{StreamFault}
+use Rattle.dsp_session.specs.declared.fault.StreamFault.TheVariants as fault
+
+-- ---- the input's header
+
+-- these bytes are all that stands before the samples, and they say the header whatever comes behind them
+pub record Opens (script : Script) (header : Header) (first : List ℕ) : Type 0 where
+  pub said : (more : List ℕ) → input_header script (first ++ more) ≡ header
+  pub has : (more : List ℕ) → HasHeader script (first ++ more)
+  pub start : header.start ≡ length first
+  pub in_limit : length first ≤ 2 ^ 40
+
+-- exactly these bytes were taken
+pub record Opened (script : Script) (header : Header) (input now : SourceState) : Type 0 where
+  pub first : List ℕ
+  pub opens : Opens script header first
+  pub gave : Gave input now first
+  pub no_fault : now.faults ≡ input.faults
+
+-- the cause of an end without a header, where these bytes were taken
+abbrev pub IsUnopened : StreamFault → Script → List ℕ → SourceState → SourceState → Type 0
+IsUnopened fault.Input script given input now = Rose input.faults now.faults × (length given < 2 ^ 40) × (HasHeader script given → ⊥)
+IsUnopened (fault.Header fault offset) script given input now =
+    (script.input.kind ≡ kind.Wave) × IsSure (λ bytes. header_of bytes (wanted_of script)) now given (Err (fault, offset)) × (now.faults ≡ input.faults)
+IsUnopened (fault.Lengths (length_fault.Input taken limit)) script given input now =
+    (length given ≡ 2 ^ 40) × (taken ≡ 2 ^ 40) × (limit ≡ 2 ^ 40) × (HasHeader script given → ⊥) × (now.faults ≡ input.faults)
+IsUnopened fault script given input now = ⊥
+
+pub record Unopened (script : Script) (fault : StreamFault) (input now : SourceState) : Type 0 where
+  pub given : List ℕ
+  pub gave : Gave input now given
+  pub cause : IsUnopened fault script given input now
+
+-- ---- the output's header
+
+-- a WAVE output of so many frames is too long for the sizes in its header
+pub record IsTooLong (script : Script) (frames size most : ℕ) : Type 0 where
+  pub size_is : size ≡ riff_size (format_of script) (channels_of script) (Some frames)
+  pub over : MAX_RIFF_SIZE < size
+  pub limit : most ≡ MAX_RIFF_SIZE
+
+abbrev pub TooLong : LengthFault → Script → Option ℕ → Type 0
+TooLong (length_fault.Riff size limit) script known = (script.output ≡ container.Wave) × (frames : ℕ) × (known ≡ Some frames) × IsTooLong script frames size limit
+TooLong fault script known = ⊥
+
+-- the input's header was taken, and the output's was written
+pub record Begun (script : Script) (header : Header) (input now : SourceState) (sink after : SinkState) : Type 0 where
+  pub opened : Opened script header input now
+  pub took : Took sink after (output_header script header)
+  pub no_fault : after.faults ≡ sink.faults

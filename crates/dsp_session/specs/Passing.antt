@@ -1,0 +1,122 @@
+-- Block after block: what is taken, worked on and written.
+use Rattle.std.specs.Prelude.{◌≡◌, ◌⊎◌, ℕ, ◌+◌, ◌*◌, ◌/◌, ◌^◌, ◌<◌, ◌≤◌, false, List, ◌++◌, length, take, Option, Some, None, IfSome, Result, OnOk}
+use Rattle.std.specs.Io.KnownBytes.{IsAtEnd, append_known}
+use Rattle.dsp_ports.specs.Ports.{SourceState, SinkState, Rose, Gave, Took}
+use Rattle.dsp_defs.specs.Block.{Frame}
+use Rattle.dsp_defs.specs.Output.{live_bytes, whole_bytes, output_header, output_pad}
+use Rattle.dsp_defs.specs.Shape.{gathered, held}
+use Rattle.dsp_defs.specs.Streaming.{Begins}
+use Rattle.dsp_defs.specs.declared.limits.TheConstants.{MAX_GATHERED}
+use Rattle.dsp_defs.specs.declared.script.Script.{Script}
+use Rattle.dsp_defs.specs.declared.wave.Header.{Header}
+use Rattle.dsp_defs.specs.declared.wave.HeaderFault.TheVariants.{Short}
+use Rattle.dsp_session.specs.SessionState.{SessionState}
+use Rattle.dsp_session.specs.Session.{StandsFor, Feeds, FeedCosts, SameSession, signal, frame_bytes, block_bytes, cost_of, live_cost_of}
+use Rattle.dsp_session.specs.Opening.{Opens}
+use Rattle.dsp_session.specs.Stream.{declared_bytes, IsWhole}
+use Rattle.dsp_session.specs.declared.fault.LengthFault.TheVariants as length_fault
+use Rattle.dsp_session.specs.declared.fault.StreamFault.{StreamFault}
+use Rattle.dsp_session.specs.declared.fault.StreamFault.TheVariants as fault
+use Rattle.dsp_session.specs.declared.streaming.Last.{Last}
+
+-- ---- reading
+
+-- so many bytes of samples are not more than those declared
+abbrev pub InDeclared : Option ℕ → ℕ → Type 0
+InDeclared declared count = IfSome declared (λ size. count ≤ size)
+
+-- the samples have ended behind so many bytes of them
+abbrev pub AreAll : Option ℕ → ℕ → SourceState → Type 0
+AreAll (Some size) count now = count ≡ size
+AreAll None count now = IsAtEnd now.left
+
+-- behind `taken` bytes of samples the front of the block came, and all of it unless the samples have ended
+pub record BlockRead (script : Script) (header : Header) (taken : ℕ) (block : List ℕ) (count : ℕ) (input now : SourceState) : Type 0 where
+  pub within : count ≤ length block
+  pub gave : Gave input now (take count block)
+  pub declared : InDeclared (declared_bytes script header) (taken + count)
+  pub in_limit : header.start + taken + count ≤ 2 ^ 40
+  pub room_left : count < length block → header.size ≡ None → header.start + taken + count < 2 ^ 40
+  pub end : count < length block → AreAll (declared_bytes script header) (taken + count) now
+  pub no_fault : now.faults ≡ input.faults
+
+-- why it did not come
+abbrev pub IsUnread : StreamFault → Script → Header → ℕ → SourceState → SourceState → Type 0
+IsUnread fault.Input script header taken input now = Rose input.faults now.faults × (header.start + taken < 2 ^ 40)
+IsUnread (fault.Lengths (length_fault.Input told most)) script header taken input now =
+    (header.start + taken ≡ 2 ^ 40) × (told ≡ 2 ^ 40) × (most ≡ 2 ^ 40) × (now.faults ≡ input.faults) × IfSome (declared_bytes script header) (λ size. taken < size)
+IsUnread (fault.Header fault offset) script header taken input now =
+    (declared : ℕ) × (header.size ≡ Some declared) × (fault ≡ Short declared taken) × (offset ≡ header.start + taken) × IsAtEnd now.left × (now.faults ≡ input.faults)
+    × (taken < declared / frame_bytes script * frame_bytes script)
+IsUnread fault script header taken input now = ⊥
+
+-- less than a block came
+pub record Unread (script : Script) (header : Header) (taken size : ℕ) (fault : StreamFault) (input now : SourceState) : Type 0 where
+  pub bytes : List ℕ
+  pub gave : Gave input now bytes
+  pub short : length bytes < size
+  pub declared : InDeclared (declared_bytes script header) (taken + length bytes)
+  pub cause : IsUnread fault script header (taken + length bytes) input now
+
+-- ---- working and writing
+
+-- the frames were worked on, and their live values were written
+pub record Passes (script : Script) (x : List Frame) (bytes : List ℕ) (new : SessionState) (sink after : SinkState) (before multiplies : ℕ) : Type 0 where
+  pub feeds : Feeds script x bytes new
+  pub costs : FeedCosts script x bytes before multiplies
+  pub took : Took sink after new.out
+  pub no_fault : after.faults ≡ sink.faults
+
+-- the frames were worked on, and the sink has failed within their values; or a correlation would gather too many
+abbrev pub FailsToPass : StreamFault → Script → List Frame → List ℕ → SinkState → SinkState → ℕ → ℕ → Type 0
+FailsToPass fault.Output script x bytes sink after before multiplies =
+    (given written : List ℕ) × (live_bytes script (x ++ signal script bytes) ≡ live_bytes script x ++ given) × Begins written given
+    × (after.put ≡ append_known sink.put written) × Rose sink.faults after.faults × FeedCosts script x bytes before multiplies
+FailsToPass (fault.Lengths (length_fault.Gather told more)) script x bytes sink after before multiplies =
+    (MAX_GATHERED < gathered script.blocks (length (x ++ signal script bytes))) × (told ≡ held script.blocks (length x))
+    × (more + told ≡ gathered script.blocks (length (x ++ signal script bytes))) × (after ≡ sink) × (multiplies ≡ before)
+FailsToPass fault script x bytes sink after before multiplies = ⊥
+
+-- ---- the blocks so far
+
+-- the samples ended within a block, and all the blocks before it have passed
+pub record Passed (script : Script) (frames : ℕ) (session : SessionState) (header : Header) (block : List ℕ) (last : Last) (input now : SourceState) (sink after : SinkState) (before multiplies : ℕ) : Type 0 where
+  pub first : List ℕ
+  pub heard : List ℕ
+  pub blocks : ℕ
+  pub script_is : session.script ≡ script
+  pub block_is : session.block ≡ frames
+  pub opens : Opens script header first
+  pub stands : StandsFor session (signal script heard)
+  pub heard_count : last.before ≡ length heard
+  pub blocks_heard : length heard ≡ blocks * block_bytes script frames
+  pub size : length block ≡ block_bytes script frames
+  pub short : last.count < length block
+  pub in_limit : header.start + (last.before + last.count) ≤ 2 ^ 40
+  pub room_left : header.size ≡ None → header.start + (last.before + last.count) < 2 ^ 40
+  pub declared : InDeclared (declared_bytes script header) (last.before + last.count)
+  pub ended : AreAll (declared_bytes script header) (last.before + last.count) now
+  pub gave : Gave input now (first ++ (heard ++ take last.count block))
+  pub took : Took sink after (output_header script header ++ live_bytes script (signal script heard))
+  pub no_input_fault : now.faults ≡ input.faults
+  pub no_output_fault : after.faults ≡ sink.faults
+  pub cost : multiplies + live_cost_of script 0 ≡ before + live_cost_of script (length (signal script heard))
+
+-- some input has led the session to this
+abbrev pub HasPassed : SessionState → Header → List ℕ → Last → Type 0
+HasPassed session header block last =
+    (before : SourceState) × (now : SourceState) × (empty : SinkState) × (after : SinkState) × (count : ℕ) × (multiplies : ℕ) × Passed session.script session.block session header block last before now empty after count multiplies
+
+-- ---- the end
+
+-- after a front of the bytes a part of the rest was written, and all of it where the sink has not failed
+pub record WritesRest {T E : Type 0} (result : Result T E) (front all : List ℕ) (sink after : SinkState) : Type 0 where
+  pub written : List ℕ
+  pub put : after.put ≡ append_known sink.put written
+  pub begins : Begins (front ++ written) all
+  pub whole : OnOk result (front ++ written ≡ all)
+
+-- the multiplies are at most those of a whole signal of n frames, and exactly those where all was written
+pub record TailCosts {T E : Type 0} (result : Result T E) (script : Script) (n before multiplies : ℕ) : Type 0 where
+  pub limit : multiplies + live_cost_of script n ≤ before + cost_of script n
+  pub exact : OnOk result (multiplies + live_cost_of script n ≡ before + cost_of script n)

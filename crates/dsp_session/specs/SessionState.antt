@@ -1,0 +1,13 @@
+use Rattle.std.specs.Prelude.{ℕ, List}
+use Rattle.dsp_defs.specs.declared.script.Script.{Script}
+use Rattle.dsp_chain.specs.Chain.{ChainState}
+
+-- what a contract sees of a session
+pub record SessionState : Type 0 where
+  pub script : Script
+  -- the frames of a block
+  pub block : ℕ
+  -- the script's blocks at work
+  pub chain : ChainState
+  -- the bytes that the last call gave
+  pub out : List ℕ

@@ -1,0 +1,169 @@
+-- How the bytes that a stream took and the bytes that it wrote stand to each other at each of its ends.
+use Rattle.std.specs.Prelude.{◌≡◌, ◌⊎◌, ℕ, ◌+◌, ◌-◌, ◌*◌, ◌/◌, ◌^◌, ◌<◌, ◌≤◌, List, ◌++◌, length, take, Option, Some, None, Result, Err, IfSome}
+use Rattle.std.specs.Io.KnownBytes.{IsAtEnd, append_known}
+use Rattle.dsp_ports.specs.Ports.{SourceState, SinkState, Rose, Gave, IsSettled}
+use Rattle.dsp_defs.specs.Output.{HasHeader, input_header, input_signal, wanted_of, known_frames, format_of, channels_of, output, part}
+use Rattle.dsp_defs.specs.Shape.{frames_given, gathered, held, window_at}
+use Rattle.dsp_defs.specs.Streaming.{Begins}
+use Rattle.dsp_defs.specs.Wave.{header_of, riff_size}
+use Rattle.dsp_defs.specs.declared.format.Container.TheVariants as container
+use Rattle.dsp_defs.specs.declared.format.InputKind.TheVariants as kind
+use Rattle.dsp_defs.specs.declared.limits.TheConstants.{MAX_GATHERED, MAX_RIFF_SIZE}
+use Rattle.dsp_defs.specs.declared.script.Script.{Script}
+use Rattle.dsp_defs.specs.declared.wave.Header.{Header}
+use Rattle.dsp_defs.specs.declared.wave.HeaderFault.{HeaderFault}
+use Rattle.dsp_defs.specs.declared.wave.HeaderFault.TheVariants.{Short}
+use Rattle.dsp_wave.specs.Reading.{IsSure}
+use Rattle.dsp_session.specs.Session.{frame_bytes, block_bytes, cost_of}
+use Rattle.dsp_session.specs.declared.fault.LengthFault.TheVariants as length_fault
+use Rattle.dsp_session.specs.declared.fault.StreamFault.{StreamFault}
+use Rattle.dsp_session.specs.declared.fault.StreamFault.TheVariants as fault
+
+-- ---- the input
+
+-- the bytes at which a header says that there are whole frames of samples, where it declares its samples
+abbrev pub declared_bytes : Script → Header → Option ℕ
+declared_bytes script header = elim header.size [ Some size ↦ Some (size / frame_bytes script * frame_bytes script) | None ↦ None ]
+
+-- all samples were taken: those declared, or all to the end of the input
+abbrev pub IsWhole : Option ℕ → Header → List ℕ → SourceState → Type 0
+IsWhole (Some size) header given now = length given ≡ header.start + size
+IsWhole None header given now = IsAtEnd now.left
+
+abbrev pub IsTakenWhole : Script → List ℕ → SourceState → Type 0
+IsTakenWhole script given now =
+    let header = input_header script given in
+    IsWhole (declared_bytes script header) header given now
+
+-- the whole frames of samples among the bytes
+abbrev pub frames_in_bytes : Script → List ℕ → ℕ
+frames_in_bytes script given = length (input_signal script given)
+
+-- beyond the header and the blocks whose live values were written, at most one block was taken
+pub record LagsByOne (script : Script) (block : ℕ) (given written : List ℕ) : Type 0 where
+  pub blocks : ℕ
+  pub taken : (input_header script given).start + blocks * block_bytes script block ≤ length given
+  pub wrote : (blocks ≡ 0) ⊎ Begins (part script block (take ((input_header script given).start + blocks * block_bytes script block) given)) written
+  pub one : length given ≤ (input_header script given).start + (blocks + 1) * block_bytes script block
+
+-- ---- ends before the end
+
+-- nothing was written since the header of the input isn't there; or exactly the part output of what was taken was
+pub data WrotePart (script : Script) (block : ℕ) (given written : List ℕ) (sink after : SinkState) : Type 0 where
+  Nothing : (HasHeader script given → ⊥) → after ≡ sink → WrotePart script block given written sink after
+  Part : HasHeader script given → written ≡ part script block given → after.faults ≡ sink.faults → WrotePart script block given written sink after
+
+-- the input has failed
+pub record StopsAtInput (script : Script) (block : ℕ) (given written : List ℕ) (input now : SourceState) (sink after : SinkState) : Type 0 where
+  pub wrote : WrotePart script block given written sink after
+  pub risen : Rose input.faults now.faults
+  pub in_limit : length given < 2 ^ 40
+
+-- as many bytes were taken as may be, and a further one is wanted
+pub record StopsAtLimit (script : Script) (block told most : ℕ) (given written : List ℕ) (input now : SourceState) (sink after : SinkState) : Type 0 where
+  pub wrote : WrotePart script block given written sink after
+  pub all : length given ≡ 2 ^ 40
+  pub wanted : HasHeader script given → IfSome (declared_bytes script (input_header script given)) (λ size. length given < (input_header script given).start + size)
+  pub at_limit : told ≡ 2 ^ 40
+  pub limit : most ≡ 2 ^ 40
+  pub clean : now.faults ≡ input.faults
+
+-- the bytes of a WAVE input have a fault in their header, whatever comes behind them or since they are all
+pub record StopsAtHeader (script : Script) (fault : HeaderFault) (offset : ℕ) (given : List ℕ) (input now : SourceState) (sink after : SinkState) : Type 0 where
+  pub wave : script.input.kind ≡ kind.Wave
+  pub sure : IsSure (λ bytes. header_of bytes (wanted_of script)) now given (Err (fault, offset))
+  pub untouched : after ≡ sink
+  pub clean : now.faults ≡ input.faults
+
+-- the input ended before all declared whole frames came
+pub record StopsShort (script : Script) (block : ℕ) (fault : HeaderFault) (offset : ℕ) (given written : List ℕ) (input now : SourceState) (sink after : SinkState) : Type 0 where
+  pub has : HasHeader script given
+  pub declared : ℕ
+  pub got : ℕ
+  pub fault_is : fault ≡ Short declared got
+  pub size : (input_header script given).size ≡ Some declared
+  pub place : offset ≡ length given
+  pub got_is : offset ≡ (input_header script given).start + got
+  pub fewer : got < declared / frame_bytes script * frame_bytes script
+  pub ended : IsAtEnd now.left
+  pub wrote : written ≡ part script block given
+  pub clean : now.faults ≡ input.faults
+  pub kept : after.faults ≡ sink.faults
+
+-- a correlation would gather more samples than it can hold: `before` frames were worked on, and those that came now are too many
+pub record StopsFull (script : Script) (block told more : ℕ) (given written : List ℕ) (input now : SourceState) (sink after : SinkState) : Type 0 where
+  pub has : HasHeader script given
+  pub over : MAX_GATHERED < gathered script.blocks (frames_in_bytes script given)
+  pub before : ℕ
+  pub held_is : told ≡ held script.blocks before
+  pub more_is : more + told ≡ gathered script.blocks (frames_in_bytes script given)
+  pub wrote : written ≡ part script block given
+  pub clean : now.faults ≡ input.faults
+  pub kept : after.faults ≡ sink.faults
+
+-- the input has ended, and a window of the script ends past the full convolution
+pub record StopsAtWindow (script : Script) (block end full : ℕ) (given written : List ℕ) (input now : SourceState) (sink after : SinkState) : Type 0 where
+  pub has : HasHeader script given
+  pub whole : IsTakenWhole script given now
+  pub window : window_at script.blocks (frames_in_bytes script given) ≡ Some (end, full)
+  pub wrote : written ≡ part script block given
+  pub clean : now.faults ≡ input.faults
+  pub kept : after.faults ≡ sink.faults
+
+-- the header was taken, and the output is WAVE and would be too long for its sizes
+pub record StopsAtRiff (script : Script) (size most : ℕ) (given : List ℕ) (input now : SourceState) (sink after : SinkState) : Type 0 where
+  pub has : HasHeader script given
+  pub alone : length given ≡ (input_header script given).start
+  pub wave : script.output ≡ container.Wave
+  pub frames : ℕ
+  pub known : known_frames script (input_header script given) ≡ Some frames
+  pub size_is : size ≡ riff_size (format_of script) (channels_of script) (Some frames)
+  pub over : MAX_RIFF_SIZE < size
+  pub limit : most ≡ MAX_RIFF_SIZE
+  pub untouched : after ≡ sink
+  pub clean : now.faults ≡ input.faults
+
+-- the output has failed: a front of what was to be written was written
+pub record StopsAtOutput (script : Script) (block : ℕ) (given written : List ℕ) (input now : SourceState) (sink after : SinkState) : Type 0 where
+  pub has : HasHeader script given
+  pub wrote : Begins written (part script block given) ⊎ (Begins written (output script given) × IsTakenWhole script given now)
+  pub risen : Rose sink.faults after.faults
+  pub clean : now.faults ≡ input.faults
+
+abbrev pub StopsAt : StreamFault → Script → ℕ → List ℕ → List ℕ → SourceState → SourceState → SinkState → SinkState → Type 0
+StopsAt fault.Input script block given written input now sink after = StopsAtInput script block given written input now sink after
+StopsAt fault.Output script block given written input now sink after = StopsAtOutput script block given written input now sink after
+StopsAt (fault.Header fault offset) script block given written input now sink after =
+    StopsAtHeader script fault offset given input now sink after ⊎ StopsShort script block fault offset given written input now sink after
+StopsAt (fault.Lengths (length_fault.Input taken limit)) script block given written input now sink after = StopsAtLimit script block taken limit given written input now sink after
+StopsAt (fault.Lengths (length_fault.Gather held more)) script block given written input now sink after = StopsFull script block held more given written input now sink after
+StopsAt (fault.Lengths (length_fault.Window end full)) script block given written input now sink after = StopsAtWindow script block end full given written input now sink after
+StopsAt (fault.Lengths (length_fault.Riff size limit)) script block given written input now sink after = StopsAtRiff script size limit given input now sink after
+
+-- the stream stopped before its end; `given` and `written` are all bytes that were taken and that were written
+pub record Stopped (script : Script) (block : ℕ) (fault : StreamFault) (input now : SourceState) (sink after : SinkState) (before multiplies : ℕ) : Type 0 where
+  pub given : List ℕ
+  pub written : List ℕ
+  pub gave : Gave input now given
+  pub put : after.put ≡ append_known sink.put written
+  pub stops : StopsAt fault script block given written input now sink after
+  pub lag : HasHeader script given → LagsByOne script block given written
+  pub cost : multiplies ≤ before + cost_of script (frames_in_bytes script given)
+
+-- ---- the end
+
+-- all samples were taken, and exactly the output of the script was written
+pub record Done (script : Script) (block frames : ℕ) (input now : SourceState) (sink after : SinkState) (before multiplies : ℕ) : Type 0 where
+  pub given : List ℕ
+  pub gave : Gave input now given
+  pub has : HasHeader script given
+  pub in_limit : length given ≤ 2 ^ 40
+  pub room_left : (input_header script given).size ≡ None → length given < 2 ^ 40
+  pub whole : IsTakenWhole script given now
+  pub put : after.put ≡ append_known sink.put (output script given)
+  pub lag : LagsByOne script block given (output script given)
+  pub settled : IsSettled after
+  pub no_input_fault : now.faults ≡ input.faults
+  pub no_output_fault : after.faults ≡ sink.faults
+  pub frame_count : frames ≡ frames_in_bytes script given
+  pub cost : multiplies ≡ before + cost_of script frames

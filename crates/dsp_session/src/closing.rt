@@ -1,0 +1,109 @@
+ghost use Rattle.std.specs.Prelude.{◌≡◌, ◌+◌, ◌++◌, ◌/◌, ◌≤◌, ℕ, List, length, take, IfOk, IfErr, IsFalse, MatchResult, OnOk};
+ghost use Rattle.dsp_ports.specs.Ports.{SourceState, SinkState, CountsFaults, IsSettled, Took};
+ghost use Rattle.dsp_defs.specs.Block.{Frame};
+ghost use Rattle.dsp_defs.specs.Output.{live_bytes, output_pad, whole_bytes};
+ghost use Rattle.dsp_session.specs.Session.{IsReady, StandsFor, SameSession, frame_bytes, whole_values};
+ghost use Rattle.dsp_session.specs.Stream.{Stopped, Done};
+ghost use Rattle.dsp_session.specs.Passing.{HasPassed, Passed, WritesRest, TailCosts};
+
+use crate::fault::{LengthFault, StreamFault};
+use crate::opening::{frame_bytes, known_frames};
+use crate::streaming::{Last, pass_block};
+use crate::worker::Worker;
+use dsp_defs::{Container, Header, Script, Steps, WindowFault};
+use dsp_ports::{Failed, Sink, write_all};
+use dsp_script::{frames_given, output_flow};
+use dsp_wave::pad;
+use std::sync::ledger::Ledger;
+
+/// Writes the tail piece by piece. The whole signal has at most `frames` frames.
+fn write_tail<K: Sink, L: Ledger>(
+    worker: &mut Worker<'_>,
+    frames: u64,
+    output: &mut K,
+    steps: &mut Steps<L>,
+) -> Result<(), Failed>
+    requires { (x : List Frame) → StandsFor worker.old x → length (whole_values worker.old.script x) ≤ frames }
+    ensures same { SameSession worker.old worker.new }
+    ensures written { (x : List Frame) → StandsFor worker.old x → WritesRest result (live_bytes worker.old.script x) (whole_bytes worker.old.script x) (K.state output.old) (K.state output.new) }
+    ensures costs { (x : List Frame) → StandsFor worker.old x → TailCosts result worker.old.script (length x) steps.old.multiplies steps.new.multiplies }
+    ensures faults { CountsFaults result (K.state output.old).faults (K.state output.new).faults }
+{
+    // Each piece has at least one of the whole signal's frames.
+    for _ in 0..frames {
+        if worker.end(steps) == 0 {
+            return Ok(());
+        }
+        write_all(output, worker.out())?;
+    }
+    let _spent = worker.end(steps);
+    Ok(())
+}
+
+/// Writes the pad byte behind the samples, where the output has one.
+fn write_pad<K: Sink>(script: &Script, header: Header, output: &mut K) -> Result<(), Failed>
+    requires { (block : ℕ) × IsReady script.now block }
+    ensures took { MatchResult result (λ _. Took (K.state output.old) (K.state output.new) (output_pad script.now header))
+        (λ _. (count : ℕ) × Took (K.state output.old) (K.state output.new) (take count (output_pad script.now header))) }
+    ensures faults { CountsFaults result (K.state output.old).faults (K.state output.new).faults }
+{
+    match script.output {
+        Container::Raw => Ok(()),
+        Container::Wave => {
+            let flow = output_flow(script);
+            let known = known_frames(script, header);
+            write_all(output, pad(flow.format, flow.channels, known))
+        }
+    }
+}
+
+/// Writes the tail and the pad byte, and makes sure of the output.
+fn write_end<K: Sink, L: Ledger>(
+    worker: &mut Worker<'_>,
+    frames: u64,
+    header: Header,
+    output: &mut K,
+    steps: &mut Steps<L>,
+) -> Result<(), Failed>
+    requires { (x : List Frame) → StandsFor worker.old x → length (whole_values worker.old.script x) ≤ frames }
+    ensures same { SameSession worker.old worker.new }
+    ensures written { (x : List Frame) → StandsFor worker.old x → WritesRest result (live_bytes worker.old.script x) (whole_bytes worker.old.script x ++ output_pad worker.old.script header) (K.state output.old) (K.state output.new) }
+    ensures costs { (x : List Frame) → StandsFor worker.old x → TailCosts result worker.old.script (length x) steps.old.multiplies steps.new.multiplies }
+    ensures settled { OnOk result (IsSettled (K.state output.new)) }
+    ensures faults { CountsFaults result (K.state output.old).faults (K.state output.new).faults }
+{
+    write_tail(worker, frames, output, steps)?;
+    write_pad(worker.script(), header, output)?;
+    output.flush()?;
+    Ok(())
+}
+
+/// Works on the last bytes of the input, gives the tail, and makes sure of the output.
+pub fn close<K: Sink, L: Ledger>(
+    worker: &mut Worker<'_>,
+    block: &[u8],
+    last: Last,
+    header: Header,
+    output: &mut K,
+    steps: &mut Steps<L>,
+) -> Result<(), StreamFault>
+    requires { HasPassed worker.old header block.now last }
+    ensures same { SameSession worker.old worker.new }
+    ensures ok { (before now : SourceState) (empty : SinkState) (count : ℕ) → Passed worker.old.script worker.old.block worker.old header block.now last before now empty (K.state output.old) count steps.old.multiplies
+        → IfOk result (λ _. Done worker.old.script worker.old.block ((last.before + last.count) / frame_bytes worker.old.script) before now empty (K.state output.new) count steps.new.multiplies) }
+    ensures err { (before now : SourceState) (empty : SinkState) (count : ℕ) → Passed worker.old.script worker.old.block worker.old header block.now last before now empty (K.state output.old) count steps.old.multiplies
+        → IfErr result (λ fault. Stopped worker.old.script worker.old.block fault before now empty (K.state output.new) count steps.new.multiplies) }
+{
+    let frame = frame_bytes(worker.script()) as usize;
+    let count = last.count / frame;
+    if let Some(WindowFault { end, length }) = worker.window_fault(count as u64) {
+        return Err(StreamFault::Lengths(LengthFault::Window { end, length }));
+    }
+    pass_block(worker, &block[..count * frame], output, steps)?;
+    let taken = (last.before + last.count as u64) / frame as u64;
+    let frames = frames_given(worker.script(), taken);
+    match write_end(worker, frames, header, output, steps) {
+        Ok(()) => Ok(()),
+        Err(_) => Err(StreamFault::Output),
+    }
+}

@@ -1,0 +1,17 @@
+//! A script at work on bytes: a session takes blocks of the input's samples and gives bytes of the
+//! output, and a stream goes over a whole input.
+#![tactic(auto)]
+
+mod closing;
+mod fault;
+mod opening;
+mod session;
+mod streaming;
+mod worker;
+
+pub use fault::{LengthFault, StreamFault};
+pub use session::Session;
+pub use streaming::{Totals, stream};
+
+#[cfg(test)]
+mod tests;

@@ -1,0 +1,101 @@
+ghost use Rattle.std.specs.Prelude.{◌≡◌, ◌+◌, ◌*◌, ◌^◌, ◌<◌, ◌≤◌, ◌↔◌, [], List, length, IfOk, IfErr, IsErr, IsFalse};
+ghost use Rattle.std.specs.Option.{option_map};
+ghost use Rattle.dsp_defs.specs.Block.{Frame};
+ghost use Rattle.dsp_defs.specs.Shape.{gathered, held, window_at};
+ghost use Rattle.dsp_defs.specs.declared.fault.GatherFull.{GatherFull};
+ghost use Rattle.dsp_defs.specs.declared.fault.WindowFault.{WindowFault};
+ghost use Rattle.dsp_defs.specs.declared.limits.TheConstants.{MAX_GATHERED};
+ghost use Rattle.dsp_session.specs.Session.{IsReady, IsNew, StandsFor, SameSession, Feeds, FeedCosts, Ends, EndCosts, signal, frame_bytes};
+
+use crate::opening::frame_bytes;
+use crate::worker::Worker;
+use dsp_defs::{GatherFull, Script, Steps, WindowFault};
+use std::alloc::{AllocError, Global};
+use std::marker::Model;
+use std::sync::ledger::Ledger;
+
+/// A script at work: it takes bytes of the input's samples and gives bytes of the output's samples.
+/// A stream also reads the headers of files and writes them.
+#[derive(Drop)]
+pub struct Session<'s> {
+    pub(crate) worker: Worker<'s>,
+    /// The block that a stream reads into.
+    pub(crate) block: Vec<u8>,
+}
+
+impl<'s> Model for Session<'s> {
+    ghost use Rattle.std.specs.Prelude.{◌≡◌, vec_len};
+    ghost use Rattle.dsp_session.specs.Session.{block_bytes};
+    ghost use Rattle.dsp_session.specs.SessionState.{SessionState};
+
+    ghost Value = { SessionState };
+
+    ghost view = { λ s. s.worker };
+
+    ghost invariant = { λ s. vec_len s.block ≡ block_bytes s.worker.script s.worker.block };
+}
+
+impl<'s> Session<'s> {
+    /// A session of the script, for blocks of at most `block` frames, that has taken nothing. All
+    /// memory of a run is taken here.
+    pub fn new(alloc: Global, script: &'s Script, block: u64) -> Result<Session<'s>, AllocError>
+        requires { IsReady script.now block }
+        ensures { IfOk result (IsNew script.now block) }
+    {
+        let worker = Worker::new(alloc, script, block)?;
+        let block = vec![in alloc; 0; block as usize * frame_bytes(script) as usize]?;
+        Ok(Session { worker, block })
+    }
+
+    /// The bytes that the last call gave.
+    pub fn out(&self) -> &[u8]
+        ensures { result.now ≡ self.now.out }
+    {
+        self.worker.out()
+    }
+
+    /// Takes the whole frames of some bytes in the coding of the input, at most a block, gives the
+    /// bytes of the live values that they add, and answers their number. It refuses where a
+    /// correlation would gather more than 1,048,576 samples of a channel.
+    pub fn feed<L: Ledger>(
+        &mut self,
+        bytes: &[u8],
+        steps: &mut Steps<L>,
+    ) -> Result<usize, GatherFull>
+        requires running { IsFalse self.old.chain.ended }
+        requires whole { length bytes.now ≡ length (signal self.old.script bytes.now) * frame_bytes self.old.script }
+        requires block { length (signal self.old.script bytes.now) ≤ self.old.block }
+        requires count { self.old.chain.frames + length (signal self.old.script bytes.now) ≤ 2 ^ 40 }
+        ensures same { SameSession self.old self.new }
+        ensures given { IfOk result (λ given. given ≡ length self.new.out) }
+        ensures feeds { IfOk result (λ _. (x : List Frame) → StandsFor self.old x → Feeds self.old.script x bytes.now self.new) }
+        ensures multiplies { IfOk result (λ _. (x : List Frame) → StandsFor self.old x → FeedCosts self.old.script x bytes.now steps.old.multiplies steps.new.multiplies) }
+        ensures running { IfOk result (λ _. IsFalse self.new.chain.ended) }
+        ensures full { IsErr result ↔ MAX_GATHERED < gathered self.old.script.blocks (self.old.chain.frames + length (signal self.old.script bytes.now)) }
+        ensures numbers { IfErr result (λ (fault : GatherFull). (fault.held ≡ held self.old.script.blocks self.old.chain.frames)
+            × (fault.more + fault.held ≡ gathered self.old.script.blocks (self.old.chain.frames + length (signal self.old.script bytes.now)))) }
+        ensures refused { IfErr result (λ _. (self.new.out ≡ []) × (steps.new ≡ steps.old)) }
+    {
+        self.worker.feed(bytes, steps)
+    }
+
+    /// The first partial convolution whose window ends past the full one, where the frames fed so
+    /// far and `more` frames are the whole input.
+    pub fn window_fault(&self, more: u64) -> Option<WindowFault>
+        requires { self.now.chain.frames + more ≤ 2 ^ 40 }
+        ensures { option_map (λ (fault : WindowFault). (fault.end, fault.length)) result ≡ window_at self.now.script.blocks (self.now.chain.frames + more) }
+    {
+        self.worker.window_fault(more)
+    }
+
+    /// Ends the input, gives the bytes of the next frames of the tail, and answers their number: 0
+    /// where the tail is spent.
+    pub fn end<L: Ledger>(&mut self, steps: &mut Steps<L>) -> usize
+        ensures same { SameSession self.old self.new }
+        ensures given { result ≡ length self.new.out }
+        ensures ends { Ends self.old.script self.old self.new result }
+        ensures costs { EndCosts self.old.script self.old self.new result steps.old.multiplies steps.new.multiplies }
+    {
+        self.worker.end(steps)
+    }
+}

@@ -1,0 +1,185 @@
+ghost use Rattle.std.specs.Prelude.{◌≡◌, ◌+◌, ◌*◌, ◌/◌, ◌^◌, ◌≤◌, [], List, length, IfOk, IfErr, IsFalse};
+ghost use Rattle.dsp_ports.specs.Ports.{SourceState, SinkState};
+ghost use Rattle.dsp_defs.specs.Block.{Frame};
+ghost use Rattle.dsp_defs.specs.Shape.{frames_given};
+ghost use Rattle.dsp_session.specs.Session.{StandsFor, SameSession, signal, frame_bytes, block_bytes, cost_of};
+ghost use Rattle.dsp_session.specs.Opening.{Begun};
+ghost use Rattle.dsp_session.specs.Stream.{Stopped, Done, declared_bytes};
+ghost use Rattle.dsp_session.specs.Passing.{InDeclared, BlockRead, Unread, Passes, FailsToPass, Passed};
+
+use crate::closing::close;
+use crate::fault::{LengthFault, StreamFault};
+use crate::opening::{frame_bytes, open};
+use crate::session::Session;
+use crate::worker::Worker;
+use dsp_defs::{GatherFull, Header, HeaderFault, MAX_INPUT, Script, Steps};
+use dsp_ports::{FillFault, Sink, Source, fill, write_all};
+use dsp_script::{cost, frames_given};
+use std::sync::ledger::Ledger;
+
+/// What a stream did: the frames of the input that it took, those of the output that it gave, and
+/// the products that its blocks made.
+#[derive(Clone, Copy, Debug, PartialEq, Eq)]
+pub struct Totals {
+    pub frames_taken: u64,
+    pub frames_given: u64,
+    pub multiplies: u128,
+}
+
+/// Where the samples ended: after so many bytes in whole blocks, and so many of one more.
+#[derive(Clone, Copy)]
+pub struct Last {
+    pub before: u64,
+    pub count: usize,
+}
+
+/// Takes the next block of samples: less than a block where the samples end.
+fn read_block<S: Source>(
+    script: &Script,
+    header: Header,
+    taken: u64,
+    block: &mut [u8],
+    input: &mut S,
+) -> Result<usize, StreamFault>
+    requires limit { header.start + taken ≤ 2 ^ 40 }
+    requires frame { 1 ≤ frame_bytes script.now }
+    requires declared { InDeclared (declared_bytes script.now header) taken }
+    ensures ok { IfOk result (λ count. BlockRead script.now header taken block.new count (S.state input.old) (S.state input.new)) }
+    ensures err { IfErr result (λ fault. Unread script.now header taken (length block.old) fault (S.state input.old) (S.state input.new)) }
+{
+    let left = match header.size {
+        Some(size) => declared_bytes(script, size) - taken,
+        None => u64::MAX,
+    };
+    let want = left.min(block.len() as u64) as usize;
+    match fill(input, &mut block[..want], MAX_INPUT - header.start - taken) {
+        Ok(count) => match header.size {
+            Some(declared) if count < want => {
+                let got = taken + count as u64;
+                Err(StreamFault::Header {
+                    fault: HeaderFault::Short { declared, got },
+                    offset: header.start + got,
+                })
+            }
+            _ => Ok(count),
+        },
+        Err(FillFault::Failed) => Err(StreamFault::Input),
+        Err(FillFault::LimitReached) => Err(StreamFault::Lengths(LengthFault::Input {
+            taken: MAX_INPUT,
+            limit: MAX_INPUT,
+        })),
+    }
+}
+
+/// The bytes of the whole frames among so many declared ones.
+fn declared_bytes(script: &Script, size: u32) -> u64
+    requires { 1 ≤ frame_bytes script.now }
+    ensures value { result ≡ size / frame_bytes script.now * frame_bytes script.now }
+    ensures few { result ≤ size }
+{
+    let frame = frame_bytes(script);
+    u64::from(size) / frame * frame
+}
+
+/// Works on the frames of some bytes, and writes the live values that they add.
+pub fn pass_block<K: Sink, L: Ledger>(
+    worker: &mut Worker<'_>,
+    bytes: &[u8],
+    output: &mut K,
+    steps: &mut Steps<L>,
+) -> Result<(), StreamFault>
+    requires running { IsFalse worker.old.chain.ended }
+    requires whole { length bytes.now ≡ length (signal worker.old.script bytes.now) * frame_bytes worker.old.script }
+    requires block { length (signal worker.old.script bytes.now) ≤ worker.old.block }
+    requires count { worker.old.chain.frames + length (signal worker.old.script bytes.now) ≤ 2 ^ 40 }
+    ensures same { SameSession worker.old worker.new }
+    ensures ok { (x : List Frame) → StandsFor worker.old x → IfOk result (λ _. Passes worker.old.script x bytes.now worker.new (K.state output.old) (K.state output.new) steps.old.multiplies steps.new.multiplies) }
+    ensures err { (x : List Frame) → StandsFor worker.old x → IfErr result (λ fault. FailsToPass fault worker.old.script x bytes.now (K.state output.old) (K.state output.new) steps.old.multiplies steps.new.multiplies) }
+{
+    match worker.feed(bytes, steps) {
+        Ok(_) => {}
+        Err(GatherFull { held, more }) => {
+            return Err(StreamFault::Lengths(LengthFault::Gather { held, more }));
+        }
+    }
+    match write_all(output, worker.out()) {
+        Ok(()) => Ok(()),
+        Err(_) => Err(StreamFault::Output),
+    }
+}
+
+/// Works on block after block until the samples end.
+fn pass_blocks<S: Source, K: Sink, L: Ledger>(
+    worker: &mut Worker<'_>,
+    block: &mut [u8],
+    header: Header,
+    input: &mut S,
+    output: &mut K,
+    steps: &mut Steps<L>,
+) -> Result<Last, StreamFault>
+    requires new { StandsFor worker.old [] }
+    requires block { length block.old ≡ block_bytes worker.old.script worker.old.block }
+    requires start { header.start ≤ 2 ^ 40 }
+    ensures same { SameSession worker.old worker.new }
+    ensures ok { (before : SourceState) (empty : SinkState) → Begun worker.old.script header before (S.state input.old) empty (K.state output.old)
+        → IfOk result (λ last. Passed worker.old.script worker.old.block worker.new header block.new last before (S.state input.new) empty (K.state output.new) steps.old.multiplies steps.new.multiplies) }
+    ensures err { (before : SourceState) (empty : SinkState) → Begun worker.old.script header before (S.state input.old) empty (K.state output.old)
+        → IfErr result (λ fault. Stopped worker.old.script worker.old.block fault before (S.state input.new) empty (K.state output.new) steps.old.multiplies steps.new.multiplies) }
+{
+    let script = worker.script();
+    let mut taken = 0;
+    'passing: loop {
+        let count = read_block(script, header, taken, block, input)?;
+        if count < block.len() {
+            return Ok(Last {
+                before: taken,
+                count,
+            });
+        }
+        pass_block(worker, block, output, steps)?;
+        taken += count as u64;
+    }
+}
+
+/// Goes over a whole input: takes its header, works on block after block of its samples, and writes
+/// the output of the script, which it flushes once at the end. It takes no memory.
+///
+/// The output of a block is accepted wholly before a byte of the next block is asked for.
+pub fn stream<S: Source, K: Sink, L: Ledger>(
+    session: &mut Session<'_>,
+    input: &mut S,
+    output: &mut K,
+    steps: &mut Steps<L>,
+) -> Result<Totals, StreamFault>
+    requires new { StandsFor session.old [] }
+    ensures ok { IfOk result (λ totals. Done session.old.script session.old.block totals.frames_taken (S.state input.old) (S.state input.new) (K.state output.old) (K.state output.new) steps.old.multiplies steps.new.multiplies) }
+    ensures given { IfOk result (λ totals. totals.frames_given ≡ frames_given session.old.script.blocks totals.frames_taken) }
+    ensures multiplies { IfOk result (λ totals. totals.multiplies ≡ cost_of session.old.script totals.frames_taken) }
+    ensures err { IfErr result (λ fault. Stopped session.old.script session.old.block fault (S.state input.old) (S.state input.new) (K.state output.old) (K.state output.new) steps.old.multiplies steps.new.multiplies) }
+    ensures same { SameSession session.old session.new }
+{
+    let script = session.worker.script();
+    let header = open(script, input, output)?;
+    let last = pass_blocks(
+        &mut session.worker,
+        session.block.as_mut_slice(),
+        header,
+        input,
+        output,
+        steps,
+    )?;
+    close(
+        &mut session.worker,
+        &session.block,
+        last,
+        header,
+        output,
+        steps,
+    )?;
+    let frames_taken = (last.before + last.count as u64) / frame_bytes(script);
+    Ok(Totals {
+        frames_taken,
+        frames_given: frames_given(script, frames_taken),
+        multiplies: cost(script, frames_taken),
+    })
+}

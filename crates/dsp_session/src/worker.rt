@@ -1,0 +1,198 @@
+ghost use Rattle.std.specs.Prelude.{◌≡◌, ◌+◌, ◌*◌, ◌/◌, ◌^◌, ◌<◌, ◌≤◌, ◌↔◌, ℕ, [], List, length, take, drop, flat_map, All, FitsSigned, IfOk, IfErr, IsErr, IsFalse};
+ghost use Rattle.std.specs.Option.{option_map};
+ghost use Rattle.dsp_defs.specs.Block.{Frame};
+ghost use Rattle.dsp_defs.specs.Bytes.{bytes_of, sample_of, width};
+ghost use Rattle.dsp_defs.specs.Formats.{word};
+ghost use Rattle.dsp_defs.specs.Output.{container_of};
+ghost use Rattle.dsp_defs.specs.Shape.{gathered, held, window_at};
+ghost use Rattle.dsp_defs.specs.Signal.{values};
+ghost use Rattle.dsp_defs.specs.declared.fault.GatherFull.{GatherFull};
+ghost use Rattle.dsp_defs.specs.declared.fault.WindowFault.{WindowFault};
+ghost use Rattle.dsp_defs.specs.declared.limits.TheConstants.{MAX_GATHERED};
+ghost use Rattle.dsp_wave.specs.Coding.{container_in, format_in};
+ghost use Rattle.dsp_session.specs.Session.{IsReady, IsNew, StandsFor, SameSession, Feeds, FeedCosts, Ends, EndCosts, signal, frame_bytes};
+
+use dsp_chain::Chain;
+use dsp_defs::{Container, GatherFull, InputKind, Script, Steps, WindowFault};
+use dsp_script::output_flow;
+use dsp_wave::{Coding, decode, encode, width};
+use std::alloc::{AllocError, Global};
+use std::marker::Model;
+use std::sync::ledger::Ledger;
+
+/// The form of an input.
+pub fn container_of(kind: InputKind) -> Container
+    ensures { result ≡ container_of kind }
+{
+    match kind {
+        InputKind::Wave => Container::Wave,
+        InputKind::Raw { .. } => Container::Raw,
+    }
+}
+
+/// Reads the samples of some bytes to the front, and answers their number.
+fn decode_front(coding: Coding, bytes: &[u8], samples: &mut [i32]) -> usize
+    requires { length bytes.now ≤ length samples.old * width (format_in coding) }
+    ensures count { result ≡ length bytes.now / width (format_in coding) }
+    ensures within { result ≤ length samples.old }
+    ensures values { take result samples.new ≡ values (length bytes.now / width (format_in coding)) (λ i. sample_of (container_in coding) (format_in coding) (take (width (format_in coding)) (drop (i * width (format_in coding)) bytes.now))) }
+    ensures fits { All (FitsSigned (word (format_in coding))) (take result samples.new) }
+{
+    let width = width(coding);
+    let count = bytes.len() / width;
+    decode(coding, &bytes[..count * width], &mut samples[..count]);
+    count
+}
+
+/// Writes the bytes of some samples to the front, and answers their number.
+fn encode_front(coding: Coding, samples: &[i32], bytes: &mut [u8]) -> usize
+    requires room { length samples.now * width (format_in coding) ≤ length bytes.old }
+    requires fits { All (FitsSigned (word (format_in coding))) samples.now }
+    ensures count { result ≡ length samples.now * width (format_in coding) }
+    ensures within { result ≤ length bytes.old }
+    ensures bytes { take result bytes.new ≡ flat_map (bytes_of (container_in coding) (format_in coding)) samples.now }
+{
+    let count = samples.len() * width(coding);
+    encode(coding, samples, &mut bytes[..count]);
+    count
+}
+
+/// The blocks of a script at work on bytes.
+#[derive(Drop)]
+pub struct Worker<'s> {
+    script: &'s Script,
+    chain: Chain,
+    input: Coding,
+    output: Coding,
+    block: usize,
+    samples: Vec<i32>,
+    values: Vec<i32>,
+    bytes: Vec<u8>,
+    given: usize,
+}
+
+impl<'s> Model for Worker<'s> {
+    ghost use Rattle.std.specs.Prelude.{◌≡◌, ◌≤◌, ◌*◌, take, vec_len};
+    ghost use Rattle.dsp_defs.specs.Bytes.{width};
+    ghost use Rattle.dsp_defs.specs.Output.{input_container, format_of};
+    ghost use Rattle.dsp_defs.specs.Row.{place_room};
+    ghost use Rattle.dsp_wave.specs.Coding.{container_in, format_in};
+    ghost use Rattle.dsp_chain.specs.Chain.{output_of};
+    ghost use Rattle.dsp_session.specs.Session.{Holds};
+    ghost use Rattle.dsp_session.specs.SessionState.{SessionState};
+
+    ghost Value = { SessionState };
+
+    ghost view = { λ w. record { script = w.script.now; block = w.block; chain = w.chain; out = take w.given w.bytes.items } };
+
+    ghost invariant = { λ w. (Holds (record { script = w.script.now; block = w.block; chain = w.chain; out = take w.given w.bytes.items }))
+        × (container_in w.input ≡ input_container w.script.now) × (format_in w.input ≡ w.script.now.input.format)
+        × (container_in w.output ≡ w.script.now.output) × (format_in w.output ≡ format_of w.script.now)
+        × (vec_len w.samples ≡ w.block * w.script.now.input.channels) × (vec_len w.values ≡ place_room (output_of w.chain))
+        × (vec_len w.bytes ≡ place_room (output_of w.chain) * width (format_of w.script.now)) × (w.given ≤ vec_len w.bytes) };
+}
+
+impl<'s> Worker<'s> {
+    /// A worker for blocks of at most `block` frames, that has taken nothing. All memory of a run is
+    /// taken here.
+    pub fn new(alloc: Global, script: &'s Script, block: u64) -> Result<Worker<'s>, AllocError>
+        requires { IsReady script.now block }
+        ensures { IfOk result (IsNew script.now block) }
+    {
+        let chain = Chain::new(alloc, script, block)?;
+        let flow = output_flow(script);
+        let input = Coding::new(container_of(script.input.kind), script.input.format);
+        let output = Coding::new(script.output, flow.format);
+        let block = block as usize;
+        let room = chain.room();
+        let samples = vec![in alloc; 0; block * usize::from(script.input.channels)]?;
+        let values = vec![in alloc; 0; room]?;
+        let bytes = vec![in alloc; 0; room * width(output)]?;
+        Ok(Worker {
+            script,
+            chain,
+            input,
+            output,
+            block,
+            samples,
+            values,
+            bytes,
+            given: 0,
+        })
+    }
+
+    /// The script.
+    pub fn script(&self) -> &'s Script
+        ensures script { result.now ≡ self.now.script }
+        ensures ready { IsReady self.now.script self.now.block }
+    {
+        self.script
+    }
+
+    /// The bytes that the last call gave.
+    pub fn out(&self) -> &[u8]
+        ensures { result.now ≡ self.now.out }
+    {
+        &self.bytes[..self.given]
+    }
+
+    /// Takes the frames of some bytes, at most a block, gives the bytes of the live values that they
+    /// add, and answers their number.
+    pub fn feed<L: Ledger>(
+        &mut self,
+        bytes: &[u8],
+        steps: &mut Steps<L>,
+    ) -> Result<usize, GatherFull>
+        requires running { IsFalse self.old.chain.ended }
+        requires whole { length bytes.now ≡ length (signal self.old.script bytes.now) * frame_bytes self.old.script }
+        requires block { length (signal self.old.script bytes.now) ≤ self.old.block }
+        requires count { self.old.chain.frames + length (signal self.old.script bytes.now) ≤ 2 ^ 40 }
+        ensures same { SameSession self.old self.new }
+        ensures given { IfOk result (λ given. given ≡ length self.new.out) }
+        ensures feeds { IfOk result (λ _. (x : List Frame) → StandsFor self.old x → Feeds self.old.script x bytes.now self.new) }
+        ensures multiplies { IfOk result (λ _. (x : List Frame) → StandsFor self.old x → FeedCosts self.old.script x bytes.now steps.old.multiplies steps.new.multiplies) }
+        ensures running { IfOk result (λ _. IsFalse self.new.chain.ended) }
+        ensures full { IsErr result ↔ MAX_GATHERED < gathered self.old.script.blocks (self.old.chain.frames + length (signal self.old.script bytes.now)) }
+        ensures numbers { IfErr result (λ (fault : GatherFull). (fault.held ≡ held self.old.script.blocks self.old.chain.frames)
+            × (fault.more + fault.held ≡ gathered self.old.script.blocks (self.old.chain.frames + length (signal self.old.script bytes.now)))) }
+        ensures refused { IfErr result (λ _. (self.new.out ≡ []) × (steps.new ≡ steps.old)) }
+    {
+        self.given = 0;
+        let count = decode_front(self.input, bytes, self.samples.as_mut_slice());
+        let count = self
+            .chain
+            .feed(&self.samples[..count], self.values.as_mut_slice(), steps)?;
+        self.given = encode_front(
+            self.output,
+            &self.values[..count],
+            self.bytes.as_mut_slice(),
+        );
+        Ok(self.given)
+    }
+
+    /// The first partial convolution whose window ends past the full one, where the frames fed so
+    /// far and `more` frames are the whole input.
+    pub fn window_fault(&self, more: u64) -> Option<WindowFault>
+        requires { self.now.chain.frames + more ≤ 2 ^ 40 }
+        ensures { option_map (λ (fault : WindowFault). (fault.end, fault.length)) result ≡ window_at self.now.script.blocks (self.now.chain.frames + more) }
+    {
+        self.chain.window_fault(more)
+    }
+
+    /// Ends the input, gives the bytes of the next frames of the tail, and answers their number: 0
+    /// where the tail is spent.
+    pub fn end<L: Ledger>(&mut self, steps: &mut Steps<L>) -> usize
+        ensures same { SameSession self.old self.new }
+        ensures given { result ≡ length self.new.out }
+        ensures ends { Ends self.old.script self.old self.new result }
+        ensures costs { EndCosts self.old.script self.old self.new result steps.old.multiplies steps.new.multiplies }
+    {
+        let count = self.chain.finish(self.values.as_mut_slice(), steps);
+        self.given = encode_front(
+            self.output,
+            &self.values[..count],
+            self.bytes.as_mut_slice(),
+        );
+        self.given
+    }
+}

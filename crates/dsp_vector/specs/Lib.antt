@@ -1,0 +1,2 @@
+pub mod Memoryless
+pub mod Vector

@@ -1,0 +1,145 @@
+ghost use Rattle.std.specs.Prelude.{◌≡◌, ◌≤◌, ◌+◌, ◌*◌, IfOk, length, take};
+ghost use Rattle.dsp_defs.specs.Block.{frames_in, channels_after};
+ghost use Rattle.dsp_defs.specs.Grammar.{Suits};
+ghost use Rattle.dsp_defs.specs.Unit.{IsSignal};
+ghost use Rattle.dsp_vector.specs.Memoryless.{Gives, price};
+
+use crate::VectorSample;
+use crate::changes::{Abs, Clip, Convert, Negate, Offset, Scale, Shift, change_each};
+use crate::joins::{Difference, Product, Sum, join_pairs};
+use crate::routes::route_frames;
+use dsp_defs::{Block, Fmt, List, Steps};
+use std::alloc::{AllocError, Global};
+use std::sync::ledger::Ledger;
+
+/// What a block of this crate does with frames, with its parameters.
+#[derive(Drop)]
+pub(crate) enum Operation {
+    Offset { value: i32 },
+    Negate,
+    Abs,
+    Scale { fract: i32, shift: i32 },
+    Shift { shift: i32 },
+    Clip { low: i32, high: i32 },
+    To { format: Fmt },
+    Add,
+    Sub,
+    Mult,
+    Route { channels: List },
+}
+
+/// A list of the same numbers.
+pub(crate) fn list_of(alloc: Global, numbers: &[i32]) -> Result<List, AllocError>
+    ensures { IfOk result (λ list. list ≡ numbers.now) }
+{
+    let mut list = List::new(alloc);
+    for number in numbers {
+        list.push(*number)?;
+    }
+    Ok(list)
+}
+
+impl Operation {
+    ghost use Rattle.dsp_vector.specs.Vector.{block_of, IsVectorBlock};
+
+    /// The operation of a block. A list is copied.
+    pub fn new(alloc: Global, block: &Block) -> Result<Operation, AllocError>
+        requires { IsVectorBlock block.now }
+        ensures { IfOk result (λ o. block_of o ≡ block.now) }
+    {
+        match block {
+            Block::Offset { value } => Ok(Operation::Offset { value: *value }),
+            Block::Negate => Ok(Operation::Negate),
+            Block::Abs => Ok(Operation::Abs),
+            Block::Scale { fract, shift } => Ok(Operation::Scale {
+                fract: *fract,
+                shift: *shift,
+            }),
+            Block::Shift { shift } => Ok(Operation::Shift { shift: *shift }),
+            Block::Clip { low, high } => Ok(Operation::Clip {
+                low: *low,
+                high: *high,
+            }),
+            Block::To { format } => Ok(Operation::To { format: *format }),
+            Block::Add => Ok(Operation::Add),
+            Block::Sub => Ok(Operation::Sub),
+            Block::Mult => Ok(Operation::Mult),
+            Block::Route { channels } => Ok(Operation::Route {
+                channels: list_of(alloc, channels.as_slice())?,
+            }),
+            _ => Err(AllocError),
+        }
+    }
+
+    /// The channels of a frame that it gives of a frame of so many.
+    pub fn channels_given(&self, channels: usize) -> usize
+        ensures { result ≡ channels_after channels (block_of self.now) }
+    {
+        match self {
+            Operation::Add | Operation::Sub | Operation::Mult => 1,
+            Operation::Route { channels } => channels.as_slice().len(),
+            _ => channels,
+        }
+    }
+
+    /// Writes what it gives of samples of the format of T, frame by frame, and answers their number.
+    pub fn feed<T: VectorSample, L: Ledger>(
+        &self,
+        channels: usize,
+        frames: &[i32],
+        out: &mut [i32],
+        steps: &mut Steps<L>,
+    ) -> usize
+        requires suits { Suits (record { format = T.format; channels = channels }) (block_of self.now) }
+        requires some { 1 ≤ channels }
+        requires signal { IsSignal T.format channels frames.now }
+        requires room { length (frames_in channels frames.now) * channels_after channels (block_of self.now) ≤ length out.old }
+        ensures within { result ≤ length out.old }
+        ensures given { Gives T.format channels (block_of self.now) frames.now (take result out.new) }
+        ensures multiplies { steps.new.multiplies ≡ steps.old.multiplies + length (frames_in channels frames.now) * price (block_of self.now) channels }
+    {
+        match self {
+            Operation::Offset { value } => {
+                change_each::<T, T, Offset>(Offset { value: *value }, frames, out)
+            }
+            Operation::Negate => change_each::<T, T, Negate>(Negate, frames, out),
+            Operation::Abs => change_each::<T, T, Abs>(Abs, frames, out),
+            Operation::Scale { fract, shift } => {
+                let scale = Scale {
+                    fract: *fract,
+                    shift: *shift,
+                };
+                steps.count(frames.len() as u64, frames.len() as u64);
+                change_each::<T, T, Scale>(scale, frames, out)
+            }
+            Operation::Shift { shift } => {
+                change_each::<T, T, Shift>(Shift { shift: *shift }, frames, out)
+            }
+            Operation::Clip { low, high } => {
+                let clip = Clip {
+                    low: *low,
+                    high: *high,
+                };
+                change_each::<T, T, Clip>(clip, frames, out)
+            }
+            Operation::To { format } => match format {
+                Fmt::Q7 => change_each::<T, i8, Convert>(Convert, frames, out),
+                Fmt::Q15 => change_each::<T, i16, Convert>(Convert, frames, out),
+                Fmt::Q31 => change_each::<T, i32, Convert>(Convert, frames, out),
+            },
+            Operation::Add => join_pairs::<T, Sum>(Sum, frames, out),
+            Operation::Sub => join_pairs::<T, Difference>(Difference, frames, out),
+            Operation::Mult => {
+                let count = join_pairs::<T, Product>(Product, frames, out);
+                steps.count(count as u64, count as u64);
+                count
+            }
+            Operation::Route { channels: list } => {
+                let list = list.as_slice();
+                let count = frames.len() / channels;
+                route_frames(list, frames, count, channels, out);
+                count * list.len()
+            }
+        }
+    }
+}

@@ -1,0 +1,90 @@
+use crate::operation::Operation;
+use dsp_defs::{Block, Fmt, List, Stage, Steps};
+use std::alloc::{AllocError, Global};
+use std::marker::Model;
+use std::sync::ledger::Ledger;
+
+/// A block of this crate at its place, on all channels of a frame.
+#[derive(Drop)]
+pub struct Unit {
+    operation: Operation,
+    format: Fmt,
+    channels: usize,
+    capacity: usize,
+    ended: bool,
+}
+
+impl Model for Unit {
+    ghost use Rattle.std.specs.Prelude.{◌≤◌, ◌*◌, []};
+    ghost use Rattle.dsp_defs.specs.Grammar.{Suits};
+    ghost use Rattle.dsp_defs.specs.Unit.{UnitState};
+    ghost use Rattle.dsp_vector.specs.Vector.{block_of};
+
+    ghost Value = { UnitState };
+
+    ghost view = { λ u. record {
+      block = block_of u.operation;
+      format = u.format;
+      channels = u.channels;
+      capacity = u.capacity;
+      kept = [];
+      tail = [];
+      rest = 0;
+      ended = u.ended;
+    } };
+
+    ghost invariant = { λ u. (Suits (record { format = u.format; channels = u.channels }) (block_of u.operation)) × (1 ≤ u.channels) × (u.capacity * u.channels ≤ 1048576) };
+}
+
+impl Unit {
+    ghost use Rattle.std.specs.Prelude.{◌≤◌, ◌*◌, IfOk};
+    ghost use Rattle.dsp_defs.specs.Grammar.{Suits};
+    ghost use Rattle.dsp_defs.specs.Unit.{IsNew};
+    ghost use Rattle.dsp_vector.specs.Vector.{IsVectorBlock};
+
+    /// A unit that has taken nothing, for at most `frames` frames a call; all its memory is taken here.
+    pub fn new(
+        alloc: Global,
+        block: &Block,
+        format: Fmt,
+        channels: u8,
+        frames: usize,
+    ) -> Result<Unit, AllocError>
+        requires block { IsVectorBlock block.now }
+        requires suits { Suits (record { format = format; channels = channels }) block.now }
+        requires channels { 1 ≤ channels }
+        requires frames { 1 ≤ frames }
+        requires samples { frames * channels ≤ 1048576 }
+        ensures { IfOk result (IsNew block.now format channels frames) }
+    {
+        Ok(Unit {
+            operation: Operation::new(alloc, block)?,
+            format,
+            channels: usize::from(channels),
+            capacity: frames,
+            ended: false,
+        })
+    }
+}
+
+impl Stage for Unit {
+    ghost unit = { λ u. u };
+
+    fn room(&self) -> usize {
+        self.capacity * self.operation.channels_given(self.channels)
+    }
+
+    fn feed<L: Ledger>(&mut self, frames: &[i32], out: &mut [i32], steps: &mut Steps<L>) -> usize {
+        let channels = self.channels;
+        match self.format {
+            Fmt::Q7 => self.operation.feed::<i8, L>(channels, frames, out, steps),
+            Fmt::Q15 => self.operation.feed::<i16, L>(channels, frames, out, steps),
+            Fmt::Q31 => self.operation.feed::<i32, L>(channels, frames, out, steps),
+        }
+    }
+
+    fn finish<L: Ledger>(&mut self, _out: &mut [i32], _steps: &mut Steps<L>) -> usize {
+        self.ended = true;
+        0
+    }
+}

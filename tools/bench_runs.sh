@@ -1,6 +1,7 @@
 #!/usr/bin/env bash
-# Times whole runs of `./dspfx`, file to file, on raw noise: the least of some passes, in ns per frame.
-# It is no part of the gate. DSPFX names another program; FRAMES and PASSES other numbers.
+# Measures whole runs of `./dspfx`, file to file, on raw noise: the processor time of the least of some
+# passes, in ns per frame. It is no part of the gate. DSPFX names another program; FRAMES and PASSES
+# other numbers.
 set -u
 top=$(cd "$(dirname "$(readlink -f "${BASH_SOURCE[0]}")")/.." && pwd) || exit 70
 program=${DSPFX:-$top/dspfx}
@@ -16,16 +17,17 @@ taps() {
 
 # measure NAME FORMAT BYTES CHANNELS BLOCKS
 measure() {
-    local name=$1 format=$2 bytes=$3 channels=$4 blocks=$5 best=0 begin end
+    local name=$1 format=$2 bytes=$3 channels=$4 blocks=$5 best=0 spent
+    local TIMEFORMAT='%3U %3S'
     echo "dspfx 1 input raw $format $channels 48000 $blocks output raw" >"$folder/script.txt"
     head -c $((frames * bytes * channels)) /dev/urandom >"$folder/in.raw"
     for _ in $(seq "$passes"); do
-        begin=$(date +%s%N)
-        "$program" run "$folder/script.txt" "$folder/in.raw" "$folder/out.raw" >"$folder/report" || exit 70
-        end=$(date +%s%N)
-        if [ "$best" = 0 ] || [ $((end - begin)) -lt "$best" ]; then best=$((end - begin)); fi
+        { time "$program" run "$folder/script.txt" "$folder/in.raw" "$folder/out.raw" >"$folder/report"; } 2>"$folder/time" || exit 70
+        spent=$(awk '{print ($1 + $2) * 1000}' "$folder/time")
+        if [ "$best" = 0 ] || [ "$spent" -lt "$best" ]; then best=$spent; fi
     done
-    printf '| %s | %s | %d.%02d |\n' "$name" "$format" $((best / frames)) $((best * 100 / frames % 100))
+    awk -v name="$name" -v format="$format" -v ms="$best" -v frames="$frames" \
+        'BEGIN { printf "| %s | %s | %.1f |\n", name, format, ms * 1e6 / frames }'
 }
 
 "$program" print "$top/examples/first/s.txt" >/dev/null || exit 70

@@ -1,7 +1,7 @@
 #!/usr/bin/env bash
-# Refuses each allocation of `print` and of a run in turn, by a small library in front of the C library's
-# `malloc`: each must end with status 10, its line, and an output that was never made; the first number
-# that no allocation is left for must be done. It is no part of the gate, and needs gcc.
+# Refuses each allocation of `print`, of a run and of a gen in turn, by a small library in front of the C
+# library's `malloc`: each must end with status 10, its line, and an output that was never made; the first
+# number that no allocation is left for must be done. It is no part of the gate, and needs gcc.
 # DSPFX names another built program.
 set -u
 top=$(cd "$(dirname "$(readlink -f "${BASH_SOURCE[0]}")")/.." && pwd) || exit 70
@@ -79,3 +79,4 @@ refused_in_turn() {
 
 refused_in_turn print print "$folder/script.txt" || exit 1
 refused_in_turn run run "$folder/script.txt" "$folder/in.raw" "$folder/out.wav" || exit 1
+refused_in_turn gen gen 7 1000 "$folder/script.txt" "$folder/out.wav" || exit 1

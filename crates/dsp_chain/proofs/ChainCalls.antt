@@ -1,10 +1,10 @@
 -- A chain is a row of units with a count of frames.
-use Rattle.std.proofs.Common.{◌≡◌, ◌∙◌, ap, sym, subst, ◌+◌, ◌/◌, ℤ, List, length, true, false, [], length-append}
+use Rattle.std.proofs.Common.{◌≡◌, ◌∙◌, ap, refl, sym, subst, ◌+◌, ◌/◌, ℤ, List, length, true, false, [], length-append}
 use Rattle.dsp_defs.specs.Counts.{Counts}
 use Rattle.dsp_defs.specs.Unit.{UnitState, frames_in}
-use Rattle.dsp_defs.specs.Row.{InRow, IsFed, IsFinished, place_behind, blocks_of}
+use Rattle.dsp_defs.specs.Row.{InRow, IsFed, IsFinished, place_behind, blocks_of, measured_by}
 use Rattle.dsp_defs.proofs.FrameLemmas.{length-frames_in}
-use Rattle.dsp_defs.proofs.TailLaws.{begins-to-end, costs-to-end, spent-owes, spent-costs}
+use Rattle.dsp_defs.proofs.TailLaws.{begins-to-end, costs-to-end, measures-to-end, spent-owes, spent-costs, spent-measures}
 use Rattle.dsp_defs.proofs.MemorylessLaws.{no-frames}
 use Rattle.dsp_chain.specs.Chain.{ChainState, FeedsChain, FinishesChain}
 
@@ -25,6 +25,7 @@ chain-fed c d links news frames given before after links_are news_are input ende
   };
   counts = λ n counts. rw news_are (fed'.feeds.counts n counts);
   multiplies = fed'.feeds.multiplies;
+  turns = fed'.feeds.turns;
 }
   where
     fed' : IsFed c.input c.units news frames given before after
@@ -45,6 +46,10 @@ chain-finished c d links news given before after links_are news_are input ended 
   cost_begins = λ n total counts e. costs-to-end c.input c.units n before.multiplies total row' counts e;
   costs = λ total owes. rw (input, news_are) (done.finishes.costs total owes);
   cost_spent = λ none total owes. spent-costs c.input news after.multiplies total done.finishes.in_row (done.finishes.spent (no none)) (rw (input, news_are) at owes);
+  turns = done.finishes.turns;
+  measure_begins = λ x stands. measures-to-end c.input c.units x 1 _ row' stands.units refl;
+  measures = λ ms owes. rw (input, news_are) (done.finishes.measures 1 ms owes);
+  measure_spent = λ none ms owes. ap (measured_by 1) news_are ∙ sym (spent-measures c.input news 1 ms done.finishes.in_row (done.finishes.spent (no none)) (rw (input, news_are) at owes));
 }
   where
     done : IsFinished c.input c.units news given before after

@@ -2,3 +2,4 @@ pub mod Room
 pub mod Tails
 pub mod ChainCalls
 pub mod Making
+pub mod Measured

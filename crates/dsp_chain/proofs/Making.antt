@@ -4,7 +4,7 @@ use Rattle.std.specs.List.{list_all}
 use Rattle.std.proofs.lemmas.Bool.Decides.{nat_tests}
 use Rattle.dsp_defs.specs.Shape.{whole_frames, gathered, window_at}
 use Rattle.dsp_defs.specs.Unit.{UnitState, IsNew, most_frames}
-use Rattle.dsp_defs.specs.Row.{Place, place_after, place_behind, blocks_of, InRow, AllNew}
+use Rattle.dsp_defs.specs.Row.{Place, place_after, place_behind, blocks_of, InRow, AllNew, AllTaken}
 use Rattle.dsp_defs.proofs.NewRow.{place-more, blocks-more, row-more, new-more}
 use Rattle.dsp_defs.proofs.ChainPlaces.{IsOpen, AllOpen, flow_at, few_channels_after}
 use Rattle.dsp_defs.specs.Grammar.{Suits}
@@ -14,7 +14,7 @@ use Rattle.dsp_defs.specs.declared.limits.TheConstants.{MAX_CHANNELS}
 use Rattle.dsp_defs.specs.Table.{flow_after}
 use Rattle.dsp_chain.specs.Built.{is_built_block}
 use Rattle.dsp_defs.specs.declared.script.Block.{Block}
-use Rattle.dsp_defs.specs.declared.script.Block.TheVariants.{Decimate, Interpolate, ConvPartial, Correlate, MatAdd, MatSub, MatScale, MatTrans, MatMult}
+use Rattle.dsp_defs.specs.declared.script.Block.TheVariants.{ConvPartial, Correlate, Max, Min}
 
 and_left : (a b : Bool) → IsTrue (a && b) → IsTrue a
 and_left a b h = grind (arith, nat_tests)
@@ -63,6 +63,14 @@ making-more p here next blocks i j us u b first more step is m = record {
 pub next-first : (blocks : List Block) (i : ℕ) (b : Block) → i < length blocks → b ≡ get_or blocks i b → drop i blocks ≡ b ∷ drop (i + 1) blocks
 next-first blocks i b within read = drop_more blocks i b within ∙ ap (λ (e : Block). e ∷ drop (i + 1) blocks) (sym read)
 
+-- the place that is reached is open
+open-here : (here : Place) (blocks : List Block) → AllOpen here blocks → IsOpen here
+open-here here [] places = places
+open-here here (b ∷ blocks) places = places.0
+
+pub making-open : (p here : Place) (blocks : List Block) (i : ℕ) (us : List UnitState) → Making p here blocks i us → IsOpen here
+making-open p here blocks i us m = open-here here (drop i blocks) m.places
+
 -- what the next block of a chain in the making needs
 pub record Next (here : Place) (b : Block) : Type 0 where
   pub built : IsTrue (is_built_block b)
@@ -83,24 +91,17 @@ making-next p here blocks i j us b first m = record {
 
 -- ---- built blocks
 
--- one gives as many frames as it takes
-pub keeps_frames : (block : Block) (n : ℕ) → IsTrue (is_built_block block) → most_frames block n ≡ n
-keeps_frames (Decimate factor taps) n built = absurd (cc)
-keeps_frames (Interpolate factor taps) n built = absurd (cc)
-keeps_frames (MatAdd rows columns matrix) n built = absurd (cc)
-keeps_frames (MatSub rows columns matrix) n built = absurd (cc)
-keeps_frames (MatScale rows columns fract shift) n built = absurd (cc)
-keeps_frames (MatTrans rows columns) n built = absurd (cc)
-keeps_frames (MatMult rows columns given matrix) n built = absurd (cc)
-keeps_frames block n built = refl
+-- the place behind it is what flows there
+pub next-place : (here next : Place) (block : Block) → flow_at next ≡ flow_after block (flow_at here) → next.capacity ≡ most_frames block here.capacity → next ≡ place_after here block
+next-place here next block flow frames = λ i. record { format = (flow i).format; channels = (flow i).channels; capacity = frames i }
 
--- so the place behind it is what flows there, for as many frames
-pub keeps-place : (here next : Place) (block : Block) → IsTrue (is_built_block block) → flow_at next ≡ flow_after block (flow_at here) → next.capacity ≡ here.capacity → next ≡ place_after here block
-keeps-place here next block built flow frames = λ i. record {
-  format = (flow i).format;
-  channels = (flow i).channels;
-  capacity = (frames ∙ sym (keeps_frames block here.capacity built)) i;
-}
+-- none has a limit of what it takes
+pub all-taken : (blocks : List Block) (n : ℕ) → IsTrue (list_all is_built_block blocks) → AllTaken blocks n
+all-taken [] n built = tt
+all-taken (Correlate taps ∷ blocks) n built = absurd (cc)
+all-taken (Max ∷ blocks) n built = absurd (cc)
+all-taken (Min ∷ blocks) n built = absurd (cc)
+all-taken (block ∷ blocks) n built = (tt, all-taken blocks (whole_frames block n) (and_right (is_built_block block) (list_all is_built_block blocks) built))
 
 -- none of them has a window or gathers
 pub no-window : (blocks : List Block) (n : ℕ) → IsTrue (list_all is_built_block blocks) → window_at blocks n ≡ None

@@ -1,11 +1,12 @@
 -- The room that a row of units needs.
 use Rattle.std.proofs.Common.{◌≡◌, ◌∙◌, ap, refl, sym, subst, false, ℕ, ◌*◌, ◌≤◌, ℤ, List, [], ◌∷◌, ◌++◌, length, take, drop, arith}
 use Rattle.std.proofs.lemmas.List.{take-append-le, take_all}
-use Rattle.dsp_defs.specs.Unit.{UnitState, frames_in, most_frames, IsOutput, Feeds}
+use Rattle.dsp_defs.specs.Unit.{UnitState, frames_in, most_frames, Accepts, IsOutput, Feeds}
 use Rattle.dsp_defs.specs.Block.{channels_after}
-use Rattle.dsp_defs.specs.Row.{Place, place_after, place_behind, place_room, Passes, blocks_of, InRow, IsFed}
+use Rattle.dsp_defs.specs.Row.{Place, place_after, place_behind, place_room, Passes, blocks_of, InRow, AllRun, AllAccept, IsFed}
 use Rattle.dsp_defs.specs.Counts.{Counts}
-use Rattle.dsp_defs.proofs.RowLaws.{fed-none, fed-then, output-passes}
+use Rattle.dsp_defs.proofs.RowLaws.{fed-none, fed-then, output-passes, accepts-first, accepts-behind}
+use Rattle.dsp_chain.specs.Row.{MayTake}
 
 -- the samples that pass a place have room there
 pub passing-room : (p : Place) (samples : List ℤ) → Passes p samples → length samples ≤ place_room p
@@ -38,6 +39,35 @@ first-fed p links link u v behind after frames piece given before between later 
     subst (λ us. IsFed p us (v ∷ after) frames given before later) (sym e)
     (fed-then p u v behind after frames piece given before between later here.0 runs one
     (rest (place_after p u.block) here.1 (output-passes p u piece here.0 output)))
+
+-- the first unit can take what the row may be fed with
+pub first-accepts :
+    (links : List UnitState) (link u : UnitState) (behind : List UnitState) (frames : List ℤ) (size : ℕ) → links ≡ link ∷ behind → u ≡ link → MayTake links frames size → Accepts u (length (frames_in u.channels frames))
+first-accepts links link u behind frames size is_first same may =
+    let e : links ≡ u ∷ behind = is_first ∙ ap (λ f. f ∷ behind) (sym same) in
+    let here : InRow may.place (u ∷ behind) = subst (InRow may.place) e may.row in
+    subst (λ c. Accepts u (length (frames_in c frames))) (sym here.0.channels)
+    (accepts-first u behind (length (frames_in may.place.channels frames)) (subst (λ us. AllAccept us (length (frames_in may.place.channels frames))) e may.accepts))
+
+-- and the row behind it may be fed with what it gives
+pub behind-takes :
+    (links : List UnitState) (link u v : UnitState) (behind : List UnitState) (frames piece : List ℤ) (size : ℕ) (before between : Counts) → links ≡ link ∷ behind → u ≡ link →
+    IsOutput u (most_frames u.block u.capacity) piece → Feeds u v (frames_in u.channels frames) (frames_in (channels_after u.channels u.block) piece) before between → MayTake links frames size → MayTake behind piece size
+behind-takes links link u v behind frames piece size before between is_first same output one may =
+    let e : links ≡ u ∷ behind = is_first ∙ ap (λ f. f ∷ behind) (sym same) in
+    let p = may.place in
+    let here : InRow p (u ∷ behind) = subst (InRow p) e may.row in
+    let one' = subst (λ c. Feeds u v (frames_in c frames) (frames_in (channels_after c u.block) piece) before between) here.0.channels one in
+    record {
+      place = place_after p u.block;
+      row = here.1;
+      passes = output-passes p u piece here.0 output;
+      accepts = accepts-behind u v behind (frames_in p.channels frames) (frames_in (channels_after p.channels u.block) piece) before between one' (subst (λ us. AllAccept us (length (frames_in p.channels frames))) e may.accepts);
+      room = subst (λ us. place_room (place_behind p (blocks_of us)) ≤ size) e may.room;
+    }
+
+pub behind-runs : (links : List UnitState) (link u : UnitState) (behind : List UnitState) → links ≡ link ∷ behind → u ≡ link → AllRun links → AllRun behind
+behind-runs links link u behind is_first same runs = (subst AllRun is_first runs).1
 
 -- a row that was written whole
 pub written-row : {X : Type 0} → (size : ℕ) (new old : List X) → length new ≡ size → take size (new ++ drop (length new) old) ≡ new

@@ -2,9 +2,10 @@
 use Rattle.std.proofs.Common.{◌≡◌, ◌∙◌, ap, ap₂, refl, sym, subst, ℕ, ◌+◌, ◌*◌, ◌≤◌, ◌<◌, ℤ, List, [], ◌∷◌, length, take, arith, length-append}
 use Rattle.dsp_defs.specs.Unit.{UnitState, frames_in, most_frames, IsSignal, IsOutput, Finishes}
 use Rattle.dsp_defs.specs.Block.{Frame, channels_after}
-use Rattle.dsp_defs.specs.Row.{Place, place_after, place_behind, place_room, Passes, blocks_of, InRow, IsFed, EndsInOrder, IsFinishedFirst, IsFinished, FinishesFirst, FinishesRow, first_tail}
+use Rattle.dsp_defs.specs.Row.{Place, place_after, place_behind, place_room, Passes, blocks_of, InRow, IsFed, EndsInOrder, AllRun, AllAccept, IsFinishedFirst, IsFinished, FinishesFirst, FinishesRow, first_tail}
 use Rattle.dsp_defs.specs.Counts.{Counts}
-use Rattle.dsp_defs.proofs.RowLaws.{output-passes}
+use Rattle.dsp_defs.proofs.RowLaws.{output-passes, accepts-fewer}
+use Rattle.dsp_chain.specs.Row.{MayTake}
 use Rattle.dsp_defs.proofs.MemorylessLaws.{no-frames}
 use Rattle.dsp_defs.proofs.TailLaws.{nothing-passes, finishes-none, finishes-spent, finishes-given, finishes-more, row-same, order-same, row-given, row-behind}
 use Rattle.dsp_defs.specs.declared.format.Fmt.{Fmt}
@@ -41,11 +42,51 @@ module _ (p : Place) (links : List UnitState) (link u v : UnitState) (behind : L
         finishes = rw (no-frames (place_behind p (blocks_of (u ∷ behind))).channels) (finishes-spent p u v behind before after (subst (InRow p) links-is row) (subst EndsInOrder links-is order) one');
       })
 
+  -- the row behind may be fed with a piece of the tail
+  pub tail-takes :
+      (piece : List ℤ) (before between : Counts) (size : ℕ) → IsOutput u (most_frames u.block u.capacity) piece → 0 < length piece →
+      Finishes u v (frames_in (channels_after u.channels u.block) piece) before between → InRow p links → EndsInOrder links → place_room (place_behind p (blocks_of links)) ≤ size → MayTake behind piece size
+  tail-takes piece before between size output some one row order room =
+      let here : InRow p (u ∷ behind) = subst (InRow p) links-is row in
+      let order' : EndsInOrder (u ∷ behind) = subst EndsInOrder links-is order in
+      let frames = frames_in (channels_after u.channels u.block) piece in
+      let longer : length u.tail ≡ length frames + length v.tail = ap length one.tail ∙ length-append frames v.tail in
+      let full : u.tail ≡ [] → ⊥ = λ none. some-frames _ (channels_after u.channels u.block) piece output.signal some (no-length frames (omega (arith, longer, ap length none))) in
+      let accepts : AllAccept behind (length frames) = accepts-fewer behind (length u.tail) (length frames) (omega (arith, longer)) (order'.0 full).1 in
+      record {
+        place = place_after p u.block;
+        row = here.1;
+        passes = output-passes p u piece here.0 output;
+        accepts = subst (λ c. AllAccept behind (length (frames_in (channels_after c u.block) piece))) here.0.channels accepts;
+        room = subst (λ us. place_room (place_behind p (blocks_of us)) ≤ size) links-is room;
+      }
+    where
+      no-length : (x : List Frame) → length x ≡ 0 → x ≡ []
+      no-length [] e = refl
+      no-length (f ∷ x) e = absurd (omega (arith, e))
+
+  -- and it runs
+  pub tail-runs :
+      (piece : List ℤ) (before between : Counts) → IsOutput u (most_frames u.block u.capacity) piece → 0 < length piece →
+      Finishes u v (frames_in (channels_after u.channels u.block) piece) before between → EndsInOrder links → AllRun behind
+  tail-runs piece before between output some one order =
+      let order' : EndsInOrder (u ∷ behind) = subst EndsInOrder links-is order in
+      let frames = frames_in (channels_after u.channels u.block) piece in
+      let longer : length u.tail ≡ length frames + length v.tail = ap length one.tail ∙ length-append frames v.tail in
+      (order'.0 (λ none. some-frames _ (channels_after u.channels u.block) piece output.signal some (no-length frames (omega (arith, longer, ap length none))))).0
+    where
+      no-length : (x : List Frame) → length x ≡ 0 → x ≡ []
+      no-length [] e = refl
+      no-length (f ∷ x) e = absurd (omega (arith, e))
+
   module _ (after : List UnitState) (piece given : List ℤ) (before between later : Counts) (output : IsOutput u (most_frames u.block u.capacity) piece) (some : 0 < length piece)
       (one : Finishes u v (frames_in (channels_after u.channels u.block) piece) before between)
-      (rest : (q : Place) → InRow q behind → Passes q piece → IsFed q behind after piece given between later) (row : InRow p links) where
+      (rest : (q : Place) → InRow q behind → Passes q piece → IsFed q behind after piece given between later) (row : InRow p links) (order : EndsInOrder links) where
     here : InRow p (u ∷ behind)
     here = subst (InRow p) links-is row
+
+    here-order : EndsInOrder (u ∷ behind)
+    here-order = subst EndsInOrder links-is order
 
     fed : IsFed (place_after p u.block) behind after piece given between later
     fed = rest (place_after p u.block) here.1 (output-passes p u piece here.0 output)
@@ -60,10 +101,10 @@ module _ (p : Place) (links : List UnitState) (link u v : UnitState) (behind : L
     filled' = subst (λ c. frames_in (channels_after c u.block) piece ≡ [] → ⊥) here.0.channels filled
 
     pub row-after : InRow p (v ∷ after)
-    row-after = row-same p u v behind after _ _ before between later here one' fed.feeds filled'
+    row-after = row-same p u v behind after _ _ before between later here here-order one' fed.feeds filled'
 
     pub order-after : EndsInOrder (v ∷ after)
-    order-after = order-same p u v behind after _ _ before between later here one' fed.feeds filled'
+    order-after = order-same p u v behind after _ _ before between later here here-order one' fed.feeds filled'
 
     pub room-after : (size : ℕ) → place_room (place_behind p (blocks_of links)) ≤ size → place_room (place_behind p (blocks_of (v ∷ after))) ≤ size
     room-after size room =
@@ -85,7 +126,7 @@ module _ (p : Place) (links : List UnitState) (link u v : UnitState) (behind : L
         subst (λ us. IsFinishedFirst p us (v ∷ after) given before later) (sym links-is)
         (record {
           passes = fed.passes;
-          finishes = finishes-given p u v behind after _ _ before between later here one' fed.feeds filled' (some-frames _ _ given fed.passes.signal full);
+          finishes = finishes-given p u v behind after _ _ before between later here here-order one' fed.feeds filled' (some-frames _ _ given fed.passes.signal full);
         })
 
     pub more-finished :
@@ -99,7 +140,7 @@ module _ (p : Place) (links : List UnitState) (link u v : UnitState) (behind : L
         subst (λ us. IsFinishedFirst p us new last before end) (sym links-is)
         (record {
           passes = subst (λ bs. Passes (place_behind p bs) last) same_blocks then.passes;
-          finishes = finishes-more p u v behind after _ _ before between later here one' fed.feeds filled' new _ end nothing
+          finishes = finishes-more p u v behind after _ _ before between later here here-order one' fed.feeds filled' new _ end nothing
               (subst (λ bs. FinishesFirst p (v ∷ after) new (frames_in (place_behind p bs).channels last) later end) same_blocks then.finishes);
         })
       where

@@ -1,22 +1,29 @@
 -- What a contract sees of a chain.
-use Rattle.std.specs.Prelude.{◌≡◌, ℕ, ◌+◌, ℤ, Bool, true, false, List, [], ◌++◌, length}
+use Rattle.std.specs.Prelude.{◌≡◌, ℕ, ◌+◌, ◌≤◌, ℤ, Bool, true, false, List, [], ◌++◌, length}
 use Rattle.dsp_defs.specs.Streaming.{Continues}
 use Rattle.dsp_defs.specs.Block.{Frame, live_chain, whole_chain}
 use Rattle.dsp_defs.specs.Counts.{Counts}
-use Rattle.dsp_defs.specs.Cost.{live_cost}
+use Rattle.dsp_defs.specs.Cost.{live_cost, chain_turns}
+use Rattle.dsp_defs.specs.Measure as measure
 use Rattle.dsp_defs.specs.Unit.{UnitState, frames_in}
-use Rattle.dsp_defs.specs.Row.{chain_products, Place, place_behind, Passes, blocks_of, AllStand, AllCount, Owes, Costs}
+use Rattle.dsp_defs.specs.Row.{chain_products, Place, place_behind, Passes, blocks_of, AllStand, AllCount, Owes, Costs, Measures, measured_by}
 use Rattle.dsp_chain.specs.declared.block_unit.BlockUnit.{BlockUnit}
-use Rattle.dsp_chain.specs.declared.block_unit.BlockUnit.TheVariants.{Vector, Complex, Fir}
-use Rattle.dsp_fir.specs.FirUnit.{unit_of}
+use Rattle.dsp_chain.specs.declared.block_unit.BlockUnit.TheVariants as unit
+use Rattle.dsp_fir.specs.FirUnit as fir
+use Rattle.dsp_rate.specs.RateUnit as rate
+use Rattle.dsp_conv.specs.ConvUnit as conv
+use Rattle.dsp_defs.specs.declared.measure.Measure.{Measure}
 use Rattle.dsp_defs.specs.declared.script.Block.{Block}
 use Rattle.dsp_defs.specs.declared.script.Script.{Script}
 
 -- the unit that it holds
 abbrev pub state_of : BlockUnit → UnitState
-state_of (Vector u) = u
-state_of (Complex u) = u
-state_of (Fir u) = unit_of u
+state_of (unit.Vector u) = u
+state_of (unit.Complex u) = u
+state_of (unit.Fir u) = fir.unit_of u
+state_of (unit.Rate u) = rate.unit_of u
+state_of (unit.Conv u) = conv.unit_of u
+state_of (unit.Measure u) = u
 
 -- the place of its input, its units, the frames that were fed, and whether its tail was begun
 pub record ChainState : Type 0 where
@@ -53,12 +60,18 @@ pub record FeedsChain (old new : ChainState) (frames given : List ℤ) (before a
   pub stands : (x : List Frame) → ChainStandsFor old x → ChainStandsFor new (x ++ frames_in old.input.channels frames)
   pub counts : (n : ℕ) → AllCount old.units n → AllCount new.units (n + length (frames_in old.input.channels frames))
   pub multiplies : (n : ℕ) → AllCount old.units n → live_cost old.input.format old.input.channels (blocks_of old.units) (n + length (frames_in old.input.channels frames)) + before.multiplies ≡ live_cost old.input.format old.input.channels (blocks_of old.units) n + after.multiplies
+  pub turns : (n : ℕ) → AllCount old.units n → after.turns ≤ before.turns + chain_turns old.input.format old.input.channels (blocks_of old.units) n (n + length (frames_in old.input.channels frames))
 
 -- and of all its frames as a whole signal
 abbrev pub whole_of : ChainState → List Frame → List Frame
 whole_of c = whole_chain c.input.format c.input.channels (blocks_of c.units)
 
--- the call gave the next frames that the chain owes, and none only where it owes none
+-- the measures of its whole signal
+abbrev pub measures_of : ChainState → List Frame → List Measure
+measures_of c = measure.measures c.input.format c.input.channels 1 (blocks_of c.units)
+
+-- the call gave the next frames that the chain owes, and none only where it owes none; then its measures are those of the whole signal.
+-- A turn of a loop makes a product at least.
 pub record FinishesChain (old new : ChainState) (given : List ℤ) (before after : Counts) : Type 0 where
   pub same : SameChain old new
   pub ended : new.ended ≡ true
@@ -70,6 +83,10 @@ pub record FinishesChain (old new : ChainState) (given : List ℤ) (before after
   pub cost_begins : (n total : ℕ) → AllCount old.units n → chain_products old.input.format old.input.channels (blocks_of old.units) n + before.multiplies ≡ live_cost old.input.format old.input.channels (blocks_of old.units) n + total → Costs old.input old.units before.multiplies total
   pub costs : (total : ℕ) → Costs old.input old.units before.multiplies total → Costs new.input new.units after.multiplies total
   pub cost_spent : given ≡ [] → (total : ℕ) → Costs new.input new.units after.multiplies total → after.multiplies ≡ total
+  pub turns : after.turns + before.multiplies ≤ before.turns + after.multiplies
+  pub measure_begins : (x : List Frame) → ChainStandsFor old x → Measures old.input 1 old.units (measures_of old x)
+  pub measures : (ms : List Measure) → Measures old.input 1 old.units ms → Measures new.input 1 new.units ms
+  pub measure_spent : given ≡ [] → (ms : List Measure) → Measures new.input 1 new.units ms → measured_by 1 new.units ≡ ms
 
 -- the first place of a script, for so many frames a call
 abbrev pub input_place : Script → ℕ → Place

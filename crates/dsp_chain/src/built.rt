@@ -1,5 +1,7 @@
-ghost use Rattle.std.specs.Prelude.{◌≡◌};
-ghost use Rattle.dsp_chain.specs.Built.{family_of, built};
+ghost use Rattle.std.specs.Prelude.{◌≡◌, ◌<◌, IfSome, IsTrue};
+ghost use Rattle.dsp_defs.specs.Shape.{group_of};
+ghost use Rattle.dsp_defs.specs.Unit.{most_frames};
+ghost use Rattle.dsp_chain.specs.Built.{family_of, built, is_built_block};
 
 use dsp_defs::{Block, Script};
 
@@ -12,6 +14,12 @@ pub enum Family {
     Complex,
     /// FIR and sparse filters.
     Fir,
+    /// Filters that change the rate.
+    Rate,
+    /// Convolutions, which end with a tail.
+    Conv,
+    /// Measures, which pass the frames on.
+    Measure,
 }
 
 /// The family of a block, where it is built.
@@ -34,6 +42,9 @@ pub fn family_of(block: &Block) -> Option<Family>
             Some(Family::Complex)
         }
         Block::Fir { .. } | Block::Sparse { .. } => Some(Family::Fir),
+        Block::Decimate { .. } => Some(Family::Rate),
+        Block::Conv { .. } => Some(Family::Conv),
+        Block::Power => Some(Family::Measure),
         _ => None,
     }
 }
@@ -48,4 +59,16 @@ pub fn is_built(script: &Script) -> bool
         .as_slice()
         .iter()
         .all(|block| family_of(block).is_some())
+}
+
+/// The most frames that a block which is built gives in one call of at most so many.
+pub(crate) fn frames_after(block: &Block, frames: usize) -> usize
+    requires built { IsTrue (is_built_block block.now) }
+    requires groups { IfSome (group_of block.now) (λ g. 0 < g.0) }
+    ensures { result ≡ most_frames block.now frames }
+{
+    match block {
+        Block::Decimate { factor, .. } => frames.div_ceil(usize::from(*factor)),
+        _ => frames,
+    }
 }

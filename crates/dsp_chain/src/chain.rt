@@ -1,6 +1,7 @@
 use crate::block_unit::BlockUnit;
-use crate::row::{Link, feed_row, finish_row};
-use dsp_defs::{Flow, Fmt, GatherFull, Input, Script, Steps, WindowFault};
+use crate::built::frames_after;
+use crate::row::{Link, count_measures, feed_row, find_measure, finish_row};
+use dsp_defs::{Flow, Fmt, GatherFull, Input, Measure, Script, Steps, WindowFault};
 use std::alloc::{AllocError, Global};
 use std::marker::Model;
 use std::sync::ledger::Ledger;
@@ -20,30 +21,32 @@ pub struct Chain {
 impl Model for Chain {
     ghost use Rattle.std.specs.Prelude.{◌≡◌, ◌≤◌, false, IsTrue};
     ghost use Rattle.std.specs.List.{list_all};
-    ghost use Rattle.dsp_defs.specs.Row.{Place, InRow, EndsInOrder, AllRun, blocks_of, place_behind, place_room};
+    ghost use Rattle.dsp_defs.specs.Row.{Place, InRow, EndsInOrder, AllRun, AllCount, blocks_of, place_behind, place_room};
     ghost use Rattle.dsp_chain.specs.Chain.{ChainState};
+    ghost use Rattle.dsp_chain.specs.Row.{FewChannels};
     ghost use Rattle.dsp_chain.specs.Built.{is_built_block};
 
     ghost Value = { ChainState };
 
     ghost view = { λ c. record { input = record { format = c.format; channels = c.channels; capacity = c.capacity }; units = c.links.items; frames = c.frames; ended = c.ended } };
 
-    ghost invariant = { λ c. (InRow (record { format = c.format; channels = c.channels; capacity = c.capacity }) c.links.items) × (EndsInOrder c.links.items) × (c.ended ≡ false → AllRun c.links.items) × (1 ≤ c.channels)
-        × (IsTrue (list_all is_built_block (blocks_of c.links.items)))
+    ghost invariant = { λ c. (InRow (record { format = c.format; channels = c.channels; capacity = c.capacity }) c.links.items) × (EndsInOrder c.links.items) × (c.ended ≡ false → AllRun c.links.items × AllCount c.links.items c.frames) × (1 ≤ c.channels)
+        × (IsTrue (list_all is_built_block (blocks_of c.links.items))) × (FewChannels c.channels (blocks_of c.links.items))
         × (c.room ≡ place_room (place_behind (record { format = c.format; channels = c.channels; capacity = c.capacity }) (blocks_of c.links.items))) };
 }
 
 impl Chain {
-    ghost use Rattle.std.specs.Prelude.{◌≡◌, ◌≤◌, ◌<◌, ◌+◌, ◌^◌, ◌↔◌, IsTrue, IsFalse, IfOk, IfErr, IsErr, length, take};
+    ghost use Rattle.std.specs.Prelude.{◌≡◌, ◌≤◌, ◌<◌, ◌+◌, ◌^◌, ◌↔◌, IsTrue, IsFalse, IfOk, IfErr, IsErr, Some, length, take, slice_get};
     ghost use Rattle.std.specs.Option.{option_map};
     ghost use Rattle.dsp_defs.specs.Shape.{gathered, held, window_at, is_legal};
     ghost use Rattle.dsp_defs.specs.Grammar.{IsChain, input_flow};
     ghost use Rattle.dsp_chain.specs.Built.{built};
     ghost use Rattle.dsp_defs.specs.declared.fault.WindowFault.{WindowFault};
-    ghost use Rattle.dsp_defs.specs.Row.{Passes, place_room, blocks_of};
+    ghost use Rattle.dsp_defs.specs.Row.{Passes, place_room, blocks_of, measured_by};
     ghost use Rattle.dsp_defs.specs.Unit.{frames_in};
+    ghost use Rattle.dsp_chain.specs.Row.{measure_counts};
     ghost use Rattle.dsp_chain.specs.Chain.{ChainState, output_of, FeedsChain, FinishesChain, input_place, IsNewChain};
-    ghost use Rattle.dsp_defs.specs.declared.limits.TheConstants.{MAX_CHANNELS, MAX_GATHERED};
+    ghost use Rattle.dsp_defs.specs.declared.limits.TheConstants.{MAX_BLOCKS, MAX_CHANNELS, MAX_GATHERED};
 
     /// The chain of a script, for a legal block length, the most frames of a call. All memory of the
     /// chain is taken here, and it errs only where memory is wanting.
@@ -60,22 +63,23 @@ impl Chain {
             channels,
             ..
         } = script.input;
-        // Each block that is built gives as many frames as it takes.
         let capacity = block as usize;
+        let mut frames = capacity;
         let mut flow = Flow { format, channels };
         let blocks = script.blocks.as_slice();
         let mut links = Vec::with_capacity(alloc, blocks.len())?;
         for block in blocks {
-            let unit = BlockUnit::new(alloc, block, flow.format, flow.channels, capacity)?;
+            let unit = BlockUnit::new(alloc, block, flow.format, flow.channels, frames)?;
             links.push(Link::new(alloc, unit)?)?;
             flow = flow.after(block);
+            frames = frames_after(block, frames);
         }
         Ok(Chain {
             links,
             format,
             channels: usize::from(channels),
             capacity,
-            room: capacity * usize::from(flow.channels),
+            room: frames * usize::from(flow.channels),
             frames: 0,
             ended: false,
         })
@@ -126,5 +130,26 @@ impl Chain {
     {
         self.ended = true;
         finish_row(self.links.as_mut_slice(), out, steps)
+    }
+
+    /// How many measures the chain has: in the order of the script, then by channel.
+    pub fn measures(&self) -> usize
+        requires { length self.now.units ≤ MAX_BLOCKS }
+        ensures count { result ≡ length (measured_by 1 self.now.units) }
+        ensures stays { result ≡ measure_counts self.now.input.channels (blocks_of self.now.units) }
+    {
+        count_measures(&self.links)
+    }
+
+    /// The measure at this index, of what its block has taken: of the whole signal there once the tail is spent.
+    pub fn measure(&self, index: usize) -> Measure
+        requires few { length self.now.units ≤ MAX_BLOCKS }
+        requires inside { index < length (measured_by 1 self.now.units) }
+        ensures { slice_get (measured_by 1 self.now.units) index ≡ Some result }
+    {
+        match find_measure(&self.links, 1, index) {
+            Some(measure) => measure,
+            None => unreachable!(),
+        }
     }
 }

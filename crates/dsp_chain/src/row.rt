@@ -1,7 +1,9 @@
-ghost use Rattle.std.specs.Prelude.{◌≡◌, ◌≤◌, length, take};
-ghost use Rattle.dsp_defs.specs.Row.{Place, place_behind, place_room, Passes, blocks_of, InRow, AllRun, IsFed, EndsInOrder, IsFinishedFirst, IsFinished};
+ghost use Rattle.std.specs.Prelude.{◌≡◌, ◌≤◌, ◌+◌, ◌*◌, All, length, take, slice_get};
+ghost use Rattle.dsp_defs.specs.Unit.{measures_of};
+ghost use Rattle.dsp_defs.specs.Row.{Place, place_behind, place_room, Passes, blocks_of, InRow, AllRun, IsFed, EndsInOrder, IsFinishedFirst, IsFinished, measured_by};
+ghost use Rattle.dsp_chain.specs.Row.{MayTake};
 
-use dsp_defs::{Stage, Steps};
+use dsp_defs::{Measure, Stage, Steps};
 use std::alloc::{AllocError, Global};
 use std::marker::Model;
 use std::sync::ledger::Ledger;
@@ -44,7 +46,7 @@ pub fn feed_row<S: Stage + Drop, L: Ledger>(
     steps: &mut Steps<L>,
 ) -> usize
     requires running { AllRun links.old }
-    requires passes { (p : Place) × InRow p links.old × Passes p frames.now × (place_room (place_behind p (blocks_of links.old)) ≤ length out.old) }
+    requires passes { MayTake links.old frames.now (length out.old) }
     ensures within { result ≤ length out.old }
     ensures fed { (p : Place) → InRow p links.old → Passes p frames.now → IsFed p links.old links.new frames.now (take result out.new) steps.old steps.new }
 {
@@ -100,4 +102,30 @@ pub fn finish_row<S: Stage + Drop, L: Ledger>(
         return 0;
     };
     finish_row(behind, out, steps)
+}
+
+/// How many measures a row of at most 64 units has.
+pub fn count_measures<S: Stage + Drop>(links: &[Link<S>]) -> usize
+    requires few { length links.now ≤ 64 }
+    requires each { All (λ u. length (measures_of 0 u) ≤ 16) links.now }
+    ensures count { result ≡ length (measured_by 1 links.now) }
+    ensures few { result ≤ 16 * length links.now }
+{
+    let Some((link, behind)) = links.split_first() else {
+        return 0;
+    };
+    link.stage.measures() + count_measures(behind)
+}
+
+/// The measure of a row at this index, where there is one. The first unit has this number in the script.
+pub fn find_measure<S: Stage + Drop>(links: &[Link<S>], number: u8, index: usize) -> Option<Measure>
+    requires few { number + length links.now ≤ 255 }
+    ensures { result ≡ slice_get (measured_by number links.now) index }
+{
+    let (link, behind) = links.split_first()?;
+    let count = link.stage.measures();
+    if index < count {
+        return link.stage.measure(number, index);
+    }
+    find_measure(behind, number + 1, index - count)
 }

@@ -169,6 +169,6 @@ fn a_block_without_a_unit_is_not_built(rt: HostRuntime) {
     let alloc = rt.alloc();
     let mut blocks = Blocks::new(alloc);
     push_fir(&rt, alloc, &mut blocks, 0, HALF);
-    blocks.push(Block::Power).expect(&rt, "memory");
+    blocks.push(Block::Max).expect(&rt, "memory");
     assert!(rt; !is_built(&stereo(blocks)));
 }

@@ -1,31 +1,55 @@
 -- What the top call ensures, gathered in one record, and what is the same for many ways to end.
-use Rattle.std.proofs.Common.{◌≡◌, ◌⊎◌, ◌↔◌, ℕ, ◌+◌, ◌*◌, ◌/◌, ◌^◌, ◌<◌, ◌≤◌, ◌==◌, Bool, true, false, List, length, refl, sym, ap, ◌∙◌, subst, arith, inl, inr, None, Some, Option, IsNone, IsSome, IfSome, IsTrue, IsFalse}
+use Rattle.std.proofs.Common.{◌≡◌, ◌⊎◌, ◌↔◌, ℕ, ◌+◌, ◌*◌, ◌/◌, ◌^◌, ◌<◌, ◌≤◌, ◌==◌, Bool, true, false, List, ◌++◌, length, refl, sym, ap, ◌∙◌, subst, arith, inl, inr, None, Some, Option, IsNone, IsSome, IfSome, IsTrue, IsFalse}
 use Rattle.std.specs.Io.KnownBytes.{append_known}
 use Rattle.dsp_ports.specs.Ports.{SourceState, SinkState, Rose, Gave, IsSettled}
 use Rattle.dsp_chain.specs.Built.{built}
 use Rattle.dsp_defs.specs.Canon.{canon}
 use Rattle.dsp_defs.specs.Counts.{Counts}
-use Rattle.dsp_defs.specs.Output.{HasHeader, input_header, output, part}
+use Rattle.dsp_defs.specs.Grammar.{Reads}
+use Rattle.dsp_defs.specs.Block.{Frame}
+use Rattle.dsp_defs.specs.Output.{HasHeader, input_header, input_signal, known_frames, format_of, channels_of, output, part}
 use Rattle.dsp_defs.specs.Reading.{first_fault}
 use Rattle.dsp_defs.specs.Report.{script_line, block_length_line, report_text}
-use Rattle.dsp_defs.specs.Shape.{unit}
+use Rattle.dsp_defs.specs.Shape.{unit, gathered, window_at}
 use Rattle.dsp_defs.specs.Streaming.{Begins}
+use Rattle.dsp_defs.specs.Wave.{HeaderFits}
 use Rattle.dsp_defs.specs.Words.{command_of}
-use Rattle.dsp_defs.specs.declared.command.Command.TheVariants.{Run, Print}
+use Rattle.dsp_defs.specs.declared.command.Command.{Command}
+use Rattle.dsp_defs.specs.declared.command.Command.TheVariants.{Run, Gen, Print}
+use Rattle.dsp_defs.specs.declared.format.Container.TheVariants as container
 use Rattle.dsp_defs.specs.declared.format.InputKind.TheVariants as kind
+use Rattle.dsp_defs.specs.declared.limits.TheConstants.{MAX_GATHERED}
 use Rattle.dsp_defs.specs.declared.script.Script.{Script}
-use Rattle.dsp_session.specs.Session.{frame_bytes, cost_of}
+use Rattle.dsp_defs.specs.declared.measure.Measure.{Measure}
+use Rattle.dsp_session.specs.Session.{frame_bytes, cost_of, measures_of}
 use Rattle.dsp_session.specs.Stream.{LagsByOne, Stopped, Done, IsTakenWhole, declared_bytes, frames_in_bytes}
 use Rattle.dsp_session.specs.declared.fault.StreamFault.{StreamFault}
 use Rattle.dsp_session.proofs.OpeningLaws.{some_frame}
 use Rattle.dsp_cli.specs.Fault.{summary_text}
-use Rattle.dsp_cli.specs.Script.{IfScript, IfFault, named_by, chosen, chosen_block, is_legal_for}
+use Rattle.dsp_cli.specs.Script.{IfScript, IfFault, stream_of, named_by, chosen, chosen_block, is_legal_for}
 use Rattle.dsp_cli.specs.Perform.{Untouched, RunsScript, Ran}
-use Rattle.dsp_cli.specs.Run.{IsRun, IsPrint, IsDone, IsBroken, IsStopped, IsRefused, IsAnswer, IsRunnable, IsPrintable, MayEndAtLimit, IfTaken, IfWhole, TookFrames, count_taken, bytes_taken, Wrote, WroteFront, WrotePart, Tells, TellsHeader, TellsLength, line_of_status}
+use Rattle.dsp_cli.specs.Run.{IsStream, IsPrint, IsDone, IsBroken, IsStopped, IsRefused, IsAnswer, IsPrintable, InLimit, MayEndAtLimit, IfTaken, TookFrames, FoundMeasures, report_over, input_fault, count_taken, bytes_taken, Wrote, WroteFront, WrotePart, Tells, TellsHeader, TellsLength, line_of_status}
 use Rattle.dsp_cli.specs.declared.report.Summary.{Summary}
 use Rattle.dsp_cli.proofs.CostGrows.{cost_more}
-use Rattle.dsp_cli.proofs.InputLaws.{declares_wave, frames_within, raw_frames, output_stays}
+use Rattle.dsp_cli.proofs.InputLaws.{declares_wave, frames_within, raw_frames, signal_stays, output_stays}
 use Rattle.dsp_cli.proofs.Told.{IfSome-map, IfSome-always, told_more, told_taken, told_script}
+
+-- nothing stands in the way of a stream over these bytes
+pub record IsFree (words : List (List ℕ)) (source input : SourceState) : Type 0 where
+  pub run : IsStream words
+  pub text : List ℕ
+  pub told_text : source.left ≡ Some text
+  pub script : Script
+  pub reads : Reads text script
+  pub legal : IsTrue (is_legal_for script (chosen_block words script))
+  pub is_built : IsTrue (built script)
+  pub bytes : List ℕ
+  pub told_bytes : input.left ≡ Some bytes
+  pub good : input_fault script bytes ≡ None
+  pub in_limit : InLimit script bytes
+  pub no_window : window_at script.blocks (frames_in_bytes script bytes) ≡ None
+  pub not_full : gathered script.blocks (frames_in_bytes script bytes) ≤ MAX_GATHERED
+  pub fits : script.output ≡ container.Wave → HeaderFits (format_of script) (channels_of script) (known_frames script (input_header script bytes))
 
 -- one fact or another, by a test
 abbrev pub when : Bool → Type 0 → Type 0 → Type 0
@@ -72,43 +96,52 @@ module _ (words : List (List ℕ)) (source read input now : SourceState) (sink a
     pub answer : IsAnswer (command_of words) status
     pub usage : (status ≡ 1) ↔ IsNone (command_of words)
     pub faulty : IsSome (command_of words) → IfFault source.left (λ _. Unloaded 2 status)
-    pub illegal : IsRun words → IfScript source.left (λ s. IsFalse (is_legal_for s (chosen_block words s)) → Unloaded 3 status)
-    pub unbuilt : IsRun words → IfScript source.left (λ s. IsTrue (is_legal_for s (chosen_block words s)) → IsFalse (built s) → Unloaded 12 status)
-    pub runnable : IsRunnable words source input → (Rose source.faults read.faults → ⊥) → (Rose input.faults now.faults → ⊥) → (Rose sink.faults after.faults → ⊥) → (Rose report.faults told.faults → ⊥) → (status ≡ 0) ⊎ (status ≡ 10)
+    pub illegal : IsStream words → IfScript source.left (λ s. IsFalse (is_legal_for s (chosen_block words s)) → Unloaded 3 status)
+    pub unbuilt : IsStream words → IfScript source.left (λ s. IsTrue (is_legal_for s (chosen_block words s)) → IsFalse (built s) → Unloaded 12 status)
+    pub runnable : IsFree words source input → (Rose source.faults read.faults → ⊥) → (Rose input.faults now.faults → ⊥) → (Rose sink.faults after.faults → ⊥) → (Rose report.faults told.faults → ⊥) → (status ≡ 0) ⊎ (status ≡ 10)
     pub printable : IsPrintable words source → (Rose source.faults read.faults → ⊥) → (Rose report.faults told.faults → ⊥) → (status ≡ 0) ⊎ (status ≡ 10)
 
   -- ---- what stands
 
-  pub record Stands (status : ℕ) : Type 0 where
-    pub done : IsRun words → IsDone status → IfWhole source.left input (λ s bytes. Wrote (output s bytes) sink after)
-    pub ended : IsRun words → IsDone status → IfTaken source.left input now (λ s given. HasHeader s given × IsTakenWhole s given now)
-    pub settled : IsRun words → IsDone status → IsSettled after
+  pub record Standing (status : ℕ) : Type 0 where
+    pub done : IsStream words → IsDone status → IfScript source.left (λ s. IfSome input.left (λ bytes. Wrote (output s bytes) sink after))
+    pub ended : IsStream words → IsDone status → IfTaken source.left input now (λ s given. HasHeader s given × IsTakenWhole s given now)
+    pub settled : IsStream words → IsDone status → IsSettled after
     pub broken : IsBroken status → IfTaken source.left input now (λ s given. WrotePart s (chosen_block words s) given sink after)
     pub front : status ≡ 8 → IfTaken source.left input now (λ s given. HasHeader s given
         × (WroteFront (part s (chosen_block words s) given) sink after ⊎ (WroteFront (output s given) sink after × IsTakenWhole s given now)))
-    pub lag : IsRun words → IsDone status ⊎ IsStopped status → IfTaken source.left input now (λ s given.
+    pub lag : IsStream words → IsDone status ⊎ IsStopped status → IfTaken source.left input now (λ s given.
         (written : List ℕ) × Wrote written sink after × (HasHeader s given → LagsByOne s (chosen_block words s) given written))
     pub untouched : IsRefused status ⊎ IsPrint words → (now ≡ input) × (after ≡ sink) × (counts ≡ before)
     pub cost : IfTaken source.left input now (λ s given. counts.multiplies ≤ before.multiplies + cost_of s (frames_in_bytes s given))
     pub most : IfScript source.left (λ s. counts.multiplies ≤ before.multiplies + cost_of s (count_taken input now / frame_bytes s))
-    pub exact : IsRun words → IsDone status → IfScript source.left (λ s. (frames : ℕ) × TookFrames s frames input now × (counts.multiplies ≡ before.multiplies + cost_of s frames))
-    pub reported : IsRun words → IsDone status → IfScript source.left (λ s. (frames : ℕ) × TookFrames s frames input now × Tells (report_text s frames) report told
-        × (status ≡ 0 → Wrote (report_text s frames) report told))
+    pub exact : IsStream words → IsDone status → IfScript source.left (λ s. (frames : ℕ) × TookFrames s frames input now × (counts.multiplies ≡ before.multiplies + cost_of s frames))
+    pub reported : IsStream words → IsDone status → IfScript source.left (λ s. (frames : ℕ) × (found : List Measure) × TookFrames s frames input now × FoundMeasures s found input now
+        × Tells (report_text s frames found) report told × (status ≡ 0 → Wrote (report_text s frames found) report told))
+    pub counted : IsStream words → IsDone status → IfScript source.left (λ s. IfSome input.left (λ bytes.
+        (counts.multiplies ≡ before.multiplies + cost_of s (frames_in_bytes s bytes)) × Tells (report_over s bytes) report told))
     pub limited : now.taken ≡ input.taken + 2 ^ 40 → (status ≡ 5) ⊎ (status ≡ 8) ⊎ MayEndAtLimit source.left input now status
 
   pub record Ends (status : ℕ) : Type 0 where
     pub cause : Cause status
     pub tells : IfSome (line_of_status status) (λ line. Tells line report told)
     pub comes : Comes status
-    pub stands : Stands status
+    pub stands : Standing status
+
+-- the block length that a run or a gen names
+pub named_is : (command : Option Command) (named : Option ℕ) → stream_of command ≡ Some named → named_by command ≡ named
+named_is None named is = absurd (cc)
+named_is (Some (Run block)) named is = cc
+named_is (Some (Gen seed frames)) named is = cc
+named_is (Some Print) named is = absurd (cc)
 
 -- ---- what can't be at once
 
-pub run_or_print : (words : List (List ℕ)) → IsRun words → IsPrint words → ⊥
-run_or_print words run print = let same : Some (Run run.0) ≡ Some Print = sym run.1 ∙ print in cc
+pub run_or_print : (words : List (List ℕ)) → IsStream words → IsPrint words → ⊥
+run_or_print words run print = let same : Some run.0 ≡ None = sym run.1 ∙ ap stream_of print in cc
 
-pub run_command : (words : List (List ℕ)) → IsRun words → command_of words ≡ None → ⊥
-run_command words run none = let same : Some (Run run.0) ≡ None = sym run.1 ∙ none in cc
+pub run_command : (words : List (List ℕ)) → IsStream words → command_of words ≡ None → ⊥
+run_command words run none = let same : Some run.0 ≡ None = sym run.1 ∙ ap stream_of none in cc
 
 pub print_command : (words : List (List ℕ)) → IsPrint words → command_of words ≡ None → ⊥
 print_command words print none = let same : Some Print ≡ None = sym print ∙ none in cc
@@ -158,7 +191,7 @@ multiplies_of counts = counts.multiplies
 module _ (words : List (List ℕ)) (source read input now : SourceState) (sink after report told : SinkState) (before counts : Counts) where
   -- nothing was called: the words are a print, or the run was refused
   pub stands_untouched : (status : ℕ) → Untouched input now sink after before counts → (IsDone status → IsPrint words) → (IsStopped status → ⊥)
-      → Stands words source read input now sink after report told before counts status
+      → Standing words source read input now sink after report told before counts status
   stands_untouched status untouched printed going =
       record {
         done = λ run is. absurd (run_or_print words run (printed is));
@@ -172,15 +205,16 @@ module _ (words : List (List ℕ)) (source read input now : SourceState) (sink a
         most = IfSome-always source.left _ (λ _ s _. omega (arith, ap multiplies_of untouched.counts_same));
         exact = λ run is. absurd (run_or_print words run (printed is));
         reported = λ run is. absurd (run_or_print words run (printed is));
+        counted = λ run is. absurd (run_or_print words run (printed is));
         limited = λ is. absurd (omega (arith, ap taken_of untouched.input_same, is));
       }
 
   module _ (status : ℕ) (named : Option ℕ) (script : Script) (runs : RunsScript words source read named script) where
-    is_run : IsRun words
+    is_run : IsStream words
     is_run = (named, runs.command)
 
     chosen_is : chosen_block words script ≡ chosen named script
-    chosen_is = ap (λ command. chosen (named_by command) script) runs.command
+    chosen_is = ap (λ named. chosen named script) (named_is (command_of words) named runs.command)
 
     for_script : (P : Script → Type 0) → P script → IfScript source.left P
     for_script P holds = told_script source read script P runs.reads holds
@@ -220,7 +254,7 @@ module _ (words : List (List ℕ)) (source read input now : SourceState) (sink a
     -- the run went over the whole input
     module _ (summary : Summary) (ran : Ran named script summary input now sink after before counts) (is_done : IsDone status)
         (tells : Tells (summary_text summary) report told) (wrote : status ≡ 0 → Wrote (summary_text summary) report told) where
-      done : Done script (chosen named script) summary.totals.frames_taken input now sink after before.multiplies counts.multiplies
+      done : Done script (chosen named script) summary.totals.frames_taken input now sink after before.multiplies counts.multiplies summary.measures.items
       done = ran.done
 
       given : List ℕ
@@ -231,6 +265,19 @@ module _ (words : List (List ℕ)) (source read input now : SourceState) (sink a
 
       exact_count : counts.multiplies ≡ before.multiplies + cost_of script (frames_in_bytes script done.given)
       exact_count = done.cost ∙ ap (λ n. before.multiplies + cost_of script n) done.frame_count
+
+      measured : FoundMeasures script summary.measures.items input now
+      measured = for_given done.given (λ given. summary.measures.items ≡ measures_of script (input_signal script given)) done.gave done.measures
+
+      abbrev IsCounted : Script → List ℕ → Type 0
+      IsCounted s bytes = (counts.multiplies ≡ before.multiplies + cost_of s (frames_in_bytes s bytes)) × Tells (report_over s bytes) report told
+
+      -- the report of a run over a signal
+      abbrev report_over_signal : List Frame → List ℕ
+      report_over_signal x = report_text script (length x) (measures_of script x)
+
+      text_is : summary_text summary ≡ report_over_signal (input_signal script done.given)
+      text_is = ran.text ∙ (λ i. report_text script (done.frame_count i) (done.measures i))
 
       some : 0 < frame_bytes script
       some = some_frame script (chosen named script) (record { sound = (runs.reads.text, runs.reads.reads); is_built = ran.is_built; legal = ran.legal })
@@ -245,7 +292,7 @@ module _ (words : List (List ℕ)) (source read input now : SourceState) (sink a
       is_declared : (header_size : Option ℕ) (n f : ℕ) → header_size ≡ Some n → IsSome (elim header_size [ Some size ↦ Some (size / f * f) | None ↦ None ])
       is_declared header_size n f is = subst (λ (size : Option ℕ). IsSome (elim size [ Some size ↦ Some (size / f * f) | None ↦ None ])) (sym is) refl
 
-      pub stands_ran : Stands words source read input now sink after report told before counts status
+      pub stands_ran : Standing words source read input now sink after report told before counts status
       stands_ran =
           let stopped : IsStopped status → ⊥ = done_not_stopped status is_done in
           let refused : IsRefused status → ⊥ = λ is. refused_not_done status is is_done in
@@ -262,8 +309,15 @@ module _ (words : List (List ℕ)) (source read input now : SourceState) (sink a
             cost = for_taken done.given (λ s given. counts.multiplies ≤ before.multiplies + cost_of s (frames_in_bytes s given)) done.gave (omega (arith, exact_count));
             most = for_script (λ s. counts.multiplies ≤ before.multiplies + cost_of s (count_taken input now / frame_bytes s)) (within_most done.given done.gave (omega (arith, exact_count)));
             exact = λ _ _. for_script (λ s. (frames : ℕ) × TookFrames s frames input now × (counts.multiplies ≡ before.multiplies + cost_of s frames)) (summary.totals.frames_taken, frames, done.cost);
-            reported = λ _ _. for_script (λ s. (frames : ℕ) × TookFrames s frames input now × Tells (report_text s frames) report told × (status ≡ 0 → Wrote (report_text s frames) report told))
-                (summary.totals.frames_taken, frames, subst (λ text. Tells text report told) ran.text tells, λ zero_is. subst (λ text. Wrote text report told) ran.text (wrote zero_is));
+            reported = λ _ _. for_script (λ s. (frames : ℕ) × (found : List Measure) × TookFrames s frames input now × FoundMeasures s found input now × Tells (report_text s frames found) report told × (status ≡ 0 → Wrote (report_text s frames found) report told))
+                (summary.totals.frames_taken, summary.measures.items, frames, measured, subst (λ text. Tells text report told) ran.text tells, λ zero_is. subst (λ text. Wrote text report told) ran.text (wrote zero_is));
+            counted = λ _ _. for_script (λ s. IfSome input.left (λ bytes. IsCounted s bytes))
+                (told_more input.left now.left done.given (λ bytes. IsCounted script bytes) done.gave.front
+                (λ more left.
+                let same : input_signal script (done.given ++ more) ≡ input_signal script done.given = signal_stays script done.given more done.has some now left done.whole in (
+                  exact_count ∙ ap (λ (x : List Frame). before.multiplies + cost_of script (length x)) (sym same),
+                  subst (λ text. Tells text report told) (text_is ∙ ap report_over_signal (sym same)) tells,
+                )));
             limited = λ all.
                 let (size, declared) = at_limit (omega (arith, all, done.gave.count)) in
                 inr (inr (
@@ -281,7 +335,7 @@ module _ (words : List (List ℕ)) (source read input now : SourceState) (sink a
         → (IsBroken status → WrotePart script (chosen named script) stopped.given sink after)
         → (status ≡ 8 → HasHeader script stopped.given × (Begins stopped.written (part script (chosen named script) stopped.given) ⊎ (Begins stopped.written (output script stopped.given) × IsTakenWhole script stopped.given now)))
         → (length stopped.given ≡ 2 ^ 40 → (status ≡ 5) ⊎ (status ≡ 8) ⊎ MayEndAtLimit source.left input now status)
-        → Stands words source read input now sink after report told before counts status
+        → Standing words source read input now sink after report told before counts status
     stands_stopped fault stopped is parts fronts limits =
         let given = stopped.given in
         let done : IsDone status → ⊥ = λ done. done_not_stopped status done is in
@@ -305,5 +359,6 @@ module _ (words : List (List ℕ)) (source read input now : SourceState) (sink a
           most = for_script (λ s. counts.multiplies ≤ before.multiplies + cost_of s (count_taken input now / frame_bytes s)) (within_most given stopped.gave stopped.cost);
           exact = λ _ ends. absurd (done ends);
           reported = λ _ ends. absurd (done ends);
+          counted = λ _ ends. absurd (done ends);
           limited = λ all. limits (omega (arith, all, stopped.gave.count));
         }

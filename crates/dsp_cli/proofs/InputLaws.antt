@@ -84,7 +84,7 @@ sample_count_within header bytes = by header.size
     by None = omega (arith, length-drop header.start bytes)
     by (Some n) = omega (arith, length-take n (drop header.start bytes), length-drop header.start bytes)
 
-frames_of_bytes : (script : Script) (bytes : List ℕ) → frames_in_bytes script bytes ≡ length (sample_bytes (input_header script bytes) bytes) / frame_bytes script
+pub frames_of_bytes : (script : Script) (bytes : List ℕ) → frames_in_bytes script bytes ≡ length (sample_bytes (input_header script bytes) bytes) / frame_bytes script
 frames_of_bytes script bytes = length-samples (input_container script) script.input.format script.input.channels (sample_bytes (input_header script bytes) bytes)
 
 -- more bytes have no fewer frames

@@ -1,6 +1,12 @@
 pub mod CostGrows
 pub mod InputLaws
+pub mod WordLaws
+pub mod PerformLaws
+pub mod GeneratedLaws
 pub mod EarlyEnds
 pub mod Told
 pub mod Ends
+pub mod AnswerLaws
 pub mod RunLaws
+pub mod CommandLaws
+pub mod ReportLaws

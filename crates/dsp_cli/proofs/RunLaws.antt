@@ -1,17 +1,17 @@
--- Each way in which the top call may end.
-use Rattle.std.proofs.Common.{◌≡◌, ◌⊎◌, ◌↔◌, ℕ, ◌^◌, ◌≤◌, List, ◌++◌, length, refl, sym, ap, ◌∙◌, subst, arith, inl, inr, None, Some, Option, IsNone, IsSome, IfSome, IfOk, IfErr, IsTrue, IsFalse, Bool, true, false, Result, Ok, Err}
+-- Each way in which the top call may end, from what was read.
+use Rattle.std.proofs.Common.{◌≡◌, ◌⊎◌, ℕ, ◌^◌, ◌≤◌, List, ◌++◌, length, refl, sym, ap, ◌∙◌, subst, arith, inl, inr, None, Some, Option, IsNone, IsSome, IfSome, IsTrue, IsFalse, Bool, true, false}
 use Rattle.std.specs.Io.KnownBytes.{append_known}
 use Rattle.dsp_ports.specs.Ports.{SourceState, SinkState, Rose, Gave, IsSettled}
 use Rattle.dsp_chain.specs.Built.{built}
 use Rattle.dsp_defs.specs.Canon.{canon}
 use Rattle.dsp_defs.specs.Counts.{Counts}
+use Rattle.dsp_defs.specs.Generator.{generated_bytes}
 use Rattle.dsp_defs.specs.Output.{HasHeader, input_header, known_frames, format_of, channels_of}
 use Rattle.dsp_defs.specs.Report.{block_length_line, input_limit_line, riff_line}
 use Rattle.dsp_defs.specs.Shape.{unit, gathered, window_at}
 use Rattle.dsp_defs.specs.Wave.{HeaderFits}
 use Rattle.dsp_defs.specs.Words.{command_of}
-use Rattle.dsp_defs.specs.declared.command.Command.{Command}
-use Rattle.dsp_defs.specs.declared.command.Command.TheVariants.{Run, Print}
+use Rattle.dsp_defs.specs.declared.command.Command.TheVariants.{Gen}
 use Rattle.dsp_defs.specs.declared.format.Container.TheVariants as container
 use Rattle.dsp_defs.specs.declared.format.InputKind.TheVariants as kind
 use Rattle.dsp_defs.specs.declared.limits.TheConstants.{MAX_GATHERED}
@@ -23,33 +23,19 @@ use Rattle.dsp_session.specs.declared.fault.LengthFault.{LengthFault}
 use Rattle.dsp_session.specs.declared.fault.LengthFault.TheVariants as length_fault
 use Rattle.dsp_session.specs.declared.fault.StreamFault.TheVariants.{Header, Input, Output, Lengths}
 use Rattle.dsp_session.proofs.OpeningLaws.{some_frame}
-use Rattle.dsp_cli.specs.Fault.{status_of, fault_line, summary_text}
-use Rattle.dsp_cli.specs.Script.{IfScript, named_by, chosen, chosen_block, is_legal_for}
-use Rattle.dsp_cli.specs.Perform.{Untouched, RunsScript, Ran, MadeText, Performed, HasFault, FailsToLoad, StopsAtLength, StopsAtForm, StopsInStream, StopsAtWords, StopsAtRun, StopsBy, ReportsText, HasStatus}
-use Rattle.dsp_cli.specs.Run.{IsRun, IsDone, IsRefused, IsAnswer, IsRunnable, IsPrintable, InLimit, IfTaken, IfWhole, IsTooLong, IsOverfull, input_fault, Wrote, WrotePart, Tells, TellsLength, Taken, Gather, Window, Riff, bytes_taken}
-use Rattle.dsp_cli.specs.declared.fault.Fault.{Fault}
+use Rattle.dsp_cli.specs.Fault.{fault_line, summary_text}
+use Rattle.dsp_cli.specs.Script.{IfScript, chosen, chosen_block, is_legal_for}
+use Rattle.dsp_cli.specs.Perform.{Untouched, IsGenerated, IsReading, RunsScript, Ran, MadeText, HasFault, StopsAtLength, StopsAtForm, StopsInStream, StopsAtWords, ReportsText}
+use Rattle.dsp_cli.specs.Run.{IsStream, IsDone, IsRefused, IsAnswer, IsPrintable, InLimit, IfTaken, IsTooLong, IsOverfull, input_fault, Wrote, WrotePart, Tells, TellsLength, Taken, Gather, Window, Riff, bytes_taken}
 use Rattle.dsp_cli.specs.declared.fault.Fault.TheVariants.{Usage, ScriptRead, Script as BadScript, BlockLength, NotBuilt, Memory, Stream}
 use Rattle.dsp_cli.specs.declared.report.Summary.{Summary}
-use Rattle.dsp_cli.specs.declared.top.Outcome.{Outcome}
-use Rattle.dsp_cli.specs.declared.top.Outcome.TheVariants as outcome
+use Rattle.dsp_cli.proofs.AnswerLaws.{command_not_none, some_run, not_usage, StreamStatus, either_answers, stream_answers, port_answers}
 use Rattle.dsp_cli.proofs.CostGrows.{gathered_more}
 use Rattle.dsp_cli.proofs.EarlyEnds.{header_wave, header_cause, header_part}
+use Rattle.dsp_cli.proofs.GeneratedLaws.{generated_good}
 use Rattle.dsp_cli.proofs.InputLaws.{header_stays, frames_stay, signal_stays, some_not_none, past_limit}
 use Rattle.dsp_cli.proofs.Told.{IfSome-map, IfSome-always, told_more, told_taken, told_script, told_sound, told_some, told_fault, told_faulty, use_script}
-use Rattle.dsp_cli.proofs.Ends.{Comes, Stands, Ends, done_not_broken, done_not_stopped, eight_not_broken, refused_not_done, refused_not_stopped, run_or_print, run_command, print_command, stands_untouched, stands_ran, stands_stopped}
-
--- ---- commands and their answers
-
-command_not_none : (command : Option Command) → IsSome command → command ≡ None → ⊥
-command_not_none None some none = cc
-command_not_none (Some command) some none = cc
-
-some_run : (words : List (List ℕ)) → IsRun words → IsSome (command_of words)
-some_run words run = subst IsSome (sym run.1) refl
-
-not_usage : (command : Option Command) (status : ℕ) → (status ≡ 1 → ⊥) → IsSome command → (status ≡ 1) ↔ IsNone command
-not_usage None status other some = absurd (cc)
-not_usage (Some command) status other some = (λ is. absurd (other is), λ none. absurd (cc))
+use Rattle.dsp_cli.proofs.Ends.{IsFree, named_is, Comes, Standing, Ends, done_not_broken, done_not_stopped, eight_not_broken, refused_not_done, refused_not_stopped, run_or_print, run_command, print_command, stands_untouched, stands_ran, stands_stopped}
 
 legal_not : {test : Bool} → IsTrue test → IsFalse test → ⊥
 legal_not is not = let same : true ≡ false = sym is ∙ not in cc
@@ -66,26 +52,18 @@ IsBlocked s bytes =
     InLimit s bytes → window_at s.blocks (frames_in_bytes s bytes) ≡ None → gathered s.blocks (frames_in_bytes s bytes) ≤ MAX_GATHERED
     → (s.output ≡ container.Wave → HeaderFits (format_of s) (channels_of s) (known_frames s (input_header s bytes))) → ⊥
 
--- a status that both commands may end with
-either_answers : (command : Option Command) (status : ℕ) → IsSome command → (status ≡ 2) ⊎ (status ≡ 6) ⊎ (status ≡ 10) → IsAnswer command status
-either_answers None status some is = absurd (cc)
-either_answers (Some (Run named)) status some (inl two) = inr (inr (inl two))
-either_answers (Some (Run named)) status some (inr (inl six)) = inr (inr (inr (inr (inl six))))
-either_answers (Some (Run named)) status some (inr (inr ten)) = inr (inr (inr (inr (inr (inl ten)))))
-either_answers (Some Print) status some is = inr is
-
 module _ (words : List (List ℕ)) (source read input now : SourceState) (sink after report told : SinkState) (before counts : Counts) where
   abbrev Come : ℕ → Type 0
   Come status = Comes words source read input now sink after report told before counts status
 
   abbrev Stand : ℕ → Type 0
-  Stand status = Stands words source read input now sink after report told before counts status
+  Stand status = Standing words source read input now sink after report told before counts status
 
   abbrev End : ℕ → Type 0
   End status = Ends words source read input now sink after report told before counts status
 
   abbrev Runnable : ℕ → Type 0
-  Runnable status = IsRunnable words source input → (Rose source.faults read.faults → ⊥) → (Rose input.faults now.faults → ⊥) → (Rose sink.faults after.faults → ⊥) → (Rose report.faults told.faults → ⊥) → (status ≡ 0) ⊎ (status ≡ 10)
+  Runnable status = IsFree words source input → (Rose source.faults read.faults → ⊥) → (Rose input.faults now.faults → ⊥) → (Rose sink.faults after.faults → ⊥) → (Rose report.faults told.faults → ⊥) → (status ≡ 0) ⊎ (status ≡ 10)
 
   abbrev Printable : ℕ → Type 0
   Printable status = IsPrintable words source → (Rose source.faults read.faults → ⊥) → (Rose report.faults told.faults → ⊥) → (status ≡ 0) ⊎ (status ≡ 10)
@@ -109,7 +87,7 @@ module _ (words : List (List ℕ)) (source read input now : SourceState) (sink a
       stands_untouched words source read input now sink after report told before counts status untouched
       (λ done. absurd (refused_not_done status refused done)) (refused_not_stopped status refused)
 
-  ends_usage : StopsAtWords Usage words source read → Untouched input now sink after before counts → Tells (fault_line Usage) report told → End 1
+  pub ends_usage : StopsAtWords Usage words source read → Untouched input now sink after before counts → Tells (fault_line Usage) report told → End 1
   ends_usage stops untouched tells =
       record { cause = stops.script_same; tells = tells; comes = comes_usage stops.none; stands = stands_refused 1 (inl refl) untouched }
 
@@ -128,7 +106,7 @@ module _ (words : List (List ℕ)) (source read input now : SourceState) (sink a
         printable = printable;
       }
 
-  ends_unread : IsSome (command_of words) → Rose source.faults read.faults → Untouched input now sink after before counts → Tells (fault_line ScriptRead) report told → End 6
+  pub ends_unread : IsSome (command_of words) → Rose source.faults read.faults → Untouched input now sink after before counts → Tells (fault_line ScriptRead) report told → End 6
   ends_unread some risen untouched tells =
       record {
         cause = risen;
@@ -137,7 +115,7 @@ module _ (words : List (List ℕ)) (source read input now : SourceState) (sink a
         stands = stands_refused 6 (inr (inr (inr (inl refl)))) untouched;
       }
 
-  ends_memory : IsSome (command_of words) → Untouched input now sink after before counts → Tells (fault_line Memory) report told → End 10
+  pub ends_memory : IsSome (command_of words) → Untouched input now sink after before counts → Tells (fault_line Memory) report told → End 10
   ends_memory some untouched tells =
       record {
         cause = tt;
@@ -146,7 +124,7 @@ module _ (words : List (List ℕ)) (source read input now : SourceState) (sink a
         stands = stands_refused 10 (inr (inr (inr (inr (inl refl))))) untouched;
       }
 
-  ends_faulty : (fault : ScriptFault) → IsSome (command_of words) → HasFault fault source read → Untouched input now sink after before counts → Tells (fault_line (BadScript fault)) report told → End 2
+  pub ends_faulty : (fault : ScriptFault) → IsSome (command_of words) → HasFault fault source read → Untouched input now sink after before counts → Tells (fault_line (BadScript fault)) report told → End 2
   ends_faulty fault some has untouched tells =
       record {
         cause = record { some = told_some source read fault has; tells = told_fault source read fault _ has tells };
@@ -163,20 +141,24 @@ module _ (words : List (List ℕ)) (source read input now : SourceState) (sink a
         stands = stands_refused 2 (inr (inl refl)) untouched;
       }
 
-  -- ---- the words are a run, and its script was read
+  -- ---- the words are a run or a gen, and its script was read
 
-  module _ (named : Option ℕ) (script : Script) (runs : RunsScript words source read named script) where
-    is_run : IsRun words
+  module _ (port later : SourceState) (named : Option ℕ) (script : Script) (runs : RunsScript words source read named script) (reading : IsReading (command_of words) script.input port later input now) where
+    is_run : IsStream words
     is_run = (named, runs.command)
 
     chosen_is : chosen_block words script ≡ chosen named script
-    chosen_is = ap (λ command. chosen (named_by command) script) runs.command
+    chosen_is = ap (λ named. chosen named script) (named_is (command_of words) named runs.command)
 
     for_script : (P : Script → Type 0) → P script → IfScript source.left P
     for_script P holds = told_script source read script P runs.reads holds
 
-    run_answers : (status : ℕ) → IsAnswer (Some (Run named)) status → IsAnswer (command_of words) status
-    run_answers status is = subst (λ command. IsAnswer command status) (sym runs.command) is
+    answers : (status : ℕ) → StreamStatus status → IsAnswer (command_of words) status
+    answers status which = stream_answers (command_of words) named runs.command status which
+
+    -- what was read, where the words are a gen
+    generated : (seed frames : ℕ) → command_of words ≡ Some (Gen seed frames) → IsGenerated seed frames script.input port later input now
+    generated seed frames is = subst (λ command. IsReading command script.input port later input now) is reading
 
     no_print : (status : ℕ) → Printable status
     no_print status sound _ _ = absurd (run_or_print words is_run sound.print)
@@ -191,7 +173,7 @@ module _ (words : List (List ℕ)) (source read input now : SourceState) (sink a
     part_of block given written put (Nothing none same) = inr (inl none, same)
     part_of block given written put (Part has is kept) = inl (has, put ∙ ap (append_known sink.put) is)
 
-    ends_length : (block divisor : ℕ) → StopsAtLength block divisor named script → Untouched input now sink after before counts → Tells (fault_line (BlockLength block divisor)) report told → End 3
+    pub ends_length : (block divisor : ℕ) → StopsAtLength block divisor named script → Untouched input now sink after before counts → Tells (fault_line (BlockLength block divisor)) report told → End 3
     ends_length block divisor stops untouched tells =
         let illegal : IsFalse (is_legal_for script (chosen_block words script)) = subst (λ n. IsFalse (is_legal_for script n)) (sym chosen_is) stops.illegal in
         let told_illegal = for_script (λ s. IsFalse (is_legal_for s (chosen_block words s))) illegal in
@@ -204,7 +186,7 @@ module _ (words : List (List ℕ)) (source read input now : SourceState) (sink a
           };
           tells = tt;
           comes = record {
-            answer = run_answers 3 (inr (inr (inr (inl refl))));
+            answer = answers 3 (inr (inr (inr (inl refl))));
             usage = not_usage (command_of words) 3 (λ is. omega arith) (some_run words is_run);
             faulty = λ _. told_sound source read script _ runs.reads;
             illegal = λ _. IfSome-always source.left _ (λ _ _ _ _. inl refl);
@@ -215,7 +197,7 @@ module _ (words : List (List ℕ)) (source read input now : SourceState) (sink a
           stands = stands_refused 3 (inr (inr (inl refl))) untouched;
         }
 
-    ends_form : StopsAtForm named script → Untouched input now sink after before counts → Tells (fault_line NotBuilt) report told → End 12
+    pub ends_form : StopsAtForm named script → Untouched input now sink after before counts → Tells (fault_line NotBuilt) report told → End 12
     ends_form stops untouched tells =
         let legal : IsTrue (is_legal_for script (chosen_block words script)) = subst (λ n. IsTrue (is_legal_for script n)) (sym chosen_is) stops.legal in
         let told_form = for_script (λ s. IsTrue (is_legal_for s (chosen_block words s)) × IsFalse (built s)) (legal, stops.unbuilt) in
@@ -223,7 +205,7 @@ module _ (words : List (List ℕ)) (source read input now : SourceState) (sink a
           cause = told_form;
           tells = tells;
           comes = record {
-            answer = run_answers 12 (inr (inr (inr (inr (inr (inr refl))))));
+            answer = answers 12 (inr (inr (inr (inr refl))));
             usage = not_usage (command_of words) 12 (λ is. omega arith) (some_run words is_run);
             faulty = λ _. told_sound source read script _ runs.reads;
             illegal = λ _. for_script _ (λ illegal. absurd (legal_not legal illegal));
@@ -235,11 +217,11 @@ module _ (words : List (List ℕ)) (source read input now : SourceState) (sink a
         }
 
     -- a legal block length and a built form: the stream was begun
-    comes_begun : (status : ℕ) → IsTrue (is_legal_for script (chosen named script)) → IsTrue (built script) → (status ≡ 1 → ⊥) → IsAnswer (Some (Run named)) status → Runnable status → Come status
+    comes_begun : (status : ℕ) → IsTrue (is_legal_for script (chosen named script)) → IsTrue (built script) → (status ≡ 1 → ⊥) → IsAnswer (command_of words) status → Runnable status → Come status
     comes_begun status is_legal is_built other answer runnable =
         let legal : IsTrue (is_legal_for script (chosen_block words script)) = subst (λ n. IsTrue (is_legal_for script n)) (sym chosen_is) is_legal in
         record {
-          answer = run_answers status answer;
+          answer = answer;
           usage = not_usage (command_of words) status other (some_run words is_run);
           faulty = λ _. told_sound source read script _ runs.reads;
           illegal = λ _. for_script _ (λ illegal. absurd (legal_not legal illegal));
@@ -248,42 +230,52 @@ module _ (words : List (List ℕ)) (source read input now : SourceState) (sink a
           printable = no_print status;
         }
 
-    ends_input : StopsInStream Input named script input now sink after before counts → Tells (fault_line (Stream Input)) report told → End 7
+    pub ends_input : StopsInStream Input named script input now sink after before counts → Tells (fault_line (Stream Input)) report told → End 7
     ends_input stream tells =
         let stopped = stream.stopped in
         let stops = stopped.stops in
+        let never : (seed frames : ℕ) → command_of words ≡ Some (Gen seed frames) → ⊥ =
+        λ seed frames is. let made = generated seed frames is in omega (arith, stops.risen, made.clean, ap source_faults made.input_is) in
         record {
           cause = stops.risen;
           tells = tells;
-          comes = comes_begun 7 stream.legal stream.is_built (λ is. omega arith) (inr (inl (inl (inr (inr refl))))) (λ _ _ kept _ _. absurd (kept stops.risen));
+          comes = comes_begun 7 stream.legal stream.is_built (λ is. omega arith) (port_answers (command_of words) named runs.command never 7 (inr refl)) (λ _ _ kept _ _. absurd (kept stops.risen));
           stands = stands_stopped words source read input now sink after report told before counts 7 named script runs Input stopped (inl (inr (inr refl)))
               (λ _. part_of (chosen named script) stopped.given stopped.written stopped.put stops.wrote) (λ is. absurd (omega arith)) (λ all. absurd (omega (arith, all, stops.in_limit)));
         }
 
-    ends_output : StopsInStream Output named script input now sink after before counts → Tells (fault_line (Stream Output)) report told → End 8
+    pub ends_output : StopsInStream Output named script input now sink after before counts → Tells (fault_line (Stream Output)) report told → End 8
     ends_output stream tells =
         let stops = stream.stopped.stops in
         record {
           cause = stops.risen;
           tells = tells;
-          comes = comes_begun 8 stream.legal stream.is_built (λ is. omega arith) (inr (inl (inr refl))) (λ _ _ _ kept _. absurd (kept stops.risen));
+          comes = comes_begun 8 stream.legal stream.is_built (λ is. omega arith) (answers 8 (inr (inr (inl refl)))) (λ _ _ _ kept _. absurd (kept stops.risen));
           stands = stands_stopped words source read input now sink after report told before counts 8 named script runs Output stream.stopped (inr refl)
               (λ broken. absurd (eight_not_broken 8 refl broken)) (λ _. (stops.has, stops.wrote)) (λ _. inr (inl refl));
         }
 
     -- ---- a fault of the input's header, or its end before all declared frames
 
-    ends_header : (fault : HeaderFault) (offset : ℕ) → StopsInStream (Header fault offset) named script input now sink after before counts → Tells (fault_line (Stream (Header fault offset))) report told → End 4
+    pub ends_header : (fault : HeaderFault) (offset : ℕ) → StopsInStream (Header fault offset) named script input now sink after before counts → Tells (fault_line (Stream (Header fault offset))) report told → End 4
     ends_header fault offset stream tells =
         let stopped = stream.stopped in
         let wave = header_wave script (chosen named script) fault offset stopped.given stopped.written input now sink after stopped.stops in
+        let faulty : IfSome input.left (λ bytes. input_fault script bytes ≡ Some (fault, offset)) =
+        told_more input.left now.left stopped.given (λ bytes. input_fault script bytes ≡ Some (fault, offset)) stopped.gave.front (λ more left. header_cause script (chosen named script) fault offset stopped.given stopped.written input now sink after more left stopped.stops) in
         let cause : IfScript source.left (λ s. (s.input.kind ≡ kind.Wave) × IfSome input.left (λ bytes. input_fault s bytes ≡ Some (fault, offset))) =
         for_script (λ s. (s.input.kind ≡ kind.Wave) × IfSome input.left (λ bytes. input_fault s bytes ≡ Some (fault, offset)))
-        (wave, told_more input.left now.left stopped.given (λ bytes. input_fault script bytes ≡ Some (fault, offset)) stopped.gave.front (λ more left. header_cause script (chosen named script) fault offset stopped.given stopped.written input now sink after more left stopped.stops)) in
+        (wave, faulty) in
+        let never : (seed frames : ℕ) → command_of words ≡ Some (Gen seed frames) → ⊥ =
+        λ seed frames is.
+        let made = generated seed frames is in
+        some_not_none (input_fault script (generated_bytes script.input seed frames)) (fault, offset)
+        (subst (λ (state : SourceState). IfSome state.left (λ bytes. input_fault script bytes ≡ Some (fault, offset))) made.input_is faulty)
+        (generated_good script seed frames runs.reads.reads.fit.channels made.few) in
         record {
           cause = record { fault = fault; offset = offset; cause = cause; line = tells };
           tells = tt;
-          comes = comes_begun 4 stream.legal stream.is_built (λ is. omega arith) (inr (inl (inl (inl refl))))
+          comes = comes_begun 4 stream.legal stream.is_built (λ is. omega arith) (port_answers (command_of words) named runs.command never 4 (inl refl))
               (λ sound _ _ _ _. absurd (some_not_none (input_fault sound.script sound.bytes) (fault, offset)
               (subst (λ left. IfSome left (λ bytes. input_fault sound.script bytes ≡ Some (fault, offset))) sound.told_bytes
               (use_script source.left sound.text sound.script (λ s. (s.input.kind ≡ kind.Wave) × IfSome input.left (λ bytes. input_fault s bytes ≡ Some (fault, offset))) sound.told_text sound.reads cause).1)
@@ -300,20 +292,20 @@ module _ (words : List (List ℕ)) (source read input now : SourceState) (sink a
     -- ---- a length past its limit
 
     -- where such bytes were taken, an input that begins with them isn't one that nothing stands in the way of
-    blocks : (given : List ℕ) → Gave input now given → ((more : List ℕ) → now.left ≡ Some more → IsBlocked script (given ++ more)) → IsRunnable words source input → ⊥
+    blocks : (given : List ℕ) → Gave input now given → ((more : List ℕ) → now.left ≡ Some more → IsBlocked script (given ++ more)) → IsFree words source input → ⊥
     blocks given gave blocked sound =
-        let told : IfWhole source.left input IsBlocked = for_script (λ s. IfSome input.left (IsBlocked s)) (told_more input.left now.left given (IsBlocked script) gave.front blocked) in
+        let told : IfScript source.left (λ s. IfSome input.left (IsBlocked s)) = for_script (λ s. IfSome input.left (IsBlocked s)) (told_more input.left now.left given (IsBlocked script) gave.front blocked) in
         let here : IsBlocked sound.script sound.bytes =
         subst (λ left. IfSome left (IsBlocked sound.script)) sound.told_bytes (use_script source.left sound.text sound.script (λ s. IfSome input.left (IsBlocked s)) sound.told_text sound.reads told) in
         here sound.in_limit sound.no_window sound.not_full sound.fits
 
     ends_length_fault : (fault : LengthFault) (stream : StopsInStream (Lengths fault) named script input now sink after before counts) → TellsLength source.left input now sink after report told
-        → WrotePart script (chosen named script) stream.stopped.given sink after → (IsRunnable words source input → ⊥) → End 5
+        → WrotePart script (chosen named script) stream.stopped.given sink after → (IsFree words source input → ⊥) → End 5
     ends_length_fault fault stream cause wrote blocked =
         record {
           cause = cause;
           tells = tt;
-          comes = comes_begun 5 stream.legal stream.is_built (λ is. omega arith) (inr (inl (inl (inr (inl refl))))) (λ sound _ _ _ _. absurd (blocked sound));
+          comes = comes_begun 5 stream.legal stream.is_built (λ is. omega arith) (answers 5 (inr (inl refl))) (λ sound _ _ _ _. absurd (blocked sound));
           stands = stands_stopped words source read input now sink after report told before counts 5 named script runs (Lengths fault) stream.stopped (inl (inr (inl refl)))
               (λ _. wrote) (λ is. absurd (omega arith)) (λ _. inl refl);
         }
@@ -368,7 +360,7 @@ module _ (words : List (List ℕ)) (source read input now : SourceState) (sink a
         let within = subst (HeaderFits (format_of script) (channels_of script)) known (fits stops.wave) in
         absurd (omega (arith, within, stops.size_is, stops.over))))
 
-    ends_lengths : (fault : LengthFault) → StopsInStream (Lengths fault) named script input now sink after before counts → Tells (fault_line (Stream (Lengths fault))) report told → End 5
+    pub ends_lengths : (fault : LengthFault) → StopsInStream (Lengths fault) named script input now sink after before counts → Tells (fault_line (Stream (Lengths fault))) report told → End 5
     ends_lengths (length_fault.Input taken most) stream tells = ends_limit taken most stream tells
     ends_lengths (length_fault.Gather has more) stream tells = ends_full has more stream tells
     ends_lengths (length_fault.Window end full) stream tells = ends_window end full stream tells
@@ -389,7 +381,7 @@ module _ (words : List (List ℕ)) (source read input now : SourceState) (sink a
               settled = settled;
             };
             tells = tt;
-            comes = comes_begun 0 ran.legal ran.is_built (λ is. omega arith) (inl (inl refl)) (λ _ _ _ _ _. inl refl);
+            comes = comes_begun 0 ran.legal ran.is_built (λ is. omega arith) (answers 0 (inl (inl refl))) (λ _ _ _ _ _. inl refl);
             stands = stands_ran words source read input now sink after report told before counts 0 named script runs summary ran (inl refl) tells (λ _. wrote);
           }
 
@@ -398,11 +390,11 @@ module _ (words : List (List ℕ)) (source read input now : SourceState) (sink a
           record {
             cause = record { risen = risen; tells = λ print. absurd (run_or_print words is_run print) };
             tells = tt;
-            comes = comes_begun 9 ran.legal ran.is_built (λ is. omega arith) (inl (inr refl)) (λ _ _ _ _ kept. absurd (kept risen));
+            comes = comes_begun 9 ran.legal ran.is_built (λ is. omega arith) (answers 9 (inl (inr refl))) (λ _ _ _ _ kept. absurd (kept risen));
             stands = stands_ran words source read input now sink after report told before counts 9 named script runs summary ran (inr refl) tells (λ is. absurd (omega arith));
           }
 
-      ends_ran : (status : ℕ) → ReportsText (summary_text summary) status report told → End status
+      pub ends_ran : (status : ℕ) → ReportsText (summary_text summary) status report told → End status
       ends_ran status has =
           elim has.way [
             | inl well ↦ subst End (sym well.0) (ends_reported well.1 well.2 well.3 has.tells)
@@ -431,7 +423,7 @@ module _ (words : List (List ℕ)) (source read input now : SourceState) (sink a
     for_canon : (P : List ℕ → Type 0) → P text → IfScript source.left (λ s. P (canon s))
     for_canon P holds = told_script source read made.script (λ s. P (canon s)) made.reads (subst P made.canonical holds)
 
-    ends_printed : told.faults ≡ report.faults → Wrote text report told → IsSettled told → End 0
+    pub ends_printed : told.faults ≡ report.faults → Wrote text report told → IsSettled told → End 0
     ends_printed kept wrote settled =
         record {
           cause = record {
@@ -447,7 +439,7 @@ module _ (words : List (List ℕ)) (source read input now : SourceState) (sink a
           stands = stands_printed 0 (inl refl);
         }
 
-    ends_unprinted : Rose report.faults told.faults → Tells text report told → End 9
+    pub ends_unprinted : Rose report.faults told.faults → Tells text report told → End 9
     ends_unprinted risen tells =
         record {
           cause = record { risen = risen; tells = λ _. for_canon (λ text. Tells text report told) tells };
@@ -455,44 +447,3 @@ module _ (words : List (List ℕ)) (source read input now : SourceState) (sink a
           comes = comes_printed 9 (inr refl) (λ is. omega arith) (λ _ _ kept. absurd (kept risen));
           stands = stands_printed 9 (inr refl);
         }
-
-  -- ---- all of them
-
-  ends_load : (fault : Fault) → IsSome (command_of words) → FailsToLoad fault source read → Untouched input now sink after before counts → Tells (fault_line fault) report told → End (status_of fault)
-  ends_load ScriptRead some fails untouched tells = ends_unread some fails untouched tells
-  ends_load (BadScript fault) some fails untouched tells = ends_faulty fault some fails untouched tells
-  ends_load Memory some fails untouched tells = ends_memory some untouched tells
-  ends_load Usage some fails untouched tells = absurd fails
-  ends_load (BlockLength block divisor) some fails untouched tells = absurd fails
-  ends_load NotBuilt some fails untouched tells = absurd fails
-  ends_load (Stream fault) some fails untouched tells = absurd fails
-
-  ends_run : (fault : Fault) → StopsAtRun fault words source read input now sink after before counts → Tells (fault_line fault) report told → End (status_of fault)
-  ends_run (BlockLength block divisor) stop tells = ends_length stop.named stop.script stop.runs block divisor stop.stops.0 stop.stops.1 tells
-  ends_run NotBuilt stop tells = ends_form stop.named stop.script stop.runs stop.stops.0 stop.stops.1 tells
-  ends_run Memory stop tells = ends_memory (some_run words (stop.named, stop.runs.command)) stop.stops tells
-  ends_run (Stream Input) stop tells = ends_input stop.named stop.script stop.runs stop.stops tells
-  ends_run (Stream Output) stop tells = ends_output stop.named stop.script stop.runs stop.stops tells
-  ends_run (Stream (Header fault offset)) stop tells = ends_header stop.named stop.script stop.runs fault offset stop.stops tells
-  ends_run (Stream (Lengths fault)) stop tells = ends_lengths stop.named stop.script stop.runs fault stop.stops tells
-  ends_run Usage stop tells = absurd stop.stops
-  ends_run ScriptRead stop tells = absurd stop.stops
-  ends_run (BadScript fault) stop tells = absurd stop.stops
-
-  ends_fault : (fault : Fault) → StopsBy fault words source read input now sink after before counts → Tells (fault_line fault) report told → End (status_of fault)
-  ends_fault fault (inl usage) tells =
-      let is = usage.0.usage in
-      let stops : StopsAtWords Usage words source read = record { usage = refl; none = usage.0.none; script_same = usage.0.script_same } in
-      subst (λ fault. End (status_of fault)) (sym is) (ends_usage stops usage.1 (subst (λ fault. Tells (fault_line fault) report told) is tells))
-  ends_fault fault (inr (inl load)) tells = ends_load fault load.0 load.1 load.2 tells
-  ends_fault fault (inr (inr run)) tells = ends_run fault run tells
-
-  pub ends : (outcome : Result Outcome Fault) (status : ℕ) → IfOk outcome (λ done. Performed done words source read input now sink after before counts)
-      → IfErr outcome (λ fault. StopsBy fault words source read input now sink after before counts) → HasStatus outcome status report told → End status
-  ends (Ok (outcome.Ran summary)) status whole none has = ends_ran whole.named whole.script whole.runs summary whole.ran status has
-  ends (Ok (outcome.Printed text)) status made none has =
-      elim has.way [
-        | inl well ↦ subst End (sym well.0) (ends_printed text.items made well.1 well.2 well.3)
-        | inr failed ↦ subst End (sym failed.0) (ends_unprinted text.items made failed.1 has.tells)
-      ]
-  ends (Err fault) status none stops has = subst End (sym has.0) (ends_fault fault stops has.1)

@@ -1,6 +1,6 @@
 -- What a run answers: a status, and the lines of its report.
-use Rattle.std.specs.Prelude.{ℕ, List, ◌++◌, codes}
-use Rattle.dsp_defs.specs.Report.{usage_line, script_line, block_length_line, header_line, input_limit_line, gather_line, window_line, riff_line, script_read_line, input_read_line, output_line, memory_line, not_built_line, done_line, frames_line, multiplies_line}
+use Rattle.std.specs.Prelude.{ℕ, List, ◌++◌, codes, flat_map}
+use Rattle.dsp_defs.specs.Report.{usage_line, script_line, block_length_line, header_line, input_limit_line, gather_line, window_line, riff_line, script_read_line, input_read_line, output_line, memory_line, not_built_line, done_line, frames_line, multiplies_line, measure_line}
 use Rattle.dsp_cli.specs.declared.fault.Fault.{Fault}
 use Rattle.dsp_cli.specs.declared.fault.Fault.TheVariants.{Usage, ScriptRead, Script, BlockLength, NotBuilt, Memory, Stream}
 use Rattle.dsp_cli.specs.declared.report.Summary.{Summary}
@@ -38,9 +38,12 @@ fault_line (Stream Output) = output_line
 fault_line Memory = memory_line
 fault_line NotBuilt = not_built_line
 
--- the report of a run that is done
-abbrev pub summary_text : Summary → List ℕ
-summary_text summary =
+-- the report of a run that is done: its head, and a line for each measure
+abbrev pub head_text : Summary → List ℕ
+head_text summary =
     let totals = summary.totals in
     done_line ++ frames_line (codes "in") totals.frames_taken summary.input.channels summary.input.format
     ++ frames_line (codes "out") totals.frames_given summary.output.channels summary.output.format ++ multiplies_line totals.multiplies
+
+abbrev pub summary_text : Summary → List ℕ
+summary_text summary = head_text summary ++ flat_map measure_line summary.measures.items

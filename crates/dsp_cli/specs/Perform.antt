@@ -1,5 +1,5 @@
 -- What was done, or why it stopped.
-use Rattle.std.specs.Prelude.{◌≡◌, ◌⊎◌, ℕ, List, Option, Some, None, IsSome, IsTrue, IsFalse, Result, Ok, Err}
+use Rattle.std.specs.Prelude.{◌≡◌, ◌⊎◌, ◌≤◌, ℕ, List, Option, Some, None, IsSome, IsTrue, IsFalse, Result, Ok, Err}
 use Rattle.dsp_ports.specs.Ports.{SourceState, SinkState, Rose, IsSettled}
 use Rattle.dsp_chain.specs.Built.{built}
 use Rattle.dsp_defs.specs.Canon.{canon}
@@ -9,14 +9,17 @@ use Rattle.dsp_defs.specs.Reading.{first_fault}
 use Rattle.dsp_defs.specs.Report.{report_text}
 use Rattle.dsp_defs.specs.Shape.{unit}
 use Rattle.dsp_defs.specs.Words.{command_of}
-use Rattle.dsp_defs.specs.declared.command.Command.TheVariants.{Run}
+use Rattle.dsp_defs.specs.declared.command.Command.{Command}
+use Rattle.dsp_defs.specs.declared.command.Command.TheVariants.{Gen}
+use Rattle.dsp_defs.specs.declared.format.Input.{Input}
+use Rattle.dsp_defs.specs.declared.limits.TheConstants.{MAX_GENERATED}
 use Rattle.dsp_defs.specs.declared.script.Script.{Script}
 use Rattle.dsp_defs.specs.declared.script_fault.ScriptFault.{ScriptFault}
 use Rattle.dsp_session.specs.Stream.{Stopped, Done}
 use Rattle.dsp_session.specs.declared.fault.StreamFault.{StreamFault}
 use Rattle.dsp_cli.specs.Fault.{status_of, fault_line, summary_text}
-use Rattle.dsp_cli.specs.Script.{IsReadWhole, chosen, is_legal_for}
-use Rattle.dsp_cli.specs.Run.{IsPrint, Wrote, Tells}
+use Rattle.dsp_cli.specs.Script.{IsReadWhole, stream_of, chosen, is_legal_for}
+use Rattle.dsp_cli.specs.Run.{IsPrint, generated_source, Wrote, Tells}
 use Rattle.dsp_cli.specs.declared.fault.Fault.{Fault}
 use Rattle.dsp_cli.specs.declared.fault.Fault.TheVariants.{Usage, ScriptRead, Script as BadText, BlockLength, NotBuilt, Memory, Stream}
 use Rattle.dsp_cli.specs.declared.report.Summary.{Summary}
@@ -35,22 +38,43 @@ pub record Untouched (input now : SourceState) (output after : SinkState) (befor
   pub output_same : after ≡ output
   pub counts_same : counts ≡ before
 
--- the words are a run with this block length, and the script was read
+-- the words are a run with this block length or a gen, and the script was read
 pub record RunsScript (words : List (List ℕ)) (source now : SourceState) (named : Option ℕ) (script : Script) : Type 0 where
-  pub command : command_of words ≡ Some (Run named)
+  pub command : stream_of (command_of words) ≡ Some named
   pub reads : ReadsAs source now script
+
+-- the port was left alone, and the input was a generated one, which doesn't fail
+pub record IsGenerated (seed frames : ℕ) (made : Input) (port later input now : SourceState) : Type 0 where
+  pub port_same : later ≡ port
+  pub few : frames ≤ MAX_GENERATED
+  pub input_is : input ≡ generated_source made seed frames
+  pub clean : now.faults ≡ 0
+
+-- what was read was a generated input, or it was the port
+abbrev pub IsReading : Option Command → Input → SourceState → SourceState → SourceState → SourceState → Type 0
+IsReading (Some (Gen seed frames)) made port later input now = IsGenerated seed frames made port later input now
+IsReading command made port later input now = (input ≡ port) × (now ≡ later)
 
 -- the run went over the whole input, and its report was made
 pub record Ran (named : Option ℕ) (script : Script) (summary : Summary) (input now : SourceState) (output after : SinkState) (before counts : Counts) : Type 0 where
   pub legal : IsTrue (is_legal_for script (chosen named script))
   pub is_built : IsTrue (built script)
-  pub done : Done script (chosen named script) summary.totals.frames_taken input now output after before.multiplies counts.multiplies
-  pub text : summary_text summary ≡ report_text script summary.totals.frames_taken
+  pub done : Done script (chosen named script) summary.totals.frames_taken input now output after before.multiplies counts.multiplies summary.measures.items
+  pub text : summary_text summary ≡ report_text script summary.totals.frames_taken summary.measures.items
 
-pub record RanWhole (summary : Summary) (words : List (List ℕ)) (source read input now : SourceState) (output after : SinkState) (before counts : Counts) : Type 0 where
+-- the run went over a whole generated input
+pub record RanGenerated (seed frames : ℕ) (script : Script) (summary : Summary) (output after : SinkState) (before counts : Counts) : Type 0 where
+  pub now : SourceState
+  pub clean : now.faults ≡ 0
+  pub ran : Ran None script summary (generated_source script.input seed frames) now output after before counts
+
+pub record RanWhole (summary : Summary) (words : List (List ℕ)) (source read port later : SourceState) (output after : SinkState) (before counts : Counts) : Type 0 where
   pub named : Option ℕ
   pub script : Script
   pub runs : RunsScript words source read named script
+  pub input : SourceState
+  pub now : SourceState
+  pub reading : IsReading (command_of words) script.input port later input now
   pub ran : Ran named script summary input now output after before counts
 
 -- the text of the script was made for the report
@@ -62,8 +86,8 @@ pub record MadeText (text : List ℕ) (words : List (List ℕ)) (source read inp
   pub untouched : Untouched input now output after before counts
 
 abbrev pub Performed : Outcome → List (List ℕ) → SourceState → SourceState → SourceState → SourceState → SinkState → SinkState → Counts → Counts → Type 0
-Performed (outcome.Ran summary) words source read input now output after before counts = RanWhole summary words source read input now output after before counts
-Performed (outcome.Printed text) words source read input now output after before counts = MadeText text.items words source read input now output after before counts
+Performed (outcome.Ran summary) words source read port later output after before counts = RanWhole summary words source read port later output after before counts
+Performed (outcome.Printed text) words source read port later output after before counts = MadeText text.items words source read port later output after before counts
 
 -- the text that was read has a first fault
 pub record HasFault (fault : ScriptFault) (source now : SourceState) : Type 0 where
@@ -102,17 +126,26 @@ FailsToRun Memory named script input now output after before counts = Untouched 
 FailsToRun (Stream fault) named script input now output after before counts = StopsInStream fault named script input now output after before counts
 FailsToRun fault named script input now output after before counts = ⊥
 
+-- a run over a generated input stops
+pub record FailsToGenerate (fault : Fault) (seed frames : ℕ) (script : Script) (output after : SinkState) (before counts : Counts) : Type 0 where
+  pub now : SourceState
+  pub clean : now.faults ≡ 0
+  pub fails : FailsToRun fault None script (generated_source script.input seed frames) now output after before counts
+
 -- the words are no command
 pub record StopsAtWords (fault : Fault) (words : List (List ℕ)) (source read : SourceState) : Type 0 where
   pub usage : fault ≡ Usage
   pub none : command_of words ≡ None
   pub script_same : read ≡ source
 
--- the words are a run, and it stops
-pub record StopsAtRun (fault : Fault) (words : List (List ℕ)) (source read input now : SourceState) (output after : SinkState) (before counts : Counts) : Type 0 where
+-- the words are a run or a gen, and it stops
+pub record StopsAtRun (fault : Fault) (words : List (List ℕ)) (source read port later : SourceState) (output after : SinkState) (before counts : Counts) : Type 0 where
   pub named : Option ℕ
   pub script : Script
   pub runs : RunsScript words source read named script
+  pub input : SourceState
+  pub now : SourceState
+  pub reading : IsReading (command_of words) script.input port later input now
   pub stops : FailsToRun fault named script input now output after before counts
 
 -- the words are no command; or the script isn't loaded, or isn't printed; or the run stops

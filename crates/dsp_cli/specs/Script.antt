@@ -7,7 +7,7 @@ use Rattle.dsp_defs.specs.Reading.{first_fault}
 use Rattle.dsp_defs.specs.Shape.{is_legal, default_block}
 use Rattle.dsp_defs.specs.Words.{command_of}
 use Rattle.dsp_defs.specs.declared.command.Command.{Command}
-use Rattle.dsp_defs.specs.declared.command.Command.TheVariants.{Run}
+use Rattle.dsp_defs.specs.declared.command.Command.TheVariants.{Run, Gen}
 use Rattle.dsp_defs.specs.declared.limits.TheConstants.{MAX_SCRIPT}
 use Rattle.dsp_defs.specs.declared.script.Script.{Script}
 use Rattle.dsp_defs.specs.declared.script_fault.ScriptFault.{ScriptFault}
@@ -30,6 +30,12 @@ IfFault left P = IfSome left (λ text. (fault : ScriptFault) → first_fault tex
 abbrev pub named_by : Option Command → Option ℕ
 named_by (Some (Run block)) = block
 named_by command = None
+
+-- what a run or a gen names as its block length; a gen names none
+abbrev pub stream_of : Option Command → Option (Option ℕ)
+stream_of (Some (Run block)) = Some block
+stream_of (Some (Gen seed frames)) = Some None
+stream_of command = None
 
 -- the block length that is named, else that of the script, else the default
 abbrev pub chosen : Option ℕ → Script → ℕ

@@ -18,6 +18,8 @@ pub use words::Words;
 #[cfg(test)]
 mod chain_tests;
 #[cfg(test)]
+mod gen_tests;
+#[cfg(test)]
 mod tests;
 #[cfg(test)]
 mod wave_tests;

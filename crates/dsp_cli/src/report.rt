@@ -1,13 +1,15 @@
 //! The report of a run that is done. It is built in place and takes no memory.
-ghost use Rattle.std.specs.Prelude.{◌≡◌, ◌+◌, ◌≤◌, ◌++◌, length};
+ghost use Rattle.std.specs.Prelude.{◌≡◌, ◌+◌, ◌≤◌, ◌++◌, [], length, vec_capacity};
 ghost use Rattle.arrayvec.specs.ArrayVec.{array_vec_len};
 ghost use Rattle.dsp_defs.specs.Report.{frames_line, multiplies_line};
-ghost use Rattle.dsp_cli.specs.Fault.{summary_text};
+ghost use Rattle.dsp_chain.specs.Row.{measure_counts};
+ghost use Rattle.dsp_session.specs.Session.{measured};
+ghost use Rattle.dsp_cli.specs.Fault.{head_text};
 
 use crate::line::{Line, format_name, natural, text, wide_natural};
 use arrayvec::ArrayVec;
-use dsp_defs::Flow;
-use dsp_session::Totals;
+use dsp_defs::{Flow, Measure};
+use dsp_session::{Session, Totals};
 
 /// The bytes of a report at most.
 const REPORT: usize = 512;
@@ -15,11 +17,25 @@ const REPORT: usize = 512;
 pub type Report = ArrayVec<u8, REPORT>;
 
 /// What a run that is done says of itself.
-#[derive(Clone, Copy, Debug, PartialEq, Eq)]
+#[derive(Drop)]
 pub struct Summary {
     pub input: Flow,
     pub output: Flow,
     pub totals: Totals,
+    pub measures: Vec<Measure>,
+}
+
+/// The measures of a session, into a list that was made with room for them.
+pub fn find_measures(session: &Session<'_>, measures: &mut Vec<Measure>)
+    requires empty { measures.old.items ≡ [] }
+    requires room { measure_counts session.now.script.input.channels session.now.script.blocks ≤ vec_capacity measures.old }
+    ensures { measures.new.items ≡ measured session.now }
+{
+    for index in 0..session.measures() {
+        let Ok(()) = measures.push(session.measure(index)) else {
+            unreachable!()
+        };
+    }
 }
 
 fn frames_line(word: &[u8], frames: u64, flow: Flow) -> Line
@@ -57,9 +73,9 @@ fn push(report: &mut Report, line: &[u8])
     report.try_extend_from_slice(line).unwrap();
 }
 
-/// The report of a run: what came in, what went out, and the multiplies, a line each.
-pub fn report_of(summary: &Summary) -> Report
-    ensures { result.items ≡ summary_text summary.now }
+/// The head of the report of a run: what came in, what went out, and the multiplies, a line each.
+pub fn head_of(summary: &Summary) -> Report
+    ensures { result.items ≡ head_text summary.now }
 {
     let totals = summary.totals;
     let mut report = ArrayVec::new();

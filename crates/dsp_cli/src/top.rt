@@ -1,30 +1,36 @@
-ghost use Rattle.std.specs.Prelude.{◌≡◌, ◌↔◌, ◌⊎◌, ◌+◌, ◌/◌, ◌^◌, ◌≤◌, ℕ, List, IsNone, IsSome, IfSome, IfOk, IfErr, OnOk, IsTrue, IsFalse};
+ghost use Rattle.std.specs.Prelude.{◌≡◌, ◌↔◌, ◌⊎◌, ◌+◌, ◌^◌, ◌≤◌, ℕ, Some, IsNone, IsSome, IfSome, IfOk, IfErr, OnOk, IsTrue, IsFalse, flat_map};
 ghost use Rattle.dsp_ports.specs.Ports.{Rose, CountsFaults, IsSettled};
 ghost use Rattle.dsp_chain.specs.Built.{built};
 ghost use Rattle.dsp_defs.specs.Canon.{canon};
 ghost use Rattle.dsp_defs.specs.Grammar.{IsSound};
-ghost use Rattle.dsp_defs.specs.Output.{output as output_of, part, HasHeader};
+ghost use Rattle.dsp_defs.specs.Generator.{generated_bytes};
+ghost use Rattle.dsp_defs.specs.Output.{input_signal, output as output_of};
 ghost use Rattle.dsp_defs.specs.Reading.{first_fault};
-ghost use Rattle.dsp_defs.specs.Report.{block_length_line, report_text, script_line};
+ghost use Rattle.dsp_defs.specs.Report.{block_length_line, measure_line, report_text, script_line};
 ghost use Rattle.dsp_defs.specs.Shape.{unit};
 ghost use Rattle.dsp_defs.specs.Words.{command_of};
-ghost use Rattle.dsp_session.specs.Session.{frame_bytes, cost_of};
-ghost use Rattle.dsp_session.specs.Stream.{LagsByOne, IsTakenWhole, frames_in_bytes};
+ghost use Rattle.dsp_defs.specs.declared.command.Command.TheVariants.{Gen};
+ghost use Rattle.dsp_defs.specs.declared.limits.TheConstants.{MAX_GENERATED};
+ghost use Rattle.dsp_session.specs.Session.{cost_of, measures_of};
+ghost use Rattle.dsp_cli.specs.Fault.{summary_text};
 ghost use Rattle.dsp_cli.specs.Script.{chosen, chosen_block, is_legal_for, IfScript, IfFault};
-ghost use Rattle.dsp_cli.specs.Perform.{ReadsAs, Ran, Performed, FailsToLoad, FailsToRun, StopsBy, ReportsText, HasStatus};
-ghost use Rattle.dsp_cli.specs.Run.{Wrote, WroteFront, WrotePart, Tells, TellsHeader, TellsLength, TookFrames, IfTaken, IfWhole, IsRun, IsPrint, IsDone, IsStopped, IsBroken, IsRefused, IsAnswer, IsRunnable, IsPrintable, MayEndAtLimit, count_taken, bytes_taken, line_of_status};
+ghost use Rattle.dsp_cli.specs.Perform.{ReadsAs, Ran, RanGenerated, Performed, FailsToLoad, FailsToRun, FailsToGenerate, StopsBy, ReportsText, HasStatus};
+ghost use Rattle.dsp_cli.specs.Run.{Wrote, Tells, TellsHeader, IfWhole, IsStream, IsGen, IsPrint, IsDone, IsStopped, IsRefused, IsAnswer, IsRunnable, IsPrintable, MayEndAtLimit, line_of_status};
+ghost use Rattle.dsp_cli.specs.Stands.{Stands};
 
 use crate::command::command;
 use crate::fault::Fault;
 use crate::fault_line::{line_of, status_of};
-use crate::report::{Summary, report_of};
+use crate::report::{Summary, find_measures, head_of};
 use crate::script::{ReadFault, read_script};
 use crate::words::Words;
 use dsp_chain::is_built;
-use dsp_defs::{Command, Flow, Script, Steps};
+use dsp_defs::{Command, Flow, Measure, Script, Steps};
+use dsp_measure::line;
 use dsp_ports::{Failed, Sink, Source, write_all};
 use dsp_script::{ParseFault, default_block, legal, output_flow, parse, print, unit};
 use dsp_session::{Session, stream};
+use dsp_wave::GenSource;
 use std::alloc::Global;
 use std::sync::ledger::Ledger;
 
@@ -89,17 +95,42 @@ fn run_script<S: Source, K: Sink, L: Ledger>(
     let Ok(mut session) = Session::new(alloc, script, block) else {
         return Err(Fault::Memory);
     };
-    match stream(&mut session, input, output, steps) {
-        Ok(totals) => Ok(Summary {
-            input: Flow {
-                format: script.input.format,
-                channels: script.input.channels,
-            },
-            output: output_flow(script),
-            totals,
-        }),
-        Err(fault) => Err(Fault::Stream(fault)),
-    }
+    // The list has all the room that it will need, so that no memory is wanted behind the stream.
+    let Ok(mut measures) = Vec::with_capacity(alloc, session.measures()) else {
+        return Err(Fault::Memory);
+    };
+    let totals = match stream(&mut session, input, output, steps) {
+        Ok(totals) => totals,
+        Err(fault) => return Err(Fault::Stream(fault)),
+    };
+    find_measures(&session, &mut measures);
+    Ok(Summary {
+        input: Flow {
+            format: script.input.format,
+            channels: script.input.channels,
+        },
+        output: output_flow(script),
+        totals,
+        measures,
+    })
+}
+
+/// Runs a script over so many frames that are made from a seed, in blocks of the script's length.
+fn generate<K: Sink, L: Ledger>(
+    alloc: Global,
+    seed: u32,
+    frames: u32,
+    script: &Script,
+    output: &mut K,
+    steps: &mut Steps<L>,
+) -> Result<Summary, Fault>
+    requires sound { IsSound script.now }
+    requires few { frames ≤ MAX_GENERATED }
+    ensures ok { IfOk result (λ summary. RanGenerated seed frames script.now summary (K.state output.old) (K.state output.new) steps.old steps.new) }
+    ensures err { IfErr result (λ fault. FailsToGenerate fault seed frames script.now (K.state output.old) (K.state output.new) steps.old steps.new) }
+{
+    let mut input = GenSource::new(&script.input, seed, frames);
+    run_script(alloc, None, script, &mut input, output, steps)
 }
 
 /// Does what the words say, but for the report.
@@ -132,6 +163,12 @@ fn perform<P: Source, S: Source, K: Sink, L: Ledger>(
             Ok(summary) => Ok(Outcome::Ran(summary)),
             Err(fault) => Err(fault),
         },
+        Command::Gen { seed, frames } => {
+            match generate(alloc, seed, frames, &script, output, steps) {
+                Ok(summary) => Ok(Outcome::Ran(summary)),
+                Err(fault) => Err(fault),
+            }
+        }
     }
 }
 
@@ -145,6 +182,41 @@ fn tell<R: Sink>(report: &mut R, text: &[u8]) -> Result<(), Failed>
     write_all(report, text)?;
     report.flush()?;
     Ok(())
+}
+
+/// Reports a line for each measure.
+fn tell_measures<R: Sink>(report: &mut R, measures: &[Measure]) -> Result<(), Failed>
+    ensures tells { Tells (flat_map measure_line measures.now) (R.state report.old) (R.state report.new) }
+    ensures wrote { OnOk result (Wrote (flat_map measure_line measures.now) (R.state report.old) (R.state report.new)) }
+    ensures faults { CountsFaults result (R.state report.old).faults (R.state report.new).faults }
+{
+    for measure in measures {
+        write_all(report, &line(measure))?;
+    }
+    Ok(())
+}
+
+/// Reports what a run says of itself, and makes sure of it.
+fn tell_summary<R: Sink>(report: &mut R, summary: &Summary) -> Result<(), Failed>
+    ensures tells { Tells (summary_text summary.now) (R.state report.old) (R.state report.new) }
+    ensures wrote { OnOk result (Wrote (summary_text summary.now) (R.state report.old) (R.state report.new)) }
+    ensures settled { OnOk result (IsSettled (R.state report.new)) }
+    ensures faults { CountsFaults result (R.state report.old).faults (R.state report.new).faults }
+{
+    write_all(report, &head_of(summary))?;
+    tell_measures(report, &summary.measures)?;
+    report.flush()?;
+    Ok(())
+}
+
+/// Reports a run, and answers its exit status.
+fn finish_run<R: Sink>(report: &mut R, summary: &Summary) -> u8
+    ensures { ReportsText (summary_text summary.now) result (R.state report.old) (R.state report.new) }
+{
+    match tell_summary(report, summary) {
+        Ok(()) => 0,
+        Err(_) => 9,
+    }
 }
 
 /// Reports a text, and answers the exit status of what was done.
@@ -162,7 +234,7 @@ fn settle<R: Sink>(outcome: Result<Outcome, Fault>, report: &mut R) -> u8
     ensures { HasStatus outcome result (R.state report.old) (R.state report.new) }
 {
     match outcome {
-        Ok(Outcome::Ran(summary)) => finish(report, &report_of(&summary)),
+        Ok(Outcome::Ran(summary)) => finish_run(report, &summary),
         Ok(Outcome::Printed(text)) => finish(report, &text),
         Err(fault) => {
             let _ = tell(report, &line_of(&fault));
@@ -173,7 +245,8 @@ fn settle<R: Sink>(outcome: Result<Outcome, Fault>, report: &mut R) -> u8
 
 /// The top call: does what the words say over four ports, and answers the exit status. A run that is done reports what
 /// came in, what went out and the multiplies; after a fault one line is tried on the report. A run takes its blocks in
-/// the length that the words name, else the script, else the default.
+/// the length that the words name, else the script, else the default; a gen names none. A gen takes its
+/// input from the generator, and leaves the port `input` alone.
 pub fn run<P: Source, S: Source, K: Sink, R: Sink, L: Ledger>(
     alloc: Global,
     words: &Words,
@@ -189,16 +262,15 @@ pub fn run<P: Source, S: Source, K: Sink, R: Sink, L: Ledger>(
     ensures bad_script { result ≡ 2 → IfSome (P.state script.old).left (λ text. IsSome (first_fault text)) }
     ensures faulty { IsSome (command_of words.now) → IfFault (P.state script.old).left (λ _. (result ≡ 2) ⊎ (result ≡ 6) ⊎ (result ≡ 10)) }
     ensures bad_length { result ≡ 3 → IfScript (P.state script.old).left (λ s. IsFalse (is_legal_for s (chosen_block words.now s))) }
-    ensures illegal { IsRun words.now → IfScript (P.state script.old).left (λ s. IsFalse (is_legal_for s (chosen_block words.now s)) → (result ≡ 3) ⊎ (result ≡ 6) ⊎ (result ≡ 10)) }
+    ensures illegal { IsStream words.now → IfScript (P.state script.old).left (λ s. IsFalse (is_legal_for s (chosen_block words.now s)) → (result ≡ 3) ⊎ (result ≡ 6) ⊎ (result ≡ 10)) }
     ensures header { result ≡ 4 → TellsHeader (P.state script.old).left (S.state input.old) (R.state report.old) (R.state report.new) }
-    ensures lengths { result ≡ 5 → TellsLength (P.state script.old).left (S.state input.old) (S.state input.new) (K.state output.old) (K.state output.new) (R.state report.old) (R.state report.new) }
     ensures limited { (S.state input.new).taken ≡ (S.state input.old).taken + 2 ^ 40 → (result ≡ 5) ⊎ (result ≡ 8) ⊎ MayEndAtLimit (P.state script.old).left (S.state input.old) (S.state input.new) result }
     ensures script_read { result ≡ 6 → Rose (P.state script.old).faults (P.state script.new).faults }
     ensures input_read { result ≡ 7 → Rose (S.state input.old).faults (S.state input.new).faults }
     ensures output_written { result ≡ 8 → Rose (K.state output.old).faults (K.state output.new).faults }
     ensures report_written { result ≡ 9 → Rose (R.state report.old).faults (R.state report.new).faults }
     ensures not_built { result ≡ 12 → IfScript (P.state script.old).left (λ s. IsTrue (is_legal_for s (chosen_block words.now s)) × IsFalse (built s)) }
-    ensures unbuilt { IsRun words.now → IfScript (P.state script.old).left (λ s. IsTrue (is_legal_for s (chosen_block words.now s)) → IsFalse (built s) → (result ≡ 12) ⊎ (result ≡ 6) ⊎ (result ≡ 10)) }
+    ensures unbuilt { IsStream words.now → IfScript (P.state script.old).left (λ s. IsTrue (is_legal_for s (chosen_block words.now s)) → IsFalse (built s) → (result ≡ 12) ⊎ (result ≡ 6) ⊎ (result ≡ 10)) }
 
     // Where nothing stands in the way and no port fails, all is done, or memory is wanted.
     ensures runnable { IsRunnable words.now (P.state script.old) (S.state input.old) → (Rose (P.state script.old).faults (P.state script.new).faults → ⊥)
@@ -207,33 +279,23 @@ pub fn run<P: Source, S: Source, K: Sink, R: Sink, L: Ledger>(
     ensures printable { IsPrintable words.now (P.state script.old) → (Rose (P.state script.old).faults (P.state script.new).faults → ⊥)
         → (Rose (R.state report.old).faults (R.state report.new).faults → ⊥) → (result ≡ 0) ⊎ (result ≡ 10) }
 
-    // A run that is done has written exactly the output of the script for all the input.
-    ensures done { IsRun words.now → IsDone result → IfWhole (P.state script.old).left (S.state input.old) (λ s bytes. Wrote (output_of s bytes) (K.state output.old) (K.state output.new)) }
-    ensures ended { IsRun words.now → IsDone result → IfTaken (P.state script.old).left (S.state input.old) (S.state input.new) (λ s given. HasHeader s given × IsTakenWhole s given (S.state input.new)) }
-    ensures settled { IsRun words.now → IsDone result → IsSettled (K.state output.new) }
+    // A run or a gen that is done has written exactly the output of the script for all the input.
+    ensures done { IsStream words.now → IsDone result → IfWhole (command_of words.now) (P.state script.old).left (S.state input.old) (λ s bytes. Wrote (output_of s bytes) (K.state output.old) (K.state output.new)) }
+    ensures settled { IsStream words.now → IsDone result → IsSettled (K.state output.new) }
     ensures clean { result ≡ 0 → ((P.state script.new).faults ≡ (P.state script.old).faults) × ((S.state input.new).faults ≡ (S.state input.old).faults)
         × ((K.state output.new).faults ≡ (K.state output.old).faults) × ((R.state report.new).faults ≡ (R.state report.old).faults) }
 
-    // What stands after the others.
-    ensures part { IsBroken result → IfTaken (P.state script.old).left (S.state input.old) (S.state input.new) (λ s given. WrotePart s (chosen_block words.now s) given (K.state output.old) (K.state output.new)) }
-    ensures front { result ≡ 8 → IfTaken (P.state script.old).left (S.state input.old) (S.state input.new) (λ s given. HasHeader s given
-        × (WroteFront (part s (chosen_block words.now s) given) (K.state output.old) (K.state output.new)
-        ⊎ (WroteFront (output_of s given) (K.state output.old) (K.state output.new) × IsTakenWhole s given (S.state input.new)))) }
-    ensures lag { IsRun words.now → IsDone result ⊎ IsStopped result → IfTaken (P.state script.old).left (S.state input.old) (S.state input.new) (λ s given.
-        (written : List ℕ) × Wrote written (K.state output.old) (K.state output.new) × (HasHeader s given → LagsByOne s (chosen_block words.now s) given written)) }
+    // What stands at each end: what was taken and written, the multiplies, and the report.
+    ensures stands { IsStream words.now → IsDone result ⊎ IsStopped result → Stands words.now (P.state script.old).left (S.state input.old) (S.state input.new)
+        (K.state output.old) (K.state output.new) (R.state report.old) (R.state report.new) steps.old steps.new result }
     ensures untouched { IsRefused result ⊎ IsPrint words.now → (S.state input.new ≡ S.state input.old) × (K.state output.new ≡ K.state output.old) × (steps.new ≡ steps.old) }
+    ensures counted { (seed frames : ℕ) → command_of words.now ≡ Some (Gen seed frames) → IsDone result → IfScript (P.state script.old).left (λ s.
+        (steps.new.multiplies ≡ steps.old.multiplies + cost_of s frames)
+        × Tells (report_text s frames (measures_of s (input_signal s (generated_bytes s.input seed frames)))) (R.state report.old) (R.state report.new)) }
+    ensures input_same { IsGen words.now → S.state input.new ≡ S.state input.old }
     ensures script_same { result ≡ 1 → P.state script.new ≡ P.state script.old }
 
-    // The multiplies, for the whole frames taken.
-    ensures cost { IfTaken (P.state script.old).left (S.state input.old) (S.state input.new) (λ s given. steps.new.multiplies ≤ steps.old.multiplies + cost_of s (frames_in_bytes s given)) }
-    ensures most { IfScript (P.state script.old).left (λ s. steps.new.multiplies ≤ steps.old.multiplies + cost_of s (count_taken (S.state input.old) (S.state input.new) / frame_bytes s)) }
-    ensures exact_cost { IsRun words.now → IsDone result → IfScript (P.state script.old).left (λ s.
-        (frames : ℕ) × TookFrames s frames (S.state input.old) (S.state input.new) × (steps.new.multiplies ≡ steps.old.multiplies + cost_of s frames)) }
-
-    // The report: what a run that is done says of itself, the canonical text of a print, and the line of a fault.
-    ensures reported { IsRun words.now → IsDone result → IfScript (P.state script.old).left (λ s.
-        (frames : ℕ) × TookFrames s frames (S.state input.old) (S.state input.new) × Tells (report_text s frames) (R.state report.old) (R.state report.new)
-        × (result ≡ 0 → Wrote (report_text s frames) (R.state report.old) (R.state report.new))) }
+    // The rest of the report: the canonical text of a print, and the line of a fault.
     ensures printed { IsPrint words.now → result ≡ 0 → IfScript (P.state script.old).left (λ s. Wrote (canon s) (R.state report.old) (R.state report.new)) }
     ensures unprinted { IsPrint words.now → result ≡ 9 → IfScript (P.state script.old).left (λ s. Tells (canon s) (R.state report.old) (R.state report.new)) }
     ensures report_settled { result ≡ 0 → IsSettled (R.state report.new) }

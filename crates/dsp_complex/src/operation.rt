@@ -60,6 +60,7 @@ impl Operation {
         ensures within { result ≤ length out.old }
         ensures given { Gives T.format channels (block_of self) frames.now (take result out.new) }
         ensures multiplies { steps.new.multiplies ≡ steps.old.multiplies + length (frames_in channels frames.now) * price (block_of self) channels }
+        ensures turns { steps.new.turns ≤ steps.old.turns + length (frames_in channels frames.now) * price (block_of self) channels }
     {
         let count = frames.len() / channels;
         match self {

@@ -16,16 +16,16 @@ use Rattle.dsp_defs.proofs.FrameLaws.{whole_frames_are_given, window_cases}
 
 -- ---- more frames
 
-quotient_more : (n m k : ℕ) → n ≤ m → n / k ≤ m / k
+pub quotient_more : (n m k : ℕ) → n ≤ m → n / k ≤ m / k
 quotient_more n m k h =
     let more : m ≡ n + (m - n) = omega arith in
     subst (λ (i : ℕ). n / k ≤ i / k) (sym more) (quotient_grows n (m - n) k)
 
-groups_more : (group : Option (ℕ × ℕ)) (n m : ℕ) → n ≤ m → groups_after group n ≤ groups_after group m
+pub groups_more : (group : Option (ℕ × ℕ)) (n m : ℕ) → n ≤ m → groups_after group n ≤ groups_after group m
 groups_more None n m h = h
 groups_more (Some g) n m h = mul-le-mul_right g.1 (quotient_more n m g.0 h)
 
-live_conv_given : (n m t : ℕ) → n ≤ m → min n (full_length n t) ≤ full_length m t
+pub live_conv_given : (n m t : ℕ) → n ≤ m → min n (full_length n t) ≤ full_length m t
 live_conv_given n m t h = grind (arith, common_steps)
 
 window_given : (live count rest : ℕ) → min live (min count rest) ≤ count
@@ -41,10 +41,10 @@ live_within_given block n m h = groups_more (group_of block) n m h
 
 -- ---- the cost of a block
 
-times_more : (c n m k : ℕ) → n ≤ m → c * n * k ≤ c * m * k
+pub times_more : (c n m k : ℕ) → n ≤ m → c * n * k ≤ c * m * k
 times_more c n m k h = mul-le-mul_right k (mul-le-mul_left c h)
 
-block_cost_grows : (format : Fmt) (c : ℕ) (block : Block) (n m n' m' : ℕ) → n ≤ m → n' ≤ m' → block_cost format c block n n' ≤ block_cost format c block m m'
+pub block_cost_grows : (format : Fmt) (c : ℕ) (block : Block) (n m n' m' : ℕ) → n ≤ m → n' ≤ m' → block_cost format c block n n' ≤ block_cost format c block m m'
 block_cost_grows format c (Scale fract shift) n m n' m' h h' = mul-le-mul_left c h
 block_cost_grows format c Mult n m n' m' h h' = h
 block_cost_grows format c CmplxMult n m n' m' h h' = mul-le-mul_left 4 h
@@ -95,13 +95,13 @@ products_are_cost format channels (block ∷ blocks) n none =
 
 -- ---- and of its products
 
-full_more : (n m t : ℕ) → n ≤ m → full_length n t ≤ full_length m t
+pub full_more : (n m t : ℕ) → n ≤ m → full_length n t ≤ full_length m t
 full_more n m t h = grind (arith, common_steps)
 
-window_whole : (live count rest more : ℕ) → rest ≤ more → min live (min count rest) ≤ min count more
+pub window_whole : (live count rest more : ℕ) → rest ≤ more → min live (min count rest) ≤ min count more
 window_whole live count rest more h = omega (arith, h)
 
-live_within_whole : (block : Block) (n m : ℕ) → n ≤ m → live_frames block n ≤ whole_frames block m
+pub live_within_whole : (block : Block) (n m : ℕ) → n ≤ m → live_frames block n ≤ whole_frames block m
 live_within_whole (Interpolate factor taps) n m h = mul-le-mul_right factor h
 live_within_whole (Conv taps) n m h = live_conv_given n m (length taps) h
 live_within_whole (ConvPartial first count taps) n m h = window_whole (n - first) count (full_length n (length taps) - first) (full_length m (length taps) - first) (omega (arith, full_more n m (length taps) h))

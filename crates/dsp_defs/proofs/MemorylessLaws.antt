@@ -1,15 +1,16 @@
 -- Units of blocks without memory.
-use Rattle.std.proofs.Common.{◌≡◌, ◌∙◌, ap, refl, sym, ℕ, zero, suc, ◌+◌, ◌*◌, ℤ, List, [], ◌∷◌, ◌++◌, map, length, arith, true, false}
+use Rattle.std.proofs.Common.{◌≡◌, ◌∙◌, ap, refl, sym, ℕ, zero, suc, ◌+◌, ◌-◌, ◌*◌, ◌≤◌, ℤ, List, [], ◌∷◌, ◌++◌, map, length, arith, true, false}
 use Rattle.std.specs.List.{range_with_len, flat_map}
 use Rattle.std.proofs.lemmas.List.{map-append, length-map, append-nil}
 use Rattle.dsp_defs.specs.Block.{Frame, channel, whole, live}
 use Rattle.dsp_defs.specs.Shape.{whole_frames, live_frames}
-use Rattle.dsp_defs.specs.Cost.{live_block_cost}
+use Rattle.dsp_defs.specs.Cost.{live_block_cost, block_turns}
+use Rattle.dsp_defs.specs.Measure.{kept_measures}
 use Rattle.dsp_defs.specs.Counts.{Counts}
 use Rattle.dsp_defs.proofs.FrameLemmas.{length-frames_in}
 use Rattle.dsp_defs.specs.Block.{channels_after}
-use Rattle.dsp_defs.specs.Unit.{UnitState, MadeAs, StandsFor, CountsFrames, Feeds, Finishes, IsNew, IsOutput, frames_in, whole_products}
-use Rattle.dsp_defs.specs.Kept.{kept_of_channel, kept_numbers, kinds_by, kept_kinds}
+use Rattle.dsp_defs.specs.Unit.{UnitState, MadeAs, StandsFor, CountsFrames, Feeds, Finishes, Restores, IsNew, IsOutput, frames_in, whole_products}
+use Rattle.dsp_defs.specs.Kept.{kept_of_channel, kept_numbers, kinds_by, kept_kinds, Kind, Each, IsOfKind, IsTaken, Fits}
 use Rattle.dsp_defs.specs.declared.format.Fmt.{Fmt}
 use Rattle.dsp_defs.specs.declared.script.Block.{Block}
 
@@ -25,6 +26,9 @@ pub record IsMemoryless (format : Fmt) (channels : ℕ) (block : Block) (price :
   pub whole_frames : (n : ℕ) → whole_frames block n ≡ n
   pub live_cost : (n : ℕ) → live_block_cost format channels block n ≡ n * price
   pub whole_cost : (n : ℕ) → whole_products format channels block n ≡ n * price
+  pub turns : (m n : ℕ) → block_turns format channels block m n ≡ live_block_cost format channels block n - live_block_cost format channels block m
+  pub taken : (n : ℕ) → IsTaken block n
+  pub no_measures : (number : ℕ) (kept : List ℤ) → kept_measures format channels number block kept ≡ []
 
 -- a unit that keeps nothing and owes nothing
 pub record IsIdle (u : UnitState) : Type 0 where
@@ -37,6 +41,27 @@ pub record IsIdle (u : UnitState) : Type 0 where
 nothing-flat : {A : Type 0} (f : ℕ → List A) (a n : ℕ) → ((c : ℕ) → f c ≡ []) → flat_map f (range_with_len a n) ≡ []
 nothing-flat f a zero none = refl
 nothing-flat f a (suc n) none = ap (λ l. l ++ flat_map f (range_with_len (a + 1) n)) (none a) ∙ nothing-flat f (a + 1) n none
+
+-- what n + t of a price are more than n
+price-more : (n t price : ℕ) → (n + t) * price - n * price ≡ t * price
+price-more n t price = omega arith
+
+-- numbers for no kinds are none
+no-kinds : (ks : List Kind) (numbers : List ℤ) → ks ≡ [] → Each IsOfKind ks numbers → numbers ≡ []
+no-kinds [] [] e h = refl
+no-kinds [] (n ∷ numbers) e h = absurd h
+no-kinds (k ∷ ks) numbers e h = cc
+
+module _ (format : Fmt) (channels : ℕ) (block : Block) (price : ℕ) (f : Frame → Frame) (m : IsMemoryless format channels block price f) where
+  pub no-kept-kinds : (n : ℕ) → kept_kinds format channels block n ≡ []
+  no-kept-kinds n = m.kinds_are n ∙ nothing-flat (λ (_ : ℕ). kinds_by format block n) 0 channels (λ _. m.kinds n)
+
+  -- no numbers, and no others, can be those that it keeps
+  pub memoryless-fits : (numbers : List ℤ) → numbers ≡ [] → Fits format channels block numbers
+  memoryless-fits numbers none = (0, (m.taken 0, rw (no-kept-kinds 0, none) tt))
+
+  pub memoryless-fit-none : (numbers : List ℤ) → Fits format channels block numbers → numbers ≡ []
+  memoryless-fit-none numbers fits = no-kinds (kept_kinds format channels block fits.0) numbers (no-kept-kinds fits.0) fits.1.1
 
 module _ (u : UnitState) (price : ℕ) (f : Frame → Frame) (idle : IsIdle u) (m : IsMemoryless u.format u.channels u.block price f) where
   pub memoryless-stands : (x : List Frame) → StandsFor u x
@@ -55,14 +80,25 @@ module _ (u : UnitState) (price : ℕ) (f : Frame → Frame) (idle : IsIdle u) (
   }
 
   -- fed with frames it gives one for each, and stays as it is
-  pub memoryless-feeds : (taken : List Frame) (before after : Counts) → after.multiplies ≡ before.multiplies + length taken * price → Feeds u u taken (map f taken) before after
-  memoryless-feeds taken before after counted = record {
+  pub memoryless-feeds : (taken : List Frame) (before after : Counts) → after.multiplies ≡ before.multiplies + length taken * price → after.turns ≤ before.turns + length taken * price → Feeds u u taken (map f taken) before after
+  memoryless-feeds taken before after counted turned = record {
     made = record { block = refl; format = refl; channels = refl; capacity = refl };
     values = λ x _. m.live_is (x ++ taken) ∙ map-append f x taken ∙ ap (λ y. y ++ map f taken) (sym (m.live_is x));
     stands = λ x _. memoryless-stands (x ++ taken);
     frames = λ n _. rw (m.live_frames (n + length taken), m.live_frames n, length-map taken f) refl;
     counts = λ n _. memoryless-counts (n + length taken);
     multiplies = λ n _. rw (m.live_cost (n + length taken), m.live_cost n) (omega (arith, counted));
+    turns = λ n _. rw (m.turns n (n + length taken), m.live_cost (n + length taken), m.live_cost n, price-more n (length taken) price) turned;
+  }
+
+  -- and with them it is as it was
+  pub memoryless-restores : (numbers : List ℤ) → Fits u.format u.channels u.block numbers → Restores u u numbers
+  memoryless-restores numbers fits = record {
+    made = record { block = refl; format = refl; channels = refl; capacity = refl };
+    running = idle.running;
+    kept = idle.kept ∙ sym (memoryless-fit-none u.format u.channels u.block price f m numbers fits);
+    stands = λ x _. memoryless-stands x;
+    counts = λ n _. memoryless-counts n;
   }
 
   pub memoryless-new : IsNew u.block u.format u.channels u.capacity u
@@ -87,12 +123,14 @@ no-output u most = record {
 }
 
 -- a unit without a tail ends
-pub idle-finishes : (u v : UnitState) (counts : Counts) → MadeAs u v → v.ended ≡ true → u.tail ≡ [] → v.tail ≡ [] → u.rest ≡ 0 → v.rest ≡ 0 → Finishes u v (frames_in (channels_after u.channels u.block) []) counts counts
-idle-finishes u v counts made ended tail tail' rest rest' = record {
+pub idle-finishes : (u v : UnitState) (counts : Counts) → MadeAs u v → v.ended ≡ true → u.tail ≡ [] → v.tail ≡ [] → u.rest ≡ 0 → v.rest ≡ 0 → v.kept ≡ u.kept → Finishes u v (frames_in (channels_after u.channels u.block) []) counts counts
+idle-finishes u v counts made ended tail tail' rest rest' kept = record {
   made = made;
   ended = ended;
   tail = tail ∙ sym tail' ∙ ap (λ f. f ++ v.tail) (sym (no-frames (channels_after u.channels u.block)));
   spent = λ _. tail;
   nothing_left = λ _. rest';
   multiplies = rw (rest, rest') refl;
+  turns = omega (arith, rest, rest');
+  measures = λ number i. kept_measures (made.format i) (made.channels i) number (made.block i) (kept i);
 }

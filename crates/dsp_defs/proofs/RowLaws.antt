@@ -1,13 +1,14 @@
 -- A row of units gives what the chain of their blocks gives.
-use Rattle.std.proofs.Common.{◌≡◌, ◌∙◌, ap, ap₂, refl, subst, ◌+◌, ℤ, List, [], ◌∷◌, ◌++◌, length, arith, false}
+use Rattle.std.proofs.Common.{◌≡◌, ◌∙◌, ap, ap₂, refl, subst, ℕ, ◌+◌, ◌≤◌, ℤ, List, [], ◌∷◌, ◌++◌, length, arith, false}
 use Rattle.dsp_defs.specs.Streaming.{Continues}
 use Rattle.dsp_defs.specs.Block.{Frame, live, live_chain, format_after, channels_after}
 use Rattle.dsp_defs.specs.Shape.{live_frames, frames_behind}
-use Rattle.dsp_defs.specs.Cost.{live_block_cost}
+use Rattle.dsp_defs.specs.Cost.{live_block_cost, block_turns}
 use Rattle.dsp_defs.specs.Counts.{Counts}
-use Rattle.dsp_defs.specs.Unit.{UnitState, StandsFor, Feeds, IsOutput, most_frames, frames_in}
-use Rattle.dsp_defs.specs.Row.{Place, place_after, Passes, MadeFor, blocks_of, AllStand, FeedsRow, IsFed}
+use Rattle.dsp_defs.specs.Unit.{UnitState, StandsFor, Accepts, Feeds, IsOutput, most_frames, frames_in}
+use Rattle.dsp_defs.specs.Row.{Place, place_after, Passes, MadeFor, blocks_of, AllStand, AllTaken, AllAccept, FeedsRow, IsFed}
 use Rattle.dsp_defs.proofs.Streaming.{continues_chain}
+use Rattle.dsp_defs.proofs.TurnLaws.{all_taken_fewer, taken_live}
 
 -- no units give the frames on
 pub feeds-none : (p : Place) (taken : List Frame) (counts : Counts) → FeedsRow p [] [] taken taken counts counts
@@ -20,6 +21,7 @@ feeds-none p taken counts = record {
   frames = λ n h. refl;
   counts = λ n h. tt;
   multiplies = λ n h. refl;
+  turns = λ n h. omega arith;
 }
 
 -- a unit, and the row behind it
@@ -52,6 +54,11 @@ feeds-then p u v us vs taken piece given before between after made runs one row 
       let first : live_block_cost p.format p.channels u.block (n + length taken) + before.multiplies ≡ live_block_cost p.format p.channels u.block n + between.multiplies = rw (made.format, made.channels) at (one.multiplies n h.0) in
       let second = row.multiplies (live_frames u.block n) h.1 in
       rw same (omega (arith, first, second));
+  turns = λ n h.
+      let same = one.frames n h.0 in
+      let first : between.turns ≤ before.turns + block_turns p.format p.channels u.block n (n + length taken) = rw (made.format, made.channels) at (one.turns n h.0) in
+      let second = row.turns (live_frames u.block n) h.1 in
+      rw same (omega (arith, first, second));
 }
   where
     continues : (x : List Frame) → StandsFor u x → Continues (live p.format p.channels u.block) x taken piece
@@ -78,3 +85,19 @@ fed-then p u v us vs frames piece given before between after made runs one row =
   feeds = feeds-then p u v us vs _ (frames_in (channels_after p.channels u.block) piece) _ before between after made runs
       (subst (λ c. Feeds u v (frames_in c frames) (frames_in (channels_after c u.block) piece) before between) made.channels one) row.feeds;
 }
+
+-- ---- what a row can take
+
+-- the first unit can take what the row can
+pub accepts-first : (u : UnitState) (us : List UnitState) (more : ℕ) → AllAccept (u ∷ us) more → Accepts u more
+accepts-first u us more accepts = (accepts.0, accepts.1.0, accepts.2.0)
+
+-- and the row behind it what that gives
+pub accepts-behind : (u v : UnitState) (us : List UnitState) (taken given : List Frame) (before after : Counts) → Feeds u v taken given before after → AllAccept (u ∷ us) (length taken) → AllAccept us (length given)
+accepts-behind u v us taken given before after one accepts =
+    let n = accepts.0 in
+    (live_frames u.block n, accepts.1.1, subst (AllTaken (blocks_of us)) (one.frames n accepts.1.0) (taken_live u.block (blocks_of us) (n + length taken) accepts.2))
+
+-- and fewer
+pub accepts-fewer : (us : List UnitState) (more fewer : ℕ) → fewer ≤ more → AllAccept us more → AllAccept us fewer
+accepts-fewer us more fewer h accepts = (accepts.0, accepts.1, all_taken_fewer (blocks_of us) (accepts.0 + fewer) (accepts.0 + more) (omega (arith, h)) accepts.2)

@@ -1,14 +1,20 @@
 -- The tails of a row of units.
-use Rattle.std.proofs.Common.{◌≡◌, ◌∙◌, ap, ap₂, refl, sym, subst, inl, inr, ℕ, ◌+◌, List, [], ◌∷◌, ◌++◌, length, arith, length-append}
+use Rattle.std.proofs.Common.{◌≡◌, ◌∙◌, ap, ap₂, refl, sym, subst, inl, inr, ℕ, ◌+◌, ◌≤◌, List, [], ◌∷◌, ◌++◌, length, arith, length-append}
 use Rattle.std.proofs.lemmas.List.{append_assoc, append-nil}
 use Rattle.dsp_defs.specs.Block.{Frame, whole, live, live_chain, whole_chain, format_after, channels_after}
-use Rattle.dsp_defs.specs.Shape.{live_frames}
+use Rattle.dsp_defs.specs.Shape.{live_frames, whole_frames}
 use Rattle.dsp_defs.specs.Cost.{live_cost, live_block_cost}
+use Rattle.dsp_defs.specs.Measure.{measures, block_measures, kept_measures}
+use Rattle.dsp_defs.specs.Kept.{kept_numbers}
 use Rattle.dsp_defs.specs.Counts.{Counts}
-use Rattle.dsp_defs.specs.Unit.{whole_products, UnitState, MadeAs, Finishes}
+use Rattle.dsp_defs.specs.Unit.{whole_products, UnitState, MadeAs, Finishes, measures_of}
 use Rattle.dsp_defs.proofs.MemorylessLaws.{no-frames}
-use Rattle.dsp_defs.specs.Row.{chain_products, Place, place_after, MadeFor, blocks_of, InRow, AllRun, AllStand, AllCount, FeedsRow, EndsInOrder, OwesFirst, CostsFirst, Owes, Costs, AllSpent, FirstSpent, FinishesFirst, FinishesRow, Passes}
+use Rattle.dsp_defs.specs.Row.{chain_products, Place, place_after, MadeFor, blocks_of, InRow, AllRun, AllStand, AllCount, AllTaken, AllAccept, FeedsRow, EndsInOrder, OwesFirst, CostsFirst, Owes, Costs, WillMeasure, MeasuresFirst, Measures, measured_by, AllSpent, FirstSpent, FinishesFirst, FinishesRow, Passes}
 use Rattle.dsp_defs.proofs.ChainLaws.{whole_chain_begins}
+use Rattle.dsp_defs.proofs.CostLaws.{live_within_whole}
+use Rattle.dsp_defs.proofs.TurnLaws.{whole_frames_more, all_taken_fewer, chain_turns_within}
+use Rattle.dsp_defs.proofs.MeasureLaws.{kept-measures}
+use Rattle.dsp_defs.specs.declared.measure.Measure.{Measure}
 
 -- the same beginning can be taken off
 cancel : {A : Type 0} (xs ys zs : List A) → xs ++ ys ≡ xs ++ zs → ys ≡ zs
@@ -18,9 +24,16 @@ cancel (x ∷ xs) ys zs e = cancel xs ys zs (cc e)
 cancel-nil : {A : Type 0} (xs ys : List A) → xs ≡ xs ++ ys → ys ≡ []
 cancel-nil xs ys e = sym (cancel xs [] ys (append-nil xs ∙ e))
 
-pub runs-in-order : (us : List UnitState) → AllRun us → EndsInOrder us
-runs-in-order [] h = tt
-runs-in-order (u ∷ us) h = (λ _. h.1, runs-in-order us h.1)
+-- units that run, where the blocks can take m frames as a whole signal
+pub runs-in-order : (us : List UnitState) (n m : ℕ) → AllRun us → AllCount us n → AllTaken (blocks_of us) m → n ≤ m → EndsInOrder us
+runs-in-order [] n m runs counts taken h = tt
+runs-in-order (u ∷ us) n m runs counts taken h = (
+  λ _. (runs.1, (live_frames u.block n, counts.1, all_taken_fewer (blocks_of us) (live_frames u.block n + length u.tail) (whole_frames u.block m) within taken.1)),
+  runs-in-order us (live_frames u.block n) (whole_frames u.block m) runs.1 counts.1 taken.1 (live_within_whole u.block n m h),
+)
+  where
+    within : live_frames u.block n + length u.tail ≤ whole_frames u.block m
+    within = omega (arith, counts.0.tail_frames, whole_frames_more u.block n m h)
 
 -- what the row owes when its input has ended
 pub ends-first : (p : Place) (us : List UnitState) (x ys : List Frame) → InRow p us → AllStand p.format p.channels us x → whole_chain p.format p.channels (blocks_of us) x ≡ live_chain p.format p.channels (blocks_of us) x ++ ys → OwesFirst p us ys
@@ -44,6 +57,29 @@ ends-costs p (u ∷ us) n now total row counts e = record {
       rw (← counts.0.tail_frames) (omega (arith, rest, e));
 }
 
+-- what a unit has measured of the frames x that it took
+measured-here : (p : Place) (u : UnitState) (number : ℕ) (x : List Frame) → MadeFor p u → u.kept ≡ kept_numbers p.format p.channels u.block x → measures_of number u ≡ block_measures p.format p.channels number u.block x
+measured-here p u number x made keeps =
+    (λ i. kept_measures (made.format i) (made.channels i) number u.block (keeps i)) ∙ kept-measures p.format p.channels number u.block x
+
+pub ends-measures : (p : Place) (us : List UnitState) (x : List Frame) (number : ℕ) (ms : List Measure) → InRow p us → AllStand p.format p.channels us x → measures p.format p.channels number (blocks_of us) x ≡ ms → MeasuresFirst p number us ms
+ends-measures p [] x number ms row stand e = sym e
+ends-measures p (u ∷ us) x number ms row stand e = (
+  measures (format_after p.format u.block) (channels_after p.channels u.block) (number + 1) (blocks_of us) (whole p.format p.channels u.block x),
+  sym e ∙ ap (λ l. l ++ measures (format_after p.format u.block) (channels_after p.channels u.block) (number + 1) (blocks_of us) (whole p.format p.channels u.block x)) (sym (measured-here p u number x row.0 keeps)),
+  record {
+    taken = live p.format p.channels u.block x;
+    stand = stand.1;
+    gives = ap (measures (format_after p.format u.block) (channels_after p.channels u.block) (number + 1) (blocks_of us)) (sym tail);
+  },
+)
+  where
+    keeps : u.kept ≡ kept_numbers p.format p.channels u.block x
+    keeps = rw (row.0.format, row.0.channels) at stand.0.keeps
+
+    tail : whole p.format p.channels u.block x ≡ live p.format p.channels u.block x ++ u.tail
+    tail = rw (row.0.format, row.0.channels) at stand.0.tail_follows
+
 -- a spent unit at the front passes what it owes to the ones behind it
 pub owes-behind : (p : Place) (u : UnitState) (us : List UnitState) (ys : List Frame) → InRow (place_after p u.block) us → u.tail ≡ [] → OwesFirst p (u ∷ us) ys → OwesFirst (place_after p u.block) us ys
 owes-behind p u us ys row none owes =
@@ -55,6 +91,11 @@ costs-behind p u us now total row none idle costs =
     let here : costs.taken + length u.tail ≡ costs.taken = omega (arith, ap length none) in
     ends-costs (place_after p u.block) us costs.taken now total row costs.counts
     (let e = rw here at costs.costs in omega (arith, e, idle))
+
+pub measures-behind : (p : Place) (u : UnitState) (us : List UnitState) (number : ℕ) (ms : List Measure) → InRow (place_after p u.block) us → u.tail ≡ [] → WillMeasure (place_after p u.block) us u.tail number ms → MeasuresFirst (place_after p u.block) number us ms
+measures-behind p u us number ms row none will =
+    ends-measures (place_after p u.block) us will.taken number ms row will.stand
+    (ap (measures (format_after p.format u.block) (channels_after p.channels u.block) number (blocks_of us)) (sym (append-nil will.taken) ∙ ap (λ t. will.taken ++ t) (sym none)) ∙ will.gives)
 
 -- a piece of the first unit's tail, fed to the row behind it
 pub finishes-piece :
@@ -89,6 +130,39 @@ finishes-piece p u v us vs piece given before between after made one row = (valu
         let fed = row.multiplies n owes.counts in
         rw one.made.block (record { taken = n + length piece; counts = row.counts n owes.counts; costs = rw row.blocks (omega (arith, start, made_here, fed)) })
 
+-- the same of measures
+measures-piece :
+    (p : Place) (u v : UnitState) (us vs : List UnitState) (piece given : List Frame) (before between after : Counts) →
+    Finishes u v piece before between → FeedsRow (place_after p u.block) us vs piece given between after →
+    (number : ℕ) (ms : List Measure) → MeasuresFirst p number (u ∷ us) ms → MeasuresFirst p number (v ∷ vs) ms
+measures-piece p u v us vs piece given before between after one row number ms h =
+    let x = h.2.taken in
+    let joined : (x ++ piece) ++ v.tail ≡ x ++ u.tail = append_assoc x piece v.tail ∙ ap (λ t. x ++ t) (sym one.tail) in (
+      h.0,
+      h.1 ∙ ap (λ l. l ++ h.0) (sym (one.measures number)),
+      rw one.made.block (
+          record {
+            taken = x ++ piece;
+            stand = row.stands x h.2.stand;
+            gives = rw row.blocks (ap (measures (format_after p.format u.block) (channels_after p.channels u.block) (number + 1) (blocks_of us)) joined ∙ h.2.gives);
+          }
+          ),
+    )
+
+-- and of turns: each makes a product at least
+turns-piece :
+    (p : Place) (u v : UnitState) (us vs : List UnitState) (piece given : List Frame) (before between after : Counts) →
+    Finishes u v piece before between → FeedsRow (place_after p u.block) us vs piece given between after → (n : ℕ) → AllCount us n →
+    after.turns + before.multiplies ≤ before.turns + after.multiplies
+turns-piece p u v us vs piece given before between after one row n counts =
+    let q = place_after p u.block in
+    let made = one.multiplies in
+    let turned = one.turns in
+    let fed = row.multiplies n counts in
+    let went = row.turns n counts in
+    let within = chain_turns_within q.format q.channels (blocks_of us) n (n + length piece) (omega arith) in
+    omega (arith, made, turned, fed, went, within)
+
 made-again : (p : Place) (u v : UnitState) → MadeAs u v → MadeFor p u → MadeFor p v
 made-again p u v same made = record { format = same.format ∙ made.format; channels = same.channels ∙ made.channels; capacity = same.capacity ∙ made.capacity }
 
@@ -109,6 +183,9 @@ finishes-none p counts = record {
   spent = λ _. tt;
   idle = λ _. (refl, refl);
   idle_costs = λ _. refl;
+  turns = omega arith;
+  measures = λ number ms h. h;
+  idle_measures = λ _ number. refl;
 }
 
 -- the first unit is spent
@@ -119,7 +196,7 @@ pub finishes-spent :
 finishes-spent p u v us before after row order one = record {
   blocks = ap (λ b. b ∷ blocks_of us) one.made.block;
   in_row = (made-again p u v one.made row.0, rw one.made.block row.1);
-  order = (λ some. order.0 (λ none. some (sym same ∙ none)), order.1);
+  order = (λ some. subst (λ t. AllRun us × AllAccept us (length t)) same (order.0 (λ none. some (sym same ∙ none))), order.1);
   owed = λ ys owes. (ys, refl, rw one.made.block (record { taken = owes.taken; stand = owes.stand; gives = ap (λ t. whole_chain (format_after p.format u.block) (channels_after p.channels u.block) (blocks_of us) (owes.taken ++ t)) (sym same) ∙ owes.gives }));
   costs = λ total owes.
       let size : length u.tail ≡ length v.tail = ap length same in
@@ -129,6 +206,13 @@ finishes-spent p u v us before after row order one = record {
   spent = λ _. (sym same ∙ one.spent refl, one.nothing_left (sym same ∙ one.spent refl));
   idle = λ _. (refl, refl);
   idle_costs = λ idle. let left : v.rest ≡ 0 = one.nothing_left (sym same ∙ idle.0) in let rest = idle.1 in let made = one.multiplies in omega (arith, left, rest, made);
+  turns = (let made = one.multiplies in let turned = one.turns in omega (arith, made, turned));
+  measures = λ number ms h. (
+    h.0,
+    h.1 ∙ ap (λ l. l ++ h.0) (sym (one.measures number)),
+    rw one.made.block (record { taken = h.2.taken; stand = h.2.stand; gives = ap (λ t. measures (format_after p.format u.block) (channels_after p.channels u.block) (number + 1) (blocks_of us) (h.2.taken ++ t)) (sym same) ∙ h.2.gives }),
+  );
+  idle_measures = λ _ number. one.measures number;
 }
   where
     same : u.tail ≡ v.tail
@@ -139,7 +223,7 @@ front-nil [] ys e = refl
 front-nil (x ∷ xs) ys e = cc
 
 -- the first unit gave a piece of its tail
-module _ (p : Place) (u v : UnitState) (us vs : List UnitState) (piece given : List Frame) (before between after : Counts) (row : InRow p (u ∷ us)) (one : Finishes u v piece before between) (fed : FeedsRow (place_after p u.block) us vs piece given between after) (some : piece ≡ [] → ⊥) where
+module _ (p : Place) (u v : UnitState) (us vs : List UnitState) (piece given : List Frame) (before between after : Counts) (row : InRow p (u ∷ us)) (order : EndsInOrder (u ∷ us)) (one : Finishes u v piece before between) (fed : FeedsRow (place_after p u.block) us vs piece given between after) (some : piece ≡ [] → ⊥) where
   pub not-idle : u.tail ≡ [] → ⊥
   not-idle none = some (front-nil piece v.tail (sym one.tail ∙ none))
 
@@ -150,7 +234,20 @@ module _ (p : Place) (u v : UnitState) (us vs : List UnitState) (piece given : L
   row-same = (made-again p u v one.made row.0, rw one.made.block fed.in_row)
 
   pub order-same : EndsInOrder (v ∷ vs)
-  order-same = (λ _. fed.runs, runs-in-order vs fed.runs)
+  order-same = (λ _. (fed.runs, (accepts.0 + length piece, fed.counts accepts.0 accepts.1, taken)), runs-in-order vs (accepts.0 + length piece) (accepts.0 + length piece + length v.tail) fed.runs (fed.counts accepts.0 accepts.1) taken (omega arith))
+    where
+      accepts : AllAccept us (length u.tail)
+      accepts = (order.0 not-idle).1
+
+      size : accepts.0 + length u.tail ≡ accepts.0 + length piece + length v.tail
+      size = omega (arith, ap length one.tail ∙ length-append piece v.tail)
+
+      taken : AllTaken (blocks_of vs) (accepts.0 + length piece + length v.tail)
+      taken = subst (λ bs. AllTaken bs (accepts.0 + length piece + length v.tail)) (sym fed.blocks) (subst (AllTaken (blocks_of us)) size accepts.2)
+
+  -- each turn made a product
+  pub turns-same : after.turns + before.multiplies ≤ before.turns + after.multiplies
+  turns-same = (let accepts = (order.0 not-idle).1 in turns-piece p u v us vs piece given before between after one fed accepts.0 accepts.1)
 
   -- and the row behind it gave something
   pub finishes-given : (given ≡ [] → ⊥) → FinishesFirst p (u ∷ us) (v ∷ vs) given before after
@@ -163,6 +260,9 @@ module _ (p : Place) (u v : UnitState) (us vs : List UnitState) (piece given : L
     spent = λ none. absurd (full none);
     idle = λ none. absurd (not-idle none);
     idle_costs = λ none. absurd (not-idle none.0);
+    turns = turns-same;
+    measures = measures-piece p u v us vs piece given before between after one fed;
+    idle_measures = λ none. absurd (not-idle none);
   }
 
   -- and the row behind it gave nothing, so that the call went on
@@ -179,9 +279,16 @@ module _ (p : Place) (u v : UnitState) (us vs : List UnitState) (piece given : L
     spent = next.spent;
     idle = λ idle. absurd (not-idle idle);
     idle_costs = λ idle. absurd (not-idle idle.0);
+    turns = (let here = turns-same in let later = next.turns in omega (arith, here, later));
+    measures = λ number ms h. next.measures number ms (measures-piece p u v us vs piece given before between after one fed number ms h);
+    idle_measures = λ idle. absurd (not-idle idle);
   }
 
 -- ---- the whole row
+
+first-measures : (p : Place) (us : List UnitState) (number : ℕ) (ms : List Measure) → MeasuresFirst p number us ms → Measures p number us ms
+first-measures p [] number ms h = h
+first-measures p (u ∷ us) number ms h = inl h
 
 -- the first unit gave something
 pub row-given : (p : Place) (old new : List UnitState) (given : List Frame) (before after : Counts) → (given ≡ [] → ⊥) → FinishesFirst p old new given before after → FinishesRow p old new given before after
@@ -192,6 +299,8 @@ row-given p [] [] given before after full one = record {
   owed = λ ys owes. one.owed ys owes;
   costs = λ total owes. one.costs total owes;
   spent = λ none. absurd (full none);
+  turns = one.turns;
+  measures = λ number ms h. one.measures number ms h;
 }
 row-given p [] (v ∷ vs) given before after full one = absurd (full (one.idle tt).0)
 row-given p (u ∷ us) [] given before after full one = absurd (omega (arith, ap length one.blocks))
@@ -208,6 +317,11 @@ row-given p (u ∷ us) (v ∷ vs) given before after full one = record {
     | inr rest ↦ absurd (full (one.idle rest.0).0)
   ];
   spent = λ none. absurd (full none);
+  turns = one.turns;
+  measures = λ number ms h. elim h [
+    | inl first ↦ inl (one.measures number ms first)
+    | inr rest ↦ absurd (full (one.idle rest.0).0)
+  ];
 }
 
 -- the first unit is spent, and the row behind it goes on
@@ -220,6 +334,13 @@ row-behind p (u ∷ us) v vs ws given before between after one next = record {
   blocks = ap (λ bs. v.block ∷ bs) next.blocks ∙ one.blocks;
   in_row = (one.in_row.0, next.in_row);
   order = (λ some. absurd (some spent.0), next.order);
+  turns = (let here = one.turns in let later = next.turns in omega (arith, here, later));
+  measures = λ number ms h.
+      let now : (later : List Measure) × (ms ≡ measures_of number v ++ later) × Measures (place_after p v.block) (number + 1) vs later = elim h [
+        | inl first ↦ (let done = one.measures number ms first in (done.0, done.1, first-measures (place_after p v.block) vs (number + 1) done.0 (measures-behind p v vs (number + 1) done.0 one.in_row.1 spent.0 done.2)))
+        | inr rest ↦ (rest.1.0, rest.1.1 ∙ ap (λ l. l ++ rest.1.0) (sym (one.idle_measures rest.0 number)), rw (same_block, (one.idle rest.0).1) rest.1.2)
+      ] in
+      inr (spent.0, (now.0, now.1, next.measures (number + 1) now.0 now.2));
   owed = λ ys owes.
       let now : Owes (place_after p v.block) vs ys = elim owes [
         | inl first ↦ (let done = one.owed ys first in from-first vs ys (subst (OwesFirst (place_after p v.block) vs) (sym done.1) (owes-behind p v vs done.0 one.in_row.1 spent.0 done.2)))
@@ -289,4 +410,21 @@ spent-costs p [] now total row spent h = h
 spent-costs p (u ∷ us) now total row spent h = elim h [
   | inl first ↦ spent-costs-first p (u ∷ us) now total row spent first
   | inr rest ↦ spent-costs (place_after p u.block) us now total row.1 spent.2 rest.2
+]
+
+-- the measures of the whole signal, when its tail is given
+pub measures-to-end : (p : Place) (us : List UnitState) (x : List Frame) (number : ℕ) (ms : List Measure) → InRow p us → AllStand p.format p.channels us x → measures p.format p.channels number (blocks_of us) x ≡ ms → Measures p number us ms
+measures-to-end p us x number ms row stand e = first-measures p us number ms (ends-measures p us x number ms row stand e)
+
+spent-measures-first : (p : Place) (us : List UnitState) (number : ℕ) (ms : List Measure) → InRow p us → AllSpent us → MeasuresFirst p number us ms → ms ≡ measured_by number us
+spent-measures-first p [] number ms row spent h = h
+spent-measures-first p (u ∷ us) number ms row spent h =
+    h.1 ∙ ap (λ l. measures_of number u ++ l) (spent-measures-first (place_after p u.block) us (number + 1) h.0 row.1 spent.2 (measures-behind p u us (number + 1) h.0 row.1 spent.0 h.2))
+
+-- they are those of the row that is spent
+pub spent-measures : (p : Place) (us : List UnitState) (number : ℕ) (ms : List Measure) → InRow p us → AllSpent us → Measures p number us ms → ms ≡ measured_by number us
+spent-measures p [] number ms row spent h = h
+spent-measures p (u ∷ us) number ms row spent h = elim h [
+  | inl first ↦ spent-measures-first p (u ∷ us) number ms row spent first
+  | inr rest ↦ rest.1.1 ∙ ap (λ l. measures_of number u ++ l) (spent-measures (place_after p u.block) us (number + 1) rest.1.0 row.1 spent.2 rest.1.2)
 ]

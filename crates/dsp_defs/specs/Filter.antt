@@ -1,82 +1,155 @@
--- A filter of one channel that gives one value for each sample and has no tail.
-use Rattle.std.specs.Prelude.{◌≡◌, ℕ, ◌*◌, ◌≤◌, ℤ, List, [], ◌++◌, length, get_or, flat_map, All, Option, Some, None}
+-- A filter of one channel: it takes samples, gives its live values, and then its tail.
+use Rattle.std.specs.Prelude.{◌≡◌, ℕ, ◌+◌, ◌*◌, ◌≤◌, min, ℤ, Bool, true, false, List, [], ◌∷◌, ◌++◌, map, length, get_or, flat_map, All, Option, Some, None}
 use Rattle.std.specs.List.{range_with_len}
 use Rattle.dsp_defs.specs.Streaming.{Continues}
 use Rattle.dsp_defs.specs.Block.{Frame, channel, live_channel, whole_channel, format_after, channels_after}
 use Rattle.dsp_defs.specs.Shape.{whole_frames, live_frames}
-use Rattle.dsp_defs.specs.Cost.{live_block_cost}
-use Rattle.dsp_defs.specs.Kept.{kept_of_channel, kept_numbers, kinds_by, kept_kinds, Each, IsPlace}
+use Rattle.dsp_defs.specs.Cost.{live_block_cost, block_turns}
+use Rattle.dsp_defs.specs.Counts.{Counts}
+use Rattle.dsp_defs.specs.Kept.{kept_of_channel, kept_numbers, kinds_by, kept_kinds, Each, IsPlace, IsTaken}
+use Rattle.dsp_defs.specs.Measure.{kept_measures}
 use Rattle.dsp_defs.specs.Unit.{whole_products, most_frames}
 use Rattle.dsp_defs.specs.declared.format.Fmt.TheVariants.{Q15}
 use Rattle.dsp_defs.specs.declared.format.Fmt.{Fmt}
 use Rattle.dsp_defs.specs.declared.script.Block.{Block}
 use Rattle.dsp_defs.specs.declared.script.Block.TheVariants.{Negate}
 
+-- ---- one channel
+
 -- what a block gives of one channel, if it works on each channel by itself
 abbrev pub given_by : Option (List ℤ → List ℤ) → List ℤ → List ℤ
 given_by (Some f) = f
 given_by None = λ x. x
 
+-- of a channel that may go on
 abbrev pub of_channel : Fmt → Block → List ℤ → List ℤ
 of_channel format block = given_by (live_channel format block)
 
--- its block and format, the most samples of a call, the numbers that it keeps, and the multiplies for a sample
+-- and of a whole one
+abbrev pub of_whole_channel : Fmt → Block → List ℤ → List ℤ
+of_whole_channel format block = given_by (whole_channel format block)
+
+-- its block and format, the most samples of a call, the numbers that it keeps, the tail that it still has to give,
+-- the multiplies that the tail still takes, and whether the tail was begun
 pub record FilterState : Type 0 where
   pub block : Block
   pub format : Fmt
   pub capacity : ℕ
   pub kept : List ℤ
-  pub price : ℕ
+  pub tail : List ℤ
+  pub rest : ℕ
+  pub ended : Bool
 
-abbrev pub FilterStandsFor : FilterState → List ℤ → Type 0
-FilterStandsFor f x = f.kept ≡ kept_of_channel f.format f.block x
+-- the most values of one call
+abbrev pub filter_room : FilterState → ℕ
+filter_room f = most_frames f.block f.capacity
 
--- the filter took the samples `taken`, and gave the next values
-pub record FilterFeeds (old new : FilterState) (taken given : List ℤ) : Type 0 where
-  pub made : new ≡ record old { kept = new.kept }
-  pub count : length new.kept ≡ length old.kept
+-- the filter was made in the same way
+pub record FilterMadeAs (old new : FilterState) : Type 0 where
+  pub block : new.block ≡ old.block
+  pub format : new.format ≡ old.format
+  pub capacity : new.capacity ≡ old.capacity
+
+-- the filter has taken the samples x, and nothing of its tail was given
+pub record FilterStandsFor (f : FilterState) (x : List ℤ) : Type 0 where
+  pub running : f.ended ≡ false
+  pub keeps : f.kept ≡ kept_of_channel f.format f.block x
+  pub tail_follows : of_whole_channel f.format f.block x ≡ of_channel f.format f.block x ++ f.tail
+
+-- the filter is where n samples lead it, whatever their values were
+pub record FilterCounts (f : FilterState) (n : ℕ) : Type 0 where
+  pub running : f.ended ≡ false
+  pub place : Each IsPlace (kinds_by f.format f.block n) f.kept
+  pub tail_values : whole_frames f.block n ≡ live_frames f.block n + length f.tail
+  pub rest_is : whole_products f.format 1 f.block n ≡ live_block_cost f.format 1 f.block n + f.rest
+
+-- the call took the samples `taken`, and gave the next live values
+pub record FilterFeeds (old new : FilterState) (taken given : List ℤ) (before after : Counts) : Type 0 where
+  pub made : FilterMadeAs old new
+  pub at_most : length given ≤ most_frames old.block (length taken)
   pub values : (x : List ℤ) → FilterStandsFor old x → Continues (of_channel old.format old.block) x taken given
   pub stands : (x : List ℤ) → FilterStandsFor old x → FilterStandsFor new (x ++ taken)
+  pub count : (n : ℕ) → FilterCounts old n → live_frames old.block (n + length taken) ≡ live_frames old.block n + length given
+  pub counts : (n : ℕ) → FilterCounts old n → FilterCounts new (n + length taken)
+  pub multiplies : (n : ℕ) → FilterCounts old n → live_block_cost old.format 1 old.block (n + length taken) + before.multiplies ≡ live_block_cost old.format 1 old.block n + after.multiplies
+  pub turns : (n : ℕ) → FilterCounts old n → after.turns ≤ before.turns + block_turns old.format 1 old.block n (n + length taken)
 
--- the block works on each channel by f, gives one value for each sample, and keeps `count` numbers of a channel
-pub record IsByChannel (format : Fmt) (block : Block) (f : List ℤ → List ℤ) (count price : ℕ) : Type 0 where
-  pub live_is : live_channel format block ≡ Some f
-  pub whole_is : whole_channel format block ≡ Some f
-  pub by_length : (x y : List ℤ) → length x ≡ length y → length (f x) ≡ length (f y)
+-- the call gave as many values of the tail as there are, and at most as many as one call gives
+pub record FilterFinishes (old new : FilterState) (given : List ℤ) (before after : Counts) : Type 0 where
+  pub made : FilterMadeAs old new
+  pub ended : new.ended ≡ true
+  pub tail : old.tail ≡ given ++ new.tail
+  pub count : length given ≡ min (length old.tail) (filter_room old)
+  pub spent : given ≡ [] → old.tail ≡ []
+  pub nothing_left : new.tail ≡ [] → new.rest ≡ 0
+  pub multiplies : after.multiplies + new.rest ≡ before.multiplies + old.rest
+  pub turns : after.turns + new.rest ≤ before.turns + old.rest
+
+-- the filter keeps these numbers and no others
+pub record FilterRestores (old new : FilterState) (numbers : List ℤ) : Type 0 where
+  pub made : FilterMadeAs old new
+  pub running : new.ended ≡ false
+  pub kept : new.kept ≡ numbers
+  pub stands : (x : List ℤ) → numbers ≡ kept_of_channel old.format old.block x → FilterStandsFor new x
+  pub counts : (n : ℕ) → Each IsPlace (kinds_by old.format old.block n) numbers → FilterCounts new n
+
+-- a filter of the block that has taken nothing
+pub record IsNewFilter (b : Block) (f : Fmt) (n : ℕ) (s : FilterState) : Type 0 where
+  pub block : s.block ≡ b
+  pub format : s.format ≡ f
+  pub capacity : s.capacity ≡ n
+  pub stands : FilterStandsFor s []
+  pub counts : FilterCounts s 0
+
+-- ---- all channels
+
+-- the block works on each channel by itself, keeps numbers channel after channel, measures nothing, and costs as much on each
+pub record IsByChannel (format : Fmt) (block : Block) : Type 0 where
+  pub live_is : live_channel format block ≡ Some (of_channel format block)
+  pub whole_is : whole_channel format block ≡ Some (of_whole_channel format block)
   pub channels_same : (c : ℕ) → channels_after c block ≡ c
   pub format_same : format_after format block ≡ format
-  pub most_same : (n : ℕ) → most_frames block n ≡ n
   pub keeps_is : (c : ℕ) (x : List Frame) → kept_numbers format c block x ≡ flat_map (λ i. kept_of_channel format block (channel i x)) (range_with_len 0 c)
-  pub kept_size : (x : List ℤ) → length (kept_of_channel format block x) ≡ count
   pub kinds_are : (c n : ℕ) → kept_kinds format c block n ≡ flat_map (λ (_ : ℕ). kinds_by format block n) (range_with_len 0 c)
-  pub kinds : (n : ℕ) (numbers : List ℤ) → length numbers ≡ count → Each IsPlace (kinds_by format block n) numbers
-  pub live_frames : (n : ℕ) → live_frames block n ≡ n
-  pub whole_frames : (n : ℕ) → whole_frames block n ≡ n
-  pub live_cost : (c n : ℕ) → live_block_cost format c block n ≡ c * (n * price)
-  pub whole_cost : (c n : ℕ) → whole_products format c block n ≡ c * (n * price)
-
--- the filter is of such a block
-abbrev pub IsSampleBlock : FilterState → ℕ → Type 0
-IsSampleBlock f count = IsByChannel f.format f.block (of_channel f.format f.block) count f.price
+  pub keeps_place : (x : List ℤ) → Each IsPlace (kinds_by format block (length x)) (kept_of_channel format block x)
+  pub taken : (n : ℕ) → IsTaken block n
+  pub no_measures : (c number : ℕ) (kept : List ℤ) → kept_measures format c number block kept ≡ []
+  pub live_cost : (c n : ℕ) → live_block_cost format c block n ≡ c * live_block_cost format 1 block n
+  pub whole_cost : (c n : ℕ) → whole_products format c block n ≡ c * whole_products format 1 block n
+  pub turns : (c m n : ℕ) → block_turns format c block m n ≡ c * block_turns format 1 block m n
 
 -- the filter of a channel
 abbrev pub no_filter : FilterState
-no_filter = record { block = Negate; format = Q15; capacity = 0; kept = []; price = 0 }
+no_filter = record { block = Negate; format = Q15; capacity = 0; kept = []; tail = []; rest = 0; ended = false }
 
 abbrev pub filter_at : List FilterState → ℕ → FilterState
 filter_at filters c = get_or filters c no_filter
 
--- a filter like the first one
-pub record IsLike (first : FilterState) (capacity : ℕ) (f : FilterState) : Type 0 where
+-- the numbers of all filters, one after another
+abbrev pub kept_of_all : List FilterState → List ℤ
+kept_of_all filters = flat_map (λ (f : FilterState). f.kept) filters
+
+-- their tails, channel by channel
+abbrev pub tails_of : List FilterState → List (List ℤ)
+tails_of filters = map (λ (f : FilterState). f.tail) filters
+
+-- the multiplies that they still take
+abbrev pub rest_of_all : List FilterState → ℕ
+rest_of_all [] = 0
+rest_of_all (f ∷ filters) = f.rest + rest_of_all filters
+
+-- a filter like the first one, with as many values to give
+pub record IsLike (first : FilterState) (most : ℕ) (f : FilterState) : Type 0 where
   pub block : f.block ≡ first.block
   pub format : f.format ≡ first.format
-  pub capacity_fits : capacity ≤ f.capacity
-  pub price : f.price ≡ first.price
-  pub kept : length f.kept ≡ length first.kept
+  pub capacity : f.capacity ≡ most
+  pub ended : f.ended ≡ first.ended
+  pub tail : length f.tail ≡ length first.tail
 
--- the filters are one for each channel, made alike for such a block
+-- the filters are one for each channel, made alike for such a block, and all are where one number of samples leads them
 pub record AreFilters (format : Fmt) (capacity : ℕ) (filters : List FilterState) : Type 0 where
   pub some : 1 ≤ length filters
   pub alike : All (IsLike (filter_at filters 0) capacity) filters
   pub format_is : (filter_at filters 0).format ≡ format
-  pub sample_block : IsSampleBlock (filter_at filters 0) (length (filter_at filters 0).kept)
+  pub by_channel : IsByChannel format (filter_at filters 0).block
+  pub counted : (filter_at filters 0).ended ≡ false → (n : ℕ) × All (λ f. FilterCounts f n) filters

@@ -200,3 +200,22 @@ FitsAfter format channels block n numbers = IsTaken block n × Each IsOfKind (ke
 -- and of some number of frames
 abbrev pub Fits : Fmt → ℕ → Block → List ℤ → Type 0
 Fits format channels block numbers = (n : ℕ) × FitsAfter format channels block n numbers
+
+-- the least number of frames at which a block stands where n frames lead it
+abbrev pub place_of : Block → ℕ → ℕ
+place_of (Decimate factor taps) n = n % factor
+place_of (Conv taps) n = flag n
+place_of (ConvPartial first count taps) n = min n (first + count)
+place_of (MatAdd rows columns matrix) n = n % (rows * columns)
+place_of (MatSub rows columns matrix) n = n % (rows * columns)
+place_of (MatScale rows columns fract shift) n = n % (rows * columns)
+place_of (MatTrans rows columns) n = n % (rows * columns)
+place_of (MatMult rows columns given matrix) n = n % (rows * columns)
+place_of (Correlate taps) n = n
+place_of Max n = n
+place_of Min n = n
+place_of block n = 0
+
+-- the numbers are such that the filter of one channel can keep them of n samples
+abbrev pub FitsChannel : Fmt → Block → ℕ → List ℤ → Type 0
+FitsChannel format block n numbers = IsTaken block n × Each IsOfKind (kinds_by format block n) numbers

@@ -32,3 +32,4 @@ pub mod Report
 pub mod Unit
 pub mod Row
 pub mod Filter
+pub mod Channels

@@ -1,5 +1,5 @@
 -- The measures of a whole signal, and those of a chain.
-use Rattle.std.specs.Prelude.{ℕ, ◌+◌, ℤ, ◌+ℤ◌, ◌-ℤ◌, ◌*ℤ◌, List, [], ◌∷◌, ◌++◌, length, Option, Some, None, Bool, int_lt, if◌then◌else◌}
+use Rattle.std.specs.Prelude.{ℕ, suc, ◌+◌, ◌*◌, ℤ, pos, nat_abs, drop, ◌+ℤ◌, ◌-ℤ◌, ◌*ℤ◌, List, [], ◌∷◌, ◌++◌, length, Option, Some, None, Bool, int_lt, if◌then◌else◌}
 use Rattle.dsp_defs.specs.Numbers.{◌>>◌, wrap, w32}
 use Rattle.dsp_defs.specs.Formats.{accumulator}
 use Rattle.dsp_defs.specs.Signal.{sample, values, sum_below}
@@ -60,6 +60,20 @@ minimum [] = None
 minimum (x ∷ xs) = Some (better_of (λ a b. int_lt a b) x (minimum xs))
 
 -- ---- the measures of a chain
+
+-- an extreme as it is kept: whether there is one, the value, its index, and how many samples there were
+abbrev pub kept_extreme : List ℤ → Option (ℤ × ℕ)
+kept_extreme (pos (suc flag) ∷ value ∷ index ∷ count) = Some (value, nat_abs index)
+kept_extreme _ = None
+
+-- the measures that a block's kept numbers give
+abbrev pub kept_measures : Fmt → ℕ → ℕ → Block → List ℤ → List Measure
+kept_measures format channels number Power kept = values channels (λ c. Measures.Power number c (sample kept c))
+kept_measures format channels number Dot kept = Measures.Dot number (sample kept 0) ∷ []
+kept_measures format channels number CmplxDot kept = Measures.CmplxDot number (cmplx_dot_close format (sample kept 0)) (cmplx_dot_close format (sample kept 1)) ∷ []
+kept_measures format channels number Max kept = values channels (λ c. Measures.Max number c (kept_extreme (drop (4 * c) kept)))
+kept_measures format channels number Min kept = values channels (λ c. Measures.Min number c (kept_extreme (drop (4 * c) kept)))
+kept_measures format channels number block kept = []
 
 -- the measures of one block, by channel; `number` is its place in the script
 abbrev pub block_measures : Fmt → ℕ → ℕ → Block → List Frame → List Measure

@@ -1,7 +1,9 @@
 -- The lines that a run ends with.
-use Rattle.std.specs.Prelude.{ℕ, List, [], ◌++◌, codes}
+use Rattle.std.specs.Prelude.{ℕ, ℤ, List, [], ◌++◌, codes, flat_map, Option, Some, None}
 use Rattle.std.specs.Fmt.{decimal, signed_decimal}
 use Rattle.dsp_defs.specs.declared.format.Fmt.{Fmt}
+use Rattle.dsp_defs.specs.declared.measure.Measure.{Measure}
+use Rattle.dsp_defs.specs.declared.measure.Measure.TheVariants.{Power, Dot, CmplxDot, Max, Min}
 use Rattle.dsp_defs.specs.declared.script.Script.{Script}
 use Rattle.dsp_defs.specs.declared.script_fault.ScriptFault.{ScriptFault}
 use Rattle.dsp_defs.specs.declared.script_fault.ScriptKind.{ScriptKind}
@@ -140,9 +142,39 @@ frames_line word frames channels format =
 abbrev pub multiplies_line : ℕ → List ℕ
 multiplies_line multiplies = line (codes "multiplies " ++ decimal multiplies)
 
--- what a run over n frames of input reports: what came in, what went out, and the multiplies
-abbrev pub report_text : Script → ℕ → List ℕ
-report_text script n =
+-- `WORD B channel C = `
+abbrev pub channel_text : List ℕ → ℕ → ℕ → List ℕ
+channel_text word number channel = word ++ codes " " ++ decimal number ++ codes " channel " ++ decimal channel ++ codes " = "
+
+-- `V at I`, or `none`
+abbrev pub found_text : Option (ℤ × ℕ) → List ℕ
+found_text (Some best) = signed_decimal best.0 ++ codes " at " ++ decimal best.1
+found_text None = codes "none"
+
+abbrev pub extreme_line : List ℕ → ℕ → ℕ → Option (ℤ × ℕ) → List ℕ
+extreme_line word number channel found = line (channel_text word number channel ++ found_text found)
+
+-- a second sum behind a space
+abbrev pub second_text : Option ℤ → List ℕ
+second_text (Some sum) = codes " " ++ signed_decimal sum
+second_text None = []
+
+-- `WORD B = V`, or `WORD B = RE IM`
+abbrev pub sums_line : List ℕ → ℕ → ℤ → Option ℤ → List ℕ
+sums_line word number first second = line (word ++ codes " " ++ decimal number ++ codes " = " ++ signed_decimal first ++ second_text second)
+
+-- the line of a measure
+abbrev pub measure_line : Measure → List ℕ
+measure_line (Power number channel value) = line (channel_text (codes "power") number channel ++ signed_decimal value)
+measure_line (Dot number value) = sums_line (codes "dot") number value None
+measure_line (CmplxDot number re im) = sums_line (codes "cmplx_dot") number re (Some im)
+measure_line (Max number channel found) = extreme_line (codes "max") number channel found
+measure_line (Min number channel found) = extreme_line (codes "min") number channel found
+
+-- what a run over n frames of input reports: what came in, what went out, the multiplies, and the measures
+abbrev pub report_text : Script → ℕ → List Measure → List ℕ
+report_text script n measures =
     done_line ++ frames_line (codes "in") n script.input.channels script.input.format
     ++ frames_line (codes "out") (frames_given script.blocks n) (channels_of script) (format_of script)
     ++ multiplies_line (cost script.input.format script.input.channels script.blocks n)
+    ++ flat_map measure_line measures

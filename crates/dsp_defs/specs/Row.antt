@@ -3,10 +3,13 @@ use Rattle.std.specs.Prelude.{◌≡◌, ℕ, ◌+◌, ◌*◌, ◌≤◌, ℤ, 
 use Rattle.dsp_defs.specs.Streaming.{Continues}
 use Rattle.dsp_defs.specs.Block.{Frame, live, live_chain, whole_chain, format_after, channels_after}
 use Rattle.dsp_defs.specs.Shape.{whole_frames, live_frames, frames_behind}
-use Rattle.dsp_defs.specs.Cost.{live_cost}
+use Rattle.dsp_defs.specs.Cost.{live_cost, chain_turns}
+use Rattle.dsp_defs.specs.Kept.{IsTaken}
+use Rattle.dsp_defs.specs.Measure.{measures}
 use Rattle.dsp_defs.specs.Counts.{Counts}
-use Rattle.dsp_defs.specs.Unit.{whole_products, UnitState, StandsFor, CountsFrames, most_frames, frames_in, IsSignal}
+use Rattle.dsp_defs.specs.Unit.{whole_products, UnitState, StandsFor, CountsFrames, measures_of, most_frames, frames_in, IsSignal}
 use Rattle.dsp_defs.specs.declared.format.Fmt.{Fmt}
+use Rattle.dsp_defs.specs.declared.measure.Measure.{Measure}
 use Rattle.dsp_defs.specs.declared.script.Block.{Block}
 
 -- a place of a chain: the format, the channels, and the most frames that pass it in one call
@@ -69,6 +72,20 @@ abbrev pub AllNew : List UnitState → Type 0
 AllNew [] = Unit {0}
 AllNew (u ∷ us) = (StandsFor u [] × CountsFrames u 0) × AllNew us
 
+-- each block can take the whole signal at its place, where the first takes n frames
+abbrev pub AllTaken : List Block → ℕ → Type 0
+AllTaken [] n = Unit {0}
+AllTaken (block ∷ blocks) n = IsTaken block n × AllTaken blocks (whole_frames block n)
+
+-- the units can take so many frames more
+abbrev pub AllAccept : List UnitState → ℕ → Type 0
+AllAccept us more = (n : ℕ) × AllCount us n × AllTaken (blocks_of us) (n + more)
+
+-- the measures of what the units have taken; the first has this number
+abbrev pub measured_by : ℕ → List UnitState → List Measure
+measured_by number [] = []
+measured_by number (u ∷ us) = measures_of number u ++ measured_by (number + 1) us
+
 -- the call took the frames `taken`, and gave the next live frames of the row
 pub record FeedsRow (p : Place) (old new : List UnitState) (taken given : List Frame) (before after : Counts) : Type 0 where
   pub blocks : blocks_of new ≡ blocks_of old
@@ -79,6 +96,7 @@ pub record FeedsRow (p : Place) (old new : List UnitState) (taken given : List F
   pub frames : (n : ℕ) → AllCount old n → frames_behind live_frames (blocks_of old) (n + length taken) ≡ frames_behind live_frames (blocks_of old) n + length given
   pub counts : (n : ℕ) → AllCount old n → AllCount new (n + length taken)
   pub multiplies : (n : ℕ) → AllCount old n → live_cost p.format p.channels (blocks_of old) (n + length taken) + before.multiplies ≡ live_cost p.format p.channels (blocks_of old) n + after.multiplies
+  pub turns : (n : ℕ) → AllCount old n → after.turns ≤ before.turns + chain_turns p.format p.channels (blocks_of old) n (n + length taken)
 
 -- the row passes the samples on as the output of its last place
 pub record IsFed (p : Place) (old new : List UnitState) (frames given : List ℤ) (before after : Counts) : Type 0 where
@@ -93,10 +111,10 @@ chain_products format c [] n = 0
 chain_products format c (block ∷ blocks) n =
     whole_products format c block n + chain_products (format_after format block) (channels_after c block) blocks (whole_frames block n)
 
--- no unit is fed while one before it still has a tail that was begun
+-- while a unit still has a tail, the ones behind it run and can take it
 abbrev pub EndsInOrder : List UnitState → Type 0
 EndsInOrder [] = Unit {0}
-EndsInOrder (u ∷ us) = ((u.tail ≡ [] → ⊥) → AllRun us) × EndsInOrder us
+EndsInOrder (u ∷ us) = ((u.tail ≡ [] → ⊥) → AllRun us × AllAccept us (length u.tail)) × EndsInOrder us
 
 -- the units have taken some frames; when `tail` follows them and then nothing, the units will give ys
 pub record WillGive (p : Place) (us : List UnitState) (tail ys : List Frame) : Type 0 where
@@ -110,6 +128,12 @@ pub record WillCost (p : Place) (us : List UnitState) (tail now total : ℕ) : T
   pub counts : AllCount us taken
   pub costs : chain_products p.format p.channels (blocks_of us) (taken + tail) + now ≡ live_cost p.format p.channels (blocks_of us) taken + total
 
+-- the same of measures: when `tail` was taken they are ms
+pub record WillMeasure (p : Place) (us : List UnitState) (tail : List Frame) (number : ℕ) (ms : List Measure) : Type 0 where
+  pub taken : List Frame
+  pub stand : AllStand p.format p.channels us taken
+  pub gives : measures p.format p.channels number (blocks_of us) (taken ++ tail) ≡ ms
+
 -- what a row still has to give: the tail of its first unit through the others, and then theirs
 abbrev pub OwesFirst : Place → List UnitState → List Frame → Type 0
 OwesFirst p [] ys = ys ≡ []
@@ -119,6 +143,11 @@ abbrev pub CostsFirst : Place → List UnitState → ℕ → ℕ → Type 0
 CostsFirst p [] now total = now ≡ total
 CostsFirst p (u ∷ us) now total = WillCost (place_after p u.block) us (length u.tail) (now + u.rest) total
 
+-- the measures of a row once its tail is given: those of the first unit are there
+abbrev pub MeasuresFirst : Place → ℕ → List UnitState → List Measure → Type 0
+MeasuresFirst p number [] ms = ms ≡ []
+MeasuresFirst p number (u ∷ us) ms = (later : List Measure) × (ms ≡ measures_of number u ++ later) × WillMeasure (place_after p u.block) us u.tail (number + 1) later
+
 -- the same where units at the front are spent
 abbrev pub Owes : Place → List UnitState → List Frame → Type 0
 Owes p [] ys = ys ≡ []
@@ -127,6 +156,11 @@ Owes p (u ∷ us) ys = OwesFirst p (u ∷ us) ys ⊎ ((u.tail ≡ []) × Owes (p
 abbrev pub Costs : Place → List UnitState → ℕ → ℕ → Type 0
 Costs p [] now total = now ≡ total
 Costs p (u ∷ us) now total = CostsFirst p (u ∷ us) now total ⊎ ((u.tail ≡ []) × (u.rest ≡ 0) × Costs (place_after p u.block) us now total)
+
+abbrev pub Measures : Place → ℕ → List UnitState → List Measure → Type 0
+Measures p number [] ms = ms ≡ []
+Measures p number (u ∷ us) ms =
+    MeasuresFirst p number (u ∷ us) ms ⊎ ((u.tail ≡ []) × ((later : List Measure) × (ms ≡ measures_of number u ++ later) × Measures (place_after p u.block) (number + 1) us later))
 
 abbrev pub AllSpent : List UnitState → Type 0
 AllSpent [] = Unit {0}
@@ -140,6 +174,11 @@ FirstSpent (u ∷ us) = (u.tail ≡ []) × (u.rest ≡ 0)
 abbrev pub behind : List UnitState → List UnitState
 behind [] = []
 behind (u ∷ us) = us
+
+-- the measures of the first
+abbrev pub first_measures : ℕ → List UnitState → List Measure
+first_measures number [] = []
+first_measures number (u ∷ us) = measures_of number u
 
 abbrev pub FirstTailSpent : List UnitState → Type 0
 FirstTailSpent [] = Unit {0}
@@ -155,8 +194,11 @@ pub record FinishesFirst (p : Place) (old new : List UnitState) (given : List Fr
   pub spent : given ≡ [] → FirstSpent new
   pub idle : FirstTailSpent old → (given ≡ []) × (behind new ≡ behind old)
   pub idle_costs : FirstSpent old → after.multiplies ≡ before.multiplies
+  pub turns : after.turns + before.multiplies ≤ before.turns + after.multiplies
+  pub measures : (number : ℕ) (ms : List Measure) → MeasuresFirst p number old ms → MeasuresFirst p number new ms
+  pub idle_measures : FirstTailSpent old → (number : ℕ) → first_measures number new ≡ first_measures number old
 
--- the call gave the next frames that the row owes, and none only where it owes none
+-- the call gave the next frames that the row owes, and none only where it owes none; a turn of a loop makes a product at least
 pub record FinishesRow (p : Place) (old new : List UnitState) (given : List Frame) (before after : Counts) : Type 0 where
   pub blocks : blocks_of new ≡ blocks_of old
   pub in_row : InRow p new
@@ -164,6 +206,8 @@ pub record FinishesRow (p : Place) (old new : List UnitState) (given : List Fram
   pub owed : (ys : List Frame) → Owes p old ys → (later : List Frame) × (ys ≡ given ++ later) × Owes p new later
   pub costs : (total : ℕ) → Costs p old before.multiplies total → Costs p new after.multiplies total
   pub spent : given ≡ [] → AllSpent new
+  pub turns : after.turns + before.multiplies ≤ before.turns + after.multiplies
+  pub measures : (number : ℕ) (ms : List Measure) → Measures p number old ms → Measures p number new ms
 
 -- the same of samples
 pub record IsFinishedFirst (p : Place) (old new : List UnitState) (given : List ℤ) (before after : Counts) : Type 0 where

@@ -6,10 +6,12 @@ use Rattle.dsp_defs.specs.Streaming.{Continues}
 unfoldable pub use Rattle.dsp_defs.specs.Block.{frames_in}
 use Rattle.dsp_defs.specs.Block.{Frame, whole, live, format_after, channels_after}
 use Rattle.dsp_defs.specs.Shape.{group_of, whole_frames, live_frames}
-use Rattle.dsp_defs.specs.Cost.{block_cost, live_block_cost}
-use Rattle.dsp_defs.specs.Kept.{kept_numbers, HasPlace}
+use Rattle.dsp_defs.specs.Cost.{block_cost, live_block_cost, block_turns}
+use Rattle.dsp_defs.specs.Kept.{kept_numbers, HasPlace, IsTaken}
+use Rattle.dsp_defs.specs.Measure.{kept_measures}
 use Rattle.dsp_defs.specs.Counts.{Counts}
 use Rattle.dsp_defs.specs.declared.format.Fmt.{Fmt}
+use Rattle.dsp_defs.specs.declared.measure.Measure.{Measure}
 use Rattle.dsp_defs.specs.declared.script.Block.{Block}
 use Rattle.dsp_defs.specs.declared.script.Block.TheVariants.{Interpolate}
 
@@ -71,6 +73,14 @@ pub record CountsFrames (u : UnitState) (n : ℕ) : Type 0 where
   pub tail_frames : whole_frames u.block n ≡ live_frames u.block n + length u.tail
   pub rest_is : whole_products u.format u.channels u.block n ≡ live_block_cost u.format u.channels u.block n + u.rest
 
+-- it can take so many frames more: a correlation gathers only so many, and an extreme is found among only so many
+abbrev pub Accepts : UnitState → ℕ → Type 0
+Accepts u more = (n : ℕ) × CountsFrames u n × IsTaken u.block (n + more)
+
+-- the measures of what it has taken; `number` is its place in the script
+abbrev pub measures_of : ℕ → UnitState → List Measure
+measures_of number u = kept_measures u.format u.channels number u.block u.kept
+
 -- the call took the frames `taken`, and gave the next live frames
 pub record Feeds (old new : UnitState) (taken given : List Frame) (before after : Counts) : Type 0 where
   pub made : MadeAs old new
@@ -79,8 +89,9 @@ pub record Feeds (old new : UnitState) (taken given : List Frame) (before after 
   pub frames : (n : ℕ) → CountsFrames old n → live_frames old.block (n + length taken) ≡ live_frames old.block n + length given
   pub counts : (n : ℕ) → CountsFrames old n → CountsFrames new (n + length taken)
   pub multiplies : (n : ℕ) → CountsFrames old n → live_block_cost old.format old.channels old.block (n + length taken) + before.multiplies ≡ live_block_cost old.format old.channels old.block n + after.multiplies
+  pub turns : (n : ℕ) → CountsFrames old n → after.turns ≤ before.turns + block_turns old.format old.channels old.block n (n + length taken)
 
--- the call gave the next frames of the tail
+-- the call gave the next frames of the tail; what was measured stays
 pub record Finishes (old new : UnitState) (given : List Frame) (before after : Counts) : Type 0 where
   pub made : MadeAs old new
   pub ended : new.ended ≡ true
@@ -88,6 +99,16 @@ pub record Finishes (old new : UnitState) (given : List Frame) (before after : C
   pub spent : given ≡ [] → old.tail ≡ []
   pub nothing_left : new.tail ≡ [] → new.rest ≡ 0
   pub multiplies : after.multiplies + new.rest ≡ before.multiplies + old.rest
+  pub turns : after.turns + new.rest ≤ before.turns + old.rest
+  pub measures : (number : ℕ) → measures_of number new ≡ measures_of number old
+
+-- the unit keeps these numbers and no others, so it stands for each signal that gives them, and counts each number of frames that can give them
+pub record Restores (old new : UnitState) (numbers : List ℤ) : Type 0 where
+  pub made : MadeAs old new
+  pub running : new.ended ≡ false
+  pub kept : new.kept ≡ numbers
+  pub stands : (x : List Frame) → numbers ≡ kept_numbers old.format old.channels old.block x → StandsFor new x
+  pub counts : (n : ℕ) → HasPlace old.format old.channels old.block n numbers → CountsFrames new n
 
 -- what a call wrote is at most `most` frames, as the block gives them
 pub record IsOutput (u : UnitState) (most : ℕ) (samples : List ℤ) : Type 0 where

@@ -6,8 +6,9 @@ use Rattle.std.specs.List.{list_all}
 use Rattle.std.specs.Str.{bytes_eq}
 use Rattle.std.specs.Str.Parse.{digits_value}
 use Rattle.dsp_defs.specs.declared.command.Command.{Command}
-use Rattle.dsp_defs.specs.declared.command.Command.TheVariants.{Run, Print}
+use Rattle.dsp_defs.specs.declared.command.Command.TheVariants.{Run, Gen, Print}
 use Rattle.dsp_defs.specs.declared.command.Places.{Places}
+use Rattle.dsp_defs.specs.declared.limits.TheConstants.{MAX_GENERATED}
 
 -- a count: one to ten digits, of at most 2^32 - 1
 abbrev pub count_of : List ℕ → Option ℕ
@@ -24,11 +25,22 @@ abbrev pub are_run_names : List ℕ → List ℕ → List ℕ → Bool
 are_run_names script input output =
     is_name script && is_name input && is_name output && not (bytes_eq output script) && not (bytes_eq output input)
 
--- `print SCRIPT`, `run SCRIPT IN OUT` and `run SCRIPT IN OUT block N`
+-- two names that differ
+abbrev pub are_gen_names : List ℕ → List ℕ → Bool
+are_gen_names script output = is_name script && is_name output && not (bytes_eq output script)
+
+-- a seed, and a number of frames that may be generated
+abbrev pub generating : Option ℕ → Option ℕ → Option Command
+generating (Some seed) (Some frames) = if nat_le frames MAX_GENERATED then Some (Gen seed frames) else None
+generating seed frames = None
+
+-- `print SCRIPT`, `run SCRIPT IN OUT`, `gen SEED FRAMES SCRIPT OUT` and `run SCRIPT IN OUT block N`
 abbrev pub command_of : List (List ℕ) → Option Command
 command_of (verb ∷ script ∷ []) = if bytes_eq verb (codes "print") && is_name script then Some Print else None
 command_of (verb ∷ script ∷ input ∷ output ∷ []) =
     if bytes_eq verb (codes "run") && are_run_names script input output then Some (Run None) else None
+command_of (verb ∷ seed ∷ frames ∷ script ∷ output ∷ []) =
+    if bytes_eq verb (codes "gen") && are_gen_names script output then generating (count_of seed) (count_of frames) else None
 command_of (verb ∷ script ∷ input ∷ output ∷ option ∷ count ∷ []) =
     if bytes_eq verb (codes "run") && are_run_names script input output && bytes_eq option (codes "block")
     then option_map (λ n. Run (Some n)) (count_of count) else None
@@ -37,6 +49,7 @@ command_of words = None
 -- the verb is word 0, and the names follow it
 abbrev pub places_of_command : Command → Places
 places_of_command (Run block) = record { script = Some 1; input = Some 2; output = Some 3 }
+places_of_command (Gen seed frames) = record { script = Some 3; input = None; output = Some 4 }
 places_of_command Print = record { script = Some 1; input = None; output = None }
 
 abbrev pub places_of : List (List ℕ) → Option Places

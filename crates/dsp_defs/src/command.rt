@@ -3,6 +3,8 @@
 pub enum Command {
     /// Run a script over an input, in blocks of so many frames where the words name a length.
     Run { block: Option<u32> },
+    /// Run a script over so many frames that are made from a seed.
+    Gen { seed: u32, frames: u32 },
     /// Print the canonical text of a script.
     Print,
 }

@@ -1,57 +1,97 @@
 -- The filter of one channel, as a unit sees it.
-use Rattle.std.proofs.Common.{◌≡◌, ◌∙◌, ap, refl, sym, ℕ, ◌-◌, ℤ, pos, List, [], ◌∷◌, ◌++◌, map, length, replicate, Some, arith}
-use Rattle.std.specs.Prelude.{nat_abs}
+use Rattle.std.proofs.Common.{◌≡◌, ◌∙◌, ap, refl, sym, subst, ℕ, ◌+◌, ◌-◌, ◌*◌, ◌≤◌, ℤ, pos, false, true, List, [], ◌∷◌, ◌++◌, map, length, replicate, fold, max, suc, arith}
+use Rattle.std.specs.Prelude.{nat_abs, All, FitsSigned}
 use Rattle.std.proofs.lemmas.List.{append-nil, length-replicate}
-use Rattle.std.proofs.lemmas.List.FromFn.{length-map-range_with_len}
 use Rattle.dsp_defs.specs.declared.format.Fmt.{Fmt}
 use Rattle.dsp_defs.specs.declared.script.Block.TheVariants as Block
-use Rattle.dsp_defs.specs.Formats.{word}
+use Rattle.dsp_defs.specs.Formats.{word, lanes}
 use Rattle.dsp_defs.specs.Streaming.{Continues, last_of}
 use Rattle.dsp_defs.specs.Sums.{fir, sparse}
-use Rattle.dsp_defs.specs.Kept.{greatest}
-use Rattle.dsp_defs.specs.Filter.{FilterFeeds, FilterStandsFor, IsSampleBlock, IsByChannel}
-use Rattle.dsp_defs.proofs.ChannelLaws.{words-placed, fed-by-channel, by-channel}
+use Rattle.dsp_defs.specs.Counts.{Counts}
+use Rattle.dsp_defs.specs.Cost as cost
+use Rattle.dsp_defs.specs.Kept.{greatest, in_words, FitsChannel}
+use Rattle.dsp_defs.specs.Filter.{FilterFeeds, FilterFinishes, FilterRestores, IsByChannel, IsNewFilter}
+use Rattle.dsp_defs.proofs.ChannelKept.{words-placed}
+use Rattle.dsp_defs.proofs.SampleFilters.{IsSampleBlock, sample_filter, sample-new, sample-fed, sample-finished, sample-restored, sample-fits, fits-sample}
+use Rattle.dsp_lanes.specs.Turns.{lane_turns}
 use Rattle.dsp_window.proofs.Rolls.{length-last_of}
 use Rattle.dsp_fir.specs.FirState.{FirState, StandsFor, channel_state, new_fir}
 use Rattle.dsp_fir.specs.SparseState as sparse_state
 use Rattle.dsp_fir.specs.SparseState.{SparseState, greatest_delay, new_sparse}
 
--- a FIR block gives one value for each sample and keeps one number less than it has taps
-pub fir-by-channel : (format : Fmt) (taps : List ℤ) → IsByChannel format (Block.Fir taps) (fir format taps) (length taps - 1) (length taps)
+-- the turns over as many lanes as a sample of the format has
+turns-within : (format : Fmt) (L price before after m n count : ℕ) → L ≡ lanes format → n ≡ m + count → after ≤ before + price * lane_turns L count → after ≤ before + 1 * price * cost.lane_turns format (n - m)
+turns-within format L price before after m n count same more within =
+    let long : count ≡ n - m = omega (arith, more) in
+    let equal : lane_turns L count ≡ cost.lane_turns format (n - m) = (λ i. lane_turns (same i) (long i)) in
+    let product : price * lane_turns L count ≡ price * cost.lane_turns format (n - m) = ap (λ t. price * t) equal in
+    omega (arith, within, product)
+
+-- ---- FIR
+
+pub fir-by-channel : (format : Fmt) (taps : List ℤ) → IsByChannel format (Block.Fir taps)
 fir-by-channel format taps = record {
   live_is = refl;
   whole_is = refl;
-  by_length = λ x y e. length-map-range_with_len _ 0 (length x) ∙ e ∙ sym (length-map-range_with_len _ 0 (length y));
   channels_same = λ c. refl;
   format_same = refl;
-  most_same = λ n. refl;
   keeps_is = λ c x. refl;
-  kept_size = λ x. length-last_of (length taps - 1) x;
   kinds_are = λ c n. refl;
-  kinds = λ n numbers e. words-placed (word format) (length taps - 1) numbers e;
-  live_frames = λ n. refl;
-  whole_frames = λ n. refl;
+  keeps_place = λ x. words-placed (word format) (length taps - 1) (last_of (length taps - 1) x) (length-last_of (length taps - 1) x);
+  taken = λ n. tt;
+  no_measures = λ c number kept. refl;
   live_cost = λ c n. omega arith;
   whole_cost = λ c n. omega arith;
+  turns = λ c m n. omega arith;
 }
 
-pub channel-fed :
-    (format : Fmt) (old new : FirState) (taken given : List ℤ) → new.taps ≡ old.taps → length new.past ≡ length old.past → new.block ≡ old.block →
-    ((x : List ℤ) → StandsFor old x → Continues (fir format old.taps) x taken given) → ((x : List ℤ) → StandsFor old x → StandsFor new (x ++ taken)) →
-    FilterFeeds (channel_state format old) (channel_state format new) taken given
-channel-fed format old new taken given taps kept block values stands =
-    fed-by-channel format (Block.Fir old.taps) (fir format old.taps) (length old.taps - 1) (length old.taps)
-    (channel_state format old) (channel_state format new) taken given (fir-by-channel format old.taps) refl refl (rw (taps, block) refl) kept values
-    (λ x stood. stands x stood ∙ ap (λ t. last_of (length t - 1) (x ++ taken)) taps)
+-- a FIR block gives one value for each sample and keeps one number less than it has taps
+pub fir-block : (format : Fmt) (taps : List ℤ) → IsSampleBlock format (Block.Fir taps) (length taps - 1) (length taps)
+fir-block format taps = record {
+  by_channel = fir-by-channel format taps;
+  whole_is_live = λ x. refl;
+  most_same = λ n. refl;
+  live_same = λ n. refl;
+  whole_same = λ n. refl;
+  kinds_are = λ n. refl;
+  live_cost = λ n. omega arith;
+  whole_cost = λ n. omega arith;
+}
 
--- a new filter keeps what is kept of no samples
-pub new-keeps : (format : Fmt) (taps : List ℤ) (block : ℕ) → FilterStandsFor (channel_state format (new_fir taps block)) []
-new-keeps format taps block = sym (append-nil (replicate (length taps - 1) (pos 0)))
+module _ (format : Fmt) (old new : FirState) where
+  pub channel-fed :
+      (L : ℕ) (taken given : List ℤ) (before after : Counts) → L ≡ lanes format → old.ended ≡ false → new.ended ≡ false → new.taps ≡ old.taps → length new.past ≡ length old.past → new.block ≡ old.block → length given ≡ length taken →
+      ((x : List ℤ) → StandsFor old x → Continues (fir format old.taps) x taken given) → ((x : List ℤ) → StandsFor old x → StandsFor new (x ++ taken)) →
+      after.multiplies ≡ before.multiplies + length taken * length old.taps → after.turns ≤ before.turns + length old.taps * lane_turns L (length taken) →
+      FilterFeeds (channel_state format old) (channel_state format new) taken given before after
+  channel-fed L taken given before after same running running' taps kept block size values stands paid within =
+      subst (λ o. FilterFeeds o (channel_state format new) taken given before after) (sym (λ i. sample_filter format (Block.Fir old.taps) old.block old.past (running i)))
+      (subst (λ s. FilterFeeds (sample_filter format (Block.Fir old.taps) old.block old.past false) s taken given before after) (sym (λ i. sample_filter format (Block.Fir (taps i)) (block i) new.past (running' i)))
+      (sample-fed format (Block.Fir old.taps) (length old.taps - 1) (length old.taps) old.block (fir-block format old.taps) old.past new.past taken given before after size kept values
+      (λ x stood. stands x stood ∙ ap (λ t. last_of (length t - 1) (x ++ taken)) taps) paid
+      (λ n. turns-within format L (length old.taps) before.turns after.turns n (n + length taken) (length taken) same refl within)))
 
-pub new-block : (format : Fmt) (taps : List ℤ) (block : ℕ) → IsSampleBlock (channel_state format (new_fir taps block)) (length (channel_state format (new_fir taps block)).kept)
-new-block format taps block =
-    let count : length (replicate (length taps - 1) (pos 0)) ≡ length taps - 1 = length-replicate (length taps - 1) (pos 0) in
-    rw count (by-channel format (Block.Fir taps) (fir format taps) (length taps - 1) (length taps) (fir-by-channel format taps))
+  pub channel-finished : (counts : Counts) → new ≡ record old { ended = true } → FilterFinishes (channel_state format old) (channel_state format new) [] counts counts
+  channel-finished counts made =
+      subst (λ s. FilterFinishes (channel_state format old) s [] counts counts) (sym (ap (channel_state format) made))
+      (sample-finished format (Block.Fir old.taps) (length old.taps - 1) (length old.taps) old.block (fir-block format old.taps) old.past old.ended counts)
+
+  pub channel-restored : (numbers : List ℤ) → old.ended ≡ false → new ≡ record old { past = numbers } → FilterRestores (channel_state format old) (channel_state format new) numbers
+  channel-restored numbers running made =
+      subst (λ s. FilterRestores (channel_state format old) s numbers) (sym (ap (channel_state format) made ∙ (λ i. sample_filter format (Block.Fir old.taps) old.block numbers (running i))))
+      (sample-restored format (Block.Fir old.taps) (length old.taps - 1) (length old.taps) old.block (fir-block format old.taps) old.past numbers old.ended)
+
+pub channel-fits : (format : Fmt) (taps : List ℤ) (n : ℕ) (numbers : List ℤ) → length numbers ≡ length taps - 1 → All (FitsSigned (word format)) numbers → FitsChannel format (Block.Fir taps) n numbers
+channel-fits format taps n numbers size all = sample-fits format (Block.Fir taps) (length taps - 1) (length taps) 0 (fir-block format taps) n numbers size all
+
+pub fits-channel : (format : Fmt) (taps : List ℤ) (n : ℕ) (numbers : List ℤ) → FitsChannel format (Block.Fir taps) n numbers → (length numbers ≡ length taps - 1) × All (FitsSigned (word format)) numbers
+fits-channel format taps n numbers fits = fits-sample format (Block.Fir taps) (length taps - 1) (length taps) 0 (fir-block format taps) n numbers fits
+
+-- a new filter
+pub new-channel : (format : Fmt) (taps : List ℤ) (block : ℕ) → IsNewFilter (Block.Fir taps) format block (channel_state format (new_fir taps block))
+new-channel format taps block =
+    sample-new format (Block.Fir taps) (length taps - 1) (length taps) block (fir-block format taps) (replicate (length taps - 1) (pos 0))
+    (sym (append-nil (replicate (length taps - 1) (pos 0)))) (length-replicate (length taps - 1) (pos 0))
 
 -- ---- sparse filters
 
@@ -60,44 +100,83 @@ pub delays-named : (delays : List ℕ) → map nat_abs (map pos delays) ≡ dela
 delays-named [] = refl
 delays-named (d ∷ delays) = ap (λ l. d ∷ l) (delays-named delays)
 
--- a sparse block gives one value for each sample and keeps as many numbers as its greatest delay
-sparse-by-channel : (format : Fmt) (taps : List ℤ) (delays : List ℕ) → IsByChannel format (Block.Sparse taps (map pos delays)) (sparse format taps delays) (greatest_delay delays) (length taps)
+greatest-named : (delays : List ℕ) → greatest (map pos delays) ≡ greatest_delay delays
+greatest-named delays = ap greatest_delay (delays-named delays)
+
+pub sparse-by-channel : (format : Fmt) (taps : List ℤ) (delays : List ℕ) → IsByChannel format (Block.Sparse taps (map pos delays))
 sparse-by-channel format taps delays = record {
-  live_is = ap (λ ds. Some (sparse format taps ds)) (delays-named delays);
-  whole_is = ap (λ ds. Some (sparse format taps ds)) (delays-named delays);
-  by_length = λ x y e. length-map-range_with_len _ 0 (length x) ∙ e ∙ sym (length-map-range_with_len _ 0 (length y));
+  live_is = refl;
+  whole_is = refl;
   channels_same = λ c. refl;
   format_same = refl;
-  most_same = λ n. refl;
   keeps_is = λ c x. refl;
-  kept_size = λ x. length-last_of (greatest (map pos delays)) x ∙ ap greatest_delay (delays-named delays);
   kinds_are = λ c n. refl;
-  kinds = λ n numbers e. words-placed (word format) (greatest (map pos delays)) numbers (e ∙ sym (ap greatest_delay (delays-named delays)));
-  live_frames = λ n. refl;
-  whole_frames = λ n. refl;
+  keeps_place = λ x. words-placed (word format) (greatest (map pos delays)) (last_of (greatest (map pos delays)) x) (length-last_of (greatest (map pos delays)) x);
+  taken = λ n. tt;
+  no_measures = λ c number kept. refl;
   live_cost = λ c n. omega arith;
   whole_cost = λ c n. omega arith;
+  turns = λ c m n. omega arith;
 }
 
-pub sparse-fed :
-    (format : Fmt) (old new : SparseState) (taken given : List ℤ) → new.taps ≡ old.taps → new.delays ≡ old.delays → length new.past ≡ length old.past → new.block ≡ old.block →
-    ((x : List ℤ) → sparse_state.StandsFor old x → Continues (sparse format old.taps old.delays) x taken given) → ((x : List ℤ) → sparse_state.StandsFor old x → sparse_state.StandsFor new (x ++ taken)) →
-    FilterFeeds (sparse_state.channel_state format old) (sparse_state.channel_state format new) taken given
-sparse-fed format old new taken given taps delays kept block values stands =
-    fed-by-channel format (Block.Sparse old.taps (map pos old.delays)) (sparse format old.taps old.delays) (greatest_delay old.delays) (length old.taps)
-    (sparse_state.channel_state format old) (sparse_state.channel_state format new) taken given (sparse-by-channel format old.taps old.delays) refl refl (rw (taps, delays, block) refl) kept
-    (λ x stood. values x (stood ∙ named x))
-    (λ x stood. stands x (stood ∙ named x) ∙ ap (λ ds. last_of (greatest_delay ds) (x ++ taken)) delays ∙ sym (named (x ++ taken)))
-  where
-    named : (x : List ℤ) → last_of (greatest (map pos old.delays)) x ≡ last_of (greatest_delay old.delays) x
-    named x = ap (λ ds. last_of (greatest_delay ds) x) (delays-named old.delays)
+-- a sparse block gives one value for each sample and keeps as many numbers as its greatest delay
+pub sparse-block : (format : Fmt) (taps : List ℤ) (delays : List ℕ) → IsSampleBlock format (Block.Sparse taps (map pos delays)) (greatest_delay delays) (length taps)
+sparse-block format taps delays = record {
+  by_channel = sparse-by-channel format taps delays;
+  whole_is_live = λ x. refl;
+  most_same = λ n. refl;
+  live_same = λ n. refl;
+  whole_same = λ n. refl;
+  kinds_are = λ n. ap (in_words (word format)) (greatest-named delays);
+  live_cost = λ n. omega arith;
+  whole_cost = λ n. omega arith;
+}
 
-pub new-sparse-keeps : (format : Fmt) (taps : List ℤ) (delays : List ℕ) (block : ℕ) → FilterStandsFor (sparse_state.channel_state format (new_sparse taps delays block)) []
-new-sparse-keeps format taps delays block =
-    ap (λ ds. replicate (greatest_delay ds) (pos 0)) (sym (delays-named delays)) ∙ sym (append-nil (replicate (greatest (map pos delays)) (pos 0)))
+module _ (format : Fmt) (old new : SparseState) where
+  pub sparse-fed :
+      (L : ℕ) (taken given : List ℤ) (before after : Counts) → L ≡ lanes format → old.ended ≡ false → new.ended ≡ false → new.taps ≡ old.taps → new.delays ≡ old.delays → length new.past ≡ length old.past → new.block ≡ old.block → length given ≡ length taken →
+      ((x : List ℤ) → sparse_state.StandsFor old x → Continues (sparse format old.taps old.delays) x taken given) → ((x : List ℤ) → sparse_state.StandsFor old x → sparse_state.StandsFor new (x ++ taken)) →
+      after.multiplies ≡ before.multiplies + length taken * length old.taps → after.turns ≤ before.turns + length old.taps * lane_turns L (length taken) →
+      FilterFeeds (sparse_state.channel_state format old) (sparse_state.channel_state format new) taken given before after
+  sparse-fed L taken given before after same running running' taps delays kept block size values stands paid within =
+      subst (λ o. FilterFeeds o (sparse_state.channel_state format new) taken given before after) (sym (λ i. sample_filter format (Block.Sparse old.taps (map pos old.delays)) old.block old.past (running i)))
+      (subst (λ s. FilterFeeds (sample_filter format (Block.Sparse old.taps (map pos old.delays)) old.block old.past false) s taken given before after) (sym (λ i. sample_filter format (Block.Sparse (taps i) (map pos (delays i))) (block i) new.past (running' i)))
+      (sample-fed format (Block.Sparse old.taps (map pos old.delays)) (greatest_delay old.delays) (length old.taps) old.block (sparse-block format old.taps old.delays) old.past new.past taken given before after size kept
+      (λ x stood. subst (λ ds. Continues (sparse format old.taps ds) x taken given) (sym (delays-named old.delays)) (values x (stood ∙ named x)))
+      (λ x stood. stands x (stood ∙ named x) ∙ ap (λ ds. last_of (greatest_delay ds) (x ++ taken)) delays ∙ sym (named (x ++ taken))) paid
+      (λ n. turns-within format L (length old.taps) before.turns after.turns n (n + length taken) (length taken) same refl within)))
+    where
+      named : (x : List ℤ) → last_of (greatest (map pos old.delays)) x ≡ last_of (greatest_delay old.delays) x
+      named x = ap (λ n. last_of n x) (greatest-named old.delays)
 
-pub new-sparse-block :
-    (format : Fmt) (taps : List ℤ) (delays : List ℕ) (block : ℕ) → IsSampleBlock (sparse_state.channel_state format (new_sparse taps delays block)) (length (sparse_state.channel_state format (new_sparse taps delays block)).kept)
-new-sparse-block format taps delays block =
-    let count : length (replicate (greatest_delay delays) (pos 0)) ≡ greatest_delay delays = length-replicate (greatest_delay delays) (pos 0) in
-    rw count (by-channel format (Block.Sparse taps (map pos delays)) (sparse format taps delays) (greatest_delay delays) (length taps) (sparse-by-channel format taps delays))
+  pub sparse-finished : (counts : Counts) → new ≡ record old { ended = true } → FilterFinishes (sparse_state.channel_state format old) (sparse_state.channel_state format new) [] counts counts
+  sparse-finished counts made =
+      subst (λ s. FilterFinishes (sparse_state.channel_state format old) s [] counts counts) (sym (ap (sparse_state.channel_state format) made))
+      (sample-finished format (Block.Sparse old.taps (map pos old.delays)) (greatest_delay old.delays) (length old.taps) old.block (sparse-block format old.taps old.delays) old.past old.ended counts)
+
+  pub sparse-restored : (numbers : List ℤ) → old.ended ≡ false → new ≡ record old { past = numbers } → FilterRestores (sparse_state.channel_state format old) (sparse_state.channel_state format new) numbers
+  sparse-restored numbers running made =
+      subst (λ s. FilterRestores (sparse_state.channel_state format old) s numbers) (sym (ap (sparse_state.channel_state format) made ∙ (λ i. sample_filter format (Block.Sparse old.taps (map pos old.delays)) old.block numbers (running i))))
+      (sample-restored format (Block.Sparse old.taps (map pos old.delays)) (greatest_delay old.delays) (length old.taps) old.block (sparse-block format old.taps old.delays) old.past numbers old.ended)
+
+pub sparse-fits : (format : Fmt) (taps : List ℤ) (delays : List ℕ) (n : ℕ) (numbers : List ℤ) → length numbers ≡ greatest_delay delays → All (FitsSigned (word format)) numbers → FitsChannel format (Block.Sparse taps (map pos delays)) n numbers
+sparse-fits format taps delays n numbers size all = sample-fits format (Block.Sparse taps (map pos delays)) (greatest_delay delays) (length taps) 0 (sparse-block format taps delays) n numbers size all
+
+pub fits-sparse : (format : Fmt) (taps : List ℤ) (delays : List ℕ) (n : ℕ) (numbers : List ℤ) → FitsChannel format (Block.Sparse taps (map pos delays)) n numbers → (length numbers ≡ greatest_delay delays) × All (FitsSigned (word format)) numbers
+fits-sparse format taps delays n numbers fits = fits-sample format (Block.Sparse taps (map pos delays)) (greatest_delay delays) (length taps) 0 (sparse-block format taps delays) n numbers fits
+
+pub new-sparse : (format : Fmt) (taps : List ℤ) (delays : List ℕ) (block : ℕ) → IsNewFilter (Block.Sparse taps (map pos delays)) format block (sparse_state.channel_state format (new_sparse taps delays block))
+new-sparse format taps delays block =
+    sample-new format (Block.Sparse taps (map pos delays)) (greatest_delay delays) (length taps) block (sparse-block format taps delays) (replicate (greatest_delay delays) (pos 0))
+    (ap (λ n. replicate n (pos 0)) (sym (greatest-named delays)) ∙ sym (append-nil (replicate (greatest (map pos delays)) (pos 0)))) (length-replicate (greatest_delay delays) (pos 0))
+
+-- ---- how many numbers they keep
+
+fold-within : (bound most : ℕ) (delays : List ℕ) → most ≤ bound → All (λ d. d ≤ bound) delays → fold max most delays ≤ bound
+fold-within bound most [] h all = h
+fold-within bound most (d ∷ delays) h all =
+    let first : d ≤ bound = all 0 d (omega arith) in
+    fold-within bound (max most d) delays (omega (arith, h, first)) (λ k e g. all (suc k) e (omega (arith, g)))
+
+pub few-delays : (bound : ℕ) (delays : List ℕ) → All (λ d. d ≤ bound) delays → greatest_delay delays ≤ bound
+few-delays bound delays all = fold-within bound 0 delays (omega arith) all

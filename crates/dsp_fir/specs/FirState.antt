@@ -1,5 +1,5 @@
 -- What a contract sees of a FIR filter.
-use Rattle.std.specs.Prelude.{ℕ, ◌-◌, ◌≡◌, ℤ, pos, Bool, false, List, length, replicate, Option, Some, None, nat_le, ◌&&◌, if◌then◌else◌}
+use Rattle.std.specs.Prelude.{ℕ, ◌-◌, ◌≡◌, ℤ, pos, Bool, false, List, [], length, replicate, Option, Some, None, nat_le, ◌&&◌, if◌then◌else◌}
 use Rattle.dsp_defs.specs.Streaming.{last_of}
 use Rattle.dsp_defs.specs.Filter.{FilterState}
 use Rattle.dsp_defs.specs.declared.format.Fmt.{Fmt}
@@ -37,5 +37,7 @@ channel_state format f = record {
   format = format;
   capacity = f.block;
   kept = f.past;
-  price = length f.taps;
+  tail = [];
+  rest = 0;
+  ended = f.ended;
 }

@@ -1,5 +1,5 @@
 -- What a contract sees of a sparse filter.
-use Rattle.std.specs.Prelude.{ℕ, ◌-◌, ◌+◌, ◌≡◌, ℤ, pos, Bool, false, List, length, map, replicate, fold, max, find, get_or, Option, Some, nat_le, nat_lt, nat_eq, ◌&&◌, if◌then◌else◌}
+use Rattle.std.specs.Prelude.{ℕ, ◌-◌, ◌+◌, ◌≡◌, ℤ, pos, Bool, false, List, [], length, map, replicate, fold, max, find, get_or, Option, Some, nat_le, nat_lt, nat_eq, ◌&&◌, if◌then◌else◌}
 use Rattle.std.specs.Option.{option_map, option_or}
 use Rattle.dsp_defs.specs.Signal.{sample, values, sum_below}
 use Rattle.dsp_defs.specs.Streaming.{last_of}
@@ -63,5 +63,7 @@ channel_state format s = record {
   format = format;
   capacity = s.block;
   kept = s.past;
-  price = length s.taps;
+  tail = [];
+  rest = 0;
+  ended = s.ended;
 }

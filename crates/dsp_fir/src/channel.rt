@@ -6,14 +6,15 @@ use std::alloc::Global;
 use std::marker::Model;
 use std::sync::ledger::Ledger;
 
-/// The filter of one channel of a unit; it is never ended.
+/// The filter of one channel of a unit.
 #[derive(Drop)]
 pub struct FirChannel<T: LaneSample<L>, const L: usize> {
     fir: Fir<T, L>,
 }
 
 impl<T: LaneSample<L>, const L: usize> Model for FirChannel<T, L> {
-    ghost use Rattle.std.specs.Prelude.{◌≡◌, false};
+    ghost use Rattle.std.specs.Prelude.{◌≡◌, ◌≤◌, ◌-◌, length};
+    ghost use Rattle.dsp_defs.specs.Formats.{lanes};
     ghost use Rattle.dsp_defs.specs.Filter.{FilterState};
     ghost use Rattle.dsp_fir.specs.FirState.{channel_state};
 
@@ -21,15 +22,17 @@ impl<T: LaneSample<L>, const L: usize> Model for FirChannel<T, L> {
 
     ghost view = { λ c. channel_state T.format c.fir };
 
-    ghost invariant = { λ c. c.fir.ended ≡ false };
+    ghost invariant = { λ c. (L ≡ lanes T.format) × (length c.fir.past ≡ length c.fir.taps - 1) × (length c.fir.past ≤ 4294967295) };
 }
 
 impl<T: LaneSample<L>, const L: usize> FirChannel<T, L> {
     ghost use Rattle.std.specs.Prelude.{◌≡◌, map, length, IfOk, IfErr, MatchOption};
+    ghost use Rattle.dsp_defs.specs.Formats.{lanes};
     ghost use Rattle.dsp_fir.specs.FirState.{channel_state, new_fir, fir_fault};
 
     /// A filter that has taken nothing; it is refused as `Fir::new` refuses it.
     pub fn new(alloc: Global, taps: &[T], block: usize) -> Result<Self, MakeFault>
+        requires { L ≡ lanes T.format }
         ensures made { IfOk result (λ c. c ≡ channel_state T.format (new_fir (map T.number taps.now) block)) }
         ensures fault { MatchOption (fir_fault (length taps.now) block) (IfErr result (λ e. e ≡ MakeFault.Memory)) (λ e. result ≡ Err e) }
     {
@@ -43,35 +46,62 @@ impl<T: LaneSample<L>, const L: usize> FirChannel<T, L> {
 impl<T: LaneSample<L>, const L: usize> Filter<T> for FirChannel<T, L> {
     ghost filter = { λ c. c };
 
-    fn process<M: Ledger>(&mut self, input: &[T], output: &mut [T], steps: &mut Steps<M>) {
-        let _count = self.fir.process(input, output, steps);
+    fn process<M: Ledger>(&mut self, input: &[T], output: &mut [T], steps: &mut Steps<M>) -> usize {
+        self.fir.process(input, output, steps)
+    }
+
+    fn finish<M: Ledger>(&mut self, output: &mut [T], steps: &mut Steps<M>) -> usize {
+        self.fir.finish(output, steps)
+    }
+
+    fn kept_count(&self) -> usize {
+        self.fir.kept_count()
+    }
+
+    fn keep(&self, out: &mut [i64]) {
+        self.fir.keep(out);
+    }
+
+    fn place(&self, numbers: &[i64]) -> Option<u64> {
+        if self.fir.fits(numbers) {
+            Some(0)
+        } else {
+            None
+        }
+    }
+
+    fn restore(&mut self, numbers: &[i64]) {
+        self.fir.restore(numbers);
     }
 }
 
-/// The sparse filter of one channel of a unit; it is never ended.
+/// The sparse filter of one channel of a unit.
 #[derive(Drop)]
 pub struct SparseChannel<T: LaneSample<L>, const L: usize> {
     sparse: Sparse<T, L>,
 }
 
 impl<T: LaneSample<L>, const L: usize> Model for SparseChannel<T, L> {
-    ghost use Rattle.std.specs.Prelude.{◌≡◌, false};
+    ghost use Rattle.std.specs.Prelude.{◌≡◌, ◌≤◌, length};
+    ghost use Rattle.dsp_defs.specs.Formats.{lanes};
     ghost use Rattle.dsp_defs.specs.Filter.{FilterState};
-    ghost use Rattle.dsp_fir.specs.SparseState.{channel_state};
+    ghost use Rattle.dsp_fir.specs.SparseState.{channel_state, greatest_delay};
 
     ghost Value = { FilterState };
 
     ghost view = { λ c. channel_state T.format c.sparse };
 
-    ghost invariant = { λ c. c.sparse.ended ≡ false };
+    ghost invariant = { λ c. (L ≡ lanes T.format) × (length c.sparse.past ≡ greatest_delay c.sparse.delays) × (length c.sparse.past ≤ 4294967295) };
 }
 
 impl<T: LaneSample<L>, const L: usize> SparseChannel<T, L> {
     ghost use Rattle.std.specs.Prelude.{◌≡◌, map, length, IfOk, IfErr, MatchOption};
+    ghost use Rattle.dsp_defs.specs.Formats.{lanes};
     ghost use Rattle.dsp_fir.specs.SparseState.{channel_state, new_sparse, sparse_fault};
 
     /// A filter that has taken nothing; it is refused as `Sparse::new` refuses it.
     pub fn new(alloc: Global, taps: &[T], delays: &[u32], block: usize) -> Result<Self, MakeFault>
+        requires { L ≡ lanes T.format }
         ensures made { IfOk result (λ c. c ≡ channel_state T.format (new_sparse (map T.number taps.now) delays.now block)) }
         ensures fault { MatchOption (sparse_fault (length taps.now) delays.now block) (IfErr result (λ e. e ≡ MakeFault.Memory)) (λ e. result ≡ Err e) }
     {
@@ -85,7 +115,31 @@ impl<T: LaneSample<L>, const L: usize> SparseChannel<T, L> {
 impl<T: LaneSample<L>, const L: usize> Filter<T> for SparseChannel<T, L> {
     ghost filter = { λ c. c };
 
-    fn process<M: Ledger>(&mut self, input: &[T], output: &mut [T], steps: &mut Steps<M>) {
-        let _count = self.sparse.process(input, output, steps);
+    fn process<M: Ledger>(&mut self, input: &[T], output: &mut [T], steps: &mut Steps<M>) -> usize {
+        self.sparse.process(input, output, steps)
+    }
+
+    fn finish<M: Ledger>(&mut self, output: &mut [T], steps: &mut Steps<M>) -> usize {
+        self.sparse.finish(output, steps)
+    }
+
+    fn kept_count(&self) -> usize {
+        self.sparse.kept_count()
+    }
+
+    fn keep(&self, out: &mut [i64]) {
+        self.sparse.keep(out);
+    }
+
+    fn place(&self, numbers: &[i64]) -> Option<u64> {
+        if self.sparse.fits(numbers) {
+            Some(0)
+        } else {
+            None
+        }
+    }
+
+    fn restore(&mut self, numbers: &[i64]) {
+        self.sparse.restore(numbers);
     }
 }

@@ -1,5 +1,5 @@
 ghost use Rattle.std.specs.Prelude.{◌≡◌, ◌≤◌, ◌≤ℤ◌, ◌*◌, pos, length, map, All, FitsSigned, IfOk};
-ghost use Rattle.dsp_defs.specs.Formats.{word};
+ghost use Rattle.dsp_defs.specs.Formats.{lanes, word};
 ghost use Rattle.dsp_defs.specs.Unit.{IsNew};
 ghost use Rattle.dsp_defs.specs.Grammar.{Suits};
 ghost use Rattle.dsp_defs.specs.Parameters.{IsBetween};
@@ -7,7 +7,7 @@ ghost use Rattle.dsp_defs.specs.declared.script.Block.TheVariants.{Fir, Sparse};
 ghost use Rattle.dsp_fir.specs.FirUnit.{unit_of, IsFirBlock};
 
 use crate::{FirChannel, SparseChannel};
-use dsp_defs::{Block, Fmt, Stage, Steps};
+use dsp_defs::{Block, Fmt, Measure, Stage, Steps};
 use dsp_lanes::LaneSample;
 use dsp_unit::{EachChannel, samples_of};
 use std::alloc::{AllocError, Global};
@@ -34,6 +34,7 @@ fn fir_channels<T: LaneSample<L>, const L: usize>(
     requires in_format { All (FitsSigned (word T.format)) taps.now }
     requires channels { 1 ≤ channels }
     requires samples { frames * channels ≤ 1048576 }
+    requires lanes { L ≡ lanes T.format }
     ensures { IfOk result (IsNew (Fir taps.now) T.format channels frames) }
 {
     let taps = samples_of::<T>(alloc, taps)?;
@@ -44,7 +45,7 @@ fn fir_channels<T: LaneSample<L>, const L: usize>(
         };
         filters.push(filter)?;
     }
-    EachChannel::new(alloc, filters, frames)
+    EachChannel::new(alloc, filters, frames, frames)
 }
 
 /// The delays of a list of numbers.
@@ -71,6 +72,7 @@ fn sparse_channels<T: LaneSample<L>, const L: usize>(
     requires delays { All (λ d. pos 0 ≤ℤ d) delays.now }
     requires channels { 1 ≤ channels }
     requires samples { frames * channels ≤ 1048576 }
+    requires lanes { L ≡ lanes T.format }
     ensures { IfOk result (IsNew (Sparse taps.now delays.now) T.format channels frames) }
 {
     let taps = samples_of::<T>(alloc, taps)?;
@@ -82,7 +84,7 @@ fn sparse_channels<T: LaneSample<L>, const L: usize>(
         };
         filters.push(filter)?;
     }
-    EachChannel::new(alloc, filters, frames)
+    EachChannel::new(alloc, filters, frames, frames)
 }
 
 impl Unit {
@@ -164,6 +166,72 @@ impl Stage for Unit {
             Unit::Sparse7(unit) => unit.finish(out, steps),
             Unit::Sparse15(unit) => unit.finish(out, steps),
             Unit::Sparse31(unit) => unit.finish(out, steps),
+        }
+    }
+
+    fn kept_count(&self) -> usize {
+        match self {
+            Unit::Fir7(unit) => unit.kept_count(),
+            Unit::Fir15(unit) => unit.kept_count(),
+            Unit::Fir31(unit) => unit.kept_count(),
+            Unit::Sparse7(unit) => unit.kept_count(),
+            Unit::Sparse15(unit) => unit.kept_count(),
+            Unit::Sparse31(unit) => unit.kept_count(),
+        }
+    }
+
+    fn keep(&self, out: &mut [i64]) {
+        match self {
+            Unit::Fir7(unit) => unit.keep(out),
+            Unit::Fir15(unit) => unit.keep(out),
+            Unit::Fir31(unit) => unit.keep(out),
+            Unit::Sparse7(unit) => unit.keep(out),
+            Unit::Sparse15(unit) => unit.keep(out),
+            Unit::Sparse31(unit) => unit.keep(out),
+        }
+    }
+
+    fn fits(&self, numbers: &[i64]) -> bool {
+        match self {
+            Unit::Fir7(unit) => unit.fits(numbers),
+            Unit::Fir15(unit) => unit.fits(numbers),
+            Unit::Fir31(unit) => unit.fits(numbers),
+            Unit::Sparse7(unit) => unit.fits(numbers),
+            Unit::Sparse15(unit) => unit.fits(numbers),
+            Unit::Sparse31(unit) => unit.fits(numbers),
+        }
+    }
+
+    fn restore(&mut self, numbers: &[i64]) {
+        match self {
+            Unit::Fir7(unit) => unit.restore(numbers),
+            Unit::Fir15(unit) => unit.restore(numbers),
+            Unit::Fir31(unit) => unit.restore(numbers),
+            Unit::Sparse7(unit) => unit.restore(numbers),
+            Unit::Sparse15(unit) => unit.restore(numbers),
+            Unit::Sparse31(unit) => unit.restore(numbers),
+        }
+    }
+
+    fn measures(&self) -> usize {
+        match self {
+            Unit::Fir7(unit) => unit.measures(),
+            Unit::Fir15(unit) => unit.measures(),
+            Unit::Fir31(unit) => unit.measures(),
+            Unit::Sparse7(unit) => unit.measures(),
+            Unit::Sparse15(unit) => unit.measures(),
+            Unit::Sparse31(unit) => unit.measures(),
+        }
+    }
+
+    fn measure(&self, number: u8, index: usize) -> Option<Measure> {
+        match self {
+            Unit::Fir7(unit) => unit.measure(number, index),
+            Unit::Fir15(unit) => unit.measure(number, index),
+            Unit::Fir31(unit) => unit.measure(number, index),
+            Unit::Sparse7(unit) => unit.measure(number, index),
+            Unit::Sparse15(unit) => unit.measure(number, index),
+            Unit::Sparse31(unit) => unit.measure(number, index),
         }
     }
 }

@@ -5,9 +5,10 @@ use Rattle.std.specs.Io.KnownBytes.{append_known}
 use Rattle.dsp_ports.specs.Ports.{SourceState, SinkState, Rose, IsSettled, Took}
 use Rattle.dsp_ports.proofs.Moved.{append_known-append}
 use Rattle.dsp_defs.specs.Block.{Frame}
-use Rattle.dsp_defs.specs.Output.{HasHeader, input_container, input_header, output_header, output_pad, live_bytes, whole_bytes, output, part}
+use Rattle.dsp_defs.specs.Output.{HasHeader, input_container, input_header, input_signal, output_header, output_pad, live_bytes, whole_bytes, output, part}
 use Rattle.dsp_defs.specs.Shape.{frames_given, window_at}
 use Rattle.dsp_defs.specs.Streaming.{Begins}
+use Rattle.dsp_defs.specs.declared.measure.Measure.{Measure}
 use Rattle.dsp_defs.specs.declared.script.Script.{Script}
 use Rattle.dsp_defs.specs.declared.wave.Header.{Header}
 use Rattle.dsp_defs.proofs.ChainLaws.{whole_chain_begins}
@@ -18,7 +19,7 @@ use Rattle.dsp_defs.proofs.OutputLaws.{coded_begins}
 use Rattle.dsp_defs.proofs.SampleLaws.{samples-whole}
 use Rattle.dsp_chain.proofs.Making.{no-window}
 use Rattle.dsp_session.specs.SessionState.{SessionState}
-use Rattle.dsp_session.specs.Session.{IsReady, StandsFor, SameSession, Feeds, FeedCosts, signal, frame_bytes, block_bytes, whole_values, cost_of, live_cost_of, output_bytes}
+use Rattle.dsp_session.specs.Session.{IsReady, StandsFor, SameSession, Feeds, FeedCosts, signal, frame_bytes, block_bytes, whole_values, cost_of, live_cost_of, output_bytes, measures_of}
 use Rattle.dsp_session.specs.Opening.{Opens}
 use Rattle.dsp_session.specs.Stream.{IsWhole, IsTakenWhole, Stopped, Done, LagsByOne, declared_bytes, frames_in_bytes}
 use Rattle.dsp_session.specs.Passing.{InDeclared, AreAll, Passes, FailsToPass, Passed, WritesRest, TailCosts}
@@ -105,6 +106,10 @@ module _ (script : Script) (block : ℕ) (ready : IsReady script block) (session
 
   frames_is : frames_in_bytes script given ≡ length (x ++ signal script fed_bytes)
   frames_is = frames_are script frame header passed.first passed.opens (heard ++ rest) declared ∙ ap length all_signal
+
+  -- the signal of all bytes that were taken
+  signal_all : input_signal script given ≡ x ++ signal script fed_bytes
+  signal_all = signal_is script frame header passed.first passed.opens (heard ++ rest) declared ∙ all_signal
 
   pub frames_taken : length (x ++ signal script fed_bytes) ≡ (last.before + last.count) / frame_bytes script
   frames_taken = ap length (sym all_signal) ∙ length-signal script frame (heard ++ rest) ∙ ap (λ n. n / frame_bytes script) given_length
@@ -246,8 +251,8 @@ module _ (script : Script) (block : ℕ) (ready : IsReady script block) (session
       tail_costs = subst (λ (s : Script). TailCosts result s (length y) multiplied spent) fed_script costs
 
     pub stream_done : {E : Type 0} (final : SinkState) (spent frames : ℕ) → WritesRest {T = Unit {0}} {E = E} (Ok tt) (live_bytes fed.script y) (whole_bytes fed.script y ++ output_pad fed.script header) mid final → TailCosts {T = Unit {0}} {E = E} (Ok tt) fed.script (length y) multiplied spent
-        → IsSettled final → final.faults ≡ mid.faults → frames ≡ (last.before + last.count) / frame_bytes script → Done script block frames input now sink final before spent
-    stream_done {E} final spent frames writes costs settled faults is =
+        → IsSettled final → final.faults ≡ mid.faults → frames ≡ (last.before + last.count) / frame_bytes script → (found : List Measure) → found ≡ measures_of fed.script y → Done script block frames input now sink final before spent found
+    stream_done {E} final spent frames writes costs settled faults is found measured =
         let tail = tail_writes {E = E} (Ok tt) final spent writes costs in
         let all : head ++ live_bytes script x ++ (fed.out ++ tail.written) ≡ output script given = written_is tail.written ∙ ap (λ xs. head ++ xs) tail.whole ∙ sym output_all in
         let exact : spent + live_cost_of script (length y) ≡ multiplied + cost_of script (length y) = (tail_costs {E = E} (Ok tt) final spent writes costs).exact in
@@ -265,6 +270,7 @@ module _ (script : Script) (block : ℕ) (ready : IsReady script block) (session
           no_output_fault = faults ∙ passes.no_fault ∙ passed.no_output_fault;
           frame_count = is ∙ sym (frames_is ∙ frames_taken);
           cost = omega (arith, exact, passes.costs.rise, passed.cost, live_cost-zero script.input.format script.input.channels script.blocks) ∙ ap (λ n. before + cost_of script n) (frames_taken ∙ sym is);
+          measures = measured ∙ ap (λ (s : Script). measures_of s y) fed_script ∙ ap (measures_of script) (sym signal_all);
         }
 
     pub stream_unfinished : {E : Type 0} (error : E) (final : SinkState) (spent : ℕ) → WritesRest {T = Unit {0}} (Err error) (live_bytes fed.script y) (whole_bytes fed.script y ++ output_pad fed.script header) mid final → TailCosts {T = Unit {0}} (Err error) fed.script (length y) multiplied spent
@@ -298,12 +304,12 @@ passed_as script same_script block same_block session header piece same_piece la
     (subst (λ n. Passed script n session header same_piece last input now sink then before multiplies) (sym b)
     (subst (λ xs. Passed script block session header xs last input now sink then before multiplies) (sym p) passed))
 
-pub done_as : (script same_script : Script) (block same_block frames same_frames : ℕ) (input now : SourceState) (sink then : SinkState) (before multiplies : ℕ) →
-    script ≡ same_script → block ≡ same_block → frames ≡ same_frames → Done script block frames input now sink then before multiplies → Done same_script same_block same_frames input now sink then before multiplies
-done_as script same_script block same_block frames same_frames input now sink then before multiplies s b f done =
-    subst (λ (t : Script). Done t same_block same_frames input now sink then before multiplies) s
-    (subst (λ n. Done script n same_frames input now sink then before multiplies) b
-    (subst (λ n. Done script block n input now sink then before multiplies) f done))
+pub done_as : (script same_script : Script) (block same_block frames same_frames : ℕ) (input now : SourceState) (sink then : SinkState) (before multiplies : ℕ) (found : List Measure) →
+    script ≡ same_script → block ≡ same_block → frames ≡ same_frames → Done script block frames input now sink then before multiplies found → Done same_script same_block same_frames input now sink then before multiplies found
+done_as script same_script block same_block frames same_frames input now sink then before multiplies found s b f done =
+    subst (λ (t : Script). Done t same_block same_frames input now sink then before multiplies found) s
+    (subst (λ n. Done script n same_frames input now sink then before multiplies found) b
+    (subst (λ n. Done script block n input now sink then before multiplies found) f done))
 
 pub few_taken : (start before count f : ℕ) → start + (before + count) ≤ 2 ^ 40 → (before + count) / f ≤ 2 ^ 40
 few_taken start before count f limit = omega (arith, quotient_within (before + count) f, limit)

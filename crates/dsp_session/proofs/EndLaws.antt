@@ -12,7 +12,7 @@ use Rattle.dsp_defs.proofs.ChainLaws.{whole_chain_begins}
 use Rattle.dsp_defs.proofs.CostLaws.{live_cost_within}
 use Rattle.dsp_defs.proofs.SampleLaws.{coded-append}
 use Rattle.dsp_session.specs.SessionState.{SessionState}
-use Rattle.dsp_session.specs.Session.{StandsFor, SameSession, Ends, EndCosts, Owes, Costs, GavePiece, output_bytes, live_values, whole_values, cost_of, live_cost_of}
+use Rattle.dsp_session.specs.Session.{StandsFor, SameSession, Ends, EndCosts, Owes, Costs, Measures, measured, measures_of, GavePiece, output_bytes, live_values, whole_values, cost_of, live_cost_of}
 use Rattle.dsp_session.specs.Passing.{WritesRest, TailCosts}
 
 -- so much of the tail was written; before the first piece the session still stands for the whole signal
@@ -29,6 +29,7 @@ pub record Tailing (script : Script) (x : List Frame) (frames pieces : ℕ) (ses
   pub total_is : cost_of script (length x) + before ≡ live_cost_of script (length x) + total
   pub costs : Costs session multiplies total ⊎ (StandsFor session x × (multiplies ≡ before))
   pub within : multiplies ≤ total
+  pub measures : Measures session (measures_of script x) ⊎ StandsFor session x
 
 pub tail_starts : (script : Script) (x : List Frame) (frames : ℕ) (session : SessionState) (sink : SinkState) (before : ℕ) → session.script ≡ script → StandsFor session x → length (whole_values script x) ≤ frames → Tailing script x frames 0 session sink sink before before
 tail_starts script x frames session sink before script_is stands few =
@@ -48,6 +49,7 @@ tail_starts script x frames session sink before script_is stands few =
       total_is = omega (arith, more);
       costs = inr (stands, refl);
       within = omega arith;
+      measures = inr stands;
     }
 
 module _ (script : Script) (x : List Frame) (frames pieces : ℕ) (session : SessionState) (sink then : SinkState) (before multiplies : ℕ) (tailing : Tailing script x frames pieces session sink then before multiplies)
@@ -68,6 +70,13 @@ module _ (script : Script) (x : List Frame) (frames pieces : ℕ) (session : Ses
   costing : Costs session multiplies tailing.total ⊎ (StandsFor session x × (multiplies ≡ before)) → Costs session multiplies tailing.total
   costing (inl costs) = costs
   costing (inr (stands, same)) = costs.begins x tailing.total stands (ap (λ n. cost_of script (length x) + n) same ∙ tailing.total_is)
+
+  measuring : Measures session (measures_of script x) ⊎ StandsFor session x → Measures session (measures_of script x)
+  measuring (inl measures) = measures
+  measuring (inr stands) = ends.measure_begins x stands
+
+  now_measures : Measures next (measures_of script x)
+  now_measures = ends.measures (measures_of script x) (measuring tailing.measures)
 
   now_costs : Costs next multiplied tailing.total
   now_costs = costs.piece tailing.total (costing tailing.costs)
@@ -104,6 +113,7 @@ module _ (script : Script) (x : List Frame) (frames pieces : ℕ) (session : Ses
         total_is = tailing.total_is;
         costs = inl now_costs;
         within = now_within;
+        measures = inl now_measures;
       }
 
   -- the sink failed within it
@@ -158,6 +168,10 @@ module _ (script : Script) (x : List Frame) (frames pieces : ℕ) (session : Ses
   tail_ends_costs zero =
       let reached = costs.spent zero tailing.total now_costs in
       record { limit = omega (arith, reached, tailing.total_is); exact = omega (arith, reached, tailing.total_is) }
+
+  -- the measures are those of the whole signal
+  pub tail_measured : answer ≡ 0 → measured next ≡ measures_of script x
+  tail_measured zero = ends.measure_spent zero (measures_of script x) now_measures
 
 -- ---- behind the tail
 

@@ -2,14 +2,16 @@
 use Rattle.std.proofs.Common.{◌≡◌, ℕ, ◌+◌, ◌*◌, ◌/◌, ◌<◌, ◌≤◌, ℤ, List, [], ◌∷◌, ◌++◌, length, take, drop, fold, flat_map, All, FitsSigned, refl, sym, ap, ◌∙◌, subst, arith, length-append}
 use Rattle.dsp_defs.specs.Block.{Frame, format_after, channels_after}
 use Rattle.dsp_defs.specs.Bytes.{width, bytes_of, sample_of, coded}
-use Rattle.dsp_defs.specs.Cost.{live_cost}
+use Rattle.dsp_defs.specs.Cost.{live_cost, chain_turns}
 use Rattle.dsp_defs.specs.Counts.{Counts}
 use Rattle.dsp_defs.specs.Formats.{word}
 use Rattle.dsp_defs.specs.Output.{input_container, format_of, live_bytes}
+use Rattle.dsp_defs.specs.Row as row
 use Rattle.dsp_defs.specs.Row.{Place, Passes, place_after, place_behind, place_room, blocks_of, chain_products, AllCount}
 use Rattle.dsp_defs.specs.Signal.{values}
-use Rattle.dsp_defs.specs.Unit.{frames_in}
-use Rattle.dsp_defs.specs.declared.limits.TheConstants.{MAX_SAMPLES, MAX_GATHERED}
+use Rattle.dsp_defs.specs.Unit.{UnitState, frames_in}
+use Rattle.std.proofs.lemmas.List.{length-map}
+use Rattle.dsp_defs.specs.declared.limits.TheConstants.{MAX_SAMPLES, MAX_GATHERED, MAX_BLOCKS}
 use Rattle.dsp_defs.specs.declared.script.Block.{Block}
 use Rattle.dsp_defs.specs.declared.script.Script.{Script}
 use Rattle.dsp_defs.proofs.BlockLaws.{length-values}
@@ -21,9 +23,9 @@ use Rattle.dsp_chain.proofs.Making.{no-window, no-gather}
 use Rattle.dsp_chain.proofs.Room.{written-row}
 use Rattle.dsp_wave.specs.Coding.{container_in, format_in}
 use Rattle.dsp_wave.specs.declared.coding.Coding.{Coding}
-use Rattle.dsp_chain.specs.Chain.{ChainState, ChainStandsFor, FeedsChain, FinishesChain, live_of, whole_of, output_of, input_place}
+use Rattle.dsp_chain.specs.Chain.{ChainState, ChainStandsFor, FeedsChain, FinishesChain, measures_of as chain_measures, live_of, whole_of, output_of, input_place}
 use Rattle.dsp_session.specs.SessionState.{SessionState}
-use Rattle.dsp_session.specs.Session.{IsReady, StandsFor, Feeds, FeedCosts, Ends, EndCosts, GavePiece, Owes, Costs, signal, frame_bytes, output_bytes, live_values, whole_values, cost_of, live_cost_of}
+use Rattle.dsp_session.specs.Session.{IsReady, StandsFor, Feeds, FeedCosts, FeedTurns, measures_of, Ends, EndCosts, GavePiece, Owes, Costs, signal, frame_bytes, output_bytes, live_values, whole_values, cost_of, live_cost_of}
 use Rattle.dsp_session.proofs.OpeningLaws.{some_frame}
 
 -- the format behind the blocks
@@ -146,6 +148,15 @@ module _ (script : Script) (block : ℕ) (ready : IsReady script block) where
             let all : length x + length (frames_in script.input.channels xs) ≡ length (x ++ signal script bytes) = ap (λ (z : List Frame). length x + length z) same ∙ sym (length-append x (signal script bytes)) in
             record { rise = omega (arith, rise, ap (live_cost_of script) all) }
 
+        pub feed_turns : FeedTurns script x bytes before.turns after.turns
+        feed_turns =
+            let within : after.turns ≤ before.turns + chain_turns script.input.format script.input.channels script.blocks (length x) (length x + length (frames_in script.input.channels xs)) = rw (input, blocks) at (fed.turns (length x) counts) in
+            let all : length x + length (frames_in script.input.channels xs) ≡ length (x ++ signal script bytes) = ap (λ (z : List Frame). length x + length z) same ∙ sym (length-append x (signal script bytes)) in
+            record { within = subst (λ n. after.turns ≤ before.turns + chain_turns script.input.format script.input.channels script.blocks (length x) n) all within }
+
+    measures_are : (x : List Frame) → chain_measures old x ≡ measures_of script x
+    measures_are x = rw (input, blocks) refl
+
     module _ (ys : List ℤ) (out : List ℕ) (given : out ≡ flat_map (bytes_of script.output (format_of script)) ys) (answer : ℕ) (none : answer ≡ 0 → ys ≡ [])
         (before after : Counts) (finished : FinishesChain old new ys before after) (first : SessionState) (first_is : first.chain ≡ old) where
       pub ends : Ends script first (record { script = script; block = block; chain = new; out = out }) answer
@@ -162,6 +173,9 @@ module _ (script : Script) (block : ℕ) (ready : IsReady script block) where
               out = given ∙ encoded script.output (format_of script) (output_of old).channels ys finished.passes.signal.whole_frames;
             };
         spent = λ zero owed owes. finished.spent (none zero) owed owes;
+        measure_begins = λ x stands. rw first_is (subst (row.Measures old.input 1 old.units) (measures_are x) (finished.measure_begins x (rw first_is at stands.chain)));
+        measures = λ ms owes. finished.measures ms (rw first_is at owes);
+        measure_spent = λ zero ms owes. finished.measure_spent (none zero) ms owes;
       }
 
       products_are : (n : ℕ) → chain_products old.input.format old.input.channels (blocks_of old.units) n ≡ cost_of script n
@@ -177,3 +191,9 @@ module _ (script : Script) (block : ℕ) (ready : IsReady script block) where
         spent = λ zero total owes. finished.cost_spent (none zero) total owes;
         within = λ total owes. costs_within new.input new.units after.multiplies total owes;
       }
+
+-- a session has no more units than a script may have blocks
+pub few_units : (script : Script) (block : ℕ) → IsReady script block → (units : List UnitState) → blocks_of units ≡ script.blocks → length units ≤ MAX_BLOCKS
+few_units script block ready units blocks =
+    let size : length units ≡ length script.blocks = sym (length-map units (λ (u : UnitState). u.block)) ∙ ap length blocks in
+    omega (arith, size, ready.sound.1.fit.blocks)

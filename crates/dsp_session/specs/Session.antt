@@ -2,12 +2,14 @@
 use Rattle.std.specs.Prelude.{◌≡◌, ℕ, ◌+◌, ◌*◌, ◌≤◌, true, List, [], ◌++◌, length, IsTrue}
 use Rattle.dsp_defs.specs.Block.{Frame, live_chain, whole_chain}
 use Rattle.dsp_defs.specs.Bytes.{width, coded, samples}
-use Rattle.dsp_defs.specs.Cost.{cost, live_cost}
+use Rattle.dsp_defs.specs.Cost.{cost, live_cost, chain_turns}
+use Rattle.dsp_defs.specs.Measure as measure
 use Rattle.dsp_defs.specs.Grammar.{IsSound}
 use Rattle.dsp_defs.specs.Output.{input_container, format_of, live_bytes}
 use Rattle.dsp_defs.specs.Row as row
 use Rattle.dsp_defs.specs.Row.{AllCount, blocks_of}
 use Rattle.dsp_defs.specs.Shape.{is_legal}
+use Rattle.dsp_defs.specs.declared.measure.Measure.{Measure}
 use Rattle.dsp_defs.specs.declared.script.Script.{Script}
 use Rattle.dsp_chain.specs.Built.{built}
 use Rattle.dsp_chain.specs.Chain.{ChainStandsFor, input_place}
@@ -43,6 +45,10 @@ cost_of script n = cost script.input.format script.input.channels script.blocks 
 
 abbrev pub live_cost_of : Script → ℕ → ℕ
 live_cost_of script n = live_cost script.input.format script.input.channels script.blocks n
+
+-- the measures of a whole signal
+abbrev pub measures_of : Script → List Frame → List Measure
+measures_of script x = measure.measures script.input.format script.input.channels 1 script.blocks x
 
 -- ---- sessions
 
@@ -84,6 +90,14 @@ pub record Feeds (script : Script) (x : List Frame) (bytes : List ℕ) (new : Se
 pub record FeedCosts (script : Script) (x : List Frame) (bytes : List ℕ) (before multiplies : ℕ) : Type 0 where
   pub rise : multiplies + live_cost_of script (length x) ≡ before + live_cost_of script (length (x ++ signal script bytes))
 
+-- and the turns of loops are at most as many as the blocks may take for the frames that pass each place
+pub record FeedTurns (script : Script) (x : List Frame) (bytes : List ℕ) (before turns : ℕ) : Type 0 where
+  pub within : turns ≤ before + chain_turns script.input.format script.input.channels script.blocks (length x) (length (x ++ signal script bytes))
+
+-- the measures of what its blocks have taken
+abbrev pub measured : SessionState → List Measure
+measured s = row.measured_by 1 s.chain.units
+
 -- ---- tails
 
 -- the frames that it still has to give when its input has ended
@@ -94,6 +108,10 @@ Owes s frames = row.Owes s.chain.input s.chain.units frames
 abbrev pub Costs : SessionState → ℕ → ℕ → Type 0
 Costs s now total = row.Costs s.chain.input s.chain.units now total
 
+-- the measures that it has when they are given
+abbrev pub Measures : SessionState → List Measure → Type 0
+Measures s ms = row.Measures s.chain.input 1 s.chain.units ms
+
 -- the call gave the next of them
 pub record GavePiece (script : Script) (new : SessionState) (owed : List Frame) : Type 0 where
   pub given : List Frame
@@ -102,12 +120,16 @@ pub record GavePiece (script : Script) (new : SessionState) (owed : List Frame) 
   pub owes : Owes new later
   pub out : new.out ≡ output_bytes script given
 
--- it gave the next piece of what the whole signal has after the live values, and nothing only where nothing is left
+-- it gave the next piece of what the whole signal has after the live values, and nothing only where nothing is left; then its measures are
+-- those of the whole signal
 pub record Ends (script : Script) (old new : SessionState) (answer : ℕ) : Type 0 where
   pub ended : new.chain.ended ≡ true
   pub begins : (x rest : List Frame) → StandsFor old x → whole_values script x ≡ live_values script x ++ rest → Owes old rest
   pub piece : (owed : List Frame) → Owes old owed → GavePiece script new owed
   pub spent : answer ≡ 0 → (owed : List Frame) → Owes new owed → owed ≡ []
+  pub measure_begins : (x : List Frame) → StandsFor old x → Measures old (measures_of script x)
+  pub measures : (ms : List Measure) → Measures old ms → Measures new ms
+  pub measure_spent : answer ≡ 0 → (ms : List Measure) → Measures new ms → measured new ≡ ms
 
 -- and the multiplies are those that the piece takes
 pub record EndCosts (script : Script) (old new : SessionState) (answer before multiplies : ℕ) : Type 0 where

@@ -9,12 +9,13 @@ use Rattle.dsp_defs.specs.Wave.{header_of, riff_size}
 use Rattle.dsp_defs.specs.declared.format.Container.TheVariants as container
 use Rattle.dsp_defs.specs.declared.format.InputKind.TheVariants as kind
 use Rattle.dsp_defs.specs.declared.limits.TheConstants.{MAX_GATHERED, MAX_RIFF_SIZE}
+use Rattle.dsp_defs.specs.declared.measure.Measure.{Measure}
 use Rattle.dsp_defs.specs.declared.script.Script.{Script}
 use Rattle.dsp_defs.specs.declared.wave.Header.{Header}
 use Rattle.dsp_defs.specs.declared.wave.HeaderFault.{HeaderFault}
 use Rattle.dsp_defs.specs.declared.wave.HeaderFault.TheVariants.{Short}
 use Rattle.dsp_wave.specs.Reading.{IsSure}
-use Rattle.dsp_session.specs.Session.{frame_bytes, block_bytes, cost_of}
+use Rattle.dsp_session.specs.Session.{frame_bytes, block_bytes, cost_of, measures_of}
 use Rattle.dsp_session.specs.declared.fault.LengthFault.TheVariants as length_fault
 use Rattle.dsp_session.specs.declared.fault.StreamFault.{StreamFault}
 use Rattle.dsp_session.specs.declared.fault.StreamFault.TheVariants as fault
@@ -152,8 +153,8 @@ pub record Stopped (script : Script) (block : ℕ) (fault : StreamFault) (input 
 
 -- ---- the end
 
--- all samples were taken, and exactly the output of the script was written
-pub record Done (script : Script) (block frames : ℕ) (input now : SourceState) (sink after : SinkState) (before multiplies : ℕ) : Type 0 where
+-- all samples were taken, exactly the output of the script was written, and the measures found are those of the whole signal at each place
+pub record Done (script : Script) (block frames : ℕ) (input now : SourceState) (sink after : SinkState) (before multiplies : ℕ) (found : List Measure) : Type 0 where
   pub given : List ℕ
   pub gave : Gave input now given
   pub has : HasHeader script given
@@ -167,3 +168,4 @@ pub record Done (script : Script) (block frames : ℕ) (input now : SourceState)
   pub no_output_fault : after.faults ≡ sink.faults
   pub frame_count : frames ≡ frames_in_bytes script given
   pub cost : multiplies ≡ before + cost_of script frames
+  pub measures : found ≡ measures_of script (input_signal script given)

@@ -1,15 +1,16 @@
-ghost use Rattle.std.specs.Prelude.{◌≡◌, ◌+◌, ◌*◌, ◌^◌, ◌<◌, ◌≤◌, ◌↔◌, [], List, length, IfOk, IfErr, IsErr, IsFalse};
+ghost use Rattle.std.specs.Prelude.{◌≡◌, ◌+◌, ◌*◌, ◌^◌, ◌<◌, ◌≤◌, ◌↔◌, [], List, Some, length, slice_get, IfOk, IfErr, IsErr, IsFalse};
 ghost use Rattle.std.specs.Option.{option_map};
 ghost use Rattle.dsp_defs.specs.Block.{Frame};
 ghost use Rattle.dsp_defs.specs.Shape.{gathered, held, window_at};
 ghost use Rattle.dsp_defs.specs.declared.fault.GatherFull.{GatherFull};
 ghost use Rattle.dsp_defs.specs.declared.fault.WindowFault.{WindowFault};
 ghost use Rattle.dsp_defs.specs.declared.limits.TheConstants.{MAX_GATHERED};
-ghost use Rattle.dsp_session.specs.Session.{IsReady, IsNew, StandsFor, SameSession, Feeds, FeedCosts, Ends, EndCosts, signal, frame_bytes};
+ghost use Rattle.dsp_chain.specs.Row.{measure_counts};
+ghost use Rattle.dsp_session.specs.Session.{IsReady, IsNew, StandsFor, SameSession, Feeds, FeedCosts, FeedTurns, Ends, EndCosts, measured, signal, frame_bytes};
 
 use crate::opening::frame_bytes;
 use crate::worker::Worker;
-use dsp_defs::{GatherFull, Script, Steps, WindowFault};
+use dsp_defs::{GatherFull, Measure, Script, Steps, WindowFault};
 use std::alloc::{AllocError, Global};
 use std::marker::Model;
 use std::sync::ledger::Ledger;
@@ -70,6 +71,7 @@ impl<'s> Session<'s> {
         ensures given { IfOk result (λ given. given ≡ length self.new.out) }
         ensures feeds { IfOk result (λ _. (x : List Frame) → StandsFor self.old x → Feeds self.old.script x bytes.now self.new) }
         ensures multiplies { IfOk result (λ _. (x : List Frame) → StandsFor self.old x → FeedCosts self.old.script x bytes.now steps.old.multiplies steps.new.multiplies) }
+        ensures turns { IfOk result (λ _. (x : List Frame) → StandsFor self.old x → FeedTurns self.old.script x bytes.now steps.old.turns steps.new.turns) }
         ensures running { IfOk result (λ _. IsFalse self.new.chain.ended) }
         ensures full { IsErr result ↔ MAX_GATHERED < gathered self.old.script.blocks (self.old.chain.frames + length (signal self.old.script bytes.now)) }
         ensures numbers { IfErr result (λ (fault : GatherFull). (fault.held ≡ held self.old.script.blocks self.old.chain.frames)
@@ -95,7 +97,25 @@ impl<'s> Session<'s> {
         ensures given { result ≡ length self.new.out }
         ensures ends { Ends self.old.script self.old self.new result }
         ensures costs { EndCosts self.old.script self.old self.new result steps.old.multiplies steps.new.multiplies }
+        ensures turns { steps.new.turns + steps.old.multiplies ≤ steps.old.turns + steps.new.multiplies }
     {
         self.worker.end(steps)
+    }
+
+    /// How many measures the script has: in the order of its blocks, then by channel.
+    pub fn measures(&self) -> usize
+        ensures count { result ≡ length (measured self.now) }
+        ensures stays { result ≡ measure_counts self.now.script.input.channels self.now.script.blocks }
+    {
+        self.worker.measures()
+    }
+
+    /// The measure at this index, of what its block has taken: of the whole signal at its place once
+    /// the tail is spent, as after a stream.
+    pub fn measure(&self, index: usize) -> Measure
+        requires { index < length (measured self.now) }
+        ensures { slice_get (measured self.now) index ≡ Some result }
+    {
+        self.worker.measure(index)
     }
 }

@@ -2,7 +2,7 @@ ghost use Rattle.std.specs.Prelude.{◌≡◌, ◌+◌, ◌*◌, ◌/◌, ◌^�
 ghost use Rattle.dsp_ports.specs.Ports.{SourceState, SinkState};
 ghost use Rattle.dsp_defs.specs.Block.{Frame};
 ghost use Rattle.dsp_defs.specs.Shape.{frames_given};
-ghost use Rattle.dsp_session.specs.Session.{StandsFor, SameSession, signal, frame_bytes, block_bytes, cost_of};
+ghost use Rattle.dsp_session.specs.Session.{StandsFor, SameSession, signal, frame_bytes, block_bytes, cost_of, measured};
 ghost use Rattle.dsp_session.specs.Opening.{Begun};
 ghost use Rattle.dsp_session.specs.Stream.{Stopped, Done, declared_bytes};
 ghost use Rattle.dsp_session.specs.Passing.{InDeclared, BlockRead, Unread, Passes, FailsToPass, Passed};
@@ -152,7 +152,7 @@ pub fn stream<S: Source, K: Sink, L: Ledger>(
     steps: &mut Steps<L>,
 ) -> Result<Totals, StreamFault>
     requires new { StandsFor session.old [] }
-    ensures ok { IfOk result (λ totals. Done session.old.script session.old.block totals.frames_taken (S.state input.old) (S.state input.new) (K.state output.old) (K.state output.new) steps.old.multiplies steps.new.multiplies) }
+    ensures ok { IfOk result (λ totals. Done session.old.script session.old.block totals.frames_taken (S.state input.old) (S.state input.new) (K.state output.old) (K.state output.new) steps.old.multiplies steps.new.multiplies (measured session.new)) }
     ensures given { IfOk result (λ totals. totals.frames_given ≡ frames_given session.old.script.blocks totals.frames_taken) }
     ensures multiplies { IfOk result (λ totals. totals.multiplies ≡ cost_of session.old.script totals.frames_taken) }
     ensures err { IfErr result (λ fault. Stopped session.old.script session.old.block fault (S.state input.old) (S.state input.new) (K.state output.old) (K.state output.new) steps.old.multiplies steps.new.multiplies) }

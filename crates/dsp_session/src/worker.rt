@@ -1,4 +1,4 @@
-ghost use Rattle.std.specs.Prelude.{◌≡◌, ◌+◌, ◌*◌, ◌/◌, ◌^◌, ◌<◌, ◌≤◌, ◌↔◌, ℕ, [], List, length, take, drop, flat_map, All, FitsSigned, IfOk, IfErr, IsErr, IsFalse};
+ghost use Rattle.std.specs.Prelude.{◌≡◌, ◌+◌, ◌*◌, ◌/◌, ◌^◌, ◌<◌, ◌≤◌, ◌↔◌, ℕ, [], List, length, take, drop, flat_map, All, FitsSigned, IfOk, IfErr, IsErr, IsFalse, Some, slice_get};
 ghost use Rattle.std.specs.Option.{option_map};
 ghost use Rattle.dsp_defs.specs.Block.{Frame};
 ghost use Rattle.dsp_defs.specs.Bytes.{bytes_of, sample_of, width};
@@ -10,10 +10,11 @@ ghost use Rattle.dsp_defs.specs.declared.fault.GatherFull.{GatherFull};
 ghost use Rattle.dsp_defs.specs.declared.fault.WindowFault.{WindowFault};
 ghost use Rattle.dsp_defs.specs.declared.limits.TheConstants.{MAX_GATHERED};
 ghost use Rattle.dsp_wave.specs.Coding.{container_in, format_in};
-ghost use Rattle.dsp_session.specs.Session.{IsReady, IsNew, StandsFor, SameSession, Feeds, FeedCosts, Ends, EndCosts, signal, frame_bytes};
+ghost use Rattle.dsp_chain.specs.Row.{measure_counts};
+ghost use Rattle.dsp_session.specs.Session.{IsReady, IsNew, StandsFor, SameSession, Feeds, FeedCosts, FeedTurns, Ends, EndCosts, measured, signal, frame_bytes};
 
 use dsp_chain::Chain;
-use dsp_defs::{Container, GatherFull, InputKind, Script, Steps, WindowFault};
+use dsp_defs::{Container, GatherFull, InputKind, Measure, Script, Steps, WindowFault};
 use dsp_script::output_flow;
 use dsp_wave::{Coding, decode, encode, width};
 use std::alloc::{AllocError, Global};
@@ -151,6 +152,7 @@ impl<'s> Worker<'s> {
         ensures given { IfOk result (λ given. given ≡ length self.new.out) }
         ensures feeds { IfOk result (λ _. (x : List Frame) → StandsFor self.old x → Feeds self.old.script x bytes.now self.new) }
         ensures multiplies { IfOk result (λ _. (x : List Frame) → StandsFor self.old x → FeedCosts self.old.script x bytes.now steps.old.multiplies steps.new.multiplies) }
+        ensures turns { IfOk result (λ _. (x : List Frame) → StandsFor self.old x → FeedTurns self.old.script x bytes.now steps.old.turns steps.new.turns) }
         ensures running { IfOk result (λ _. IsFalse self.new.chain.ended) }
         ensures full { IsErr result ↔ MAX_GATHERED < gathered self.old.script.blocks (self.old.chain.frames + length (signal self.old.script bytes.now)) }
         ensures numbers { IfErr result (λ (fault : GatherFull). (fault.held ≡ held self.old.script.blocks self.old.chain.frames)
@@ -186,6 +188,7 @@ impl<'s> Worker<'s> {
         ensures given { result ≡ length self.new.out }
         ensures ends { Ends self.old.script self.old self.new result }
         ensures costs { EndCosts self.old.script self.old self.new result steps.old.multiplies steps.new.multiplies }
+        ensures turns { steps.new.turns + steps.old.multiplies ≤ steps.old.turns + steps.new.multiplies }
     {
         let count = self.chain.finish(self.values.as_mut_slice(), steps);
         self.given = encode_front(
@@ -194,5 +197,21 @@ impl<'s> Worker<'s> {
             self.bytes.as_mut_slice(),
         );
         self.given
+    }
+
+    /// How many measures the blocks have.
+    pub fn measures(&self) -> usize
+        ensures count { result ≡ length (measured self.now) }
+        ensures stays { result ≡ measure_counts self.now.script.input.channels self.now.script.blocks }
+    {
+        self.chain.measures()
+    }
+
+    /// The measure at this index, of what its block has taken.
+    pub fn measure(&self, index: usize) -> Measure
+        requires { index < length (measured self.now) }
+        ensures { slice_get (measured self.now) index ≡ Some result }
+    {
+        self.chain.measure(index)
     }
 }

@@ -1,7 +1,8 @@
-ghost use Rattle.std.specs.Prelude.{◌≡◌, ◌≢◌, ◌≤◌, ◌<◌, ◌+◌, ◌*◌, ℕ, All, FitsSigned, length, map, get_or};
+ghost use Rattle.std.specs.Prelude.{◌≡◌, ◌≢◌, ◌≤◌, ◌<◌, ◌+◌, ◌*◌, ℕ, All, FitsSigned, IsFalse, length, map};
+ghost use Rattle.dsp_defs.specs.Channels.{AreFed, AreFinished, samples_in};
+ghost use Rattle.dsp_defs.specs.Filter.{AreFilters, filter_at, filter_room};
 ghost use Rattle.dsp_defs.specs.Formats.{word};
-ghost use Rattle.dsp_defs.specs.Signal.{sample, values};
-ghost use Rattle.dsp_defs.specs.Filter.{FilterState, FilterFeeds};
+ghost use Rattle.dsp_defs.specs.Signal.{sample};
 
 use crate::Filter;
 use dsp_defs::Steps;
@@ -13,7 +14,7 @@ fn take_channel<T: Sample>(frames: &[i32], channels: usize, channel: usize, inpu
     requires inside { channel < channels }
     requires whole { length frames.now ≡ length input.old * channels }
     requires in_format { All (FitsSigned (word T.format)) frames.now }
-    ensures { map T.number input.new ≡ values (length input.old) (λ n. sample frames.now (n * channels + channel)) }
+    ensures { map T.number input.new ≡ samples_in channels (length input.old) frames.now channel }
 {
     for (n, sample) in input.iter_mut().enumerate() {
         *sample = T::of_number(frames[n * channels + channel]);
@@ -33,7 +34,7 @@ fn put_channel<T: Sample>(output: &[T], channels: usize, channel: usize, out: &m
     }
 }
 
-/// Feeds each channel of frames to its filter.
+/// Feeds each channel of frames to its filter, and answers the number of frames given.
 fn feed_channels<T: Sample, F: Filter<T>, L: Ledger>(
     filters: &mut [F],
     frames: &[i32],
@@ -41,25 +42,30 @@ fn feed_channels<T: Sample, F: Filter<T>, L: Ledger>(
     output: &mut [T],
     out: &mut [i32],
     steps: &mut Steps<L>,
-)
+) -> usize
+    requires alike { AreFilters T.format (filter_at (map F.filter filters.old) 0).capacity (map F.filter filters.old) }
+    requires running { IsFalse (filter_at (map F.filter filters.old) 0).ended }
     requires whole { length frames.now ≡ length input.old * length filters.old }
-    requires same { length output.old ≡ length input.old }
-    requires room { length frames.now ≤ length out.old }
     requires in_format { All (FitsSigned (word T.format)) frames.now }
-    requires capacity { All (λ f. length input.old ≤ (F.filter f).capacity) filters.old }
-    ensures fed { (c : ℕ) (f : _) → c < length filters.old → FilterFeeds (F.filter (get_or filters.old c f)) (F.filter (get_or filters.new c f)) (values (length input.old) (λ n. sample frames.now (n * length filters.old + c))) (values (length input.old) (λ n. sample out.new (n * length filters.old + c))) }
-    ensures fits { (n c : ℕ) → n < length input.old → c < length filters.old → FitsSigned (word T.format) (sample out.new (n * length filters.old + c)) }
-    ensures multiplies { (price : ℕ) → All (λ f. (F.filter f).price ≡ price) filters.old → steps.new.multiplies ≡ steps.old.multiplies + length filters.old * (length input.old * price) }
+    requires capacity { length input.old ≤ (filter_at (map F.filter filters.old) 0).capacity }
+    requires output { length output.old ≡ filter_room (filter_at (map F.filter filters.old) 0) }
+    requires room { length output.old * length filters.old ≤ length out.old }
+    ensures within { result ≤ length output.old }
+    ensures fed { AreFed (map F.filter filters.old) (map F.filter filters.new) (length input.old) frames.now result out.new steps.old steps.new }
+    ensures fits { (n c : ℕ) → n < result → c < length filters.old → FitsSigned (word T.format) (sample out.new (n * length filters.old + c)) }
 {
     let channels = filters.len();
+    let mut given = 0;
     for channel in 0..channels {
         take_channel(frames, channels, channel, input);
-        filters[channel].process(input, output, steps);
-        put_channel(output, channels, channel, out);
+        given = filters[channel].process(input, output, steps);
+        put_channel(&output[..given], channels, channel, out);
     }
+    given
 }
 
-/// Feeds `count` frames, by way of rows that hold at least as many samples.
+/// Feeds `count` frames, by way of a row that holds a call's samples of a channel and one that holds
+/// the values that a call gives of it, and answers the number of frames given.
 pub fn feed_block<T: Sample, F: Filter<T>, L: Ledger>(
     filters: &mut [F],
     frames: &[i32],
@@ -68,23 +74,41 @@ pub fn feed_block<T: Sample, F: Filter<T>, L: Ledger>(
     output: &mut [T],
     out: &mut [i32],
     steps: &mut Steps<L>,
-)
+) -> usize
+    requires alike { AreFilters T.format (length input.old) (map F.filter filters.old) }
+    requires running { IsFalse (filter_at (map F.filter filters.old) 0).ended }
     requires whole { length frames.now ≡ count * length filters.old }
-    requires input { count ≤ length input.old }
-    requires output { count ≤ length output.old }
-    requires room { length frames.now ≤ length out.old }
     requires in_format { All (FitsSigned (word T.format)) frames.now }
-    requires capacity { All (λ f. count ≤ (F.filter f).capacity) filters.old }
-    ensures fed { (c : ℕ) (f : _) → c < length filters.old → FilterFeeds (F.filter (get_or filters.old c f)) (F.filter (get_or filters.new c f)) (values count (λ n. sample frames.now (n * length filters.old + c))) (values count (λ n. sample out.new (n * length filters.old + c))) }
-    ensures fits { (n c : ℕ) → n < count → c < length filters.old → FitsSigned (word T.format) (sample out.new (n * length filters.old + c)) }
-    ensures multiplies { (price : ℕ) → All (λ f. (F.filter f).price ≡ price) filters.old → steps.new.multiplies ≡ steps.old.multiplies + length filters.old * (count * price) }
+    requires input { count ≤ length input.old }
+    requires output { length output.old ≡ filter_room (filter_at (map F.filter filters.old) 0) }
+    requires room { length output.old * length filters.old ≤ length out.old }
+    ensures within { result ≤ length output.old }
+    ensures fed { AreFed (map F.filter filters.old) (map F.filter filters.new) count frames.now result out.new steps.old steps.new }
+    ensures fits { (n c : ℕ) → n < result → c < length filters.old → FitsSigned (word T.format) (sample out.new (n * length filters.old + c)) }
 {
-    feed_channels(
-        filters,
-        frames,
-        &mut input[..count],
-        &mut output[..count],
-        out,
-        steps,
-    );
+    feed_channels(filters, frames, &mut input[..count], output, out, steps)
+}
+
+/// Writes the next frames of the tails, by way of a row that holds the values that a call gives of a
+/// channel, and answers their number.
+pub fn finish_channels<T: Sample, F: Filter<T>, L: Ledger>(
+    filters: &mut [F],
+    output: &mut [T],
+    out: &mut [i32],
+    steps: &mut Steps<L>,
+) -> usize
+    requires alike { AreFilters T.format (filter_at (map F.filter filters.old) 0).capacity (map F.filter filters.old) }
+    requires output { length output.old ≡ filter_room (filter_at (map F.filter filters.old) 0) }
+    requires room { length output.old * length filters.old ≤ length out.old }
+    ensures within { result ≤ length output.old }
+    ensures finished { AreFinished (map F.filter filters.old) (map F.filter filters.new) result out.new steps.old steps.new }
+    ensures fits { (n c : ℕ) → n < result → c < length filters.old → FitsSigned (word T.format) (sample out.new (n * length filters.old + c)) }
+{
+    let channels = filters.len();
+    let mut given = 0;
+    for channel in 0..channels {
+        given = filters[channel].finish(output, steps);
+        put_channel(&output[..given], channels, channel, out);
+    }
+    given
 }

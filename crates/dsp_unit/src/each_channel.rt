@@ -1,5 +1,6 @@
-use crate::{Filter, feed_block};
-use dsp_defs::{Stage, Steps};
+use crate::kept::{count_kept, fits_channels, keep_channels, restore_channels};
+use crate::{Filter, feed_block, finish_channels};
+use dsp_defs::{Measure, Stage, Steps};
 use dsp_sat::Sample;
 use std::alloc::{AllocError, Global};
 use std::marker::Model;
@@ -12,52 +13,48 @@ pub struct EachChannel<T: Sample, F: Filter<T> + Drop> {
     input: Vec<T>,
     output: Vec<T>,
     capacity: usize,
-    ended: bool,
 }
 
 impl<T: Sample, F: Filter<T> + Drop> Model for EachChannel<T, F> {
-    ghost use Rattle.std.specs.Prelude.{◌≡◌, ◌≤◌, ◌*◌, map, [], vec_len};
-    ghost use Rattle.std.specs.List.{range_with_len, flat_map};
+    ghost use Rattle.std.specs.Prelude.{◌≡◌, ◌≤◌, ◌*◌, map, vec_len};
     ghost use Rattle.dsp_defs.specs.Unit.{UnitState};
-    ghost use Rattle.dsp_defs.specs.Filter.{filter_at, AreFilters};
+    ghost use Rattle.dsp_defs.specs.Filter.{filter_at, filter_room, AreFilters};
+    ghost use Rattle.dsp_defs.specs.Channels.{unit_of_filters};
 
     ghost Value = { UnitState };
 
-    ghost view = { λ u. record {
-      block = (filter_at (map F.filter u.filters.items) 0).block;
-      format = T.format;
-      channels = vec_len u.filters;
-      capacity = u.capacity;
-      kept = flat_map (λ c. (filter_at (map F.filter u.filters.items) c).kept) (range_with_len 0 (vec_len u.filters));
-      tail = [];
-      rest = 0;
-      ended = u.ended;
-    } };
+    ghost view = { λ u. unit_of_filters T.format u.capacity (map F.filter u.filters.items) };
 
-    ghost invariant = { λ u. (AreFilters T.format u.capacity (map F.filter u.filters.items)) × (vec_len u.input ≡ u.capacity) × (vec_len u.output ≡ u.capacity) × (u.capacity * vec_len u.filters ≤ 1048576) };
+    ghost invariant = { λ u. (AreFilters T.format u.capacity (map F.filter u.filters.items)) × (vec_len u.input ≡ u.capacity) × (vec_len u.output ≡ filter_room (filter_at (map F.filter u.filters.items) 0)) × (vec_len u.output * vec_len u.filters ≤ 1048576) × (vec_len u.filters ≤ 255) };
 }
 
 impl<T: Sample, F: Filter<T> + Drop> EachChannel<T, F> {
-    ghost use Rattle.std.specs.Prelude.{◌≡◌, ◌≤◌, ◌*◌, [], map, length, All, IfOk};
-    ghost use Rattle.dsp_defs.specs.Unit.{IsNew};
-    ghost use Rattle.dsp_defs.specs.Filter.{FilterStandsFor, filter_at, AreFilters};
+    ghost use Rattle.std.specs.Prelude.{◌≡◌, ◌≤◌, ◌*◌, map, length, All, IfOk};
+    ghost use Rattle.dsp_defs.specs.Unit.{IsNew, most_frames};
+    ghost use Rattle.dsp_defs.specs.Filter.{IsNewFilter, filter_at, AreFilters};
 
-    /// A unit of filters that have taken nothing, one for each channel, for at most `frames` frames a call.
-    /// All its memory is taken here.
-    pub fn new(alloc: Global, filters: Vec<F>, frames: usize) -> Result<Self, AllocError>
+    /// A unit of filters that have taken nothing, one for each channel, for at most `frames` frames a
+    /// call, of which a call gives at most `room`. All its memory is taken here.
+    pub fn new(
+        alloc: Global,
+        filters: Vec<F>,
+        frames: usize,
+        room: usize,
+    ) -> Result<Self, AllocError>
         requires alike { AreFilters T.format frames (map F.filter filters.items) }
-        requires fresh { All (λ f. FilterStandsFor (F.filter f) []) filters.items }
-        requires samples { frames * length filters.items ≤ 1048576 }
+        requires fresh { All (IsNewFilter (filter_at (map F.filter filters.items) 0).block T.format frames) (map F.filter filters.items) }
+        requires room { room ≡ most_frames (filter_at (map F.filter filters.items) 0).block frames }
+        requires samples { room * length filters.items ≤ 1048576 }
+        requires channels { length filters.items ≤ 255 }
         ensures { IfOk result (IsNew (filter_at (map F.filter filters.items) 0).block T.format (length filters.items) frames) }
     {
         let input = vec![in alloc; T::zero(); frames]?;
-        let output = vec![in alloc; T::zero(); frames]?;
+        let output = vec![in alloc; T::zero(); room]?;
         Ok(EachChannel {
             filters,
             input,
             output,
             capacity: frames,
-            ended: false,
         })
     }
 }
@@ -66,12 +63,12 @@ impl<T: Sample, F: Filter<T> + Drop> Stage for EachChannel<T, F> {
     ghost unit = { λ u. u };
 
     fn room(&self) -> usize {
-        self.capacity * self.filters.len()
+        self.output.len() * self.filters.len()
     }
 
     fn feed<L: Ledger>(&mut self, frames: &[i32], out: &mut [i32], steps: &mut Steps<L>) -> usize {
         let count = frames.len() / self.filters.len();
-        feed_block(
+        let given = feed_block(
             self.filters.as_mut_slice(),
             frames,
             count,
@@ -80,11 +77,43 @@ impl<T: Sample, F: Filter<T> + Drop> Stage for EachChannel<T, F> {
             out,
             steps,
         );
-        frames.len()
+        given * self.filters.len()
     }
 
-    fn finish<L: Ledger>(&mut self, _out: &mut [i32], _steps: &mut Steps<L>) -> usize {
-        self.ended = true;
+    fn finish<L: Ledger>(&mut self, out: &mut [i32], steps: &mut Steps<L>) -> usize {
+        let given = finish_channels(
+            self.filters.as_mut_slice(),
+            self.output.as_mut_slice(),
+            out,
+            steps,
+        );
+        given * self.filters.len()
+    }
+
+    fn kept_count(&self) -> usize {
+        count_kept(self.filters.as_slice())
+    }
+
+    fn keep(&self, out: &mut [i64]) {
+        keep_channels(self.filters.as_slice(), out);
+    }
+
+    fn fits(&self, numbers: &[i64]) -> bool {
+        fits_channels(self.filters.as_slice(), numbers)
+    }
+
+    fn restore(&mut self, numbers: &[i64]) {
+        restore_channels(self.filters.as_mut_slice(), numbers);
+    }
+
+    fn measures(&self) -> usize {
+        // A filter measures nothing: the proof has this from the invariant, which it sees at a field.
+        let _filters = &self.filters;
         0
+    }
+
+    fn measure(&self, _number: u8, _index: usize) -> Option<Measure> {
+        let _filters = &self.filters;
+        None
     }
 }

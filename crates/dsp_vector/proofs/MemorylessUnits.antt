@@ -96,6 +96,6 @@ module _ (u : UnitState) (price : ℕ) (taken given : List ℤ) (gives : Gives u
   }
 
   pub gives-fed : IsIdle u → IsMemoryless u.format u.channels u.block price (given_frame u.format u.block) → (before after : Counts) →
-      after.multiplies ≡ before.multiplies + length (frames_in u.channels taken) * price → Feeds u u (frames_in u.channels taken) (frames_in (channels_after u.channels u.block) given) before after
-  gives-fed idle m before after counted =
-      rw gives.frames (memoryless-feeds u price (given_frame u.format u.block) idle m (frames_in u.channels taken) before after counted)
+      after.multiplies ≡ before.multiplies + length (frames_in u.channels taken) * price → after.turns ≤ before.turns + length (frames_in u.channels taken) * price → Feeds u u (frames_in u.channels taken) (frames_in (channels_after u.channels u.block) given) before after
+  gives-fed idle m before after counted turned =
+      rw gives.frames (memoryless-feeds u price (given_frame u.format u.block) idle m (frames_in u.channels taken) before after counted turned)

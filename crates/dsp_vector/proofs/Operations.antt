@@ -33,6 +33,9 @@ memoryless format channels (Offset value) = record {
   whole_frames = λ n. refl;
   live_cost = λ n. omega arith;
   whole_cost = λ n. omega arith;
+  turns = λ m n. refl;
+  taken = λ n. tt;
+  no_measures = λ number kept. refl;
 }
 memoryless format channels o = record {
   live_is = λ x. refl;
@@ -45,6 +48,9 @@ memoryless format channels o = record {
   whole_frames = λ n. refl;
   live_cost = λ n. omega arith;
   whole_cost = λ n. omega arith;
+  turns = λ m n. refl;
+  taken = λ n. tt;
+  no_measures = λ number kept. refl;
 }
 
 pub as-many : (n : ℕ) (o : Operation) → most_frames (block_of o) n ≡ n

@@ -97,6 +97,7 @@ impl Operation {
         ensures within { result ≤ length out.old }
         ensures given { Gives T.format channels (block_of self.now) frames.now (take result out.new) }
         ensures multiplies { steps.new.multiplies ≡ steps.old.multiplies + length (frames_in channels frames.now) * price (block_of self.now) channels }
+        ensures turns { steps.new.turns ≤ steps.old.turns + length (frames_in channels frames.now) * price (block_of self.now) channels }
     {
         match self {
             Operation::Offset { value } => {

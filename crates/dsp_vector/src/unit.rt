@@ -1,5 +1,5 @@
 use crate::operation::Operation;
-use dsp_defs::{Block, Fmt, List, Stage, Steps};
+use dsp_defs::{Block, Fmt, Measure, Stage, Steps};
 use std::alloc::{AllocError, Global};
 use std::marker::Model;
 use std::sync::ledger::Ledger;
@@ -37,9 +37,10 @@ impl Model for Unit {
 }
 
 impl Unit {
-    ghost use Rattle.std.specs.Prelude.{◌≤◌, ◌*◌, IfOk};
+    ghost use Rattle.std.specs.Prelude.{◌≡◌, ◌≤◌, ◌*◌, ◌↔◌, ℕ, ℤ, List, [], IfOk, IsFalse};
+    ghost use Rattle.dsp_defs.specs.Kept.{Fits};
     ghost use Rattle.dsp_defs.specs.Grammar.{Suits};
-    ghost use Rattle.dsp_defs.specs.Unit.{IsNew};
+    ghost use Rattle.dsp_defs.specs.Unit.{IsNew, Restores, measures_of};
     ghost use Rattle.dsp_vector.specs.Vector.{IsVectorBlock};
 
     /// A unit that has taken nothing, for at most `frames` frames a call; all its memory is taken here.
@@ -65,6 +66,16 @@ impl Unit {
             ended: false,
         })
     }
+
+    /// It keeps and measures nothing of what it took.
+    fn keeps_nothing(&self)
+        ensures kept { self.now.kept ≡ [] }
+        ensures fits { (numbers : List ℤ) → Fits self.now.format self.now.channels self.now.block numbers ↔ (numbers ≡ []) }
+        ensures restores { (numbers : List ℤ) → IsFalse self.now.ended → Fits self.now.format self.now.channels self.now.block numbers → Restores self.now self.now numbers }
+        ensures measures { (number : ℕ) → measures_of number self.now ≡ [] }
+    {
+        let _operation = &self.operation;
+    }
 }
 
 impl Stage for Unit {
@@ -86,5 +97,33 @@ impl Stage for Unit {
     fn finish<L: Ledger>(&mut self, _out: &mut [i32], _steps: &mut Steps<L>) -> usize {
         self.ended = true;
         0
+    }
+
+    fn kept_count(&self) -> usize {
+        self.keeps_nothing();
+        0
+    }
+
+    fn keep(&self, _out: &mut [i64]) {
+        self.keeps_nothing();
+    }
+
+    fn fits(&self, numbers: &[i64]) -> bool {
+        self.keeps_nothing();
+        numbers.is_empty()
+    }
+
+    fn restore(&mut self, _numbers: &[i64]) {
+        self.keeps_nothing();
+    }
+
+    fn measures(&self) -> usize {
+        self.keeps_nothing();
+        0
+    }
+
+    fn measure(&self, _number: u8, _index: usize) -> Option<Measure> {
+        self.keeps_nothing();
+        None
     }
 }

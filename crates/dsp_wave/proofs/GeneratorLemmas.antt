@@ -127,7 +127,7 @@ length-bytes_of Raw Q7 x = refl
 length-bytes_of Raw Q15 x = refl
 length-bytes_of Raw Q31 x = refl
 
-length-made : (container : Container) (format : Fmt) (s n : ℕ) → length (made container format s n) ≡ n * width format
+pub length-made : (container : Container) (format : Fmt) (s n : ℕ) → length (made container format s n) ≡ n * width format
 length-made container format s zero = omega arith
 length-made container format s (suc n) =
     let first = bytes_of container format (state_sample format (next_state s)) in

@@ -19,6 +19,9 @@ use std::sync::ledger::{Blank, Ledger};
 /// The status of words that are no command.
 const USAGE: u8 = 1;
 
+/// The status of an output that isn't written.
+const NOT_WRITTEN: u8 = 8;
+
 /// The status of want of memory.
 const NO_MEMORY: u8 = 10;
 
@@ -50,7 +53,7 @@ fn run_files<R: Files + Print, L: Ledger>(alloc: Global, rt: &R, words: &Words, 
     let mut input = FileSource::new(rt, named(words, input));
     let mut output = FileSink::new(rt, named(words, output));
     let mut report = OutSink::new(rt);
-    run(
+    let status = run(
         alloc,
         words,
         &mut script,
@@ -58,7 +61,11 @@ fn run_files<R: Files + Print, L: Ledger>(alloc: Global, rt: &R, words: &Words, 
         &mut output,
         &mut report,
         &mut steps,
-    )
+    );
+    match output.spill() {
+        Ok(()) => status,
+        Err(_) => NOT_WRITTEN,
+    }
 }
 
 fn main(rt: HostRuntime) -> ExitCode {

@@ -1,18 +1,33 @@
 //! The real ports. They tell no bytes: what a file or a terminal holds is not proved. Each counts its faults up to the
 //! greatest `u64`.
 ghost use Rattle.std.specs.Prelude.{None, IfOk, ◌≤◌, length};
+ghost use Rattle.dspfx.specs.declared.ports.TheConstants.{AHEAD, GATHERED};
 
 use dsp_ports::{Failed, Sink, Source};
 use std::fs::Files;
 use std::io::{Print, Read, Write};
 use std::{fs, io};
 
-/// A file that is opened at the first read.
+/// How many bytes a source reads ahead.
+const AHEAD: usize = 16_384;
+
+/// The bytes that were read ahead, of which those from `start` to `end` are still to be given.
+#[derive(Drop)]
+struct Ahead {
+    bytes: [u8; AHEAD],
+    start: usize,
+    end: usize,
+    ghost in_order: { start ≤ end },
+    ghost within: { end ≤ AHEAD },
+}
+
+/// A file that is opened at the first read, and read ahead: so that small reads are few calls.
 #[derive(Drop)]
 pub struct FileSource<'a, R: Files> {
     files: &'a R,
     path: &'a str,
     file: Option<R::File>,
+    ahead: Ahead,
     taken: u64,
     faults: u64,
 }
@@ -24,6 +39,11 @@ impl<'a, R: Files> FileSource<'a, R> {
             files,
             path,
             file: None,
+            ahead: Ahead {
+                bytes: [0; AHEAD],
+                start: 0,
+                end: 0,
+            },
             taken: 0,
             faults: 0,
         }
@@ -48,12 +68,44 @@ fn read_file<R: Files>(
     }
 }
 
+/// Gives bytes that were read ahead, and where there are none reads ahead first. A read of as many bytes
+/// goes to the file itself.
+fn read_ahead<R: Files>(
+    files: &R,
+    path: &str,
+    file: &mut Option<R::File>,
+    ahead: &mut Ahead,
+    into: &mut [u8],
+) -> io::Result<usize>
+    ensures { IfOk result (λ count. count ≤ length into.new) }
+{
+    if ahead.start == ahead.end {
+        if into.len() >= AHEAD {
+            return read_file(files, path, file, into);
+        }
+        let count = read_file(files, path, file, &mut ahead.bytes)?;
+        ahead.start = 0;
+        ahead.end = count;
+    }
+    let ready = &ahead.bytes[ahead.start..ahead.end];
+    let count = into.len().min(ready.len());
+    into[..count].copy_from_slice(&ready[..count]);
+    ahead.start += count;
+    Ok(count)
+}
+
 impl<R: Files> Source for FileSource<'_, R> {
     ghost state = { λ s. record { left = None; taken = s.taken; faults = s.faults } };
 
     fn read(&mut self, into: &mut [u8]) -> Result<usize, Failed> {
         if into.len() as u64 <= u64::MAX - self.taken {
-            if let Ok(count) = read_file(self.files, self.path, &mut self.file, into) {
+            if let Ok(count) = read_ahead(
+                self.files,
+                self.path,
+                &mut self.file,
+                &mut self.ahead,
+                into,
+            ) {
                 self.taken += count as u64;
                 return Ok(count);
             }
@@ -63,12 +115,25 @@ impl<R: Files> Source for FileSource<'_, R> {
     }
 }
 
-/// A file that is made, or emptied, at the first write or flush.
+/// How many bytes a sink gathers.
+const GATHERED: usize = 16_384;
+
+/// The bytes that were accepted, and not written to the file yet.
+#[derive(Drop)]
+struct Gathered {
+    bytes: [u8; GATHERED],
+    count: usize,
+    ghost within: { count ≤ GATHERED },
+}
+
+/// A file that is made, or emptied, at the first write or flush. What it accepts is gathered, and
+/// written to the file where there is no more room, at a flush, and by `spill`.
 #[derive(Drop)]
 pub struct FileSink<'a, R: Files> {
     files: &'a R,
     path: &'a str,
     file: Option<R::File>,
+    gathered: Gathered,
     faults: u64,
 }
 
@@ -79,31 +144,80 @@ impl<'a, R: Files> FileSink<'a, R> {
             files,
             path,
             file: None,
+            gathered: Gathered {
+                bytes: [0; GATHERED],
+                count: 0,
+            },
             faults: 0,
+        }
+    }
+
+    /// Writes all that was accepted to the file. After a failure it is given up.
+    pub fn spill(&mut self) -> Result<(), Failed> {
+        match &mut self.file {
+            Some(file) => match spill_to(file, &mut self.gathered) {
+                Ok(()) => Ok(()),
+                Err(_) => Err(Failed),
+            },
+            None => Ok(()),
         }
     }
 }
 
-/// Writes to the file, which is made where it isn't yet, and flushes it where the piece is empty.
-fn write_file<R: Files>(
+/// Writes what was gathered. After a failure it is given up, since a part of it may have been written.
+fn spill_to<F: Write>(file: &mut F, gathered: &mut Gathered) -> io::Result<()> {
+    let count = gathered.count;
+    gathered.count = 0;
+    if count > 0 {
+        file.write_all(&gathered.bytes[..count])?;
+    }
+    Ok(())
+}
+
+/// Makes the file where it isn't made yet.
+fn make_file<R: Files>(files: &R, path: &str, file: &mut Option<R::File>) -> io::Result<()> {
+    if file.is_none() {
+        *file = Some(fs::create(files, path)?);
+    }
+    Ok(())
+}
+
+/// Gathers as much of the piece as there is room for, of which it makes some first where there is none.
+fn gather<R: Files>(
     files: &R,
     path: &str,
     file: &mut Option<R::File>,
+    gathered: &mut Gathered,
     piece: &[u8],
 ) -> io::Result<usize>
     ensures { IfOk result (λ count. count ≤ length piece.now) }
 {
-    if file.is_none() {
-        *file = Some(fs::create(files, path)?);
-    }
-    match file {
-        Some(file) if piece.is_empty() => {
-            file.flush()?;
-            Ok(0)
+    make_file(files, path, file)?;
+    if gathered.count == GATHERED {
+        if let Some(file) = file {
+            spill_to(file, gathered)?;
         }
-        Some(file) => file.write(piece),
-        None => Ok(0),
     }
+    let room = &mut gathered.bytes[gathered.count..];
+    let count = piece.len().min(room.len());
+    room[..count].copy_from_slice(&piece[..count]);
+    gathered.count += count;
+    Ok(count)
+}
+
+/// Writes what was gathered, and makes sure of it.
+fn flush_file<R: Files>(
+    files: &R,
+    path: &str,
+    file: &mut Option<R::File>,
+    gathered: &mut Gathered,
+) -> io::Result<()> {
+    make_file(files, path, file)?;
+    if let Some(file) = file {
+        spill_to(file, gathered)?;
+        file.flush()?;
+    }
+    Ok(())
 }
 
 impl<R: Files> Sink for FileSink<'_, R> {
@@ -113,7 +227,13 @@ impl<R: Files> Sink for FileSink<'_, R> {
         if piece.is_empty() {
             return Ok(0);
         }
-        match write_file(self.files, self.path, &mut self.file, piece) {
+        match gather(
+            self.files,
+            self.path,
+            &mut self.file,
+            &mut self.gathered,
+            piece,
+        ) {
             Ok(count) if count > 0 => Ok(count),
             _ => {
                 self.faults = self.faults.saturating_add(1);
@@ -123,8 +243,8 @@ impl<R: Files> Sink for FileSink<'_, R> {
     }
 
     fn flush(&mut self) -> Result<(), Failed> {
-        match write_file(self.files, self.path, &mut self.file, &[]) {
-            Ok(_) => Ok(()),
+        match flush_file(self.files, self.path, &mut self.file, &mut self.gathered) {
+            Ok(()) => Ok(()),
             Err(_) => {
                 self.faults = self.faults.saturating_add(1);
                 Err(Failed)

@@ -19,6 +19,13 @@ fn remove(rt: &impl Files, names: &[&str]) -> io::Result<()> {
     Ok(())
 }
 
+/// A file that declares four bytes of samples and has three.
+const SHORT: &[u8] = &[
+    0x52, 0x49, 0x46, 0x46, 0x28, 0x00, 0x00, 0x00, 0x57, 0x41, 0x56, 0x45, 0x66, 0x6D, 0x74, 0x20,
+    0x10, 0x00, 0x00, 0x00, 0x01, 0x00, 0x01, 0x00, 0x40, 0x1F, 0x00, 0x00, 0x40, 0x1F, 0x00, 0x00,
+    0x01, 0x00, 0x08, 0x00, 0x64, 0x61, 0x74, 0x61, 0x04, 0x00, 0x00, 0x00, 0x81, 0x82, 0x83,
+];
+
 const SCRIPT: &[u8] = b"dspfx 1 input raw q15 1 8000 fir {16384} output raw\n";
 
 #[test]
@@ -38,6 +45,68 @@ fn a_run_over_real_files_writes_its_output(rt: HostRuntime) -> Result<(), Fail> 
         [0xF4, 0x01, 0x0C, 0xFE, 0xFF, 0xFF].as_slice()
     );
     remove(&rt, &["first.txt", "first.raw", "halved.raw"])?;
+    Ok(())
+}
+
+#[test]
+fn a_generated_input_needs_no_file(rt: HostRuntime) -> Result<(), Fail> {
+    fs::write(
+        &rt,
+        "generated.txt",
+        b"dspfx 1 input raw q15 1 8000 output raw\n",
+    )?;
+    let words = words_of(rt.alloc(), &["gen", "0", "3", "generated.txt", "made.raw"])?;
+    let status = run_files::<HostRuntime, Brand>(rt.alloc(), &rt, &words, Blank::new(2));
+    assert_eq!(rt; status, 0);
+    let written = fs::read(&rt, "made.raw")?;
+    assert_eq!(rt;
+        written.as_slice(),
+        [0x6E, 0x3C, 0x50, 0x47, 0xCC, 0xD1].as_slice()
+    );
+    remove(&rt, &["generated.txt", "made.raw"])?;
+    Ok(())
+}
+
+/// A file of many reads and writes is made, and copied: so that what is read ahead and gathered is whole.
+#[test]
+fn a_long_file_is_copied_whole(rt: HostRuntime) -> Result<(), Fail> {
+    fs::write(
+        &rt,
+        "copy.txt",
+        b"dspfx 1 input raw q15 1 8000 block 300 output raw\n",
+    )?;
+    let words = words_of(rt.alloc(), &["gen", "7", "20000", "copy.txt", "long.raw"])?;
+    let status = run_files::<HostRuntime, Brand>(rt.alloc(), &rt, &words, Blank::new(2));
+    assert_eq!(rt; status, 0);
+    let made = fs::read(&rt, "long.raw")?;
+    assert_eq!(rt; made.len(), 40000);
+    assert_eq!(rt; &made[16384..16388], [0x42, 0x57, 0x4F, 0x43].as_slice());
+    assert_eq!(rt; &made[32768..32772], [0x63, 0x41, 0xC4, 0x2C].as_slice());
+    assert_eq!(rt; &made[39996..], [0x22, 0xDF, 0x27, 0x60].as_slice());
+    let words = words_of(rt.alloc(), &["run", "copy.txt", "long.raw", "copied.raw"])?;
+    let status = run_files::<HostRuntime, Brand>(rt.alloc(), &rt, &words, Blank::new(2));
+    assert_eq!(rt; status, 0);
+    let copied = fs::read(&rt, "copied.raw")?;
+    assert_eq!(rt; copied.as_slice(), made.as_slice());
+    remove(&rt, &["copy.txt", "long.raw", "copied.raw"])?;
+    Ok(())
+}
+
+/// The output of the whole blocks stands in the file where the input ends too early.
+#[test]
+fn a_short_input_leaves_its_blocks(rt: HostRuntime) -> Result<(), Fail> {
+    fs::write(
+        &rt,
+        "short.txt",
+        b"dspfx 1 input wave q7 1 block 2 output raw\n",
+    )?;
+    fs::write(&rt, "short.wav", SHORT)?;
+    let words = words_of(rt.alloc(), &["run", "short.txt", "short.wav", "short.raw"])?;
+    let status = run_files::<HostRuntime, Brand>(rt.alloc(), &rt, &words, Blank::new(2));
+    assert_eq!(rt; status, 4);
+    let written = fs::read(&rt, "short.raw")?;
+    assert_eq!(rt; written.as_slice(), [0x01, 0x02].as_slice());
+    remove(&rt, &["short.txt", "short.wav", "short.raw"])?;
     Ok(())
 }
 

@@ -1,24 +1,25 @@
 use Rattle.std.proofs.Common.{◌≡◌, ◌≤◌, length, take, arith, length-take, ap, ◌∙◌}
-use Rattle.dsp_chain.proofs.Room.{last-room, first-fed, written-row}
+use Rattle.dsp_chain.proofs.Room.{last-room, first-fed, first-accepts, behind-takes, behind-runs, written-row}
+use Rattle.dsp_chain.specs.Row.{MayTake}
 use Rattle.dsp_chain.proofs.row.+feed_row.Goals as goal
 
 pub slice_bounds-copy_from_slice-end : goal.slice_bounds-copy_from_slice-end
 slice_bounds-copy_from_slice-end g t c =
     let h = c.requires.passes in
-    last-room c.args.links.now h.0 c.args.frames.now (length c.args.out.now) c.in_default.ensures.cases h.2 h.3
+    last-room c.args.links.now h.place c.args.frames.now (length c.args.out.now) c.in_default.ensures.cases h.passes h.room
 
 pub copy_from_slice-requires : goal.copy_from_slice-requires
 copy_from_slice-requires g t c =
     let h = c.requires.passes in
     let room : length c.args.frames.now ≤ length c.args.out.now =
-    last-room c.args.links.now h.0 c.args.frames.now (length c.args.out.now) c.in_default.ensures.cases h.2 h.3 in
+    last-room c.args.links.now h.place c.args.frames.now (length c.args.out.now) c.in_default.ensures.cases h.passes h.room in
     omega (arith, room, length-take (length c.args.frames.now) c.args.out.now)
 
 pub slice_bounds-copy_from_slice-end-in_default : goal.slice_bounds-copy_from_slice-end-in_default
 slice_bounds-copy_from_slice-end-in_default g t c =
     let h = c.requires.passes in
     let room : length c.args.frames.now ≤ length c.args.out.now =
-    last-room c.args.links.now h.0 c.args.frames.now (length c.args.out.now) c.in_default.ensures.cases h.2 h.3 in
+    last-room c.args.links.now h.place c.args.frames.now (length c.args.out.now) c.in_default.ensures.cases h.passes h.room in
     omega (arith, room, length-take (length c.args.frames.now) c.args.out.now)
 
 pub returns-clause-fed : goal.returns-clause-fed
@@ -31,3 +32,16 @@ returns-clause-fed g t c = λ p row passes.
     c.in-Some.ensures.cases.0 c.link.view_is c.feed-count.ensures.running c.feed-count.ensures.output c.feed-count.ensures.fed
     (λ q r s. rw piece_is at (c.feed_row.ensures.fed q r (rw (← piece_is) at s)))
     row
+
+pub feed-count-requires-clause-accepts : goal.feed-count-requires-clause-accepts
+feed-count-requires-clause-accepts g t c =
+    first-accepts c.args.links.now c.in-Some.link.now (g.S.Stage.unit c.link.inside.stage) c.in-Some.behind.now c.args.frames.now (length c.args.out.now) c.in-Some.ensures.cases.0 c.link.view_is c.requires.passes
+
+pub feed_row-requires : goal.feed_row-requires
+feed_row-requires g t c κs within =
+    let piece_is : take c.feed-count.result c.deref.result.now ≡ take c.feed-count.result c.feed-count.new.out =
+    ap (take c.feed-count.result) (c.deref.ensures.value ∙ written-row c.link.inside.row.len c.feed-count.new.out c.link.inside.row.items (omega (arith, c.feed-count.auto.out, c.deref_mut.ensures.len))) in
+    let may : MayTake c.in-Some.behind.now (take c.feed-count.result c.feed-count.new.out) (length c.args.out.now) =
+    behind-takes c.args.links.now c.in-Some.link.now (g.S.Stage.unit c.link.inside.stage) (g.S.Stage.unit c.feed-count.new.self) c.in-Some.behind.now c.args.frames.now (take c.feed-count.result c.feed-count.new.out) (length c.args.out.now)
+    c.args.steps.now c.feed-count.new.steps c.in-Some.ensures.cases.0 c.link.view_is c.feed-count.ensures.output c.feed-count.ensures.fed c.requires.passes in
+    (omega (arith, ap length c.in-Some.ensures.cases.0, c.decreases), (within.0, (within.1, (behind-runs c.args.links.now c.in-Some.link.now (g.S.Stage.unit c.link.inside.stage) c.in-Some.behind.now c.in-Some.ensures.cases.0 c.link.view_is c.requires.running, rw piece_is may))))

@@ -15,14 +15,26 @@ signal format samples whole fits = record {
   in_format = All-from_recursion (FitsSigned (word format)) samples fits;
 }
 
-pub unit_gives-requires-clause-few : goal.unit_gives-requires-clause-few
-unit_gives-requires-clause-few g c = rw length-frames_in (omega arith)
+pub unit_gives-requires-clause-few_front : goal.unit_gives-requires-clause-few_front
+unit_gives-requires-clause-few_front g c = rw length-frames_in (omega arith)
 
-pub unit_gives-requires-clause-signal : goal.unit_gives-requires-clause-signal
-unit_gives-requires-clause-signal g c = signal Q15 _ refl (search rules)
+pub unit_gives-requires-clause-front : goal.unit_gives-requires-clause-front
+unit_gives-requires-clause-front g c = signal Q15 _ refl (search rules)
 
-pub unit_gives-requires-2-clause-few : goal.unit_gives-requires-2-clause-few
-unit_gives-requires-2-clause-few g c = rw length-frames_in (omega arith)
+pub unit_gives-requires-clause-few_rest : goal.unit_gives-requires-clause-few_rest
+unit_gives-requires-clause-few_rest g c = rw length-frames_in (omega arith)
 
-pub unit_gives-requires-2-clause-signal : goal.unit_gives-requires-2-clause-signal
-unit_gives-requires-2-clause-signal g c = signal Q7 _ refl (search rules)
+pub unit_gives-requires-clause-rest : goal.unit_gives-requires-clause-rest
+unit_gives-requires-clause-rest g c = signal Q15 _ refl (search rules)
+
+pub unit_gives-requires-2-clause-few_front : goal.unit_gives-requires-2-clause-few_front
+unit_gives-requires-2-clause-few_front g c = rw length-frames_in (omega arith)
+
+pub unit_gives-requires-2-clause-front : goal.unit_gives-requires-2-clause-front
+unit_gives-requires-2-clause-front g c = signal Q7 _ refl (search rules)
+
+pub unit_gives-requires-2-clause-few_rest : goal.unit_gives-requires-2-clause-few_rest
+unit_gives-requires-2-clause-few_rest g c = rw length-frames_in (omega arith)
+
+pub unit_gives-requires-2-clause-rest : goal.unit_gives-requires-2-clause-rest
+unit_gives-requires-2-clause-rest g c = signal Q7 _ refl (search rules)

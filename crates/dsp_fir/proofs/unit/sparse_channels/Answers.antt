@@ -1,8 +1,11 @@
-use Rattle.std.proofs.Common.{◌≤◌, map, arith}
+use Rattle.std.proofs.Common.{◌≤◌, pos, map, sym, subst, arith}
+use Rattle.std.specs.Prelude.{All}
 use Rattle.std.proofs.lemmas.List.{map-id}
-use Rattle.dsp_unit.proofs.Units.{replicated}
+use Rattle.dsp_defs.specs.Filter.{AreFilters, IsNewFilter, filter_at}
+use Rattle.dsp_defs.specs.declared.script.Block.TheVariants as Block
+use Rattle.dsp_unit.proofs.Units.{replicated, replicated-new}
 use Rattle.dsp_fir.specs.SparseState.{channel_state, new_sparse}
-use Rattle.dsp_fir.proofs.ChannelLemmas.{new-sparse-block}
+use Rattle.dsp_fir.proofs.ChannelLemmas.{sparse-by-channel, new-sparse}
 use Rattle.dsp_fir.proofs.unit.sparse_channels.Goals as goal
 
 pub new-requires-2-clause-alike : goal.new-requires-2-clause-alike
@@ -10,6 +13,17 @@ new-requires-2-clause-alike g c =
     let format = g.T.Sample.format in
     let taps = map g.T.Sample.number c.in_ok-taps.taps.items in
     let delays = c.in_ok-delays.delays.items in
+    let state = channel_state format (new_sparse taps delays c.args.frames) in
     let some : 1 ≤ c.loop.counter = omega arith in
-    rw (map-id c.loop.filters.items, c.loop.invariant)
-    (replicated c.loop.counter (channel_state format (new_sparse taps delays c.args.frames)) c.args.frames some (omega arith) (new-sparse-block format taps delays c.args.frames))
+    rw (map-id c.loop.filters.items)
+    (subst (AreFilters format c.args.frames) (sym c.loop.invariant) (replicated c.loop.counter state (Block.Sparse taps (map pos delays)) format c.args.frames some (sparse-by-channel format taps delays) (new-sparse format taps delays c.args.frames)))
+
+pub new-requires-2-clause-fresh : goal.new-requires-2-clause-fresh
+new-requires-2-clause-fresh g c =
+    let format = g.T.Sample.format in
+    let taps = map g.T.Sample.number c.in_ok-taps.taps.items in
+    let delays = c.in_ok-delays.delays.items in
+    let state = channel_state format (new_sparse taps delays c.args.frames) in
+    let some : 1 ≤ c.loop.counter = omega arith in
+    rw (map-id c.loop.filters.items)
+    (subst (λ fs. All (IsNewFilter (filter_at fs 0).block format c.args.frames) fs) (sym c.loop.invariant) (replicated-new c.loop.counter state (Block.Sparse taps (map pos delays)) format c.args.frames some (new-sparse format taps delays c.args.frames)))

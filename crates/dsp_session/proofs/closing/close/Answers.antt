@@ -54,7 +54,7 @@ pub returns-in-Ok-clause-ok : goal.returns-in-Ok-clause-ok
 returns-in-Ok-clause-ok g c before now empty count passed =
     let frame : c.frame_bytes-frame.result ≡ frame_bytes c.args.worker.now.script = c.frame_bytes-frame.ensures ∙ ap frame_bytes c.script.ensures.script in
     let passes = rw frame at (c.in_ok-pass_block.ensures.ok _ passed.stands) in
-    laws.stream_done _ _ c.script.ensures.ready _ _ _ _ _ _ _ _ _ _ passed _ _ _ c.in_ok-pass_block.ensures.same passes _ _ _ (c.in-Ok.ensures.written _ passes.feeds.stands) (c.in-Ok.ensures.costs _ passes.feeds.stands) c.in-Ok.ensures.settled c.in-Ok.ensures.faults refl
+    laws.stream_done _ _ c.script.ensures.ready _ _ _ _ _ _ _ _ _ _ passed _ _ _ c.in_ok-pass_block.ensures.same passes _ _ _ (c.in-Ok.ensures.written _ passes.feeds.stands) (c.in-Ok.ensures.costs _ passes.feeds.stands) c.in-Ok.ensures.settled c.in-Ok.ensures.faults refl _ (c.in-Ok.ensures.measures _ passes.feeds.stands)
 
 pub returns-in-Err-clause-err : goal.returns-in-Err-clause-err
 returns-in-Err-clause-err g c before now empty count passed =

@@ -58,3 +58,13 @@ returns-clause-costs g c x stands =
     let tailing = c.loop.invariant.tailing x stands in
     let zero = laws.tail_spent _ x _ _ _ _ _ _ _ tailing _ _ _ c.end-spent.ensures.ends c.end-spent.ensures.costs c.loop-test.false c.end-spent.ensures.given in
     laws.tail_ends_costs _ x _ _ _ _ _ _ _ tailing _ _ _ c.end-spent.ensures.ends c.end-spent.ensures.costs zero
+
+pub returns-then-end-eq0-clause-measures : goal.returns-then-end-eq0-clause-measures
+returns-then-end-eq0-clause-measures g c x stands =
+    laws.tail_measured _ x _ _ _ _ _ _ _ (c.loop.invariant.tailing x stands) _ _ _ c.end.ensures.ends c.end.ensures.costs c.if-end-eq0.true
+
+pub returns-clause-measures : goal.returns-clause-measures
+returns-clause-measures g c x stands =
+    let tailing = c.loop.invariant.tailing x stands in
+    let zero = laws.tail_spent _ x _ _ _ _ _ _ _ tailing _ _ _ c.end-spent.ensures.ends c.end-spent.ensures.costs c.loop-test.false c.end-spent.ensures.given in
+    laws.tail_measured _ x _ _ _ _ _ _ _ tailing _ _ _ c.end-spent.ensures.ends c.end-spent.ensures.costs zero

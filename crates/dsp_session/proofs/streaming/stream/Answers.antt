@@ -45,4 +45,4 @@ returns-clause-ok g c =
     let passed = laws.passed_as _ _ _ _ _ _ _ _ _ _ _ _ _ _ _ same.script same.block piece (c.in_ok-last.ensures.ok _ _ begun) in
     let frame : frame_bytes c.pass_blocks.new.worker.script ≡ c.frame_bytes.result = ap frame_bytes (same.script ∙ sym c.script-script.ensures.script) ∙ sym c.frame_bytes.ensures in
     rw (← c.session.view_is)
-    (laws.done_as _ _ _ _ _ _ _ _ _ _ _ _ same.script same.block (laws.same_quotient (c.in_ok-last.last.before) c.in_ok-last.last.count _ _ frame) (c.in_ok-close.ensures.ok _ _ _ _ passed))
+    (laws.done_as _ _ _ _ _ _ _ _ _ _ _ _ _ same.script same.block (laws.same_quotient (c.in_ok-last.last.before) c.in_ok-last.last.count _ _ frame) (c.in_ok-close.ensures.ok _ _ _ _ passed))

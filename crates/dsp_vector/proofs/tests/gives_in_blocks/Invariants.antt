@@ -1,5 +1,5 @@
-use Rattle.std.proofs.Common.{◌≡◌, ◌-◌, ◌≤◌, length, false}
-use Rattle.dsp_defs.specs.Unit.{room_of}
+use Rattle.std.proofs.Common.{◌≡◌, ◌-◌, ◌≤◌, ℕ, length, false}
+use Rattle.dsp_defs.specs.Unit.{room_of, Accepts}
 use Rattle.dsp_vector.proofs.tests.gives_in_blocks.Given as goal
 
 -- the unit is at its place, and runs
@@ -11,6 +11,7 @@ invariant-pieces g l = record {
   capacity : l.unit.capacity ≡ l.frames;
   room : room_of l.unit ≤ length l.out.items;
   start : l.at ≤ length l.input;
+  accepts : (more : ℕ) → Accepts l.unit more;
 }
 
 abbrev pub decreases-pieces : goal.decreases-pieces

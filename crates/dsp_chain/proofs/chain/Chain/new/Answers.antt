@@ -5,10 +5,11 @@ use Rattle.dsp_defs.specs.Block.{channels_after}
 use Rattle.dsp_defs.specs.declared.script.Block.{Block}
 use Rattle.dsp_defs.specs.Unit.{UnitState}
 use Rattle.dsp_chain.specs.Chain.{input_place, state_of}
-use Rattle.dsp_defs.proofs.ChainPlaces.{legal_is_open}
+use Rattle.dsp_defs.proofs.ChainPlaces.{legal_is_open, has_groups, flow_at}
 use Rattle.dsp_defs.proofs.NewRow.{new-stand, new-count, new-run}
 use Rattle.dsp_defs.proofs.TailLaws.{runs-in-order}
-use Rattle.dsp_chain.proofs.Making.{Making, making-none, making-more, keeps-place, Next, next-first, making-next}
+use Rattle.dsp_chain.proofs.Making.{Making, making-none, making-more, next-place, all-taken, making-open, Next, next-first, making-next}
+use Rattle.dsp_chain.proofs.Measured.{few-places}
 use Rattle.dsp_chain.proofs.chain.Chain.new.Goals as goal
 
 pub loop-block-init : goal.loop-block-init
@@ -23,7 +24,7 @@ new-requires c =
     let blocks = c.as_slice-blocks.result.now in
     let i = c.loop-block.block-index in
     let b = c.block-item.result in
-    let here : Place = record { format = c.loop-block.flow.format; channels = c.loop-block.flow.channels; capacity = c.args.block } in
+    let here : Place = record { format = c.loop-block.flow.format; channels = c.loop-block.flow.channels; capacity = c.loop-block.frames } in
     let next : Next here b = making-next (input_place c.args.script.now c.args.block) here blocks i (i + 1) c.loop-block.links.items b (next-first blocks i b c.loop-block-test.true c.block-item.is) c.loop-block.invariant in
     record { built = next.built; suits = next.suits; channels = next.open_here.channels; frames = next.open_here.capacity; samples = next.open_here.samples }
 
@@ -32,7 +33,7 @@ after-flow-requires c =
     let blocks = c.as_slice-blocks.result.now in
     let i = c.loop-block.block-index in
     let b = c.block-item.result in
-    let here : Place = record { format = c.loop-block.flow.format; channels = c.loop-block.flow.channels; capacity = c.args.block } in
+    let here : Place = record { format = c.loop-block.flow.format; channels = c.loop-block.flow.channels; capacity = c.loop-block.frames } in
     let next : Next here b = making-next (input_place c.args.script.now c.args.block) here blocks i (i + 1) c.loop-block.links.items b (next-first blocks i b c.loop-block-test.true c.block-item.is) c.loop-block.invariant in
     let few : channels_after c.loop-block.flow.channels b ≤ 16 = next.few_channels in
     omega (arith, few)
@@ -43,14 +44,14 @@ loop-block-preserved c =
     let i = c.loop-block.block-index in
     let b = c.block-item.result in
     let p = input_place c.args.script.now c.args.block in
-    let here : Place = record { format = c.loop-block.flow.format; channels = c.loop-block.flow.channels; capacity = c.args.block } in
-    let next : Place = record { format = c.after-flow.result.format; channels = c.after-flow.result.channels; capacity = c.args.block } in
+    let here : Place = record { format = c.loop-block.flow.format; channels = c.loop-block.flow.channels; capacity = c.loop-block.frames } in
+    let next : Place = record { format = c.after-flow.result.format; channels = c.after-flow.result.channels; capacity = c.frames_after-frames.result } in
     let within : i < length blocks = c.loop-block-test.true in
     let read : b ≡ get_or blocks i b = c.block-item.is in
     let first : drop i blocks ≡ b ∷ drop (i + 1) blocks = next-first blocks i b within read in
     let more : take (i + 1) blocks ≡ take i blocks ++ b ∷ [] = take_more blocks i b within ∙ ap (λ (e : Block). take i blocks ++ e ∷ []) (sym read) in
     let pushed : c.push.new.self.items ≡ c.loop-block.links.items ++ state_of c.in_ok-unit.unit ∷ [] = c.in_ok-push.ensures.items ∙ ap (λ (u : UnitState). c.loop-block.links.items ++ u ∷ []) c.in_ok-new.ensures in
-    let step : next ≡ place_after here b = keeps-place here next b (making-next p here blocks i (i + 1) c.loop-block.links.items b first c.loop-block.invariant).built c.after-flow.ensures refl in
+    let step : next ≡ place_after here b = next-place here next b c.after-flow.ensures c.frames_after-frames.ensures in
     rw pushed (making-more p here next blocks i (i + 1) c.loop-block.links.items (state_of c.in_ok-unit.unit) b first more step c.in_ok-unit.ensures c.loop-block.invariant)
 
 pub invariant_of-result : goal.invariant_of-result
@@ -61,8 +62,11 @@ invariant_of-result c =
     let read = c.as_slice-blocks.result.now in
     let so_far = c.loop-block.invariant.blocks_so_far in
     let blocks : blocks_of c.loop-block.links.items ≡ c.args.script.now.blocks = so_far ∙ take_all n read (omega arith) ∙ c.as_slice-blocks.ensures in
-    let room : c.args.block * c.from-2.result ≡ place_room (place_behind p (blocks_of c.loop-block.links.items)) = ap (λ n. c.args.block * n) c.from-2.ensures ∙ sym (ap place_room (ap (place_behind p) so_far ∙ c.loop-block.invariant.reached)) in
-    rw c.from.ensures (c.loop-block.invariant.row, runs-in-order c.loop-block.links.items run, λ _. run, c.requires.channels, rw blocks c.requires.built, room)
+    let room : c.loop-block.frames * c.from-2.result ≡ place_room (place_behind p (blocks_of c.loop-block.links.items)) = ap (λ n. c.loop-block.frames * n) c.from-2.ensures ∙ sym (ap place_room (ap (place_behind p) so_far ∙ c.loop-block.invariant.reached)) in
+    let counts = new-count c.loop-block.links.items c.loop-block.invariant.fresh in
+    let few = few-places (record { format = c.args.script.now.input.format; channels = c.args.script.now.input.channels }) c.args.script.now.blocks c.requires.chain c.requires.few_channels in
+    let taken = all-taken c.args.script.now.blocks 0 c.requires.built in
+    rw c.from.ensures (c.loop-block.invariant.row, runs-in-order c.loop-block.links.items 0 0 run counts (rw blocks taken) (omega arith), λ _. (run, counts), c.requires.channels, rw blocks c.requires.built, rw blocks few, room)
 
 pub returns : goal.returns
 returns c =
@@ -75,3 +79,18 @@ returns c =
       stands = record { running = refl; counted = refl; units = new-stand c.args.script.now.input.format c.args.script.now.input.channels us fresh };
       counts = new-count us fresh;
     })
+
+pub frames_after-frames-requires : goal.frames_after-frames-requires
+frames_after-frames-requires c =
+    let blocks = c.as_slice-blocks.result.now in
+    let i = c.loop-block.block-index in
+    let b = c.block-item.result in
+    let here : Place = record { format = c.loop-block.flow.format; channels = c.loop-block.flow.channels; capacity = c.loop-block.frames } in
+    let next : Next here b = making-next (input_place c.args.script.now c.args.block) here blocks i (i + 1) c.loop-block.links.items b (next-first blocks i b c.loop-block-test.true c.block-item.is) c.loop-block.invariant in
+    record { built = next.built; groups = (has_groups (flow_at here) (b ∷ []) (next.suits, tt)).0 }
+
+pub overflow_mul-result : goal.overflow_mul-result
+overflow_mul-result c =
+    let here : Place = record { format = c.loop-block.flow.format; channels = c.loop-block.flow.channels; capacity = c.loop-block.frames } in
+    let samples : c.loop-block.frames * c.loop-block.flow.channels ≤ 1048576 = (making-open (input_place c.args.script.now c.args.block) here c.as_slice-blocks.result.now c.loop-block.block-index c.loop-block.links.items c.loop-block.invariant).samples in
+    rw c.from-2.ensures (omega (arith, samples))

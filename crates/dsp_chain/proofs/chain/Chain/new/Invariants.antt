@@ -3,4 +3,4 @@ use Rattle.dsp_chain.proofs.Making.{Making}
 use Rattle.dsp_chain.proofs.chain.Chain.new.Given as goal
 
 abbrev pub invariant-loop-block : goal.invariant-loop-block
-invariant-loop-block l = Making (input_place l.fn.script l.fn.block) (record { format = l.flow.format; channels = l.flow.channels; capacity = l.fn.block }) l.blocks l.block-index l.links.items
+invariant-loop-block l = Making (input_place l.fn.script l.fn.block) (record { format = l.flow.format; channels = l.flow.channels; capacity = l.frames }) l.blocks l.block-index l.links.items

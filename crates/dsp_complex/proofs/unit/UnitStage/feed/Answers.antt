@@ -1,4 +1,4 @@
-use Rattle.std.proofs.Common.{◌≡◌, refl, ◌+◌, ◌*◌, take, length}
+use Rattle.std.proofs.Common.{◌≡◌, refl, ◌+◌, ◌*◌, ◌≤◌, take, length}
 use Rattle.dsp_defs.specs.Block.{frames_in}
 use Rattle.dsp_vector.specs.Memoryless.{Gives, price}
 use Rattle.dsp_complex.specs.ComplexUnit.{block_of}
@@ -23,6 +23,14 @@ counted g c =
       | in-Q31 w ↦ rw w.steps-is w.feed-in-Q31.ensures.multiplies
     ]
 
+turned : (g : _) (c : goal.Joined-self g) → c.match-self.steps.turns ≤ c.args.steps.now.turns + length (frames_in c.self.inside.channels c.args.frames.now) * price (block_of c.self.inside.operation) c.self.inside.channels
+turned g c =
+    elim c.match-self.branch [
+      | in-Q7 w ↦ absurd (no-form c.self.inside.operation (rw w.in-Q7.is at c.self.invariant.0.form))
+      | in-Q15 w ↦ rw w.steps-is w.feed.ensures.turns
+      | in-Q31 w ↦ rw w.steps-is w.feed-in-Q31.ensures.turns
+    ]
+
 pub returns-clause-output : goal.returns-clause-output
 returns-clause-output g c =
     let o = c.self.inside.operation in
@@ -35,4 +43,4 @@ returns-clause-fed g c =
     let running = rw (← c.self.view_is) at c.requires.running in
     rw (← c.self.view_is)
     (gives-fed _ (price (block_of o) c.self.inside.channels) c.args.frames.now _ (given g c) (record { running = running; kept = refl; tail = refl; rest = refl })
-    (memoryless c.self.inside.format c.self.inside.channels o) c.args.steps.now c.match-self.steps (counted g c))
+    (memoryless c.self.inside.format c.self.inside.channels o) c.args.steps.now c.match-self.steps (counted g c) (turned g c))

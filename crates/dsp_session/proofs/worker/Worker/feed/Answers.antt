@@ -93,5 +93,18 @@ returns-clause-multiplies g c x stands =
     rw (← c.self.view_is)
     (laws.feed_costs script c.self.inside.block ready c.self.inside.chain c.feed.new.self holds.input holds.blocks (take c.decode_front-count.result c.deref.result.now) (take c.in_ok-count.count c.feed.new.out) c.args.bytes.now _ frames refl _ _ c.in_ok-count.ensures.fed x is.chain is.counts)
 
+pub returns-clause-turns : goal.returns-clause-turns
+returns-clause-turns g c x stands =
+    let script = c.self.inside.script.now in
+    let holds = c.self.invariant.0 in
+    let ready = holds.ready in
+    let whole = rw (← c.self.view_is) at c.requires.whole in
+    let row = laws.read_row script c.self.inside.block ready c.self.inside.input c.decode_front-count.result c.self.inside.samples.len c.args.bytes.now c.deref.result.now c.decode_front-count.new.samples c.self.inside.samples.items
+    c.self.invariant.1 c.self.invariant.2 (c.decode_front-count.auto.samples ∙ c.as_mut_slice.ensures.len) c.deref.ensures.value c.decode_front-count.ensures.values in
+    let frames = laws.frames_are script c.self.inside.block ready c.args.bytes.now (take c.decode_front-count.result c.deref.result.now) whole row in
+    let is = rw (← c.self.view_is) at stands in
+    rw (← c.self.view_is)
+    (laws.feed_turns script c.self.inside.block ready c.self.inside.chain c.feed.new.self holds.input holds.blocks (take c.decode_front-count.result c.deref.result.now) (take c.in_ok-count.count c.feed.new.out) c.args.bytes.now _ frames refl _ _ c.in_ok-count.ensures.fed x is.chain is.counts)
+
 pub returns-clause-full : goal.returns-clause-full
 returns-clause-full g c = rw (← c.self.view_is) ((λ e. absurd (cc)), (λ full. absurd (laws.never_full c.self.inside.script.now c.self.inside.block c.self.invariant.0.ready _ _ refl full)))

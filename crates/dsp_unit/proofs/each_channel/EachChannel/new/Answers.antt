@@ -1,14 +1,13 @@
-use Rattle.std.proofs.Common.{◌≡◌, refl, map, [], length, arith, vec_len}
+use Rattle.std.proofs.Common.{subst, map}
 use Rattle.std.proofs.lemmas.List.{length-map}
-use Rattle.std.proofs.lemmas.List.Elements.{All-map}
-use Rattle.dsp_defs.specs.Filter.{FilterStandsFor}
-use Rattle.dsp_unit.proofs.Units.{new-unit}
+use Rattle.dsp_defs.specs.Filter.{filter_at}
+use Rattle.dsp_defs.specs.Channels.{unit_of_filters}
+use Rattle.dsp_defs.specs.Unit.{IsNew}
+use Rattle.dsp_defs.proofs.ChannelRestores.{new-unit}
 use Rattle.dsp_unit.proofs.each_channel.EachChannel.new.Goals as goal
 
 pub returns : goal.returns
 returns g c =
-    let filter = g.F.Filter.filter in
-    let items = c.args.filters.items in
-    let size : length (map filter items) ≡ length items = length-map items filter in
-    let channels : vec_len c.args.filters ≡ length (map filter items) = omega (arith, size, c.args.filters.ok.0) in
-    rw size at (new-unit _ (map filter items) c.requires.alike (All-map (λ f. FilterStandsFor f []) filter items c.requires.fresh) refl refl refl channels refl refl)
+    let states = map g.F.Filter.filter c.args.filters.items in
+    subst (λ n. IsNew (filter_at states 0).block g.T.Sample.format n c.args.frames (unit_of_filters g.T.Sample.format c.args.frames states)) (length-map c.args.filters.items g.F.Filter.filter)
+    (new-unit g.T.Sample.format c.args.frames states c.requires.alike c.requires.fresh)

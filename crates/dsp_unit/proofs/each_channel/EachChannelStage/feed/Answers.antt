@@ -1,117 +1,103 @@
-use Rattle.std.proofs.Common.{◌≡◌, ◌∙◌, refl, ap, sym, ℕ, ◌+◌, ◌*◌, ◌/◌, ◌<◌, ◌≤◌, List, ◌++◌, length, map, take, drop, vec_len, arith}
-use Rattle.std.proofs.lemmas.List.{get_or-map, length-map}
-use Rattle.std.specs.List.{range_with_len, flat_map}
-use Rattle.dsp_defs.specs.Signal.{sample, values}
-use Rattle.dsp_defs.specs.Filter.{FilterState, filter_at, no_filter}
-use Rattle.dsp_defs.specs.Unit.{UnitState}
-use Rattle.dsp_defs.proofs.ChannelLaws.{whole-frames, filters-fed}
-use Rattle.dsp_defs.proofs.FrameLemmas.{length-frames_in}
-use Rattle.dsp_unit.proofs.Units.{lists-fed, unit-output, unit-fed, room-for, written-whole}
+use Rattle.std.proofs.Common.{◌≡◌, sym, subst, ℕ, false, ◌+◌, ◌*◌, ◌/◌, ◌<◌, ◌≤◌, ◌++◌, length, map, take, drop, arith}
+use Rattle.std.specs.Prelude.{FitsSigned}
+use Rattle.std.proofs.lemmas.List.{length-map}
+use Rattle.dsp_defs.specs.Formats.{word}
+use Rattle.dsp_defs.specs.Signal.{sample}
+use Rattle.dsp_defs.specs.Filter.{AreFilters, filter_at, filter_room, no_filter}
+use Rattle.dsp_defs.specs.Channels.{unit_of_filters, AreFed}
+use Rattle.dsp_defs.specs.Unit.{Feeds, IsOutput, frames_in, most_frames}
+use Rattle.dsp_defs.specs.Block.{channels_after}
+use Rattle.dsp_defs.proofs.ChannelFeeds.{are-fed}
+use Rattle.dsp_defs.proofs.ChannelOutput.{whole-frames, unit-output, unit-fed, room-for}
+use Rattle.dsp_unit.proofs.Units.{written-whole, kept-whole}
 use Rattle.dsp_unit.proofs.each_channel.EachChannelStage.feed.Goals as goal
 
-pub feed_block-requires-clause-whole : goal.feed_block-requires-clause-whole
-feed_block-requires-clause-whole g c =
-    let filter = g.F.Filter.filter in
+pub feed_block-given-requires-clause-whole : goal.feed_block-given-requires-clause-whole
+feed_block-given-requires-clause-whole g c =
     let frames = c.args.frames.now in
     let items = c.self.inside.filters.items in
-    let count = vec_len c.self.inside.filters in
     let signal = rw (← c.self.view_is) at c.requires.signal in
-    let fits = rw (← c.self.view_is) at c.requires.capacity in
-    let channels : c.len.result ≡ count = c.len.ensures in
-    let whole : length frames ≡ length frames / count * count = whole-frames _ _ frames signal in
-    let few : length frames / count ≤ c.self.inside.capacity = rw length-frames_in at fits in
-    let filters : length c.as_mut_slice.result.now ≡ count = c.as_mut_slice.ensures.len in
-    let taken : length frames / c.len.result ≡ length frames / count = ap (λ n. length frames / n) channels in
-    rw (taken, filters) whole
-
-pub feed_block-requires-clause-capacity : goal.feed_block-requires-clause-capacity
-feed_block-requires-clause-capacity g c = λ k d h.
-    let filter = g.F.Filter.filter in
-    let frames = c.args.frames.now in
-    let items = c.self.inside.filters.items in
-    let count = vec_len c.self.inside.filters in
-    let signal = rw (← c.self.view_is) at c.requires.signal in
-    let fits = rw (← c.self.view_is) at c.requires.capacity in
-    let channels : c.len.result ≡ count = c.len.ensures in
-    let whole : length frames ≡ length frames / count * count = whole-frames _ _ frames signal in
-    let few : length frames / count ≤ c.self.inside.capacity = rw length-frames_in at fits in
-    let filters : length c.as_mut_slice.result.now ≡ count = c.as_mut_slice.ensures.len in
-    let taken : length frames / c.len.result ≡ length frames / count = ap (λ n. length frames / n) channels in
-    let inside : k < length items = omega (arith, h, filters, c.self.inside.filters.ok.0) in
-    let like = rw (get_or-map filter items k d no_filter inside) at (c.self.invariant.0.alike k no_filter (omega (arith, inside, length-map items filter))) in
-    let enough = like.capacity_fits in
-    rw (taken, c.as_mut_slice.ensures.value) (omega (arith, enough, few))
+    let whole = whole-frames _ (length (map g.F.Filter.filter items)) frames signal in
+    let size : length (map g.F.Filter.filter items) ≡ c.len.result = omega (arith, length-map items g.F.Filter.filter, c.len.ensures, c.self.inside.filters.ok.0) in
+    let slice : length c.as_mut_slice.result.now ≡ c.len.result = omega (arith, c.as_mut_slice.ensures.len, c.len.ensures) in
+    let whole' : length frames ≡ length frames / c.len.result * c.len.result = rw size at whole in
+    rw slice whole'
 
 pub invariant_of-self : goal.invariant_of-self
 invariant_of-self g c =
     let filter = g.F.Filter.filter in
-    let frames = c.args.frames.now in
     let items = c.self.inside.filters.items in
-    let count = vec_len c.self.inside.filters in
-    let signal = rw (← c.self.view_is) at c.requires.signal in
-    let fits = rw (← c.self.view_is) at c.requires.capacity in
-    let channels : c.len.result ≡ count = c.len.ensures in
-    let whole : length frames ≡ length frames / count * count = whole-frames _ _ frames signal in
-    let few : length frames / count ≤ c.self.inside.capacity = rw length-frames_in at fits in
-    let filters : length c.as_mut_slice.result.now ≡ count = c.as_mut_slice.ensures.len in
-    let taken : length frames / c.len.result ≡ length frames / count = ap (λ n. length frames / n) channels in
-    let sized : count ≡ length (map filter items) = omega (arith, length-map items filter, c.self.inside.filters.ok.0) in
-    let news = c.feed_block.new.filters in
-    let news_size : length news ≡ length items = omega (arith, c.feed_block.auto.filters, filters, c.self.inside.filters.ok.0) in
-    let news_are : take c.self.inside.filters.len (news ++ drop (length news) items) ≡ news = written-whole c.self.inside.filters.len news items (omega (arith, c.feed_block.auto.filters, filters)) in
-    let all_fed = rw (taken, filters, c.as_mut_slice.ensures.value) at c.feed_block.ensures.fed in
-    let lists = lists-fed filter items news (λ d. values (length frames / count) (λ n. sample frames (n * count + d))) (λ d. values (length frames / count) (λ n. sample c.feed_block.new.out (n * count + d))) news_size (λ d f h. all_fed d f (omega (arith, h, c.self.inside.filters.ok.0))) in
-    let are = filters-fed _ _ (map filter items) (map filter news) _ _ (omega (arith, length-map items filter, length-map news filter, news_size)) lists c.self.invariant.0 in
-    (rw news_are are, c.self.invariant.1, c.self.invariant.2, c.self.invariant.3)
+    let olds = map filter items in
+    let made = c.feed_block-given.new.filters in
+    let slice = c.as_mut_slice.result.now in
+    let size : length made ≡ c.self.inside.filters.len = omega (arith, c.feed_block-given.auto.filters, c.as_mut_slice.ensures.len, c.self.inside.filters.ok.0) in
+    let written : take c.self.inside.filters.len (made ++ drop (length made) items) ≡ made = written-whole c.self.inside.filters.len made items size in
+    let running : (filter_at olds 0).ended ≡ false = rw (← c.self.view_is) at c.requires.running in
+    let fed : AreFed olds (map filter made) (length c.args.frames.now / c.len.result) c.args.frames.now c.feed_block-given.result c.feed_block-given.new.out c.args.steps.now c.feed_block-given.new.steps =
+    subst (λ fs. AreFed (map filter fs) (map filter made) (length c.args.frames.now / c.len.result) c.args.frames.now c.feed_block-given.result c.feed_block-given.new.out c.args.steps.now c.feed_block-given.new.steps) c.as_mut_slice.ensures.value c.feed_block-given.ensures.fed in
+    let are' : AreFilters g.T.Sample.format c.self.inside.capacity (map filter made) = are-fed g.T.Sample.format c.self.inside.capacity olds (map filter made) c.self.invariant.0 running _ c.feed_block-given.result c.args.frames.now c.feed_block-given.new.out c.args.steps.now c.feed_block-given.new.steps fed in
+    let (start, stop, feeds) = fed.each 0 (let some = c.self.invariant.0.some in omega (arith, some)) in
+    subst (λ fs. AreFilters g.T.Sample.format c.self.inside.capacity (map filter fs) × (c.self.inside.input.len ≡ c.self.inside.capacity) × (c.self.inside.output.len ≡ filter_room (filter_at (map filter fs) 0)) × (c.self.inside.output.len * c.self.inside.filters.len ≤ 1048576) × (c.self.inside.filters.len ≤ 255)) (sym written)
+    (kept-whole g.T.Sample.format c.self.inside.capacity c.self.inside.input.len c.self.inside.output.len c.self.inside.filters.len olds (map filter made) are' feeds.made c.self.invariant)
+
+pub returns-clause-running : goal.returns-clause-running
+returns-clause-running g c =
+    let filter = g.F.Filter.filter in
+    let items = c.self.inside.filters.items in
+    let olds = map filter items in
+    let made = c.feed_block-given.new.filters in
+    let slice = c.as_mut_slice.result.now in
+    let size : length made ≡ c.self.inside.filters.len = omega (arith, c.feed_block-given.auto.filters, c.as_mut_slice.ensures.len, c.self.inside.filters.ok.0) in
+    let written : take c.self.inside.filters.len (made ++ drop (length made) items) ≡ made = written-whole c.self.inside.filters.len made items size in
+    let running : (filter_at olds 0).ended ≡ false = rw (← c.self.view_is) at c.requires.running in
+    let fed : AreFed olds (map filter made) (length c.args.frames.now / c.len.result) c.args.frames.now c.feed_block-given.result c.feed_block-given.new.out c.args.steps.now c.feed_block-given.new.steps =
+    subst (λ fs. AreFed (map filter fs) (map filter made) (length c.args.frames.now / c.len.result) c.args.frames.now c.feed_block-given.result c.feed_block-given.new.out c.args.steps.now c.feed_block-given.new.steps) c.as_mut_slice.ensures.value c.feed_block-given.ensures.fed in
+    let (m, counted) = c.self.invariant.0.counted running in
+    let some : 0 < length olds = (let some = c.self.invariant.0.some in omega (arith, some)) in
+    let (start, stop, feeds) = fed.each 0 some in
+    rw written (feeds.counts m (counted 0 no_filter some)).running
 
 pub returns-clause-output : goal.returns-clause-output
 returns-clause-output g c =
     let filter = g.F.Filter.filter in
-    let frames = c.args.frames.now in
     let items = c.self.inside.filters.items in
-    let count = vec_len c.self.inside.filters in
-    let signal = rw (← c.self.view_is) at c.requires.signal in
-    let fits = rw (← c.self.view_is) at c.requires.capacity in
-    let channels : c.len.result ≡ count = c.len.ensures in
-    let whole : length frames ≡ length frames / count * count = whole-frames _ _ frames signal in
-    let few : length frames / count ≤ c.self.inside.capacity = rw length-frames_in at fits in
-    let filters : length c.as_mut_slice.result.now ≡ count = c.as_mut_slice.ensures.len in
-    let taken : length frames / c.len.result ≡ length frames / count = ap (λ n. length frames / n) channels in
-    let sized : count ≡ length (map filter items) = omega (arith, length-map items filter, c.self.inside.filters.ok.0) in
-    let enough : length frames ≤ length c.args.out.now = room-for c.args.self.now (filter_at (map filter items) 0) _ _ frames c.self.invariant.0.sample_block (ap (λ (w : UnitState). w.block) (sym c.self.view_is)) c.requires.signal c.requires.capacity c.requires.room in
+    let olds = map filter items in
+    let made = c.feed_block-given.new.filters in
+    let slice = c.as_mut_slice.result.now in
+    let size : length made ≡ c.self.inside.filters.len = omega (arith, c.feed_block-given.auto.filters, c.as_mut_slice.ensures.len, c.self.inside.filters.ok.0) in
+    let written : take c.self.inside.filters.len (made ++ drop (length made) items) ≡ made = written-whole c.self.inside.filters.len made items size in
+    let running : (filter_at olds 0).ended ≡ false = rw (← c.self.view_is) at c.requires.running in
+    let fed : AreFed olds (map filter made) (length c.args.frames.now / c.len.result) c.args.frames.now c.feed_block-given.result c.feed_block-given.new.out c.args.steps.now c.feed_block-given.new.steps =
+    subst (λ fs. AreFed (map filter fs) (map filter made) (length c.args.frames.now / c.len.result) c.args.frames.now c.feed_block-given.result c.feed_block-given.new.out c.args.steps.now c.feed_block-given.new.steps) c.as_mut_slice.ensures.value c.feed_block-given.ensures.fed in
+    let channels : length olds ≡ c.len-2.result = omega (arith, length-map items filter, c.len-2.ensures, c.self.inside.filters.ok.0) in
+    let fits : c.feed_block-given.result ≤ filter_room (filter_at olds 0) = omega (arith, c.feed_block-given.ensures.within, c.as_mut_slice-3.ensures.len, c.self.invariant.2) in
+    let room = rw (← c.self.view_is) at c.requires.room in
+    let within : c.feed_block-given.result * length olds ≤ length c.feed_block-given.new.out = (let bound = room-for g.T.Sample.format c.self.inside.capacity olds c.self.invariant.0 c.feed_block-given.result (length c.args.out.now) fits room in omega (arith, bound, c.feed_block-given.auto.out)) in
+    let each : (n d : ℕ) → n < c.feed_block-given.result → d < length olds → FitsSigned (word g.T.Sample.format) (sample c.feed_block-given.new.out (n * length olds + d)) =
+    subst (λ k. (n d : ℕ) → n < c.feed_block-given.result → d < k → FitsSigned (word g.T.Sample.format) (sample c.feed_block-given.new.out (n * k + d))) (omega (arith, channels, c.as_mut_slice.ensures.len, c.len-2.ensures)) c.feed_block-given.ensures.fits in
     rw (← c.self.view_is)
-    (unit-output _ (map filter items) frames c.feed_block.new.out c.self.invariant.0 sized refl signal fits (omega (arith, enough, c.feed_block.auto.out))
-    (rw (taken, filters) at c.feed_block.ensures.fits))
+    (subst (λ k. IsOutput (unit_of_filters g.T.Sample.format c.self.inside.capacity olds) (most_frames (filter_at olds 0).block c.self.inside.capacity) (take (c.feed_block-given.result * k) c.feed_block-given.new.out)) channels
+    (unit-output g.T.Sample.format c.self.inside.capacity olds c.self.invariant.0 c.feed_block-given.result c.feed_block-given.new.out within fits each))
 
 pub returns-clause-fed : goal.returns-clause-fed
 returns-clause-fed g c =
     let filter = g.F.Filter.filter in
-    let frames = c.args.frames.now in
     let items = c.self.inside.filters.items in
-    let count = vec_len c.self.inside.filters in
-    let signal = rw (← c.self.view_is) at c.requires.signal in
-    let fits = rw (← c.self.view_is) at c.requires.capacity in
-    let channels : c.len.result ≡ count = c.len.ensures in
-    let whole : length frames ≡ length frames / count * count = whole-frames _ _ frames signal in
-    let few : length frames / count ≤ c.self.inside.capacity = rw length-frames_in at fits in
-    let filters : length c.as_mut_slice.result.now ≡ count = c.as_mut_slice.ensures.len in
-    let taken : length frames / c.len.result ≡ length frames / count = ap (λ n. length frames / n) channels in
-    let sized : count ≡ length (map filter items) = omega (arith, length-map items filter, c.self.inside.filters.ok.0) in
-    let news = c.feed_block.new.filters in
-    let news_size : length news ≡ length items = omega (arith, c.feed_block.auto.filters, filters, c.self.inside.filters.ok.0) in
-    let news_are : take c.self.inside.filters.len (news ++ drop (length news) items) ≡ news = written-whole c.self.inside.filters.len news items (omega (arith, c.feed_block.auto.filters, filters)) in
-    let all_fed = rw (taken, filters, c.as_mut_slice.ensures.value) at c.feed_block.ensures.fed in
-    let lists = lists-fed filter items news (λ d. values (length frames / count) (λ n. sample frames (n * count + d))) (λ d. values (length frames / count) (λ n. sample c.feed_block.new.out (n * count + d))) news_size (λ d f h. all_fed d f (omega (arith, h, c.self.inside.filters.ok.0))) in
-    let enough : length frames ≤ length c.args.out.now = room-for c.args.self.now (filter_at (map filter items) 0) _ _ frames c.self.invariant.0.sample_block (ap (λ (w : UnitState). w.block) (sym c.self.view_is)) c.requires.signal c.requires.capacity c.requires.room in
-    let running = rw (← c.self.view_is) at c.requires.running in
-    let paid = rw (taken, filters, c.as_mut_slice.ensures.value) at (c.feed_block.ensures.multiplies (filter_at (map filter items) 0).price) in
-    let block = c.self.invariant.0.sample_block in
-    let prices = λ (k : ℕ) (d : g.row.F.Denot) (h : k < count). let inside : k < length items = omega (arith, h, c.self.inside.filters.ok.0) in rw (get_or-map filter items k d no_filter inside) at (c.self.invariant.0.alike k no_filter (omega (arith, inside, length-map items filter))).price in
-    let first = lists 0 c.self.invariant.0.some in
-    let block_is : (filter_at (map filter news) 0).block ≡ (filter_at (map filter items) 0).block = ap (λ (f : FilterState). f.block) first.made in
-    let block_new = ap (λ (l : List g.row.F.Denot). (filter_at (map filter l) 0).block) news_are in
-    rw (← c.self.view_is, block.channels_same count)
-    (unit-fed _ (map filter items) frames c.feed_block.new.out c.self.invariant.0 sized refl signal fits (omega (arith, enough, c.feed_block.auto.out))
-    _ (map filter news) c.args.steps.now c.feed_block.new.steps (record { block = block_new ∙ block_is; format = refl; channels = refl; capacity = refl }) running refl refl running refl refl refl
-    (ap (λ (l : List g.row.F.Denot). flat_map (λ c. (filter_at (map filter l) c).kept) (range_with_len 0 count)) news_are) block_new
-    (omega (arith, length-map items filter, length-map news filter, news_size)) lists (paid prices))
+    let olds = map filter items in
+    let made = c.feed_block-given.new.filters in
+    let slice = c.as_mut_slice.result.now in
+    let size : length made ≡ c.self.inside.filters.len = omega (arith, c.feed_block-given.auto.filters, c.as_mut_slice.ensures.len, c.self.inside.filters.ok.0) in
+    let written : take c.self.inside.filters.len (made ++ drop (length made) items) ≡ made = written-whole c.self.inside.filters.len made items size in
+    let running : (filter_at olds 0).ended ≡ false = rw (← c.self.view_is) at c.requires.running in
+    let fed : AreFed olds (map filter made) (length c.args.frames.now / c.len.result) c.args.frames.now c.feed_block-given.result c.feed_block-given.new.out c.args.steps.now c.feed_block-given.new.steps =
+    subst (λ fs. AreFed (map filter fs) (map filter made) (length c.args.frames.now / c.len.result) c.args.frames.now c.feed_block-given.result c.feed_block-given.new.out c.args.steps.now c.feed_block-given.new.steps) c.as_mut_slice.ensures.value c.feed_block-given.ensures.fed in
+    let channels : length olds ≡ c.len-2.result = omega (arith, length-map items filter, c.len-2.ensures, c.self.inside.filters.ok.0) in
+    let fits : c.feed_block-given.result ≤ filter_room (filter_at olds 0) = omega (arith, c.feed_block-given.ensures.within, c.as_mut_slice-3.ensures.len, c.self.invariant.2) in
+    let room = rw (← c.self.view_is) at c.requires.room in
+    let within : c.feed_block-given.result * length olds ≤ length c.feed_block-given.new.out = (let bound = room-for g.T.Sample.format c.self.inside.capacity olds c.self.invariant.0 c.feed_block-given.result (length c.args.out.now) fits room in omega (arith, bound, c.feed_block-given.auto.out)) in
+    let fed' : AreFed olds (map filter made) (length c.args.frames.now / length olds) c.args.frames.now c.feed_block-given.result c.feed_block-given.new.out c.args.steps.now c.feed_block-given.new.steps =
+    subst (λ k. AreFed olds (map filter made) (length c.args.frames.now / k) c.args.frames.now c.feed_block-given.result c.feed_block-given.new.out c.args.steps.now c.feed_block-given.new.steps) (omega (arith, channels, c.len.ensures, c.len-2.ensures)) fed in
+    rw (← c.self.view_is)
+    (subst (λ fs. Feeds (unit_of_filters g.T.Sample.format c.self.inside.capacity olds) (unit_of_filters g.T.Sample.format c.self.inside.capacity (map filter fs)) (frames_in (length olds) c.args.frames.now) (frames_in (channels_after (length olds) (filter_at olds 0).block) (take (c.feed_block-given.result * c.len-2.result) c.feed_block-given.new.out)) c.args.steps.now c.feed_block-given.new.steps) (sym written)
+    (subst (λ k. Feeds (unit_of_filters g.T.Sample.format c.self.inside.capacity olds) (unit_of_filters g.T.Sample.format c.self.inside.capacity (map filter made)) (frames_in (length olds) c.args.frames.now) (frames_in (channels_after (length olds) (filter_at olds 0).block) (take (c.feed_block-given.result * k) c.feed_block-given.new.out)) c.args.steps.now c.feed_block-given.new.steps) channels
+    (unit-fed g.T.Sample.format c.self.inside.capacity olds c.self.invariant.0 c.feed_block-given.result c.feed_block-given.new.out within (map filter made) c.args.frames.now c.args.steps.now c.feed_block-given.new.steps running fed')))

@@ -1,11 +1,70 @@
-use Rattle.std.proofs.Common.{refl}
-use Rattle.dsp_defs.proofs.MemorylessLaws.{no-output, idle-finishes}
+use Rattle.std.proofs.Common.{◌≡◌, sym, subst, ℕ, ◌+◌, ◌*◌, ◌<◌, ◌≤◌, ◌++◌, length, map, take, drop, arith}
+use Rattle.std.specs.Prelude.{FitsSigned}
+use Rattle.std.proofs.lemmas.List.{length-map}
+use Rattle.dsp_defs.specs.Formats.{word}
+use Rattle.dsp_defs.specs.Signal.{sample}
+use Rattle.dsp_defs.specs.Filter.{AreFilters, filter_at, filter_room}
+use Rattle.dsp_defs.specs.Channels.{unit_of_filters, AreFinished}
+use Rattle.dsp_defs.specs.Unit.{Finishes, IsOutput, frames_in, most_frames}
+use Rattle.dsp_defs.specs.Block.{channels_after}
+use Rattle.dsp_defs.proofs.ChannelTails.{are-finished}
+use Rattle.dsp_defs.proofs.ChannelOutput.{unit-output, unit-finished, room-for}
+use Rattle.dsp_unit.proofs.Units.{written-whole, kept-whole}
 use Rattle.dsp_unit.proofs.each_channel.EachChannelStage.finish.Goals as goal
 
+pub invariant_of-self : goal.invariant_of-self
+invariant_of-self g c =
+    let filter = g.F.Filter.filter in
+    let items = c.self.inside.filters.items in
+    let olds = map filter items in
+    let made = c.finish_channels-given.new.filters in
+    let slice = c.as_mut_slice.result.now in
+    let size : length made ≡ c.self.inside.filters.len = omega (arith, c.finish_channels-given.auto.filters, c.as_mut_slice.ensures.len, c.self.inside.filters.ok.0) in
+    let written : take c.self.inside.filters.len (made ++ drop (length made) items) ≡ made = written-whole c.self.inside.filters.len made items size in
+    let finished : AreFinished olds (map filter made) c.finish_channels-given.result c.finish_channels-given.new.out c.args.steps.now c.finish_channels-given.new.steps =
+    subst (λ fs. AreFinished (map filter fs) (map filter made) c.finish_channels-given.result c.finish_channels-given.new.out c.args.steps.now c.finish_channels-given.new.steps) c.as_mut_slice.ensures.value c.finish_channels-given.ensures.finished in
+    let are' : AreFilters g.T.Sample.format c.self.inside.capacity (map filter made) = are-finished g.T.Sample.format c.self.inside.capacity olds (map filter made) c.self.invariant.0 c.finish_channels-given.result c.finish_channels-given.new.out c.args.steps.now c.finish_channels-given.new.steps finished in
+    let (start, stop, finishes) = finished.each 0 (let some = c.self.invariant.0.some in omega (arith, some)) in
+    subst (λ fs. AreFilters g.T.Sample.format c.self.inside.capacity (map filter fs) × (c.self.inside.input.len ≡ c.self.inside.capacity) × (c.self.inside.output.len ≡ filter_room (filter_at (map filter fs) 0)) × (c.self.inside.output.len * c.self.inside.filters.len ≤ 1048576) × (c.self.inside.filters.len ≤ 255)) (sym written)
+    (kept-whole g.T.Sample.format c.self.inside.capacity c.self.inside.input.len c.self.inside.output.len c.self.inside.filters.len olds (map filter made) are' finishes.made c.self.invariant)
+
 pub returns-clause-output : goal.returns-clause-output
-returns-clause-output g c = no-output c.args.self.now _
+returns-clause-output g c =
+    let filter = g.F.Filter.filter in
+    let items = c.self.inside.filters.items in
+    let olds = map filter items in
+    let made = c.finish_channels-given.new.filters in
+    let slice = c.as_mut_slice.result.now in
+    let size : length made ≡ c.self.inside.filters.len = omega (arith, c.finish_channels-given.auto.filters, c.as_mut_slice.ensures.len, c.self.inside.filters.ok.0) in
+    let written : take c.self.inside.filters.len (made ++ drop (length made) items) ≡ made = written-whole c.self.inside.filters.len made items size in
+    let finished : AreFinished olds (map filter made) c.finish_channels-given.result c.finish_channels-given.new.out c.args.steps.now c.finish_channels-given.new.steps =
+    subst (λ fs. AreFinished (map filter fs) (map filter made) c.finish_channels-given.result c.finish_channels-given.new.out c.args.steps.now c.finish_channels-given.new.steps) c.as_mut_slice.ensures.value c.finish_channels-given.ensures.finished in
+    let channels : length olds ≡ c.len.result = omega (arith, length-map items filter, c.len.ensures, c.self.inside.filters.ok.0) in
+    let fits : c.finish_channels-given.result ≤ filter_room (filter_at olds 0) = omega (arith, c.finish_channels-given.ensures.within, c.as_mut_slice-2.ensures.len, c.self.invariant.2) in
+    let room = rw (← c.self.view_is) at c.requires.room in
+    let within : c.finish_channels-given.result * length olds ≤ length c.finish_channels-given.new.out = (let bound = room-for g.T.Sample.format c.self.inside.capacity olds c.self.invariant.0 c.finish_channels-given.result (length c.args.out.now) fits room in omega (arith, bound, c.finish_channels-given.auto.out)) in
+    let each : (n d : ℕ) → n < c.finish_channels-given.result → d < length olds → FitsSigned (word g.T.Sample.format) (sample c.finish_channels-given.new.out (n * length olds + d)) =
+    subst (λ k. (n d : ℕ) → n < c.finish_channels-given.result → d < k → FitsSigned (word g.T.Sample.format) (sample c.finish_channels-given.new.out (n * k + d))) (omega (arith, channels, c.as_mut_slice.ensures.len, c.len.ensures)) c.finish_channels-given.ensures.fits in
+    rw (← c.self.view_is)
+    (subst (λ k. IsOutput (unit_of_filters g.T.Sample.format c.self.inside.capacity olds) (most_frames (filter_at olds 0).block c.self.inside.capacity) (take (c.finish_channels-given.result * k) c.finish_channels-given.new.out)) channels
+    (unit-output g.T.Sample.format c.self.inside.capacity olds c.self.invariant.0 c.finish_channels-given.result c.finish_channels-given.new.out within fits each))
 
 pub returns-clause-finished : goal.returns-clause-finished
 returns-clause-finished g c =
+    let filter = g.F.Filter.filter in
+    let items = c.self.inside.filters.items in
+    let olds = map filter items in
+    let made = c.finish_channels-given.new.filters in
+    let slice = c.as_mut_slice.result.now in
+    let size : length made ≡ c.self.inside.filters.len = omega (arith, c.finish_channels-given.auto.filters, c.as_mut_slice.ensures.len, c.self.inside.filters.ok.0) in
+    let written : take c.self.inside.filters.len (made ++ drop (length made) items) ≡ made = written-whole c.self.inside.filters.len made items size in
+    let finished : AreFinished olds (map filter made) c.finish_channels-given.result c.finish_channels-given.new.out c.args.steps.now c.finish_channels-given.new.steps =
+    subst (λ fs. AreFinished (map filter fs) (map filter made) c.finish_channels-given.result c.finish_channels-given.new.out c.args.steps.now c.finish_channels-given.new.steps) c.as_mut_slice.ensures.value c.finish_channels-given.ensures.finished in
+    let channels : length olds ≡ c.len.result = omega (arith, length-map items filter, c.len.ensures, c.self.inside.filters.ok.0) in
+    let fits : c.finish_channels-given.result ≤ filter_room (filter_at olds 0) = omega (arith, c.finish_channels-given.ensures.within, c.as_mut_slice-2.ensures.len, c.self.invariant.2) in
+    let room = rw (← c.self.view_is) at c.requires.room in
+    let within : c.finish_channels-given.result * length olds ≤ length c.finish_channels-given.new.out = (let bound = room-for g.T.Sample.format c.self.inside.capacity olds c.self.invariant.0 c.finish_channels-given.result (length c.args.out.now) fits room in omega (arith, bound, c.finish_channels-given.auto.out)) in
     rw (← c.self.view_is)
-    (idle-finishes _ _ c.args._steps.now (record { block = refl; format = refl; channels = refl; capacity = refl }) refl refl refl refl refl)
+    (subst (λ fs. Finishes (unit_of_filters g.T.Sample.format c.self.inside.capacity olds) (unit_of_filters g.T.Sample.format c.self.inside.capacity (map filter fs)) (frames_in (channels_after (length olds) (filter_at olds 0).block) (take (c.finish_channels-given.result * c.len.result) c.finish_channels-given.new.out)) c.args.steps.now c.finish_channels-given.new.steps) (sym written)
+    (subst (λ k. Finishes (unit_of_filters g.T.Sample.format c.self.inside.capacity olds) (unit_of_filters g.T.Sample.format c.self.inside.capacity (map filter made)) (frames_in (channels_after (length olds) (filter_at olds 0).block) (take (c.finish_channels-given.result * k) c.finish_channels-given.new.out)) c.args.steps.now c.finish_channels-given.new.steps) channels
+    (unit-finished g.T.Sample.format c.self.inside.capacity olds c.self.invariant.0 c.finish_channels-given.result c.finish_channels-given.new.out within (map filter made) c.args.steps.now c.finish_channels-given.new.steps finished)))

@@ -1,0 +1,9 @@
+use Rattle.std.proofs.Common.{ap, sym, ◌∙◌}
+use Rattle.dsp_defs.specs.Words.{command_of}
+use Rattle.dsp_cli.proofs.WordLaws.{six_words}
+use Rattle.dsp_cli.proofs.command.command.Goals as goal
+
+pub returns-in-6 : goal.returns-in-6
+returns-in-6 c =
+    c.command_of_six.ensures
+    ∙ ap command_of (sym (six_words c.args.words.now _ _ _ _ _ _ (sym c.len.ensures ∙ c.in-6.is) c.word-in-6.ensures c.word-in-6-2.ensures c.word-in-6-3.ensures c.word-in-6-4.ensures c.word-in-6-5.ensures c.word-in-6-6.ensures))

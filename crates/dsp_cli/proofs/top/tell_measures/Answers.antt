@@ -1,0 +1,44 @@
+use Rattle.std.proofs.Common.{◌≡◌, ◌∙◌, ap, refl, sym, ◌+◌, ◌++◌, length, take, get_or, pos, arith, subst}
+use Rattle.dsp_defs.specs.declared.measure.Measure.TheVariants.{Power}
+use Rattle.std.proofs.lemmas.Result.{err_from_is_err_and}
+use Rattle.std.proofs.lemmas.List.{take_all}
+use Rattle.dsp_ports.specs.Ports.{Took}
+use Rattle.dsp_ports.proofs.Moved.{Took-nil}
+use Rattle.dsp_defs.specs.Report.{measure_line}
+use Rattle.dsp_cli.specs.Run.{Wrote}
+use Rattle.dsp_cli.proofs.ReportLaws.{lines, lines-more, line-begins, wrote-more, tells-front, tells-all}
+use Rattle.dsp_cli.proofs.top.tell_measures.Goals as goal
+
+pub loop-measure-init : goal.loop-measure-init
+loop-measure-init g c = ((Took-nil (g.R.Sink.state c.args.report.now)).put, refl)
+
+pub loop-measure-preserved : goal.loop-measure-preserved
+loop-measure-preserved g c =
+    let i = c.loop-measure.measure-index in
+    let ms = c.args.measures.now in
+    let took = rw (c.deref.ensures.0, c.line.ensures) at c.in_ok-write_all.ensures.took in
+    let wrote = wrote-more (g.R.Sink.state c.args.report.now) (g.R.Sink.state c.loop-measure.report) (g.R.Sink.state c.write_all.new.sink) (lines (take i ms)) (measure_line (get_or ms i (Power 0 0 (pos 0)))) c.loop-measure.invariant.0 took in (
+      subst (λ text. Wrote text (g.R.Sink.state c.args.report.now) (g.R.Sink.state c.write_all.new.sink)) (lines-more ms i (i + 1) (Power 0 0 (pos 0)) (omega arith) c.loop-measure-test.true) wrote,
+      c.in_ok-write_all.ensures.faults ∙ c.loop-measure.invariant.1,
+    )
+
+pub returns-in_err-write_all-clause-tells : goal.returns-in_err-write_all-clause-tells
+returns-in_err-write_all-clause-tells g c =
+    let i = c.loop-measure.measure-index in
+    let ms = c.args.measures.now in
+    let line = measure_line (get_or ms i (Power 0 0 (pos 0))) in
+    let (count, took) = c.in_err-write_all.ensures.took in
+    let took' : Took (g.R.Sink.state c.loop-measure.report) (g.R.Sink.state c.write_all.new.sink) (take count line) = rw (c.deref.ensures.0, c.line.ensures) at took in
+    let wrote = wrote-more (g.R.Sink.state c.args.report.now) (g.R.Sink.state c.loop-measure.report) (g.R.Sink.state c.write_all.new.sink) (lines (take i ms)) (take count line) c.loop-measure.invariant.0 took' in
+    tells-front (g.R.Sink.state c.args.report.now) (g.R.Sink.state c.write_all.new.sink) (lines ms) _ (line-begins ms i count (Power 0 0 (pos 0)) c.loop-measure-test.true) wrote
+    (rw (← c.loop-measure.invariant.1) c.in_err-write_all.ensures.faults.1)
+
+pub returns-in_err-write_all-clause-faults : goal.returns-in_err-write_all-clause-faults
+returns-in_err-write_all-clause-faults g c =
+    let error = err_from_is_err_and c.from_residual.result c.from_residual.ensures.1 in
+    rw (error.1, ← c.loop-measure.invariant.1) c.in_err-write_all.ensures.faults
+
+pub returns-clause-tells : goal.returns-clause-tells
+returns-clause-tells g c =
+    let all = take_all c.loop-measure.measure-index c.args.measures.now (omega arith) in
+    tells-all _ _ _ (subst (λ ms. Wrote (lines ms) (g.R.Sink.state c.args.report.now) (g.R.Sink.state c.loop-measure.report)) all c.loop-measure.invariant.0)

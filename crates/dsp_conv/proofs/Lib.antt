@@ -1,0 +1,3 @@
+pub mod ConvLemmas
+pub mod PlaceLemmas
+pub mod ChannelLemmas

@@ -1,0 +1,3 @@
+pub mod ConvState
+pub mod Channels
+pub mod ConvUnit

@@ -1,0 +1,15 @@
+use Rattle.std.proofs.Common.{◌≡◌, ◌≤◌, pos, length, replicate, arith}
+use Rattle.std.specs.Prelude.{All}
+use Rattle.std.proofs.lemmas.List.{length-replicate}
+use Rattle.dsp_defs.proofs.ChannelFrames.{get_or-default}
+use Rattle.dsp_fir.specs.SparseState.{greatest_delay}
+use Rattle.dsp_fir.proofs.ChannelLemmas.{few-delays}
+use Rattle.dsp_fir.proofs.channel.SparseChannel.new.Goals as goal
+
+pub invariant_of-result : goal.invariant_of-result
+invariant_of-result g c =
+    let delays = c.args.delays.now in
+    let each : All (λ d. d ≤ 4294967295) delays = λ k d h. rw (get_or-default delays k d 0 h) (let fits = c.type_inv.delays k in omega (arith, fits)) in
+    let long : length (replicate (greatest_delay delays) (pos 0)) ≡ greatest_delay delays = length-replicate (greatest_delay delays) (pos 0) in
+    let few = few-delays 4294967295 delays each in
+    rw c.in-Ok.ensures.made (c.requires, long, omega (arith, long, few))

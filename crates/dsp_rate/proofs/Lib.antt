@@ -1,0 +1,3 @@
+pub mod DecimateLemmas
+pub mod PlaceLemmas
+pub mod ChannelLemmas

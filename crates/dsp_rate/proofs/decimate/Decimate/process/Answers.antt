@@ -1,0 +1,99 @@
+use Rattle.std.proofs.Common.{◌≡◌, ◌∙◌, ap, ap₂, sym, subst, ℕ, ◌+◌, ◌-◌, ◌*◌, ◌/◌, ◌%◌, ◌<◌, ◌≤◌, ◌++◌, length, map, take, arith, vec_len, rules, length-append, length-take-le}
+use Rattle.std.proofs.lemmas.List.{length-map}
+use Rattle.dsp_defs.specs.Streaming.{last_of}
+use Rattle.dsp_lanes.specs.Turns.{lane_turns}
+use Rattle.dsp_rate.specs.DecimateState.{DecimateState, past_length, strided_rows}
+use Rattle.dsp_rate.proofs.DecimateLemmas.{groups-more, phase-more, groups-within, groups-room, group-fits, decimate-values, front-written, window-long, shows-after, keeps-after}
+use Rattle.dsp_rate.proofs.decimate.Decimate.process.Goals as goal
+
+pub slice_bounds-output-end : goal.slice_bounds-output-end
+slice_bounds-output-end g c =
+    groups-room (length c.args.input.now) c.self.inside.phase c.self.inside.factor c.args.self.now.factor (length c.args.output.now) (omega arith) (ap (λ (d : DecimateState). d.factor) c.self.view_is) c.requires.room
+
+pub slice_bounds-output-end-2 : goal.slice_bounds-output-end-2
+slice_bounds-output-end-2 g c =
+    let enough = groups-room (length c.args.input.now) c.self.inside.phase c.self.inside.factor c.args.self.now.factor (length c.args.output.now) (omega arith) (ap (λ (d : DecimateState). d.factor) c.self.view_is) c.requires.room in
+    sym (length-take-le ((c.self.inside.phase + length c.args.input.now) / c.self.inside.factor) c.args.output.now enough)
+
+pub strided_rows-requires : goal.strided_rows-requires
+strided_rows-requires g c = λ i below.
+    let number = g.T.Sample.number in
+    let d = c.self.inside in
+    let m = length c.args.input.now in
+    let count = (d.phase + m) / d.factor in
+    let enough = groups-room m d.phase d.factor c.args.self.now.factor (length c.args.output.now) (omega arith) (ap (λ (s : DecimateState). s.factor) c.self.view_is) c.requires.room in
+    let long : length c.slice.result.now ≡ d.window.past + length (map number c.args.input.now) =
+    window-long number d.window c.push_block.new.self (map number c.args.input.now) c.slice.result.now c.push_block.ensures.rolls c.slice.ensures.samples (omega arith) in
+    let within : i < count = omega (arith, below, length-take-le count c.args.output.now enough) in
+    let group : i * d.factor + d.factor ≤ d.phase + m = group-fits (d.phase + m) d.factor i within in
+    omega (arith, long, group, length-map c.args.input.now number, c.deref.ensures.len)
+
+pub returns-clause-within : goal.returns-clause-within
+returns-clause-within g c = rw (← c.self.view_is) (groups-within (length c.args.input.now) c.self.inside.phase c.self.inside.factor (omega arith))
+
+pub returns-clause-values : goal.returns-clause-values
+returns-clause-values g c = λ x stands.
+    let T = g.T.Sample in
+    let number = T.number in
+    let d = c.self.inside in
+    let taps = d.taps.items in
+    let input = c.args.input.now in
+    let out = c.strided_rows.new.out in
+    let window = map number c.slice.result.now in
+    let count = (d.phase + length input) / d.factor in
+    let enough = groups-room (length input) d.phase d.factor c.args.self.now.factor (length c.args.output.now) (omega arith) (ap (λ (s : DecimateState). s.factor) c.self.view_is) c.requires.room in
+    let taken = length-take-le count c.args.output.now enough in
+    let view_len : vec_len d.taps ≡ length taps = search rules in
+    let some : 0 < length (map number taps) = omega (arith, length-map taps number) in
+    let out_long : length out ≡ count = omega (arith, c.strided_rows.auto.out, taken) in
+    let counted : length (take count c.args.output.now) ≡ (d.phase + length (map number input)) / d.factor = taken ∙ ap (λ n. (d.phase + n) / d.factor) (sym (length-map input number)) in
+    let stood = rw (← c.self.view_is) at stands in
+    let shows : window ≡ last_of (past_length d.factor (length (map number taps))) x ++ map number input =
+    c.slice.ensures.samples ∙ shows-after d.window c.push_block.new.self (past_length d.factor (length (map number taps))) x (map number input) c.push_block.ensures.rolls stood.past_is in
+    let rows_are : map number out ≡ strided_rows T.format (map number taps) window (d.factor - 1 - d.phase) d.factor (length (take count c.args.output.now)) =
+    c.strided_rows.ensures.out ∙ ap (λ t. strided_rows T.format (map number t) window (d.factor - 1 - d.phase) d.factor (length (take count c.args.output.now))) c.deref.ensures.value in
+    rw (← c.self.view_is)
+    (rw (front-written count out c.args.output.now out_long)
+    (decimate-values T.format d.factor (map number taps) x (map number input) window (map number out) d.phase _ (omega arith) some stood.phase_is counted shows rows_are))
+
+pub returns-clause-stands : goal.returns-clause-stands
+returns-clause-stands g c = λ x stands.
+    let number = g.T.Sample.number in
+    let d = c.self.inside in
+    let taps = d.taps.items in
+    let input = c.args.input.now in
+    let view_len : vec_len d.taps ≡ length taps = search rules in
+    let past : d.window.past ≡ past_length d.factor (length (map number taps)) = omega (arith, length-map taps number) in
+    let stood = rw (← c.self.view_is) at stands in
+    record {
+      past_is = keeps-after d.window c.push_block.new.self (past_length d.factor (length (map number taps))) x (map number input) c.push_block.ensures.rolls stood.past_is past;
+      phase_is =
+          phase-more (length x) (length input) d.phase d.factor (omega arith) stood.phase_is
+          ∙ ap (λ n. n % d.factor) (ap (λ n. length x + n) (sym (length-map input number)) ∙ sym (length-append x (map number input)));
+    }
+
+pub returns-clause-count : goal.returns-clause-count
+returns-clause-count g c = λ n counts.
+    rw (← c.self.view_is) (groups-more n (length c.args.input.now) c.self.inside.phase c.self.inside.factor (omega arith) (rw (← c.self.view_is) at counts))
+
+pub returns-clause-counts : goal.returns-clause-counts
+returns-clause-counts g c = λ n counts.
+    phase-more n (length c.args.input.now) c.self.inside.phase c.self.inside.factor (omega arith) (rw (← c.self.view_is) at counts)
+
+pub returns-clause-multiplies : goal.returns-clause-multiplies
+returns-clause-multiplies g c =
+    let d = c.self.inside in
+    let count = (d.phase + length c.args.input.now) / d.factor in
+    let enough = groups-room (length c.args.input.now) d.phase d.factor c.args.self.now.factor (length c.args.output.now) (omega arith) (ap (λ (s : DecimateState). s.factor) c.self.view_is) c.requires.room in
+    let taken : length (take count c.args.output.now) ≡ count = length-take-le count c.args.output.now enough in
+    let taps_long : length c.deref.result.now ≡ length c.args.self.now.taps = ap length c.deref.ensures.value ∙ sym (length-map d.taps.items g.T.Sample.number) ∙ ap (λ (s : DecimateState). length s.taps) c.self.view_is in
+    c.strided_rows.ensures.steps.multiplies_rise ∙ ap₂ (λ a b. c.args.steps.now.multiplies + a * b) taken taps_long
+
+pub returns-clause-turns : goal.returns-clause-turns
+returns-clause-turns g c =
+    let d = c.self.inside in
+    let count = (d.phase + length c.args.input.now) / d.factor in
+    let enough = groups-room (length c.args.input.now) d.phase d.factor c.args.self.now.factor (length c.args.output.now) (omega arith) (ap (λ (s : DecimateState). s.factor) c.self.view_is) c.requires.room in
+    let taken : length (take count c.args.output.now) ≡ count = length-take-le count c.args.output.now enough in
+    let taps_long : length c.deref.result.now ≡ length c.args.self.now.taps = ap length c.deref.ensures.value ∙ sym (length-map d.taps.items g.T.Sample.number) ∙ ap (λ (s : DecimateState). length s.taps) c.self.view_is in
+    subst (λ (n : ℕ). c.strided_rows.new.steps.turns ≤ n) (ap₂ (λ a b. c.args.steps.now.turns + a * lane_turns g.row.L b) taken taps_long) c.strided_rows.ensures.steps.turns_within

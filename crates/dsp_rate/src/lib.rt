@@ -1,0 +1,15 @@
+//! Filters that change the rate of a signal.
+#![tactic(auto)]
+
+mod channel;
+mod decimate;
+mod making;
+mod strided_rows;
+mod unit;
+
+pub use channel::DecimateChannel;
+pub use decimate::Decimate;
+pub use unit::Unit;
+
+#[cfg(test)]
+mod tests;

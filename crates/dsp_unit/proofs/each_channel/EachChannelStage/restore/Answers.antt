@@ -1,0 +1,41 @@
+use Rattle.std.proofs.Common.{◌≡◌, sym, subst, ◌*◌, ◌≤◌, ◌++◌, length, map, take, drop, arith}
+use Rattle.dsp_defs.specs.Kept.{Fits}
+use Rattle.dsp_defs.specs.Filter.{AreFilters, filter_at, filter_room}
+use Rattle.dsp_defs.specs.Channels.{unit_of_filters, AreRestored}
+use Rattle.dsp_defs.specs.Unit.{Restores}
+use Rattle.dsp_defs.proofs.ChannelRestores.{are-restored, channels-restore}
+use Rattle.dsp_unit.proofs.Units.{written-whole, kept-whole}
+use Rattle.dsp_unit.proofs.each_channel.EachChannelStage.restore.Goals as goal
+
+pub invariant_of-self : goal.invariant_of-self
+invariant_of-self g c =
+    let filter = g.F.Filter.filter in
+    let items = c.self.inside.filters.items in
+    let olds = map filter items in
+    let made = c.restore_channels.new.filters in
+    let slice = c.as_mut_slice.result.now in
+    let size : length made ≡ c.self.inside.filters.len = omega (arith, c.restore_channels.auto.filters, c.as_mut_slice.ensures.len, c.self.inside.filters.ok.0) in
+    let written : take c.self.inside.filters.len (made ++ drop (length made) items) ≡ made = written-whole c.self.inside.filters.len made items size in
+    let restored : AreRestored olds (map filter made) c.args.numbers.now =
+    subst (λ fs. AreRestored (map filter fs) (map filter made) c.args.numbers.now) c.as_mut_slice.ensures.value c.restore_channels.ensures in
+    let fits : Fits g.T.Sample.format (length olds) (filter_at olds 0).block c.args.numbers.now = rw (← c.self.view_is) at c.requires.fits in
+    let are' : AreFilters g.T.Sample.format c.self.inside.capacity (map filter made) = are-restored g.T.Sample.format c.self.inside.capacity olds (map filter made) c.self.invariant.0 c.args.numbers.now fits restored in
+    let first = restored.each 0 (let some = c.self.invariant.0.some in omega (arith, some)) in
+    subst (λ fs. AreFilters g.T.Sample.format c.self.inside.capacity (map filter fs) × (c.self.inside.input.len ≡ c.self.inside.capacity) × (c.self.inside.output.len ≡ filter_room (filter_at (map filter fs) 0)) × (c.self.inside.output.len * c.self.inside.filters.len ≤ 1048576) × (c.self.inside.filters.len ≤ 255)) (sym written)
+    (kept-whole g.T.Sample.format c.self.inside.capacity c.self.inside.input.len c.self.inside.output.len c.self.inside.filters.len olds (map filter made) are' first.made c.self.invariant)
+
+pub returns : goal.returns
+returns g c =
+    let filter = g.F.Filter.filter in
+    let items = c.self.inside.filters.items in
+    let olds = map filter items in
+    let made = c.restore_channels.new.filters in
+    let slice = c.as_mut_slice.result.now in
+    let size : length made ≡ c.self.inside.filters.len = omega (arith, c.restore_channels.auto.filters, c.as_mut_slice.ensures.len, c.self.inside.filters.ok.0) in
+    let written : take c.self.inside.filters.len (made ++ drop (length made) items) ≡ made = written-whole c.self.inside.filters.len made items size in
+    let restored : AreRestored olds (map filter made) c.args.numbers.now =
+    subst (λ fs. AreRestored (map filter fs) (map filter made) c.args.numbers.now) c.as_mut_slice.ensures.value c.restore_channels.ensures in
+    let fits : Fits g.T.Sample.format (length olds) (filter_at olds 0).block c.args.numbers.now = rw (← c.self.view_is) at c.requires.fits in
+    rw (← c.self.view_is)
+    (subst (λ fs. Restores (unit_of_filters g.T.Sample.format c.self.inside.capacity olds) (unit_of_filters g.T.Sample.format c.self.inside.capacity (map filter fs)) c.args.numbers.now) (sym written)
+    (channels-restore g.T.Sample.format c.self.inside.capacity olds (map filter made) c.self.invariant.0 c.args.numbers.now fits restored))

@@ -1,0 +1,142 @@
+#!/usr/bin/env python3
+"""Makes the inputs of the gallery and what each use of it is to give.
+
+    examples/make.py          writes them into the folders of the gallery
+    examples/make.py FOLDER   writes them into a copy, to be compared
+
+What is expected is computed here, by formulas of its own, from the inputs and the scripts' numbers; the
+program is not called.
+"""
+import math
+import os
+import struct
+import sys
+import wave
+
+HERE = os.path.dirname(os.path.abspath(__file__))
+RATE = 8000
+
+
+def saturate(value):
+    return max(-32768, min(32767, value))
+
+
+def tone(hertz, height, count, rate=RATE):
+    return [height * math.sin(2 * math.pi * hertz * n / rate) for n in range(count)]
+
+
+def rounded(values):
+    return [saturate(round(value)) for value in values]
+
+
+def filtered(taps, samples):
+    """A filter in Q15: y(n) is the sum of b[k]*x(n-k), floored to 16 bits; taps are b[0], b[1] and so on."""
+    def sample(n):
+        return samples[n] if n >= 0 else 0
+
+    return [saturate(sum(b * sample(n - k) for k, b in enumerate(taps)) >> 15) for n in range(len(samples))]
+
+
+def windowed(low, high, count, late=0.0):
+    """A filter that lets low..high through, in parts of the rate: an ideal one under a Hamming window. Its
+    delay is so many samples more than half its length."""
+    def ideal(edge, n):
+        return 2 * edge if n == 0 else math.sin(2 * math.pi * edge * n) / (math.pi * n)
+
+    middle = (count - 1) / 2 + late
+    return [
+        (ideal(high, n - middle) - (ideal(low, n - middle) if low else 0))
+        * (0.54 - 0.46 * math.cos(2 * math.pi * n / (count - 1)))
+        for n in range(count)
+    ]
+
+
+def q15(taps):
+    return [saturate(round(tap * 32768)) for tap in taps]
+
+
+def shown(numbers):
+    return "{" + " ".join(str(number) for number in numbers) + "}"
+
+
+def pack(samples):
+    return struct.pack(f"<{len(samples)}h", *samples)
+
+
+class Gallery:
+    def __init__(self, top):
+        self.top = top
+
+    def path(self, use, name):
+        os.makedirs(os.path.join(self.top, use), exist_ok=True)
+        return os.path.join(self.top, use, name)
+
+    def text(self, use, name, text):
+        with open(self.path(use, name), "w") as file:
+            file.write(text)
+
+    def raw(self, use, name, samples):
+        with open(self.path(use, name), "wb") as file:
+            file.write(pack(samples))
+
+    def wave(self, use, name, width, channels, rate, data):
+        with wave.open(self.path(use, name), "wb") as file:
+            file.setnchannels(channels)
+            file.setsampwidth(width)
+            file.setframerate(rate)
+            file.writeframes(data)
+
+    def lowpass(self):
+        """Two tones, of which the higher is to go."""
+        samples = rounded(a + b for a, b in zip(tone(300, 12000, 800), tone(3000, 12000, 800)))
+        taps = q15(windowed(0, 1000 / RATE, 31))
+        self.text("lowpass", "script.txt", f"dspfx 1\ninput wave q15 1\nfir {shown(reversed(taps))}\noutput wave\n")
+        self.wave("lowpass", "in.wav", 2, 1, RATE, pack(samples))
+        self.wave("lowpass", "expected.wav", 2, 1, RATE, pack(filtered(taps, samples)))
+
+    def convert(self):
+        """A file of 8 bits, which in WAVE are unsigned, to one of 16."""
+        samples = [max(-128, min(127, round(value))) for value in tone(440, 100, 401)]
+        self.text("convert", "script.txt", "dspfx 1\ninput wave q7 1\nto q15\noutput wave\n")
+        self.wave("convert", "in.wav", 1, 1, RATE, bytes(128 + sample for sample in samples))
+        self.wave("convert", "expected.wav", 2, 1, RATE, pack([256 * sample for sample in samples]))
+
+    def magnitude(self):
+        """A rotating vector whose length rises, as two channels, to the square of its length."""
+        count = 400
+        heights = [30000 * n / count for n in range(count)]
+        pairs = [
+            rounded((height * math.cos(2 * math.pi * n / 37), height * math.sin(2 * math.pi * n / 37)))
+            for n, height in enumerate(heights)
+        ]
+        self.text("magnitude", "script.txt", "dspfx 1\ninput raw q15 2 48000\ncmplx_mag_squared\noutput raw\n")
+        self.raw("magnitude", "in.raw", [value for pair in pairs for value in pair])
+        self.raw("magnitude", "expected.raw", [(re * re + im * im) >> 17 for re, im in pairs])
+
+    def mono(self):
+        """Half of each channel, added."""
+        left, right = rounded(tone(440, 32767, 600)), rounded(tone(660, 32767, 600))
+        frames = [value for pair in zip(left, right) for value in pair]
+        halves = [(a * 16384 >> 15, b * 16384 >> 15) for a, b in zip(left, right)]
+        self.text("mono", "script.txt", "dspfx 1\ninput wave q15 2\nscale 16384 0\nadd\noutput wave\n")
+        self.wave("mono", "in.wav", 2, 2, RATE, pack(frames))
+        self.wave("mono", "expected.wav", 2, 1, RATE, pack([saturate(a + b) for a, b in halves]))
+
+    def designed(self):
+        """The taps of a design, as a tool writes them: fractions, b[0] first. A script wants them in Q15,
+        time-reversed."""
+        design = [f"{tap:.9f}" for tap in windowed(800 / RATE, 1600 / RATE, 45, late=0.3)]
+        taps = q15(map(float, design))
+        samples = rounded(a + b + c for a, b, c in zip(tone(200, 9000, 500), tone(1200, 9000, 500), tone(3400, 9000, 500)))
+        self.text("designed", "taps.txt", "\n".join(design) + "\n")
+        self.text("designed", "script.txt", f"dspfx 1\ninput raw q15 1 {RATE}\nfir {shown(reversed(taps))}\noutput raw\n")
+        self.raw("designed", "in.raw", samples)
+        self.raw("designed", "expected.raw", filtered(taps, samples))
+
+
+gallery = Gallery(sys.argv[1] if len(sys.argv) > 1 else HERE)
+gallery.lowpass()
+gallery.convert()
+gallery.magnitude()
+gallery.mono()
+gallery.designed()

@@ -1,0 +1,299 @@
+#!/usr/bin/env bash
+# Measures whole runs of the built program, file to file: every block that is built with typical
+# parameters, time against frames and against taps, the start, and the parsing of a long script.
+# Prints the tables of docs/PERFORMANCE.md. It is no part of the gate, and needs python.
+#
+#   DSPFX    another program to be measured
+#   PEER     a program that takes the same words, to be measured beside it in the same passes; its
+#            output must be the same. Without it the last two columns are empty
+#   FRAMES   frames of a run (4000000), PASSES how often each is measured (7; the least counts)
+#   ONLY     only the rows whose name has this text, and nothing else
+#
+# Times are of the processor, user and system. Peak memory needs gcc: a small launcher that has little
+# memory of its own tells it.
+set -u
+top=$(cd "$(dirname "$(readlink -f "${BASH_SOURCE[0]}")")/.." && pwd) || exit 70
+folder=$(mktemp -d) || exit 70
+trap 'rm -rf "$folder"' EXIT
+
+[ -n "${DSPFX:-}" ] || "$top/dspfx" print "$top/examples/first/s.txt" >/dev/null || exit 70
+export PROGRAM=${DSPFX:-$top/crates/dspfx/out/dspfx}
+
+# launch FILE PROGRAM WORD..: writes microseconds of the processor, microseconds that passed, KiB at the
+# most and the status to the open file of that number.
+cat >"$folder/launch.c" <<'C'
+#define _DEFAULT_SOURCE
+#include <stdio.h>
+#include <stdlib.h>
+#include <sys/resource.h>
+#include <sys/time.h>
+#include <sys/wait.h>
+#include <time.h>
+#include <unistd.h>
+
+static long micros(struct timeval t) { return t.tv_sec * 1000000L + t.tv_usec; }
+
+int main(int count, char **words) {
+    struct timespec begin, end;
+    struct rusage used;
+    int status;
+    if (count < 3) return 70;
+    clock_gettime(CLOCK_MONOTONIC, &begin);
+    pid_t child = vfork();
+    if (child == 0) {
+        execv(words[2], words + 2);
+        _exit(70);
+    }
+    if (child < 0 || wait4(child, &status, 0, &used) < 0) return 70;
+    clock_gettime(CLOCK_MONOTONIC, &end);
+    long passed = (end.tv_sec - begin.tv_sec) * 1000000L + (end.tv_nsec - begin.tv_nsec) / 1000;
+    dprintf(atoi(words[1]), "%ld %ld %ld %d\n", micros(used.ru_utime) + micros(used.ru_stime), passed,
+            used.ru_maxrss, WIFEXITED(status) ? WEXITSTATUS(status) : 70);
+    return 0;
+}
+C
+export LAUNCH=
+if gcc -O1 -static -o "$folder/launch" "$folder/launch.c" 2>/dev/null; then LAUNCH=$folder/launch; fi
+
+FOLDER=$folder python3 - <<'PYTHON'
+import filecmp
+import os
+import resource
+import subprocess
+import time
+
+folder = os.environ["FOLDER"]
+program = os.environ["PROGRAM"]
+peer = os.environ.get("PEER", "")
+launch = os.environ["LAUNCH"]
+frames = int(os.environ.get("FRAMES", "4000000"))
+passes = int(os.environ.get("PASSES", "7"))
+only = os.environ.get("ONLY", "")
+
+BITS = {"q7": 8, "q15": 16, "q31": 32}
+NOT_BUILT = 12
+
+
+def numbers(values):
+    return "{" + " ".join(str(value) for value in values) + "}"
+
+
+def taps(form, count):
+    """Values of both signs whose absolute values add up to less than one, where one fits each."""
+    most = max(1, 2 ** (BITS[form] - 1) // count - 1)
+    return numbers((1 + index * 7919 % most) * (-1) ** (index % 3 == 0) for index in range(count))
+
+
+def sections(form, count):
+    one = 2 ** (BITS[form] - 2)
+    feed, back = [one // 16, one // 8, one // 16], [one, -one * 3 // 8]
+    return numbers((feed[:1] + ([0] if form == "q15" else []) + feed[1:] + back) * count)
+
+
+def half(form):
+    return 2 ** (BITS[form] - 2)
+
+
+ALL, WIDE, Q15, Q31 = ("q7", "q15", "q31"), ("q15", "q31"), ("q15",), ("q31",)
+
+# A row of the table: its name, its formats, its channels, the text of its blocks in a format, and the
+# frames that it can take at most. A block that is not built is left out and named at the end.
+BLOCKS = [
+    ("no block", ALL, 1, lambda form: ""),
+    ("offset", ALL, 1, lambda form: f"offset {half(form)}"),
+    ("negate", ALL, 1, lambda form: "negate"),
+    ("abs", ALL, 1, lambda form: "abs"),
+    ("scale", ALL, 1, lambda form: f"scale {half(form)} 1"),
+    ("shift", ALL, 1, lambda form: "shift 2"),
+    ("clip", ALL, 1, lambda form: f"clip {-half(form)} {half(form)}"),
+    ("to", ALL, 1, lambda form: "to q31" if form != "q31" else "to q15"),
+    ("add", ALL, 2, lambda form: "add"),
+    ("mult", ALL, 2, lambda form: "mult"),
+    ("route", ALL, 2, lambda form: "route {1 0}"),
+    ("cmplx_conj", WIDE, 2, lambda form: "cmplx_conj"),
+    ("cmplx_mult", WIDE, 4, lambda form: "cmplx_mult"),
+    ("cmplx_mult_real", Q15, 3, lambda form: "cmplx_mult_real"),
+    ("cmplx_mag_squared", WIDE, 2, lambda form: "cmplx_mag_squared"),
+    ("fir of 32 taps", ALL, 1, lambda form: "fir " + taps(form, 32)),
+    ("fir of 32 taps, stereo", Q15, 2, lambda form: "fir " + taps(form, 32)),
+    ("fir of 256 taps", ALL, 1, lambda form: "fir " + taps(form, 256)),
+    ("sparse of 16 taps", ALL, 1, lambda form: f"sparse {taps(form, 16)} {numbers(range(0, 4000, 250))}"),
+    ("decimate 4, 64 taps", WIDE, 1, lambda form: "decimate 4 " + taps(form, 64)),
+    ("interpolate 4, 64 taps", WIDE, 1, lambda form: "interpolate 4 " + taps(form, 64)),
+    ("lattice_fir of 16", Q15, 1, lambda form: "lattice_fir " + taps(form, 16)),
+    ("lattice_iir of 16", WIDE, 1, lambda form: f"lattice_iir {taps(form, 16)} {taps(form, 17)}"),
+    ("biquad of 4", WIDE, 1, lambda form: "biquad 1 " + sections(form, 4)),
+    ("biquad64 of 4", Q31, 1, lambda form: "biquad64 1 " + sections(form, 4)),
+    ("conv of 64 taps", ALL, 1, lambda form: "conv " + taps(form, 64)),
+    ("conv_partial of 64 taps", ALL, 1, lambda form: "conv_partial 0 1000 " + taps(form, 64)),
+    ("correlate of 64 taps", ALL, 1, lambda form: "correlate " + taps(form, 64), 1000000),
+    ("lms of 32 taps", WIDE, 2, lambda form: f"lms 0 {half(form) // 8} {numbers([0] * 32)}"),
+    ("pid", WIDE, 1, lambda form: f"pid {half(form) // 4} {half(form) // 32} {half(form) // 64}"),
+    ("mat_add of 8 by 8", WIDE, 1, lambda form: "mat_add 8 8 " + taps(form, 64)),
+    ("mat_scale of 8 by 8", WIDE, 1, lambda form: f"mat_scale 8 8 {half(form)} 1"),
+    ("mat_trans of 8 by 8", WIDE, 1, lambda form: "mat_trans 8 8"),
+    ("mat_mult of 8 by 8", Q15, 1, lambda form: "mat_mult 8 8 8 " + taps(form, 64)),
+    ("power", ALL, 1, lambda form: "power"),
+    ("dot", ALL, 2, lambda form: "dot"),
+    ("cmplx_dot", WIDE, 4, lambda form: "cmplx_dot"),
+    ("max and min", ALL, 1, lambda form: "max min"),
+]
+
+
+class Run:
+    """What a program spent: processor time and time that passed in ns, KiB, its status, its report."""
+
+    def __init__(self, words):
+        with open(f"{folder}/report", "wb") as report:
+            if launch:
+                reading, writing = os.pipe()
+                subprocess.run([launch, str(writing)] + words, stdout=report, pass_fds=[writing])
+                os.close(writing)
+                with os.fdopen(reading) as told:
+                    spent, passed, peak, status = map(int, told.read().split())
+                self.spent, self.passed, self.peak, self.status = spent * 1000, passed * 1000, peak, status
+            else:
+                used, begin = resource.getrusage(resource.RUSAGE_CHILDREN), time.monotonic_ns()
+                self.status = subprocess.run(words, stdout=report).returncode
+                self.passed = time.monotonic_ns() - begin
+                now = resource.getrusage(resource.RUSAGE_CHILDREN)
+                self.spent = (now.ru_utime + now.ru_stime - used.ru_utime - used.ru_stime) * 1e9
+                self.peak = None
+        with open(f"{folder}/report", errors="replace") as report:
+            self.report = report.read()
+
+    def multiplies(self):
+        lines = [line for line in self.report.splitlines() if line.startswith("multiplies ")]
+        return int(lines[0].split()[1]) if lines else 0
+
+
+def script(form, channels, blocks):
+    path = f"{folder}/script.txt"
+    with open(path, "w") as file:
+        file.write(f"dspfx 1 input raw {form} {channels} 48000 {blocks} output raw\n")
+    return path
+
+
+inputs = {}
+
+
+def made(form, channels, count):
+    """A generated input; the last few are kept."""
+    key = (form, channels, count)
+    if key not in inputs:
+        while len(inputs) > 3:
+            os.remove(inputs.pop(next(iter(inputs))))
+        path = f"{folder}/in-{form}-{channels}-{count}.raw"
+        run = Run([program, "gen", "1", str(count), script(form, channels, ""), path])
+        if run.status != 0:
+            raise SystemExit(f"no input: {run.report}")
+        inputs[key] = path
+    return inputs[key]
+
+
+def least(form, channels, blocks, count, programs, rounds):
+    """The runs of the least processor time, a program each, measured in turns."""
+    source = made(form, channels, count)
+    path = script(form, channels, blocks)
+    best = [None] * len(programs)
+    for _ in range(rounds):
+        for place, name in enumerate(programs):
+            run = Run([name, "run", path, source, f"{folder}/out-{place}.raw"])
+            if run.status != 0:
+                best[place] = run
+            elif best[place] is None or run.spent < best[place].spent:
+                best[place] = run
+    if len(programs) > 1 and best[0].status == best[1].status == 0:
+        if not filecmp.cmp(f"{folder}/out-0.raw", f"{folder}/out-1.raw", shallow=False):
+            raise SystemExit(f"the outputs differ: {form} {channels} {blocks}")
+    return best
+
+
+def shown(value, digits=1):
+    return "" if value is None else f"{value:.{digits}f}"
+
+
+def table_of_blocks(programs):
+    print(f"| block | format | ns per frame | products per ns | peak KiB | peer, ns per frame | ratio |")
+    print("|---|---|---|---|---|---|---|")
+    missing = []
+    for name, forms, channels, text, *most in BLOCKS:
+        if only not in name:
+            continue
+        count = min([frames] + most)
+        for form in forms:
+            first = least(form, channels, text(form), 1000, programs[:1], 1)[0]
+            if first.status == NOT_BUILT:
+                missing.append(f"{name} {form}")
+                continue
+            runs = least(form, channels, text(form), count, programs, passes)
+            if runs[0].status != 0:
+                print(f"| {name} | {form} | status {runs[0].status} | | | | |", flush=True)
+                continue
+            ours, products = runs[0].spent / count, runs[0].multiplies()
+            theirs = runs[1].spent / count if len(runs) > 1 and runs[1].status == 0 else None
+            rate = products / runs[0].spent if products else None
+            ratio = ours / theirs if theirs else None
+            print(f"| {name} | {form} | {ours:.1f} | {shown(rate, 2)} | {shown(runs[0].peak, 0)} | {shown(theirs)} | {shown(ratio, 2)} |", flush=True)
+    if missing:
+        print(f"\nNot built: {', '.join(missing)}.")
+
+
+def against_frames(programs):
+    print("\n| frames | none, ns per frame | `fir` of 32 taps, ns per frame | peak KiB |")
+    print("|---|---|---|---|")
+    for count in (100000, 1000000, 10000000):
+        plain = least("q15", 1, "", count, programs[:1], passes)[0]
+        fir = least("q15", 1, "fir " + taps("q15", 32), count, programs[:1], passes)[0]
+        print(f"| {count} | {plain.spent / count:.1f} | {fir.spent / count:.1f} | {shown(fir.peak, 0)} |", flush=True)
+
+
+def against_taps(programs):
+    count = min(frames, 1000000)
+    print("\n| taps of `fir`, Q15 | ns per frame | products per ns | peer, ns per frame | ratio |")
+    print("|---|---|---|---|---|")
+    for size in (16, 32, 64, 128, 256, 512, 1024, 2048, 4096):
+        runs = least("q15", 1, "fir " + taps("q15", size), count, programs, max(1, passes // 2))
+        ours = runs[0].spent / count
+        theirs = runs[1].spent / count if len(runs) > 1 and runs[1].status == 0 else None
+        print(f"| {size} | {ours:.1f} | {size / ours:.2f} | {shown(theirs)} | {shown(ours / theirs if theirs else None, 2)} |", flush=True)
+
+
+def long_script(size):
+    """A sound script of nearly so many bytes, nearly all of it numbers."""
+    path = f"{folder}/long.txt"
+    head, tail, block = "dspfx 1 input raw q31 1 48000\n", "output raw\n", ""
+    room = size - len(head) - len(tail)
+    count = min(63, max(1, room // (4096 * 12) + 1))
+    per = min(4096, (room // count - 8) // 12)
+    block = "fir " + numbers([1000000000 + index for index in range(per)]) + "\n"
+    with open(path, "w") as file:
+        file.write(head + block * (room // len(block)) + tail)
+    return path
+
+
+def start_and_scripts(programs):
+    rounds = 20 * max(1, passes // 2)
+
+    def best(path):
+        runs = [Run([program, "print", path]) for _ in range(rounds)]
+        if runs[0].status != 0:
+            raise SystemExit(runs[0].report)
+        return min(run.passed for run in runs) / 1e6
+
+    start = best(script("q15", 1, ""))
+    print("\n| `print` of | ms that passed, least | without the start |")
+    print("|---|---|---|")
+    print(f"| one line | {start:.2f} | |")
+    for name, size in (("64 KiB", 2**16), ("1 MiB", 2**20)):
+        whole = best(long_script(size))
+        print(f"| a script of {name} | {whole:.2f} | {whole - start:.2f} |", flush=True)
+
+
+programs = [program] + ([peer] if peer else [])
+table_of_blocks(programs)
+if not only:
+    against_frames(programs)
+    against_taps(programs)
+    start_and_scripts(programs)
+PYTHON

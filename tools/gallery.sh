@@ -1,0 +1,47 @@
+#!/usr/bin/env bash
+# Runs the five uses of examples/ and compares what they write with what is expected there, byte by byte;
+# and makes the gallery anew by examples/make.py, where python is installed, and compares that with what
+# stands in the repository. It is no part of the gate. DSPFX names another program.
+set -u
+top=$(cd "$(dirname "$(readlink -f "${BASH_SOURCE[0]}")")/.." && pwd) || exit 70
+program=${DSPFX:-$top/dspfx}
+folder=$(mktemp -d) || exit 70
+trap 'rm -rf "$folder"' EXIT
+passed=0 failed=0
+
+# Counts a check by the status of its command.
+check() {
+    local name=$1
+    shift
+    if "$@" >"$folder/log" 2>&1; then
+        passed=$((passed + 1))
+    else
+        failed=$((failed + 1))
+        echo "FAILED $name"
+        sed 's/^/    /' "$folder/log"
+    fi
+}
+
+# use NAME INPUT ENDING
+use() {
+    local use=$top/examples/$1
+    check "$1 runs" "$program" run "$use/script.txt" "$use/$2" "$folder/out.$3"
+    check "$1 gives what is expected" cmp "$folder/out.$3" "$use/expected.$3"
+    rm -f "$folder/out.$3"
+}
+
+use lowpass in.wav wav
+use convert in.wav wav
+use magnitude in.raw raw
+use mono in.wav wav
+use designed in.raw raw
+
+if command -v python3 >/dev/null; then
+    check "the gallery is made" python3 "$top/examples/make.py" "$folder/made"
+    for made in "$folder"/made/*/*; do
+        check "${made#"$folder"/made/} is made as it stands" cmp "$made" "$top/examples/${made#"$folder"/made/}"
+    done
+fi
+
+echo "$passed passed, $failed failed"
+[ "$failed" = 0 ]

@@ -2,25 +2,7 @@
 # Runs the five uses of examples/ and compares what they write with what is expected there, byte by byte;
 # and makes the gallery anew by examples/make.py, where python is installed, and compares that with what
 # stands in the repository. It is no part of the gate. DSPFX names another program.
-set -u
-top=$(cd "$(dirname "$(readlink -f "${BASH_SOURCE[0]}")")/.." && pwd) || exit 70
-program=${DSPFX:-$top/dspfx}
-folder=$(mktemp -d) || exit 70
-trap 'rm -rf "$folder"' EXIT
-passed=0 failed=0
-
-# Counts a check by the status of its command.
-check() {
-    local name=$1
-    shift
-    if "$@" >"$folder/log" 2>&1; then
-        passed=$((passed + 1))
-    else
-        failed=$((failed + 1))
-        echo "FAILED $name"
-        sed 's/^/    /' "$folder/log"
-    fi
-}
+. "$(dirname "$(readlink -f "${BASH_SOURCE[0]}")")/checks.sh"
 
 # use NAME INPUT ENDING
 use() {
@@ -43,5 +25,4 @@ if command -v python3 >/dev/null; then
     done
 fi
 
-echo "$passed passed, $failed failed"
-[ "$failed" = 0 ]
+counted

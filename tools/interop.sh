@@ -2,25 +2,7 @@
 # WAVE files of other programs through `dspfx run`, and what it writes read by them: python's `wave`
 # module, and sox and libsndfile's tools where they are installed. It is no part of the gate.
 # DSPFX names another program to be tried, which takes `run SCRIPT IN OUT`.
-set -u
-top=$(cd "$(dirname "$(readlink -f "${BASH_SOURCE[0]}")")/.." && pwd) || exit 70
-program=${DSPFX:-$top/dspfx}
-folder=$(mktemp -d) || exit 70
-trap 'rm -rf "$folder"' EXIT
-passed=0 failed=0
-
-# Counts a check by the status of its command.
-check() {
-    local name=$1
-    shift
-    if "$@" >"$folder/log" 2>&1; then
-        passed=$((passed + 1))
-    else
-        failed=$((failed + 1))
-        echo "FAILED $name"
-        sed 's/^/    /' "$folder/log"
-    fi
-}
+. "$(dirname "$(readlink -f "${BASH_SOURCE[0]}")")/checks.sh"
 
 # Copies a WAVE file by a script of no blocks: copy FORMAT CHANNELS IN OUT.
 copy() {
@@ -118,5 +100,5 @@ if has python3; then
     if has sndfile-convert; then with_sndfile; fi
 fi
 if has sox; then with_sox; fi
-echo "$passed passed, $failed failed"
-[ "$failed" -eq 0 ]
+
+counted

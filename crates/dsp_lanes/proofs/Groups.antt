@@ -1,7 +1,7 @@
 -- A loop that works on slices group by group, and then element by element, in numbers.
 use Rattle.std.proofs.Common.{ℕ, ◌≡◌, ◌<◌, ◌≤◌, ◌+◌, ◌-◌, ◌*◌, ◌/◌, ◌%◌, suc, List, [], ◌∷◌, ◌++◌, length, take, drop, map, set, ℤ, pos, refl, sym, ap, ◌∙◌, arith, length-take-le, take-add, drop-drop}
-use Rattle.std.proofs.lemmas.List.{map-append, length-map, take_more_set, drop-set-lt, drop_at, get_or-drop}
-use Rattle.std.proofs.lemmas.Simd.{length-zip2, length-chunk, take_more_put_chunk, put_chunk_is}
+use Rattle.std.proofs.lemmas.List.{map-append, length-map, length-append, append_assoc, take_more_set, drop-set-lt, drop_at, get_or-drop}
+use Rattle.std.proofs.lemmas.Simd.{length-zip2, length-chunk, length-put_chunk, take_more_put_chunk, put_chunk_is}
 use Rattle.std.proofs.Math.Seq.{take-suc}
 use native.Mathlib.Nat.{div-eq_of_lt-le}
 use lib.Lanes.{zip2, chunk, put_chunk}
@@ -9,7 +9,7 @@ use Rattle.dsp_defs.specs.Counts.{Counts, Rises}
 use Rattle.dsp_defs.specs.Signal.{sample}
 use Rattle.dsp_lanes.specs.Turns.{RisesWithin, lane_turns}
 
-zip2-append : (f : ℤ → ℤ → ℤ) (xs xs' ys ys' : List ℤ) → length xs ≡ length ys → zip2 f (xs ++ xs') (ys ++ ys') ≡ zip2 f xs ys ++ zip2 f xs' ys'
+pub zip2-append : (f : ℤ → ℤ → ℤ) (xs xs' ys ys' : List ℤ) → length xs ≡ length ys → zip2 f (xs ++ xs') (ys ++ ys') ≡ zip2 f xs ys ++ zip2 f xs' ys'
 zip2-append f [] xs' [] ys' e = refl
 zip2-append f [] xs' (y ∷ ys) ys' e = absurd (omega (arith, e))
 zip2-append f (x ∷ xs) xs' [] ys' e = absurd (omega (arith, e))
@@ -52,6 +52,27 @@ rest-group at n new old first ys long room left is =
     ∙ drop_at ys rest n long
     ∙ (λ i. drop (long i) (left i))
     ∙ drop-drop n at first
+
+-- ---- two groups, one behind the other
+pub chunk-append : (at n m : ℕ) (xs : List ℤ) → chunk at (n + m) xs ≡ chunk at n xs ++ chunk (at + n) m xs
+chunk-append at n m xs = take-add n m (drop at xs) ∙ ap (λ l. chunk at n xs ++ take m l) (drop-drop n at xs)
+
+pub put_chunk-append : (at : ℕ) (old xs ys : List ℤ) → at + length xs + length ys ≤ length old → put_chunk at old (xs ++ ys) ≡ put_chunk (at + length xs) (put_chunk at old xs) ys
+put_chunk-append at old xs ys room =
+    let n = length xs in
+    let m = length ys in
+    let first = put_chunk at old xs in
+    let same : length first ≡ length old = length-put_chunk at old xs in
+    let both : length (xs ++ ys) ≡ n + m = length-append xs ys in
+    let front : take (at + n) first ≡ take at old ++ xs = take_more_put_chunk at old xs (at + n) refl (omega arith) in
+    let behind : drop (at + n) first ≡ drop (at + n) old = rest-group at n first old old xs refl (omega arith) refl refl in
+    put_chunk_is at old (xs ++ ys) (omega (arith, both, room))
+    ∙ ap (λ k. take at old ++ ((xs ++ ys) ++ drop k (drop at old))) both
+    ∙ ap (λ l. take at old ++ ((xs ++ ys) ++ l)) (sym (drop-drop m n (drop at old)) ∙ ap (drop m) (drop-drop n at old))
+    ∙ ap (λ l. take at old ++ l) (append_assoc xs ys (drop m (drop (at + n) old)))
+    ∙ sym (append_assoc (take at old) xs (ys ++ drop m (drop (at + n) old)))
+    ∙ (λ i. sym front i ++ (ys ++ drop m (sym behind i)))
+    ∙ sym (put_chunk_is (at + n) first ys (omega (arith, same, room)))
 
 -- ---- the next element
 pub zip2-one : (f : ℤ → ℤ → ℤ) (at m : ℕ) (old a b : List ℤ) (v : ℤ) → m ≡ at + 1 → length a ≡ length old → length b ≡ length old → at < length old

@@ -1,16 +1,16 @@
 -- Sums of products by lanes, in the words of filters.
 use Rattle.std.proofs.Common.{ℕ, ◌≡◌, ◌<◌, ◌≤◌, ◌+◌, zero, suc, List, [], ◌∷◌, ◌++◌, length, take, replicate, set, ℤ, pos, ◌+ℤ◌, ◌*ℤ◌, refl, sym, ap, ◌∙◌, arith}
-use Rattle.std.proofs.lemmas.Int.{ints, int_wrap-add_left, int_wrap-add_right}
+use Rattle.std.proofs.lemmas.Int.{ints, int_wrap_fits, int_wrap-add_left, int_wrap-add_right}
 use Rattle.std.proofs.lemmas.List.{take_more_set, drop_more}
 use Rattle.std.proofs.lemmas.List.FromFn.{length-map-range_with_len, get_or-map-range_with_len}
-use Rattle.std.proofs.lemmas.Simd.{length-chunk, length-zip2, get_or-chunk, zip2-map, take_more_put_chunk, length-replicate}
+use Rattle.std.proofs.lemmas.Simd.{length-chunk, get_or-chunk, zip2-map, take_more_put_chunk, length-replicate}
 use Rattle.std.specs.List.{range_with_len}
 use Rattle.std.specs.Int.{int_wrap}
 use lib.IntN.{+ℤ_idr, +ℤ_idl, +ℤ_assoc}
 use lib.Lanes.{zip2, chunk, put_chunk}
-use mir.Syntax.{Width}
+use mir.Syntax.{Width, w8, w16, w32, w64, w128}
 use Rattle.dsp_defs.specs.Signal.{sample, sum_below, values}
-use Rattle.dsp_defs.proofs.Signal.{values_cong, values-add}
+use Rattle.dsp_defs.proofs.Signal.{values_cong, values-add, sum_below_cong, sum_below-front}
 use Rattle.dsp_defs.proofs.SumLemmas.{same_numbers}
 use Rattle.dsp_lanes.specs.Regrouped.{list_sum}
 
@@ -36,6 +36,13 @@ values-zero n =
     zeros zero i = refl
     zeros (suc n) zero = refl
     zeros (suc n) (suc i) = zeros n i
+
+pub wrap-zero : (w : Width) → pos 0 ≡ int_wrap w (pos 0)
+wrap-zero w8 = sym (int_wrap_fits w8 (pos 0) (omega (arith, ints)))
+wrap-zero w16 = sym (int_wrap_fits w16 (pos 0) (omega (arith, ints)))
+wrap-zero w32 = sym (int_wrap_fits w32 (pos 0) (omega (arith, ints)))
+wrap-zero w64 = sym (int_wrap_fits w64 (pos 0) (omega (arith, ints)))
+wrap-zero w128 = sym (int_wrap_fits w128 (pos 0) (omega (arith, ints)))
 
 -- ---- rows
 -- the sum of j taps over the window at a place
@@ -88,7 +95,7 @@ rows-one f at m old v next room done is =
     ∙ ap (λ k. values k f) (sym next)
 
 -- ---- a sum by lanes
-list_sum-wraps : (w : Width) (lanes ps : List ℤ) → length lanes ≡ length ps → int_wrap w (list_sum (zip2 (λ s p. int_wrap w (s +ℤ p)) lanes ps)) ≡ int_wrap w (list_sum lanes +ℤ list_sum ps)
+pub list_sum-wraps : (w : Width) (lanes ps : List ℤ) → length lanes ≡ length ps → int_wrap w (list_sum (zip2 (λ s p. int_wrap w (s +ℤ p)) lanes ps)) ≡ int_wrap w (list_sum lanes +ℤ list_sum ps)
 list_sum-wraps w [] [] e = refl
 list_sum-wraps w [] (p ∷ ps) e = absurd (omega (arith, e))
 list_sum-wraps w (s ∷ lanes) [] e = absurd (omega (arith, e))
@@ -104,38 +111,24 @@ pub list_sum-zeros : (n : ℕ) → list_sum (replicate n (pos 0)) ≡ pos 0
 list_sum-zeros zero = refl
 list_sum-zeros (suc n) = +ℤ_idl (list_sum (replicate n (pos 0))) ∙ list_sum-zeros n
 
--- the products of a group go on where those before it end
-products-group : (at n : ℕ) (xs ys : List ℤ) → at + n ≤ length xs → at + n ≤ length ys
-    → sum_below at (λ k. sample xs k *ℤ sample ys k) +ℤ list_sum (zip2 (λ x y. x *ℤ y) (chunk at n xs) (chunk at n ys)) ≡ sum_below (at + n) (λ k. sample xs k *ℤ sample ys k)
-products-group at zero xs ys room_x room_y =
-    let none : at + zero ≡ at = omega arith in
-    +ℤ_idr (sum_below at (λ k. sample xs k *ℤ sample ys k)) ∙ ap (λ m. sum_below m (λ k. sample xs k *ℤ sample ys k)) (sym none)
-products-group at (suc n) xs ys room_x room_y =
-    let f : ℕ → ℤ = λ k. sample xs k *ℤ sample ys k in
-    let next : suc at ≡ at + 1 = omega arith in
-    let more : suc at + n ≡ at + suc n = omega arith in
-    let rest = list_sum (zip2 (λ x y. x *ℤ y) (chunk (at + 1) n xs) (chunk (at + 1) n ys)) in
-    (λ i. sum_below at f +ℤ list_sum (zip2 (λ x y. x *ℤ y) (take (suc n) (drop_more xs at (pos 0) (omega arith) i)) (take (suc n) (drop_more ys at (pos 0) (omega arith) i))))
-    ∙ sym (+ℤ_assoc (sum_below at f) (f at) rest)
-    ∙ ap (λ k. sum_below (suc at) f +ℤ list_sum (zip2 (λ x y. x *ℤ y) (chunk k n xs) (chunk k n ys))) (sym next)
-    ∙ products-group (suc at) n xs ys (omega arith) (omega arith)
-    ∙ ap (λ m. sum_below m f) more
+-- the products of a group, in order
+pub products-chunk : (at n : ℕ) (xs ys : List ℤ) → at + n ≤ length xs → at + n ≤ length ys
+    → list_sum (zip2 (λ x y. x *ℤ y) (chunk at n xs) (chunk at n ys)) ≡ sum_below n (λ k. sample xs (at + k) *ℤ sample ys (at + k))
+products-chunk at zero xs ys room_x room_y = refl
+products-chunk at (suc n) xs ys room_x room_y =
+    let f : ℕ → ℤ = λ k. sample xs (at + k) *ℤ sample ys (at + k) in
+    let here : at ≡ at + 0 = omega arith in
+    (λ i. list_sum (zip2 (λ x y. x *ℤ y) (take (suc n) (drop_more xs at (pos 0) (omega arith) i)) (take (suc n) (drop_more ys at (pos 0) (omega arith) i))))
+    ∙ ap (λ z. (sample xs at *ℤ sample ys at) +ℤ z) (products-chunk (at + 1) n xs ys (omega arith) (omega arith))
+    ∙ ap (λ z. (sample xs at *ℤ sample ys at) +ℤ z) (sum_below_cong n (λ k. sample xs (at + 1 + k) *ℤ sample ys (at + 1 + k)) (λ k. f (suc k))
+    (λ k lt. let e : at + 1 + k ≡ at + suc k = omega arith in ap (λ p. sample xs p *ℤ sample ys p) e))
+    ∙ ap (λ p. (sample xs p *ℤ sample ys p) +ℤ sum_below n (λ k. f (suc k))) here
+    ∙ sym (sum_below-front n f)
 
-pub dot-group : (w : Width) (at n : ℕ) (taps window lanes new : List ℤ) → at + n ≤ length taps → at + n ≤ length window → length lanes ≡ n
-    → int_wrap w (list_sum lanes) ≡ int_wrap w (sum_below at (λ k. sample taps k *ℤ sample window k))
-    → new ≡ zip2 (λ s p. int_wrap w (s +ℤ p)) lanes (zip2 (λ t x. t *ℤ x) (chunk at n taps) (chunk at n window))
-    → (length new ≡ n) × (int_wrap w (list_sum new) ≡ int_wrap w (sum_below (at + n) (λ k. sample taps k *ℤ sample window k)))
-dot-group w at n taps window lanes new room_t room_w long done is =
-    let long_t : length (chunk at n taps) ≡ n = length-chunk at n taps room_t in
-    let long_w : length (chunk at n window) ≡ n = length-chunk at n window room_w in
-    let ps = zip2 (λ t x. t *ℤ x) (chunk at n taps) (chunk at n window) in
-    let long_p : length ps ≡ n = length-zip2 (λ t x. t *ℤ x) (chunk at n taps) (chunk at n window) (omega arith) ∙ long_t in
-    let before = sum_below at (λ k. sample taps k *ℤ sample window k) in (
-      ap length is ∙ length-zip2 (λ s p. int_wrap w (s +ℤ p)) lanes ps (omega arith) ∙ long,
-      ap (λ l. int_wrap w (list_sum l)) is
-          ∙ list_sum-wraps w lanes ps (omega arith)
-          ∙ sym (int_wrap-add_left w (list_sum lanes) (list_sum ps))
-          ∙ ap (λ z. int_wrap w (z +ℤ list_sum ps)) done
-          ∙ int_wrap-add_left w before (list_sum ps)
-          ∙ ap (int_wrap w) (products-group at n taps window room_t room_w),
-    )
+pub sum_below-add : (m n : ℕ) (f : ℕ → ℤ) → sum_below m f +ℤ sum_below n (λ k. f (m + k)) ≡ sum_below (m + n) f
+sum_below-add m zero f = let none : m ≡ m + zero = omega arith in +ℤ_idr (sum_below m f) ∙ ap (λ k. sum_below k f) none
+sum_below-add m (suc n) f =
+    let more : suc (m + n) ≡ m + suc n = omega arith in
+    sym (+ℤ_assoc (sum_below m f) (sum_below n (λ k. f (m + k))) (f (m + n)))
+    ∙ ap (λ z. z +ℤ f (m + n)) (sum_below-add m n f)
+    ∙ ap (λ k. sum_below k f) more

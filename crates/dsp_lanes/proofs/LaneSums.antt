@@ -61,7 +61,7 @@ module _ (w v : Width) (wide : hbits w ≤ hbits v) (room : 2 ^ hbits w * 2 ^ hb
   )
 
   -- ... added to sums
-  products_raise : (lanes xs ys : List ℤ) → Each1 (SFits v) lanes → Each1 (SFits w) xs → Each1 (SFits w) ys
+  pub products_raise : (lanes xs ys : List ℤ) → Each1 (SFits v) lanes → Each1 (SFits w) xs → Each1 (SFits w) ys
       → zip2 (plus_in v) (bits_of v lanes) (zip2 (times_in v) (widened w v xs) (widened w v ys)) ≡ bits_of v (raised v lanes (zip2 (λ x y. x *ℤ y) xs ys))
   products_raise lanes xs ys h f g =
       let made = products_in xs ys f g in
@@ -112,7 +112,7 @@ module _ (w v : Width) (wide : hbits w ≤ hbits v) (room : 2 ^ hbits w * 2 ^ hb
       (made.0 ∙ ap (λ l. zip2 (λ s x. int_wrap v (s +ℤ (t *ℤ x))) lanes (chunk at n l)) (sym (map-self window)), made.1)
 
 -- `reduce_sum`
-reduces : (v : Width) (a : ℤ) (xs : List ℤ) → SFits v a → Each1 (SFits v) xs → fold_l (plus_in v) (of_z v a) (bits_of v xs) ≡ of_z v (int_wrap v (a +ℤ list_sum xs))
+pub reduces : (v : Width) (a : ℤ) (xs : List ℤ) → SFits v a → Each1 (SFits v) xs → fold_l (plus_in v) (of_z v a) (bits_of v xs) ≡ of_z v (int_wrap v (a +ℤ list_sum xs))
 reduces v a [] f g = ap (of_z v) (sym (ap (int_wrap v) (+ℤ_idr a) ∙ int_wrap_fits v a f))
 reduces v a (x ∷ xs) f g =
     ap (λ z. fold_l (plus_in v) z (bits_of v xs)) (add_ints v a x f g.0)

@@ -7,4 +7,8 @@ pub mod LaneDelays
 pub mod HighProducts
 pub mod Groups
 pub mod LaneRows
+pub mod HalfSums
+pub mod HalfProducts
+pub mod ProductPairs
 pub mod PairSums
+pub mod WideSums

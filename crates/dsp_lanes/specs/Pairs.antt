@@ -5,8 +5,18 @@ use Rattle.dsp_defs.specs.Signal.{sample}
 
 -- what the taps j and j+1 give to the sum whose window begins at a place
 abbrev pub pair_sum : List ℤ → List ℤ → ℕ → ℕ → ℤ
-pair_sum taps window j place = wrap w32 ((sample window (place + j) *ℤ sample taps j) +ℤ (sample window (place + j + 1) *ℤ sample taps (j + 1)))
+pair_sum taps window j place = wrap w32 ((sample window place *ℤ sample taps j) +ℤ (sample window (place + 1) *ℤ sample taps (j + 1)))
 
 -- the values at four places that lie two apart
 abbrev pub four : (ℕ → ℤ) → ℕ → List ℤ
 four f place = f place ∷ f (place + 2) ∷ f (place + 4) ∷ f (place + 6) ∷ []
+
+-- two numbers, four times
+abbrev pub repeated : ℤ → ℤ → List ℤ
+repeated t u = t ∷ u ∷ t ∷ u ∷ t ∷ u ∷ t ∷ u ∷ []
+
+-- the even ones and the odd ones in turn
+abbrev pub in_turn : List ℤ → List ℤ → List ℤ
+in_turn [] odd = []
+in_turn (x ∷ even) [] = []
+in_turn (x ∷ even) (y ∷ odd) = x ∷ y ∷ in_turn even odd

@@ -6,7 +6,7 @@ ghost use Rattle.dsp_defs.specs.Elementwise.{mult, scale, IsScaleShift};
 ghost use Rattle.dsp_defs.specs.Sums.{sparse_term};
 ghost use Rattle.dsp_defs.specs.Signal.{sample, sum_below, values};
 ghost use Rattle.dsp_lanes.specs.Regrouped.{list_sum};
-ghost use Rattle.dsp_lanes.specs.Turns.{RisesWithin};
+ghost use Rattle.dsp_lanes.specs.Turns.{RisesWithin, lane_turns};
 
 use dsp_defs::Steps;
 use dsp_sat::Sample;
@@ -73,8 +73,8 @@ pub trait LaneKernels<const L: usize>: Sample {
         ensures { map Self.total sums.new ≡ put_chunk at (map Self.total sums.old) (zip2 (λ s x. wrap w32 (s +ℤ sparse_term Self.format (Self.number tap) x)) (chunk at L (map Self.total sums.old)) (chunk at L (map Self.number window.now))) };
 }
 
-/// How a type of samples makes L outputs of a filter at a time.
-pub trait RowKernels<const L: usize>: LaneKernels<L> {
+/// How a type of samples makes outputs of a filter, L and 2L at a time, and sums of products.
+pub trait FilterKernels<const L: usize>: LaneKernels<L> {
     ghost AreSmall: { List Self → Type 0 };
 
     /// Whether sums of products by these taps are small enough for a faster form.
@@ -110,12 +110,20 @@ pub trait RowKernels<const L: usize>: LaneKernels<L> {
         requires small { IsTrue small → AreSmall taps.now }
         requires room { at + 2 * L ≤ length out.old }
         requires window { at + 2 * L + length taps.now ≤ length window.now + 1 }
-        ensures out { map Self.number out.new ≡ put_chunk (at + L) (put_chunk at (map Self.number out.old) (values L (λ i. close Self.format (sum_below (length taps.now) (λ j. sample (map Self.number taps.now) j *ℤ sample (map Self.number window.now) (at + i + j)))))) (values L (λ i. close Self.format (sum_below (length taps.now) (λ j. sample (map Self.number taps.now) j *ℤ sample (map Self.number window.now) (at + L + i + j))))) }
+        ensures out { map Self.number out.new ≡ put_chunk at (map Self.number out.old) (values (2 * L) (λ i. close Self.format (sum_below (length taps.now) (λ j. sample (map Self.number taps.now) j *ℤ sample (map Self.number window.now) (at + i + j))))) }
         ensures steps { RisesWithin steps.old steps.new (length taps.now * (2 * L)) (2 * length taps.now) };
+
+    /// The sum of the products, wrapped to the accumulator.
+    fn dot<M: Ledger>(taps: &[Self], window: &[Self], steps: &mut Steps<M>) -> Self::Acc
+        requires some { 0 < L }
+        requires few { L ≤ 64 }
+        requires same { length window.now ≡ length taps.now }
+        ensures sum { Self.total result ≡ wrap (accumulator Self.format) (sum_below (length taps.now) (λ k. sample (map Self.number taps.now) k *ℤ sample (map Self.number window.now) k)) }
+        ensures steps { RisesWithin steps.old steps.new (length taps.now) (lane_turns L (length taps.now)) };
 }
 
 /// A type of samples at L lanes.
-pub trait LaneSample<const L: usize>: RowKernels<L> {
+pub trait LaneSample<const L: usize>: FilterKernels<L> {
     ghost some: { 0 < L };
 
     ghost few: { L ≤ 64 };

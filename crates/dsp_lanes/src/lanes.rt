@@ -135,20 +135,7 @@ impl<T: LaneSample<L>, const L: usize> Lanes<T, L> {
         ensures sum { T.total result ≡ wrap (accumulator T.format) (sum_below (length taps.now) (λ k. sample (map T.number taps.now) k *ℤ sample (map T.number window.now) k)) }
         ensures steps { RisesWithin steps.old steps.new (length taps.now) (lane_turns L (length taps.now)) }
     {
-        let mut sums = T::no_sums();
-        let mut at = 0;
-        'groups: while taps.len() - at >= L {
-            sums = T::add_products(sums, taps, window, at);
-            steps.count(L as u64, 1);
-            at += L;
-        }
-        let mut sum = T::sum_lanes(sums);
-        'rest: while at < taps.len() {
-            let product = T::product(taps[at], window[at], steps);
-            sum = T::accumulate(sum, product);
-            at += 1;
-        }
-        sum
+        T::dot(taps, window, steps)
     }
 
     /// `out[i] = close(sum over j of taps[j] * window[i + j])`: the work of a FIR filter on a window

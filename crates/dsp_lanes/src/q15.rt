@@ -1,7 +1,12 @@
+use crate::dots::dot_groups;
+use crate::eights::{double_group_of_eights, group_of_eights};
 use crate::fits::{q15_fit, sums_64_fit};
-use crate::kernels::{LaneKernels, RowKernels};
-use crate::pairs::{eight_rows, is_narrow};
-use crate::rows::{plain_double_group, plain_row_group};
+use crate::kernels::{FilterKernels, LaneKernels};
+use crate::pair_dots::PairDots;
+use crate::pair_samples::is_narrow;
+use crate::pairs::Pairs;
+use crate::plain::Plain;
+use crate::wide_pairs::WidePairs;
 use dsp_defs::Steps;
 use std::simd::prelude::*;
 use std::sync::ledger::Ledger;
@@ -89,7 +94,7 @@ impl<const L: usize> LaneKernels<L> for i16 {
     }
 }
 
-impl<const L: usize> RowKernels<L> for i16 {
+impl<const L: usize> FilterKernels<L> for i16 {
     ghost use Rattle.dsp_lanes.specs.Narrow.{IsNarrow};
 
     ghost AreSmall = { IsNarrow };
@@ -108,10 +113,10 @@ impl<const L: usize> RowKernels<L> for i16 {
         at: usize,
         steps: &mut Steps<M>,
     ) {
-        if small && L == 8 {
-            eight_rows(taps, window, out, at, steps)
+        if small {
+            group_of_eights::<i16, Pairs, L, M>(taps, window, out, at, steps)
         } else {
-            plain_row_group::<i16, L, M>(taps, window, out, at, steps)
+            group_of_eights::<i16, WidePairs, L, M>(taps, window, out, at, steps)
         }
     }
 
@@ -124,11 +129,19 @@ impl<const L: usize> RowKernels<L> for i16 {
         at: usize,
         steps: &mut Steps<M>,
     ) {
-        if small && L == 8 {
-            eight_rows(taps, window, out, at, steps);
-            eight_rows(taps, window, out, at + 8, steps);
+        if small {
+            double_group_of_eights::<i16, Pairs, L, M>(taps, window, out, at, steps)
         } else {
-            plain_double_group::<i16, L, M>(taps, window, out, at, steps)
+            double_group_of_eights::<i16, WidePairs, L, M>(taps, window, out, at, steps)
+        }
+    }
+
+    #[inline(always)]
+    fn dot<M: Ledger>(taps: &[i16], window: &[i16], steps: &mut Steps<M>) -> i64 {
+        if L == 8 {
+            dot_groups::<i16, PairDots, M>(taps, window, steps)
+        } else {
+            dot_groups::<i16, Plain<L>, M>(taps, window, steps)
         }
     }
 }

@@ -1,6 +1,10 @@
+use crate::dots::dot_groups;
+use crate::doubled::Doubled;
 use crate::fits::{q31_fit, sums_64_fit};
-use crate::kernels::{LaneKernels, RowKernels};
-use crate::rows::{plain_double_group, plain_row_group};
+use crate::halves::Halves;
+use crate::kernels::{FilterKernels, LaneKernels};
+use crate::plain::Plain;
+use crate::rows::row_group;
 use dsp_defs::Steps;
 use std::simd::prelude::*;
 use std::sync::ledger::Ledger;
@@ -95,11 +99,11 @@ impl<const L: usize> LaneKernels<L> for i32 {
     }
 }
 
-impl<const L: usize> RowKernels<L> for i32 {
+impl<const L: usize> FilterKernels<L> for i32 {
     ghost AreSmall = { λ _. Unit {0} };
 
     #[inline(always)]
-    fn are_small(taps: &[i32]) -> bool {
+    fn are_small(_taps: &[i32]) -> bool {
         true
     }
 
@@ -112,7 +116,11 @@ impl<const L: usize> RowKernels<L> for i32 {
         at: usize,
         steps: &mut Steps<M>,
     ) {
-        plain_row_group::<i32, L, M>(taps, window, out, at, steps)
+        if L == 4 {
+            row_group::<i32, Halves, M>(taps, window, out, at, steps)
+        } else {
+            row_group::<i32, Plain<L>, M>(taps, window, out, at, steps)
+        }
     }
 
     #[inline(always)]
@@ -124,6 +132,19 @@ impl<const L: usize> RowKernels<L> for i32 {
         at: usize,
         steps: &mut Steps<M>,
     ) {
-        plain_double_group::<i32, L, M>(taps, window, out, at, steps)
+        if L == 4 {
+            row_group::<i32, Doubled<Halves>, M>(taps, window, out, at, steps)
+        } else {
+            row_group::<i32, Doubled<Plain<L>>, M>(taps, window, out, at, steps)
+        }
+    }
+
+    #[inline(always)]
+    fn dot<M: Ledger>(taps: &[i32], window: &[i32], steps: &mut Steps<M>) -> i64 {
+        if L == 4 {
+            dot_groups::<i32, Halves, M>(taps, window, steps)
+        } else {
+            dot_groups::<i32, Plain<L>, M>(taps, window, steps)
+        }
     }
 }

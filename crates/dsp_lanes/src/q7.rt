@@ -1,6 +1,9 @@
+use crate::dots::dot_groups;
+use crate::eights::{double_group_of_eights, group_of_eights};
 use crate::fits::{q7_fit, q31_fit};
-use crate::kernels::{LaneKernels, RowKernels};
-use crate::rows::{plain_double_group, plain_row_group};
+use crate::kernels::{FilterKernels, LaneKernels};
+use crate::pairs::Pairs;
+use crate::plain::Plain;
 use dsp_defs::Steps;
 use std::simd::prelude::*;
 use std::sync::ledger::Ledger;
@@ -89,11 +92,11 @@ impl<const L: usize> LaneKernels<L> for i8 {
     }
 }
 
-impl<const L: usize> RowKernels<L> for i8 {
+impl<const L: usize> FilterKernels<L> for i8 {
     ghost AreSmall = { λ _. Unit {0} };
 
     #[inline(always)]
-    fn are_small(taps: &[i8]) -> bool {
+    fn are_small(_taps: &[i8]) -> bool {
         true
     }
 
@@ -106,7 +109,7 @@ impl<const L: usize> RowKernels<L> for i8 {
         at: usize,
         steps: &mut Steps<M>,
     ) {
-        plain_row_group::<i8, L, M>(taps, window, out, at, steps)
+        group_of_eights::<i8, Pairs, L, M>(taps, window, out, at, steps)
     }
 
     #[inline(always)]
@@ -118,6 +121,11 @@ impl<const L: usize> RowKernels<L> for i8 {
         at: usize,
         steps: &mut Steps<M>,
     ) {
-        plain_double_group::<i8, L, M>(taps, window, out, at, steps)
+        double_group_of_eights::<i8, Pairs, L, M>(taps, window, out, at, steps)
+    }
+
+    #[inline(always)]
+    fn dot<M: Ledger>(taps: &[i8], window: &[i8], steps: &mut Steps<M>) -> i32 {
+        dot_groups::<i8, Plain<L>, M>(taps, window, steps)
     }
 }

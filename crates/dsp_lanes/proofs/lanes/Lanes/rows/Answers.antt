@@ -1,10 +1,8 @@
-use Rattle.std.proofs.Common.{ℕ, ℤ, ◌≡◌, ◌+◌, ◌*◌, ◌∙◌, ap, sym, refl, arith, length, length-set, map, take}
+use Rattle.std.proofs.Common.{◌≡◌, ◌*◌, ◌∙◌, ap, sym, refl, arith, length, length-set, map, take}
 use Rattle.std.proofs.lemmas.List.{length-map, map-set, take_all}
-use lib.Lanes.{put_chunk}
 use Rattle.dsp_defs.specs.Formats.{close}
 use Rattle.dsp_defs.specs.Signal.{values}
 use Rattle.dsp_defs.proofs.FormatLemmas.{close-wrap}
-use Rattle.std.proofs.lemmas.Simd.{length-put_chunk}
 use Rattle.dsp_lanes.proofs.LaneRows.{row, rows-group, rows-one}
 use Rattle.dsp_lanes.proofs.Groups.{counted_double, counted_group, counted_one, counted_all}
 use Rattle.dsp_lanes.proofs.lanes.Lanes.rows.Goals as goal
@@ -17,14 +15,9 @@ doubles-preserved g c =
     let at = c.doubles.at in
     let n = g.row.L in
     let long = length-map c.doubles.out T.number in
-    let f : ℕ → ℤ = λ i. close T.format (row taps window (length c.args.taps.now) i) in
-    let first = put_chunk at (map T.number c.doubles.out) (values n (λ i. f (at + i))) in
-    let long_first : length first ≡ length (map T.number c.doubles.out) = length-put_chunk at (map T.number c.doubles.out) (values n (λ i. f (at + i))) in
-    let half : take (at + n) first ≡ values (at + n) f = rows-group f at n first (map T.number c.doubles.out) (omega arith) c.doubles.invariant.done refl in
-    let whole : at + n + n ≡ at + 2 * n = omega arith in
     record {
       within = omega arith;
-      done = ap (λ k. take k (map T.number c.double_group.new.out)) (sym whole) ∙ rows-group f (at + n) n _ first (omega arith) half c.double_group.ensures.out ∙ ap (λ k. values k f) whole;
+      done = rows-group (λ i. close T.format (row taps window (length c.args.taps.now) i)) at (2 * n) _ (map T.number c.doubles.out) (omega arith) c.doubles.invariant.done c.double_group.ensures.out;
       counted = counted_double _ _ _ (length c.args.taps.now) n at c.doubles.invariant.counted c.double_group.ensures.steps;
     }
 

@@ -1,6 +1,0 @@
-use Rattle.std.proofs.Common.{◌≡◌, ◌≤◌, map, take}
-use Rattle.std.specs.Prelude.{sum, unsigned_abs}
-use Rattle.dsp_lanes.proofs.pairs.is_narrow.Given as goal
-
-abbrev pub invariant-loop-tap : goal.invariant-loop-tap
-invariant-loop-tap l = (l.sum ≡ sum (map unsigned_abs (take l.tap-index l.taps))) × (l.sum ≤ 65535)

@@ -1,0 +1,125 @@
+//! Samples of 32 bits, of which a vector's even ones are multiplied apart from its odd ones: a product of
+//! 64 bits takes each of them where it lies.
+use crate::dot_form::DotForm;
+use crate::fits::q31_fit;
+use crate::kernels::LaneKernels;
+use crate::row_form::RowForm;
+use std::simd::prelude::*;
+
+/// Four outputs or products.
+pub(crate) struct Halves;
+
+/// The sums of the even and of the odd ones.
+#[derive(Clone, Copy)]
+pub(crate) struct HalfSums {
+    even: i64x2,
+    odd: i64x2,
+}
+
+impl RowForm<i32> for Halves {
+    type Sums = HalfSums;
+
+    ghost use Rattle.std.specs.Prelude.{◌≡◌, FitsSigned, length};
+    ghost use Rattle.std.specs.Simd.Lanes.{Each1};
+    ghost use Rattle.dsp_defs.specs.Numbers.{w64};
+    ghost use Rattle.dsp_defs.specs.Formats.{close};
+    ghost use Rattle.dsp_defs.specs.declared.format.Fmt.TheVariants.{Q31};
+    ghost use Rattle.dsp_lanes.specs.Pairs.{in_turn};
+
+    ghost size = { 4 };
+
+    ghost width = { w64 };
+
+    ghost lanes = { λ s. in_turn s.even s.odd };
+
+    ghost AreSums = { λ s. (Each1 (FitsSigned w64) s.even) × (Each1 (FitsSigned w64) s.odd) × (length s.even ≡ 2) × (length s.odd ≡ 2) };
+
+    ghost Takes = { λ taps. Unit {0} };
+
+    ghost shut = { close Q31 };
+
+    #[inline(always)]
+    fn behind(at: usize) -> usize {
+        at + 4
+    }
+
+    #[inline(always)]
+    fn no_sums() -> HalfSums {
+        HalfSums {
+            even: i64x2::splat(0),
+            odd: i64x2::splat(0),
+        }
+    }
+
+    #[inline(always)]
+    fn add_tap(sums: HalfSums, taps: &[i32], j: usize, window: &[i32], at: usize) -> HalfSums {
+        q31_fit(taps);
+        q31_fit(window);
+        let tap = i32x2::splat(taps[j]).cast::<i64>();
+        let samples = i32x4::from_slice(&window[at..]);
+        HalfSums {
+            even: sums.even + tap * samples.swizzle([0, 2]).cast::<i64>(),
+            odd: sums.odd + tap * samples.swizzle([1, 3]).cast::<i64>(),
+        }
+    }
+
+    #[inline(always)]
+    fn add_pair(sums: HalfSums, taps: &[i32], j: usize, window: &[i32], at: usize) -> HalfSums {
+        let sums = Self::add_tap(sums, taps, j, window, at);
+        Self::add_tap(sums, taps, j + 1, window, at + 1)
+    }
+
+    #[inline(always)]
+    fn closes(_taps: &[i32], _window: &[i32]) {}
+
+    #[inline(always)]
+    fn close(sums: HalfSums, out: &mut [i32], at: usize) {
+        let sums = sums.even.shuffle(sums.odd, [0, 2, 1, 3]);
+        <i32 as LaneKernels<4>>::close_group(sums, out, at)
+    }
+}
+
+impl DotForm<i32> for Halves {
+    type Sums = HalfSums;
+
+    ghost use Rattle.std.specs.Prelude.{◌≡◌, ◌+ℤ◌, FitsSigned, length};
+    ghost use Rattle.std.specs.Simd.Lanes.{Each1};
+    ghost use Rattle.dsp_defs.specs.Numbers.{w64};
+    ghost use Rattle.dsp_lanes.specs.Regrouped.{list_sum};
+
+    ghost size = { 4 };
+
+    ghost value = { λ s. list_sum s.even +ℤ list_sum s.odd };
+
+    ghost AreSums = { λ s. (Each1 (FitsSigned w64) s.even) × (Each1 (FitsSigned w64) s.odd) × (length s.even ≡ 2) × (length s.odd ≡ 2) };
+
+    #[inline(always)]
+    fn size() -> usize {
+        4
+    }
+
+    #[inline(always)]
+    fn no_sums() -> HalfSums {
+        HalfSums {
+            even: i64x2::splat(0),
+            odd: i64x2::splat(0),
+        }
+    }
+
+    #[inline(always)]
+    fn add_products(sums: HalfSums, taps: &[i32], window: &[i32], at: usize) -> HalfSums {
+        q31_fit(taps);
+        q31_fit(window);
+        let t = i32x4::from_slice(&taps[at..]);
+        let x = i32x4::from_slice(&window[at..]);
+        HalfSums {
+            even: sums.even + t.swizzle([0, 2]).cast::<i64>() * x.swizzle([0, 2]).cast::<i64>(),
+            odd: sums.odd + t.swizzle([1, 3]).cast::<i64>() * x.swizzle([1, 3]).cast::<i64>(),
+        }
+    }
+
+    #[inline(always)]
+    fn total(sums: HalfSums) -> i64 {
+        (sums.even + sums.odd).reduce_sum()
+    }
+}

@@ -60,18 +60,13 @@ doubled_fits : (h : ℤ) → SFits w32 (pos 2 *ℤ saturate_to_bits 30 h)
 doubled_fits (pos n) = grind (arith, ints)
 doubled_fits (negsuc n) = grind (arith, ints)
 
-doubled_is : (h : ℤ) → int_wrap w64 (saturate_to_bits 30 h +ℤ saturate_to_bits 30 h) ≡ pos 2 *ℤ saturate_to_bits 30 h
+doubled_is : (h : ℤ) → int_wrap w32 (saturate_to_bits 30 h +ℤ saturate_to_bits 30 h) ≡ pos 2 *ℤ saturate_to_bits 30 h
 doubled_is h =
     let z = saturate_to_bits 30 h in
-    let same : z +ℤ z ≡ pos 2 *ℤ z = twice_is z in
-    let wide : SFits w64 (pos 2 *ℤ z) = widened_fits (pos 2 *ℤ z) (doubled_fits h) in
-    ap (int_wrap w64) same ∙ int_wrap_fits w64 (pos 2 *ℤ z) wide
+    ap (int_wrap w32) (twice_is z) ∙ int_wrap_fits w32 (pos 2 *ℤ z) (doubled_fits h)
   where
     twice_is : (z : ℤ) → z +ℤ z ≡ pos 2 *ℤ z
     twice_is z = omega (arith, ints)
-
-    widened_fits : (z : ℤ) → SFits w32 z → SFits w64 z
-    widened_fits z f = omega (arith, ints, f)
 
 zip2-self : (f : ℤ → ℤ → ℤ) (xs : List ℤ) → zip2 f xs xs ≡ map (λ x. f x x) xs
 zip2-self f [] = refl
@@ -81,32 +76,32 @@ each_doubled : (xs : List ℤ) → Each1 (SFits w32) (map (λ h. pos 2 *ℤ satu
 each_doubled [] = tt
 each_doubled (x ∷ xs) = (doubled_fits x, each_doubled xs)
 
-each_saturated : (xs : List ℤ) → Each1 (SFits w64) (map (saturate_to_bits 30) xs)
+each_saturated : (xs : List ℤ) → Each1 (SFits w32) (map (saturate_to_bits 30) xs)
 each_saturated [] = tt
 each_saturated (x ∷ xs) = (fits_30 x, each_saturated xs)
   where
-    fits_30 : (h : ℤ) → SFits w64 (saturate_to_bits 30 h)
+    fits_30 : (h : ℤ) → SFits w32 (saturate_to_bits 30 h)
     fits_30 (pos n) = grind (arith, ints)
     fits_30 (negsuc n) = grind (arith, ints)
 
 abbrev pub limited : ℕ → List ℕ → List ℕ
-limited n lanes = greater w64 (lesser w64 lanes (replicate n (of_z w64 (pos (2 ^ 30 - 1))))) (replicate n (of_z w64 (negsuc (2 ^ 30 - 1))))
+limited n lanes = greater w32 (lesser w32 lanes (replicate n (of_z w32 (pos (2 ^ 30 - 1))))) (replicate n (of_z w32 (negsuc (2 ^ 30 - 1))))
 
 abbrev pub doubled_lanes : ℕ → List ℕ → List ℕ
-doubled_lanes n lanes = zip2 (plus_in w64) (limited n lanes) (limited n lanes)
+doubled_lanes n lanes = zip2 (plus_in w32) (limited n lanes) (limited n lanes)
 
-doubles : (n : ℕ) (lanes : List ℕ) (xs : List ℤ) → lanes ≡ bits_of w64 xs → length xs ≡ n → Each1 (SFits w32) xs
-    → doubled_lanes n lanes ≡ bits_of w64 (map (λ h. pos 2 *ℤ saturate_to_bits 30 h) xs)
+doubles : (n : ℕ) (lanes : List ℕ) (xs : List ℤ) → lanes ≡ bits_of w32 xs → length xs ≡ n → Each1 (SFits w32) xs
+    → doubled_lanes n lanes ≡ bits_of w32 (map (λ h. pos 2 *ℤ saturate_to_bits 30 h) xs)
 doubles n lanes xs e long f =
     let kept = map (saturate_to_bits 30) xs in
-    let is : limited n lanes ≡ bits_of w64 kept = ap (limited n) e ∙ saturates_to w64 30 n xs long (each_widens w32 w64 (omega arith) xs f) (omega (arith, ints)) (omega (arith, ints)) in
-    (λ i. zip2 (plus_in w64) (is i) (is i))
-    ∙ added w64 kept kept (each_saturated xs) (each_saturated xs)
-    ∙ ap (bits_of w64) (zip2-self (λ a b. int_wrap w64 (a +ℤ b)) kept ∙ map-map (λ z. int_wrap w64 (z +ℤ z)) (saturate_to_bits 30) xs ∙ map-same (SFits w32) (λ h. int_wrap w64 (saturate_to_bits 30 h +ℤ saturate_to_bits 30 h)) (λ h. pos 2 *ℤ saturate_to_bits 30 h) (λ h q. doubled_is h) xs f)
+    let is : limited n lanes ≡ bits_of w32 kept = ap (limited n) e ∙ saturates_to w32 30 n xs long f (omega (arith, ints)) (omega (arith, ints)) in
+    (λ i. zip2 (plus_in w32) (is i) (is i))
+    ∙ added w32 kept kept (each_saturated xs) (each_saturated xs)
+    ∙ ap (bits_of w32) (zip2-self (λ a b. int_wrap w32 (a +ℤ b)) kept ∙ map-map (λ z. int_wrap w32 (z +ℤ z)) (saturate_to_bits 30) xs ∙ map-same (SFits w32) (λ h. int_wrap w32 (saturate_to_bits 30 h +ℤ saturate_to_bits 30 h)) (λ h. pos 2 *ℤ saturate_to_bits 30 h) (λ h q. doubled_is h) xs f)
 
 pub mult_31 : (at n : ℕ) (a b : List ℤ) → All (SFits w32) a → All (SFits w32) b → at + n ≤ length a → at + n ≤ length b
-    → Castable w64 w32 (doubled_lanes n (high_lanes n (chunk at n a) (chunk at n b)))
-    × (map (to_z w32) (cast_lanes w64 w32 (doubled_lanes n (high_lanes n (chunk at n a) (chunk at n b))))
+    → Castable w64 w32 (high_lanes n (chunk at n a) (chunk at n b))
+    × (map (to_z w32) (doubled_lanes n (cast_lanes w64 w32 (high_lanes n (chunk at n a) (chunk at n b))))
     ≡ zip2 (λ x y. pos 2 *ℤ saturate_to_bits 30 (shr_z (x *ℤ y) (2 ^ 32))) (chunk at n (map (λ x. x) a)) (chunk at n (map (λ x. x) b)))
 mult_31 at n a b f g room_a room_b =
     let xs = chunk at n a in
@@ -114,10 +109,14 @@ mult_31 at n a b f g room_a room_b =
     let long_x : length xs ≡ n = length-chunk at n a room_a in
     let long_y : length ys ≡ n = length-chunk at n b room_b in
     let made = highs_are n xs ys long_x long_y (group_fits w32 at n a f room_a) (group_fits w32 at n b g room_b) in
-    let long : length (zip2 high xs ys) ≡ n = length-zip2 high xs ys (omega arith) ∙ long_x in
-    let cast = casts_down _ _ (doubles n (high_lanes n xs ys) (zip2 high xs ys) made.0 long made.1) (each_doubled (zip2 high xs ys)) in (
-      cast.0,
-      cast.1
+    let hs = zip2 high xs ys in
+    let long : length hs ≡ n = length-zip2 high xs ys (omega arith) ∙ long_x in
+    let wide = each_widens w32 w64 (omega arith) hs made.1 in
+    let cast : cast_lanes w64 w32 (high_lanes n xs ys) ≡ bits_of w32 hs = ap (cast_lanes w64 w32) made.0 ∙ casts_are w64 w32 hs wide in
+    let twice = map (λ h. pos 2 *ℤ saturate_to_bits 30 h) hs in (
+      (casts_down (high_lanes n xs ys) hs made.0 made.1).0,
+      ap (map (to_z w32)) (doubles n (cast_lanes w64 w32 (high_lanes n xs ys)) hs cast long made.1)
+          ∙ ints_of_bits w32 twice (each_doubled hs)
           ∙ map-zip2 (λ h. pos 2 *ℤ saturate_to_bits 30 h) high xs ys
           ∙ (λ i. zip2 (λ x y. pos 2 *ℤ saturate_to_bits 30 (high x y)) (chunk at n (sym (map-self a) i)) (chunk at n (sym (map-self b) i))),
     )

@@ -61,10 +61,11 @@ impl<const L: usize> LaneKernels<L> for i32 {
         q31_fit(b);
         let x = Simd::<i32, L>::from_slice(&a[at..]).cast::<i64>();
         let y = Simd::<i32, L>::from_slice(&b[at..]).cast::<i64>();
-        let high = ((x * y) >> Simd::splat(32))
+        let high = ((x * y) >> Simd::splat(32)).cast::<i32>();
+        let half = high
             .simd_min(Simd::splat(0x3fff_ffff))
             .simd_max(Simd::splat(-0x4000_0000));
-        (high + high).cast::<i32>().copy_to_slice(&mut out[at..]);
+        (half + half).copy_to_slice(&mut out[at..]);
     }
 
     #[inline(always)]

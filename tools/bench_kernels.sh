@@ -164,6 +164,7 @@ static double least(double a, double b) { return a < b ? a : b; }
     void lanes_rows_##q(const T *, size_t, const T *, size_t, T *, size_t);
 DECLARE(7, int8_t, int32_t) DECLARE(15, int16_t, int64_t) DECLARE(31, int32_t, int64_t)
 #define TIME(result, per, body) { result = 1e30; for (int pass = 0; pass < 15; pass++) { double from = now(); int turns = (int)(4000000.0 / (per)) + 1; for (int turn = 0; turn < turns; turn++) { body; sink += o[turn % N]; } result = least(result, (now() - from) / turns / (per)); } }
+#define STORE(sum) { int64_t whole = (sum); memcpy(o, &whole, sizeof whole); }
 #define ROW(name, q, T, per, c2, c3, ours) { double x, y, z; memset(o, 0, sizeof o); TIME(x, per, c2) memcpy(kept, o, sizeof o); TIME(y, per, c3) memset(o, 0, sizeof o); TIME(z, per, ours) printf("%-6s q%-3d %8.3f %8.3f %8.3f%s\n", name, q, x, y, z, memcmp(kept, o, sizeof o) ? "  (differs)" : ""); }
 #define BENCH(q, T) { \
     static T a[N + TAPS], b[N + TAPS], t[TAPS], o[N], kept[N]; uint32_t s = 7; \
@@ -172,7 +173,7 @@ DECLARE(7, int8_t, int32_t) DECLARE(15, int16_t, int64_t) DECLARE(31, int32_t, i
     ROW("add", q, T, N, o2_add_##q(a, b, o, N), o3_add_##q(a, b, o, N), lanes_add_##q(a, N, b, N, o, N)) \
     ROW("mult", q, T, N, o2_mult_##q(a, b, o, N), o3_mult_##q(a, b, o, N), lanes_mult_##q(a, N, b, N, o, N)) \
     ROW("scale", q, T, N, o2_scale_##q(a, b[0], o, N), o3_scale_##q(a, b[0], o, N), lanes_scale_##q(a, N, b[0], o, N)) \
-    ROW("dot", q, T, N, sink += o2_dot_##q(a, b, N), sink += o3_dot_##q(a, b, N), sink += lanes_dot_##q(a, N, b, N)) \
+    ROW("dot", q, T, N, STORE(o2_dot_##q(a, b, N)), STORE(o3_dot_##q(a, b, N)), STORE(lanes_dot_##q(a, N, b, N))) \
     ROW("rows", q, T, (double)N * TAPS, o2_rows_##q(t, TAPS, a, o, N), o3_rows_##q(t, TAPS, a, o, N), lanes_rows_##q(t, TAPS, a, N + TAPS - 1, o, N)) \
     for (int i = 0; i < TAPS; i++) t[i] = b[i]; \
     ROW("rows*", q, T, (double)N * TAPS, o2_rows_##q(t, TAPS, a, o, N), o3_rows_##q(t, TAPS, a, o, N), lanes_rows_##q(t, TAPS, a, N + TAPS - 1, o, N)) }

@@ -18,6 +18,7 @@ use Rattle.dsp_defs.specs.declared.limits.TheConstants.{MAX_GATHERED}
 use Rattle.dsp_defs.specs.declared.script.Script.{Script}
 use Rattle.dsp_defs.specs.declared.script_fault.ScriptFault.{ScriptFault}
 use Rattle.dsp_defs.specs.declared.wave.HeaderFault.{HeaderFault}
+use Rattle.dsp_session.specs.Opening.{IsTooLong}
 use Rattle.dsp_session.specs.Stream.{WrotePart as StreamWrote, Nothing, Part, IsTakenWhole, declared_bytes, frames_in_bytes}
 use Rattle.dsp_session.specs.declared.fault.LengthFault.{LengthFault}
 use Rattle.dsp_session.specs.declared.fault.LengthFault.TheVariants as length_fault
@@ -26,16 +27,16 @@ use Rattle.dsp_session.proofs.OpeningLaws.{some_frame}
 use Rattle.dsp_cli.specs.Fault.{fault_line, summary_text}
 use Rattle.dsp_cli.specs.Script.{IfScript, chosen, chosen_block, is_legal_for}
 use Rattle.dsp_cli.specs.Perform.{Untouched, IsGenerated, IsReading, RunsScript, Ran, MadeText, HasFault, StopsAtLength, StopsAtForm, StopsInStream, StopsAtWords, ReportsText}
-use Rattle.dsp_cli.specs.Run.{IsStream, IsDone, IsRefused, IsAnswer, IsPrintable, InLimit, IfTaken, IsTooLong, IsOverfull, input_fault, Wrote, WrotePart, Tells, TellsLength, Taken, Gather, Window, Riff, bytes_taken}
+use Rattle.dsp_cli.specs.Run.{IsStream, IsDone, IsRefused, IsAnswer, IsPrintable, InLimit, IfTaken, IsOverfull, input_fault, Wrote, WrotePart, Tells, TellsLength, Taken, Gather, Window, Riff, bytes_taken}
 use Rattle.dsp_cli.specs.declared.fault.Fault.TheVariants.{Usage, ScriptRead, Script as BadScript, BlockLength, NotBuilt, Memory, Stream}
 use Rattle.dsp_cli.specs.declared.report.Summary.{Summary}
 use Rattle.dsp_cli.proofs.AnswerLaws.{command_not_none, some_run, not_usage, StreamStatus, either_answers, stream_answers, port_answers}
-use Rattle.dsp_cli.proofs.CostGrows.{gathered_more}
 use Rattle.dsp_cli.proofs.EarlyEnds.{header_wave, header_cause, header_part}
 use Rattle.dsp_cli.proofs.GeneratedLaws.{generated_good}
 use Rattle.dsp_cli.proofs.InputLaws.{header_stays, frames_stay, signal_stays, some_not_none, past_limit}
 use Rattle.dsp_cli.proofs.Told.{IfSome-map, IfSome-always, told_more, told_taken, told_script, told_sound, told_some, told_fault, told_faulty, use_script}
 use Rattle.dsp_cli.proofs.Ends.{IsFree, named_is, Comes, Standing, Ends, done_not_broken, done_not_stopped, eight_not_broken, refused_not_done, refused_not_stopped, run_or_print, run_command, print_command, stands_untouched, stands_ran, stands_stopped}
+use Rattle.dsp_cli.proofs.CostGrows.{gathered_more}
 
 legal_not : {test : Bool} → IsTrue test → IsFalse test → ⊥
 legal_not is not = let same : true ≡ false = sym is ∙ not in cc
@@ -349,16 +350,16 @@ module _ (words : List (List ℕ)) (source read input now : SourceState) (sink a
     ends_riff size most stream tells =
         let stopped = stream.stopped in
         let stops = stopped.stops in
-        let long : IsTooLong script (input_header script stopped.given) size = record { wave = stops.wave; frames = stops.frames; known = stops.known; size_is = stops.size_is; over = stops.over } in
+        let long = stops.long in
         ends_length_fault (length_fault.Riff size most) stream
         (Riff size
-        (for_taken stopped.given (λ s given. HasHeader s given × (length given ≡ (input_header s given).start) × IsTooLong s (input_header s given) size) stopped.gave (stops.has, stops.alone, long))
+        (for_taken stopped.given (λ s given. HasHeader s given × (length given ≡ (input_header s given).start) × IsTooLong s (known_frames s (input_header s given)) size) stopped.gave (stops.has, stops.alone, long))
         stops.untouched (subst (λ n. Tells (riff_line size n) report told) stops.limit tells))
         (inr (inr (size, long), stops.untouched))
         (blocks stopped.given stopped.gave (λ more left _ _ _ fits.
-        let known : known_frames script (input_header script (stopped.given ++ more)) ≡ Some stops.frames = ap (known_frames script) (header_stays script stopped.given more stops.has) ∙ stops.known in
-        let within = subst (HeaderFits (format_of script) (channels_of script)) known (fits stops.wave) in
-        absurd (omega (arith, within, stops.size_is, stops.over))))
+        let known : known_frames script (input_header script (stopped.given ++ more)) ≡ Some long.frames = ap (known_frames script) (header_stays script stopped.given more stops.has) ∙ long.known in
+        let within = subst (HeaderFits (format_of script) (channels_of script)) known (fits long.wave) in
+        absurd (omega (arith, within, long.size_is, long.over))))
 
     pub ends_lengths : (fault : LengthFault) → StopsInStream (Lengths fault) named script input now sink after before counts → Tells (fault_line (Stream (Lengths fault))) report told → End 5
     ends_lengths (length_fault.Input taken most) stream tells = ends_limit taken most stream tells

@@ -10,7 +10,7 @@ use Rattle.dsp_defs.specs.Output.{HasHeader, input_header, input_signal, wanted_
 use Rattle.dsp_defs.specs.Report.{usage_line, header_line, input_limit_line, gather_line, window_line, riff_line, report_text, script_read_line, input_read_line, output_line, memory_line, not_built_line}
 use Rattle.dsp_defs.specs.Shape.{gathered, held, window_at}
 use Rattle.dsp_defs.specs.Streaming.{Begins}
-use Rattle.dsp_defs.specs.Wave.{header_of, riff_size, HeaderFits}
+use Rattle.dsp_defs.specs.Wave.{header_of, HeaderFits}
 use Rattle.dsp_defs.specs.Words.{command_of}
 use Rattle.dsp_defs.specs.declared.command.Command.{Command}
 use Rattle.dsp_defs.specs.declared.command.Command.TheVariants.{Run, Gen, Print}
@@ -23,6 +23,7 @@ use Rattle.dsp_defs.specs.declared.script.Script.{Script}
 use Rattle.dsp_defs.specs.declared.wave.Header.{Header}
 use Rattle.dsp_defs.specs.declared.wave.HeaderFault.{HeaderFault}
 use Rattle.dsp_defs.specs.declared.wave.HeaderFault.TheVariants.{Short}
+use Rattle.dsp_session.specs.Opening.{IsTooLong}
 use Rattle.dsp_session.specs.Session.{frame_bytes, measures_of}
 use Rattle.dsp_session.specs.Stream.{IsTakenWhole, declared_bytes, frames_in_bytes}
 use Rattle.dsp_cli.specs.Script.{IfScript, stream_of, chosen_block, is_legal_for}
@@ -127,17 +128,9 @@ Wrote bytes old new = new.put ≡ append_known old.put bytes
 abbrev pub WroteFront : List ℕ → SinkState → SinkState → Type 0
 WroteFront bytes old new = (written : List ℕ) × Wrote written old new × Begins written bytes
 
--- a WAVE output for this header of the input would have this size, which is past the limit
-pub record IsTooLong (script : Script) (header : Header) (size : ℕ) : Type 0 where
-  pub wave : script.output ≡ container.Wave
-  pub frames : ℕ
-  pub known : known_frames script header ≡ Some frames
-  pub size_is : size ≡ riff_size (format_of script) (channels_of script) (Some frames)
-  pub over : MAX_RIFF_SIZE < size
-
 -- nothing can be written: the header of the input isn't all there, or the output would be too long
 abbrev pub IsUnwritten : Script → List ℕ → Type 0
-IsUnwritten script given = (HasHeader script given → ⊥) ⊎ ((size : ℕ) × IsTooLong script (input_header script given) size)
+IsUnwritten script given = (HasHeader script given → ⊥) ⊎ ((size : ℕ) × IsTooLong script (known_frames script (input_header script given)) size)
 
 -- when these bytes were taken exactly the part output was written, or nothing could be
 abbrev pub WrotePart : Script → ℕ → List ℕ → SinkState → SinkState → Type 0
@@ -201,7 +194,7 @@ pub data TellsLength (text : Option (List ℕ)) (input now : SourceState) (sink 
       → Tells (gather_line has more) report told → TellsLength text input now sink after report told
   Window : (end full : ℕ) → IfTaken text input now (λ s given. HasHeader s given × IsTakenWhole s given now × (window_at s.blocks (frames_in_bytes s given) ≡ Some (end, full)))
       → Tells (window_line end full) report told → TellsLength text input now sink after report told
-  Riff : (size : ℕ) → IfTaken text input now (λ s given. HasHeader s given × (length given ≡ (input_header s given).start) × IsTooLong s (input_header s given) size)
+  Riff : (size : ℕ) → IfTaken text input now (λ s given. HasHeader s given × (length given ≡ (input_header s given).start) × IsTooLong s (known_frames s (input_header s given)) size)
       → after ≡ sink → Tells (riff_line size MAX_RIFF_SIZE) report told → TellsLength text input now sink after report told
 
 -- where as many bytes were taken as may be: a fault of a WAVE input was found there, or its declared samples end there

@@ -5,11 +5,10 @@ ghost use Rattle.dsp_defs.specs.Report.{block_length_line, header_fields, header
 ghost use Rattle.dsp_cli.specs.Fault.{fault_line, length_fault_line, status_of};
 
 use crate::fault::Fault;
-use crate::line::{
-    Line, field_name, format_name, integer_field, natural, natural_field, text, wide_natural,
-};
+use crate::line::{Line, field_name, format_name, integer_field, natural_field};
 use arrayvec::ArrayVec;
 use dsp_defs::HeaderFault;
+use dsp_line::{natural, text, wide_natural};
 use dsp_script::{ScriptFault, ScriptKind};
 use dsp_session::{LengthFault, StreamFault};
 

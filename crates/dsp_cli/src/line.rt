@@ -1,4 +1,4 @@
-//! The pieces of a line of the report. A line is built in place and takes no memory.
+//! The lines of the report, and their fields.
 ghost use Rattle.std.specs.Prelude.{◌≡◌, ◌+◌, ◌≤◌, ◌++◌, length, codes, decimal};
 ghost use Rattle.std.specs.Fmt.{signed_decimal};
 ghost use Rattle.arrayvec.specs.ArrayVec.{array_vec_len};
@@ -7,45 +7,12 @@ ghost use Rattle.dsp_defs.specs.Table.{format_name};
 
 use arrayvec::ArrayVec;
 use dsp_defs::Fmt;
-use itoa::Buffer;
+use dsp_line::{integer, natural, text};
 
 /// The bytes of a line at most.
 const LINE: usize = 128;
 
 pub type Line = ArrayVec<u8, LINE>;
-
-pub fn text(line: &mut Line, text: &[u8])
-    requires { array_vec_len line.old + length text.now ≤ 128 }
-    ensures items { line.new.items ≡ line.old.items ++ text.now }
-    ensures len { array_vec_len line.new ≡ array_vec_len line.old + length text.now }
-{
-    line.try_extend_from_slice(text).unwrap();
-}
-
-pub fn natural(line: &mut Line, number: u64)
-    requires { array_vec_len line.old ≤ 108 }
-    ensures items { line.new.items ≡ line.old.items ++ decimal number }
-    ensures len { array_vec_len line.new ≤ array_vec_len line.old + 20 }
-{
-    text(line, Buffer::new().format(number).as_bytes());
-}
-
-/// A number of more than 64 bits.
-pub fn wide_natural(line: &mut Line, number: u128)
-    requires { array_vec_len line.old ≤ 89 }
-    ensures items { line.new.items ≡ line.old.items ++ decimal number }
-    ensures len { array_vec_len line.new ≤ array_vec_len line.old + 39 }
-{
-    text(line, Buffer::new().format(number).as_bytes());
-}
-
-fn integer(line: &mut Line, number: i64)
-    requires { array_vec_len line.old ≤ 108 }
-    ensures items { line.new.items ≡ line.old.items ++ signed_decimal number }
-    ensures len { array_vec_len line.new ≤ array_vec_len line.old + 20 }
-{
-    text(line, Buffer::new().format(number).as_bytes());
-}
 
 pub fn field_name(line: &mut Line, name: &[u8])
     requires name { length name.now ≤ 8 }

@@ -6,9 +6,10 @@ ghost use Rattle.dsp_chain.specs.Row.{measure_counts};
 ghost use Rattle.dsp_session.specs.Session.{measured};
 ghost use Rattle.dsp_cli.specs.Fault.{head_text};
 
-use crate::line::{Line, format_name, natural, text, wide_natural};
+use crate::line::{Line, format_name};
 use arrayvec::ArrayVec;
 use dsp_defs::{Flow, Measure};
+use dsp_line::{natural, text, wide_natural};
 use dsp_session::{Session, Totals};
 
 /// The bytes of a report at most.

@@ -1,29 +1,28 @@
 -- Units of `power`: they give the frames as they take them, and keep a sum for each channel.
-use Rattle.std.proofs.Common.{◌≡◌, ◌∙◌, ap, ap₂, refl, sym, subst, ℕ, zero, suc, ◌+◌, ◌-◌, ◌*◌, ◌/◌, ◌<◌, ◌≤◌, ℤ, pos, List, [], ◌∷◌, ◌++◌, map, length, take, drop, get_or, arith, false, Option, Some, None, flat_map, zero-add}
+use Rattle.std.proofs.Common.{◌≡◌, ◌∙◌, ap, refl, sym, ℕ, zero, suc, ◌+◌, ◌-◌, ◌*◌, ◌/◌, ◌<◌, ◌≤◌, ℤ, pos, List, [], ◌∷◌, ◌++◌, map, length, take, drop, get_or, arith, false, Some, None, flat_map, zero-add}
 use Rattle.std.specs.Prelude.{All, FitsSigned, slice_get}
 use Rattle.std.specs.List.{range_with_len}
 use Rattle.std.proofs.lemmas.List.{append-nil, take-append-le, take_all}
 use Rattle.std.proofs.lemmas.List.FromFn.{length-map-range_with_len}
-use Rattle.dsp_defs.specs.Block.{Frame, channel, channels_after, format_after}
+use Rattle.dsp_defs.specs.Block.{Frame, channel}
 use Rattle.dsp_defs.specs.Channels.{samples_in}
 use Rattle.dsp_defs.specs.Counts.{Counts}
-use Rattle.dsp_defs.specs.Formats.{accumulator, word}
-use Rattle.dsp_defs.specs.Kept.{kept_numbers, kept_kinds, Kind, InWord, Each, IsPlace, IsOfKind, HasPlace, Fits}
-use Rattle.dsp_defs.specs.Measure.{power, kept_measures}
+use Rattle.dsp_defs.specs.Formats.{accumulator}
+use Rattle.dsp_defs.specs.Kept.{kept_numbers, InWord, Each, IsPlace, IsOfKind, Fits}
+use Rattle.dsp_defs.specs.Measure.{power}
 use Rattle.dsp_defs.specs.Numbers.{Width, int_wrap}
-use Rattle.dsp_defs.specs.Signal.{sample, values}
-use Rattle.dsp_defs.specs.Unit.{UnitState, MadeAs, StandsFor, CountsFrames, Feeds, Restores, IsNew, IsSignal, IsOutput, frames_in, measures_of}
+use Rattle.dsp_defs.specs.Signal.{sample}
+use Rattle.dsp_defs.specs.Unit.{UnitState, MadeAs, StandsFor, CountsFrames, Feeds, Restores, IsSignal, IsOutput, frames_in, measures_of}
 use Rattle.dsp_defs.specs.declared.format.Fmt.{Fmt}
 use Rattle.dsp_defs.specs.declared.format.Fmt.TheVariants.{Q7, Q15, Q31}
-use Rattle.dsp_defs.specs.declared.measure.Measure.{Measure}
 use Rattle.dsp_defs.specs.declared.measure.Measure.TheVariants as Measures
 use Rattle.dsp_defs.specs.declared.script.Block.TheVariants.{Power}
-use Rattle.dsp_defs.proofs.ChannelFrames.{channel-frames_in, channel-more, length-samples_in, sample-values}
+use Rattle.dsp_defs.proofs.ChannelFrames.{channel-frames_in, channel-more}
 use Rattle.dsp_defs.proofs.FrameLemmas.{length-frames_in}
 use Rattle.dsp_defs.proofs.MeasureLaws.{sample-singles}
 use Rattle.dsp_defs.proofs.SumLemmas.{same_numbers}
-use Rattle.dsp_measure.specs.Sums.{with_squares, of_frames}
-use Rattle.dsp_measure.proofs.SumLaws.{power-more, squares-same}
+use Rattle.dsp_measure.specs.Sums.{with_squares}
+use Rattle.dsp_measure.proofs.SumLaws.{power-more}
 
 -- ---- numbers of one width
 
@@ -94,14 +93,14 @@ power-counts u is n = record {
 -- fed with frames, each sum goes on by the squares of its channel
 pub power-feeds :
     (u v : UnitState) (frames : List ℤ) (m : ℕ) (before after : Counts) → IsPower u → IsPower v → MadeAs u v → length frames / u.channels ≡ m →
-    ((c : ℕ) → c < u.channels → sample v.kept c ≡ with_squares u.format (sample u.kept c) m (of_frames frames u.channels c)) →
+    ((c : ℕ) → c < u.channels → sample v.kept c ≡ with_squares u.format (sample u.kept c) (samples_in u.channels m frames c)) →
     after.multiplies ≡ before.multiplies + m * u.channels → after.turns ≤ before.turns + m * u.channels →
     Feeds u v (frames_in u.channels frames) (frames_in u.channels frames) before after
 power-feeds u v frames m before after is is' made size each paid turned = record {
   made = made;
   values = λ x _. rw is.block refl;
   stands = λ x stands. power-stands v is' (x ++ taken) (λ c h. let inside : c < u.channels = rw made.channels at h in
-      rw made.format (each c inside ∙ ap (λ s. with_squares u.format s m (of_frames frames u.channels c)) (stands-power u is x stands c inside) ∙ goes-on x c inside));
+      rw made.format (each c inside ∙ ap (λ s. with_squares u.format s (samples_in u.channels m frames c)) (stands-power u is x stands c inside) ∙ goes-on x c inside));
   frames = λ n _. rw is.block refl;
   counts = λ n _. power-counts v is' (n + length taken);
   multiplies = λ n _. rw (is.block, many) (omega (arith, paid));
@@ -117,12 +116,10 @@ power-feeds u v frames m before after is is' made size each paid turned = record
     more : (n m c : ℕ) → c * (n + m) - c * n ≡ m * c
     more n m c = omega arith
 
-    goes-on : (x : List Frame) (c : ℕ) → c < u.channels → with_squares u.format (power u.format (channel c x)) m (of_frames frames u.channels c) ≡ power u.format (channel c (x ++ taken))
+    goes-on : (x : List Frame) (c : ℕ) → c < u.channels → with_squares u.format (power u.format (channel c x)) (samples_in u.channels m frames c) ≡ power u.format (channel c (x ++ taken))
     goes-on x c inside =
         let more_of : channel c taken ≡ samples_in u.channels m frames c = channel-frames_in u.channels frames c inside ∙ ap (λ k. samples_in u.channels k frames c) size in
-        let long : length (channel c taken) ≡ m = ap length more_of ∙ length-samples_in u.channels m frames c in
-        squares-same u.format (power u.format (channel c x)) m (of_frames frames u.channels c) (sample (channel c taken)) (λ k h. sym (ap (λ l. sample l k) more_of ∙ sample-values m (λ n. sample frames (n * u.channels + c)) k h))
-        ∙ ap (λ k. with_squares u.format (power u.format (channel c x)) k (sample (channel c taken))) (sym long)
+        ap (with_squares u.format (power u.format (channel c x))) (sym more_of)
         ∙ power-more u.format (channel c x) (channel c taken)
         ∙ ap (power u.format) (sym (channel-more c x taken))
 

@@ -1,5 +1,5 @@
 -- Sums of squares that are wrapped on the way.
-use Rattle.std.proofs.Common.{◌≡◌, ◌∙◌, ap, ap₂, refl, sym, ℕ, zero, suc, ◌+◌, ◌<◌, ℤ, pos, ◌+ℤ◌, List, ◌++◌, ◌*◌, ◌≢◌, length, get_or, set, arith, length-append, add-zero, subst, inl, inr, get_or-set_same}
+use Rattle.std.proofs.Common.{◌≡◌, ◌∙◌, ap, ap₂, sym, ℕ, zero, suc, ◌+◌, ◌<◌, ℤ, pos, ◌+ℤ◌, List, ◌++◌, ◌*◌, ◌≢◌, length, get_or, set, arith, length-append, add-zero, subst, inl, inr, get_or-set_same}
 use Rattle.std.specs.Prelude.{All, FitsSigned}
 use Rattle.std.proofs.lemmas.Int.{int_wrap_fits, int_wrap-add_left, SFits-int_wrap}
 use Rattle.std.proofs.lemmas.List.{get_or-append-add, get_or-set_other, length-set}
@@ -14,17 +14,21 @@ use Rattle.dsp_defs.specs.declared.format.Fmt.{Fmt}
 use Rattle.dsp_defs.proofs.Signal.{sum_below_cong, sample-append}
 use Rattle.dsp_measure.specs.Sums.{with_squares}
 
+-- a sum that goes on by the squares of the first n of these numbers
+abbrev pub squares_below : Fmt → ℤ → ℕ → List ℤ → ℤ
+squares_below format start n x = wrap (accumulator format) (start +ℤ sum_below n (λ k. measured_product format (sample x k) (sample x k)))
+
 -- no further numbers
-pub squares-none : (format : Fmt) (start : ℤ) (x : ℕ → ℤ) → FitsSigned (accumulator format) start → start ≡ with_squares format start 0 x
+pub squares-none : (format : Fmt) (start : ℤ) (x : List ℤ) → FitsSigned (accumulator format) start → start ≡ squares_below format start 0 x
 squares-none format start x fits = sym (ap (wrap (accumulator format)) (+ℤ_idr start) ∙ int_wrap_fits (accumulator format) start fits)
 
 -- one more
 pub squares-more :
-    (format : Fmt) (start sum more a : ℤ) (n m : ℕ) (x : ℕ → ℤ) → m ≡ n + 1 → a ≡ x n → sum ≡ with_squares format start n x → more ≡ wrap (accumulator format) (sum +ℤ measured_product format a a) →
-    more ≡ with_squares format start m x
+    (format : Fmt) (start sum more a : ℤ) (n m : ℕ) (x : List ℤ) → m ≡ n + 1 → a ≡ sample x n → sum ≡ squares_below format start n x → more ≡ wrap (accumulator format) (sum +ℤ measured_product format a a) →
+    more ≡ squares_below format start m x
 squares-more format start sum more a n m x next is summed added =
     let w = accumulator format in
-    let squares : ℕ → ℤ = λ k. measured_product format (x k) (x k) in
+    let squares : ℕ → ℤ = λ k. measured_product format (sample x k) (sample x k) in
     let step : m ≡ suc n = omega (arith, next) in
     added
     ∙ ap₂ (λ s b. wrap w (s +ℤ measured_product format b b)) summed is
@@ -32,12 +36,8 @@ squares-more format start sum more a n m x next is summed added =
     ∙ ap (wrap w) (+ℤ_assoc start (sum_below n squares) (squares n))
     ∙ ap (λ k. wrap w (start +ℤ sum_below k squares)) (sym step)
 
-pub squares-fit : (format : Fmt) (start sum : ℤ) (n : ℕ) (x : ℕ → ℤ) → sum ≡ with_squares format start n x → FitsSigned (accumulator format) sum
-squares-fit format start sum n x e = subst (FitsSigned (accumulator format)) (sym e) (SFits-int_wrap (accumulator format) _)
-
-pub squares-same : (format : Fmt) (start : ℤ) (n : ℕ) (x y : ℕ → ℤ) → ((k : ℕ) → k < n → x k ≡ y k) → with_squares format start n x ≡ with_squares format start n y
-squares-same format start n x y same =
-    ap (λ s. wrap (accumulator format) (start +ℤ s)) (sum_below_cong n _ _ (λ k h. ap (λ a. measured_product format a a) (same k h)))
+pub wrapped-fits : (format : Fmt) (sum z : ℤ) → sum ≡ wrap (accumulator format) z → FitsSigned (accumulator format) sum
+wrapped-fits format sum z e = subst (FitsSigned (accumulator format)) (sym e) (SFits-int_wrap (accumulator format) z)
 
 -- ---- the power of a signal that goes on
 
@@ -47,7 +47,7 @@ sum_below-add m (suc n) f =
     let step : m + suc n ≡ suc (m + n) = omega arith in
     ap (λ k. sum_below k f) step ∙ ap (λ s. s +ℤ f (m + n)) (sum_below-add m n f) ∙ +ℤ_assoc (sum_below m f) (sum_below n (λ k. f (m + k))) (f (m + n))
 
-pub power-more : (format : Fmt) (x y : List ℤ) → with_squares format (power format x) (length y) (sample y) ≡ power format (x ++ y)
+pub power-more : (format : Fmt) (x y : List ℤ) → with_squares format (power format x) y ≡ power format (x ++ y)
 power-more format x y =
     let w = accumulator format in
     let square : ℤ → ℤ = λ a. measured_product format a a in

@@ -1,38 +1,15 @@
 ghost use Rattle.std.specs.Prelude.{◌≡◌, ◌<◌, ◌*◌, ◌↔◌, ℕ, All, FitsSigned, IsTrue, IfOk, length, replicate, pos};
+ghost use Rattle.dsp_defs.specs.Channels.{samples_in};
 ghost use Rattle.dsp_defs.specs.Counts.{Rises};
 ghost use Rattle.dsp_defs.specs.Formats.{accumulator, word};
 ghost use Rattle.dsp_defs.specs.Signal.{sample};
-ghost use Rattle.dsp_measure.specs.Sums.{with_squares, of_frames};
+ghost use Rattle.dsp_measure.specs.Sums.{with_squares};
 
 use crate::MeasureSample;
+use crate::power::add_channel;
 use dsp_defs::{Fmt, Steps};
 use std::alloc::{AllocError, Global};
 use std::sync::ledger::Ledger;
-
-/// A sum of one channel, with the squares of some frames more.
-fn add_channel<T: MeasureSample, L: Ledger>(
-    start: i64,
-    frames: &[i32],
-    channels: usize,
-    channel: usize,
-    count: usize,
-    steps: &mut Steps<L>,
-) -> i64
-    requires inside { channel < channels }
-    requires whole { length frames.now ≡ count * channels }
-    requires in_format { All (FitsSigned (word T.format)) frames.now }
-    requires sum { FitsSigned (accumulator T.format) start }
-    ensures sum { result ≡ with_squares T.format start count (of_frames frames.now channels channel) }
-    ensures fits { FitsSigned (accumulator T.format) result }
-    ensures steps { Rises steps.old steps.new count count }
-{
-    let mut sum = start;
-    for n in 0..count {
-        let sample = T::of_number(frames[n * channels + channel]);
-        sum = T::add_measured(sum, sample, sample, steps);
-    }
-    sum
-}
 
 /// The sums of all channels, with the squares of some frames more.
 pub fn add_frames<T: MeasureSample, L: Ledger>(
@@ -44,7 +21,7 @@ pub fn add_frames<T: MeasureSample, L: Ledger>(
     requires whole { length frames.now ≡ count * length sums.old }
     requires in_format { All (FitsSigned (word T.format)) frames.now }
     requires sums { All (FitsSigned (accumulator T.format)) sums.old }
-    ensures sums { (c : ℕ) → c < length sums.old → sample sums.new c ≡ with_squares T.format (sample sums.old c) count (of_frames frames.now (length sums.old) c) }
+    ensures sums { (c : ℕ) → c < length sums.old → sample sums.new c ≡ with_squares T.format (sample sums.old c) (samples_in (length sums.old) count frames.now c) }
     ensures fits { All (FitsSigned (accumulator T.format)) sums.new }
     ensures steps { Rises steps.old steps.new (length frames.now) (length frames.now) }
 {
@@ -65,7 +42,7 @@ pub fn add_formatted<L: Ledger>(
     requires whole { length frames.now ≡ count * length sums.old }
     requires in_format { All (FitsSigned (word format)) frames.now }
     requires sums { All (FitsSigned (accumulator format)) sums.old }
-    ensures sums { (c : ℕ) → c < length sums.old → sample sums.new c ≡ with_squares format (sample sums.old c) count (of_frames frames.now (length sums.old) c) }
+    ensures sums { (c : ℕ) → c < length sums.old → sample sums.new c ≡ with_squares format (sample sums.old c) (samples_in (length sums.old) count frames.now c) }
     ensures fits { All (FitsSigned (accumulator format)) sums.new }
     ensures steps { Rises steps.old steps.new (length frames.now) (length frames.now) }
 {

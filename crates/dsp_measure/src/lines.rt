@@ -1,42 +1,17 @@
 //! The line of a measure in a report. It is built in place and takes no memory.
-ghost use Rattle.std.specs.Prelude.{◌≡◌, ◌+◌, ◌≤◌, ◌++◌, length, decimal};
-ghost use Rattle.std.specs.Fmt.{signed_decimal};
+ghost use Rattle.std.specs.Prelude.{◌≡◌, ◌+◌, ◌≤◌, ◌++◌, length};
 ghost use Rattle.arrayvec.specs.ArrayVec.{array_vec_len};
 ghost use Rattle.dsp_defs.specs.Report.{channel_text, extreme_line, found_text, measure_line, sums_line};
 
 use arrayvec::ArrayVec;
 use dsp_defs::Measure;
-use itoa::Buffer;
+use dsp_line::{integer, natural, text};
 
 /// The bytes of a measure's line at most.
 const LINE: usize = 160;
 
 /// A line that ends with a line feed.
 pub type MeasureLine = ArrayVec<u8, LINE>;
-
-fn text(line: &mut MeasureLine, text: &[u8])
-    requires { array_vec_len line.old + length text.now ≤ 160 }
-    ensures items { line.new.items ≡ line.old.items ++ text.now }
-    ensures len { array_vec_len line.new ≡ array_vec_len line.old + length text.now }
-{
-    line.try_extend_from_slice(text).unwrap();
-}
-
-fn natural(line: &mut MeasureLine, number: u64)
-    requires { array_vec_len line.old ≤ 140 }
-    ensures items { line.new.items ≡ line.old.items ++ decimal number }
-    ensures len { array_vec_len line.new ≤ array_vec_len line.old + 20 }
-{
-    text(line, Buffer::new().format(number).as_bytes());
-}
-
-fn integer(line: &mut MeasureLine, number: i64)
-    requires { array_vec_len line.old ≤ 140 }
-    ensures items { line.new.items ≡ line.old.items ++ signed_decimal number }
-    ensures len { array_vec_len line.new ≤ array_vec_len line.old + 20 }
-{
-    text(line, Buffer::new().format(number).as_bytes());
-}
 
 /// `WORD B channel C = `
 fn start_of_channel(word: &[u8], number: u8, channel: u8) -> MeasureLine

@@ -1,11 +1,11 @@
 -- The samples have ended: the last of them, the tail, and what that makes of the whole stream.
-use Rattle.std.proofs.Common.{◌≡◌, ◌⊎◌, ℕ, ◌+◌, ◌-◌, ◌*◌, ◌/◌, ◌^◌, ◌<◌, ◌≤◌, List, [], ◌++◌, length, take, drop, Option, Some, None, Result, Ok, Err, refl, sym, ap, ◌∙◌, subst, arith, append_assoc, append-nil, length-append, inl, inr}
+use Rattle.std.proofs.Common.{◌≡◌, ℕ, ◌+◌, ◌*◌, ◌/◌, ◌^◌, ◌<◌, ◌≤◌, List, [], ◌++◌, length, take, Option, Some, None, Result, Ok, Err, refl, sym, ap, ◌∙◌, subst, arith, append_assoc, append-nil, length-append, inr}
 use Rattle.std.proofs.lemmas.List.{length-take-le, take-take}
 use Rattle.std.specs.Io.KnownBytes.{append_known}
-use Rattle.dsp_ports.specs.Ports.{SourceState, SinkState, Rose, IsSettled, Took}
+use Rattle.dsp_ports.specs.Ports.{SourceState, SinkState, Rose, IsSettled}
 use Rattle.dsp_ports.proofs.Moved.{append_known-append}
 use Rattle.dsp_defs.specs.Block.{Frame}
-use Rattle.dsp_defs.specs.Output.{HasHeader, input_container, input_header, input_signal, output_header, output_pad, live_bytes, whole_bytes, output, part}
+use Rattle.dsp_defs.specs.Output.{HasHeader, input_container, input_signal, output_header, output_pad, live_bytes, whole_bytes, output, part}
 use Rattle.dsp_defs.specs.Shape.{frames_given, window_at}
 use Rattle.dsp_defs.specs.Streaming.{Begins}
 use Rattle.dsp_defs.specs.declared.measure.Measure.{Measure}
@@ -19,8 +19,7 @@ use Rattle.dsp_defs.proofs.OutputLaws.{coded_begins}
 use Rattle.dsp_defs.proofs.SampleLaws.{samples-whole}
 use Rattle.dsp_chain.proofs.Making.{no-window}
 use Rattle.dsp_session.specs.SessionState.{SessionState}
-use Rattle.dsp_session.specs.Session.{IsReady, StandsFor, SameSession, Feeds, FeedCosts, signal, frame_bytes, block_bytes, whole_values, cost_of, live_cost_of, output_bytes, measures_of}
-use Rattle.dsp_session.specs.Opening.{Opens}
+use Rattle.dsp_session.specs.Session.{IsReady, StandsFor, SameSession, Feeds, signal, frame_bytes, whole_values, cost_of, live_cost_of, measures_of}
 use Rattle.dsp_session.specs.Stream.{IsWhole, IsTakenWhole, Stopped, Done, LagsByOne, declared_bytes, frames_in_bytes}
 use Rattle.dsp_session.specs.Passing.{InDeclared, AreAll, Passes, FailsToPass, Passed, WritesRest, TailCosts}
 use Rattle.dsp_session.specs.declared.fault.LengthFault.TheVariants as length_fault
@@ -28,7 +27,7 @@ use Rattle.dsp_session.specs.declared.fault.StreamFault.{StreamFault}
 use Rattle.dsp_session.specs.declared.fault.StreamFault.TheVariants as fault
 use Rattle.dsp_session.specs.declared.streaming.Last.{Last}
 use Rattle.dsp_session.proofs.OpeningLaws.{some_frame, floor_within, frames_of_blocks, length-signal, signal-append, frames-whole, signal_is, frames_are, output_is, part_blocks}
-use Rattle.dsp_session.proofs.PassingLaws.{in_declared, lags, gathers_none}
+use Rattle.dsp_session.proofs.PassingLaws.{in_declared, lags}
 use Rattle.dsp_session.proofs.WorkerLaws.{never_full}
 
 quotient_within : (n f : ℕ) → n / f ≤ n

@@ -1,6 +1,6 @@
 -- Where a stream stops before the first sample.
-use Rattle.std.proofs.Common.{◌≡◌, ◌⊎◌, ℕ, ◌+◌, ◌*◌, ◌/◌, ◌<◌, ◌≤◌, ◌^◌, List, [], ◌∷◌, ◌++◌, length, take, drop, fold, Option, Some, None, Result, Ok, Err, refl, sym, ap, ◌∙◌, subst, arith, append-nil, append_assoc, inl, inr}
-use Rattle.std.proofs.lemmas.List.{take_all, take-append-drop}
+use Rattle.std.proofs.Common.{◌≡◌, ℕ, ◌*◌, ◌/◌, ◌<◌, ◌≤◌, List, [], ◌∷◌, ◌++◌, length, take, drop, fold, Option, Some, None, Err, refl, sym, ap, ◌∙◌, subst, arith, append-nil, append_assoc, inl, inr}
+use Rattle.std.proofs.lemmas.List.{take-append-drop}
 use Rattle.std.specs.Result.{IsOk}
 use Rattle.std.specs.Io.KnownBytes.{append_known}
 use Rattle.dsp_ports.specs.Ports.{SourceState, SinkState, Rose, Gave, Took}
@@ -8,7 +8,6 @@ use Rattle.dsp_ports.proofs.Moved.{Took-nil}
 use Rattle.dsp_defs.specs.Block.{channels_after}
 use Rattle.dsp_defs.specs.Grammar.{IsChain}
 use Rattle.dsp_defs.specs.Output.{HasHeader, HeaderIsThere, input_header, output_header, output_pad, live_bytes, known_frames, wanted_of, format_of, channels_of, rate_of, part}
-use Rattle.dsp_defs.specs.Streaming.{Begins}
 use Rattle.dsp_defs.specs.Table.{flow_after}
 use Rattle.dsp_defs.specs.Wave.{header_of, wave_header, pad}
 use Rattle.dsp_defs.specs.declared.format.Container.TheVariants as container
@@ -21,14 +20,14 @@ use Rattle.dsp_defs.specs.declared.wave.Header.{Header}
 use Rattle.dsp_defs.specs.declared.wave.HeaderFault.{HeaderFault}
 use Rattle.dsp_defs.proofs.ChainPlaces.{few_channels_after}
 use Rattle.dsp_wave.specs.Reading.{IsSure}
-use Rattle.dsp_script.proofs.Paces.{IsLegal, legal_parts}
+use Rattle.dsp_script.proofs.Paces.{legal_parts}
 use Rattle.dsp_session.specs.declared.fault.LengthFault.{LengthFault}
 use Rattle.dsp_session.specs.declared.fault.LengthFault.TheVariants as length_fault
 use Rattle.dsp_session.specs.declared.fault.StreamFault.{StreamFault}
 use Rattle.dsp_session.specs.declared.fault.StreamFault.TheVariants as fault
-use Rattle.dsp_session.specs.Session.{IsReady, frame_bytes, block_bytes, signal, cost_of}
-use Rattle.dsp_session.specs.Opening.{Opens, Opened, Unopened, IsUnopened, TooLong}
-use Rattle.dsp_session.specs.Stream.{StopsAt, Stopped, WrotePart, Nothing, LagsByOne, declared_bytes, frames_in_bytes}
+use Rattle.dsp_session.specs.Session.{IsReady, frame_bytes, block_bytes, signal}
+use Rattle.dsp_session.specs.Opening.{Opened, Unopened, IsUnopened, IsTooLong, TooLong}
+use Rattle.dsp_session.specs.Stream.{StopsAt, Stopped, Nothing, LagsByOne, declared_bytes}
 use Rattle.dsp_session.specs.Passing.{InDeclared}
 use Rattle.dsp_session.proofs.OpeningLaws.{some_frame, part_blocks}
 use Rattle.std.proofs.Math.Nat.{mul-le-mul}
@@ -122,17 +121,13 @@ module _ (script : Script) (block multiplies : ℕ) (ready : IsReady script bloc
       }
 
   pub stops_too_long : (length : LengthFault) (known : Option ℕ) → known ≡ known_frames script header → TooLong length script known → Stopped script block (fault.Lengths length) input now sink sink multiplies multiplies
-  stops_too_long (length_fault.Riff size limit) known is (wave, frames, some, long) =
+  stops_too_long (length_fault.Riff size limit) known is (long, most) =
       stops_first (fault.Lengths (length_fault.Riff size limit)) sink [] (Took-nil sink).put
       (record {
         has = has;
         alone = sym (ap (λ (h : Header). h.start) header_is ∙ opened.opens.start);
-        wave = wave;
-        frames = frames;
-        known = ap (known_frames script) header_is ∙ sym is ∙ some;
-        size_is = long.size_is;
-        over = long.over;
-        limit = long.limit;
+        long = subst (λ count. IsTooLong script count size) (is ∙ sym (ap (known_frames script) header_is)) long;
+        limit = most;
         untouched = refl;
         clean = opened.no_fault;
       })

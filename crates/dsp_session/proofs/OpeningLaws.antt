@@ -1,14 +1,14 @@
 -- Behind the header of the input stand its samples, block after block.
-use Rattle.std.proofs.Common.{◌≡◌, ℕ, ◌+◌, ◌-◌, ◌*◌, ◌/◌, ◌<◌, ◌≤◌, ◌^◌, List, [], ◌++◌, length, take, drop, Option, Some, None, refl, sym, ap, ap₂, ◌∙◌, subst, arith, length-append, append-nil}
+use Rattle.std.proofs.Common.{◌≡◌, ℕ, ◌+◌, ◌*◌, ◌/◌, ◌<◌, ◌≤◌, List, [], ◌++◌, length, take, drop, Option, Some, None, refl, sym, ap, ◌∙◌, arith, length-append}
 use Rattle.std.proofs.lemmas.List.{drop_at, take_all, take_at}
 use Rattle.std.proofs.lemmas.Nat.{div-mul-add}
 use Rattle.std.proofs.Math.Nat.{mul_assoc}
 use Rattle.dsp_defs.specs.Block.{Frame}
 use Rattle.dsp_defs.specs.Bytes.{width}
-use Rattle.dsp_defs.specs.Output.{input_container, input_header, input_signal, sample_bytes, output_header, output_pad, live_bytes, whole_bytes, whole_blocks, output, part}
+use Rattle.dsp_defs.specs.Output.{input_container, input_signal, sample_bytes, output_header, output_pad, live_bytes, whole_bytes, whole_blocks, output, part}
 use Rattle.dsp_defs.specs.declared.script.Script.{Script}
 use Rattle.dsp_defs.specs.declared.wave.Header.{Header}
-use Rattle.dsp_defs.proofs.SampleLaws.{width-some, length-samples, samples-nil, samples-append, samples-whole, count-whole}
+use Rattle.dsp_defs.proofs.SampleLaws.{width-some, length-samples, samples-nil, samples-append, count-whole}
 use Rattle.dsp_session.specs.Session.{IsReady, frame_bytes, block_bytes, signal}
 use Rattle.dsp_session.specs.Opening.{Opens}
 use Rattle.dsp_session.specs.Stream.{declared_bytes, frames_in_bytes}

@@ -1,30 +1,27 @@
 -- A stream goes on block by block.
-use Rattle.std.proofs.Common.{◌≡◌, ◌⊎◌, ℕ, ◌+◌, ◌-◌, ◌*◌, ◌/◌, ◌^◌, ◌<◌, ◌≤◌, List, [], ◌++◌, length, take, drop, Option, Some, None, IfSome, refl, sym, ap, ◌∙◌, subst, arith, append_assoc, append-nil, length-append, inl, inr}
-use Rattle.std.proofs.lemmas.List.{take_at, take_all, take-append-drop, length-take-le}
-use Rattle.std.specs.Io.KnownBytes.{IsAtEnd, append_known}
-use Rattle.dsp_ports.specs.Ports.{SourceState, SinkState, Rose, Gave, Took}
+use Rattle.std.proofs.Common.{◌≡◌, ℕ, ◌+◌, ◌*◌, ◌/◌, ◌^◌, ◌<◌, ◌≤◌, List, [], ◌++◌, length, take, Option, Some, None, IfSome, refl, sym, ap, ◌∙◌, subst, arith, append_assoc, append-nil, length-append, inl, inr}
+use Rattle.std.proofs.lemmas.List.{take_at, take_all}
+use Rattle.std.specs.Io.KnownBytes.{append_known}
+use Rattle.dsp_ports.specs.Ports.{SourceState, SinkState, Gave, Took}
 use Rattle.dsp_ports.proofs.Moved.{Gave-nil, Took-nil, Gave-append, Took-append, append_known-append}
 use Rattle.dsp_defs.specs.Block.{Frame}
 use Rattle.dsp_defs.specs.Output.{HasHeader, input_header, output_header, live_bytes, part}
 use Rattle.dsp_defs.specs.Streaming.{Begins}
 use Rattle.dsp_defs.specs.Shape.{gathered}
-use Rattle.dsp_defs.specs.declared.limits.TheConstants.{MAX_GATHERED}
 use Rattle.dsp_defs.specs.declared.script.Script.{Script}
 use Rattle.dsp_defs.specs.declared.wave.Header.{Header}
-use Rattle.dsp_defs.specs.declared.wave.HeaderFault.{HeaderFault}
 use Rattle.dsp_defs.proofs.ChainPlaces.{live_chain-nil}
 use Rattle.dsp_defs.proofs.CostLaws.{live_cost_within}
 use Rattle.dsp_chain.proofs.Making.{no-gather}
 use Rattle.dsp_session.specs.SessionState.{SessionState}
-use Rattle.dsp_session.specs.Session.{IsReady, StandsFor, SameSession, Feeds, FeedCosts, signal, frame_bytes, block_bytes, cost_of, live_cost_of}
+use Rattle.dsp_session.specs.Session.{IsReady, StandsFor, SameSession, FeedCosts, signal, frame_bytes, block_bytes, cost_of, live_cost_of}
 use Rattle.dsp_session.specs.Opening.{Opens, Begun}
-use Rattle.dsp_session.specs.Stream.{StopsAt, Stopped, WrotePart, Part, LagsByOne, declared_bytes, frames_in_bytes}
-use Rattle.dsp_session.specs.Passing.{InDeclared, AreAll, BlockRead, IsUnread, Unread, Passes, FailsToPass, Passed}
+use Rattle.dsp_session.specs.Stream.{StopsAt, Stopped, Part, LagsByOne, declared_bytes, frames_in_bytes}
+use Rattle.dsp_session.specs.Passing.{InDeclared, BlockRead, IsUnread, Unread, Passes, FailsToPass, Passed}
 use Rattle.dsp_session.specs.declared.fault.LengthFault.TheVariants as length_fault
 use Rattle.dsp_session.specs.declared.fault.StreamFault.{StreamFault}
 use Rattle.dsp_session.specs.declared.fault.StreamFault.TheVariants as fault
-use Rattle.dsp_session.specs.declared.streaming.Last.{Last}
-use Rattle.dsp_session.proofs.OpeningLaws.{some_frame, frames_of_blocks, signal-nil, length-signal, signal-append, frames-whole, signal_is, frames_are, part_blocks}
+use Rattle.dsp_session.proofs.OpeningLaws.{some_frame, frames_of_blocks, signal-nil, length-signal, signal-append, frames-whole, frames_are, part_blocks}
 use Rattle.dsp_session.proofs.OpenLaws.{some_block}
 
 -- all the blocks so far have passed

@@ -1,7 +1,7 @@
 -- What the calls of a chain make of bytes.
 use Rattle.std.proofs.Common.{◌≡◌, ℕ, ◌+◌, ◌*◌, ◌/◌, ◌<◌, ◌≤◌, ℤ, List, [], ◌∷◌, ◌++◌, length, take, drop, fold, flat_map, All, FitsSigned, refl, sym, ap, ◌∙◌, subst, arith, length-append}
-use Rattle.dsp_defs.specs.Block.{Frame, format_after, channels_after}
-use Rattle.dsp_defs.specs.Bytes.{width, bytes_of, sample_of, coded}
+use Rattle.dsp_defs.specs.Block.{Frame, format_after}
+use Rattle.dsp_defs.specs.Bytes.{width, bytes_of, sample_of}
 use Rattle.dsp_defs.specs.Cost.{live_cost, chain_turns}
 use Rattle.dsp_defs.specs.Counts.{Counts}
 use Rattle.dsp_defs.specs.Formats.{word}
@@ -17,7 +17,7 @@ use Rattle.dsp_defs.specs.declared.script.Script.{Script}
 use Rattle.dsp_defs.proofs.BlockLaws.{length-values}
 use Rattle.dsp_defs.proofs.ChainPlaces.{legal_is_open, open_behind}
 use Rattle.dsp_defs.proofs.CostLaws.{products_are_cost, costs_within}
-use Rattle.dsp_defs.proofs.SampleLaws.{width-some, decoded, encoded, coded-append, count-whole}
+use Rattle.dsp_defs.proofs.SampleLaws.{width-some, decoded, encoded, coded-append}
 use Rattle.dsp_defs.specs.Shape.{gathered}
 use Rattle.dsp_chain.proofs.Making.{no-window, no-gather}
 use Rattle.dsp_chain.proofs.Room.{written-row}
@@ -25,8 +25,7 @@ use Rattle.dsp_wave.specs.Coding.{container_in, format_in}
 use Rattle.dsp_wave.specs.declared.coding.Coding.{Coding}
 use Rattle.dsp_chain.specs.Chain.{ChainState, ChainStandsFor, FeedsChain, FinishesChain, measures_of as chain_measures, live_of, whole_of, output_of, input_place}
 use Rattle.dsp_session.specs.SessionState.{SessionState}
-use Rattle.dsp_session.specs.Session.{IsReady, StandsFor, Feeds, FeedCosts, FeedTurns, measures_of, Ends, EndCosts, GavePiece, Owes, Costs, signal, frame_bytes, output_bytes, live_values, whole_values, cost_of, live_cost_of}
-use Rattle.dsp_session.proofs.OpeningLaws.{some_frame}
+use Rattle.dsp_session.specs.Session.{IsReady, Feeds, FeedCosts, FeedTurns, measures_of, Ends, EndCosts, signal, frame_bytes, output_bytes, live_values, whole_values, cost_of, live_cost_of}
 
 -- the format behind the blocks
 format_behind : (p : Place) (blocks : List Block) → (place_behind p blocks).format ≡ fold format_after p.format blocks

@@ -46,15 +46,17 @@ pub record Unopened (script : Script) (fault : StreamFault) (input now : SourceS
 
 -- ---- the output's header
 
--- a WAVE output of so many frames is too long for the sizes in its header
-pub record IsTooLong (script : Script) (frames size most : ℕ) : Type 0 where
+-- the output is WAVE, and where it is to have so many frames its size would be past the limit of its header
+pub record IsTooLong (script : Script) (count : Option ℕ) (size : ℕ) : Type 0 where
+  pub wave : script.output ≡ container.Wave
+  pub frames : ℕ
+  pub known : count ≡ Some frames
   pub size_is : size ≡ riff_size (format_of script) (channels_of script) (Some frames)
   pub over : MAX_RIFF_SIZE < size
-  pub limit : most ≡ MAX_RIFF_SIZE
 
 abbrev pub TooLong : LengthFault → Script → Option ℕ → Type 0
-TooLong (length_fault.Riff size limit) script known = (script.output ≡ container.Wave) × (frames : ℕ) × (known ≡ Some frames) × IsTooLong script frames size limit
-TooLong fault script known = ⊥
+TooLong (length_fault.Riff size limit) script count = IsTooLong script count size × (limit ≡ MAX_RIFF_SIZE)
+TooLong fault script count = ⊥
 
 -- the input's header was taken, and the output's was written
 pub record Begun (script : Script) (header : Header) (input now : SourceState) (sink after : SinkState) : Type 0 where

@@ -1,9 +1,9 @@
 -- Block after block: what is taken, worked on and written.
-use Rattle.std.specs.Prelude.{◌≡◌, ◌⊎◌, ℕ, ◌+◌, ◌*◌, ◌/◌, ◌^◌, ◌<◌, ◌≤◌, false, List, ◌++◌, length, take, Option, Some, None, IfSome, Result, OnOk}
+use Rattle.std.specs.Prelude.{◌≡◌, ℕ, ◌+◌, ◌*◌, ◌/◌, ◌^◌, ◌<◌, ◌≤◌, List, ◌++◌, length, take, Option, Some, None, IfSome, Result, OnOk}
 use Rattle.std.specs.Io.KnownBytes.{IsAtEnd, append_known}
 use Rattle.dsp_ports.specs.Ports.{SourceState, SinkState, Rose, Gave, Took}
 use Rattle.dsp_defs.specs.Block.{Frame}
-use Rattle.dsp_defs.specs.Output.{live_bytes, whole_bytes, output_header, output_pad}
+use Rattle.dsp_defs.specs.Output.{live_bytes, output_header}
 use Rattle.dsp_defs.specs.Shape.{gathered, held}
 use Rattle.dsp_defs.specs.Streaming.{Begins}
 use Rattle.dsp_defs.specs.declared.limits.TheConstants.{MAX_GATHERED}
@@ -11,9 +11,9 @@ use Rattle.dsp_defs.specs.declared.script.Script.{Script}
 use Rattle.dsp_defs.specs.declared.wave.Header.{Header}
 use Rattle.dsp_defs.specs.declared.wave.HeaderFault.TheVariants.{Short}
 use Rattle.dsp_session.specs.SessionState.{SessionState}
-use Rattle.dsp_session.specs.Session.{StandsFor, Feeds, FeedCosts, SameSession, signal, frame_bytes, block_bytes, cost_of, live_cost_of}
+use Rattle.dsp_session.specs.Session.{StandsFor, Feeds, FeedCosts, signal, frame_bytes, block_bytes, cost_of, live_cost_of}
 use Rattle.dsp_session.specs.Opening.{Opens}
-use Rattle.dsp_session.specs.Stream.{declared_bytes, IsWhole}
+use Rattle.dsp_session.specs.Stream.{declared_bytes}
 use Rattle.dsp_session.specs.declared.fault.LengthFault.TheVariants as length_fault
 use Rattle.dsp_session.specs.declared.fault.StreamFault.{StreamFault}
 use Rattle.dsp_session.specs.declared.fault.StreamFault.TheVariants as fault

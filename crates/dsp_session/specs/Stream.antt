@@ -1,12 +1,11 @@
 -- How the bytes that a stream took and the bytes that it wrote stand to each other at each of its ends.
-use Rattle.std.specs.Prelude.{◌≡◌, ◌⊎◌, ℕ, ◌+◌, ◌-◌, ◌*◌, ◌/◌, ◌^◌, ◌<◌, ◌≤◌, List, ◌++◌, length, take, Option, Some, None, Result, Err, IfSome}
+use Rattle.std.specs.Prelude.{◌≡◌, ◌⊎◌, ℕ, ◌+◌, ◌*◌, ◌/◌, ◌^◌, ◌<◌, ◌≤◌, List, length, take, Option, Some, None, Err, IfSome}
 use Rattle.std.specs.Io.KnownBytes.{IsAtEnd, append_known}
 use Rattle.dsp_ports.specs.Ports.{SourceState, SinkState, Rose, Gave, IsSettled}
-use Rattle.dsp_defs.specs.Output.{HasHeader, input_header, input_signal, wanted_of, known_frames, format_of, channels_of, output, part}
-use Rattle.dsp_defs.specs.Shape.{frames_given, gathered, held, window_at}
+use Rattle.dsp_defs.specs.Output.{HasHeader, input_header, input_signal, wanted_of, known_frames, output, part}
+use Rattle.dsp_defs.specs.Shape.{gathered, held, window_at}
 use Rattle.dsp_defs.specs.Streaming.{Begins}
-use Rattle.dsp_defs.specs.Wave.{header_of, riff_size}
-use Rattle.dsp_defs.specs.declared.format.Container.TheVariants as container
+use Rattle.dsp_defs.specs.Wave.{header_of}
 use Rattle.dsp_defs.specs.declared.format.InputKind.TheVariants as kind
 use Rattle.dsp_defs.specs.declared.limits.TheConstants.{MAX_GATHERED, MAX_RIFF_SIZE}
 use Rattle.dsp_defs.specs.declared.measure.Measure.{Measure}
@@ -15,6 +14,7 @@ use Rattle.dsp_defs.specs.declared.wave.Header.{Header}
 use Rattle.dsp_defs.specs.declared.wave.HeaderFault.{HeaderFault}
 use Rattle.dsp_defs.specs.declared.wave.HeaderFault.TheVariants.{Short}
 use Rattle.dsp_wave.specs.Reading.{IsSure}
+use Rattle.dsp_session.specs.Opening.{IsTooLong}
 use Rattle.dsp_session.specs.Session.{frame_bytes, block_bytes, cost_of, measures_of}
 use Rattle.dsp_session.specs.declared.fault.LengthFault.TheVariants as length_fault
 use Rattle.dsp_session.specs.declared.fault.StreamFault.{StreamFault}
@@ -111,15 +111,11 @@ pub record StopsAtWindow (script : Script) (block end full : ℕ) (given written
   pub clean : now.faults ≡ input.faults
   pub kept : after.faults ≡ sink.faults
 
--- the header was taken, and the output is WAVE and would be too long for its sizes
+-- the header was taken, and the output would be too long for the sizes in its header
 pub record StopsAtRiff (script : Script) (size most : ℕ) (given : List ℕ) (input now : SourceState) (sink after : SinkState) : Type 0 where
   pub has : HasHeader script given
   pub alone : length given ≡ (input_header script given).start
-  pub wave : script.output ≡ container.Wave
-  pub frames : ℕ
-  pub known : known_frames script (input_header script given) ≡ Some frames
-  pub size_is : size ≡ riff_size (format_of script) (channels_of script) (Some frames)
-  pub over : MAX_RIFF_SIZE < size
+  pub long : IsTooLong script (known_frames script (input_header script given)) size
   pub limit : most ≡ MAX_RIFF_SIZE
   pub untouched : after ≡ sink
   pub clean : now.faults ≡ input.faults

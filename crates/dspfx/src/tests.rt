@@ -1,4 +1,5 @@
 use super::*;
+use crate::full_disk::FullDisk;
 use std::alloc::AllocError;
 use std::test::Fail;
 use std::{fs, io};
@@ -135,5 +136,29 @@ fn an_empty_input_makes_an_empty_output(rt: HostRuntime) -> Result<(), Fail> {
     let written = fs::read(&rt, "old.raw")?;
     assert_eq!(rt; written.len(), 0);
     remove(&rt, &["third.txt", "empty.raw", "old.raw"])?;
+    Ok(())
+}
+
+/// What a stopped run has accepted cannot be written behind it, and main says so in place of the run's status.
+#[test]
+fn a_short_input_on_a_full_disk_is_not_written(rt: HostRuntime) -> Result<(), Fail> {
+    fs::write(
+        &rt,
+        "full.txt",
+        b"dspfx 1 input wave q7 1 block 2 output raw\n",
+    )?;
+    fs::write(&rt, "full.wav", SHORT)?;
+    let words = words_of(rt.alloc(), &["run", "full.txt", "full.wav", "full.raw"])?;
+    let disk = FullDisk(&rt);
+    let status = run_files::<FullDisk<'_, HostRuntime>, Brand>(
+        rt.alloc(),
+        &disk,
+        &words,
+        Blank::new(2),
+    );
+    assert_eq!(rt; status, 8);
+    let written = fs::read(&rt, "full.raw")?;
+    assert_eq!(rt; written.len(), 0);
+    remove(&rt, &["full.txt", "full.wav", "full.raw"])?;
     Ok(())
 }

@@ -1,4 +1,4 @@
-use Rattle.std.proofs.Common.{◌≡◌, ◌∙◌, ap, ◌+◌, ◌<◌, ◌≤◌, ◌++◌, ◌∷◌, [], length, take, arith, vec_len, vec_capacity}
+use Rattle.std.proofs.Common.{◌≡◌, ◌∙◌, ap, ◌+◌, ◌<◌, ◌≤◌, ◌++◌, ◌∷◌, [], length, arith, vec_len, vec_capacity}
 use Rattle.std.proofs.lemmas.List.{length-take-le}
 use Rattle.dsp_session.specs.Session.{measured}
 use Rattle.dsp_cli.proofs.ReportLaws.{found-more}

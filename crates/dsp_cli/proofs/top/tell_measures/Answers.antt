@@ -1,4 +1,4 @@
-use Rattle.std.proofs.Common.{◌≡◌, ◌∙◌, ap, refl, sym, ◌+◌, ◌++◌, length, take, get_or, pos, arith, subst}
+use Rattle.std.proofs.Common.{◌∙◌, refl, ◌+◌, take, get_or, pos, arith, subst}
 use Rattle.dsp_defs.specs.declared.measure.Measure.TheVariants.{Power}
 use Rattle.std.proofs.lemmas.Result.{err_from_is_err_and}
 use Rattle.std.proofs.lemmas.List.{take_all}

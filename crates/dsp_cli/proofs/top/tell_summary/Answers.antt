@@ -1,5 +1,5 @@
-use Rattle.std.proofs.Common.{◌≡◌, ◌∙◌, ap, sym, ◌++◌, take, subst}
-use Rattle.dsp_ports.specs.Ports.{Took, Rose}
+use Rattle.std.proofs.Common.{◌∙◌, ◌++◌, take}
+use Rattle.dsp_ports.specs.Ports.{Took}
 use Rattle.dsp_cli.specs.Fault.{head_text}
 use Rattle.dsp_cli.specs.Run.{Wrote}
 use Rattle.dsp_cli.proofs.ReportLaws.{lines, wrote-behind, tells-front, tells-all, tells-behind, head-begins}

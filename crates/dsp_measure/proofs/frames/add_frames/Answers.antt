@@ -1,15 +1,15 @@
-use Rattle.std.proofs.Common.{◌≡◌, ◌∙◌, ap, sym, ◌+◌, ◌*◌, ◌<◌, ◌≤◌, ◌≢◌, ℕ, length, arith, rules, SFits, to_z-of_z, below_more, pos, set, subst}
-use Rattle.std.specs.Prelude.{All, FitsSigned}
+use Rattle.std.proofs.Common.{◌≡◌, ◌∙◌, ap, ◌<◌, length, arith, rules, SFits, to_z-of_z, below_more, pos, set}
+use Rattle.std.specs.Prelude.{FitsSigned}
 use mir.Syntax.{w64}
-use Rattle.dsp_defs.specs.Counts.{Rises}
+use Rattle.dsp_defs.specs.Channels.{samples_in}
 use Rattle.dsp_defs.specs.Formats.{accumulator}
 use Rattle.dsp_defs.specs.Signal.{sample}
-use Rattle.dsp_measure.specs.Sums.{with_squares, of_frames}
+use Rattle.dsp_measure.specs.Sums.{with_squares}
 use Rattle.dsp_measure.proofs.SumLaws.{set-here, set-elsewhere, set-all, steps-more}
 use Rattle.dsp_measure.proofs.frames.add_frames.Goals as goal
 
-pub add_channel-requires-clause-sum : goal.add_channel-requires-clause-sum
-add_channel-requires-clause-sum g c =
+pub add_channel-requires-clause-start : goal.add_channel-requires-clause-start
+add_channel-requires-clause-start g c =
     let k = c.loop-channel.channel in
     let fits : SFits w64 (sample c.loop-channel.sums k) = search rules in
     rw (to_z-of_z fits) (c.loop-channel.invariant.fits k (pos 0) (omega (arith, c.loop-channel.auto.sums, c.loop-channel-test.true)))
@@ -28,9 +28,9 @@ loop-channel-preserved g c =
     rw (to_z-of_z new_fits)
     (record {
       fits = set-all sums k v within (FitsSigned (accumulator format)) c.loop-channel.invariant.fits c.add_channel.ensures.fits;
-      done = λ d h. below_more (λ d. sample (set sums k v) d ≡ with_squares format (sample c.args.sums.now d) c.args.count (of_frames c.args.frames.now channels d)) k
+      done = λ d h. below_more (λ d. sample (set sums k v) d ≡ with_squares format (sample c.args.sums.now d) (samples_in channels c.args.count c.args.frames.now d)) k
           (λ d less. set-elsewhere sums k v within d (λ e. absurd (omega (arith, e, less))) ∙ c.loop-channel.invariant.done d less)
-          (set-here sums k v within ∙ c.add_channel.ensures.sum ∙ ap (λ s. with_squares format s c.args.count (of_frames c.args.frames.now channels k)) (to_z-of_z fits ∙ before)) d h;
+          (set-here sums k v within ∙ c.add_channel.ensures.sum ∙ ap (λ s. with_squares format s (samples_in channels c.args.count c.args.frames.now k)) (to_z-of_z fits ∙ before)) d h;
       left = λ d h. set-elsewhere sums k v within d (λ e. absurd (omega (arith, e, h))) ∙ c.loop-channel.invariant.left d (omega (arith, h));
       steps = steps-more c.args.steps.now c.loop-channel.steps c.add_channel.new.steps k c.args.count c.loop-channel.invariant.steps c.add_channel.ensures.steps;
     })

@@ -1,4 +1,4 @@
-use Rattle.std.proofs.Common.{◌≡◌, ◌∙◌, ℕ, take, subst}
+use Rattle.std.proofs.Common.{◌≡◌, ◌∙◌, take, subst}
 use Rattle.std.proofs.lemmas.Result.{err_from_is_err_and}
 use Rattle.dsp_ports.specs.Ports.{Took}
 use Rattle.dsp_defs.specs.Output.{output_pad}

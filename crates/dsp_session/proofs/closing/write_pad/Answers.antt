@@ -1,4 +1,4 @@
-use Rattle.std.proofs.Common.{◌≡◌, ◌∙◌, ℕ, List, take, MatchResult, ap, sym, subst}
+use Rattle.std.proofs.Common.{◌≡◌, ◌∙◌, ℕ, take, MatchResult, sym, subst}
 use Rattle.dsp_ports.specs.Ports.{Took}
 use Rattle.dsp_defs.specs.Output.{output_pad}
 use Rattle.dsp_session.proofs.OpenLaws.{pad_bytes}

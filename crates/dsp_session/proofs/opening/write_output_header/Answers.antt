@@ -1,8 +1,6 @@
-use Rattle.std.proofs.Common.{◌≡◌, ◌∙◌, ℕ, List, take, MatchResult, ap, sym, subst}
+use Rattle.std.proofs.Common.{◌≡◌, ◌∙◌, ℕ, take, MatchResult, sym, subst}
 use Rattle.dsp_ports.specs.Ports.{Took}
-use Rattle.dsp_defs.specs.Output.{format_of, channels_of, rate_of, output_header}
-use Rattle.dsp_defs.specs.Wave.{wave_header}
-use Rattle.dsp_defs.specs.declared.flow.Flow.{Flow}
+use Rattle.dsp_defs.specs.Output.{output_header}
 use Rattle.dsp_session.proofs.OpenLaws.{few_channels, header_bytes}
 use Rattle.dsp_session.proofs.opening.write_output_header.Goals as goal
 

@@ -1,4 +1,4 @@
-use Rattle.std.proofs.Common.{◌∙◌, ap, sym, take, drop}
+use Rattle.std.proofs.Common.{◌∙◌, sym, take, drop}
 use Rattle.std.proofs.lemmas.List.{take-append-drop}
 use Rattle.dsp_session.proofs.streaming.pass_block.Goals as goal
 

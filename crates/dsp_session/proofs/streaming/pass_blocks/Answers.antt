@@ -1,6 +1,6 @@
-use Rattle.std.proofs.Common.{◌≡◌, ◌∙◌, ◌*◌, length, sym, ap, refl, arith}
+use Rattle.std.proofs.Common.{◌≡◌, ◌∙◌, length, refl, arith}
 use Rattle.std.proofs.lemmas.Result.{err_from_is_err_and}
-use Rattle.dsp_session.specs.Session.{block_bytes, signal}
+use Rattle.dsp_session.specs.Session.{block_bytes}
 use Rattle.dsp_session.proofs.PassingLaws as laws
 use Rattle.dsp_session.proofs.streaming.pass_blocks.Goals as goal
 

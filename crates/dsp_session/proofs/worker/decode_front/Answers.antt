@@ -1,4 +1,4 @@
-use Rattle.std.proofs.Common.{◌≡◌, ◌/◌, ◌≤◌, ◌∙◌, length, take, refl, ap, sym, arith}
+use Rattle.std.proofs.Common.{◌≡◌, ◌/◌, ◌≤◌, ◌∙◌, length, take}
 use Rattle.dsp_defs.specs.Bytes.{sample_of, width}
 use Rattle.dsp_wave.specs.Coding.{container_in, format_in}
 use Rattle.std.proofs.lemmas.List.{length-take-le}

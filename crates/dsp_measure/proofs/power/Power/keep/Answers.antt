@@ -1,4 +1,4 @@
-use Rattle.std.proofs.Common.{◌≡◌, ◌∙◌, ap, refl, sym, rules, ℤ, List, [], ◌∷◌, length, set, SFits, to_z-of_z, arith}
+use Rattle.std.proofs.Common.{◌≡◌, ◌∙◌, ap, refl, rules, ℤ, List, [], ◌∷◌, length, set, SFits, to_z-of_z, arith}
 use mir.Syntax.{w64}
 use Rattle.dsp_measure.proofs.power.Power.keep.Goals as goal
 

@@ -1,8 +1,6 @@
-use Rattle.std.proofs.Common.{◌≡◌, ◌∙◌, ap, refl, sym, ℕ, ◌<◌, ℤ, pos, false, replicate, length, get_or, [], arith}
+use Rattle.std.proofs.Common.{◌∙◌, ap, refl, sym, pos, false, length, []}
 use Rattle.std.proofs.lemmas.List.{length-replicate, get_or-replicate}
 use Rattle.dsp_defs.specs.Signal.{sample}
-use Rattle.dsp_defs.specs.Measure.{power}
-use Rattle.dsp_defs.specs.Block.{channel}
 use Rattle.dsp_defs.specs.declared.script.Block.TheVariants.{Power}
 use Rattle.dsp_measure.proofs.MeasureUnits.{IsPower, power-stands, power-counts, power-of_nothing}
 use Rattle.dsp_measure.proofs.unit.Unit.new.Goals as goal

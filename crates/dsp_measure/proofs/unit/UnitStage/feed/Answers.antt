@@ -1,9 +1,8 @@
-use Rattle.std.proofs.Common.{◌≡◌, ◌∙◌, ap, refl, sym, ℕ, ◌+◌, ◌*◌, ◌/◌, ◌<◌, ◌≤◌, ◌++◌, List, length, take, drop, arith}
-use Rattle.std.proofs.lemmas.List.{length-take-le}
+use Rattle.std.proofs.Common.{◌≡◌, ◌∙◌, ap, refl, sym, ℕ, ◌+◌, ◌*◌, ◌/◌, ◌≤◌, length, drop, arith}
+use Rattle.dsp_defs.specs.Channels.{samples_in}
 use Rattle.dsp_defs.specs.Signal.{sample}
-use Rattle.dsp_defs.specs.Unit.{frames_in}
 use Rattle.dsp_defs.proofs.FrameLemmas.{length-frames_in}
-use Rattle.dsp_measure.specs.Sums.{with_squares, of_frames}
+use Rattle.dsp_measure.specs.Sums.{with_squares}
 use Rattle.dsp_measure.proofs.MeasureUnits.{power-feeds, whole-row, front-row}
 use Rattle.dsp_measure.proofs.unit.UnitStage.feed.Goals as goal
 
@@ -32,5 +31,5 @@ returns-clause-fed g c =
     size
     (λ k h. ap (λ l. sample l k) kept
     ∙ c.add_formatted.ensures.sums k (omega (arith, h, channels))
-    ∙ (λ i. with_squares u.format (sample (c.as_mut_slice.ensures.value i) k) m (of_frames frames (channels i) k)))
+    ∙ (λ i. with_squares u.format (sample (c.as_mut_slice.ensures.value i) k) (samples_in (channels i) m frames k)))
     paid turned)

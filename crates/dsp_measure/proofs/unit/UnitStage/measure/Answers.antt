@@ -1,4 +1,4 @@
-use Rattle.std.proofs.Common.{◌≡◌, ◌∙◌, ap, refl, sym, rules, ◌≤◌, ◌<◌, arith, SFits, to_z-of_z, get_or, pos, ℤ, Some}
+use Rattle.std.proofs.Common.{◌≡◌, ◌∙◌, ap, sym, rules, ◌<◌, arith, SFits, to_z-of_z, pos, Some}
 use Rattle.std.proofs.lemmas.List.{get_or_default}
 use mir.Syntax.{w64}
 use Rattle.dsp_defs.specs.declared.measure.Measure.TheVariants as Measures

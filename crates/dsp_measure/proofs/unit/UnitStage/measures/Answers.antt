@@ -1,4 +1,4 @@
-use Rattle.std.proofs.Common.{◌≡◌, ◌∙◌, ap, refl, sym, length}
+use Rattle.std.proofs.Common.{◌∙◌, ap, sym}
 use Rattle.dsp_measure.proofs.MeasureUnits.{length-powers}
 use Rattle.dsp_measure.proofs.unit.UnitStage.measures.Goals as goal
 

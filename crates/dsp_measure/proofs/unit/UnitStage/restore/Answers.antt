@@ -1,8 +1,5 @@
-use Rattle.std.proofs.Common.{◌≡◌, ◌∙◌, ap, refl, sym, take, drop, length, ◌++◌, ◌≤◌, List, ℤ, arith, subst}
-use Rattle.std.specs.Prelude.{All, FitsSigned}
-use Rattle.dsp_defs.specs.Formats.{accumulator}
-use Rattle.std.proofs.lemmas.List.{take-append-le, take_all}
-use Rattle.dsp_measure.proofs.MeasureUnits.{IsPower, fits-power, power-restores, whole-row}
+use Rattle.std.proofs.Common.{◌∙◌, ap, refl, sym, length}
+use Rattle.dsp_measure.proofs.MeasureUnits.{fits-power, power-restores, whole-row}
 use Rattle.dsp_measure.proofs.unit.UnitStage.restore.Goals as goal
 
 pub copy_from_slice-requires : goal.copy_from_slice-requires

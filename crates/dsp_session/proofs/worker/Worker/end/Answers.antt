@@ -1,4 +1,4 @@
-use Rattle.std.proofs.Common.{◌≡◌, ◌*◌, ◌∙◌, List, length, take, drop, ap, refl, sym, arith}
+use Rattle.std.proofs.Common.{◌≡◌, ◌*◌, ◌∙◌, length, take, refl}
 use Rattle.dsp_defs.specs.Bytes.{width}
 use Rattle.dsp_defs.proofs.SampleLaws.{width-some}
 use Rattle.dsp_wave.specs.Coding.{format_in}

@@ -1,10 +1,8 @@
-use Rattle.std.proofs.Common.{◌≡◌, ◌+◌, ◌*◌, ◌/◌, ◌<◌, ◌≤◌, ◌∙◌, List, length, take, drop, All, FitsSigned, ap, refl, sym, subst, arith}
+use Rattle.std.proofs.Common.{◌≡◌, ◌∙◌, length, take, All, FitsSigned, refl, sym, arith}
 use Rattle.std.proofs.lemmas.List.{length-take-le}
 use Rattle.dsp_defs.specs.Bytes.{width}
 use Rattle.dsp_defs.specs.Formats.{word}
-use Rattle.dsp_defs.specs.Row.{Place, Passes, blocks_of}
-use Rattle.dsp_defs.specs.Unit.{frames_in}
-use Rattle.dsp_session.specs.Session.{signal, frame_bytes}
+use Rattle.dsp_session.specs.Session.{signal}
 use Rattle.dsp_chain.proofs.Room.{written-row}
 use Rattle.dsp_session.proofs.WorkerLaws as laws
 use Rattle.dsp_session.proofs.worker.Worker.feed.Goals as goal

@@ -1,4 +1,4 @@
-use Rattle.std.proofs.Common.{◌≡◌, ◌∙◌}
+use Rattle.std.proofs.Common.{◌∙◌}
 use Rattle.dsp_chain.specs.Row.{measure_counts}
 use Rattle.dsp_session.proofs.WorkerLaws as laws
 use Rattle.dsp_session.proofs.worker.Worker.measures.Goals as goal

@@ -1,5 +1,5 @@
 -- A chain in the making: the units of the blocks so far.
-use Rattle.std.proofs.Common.{◌≡◌, ◌∙◌, ap, refl, sym, subst, ℕ, ◌+◌, ◌<◌, ◌≤◌, Bool, ◌&&◌, List, [], ◌∷◌, ◌++◌, length, take, drop, get_or, None, IsTrue, arith}
+use Rattle.std.proofs.Common.{◌≡◌, ◌∙◌, ap, refl, sym, subst, ℕ, ◌+◌, ◌*◌, ◌<◌, ◌≤◌, Bool, ◌&&◌, List, [], ◌∷◌, ◌++◌, length, take, drop, get_or, None, IsTrue, arith}
 use Rattle.std.specs.List.{list_all}
 use Rattle.std.proofs.lemmas.Bool.Decides.{nat_tests}
 use Rattle.dsp_defs.specs.Shape.{whole_frames, gathered, window_at}
@@ -10,6 +10,7 @@ use Rattle.dsp_defs.proofs.ChainPlaces.{IsOpen, AllOpen, flow_at, few_channels_a
 use Rattle.dsp_defs.specs.Grammar.{Suits}
 use Rattle.dsp_defs.specs.Block.{channels_after}
 use Rattle.std.proofs.lemmas.List.{drop_more}
+use Rattle.std.proofs.lemmas.Nat.{mul-le}
 use Rattle.dsp_defs.specs.declared.limits.TheConstants.{MAX_CHANNELS}
 use Rattle.dsp_defs.specs.Table.{flow_after}
 use Rattle.dsp_chain.specs.Built.{is_built_block}
@@ -77,6 +78,13 @@ pub record Next (here : Place) (b : Block) : Type 0 where
   pub suits : Suits (flow_at here) b
   pub open_here : IsOpen here
   pub few_channels : channels_after here.channels b ≤ MAX_CHANNELS
+  pub few_frames : most_frames b here.capacity ≤ 1048576
+
+-- an open place has no more frames than samples
+few-frames : (p : Place) → IsOpen p → p.capacity ≤ 1048576
+few-frames p is =
+    let frames : p.capacity * 1 ≤ p.capacity * p.channels = mul-le p.capacity 1 p.capacity p.channels (omega arith) is.channels in
+    omega (arith, frames, is.samples)
 
 pub making-next : (p here : Place) (blocks : List Block) (i j : ℕ) (us : List UnitState) (b : Block) → drop i blocks ≡ b ∷ drop j blocks → Making p here blocks i us → Next here b
 making-next p here blocks i j us b first m = record {
@@ -84,6 +92,7 @@ making-next p here blocks i j us b first m = record {
   suits = places.1;
   open_here = places.0;
   few_channels = few_channels_after (flow_at here) b places.1 m.few_channels;
+  few_frames = few-frames (place_after here b) (open-here (place_after here b) (drop j blocks) places.2);
 }
   where
     places : AllOpen here (b ∷ drop j blocks)

@@ -9,20 +9,24 @@ use Rattle.dsp_defs.specs.Unit.{UnitState, frames_in}
 use Rattle.dsp_defs.specs.Row.{chain_products, Place, place_behind, Passes, blocks_of, AllStand, AllCount, Owes, Costs, Measures, measured_by}
 use Rattle.dsp_chain.specs.declared.block_unit.BlockUnit.{BlockUnit}
 use Rattle.dsp_chain.specs.declared.block_unit.BlockUnit.TheVariants as unit
-use Rattle.dsp_fir.specs.FirUnit as fir
-use Rattle.dsp_rate.specs.RateUnit as rate
-use Rattle.dsp_conv.specs.ConvUnit as conv
+use Rattle.dsp_unit.specs.InFormat.{unit_in_format}
+use Rattle.dsp_unit.specs.Either.{either_unit}
+use Rattle.dsp_unit.specs.NoUnit.{no_unit}
 use Rattle.dsp_defs.specs.declared.measure.Measure.{Measure}
 use Rattle.dsp_defs.specs.declared.script.Block.{Block}
 use Rattle.dsp_defs.specs.declared.script.Script.{Script}
+
+-- a unit that is seen as it is
+abbrev seen : UnitState → UnitState
+seen u = u
 
 -- the unit that it holds
 abbrev pub state_of : BlockUnit → UnitState
 state_of (unit.Vector u) = u
 state_of (unit.Complex u) = u
-state_of (unit.Fir u) = fir.unit_of u
-state_of (unit.Rate u) = rate.unit_of u
-state_of (unit.Conv u) = conv.unit_of u
+state_of (unit.Fir u) = either_unit (unit_in_format seen seen seen) (unit_in_format seen seen seen) u
+state_of (unit.Rate u) = unit_in_format no_unit seen seen u
+state_of (unit.Conv u) = unit_in_format seen seen seen u
 state_of (unit.Measure u) = u
 
 -- the place of its input, its units, the frames that were fed, and whether its tail was begun

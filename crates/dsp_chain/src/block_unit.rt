@@ -5,7 +5,10 @@ ghost use Rattle.dsp_chain.specs.Built.{is_built_block};
 ghost use Rattle.dsp_chain.specs.Chain.{state_of};
 
 use crate::built::{Family, family_of};
+use dsp_conv::{ConvUnit, conv_unit};
 use dsp_defs::{Block, Fmt, Measure, Stage, Steps};
+use dsp_fir::{FirUnit, fir_unit};
+use dsp_rate::{RateUnit, rate_unit};
 use std::alloc::{AllocError, Global};
 use std::sync::ledger::Ledger;
 
@@ -14,9 +17,9 @@ use std::sync::ledger::Ledger;
 pub enum BlockUnit {
     Vector(dsp_vector::Unit),
     Complex(dsp_complex::Unit),
-    Fir(dsp_fir::Unit),
-    Rate(dsp_rate::Unit),
-    Conv(dsp_conv::Unit),
+    Fir(FirUnit),
+    Rate(RateUnit),
+    Conv(ConvUnit),
     Measure(dsp_measure::Unit),
 }
 
@@ -44,13 +47,13 @@ impl BlockUnit {
             Some(Family::Complex) => Ok(BlockUnit::Complex(dsp_complex::Unit::new(
                 alloc, block, format, channels, frames,
             )?)),
-            Some(Family::Fir) => Ok(BlockUnit::Fir(dsp_fir::Unit::new(
+            Some(Family::Fir) => Ok(BlockUnit::Fir(fir_unit(
                 alloc, block, format, channels, frames,
             )?)),
-            Some(Family::Rate) => Ok(BlockUnit::Rate(dsp_rate::Unit::new(
+            Some(Family::Rate) => Ok(BlockUnit::Rate(rate_unit(
                 alloc, block, format, channels, frames,
             )?)),
-            Some(Family::Conv) => Ok(BlockUnit::Conv(dsp_conv::Unit::new(
+            Some(Family::Conv) => Ok(BlockUnit::Conv(conv_unit(
                 alloc, block, format, channels, frames,
             )?)),
             Some(Family::Measure) => Ok(BlockUnit::Measure(dsp_measure::Unit::new(
@@ -61,105 +64,56 @@ impl BlockUnit {
     }
 }
 
+/// Evaluates the same expression for whichever unit is there.
+macro_rules! for_unit {
+    ($value:expr, $unit:ident => $result:expr) => {
+        match $value {
+            BlockUnit::Vector($unit) => $result,
+            BlockUnit::Complex($unit) => $result,
+            BlockUnit::Fir($unit) => $result,
+            BlockUnit::Rate($unit) => $result,
+            BlockUnit::Conv($unit) => $result,
+            BlockUnit::Measure($unit) => $result,
+        }
+    };
+}
+
 impl Stage for BlockUnit {
     ghost unit = { state_of };
 
     fn room(&self) -> usize {
-        match self {
-            BlockUnit::Vector(unit) => unit.room(),
-            BlockUnit::Complex(unit) => unit.room(),
-            BlockUnit::Fir(unit) => unit.room(),
-            BlockUnit::Rate(unit) => unit.room(),
-            BlockUnit::Conv(unit) => unit.room(),
-            BlockUnit::Measure(unit) => unit.room(),
-        }
+        for_unit!(self, unit => unit.room())
     }
 
     fn feed<L: Ledger>(&mut self, frames: &[i32], out: &mut [i32], steps: &mut Steps<L>) -> usize {
-        match self {
-            BlockUnit::Vector(unit) => unit.feed(frames, out, steps),
-            BlockUnit::Complex(unit) => unit.feed(frames, out, steps),
-            BlockUnit::Fir(unit) => unit.feed(frames, out, steps),
-            BlockUnit::Rate(unit) => unit.feed(frames, out, steps),
-            BlockUnit::Conv(unit) => unit.feed(frames, out, steps),
-            BlockUnit::Measure(unit) => unit.feed(frames, out, steps),
-        }
+        for_unit!(self, unit => unit.feed(frames, out, steps))
     }
 
     fn finish<L: Ledger>(&mut self, out: &mut [i32], steps: &mut Steps<L>) -> usize {
-        match self {
-            BlockUnit::Vector(unit) => unit.finish(out, steps),
-            BlockUnit::Complex(unit) => unit.finish(out, steps),
-            BlockUnit::Fir(unit) => unit.finish(out, steps),
-            BlockUnit::Rate(unit) => unit.finish(out, steps),
-            BlockUnit::Conv(unit) => unit.finish(out, steps),
-            BlockUnit::Measure(unit) => unit.finish(out, steps),
-        }
+        for_unit!(self, unit => unit.finish(out, steps))
     }
 
     fn kept_count(&self) -> usize {
-        match self {
-            BlockUnit::Vector(unit) => unit.kept_count(),
-            BlockUnit::Complex(unit) => unit.kept_count(),
-            BlockUnit::Fir(unit) => unit.kept_count(),
-            BlockUnit::Rate(unit) => unit.kept_count(),
-            BlockUnit::Conv(unit) => unit.kept_count(),
-            BlockUnit::Measure(unit) => unit.kept_count(),
-        }
+        for_unit!(self, unit => unit.kept_count())
     }
 
     fn keep(&self, out: &mut [i64]) {
-        match self {
-            BlockUnit::Vector(unit) => unit.keep(out),
-            BlockUnit::Complex(unit) => unit.keep(out),
-            BlockUnit::Fir(unit) => unit.keep(out),
-            BlockUnit::Rate(unit) => unit.keep(out),
-            BlockUnit::Conv(unit) => unit.keep(out),
-            BlockUnit::Measure(unit) => unit.keep(out),
-        }
+        for_unit!(self, unit => unit.keep(out))
     }
 
     fn fits(&self, numbers: &[i64]) -> bool {
-        match self {
-            BlockUnit::Vector(unit) => unit.fits(numbers),
-            BlockUnit::Complex(unit) => unit.fits(numbers),
-            BlockUnit::Fir(unit) => unit.fits(numbers),
-            BlockUnit::Rate(unit) => unit.fits(numbers),
-            BlockUnit::Conv(unit) => unit.fits(numbers),
-            BlockUnit::Measure(unit) => unit.fits(numbers),
-        }
+        for_unit!(self, unit => unit.fits(numbers))
     }
 
     fn restore(&mut self, numbers: &[i64]) {
-        match self {
-            BlockUnit::Vector(unit) => unit.restore(numbers),
-            BlockUnit::Complex(unit) => unit.restore(numbers),
-            BlockUnit::Fir(unit) => unit.restore(numbers),
-            BlockUnit::Rate(unit) => unit.restore(numbers),
-            BlockUnit::Conv(unit) => unit.restore(numbers),
-            BlockUnit::Measure(unit) => unit.restore(numbers),
-        }
+        for_unit!(self, unit => unit.restore(numbers))
     }
 
     fn measures(&self) -> usize {
-        match self {
-            BlockUnit::Vector(unit) => unit.measures(),
-            BlockUnit::Complex(unit) => unit.measures(),
-            BlockUnit::Fir(unit) => unit.measures(),
-            BlockUnit::Rate(unit) => unit.measures(),
-            BlockUnit::Conv(unit) => unit.measures(),
-            BlockUnit::Measure(unit) => unit.measures(),
-        }
+        for_unit!(self, unit => unit.measures())
     }
 
     fn measure(&self, number: u8, index: usize) -> Option<Measure> {
-        match self {
-            BlockUnit::Vector(unit) => unit.measure(number, index),
-            BlockUnit::Complex(unit) => unit.measure(number, index),
-            BlockUnit::Fir(unit) => unit.measure(number, index),
-            BlockUnit::Rate(unit) => unit.measure(number, index),
-            BlockUnit::Conv(unit) => unit.measure(number, index),
-            BlockUnit::Measure(unit) => unit.measure(number, index),
-        }
+        for_unit!(self, unit => unit.measure(number, index))
     }
 }

@@ -1,7 +1,5 @@
-ghost use Rattle.std.specs.Prelude.{◌≡◌, ◌<◌, IfSome, IsTrue};
-ghost use Rattle.dsp_defs.specs.Shape.{group_of};
-ghost use Rattle.dsp_defs.specs.Unit.{most_frames};
-ghost use Rattle.dsp_chain.specs.Built.{family_of, built, is_built_block};
+ghost use Rattle.std.specs.Prelude.{◌≡◌};
+ghost use Rattle.dsp_chain.specs.Built.{family_of, built};
 
 use dsp_defs::{Block, Script};
 
@@ -59,16 +57,4 @@ pub fn is_built(script: &Script) -> bool
         .as_slice()
         .iter()
         .all(|block| family_of(block).is_some())
-}
-
-/// The most frames that a block which is built gives in one call of at most so many.
-pub(crate) fn frames_after(block: &Block, frames: usize) -> usize
-    requires built { IsTrue (is_built_block block.now) }
-    requires groups { IfSome (group_of block.now) (λ g. 0 < g.0) }
-    ensures { result ≡ most_frames block.now frames }
-{
-    match block {
-        Block::Decimate { factor, .. } => frames.div_ceil(usize::from(*factor)),
-        _ => frames,
-    }
 }

@@ -1,7 +1,7 @@
 use crate::block_unit::BlockUnit;
-use crate::built::frames_after;
 use crate::row::{Link, count_measures, feed_row, find_measure, finish_row};
 use dsp_defs::{Flow, Fmt, GatherFull, Input, Measure, Script, Steps, WindowFault};
+use dsp_unit::most_frames;
 use std::alloc::{AllocError, Global};
 use std::marker::Model;
 use std::sync::ledger::Ledger;
@@ -72,7 +72,7 @@ impl Chain {
             let unit = BlockUnit::new(alloc, block, flow.format, flow.channels, frames)?;
             links.push(Link::new(alloc, unit)?)?;
             flow = flow.after(block);
-            frames = frames_after(block, frames);
+            frames = most_frames(block, frames);
         }
         Ok(Chain {
             links,

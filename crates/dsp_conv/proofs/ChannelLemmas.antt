@@ -15,13 +15,14 @@ use Rattle.dsp_defs.specs.Sums.{full_length}
 use Rattle.dsp_defs.specs.Block.{live_conv}
 use Rattle.dsp_defs.specs.Cost as cost
 use Rattle.dsp_defs.specs.Kept.{Fixed, Each, IsPlace, IsOfKind, in_words, flag, kinds_by, FitsChannel}
-use Rattle.dsp_defs.specs.Filter.{FilterStandsFor, FilterCounts, FilterFeeds, FilterFinishes, FilterRestores, IsNewFilter, IsByChannel}
-use Rattle.dsp_defs.proofs.KeptLaws.{Each-append, kept_of_channel-place}
+use Rattle.dsp_defs.specs.Filter.{FilterStandsFor, FilterCounts, FilterFeeds, FilterFinishes, FilterRestores, IsNewFilter}
+use Rattle.dsp_defs.proofs.ChannelKept.{words-placed}
+use Rattle.dsp_defs.proofs.KeptLaws.{Each-append}
 use Rattle.dsp_lanes.specs.Turns.{lane_turns}
+use Rattle.dsp_unit.proofs.LastPlace.{each-last, kinds-of, of-kinds, same-number}
 use Rattle.dsp_conv.specs.ConvState.{ConvState, StandsFor, CountsFor, Fits, kept, kept_of, new_conv}
 use Rattle.dsp_conv.specs.Channels.{channel_state}
-use Rattle.dsp_conv.proofs.ConvLemmas.{full-is, empty, same-number}
-use Rattle.dsp_conv.proofs.PlaceLemmas.{each-last, words-placed, kinds-of, of-kinds}
+use Rattle.dsp_conv.proofs.ConvLemmas.{full-is, empty}
 
 -- ---- counts
 
@@ -64,7 +65,7 @@ counted format c n some counts = record {
 pub counts-channel : (format : Fmt) (c : ConvState) (n : ℕ) → 1 ≤ length c.taps → length c.past ≡ length c.taps - 1 → CountsFor c n → FilterCounts (channel_state format c) n
 counts-channel format c n some long counts = record {
   running = counts.running;
-  place = Each-append IsPlace (in_words (word format) (length c.taps - 1)) (Fixed (flag n) ∷ []) c.past (pos c.begun ∷ []) (words-placed format _ c.past long) (ap pos counts.begun_is, tt);
+  place = Each-append IsPlace (in_words (word format) (length c.taps - 1)) (Fixed (flag n) ∷ []) c.past (pos c.begun ∷ []) (words-placed (word format) _ c.past long) (ap pos counts.begun_is, tt);
   tail_values = counts.whole_is ∙ ap (λ k. k + length c.tail) (sym (live-is n (length c.taps) some));
   rest_is = rest-of n (length c.taps) (length c.tail) some counts.whole_is;
 }
@@ -231,24 +232,3 @@ new-channel format taps block some stands =
       stands = stands-channel format c [] stands;
       counts = counts-channel format c 0 some (length-replicate (length taps - 1) (pos 0)) (record { running = refl; begun_is = refl; whole_is = omega (arith, full-is 0 (length taps) some) });
     }
-
--- ---- the block
-
-scaled : (c a b : ℕ) → c * a * b ≡ c * (1 * a * b)
-scaled c a b = omega arith
-
-pub conv-by-channel : (format : Fmt) (taps : List ℤ) → IsByChannel format (Block.Conv taps)
-conv-by-channel format taps = record {
-  live_is = refl;
-  whole_is = refl;
-  channels_same = λ c. refl;
-  format_same = refl;
-  keeps_is = λ c x. refl;
-  kinds_are = λ c n. refl;
-  keeps_place = λ x. kept_of_channel-place format (Block.Conv taps) x tt;
-  taken = λ n. tt;
-  no_measures = λ c number kept. refl;
-  live_cost = λ c n. scaled c (min n (full_length n (length taps))) (length taps);
-  whole_cost = λ c n. scaled c (full_length n (length taps)) (length taps);
-  turns = λ c m n. scaled c (length taps) (cost.lane_turns format (min n (full_length n (length taps)) - min m (full_length m (length taps))));
-}

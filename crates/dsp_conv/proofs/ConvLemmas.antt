@@ -1,12 +1,12 @@
 -- Convolutions as windows, and their tails.
-use Rattle.std.proofs.Common.{◌≡◌, ◌∙◌, ap, ap₂, sym, refl, ℕ, zero, suc, ◌+◌, ◌-◌, ◌*◌, ◌<◌, ◌≤◌, ℤ, pos, ◌*ℤ◌, List, [], ◌∷◌, ◌++◌, length, map, take, drop, set, replicate, reverse, w64, to_z, of_z, arith, length-append, length-drop, length-set, take_all, take_at, ⊎_elim}
+use Rattle.std.proofs.Common.{◌≡◌, ◌∙◌, ap, ap₂, sym, refl, ℕ, zero, suc, ◌+◌, ◌-◌, ◌*◌, ◌<◌, ◌≤◌, ℤ, pos, ◌*ℤ◌, List, [], ◌∷◌, ◌++◌, length, map, take, drop, replicate, reverse, w64, to_z, of_z, arith, take_at, ⊎_elim}
 use Rattle.std.specs.Prelude.{Bool, true, false, nat_lt, ◌||◌}
 use Rattle.std.specs.Int.{from_bool}
 use Rattle.std.proofs.lemmas.Bool.{cases_lt}
 use Rattle.std.proofs.lemmas.Bool.Decides.{nat_tests}
 use Rattle.std.proofs.lemmas.Grind.{common_steps}
 use mathlib.Core.List.{reverse_aux}
-use Rattle.std.proofs.lemmas.List.{get_or-drop, get_or-reverse, get_or_past, get_or-replicate, get_or_append_left, get_or-append_right, length-reverse, length-replicate, reverse-reverse, append-nil, take_more_set, take-append-le}
+use Rattle.std.proofs.lemmas.List.{get_or-drop, get_or-reverse, get_or_past, get_or-replicate, get_or_append_left, get_or-append_right, length-reverse, length-replicate, reverse-reverse, append-nil}
 use Rattle.std.proofs.lemmas.List.FromFn.{length-map-range_with_len}
 use Rattle.dsp_defs.specs.declared.format.Fmt.{Fmt}
 use Rattle.dsp_defs.specs.Formats.{close}
@@ -17,8 +17,6 @@ use Rattle.dsp_defs.specs.Block.{live_conv}
 use Rattle.dsp_defs.specs.Kept.{flag}
 use Rattle.dsp_defs.proofs.Signal.{values_cong, values-add, sum_below_cong, sum_below_reversed}
 use Rattle.dsp_defs.proofs.Streaming.{fir-append, fir_later-rows, window_at}
-use Rattle.dsp_window.specs.Rolling.{Rolling, last_samples}
-use Rattle.dsp_window.proofs.Rolls.{last_shows, length-last_samples}
 use Rattle.dsp_conv.specs.ConvState.{tail_length, tail_values}
 
 -- ---- counts
@@ -196,48 +194,3 @@ finish-tail format taps past block window out behind count size written left wit
 pub empty : (xs : List ℤ) → length xs ≡ 0 → xs ≡ []
 empty [] none = refl
 empty (x ∷ xs) none = absurd (omega (arith, none))
-
--- ---- windows
-
--- what was written to the front of an output
-pub front-written : {X : Type 0} → (count : ℕ) (out old : List X) → length out ≡ count → take count (out ++ drop count old) ≡ out
-front-written count out old same =
-    take-append-le count out (drop count old) (omega arith) ∙ take_all count out (omega arith)
-
--- a number that was written behind others
-pub last-written : (n : ℕ) (front old : List ℤ) (z : ℤ) → length front ≡ n → length old ≡ n + 1 → set (front ++ drop n old) n z ≡ front ++ z ∷ []
-last-written n front old z first whole =
-    let l = front ++ drop n old in
-    let long : length l ≡ n + 1 = omega (arith, length-append front (drop n old), length-drop n old) in
-    sym (take_all (n + 1) (set l n z) (omega (arith, length-set l n z)))
-    ∙ take_more_set l n z (omega arith)
-    ∙ ap (λ t. t ++ z ∷ []) (take_at front (drop n old) n first)
-
-module _ (old new : Rolling) (p : ℕ) (x block : List ℤ) (rolls : new ≡ record old { samples = last_samples old.past old.samples ++ block }) (kept : last_samples old.past old.samples ≡ last_of p x) where
-  -- it shows the last numbers of x and then the block
-  pub shows-after : new.samples ≡ last_of p x ++ block
-  shows-after = ap (λ (w : Rolling). w.samples) rolls ∙ ap (λ l. l ++ block) kept
-
-  -- it keeps the last numbers of x and the block
-  pub keeps-after : old.past ≡ p → last_samples new.past new.samples ≡ last_of p (x ++ block)
-  keeps-after past =
-      ap (λ n. last_samples n new.samples) (ap (λ (w : Rolling). w.past) rolls ∙ past) ∙ last_shows p new.samples x block shows-after
-
--- the past behind a block that was pushed
-pub past-after :
-    (old new : Rolling) (block : List ℤ) → new ≡ record old { samples = last_samples old.past old.samples ++ block } → old.past ≤ length old.samples →
-    last_samples new.past new.samples ≡ drop (length block) (last_samples old.past old.samples ++ block)
-past-after old new block rolls within =
-    let long : length (last_samples old.past old.samples ++ block) - old.past ≡ length block =
-    omega (arith, length-append (last_samples old.past old.samples) block, length-last_samples old.past old.samples within) in
-    ap (λ (w : Rolling). last_samples w.past w.samples) rolls ∙ ap (λ n. drop n (last_samples old.past old.samples ++ block)) long
-
--- a new window keeps zeros
-pub new-past : (w : Rolling) (p q room : ℕ) → w ≡ record { past = p; room = room; samples = replicate p (pos 0) } → p ≡ q → last_samples w.past w.samples ≡ replicate q (pos 0)
-new-past w p q room made same =
-    let all : length (replicate p (pos 0)) - p ≡ 0 = omega (arith, length-replicate p (pos 0)) in
-    ap (λ (v : Rolling). last_samples v.past v.samples) made ∙ ap (λ m. drop m (replicate p (pos 0))) all ∙ ap (λ n. replicate n (pos 0)) same
-
--- equal whole numbers
-pub same-number : (a b : ℕ) → pos a ≡ pos b → a ≡ b
-same-number a b same = cc

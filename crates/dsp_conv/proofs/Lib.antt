@@ -1,3 +1,2 @@
 pub mod ConvLemmas
-pub mod PlaceLemmas
 pub mod ChannelLemmas

@@ -1,6 +1,5 @@
 -- What a contract sees of a convolution.
-use Rattle.std.specs.Prelude.{ℕ, ◌-◌, ◌+◌, ◌*◌, ◌≡◌, ℤ, pos, ◌≤ℤ◌, Bool, false, List, [], ◌∷◌, ◌++◌, length, take, replicate, reverse, All, FitsSigned, Option, Some, None, nat_le, ◌&&◌, if◌then◌else◌}
-use Rattle.std.specs.Option.{option_or}
+use Rattle.std.specs.Prelude.{ℕ, ◌-◌, ◌+◌, ◌*◌, ◌≡◌, ℤ, pos, ◌≤ℤ◌, Bool, false, List, [], ◌∷◌, ◌++◌, length, take, replicate, reverse, All, FitsSigned}
 use Rattle.dsp_defs.specs.Formats.{word}
 use Rattle.dsp_defs.specs.Signal.{sample}
 use Rattle.dsp_defs.specs.Streaming.{last_of, rows}
@@ -9,8 +8,6 @@ use Rattle.dsp_defs.specs.Block.{live_conv}
 use Rattle.dsp_defs.specs.Kept.{flag, kept_of_channel}
 use Rattle.dsp_defs.specs.declared.format.Fmt.{Fmt}
 use Rattle.dsp_defs.specs.declared.script.Block.TheVariants as Block
-use Rattle.dsp_defs.specs.declared.fault.MakeFault.{MakeFault}
-use Rattle.dsp_defs.specs.declared.fault.MakeFault.TheVariants.{Length, Range}
 
 -- its taps as they were given, the last numbers that it took, 1 where it took a sample and else 0,
 -- the values that it still has to give once the signal ends, the greatest length of a block, and whether `finish` was called
@@ -69,17 +66,3 @@ pub record Fits (format : Fmt) (c : ConvState) (numbers : List ℤ) : Type 0 whe
   pub samples : All (FitsSigned (word format)) (take (length c.past) numbers)
   pub low : pos 0 ≤ℤ sample numbers (length c.past)
   pub high : sample numbers (length c.past) ≤ℤ pos 1
-
--- ---- faults
-
--- the fault of so many taps
-abbrev pub taps_fault : ℕ → Option MakeFault
-taps_fault taps = if nat_le 1 taps && nat_le taps 4096 then None else Some (Length taps 1)
-
--- the fault of such a block
-abbrev pub block_fault : ℕ → Option MakeFault
-block_fault block = if nat_le 1 block && nat_le block 1048576 then None else Some (Range (pos block))
-
--- the first fault of so many taps and such a block
-abbrev pub conv_fault : ℕ → ℕ → Option MakeFault
-conv_fault taps block = option_or (taps_fault taps) (block_fault block)

@@ -1,18 +1,45 @@
--- The units of convolutions, in each format.
-use Rattle.std.specs.Prelude.{⊤}
-use Rattle.dsp_defs.specs.Unit.{UnitState}
+-- The blocks whose units are convolutions.
+use Rattle.std.specs.Prelude.{⊤, ◌-◌, ◌<◌, min, length, All, FitsSigned, IfSome, refl}
+use Rattle.dsp_defs.specs.Formats.{word}
+use Rattle.dsp_defs.specs.Sums.{full_length}
+use Rattle.dsp_defs.specs.Cost.{lane_turns}
+use Rattle.dsp_defs.specs.Shape.{group_of}
+use Rattle.dsp_defs.specs.Filter.{IsByChannel}
+use Rattle.dsp_defs.proofs.KeptLaws.{kept_of_channel-place}
+use Rattle.dsp_unit.proofs.Units.{scaled}
+use Rattle.dsp_defs.specs.declared.format.Fmt.{Fmt}
 use Rattle.dsp_defs.specs.declared.script.Block.{Block}
 use Rattle.dsp_defs.specs.declared.script.Block.TheVariants.{Conv}
-use Rattle.dsp_conv.specs.declared.unit.Unit.{Unit}
-use Rattle.dsp_conv.specs.declared.unit.Unit.TheVariants.{Conv7, Conv15, Conv31}
-
--- what is seen of it
-abbrev pub unit_of : Unit → UnitState
-unit_of (Conv7 u) = u
-unit_of (Conv15 u) = u
-unit_of (Conv31 u) = u
 
 -- the block is one of this crate's
 abbrev pub IsConvBlock : Block → Type 0
 IsConvBlock (Conv taps) = ⊤
 IsConvBlock block = ⊥
+
+-- and its taps are numbers of the format
+abbrev pub IsConvIn : Fmt → Block → Type 0
+IsConvIn format (Conv taps) = All (FitsSigned (word format)) taps
+IsConvIn format block = ⊥
+
+-- it works on each channel by itself
+pub by-channel : (format : Fmt) (block : Block) → IsConvIn format block → IsByChannel format block
+by-channel format (Conv taps) is = record {
+  live_is = refl;
+  whole_is = refl;
+  channels_same = λ c. refl;
+  format_same = refl;
+  keeps_is = λ c x. refl;
+  kinds_are = λ c n. refl;
+  keeps_place = λ x. kept_of_channel-place format (Conv taps) x tt;
+  taken = λ n. tt;
+  no_measures = λ c number kept. refl;
+  live_cost = λ c n. scaled c (min n (full_length n (length taps))) (length taps);
+  whole_cost = λ c n. scaled c (full_length n (length taps)) (length taps);
+  turns = λ c m n. scaled c (length taps) (lane_turns format (min n (full_length n (length taps)) - min m (full_length m (length taps))));
+}
+by-channel format block is = absurd is
+
+-- and not on groups
+pub has-groups : (format : Fmt) (block : Block) → IsConvIn format block → IfSome (group_of block) (λ g. 0 < g.0)
+has-groups format (Conv taps) is = tt
+has-groups format block is = absurd is

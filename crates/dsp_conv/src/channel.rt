@@ -1,8 +1,8 @@
 use crate::Conv;
-use dsp_defs::{MakeFault, Steps};
+use dsp_defs::{Block, MakeFault, Steps};
 use dsp_lanes::LaneSample;
-use dsp_unit::Filter;
-use std::alloc::Global;
+use dsp_unit::{Filter, samples_of};
+use std::alloc::{AllocError, Global};
 use std::marker::Model;
 use std::sync::ledger::Ledger;
 
@@ -30,7 +30,8 @@ impl<T: LaneSample<L>, const L: usize> ConvChannel<T, L> {
     ghost use Rattle.std.specs.Prelude.{◌≡◌, map, length, IfOk, IfErr, MatchOption};
     ghost use Rattle.dsp_defs.specs.Formats.{lanes};
     ghost use Rattle.dsp_defs.specs.Filter.{IsNewFilter};
-    ghost use Rattle.dsp_conv.specs.ConvState.{new_conv, conv_fault};
+    ghost use Rattle.dsp_unit.specs.Making.{filter_fault};
+    ghost use Rattle.dsp_conv.specs.ConvState.{new_conv};
     ghost use Rattle.dsp_conv.specs.Channels.{channel_state};
 
     /// A convolution that has taken nothing; it is refused as `Conv::new` refuses it.
@@ -38,7 +39,7 @@ impl<T: LaneSample<L>, const L: usize> ConvChannel<T, L> {
         requires { L ≡ lanes T.format }
         ensures made { IfOk result (λ c. c ≡ channel_state T.format (new_conv (map T.number taps.now) block)) }
         ensures fresh { IfOk result (λ c. IsNewFilter (channel_state T.format (new_conv (map T.number taps.now) block)).block T.format block c) }
-        ensures fault { MatchOption (conv_fault (length taps.now) block) (IfErr result (λ e. e ≡ MakeFault.Memory)) (λ e. result ≡ Err e) }
+        ensures fault { MatchOption (filter_fault (length taps.now) block) (IfErr result (λ e. e ≡ MakeFault.Memory)) (λ e. result ≡ Err e) }
     {
         match Conv::new(alloc, taps, block) {
             Ok(conv) => Ok(ConvChannel { conv, block }),
@@ -48,7 +49,25 @@ impl<T: LaneSample<L>, const L: usize> ConvChannel<T, L> {
 }
 
 impl<T: LaneSample<L>, const L: usize> Filter<T> for ConvChannel<T, L> {
+    ghost use Rattle.std.specs.Prelude.{◌≡◌};
+    ghost use Rattle.dsp_defs.specs.Formats.{lanes};
+    ghost use Rattle.dsp_conv.specs.ConvUnit.{IsConvIn, by-channel, has-groups};
+
     ghost filter = { λ c. c };
+
+    ghost IsOf = { λ block. (L ≡ lanes T.format) × IsConvIn T.format block };
+
+    ghost by_channel = { λ block is. by-channel T.format block is.1 };
+
+    ghost groups = { λ block is. has-groups T.format block is.1 };
+
+    fn of_block(alloc: Global, block: &Block, capacity: usize) -> Result<Self, AllocError> {
+        let Block::Conv { taps } = block else {
+            return Err(AllocError);
+        };
+        let taps = samples_of::<T>(alloc, taps.as_slice())?;
+        ConvChannel::new(alloc, &taps, capacity).map_err(|_| AllocError)
+    }
 
     fn process<M: Ledger>(&mut self, input: &[T], output: &mut [T], steps: &mut Steps<M>) -> usize {
         self.conv.process(input, output, steps)

@@ -1,6 +1,7 @@
-use crate::making::{check_block, check_taps, clear, reversed};
+use crate::making::{clear, reversed};
 use dsp_defs::{MakeFault, Steps};
 use dsp_lanes::{LaneSample, Lanes};
+use dsp_unit::{check_block, check_taps};
 use dsp_window::Window;
 use std::alloc::Global;
 use std::marker::Model;
@@ -38,7 +39,8 @@ impl<T: LaneSample<L>, const L: usize> Conv<T, L> {
     ghost use Rattle.dsp_defs.specs.Block.{live_conv};
     ghost use Rattle.dsp_defs.specs.Kept.{flag};
     ghost use Rattle.dsp_lanes.specs.Turns.{lane_turns};
-    ghost use Rattle.dsp_conv.specs.ConvState.{StandsFor, CountsFor, Fits, kept, kept_of, new_conv, conv_fault, tail_values, tail_length};
+    ghost use Rattle.dsp_unit.specs.Making.{filter_fault};
+    ghost use Rattle.dsp_conv.specs.ConvState.{StandsFor, CountsFor, Fits, kept, kept_of, new_conv, tail_values, tail_length};
 
     /// A convolution that has taken nothing, with the taps `b[0]` to `b[T-1]`, for blocks of at most
     /// `block` samples. `Length` where there are no taps or more than 4,096, then `Range` where the
@@ -48,7 +50,7 @@ impl<T: LaneSample<L>, const L: usize> Conv<T, L> {
         ensures stands { IfOk result (λ c. StandsFor T.format c []) }
         ensures taps { OnOk result (1 ≤ length taps.now) }
         ensures block { OnOk result (1 ≤ block) }
-        ensures fault { MatchOption (conv_fault (length taps.now) block) (IfErr result (λ e. e ≡ MakeFault.Memory)) (λ e. result ≡ Err e) }
+        ensures fault { MatchOption (filter_fault (length taps.now) block) (IfErr result (λ e. e ≡ MakeFault.Memory)) (λ e. result ≡ Err e) }
     {
         check_taps(taps.len())?;
         check_block(block)?;

@@ -8,7 +8,7 @@ mod unit;
 
 pub use channel::ConvChannel;
 pub use conv::Conv;
-pub use unit::Unit;
+pub use unit::{ConvUnit, conv_unit};
 
 #[cfg(test)]
 mod tests;

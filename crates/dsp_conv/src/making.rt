@@ -1,34 +1,7 @@
-ghost use Rattle.std.specs.Prelude.{◌≡◌, Err, Ok, MatchOption, IfOk, length, map, pos, replicate, reverse};
-ghost use Rattle.dsp_conv.specs.ConvState.{block_fault, taps_fault};
+ghost use Rattle.std.specs.Prelude.{◌≡◌, IfOk, length, map, pos, replicate, reverse};
 
-use dsp_defs::{MAX_SAMPLES, MAX_TAPS, MakeFault};
 use dsp_sat::Sample;
 use std::alloc::{AllocError, Global};
-
-/// Refuses a count of taps that is not in 1..4,096.
-pub fn check_taps(taps: usize) -> Result<(), MakeFault>
-    ensures { MatchOption (taps_fault taps) (result ≡ Ok tt) (λ e. result ≡ Err e) }
-{
-    if taps == 0 || taps > MAX_TAPS {
-        return Err(MakeFault::Length {
-            taps: taps as u64,
-            factor: 1,
-        });
-    }
-    Ok(())
-}
-
-/// Refuses a greatest block length that is not in 1..1,048,576 samples.
-pub fn check_block(block: usize) -> Result<(), MakeFault>
-    ensures { MatchOption (block_fault block) (result ≡ Ok tt) (λ e. result ≡ Err e) }
-{
-    if block == 0 || block > MAX_SAMPLES {
-        return Err(MakeFault::Range {
-            value: block as i128,
-        });
-    }
-    Ok(())
-}
 
 /// The samples in the other order.
 pub fn reversed<T: Copy>(alloc: Global, samples: &[T]) -> Result<Vec<T>, AllocError>

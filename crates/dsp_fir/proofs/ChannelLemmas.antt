@@ -10,11 +10,10 @@ use Rattle.dsp_defs.specs.Sums.{fir, sparse}
 use Rattle.dsp_defs.specs.Counts.{Counts}
 use Rattle.dsp_defs.specs.Cost as cost
 use Rattle.dsp_defs.specs.Kept.{greatest, in_words, FitsChannel}
-use Rattle.dsp_defs.specs.Filter.{FilterFeeds, FilterFinishes, FilterRestores, IsByChannel, IsNewFilter}
-use Rattle.dsp_defs.proofs.ChannelKept.{words-placed}
+use Rattle.dsp_defs.specs.Filter.{FilterFeeds, FilterFinishes, FilterRestores, IsNewFilter}
 use Rattle.dsp_defs.proofs.SampleFilters.{IsSampleBlock, sample_filter, sample-new, sample-fed, sample-finished, sample-restored, sample-fits, fits-sample}
 use Rattle.dsp_lanes.specs.Turns.{lane_turns}
-use Rattle.dsp_window.proofs.Rolls.{length-last_of}
+use Rattle.dsp_fir.specs.FirUnit.{fir-by-channel, sparse-by-channel}
 use Rattle.dsp_fir.specs.FirState.{FirState, StandsFor, channel_state, new_fir}
 use Rattle.dsp_fir.specs.SparseState as sparse_state
 use Rattle.dsp_fir.specs.SparseState.{SparseState, greatest_delay, new_sparse}
@@ -28,22 +27,6 @@ turns-within format L price before after m n count same more within =
     omega (arith, within, product)
 
 -- ---- FIR
-
-pub fir-by-channel : (format : Fmt) (taps : List ℤ) → IsByChannel format (Block.Fir taps)
-fir-by-channel format taps = record {
-  live_is = refl;
-  whole_is = refl;
-  channels_same = λ c. refl;
-  format_same = refl;
-  keeps_is = λ c x. refl;
-  kinds_are = λ c n. refl;
-  keeps_place = λ x. words-placed (word format) (length taps - 1) (last_of (length taps - 1) x) (length-last_of (length taps - 1) x);
-  taken = λ n. tt;
-  no_measures = λ c number kept. refl;
-  live_cost = λ c n. omega arith;
-  whole_cost = λ c n. omega arith;
-  turns = λ c m n. omega arith;
-}
 
 -- a FIR block gives one value for each sample and keeps one number less than it has taps
 pub fir-block : (format : Fmt) (taps : List ℤ) → IsSampleBlock format (Block.Fir taps) (length taps - 1) (length taps)
@@ -103,26 +86,10 @@ delays-named (d ∷ delays) = ap (λ l. d ∷ l) (delays-named delays)
 greatest-named : (delays : List ℕ) → greatest (map pos delays) ≡ greatest_delay delays
 greatest-named delays = ap greatest_delay (delays-named delays)
 
-pub sparse-by-channel : (format : Fmt) (taps : List ℤ) (delays : List ℕ) → IsByChannel format (Block.Sparse taps (map pos delays))
-sparse-by-channel format taps delays = record {
-  live_is = refl;
-  whole_is = refl;
-  channels_same = λ c. refl;
-  format_same = refl;
-  keeps_is = λ c x. refl;
-  kinds_are = λ c n. refl;
-  keeps_place = λ x. words-placed (word format) (greatest (map pos delays)) (last_of (greatest (map pos delays)) x) (length-last_of (greatest (map pos delays)) x);
-  taken = λ n. tt;
-  no_measures = λ c number kept. refl;
-  live_cost = λ c n. omega arith;
-  whole_cost = λ c n. omega arith;
-  turns = λ c m n. omega arith;
-}
-
 -- a sparse block gives one value for each sample and keeps as many numbers as its greatest delay
 pub sparse-block : (format : Fmt) (taps : List ℤ) (delays : List ℕ) → IsSampleBlock format (Block.Sparse taps (map pos delays)) (greatest_delay delays) (length taps)
 sparse-block format taps delays = record {
-  by_channel = sparse-by-channel format taps delays;
+  by_channel = sparse-by-channel format taps (map pos delays);
   whole_is_live = λ x. refl;
   most_same = λ n. refl;
   live_same = λ n. refl;

@@ -23,7 +23,7 @@ use Rattle.dsp_defs.specs.Counts.{Counts}
 use Rattle.dsp_fir.specs.SparseState.{greatest_delay, delays_fault, delayed_sum, sparse_rows}
 use Rattle.dsp_defs.specs.declared.fault.MakeFault.{MakeFault}
 use Rattle.dsp_defs.specs.declared.fault.MakeFault.TheVariants.{Range}
-use Rattle.dsp_fir.proofs.BlockLemmas.{sample-piece}
+use Rattle.dsp_unit.proofs.Slices.{sample-piece}
 use Rattle.dsp_defs.specs.declared.format.Fmt.{Fmt}
 use Rattle.dsp_defs.specs.declared.format.Fmt.TheVariants.{Q7, Q15, Q31}
 

@@ -1,11 +1,9 @@
 -- What a contract sees of a FIR filter.
-use Rattle.std.specs.Prelude.{ℕ, ◌-◌, ◌≡◌, ℤ, pos, Bool, false, List, [], length, replicate, Option, Some, None, nat_le, ◌&&◌, if◌then◌else◌}
+use Rattle.std.specs.Prelude.{ℕ, ◌-◌, ◌≡◌, ℤ, pos, Bool, false, List, [], length, replicate}
 use Rattle.dsp_defs.specs.Streaming.{last_of}
 use Rattle.dsp_defs.specs.Filter.{FilterState}
 use Rattle.dsp_defs.specs.declared.format.Fmt.{Fmt}
 use Rattle.dsp_defs.specs.declared.script.Block.TheVariants as Block
-use Rattle.dsp_defs.specs.declared.fault.MakeFault.{MakeFault}
-use Rattle.dsp_defs.specs.declared.fault.MakeFault.TheVariants.{Length, Range}
 
 -- its taps as they were given, the last numbers that it took, the greatest length of a block, and whether `finish` was called
 pub record FirState : Type 0 where
@@ -21,14 +19,6 @@ new_fir taps block = record { taps = taps; past = replicate (length taps - 1) (p
 -- the filter has taken the signal x: it keeps the last T-1 numbers of it, with zeros before
 abbrev pub StandsFor : FirState → List ℤ → Type 0
 StandsFor fir x = fir.past ≡ last_of (length fir.taps - 1) x
-
--- the fault of such a block
-abbrev pub block_fault : ℕ → Option MakeFault
-block_fault block = if nat_le 1 block && nat_le block 1048576 then None else Some (Range (pos block))
-
--- the first fault of so many taps and such a block
-abbrev pub fir_fault : ℕ → ℕ → Option MakeFault
-fir_fault taps block = if nat_le 1 taps && nat_le taps 4096 then block_fault block else Some (Length taps 1)
 
 -- what a unit sees of the filter of one of its channels
 abbrev pub channel_state : Fmt → FirState → FilterState

@@ -1,22 +1,83 @@
--- The units of FIR and sparse blocks, in each format.
-use Rattle.std.specs.Prelude.{⊤}
-use Rattle.dsp_defs.specs.Unit.{UnitState}
+-- The blocks whose units are FIR and sparse filters.
+use Rattle.std.specs.Prelude.{⊤, ℤ, pos, ◌≤ℤ◌, ◌-◌, ◌<◌, List, length, All, FitsSigned, IfSome, refl}
+use Rattle.dsp_defs.specs.Formats.{word}
+use Rattle.dsp_defs.specs.Cost.{lane_turns}
+use Rattle.dsp_defs.specs.Shape.{group_of}
+use Rattle.dsp_defs.specs.Filter.{IsByChannel}
+use Rattle.dsp_defs.proofs.KeptLaws.{kept_of_channel-place}
+use Rattle.dsp_unit.proofs.Units.{scaled}
+use Rattle.dsp_defs.specs.declared.format.Fmt.{Fmt}
 use Rattle.dsp_defs.specs.declared.script.Block.{Block}
 use Rattle.dsp_defs.specs.declared.script.Block.TheVariants.{Fir, Sparse}
-use Rattle.dsp_fir.specs.declared.unit.Unit.{Unit}
-use Rattle.dsp_fir.specs.declared.unit.Unit.TheVariants.{Fir7, Fir15, Fir31, Sparse7, Sparse15, Sparse31}
-
--- what is seen of it
-abbrev pub unit_of : Unit → UnitState
-unit_of (Fir7 u) = u
-unit_of (Fir15 u) = u
-unit_of (Fir31 u) = u
-unit_of (Sparse7 u) = u
-unit_of (Sparse15 u) = u
-unit_of (Sparse31 u) = u
 
 -- the block is one of this crate's
 abbrev pub IsFirBlock : Block → Type 0
 IsFirBlock (Fir taps) = ⊤
 IsFirBlock (Sparse taps delays) = ⊤
 IsFirBlock block = ⊥
+
+-- ---- FIR
+
+-- the block is a FIR filter, and its taps are numbers of the format
+abbrev pub IsFirIn : Fmt → Block → Type 0
+IsFirIn format (Fir taps) = All (FitsSigned (word format)) taps
+IsFirIn format block = ⊥
+
+-- it works on each channel by itself
+pub fir-by-channel : (format : Fmt) (taps : List ℤ) → IsByChannel format (Fir taps)
+fir-by-channel format taps = record {
+  live_is = refl;
+  whole_is = refl;
+  channels_same = λ c. refl;
+  format_same = refl;
+  keeps_is = λ c x. refl;
+  kinds_are = λ c n. refl;
+  keeps_place = λ x. kept_of_channel-place format (Fir taps) x tt;
+  taken = λ n. tt;
+  no_measures = λ c number kept. refl;
+  live_cost = λ c n. scaled c n (length taps);
+  whole_cost = λ c n. scaled c n (length taps);
+  turns = λ c m n. scaled c (length taps) (lane_turns format (n - m));
+}
+
+pub by-channel : (format : Fmt) (block : Block) → IsFirIn format block → IsByChannel format block
+by-channel format (Fir taps) is = fir-by-channel format taps
+by-channel format block is = absurd is
+
+-- and not on groups
+pub has-groups : (format : Fmt) (block : Block) → IsFirIn format block → IfSome (group_of block) (λ g. 0 < g.0)
+has-groups format (Fir taps) is = tt
+has-groups format block is = absurd is
+
+-- ---- sparse filters
+
+-- the block is a sparse filter, its taps are numbers of the format, and no delay is negative
+abbrev pub IsSparseIn : Fmt → Block → Type 0
+IsSparseIn format (Sparse taps delays) = All (FitsSigned (word format)) taps × All (λ d. pos 0 ≤ℤ d) delays
+IsSparseIn format block = ⊥
+
+-- it works on each channel by itself
+pub sparse-by-channel : (format : Fmt) (taps delays : List ℤ) → IsByChannel format (Sparse taps delays)
+sparse-by-channel format taps delays = record {
+  live_is = refl;
+  whole_is = refl;
+  channels_same = λ c. refl;
+  format_same = refl;
+  keeps_is = λ c x. refl;
+  kinds_are = λ c n. refl;
+  keeps_place = λ x. kept_of_channel-place format (Sparse taps delays) x tt;
+  taken = λ n. tt;
+  no_measures = λ c number kept. refl;
+  live_cost = λ c n. scaled c n (length taps);
+  whole_cost = λ c n. scaled c n (length taps);
+  turns = λ c m n. scaled c (length taps) (lane_turns format (n - m));
+}
+
+pub sparse-channel : (format : Fmt) (block : Block) → IsSparseIn format block → IsByChannel format block
+sparse-channel format (Sparse taps delays) is = sparse-by-channel format taps delays
+sparse-channel format block is = absurd is
+
+-- and not on groups
+pub sparse-groups : (format : Fmt) (block : Block) → IsSparseIn format block → IfSome (group_of block) (λ g. 0 < g.0)
+sparse-groups format (Sparse taps delays) is = tt
+sparse-groups format block is = absurd is

@@ -5,7 +5,7 @@ use Rattle.dsp_defs.specs.Signal.{sample, values, sum_below}
 use Rattle.dsp_defs.specs.Streaming.{last_of}
 use Rattle.dsp_defs.specs.Sums.{sparse_term, sparse_close}
 use Rattle.dsp_defs.specs.Filter.{FilterState}
-use Rattle.dsp_fir.specs.FirState.{block_fault}
+use Rattle.dsp_unit.specs.Making.{block_fault}
 use Rattle.dsp_defs.specs.declared.format.Fmt.{Fmt}
 use Rattle.dsp_defs.specs.declared.script.Block.TheVariants as Block
 use Rattle.dsp_defs.specs.declared.fault.MakeFault.{MakeFault}

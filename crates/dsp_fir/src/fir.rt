@@ -1,6 +1,6 @@
-use crate::making::check_block;
-use dsp_defs::{MAX_TAPS, MakeFault, Steps};
+use dsp_defs::{MakeFault, Steps};
 use dsp_lanes::{LaneSample, Lanes};
+use dsp_unit::{check_block, check_taps};
 use dsp_window::Window;
 use std::alloc::Global;
 use std::marker::Model;
@@ -32,7 +32,8 @@ impl<T: LaneSample<L>, const L: usize> Fir<T, L> {
     ghost use Rattle.dsp_defs.specs.Streaming.{Continues};
     ghost use Rattle.dsp_defs.specs.Sums.{fir};
     ghost use Rattle.dsp_lanes.specs.Turns.{lane_turns};
-    ghost use Rattle.dsp_fir.specs.FirState.{StandsFor, new_fir, fir_fault};
+    ghost use Rattle.dsp_unit.specs.Making.{filter_fault};
+    ghost use Rattle.dsp_fir.specs.FirState.{StandsFor, new_fir};
 
     /// A filter that has taken nothing, from the taps in time-reversed order, `b[T-1]` to `b[0]`, for blocks of at most
     /// `block` samples. `Length` where there are no taps or more than 4,096, then `Range` where the block is not in
@@ -40,14 +41,9 @@ impl<T: LaneSample<L>, const L: usize> Fir<T, L> {
     pub fn new(alloc: Global, taps: &[T], block: usize) -> Result<Self, MakeFault>
         ensures made { IfOk result (λ f. f ≡ new_fir (map T.number taps.now) block) }
         ensures stands { IfOk result (λ f. StandsFor f []) }
-        ensures fault { MatchOption (fir_fault (length taps.now) block) (IfErr result (λ e. e ≡ MakeFault.Memory)) (λ e. result ≡ Err e) }
+        ensures fault { MatchOption (filter_fault (length taps.now) block) (IfErr result (λ e. e ≡ MakeFault.Memory)) (λ e. result ≡ Err e) }
     {
-        if taps.is_empty() || taps.len() > MAX_TAPS {
-            return Err(MakeFault::Length {
-                taps: taps.len() as u64,
-                factor: 1,
-            });
-        }
+        check_taps(taps.len())?;
         check_block(block)?;
         let Ok(window) = Window::new(alloc, taps.len() - 1, block) else {
             return Err(MakeFault::Memory);

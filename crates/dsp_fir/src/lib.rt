@@ -11,7 +11,7 @@ mod unit;
 pub use channel::{FirChannel, SparseChannel};
 pub use fir::Fir;
 pub use sparse::Sparse;
-pub use unit::Unit;
+pub use unit::{FirUnit, fir_unit};
 
 #[cfg(test)]
 mod tests;

@@ -1,20 +1,8 @@
-ghost use Rattle.std.specs.Prelude.{◌≡◌, Err, Ok, MatchOption};
-ghost use Rattle.dsp_fir.specs.FirState.{block_fault};
+ghost use Rattle.std.specs.Prelude.{◌≡◌, ◌≤ℤ◌, Err, Ok, All, IfOk, MatchOption, map, pos};
 ghost use Rattle.dsp_fir.specs.SparseState.{delays_fault, greatest_delay};
 
-use dsp_defs::{MAX_DELAY, MAX_SAMPLES, MakeFault};
-
-/// Refuses a greatest block length that is not in 1..1,048,576 samples.
-pub fn check_block(block: usize) -> Result<(), MakeFault>
-    ensures { MatchOption (block_fault block) (result ≡ Ok tt) (λ e. result ≡ Err e) }
-{
-    if block == 0 || block > MAX_SAMPLES {
-        return Err(MakeFault::Range {
-            value: block as i128,
-        });
-    }
-    Ok(())
-}
+use dsp_defs::{MAX_DELAY, MakeFault};
+use std::alloc::{AllocError, Global};
 
 /// Refuses the first delay over 65,535 samples.
 pub fn check_delays(delays: &[u32]) -> Result<(), MakeFault>
@@ -39,4 +27,16 @@ pub fn greatest(delays: &[u32]) -> u32
         greatest = greatest.max(*delay);
     }
     greatest
+}
+
+/// The delays of a list of numbers.
+pub fn delays_of(alloc: Global, numbers: &[i32]) -> Result<Vec<u32>, AllocError>
+    requires { All (λ d. pos 0 ≤ℤ d) numbers.now }
+    ensures { IfOk result (λ v. map pos v.items ≡ numbers.now) }
+{
+    let mut delays = Vec::with_capacity(alloc, numbers.len())?;
+    for number in numbers {
+        delays.push(*number as u32)?;
+    }
+    Ok(delays)
 }

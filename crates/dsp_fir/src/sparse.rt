@@ -1,7 +1,8 @@
 use crate::delayed_rows::delayed_rows;
-use crate::making::{check_block, check_delays, greatest};
+use crate::making::{check_delays, greatest};
 use dsp_defs::{MAX_TAPS, MakeFault, Steps};
 use dsp_lanes::LaneSample;
+use dsp_unit::check_block;
 use dsp_window::Window;
 use std::alloc::Global;
 use std::marker::Model;

@@ -16,14 +16,15 @@ use Rattle.dsp_defs.specs.Streaming.{Continues}
 use Rattle.dsp_defs.specs.Sums.{decimate}
 use Rattle.dsp_defs.specs.Cost as cost
 use Rattle.dsp_defs.specs.Kept.{Fixed, Each, IsPlace, IsOfKind, in_words, kept_of_channel, kinds_by, FitsChannel}
-use Rattle.dsp_defs.specs.Filter.{FilterStandsFor, FilterCounts, FilterFeeds, FilterFinishes, FilterRestores, IsNewFilter, IsByChannel}
-use Rattle.dsp_defs.proofs.KeptLaws.{Each-append, kept_of_channel-place}
+use Rattle.dsp_defs.specs.Filter.{FilterStandsFor, FilterCounts, FilterFeeds, FilterFinishes, FilterRestores, IsNewFilter}
+use Rattle.dsp_defs.proofs.ChannelKept.{words-placed}
+use Rattle.dsp_defs.proofs.KeptLaws.{Each-append}
 use Rattle.dsp_defs.proofs.CostLaws.{quotient_more}
 use Rattle.dsp_lanes.specs.Turns.{lane_turns}
+use Rattle.dsp_unit.proofs.LastPlace.{each-last, kinds-of, of-kinds}
 use Rattle.dsp_rate.specs.DecimateState.{DecimateState, StandsFor, CountsFor, Fits, kept, new_decimate, past_length}
 use Rattle.dsp_rate.specs.Channels.{channel_state}
 use Rattle.dsp_rate.proofs.DecimateLemmas.{kept-stands}
-use Rattle.dsp_rate.proofs.PlaceLemmas.{each-last, words-placed, kinds-of, of-kinds}
 
 -- ---- room
 
@@ -65,7 +66,7 @@ no-tail n m same = omega (arith, same)
 pub counts-channel : (format : Fmt) (d : DecimateState) (n : ℕ) → d.ended ≡ false → length d.past ≡ past_length d.factor (length d.taps) → CountsFor d n → FilterCounts (channel_state format d) n
 counts-channel format d n running long counts = record {
   running = running;
-  place = Each-append IsPlace (in_words (word format) (length d.taps + d.factor - 2)) (Fixed (n % d.factor) ∷ []) d.past (pos d.phase ∷ []) (words-placed format _ d.past long) (ap pos counts, tt);
+  place = Each-append IsPlace (in_words (word format) (length d.taps + d.factor - 2)) (Fixed (n % d.factor) ∷ []) d.past (pos d.phase ∷ []) (words-placed (word format) _ d.past long) (ap pos counts, tt);
   tail_values = no-tail _ _ refl;
   rest_is = no-tail _ _ refl;
 }
@@ -212,24 +213,3 @@ new-channel format factor taps block =
       stands = stands-channel format d [] refl (record { past_is = sym (append-nil (replicate (past_length factor (length taps)) (pos 0))); phase_is = sym (zero-mod factor) });
       counts = counts-channel format d 0 refl (length-replicate (past_length factor (length taps)) (pos 0)) (sym (zero-mod factor));
     }
-
--- ---- the block
-
-scaled : (c a b : ℕ) → c * a * b ≡ c * (1 * a * b)
-scaled c a b = omega arith
-
-pub decimate-by-channel : (format : Fmt) (factor : ℕ) (taps : List ℤ) → IsByChannel format (Block.Decimate factor taps)
-decimate-by-channel format factor taps = record {
-  live_is = refl;
-  whole_is = refl;
-  channels_same = λ c. refl;
-  format_same = refl;
-  keeps_is = λ c x. refl;
-  kinds_are = λ c n. refl;
-  keeps_place = λ x. kept_of_channel-place format (Block.Decimate factor taps) x tt;
-  taken = λ n. tt;
-  no_measures = λ c number kept. refl;
-  live_cost = λ c n. scaled c (n / factor * 1) (length taps);
-  whole_cost = λ c n. scaled c (n / factor * 1) (length taps);
-  turns = λ c m n. scaled c (n / factor - m / factor) (cost.lane_turns format (length taps));
-}

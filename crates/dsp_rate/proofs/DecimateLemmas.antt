@@ -1,7 +1,7 @@
 -- The values of a decimator, over the window of its past and a block.
-use Rattle.std.proofs.Common.{◌≡◌, ◌∙◌, ap, ap₂, sym, ℕ, suc, ◌+◌, ◌-◌, ◌*◌, ◌/◌, ◌%◌, ◌<◌, ◌≤◌, ℤ, pos, ◌*ℤ◌, List, [], ◌∷◌, ◌++◌, length, map, take, drop, set, reverse, slice_range, arith, length-append, length-drop, length-set, take_all, take_at, ⊎_elim}
+use Rattle.std.proofs.Common.{◌≡◌, ◌∙◌, ap, ap₂, sym, ℕ, suc, ◌+◌, ◌-◌, ◌*◌, ◌/◌, ◌%◌, ◌<◌, ◌≤◌, ℤ, pos, ◌*ℤ◌, List, ◌++◌, length, map, reverse, slice_range, arith, length-append, ⊎_elim}
 use Rattle.std.proofs.lemmas.Bool.{cases_lt}
-use Rattle.std.proofs.lemmas.List.{take-map, drop-map, get_or-drop, get_or-take, get_or-reverse, length-reverse, length-map, same_from_push, take_more_set, take-append-le}
+use Rattle.std.proofs.lemmas.List.{get_or-reverse, length-reverse, length-map, same_from_push}
 use Rattle.std.proofs.lemmas.Grind.{div_ceil_times}
 use Rattle.std.specs.Int.{div_ceil}
 use Rattle.std.proofs.lemmas.Nat.{div-mul-add, mod-mul-add, div-add-mod', div_below, mod_below, mul-le}
@@ -16,8 +16,7 @@ use Rattle.dsp_defs.specs.Sums.{convolution_at, decimate}
 use Rattle.dsp_defs.proofs.Signal.{values_cong, values-add, sum_below_cong, sum_below_reversed, delayed-append, delayed_before, delayed_after}
 use Rattle.dsp_defs.proofs.Streaming.{window_at}
 use Rattle.dsp_lanes.specs.Turns.{RisesWithin}
-use Rattle.dsp_window.specs.Rolling.{Rolling, last_samples}
-use Rattle.dsp_window.proofs.Rolls.{last_shows, length-last_samples}
+use Rattle.dsp_unit.proofs.Slices.{sample-piece}
 use Rattle.dsp_rate.specs.DecimateState.{DecimateState, StandsFor, kept, kept_of, past_length, strided_rows}
 
 -- ---- groups
@@ -129,38 +128,7 @@ decimate-values format factor taps x block window out phase count some taken beg
     decimate-append format factor taps x block phase count some taken begun counted
     ∙ ap (λ l. decimate format factor taps x ++ l) (ap (λ w. strided_rows format taps w (factor - 1 - phase) factor count) (sym shows) ∙ sym is)
 
--- ---- windows
-
--- what was written to the front of an output
-pub front-written : {X : Type 0} → (count : ℕ) (out old : List X) → length out ≡ count → take count (out ++ drop count old) ≡ out
-front-written count out old same =
-    take-append-le count out (drop count old) (omega arith) ∙ take_all count out (omega arith)
-
--- a number that was written behind others
-pub last-written : (n : ℕ) (front old : List ℤ) (z : ℤ) → length front ≡ n → length old ≡ n + 1 → set (front ++ drop n old) n z ≡ front ++ z ∷ []
-last-written n front old z first whole =
-    let l = front ++ drop n old in
-    let long : length l ≡ n + 1 = omega (arith, length-append front (drop n old), length-drop n old) in
-    sym (take_all (n + 1) (set l n z) (omega (arith, length-set l n z)))
-    ∙ take_more_set l n z (omega arith)
-    ∙ ap (λ t. t ++ z ∷ []) (take_at front (drop n old) n first)
-
--- the length of a window that was lent
-pub window-long : {X : Type 0} → (number : X → ℤ) (old new : Rolling) (block : List ℤ) (lent : List X) → new ≡ record old { samples = last_samples old.past old.samples ++ block } → map number lent ≡ new.samples → old.past ≤ length old.samples → length lent ≡ old.past + length block
-window-long number old new block lent rolls shown within =
-    sym (length-map lent number) ∙ ap length shown ∙ ap (λ (w : Rolling). length w.samples) rolls
-    ∙ length-append (last_samples old.past old.samples) block
-    ∙ ap (λ n. n + length block) (length-last_samples old.past old.samples within)
-
-module _ (old new : Rolling) (p : ℕ) (x block : List ℤ) (rolls : new ≡ record old { samples = last_samples old.past old.samples ++ block }) (kept : last_samples old.past old.samples ≡ last_of p x) where
-  -- it shows the last numbers of x and then the block
-  pub shows-after : new.samples ≡ last_of p x ++ block
-  shows-after = ap (λ (w : Rolling). w.samples) rolls ∙ ap (λ l. l ++ block) kept
-
-  -- it keeps the last numbers of x and the block
-  pub keeps-after : old.past ≡ p → last_samples new.past new.samples ≡ last_of p (x ++ block)
-  keeps-after past =
-      ap (λ n. last_samples n new.samples) (ap (λ (w : Rolling). w.past) rolls ∙ past) ∙ last_shows p new.samples x block shows-after
+-- ---- kept numbers
 
 -- a decimator that keeps what is kept of a signal stands for it
 pub kept-stands : (format : Fmt) (d : DecimateState) (numbers x : List ℤ) → kept d ≡ numbers → numbers ≡ kept_of format d.factor d.taps x → StandsFor d x
@@ -169,19 +137,7 @@ kept-stands format d numbers x keeps is =
     let last : pos d.phase ≡ pos (length x % d.factor) = parts.1 in
     record { past_is = parts.0; phase_is = cc }
 
--- ---- slices
-
--- a piece of a slice, as numbers
-pub sample-piece :
-    {X : Type 0} → (number : X → ℤ) (xs : List X) (i m j : ℕ) → j < m →
-    sample (map number (slice_range xs i (i + m))) j ≡ sample (map number xs) (i + j)
-sample-piece number xs i m j below =
-    let size : i + m - i ≡ m = omega arith in
-    ap (λ k. sample (map number (take k (drop i xs))) j) size
-    ∙ ap (λ l. sample l j) (sym (take-map number m (drop i xs)))
-    ∙ get_or-take m (map number (drop i xs)) j (pos 0) below
-    ∙ ap (λ l. sample l j) (sym (drop-map number i xs))
-    ∙ get_or-drop i (map number xs) j (pos 0)
+-- ---- one value after another
 
 -- a value, from the sum over a piece of the window
 pub strided-value :

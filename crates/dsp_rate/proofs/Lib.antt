@@ -1,3 +1,2 @@
 pub mod DecimateLemmas
-pub mod PlaceLemmas
 pub mod ChannelLemmas

@@ -1,14 +1,15 @@
 -- What a contract sees of a decimator.
-use Rattle.std.specs.Prelude.{ℕ, ◌-◌, ◌+◌, ◌*◌, ◌%◌, ◌≡◌, ℤ, pos, ◌*ℤ◌, ◌≤ℤ◌, ◌<ℤ◌, Bool, false, List, [], ◌∷◌, ◌++◌, length, take, replicate, All, FitsSigned, Option, Some, None, nat_le, nat_eq, ◌&&◌, if◌then◌else◌}
+use Rattle.std.specs.Prelude.{ℕ, ◌-◌, ◌+◌, ◌*◌, ◌%◌, ◌≡◌, ℤ, pos, ◌*ℤ◌, ◌≤ℤ◌, ◌<ℤ◌, Bool, false, List, [], ◌∷◌, ◌++◌, length, take, replicate, All, FitsSigned, Option, Some, None, nat_eq, if◌then◌else◌}
 use Rattle.std.specs.Option.{option_or}
 use Rattle.dsp_defs.specs.Formats.{word, close}
 use Rattle.dsp_defs.specs.Signal.{sample, values, sum_below}
 use Rattle.dsp_defs.specs.Streaming.{last_of}
 use Rattle.dsp_defs.specs.Kept.{kept_of_channel}
+use Rattle.dsp_unit.specs.Making.{block_fault, taps_fault}
 use Rattle.dsp_defs.specs.declared.format.Fmt.{Fmt}
 use Rattle.dsp_defs.specs.declared.script.Block.TheVariants as Block
 use Rattle.dsp_defs.specs.declared.fault.MakeFault.{MakeFault}
-use Rattle.dsp_defs.specs.declared.fault.MakeFault.TheVariants.{Length, Range}
+use Rattle.dsp_defs.specs.declared.fault.MakeFault.TheVariants.{Range}
 
 -- its factor, its taps as they were given, the last numbers that it took, how many samples its open group has,
 -- the greatest length of a block, and whether `finish` was called
@@ -61,17 +62,9 @@ pub record Fits (format : Fmt) (d : DecimateState) (numbers : List ℤ) : Type 0
 
 -- ---- faults
 
--- the fault of so many taps
-abbrev pub taps_fault : ℕ → Option MakeFault
-taps_fault taps = if nat_le 1 taps && nat_le taps 4096 then None else Some (Length taps 1)
-
 -- the fault of such a factor
 abbrev pub factor_fault : ℕ → Option MakeFault
 factor_fault factor = if nat_eq factor 0 then Some (Range (pos 0)) else None
-
--- the fault of such a block
-abbrev pub block_fault : ℕ → Option MakeFault
-block_fault block = if nat_le 1 block && nat_le block 1048576 then None else Some (Range (pos block))
 
 -- the first fault of such a factor, so many taps and such a block
 abbrev pub decimate_fault : ℕ → ℕ → ℕ → Option MakeFault

@@ -1,8 +1,8 @@
 use crate::Decimate;
-use dsp_defs::{MakeFault, Steps};
+use dsp_defs::{Block, MakeFault, Steps};
 use dsp_lanes::LaneSample;
-use dsp_unit::Filter;
-use std::alloc::Global;
+use dsp_unit::{Filter, samples_of};
+use std::alloc::{AllocError, Global};
 use std::marker::Model;
 use std::sync::ledger::Ledger;
 
@@ -48,7 +48,25 @@ impl<T: LaneSample<L>, const L: usize> DecimateChannel<T, L> {
 }
 
 impl<T: LaneSample<L>, const L: usize> Filter<T> for DecimateChannel<T, L> {
+    ghost use Rattle.std.specs.Prelude.{◌≡◌};
+    ghost use Rattle.dsp_defs.specs.Formats.{lanes};
+    ghost use Rattle.dsp_rate.specs.RateUnit.{IsRateIn, by-channel, has-groups};
+
     ghost filter = { λ c. c };
+
+    ghost IsOf = { λ block. (L ≡ lanes T.format) × IsRateIn T.format block };
+
+    ghost by_channel = { λ block is. by-channel T.format block is.1 };
+
+    ghost groups = { λ block is. has-groups T.format block is.1 };
+
+    fn of_block(alloc: Global, block: &Block, capacity: usize) -> Result<Self, AllocError> {
+        let Block::Decimate { factor, taps } = block else {
+            return Err(AllocError);
+        };
+        let taps = samples_of::<T>(alloc, taps.as_slice())?;
+        DecimateChannel::new(alloc, *factor, &taps, capacity).map_err(|_| AllocError)
+    }
 
     fn process<M: Ledger>(&mut self, input: &[T], output: &mut [T], steps: &mut Steps<M>) -> usize {
         self.decimate.process(input, output, steps)

@@ -1,7 +1,7 @@
-use crate::making::{check_block, check_taps};
 use crate::strided_rows::strided_rows;
 use dsp_defs::{MakeFault, Steps};
 use dsp_lanes::LaneSample;
+use dsp_unit::{check_block, check_taps};
 use dsp_window::Window;
 use std::alloc::Global;
 use std::marker::Model;

@@ -3,13 +3,12 @@
 
 mod channel;
 mod decimate;
-mod making;
 mod strided_rows;
 mod unit;
 
 pub use channel::DecimateChannel;
 pub use decimate::Decimate;
-pub use unit::Unit;
+pub use unit::{RateUnit, rate_unit};
 
 #[cfg(test)]
 mod tests;

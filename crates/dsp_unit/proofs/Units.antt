@@ -1,10 +1,10 @@
 -- A unit of filters, one for each channel.
-use Rattle.std.proofs.Common.{◌≡◌, ◌∙◌, ap, refl, sym, subst, ℕ, ◌*◌, ◌≤◌, List, ◌++◌, length, take, drop, replicate, arith}
+use Rattle.std.proofs.Common.{◌≡◌, ◌∙◌, sym, subst, ℕ, ◌+◌, ◌*◌, ◌<◌, ◌≤◌, List, ◌++◌, get_or, length, take, drop, arith}
 use Rattle.std.specs.Prelude.{All}
-use Rattle.std.proofs.lemmas.List.{length-replicate, get_or-replicate, take-append-le, take_all}
-use Rattle.std.proofs.lemmas.List.Elements.{All-replicate}
+use Rattle.std.proofs.lemmas.List.{take-append-le, take_all}
+use Rattle.dsp_defs.specs.Shape.{whole_frames, live_frames}
 use Rattle.dsp_defs.specs.Unit.{most_frames}
-use Rattle.dsp_defs.specs.Filter.{FilterState, FilterCounts, FilterMadeAs, IsByChannel, IsLike, IsNewFilter, AreFilters, filter_at, filter_room, no_filter}
+use Rattle.dsp_defs.specs.Filter.{FilterState, FilterMadeAs, IsByChannel, IsLike, IsNewFilter, AreFilters, filter_at, filter_room, no_filter}
 use Rattle.dsp_defs.specs.declared.format.Fmt.{Fmt}
 use Rattle.dsp_defs.specs.declared.script.Block.{Block}
 
@@ -18,27 +18,39 @@ written-whole size new old e =
 pub room-kept : (old new : FilterState) → FilterMadeAs old new → filter_room new ≡ filter_room old
 room-kept old new made = (λ i. most_frames (made.block i) (made.capacity i))
 
--- the same new filter for each channel
-pub replicated : (n : ℕ) (f : FilterState) (block : Block) (format : Fmt) (capacity : ℕ) → 1 ≤ n → IsByChannel format block → IsNewFilter block format capacity f → AreFilters format capacity (replicate n f)
-replicated n f block format capacity some by new = record {
-  some = omega (arith, some, length-replicate n f);
-  alike = All-replicate (IsLike (filter_at (replicate n f) 0) capacity) n f (rw first (record { block = refl; format = refl; capacity = new.capacity; ended = refl; tail = refl }));
-  format_is = rw first new.format;
-  by_channel = subst (λ b. IsByChannel format b) (sym new.block ∙ sym (ap (λ (s : FilterState). s.block) first)) by;
-  counted = λ _. (0, All-replicate (λ s. FilterCounts s 0) n f new.counts);
+-- new filters of a block, one for each channel
+pub new-filters : (block : Block) (format : Fmt) (capacity : ℕ) (filters : List FilterState) → 1 ≤ length filters → IsByChannel format block → All (IsNewFilter block format capacity) filters → AreFilters format capacity filters
+new-filters block format capacity filters some by new = record {
+  some = some;
+  alike = λ c d h. like c d h;
+  format_is = first.format;
+  by_channel = subst (λ b. IsByChannel format b) (sym first.block) by;
+  counted = λ _. (0, λ c d h. (new c d h).counts);
 }
   where
-    first : filter_at (replicate n f) 0 ≡ f
-    first = get_or-replicate n 0 f no_filter (omega (arith, some))
+    first : IsNewFilter block format capacity (filter_at filters 0)
+    first = new 0 no_filter some
 
-pub replicated-new : (n : ℕ) (f : FilterState) (block : Block) (format : Fmt) (capacity : ℕ) → 1 ≤ n → IsNewFilter block format capacity f → All (IsNewFilter (filter_at (replicate n f) 0).block format capacity) (replicate n f)
-replicated-new n f block format capacity some new =
-    let first : filter_at (replicate n f) 0 ≡ f = get_or-replicate n 0 f no_filter (omega (arith, some)) in
-    let same : block ≡ (filter_at (replicate n f) 0).block = sym new.block ∙ sym (ap (λ (s : FilterState). s.block) first) in
-    subst (λ b. All (IsNewFilter b format capacity) (replicate n f)) same (All-replicate (IsNewFilter block format capacity) n f new)
+    like : (c : ℕ) (d : FilterState) → c < length filters → IsLike (filter_at filters 0) capacity (get_or filters c d)
+    like c d h =
+        let this = new c d h in
+        record {
+          block = this.block ∙ sym first.block;
+          format = this.format ∙ sym first.format;
+          capacity = this.capacity;
+          ended = this.stands.running ∙ sym first.stands.running;
+          tail =
+              let mine : whole_frames block 0 ≡ live_frames block 0 + length (get_or filters c d).tail = subst (λ b. whole_frames b 0 ≡ live_frames b 0 + length (get_or filters c d).tail) this.block this.counts.tail_values in
+              let its : whole_frames block 0 ≡ live_frames block 0 + length (filter_at filters 0).tail = subst (λ b. whole_frames b 0 ≡ live_frames b 0 + length (filter_at filters 0).tail) first.block first.counts.tail_values in
+              omega (arith, mine, its);
+        }
 
 -- what stays of a unit's filters when each was made as before
 pub kept-whole : (format : Fmt) (capacity input output channels : ℕ) (olds news : List FilterState) → AreFilters format capacity news → FilterMadeAs (filter_at olds 0) (filter_at news 0) →
     AreFilters format capacity olds × (input ≡ capacity) × (output ≡ filter_room (filter_at olds 0)) × (output * channels ≤ 1048576) × (channels ≤ 255) →
     AreFilters format capacity news × (input ≡ capacity) × (output ≡ filter_room (filter_at news 0)) × (output * channels ≤ 1048576) × (channels ≤ 255)
 kept-whole format capacity input output channels olds news are made before = (are, before.1, before.2 ∙ sym (room-kept (filter_at olds 0) (filter_at news 0) made), before.3, before.4)
+
+-- a cost of all channels, from that of one
+pub scaled : (c a b : ℕ) → c * a * b ≡ c * (1 * a * b)
+scaled c a b = omega arith

@@ -1,0 +1,4 @@
+pub mod InFormat
+pub mod Either
+pub mod NoUnit
+pub mod Making

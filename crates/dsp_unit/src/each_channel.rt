@@ -1,6 +1,6 @@
 use crate::kept::{count_kept, fits_channels, keep_channels, restore_channels};
-use crate::{Filter, feed_block, finish_channels};
-use dsp_defs::{Measure, Stage, Steps};
+use crate::{Filter, feed_block, finish_channels, most_frames};
+use dsp_defs::{Block, Measure, Stage, Steps};
 use dsp_sat::Sample;
 use std::alloc::{AllocError, Global};
 use std::marker::Model;
@@ -35,7 +35,7 @@ impl<T: Sample, F: Filter<T> + Drop> EachChannel<T, F> {
 
     /// A unit of filters that have taken nothing, one for each channel, for at most `frames` frames a
     /// call, of which a call gives at most `room`. All its memory is taken here.
-    pub fn new(
+    fn of_filters(
         alloc: Global,
         filters: Vec<F>,
         frames: usize,
@@ -56,6 +56,26 @@ impl<T: Sample, F: Filter<T> + Drop> EachChannel<T, F> {
             output,
             capacity: frames,
         })
+    }
+
+    /// A unit of the block that has taken nothing, with a filter for each channel, for at most
+    /// `frames` frames a call. All its memory is taken here.
+    pub fn new(
+        alloc: Global,
+        block: &Block,
+        channels: u8,
+        frames: usize,
+    ) -> Result<Self, AllocError>
+        requires block { F.IsOf block.now }
+        requires channels { 1 ≤ channels }
+        requires samples { most_frames block.now frames * channels ≤ 1048576 }
+        ensures { IfOk result (IsNew block.now T.format channels frames) }
+    {
+        let mut filters = Vec::with_capacity(alloc, usize::from(channels))?;
+        for _ in 0..channels {
+            filters.push(F::of_block(alloc, block, frames)?)?;
+        }
+        EachChannel::of_filters(alloc, filters, frames, most_frames(block, frames))
     }
 }
 

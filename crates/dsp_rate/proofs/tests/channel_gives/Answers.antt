@@ -1,4 +1,4 @@
-use Rattle.std.proofs.Common.{◌≡◌, ◌≤◌, ap₂, length, arith}
+use Rattle.std.proofs.Common.{◌≡◌, ap₂, arith}
 use Rattle.dsp_defs.specs.Unit.{most_frames}
 use Rattle.dsp_defs.specs.Filter.{filter_room}
 use Rattle.dsp_rate.proofs.tests.channel_gives.Goals as goal

@@ -45,13 +45,13 @@ loop-block-preserved c =
     let b = c.block-item.result in
     let p = input_place c.args.script.now c.args.block in
     let here : Place = record { format = c.loop-block.flow.format; channels = c.loop-block.flow.channels; capacity = c.loop-block.frames } in
-    let next : Place = record { format = c.after-flow.result.format; channels = c.after-flow.result.channels; capacity = c.frames_after-frames.result } in
+    let next : Place = record { format = c.after-flow.result.format; channels = c.after-flow.result.channels; capacity = c.most_frames-frames.result } in
     let within : i < length blocks = c.loop-block-test.true in
     let read : b ≡ get_or blocks i b = c.block-item.is in
     let first : drop i blocks ≡ b ∷ drop (i + 1) blocks = next-first blocks i b within read in
     let more : take (i + 1) blocks ≡ take i blocks ++ b ∷ [] = take_more blocks i b within ∙ ap (λ (e : Block). take i blocks ++ e ∷ []) (sym read) in
     let pushed : c.push.new.self.items ≡ c.loop-block.links.items ++ state_of c.in_ok-unit.unit ∷ [] = c.in_ok-push.ensures.items ∙ ap (λ (u : UnitState). c.loop-block.links.items ++ u ∷ []) c.in_ok-new.ensures in
-    let step : next ≡ place_after here b = next-place here next b c.after-flow.ensures c.frames_after-frames.ensures in
+    let step : next ≡ place_after here b = next-place here next b c.after-flow.ensures c.most_frames-frames.ensures in
     rw pushed (making-more p here next blocks i (i + 1) c.loop-block.links.items (state_of c.in_ok-unit.unit) b first more step c.in_ok-unit.ensures c.loop-block.invariant)
 
 pub invariant_of-result : goal.invariant_of-result
@@ -80,14 +80,14 @@ returns c =
       counts = new-count us fresh;
     })
 
-pub frames_after-frames-requires : goal.frames_after-frames-requires
-frames_after-frames-requires c =
+pub most_frames-frames-requires : goal.most_frames-frames-requires
+most_frames-frames-requires c =
     let blocks = c.as_slice-blocks.result.now in
     let i = c.loop-block.block-index in
     let b = c.block-item.result in
     let here : Place = record { format = c.loop-block.flow.format; channels = c.loop-block.flow.channels; capacity = c.loop-block.frames } in
     let next : Next here b = making-next (input_place c.args.script.now c.args.block) here blocks i (i + 1) c.loop-block.links.items b (next-first blocks i b c.loop-block-test.true c.block-item.is) c.loop-block.invariant in
-    record { built = next.built; groups = (has_groups (flow_at here) (b ∷ []) (next.suits, tt)).0 }
+    record { groups = (has_groups (flow_at here) (b ∷ []) (next.suits, tt)).0; fits = omega (arith, next.few_frames) }
 
 pub overflow_mul-result : goal.overflow_mul-result
 overflow_mul-result c =

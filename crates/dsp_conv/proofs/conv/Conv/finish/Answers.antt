@@ -3,7 +3,9 @@ use Rattle.std.proofs.lemmas.List.{length-map, length-replicate}
 use Rattle.dsp_defs.specs.Streaming.{rows}
 use Rattle.dsp_window.specs.Rolling.{Rolling, last_samples}
 use Rattle.dsp_conv.specs.ConvState.{ConvState}
-use Rattle.dsp_conv.proofs.ConvLemmas.{rows-long, finish-tail, empty, front-written, past-after}
+use Rattle.dsp_unit.proofs.Slices.{front-written}
+use Rattle.dsp_window.proofs.Pushed.{past-after}
+use Rattle.dsp_conv.proofs.ConvLemmas.{rows-long, finish-tail, empty}
 use Rattle.dsp_conv.proofs.conv.Conv.finish.Goals as goal
 
 pub returns-clause-given : goal.returns-clause-given

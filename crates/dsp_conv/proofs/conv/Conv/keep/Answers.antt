@@ -1,7 +1,8 @@
 use Rattle.std.proofs.Common.{◌≡◌, ◌∙◌, ◌+◌, ◌-◌, ◌++◌, ap, ap₂, pos, [], ◌∷◌, length, w64, to_z, of_z, arith}
 use Rattle.std.proofs.lemmas.List.{length_push}
 use Rattle.dsp_conv.specs.ConvState.{ConvState, kept}
-use Rattle.dsp_conv.proofs.ConvLemmas.{begun-written, last-written}
+use Rattle.dsp_unit.proofs.Slices.{last-written}
+use Rattle.dsp_conv.proofs.ConvLemmas.{begun-written}
 use Rattle.dsp_conv.proofs.conv.Conv.keep.Goals as goal
 
 pub returns : goal.returns

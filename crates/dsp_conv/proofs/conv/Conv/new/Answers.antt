@@ -1,6 +1,7 @@
 use Rattle.std.proofs.Common.{◌≡◌, ◌∙◌, ◌-◌, ap, sym, length, map, reverse, [], false}
 use Rattle.std.proofs.lemmas.List.{reverse-reverse, length-map}
-use Rattle.dsp_conv.proofs.ConvLemmas.{map-reverse, new-past}
+use Rattle.dsp_window.proofs.Pushed.{new-past}
+use Rattle.dsp_conv.proofs.ConvLemmas.{map-reverse}
 use Rattle.dsp_conv.proofs.conv.Conv.new.Goals as goal
 
 pub returns-clause-made : goal.returns-clause-made

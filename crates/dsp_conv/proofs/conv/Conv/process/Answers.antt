@@ -2,7 +2,9 @@ use Rattle.std.proofs.Common.{◌≡◌, ◌∙◌, ap, ap₂, sym, refl, ◌+�
 use Rattle.std.proofs.lemmas.List.{length-map, length-reverse}
 use Rattle.dsp_defs.specs.Kept.{flag}
 use Rattle.dsp_defs.specs.Streaming.{last_of, rows}
-use Rattle.dsp_conv.proofs.ConvLemmas.{full-is, begun-more, live-values, stands-tail, rows-long, front-written, shows-after, keeps-after}
+use Rattle.dsp_unit.proofs.Slices.{front-written}
+use Rattle.dsp_window.proofs.Pushed.{shows-after, keeps-after}
+use Rattle.dsp_conv.proofs.ConvLemmas.{full-is, begun-more, live-values, stands-tail, rows-long}
 use Rattle.dsp_conv.proofs.conv.Conv.process.Goals as goal
 
 pub returns-clause-values : goal.returns-clause-values

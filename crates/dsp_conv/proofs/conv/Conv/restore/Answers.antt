@@ -5,7 +5,8 @@ use Rattle.dsp_defs.specs.Kept.{flag}
 use Rattle.dsp_defs.specs.Streaming.{last_of}
 use Rattle.dsp_window.proofs.Rolls.{length-last_of, length-last_samples}
 use Rattle.dsp_conv.specs.ConvState.{ConvState}
-use Rattle.dsp_conv.proofs.ConvLemmas.{full-is, stands-tail, rows-long, same-number}
+use Rattle.dsp_unit.proofs.LastPlace.{same-number}
+use Rattle.dsp_conv.proofs.ConvLemmas.{full-is, stands-tail, rows-long}
 use Rattle.dsp_conv.proofs.conv.Conv.restore.Goals as goal
 
 pub returns-clause-kept : goal.returns-clause-kept

@@ -1,9 +1,11 @@
-use Rattle.std.proofs.Common.{◌≡◌, ◌≤◌, pos, length, replicate, arith}
+use Rattle.std.proofs.Common.{◌≡◌, ◌≤◌, pos, sym, subst, map, length, replicate, arith}
 use Rattle.std.specs.Prelude.{All}
 use Rattle.std.proofs.lemmas.List.{length-replicate}
 use Rattle.dsp_defs.proofs.ChannelFrames.{get_or-default}
-use Rattle.dsp_fir.specs.SparseState.{greatest_delay}
-use Rattle.dsp_fir.proofs.ChannelLemmas.{few-delays}
+use Rattle.dsp_defs.specs.Filter.{IsNewFilter}
+use Rattle.dsp_defs.specs.declared.script.Block.TheVariants as Block
+use Rattle.dsp_fir.specs.SparseState.{SparseState, channel_state, greatest_delay}
+use Rattle.dsp_fir.proofs.ChannelLemmas.{few-delays, new-sparse}
 use Rattle.dsp_fir.proofs.channel.SparseChannel.new.Goals as goal
 
 pub invariant_of-result : goal.invariant_of-result
@@ -13,3 +15,11 @@ invariant_of-result g c =
     let long : length (replicate (greatest_delay delays) (pos 0)) ≡ greatest_delay delays = length-replicate (greatest_delay delays) (pos 0) in
     let few = few-delays 4294967295 delays each in
     rw c.in-Ok.ensures.made (c.requires, long, omega (arith, long, few))
+
+pub returns-in-Ok-clause-fresh : goal.returns-in-Ok-clause-fresh
+returns-in-Ok-clause-fresh g c =
+    let T = g.T.Sample in
+    let taps = map T.number c.args.taps.now in
+    let delays = c.args.delays.now in
+    subst (λ (s : SparseState). IsNewFilter (Block.Sparse taps (map pos delays)) T.format c.args.block (channel_state T.format s)) (sym c.in-Ok.ensures.made)
+    (new-sparse T.format taps delays c.args.block)

@@ -1,7 +1,9 @@
 use Rattle.std.proofs.Common.{◌≡◌, ◌∙◌, ◌<◌, ◌-◌, ◌++◌, ap, sym, length, map, take, arith, vec_len, rules, length-take-le}
 use Rattle.std.proofs.lemmas.List.{length-map}
 use Rattle.dsp_defs.specs.Streaming.{last_of, rows}
-use Rattle.dsp_fir.proofs.BlockLemmas.{shows-after, keeps-after, front-written, block-values}
+use Rattle.dsp_unit.proofs.Slices.{front-written}
+use Rattle.dsp_window.proofs.Pushed.{shows-after, keeps-after}
+use Rattle.dsp_fir.proofs.BlockLemmas.{block-values}
 use Rattle.dsp_fir.proofs.fir.Fir.process.Goals as goal
 
 pub returns-clause-values : goal.returns-clause-values

@@ -1,7 +1,7 @@
 use Rattle.std.proofs.Common.{◌≡◌, ◌∙◌, ap, sym, map, false, arith}
 use Rattle.std.proofs.lemmas.List.{append-nil}
 use Rattle.dsp_fir.specs.SparseState.{greatest_delay}
-use Rattle.dsp_fir.proofs.BlockLemmas.{new-past}
+use Rattle.dsp_window.proofs.Pushed.{new-past}
 use Rattle.dsp_fir.proofs.DelayLemmas.{delays-fit}
 use Rattle.dsp_fir.proofs.sparse.Sparse.new.Goals as goal
 

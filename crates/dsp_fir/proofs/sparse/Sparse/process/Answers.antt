@@ -4,7 +4,8 @@ use Rattle.dsp_defs.specs.Streaming.{last_of}
 use Rattle.dsp_window.specs.Rolling.{Rolling, last_samples}
 use Rattle.dsp_window.proofs.Rolls.{length-last_samples}
 use Rattle.dsp_fir.specs.SparseState.{greatest_delay, sparse_rows}
-use Rattle.dsp_fir.proofs.BlockLemmas.{shows-after, keeps-after, front-written}
+use Rattle.dsp_unit.proofs.Slices.{front-written}
+use Rattle.dsp_window.proofs.Pushed.{shows-after, keeps-after}
 use Rattle.dsp_fir.proofs.DelayLemmas.{delays-within, sparse-values}
 use Rattle.dsp_fir.proofs.sparse.Sparse.process.Goals as goal
 

@@ -2,7 +2,7 @@ use Rattle.std.proofs.Common.{◌≡◌, ◌∙◌, ◌+◌, ◌-◌, ◌++◌, 
 use Rattle.std.proofs.lemmas.Int.{to_z_pos}
 use Rattle.std.proofs.lemmas.List.{length_push}
 use Rattle.dsp_rate.specs.DecimateState.{DecimateState, kept}
-use Rattle.dsp_rate.proofs.DecimateLemmas.{last-written}
+use Rattle.dsp_unit.proofs.Slices.{last-written}
 use Rattle.dsp_rate.proofs.decimate.Decimate.keep.Goals as goal
 
 pub returns : goal.returns

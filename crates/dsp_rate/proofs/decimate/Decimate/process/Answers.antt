@@ -3,7 +3,9 @@ use Rattle.std.proofs.lemmas.List.{length-map}
 use Rattle.dsp_defs.specs.Streaming.{last_of}
 use Rattle.dsp_lanes.specs.Turns.{lane_turns}
 use Rattle.dsp_rate.specs.DecimateState.{DecimateState, past_length, strided_rows}
-use Rattle.dsp_rate.proofs.DecimateLemmas.{groups-more, phase-more, groups-within, groups-room, group-fits, decimate-values, front-written, window-long, shows-after, keeps-after}
+use Rattle.dsp_unit.proofs.Slices.{front-written}
+use Rattle.dsp_window.proofs.Pushed.{window-long, shows-after, keeps-after}
+use Rattle.dsp_rate.proofs.DecimateLemmas.{groups-more, phase-more, groups-within, groups-room, group-fits, decimate-values}
 use Rattle.dsp_rate.proofs.decimate.Decimate.process.Goals as goal
 
 pub slice_bounds-output-end : goal.slice_bounds-output-end

@@ -1,0 +1,29 @@
+ghost use Rattle.std.specs.Prelude.{◌≡◌, Err, Ok, MatchOption};
+ghost use Rattle.dsp_unit.specs.Making.{block_fault, taps_fault};
+
+use dsp_defs::{MAX_SAMPLES, MAX_TAPS, MakeFault};
+
+/// Refuses a count of taps that is not in 1..4,096.
+pub fn check_taps(taps: usize) -> Result<(), MakeFault>
+    ensures { MatchOption (taps_fault taps) (result ≡ Ok tt) (λ e. result ≡ Err e) }
+{
+    if taps == 0 || taps > MAX_TAPS {
+        return Err(MakeFault::Length {
+            taps: taps as u64,
+            factor: 1,
+        });
+    }
+    Ok(())
+}
+
+/// Refuses a greatest block length that is not in 1..1,048,576 samples.
+pub fn check_block(block: usize) -> Result<(), MakeFault>
+    ensures { MatchOption (block_fault block) (result ≡ Ok tt) (λ e. result ≡ Err e) }
+{
+    if block == 0 || block > MAX_SAMPLES {
+        return Err(MakeFault::Range {
+            value: block as i128,
+        });
+    }
+    Ok(())
+}

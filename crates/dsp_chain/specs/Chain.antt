@@ -11,7 +11,6 @@ use Rattle.dsp_chain.specs.declared.block_unit.BlockUnit.{BlockUnit}
 use Rattle.dsp_chain.specs.declared.block_unit.BlockUnit.TheVariants as unit
 use Rattle.dsp_unit.specs.InFormat.{unit_in_format}
 use Rattle.dsp_unit.specs.Either.{either_unit}
-use Rattle.dsp_unit.specs.NoUnit.{no_unit}
 use Rattle.dsp_defs.specs.declared.measure.Measure.{Measure}
 use Rattle.dsp_defs.specs.declared.script.Block.{Block}
 use Rattle.dsp_defs.specs.declared.script.Script.{Script}
@@ -25,7 +24,7 @@ abbrev pub state_of : BlockUnit → UnitState
 state_of (unit.Vector u) = u
 state_of (unit.Complex u) = u
 state_of (unit.Fir u) = either_unit (unit_in_format seen seen seen) (unit_in_format seen seen seen) u
-state_of (unit.Rate u) = unit_in_format no_unit seen seen u
+state_of (unit.Rate u) = either_unit seen seen u
 state_of (unit.Conv u) = unit_in_format seen seen seen u
 state_of (unit.Measure u) = u
 

@@ -5,12 +5,11 @@ ghost use Rattle.dsp_rate.specs.RateUnit.{IsRateBlock};
 
 use crate::DecimateChannel;
 use dsp_defs::{Block, Fmt, Stage};
-use dsp_unit::{EachChannel, InFormat, NoUnit};
+use dsp_unit::{EachChannel, Either};
 use std::alloc::{AllocError, Global};
 
-/// A decimator at its place, on all channels of a frame.
-pub type RateUnit = InFormat<
-    NoUnit,
+/// A decimator at its place, on all channels of a frame: the first in Q15, the second in Q31.
+pub type RateUnit = Either<
     EachChannel<i16, DecimateChannel<i16, 8>>,
     EachChannel<i32, DecimateChannel<i32, 4>>,
 >;
@@ -33,7 +32,7 @@ pub fn rate_unit(
 {
     match format {
         Fmt::Q7 => unreachable!(),
-        Fmt::Q15 => Ok(InFormat::Q15(EachChannel::new(alloc, block, channels, frames)?)),
-        Fmt::Q31 => Ok(InFormat::Q31(EachChannel::new(alloc, block, channels, frames)?)),
+        Fmt::Q15 => Ok(Either::First(EachChannel::new(alloc, block, channels, frames)?)),
+        Fmt::Q31 => Ok(Either::Second(EachChannel::new(alloc, block, channels, frames)?)),
     }
 }

@@ -1,9 +1,9 @@
--- The unit of one of two blocks.
+-- One of two units.
 use Rattle.dsp_defs.specs.Unit.{UnitState}
 use Rattle.dsp_unit.specs.declared.either.Either.{Either}
 use Rattle.dsp_unit.specs.declared.either.Either.TheVariants.{First, Second}
 
--- what is seen of it, from what is seen of the unit of each block
+-- what is seen of it, from what is seen of each
 abbrev pub either_unit : {A B : Type 0} → (A → UnitState) → (B → UnitState) → Either A B → UnitState
 either_unit a b (First u) = a u
 either_unit a b (Second u) = b u

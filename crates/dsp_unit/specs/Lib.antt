@@ -1,4 +1,3 @@
 pub mod InFormat
 pub mod Either
-pub mod NoUnit
 pub mod Making

@@ -3,7 +3,7 @@ ghost use Rattle.dsp_unit.specs.Either.{either_unit};
 use dsp_defs::{Measure, Stage, Steps};
 use std::sync::ledger::Ledger;
 
-/// One of two blocks.
+/// One of two units: of two blocks, or of a block in two formats.
 #[derive(Drop)]
 pub enum Either<A, B> {
     First(A),

@@ -3,7 +3,7 @@ ghost use Rattle.dsp_unit.specs.InFormat.{unit_in_format};
 use dsp_defs::{Measure, Stage, Steps};
 use std::sync::ledger::Ledger;
 
-/// A block in one of the formats, with the unit that it has there: `NoUnit` in a format that it does not have.
+/// A block in one of the formats, with the unit that it has there.
 #[derive(Drop)]
 pub enum InFormat<A, B, C> {
     Q7(A),

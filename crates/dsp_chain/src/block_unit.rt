@@ -5,18 +5,20 @@ ghost use Rattle.dsp_chain.specs.Built.{is_built_block};
 ghost use Rattle.dsp_chain.specs.Chain.{state_of};
 
 use crate::built::{Family, family_of};
+use dsp_complex::ComplexUnit;
 use dsp_conv::{ConvUnit, conv_unit};
 use dsp_defs::{Block, Fmt, Measure, Stage, Steps};
 use dsp_fir::{FirUnit, fir_unit};
 use dsp_rate::{RateUnit, rate_unit};
+use dsp_vector::VectorUnit;
 use std::alloc::{AllocError, Global};
 use std::sync::ledger::Ledger;
 
 /// The unit of any block that is built.
 #[derive(Drop)]
 pub enum BlockUnit {
-    Vector(dsp_vector::Unit),
-    Complex(dsp_complex::Unit),
+    Vector(VectorUnit),
+    Complex(ComplexUnit),
     Fir(FirUnit),
     Rate(RateUnit),
     Conv(ConvUnit),
@@ -41,10 +43,10 @@ impl BlockUnit {
         ensures { IfOk result (λ u. IsNew block.now format channels frames (state_of u)) }
     {
         match family_of(block) {
-            Some(Family::Vector) => Ok(BlockUnit::Vector(dsp_vector::Unit::new(
+            Some(Family::Vector) => Ok(BlockUnit::Vector(VectorUnit::new(
                 alloc, block, format, channels, frames,
             )?)),
-            Some(Family::Complex) => Ok(BlockUnit::Complex(dsp_complex::Unit::new(
+            Some(Family::Complex) => Ok(BlockUnit::Complex(ComplexUnit::new(
                 alloc, block, format, channels, frames,
             )?)),
             Some(Family::Fir) => Ok(BlockUnit::Fir(fir_unit(

@@ -10,4 +10,5 @@ mod tests;
 mod unit;
 
 pub use calls::{conj, mag_squared, mult_cmplx, mult_real};
-pub use unit::Unit;
+pub use operation::Operation;
+pub use unit::ComplexUnit;

@@ -2,16 +2,18 @@ ghost use Rattle.std.specs.Prelude.{◌≡◌, ◌≤◌, ◌+◌, ◌*◌, leng
 ghost use Rattle.dsp_defs.specs.Block.{frames_in, channels_after};
 ghost use Rattle.dsp_defs.specs.Grammar.{Suits};
 ghost use Rattle.dsp_defs.specs.Unit.{IsSignal};
-ghost use Rattle.dsp_vector.specs.Memoryless.{Gives, price};
+ghost use Rattle.dsp_frames.specs.Memoryless.{Gives, price};
 
 use crate::frames::{Conjugate, Product, RealProduct, SquaredMagnitude, give_frames};
-use dsp_defs::{Block, Steps};
+use dsp_defs::{Block, Fmt, Steps};
+use dsp_frames::FrameWork;
 use dsp_sat::WideSample;
+use std::alloc::{AllocError, Global};
 use std::sync::ledger::Ledger;
 
 /// What a block of this crate does with frames.
-#[derive(Clone, Copy)]
-pub(crate) enum Operation {
+#[derive(Clone, Copy, Drop)]
+pub enum Operation {
     Conj,
     CmplxMult,
     CmplxMultReal,
@@ -19,34 +21,10 @@ pub(crate) enum Operation {
 }
 
 impl Operation {
-    ghost use Rattle.dsp_complex.specs.ComplexUnit.{block_of, IsComplexBlock};
-
-    /// The operation of a block.
-    pub fn new(block: &Block) -> Operation
-        requires { IsComplexBlock block.now }
-        ensures { block_of result ≡ block.now }
-    {
-        match block {
-            Block::Conj => Operation::Conj,
-            Block::CmplxMult => Operation::CmplxMult,
-            Block::CmplxMultReal => Operation::CmplxMultReal,
-            _ => Operation::MagSquared,
-        }
-    }
-
-    /// The channels of a frame that it gives of a frame of so many.
-    pub fn channels_given(self, channels: usize) -> usize
-        ensures { result ≡ channels_after channels (block_of self) }
-    {
-        match self {
-            Operation::Conj => channels,
-            Operation::CmplxMult | Operation::CmplxMultReal => 2,
-            Operation::MagSquared => 1,
-        }
-    }
+    ghost use Rattle.dsp_complex.specs.ComplexUnit.{block_of};
 
     /// Writes what it gives of samples of the format of T, frame by frame, and answers their number.
-    pub fn feed<T: WideSample, L: Ledger>(
+    fn feed_as<T: WideSample, L: Ledger>(
         self,
         channels: usize,
         frames: &[i32],
@@ -74,6 +52,51 @@ impl Operation {
             Operation::MagSquared => {
                 give_frames::<T, SquaredMagnitude, L>(SquaredMagnitude, frames, count, out, steps)
             }
+        }
+    }
+}
+
+impl FrameWork for Operation {
+    ghost use Rattle.dsp_complex.specs.ComplexUnit.{block_of, IsComplexBlock, gives-frames, gives-as-many};
+
+    ghost block = { block_of };
+
+    ghost IsOf = { IsComplexBlock };
+
+    ghost memoryless = { λ o format channels. gives-frames format channels o };
+
+    ghost as_many = { λ o n. gives-as-many n o };
+
+    fn of_block(_alloc: Global, wanted: &Block) -> Result<Self, AllocError> {
+        match wanted {
+            Block::Conj => Ok(Operation::Conj),
+            Block::CmplxMult => Ok(Operation::CmplxMult),
+            Block::CmplxMultReal => Ok(Operation::CmplxMultReal),
+            Block::MagSquared => Ok(Operation::MagSquared),
+            _ => Err(AllocError),
+        }
+    }
+
+    fn channels_given(&self, channels: usize) -> usize {
+        match self {
+            Operation::Conj => channels,
+            Operation::CmplxMult | Operation::CmplxMultReal => 2,
+            Operation::MagSquared => 1,
+        }
+    }
+
+    fn feed<L: Ledger>(
+        &self,
+        format: Fmt,
+        channels: usize,
+        frames: &[i32],
+        out: &mut [i32],
+        steps: &mut Steps<L>,
+    ) -> usize {
+        match format {
+            Fmt::Q7 => unreachable!(),
+            Fmt::Q15 => self.feed_as::<i16, L>(channels, frames, out, steps),
+            Fmt::Q31 => self.feed_as::<i32, L>(channels, frames, out, steps),
         }
     }
 }

@@ -1,5 +1,2 @@
 pub mod Places
-pub mod Samples
-pub mod MemorylessUnits
-pub mod Operations
-pub mod TestSignals
+pub mod ListedChannels

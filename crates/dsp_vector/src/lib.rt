@@ -18,5 +18,6 @@ pub use calls::{
 pub use conversions::{
     convert_7_15, convert_7_31, convert_15_7, convert_15_31, convert_31_7, convert_31_15,
 };
+pub use operation::Operation;
 pub use sample::VectorSample;
-pub use unit::Unit;
+pub use unit::VectorUnit;

@@ -2,19 +2,20 @@ ghost use Rattle.std.specs.Prelude.{◌≡◌, ◌≤◌, ◌+◌, ◌*◌, IfOk
 ghost use Rattle.dsp_defs.specs.Block.{frames_in, channels_after};
 ghost use Rattle.dsp_defs.specs.Grammar.{Suits};
 ghost use Rattle.dsp_defs.specs.Unit.{IsSignal};
-ghost use Rattle.dsp_vector.specs.Memoryless.{Gives, price};
+ghost use Rattle.dsp_frames.specs.Memoryless.{Gives, price};
 
 use crate::VectorSample;
 use crate::changes::{Abs, Clip, Convert, Negate, Offset, Scale, Shift, change_each};
 use crate::joins::{Difference, Product, Sum, join_pairs};
 use crate::routes::route_frames;
 use dsp_defs::{Block, Fmt, List, Steps};
+use dsp_frames::FrameWork;
 use std::alloc::{AllocError, Global};
 use std::sync::ledger::Ledger;
 
 /// What a block of this crate does with frames, with its parameters.
 #[derive(Drop)]
-pub(crate) enum Operation {
+pub enum Operation {
     Offset { value: i32 },
     Negate,
     Abs,
@@ -40,50 +41,10 @@ pub(crate) fn list_of(alloc: Global, numbers: &[i32]) -> Result<List, AllocError
 }
 
 impl Operation {
-    ghost use Rattle.dsp_vector.specs.Vector.{block_of, IsVectorBlock};
-
-    /// The operation of a block. A list is copied.
-    pub fn new(alloc: Global, block: &Block) -> Result<Operation, AllocError>
-        requires { IsVectorBlock block.now }
-        ensures { IfOk result (λ o. block_of o ≡ block.now) }
-    {
-        match block {
-            Block::Offset { value } => Ok(Operation::Offset { value: *value }),
-            Block::Negate => Ok(Operation::Negate),
-            Block::Abs => Ok(Operation::Abs),
-            Block::Scale { fract, shift } => Ok(Operation::Scale {
-                fract: *fract,
-                shift: *shift,
-            }),
-            Block::Shift { shift } => Ok(Operation::Shift { shift: *shift }),
-            Block::Clip { low, high } => Ok(Operation::Clip {
-                low: *low,
-                high: *high,
-            }),
-            Block::To { format } => Ok(Operation::To { format: *format }),
-            Block::Add => Ok(Operation::Add),
-            Block::Sub => Ok(Operation::Sub),
-            Block::Mult => Ok(Operation::Mult),
-            Block::Route { channels } => Ok(Operation::Route {
-                channels: list_of(alloc, channels.as_slice())?,
-            }),
-            _ => Err(AllocError),
-        }
-    }
-
-    /// The channels of a frame that it gives of a frame of so many.
-    pub fn channels_given(&self, channels: usize) -> usize
-        ensures { result ≡ channels_after channels (block_of self.now) }
-    {
-        match self {
-            Operation::Add | Operation::Sub | Operation::Mult => 1,
-            Operation::Route { channels } => channels.as_slice().len(),
-            _ => channels,
-        }
-    }
+    ghost use Rattle.dsp_vector.specs.Vector.{block_of};
 
     /// Writes what it gives of samples of the format of T, frame by frame, and answers their number.
-    pub fn feed<T: VectorSample, L: Ledger>(
+    fn feed_as<T: VectorSample, L: Ledger>(
         &self,
         channels: usize,
         frames: &[i32],
@@ -141,6 +102,66 @@ impl Operation {
                 route_frames(list, frames, count, channels, out);
                 count * list.len()
             }
+        }
+    }
+}
+
+impl FrameWork for Operation {
+    ghost use Rattle.dsp_vector.specs.Vector.{block_of, IsVectorBlock, gives-frames, gives-as-many};
+
+    ghost block = { block_of };
+
+    ghost IsOf = { IsVectorBlock };
+
+    ghost memoryless = { λ o format channels. gives-frames format channels o };
+
+    ghost as_many = { λ o n. gives-as-many n o };
+
+    fn of_block(alloc: Global, wanted: &Block) -> Result<Self, AllocError> {
+        match wanted {
+            Block::Offset { value } => Ok(Operation::Offset { value: *value }),
+            Block::Negate => Ok(Operation::Negate),
+            Block::Abs => Ok(Operation::Abs),
+            Block::Scale { fract, shift } => Ok(Operation::Scale {
+                fract: *fract,
+                shift: *shift,
+            }),
+            Block::Shift { shift } => Ok(Operation::Shift { shift: *shift }),
+            Block::Clip { low, high } => Ok(Operation::Clip {
+                low: *low,
+                high: *high,
+            }),
+            Block::To { format } => Ok(Operation::To { format: *format }),
+            Block::Add => Ok(Operation::Add),
+            Block::Sub => Ok(Operation::Sub),
+            Block::Mult => Ok(Operation::Mult),
+            Block::Route { channels } => Ok(Operation::Route {
+                channels: list_of(alloc, channels.as_slice())?,
+            }),
+            _ => Err(AllocError),
+        }
+    }
+
+    fn channels_given(&self, channels: usize) -> usize {
+        match self {
+            Operation::Add | Operation::Sub | Operation::Mult => 1,
+            Operation::Route { channels } => channels.as_slice().len(),
+            _ => channels,
+        }
+    }
+
+    fn feed<L: Ledger>(
+        &self,
+        format: Fmt,
+        channels: usize,
+        frames: &[i32],
+        out: &mut [i32],
+        steps: &mut Steps<L>,
+    ) -> usize {
+        match format {
+            Fmt::Q7 => self.feed_as::<i8, L>(channels, frames, out, steps),
+            Fmt::Q15 => self.feed_as::<i16, L>(channels, frames, out, steps),
+            Fmt::Q31 => self.feed_as::<i32, L>(channels, frames, out, steps),
         }
     }
 }

@@ -54,7 +54,7 @@ fn gives_in_blocks<M: Ledger>(
     requires frames { 1 ≤ frames }
     requires samples { frames * channels ≤ 1048576 }
 {
-    let mut unit = Unit::new(alloc, block, format, channels, frames).expect(rt, "memory");
+    let mut unit = VectorUnit::new(alloc, block, format, channels, frames).expect(rt, "memory");
     let mut out = vec![in alloc; 0i32; unit.room()].expect(rt, "memory");
     let mut given = Vec::new(alloc);
     let size = frames * usize::from(channels);

@@ -4,7 +4,7 @@ use Rattle.dsp_defs.proofs.SumLemmas.{sample-map}
 use Rattle.dsp_defs.specs.Signal.{values}
 use Rattle.dsp_defs.specs.Complex.{cmplx_mag_squared}
 use Rattle.dsp_complex.specs.Pairs.{re, im}
-use Rattle.dsp_vector.proofs.Samples.{values-more}
+use Rattle.dsp_frames.proofs.Samples.{values-more}
 use Rattle.dsp_complex.proofs.calls.mag_squared.Goals as goal
 
 pub loop-n-preserved : goal.loop-n-preserved

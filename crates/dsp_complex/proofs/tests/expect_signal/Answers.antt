@@ -1,7 +1,7 @@
 use Rattle.std.proofs.Common.{◌≡◌, ◌%◌, length, below_more, subst, arith, rules}
 use Rattle.dsp_defs.specs.Parameters.{IsBetween}
 use Rattle.dsp_defs.specs.Signal.{sample}
-use Rattle.dsp_vector.proofs.TestSignals.{signal-of}
+use Rattle.dsp_frames.proofs.TestSignals.{signal-of}
 use Rattle.dsp_complex.proofs.tests.expect_signal.Goals as goal
 
 pub loop-sample-preserved : goal.loop-sample-preserved

@@ -3,7 +3,7 @@ use Rattle.std.specs.Prelude.{FitsSigned}
 use mir.Syntax.{w32}
 use Rattle.dsp_defs.specs.Formats.{word}
 use Rattle.dsp_defs.specs.Signal.{sample}
-use Rattle.dsp_vector.proofs.Samples.{map-more, fits-more}
+use Rattle.dsp_frames.proofs.Samples.{map-more, fits-more}
 use Rattle.dsp_vector.proofs.changes.change_each.Goals as goal
 
 pub loop-i-preserved : goal.loop-i-preserved

@@ -2,7 +2,7 @@ use Rattle.std.proofs.Common.{◌∙◌, ap, sym, arith, map, take}
 use Rattle.std.proofs.lemmas.List.{length-map, map-set, take_all}
 use Rattle.dsp_defs.proofs.SumLemmas.{sample-map}
 use Rattle.dsp_defs.specs.Elementwise.{convert}
-use Rattle.dsp_vector.proofs.Samples.{map-more}
+use Rattle.dsp_frames.proofs.Samples.{map-more}
 use Rattle.dsp_vector.proofs.conversions.convert_each.Goals as goal
 
 pub loop-i-preserved : goal.loop-i-preserved

@@ -3,7 +3,7 @@ use Rattle.std.specs.Prelude.{FitsSigned}
 use mir.Syntax.{w32}
 use Rattle.dsp_defs.specs.Formats.{word}
 use Rattle.dsp_defs.specs.Signal.{sample}
-use Rattle.dsp_vector.proofs.Samples.{values-more, fits-more}
+use Rattle.dsp_frames.proofs.Samples.{values-more, fits-more}
 use Rattle.dsp_vector.proofs.joins.join_pairs.Goals as goal
 
 pub loop-n-preserved : goal.loop-n-preserved

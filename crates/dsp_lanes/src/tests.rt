@@ -93,6 +93,27 @@ fn q15_factors<M: Ledger>(rt: &impl Abort, steps: &mut Steps<M>) {
     assert_eq!(rt; sums, [-1073872894, 32767]);
 }
 
+/// Worked outputs by a form of each format: whole groups, two at a time, and one output more.
+fn halves_of_sums<M: Ledger>(rt: &impl Abort, steps: &mut Steps<M>) {
+    let mut seventh = [0i8; 33];
+    Lanes::<i8, 16>::rows(&[64, 64], &[2i8; 34], &mut seventh, steps);
+    assert_eq!(rt; seventh, [2i8; 33]);
+    let mut last = [0i32; 9];
+    let window = [2, 4, 6, 8, 10, 12, 14, 16, 18, 20];
+    Lanes::<i32, 4>::rows(&[1 << 30, 1 << 30], &window, &mut last, steps);
+    assert_eq!(rt; last, [3, 5, 7, 9, 11, 13, 15, 17, 19]);
+}
+
+/// Two products of the least number come to 2^31, which 32 bits do not hold.
+fn q15_least<M: Ledger>(rt: &impl Abort, steps: &mut Steps<M>) {
+    let least = [i16::MIN; 18];
+    let mut out = [0i16; 17];
+    Lanes::<i16, 8>::rows(&[i16::MIN, i16::MIN], &least, &mut out, steps);
+    assert_eq!(rt; out, [i16::MAX; 17]);
+    let sum = Lanes::<i16, 8>::dot(&[i16::MIN; 9], &[i16::MIN; 9], steps);
+    assert_eq!(rt; sum, 9663676416);
+}
+
 /// Nothing is counted for no samples.
 fn no_samples<M: Ledger>(steps: &mut Steps<M>)
     ensures { RisesWithin steps.old steps.new 0 0 }
@@ -115,6 +136,8 @@ fn counted<M: Ledger>(rt: &impl Abort, blank: Blank)
     q15_rows(rt, &mut steps);
     q15_group(rt, &mut steps);
     q15_factors(rt, &mut steps);
+    halves_of_sums(rt, &mut steps);
+    q15_least(rt, &mut steps);
     no_samples(&mut steps);
 }
 

@@ -59,6 +59,25 @@ def shown(numbers):
     return "{" + " ".join(str(number) for number in numbers) + "}"
 
 
+def cascaded(sections, shift, samples):
+    """Biquads in Q15, one behind another: the sum of b0*x(n) to b2*x(n-2), a1*y(n-1) and a2*y(n-2), floored to
+    16 bits. A section is b0, b1, b2, a1, a2."""
+    for b0, b1, b2, a1, a2 in sections:
+        given, x1, x2, y1, y2 = [], 0, 0, 0, 0
+        for x in samples:
+            y = saturate((b0 * x + b1 * x1 + b2 * x2 + a1 * y1 + a2 * y2) >> (15 - shift))
+            x1, x2, y1, y2 = x, x1, y, y1
+            given.append(y)
+        samples = given
+    return samples
+
+
+def read_rows(use, name):
+    """The numbers of a design in the gallery, a list for each line."""
+    with open(os.path.join(HERE, use, name)) as file:
+        return [[float(word) for word in line.split()] for line in file]
+
+
 def pack(samples):
     return struct.pack(f"<{len(samples)}h", *samples)
 
@@ -133,6 +152,26 @@ class Gallery:
         self.raw("designed", "in.raw", samples)
         self.raw("designed", "expected.raw", filtered(taps, samples))
 
+    def equiripple(self):
+        """Taps designed by scipy, b[0] first."""
+        taps = q15(row[0] for row in read_rows("equiripple", "taps.txt"))
+        samples = rounded(a + b for a, b in zip(tone(500, 12000, 600), tone(1800, 12000, 600)))
+        self.text("equiripple", "script.txt", f"dspfx 1\ninput wave q15 1\nfir {shown(reversed(taps))}\noutput wave\n")
+        self.wave("equiripple", "in.wav", 2, 1, RATE, pack(samples))
+        self.wave("equiripple", "expected.wav", 2, 1, RATE, pack(filtered(taps, samples)))
+
+    def elliptic(self):
+        """Second-order sections designed by scipy: b0, b1, b2, 1, a1, a2. A script wants a1 and a2 with turned
+        signs, a zero behind b0, and halves, since coefficients here are beyond one."""
+        sections = []
+        for b0, b1, b2, _, a1, a2 in read_rows("elliptic", "sos.txt"):
+            sections.append(q15(number / 2 for number in (b0, b1, b2, -a1, -a2)))
+        numbers = [number for b0, *others in sections for number in (b0, 0, *others)]
+        samples = rounded(a + b for a, b in zip(tone(500, 9000, 600), tone(2000, 9000, 600)))
+        self.text("elliptic", "script.txt", f"dspfx 1\ninput wave q15 1\nbiquad 1 {shown(numbers)}\noutput wave\n")
+        self.wave("elliptic", "in.wav", 2, 1, RATE, pack(samples))
+        self.wave("elliptic", "expected.wav", 2, 1, RATE, pack(cascaded(sections, 1, samples)))
+
 
 gallery = Gallery(sys.argv[1] if len(sys.argv) > 1 else HERE)
 gallery.lowpass()
@@ -140,3 +179,5 @@ gallery.convert()
 gallery.magnitude()
 gallery.mono()
 gallery.designed()
+gallery.equiripple()
+gallery.elliptic()

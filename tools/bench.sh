@@ -17,7 +17,7 @@ folder=$(mktemp -d) || exit 70
 trap 'rm -rf "$folder"' EXIT
 
 [ -n "${DSPFX:-}" ] || "$top/dspfx" print "$top/examples/first/s.txt" >/dev/null || exit 70
-export PROGRAM=${DSPFX:-$top/crates/dspfx/out/dspfx}
+export PROGRAM=${DSPFX:-$top/build/dspfx}
 
 # launch FILE PROGRAM WORD..: writes microseconds of the processor, microseconds that passed, KiB at the
 # most and the status to the open file of that number.

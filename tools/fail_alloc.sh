@@ -9,7 +9,7 @@ folder=$(mktemp -d) || exit 70
 trap 'rm -rf "$folder"' EXIT
 
 [ -n "${DSPFX:-}" ] || "$top/dspfx" print "$top/examples/first/s.txt" >/dev/null || exit 70
-program=${DSPFX:-$top/crates/dspfx/out/dspfx}
+program=${DSPFX:-$top/build/dspfx}
 
 cat >"$folder/refuse.c" <<'C'
 #define _GNU_SOURCE

@@ -1,8 +1,8 @@
 #!/usr/bin/env bash
-# Runs the five uses of examples/ and compares what they write with what is expected there, byte by byte;
+# Runs the uses of examples/ and compares what they write with what is expected there, byte by byte;
 # and makes the gallery anew by examples/make.py, where python is installed, and compares that with what
 # stands in the repository. It is no part of the gate. DSPFX names another program.
-. "$(dirname "$(readlink -f "${BASH_SOURCE[0]}")")/checks.sh"
+. "$(dirname "$(readlink -f "${BASH_SOURCE[0]}")")/checking.sh"
 
 # use NAME INPUT ENDING
 use() {
@@ -17,6 +17,8 @@ use convert in.wav wav
 use magnitude in.raw raw
 use mono in.wav wav
 use designed in.raw raw
+use equiripple in.wav wav
+use elliptic in.wav wav
 
 if command -v python3 >/dev/null; then
     check "the gallery is made" python3 "$top/examples/make.py" "$folder/made"

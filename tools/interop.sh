@@ -2,7 +2,7 @@
 # WAVE files of other programs through `dspfx run`, and what it writes read by them: python's `wave`
 # module, and sox and libsndfile's tools where they are installed. It is no part of the gate.
 # DSPFX names another program to be tried, which takes `run SCRIPT IN OUT`.
-. "$(dirname "$(readlink -f "${BASH_SOURCE[0]}")")/checks.sh"
+. "$(dirname "$(readlink -f "${BASH_SOURCE[0]}")")/checking.sh"
 
 # Copies a WAVE file by a script of no blocks: copy FORMAT CHANNELS IN OUT.
 copy() {
@@ -86,13 +86,6 @@ with_sndfile() {
         check "sndfile $format: read" sndfile-convert "-$kind" "$folder/out.wav" "$folder/again.wav"
         check "sndfile $format: same" cmp "$folder/in.wav" "$folder/again.wav"
     done
-}
-
-has() {
-    command -v "$1" >/dev/null || {
-        echo "skipped: no $1"
-        return 1
-    }
 }
 
 if has python3; then

@@ -3,3 +3,6 @@ pub mod Tails
 pub mod ChainCalls
 pub mod Making
 pub mod Measured
+pub mod FrameRules
+pub mod NewChain
+pub mod Restored

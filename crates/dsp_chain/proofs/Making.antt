@@ -1,12 +1,11 @@
 -- A chain in the making: the units of the blocks so far.
-use Rattle.std.proofs.Common.{◌≡◌, ◌∙◌, ap, refl, sym, subst, ℕ, ◌+◌, ◌*◌, ◌<◌, ◌≤◌, Bool, ◌&&◌, List, [], ◌∷◌, ◌++◌, length, take, drop, get_or, None, IsTrue, arith}
+use Rattle.std.proofs.Common.{◌≡◌, ◌∙◌, ap, refl, sym, subst, ℕ, ◌+◌, ◌*◌, ◌<◌, ◌≤◌, Bool, ◌&&◌, List, [], ◌∷◌, ◌++◌, length, take, drop, get_or, IsTrue, arith}
 use Rattle.std.specs.List.{list_all}
 use Rattle.std.proofs.lemmas.Bool.Decides.{nat_tests}
-use Rattle.dsp_defs.specs.Shape.{whole_frames, gathered, window_at}
-use Rattle.dsp_defs.specs.Unit.{UnitState, IsNew, most_frames}
-use Rattle.dsp_defs.specs.Row.{Place, place_after, place_behind, blocks_of, InRow, AllNew, AllTaken}
-use Rattle.dsp_defs.proofs.NewRow.{place-more, blocks-more, row-more, new-more}
-use Rattle.dsp_defs.proofs.ChainPlaces.{IsOpen, AllOpen, flow_at, few_channels_after}
+use Rattle.dsp_stage.specs.Unit.{UnitState, IsNew, most_frames}
+use Rattle.dsp_stage.specs.Row.{Place, place_after, place_behind, blocks_of, InRow, AllNew}
+use Rattle.dsp_stage.proofs.NewRow.{place-more, blocks-more, row-more, new-more}
+use Rattle.dsp_stage.proofs.ChainPlaces.{IsOpen, AllOpen, flow_at, few_channels_after}
 use Rattle.dsp_defs.specs.Grammar.{Suits}
 use Rattle.dsp_defs.specs.Block.{channels_after}
 use Rattle.std.proofs.lemmas.List.{drop_more}
@@ -15,7 +14,6 @@ use Rattle.dsp_defs.specs.declared.limits.TheConstants.{MAX_CHANNELS}
 use Rattle.dsp_defs.specs.Table.{flow_after}
 use Rattle.dsp_chain.specs.Built.{is_built_block}
 use Rattle.dsp_defs.specs.declared.script.Block.{Block}
-use Rattle.dsp_defs.specs.declared.script.Block.TheVariants.{ConvPartial, Correlate, Max, Min}
 
 and_left : (a b : Bool) → IsTrue (a && b) → IsTrue a
 and_left a b h = grind (arith, nat_tests)
@@ -44,7 +42,7 @@ pub making-more :
 making-more p here next blocks i j us u b first more step is m = record {
   blocks_so_far = blocks-more us u ∙ (λ k. m.blocks_so_far k ++ is.block k ∷ []) ∙ sym more;
   row = row-more p us u m.row (rw behind (record { format = is.format; channels = is.channels; capacity = is.capacity }));
-  fresh = new-more us u m.fresh ((is.stands, is.counts), tt);
+  fresh = new-more us u m.fresh ((is.stands, is.counts, is.plain), tt);
   reached = ap (place_behind p) more ∙ place-more p (take i blocks) b ∙ ap (λ q. place_after q b) m.reached ∙ sym step;
   few_channels = subst (λ (q : Place). q.channels ≤ MAX_CHANNELS) (sym step) (few_channels_after (flow_at here) b places.1 m.few_channels);
   places = subst (λ (q : Place). AllOpen q (drop j blocks)) (sym step) places.2;
@@ -98,27 +96,6 @@ making-next p here blocks i j us b first m = record {
     places : AllOpen here (b ∷ drop j blocks)
     places = subst (AllOpen here) first m.places
 
--- ---- built blocks
-
 -- the place behind it is what flows there
 pub next-place : (here next : Place) (block : Block) → flow_at next ≡ flow_after block (flow_at here) → next.capacity ≡ most_frames block here.capacity → next ≡ place_after here block
 next-place here next block flow frames = λ i. record { format = (flow i).format; channels = (flow i).channels; capacity = frames i }
-
--- none has a limit of what it takes
-pub all-taken : (blocks : List Block) (n : ℕ) → IsTrue (list_all is_built_block blocks) → AllTaken blocks n
-all-taken [] n built = tt
-all-taken (Correlate taps ∷ blocks) n built = absurd (cc)
-all-taken (Max ∷ blocks) n built = absurd (cc)
-all-taken (Min ∷ blocks) n built = absurd (cc)
-all-taken (block ∷ blocks) n built = (tt, all-taken blocks (whole_frames block n) (and_right (is_built_block block) (list_all is_built_block blocks) built))
-
--- none of them has a window or gathers
-pub no-window : (blocks : List Block) (n : ℕ) → IsTrue (list_all is_built_block blocks) → window_at blocks n ≡ None
-no-window [] n built = refl
-no-window (ConvPartial first count taps ∷ blocks) n built = absurd (cc)
-no-window (block ∷ blocks) n built = no-window blocks (whole_frames block n) (and_right (is_built_block block) (list_all is_built_block blocks) built)
-
-pub no-gather : (blocks : List Block) (n : ℕ) → IsTrue (list_all is_built_block blocks) → gathered blocks n ≡ 0
-no-gather [] n built = refl
-no-gather (Correlate taps ∷ blocks) n built = absurd (cc)
-no-gather (block ∷ blocks) n built = no-gather blocks (whole_frames block n) (and_right (is_built_block block) (list_all is_built_block blocks) built)

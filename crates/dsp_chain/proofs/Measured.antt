@@ -2,10 +2,10 @@
 use Rattle.std.proofs.Common.{◌≡◌, ◌∙◌, ap, ap₂, refl, sym, subst, ℕ, zero, suc, ◌+◌, ◌*◌, ◌<◌, ◌≤◌, ℤ, List, [], ◌∷◌, length, get_or, arith, length-append}
 use Rattle.std.specs.Prelude.{All}
 use Rattle.std.proofs.lemmas.List.FromFn.{length-map-range_with_len}
-use Rattle.dsp_defs.specs.Measure.{kept_measures}
+use Rattle.dsp_stage.specs.Kept.{kept_measures}
 use Rattle.dsp_defs.specs.Signal.{values}
-use Rattle.dsp_defs.specs.Unit.{UnitState, measures_of}
-use Rattle.dsp_defs.specs.Row.{Place, place_after, blocks_of, InRow, measured_by}
+use Rattle.dsp_stage.specs.Unit.{UnitState, measures_of}
+use Rattle.dsp_stage.specs.Row.{Place, place_after, blocks_of, InRow, measured_by}
 use Rattle.dsp_defs.specs.Grammar.{IsChain}
 use Rattle.dsp_defs.specs.Table.{flow_after}
 use Rattle.dsp_defs.specs.declared.flow.Flow.{Flow}
@@ -14,8 +14,8 @@ use Rattle.dsp_defs.specs.declared.limits.TheConstants.{MAX_CHANNELS}
 use Rattle.dsp_defs.specs.declared.measure.Measure.{Measure}
 use Rattle.dsp_defs.specs.declared.script.Block.{Block}
 use Rattle.dsp_defs.specs.declared.script.Block.TheVariants.{Power, Dot, CmplxDot, Max, Min}
-use Rattle.dsp_defs.proofs.ChainPlaces.{few_channels_after}
-use Rattle.dsp_defs.proofs.MeasureLaws.{length-measures_of}
+use Rattle.dsp_stage.proofs.ChainPlaces.{few_channels_after}
+use Rattle.dsp_stage.proofs.MeasureLaws.{length-measures_of}
 use Rattle.dsp_chain.specs.Row.{FewChannels, measure_count, measure_counts}
 
 -- the places of a chain have few channels

@@ -1,11 +1,11 @@
 -- The room that a row of units needs.
 use Rattle.std.proofs.Common.{◌≡◌, ◌∙◌, ap, refl, sym, subst, false, ℕ, ◌*◌, ◌≤◌, ℤ, List, [], ◌∷◌, ◌++◌, length, take, drop, arith}
 use Rattle.std.proofs.lemmas.List.{take-append-le, take_all}
-use Rattle.dsp_defs.specs.Unit.{UnitState, frames_in, most_frames, Accepts, IsOutput, Feeds}
+use Rattle.dsp_stage.specs.Unit.{UnitState, frames_in, most_frames, Accepts, IsOutput, Feeds}
 use Rattle.dsp_defs.specs.Block.{channels_after}
-use Rattle.dsp_defs.specs.Row.{Place, place_after, place_behind, place_room, Passes, blocks_of, InRow, AllRun, AllAccept, IsFed}
+use Rattle.dsp_stage.specs.Row.{Place, place_after, place_behind, place_room, Passes, blocks_of, InRow, AllRun, AllAccept, IsFed}
 use Rattle.dsp_defs.specs.Counts.{Counts}
-use Rattle.dsp_defs.proofs.RowLaws.{fed-none, fed-then, output-passes, accepts-first, accepts-behind}
+use Rattle.dsp_stage.proofs.RowLaws.{fed-none, fed-then, output-passes, accepts-first, accepts-behind}
 use Rattle.dsp_chain.specs.Row.{MayTake}
 
 -- the samples that pass a place have room there

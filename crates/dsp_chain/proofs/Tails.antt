@@ -1,14 +1,14 @@
 -- The steps of a row's tail, over samples.
-use Rattle.std.proofs.Common.{◌≡◌, ◌∙◌, ap, ap₂, refl, sym, subst, ℕ, ◌+◌, ◌*◌, ◌≤◌, ◌<◌, ℤ, List, [], ◌∷◌, length, take, arith, length-append}
-use Rattle.dsp_defs.specs.Unit.{UnitState, frames_in, most_frames, IsSignal, IsOutput, Finishes}
+use Rattle.std.proofs.Common.{◌≡◌, ◌∙◌, ap, refl, sym, subst, ℕ, ◌+◌, ◌*◌, ◌≤◌, ◌<◌, ℤ, List, [], ◌∷◌, ◌++◌, length, take, arith, length-append}
+use Rattle.dsp_stage.specs.Unit.{UnitState, frames_in, given_so_far, most_frames, IsSignal, IsOutput, Finishes}
 use Rattle.dsp_defs.specs.Block.{Frame, channels_after}
-use Rattle.dsp_defs.specs.Row.{Place, place_after, place_behind, place_room, Passes, blocks_of, InRow, IsFed, EndsInOrder, AllRun, AllAccept, IsFinishedFirst, IsFinished, FinishesFirst, FinishesRow, first_tail}
+use Rattle.dsp_stage.specs.Row.{Place, place_after, place_behind, place_room, Passes, blocks_of, InRow, AllRun, AllTaken, AllSpent, FirstSpent, IsFed, IsFinished, FinishesRow, first_tail}
 use Rattle.dsp_defs.specs.Counts.{Counts}
-use Rattle.dsp_defs.proofs.RowLaws.{output-passes, accepts-fewer}
-use Rattle.dsp_chain.specs.Row.{MayTake}
-use Rattle.dsp_defs.proofs.MemorylessLaws.{no-frames}
-use Rattle.dsp_defs.proofs.TailLaws.{nothing-passes, finishes-none, finishes-spent, finishes-given, finishes-more, row-same, order-same, row-given, row-behind}
 use Rattle.dsp_defs.specs.declared.format.Fmt.{Fmt}
+use Rattle.dsp_stage.proofs.RowLaws.{output-passes}
+use Rattle.dsp_stage.proofs.MemorylessLaws.{no-frames}
+use Rattle.dsp_stage.proofs.TailLaws.{nothing-passes, finishes-none, finishes-idle, finishes-piece, finishes-then, finishes-behind, tail-accepts, spent-took, given-whole}
+use Rattle.dsp_chain.specs.Row.{MayTake, MayFinish}
 use Rattle.dsp_chain.proofs.Room.{no-units}
 
 -- samples that are some are frames that are some
@@ -21,154 +21,151 @@ some-frames format channels samples signal some none =
 pub nil-take : {A : Type 0} (n : ℕ) (xs : List A) → n ≡ 0 → take n xs ≡ []
 nil-take n xs e = rw e refl
 
-pub none-finished : (p : Place) (links : List UnitState) (counts : Counts) → length links ≡ 0 → IsFinishedFirst p links links [] counts counts
+pub none-finished : (p : Place) (links : List UnitState) (counts : Counts) → length links ≡ 0 → IsFinished p links links [] counts counts
 none-finished p links counts none =
     rw (no-units links none) (record { passes = nothing-passes p; finishes = rw (no-frames p.channels) (finishes-none p counts) })
 
-module _ (p : Place) (links : List UnitState) (link u v : UnitState) (behind : List UnitState) (is_first : links ≡ link ∷ behind) (same : u ≡ link) where
+pub none-spent : (links : List UnitState) → length links ≡ 0 → AllSpent links × FirstSpent links
+none-spent links none = rw (no-units links none) (tt, tt)
+
+no-length : (x : List Frame) → length x ≡ 0 → x ≡ []
+no-length [] e = refl
+no-length (f ∷ x) e = absurd (omega (arith, e))
+
+module _ (p : Place) (links : List UnitState) (link u v : UnitState) (behind : List UnitState) (is_first : links ≡ link ∷ behind) (same : u ≡ link)
+    (piece : List ℤ) (before between : Counts) (one : Finishes u v (frames_in (channels_after u.channels u.block) piece) before between) where
   pub links-is : links ≡ u ∷ behind
   links-is = is_first ∙ ap (λ f. f ∷ behind) (sym same)
 
-  pub spent-finished :
-      (piece : List ℤ) (before after : Counts) → piece ≡ [] → InRow p links → EndsInOrder links →
-      Finishes u v (frames_in (channels_after u.channels u.block) piece) before after →
-      IsFinishedFirst p links (v ∷ behind) [] before after
-  spent-finished piece before after none row order one =
-      let nothing : frames_in (channels_after u.channels u.block) piece ≡ [] = ap (frames_in (channels_after u.channels u.block)) none ∙ no-frames (channels_after u.channels u.block) in
-      let one' : Finishes u v [] before after = subst (λ f. Finishes u v f before after) nothing one in
-      subst (λ us. IsFinishedFirst p us (v ∷ behind) [] before after) (sym links-is)
+  -- the unit gave nothing
+  nothing : piece ≡ [] → frames_in (channels_after u.channels u.block) piece ≡ []
+  nothing none = ap (frames_in (channels_after u.channels u.block)) none ∙ no-frames (channels_after u.channels u.block)
+
+  pub spent-finished : piece ≡ [] → InRow p links → IsFinished p links (v ∷ behind) [] before between
+  spent-finished none row =
+      subst (λ us. IsFinished p us (v ∷ behind) [] before between) (sym links-is)
       (record {
         passes = nothing-passes (place_behind p (blocks_of (u ∷ behind)));
-        finishes = rw (no-frames (place_behind p (blocks_of (u ∷ behind))).channels) (finishes-spent p u v behind before after (subst (InRow p) links-is row) (subst EndsInOrder links-is order) one');
+        finishes = rw (no-frames (place_behind p (blocks_of (u ∷ behind))).channels) (finishes-idle p u v behind (subst (InRow p) links-is row) _ before between one (nothing none));
       })
 
-  -- the row behind may be fed with a piece of the tail
-  pub tail-takes :
-      (piece : List ℤ) (before between : Counts) (size : ℕ) → IsOutput u (most_frames u.block u.capacity) piece → 0 < length piece →
-      Finishes u v (frames_in (channels_after u.channels u.block) piece) before between → InRow p links → EndsInOrder links → place_room (place_behind p (blocks_of links)) ≤ size → MayTake behind piece size
-  tail-takes piece before between size output some one row order room =
-      let here : InRow p (u ∷ behind) = subst (InRow p) links-is row in
-      let order' : EndsInOrder (u ∷ behind) = subst EndsInOrder links-is order in
-      let frames = frames_in (channels_after u.channels u.block) piece in
-      let longer : length u.tail ≡ length frames + length v.tail = ap length one.tail ∙ length-append frames v.tail in
-      let full : u.tail ≡ [] → ⊥ = λ none. some-frames _ (channels_after u.channels u.block) piece output.signal some (no-length frames (omega (arith, longer, ap length none))) in
-      let accepts : AllAccept behind (length frames) = accepts-fewer behind (length u.tail) (length frames) (omega (arith, longer)) (order'.0 full).1 in
-      record {
-        place = place_after p u.block;
-        row = here.1;
-        passes = output-passes p u piece here.0 output;
-        accepts = subst (λ c. AllAccept behind (length (frames_in (channels_after c u.block) piece))) here.0.channels accepts;
-        room = subst (λ us. place_room (place_behind p (blocks_of us)) ≤ size) links-is room;
-      }
-    where
-      no-length : (x : List Frame) → length x ≡ 0 → x ≡ []
-      no-length [] e = refl
-      no-length (f ∷ x) e = absurd (omega (arith, e))
+  pub spent-now : piece ≡ [] → FirstSpent (v ∷ behind)
+  spent-now none = sym (one.tail ∙ ap (λ g. g ++ v.tail) (nothing none)) ∙ one.spent (nothing none)
 
-  -- and it runs
-  pub tail-runs :
-      (piece : List ℤ) (before between : Counts) → IsOutput u (most_frames u.block u.capacity) piece → 0 < length piece →
-      Finishes u v (frames_in (channels_after u.channels u.block) piece) before between → EndsInOrder links → AllRun behind
-  tail-runs piece before between output some one order =
-      let order' : EndsInOrder (u ∷ behind) = subst EndsInOrder links-is order in
-      let frames = frames_in (channels_after u.channels u.block) piece in
-      let longer : length u.tail ≡ length frames + length v.tail = ap length one.tail ∙ length-append frames v.tail in
-      (order'.0 (λ none. some-frames _ (channels_after u.channels u.block) piece output.signal some (no-length frames (omega (arith, longer, ap length none))))).0
-    where
-      no-length : (x : List Frame) → length x ≡ 0 → x ≡ []
-      no-length [] e = refl
-      no-length (f ∷ x) e = absurd (omega (arith, e))
-
-  module _ (after : List UnitState) (piece given : List ℤ) (before between later : Counts) (output : IsOutput u (most_frames u.block u.capacity) piece) (some : 0 < length piece)
-      (one : Finishes u v (frames_in (channels_after u.channels u.block) piece) before between)
-      (rest : (q : Place) → InRow q behind → Passes q piece → IsFed q behind after piece given between later) (row : InRow p links) (order : EndsInOrder links) where
-    here : InRow p (u ∷ behind)
-    here = subst (InRow p) links-is row
-
-    here-order : EndsInOrder (u ∷ behind)
-    here-order = subst EndsInOrder links-is order
-
-    fed : IsFed (place_after p u.block) behind after piece given between later
-    fed = rest (place_after p u.block) here.1 (output-passes p u piece here.0 output)
+  -- it gave something
+  module _ (output : IsOutput u (most_frames u.block u.capacity) piece) (some : 0 < length piece) where
+    longer : length u.tail ≡ length (frames_in (channels_after u.channels u.block) piece) + length v.tail
+    longer = ap length one.tail ∙ length-append (frames_in (channels_after u.channels u.block) piece) v.tail
 
     filled : frames_in (channels_after u.channels u.block) piece ≡ [] → ⊥
     filled = some-frames _ (channels_after u.channels u.block) piece output.signal some
 
-    one' : Finishes u v (frames_in (channels_after p.channels u.block) piece) before between
-    one' = subst (λ c. Finishes u v (frames_in (channels_after c u.block) piece) before between) here.0.channels one
+    full : u.tail ≡ [] → ⊥
+    full none = filled (no-length (frames_in (channels_after u.channels u.block) piece) (omega (arith, longer, ap length none)))
 
-    filled' : frames_in (channels_after p.channels u.block) piece ≡ [] → ⊥
-    filled' = subst (λ c. frames_in (channels_after c u.block) piece ≡ [] → ⊥) here.0.channels filled
+    -- and the row behind it may be fed with that
+    pub tail-takes : (size : ℕ) → MayFinish links size → MayTake behind piece size
+    tail-takes size may =
+        let q = may.place in
+        let here : InRow q (u ∷ behind) = subst (InRow q) links-is may.row in
+        let accepts = tail-accepts u behind may.frames (length (frames_in (channels_after u.channels u.block) piece)) (rw links-is at may.took) (rw links-is at may.taken) full (omega (arith, longer)) in
+        record {
+          place = place_after q u.block;
+          row = here.1;
+          passes = output-passes q u piece here.0 output;
+          accepts = rw here.0.channels at accepts.0;
+          room = subst (λ us. place_room (place_behind q (blocks_of us)) ≤ size) links-is may.room;
+        }
 
-    pub row-after : InRow p (v ∷ after)
-    row-after = row-same p u v behind after _ _ before between later here here-order one' fed.feeds filled'
+    pub tail-runs : (size : ℕ) → MayFinish links size → AllRun behind
+    tail-runs size may = (tail-accepts u behind may.frames 0 (rw links-is at may.took) (rw links-is at may.taken) full (omega arith)).1
 
-    pub order-after : EndsInOrder (v ∷ after)
-    order-after = order-same p u v behind after _ _ before between later here here-order one' fed.feeds filled'
+    module _ (after : List UnitState) (given : List ℤ) (later : Counts)
+        (rest : (q : Place) → InRow q behind → Passes q piece → IsFed q behind after piece given between later) (row : InRow p links) where
+      here : InRow p (u ∷ behind)
+      here = subst (InRow p) links-is row
 
-    pub room-after : (size : ℕ) → place_room (place_behind p (blocks_of links)) ≤ size → place_room (place_behind p (blocks_of (v ∷ after))) ≤ size
-    room-after size room =
-        let same_blocks : blocks_of (v ∷ after) ≡ blocks_of links = ap₂ (λ b bs. b ∷ bs) one.made.block fed.feeds.blocks ∙ ap blocks_of (sym links-is) in
-        rw same_blocks room
+      fed : IsFed (place_after p u.block) behind after piece given between later
+      fed = rest (place_after p u.block) here.1 (output-passes p u piece here.0 output)
 
-    pub shorter : length v.tail < first_tail links
-    shorter =
-        let longer : length u.tail ≡ length (frames_in (channels_after u.channels u.block) piece) + length v.tail = ap length one.tail ∙ length-append (frames_in (channels_after u.channels u.block) piece) v.tail in
-        let some_frames : 0 < length (frames_in (channels_after u.channels u.block) piece) = positive (frames_in (channels_after u.channels u.block) piece) filled in
-        rw links-is (omega (arith, longer, some_frames))
-      where
-        positive : (x : List Frame) → (x ≡ [] → ⊥) → 0 < length x
-        positive [] full = absurd (full refl)
-        positive (f ∷ x) full = omega arith
+      step : FinishesRow p (u ∷ behind) (v ∷ after) (frames_in (place_behind (place_after p u.block) (blocks_of behind)).channels given) before later
+      step =
+          let one' = subst (λ c. Finishes u v (frames_in (channels_after c u.block) piece) before between) here.0.channels one in
+          let filled' = subst (λ c. frames_in (channels_after c u.block) piece ≡ [] → ⊥) here.0.channels filled in
+          finishes-piece p u v behind here _ before between one' after _ later fed.feeds filled'
 
-    pub given-finished : 0 < length given → IsFinishedFirst p links (v ∷ after) given before later
-    given-finished full =
-        subst (λ us. IsFinishedFirst p us (v ∷ after) given before later) (sym links-is)
-        (record {
-          passes = fed.passes;
-          finishes = finishes-given p u v behind after _ _ before between later here here-order one' fed.feeds filled' (some-frames _ _ given fed.passes.signal full);
-        })
+      pub given-finished : IsFinished p links (v ∷ after) given before later
+      given-finished = subst (λ us. IsFinished p us (v ∷ after) given before later) (sym links-is) (record { passes = fed.passes; finishes = step })
 
-    pub more-finished :
-        (new : List UnitState) (last : List ℤ) (end : Counts) → given ≡ [] →
-        ((q : Place) → InRow q (v ∷ after) → IsFinishedFirst q (v ∷ after) new last later end) →
-        IsFinishedFirst p links new last before end
-    more-finished new last end none next =
-        let nothing : frames_in (place_behind (place_after p u.block) (blocks_of behind)).channels given ≡ [] = ap (frames_in (place_behind (place_after p u.block) (blocks_of behind)).channels) none ∙ no-frames (place_behind (place_after p u.block) (blocks_of behind)).channels in
-        let then = next p row-after in
-        let same_blocks : blocks_of (v ∷ after) ≡ blocks_of (u ∷ behind) = blocks-same one.made.block fed.feeds.blocks in
-        subst (λ us. IsFinishedFirst p us new last before end) (sym links-is)
-        (record {
-          passes = subst (λ bs. Passes (place_behind p bs) last) same_blocks then.passes;
-          finishes = finishes-more p u v behind after _ _ before between later here here-order one' fed.feeds filled' new _ end nothing
-              (subst (λ bs. FinishesFirst p (v ∷ after) new (frames_in (place_behind p bs).channels last) later end) same_blocks then.finishes);
-        })
-      where
-        blocks-same : v.block ≡ u.block → blocks_of after ≡ blocks_of behind → blocks_of (v ∷ after) ≡ blocks_of (u ∷ behind)
-        blocks-same e e' = cc
+      pub row-after : InRow p (v ∷ after)
+      row-after = step.in_row
+
+      pub shorter : length v.tail < first_tail links
+      shorter =
+          let some_frames : 0 < length (frames_in (channels_after u.channels u.block) piece) = positive (frames_in (channels_after u.channels u.block) piece) filled in
+          rw links-is (omega (arith, longer, some_frames))
+        where
+          positive : (x : List Frame) → (x ≡ [] → ⊥) → 0 < length x
+          positive [] full = absurd (full refl)
+          positive (f ∷ x) full = omega arith
+
+      -- the row behind it gave nothing, so that the call goes on
+      pub more-finished : (new : List UnitState) (last : List ℤ) (end : Counts) → given ≡ [] → ((q : Place) → InRow q (v ∷ after) → IsFinished q (v ∷ after) new last later end) → IsFinished p links new last before end
+      more-finished new last end none next =
+          let then = next p row-after in
+          let same_blocks : blocks_of (v ∷ after) ≡ blocks_of links = step.blocks ∙ ap blocks_of (sym links-is) in
+          let channels = (place_behind p (blocks_of links)).channels in
+          let no_frames : frames_in channels given ≡ [] = ap (frames_in channels) none ∙ no-frames channels in
+          record {
+            passes = subst (λ bs. Passes (place_behind p bs) last) same_blocks then.passes;
+            finishes =
+                finishes-then p links (v ∷ after) new [] (frames_in channels last) before later end
+                (subst (λ g. FinishesRow p links (v ∷ after) g before later) no_frames given-finished.finishes)
+                (subst (λ bs. FinishesRow p (v ∷ after) new (frames_in (place_behind p bs).channels last) later end) same_blocks then.finishes);
+          }
+
+-- the call went on with a row that may finish
+pub goes-on : (p : Place) (links news : List UnitState) (given : List ℤ) (before after : Counts) (size : ℕ) (may : MayFinish links size) → p ≡ may.place → IsFinished p links news given before after → MayFinish news size
+goes-on p links news given before after size may is finished =
+    let done = subst (λ q. IsFinished q links news given before after) is finished in
+    record {
+      place = may.place;
+      row = done.finishes.in_row;
+      room = rw done.finishes.blocks may.room;
+      frames = may.frames;
+      took = done.finishes.took may.frames may.took;
+      taken = rw done.finishes.blocks may.taken;
+    }
 
 -- ---- the whole row
 
-pub first-gave :
-    (p : Place) (old new : List UnitState) (given : List ℤ) (before after : Counts) → 0 < length given →
-    IsFinishedFirst p old new given before after → IsFinished p old new given before after
-first-gave p old new given before after some one = record {
-  passes = one.passes;
-  finishes = row-given p old new _ before after (some-frames _ _ given one.passes.signal some) one.finishes;
-}
+-- the first unit is spent, and the row behind it goes on
+module _ (p : Place) (old mid behind new : List UnitState) (v : UnitState) (none given : List ℤ) (before between after : Counts) (nothing : none ≡ []) (is_first : mid ≡ v ∷ behind) where
+  pub behind-gave : InRow p old → IsFinished p old mid none before between → FirstSpent mid → ((q : Place) → InRow q behind → IsFinished q behind new given between after) → IsFinished p old (v ∷ new) given before after
+  behind-gave row one spent next =
+      let last = (place_behind p (blocks_of old)).channels in
+      let no_frames : frames_in last none ≡ [] = ap (frames_in last) nothing ∙ no-frames last in
+      let one' : FinishesRow p old (v ∷ behind) [] before between = subst (λ us. FinishesRow p old us [] before between) is_first (subst (λ f. FinishesRow p old mid f before between) no_frames one.finishes) in
+      let then = next (place_after p v.block) one'.in_row.1 in
+      let second = finishes-behind p v behind new _ between after one'.in_row (subst FirstSpent is_first spent) then.finishes in
+      record {
+        passes = subst (λ bs. Passes (place_behind p bs) given) one'.blocks then.passes;
+        finishes = finishes-then p old (v ∷ behind) (v ∷ new) [] (frames_in last given) before between after one'
+            (subst (λ bs. FinishesRow p (v ∷ behind) (v ∷ new) (frames_in (place_behind p bs).channels given) between after) one'.blocks second);
+      }
 
-pub behind-gave :
-    (p : Place) (old mid behind new : List UnitState) (v : UnitState) (none given : List ℤ) (before between after : Counts) → none ≡ [] → mid ≡ v ∷ behind →
-    InRow p old → IsFinishedFirst p old mid none before between →
-    ((q : Place) → InRow q behind → IsFinished q behind new given between after) →
-    IsFinished p old (v ∷ new) given before after
-behind-gave p old mid behind new v none given before between after nothing is_first row one next =
-    let last = (place_behind p (blocks_of old)).channels in
-    let no_frames : frames_in last none ≡ [] = ap (frames_in last) nothing ∙ no-frames last in
-    let one' : FinishesFirst p old (v ∷ behind) [] before between = subst (λ us. FinishesFirst p old us [] before between) is_first (subst (λ f. FinishesFirst p old mid f before between) no_frames one.finishes) in
-    let then = next (place_after p v.block) one'.in_row.1 in
+pub behind-may : (old mid behind : List UnitState) (v : UnitState) (none : List ℤ) (before between : Counts) (size : ℕ) (may : MayFinish old size) → mid ≡ v ∷ behind → IsFinished may.place old mid none before between → FirstSpent mid → MayFinish behind size
+behind-may old mid behind v none before between size may is_first one spent =
+    let blocks : blocks_of (v ∷ behind) ≡ blocks_of old = sym (ap blocks_of is_first) ∙ one.finishes.blocks in
+    let row : InRow may.place (v ∷ behind) = rw is_first at one.finishes.in_row in
+    let took = rw is_first at (one.finishes.took may.frames may.took) in
+    let taken : AllTaken (blocks_of (v ∷ behind)) may.frames = subst (λ bs. AllTaken bs may.frames) (sym blocks) may.taken in
+    let spent' : v.tail ≡ [] = subst FirstSpent is_first spent in
     record {
-      passes = subst (λ bs. Passes (place_behind p bs) given) one'.blocks then.passes;
-      finishes = subst (λ bs. FinishesRow p old (v ∷ new) (frames_in (place_behind p bs).channels given) before after) one'.blocks
-          (row-behind p old v behind new _ before between after one' then.finishes);
+      place = place_after may.place v.block;
+      row = row.1;
+      room = subst (λ bs. place_room (place_behind may.place bs) ≤ size) (sym blocks) may.room;
+      frames = given_so_far v may.frames;
+      took = spent-took v behind (given_so_far v may.frames) took.1;
+      taken = subst (AllTaken (blocks_of behind)) (sym (given-whole v may.frames spent')) taken.1;
     }

@@ -1,8 +1,8 @@
 -- What a row of units may be fed with, and the measures that it has.
 use Rattle.std.specs.Prelude.{ℕ, ◌+◌, ◌≤◌, ℤ, List, [], ◌∷◌, length}
 use Rattle.dsp_defs.specs.Block.{channels_after}
-use Rattle.dsp_defs.specs.Unit.{UnitState, frames_in}
-use Rattle.dsp_defs.specs.Row.{Place, place_behind, place_room, Passes, blocks_of, InRow, AllAccept}
+use Rattle.dsp_stage.specs.Unit.{UnitState, frames_in}
+use Rattle.dsp_stage.specs.Row.{Place, place_behind, place_room, Passes, blocks_of, InRow, AllAccept, AllTaken, AllTook}
 use Rattle.dsp_defs.specs.declared.limits.TheConstants.{MAX_CHANNELS}
 use Rattle.dsp_defs.specs.declared.script.Block.{Block}
 use Rattle.dsp_defs.specs.declared.script.Block.TheVariants.{Power, Dot, CmplxDot, Max, Min}
@@ -14,6 +14,15 @@ pub record MayTake (us : List UnitState) (frames : List ℤ) (size : ℕ) : Type
   pub passes : Passes place frames
   pub accepts : AllAccept us (length (frames_in place.channels frames))
   pub room : place_room (place_behind place (blocks_of us)) ≤ size
+
+-- so much room is enough for what the row gives of its tail, whose units took some frames that they may take
+pub record MayFinish (us : List UnitState) (size : ℕ) : Type 0 where
+  pub place : Place
+  pub row : InRow place us
+  pub room : place_room (place_behind place (blocks_of us)) ≤ size
+  pub frames : ℕ
+  pub took : AllTook us frames
+  pub taken : AllTaken (blocks_of us) frames
 
 -- at each place there are at most as many channels as there may be
 abbrev pub FewChannels : ℕ → List Block → Type 0

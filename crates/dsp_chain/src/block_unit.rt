@@ -1,15 +1,20 @@
 ghost use Rattle.std.specs.Prelude.{◌≡◌, ◌≤◌, ◌*◌, IsTrue, IfOk};
-ghost use Rattle.dsp_defs.specs.Unit.{IsNew};
+ghost use Rattle.dsp_stage.specs.Unit.{IsNew};
 ghost use Rattle.dsp_defs.specs.Grammar.{Suits};
 ghost use Rattle.dsp_chain.specs.Built.{is_built_block};
 ghost use Rattle.dsp_chain.specs.Chain.{state_of};
 
 use crate::built::{Family, family_of};
+use dsp_adapt::{AdaptUnit, adapt_unit};
+use dsp_biquad::{BiquadUnit, biquad_unit};
 use dsp_complex::ComplexUnit;
 use dsp_conv::{ConvUnit, conv_unit};
-use dsp_defs::{Block, Fmt, Measure, Stage, Steps};
+use dsp_defs::{Block, Fmt, Measure, Steps};
 use dsp_fir::{FirUnit, fir_unit};
+use dsp_lattice::{LatticeUnit, lattice_unit};
+use dsp_matrix::{MatrixUnit, matrix_unit};
 use dsp_rate::{RateUnit, rate_unit};
+use dsp_stage::Stage;
 use dsp_vector::VectorUnit;
 use std::alloc::{AllocError, Global};
 use std::sync::ledger::Ledger;
@@ -21,6 +26,10 @@ pub enum BlockUnit {
     Complex(ComplexUnit),
     Fir(FirUnit),
     Rate(RateUnit),
+    Lattice(LatticeUnit),
+    Biquad(BiquadUnit),
+    Adapt(AdaptUnit),
+    Matrix(MatrixUnit),
     Conv(ConvUnit),
     Measure(dsp_measure::Unit),
 }
@@ -55,6 +64,18 @@ impl BlockUnit {
             Some(Family::Rate) => Ok(BlockUnit::Rate(rate_unit(
                 alloc, block, format, channels, frames,
             )?)),
+            Some(Family::Lattice) => Ok(BlockUnit::Lattice(lattice_unit(
+                alloc, block, format, channels, frames,
+            )?)),
+            Some(Family::Biquad) => Ok(BlockUnit::Biquad(biquad_unit(
+                alloc, block, format, channels, frames,
+            )?)),
+            Some(Family::Adapt) => Ok(BlockUnit::Adapt(adapt_unit(
+                alloc, block, format, channels, frames,
+            )?)),
+            Some(Family::Matrix) => Ok(BlockUnit::Matrix(matrix_unit(
+                alloc, block, format, channels, frames,
+            )?)),
             Some(Family::Conv) => Ok(BlockUnit::Conv(conv_unit(
                 alloc, block, format, channels, frames,
             )?)),
@@ -74,6 +95,10 @@ macro_rules! for_unit {
             BlockUnit::Complex($unit) => $result,
             BlockUnit::Fir($unit) => $result,
             BlockUnit::Rate($unit) => $result,
+            BlockUnit::Lattice($unit) => $result,
+            BlockUnit::Biquad($unit) => $result,
+            BlockUnit::Adapt($unit) => $result,
+            BlockUnit::Matrix($unit) => $result,
             BlockUnit::Conv($unit) => $result,
             BlockUnit::Measure($unit) => $result,
         }
@@ -105,6 +130,10 @@ impl Stage for BlockUnit {
 
     fn fits(&self, numbers: &[i64]) -> bool {
         for_unit!(self, unit => unit.fits(numbers))
+    }
+
+    fn place(&self, numbers: &[i64]) -> Option<u64> {
+        for_unit!(self, unit => unit.place(numbers))
     }
 
     fn restore(&mut self, numbers: &[i64]) {

@@ -14,6 +14,14 @@ pub enum Family {
     Fir,
     /// Filters that change the rate.
     Rate,
+    /// Cascades of second-order sections.
+    Biquad,
+    /// Lattices.
+    Lattice,
+    /// Controllers.
+    Adapt,
+    /// Matrices over groups of samples.
+    Matrix,
     /// Convolutions, which end with a tail.
     Conv,
     /// Measures, which pass the frames on.
@@ -41,7 +49,15 @@ pub fn family_of(block: &Block) -> Option<Family>
         }
         Block::Fir { .. } | Block::Sparse { .. } => Some(Family::Fir),
         Block::Decimate { .. } => Some(Family::Rate),
+        Block::Biquad { .. } | Block::Biquad64 { .. } => Some(Family::Biquad),
         Block::Conv { .. } => Some(Family::Conv),
+        Block::LatticeFir { .. } | Block::LatticeIir { .. } => Some(Family::Lattice),
+        Block::Pid { .. } => Some(Family::Adapt),
+        Block::MatAdd { .. }
+        | Block::MatSub { .. }
+        | Block::MatScale { .. }
+        | Block::MatTrans { .. }
+        | Block::MatMult { .. } => Some(Family::Matrix),
         Block::Power => Some(Family::Measure),
         _ => None,
     }

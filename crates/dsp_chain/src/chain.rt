@@ -1,4 +1,5 @@
 use crate::block_unit::BlockUnit;
+use crate::frame_rule::{FrameRule, gather_fault, window_fault};
 use crate::row::{Link, count_measures, feed_row, find_measure, finish_row};
 use dsp_defs::{Flow, Fmt, GatherFull, Input, Measure, Script, Steps, WindowFault};
 use dsp_unit::most_frames;
@@ -10,43 +11,44 @@ use std::sync::ledger::Ledger;
 #[derive(Drop)]
 pub struct Chain {
     links: Vec<Link<BlockUnit>>,
+    rules: Vec<FrameRule>,
     format: Fmt,
     channels: usize,
     capacity: usize,
     room: usize,
     frames: u64,
     ended: bool,
+    failed: Option<GatherFull>,
 }
 
 impl Model for Chain {
-    ghost use Rattle.std.specs.Prelude.{◌≡◌, ◌≤◌, false, IsTrue};
-    ghost use Rattle.std.specs.List.{list_all};
-    ghost use Rattle.dsp_defs.specs.Row.{Place, InRow, EndsInOrder, AllRun, AllCount, blocks_of, place_behind, place_room};
-    ghost use Rattle.dsp_chain.specs.Chain.{ChainState};
-    ghost use Rattle.dsp_chain.specs.Row.{FewChannels};
-    ghost use Rattle.dsp_chain.specs.Built.{is_built_block};
+    ghost use Rattle.std.specs.Prelude.{◌≡◌};
+    ghost use Rattle.dsp_stage.specs.Row.{blocks_of, place_room};
+    ghost use Rattle.dsp_chain.specs.Chain.{ChainState, IsWhole, output_of};
+    ghost use Rattle.dsp_chain.specs.FrameRule.{rules_of};
 
     ghost Value = { ChainState };
 
-    ghost view = { λ c. record { input = record { format = c.format; channels = c.channels; capacity = c.capacity }; units = c.links.items; frames = c.frames; ended = c.ended } };
+    ghost view = { λ c. record { input = record { format = c.format; channels = c.channels; capacity = c.capacity }; units = c.links.items; frames = c.frames; ended = c.ended; failed = c.failed } };
 
-    ghost invariant = { λ c. (InRow (record { format = c.format; channels = c.channels; capacity = c.capacity }) c.links.items) × (EndsInOrder c.links.items) × (c.ended ≡ false → AllRun c.links.items × AllCount c.links.items c.frames) × (1 ≤ c.channels)
-        × (IsTrue (list_all is_built_block (blocks_of c.links.items))) × (FewChannels c.channels (blocks_of c.links.items))
-        × (c.room ≡ place_room (place_behind (record { format = c.format; channels = c.channels; capacity = c.capacity }) (blocks_of c.links.items))) };
+    ghost invariant = { λ c. (IsWhole (record { input = record { format = c.format; channels = c.channels; capacity = c.capacity }; units = c.links.items; frames = c.frames; ended = c.ended; failed = c.failed }))
+        × (c.rules.items ≡ rules_of (blocks_of c.links.items))
+        × (c.room ≡ place_room (output_of (record { input = record { format = c.format; channels = c.channels; capacity = c.capacity }; units = c.links.items; frames = c.frames; ended = c.ended; failed = c.failed }))) };
 }
 
 impl Chain {
-    ghost use Rattle.std.specs.Prelude.{◌≡◌, ◌≤◌, ◌<◌, ◌+◌, ◌^◌, ◌↔◌, IsTrue, IsFalse, IfOk, IfErr, IsErr, Some, length, take, slice_get};
+    ghost use Rattle.std.specs.Prelude.{◌≡◌, ◌≤◌, ◌<◌, ◌+◌, ◌^◌, ◌↔◌, IsTrue, IsFalse, IfOk, IfErr, IsErr, None, Some, length, take, slice_get};
     ghost use Rattle.std.specs.Option.{option_map};
     ghost use Rattle.dsp_defs.specs.Shape.{gathered, held, window_at, is_legal};
-    ghost use Rattle.dsp_defs.specs.Grammar.{IsChain, input_flow};
+    ghost use Rattle.dsp_defs.specs.Grammar.{IsChain, correlates, input_flow};
     ghost use Rattle.dsp_chain.specs.Built.{built};
+    ghost use Rattle.dsp_defs.specs.declared.fault.GatherFull.{GatherFull};
     ghost use Rattle.dsp_defs.specs.declared.fault.WindowFault.{WindowFault};
-    ghost use Rattle.dsp_defs.specs.Row.{Passes, place_room, blocks_of, measured_by};
-    ghost use Rattle.dsp_defs.specs.Unit.{frames_in};
+    ghost use Rattle.dsp_stage.specs.Row.{Passes, place_room, blocks_of, measured_by};
+    ghost use Rattle.dsp_stage.specs.Unit.{frames_in};
     ghost use Rattle.dsp_chain.specs.Row.{measure_counts};
-    ghost use Rattle.dsp_chain.specs.Chain.{ChainState, output_of, FeedsChain, FinishesChain, input_place, IsNewChain};
-    ghost use Rattle.dsp_defs.specs.declared.limits.TheConstants.{MAX_BLOCKS, MAX_CHANNELS, MAX_GATHERED};
+    ghost use Rattle.dsp_chain.specs.Chain.{ChainState, output_of, IsTooMuch, FeedsChain, FailsChain, FinishesChain, input_place, IsNewChain};
+    ghost use Rattle.dsp_defs.specs.declared.limits.TheConstants.{MAX_BLOCKS, MAX_CHANNELS, MAX_CORRELATES};
 
     /// The chain of a script, for a legal block length, the most frames of a call. All memory of the
     /// chain is taken here, and it errs only where memory is wanting.
@@ -54,6 +56,8 @@ impl Chain {
         requires chain { IsChain (input_flow script.now.input) script.now.blocks }
         requires channels { 1 ≤ script.now.input.channels }
         requires few_channels { script.now.input.channels ≤ MAX_CHANNELS }
+        requires few_blocks { length script.now.blocks ≤ MAX_BLOCKS }
+        requires one_correlate { correlates script.now.blocks ≤ MAX_CORRELATES }
         requires built { IsTrue (built script.now) }
         requires legal { IsTrue (is_legal script.now.input.channels script.now.blocks block) }
         ensures { IfOk result (IsNewChain (input_place script.now block) script.now.blocks) }
@@ -68,24 +72,30 @@ impl Chain {
         let mut flow = Flow { format, channels };
         let blocks = script.blocks.as_slice();
         let mut links = Vec::with_capacity(alloc, blocks.len())?;
+        let mut rules = Vec::with_capacity(alloc, blocks.len())?;
         for block in blocks {
             let unit = BlockUnit::new(alloc, block, flow.format, flow.channels, frames)?;
             links.push(Link::new(alloc, unit)?)?;
+            rules.push(FrameRule::of(block))?;
             flow = flow.after(block);
             frames = most_frames(block, frames);
         }
         Ok(Chain {
             links,
+            rules,
             format,
             channels: usize::from(channels),
             capacity,
             room: frames * usize::from(flow.channels),
             frames: 0,
             ended: false,
+            failed: None,
         })
     }
 
-    /// Writes the next live frames, and answers the number of their samples.
+    /// Writes the next live frames, and answers the number of their samples. It refuses where the
+    /// correlation would gather more than 1,048,576 samples of a channel, and then answers the same
+    /// fault from then on.
     pub fn feed<L: Ledger>(
         &mut self,
         frames: &[i32],
@@ -98,10 +108,21 @@ impl Chain {
         requires count { self.old.frames + length (frames_in self.old.input.channels frames.now) ≤ 2 ^ 40 }
         ensures within { IfOk result (λ given. given ≤ length out.old) }
         ensures fed { IfOk result (λ given. FeedsChain self.old self.new frames.now (take given out.new) steps.old steps.new) }
-        ensures full { IsErr result ↔ MAX_GATHERED < gathered (blocks_of self.old.units) (self.old.frames + length (frames_in self.old.input.channels frames.now)) }
-        ensures numbers { IfErr result (λ fault. (fault.held ≡ held (blocks_of self.old.units) self.old.frames) × (fault.held + fault.more ≡ gathered (blocks_of self.old.units) (self.old.frames + length (frames_in self.old.input.channels frames.now)))) }
+        ensures full { IsErr result ↔ IsTooMuch self.old (length (frames_in self.old.input.channels frames.now)) }
+        ensures numbers { self.old.failed ≡ None → IfErr result (λ fault. (fault.held ≡ held (blocks_of self.old.units) self.old.frames)
+            × (fault.held + fault.more ≡ gathered (blocks_of self.old.units) (self.old.frames + length (frames_in self.old.input.channels frames.now)))) }
+        ensures refused { IfErr result (λ fault. FailsChain self.old self.new fault steps.old steps.new) }
+        ensures untouched { IfErr result (λ _. out.new ≡ out.old) }
     {
-        self.frames += (frames.len() / self.channels) as u64;
+        if let Some(fault) = self.failed {
+            return Err(fault);
+        }
+        let fed = self.frames + (frames.len() / self.channels) as u64;
+        if let Some(fault) = gather_fault(&self.rules, self.frames, fed) {
+            self.failed = Some(fault);
+            return Err(fault);
+        }
+        self.frames = fed;
         Ok(feed_row(self.links.as_mut_slice(), frames, out, steps))
     }
 
@@ -117,24 +138,25 @@ impl Chain {
         requires { self.now.frames + more ≤ 2 ^ 40 }
         ensures { option_map (λ (fault : WindowFault). (fault.end, fault.length)) result ≡ window_at (blocks_of self.now.units) (self.now.frames + more) }
     {
-        // No block that is built has a window.
-        let _frames = self.frames + more;
-        None
+        window_fault(&self.rules, self.frames + more)
     }
 
-    /// Writes the next frames of the tail, and answers the number of their samples: 0 where it is spent.
+    /// Writes the next frames of the tail, and answers the number of their samples: 0 where it is spent
+    /// or the chain has failed.
     pub fn finish<L: Ledger>(&mut self, out: &mut [i32], steps: &mut Steps<L>) -> usize
         requires room { place_room (output_of self.old) ≤ length out.old }
         ensures within { result ≤ length out.old }
         ensures finished { FinishesChain self.old self.new (take result out.new) steps.old steps.new }
     {
         self.ended = true;
+        if self.failed.is_some() {
+            return 0;
+        }
         finish_row(self.links.as_mut_slice(), out, steps)
     }
 
     /// How many measures the chain has: in the order of the script, then by channel.
     pub fn measures(&self) -> usize
-        requires { length self.now.units ≤ MAX_BLOCKS }
         ensures count { result ≡ length (measured_by 1 self.now.units) }
         ensures stays { result ≡ measure_counts self.now.input.channels (blocks_of self.now.units) }
     {
@@ -143,8 +165,7 @@ impl Chain {
 
     /// The measure at this index, of what its block has taken: of the whole signal there once the tail is spent.
     pub fn measure(&self, index: usize) -> Measure
-        requires few { length self.now.units ≤ MAX_BLOCKS }
-        requires inside { index < length (measured_by 1 self.now.units) }
+        requires { index < length (measured_by 1 self.now.units) }
         ensures { slice_get (measured_by 1 self.now.units) index ≡ Some result }
     {
         match find_measure(&self.links, 1, index) {

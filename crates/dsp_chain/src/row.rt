@@ -1,9 +1,10 @@
 ghost use Rattle.std.specs.Prelude.{◌≡◌, ◌≤◌, ◌+◌, ◌*◌, All, length, take, slice_get};
-ghost use Rattle.dsp_defs.specs.Unit.{measures_of};
-ghost use Rattle.dsp_defs.specs.Row.{Place, place_behind, place_room, Passes, blocks_of, InRow, AllRun, IsFed, EndsInOrder, IsFinishedFirst, IsFinished, measured_by};
-ghost use Rattle.dsp_chain.specs.Row.{MayTake};
+ghost use Rattle.dsp_stage.specs.Unit.{measures_of};
+ghost use Rattle.dsp_stage.specs.Row.{Place, Passes, InRow, AllRun, AllSpent, FirstSpent, IsFed, IsFinished, measured_by};
+ghost use Rattle.dsp_chain.specs.Row.{MayTake, MayFinish};
 
-use dsp_defs::{Measure, Stage, Steps};
+use dsp_defs::{Measure, Steps};
+use dsp_stage::Stage;
 use std::alloc::{AllocError, Global};
 use std::marker::Model;
 use std::sync::ledger::Ledger;
@@ -17,7 +18,7 @@ pub struct Link<S: Stage + Drop> {
 
 impl<S: Stage + Drop> Model for Link<S> {
     ghost use Rattle.std.specs.Prelude.{◌≤◌, vec_len};
-    ghost use Rattle.dsp_defs.specs.Unit.{UnitState, room_of};
+    ghost use Rattle.dsp_stage.specs.Unit.{UnitState, room_of};
 
     ghost Value = { UnitState };
 
@@ -64,10 +65,10 @@ fn finish_first<S: Stage + Drop, L: Ledger>(
     out: &mut [i32],
     steps: &mut Steps<L>,
 ) -> usize
-    requires order { EndsInOrder links.old }
-    requires row { (p : Place) × InRow p links.old × (place_room (place_behind p (blocks_of links.old)) ≤ length out.old) }
+    requires { MayFinish links.old (length out.old) }
     ensures within { result ≤ length out.old }
-    ensures finished { (p : Place) → InRow p links.old → IsFinishedFirst p links.old links.new (take result out.new) steps.old steps.new }
+    ensures finished { (p : Place) → InRow p links.old → IsFinished p links.old links.new (take result out.new) steps.old steps.new }
+    ensures spent { result ≡ 0 → FirstSpent links.new }
 {
     let Some((link, behind)) = links.split_first_mut() else {
         return 0;
@@ -89,10 +90,10 @@ pub fn finish_row<S: Stage + Drop, L: Ledger>(
     out: &mut [i32],
     steps: &mut Steps<L>,
 ) -> usize
-    requires order { EndsInOrder links.old }
-    requires row { (p : Place) × InRow p links.old × (place_room (place_behind p (blocks_of links.old)) ≤ length out.old) }
+    requires { MayFinish links.old (length out.old) }
     ensures within { result ≤ length out.old }
     ensures finished { (p : Place) → InRow p links.old → IsFinished p links.old links.new (take result out.new) steps.old steps.new }
+    ensures spent { result ≡ 0 → AllSpent links.new }
 {
     let given = finish_first(links, out, steps);
     if given > 0 {

@@ -1,9 +1,10 @@
 ghost use Rattle.std.specs.Prelude.{◌≡◌, ◌≤◌, ◌+◌, ◌*◌, ◌/◌, ◌^◌, [], ◌∷◌, ◌++◌, length, IsTrue, IsFalse, All, FitsSigned};
-ghost use Rattle.dsp_defs.specs.Row.{place_room, blocks_of};
+ghost use Rattle.dsp_stage.specs.Row.{place_room, blocks_of};
 ghost use Rattle.dsp_chain.specs.Chain.{output_of};
 ghost use Rattle.dsp_defs.specs.Numbers.{w32};
-ghost use Rattle.dsp_defs.specs.Grammar.{IsChain, input_flow};
+ghost use Rattle.dsp_defs.specs.Grammar.{IsChain, correlates, input_flow};
 ghost use Rattle.dsp_defs.specs.Shape.{is_legal};
+ghost use Rattle.dsp_defs.specs.declared.limits.TheConstants.{MAX_BLOCKS, MAX_CORRELATES};
 ghost use Rattle.dsp_defs.specs.declared.format.Fmt.TheVariants.{Q31};
 ghost use Rattle.dsp_defs.specs.declared.script.Block.TheVariants.{Fir};
 ghost use Rattle.dsp_chain.specs.Built.{built};
@@ -106,6 +107,8 @@ fn gives<L: Ledger>(
     requires format { script.now.input.format ≡ Q31 }
     requires channels { script.now.input.channels ≡ 2 }
     requires chain { IsChain (input_flow script.now.input) script.now.blocks }
+    requires few_blocks { length script.now.blocks ≤ MAX_BLOCKS }
+    requires one_correlate { correlates script.now.blocks ≤ MAX_CORRELATES }
     requires built { IsTrue (built script.now) }
     requires legal { IsTrue (is_legal 2 script.now.blocks block) }
 {

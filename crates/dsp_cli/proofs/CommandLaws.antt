@@ -253,6 +253,9 @@ module _ (words : List (List ℕ)) (source read port later : SourceState) (sink 
         now = taken.now;
         reader = reader_of (command_of words) source.left taken.script.input port later taken.input taken.now taken.reading (from_told status taken);
         ended = it.ended stream;
+        in_limits = it.in_limits stream;
+        unflushed = it.unflushed;
+        turns = it.turns stream;
         part = it.broken;
         front = it.front;
         lag = it.lag stream begun;

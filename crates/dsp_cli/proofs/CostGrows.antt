@@ -6,8 +6,8 @@ use Rattle.dsp_defs.specs.Cost.{cost}
 use Rattle.dsp_defs.specs.declared.format.Fmt.{Fmt}
 use Rattle.dsp_defs.specs.declared.script.Block.{Block}
 use Rattle.dsp_defs.specs.declared.script.Block.TheVariants.{ConvPartial, Correlate}
-use Rattle.dsp_defs.proofs.CostLaws.{block_cost_grows}
-use Rattle.dsp_defs.proofs.TurnLaws.{whole_frames_more}
+use Rattle.dsp_stage.proofs.CostLaws.{block_cost_grows}
+use Rattle.dsp_stage.proofs.TurnLaws.{whole_frames_more}
 
 given_frames_more : (block : Block) (n m : ℕ) → n ≤ m → given_frames block n ≤ given_frames block m
 given_frames_more (ConvPartial first count taps) n m h = omega arith

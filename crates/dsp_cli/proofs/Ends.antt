@@ -21,8 +21,8 @@ use Rattle.dsp_defs.specs.declared.format.InputKind.TheVariants as kind
 use Rattle.dsp_defs.specs.declared.limits.TheConstants.{MAX_GATHERED}
 use Rattle.dsp_defs.specs.declared.script.Script.{Script}
 use Rattle.dsp_defs.specs.declared.measure.Measure.{Measure}
-use Rattle.dsp_session.specs.Session.{frame_bytes, cost_of, measures_of}
-use Rattle.dsp_session.specs.Stream.{LagsByOne, Stopped, Done, IsTakenWhole, declared_bytes, frames_in_bytes}
+use Rattle.dsp_session.specs.Session.{frame_bytes, cost_of, run_turns, measures_of}
+use Rattle.dsp_session.specs.Stream.{LagsByOne, KeepsLimits, Stopped, Done, IsTakenWhole, declared_bytes, frames_in_bytes}
 use Rattle.dsp_session.specs.declared.fault.StreamFault.{StreamFault}
 use Rattle.dsp_session.proofs.OpeningLaws.{some_frame}
 use Rattle.dsp_cli.specs.Fault.{summary_text}
@@ -82,7 +82,7 @@ module _ (words : List (List ℕ)) (source read input now : SourceState) (sink a
   abbrev pub Cause : ℕ → Type 0
   Cause status =
       when (status == 0) AllWell (when (status == 1) (read ≡ source) (when (status == 2) BadText (when (status == 3) BadLength
-      (when (status == 4) (TellsHeader source.left input report told) (when (status == 5) (TellsLength source.left input now sink after report told)
+      (when (status == 4) (TellsHeader source.left input report told) (when (status == 5) (TellsLength source.left (chosen_block words) input now sink after report told)
       (when (status == 6) (Rose source.faults read.faults) (when (status == 7) (Rose input.faults now.faults)
       (when (status == 8) (Rose sink.faults after.faults) (when (status == 9) BadReport
       (when (status == 12) (IfScript source.left (λ s. IsTrue (is_legal_for s (chosen_block words s)) × IsFalse (built s))) (Unit {0})))))))))))
@@ -106,7 +106,11 @@ module _ (words : List (List ℕ)) (source read input now : SourceState) (sink a
   pub record Standing (status : ℕ) : Type 0 where
     pub done : IsStream words → IsDone status → IfScript source.left (λ s. IfSome input.left (λ bytes. Wrote (output s bytes) sink after))
     pub ended : IsStream words → IsDone status → IfTaken source.left input now (λ s given. HasHeader s given × IsTakenWhole s given now)
+    pub in_limits : IsStream words → IsDone status → IfTaken source.left input now (λ s given.
+        KeepsLimits s (input_header s given) (frames_in_bytes s given) × (window_at s.blocks (frames_in_bytes s given) ≡ None))
     pub settled : IsStream words → IsDone status → IsSettled after
+    pub unflushed : IsBroken status → after.faults ≡ sink.faults
+    pub turns : IsStream words → IfTaken source.left input now (λ s given. counts.turns ≤ before.turns + run_turns s (chosen_block words s) (frames_in_bytes s given))
     pub broken : IsBroken status → IfTaken source.left input now (λ s given. WrotePart s (chosen_block words s) given sink after)
     pub front : status ≡ 8 → IfTaken source.left input now (λ s given. HasHeader s given
         × (WroteFront (part s (chosen_block words s) given) sink after ⊎ (WroteFront (output s given) sink after × IsTakenWhole s given now)))
@@ -185,6 +189,9 @@ refused_not_done status refused (inr a) = (refused_only status refused).2 a
 abbrev taken_of : SourceState → ℕ
 taken_of state = state.taken
 
+abbrev turns_of_counts : Counts → ℕ
+turns_of_counts counts = counts.turns
+
 abbrev multiplies_of : Counts → ℕ
 multiplies_of counts = counts.multiplies
 
@@ -196,7 +203,10 @@ module _ (words : List (List ℕ)) (source read input now : SourceState) (sink a
       record {
         done = λ run is. absurd (run_or_print words run (printed is));
         ended = λ run is. absurd (run_or_print words run (printed is));
+        in_limits = λ run is. absurd (run_or_print words run (printed is));
         settled = λ run is. absurd (run_or_print words run (printed is));
+        unflushed = λ is. absurd (going (inl is));
+        turns = λ _. IfSome-always source.left _ (λ _ s _. IfSome-always (bytes_taken input now) _ (λ given. omega (arith, ap turns_of_counts untouched.counts_same)));
         broken = λ is. absurd (going (inl is));
         front = λ is. absurd (going (inr is));
         lag = λ run is. elim is [ inl done ↦ absurd (run_or_print words run (printed done)) | inr stopped ↦ absurd (going stopped) ];
@@ -242,6 +252,9 @@ module _ (words : List (List ℕ)) (source read input now : SourceState) (sink a
         let more = cost_more script.input.format script.input.channels script.blocks (frames_in_bytes script given) (length given / frame_bytes script) (frames_within script given) in
         subst (λ n. counts.multiplies ≤ before.multiplies + cost_of script (n / frame_bytes script)) (sym (count_is given gave)) (omega (arith, within, more))
 
+    turned : (given : List ℕ) → counts.turns ≤ before.turns + run_turns script (chosen named script) (frames_in_bytes script given) → counts.turns ≤ before.turns + run_turns script (chosen_block words script) (frames_in_bytes script given)
+    turned given within = subst (λ block. counts.turns ≤ before.turns + run_turns script block (frames_in_bytes script given)) (sym chosen_is) within
+
     took_frames : (given : List ℕ) (frames : ℕ) → Gave input now given → frames ≡ frames_in_bytes script given → TookFrames script frames input now
     took_frames given frames gave is =
         let same = count_is given gave in
@@ -254,8 +267,8 @@ module _ (words : List (List ℕ)) (source read input now : SourceState) (sink a
     -- the run went over the whole input
     module _ (summary : Summary) (ran : Ran named script summary input now sink after before counts) (is_done : IsDone status)
         (tells : Tells (summary_text summary) report told) (wrote : status ≡ 0 → Wrote (summary_text summary) report told) where
-      done : Done script (chosen named script) summary.totals.frames_taken input now sink after before.multiplies counts.multiplies summary.measures.items
-      done = ran.done
+      done : Done script (chosen named script) summary.totals.frames_taken input now sink after before counts summary.measures.items
+      done = ran.goes.done
 
       given : List ℕ
       given = done.given
@@ -280,7 +293,7 @@ module _ (words : List (List ℕ)) (source read input now : SourceState) (sink a
       text_is = ran.text ∙ (λ i. report_text script (done.frame_count i) (done.measures i))
 
       some : 0 < frame_bytes script
-      some = some_frame script (chosen named script) (record { sound = (runs.reads.text, runs.reads.reads); is_built = ran.is_built; legal = ran.legal })
+      some = some_frame script (chosen named script) (record { sound = (runs.reads.text, runs.reads.reads); is_built = ran.goes.is_built; legal = ran.goes.legal })
 
       at_limit : length done.given ≡ 2 ^ 40 → (size : ℕ) × ((input_header script done.given).size ≡ Some size)
       at_limit all = by (input_header script done.given).size refl
@@ -301,7 +314,12 @@ module _ (words : List (List ℕ)) (source read input now : SourceState) (sink a
                 (told_more input.left now.left done.given (λ bytes. Wrote (output script bytes) sink after) done.gave.front
                 (λ more left. done.put ∙ ap (append_known sink.put) (sym (output_stays script done.given more done.has some now left done.whole))));
             ended = λ _ _. for_taken done.given (λ s given. HasHeader s given × IsTakenWhole s given now) done.gave (done.has, done.whole);
+            in_limits = λ _ _. for_taken done.given (λ s given. KeepsLimits s (input_header s given) (frames_in_bytes s given) × (window_at s.blocks (frames_in_bytes s given) ≡ None)) done.gave
+                (subst (λ n. KeepsLimits script (input_header script done.given) n × (window_at script.blocks n ≡ None)) done.frame_count (done.limits, done.no_window));
             settled = λ _ _. done.settled;
+            unflushed = λ is. absurd (stopped (inl is));
+            turns = λ _. for_taken done.given (λ s given. counts.turns ≤ before.turns + run_turns s (chosen_block words s) (frames_in_bytes s given)) done.gave
+                (turned done.given (subst (λ n. counts.turns ≤ before.turns + run_turns script (chosen named script) n) done.frame_count done.turns));
             broken = λ is. absurd (stopped (inl is));
             front = λ is. absurd (stopped (inr is));
             lag = λ _ _. lags done.given (output script done.given) done.gave done.put (λ _. done.lag);
@@ -331,18 +349,22 @@ module _ (words : List (List ℕ)) (source read input now : SourceState) (sink a
           }
 
     -- the stream stopped
-    pub stands_stopped : (fault : StreamFault) → (stopped : Stopped script (chosen named script) fault input now sink after before.multiplies counts.multiplies) → IsStopped status
+    pub stands_stopped : (fault : StreamFault) → (stopped : Stopped script (chosen named script) fault input now sink after before counts) → IsStopped status
         → (IsBroken status → WrotePart script (chosen named script) stopped.given sink after)
         → (status ≡ 8 → HasHeader script stopped.given × (Begins stopped.written (part script (chosen named script) stopped.given) ⊎ (Begins stopped.written (output script stopped.given) × IsTakenWhole script stopped.given now)))
         → (length stopped.given ≡ 2 ^ 40 → (status ≡ 5) ⊎ (status ≡ 8) ⊎ MayEndAtLimit source.left input now status)
+        → (IsBroken status → after.faults ≡ sink.faults)
         → Standing words source read input now sink after report told before counts status
-    stands_stopped fault stopped is parts fronts limits =
+    stands_stopped fault stopped is parts fronts limits kept =
         let given = stopped.given in
         let done : IsDone status → ⊥ = λ done. done_not_stopped status done is in
         record {
           done = λ _ ends. absurd (done ends);
           ended = λ _ ends. absurd (done ends);
+          in_limits = λ _ ends. absurd (done ends);
           settled = λ _ ends. absurd (done ends);
+          unflushed = kept;
+          turns = λ _. for_taken given (λ s given. counts.turns ≤ before.turns + run_turns s (chosen_block words s) (frames_in_bytes s given)) stopped.gave (turned given stopped.turns);
           broken = λ broken. for_taken given (λ s given. WrotePart s (chosen_block words s) given sink after) stopped.gave
               (subst (λ block. WrotePart script block given sink after) (sym chosen_is) (parts broken));
           front = λ eight. for_taken given

@@ -19,7 +19,7 @@ use Rattle.dsp_defs.specs.declared.wave.HeaderFault.TheVariants.{Short}
 use Rattle.dsp_defs.specs.declared.wave.Wanted.{Wanted}
 use Rattle.dsp_defs.proofs.SampleLaws.{length-samples, samples-whole}
 use Rattle.dsp_defs.proofs.WaveLemmas.{header_of-append}
-use Rattle.dsp_defs.proofs.CostLaws.{quotient_more}
+use Rattle.dsp_stage.proofs.CostLaws.{quotient_more}
 use Rattle.dsp_session.specs.Session.{frame_bytes}
 use Rattle.dsp_session.specs.Stream.{IsWhole, IsTakenWhole, declared_bytes, frames_in_bytes}
 use Rattle.dsp_cli.specs.Run.{EndsWithin, InLimit, short_fault, wave_fault, input_fault}

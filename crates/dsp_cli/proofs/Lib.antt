@@ -10,3 +10,4 @@ pub mod AnswerLaws
 pub mod RunLaws
 pub mod CommandLaws
 pub mod ReportLaws
+pub mod CallLaws

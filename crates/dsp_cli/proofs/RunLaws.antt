@@ -27,7 +27,7 @@ use Rattle.dsp_session.proofs.OpeningLaws.{some_frame}
 use Rattle.dsp_cli.specs.Fault.{fault_line, summary_text}
 use Rattle.dsp_cli.specs.Script.{IfScript, chosen, chosen_block, is_legal_for}
 use Rattle.dsp_cli.specs.Perform.{Untouched, IsGenerated, IsReading, RunsScript, Ran, MadeText, HasFault, StopsAtLength, StopsAtForm, StopsInStream, StopsAtWords, ReportsText}
-use Rattle.dsp_cli.specs.Run.{IsStream, IsDone, IsRefused, IsAnswer, IsPrintable, InLimit, IfTaken, IsOverfull, input_fault, Wrote, WrotePart, Tells, TellsLength, Taken, Gather, Window, Riff, bytes_taken}
+use Rattle.dsp_cli.specs.Run.{IsStream, IsDone, IsRefused, IsAnswer, IsPrintable, InLimit, IfTaken, WantsMore, IsOverfull, input_fault, Wrote, WrotePart, Tells, TellsLength, Taken, Gather, Window, Riff, bytes_taken}
 use Rattle.dsp_cli.specs.declared.fault.Fault.TheVariants.{Usage, ScriptRead, Script as BadScript, BlockLength, NotBuilt, Memory, Stream}
 use Rattle.dsp_cli.specs.declared.report.Summary.{Summary}
 use Rattle.dsp_cli.proofs.AnswerLaws.{command_not_none, some_run, not_usage, StreamStatus, either_answers, stream_answers, port_answers}
@@ -172,7 +172,11 @@ module _ (words : List (List ℕ)) (source read input now : SourceState) (sink a
     -- what the stream says that it wrote
     part_of : (block : ℕ) (given written : List ℕ) → after.put ≡ append_known sink.put written → StreamWrote script block given written sink after → WrotePart script block given sink after
     part_of block given written put (Nothing none same) = inr (inl none, same)
-    part_of block given written put (Part has is kept) = inl (has, put ∙ ap (append_known sink.put) is)
+    part_of block given written put (Part has is kept limits) = inl (has, put ∙ ap (append_known sink.put) is)
+
+    wrote_kept : (block : ℕ) (given written : List ℕ) → StreamWrote script block given written sink after → after.faults ≡ sink.faults
+    wrote_kept block given written (Nothing none same) = ap faults_of same
+    wrote_kept block given written (Part has is kept limits) = kept
 
     pub ends_length : (block divisor : ℕ) → StopsAtLength block divisor named script → Untouched input now sink after before counts → Tells (fault_line (BlockLength block divisor)) report told → End 3
     ends_length block divisor stops untouched tells =
@@ -242,7 +246,8 @@ module _ (words : List (List ℕ)) (source read input now : SourceState) (sink a
           tells = tells;
           comes = comes_begun 7 stream.legal stream.is_built (λ is. omega arith) (port_answers (command_of words) named runs.command never 7 (inr refl)) (λ _ _ kept _ _. absurd (kept stops.risen));
           stands = stands_stopped words source read input now sink after report told before counts 7 named script runs Input stopped (inl (inr (inr refl)))
-              (λ _. part_of (chosen named script) stopped.given stopped.written stopped.put stops.wrote) (λ is. absurd (omega arith)) (λ all. absurd (omega (arith, all, stops.in_limit)));
+              (λ _. part_of (chosen named script) stopped.given stopped.written stopped.put stops.wrote) (λ is. absurd (omega arith)) (λ all. absurd (omega (arith, all, stops.in_limit)))
+              (λ _. wrote_kept (chosen named script) stopped.given stopped.written stops.wrote);
         }
 
     pub ends_output : StopsInStream Output named script input now sink after before counts → Tells (fault_line (Stream Output)) report told → End 8
@@ -253,7 +258,8 @@ module _ (words : List (List ℕ)) (source read input now : SourceState) (sink a
           tells = tells;
           comes = comes_begun 8 stream.legal stream.is_built (λ is. omega arith) (answers 8 (inr (inr (inl refl)))) (λ _ _ _ kept _. absurd (kept stops.risen));
           stands = stands_stopped words source read input now sink after report told before counts 8 named script runs Output stream.stopped (inr refl)
-              (λ broken. absurd (eight_not_broken 8 refl broken)) (λ _. (stops.has, stops.wrote)) (λ _. inr (inl refl));
+              (λ broken. absurd (eight_not_broken 8 refl broken)) (λ _. (stops.has, stops.wrote)) (λ _. inr (inl refl))
+              (λ broken. absurd (eight_not_broken 8 refl broken));
         }
 
     -- ---- a fault of the input's header, or its end before all declared frames
@@ -287,7 +293,8 @@ module _ (words : List (List ℕ)) (source read input now : SourceState) (sink a
                 inl refl,
                 for_script (λ s. (s.input.kind ≡ kind.Wave) × (IsDone 4 → IfSome (bytes_taken input now) (λ given. IsSome (declared_bytes s (input_header s given)))))
                     (wave, λ done. absurd (done_not_broken 4 done (inl refl))),
-              )));
+              )))
+              (λ _. elim stopped.stops [ inl header ↦ ap faults_of header.untouched | inr short ↦ short.kept ]);
         }
 
     -- ---- a length past its limit
@@ -300,15 +307,15 @@ module _ (words : List (List ℕ)) (source read input now : SourceState) (sink a
         subst (λ left. IfSome left (IsBlocked sound.script)) sound.told_bytes (use_script source.left sound.text sound.script (λ s. IfSome input.left (IsBlocked s)) sound.told_text sound.reads told) in
         here sound.in_limit sound.no_window sound.not_full sound.fits
 
-    ends_length_fault : (fault : LengthFault) (stream : StopsInStream (Lengths fault) named script input now sink after before counts) → TellsLength source.left input now sink after report told
-        → WrotePart script (chosen named script) stream.stopped.given sink after → (IsFree words source input → ⊥) → End 5
-    ends_length_fault fault stream cause wrote blocked =
+    ends_length_fault : (fault : LengthFault) (stream : StopsInStream (Lengths fault) named script input now sink after before counts) → TellsLength source.left (chosen_block words) input now sink after report told
+        → WrotePart script (chosen named script) stream.stopped.given sink after → after.faults ≡ sink.faults → (IsFree words source input → ⊥) → End 5
+    ends_length_fault fault stream cause wrote kept blocked =
         record {
           cause = cause;
           tells = tt;
           comes = comes_begun 5 stream.legal stream.is_built (λ is. omega arith) (answers 5 (inr (inl refl))) (λ sound _ _ _ _. absurd (blocked sound));
           stands = stands_stopped words source read input now sink after report told before counts 5 named script runs (Lengths fault) stream.stopped (inl (inr (inl refl)))
-              (λ _. wrote) (λ is. absurd (omega arith)) (λ _. inl refl);
+              (λ _. wrote) (λ is. absurd (omega arith)) (λ _. inl refl) (λ _. kept);
         }
 
     ends_limit : (taken most : ℕ) → StopsInStream (Lengths (length_fault.Input taken most)) named script input now sink after before counts → Tells (fault_line (Stream (Lengths (length_fault.Input taken most)))) report told → End 5
@@ -317,18 +324,22 @@ module _ (words : List (List ℕ)) (source read input now : SourceState) (sink a
         let stops = stopped.stops in
         ends_length_fault (length_fault.Input taken most) stream
         (Taken (omega (arith, stopped.gave.count, stops.all))
+        (for_taken stopped.given WantsMore stopped.gave (record { cut = stops.unheaded; declared = stops.wanted }))
         (subst (λ n. Tells (input_limit_line n (2 ^ 40)) report told) stops.at_limit (subst (λ n. Tells (input_limit_line taken n) report told) stops.limit tells)))
         (part_of (chosen named script) stopped.given stopped.written stopped.put stops.wrote)
+        (wrote_kept (chosen named script) stopped.given stopped.written stops.wrote)
         (blocks stopped.given stopped.gave (λ more left limit _ _ _. past_limit script stopped.given more stops.all stops.wanted limit))
 
     ends_full : (has more : ℕ) → StopsInStream (Lengths (length_fault.Gather has more)) named script input now sink after before counts → Tells (fault_line (Stream (Lengths (length_fault.Gather has more)))) report told → End 5
     ends_full has more stream tells =
         let stopped = stream.stopped in
         let stops = stopped.stops in
-        let full : IsOverfull script (frames_in_bytes script stopped.given) has more = record { over = stops.over; before = stops.before; has_is = stops.held_is; more_is = stops.more_is } in
+        let full : IsOverfull script (chosen named script) (frames_in_bytes script stopped.given) has more =
+        record { over = stops.over; before = stops.before; before_is = stops.before_is; kept = stops.limits.not_full; has_is = stops.held_is; more_is = stops.more_is } in
         ends_length_fault (length_fault.Gather has more) stream
-        (Gather has more (for_taken stopped.given (λ s given. HasHeader s given × IsOverfull s (frames_in_bytes s given) has more) stopped.gave (stops.has, full)) tells)
-        (inl (stops.has, stopped.put ∙ ap (append_known sink.put) stops.wrote))
+        (Gather has more (for_taken stopped.given (λ s given. HasHeader s given × IsOverfull s (chosen_block words s) (frames_in_bytes s given) has more) stopped.gave
+        (stops.has, subst (λ block. IsOverfull script block (frames_in_bytes script stopped.given) has more) (sym chosen_is) full)) tells)
+        (inl (stops.has, stopped.put ∙ ap (append_known sink.put) stops.wrote)) stops.kept
         (blocks stopped.given stopped.gave (λ behind left _ _ few _.
         let later = gathered_more script.blocks (frames_in_bytes script stopped.given) (frames_in_bytes script (stopped.given ++ behind)) (frames_stay script stopped.given behind stops.has) in
         absurd (omega (arith, stops.over, later, few))))
@@ -340,7 +351,7 @@ module _ (words : List (List ℕ)) (source read input now : SourceState) (sink a
         let some = some_frame script (chosen named script) (record { sound = (runs.reads.text, runs.reads.reads); is_built = stream.is_built; legal = stream.legal }) in
         ends_length_fault (length_fault.Window end full) stream
         (Window end full (for_taken stopped.given (λ s given. HasHeader s given × IsTakenWhole s given now × (window_at s.blocks (frames_in_bytes s given) ≡ Some (end, full))) stopped.gave (stops.has, stops.whole, stops.window)) tells)
-        (inl (stops.has, stopped.put ∙ ap (append_known sink.put) stops.wrote))
+        (inl (stops.has, stopped.put ∙ ap (append_known sink.put) stops.wrote)) stops.kept
         (blocks stopped.given stopped.gave (λ more left _ none _ _.
         let same : frames_in_bytes script (stopped.given ++ more) ≡ frames_in_bytes script stopped.given = ap length (signal_stays script stopped.given more stops.has some now left stops.whole) in
         let both : Some (end, full) ≡ None = sym stops.window ∙ ap (window_at script.blocks) (sym same) ∙ none in
@@ -355,7 +366,7 @@ module _ (words : List (List ℕ)) (source read input now : SourceState) (sink a
         (Riff size
         (for_taken stopped.given (λ s given. HasHeader s given × (length given ≡ (input_header s given).start) × IsTooLong s (known_frames s (input_header s given)) size) stopped.gave (stops.has, stops.alone, long))
         stops.untouched (subst (λ n. Tells (riff_line size n) report told) stops.limit tells))
-        (inr (inr (size, long), stops.untouched))
+        (inr (inr (size, long), stops.untouched)) (ap faults_of stops.untouched)
         (blocks stopped.given stopped.gave (λ more left _ _ _ fits.
         let known : known_frames script (input_header script (stopped.given ++ more)) ≡ Some long.frames = ap (known_frames script) (header_stays script stopped.given more stops.has) ∙ long.known in
         let within = subst (HeaderFits (format_of script) (channels_of script)) known (fits long.wave) in
@@ -375,14 +386,14 @@ module _ (words : List (List ℕ)) (source read input now : SourceState) (sink a
           record {
             cause = record {
               clean_script = runs.reads.read.no_fault;
-              clean_input = ran.done.no_input_fault;
-              clean_output = ran.done.no_output_fault;
+              clean_input = ran.goes.done.no_input_fault;
+              clean_output = ran.goes.done.no_output_fault;
               clean_report = kept;
               printed = λ print. absurd (run_or_print words is_run print);
               settled = settled;
             };
             tells = tt;
-            comes = comes_begun 0 ran.legal ran.is_built (λ is. omega arith) (answers 0 (inl (inl refl))) (λ _ _ _ _ _. inl refl);
+            comes = comes_begun 0 ran.goes.legal ran.goes.is_built (λ is. omega arith) (answers 0 (inl (inl refl))) (λ _ _ _ _ _. inl refl);
             stands = stands_ran words source read input now sink after report told before counts 0 named script runs summary ran (inl refl) tells (λ _. wrote);
           }
 
@@ -391,7 +402,7 @@ module _ (words : List (List ℕ)) (source read input now : SourceState) (sink a
           record {
             cause = record { risen = risen; tells = λ print. absurd (run_or_print words is_run print) };
             tells = tt;
-            comes = comes_begun 9 ran.legal ran.is_built (λ is. omega arith) (answers 9 (inl (inr refl))) (λ _ _ _ _ kept. absurd (kept risen));
+            comes = comes_begun 9 ran.goes.legal ran.goes.is_built (λ is. omega arith) (answers 9 (inl (inr refl))) (λ _ _ _ _ kept. absurd (kept risen));
             stands = stands_ran words source read input now sink after report told before counts 9 named script runs summary ran (inr refl) tells (λ is. absurd (omega arith));
           }
 

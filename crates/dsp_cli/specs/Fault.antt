@@ -8,6 +8,7 @@ use Rattle.dsp_session.specs.declared.fault.LengthFault.{LengthFault}
 use Rattle.dsp_session.specs.declared.fault.LengthFault.TheVariants as length_fault
 use Rattle.dsp_session.specs.declared.fault.StreamFault.TheVariants.{Header, Lengths, Input, Output}
 
+-- the status of each fault
 abbrev pub status_of : Fault → ℕ
 status_of Usage = 1
 status_of (Script fault) = 2
@@ -20,12 +21,14 @@ status_of (Stream Output) = 8
 status_of Memory = 10
 status_of NotBuilt = 12
 
+-- the line of a length past its limit
 abbrev pub length_fault_line : LengthFault → List ℕ
 length_fault_line (length_fault.Input taken limit) = input_limit_line taken limit
 length_fault_line (length_fault.Gather held more) = gather_line held more
 length_fault_line (length_fault.Window end length) = window_line end length
 length_fault_line (length_fault.Riff size limit) = riff_line size limit
 
+-- the line of each fault
 abbrev pub fault_line : Fault → List ℕ
 fault_line Usage = usage_line
 fault_line (Script fault) = script_line fault
@@ -45,5 +48,6 @@ head_text summary =
     done_line ++ frames_line (codes "in") totals.frames_taken summary.input.channels summary.input.format
     ++ frames_line (codes "out") totals.frames_given summary.output.channels summary.output.format ++ multiplies_line totals.multiplies
 
+-- its head, and a line for each measure
 abbrev pub summary_text : Summary → List ℕ
 summary_text summary = head_text summary ++ flat_map measure_line summary.measures.items

@@ -3,3 +3,5 @@ pub mod Script
 pub mod Run
 pub mod Stands
 pub mod Perform
+pub mod Call
+pub mod Causes

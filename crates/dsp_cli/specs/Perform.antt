@@ -13,6 +13,7 @@ use Rattle.dsp_defs.specs.declared.command.Command.{Command}
 use Rattle.dsp_defs.specs.declared.command.Command.TheVariants.{Gen}
 use Rattle.dsp_defs.specs.declared.format.Input.{Input}
 use Rattle.dsp_defs.specs.declared.limits.TheConstants.{MAX_GENERATED}
+use Rattle.dsp_defs.specs.declared.measure.Measure.{Measure}
 use Rattle.dsp_defs.specs.declared.script.Script.{Script}
 use Rattle.dsp_defs.specs.declared.script_fault.ScriptFault.{ScriptFault}
 use Rattle.dsp_session.specs.Stream.{Stopped, Done}
@@ -55,11 +56,15 @@ abbrev pub IsReading : Option Command → Input → SourceState → SourceState 
 IsReading (Some (Gen seed frames)) made port later input now = IsGenerated seed frames made port later input now
 IsReading command made port later input now = (input ≡ port) × (now ≡ later)
 
--- the run went over the whole input, and its report was made
-pub record Ran (named : Option ℕ) (script : Script) (summary : Summary) (input now : SourceState) (output after : SinkState) (before counts : Counts) : Type 0 where
+-- the run went over the whole input of so many frames, with these measures
+pub record Goes (named : Option ℕ) (script : Script) (frames : ℕ) (found : List Measure) (input now : SourceState) (output after : SinkState) (before counts : Counts) : Type 0 where
   pub legal : IsTrue (is_legal_for script (chosen named script))
   pub is_built : IsTrue (built script)
-  pub done : Done script (chosen named script) summary.totals.frames_taken input now output after before.multiplies counts.multiplies summary.measures.items
+  pub done : Done script (chosen named script) frames input now output after before counts found
+
+-- and its report was made
+pub record Ran (named : Option ℕ) (script : Script) (summary : Summary) (input now : SourceState) (output after : SinkState) (before counts : Counts) : Type 0 where
+  pub goes : Goes named script summary.totals.frames_taken summary.measures.items input now output after before counts
   pub text : summary_text summary ≡ report_text script summary.totals.frames_taken summary.measures.items
 
 -- the run went over a whole generated input
@@ -117,8 +122,9 @@ pub record StopsAtForm (named : Option ℕ) (script : Script) : Type 0 where
 pub record StopsInStream (fault : StreamFault) (named : Option ℕ) (script : Script) (input now : SourceState) (output after : SinkState) (before counts : Counts) : Type 0 where
   pub legal : IsTrue (is_legal_for script (chosen named script))
   pub is_built : IsTrue (built script)
-  pub stopped : Stopped script (chosen named script) fault input now output after before.multiplies counts.multiplies
+  pub stopped : Stopped script (chosen named script) fault input now output after before counts
 
+-- why a script does not run, and what was called by then
 abbrev pub FailsToRun : Fault → Option ℕ → Script → SourceState → SourceState → SinkState → SinkState → Counts → Counts → Type 0
 FailsToRun (BlockLength block divisor) named script input now output after before counts = StopsAtLength block divisor named script × Untouched input now output after before counts
 FailsToRun NotBuilt named script input now output after before counts = StopsAtForm named script × Untouched input now output after before counts

@@ -23,9 +23,9 @@ use Rattle.dsp_defs.specs.declared.script.Script.{Script}
 use Rattle.dsp_defs.specs.declared.wave.Header.{Header}
 use Rattle.dsp_defs.specs.declared.wave.HeaderFault.{HeaderFault}
 use Rattle.dsp_defs.specs.declared.wave.HeaderFault.TheVariants.{Short}
-use Rattle.dsp_session.specs.Opening.{IsTooLong}
+use Rattle.dsp_session.specs.Opening.{IsTooLong, IsUnheaded}
 use Rattle.dsp_session.specs.Session.{frame_bytes, measures_of}
-use Rattle.dsp_session.specs.Stream.{IsTakenWhole, declared_bytes, frames_in_bytes}
+use Rattle.dsp_session.specs.Stream.{IsTakenWhole, declared_bytes, frames_in_bytes, in_whole_blocks}
 use Rattle.dsp_cli.specs.Script.{IfScript, stream_of, chosen_block, is_legal_for}
 
 -- ---- commands
@@ -38,6 +38,7 @@ IsStream words = (named : Option ℕ) × (stream_of (command_of words) ≡ Some 
 abbrev pub IsGen : List (List ℕ) → Type 0
 IsGen words = (seed : ℕ) × (frames : ℕ) × (command_of words ≡ Some (Gen seed frames))
 
+-- the words are a print
 abbrev pub IsPrint : List (List ℕ) → Type 0
 IsPrint words = command_of words ≡ Some Print
 
@@ -93,6 +94,7 @@ IsReader command text port later input now = (input ≡ port) × (now ≡ later)
 abbrev pub count_taken : SourceState → SourceState → ℕ
 count_taken old new = new.taken - old.taken
 
+-- the bytes that were taken, where the source told what it had
 abbrev pub bytes_taken : SourceState → SourceState → Option (List ℕ)
 bytes_taken old new = option_map (take (count_taken old new)) old.left
 
@@ -180,22 +182,30 @@ pub record TellsHeader (text : Option (List ℕ)) (input : SourceState) (report 
   pub cause : IfScript text (λ s. (s.input.kind ≡ kind.Wave) × IfSome input.left (λ bytes. input_fault s bytes ≡ Some (fault, offset)))
   pub line : Tells (header_line fault offset) report told
 
--- a correlation would gather too many samples, of which it holds so many
-pub record IsOverfull (script : Script) (frames has more : ℕ) : Type 0 where
+-- a correlation would gather too many samples of so many frames, but not of the whole blocks before the last one, of which it holds so many
+pub record IsOverfull (script : Script) (block frames has more : ℕ) : Type 0 where
   pub over : MAX_GATHERED < gathered script.blocks frames
   pub before : ℕ
+  pub before_is : before ≡ in_whole_blocks block (frames - 1)
+  pub kept : gathered script.blocks before ≤ MAX_GATHERED
   pub has_is : has ≡ held script.blocks before
   pub more_is : more + has ≡ gathered script.blocks frames
 
+-- a further byte is wanted: the header is cut there and has no other fault, or declared samples are still to come
+pub record WantsMore (script : Script) (given : List ℕ) : Type 0 where
+  pub cut : (HasHeader script given → ⊥) → IsUnheaded script given
+  pub declared : HasHeader script given → IfSome (declared_bytes script (input_header script given)) (λ size. length given < (input_header script given).start + size)
+
 -- a length is past its limit, and the line says it; nothing was written where it is the output's
-pub data TellsLength (text : Option (List ℕ)) (input now : SourceState) (sink after report told : SinkState) : Type 0 where
-  Taken : now.taken ≡ input.taken + 2 ^ 40 → Tells (input_limit_line (2 ^ 40) (2 ^ 40)) report told → TellsLength text input now sink after report told
-  Gather : (has more : ℕ) → IfTaken text input now (λ s given. HasHeader s given × IsOverfull s (frames_in_bytes s given) has more)
-      → Tells (gather_line has more) report told → TellsLength text input now sink after report told
+pub data TellsLength (text : Option (List ℕ)) (block : Script → ℕ) (input now : SourceState) (sink after report told : SinkState) : Type 0 where
+  Taken : now.taken ≡ input.taken + 2 ^ 40 → IfTaken text input now WantsMore
+      → Tells (input_limit_line (2 ^ 40) (2 ^ 40)) report told → TellsLength text block input now sink after report told
+  Gather : (has more : ℕ) → IfTaken text input now (λ s given. HasHeader s given × IsOverfull s (block s) (frames_in_bytes s given) has more)
+      → Tells (gather_line has more) report told → TellsLength text block input now sink after report told
   Window : (end full : ℕ) → IfTaken text input now (λ s given. HasHeader s given × IsTakenWhole s given now × (window_at s.blocks (frames_in_bytes s given) ≡ Some (end, full)))
-      → Tells (window_line end full) report told → TellsLength text input now sink after report told
+      → Tells (window_line end full) report told → TellsLength text block input now sink after report told
   Riff : (size : ℕ) → IfTaken text input now (λ s given. HasHeader s given × (length given ≡ (input_header s given).start) × IsTooLong s (known_frames s (input_header s given)) size)
-      → after ≡ sink → Tells (riff_line size MAX_RIFF_SIZE) report told → TellsLength text input now sink after report told
+      → after ≡ sink → Tells (riff_line size MAX_RIFF_SIZE) report told → TellsLength text block input now sink after report told
 
 -- where as many bytes were taken as may be: a fault of a WAVE input was found there, or its declared samples end there
 abbrev pub MayEndAtLimit : Option (List ℕ) → SourceState → SourceState → ℕ → Type 0
@@ -210,6 +220,7 @@ abbrev pub EndsWithin : Option ℕ → Script → List ℕ → Type 0
 EndsWithin (Some declared) script bytes = HasHeader script (take (2 ^ 40) bytes) × ((input_header script bytes).start + declared ≤ 2 ^ 40)
 EndsWithin None script bytes = length bytes < 2 ^ 40
 
+-- the input ends within the bytes that may be taken
 abbrev pub InLimit : Script → List ℕ → Type 0
 InLimit script bytes = EndsWithin (declared_bytes script (input_header script bytes)) script bytes
 

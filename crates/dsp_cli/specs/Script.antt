@@ -46,5 +46,6 @@ chosen None script = unwrap_or script.block (default_block script.input.channels
 abbrev pub chosen_block : List (List ℕ) → Script → ℕ
 chosen_block words script = chosen (named_by (command_of words)) script
 
+-- the block length is legal for the script
 abbrev pub is_legal_for : Script → ℕ → Bool
 is_legal_for script block = is_legal script.input.channels script.blocks block

@@ -1,9 +1,11 @@
 //! Chains of several blocks that change format and channels, in blocks of several lengths: worked by
 //! hand, and runs of an independent implementation.
 use crate::tests::{Case, play};
+use std::alloc::{AllocError, Global};
+use std::process::Abort;
 use std::test::Fail;
 
-const IN_BLOCKS: &[&[&str]] = &[
+pub(crate) const IN_BLOCKS: &[&[&str]] = &[
     &["run", "s", "i", "o"],
     &["run", "s", "i", "o", "block", "1"],
     &["run", "s", "i", "o", "block", "2"],
@@ -12,14 +14,14 @@ const IN_BLOCKS: &[&[&str]] = &[
     &["run", "s", "i", "o", "block", "256"],
 ];
 
-const IN_PAIRS: &[&[&str]] = &[
+pub(crate) const IN_PAIRS: &[&[&str]] = &[
     &["run", "s", "i", "o"],
     &["run", "s", "i", "o", "block", "2"],
     &["run", "s", "i", "o", "block", "4"],
     &["run", "s", "i", "o", "block", "6"],
 ];
 
-const IN_FOURS: &[&[&str]] = &[
+pub(crate) const IN_FOURS: &[&[&str]] = &[
     &["run", "s", "i", "o"],
     &["run", "s", "i", "o", "block", "4"],
     &["run", "s", "i", "o", "block", "8"],
@@ -28,12 +30,12 @@ const IN_FOURS: &[&[&str]] = &[
 ];
 
 /// A raw input through a chain, in blocks of any of some lengths, what it gives, and the report.
-struct Chain {
-    blocks: &'static [&'static [&'static str]],
-    script: &'static [u8],
-    input: &'static [u8],
-    output: &'static [u8],
-    report: &'static [u8],
+pub(crate) struct Chain {
+    pub(crate) blocks: &'static [&'static [&'static str]],
+    pub(crate) script: &'static [u8],
+    pub(crate) input: &'static [u8],
+    pub(crate) output: &'static [u8],
+    pub(crate) report: &'static [u8],
 }
 
 const CHAINS: &[Chain] = &[
@@ -187,24 +189,30 @@ const CHAINS: &[Chain] = &[
     },
 ];
 
+/// Plays a run for each of its block lengths.
+pub(crate) fn play_chain(alloc: Global, rt: &impl Abort, chain: &Chain) -> Result<(), AllocError> {
+    for words in chain.blocks {
+        let case = Case {
+            words,
+            script: chain.script,
+            input: chain.input,
+            failing_reads: &[],
+            room: 128,
+            failing_writes: &[],
+            failing_reports: &[],
+            status: 0,
+            output: chain.output,
+            report: chain.report,
+        };
+        play(alloc, rt, &case)?;
+    }
+    Ok(())
+}
+
 #[test]
 fn chains_give_the_same_in_any_blocks(rt: HostRuntime) -> Result<(), Fail> {
     for chain in CHAINS {
-        for words in chain.blocks {
-            let case = Case {
-                words,
-                script: chain.script,
-                input: chain.input,
-                failing_reads: &[],
-                room: 128,
-                failing_writes: &[],
-                failing_reports: &[],
-                status: 0,
-                output: chain.output,
-                report: chain.report,
-            };
-            play(rt.alloc(), &rt, &case)?;
-        }
+        play_chain(rt.alloc(), &rt, chain)?;
     }
     Ok(())
 }

@@ -16,6 +16,8 @@ pub use top::run;
 pub use words::Words;
 
 #[cfg(test)]
+mod block_tests;
+#[cfg(test)]
 mod chain_tests;
 #[cfg(test)]
 mod gen_tests;

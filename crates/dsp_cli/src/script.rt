@@ -1,4 +1,5 @@
-ghost use Rattle.std.specs.Prelude.{◌≡◌, ◌≤◌, IfOk, IsErrOf};
+ghost use Rattle.std.specs.Prelude.{◌≡◌, ◌+◌, ◌≤◌, IfOk, IsErrOf};
+ghost use Rattle.dsp_defs.specs.declared.limits.TheConstants.{MAX_SCRIPT};
 ghost use Rattle.dsp_ports.specs.Ports.{Rose};
 ghost use Rattle.dsp_cli.specs.Script.{IsReadWhole};
 
@@ -16,6 +17,7 @@ pub enum ReadFault {
 /// The script's bytes, at most one more than a script may have.
 pub fn read_script<P: Source>(alloc: Global, script: &mut P) -> Result<Vec<u8>, ReadFault>
     ensures read { IfOk result (λ text. IsReadWhole (P.state script.old) (P.state script.new) text.items) }
+    ensures taken { (P.state script.new).taken ≤ (P.state script.old).taken + MAX_SCRIPT + 1 }
     ensures failed { IsErrOf result ReadFault.Failed → Rose (P.state script.old).faults (P.state script.new).faults }
 {
     let mut text = Vec::new(alloc);

@@ -1,21 +1,19 @@
-ghost use Rattle.std.specs.Prelude.{◌≡◌, ◌↔◌, ◌⊎◌, ◌+◌, ◌^◌, ◌≤◌, ℕ, Some, IsNone, IsSome, IfSome, IfOk, IfErr, OnOk, IsTrue, IsFalse, flat_map};
-ghost use Rattle.dsp_ports.specs.Ports.{Rose, CountsFaults, IsSettled};
-ghost use Rattle.dsp_chain.specs.Built.{built};
-ghost use Rattle.dsp_defs.specs.Canon.{canon};
+ghost use Rattle.std.specs.Prelude.{◌≡◌, ◌⊎◌, ◌+◌, ◌≤◌, ℕ, Some, IfOk, IfErr, OnOk, flat_map};
+ghost use Rattle.dsp_ports.specs.Ports.{CountsFaults, IsSettled};
 ghost use Rattle.dsp_defs.specs.Grammar.{IsSound};
 ghost use Rattle.dsp_defs.specs.Generator.{generated_bytes};
 ghost use Rattle.dsp_defs.specs.Output.{input_signal, output as output_of};
-ghost use Rattle.dsp_defs.specs.Reading.{first_fault};
-ghost use Rattle.dsp_defs.specs.Report.{block_length_line, measure_line, report_text, script_line};
-ghost use Rattle.dsp_defs.specs.Shape.{unit};
+ghost use Rattle.dsp_defs.specs.Report.{measure_line, report_text};
 ghost use Rattle.dsp_defs.specs.Words.{command_of};
 ghost use Rattle.dsp_defs.specs.declared.command.Command.TheVariants.{Gen};
-ghost use Rattle.dsp_defs.specs.declared.limits.TheConstants.{MAX_GENERATED};
+ghost use Rattle.dsp_defs.specs.declared.limits.TheConstants.{MAX_GENERATED, MAX_SCRIPT};
 ghost use Rattle.dsp_session.specs.Session.{cost_of, measures_of};
+ghost use Rattle.dsp_cli.specs.Call.{Ended, call};
+ghost use Rattle.dsp_cli.specs.Causes.{Causes, Completes, Reports};
 ghost use Rattle.dsp_cli.specs.Fault.{summary_text};
-ghost use Rattle.dsp_cli.specs.Script.{chosen, chosen_block, is_legal_for, IfScript, IfFault};
+ghost use Rattle.dsp_cli.specs.Script.{chosen, IfScript};
 ghost use Rattle.dsp_cli.specs.Perform.{ReadsAs, Ran, RanGenerated, Performed, FailsToLoad, FailsToRun, FailsToGenerate, StopsBy, ReportsText, HasStatus};
-ghost use Rattle.dsp_cli.specs.Run.{Wrote, Tells, TellsHeader, IfWhole, IsStream, IsGen, IsPrint, IsDone, IsStopped, IsRefused, IsAnswer, IsRunnable, IsPrintable, MayEndAtLimit, line_of_status};
+ghost use Rattle.dsp_cli.specs.Run.{Wrote, Tells, IfWhole, IsStream, IsGen, IsPrint, IsDone, IsStopped, IsRefused};
 ghost use Rattle.dsp_cli.specs.Stands.{Stands};
 
 use crate::command::command;
@@ -47,6 +45,7 @@ enum Outcome {
 fn load_script<P: Source>(alloc: Global, script: &mut P) -> Result<Script, Fault>
     ensures ok { IfOk result (λ loaded. ReadsAs (P.state script.old) (P.state script.new) loaded) }
     ensures err { IfErr result (λ fault. FailsToLoad fault (P.state script.old) (P.state script.new)) }
+    ensures taken { (P.state script.new).taken ≤ (P.state script.old).taken + MAX_SCRIPT + 1 }
 {
     let text = match read_script(alloc, script) {
         Ok(text) => text,
@@ -146,6 +145,7 @@ fn perform<P: Source, S: Source, K: Sink, L: Ledger>(
         (K.state output.old) (K.state output.new) steps.old steps.new) }
     ensures err { IfErr result (λ fault. StopsBy fault words.now (P.state script.old) (P.state script.new) (S.state input.old) (S.state input.new)
         (K.state output.old) (K.state output.new) steps.old steps.new) }
+    ensures taken { (P.state script.new).taken ≤ (P.state script.old).taken + MAX_SCRIPT + 1 }
 {
     let Some(command) = command(words) else {
         return Err(Fault::Usage);
@@ -256,52 +256,33 @@ pub fn run<P: Source, S: Source, K: Sink, R: Sink, L: Ledger>(
     report: &mut R,
     steps: &mut Steps<L>,
 ) -> u8
-    // Where each status comes from.
-    ensures answer { IsAnswer (command_of words.now) result }
-    ensures usage { (result ≡ 1) ↔ IsNone (command_of words.now) }
-    ensures bad_script { result ≡ 2 → IfSome (P.state script.old).left (λ text. IsSome (first_fault text)) }
-    ensures faulty { IsSome (command_of words.now) → IfFault (P.state script.old).left (λ _. (result ≡ 2) ⊎ (result ≡ 6) ⊎ (result ≡ 10)) }
-    ensures bad_length { result ≡ 3 → IfScript (P.state script.old).left (λ s. IsFalse (is_legal_for s (chosen_block words.now s))) }
-    ensures illegal { IsStream words.now → IfScript (P.state script.old).left (λ s. IsFalse (is_legal_for s (chosen_block words.now s)) → (result ≡ 3) ⊎ (result ≡ 6) ⊎ (result ≡ 10)) }
-    ensures header { result ≡ 4 → TellsHeader (P.state script.old).left (S.state input.old) (R.state report.old) (R.state report.new) }
-    ensures limited { (S.state input.new).taken ≡ (S.state input.old).taken + 2 ^ 40 → (result ≡ 5) ⊎ (result ≡ 8) ⊎ MayEndAtLimit (P.state script.old).left (S.state input.old) (S.state input.new) result }
-    ensures script_read { result ≡ 6 → Rose (P.state script.old).faults (P.state script.new).faults }
-    ensures input_read { result ≡ 7 → Rose (S.state input.old).faults (S.state input.new).faults }
-    ensures output_written { result ≡ 8 → Rose (K.state output.old).faults (K.state output.new).faults }
-    ensures report_written { result ≡ 9 → Rose (R.state report.old).faults (R.state report.new).faults }
-    ensures not_built { result ≡ 12 → IfScript (P.state script.old).left (λ s. IsTrue (is_legal_for s (chosen_block words.now s)) × IsFalse (built s)) }
-    ensures unbuilt { IsStream words.now → IfScript (P.state script.old).left (λ s. IsTrue (is_legal_for s (chosen_block words.now s)) → IsFalse (built s) → (result ≡ 12) ⊎ (result ≡ 6) ⊎ (result ≡ 10)) }
-
-    // Where nothing stands in the way and no port fails, all is done, or memory is wanted.
-    ensures runnable { IsRunnable words.now (P.state script.old) (S.state input.old) → (Rose (P.state script.old).faults (P.state script.new).faults → ⊥)
-        → (Rose (S.state input.old).faults (S.state input.new).faults → ⊥) → (Rose (K.state output.old).faults (K.state output.new).faults → ⊥)
-        → (Rose (R.state report.old).faults (R.state report.new).faults → ⊥) → (result ≡ 0) ⊎ (result ≡ 10) }
-    ensures printable { IsPrintable words.now (P.state script.old) → (Rose (P.state script.old).faults (P.state script.new).faults → ⊥)
-        → (Rose (R.state report.old).faults (R.state report.new).faults → ⊥) → (result ≡ 0) ⊎ (result ≡ 10) }
+    // How it ended: a script, the frames of its input and what its stream did, or the fault; and the report of just that.
+    ensures ended { Ended (call words.now (P.state script.old) (P.state script.new) (S.state input.old) (S.state input.new)
+        (K.state output.old) (K.state output.new) (R.state report.old) (R.state report.new) steps.old steps.new result) }
 
     // A run or a gen that is done has written exactly the output of the script for all the input.
-    ensures done { IsStream words.now → IsDone result → IfWhole (command_of words.now) (P.state script.old).left (S.state input.old) (λ s bytes. Wrote (output_of s bytes) (K.state output.old) (K.state output.new)) }
+    ensures done { IsStream words.now → IsDone result → IfWhole (command_of words.now) (P.state script.old).left (S.state input.old)
+        (λ s bytes. Wrote (output_of s bytes) (K.state output.old) (K.state output.new)) }
     ensures settled { IsStream words.now → IsDone result → IsSettled (K.state output.new) }
-    ensures clean { result ≡ 0 → ((P.state script.new).faults ≡ (P.state script.old).faults) × ((S.state input.new).faults ≡ (S.state input.old).faults)
-        × ((K.state output.new).faults ≡ (K.state output.old).faults) × ((R.state report.new).faults ≡ (R.state report.old).faults) }
 
-    // What stands at each end: what was taken and written, the multiplies, and the report.
-    ensures stands { IsStream words.now → IsDone result ⊎ IsStopped result → Stands words.now (P.state script.old).left (S.state input.old) (S.state input.new)
-        (K.state output.old) (K.state output.new) (R.state report.old) (R.state report.new) steps.old steps.new result }
-    ensures untouched { IsRefused result ⊎ IsPrint words.now → (S.state input.new ≡ S.state input.old) × (K.state output.new ≡ K.state output.old) × (steps.new ≡ steps.old) }
+    // What stands at each end: what was taken and written, the multiplies and turns, and the report.
+    ensures stands { IsStream words.now → IsDone result ⊎ IsStopped result → Stands words.now (P.state script.old).left
+        (S.state input.old) (S.state input.new) (K.state output.old) (K.state output.new) (R.state report.old) (R.state report.new) steps.old steps.new result }
+    ensures untouched { IsRefused result ⊎ IsPrint words.now
+        → (S.state input.new ≡ S.state input.old) × (K.state output.new ≡ K.state output.old) × (steps.new ≡ steps.old) }
+    ensures input_same { IsGen words.now → S.state input.new ≡ S.state input.old }
     ensures counted { (seed frames : ℕ) → command_of words.now ≡ Some (Gen seed frames) → IsDone result → IfScript (P.state script.old).left (λ s.
         (steps.new.multiplies ≡ steps.old.multiplies + cost_of s frames)
         × Tells (report_text s frames (measures_of s (input_signal s (generated_bytes s.input seed frames)))) (R.state report.old) (R.state report.new)) }
-    ensures input_same { IsGen words.now → S.state input.new ≡ S.state input.old }
-    ensures script_same { result ≡ 1 → P.state script.new ≡ P.state script.old }
+    ensures script_taken { (P.state script.new).taken ≤ (P.state script.old).taken + MAX_SCRIPT + 1 }
 
-    // The rest of the report: the canonical text of a print, and the line of a fault.
-    ensures printed { IsPrint words.now → result ≡ 0 → IfScript (P.state script.old).left (λ s. Wrote (canon s) (R.state report.old) (R.state report.new)) }
-    ensures unprinted { IsPrint words.now → result ≡ 9 → IfScript (P.state script.old).left (λ s. Tells (canon s) (R.state report.old) (R.state report.new)) }
-    ensures report_settled { result ≡ 0 → IsSettled (R.state report.new) }
-    ensures tells { IfSome (line_of_status result) (λ line. Tells line (R.state report.old) (R.state report.new)) }
-    ensures tells_fault { result ≡ 2 → IfFault (P.state script.old).left (λ fault. Tells (script_line fault) (R.state report.old) (R.state report.new)) }
-    ensures tells_length { result ≡ 3 → IfScript (P.state script.old).left (λ s. Tells (block_length_line (chosen_block words.now s) (unit s.input.channels s.blocks)) (R.state report.old) (R.state report.new)) }
+    // Where each status comes from; that nothing else stands in the way of 0; and what the report says.
+    ensures causes { Causes (call words.now (P.state script.old) (P.state script.new) (S.state input.old) (S.state input.new)
+        (K.state output.old) (K.state output.new) (R.state report.old) (R.state report.new) steps.old steps.new result) }
+    ensures completes { Completes (call words.now (P.state script.old) (P.state script.new) (S.state input.old) (S.state input.new)
+        (K.state output.old) (K.state output.new) (R.state report.old) (R.state report.new) steps.old steps.new result) }
+    ensures reports { Reports (call words.now (P.state script.old) (P.state script.new) (S.state input.old) (S.state input.new)
+        (K.state output.old) (K.state output.new) (R.state report.old) (R.state report.new) steps.old steps.new result) }
 {
     let outcome = perform(alloc, words, script, input, output, steps);
     settle(outcome, report)

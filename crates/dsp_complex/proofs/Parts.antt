@@ -5,17 +5,13 @@ use Rattle.std.specs.Int.{w8, w16, w32, w64}
 use Rattle.std.proofs.lemmas.Int.{unsigned_abs-mul, to_z-of_z, ints}
 use Rattle.std.proofs.Math.Nat.{mul-le-mul, div-le_of_le-mul, div-lt_iff_lt-mul}
 use lib.Signed.{shr_z}
-use Rattle.dsp_sat.proofs.Words.{abs_within, product_fits, shift_down-is}
+use Rattle.dsp_sat.proofs.Words.{shift_down-is}
+use Rattle.dsp_sat.proofs.WideProducts.{word-in-32}
 use Rattle.dsp_defs.specs.Numbers.{◌>>◌}
 use Rattle.dsp_defs.specs.Formats.{word, word_bits}
 use Rattle.dsp_defs.specs.Complex.{product_shift, cmplx_mag_squared}
 use Rattle.dsp_defs.specs.declared.format.Fmt.{Fmt}
 use Rattle.dsp_defs.specs.declared.format.Fmt.TheVariants.{Q7, Q15, Q31}
-
-pub product-small : (format : Fmt) (a b : ℤ) → FitsSigned (word format) a → FitsSigned (word format) b → nat_abs (a *ℤ b) ≤ 2 ^ (2 * word_bits format - 2)
-product-small Q7 a b f g = rw unsigned_abs-mul (mul-le-mul (abs_within w8 a f) (abs_within w8 b g))
-product-small Q15 a b f g = rw unsigned_abs-mul (mul-le-mul (abs_within w16 a f) (abs_within w16 b g))
-product-small Q31 a b f g = rw unsigned_abs-mul (mul-le-mul (abs_within w32 a f) (abs_within w32 b g))
 
 -- a floor shift divides the size
 shr-small : (z : ℤ) (k m : ℕ) → 0 < 2 ^ k → nat_abs z ≤ m * 2 ^ k → nat_abs (z >> k) ≤ m
@@ -48,12 +44,6 @@ sum-fits format x y h k = small-fits format (x +ℤ y) (sum-small x y (2 ^ (word
 pub difference-fits : (format : Fmt) (x y : ℤ) → nat_abs x ≤ 2 ^ (word_bits format - 3) → nat_abs y ≤ 2 ^ (word_bits format - 3) → FitsSigned (word format) (x -ℤ y)
 difference-fits format x y h k = small-fits format (x -ℤ y) (difference-small x y (2 ^ (word_bits format - 3)) h k)
 
--- a number of the word is one of 32 bits
-pub word-in-32 : (format : Fmt) (z : ℤ) → FitsSigned (word format) z → SFits w32 z
-word-in-32 Q7 z f = record { sfits = omega (arith, f.sfits) }
-word-in-32 Q15 z f = record { sfits = omega (arith, f.sfits) }
-word-in-32 Q31 z f = f
-
 pub shift-is : (format : Fmt) → word_bits format + 1 ≡ product_shift format
 shift-is Q7 = refl
 shift-is Q15 = refl
@@ -62,10 +52,6 @@ shift-is Q31 = refl
 -- a small number is one of 32 bits
 pub small-in-32 : (format : Fmt) (z : ℤ) → nat_abs z ≤ 2 ^ (word_bits format - 3) → SFits w32 z
 small-in-32 format z h = word-in-32 format z (small-fits format z (omega (arith, h)))
-
--- the product of two numbers of the word, as one of 64 bits
-pub product-in-64 : (format : Fmt) (a b : ℤ) → FitsSigned (word format) a → FitsSigned (word format) b → SFits w64 (a *ℤ b)
-product-in-64 format a b f g = product_fits w64 w32 w32 a b (word-in-32 format a f) (word-in-32 format b g) (lit< tt)
 
 -- ---- as the code computes them
 

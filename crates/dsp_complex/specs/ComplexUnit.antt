@@ -1,8 +1,8 @@
 -- The blocks of this crate.
 use Rattle.std.proofs.Common.{◌≡◌, refl, ℕ, arith}
 use Rattle.dsp_defs.specs.Block.{given_frame}
-use Rattle.dsp_defs.specs.Unit.{most_frames}
-use Rattle.dsp_defs.proofs.MemorylessLaws.{IsMemoryless}
+use Rattle.dsp_stage.specs.Unit.{most_frames}
+use Rattle.dsp_stage.proofs.MemorylessLaws.{IsMemoryless}
 use Rattle.dsp_defs.specs.declared.format.Fmt.{Fmt}
 use Rattle.dsp_frames.specs.Memoryless.{price}
 use Rattle.dsp_defs.specs.declared.script.Block.{Block}
@@ -37,9 +37,9 @@ gives-frames format channels operation.Conj = record {
   live_frames = λ n. refl;
   whole_frames = λ n. refl;
   live_cost = λ n. omega arith;
-  whole_cost = λ n. omega arith;
   turns = λ m n. refl;
   taken = λ n. tt;
+  place_is = λ n. refl;
   no_measures = λ number kept. refl;
 }
 gives-frames format channels o = record {
@@ -52,9 +52,9 @@ gives-frames format channels o = record {
   live_frames = λ n. refl;
   whole_frames = λ n. refl;
   live_cost = λ n. omega arith;
-  whole_cost = λ n. omega arith;
   turns = λ m n. refl;
   taken = λ n. tt;
+  place_is = λ n. refl;
   no_measures = λ number kept. refl;
 }
 

@@ -1,7 +1,7 @@
 ghost use Rattle.std.specs.Prelude.{◌≡◌, ◌≤◌, ◌+◌, ◌*◌, length, take};
 ghost use Rattle.dsp_defs.specs.Block.{frames_in, channels_after};
 ghost use Rattle.dsp_defs.specs.Grammar.{Suits};
-ghost use Rattle.dsp_defs.specs.Unit.{IsSignal};
+ghost use Rattle.dsp_stage.specs.Unit.{IsSignal};
 ghost use Rattle.dsp_frames.specs.Memoryless.{Gives, price};
 
 use crate::frames::{Conjugate, Product, RealProduct, SquaredMagnitude, give_frames};

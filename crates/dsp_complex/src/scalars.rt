@@ -1,11 +1,11 @@
-ghost use Rattle.std.specs.Prelude.{◌≡◌, ◌≤◌, ◌-◌, ◌*◌, ◌^◌, ◌*ℤ◌, nat_abs};
+ghost use Rattle.std.specs.Prelude.{◌≡◌, ◌≤◌, ◌-◌, ◌^◌, ◌*ℤ◌, nat_abs};
 ghost use Rattle.dsp_defs.specs.Complex.{cmplx_conj, cmplx_mag_squared, cmplx_mult, product_shift};
 ghost use Rattle.dsp_defs.specs.Counts.{Rises};
 ghost use Rattle.dsp_defs.specs.Formats.{word_bits};
 ghost use Rattle.dsp_defs.specs.Numbers.{floor_shift};
 
 use dsp_defs::Steps;
-use dsp_sat::WideSample;
+use dsp_sat::{WideSample, wide_product};
 use std::sync::ledger::Ledger;
 
 /// A complex number.
@@ -27,17 +27,6 @@ pub(crate) fn conjugate<T: WideSample>(a: Complex<T>) -> Complex<T>
     }
 }
 
-/// A product of two parts.
-#[inline(always)]
-fn product_of_parts<T: WideSample, L: Ledger>(a: T, b: T, steps: &mut Steps<L>) -> i64
-    ensures value { result ≡ T.number a *ℤ T.number b }
-    ensures small { nat_abs result ≤ 2 ^ (2 * word_bits T.format - 2) }
-    ensures steps { Rises steps.old steps.new 1 1 }
-{
-    steps.count(1, 1);
-    i64::from(a.number()) * i64::from(b.number())
-}
-
 /// A product of two parts, shifted so that the sum of two of them fits the word.
 #[inline(always)]
 fn shifted_product<T: WideSample, L: Ledger>(a: T, b: T, steps: &mut Steps<L>) -> i32
@@ -45,7 +34,7 @@ fn shifted_product<T: WideSample, L: Ledger>(a: T, b: T, steps: &mut Steps<L>) -
     ensures small { nat_abs result ≤ 2 ^ (word_bits T.format - 3) }
     ensures steps { Rises steps.old steps.new 1 1 }
 {
-    (product_of_parts(a, b, steps) >> (T::WORD_BITS + 1)) as i32
+    (wide_product(a, b, steps) >> (T::WORD_BITS + 1)) as i32
 }
 
 /// The product.
@@ -77,7 +66,7 @@ pub(crate) fn squared<T: WideSample, L: Ledger>(a: Complex<T>, steps: &mut Steps
         let sum = shifted_product(a.re, a.re, steps) + shifted_product(a.im, a.im, steps);
         T::of_number(sum)
     } else {
-        let sum = product_of_parts(a.re, a.re, steps) + product_of_parts(a.im, a.im, steps);
+        let sum = wide_product(a.re, a.re, steps) + wide_product(a.im, a.im, steps);
         T::of_number((sum >> (T::WORD_BITS + 1)) as i32)
     }
 }

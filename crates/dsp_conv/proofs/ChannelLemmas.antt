@@ -14,10 +14,10 @@ use Rattle.dsp_defs.specs.Streaming.{Continues, last_of}
 use Rattle.dsp_defs.specs.Sums.{full_length}
 use Rattle.dsp_defs.specs.Block.{live_conv}
 use Rattle.dsp_defs.specs.Cost as cost
-use Rattle.dsp_defs.specs.Kept.{Fixed, Each, IsPlace, IsOfKind, in_words, flag, kinds_by, FitsChannel}
-use Rattle.dsp_defs.specs.Filter.{FilterStandsFor, FilterCounts, FilterFeeds, FilterFinishes, FilterRestores, IsNewFilter}
-use Rattle.dsp_defs.proofs.ChannelKept.{words-placed}
-use Rattle.dsp_defs.proofs.KeptLaws.{Each-append}
+use Rattle.dsp_stage.specs.Kept.{Fixed, Each, IsPlace, IsOfKind, in_words, flag, kinds_by, FitsChannel}
+use Rattle.dsp_stage.specs.Filter.{FilterStandsFor, FilterCounts, FilterFeeds, FilterFinishes, FilterRestores, IsNewFilter}
+use Rattle.dsp_stage.proofs.ChannelKept.{words-placed}
+use Rattle.dsp_stage.proofs.KeptLaws.{Each-append}
 use Rattle.dsp_lanes.specs.Turns.{lane_turns}
 use Rattle.dsp_unit.proofs.LastPlace.{each-last, kinds-of, of-kinds, same-number}
 use Rattle.dsp_conv.specs.ConvState.{ConvState, StandsFor, CountsFor, Fits, kept, kept_of, new_conv}
@@ -29,12 +29,6 @@ use Rattle.dsp_conv.proofs.ConvLemmas.{full-is, empty}
 -- all samples have their live values
 live-is : (n t : ℕ) → 1 ≤ t → min n (full_length n t) ≡ n
 live-is n t some = omega (arith, full-is n t some)
-
--- the products of the whole convolution: those of the live values, and those of the tail
-rest-of : (n t tail : ℕ) → 1 ≤ t → full_length n t ≡ n + tail → 1 * full_length n t * t ≡ 1 * min n (full_length n t) * t + tail * t
-rest-of n t tail some whole =
-    let live : min n (full_length n t) ≡ n = live-is n t some in
-    ap (λ k. 1 * k * t) whole ∙ omega arith ∙ ap (λ k. 1 * k * t + tail * t) (sym live)
 
 -- ---- what it stands for and counts
 
@@ -67,7 +61,6 @@ counts-channel format c n some long counts = record {
   running = counts.running;
   place = Each-append IsPlace (in_words (word format) (length c.taps - 1)) (Fixed (flag n) ∷ []) c.past (pos c.begun ∷ []) (words-placed (word format) _ c.past long) (ap pos counts.begun_is, tt);
   tail_values = counts.whole_is ∙ ap (λ k. k + length c.tail) (sym (live-is n (length c.taps) some));
-  rest_is = rest-of n (length c.taps) (length c.tail) some counts.whole_is;
 }
 
 -- ---- a call
@@ -118,24 +111,22 @@ lanes-within : (L n : ℕ) → lane_turns L n ≤ n
 lanes-within zero n = omega (arith, div-add-mod' n zero)
 lanes-within (suc k) n = omega (arith, div-add-mod' n (suc k), mul-suc (n / suc k) k)
 
-spent-turns : (t w count old new before after : ℕ) → w ≤ count → old ≡ count + new → after ≤ before + t * w → after + new * t ≤ before + old * t
-spent-turns t w count old new before after within whole made =
-    let products : old * t ≡ (count + new) * t = ap (λ k. k * t) whole in
+spent-turns : (t w count made now before after : ℕ) → w ≤ count → now ≡ made + count → after ≤ before + t * w → after + 1 * made * t ≤ before + 1 * now * t
+spent-turns t w count made now before after within more turned =
+    let products : 1 * now * t ≡ 1 * (made + count) * t = ap (λ k. 1 * k * t) more in
     let bound : t * w ≤ t * count = mul-le-mul_left t within in
-    omega (arith, products, bound, made)
+    omega (arith, products, bound, turned)
 
-spent-products : (t count old new before after : ℕ) → old ≡ count + new → after ≡ before + count * t → after + new * t ≡ before + old * t
-spent-products t count old new before after whole made =
-    let products : old * t ≡ (count + new) * t = ap (λ k. k * t) whole in
-    omega (arith, products, made)
+spent-products : (t count made now before after : ℕ) → now ≡ made + count → after ≡ before + count * t → 1 * now * t + before ≡ 1 * made * t + after
+spent-products t count made now before after more paid = ap (λ k. 1 * k * t + before) more ∙ omega (arith, paid)
 
 -- what a call does that gives `count` values of the tail, as many as there are or a block has
 pub channel-finished :
-    (format : Fmt) (L : ℕ) (old new : ConvState) (given : List ℤ) (count : ℕ) (before after : Counts) → 1 ≤ old.block →
-    new ≡ record old { past = new.past; tail = new.tail; ended = true } → length given ≡ count → count ≡ min (length old.tail) old.block → old.tail ≡ given ++ new.tail →
+    (format : Fmt) (L : ℕ) (old new : ConvState) (given : List ℤ) (count : ℕ) (before after : Counts) → 1 ≤ old.block → length old.past ≡ length old.taps - 1 →
+    new ≡ record old { past = new.past; tail = new.tail; ended = true } → length new.past ≡ length old.past → length given ≡ count → count ≡ min (length old.tail) old.block → old.tail ≡ given ++ new.tail →
     after.multiplies ≡ before.multiplies + count * length old.taps → after.turns ≤ before.turns + length old.taps * lane_turns L count →
     FilterFinishes (channel_state format old) (channel_state format new) given before after
-channel-finished format L old new given count before after some same is_given is_count tail multiplies turns =
+channel-finished format L old new given count before after some long same kept_long is_given is_count tail multiplies turns =
     let taps : new.taps ≡ old.taps = ap (λ (c : ConvState). c.taps) same in
     let whole : length old.tail ≡ count + length new.tail = ap length tail ∙ length-append given new.tail ∙ ap (λ k. k + length new.tail) is_given in
     record {
@@ -148,10 +139,16 @@ channel-finished format L old new given count before after some same is_given is
       tail = tail;
       count = is_given ∙ is_count;
       spent = λ none. empty old.tail (let no : length given ≡ 0 = ap length none in omega (arith, no, is_given, is_count, some));
-      nothing_left = λ none. ap (λ l. length l * length new.taps) none ∙ omega arith;
-      multiplies = ap (λ l. after.multiplies + length new.tail * length l) taps ∙ spent-products (length old.taps) count (length old.tail) (length new.tail) before.multiplies after.multiplies whole multiplies;
-      turns = subst (λ l. after.turns + length new.tail * length l ≤ before.turns + length old.tail * length old.taps) (sym taps)
-          (spent-turns (length old.taps) (lane_turns L count) count (length old.tail) (length new.tail) before.turns after.turns (lanes-within L count) whole turns);
+      took = λ n took. record {
+        place =
+            let begun : pos new.begun ≡ pos (flag n) = ap (λ (c : ConvState). pos c.begun) same ∙ each-last IsPlace (in_words (word format) (length old.taps - 1)) (Fixed (flag n)) old.past (pos old.begun) took.place in
+            Each-append IsPlace (in_words (word format) (length new.taps - 1)) (Fixed (flag n) ∷ []) new.past (pos new.begun ∷ []) (words-placed (word format) _ new.past (kept_long ∙ long ∙ ap (λ l. length l - 1) (sym taps))) (begun, tt);
+        tail_within = subst (λ l. length new.tail ≤ full_length n (length l)) (sym taps) (let within = took.tail_within in omega (arith, within, whole));
+      };
+      multiplies = λ n took. subst (λ l. 1 * (full_length n (length l) - length new.tail) * length l + before.multiplies ≡ 1 * (full_length n (length old.taps) - length old.tail) * length old.taps + after.multiplies) (sym taps)
+          (spent-products (length old.taps) count _ _ before.multiplies after.multiplies (let within = took.tail_within in omega (arith, within, whole)) multiplies);
+      turns = λ n took. subst (λ l. after.turns + 1 * (full_length n (length old.taps) - length old.tail) * length old.taps ≤ before.turns + 1 * (full_length n (length l) - length new.tail) * length l) (sym taps)
+          (spent-turns (length old.taps) (lane_turns L count) count _ _ before.turns after.turns (lanes-within L count) (let within = took.tail_within in omega (arith, within, whole)) turns);
     }
 
 -- ---- kept numbers

@@ -14,7 +14,7 @@ use Rattle.dsp_defs.specs.Signal.{sample, delayed, values, sum_below}
 use Rattle.dsp_defs.specs.Streaming.{Continues, last_of, rows}
 use Rattle.dsp_defs.specs.Sums.{convolution_at, fir, conv, full_length}
 use Rattle.dsp_defs.specs.Block.{live_conv}
-use Rattle.dsp_defs.specs.Kept.{flag}
+use Rattle.dsp_stage.specs.Kept.{flag}
 use Rattle.dsp_defs.proofs.Signal.{values_cong, values-add, sum_below_cong, sum_below_reversed}
 use Rattle.dsp_defs.proofs.Streaming.{fir-append, fir_later-rows, window_at}
 use Rattle.dsp_conv.specs.ConvState.{tail_length, tail_values}

@@ -1,6 +1,5 @@
 -- What a unit sees of a convolution of one of its channels.
-use Rattle.std.specs.Prelude.{◌*◌, length}
-use Rattle.dsp_defs.specs.Filter.{FilterState}
+use Rattle.dsp_stage.specs.Filter.{FilterState}
 use Rattle.dsp_defs.specs.declared.format.Fmt.{Fmt}
 use Rattle.dsp_defs.specs.declared.script.Block.TheVariants as Block
 use Rattle.dsp_conv.specs.ConvState.{ConvState, kept}
@@ -12,6 +11,5 @@ channel_state format c = record {
   capacity = c.block;
   kept = kept c;
   tail = c.tail;
-  rest = length c.tail * length c.taps;
   ended = c.ended;
 }

@@ -5,7 +5,7 @@ use Rattle.dsp_defs.specs.Signal.{sample}
 use Rattle.dsp_defs.specs.Streaming.{last_of, rows}
 use Rattle.dsp_defs.specs.Sums.{conv, full_length}
 use Rattle.dsp_defs.specs.Block.{live_conv}
-use Rattle.dsp_defs.specs.Kept.{flag, kept_of_channel}
+use Rattle.dsp_stage.specs.Kept.{flag, kept_of_channel}
 use Rattle.dsp_defs.specs.declared.format.Fmt.{Fmt}
 use Rattle.dsp_defs.specs.declared.script.Block.TheVariants as Block
 

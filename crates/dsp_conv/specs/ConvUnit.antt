@@ -4,8 +4,8 @@ use Rattle.dsp_defs.specs.Formats.{word}
 use Rattle.dsp_defs.specs.Sums.{full_length}
 use Rattle.dsp_defs.specs.Cost.{lane_turns}
 use Rattle.dsp_defs.specs.Shape.{group_of}
-use Rattle.dsp_defs.specs.Filter.{IsByChannel}
-use Rattle.dsp_defs.proofs.KeptLaws.{kept_of_channel-place}
+use Rattle.dsp_stage.specs.Filter.{IsByChannel}
+use Rattle.dsp_stage.proofs.KeptLaws.{kept_of_channel-place}
 use Rattle.dsp_unit.proofs.Units.{scaled}
 use Rattle.dsp_defs.specs.declared.format.Fmt.{Fmt}
 use Rattle.dsp_defs.specs.declared.script.Block.{Block}
@@ -34,7 +34,7 @@ by-channel format (Conv taps) is = record {
   taken = λ n. tt;
   no_measures = λ c number kept. refl;
   live_cost = λ c n. scaled c (min n (full_length n (length taps))) (length taps);
-  whole_cost = λ c n. scaled c (full_length n (length taps)) (length taps);
+  so_far = λ c n taken given. scaled c given (length taps);
   turns = λ c m n. scaled c (length taps) (lane_turns format (min n (full_length n (length taps)) - min m (full_length m (length taps))));
 }
 by-channel format block is = absurd is

@@ -16,7 +16,7 @@ pub struct ConvChannel<T: LaneSample<L>, const L: usize> {
 impl<T: LaneSample<L>, const L: usize> Model for ConvChannel<T, L> {
     ghost use Rattle.std.specs.Prelude.{◌≡◌, ◌≤◌, ◌-◌, length};
     ghost use Rattle.dsp_defs.specs.Formats.{lanes};
-    ghost use Rattle.dsp_defs.specs.Filter.{FilterState};
+    ghost use Rattle.dsp_stage.specs.Filter.{FilterState};
     ghost use Rattle.dsp_conv.specs.Channels.{channel_state};
 
     ghost Value = { FilterState };
@@ -29,7 +29,7 @@ impl<T: LaneSample<L>, const L: usize> Model for ConvChannel<T, L> {
 impl<T: LaneSample<L>, const L: usize> ConvChannel<T, L> {
     ghost use Rattle.std.specs.Prelude.{◌≡◌, map, length, IfOk, IfErr, MatchOption};
     ghost use Rattle.dsp_defs.specs.Formats.{lanes};
-    ghost use Rattle.dsp_defs.specs.Filter.{IsNewFilter};
+    ghost use Rattle.dsp_stage.specs.Filter.{IsNewFilter};
     ghost use Rattle.dsp_unit.specs.Making.{filter_fault};
     ghost use Rattle.dsp_conv.specs.ConvState.{new_conv};
     ghost use Rattle.dsp_conv.specs.Channels.{channel_state};

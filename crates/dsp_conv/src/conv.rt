@@ -37,7 +37,7 @@ impl<T: LaneSample<L>, const L: usize> Conv<T, L> {
     ghost use Rattle.std.specs.Prelude.{◌≡◌, ◌≤◌, ◌<◌, ◌+◌, ◌*◌, ◌++◌, ℕ, List, [], ℤ, true, false, min, length, map, take, drop, IfOk, OnOk, IfErr, IsFalse, IsTrue, ◌↔◌, MatchOption};
     ghost use Rattle.dsp_defs.specs.Streaming.{Continues};
     ghost use Rattle.dsp_defs.specs.Block.{live_conv};
-    ghost use Rattle.dsp_defs.specs.Kept.{flag};
+    ghost use Rattle.dsp_stage.specs.Kept.{flag};
     ghost use Rattle.dsp_lanes.specs.Turns.{lane_turns};
     ghost use Rattle.dsp_unit.specs.Making.{filter_fault};
     ghost use Rattle.dsp_conv.specs.ConvState.{StandsFor, CountsFor, Fits, kept, kept_of, new_conv, tail_values, tail_length};

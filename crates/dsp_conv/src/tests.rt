@@ -1,5 +1,5 @@
 ghost use Rattle.std.specs.Prelude.{◌≡◌, ◌≤◌, ◌+◌, length, IsFalse};
-ghost use Rattle.dsp_defs.specs.Filter.{filter_room};
+ghost use Rattle.dsp_stage.specs.Filter.{filter_room};
 
 use crate::{Conv, ConvChannel};
 use dsp_defs::{MakeFault, Steps};

@@ -6,7 +6,7 @@ use Rattle.std.proofs.lemmas.List.FromFn.{length-map-range_with_len, get_or-map-
 use Rattle.std.proofs.lemmas.Nat.{mul-add-lt}
 use Rattle.dsp_defs.specs.Signal.{sample, values}
 use Rattle.dsp_defs.specs.Block.{Frame, one_sample}
-use Rattle.dsp_defs.specs.Unit.{frames_in}
+use Rattle.dsp_defs.specs.Block.{frames_in}
 use Rattle.dsp_defs.proofs.Signal.{values_cong}
 
 pub length-frames_in : (channels : ℕ) (samples : List ℤ) → length (frames_in channels samples) ≡ length samples / channels

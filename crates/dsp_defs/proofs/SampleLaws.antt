@@ -10,7 +10,7 @@ use Rattle.std.proofs.Math.Seq.{drop-append-add}
 use Rattle.dsp_defs.specs.Block.{Frame}
 use Rattle.dsp_defs.specs.Bytes.{width, bytes_of, sample_of, coded, samples}
 use Rattle.dsp_defs.specs.Signal.{sample, values}
-use Rattle.dsp_defs.specs.Unit.{frames_in}
+use Rattle.dsp_defs.specs.Block.{frames_in}
 use Rattle.dsp_defs.specs.declared.format.Container.{Container}
 use Rattle.dsp_defs.specs.declared.format.Fmt.{Fmt}
 use Rattle.dsp_defs.specs.declared.format.Fmt.TheVariants.{Q7, Q15, Q31}

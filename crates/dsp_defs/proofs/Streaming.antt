@@ -1,12 +1,12 @@
 -- The streaming laws: each block's later values after its earlier ones, and what they depend on.
-use Rattle.std.proofs.Common.{◌≡◌, ℕ, suc, ◌+◌, ◌-◌, ◌<◌, ◌≤◌, ℤ, pos, ◌*ℤ◌, List, [], ◌∷◌, ◌++◌, reverse, length, take, drop, set, replicate, refl, sym, ap, ap₂, ◌∙◌, arith, length-append, ⊎_elim}
-use Rattle.std.proofs.lemmas.List.{append_assoc, append-nil, get_or-reverse, length-reverse, length-replicate, get_or-drop, get_or-replicate, get_or_append_left, get_or-append_right, drop-append-le, drop-drop, take_more_set, take_all, drop_all}
+use Rattle.std.proofs.Common.{◌≡◌, ℕ, suc, ◌+◌, ◌-◌, ◌<◌, ◌≤◌, ℤ, pos, ◌*ℤ◌, List, [], ◌∷◌, ◌++◌, reverse, length, drop, replicate, refl, sym, ap, ◌∙◌, arith, length-append, ⊎_elim}
+use Rattle.std.proofs.lemmas.List.{append_assoc, get_or-reverse, length-reverse, length-replicate, get_or-drop, get_or-replicate, get_or_append_left, get_or-append_right, drop-append-le, drop-drop}
 use mathlib.Core.List.{reverse_aux, reverse_aux-eq, reverse_aux-append, reverse_aux-reverse_aux-nil}
 use Rattle.std.proofs.lemmas.Bool.{cases_lt}
 use Rattle.dsp_defs.specs.Formats.{close}
 use Rattle.dsp_defs.specs.Signal.{sample, delayed, values, sum_below, outputs_of_history, outputs}
 use Rattle.dsp_defs.specs.Sums.{convolution_at, fir}
-use Rattle.dsp_defs.specs.Streaming.{Continues, IsCausal, last_of, rows, outputs_after, run, state_after, Follows}
+use Rattle.dsp_defs.specs.Streaming.{Continues, IsCausal, last_of, rows, outputs_after}
 use Rattle.dsp_defs.proofs.Signal.{values_cong, values-add, sum_below_cong, sum_below_reversed, delayed-append, delayed_before, delayed_after}
 use Rattle.dsp_defs.specs.declared.format.Fmt.{Fmt}
 
@@ -113,36 +113,3 @@ outputs-append next x more =
 
 pub outputs_causal : {A B : Type 0} (next : List A → List B → B) → IsCausal (outputs next)
 outputs_causal next x more = (outputs_after next (reverse x) (outputs_of_history next (reverse x)) more, outputs-append next x more)
-
--- ---- machines
-
-module _ {S A B : Type 0} (stands : S → List A → Type 0) (next : List A → List B → B) (gives : S → A → B) (moves : S → A → S) (follows : Follows stands next gives moves) where
-  pub run_continues : (more : List A) (s : S) (x : List A) → stands s x → Continues (outputs next) x more (run gives moves s more)
-  run_continues [] s x h = ap (outputs next) (append-nil x) ∙ sym (append-nil (outputs next x))
-  run_continues (a ∷ more) s x h =
-      let past = reverse x in
-      let earlier = outputs_of_history next past in
-      let one : Continues (outputs next) x (a ∷ []) (gives s a ∷ []) =
-      outputs-append next x (a ∷ []) ∙ ap (λ y. outputs next x ++ y ∷ []) (sym (follows.output s x a h)) in
-      continues_twice (outputs next) x (a ∷ []) more (gives s a ∷ []) (run gives moves (moves s a) more)
-      one (run_continues more (moves s a) (x ++ a ∷ []) (follows.state s x a h))
-
-  pub run_stands : (more : List A) (s : S) (x : List A) → stands s x → stands (state_after moves s more) (x ++ more)
-  run_stands [] s x h = rw append-nil h
-  run_stands (a ∷ more) s x h = rw (append_assoc x (a ∷ []) more) at (run_stands more (moves s a) (x ++ a ∷ []) (follows.state s x a h))
-
--- A loop over places: place i of the outputs is written with b, which the machine gives for a, place i of the inputs.
-module _ {S A B : Type 0} (gives : S → A → B) (moves : S → A → S) where
-  pub run_more : (all : List B) (inputs : List A) (outputs : List B) (s : S) (i : ℕ) (a : A) (b : B) → i < length outputs → drop i inputs ≡ a ∷ drop (i + 1) inputs → b ≡ gives s a → all ≡ take i outputs ++ run gives moves s (drop i inputs) → all ≡ take (i + 1) (set outputs i b) ++ run gives moves (moves s a) (drop (i + 1) inputs)
-  run_more all inputs outputs s i a b room read made so_far =
-      let later = run gives moves (moves s a) (drop (i + 1) inputs) in
-      so_far
-      ∙ ap (λ r. take i outputs ++ run gives moves s r) read
-      ∙ ap (λ v. take i outputs ++ v ∷ later) (sym made)
-      ∙ sym (append_assoc (take i outputs) (b ∷ []) later)
-      ∙ ap (λ r. r ++ later) (sym (take_more_set outputs i b room))
-
-  -- at the end all is written
-  pub run_all : (all : List B) (inputs : List A) (outputs : List B) (s : S) (i : ℕ) → length inputs ≤ i → length outputs ≤ i → all ≡ take i outputs ++ run gives moves s (drop i inputs) → outputs ≡ all
-  run_all all inputs outputs s i done full so_far =
-      sym (so_far ∙ ap₂ (λ t r. t ++ run gives moves s r) (take_all i outputs full) (drop_all i inputs done) ∙ append-nil outputs)

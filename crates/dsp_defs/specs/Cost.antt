@@ -1,5 +1,5 @@
 -- What a chain costs: multiplies, and turns of loops. Blocks of frames are named in the turn bounds alone.
-use Rattle.std.specs.Prelude.{ℕ, zero, suc, ◌+◌, ◌-◌, ◌*◌, ◌/◌, ◌%◌, max, min, ℤ, List, [], ◌∷◌, length}
+use Rattle.std.specs.Prelude.{ℕ, zero, suc, ◌+◌, ◌-◌, ◌*◌, ◌/◌, ◌%◌, max, min, ℤ, Bool, true, List, [], ◌∷◌, length}
 use Rattle.std.specs.Int.{div_ceil}
 use Rattle.dsp_defs.specs.Formats.{lanes}
 use Rattle.dsp_defs.specs.Block.{format_after, channels_after}
@@ -98,6 +98,11 @@ block_turns format c (Conv taps) m n = c * length taps * lane_turns format (live
 block_turns format c (Interpolate factor taps) m n = c * length taps * lane_turns format (n - m)
 block_turns format c (Decimate factor taps) m n = c * (n / factor - m / factor) * lane_turns format (length taps)
 block_turns format c block m n = live_block_cost format c block n - live_block_cost format c block m
+
+-- the same of a unit, which may be banked: a bank of biquads works on all channels of a frame at once
+abbrev pub unit_turns : Bool → Fmt → ℕ → Block → ℕ → ℕ → ℕ
+unit_turns true format c (Biquad post_shift coefficients) m n = 5 * section_count format coefficients * (n - m) * lane_turns format c
+unit_turns banked format c block m n = block_turns format c block m n
 
 -- the turn bound of a call in which a chain goes from m to n input frames: the sum over its blocks
 abbrev pub chain_turns : Fmt → ℕ → List Block → ℕ → ℕ → ℕ

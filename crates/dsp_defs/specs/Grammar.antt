@@ -20,6 +20,7 @@ use Rattle.dsp_defs.specs.Table.{name_of, format_name, container_name, has_form,
 
 -- ---- what stands in a text
 
+-- a word, a number, or a brace
 pub data Symbol : Type 0 where
   Name : List ℕ → Symbol
   Numeral : ℤ → Symbol
@@ -34,6 +35,7 @@ IsWritten Open OpenBrace = Unit {0}
 IsWritten Close CloseBrace = Unit {0}
 IsWritten token symbol = ⊥
 
+-- each item writes its symbol, and there are as many
 abbrev pub Spells : List Item → List Symbol → Type 0
 Spells [] [] = Unit {0}
 Spells (item ∷ items) (symbol ∷ symbols) = IsWritten item.token symbol × Spells items symbols
@@ -123,11 +125,13 @@ arguments block.Max = []
 arguments block.Min = []
 arguments (block.Route channels) = Listed channels ∷ []
 
+-- a number, a list in braces, or the name of a format
 abbrev pub argument_symbols : Argument → List Symbol
 argument_symbols (Number n) = Numeral n ∷ []
 argument_symbols (Listed numbers) = OpenBrace ∷ map Numeral numbers ++ CloseBrace ∷ []
 argument_symbols (Format format) = Name (format_name format) ∷ []
 
+-- the word, and what follows it
 abbrev pub block_symbols : Block → List Symbol
 block_symbols b = Name (name_of (word_of b)) ∷ flat_map argument_symbols (arguments b)
 
@@ -137,16 +141,19 @@ pub record Suits (flow : Flow) (b : Block) : Type 0 where
   pub channels : IfSome (channels_wanted (word_of b)) (λ wanted. flow.channels ≡ wanted)
   pub parameters : Fits (parameters (word_of b) flow) (arguments b) b
 
+-- each block suits what flows to it
 abbrev pub IsChain : Flow → List Block → Type 0
 IsChain flow [] = Unit {0}
 IsChain flow (b ∷ blocks) = Suits flow b × IsChain (flow_after b flow) blocks
 
+-- how many blocks are a correlate
 abbrev pub correlates : List Block → ℕ
 correlates [] = 0
 correlates (b ∷ blocks) = if is_correlate (word_of b) then correlates blocks + 1 else correlates blocks
 
 -- ---- scripts
 
+-- the container of an input
 abbrev pub container_of : InputKind → Container
 container_of kind.Wave = container.Wave
 container_of (kind.Raw rate) = container.Raw
@@ -156,26 +163,33 @@ abbrev pub rate_symbols : InputKind → List Symbol
 rate_symbols kind.Wave = []
 rate_symbols (kind.Raw rate) = Numeral (pos rate) ∷ []
 
+-- input CONTAINER FORMAT CHANNELS, and RATE where it is raw
 abbrev pub input_symbols : Input → List Symbol
 input_symbols input = Name (codes "input") ∷ Name (container_name (container_of input.kind)) ∷ Name (format_name input.format) ∷ Numeral (pos input.channels) ∷ rate_symbols input.kind
 
+-- block FRAMES, if the script names a length
 abbrev pub length_symbols : Option ℕ → List Symbol
 length_symbols None = []
 length_symbols (Some frames) = Name (codes "block") ∷ Numeral (pos frames) ∷ []
 
+-- output CONTAINER
 abbrev pub output_symbols : Container → List Symbol
 output_symbols output = Name (codes "output") ∷ Name (container_name output) ∷ []
 
+-- dspfx VERSION, the input, the block length, the blocks, the output
 abbrev pub symbols : Script → List Symbol
 symbols s = Name (codes "dspfx") ∷ Numeral (pos s.version) ∷ input_symbols s.input ++ length_symbols s.block ++ flat_map block_symbols s.blocks ++ output_symbols s.output
 
+-- what flows to the first block
 abbrev pub input_flow : Input → Flow
 input_flow input = record { format = input.format; channels = input.channels }
 
+-- raw samples have a rate in 1..2^32 - 1
 abbrev pub HasRate : InputKind → Type 0
 HasRate kind.Wave = Unit {0}
 HasRate (kind.Raw rate) = (1 ≤ rate) × (rate ≤ 4294967295)
 
+-- all ranges, counts, formats and channels fit
 pub record IsFit (s : Script) : Type 0 where
   pub version : s.version ≡ 1
   pub channels : (1 ≤ s.input.channels) × (s.input.channels ≤ MAX_CHANNELS)

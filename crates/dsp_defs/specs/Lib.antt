@@ -16,7 +16,6 @@ pub mod Bytes
 pub mod Wave
 pub mod Output
 pub mod Cost
-pub mod Kept
 pub mod Generator
 pub mod Counts
 pub mod Token
@@ -29,7 +28,3 @@ pub mod Reading
 pub mod Canon
 pub mod Words
 pub mod Report
-pub mod Unit
-pub mod Row
-pub mod Filter
-pub mod Channels

@@ -61,20 +61,6 @@ minimum (x ∷ xs) = Some (better_of (λ a b. int_lt a b) x (minimum xs))
 
 -- ---- the measures of a chain
 
--- an extreme as it is kept: whether there is one, the value, its index, and how many samples there were
-abbrev pub kept_extreme : List ℤ → Option (ℤ × ℕ)
-kept_extreme (pos (suc flag) ∷ value ∷ index ∷ count) = Some (value, nat_abs index)
-kept_extreme _ = None
-
--- the measures that a block's kept numbers give
-abbrev pub kept_measures : Fmt → ℕ → ℕ → Block → List ℤ → List Measure
-kept_measures format channels number Power kept = values channels (λ c. Measures.Power number c (sample kept c))
-kept_measures format channels number Dot kept = Measures.Dot number (sample kept 0) ∷ []
-kept_measures format channels number CmplxDot kept = Measures.CmplxDot number (cmplx_dot_close format (sample kept 0)) (cmplx_dot_close format (sample kept 1)) ∷ []
-kept_measures format channels number Max kept = values channels (λ c. Measures.Max number c (kept_extreme (drop (4 * c) kept)))
-kept_measures format channels number Min kept = values channels (λ c. Measures.Min number c (kept_extreme (drop (4 * c) kept)))
-kept_measures format channels number block kept = []
-
 -- the measures of one block, by channel; `number` is its place in the script
 abbrev pub block_measures : Fmt → ℕ → ℕ → Block → List Frame → List Measure
 block_measures format channels number Power x = values channels (λ c. Measures.Power number c (power format (channel c x)))

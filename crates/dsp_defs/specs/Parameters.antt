@@ -18,6 +18,7 @@ least Q7 = negsuc 127
 least Q15 = negsuc 32767
 least Q31 = negsuc 2147483647
 
+-- 127, 32767, 2^31 - 1
 abbrev pub greatest : Fmt → ℤ
 greatest Q7 = pos 127
 greatest Q15 = pos 32767
@@ -29,6 +30,7 @@ least_scale Q7 = negsuc 7
 least_scale Q15 = negsuc 15
 least_scale Q31 = negsuc 30
 
+-- 7, 15, 30
 abbrev pub greatest_scale : Fmt → ℤ
 greatest_scale Q7 = pos 7
 greatest_scale Q15 = pos 15
@@ -40,6 +42,7 @@ least_shift Q7 = negsuc 6
 least_shift Q15 = negsuc 14
 least_shift Q31 = negsuc 30
 
+-- 7, 15, 31
 abbrev pub greatest_shift : Fmt → ℤ
 greatest_shift Q7 = pos 7
 greatest_shift Q15 = pos 15
@@ -50,6 +53,7 @@ abbrev pub least_matrix_shift : Fmt → ℤ
 least_matrix_shift Q31 = pos 0
 least_matrix_shift f = negsuc 15
 
+-- 15, and 30 in Q31
 abbrev pub greatest_matrix_shift : Fmt → ℤ
 greatest_matrix_shift Q31 = pos 30
 greatest_matrix_shift f = pos 15
@@ -64,6 +68,7 @@ abbrev pub greatest_lms_shift : Fmt → ℕ
 greatest_lms_shift Q31 = 30
 greatest_lms_shift f = 14
 
+-- low <= n <= high
 abbrev pub IsBetween : (low high n : ℤ) → Type 0
 IsBetween low high n = (low ≤ℤ n) × (n ≤ℤ high)
 
@@ -79,6 +84,7 @@ abbrev pub factor_of : Count → ℕ
 factor_of (MultipleOf factor) = factor
 factor_of (AtLeast wanted) = wanted
 
+-- each number is in range, the count is complete, and the limit is kept
 pub record IsWithin (rule : ListRule) (numbers : List ℤ) : Type 0 where
   pub each : AllByRecursion (IsBetween rule.low rule.high) numbers
   pub count : IsTrue (is_complete rule.count (length numbers))

@@ -18,6 +18,7 @@ abbrev pub ◌>>=◌ : {A B : Type 0} → Result A ScriptFault → (A → Result
 (Ok x) >>= f = f x
 (Err e) >>= f = Err e
 
+-- the fault of this kind at an offset
 abbrev pub fault : {A : Type 0} → ℕ → ScriptKind → Result A ScriptFault
 fault offset kind = Err (record { offset = offset; kind = kind })
 
@@ -28,10 +29,12 @@ or_fault offset kind None = fault offset kind
 
 -- ---- tokens, words, numbers
 
+-- the first item, which must be there and no bad byte
 abbrev pub first_of : ℕ → List Item → Result (Item × Rest) ScriptFault
 first_of end [] = fault end Missing
 first_of end (item ∷ items) = elim item.token [ Bad ↦ fault item.offset BadByte | _ ↦ Ok (item, record { items = items; end = end }) ]
 
+-- the next token of what is left
 unfoldable pub token_at : Rest → Result (Item × Rest) ScriptFault
 token_at rest = first_of rest.end rest.items
 
@@ -39,6 +42,7 @@ token_at rest = first_of rest.end rest.items
 abbrev pub Judge : Type 0 → Type 0
 Judge A = ℕ → Token → Result A ScriptFault
 
+-- the next token as what a place wants, and what is left behind it
 abbrev pub next_at : {A : Type 0} → Judge A → Rest → Result (A × Rest) ScriptFault
 next_at judge rest = do
   item ← token_at rest
@@ -58,18 +62,23 @@ choice meaning offset token = or_fault offset UnknownWord (meaning_of meaning to
 abbrev pub named : List ℕ → List ℕ → Option ⊤
 named name run = if bytes_eq run name then Some tt else None
 
+-- this word next
 unfoldable pub word_at : List ℕ → Rest → Result (⊤ × Rest) ScriptFault
 word_at name rest = next_at (choice (named name)) rest
 
+-- a format next
 unfoldable pub format_at : Rest → Result (Fmt × Rest) ScriptFault
 format_at rest = next_at (choice format_by_name) rest
 
+-- a container next
 unfoldable pub container_at : Rest → Result (Container × Rest) ScriptFault
 container_at rest = next_at (choice container_by_name) rest
 
+-- low <= n <= high
 abbrev pub is_between : (low high n : ℤ) → Bool
 is_between low high n = int_le low n && int_le n high
 
+-- n, or a fault where it is not in low..high
 abbrev pub in_range : ℕ → (low high n : ℤ) → Result ℤ ScriptFault
 in_range offset low high n = if is_between low high n then Ok n else fault offset (OutOfRange low high)
 
@@ -77,9 +86,11 @@ in_range offset low high n = if is_between low high n then Ok n else fault offse
 abbrev pub number : (low high : ℤ) → Judge ℤ
 number low high offset token = or_fault offset BadNumber (meaning_of value_of token) >>= λ n. in_range offset low high n
 
+-- a number of low..high next
 unfoldable pub number_at : (low high : ℤ) → Rest → Result (ℤ × Rest) ScriptFault
 number_at low high rest = next_at (number low high) rest
 
+-- a natural number of low..high next
 unfoldable pub natural_at : (low high : ℕ) → Rest → Result (ℕ × Rest) ScriptFault
 natural_at low high rest = do
   n ← number_at (pos low) (pos high) rest
@@ -87,10 +98,12 @@ natural_at low high rest = do
 
 -- ---- lists
 
+-- the brace that opens a list
 abbrev pub opening : Judge ⊤
 opening offset Open = Ok tt
 opening offset token = fault offset Missing
 
+-- that brace next
 unfoldable pub open_at : Rest → Result (⊤ × Rest) ScriptFault
 open_at rest = next_at opening rest
 
@@ -101,6 +114,7 @@ entry rule count offset token = do
   n ← or_fault offset BadNumber (meaning_of value_of token)
   if nat_le rule.limit count then fault offset (TooMany rule.limit) else (in_range offset rule.low rule.high n >>= λ _. Ok (Some n))
 
+-- the next number of a list that has count numbers, or its end, and what is left behind it
 unfoldable pub entry_at : ListRule → ℕ → Rest → Result (Option ℤ × Rest) ScriptFault
 entry_at rule count rest = next_at (entry rule count) rest
 
@@ -114,6 +128,7 @@ entries_at rule count end (item ∷ items) = do
     | Some n ↦ (entries_at rule (count + 1) end items >>= λ more. Ok (n ∷ more.0, more.1))
   ]
 
+-- a list next: its brace, its numbers, its end
 unfoldable pub list_at : ListRule → Rest → Result (List ℤ × Rest) ScriptFault
 list_at rule rest = do
   opened ← open_at rest
@@ -128,8 +143,10 @@ another offset Q15 Q15 = fault offset (NoSuchForm Q15)
 another offset Q31 Q31 = fault offset (NoSuchForm Q31)
 another offset from format = Ok format
 
+-- the name of a format other than the present one
 abbrev pub conversion : Fmt → Judge Fmt
 conversion from offset token = choice format_by_name offset token >>= λ format. another offset from format
 
+-- such a name next
 unfoldable pub conversion_at : Fmt → Rest → Result (Fmt × Rest) ScriptFault
 conversion_at from rest = next_at (conversion from) rest

@@ -35,6 +35,7 @@ pub data Place : Type 0 where
   Output : Place
   Begin : Word → Place
 
+-- the output or the block that a word begins
 unfoldable pub place_of : List ℕ → Option Place
 place_of run = if bytes_eq run (codes "output") then Some Output else option_map (λ w. Begin w) (word_by_name run)
 
@@ -56,9 +57,11 @@ abbrev pub allowed : ℕ → Bool → Flow → ℕ → Place → Result (Option 
 allowed left correlated flow offset Output = Ok None
 allowed left correlated flow offset (Begin w) = may_begin left correlated flow offset w >>= λ _. Ok (Some w)
 
+-- the word of the next block, which may begin here, or none where the output comes
 abbrev pub next_block : ℕ → Bool → Flow → Judge (Option Word)
 next_block left correlated flow offset token = choice place_of offset token >>= λ place. allowed left correlated flow offset place
 
+-- that next
 unfoldable pub next_block_at : ℕ → Bool → Flow → Rest → Result (Option Word × Rest) ScriptFault
 next_block_at left correlated flow rest = next_at (next_block left correlated flow) rest
 
@@ -76,6 +79,7 @@ blocks_at (suc left) correlated flow rest = do
 
 -- ---- scripts
 
+-- the first of the items is this word
 abbrev pub begins_with : List ℕ → List Item → Bool
 begins_with name [] = false
 begins_with name (item ∷ items) = is_some (meaning_of (named name) item.token)
@@ -86,6 +90,7 @@ length_at rest = if begins_with (codes "block") rest.items
     then (word_at (codes "block") rest >>= λ name. natural_at 1 MAX_BLOCK_LENGTH name.1 >>= λ frames. Ok (Some frames.0, frames.1))
     else Ok (None, rest)
 
+-- the end of the text
 abbrev pub nothing_of : List Item → Result ⊤ ScriptFault
 nothing_of [] = Ok tt
 nothing_of (item ∷ items) = elim item.token [ Bad ↦ fault item.offset BadByte | _ ↦ fault item.offset UnknownWord ]
@@ -95,6 +100,7 @@ unfoldable pub kind_at : Container → Rest → Result (InputKind × Rest) Scrip
 kind_at container.Wave rest = Ok (kind.Wave, rest)
 kind_at container.Raw rest = natural_at 1 4294967295 rest >>= λ rate. Ok (kind.Raw rate.0, rate.1)
 
+-- the input next: its container, format, channels, and the rate of raw samples
 unfoldable pub input_at : Rest → Result (Input × Rest) ScriptFault
 input_at rest = do
   name ← word_at (codes "input") rest
@@ -104,6 +110,7 @@ input_at rest = do
   kind ← kind_at container.0 channels.1
   Ok (record { kind = kind.0; format = format.0; channels = channels.0 }, kind.1)
 
+-- a script next, and nothing behind it
 unfoldable pub script_at : Rest → Result Script ScriptFault
 script_at rest = do
   name ← word_at (codes "dspfx") rest
@@ -119,9 +126,11 @@ script_at rest = do
 unfoldable pub reading : List ℕ → Result Script ScriptFault
 reading text = if nat_lt MAX_SCRIPT (length text) then fault MAX_SCRIPT TooLong else script_at (rest_of 0 text)
 
+-- the fault of a reading, if it has one
 abbrev pub fault_in : {A : Type 0} → Result A ScriptFault → Option ScriptFault
 fault_in (Ok x) = None
 fault_in (Err f) = Some f
 
+-- the first fault of a text, if it has one
 abbrev pub first_fault : List ℕ → Option ScriptFault
 first_fault text = fault_in (reading text)

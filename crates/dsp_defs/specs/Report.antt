@@ -151,6 +151,7 @@ abbrev pub found_text : Option (ℤ × ℕ) → List ℕ
 found_text (Some best) = signed_decimal best.0 ++ codes " at " ++ decimal best.1
 found_text None = codes "none"
 
+-- WORD NUMBER channel CHANNEL = VALUE at INDEX, or = none
 abbrev pub extreme_line : List ℕ → ℕ → ℕ → Option (ℤ × ℕ) → List ℕ
 extreme_line word number channel found = line (channel_text word number channel ++ found_text found)
 

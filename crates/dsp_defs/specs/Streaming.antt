@@ -1,7 +1,7 @@
 -- Words of contracts and proofs on signals that go on. No value of a block is defined here.
-use Rattle.std.specs.Prelude.{ℕ, ◌≡◌, ◌+◌, ℤ, pos, ◌*ℤ◌, List, [], ◌∷◌, ◌++◌, length, drop, replicate, reverse}
+use Rattle.std.specs.Prelude.{ℕ, ◌≡◌, ◌+◌, ℤ, pos, ◌*ℤ◌, List, [], ◌∷◌, ◌++◌, length, drop, replicate}
 use Rattle.dsp_defs.specs.Formats.{close}
-use Rattle.dsp_defs.specs.Signal.{sample, values, sum_below, outputs_of_history}
+use Rattle.dsp_defs.specs.Signal.{sample, values, sum_below}
 use Rattle.dsp_defs.specs.declared.format.Fmt.{Fmt}
 
 -- ---- what is given of further samples
@@ -35,20 +35,23 @@ outputs_after next past earlier (x ∷ more) =
     let y = next (x ∷ past) earlier in
     y ∷ outputs_after next (x ∷ past) (y ∷ earlier) more
 
--- ---- recurrences step by step
+-- ---- what is kept between calls
 
--- A machine works sample by sample: `gives` is its output for a state and an input, and `moves` its next state.
--- the outputs for a list of inputs
-abbrev pub run : {S A B : Type 0} → (S → A → B) → (S → A → S) → S → List A → List B
-run gives moves s [] = []
-run gives moves s (x ∷ more) = gives s x ∷ run gives moves (moves s x) more
+-- Where `old` is kept of a signal, a call takes `taken`, gives what f gives of it next, and keeps `new`, what is kept of the longer signal.
+pub record GoesOn {S A B : Type 0} (f : List A → List B) (kept : List A → S) (old new : S) (taken : List A) (given : List B) : Type 0 where
+  pub values : (x : List A) → old ≡ kept x → Continues f x taken given
+  pub stands : (x : List A) → old ≡ kept x → new ≡ kept (x ++ taken)
 
--- and the state after it
-abbrev pub state_after : {S A : Type 0} → (S → A → S) → S → List A → S
-state_after moves s [] = s
-state_after moves s (x ∷ more) = state_after moves (moves s x) more
+-- what a filter of one channel gives of a signal, and the numbers that it keeps of it
+pub record Behaviour : Type 0 where
+  pub gives : List ℤ → List ℤ
+  pub keeps : List ℤ → List ℤ
 
--- where a state stands for a signal, the machine gives the recurrence's next output, and its next state stands for the signal with that input
-pub record Follows {S A B : Type 0} (stands : S → List A → Type 0) (next : List A → List B → B) (gives : S → A → B) (moves : S → A → S) : Type 0 where
-  pub output : (s : S) (x : List A) (a : A) → stands s x → gives s a ≡ next (a ∷ reverse x) (outputs_of_history next (reverse x))
-  pub state : (s : S) (x : List A) (a : A) → stands s x → stands (moves s a) (x ++ a ∷ [])
+-- one filter and then another, which takes what the first gives; its numbers stand behind
+abbrev pub then : Behaviour → Behaviour → Behaviour
+then b c = record { gives = λ x. c.gives (b.gives x); keeps = λ x. b.keeps x ++ c.keeps (b.gives x) }
+
+-- filters one after another
+abbrev pub chained : List Behaviour → Behaviour
+chained [] = record { gives = λ x. x; keeps = λ x. [] }
+chained (b ∷ bs) = then b (chained bs)

@@ -15,6 +15,7 @@ use Rattle.dsp_defs.specs.declared.word.Formats.TheVariants.{All, NotQ7, OnlyQ15
 use Rattle.dsp_defs.specs.declared.word.Word.{Word}
 use Rattle.dsp_defs.specs.declared.word.Word.TheVariants.{Offset, Negate, Abs, Scale, Shift, Clip, To, Add, Sub, Mult, Conj, CmplxMult, CmplxMultReal, MagSquared, Fir, Sparse, Decimate, Interpolate, LatticeFir, LatticeIir, Biquad, Biquad64, Conv, ConvPartial, Correlate, Lms, Pid, MatAdd, MatSub, MatScale, MatTrans, MatMult, Power, Dot, CmplxDot, Max, Min, Route}
 
+-- a row of the table
 pub record Row : Type 0 where
   pub name : List ℕ
   pub formats : Formats
@@ -29,6 +30,7 @@ each name formats parameters = record { name = name; formats = formats; channels
 abbrev pub of_channels : ℕ → List ℕ → Formats → (Flow → Form) → Row
 of_channels wanted name formats parameters = record { name = name; formats = formats; channels = Some wanted; parameters = parameters }
 
+-- the row of each word
 abbrev pub row_of : Word → Row
 row_of Offset = each (codes "offset") All (λ flow. coefficient flow (λ value. Done (block.Offset value)))
 row_of Negate = each (codes "negate") All (λ flow. Done block.Negate)
@@ -71,38 +73,48 @@ row_of Route = each (codes "route") All (λ flow. Numbers (routes flow) (λ chan
 
 -- ---- words
 
+-- all words, in the order of the table
 abbrev pub every_word : List Word
 every_word = Offset ∷ Negate ∷ Abs ∷ Scale ∷ Shift ∷ Clip ∷ To ∷ Add ∷ Sub ∷ Mult ∷ Conj ∷ CmplxMult ∷ CmplxMultReal ∷ MagSquared ∷ Fir ∷ Sparse ∷ Decimate ∷ Interpolate ∷ LatticeFir ∷ LatticeIir ∷ Biquad ∷ Biquad64 ∷ Conv ∷ ConvPartial ∷ Correlate ∷ Lms ∷ Pid ∷ MatAdd ∷ MatSub ∷ MatScale ∷ MatTrans ∷ MatMult ∷ Power ∷ Dot ∷ CmplxDot ∷ Max ∷ Min ∷ Route ∷ []
 
+-- the text of a word
 abbrev pub name_of : Word → List ℕ
 name_of w = (row_of w).name
 
+-- the word of a text
 unfoldable pub word_by_name : List ℕ → Option Word
 word_by_name run = find (λ w. bytes_eq run (name_of w)) every_word
 
+-- all formats
 abbrev pub every_format : List Fmt
 every_format = Q7 ∷ Q15 ∷ Q31 ∷ []
 
+-- q7, q15, q31
 abbrev pub format_name : Fmt → List ℕ
 format_name Q7 = codes "q7"
 format_name Q15 = codes "q15"
 format_name Q31 = codes "q31"
 
+-- the format of a text
 unfoldable pub format_by_name : List ℕ → Option Fmt
 format_by_name run = find (λ f. bytes_eq run (format_name f)) every_format
 
+-- all containers
 abbrev pub every_container : List Container
 every_container = Wave ∷ Raw ∷ []
 
+-- wave, raw
 abbrev pub container_name : Container → List ℕ
 container_name Wave = codes "wave"
 container_name Raw = codes "raw"
 
+-- the container of a text
 unfoldable pub container_by_name : List ℕ → Option Container
 container_by_name run = find (λ c. bytes_eq run (container_name c)) every_container
 
 -- ---- where a block may stand
 
+-- the format is one of these
 abbrev pub admits : Formats → Fmt → Bool
 admits All format = true
 admits NotQ7 Q7 = false
@@ -112,6 +124,7 @@ admits OnlyQ15 format = false
 admits OnlyQ31 Q31 = true
 admits OnlyQ31 format = false
 
+-- the block has a form in the format
 abbrev pub has_form : Word → Fmt → Bool
 has_form w format = admits (row_of w).formats format
 
@@ -119,6 +132,7 @@ has_form w format = admits (row_of w).formats format
 abbrev pub channels_wanted : Word → Option ℕ
 channels_wanted w = (row_of w).channels
 
+-- the word is correlate
 abbrev pub is_correlate : Word → Bool
 is_correlate Correlate = true
 is_correlate w = false

@@ -12,7 +12,6 @@ mod list_rule;
 mod measure;
 mod script;
 mod script_fault;
-mod stage;
 mod steps;
 mod wave;
 mod word;
@@ -23,8 +22,8 @@ pub use flow::Flow;
 pub use format::{Container, Fmt, Input, InputKind};
 pub use laws::{
     cut_header_is_named, divisor_is_greatest, frames_are_counted, given_bytes_stay,
-    given_values_stay, header_is_read_back, header_stays, kept_numbers_have_their_place,
-    part_stays, samples_are_bytes, unit_is_least,
+    given_values_stay, header_is_read_back, header_stays, part_stays, samples_are_bytes,
+    unit_is_least,
 };
 pub use limits::{
     DEFAULT_BLOCK_LENGTH, GENERATED_RATE, MAX_BLOCK_LENGTH, MAX_BLOCKS, MAX_CHANNELS,
@@ -36,7 +35,6 @@ pub use list_rule::{Count, ListRule};
 pub use measure::Measure;
 pub use script::{Block, Blocks, Script};
 pub use script_fault::{ScriptFault, ScriptKind};
-pub use stage::Stage;
 pub use steps::Steps;
 pub use wave::{Header, HeaderFault, Wanted};
 pub use word::{Formats, Word};

@@ -9,9 +9,9 @@ use Rattle.dsp_defs.specs.Streaming.{Continues, last_of}
 use Rattle.dsp_defs.specs.Sums.{fir, sparse}
 use Rattle.dsp_defs.specs.Counts.{Counts}
 use Rattle.dsp_defs.specs.Cost as cost
-use Rattle.dsp_defs.specs.Kept.{greatest, in_words, FitsChannel}
-use Rattle.dsp_defs.specs.Filter.{FilterFeeds, FilterFinishes, FilterRestores, IsNewFilter}
-use Rattle.dsp_defs.proofs.SampleFilters.{IsSampleBlock, sample_filter, sample-new, sample-fed, sample-finished, sample-restored, sample-fits, fits-sample}
+use Rattle.dsp_stage.specs.Kept.{greatest, in_words, FitsChannel}
+use Rattle.dsp_stage.specs.Filter.{FilterFeeds, FilterFinishes, FilterRestores, IsNewFilter}
+use Rattle.dsp_stage.proofs.SampleFilters.{IsSampleBlock, sample_filter, sample-new, sample-fed, sample-finished, sample-restored, sample-fits, fits-sample}
 use Rattle.dsp_lanes.specs.Turns.{lane_turns}
 use Rattle.dsp_fir.specs.FirUnit.{fir-by-channel, sparse-by-channel}
 use Rattle.dsp_fir.specs.FirState.{FirState, StandsFor, channel_state, new_fir}
@@ -38,7 +38,6 @@ fir-block format taps = record {
   whole_same = λ n. refl;
   kinds_are = λ n. refl;
   live_cost = λ n. omega arith;
-  whole_cost = λ n. omega arith;
 }
 
 module _ (format : Fmt) (old new : FirState) where
@@ -96,7 +95,6 @@ sparse-block format taps delays = record {
   whole_same = λ n. refl;
   kinds_are = λ n. ap (in_words (word format)) (greatest-named delays);
   live_cost = λ n. omega arith;
-  whole_cost = λ n. omega arith;
 }
 
 module _ (format : Fmt) (old new : SparseState) where

@@ -1,7 +1,7 @@
 -- What a contract sees of a FIR filter.
 use Rattle.std.specs.Prelude.{ℕ, ◌-◌, ◌≡◌, ℤ, pos, Bool, false, List, [], length, replicate}
 use Rattle.dsp_defs.specs.Streaming.{last_of}
-use Rattle.dsp_defs.specs.Filter.{FilterState}
+use Rattle.dsp_stage.specs.Filter.{FilterState}
 use Rattle.dsp_defs.specs.declared.format.Fmt.{Fmt}
 use Rattle.dsp_defs.specs.declared.script.Block.TheVariants as Block
 
@@ -28,6 +28,5 @@ channel_state format f = record {
   capacity = f.block;
   kept = f.past;
   tail = [];
-  rest = 0;
   ended = f.ended;
 }

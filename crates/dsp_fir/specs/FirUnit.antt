@@ -3,8 +3,8 @@ use Rattle.std.specs.Prelude.{⊤, ℤ, pos, ◌≤ℤ◌, ◌-◌, ◌<◌, Lis
 use Rattle.dsp_defs.specs.Formats.{word}
 use Rattle.dsp_defs.specs.Cost.{lane_turns}
 use Rattle.dsp_defs.specs.Shape.{group_of}
-use Rattle.dsp_defs.specs.Filter.{IsByChannel}
-use Rattle.dsp_defs.proofs.KeptLaws.{kept_of_channel-place}
+use Rattle.dsp_stage.specs.Filter.{IsByChannel}
+use Rattle.dsp_stage.proofs.KeptLaws.{kept_of_channel-place}
 use Rattle.dsp_unit.proofs.Units.{scaled}
 use Rattle.dsp_defs.specs.declared.format.Fmt.{Fmt}
 use Rattle.dsp_defs.specs.declared.script.Block.{Block}
@@ -36,7 +36,7 @@ fir-by-channel format taps = record {
   taken = λ n. tt;
   no_measures = λ c number kept. refl;
   live_cost = λ c n. scaled c n (length taps);
-  whole_cost = λ c n. scaled c n (length taps);
+  so_far = λ c n taken given. scaled c taken (length taps);
   turns = λ c m n. scaled c (length taps) (lane_turns format (n - m));
 }
 
@@ -69,7 +69,7 @@ sparse-by-channel format taps delays = record {
   taken = λ n. tt;
   no_measures = λ c number kept. refl;
   live_cost = λ c n. scaled c n (length taps);
-  whole_cost = λ c n. scaled c n (length taps);
+  so_far = λ c n taken given. scaled c taken (length taps);
   turns = λ c m n. scaled c (length taps) (lane_turns format (n - m));
 }
 

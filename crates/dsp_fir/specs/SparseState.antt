@@ -4,7 +4,7 @@ use Rattle.std.specs.Option.{option_map, option_or}
 use Rattle.dsp_defs.specs.Signal.{sample, values, sum_below}
 use Rattle.dsp_defs.specs.Streaming.{last_of}
 use Rattle.dsp_defs.specs.Sums.{sparse_term, sparse_close}
-use Rattle.dsp_defs.specs.Filter.{FilterState}
+use Rattle.dsp_stage.specs.Filter.{FilterState}
 use Rattle.dsp_unit.specs.Making.{block_fault}
 use Rattle.dsp_defs.specs.declared.format.Fmt.{Fmt}
 use Rattle.dsp_defs.specs.declared.script.Block.TheVariants as Block
@@ -64,6 +64,5 @@ channel_state format s = record {
   capacity = s.block;
   kept = s.past;
   tail = [];
-  rest = 0;
   ended = s.ended;
 }

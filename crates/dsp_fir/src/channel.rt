@@ -16,7 +16,7 @@ pub struct FirChannel<T: LaneSample<L>, const L: usize> {
 impl<T: LaneSample<L>, const L: usize> Model for FirChannel<T, L> {
     ghost use Rattle.std.specs.Prelude.{◌≡◌, ◌≤◌, ◌-◌, length};
     ghost use Rattle.dsp_defs.specs.Formats.{lanes};
-    ghost use Rattle.dsp_defs.specs.Filter.{FilterState};
+    ghost use Rattle.dsp_stage.specs.Filter.{FilterState};
     ghost use Rattle.dsp_fir.specs.FirState.{channel_state};
 
     ghost Value = { FilterState };
@@ -29,7 +29,7 @@ impl<T: LaneSample<L>, const L: usize> Model for FirChannel<T, L> {
 impl<T: LaneSample<L>, const L: usize> FirChannel<T, L> {
     ghost use Rattle.std.specs.Prelude.{◌≡◌, map, length, IfOk, IfErr, MatchOption};
     ghost use Rattle.dsp_defs.specs.Formats.{lanes};
-    ghost use Rattle.dsp_defs.specs.Filter.{IsNewFilter};
+    ghost use Rattle.dsp_stage.specs.Filter.{IsNewFilter};
     ghost use Rattle.dsp_unit.specs.Making.{filter_fault};
     ghost use Rattle.dsp_fir.specs.FirState.{channel_state, new_fir};
 
@@ -106,7 +106,7 @@ pub struct SparseChannel<T: LaneSample<L>, const L: usize> {
 impl<T: LaneSample<L>, const L: usize> Model for SparseChannel<T, L> {
     ghost use Rattle.std.specs.Prelude.{◌≡◌, ◌≤◌, length};
     ghost use Rattle.dsp_defs.specs.Formats.{lanes};
-    ghost use Rattle.dsp_defs.specs.Filter.{FilterState};
+    ghost use Rattle.dsp_stage.specs.Filter.{FilterState};
     ghost use Rattle.dsp_fir.specs.SparseState.{channel_state, greatest_delay};
 
     ghost Value = { FilterState };
@@ -119,7 +119,7 @@ impl<T: LaneSample<L>, const L: usize> Model for SparseChannel<T, L> {
 impl<T: LaneSample<L>, const L: usize> SparseChannel<T, L> {
     ghost use Rattle.std.specs.Prelude.{◌≡◌, map, length, IfOk, IfErr, MatchOption};
     ghost use Rattle.dsp_defs.specs.Formats.{lanes};
-    ghost use Rattle.dsp_defs.specs.Filter.{IsNewFilter};
+    ghost use Rattle.dsp_stage.specs.Filter.{IsNewFilter};
     ghost use Rattle.dsp_fir.specs.SparseState.{channel_state, new_sparse, sparse_fault};
 
     /// A filter that has taken nothing; it is refused as `Sparse::new` refuses it.

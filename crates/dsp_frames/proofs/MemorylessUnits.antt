@@ -10,10 +10,10 @@ use Rattle.dsp_defs.specs.Signal.{sample, values}
 use Rattle.dsp_defs.specs.Formats.{word}
 use Rattle.dsp_defs.specs.Block.{Frame, one_sample, frames_in, given_frame, format_after, channels_after}
 use Rattle.dsp_defs.specs.Counts.{Counts}
-use Rattle.dsp_defs.specs.Unit.{UnitState, IsSignal, IsOutput, Feeds}
+use Rattle.dsp_stage.specs.Unit.{UnitState, IsSignal, IsOutput, Feeds}
 use Rattle.dsp_defs.proofs.Signal.{values_cong}
 use Rattle.dsp_defs.proofs.FrameLemmas.{length-frames_in, frames_in-map, frames_in-pairs, map-values}
-use Rattle.dsp_defs.proofs.MemorylessLaws.{IsMemoryless, IsIdle, memoryless-feeds}
+use Rattle.dsp_stage.proofs.MemorylessLaws.{IsMemoryless, IsIdle, memoryless-feeds}
 use Rattle.dsp_defs.specs.declared.format.Fmt.{Fmt}
 use Rattle.dsp_defs.specs.declared.script.Block.{Block}
 use Rattle.dsp_frames.specs.Memoryless.{Gives}

@@ -1,5 +1,5 @@
 -- Samples that a test has looked at, and units that a test feeds.
-use Rattle.std.proofs.Common.{◌≡◌, ◌∙◌, ap, sym, subst, ℕ, ◌+◌, ◌*◌, ◌/◌, ◌%◌, ◌<◌, ◌≤◌, ℤ, pos, negsuc, List, ◌++◌, take, drop, length, arith}
+use Rattle.std.proofs.Common.{◌≡◌, ◌∙◌, ap, sym, subst, ℕ, ◌+◌, ◌*◌, ◌/◌, ◌%◌, ◌<◌, ◌≤◌, ℤ, pos, negsuc, List, ◌++◌, take, drop, length, arith, Option, Some, None, IfSome}
 use Rattle.std.specs.Prelude.{FitsSigned}
 use Rattle.std.proofs.lemmas.Int.{ints}
 use Rattle.std.proofs.lemmas.List.{get_or_default, take-append-le, take_all}
@@ -7,8 +7,8 @@ use Rattle.dsp_defs.specs.Formats.{word}
 use Rattle.dsp_defs.specs.Parameters.{IsBetween, least, greatest}
 use Rattle.dsp_defs.specs.Signal.{sample}
 use Rattle.dsp_defs.specs.Counts.{Counts}
-use Rattle.dsp_defs.specs.Kept.{IsTaken}
-use Rattle.dsp_defs.specs.Unit.{UnitState, MadeAs, IsSignal, Accepts, Feeds, most_frames, room_of}
+use Rattle.dsp_stage.specs.Kept.{limit_of}
+use Rattle.dsp_stage.specs.Unit.{UnitState, MadeAs, CountsFrames, IsSignal, Accepts, Feeds, most_frames, room_of}
 use Rattle.dsp_defs.specs.Block.{Frame, channels_after}
 use Rattle.dsp_defs.proofs.FrameLemmas.{length-frames_in}
 use Rattle.dsp_defs.specs.declared.format.Fmt.{Fmt}
@@ -41,9 +41,15 @@ written-row size new old long =
 pub same-room : (u v : UnitState) → MadeAs u v → room_of v ≡ room_of u
 same-room u v made = λ i. most_frames (made.block i) (made.capacity i) * channels_after (made.channels i) (made.block i)
 
+-- a unit can take so many frames more, within a limit if there is one
+abbrev Can : UnitState → Option ℕ → ℕ → Type 0
+Can u limit more = IfSome limit (λ limit. (n : ℕ) × CountsFrames u n × (n + more ≤ limit))
+
 -- a unit that accepts any frames still does when it was fed
 pub still-accepts : (u v : UnitState) (taken given : List Frame) (before after : Counts) → Feeds u v taken given before after → ((more : ℕ) → Accepts u more) → (more : ℕ) → Accepts v more
 still-accepts u v taken given before after fed accepts more =
-    let (n, counts, can) = accepts (length taken + more) in
-    let sum : n + (length taken + more) ≡ n + length taken + more = omega arith in
-    (n + length taken, fed.counts n counts, subst (λ b. IsTaken b (n + length taken + more)) (sym fed.made.block) (subst (IsTaken u.block) sum can))
+    subst (λ b. Can v (limit_of b) more) (sym fed.made.block) (still (limit_of u.block) (accepts (length taken + more)))
+  where
+    still : (limit : Option ℕ) → Can u limit (length taken + more) → Can v limit more
+    still None can = tt
+    still (Some limit) (n, counts, few) = (n + length taken, fed.counts n counts, omega (arith, few))

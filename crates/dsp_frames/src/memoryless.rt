@@ -1,5 +1,6 @@
 use crate::FrameWork;
-use dsp_defs::{Block, Fmt, Measure, Stage, Steps};
+use dsp_defs::{Block, Fmt, Measure, Steps};
+use dsp_stage::Stage;
 use std::alloc::{AllocError, Global};
 use std::marker::Model;
 use std::sync::ledger::Ledger;
@@ -15,9 +16,9 @@ pub struct Memoryless<W: FrameWork + Drop> {
 }
 
 impl<W: FrameWork + Drop> Model for Memoryless<W> {
-    ghost use Rattle.std.specs.Prelude.{◌≤◌, ◌*◌, []};
+    ghost use Rattle.std.specs.Prelude.{◌≤◌, ◌*◌, [], false};
     ghost use Rattle.dsp_defs.specs.Grammar.{Suits};
-    ghost use Rattle.dsp_defs.specs.Unit.{UnitState};
+    ghost use Rattle.dsp_stage.specs.Unit.{UnitState};
 
     ghost Value = { UnitState };
 
@@ -28,7 +29,7 @@ impl<W: FrameWork + Drop> Model for Memoryless<W> {
       capacity = u.capacity;
       kept = [];
       tail = [];
-      rest = 0;
+      banked = false;
       ended = u.ended;
     } };
 
@@ -37,9 +38,9 @@ impl<W: FrameWork + Drop> Model for Memoryless<W> {
 
 impl<W: FrameWork + Drop> Memoryless<W> {
     ghost use Rattle.std.specs.Prelude.{◌≡◌, ◌≤◌, ◌*◌, ◌↔◌, ℕ, ℤ, List, [], IfOk, IsFalse};
-    ghost use Rattle.dsp_defs.specs.Kept.{Fits};
+    ghost use Rattle.dsp_stage.specs.Kept.{Fits, FitsAfter, place_of};
     ghost use Rattle.dsp_defs.specs.Grammar.{Suits};
-    ghost use Rattle.dsp_defs.specs.Unit.{IsNew, Restores, measures_of};
+    ghost use Rattle.dsp_stage.specs.Unit.{IsNew, Restores, measures_of};
 
     /// A unit of the block that has taken nothing, for at most `frames` frames a call; all its memory is
     /// taken here.
@@ -70,6 +71,8 @@ impl<W: FrameWork + Drop> Memoryless<W> {
     fn keeps_nothing(&self)
         ensures kept { self.now.kept ≡ [] }
         ensures fits { (numbers : List ℤ) → Fits self.now.format self.now.channels self.now.block numbers ↔ (numbers ≡ []) }
+        ensures after { FitsAfter self.now.format self.now.channels self.now.block 0 [] }
+        ensures place { (n : ℕ) → place_of self.now.block n ≡ 0 }
         ensures restores { (numbers : List ℤ) → IsFalse self.now.ended → Fits self.now.format self.now.channels self.now.block numbers → Restores self.now self.now numbers }
         ensures measures { (number : ℕ) → measures_of number self.now ≡ [] }
     {
@@ -106,6 +109,11 @@ impl<W: FrameWork + Drop> Stage for Memoryless<W> {
     fn fits(&self, numbers: &[i64]) -> bool {
         self.keeps_nothing();
         numbers.is_empty()
+    }
+
+    fn place(&self, numbers: &[i64]) -> Option<u64> {
+        self.keeps_nothing();
+        if self.fits(numbers) { Some(0) } else { None }
     }
 
     fn restore(&mut self, _numbers: &[i64]) {

@@ -1,10 +1,10 @@
 ghost use Rattle.std.specs.Prelude.{◌≡◌, ◌≤◌, ◌+◌, ◌*◌, ℕ, length, take, IfOk};
 ghost use Rattle.dsp_defs.specs.Block.{frames_in, given_frame, channels_after};
 ghost use Rattle.dsp_defs.specs.Grammar.{Suits};
-ghost use Rattle.dsp_defs.specs.Unit.{IsSignal, most_frames};
+ghost use Rattle.dsp_stage.specs.Unit.{IsSignal, most_frames};
 ghost use Rattle.dsp_defs.specs.declared.format.Fmt.{Fmt};
 ghost use Rattle.dsp_defs.specs.declared.script.Block.{Block};
-ghost use Rattle.dsp_defs.proofs.MemorylessLaws.{IsMemoryless};
+ghost use Rattle.dsp_stage.proofs.MemorylessLaws.{IsMemoryless};
 ghost use Rattle.dsp_frames.specs.Memoryless.{Gives, price};
 
 use dsp_defs::{Block, Fmt, Steps};

@@ -5,21 +5,21 @@ use Rattle.std.specs.List.{range_with_len}
 use Rattle.std.proofs.lemmas.List.{append-nil, take-append-le, take_all}
 use Rattle.std.proofs.lemmas.List.FromFn.{length-map-range_with_len}
 use Rattle.dsp_defs.specs.Block.{Frame, channel}
-use Rattle.dsp_defs.specs.Channels.{samples_in}
+use Rattle.dsp_stage.specs.Channels.{samples_in}
 use Rattle.dsp_defs.specs.Counts.{Counts}
 use Rattle.dsp_defs.specs.Formats.{accumulator}
-use Rattle.dsp_defs.specs.Kept.{kept_numbers, InWord, Each, IsPlace, IsOfKind, Fits}
+use Rattle.dsp_stage.specs.Kept.{kept_numbers, InWord, Each, IsPlace, IsOfKind, Fits, FitsAfter}
 use Rattle.dsp_defs.specs.Measure.{power}
 use Rattle.dsp_defs.specs.Numbers.{Width, int_wrap}
 use Rattle.dsp_defs.specs.Signal.{sample}
-use Rattle.dsp_defs.specs.Unit.{UnitState, MadeAs, StandsFor, CountsFrames, Feeds, Restores, IsSignal, IsOutput, frames_in, measures_of}
+use Rattle.dsp_stage.specs.Unit.{UnitState, MadeAs, StandsFor, CountsFrames, Feeds, Restores, IsSignal, IsOutput, frames_in, measures_of}
 use Rattle.dsp_defs.specs.declared.format.Fmt.{Fmt}
 use Rattle.dsp_defs.specs.declared.format.Fmt.TheVariants.{Q7, Q15, Q31}
 use Rattle.dsp_defs.specs.declared.measure.Measure.TheVariants as Measures
 use Rattle.dsp_defs.specs.declared.script.Block.TheVariants.{Power}
-use Rattle.dsp_defs.proofs.ChannelFrames.{channel-frames_in, channel-more}
+use Rattle.dsp_stage.proofs.ChannelFrames.{channel-frames_in, channel-more}
 use Rattle.dsp_defs.proofs.FrameLemmas.{length-frames_in}
-use Rattle.dsp_defs.proofs.MeasureLaws.{sample-singles}
+use Rattle.dsp_stage.proofs.MeasureLaws.{sample-singles}
 use Rattle.dsp_defs.proofs.SumLemmas.{same_numbers}
 use Rattle.dsp_measure.specs.Sums.{with_squares}
 use Rattle.dsp_measure.proofs.SumLaws.{power-more}
@@ -61,7 +61,7 @@ pub record IsPower (u : UnitState) : Type 0 where
   pub block : u.block ≡ Power
   pub running : u.ended ≡ false
   pub tail : u.tail ≡ []
-  pub rest : u.rest ≡ 0
+  pub plain : u.banked ≡ false
   pub sums : length u.kept ≡ u.channels
 
 powers : Fmt → ℕ → List Frame → ℕ → ℤ
@@ -87,7 +87,6 @@ power-counts u is n = record {
   running = is.running;
   place = rw is.block (words-place (accumulator u.format) 0 u.channels u.kept is.sums);
   tail_frames = rw (is.block, is.tail) (omega arith);
-  rest_is = rw (is.block, is.rest) (omega arith);
 }
 
 -- fed with frames, each sum goes on by the squares of its channel
@@ -104,7 +103,7 @@ power-feeds u v frames m before after is is' made size each paid turned = record
   frames = λ n _. rw is.block refl;
   counts = λ n _. power-counts v is' (n + length taken);
   multiplies = λ n _. rw (is.block, many) (omega (arith, paid));
-  turns = λ n _. rw (is.block, many) (omega (arith, turned, more n m u.channels));
+  turns = λ n _. rw (is.plain, is.block, many) (omega (arith, turned, more n m u.channels));
 }
   where
     taken : List Frame
@@ -131,6 +130,9 @@ power-output u frames is signal few = record { signal = rw is signal; at_most = 
 
 pub power-fits : (format : Fmt) (channels : ℕ) (numbers : List ℤ) → length numbers ≡ channels → All (FitsSigned (accumulator format)) numbers → Fits format channels Power numbers
 power-fits format channels numbers size fits = (0, (tt, words-of (accumulator format) 0 channels numbers size fits))
+
+pub power-place : (format : Fmt) (channels : ℕ) (numbers : List ℤ) → Fits format channels Power numbers → FitsAfter format channels Power 0 numbers
+power-place format channels numbers fits = let words = of-words (accumulator format) 0 channels numbers fits.1.1 in (tt, words-of (accumulator format) 0 channels numbers words.0 words.1)
 
 pub fits-power : (format : Fmt) (channels : ℕ) (numbers : List ℤ) → Fits format channels Power numbers → (length numbers ≡ channels) × All (FitsSigned (accumulator format)) numbers
 fits-power format channels numbers fits = of-words (accumulator format) 0 channels numbers fits.1.1

@@ -1,5 +1,5 @@
 ghost use Rattle.std.specs.Prelude.{◌≡◌, ◌<◌, ◌*◌, ◌↔◌, ℕ, All, FitsSigned, IsTrue, IfOk, length, replicate, pos};
-ghost use Rattle.dsp_defs.specs.Channels.{samples_in};
+ghost use Rattle.dsp_stage.specs.Channels.{samples_in};
 ghost use Rattle.dsp_defs.specs.Counts.{Rises};
 ghost use Rattle.dsp_defs.specs.Formats.{accumulator, word};
 ghost use Rattle.dsp_defs.specs.Signal.{sample};

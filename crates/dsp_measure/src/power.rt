@@ -1,5 +1,5 @@
 ghost use Rattle.std.specs.Prelude.{◌≡◌, ◌+◌, ◌*◌, ◌<◌, ℕ, ℤ, All, FitsSigned, List, length};
-ghost use Rattle.dsp_defs.specs.Channels.{samples_in};
+ghost use Rattle.dsp_stage.specs.Channels.{samples_in};
 ghost use Rattle.dsp_defs.specs.Counts.{Rises};
 ghost use Rattle.dsp_defs.specs.Formats.{accumulator, word};
 ghost use Rattle.dsp_defs.specs.Signal.{sample};
@@ -80,7 +80,7 @@ impl<T: MeasureSample> Power<T> {
     ghost use Rattle.dsp_defs.specs.Counts.{Rises};
     ghost use Rattle.dsp_defs.specs.Formats.{accumulator};
     ghost use Rattle.dsp_defs.specs.Measure.{power};
-    ghost use Rattle.dsp_defs.specs.Kept.{Each, IsOfKind, in_words};
+    ghost use Rattle.dsp_stage.specs.Kept.{Each, IsOfKind, in_words};
 
     /// The sum of nothing.
     pub fn new() -> Self

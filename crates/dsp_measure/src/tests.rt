@@ -1,8 +1,9 @@
 ghost use Rattle.std.specs.Prelude.{◌≡◌, ◌≤◌, length};
-ghost use Rattle.dsp_defs.specs.Unit.{IsSignal, frames_in};
+ghost use Rattle.dsp_stage.specs.Unit.{IsSignal, frames_in};
 
 use super::*;
-use dsp_defs::{Block, Fmt, Measure, Stage, Steps};
+use dsp_defs::{Block, Fmt, Measure, Steps};
+use dsp_stage::Stage;
 use std::alloc::Global;
 use std::marker::Brand;
 use std::process::Abort;

@@ -1,5 +1,6 @@
 use crate::frames::{add_formatted, are_sums, no_sums};
-use dsp_defs::{Block, Fmt, Measure, Stage, Steps};
+use dsp_defs::{Block, Fmt, Measure, Steps};
+use dsp_stage::Stage;
 use std::alloc::{AllocError, Global};
 use std::marker::Model;
 use std::sync::ledger::Ledger;
@@ -15,9 +16,9 @@ pub struct Unit {
 }
 
 impl Model for Unit {
-    ghost use Rattle.std.specs.Prelude.{◌≡◌, ◌≤◌, ◌*◌, [], All, FitsSigned, vec_len};
+    ghost use Rattle.std.specs.Prelude.{◌≡◌, ◌≤◌, ◌*◌, [], false, All, FitsSigned, vec_len};
     ghost use Rattle.dsp_defs.specs.Formats.{accumulator};
-    ghost use Rattle.dsp_defs.specs.Unit.{UnitState};
+    ghost use Rattle.dsp_stage.specs.Unit.{UnitState};
     ghost use Rattle.dsp_defs.specs.declared.script.Block.TheVariants.{Power};
 
     ghost Value = { UnitState };
@@ -29,7 +30,7 @@ impl Model for Unit {
       capacity = u.capacity;
       kept = u.sums.items;
       tail = [];
-      rest = 0;
+      banked = false;
       ended = u.ended;
     } };
 
@@ -38,7 +39,7 @@ impl Model for Unit {
 
 impl Unit {
     ghost use Rattle.std.specs.Prelude.{◌≡◌, ◌≤◌, ◌*◌, IfOk};
-    ghost use Rattle.dsp_defs.specs.Unit.{IsNew};
+    ghost use Rattle.dsp_stage.specs.Unit.{IsNew};
     ghost use Rattle.dsp_defs.specs.declared.script.Block.TheVariants.{Power};
 
     /// A unit of `power` that has taken nothing, for at most `frames` frames a call; all its memory is
@@ -95,6 +96,11 @@ impl Stage for Unit {
 
     fn fits(&self, numbers: &[i64]) -> bool {
         numbers.len() == usize::from(self.channels) && are_sums(self.format, numbers)
+    }
+
+    fn place(&self, numbers: &[i64]) -> Option<u64> {
+        let _sums = &self.sums;
+        if self.fits(numbers) { Some(0) } else { None }
     }
 
     fn restore(&mut self, numbers: &[i64]) {

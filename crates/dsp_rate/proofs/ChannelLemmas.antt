@@ -15,11 +15,11 @@ use Rattle.dsp_defs.specs.Counts.{Counts}
 use Rattle.dsp_defs.specs.Streaming.{Continues}
 use Rattle.dsp_defs.specs.Sums.{decimate}
 use Rattle.dsp_defs.specs.Cost as cost
-use Rattle.dsp_defs.specs.Kept.{Fixed, Each, IsPlace, IsOfKind, in_words, kept_of_channel, kinds_by, FitsChannel}
-use Rattle.dsp_defs.specs.Filter.{FilterStandsFor, FilterCounts, FilterFeeds, FilterFinishes, FilterRestores, IsNewFilter}
-use Rattle.dsp_defs.proofs.ChannelKept.{words-placed}
-use Rattle.dsp_defs.proofs.KeptLaws.{Each-append}
-use Rattle.dsp_defs.proofs.CostLaws.{quotient_more}
+use Rattle.dsp_stage.specs.Kept.{Fixed, Each, IsPlace, IsOfKind, in_words, kept_of_channel, kinds_by, FitsChannel}
+use Rattle.dsp_stage.specs.Filter.{FilterStandsFor, FilterCounts, FilterTook, filter_made, FilterFeeds, FilterFinishes, FilterRestores, IsNewFilter}
+use Rattle.dsp_stage.proofs.ChannelKept.{words-placed}
+use Rattle.dsp_stage.proofs.KeptLaws.{Each-append}
+use Rattle.dsp_stage.proofs.CostLaws.{quotient_more}
 use Rattle.dsp_lanes.specs.Turns.{lane_turns}
 use Rattle.dsp_unit.proofs.LastPlace.{each-last, kinds-of, of-kinds}
 use Rattle.dsp_rate.specs.DecimateState.{DecimateState, StandsFor, CountsFor, Fits, kept, new_decimate, past_length}
@@ -68,7 +68,6 @@ counts-channel format d n running long counts = record {
   running = running;
   place = Each-append IsPlace (in_words (word format) (length d.taps + d.factor - 2)) (Fixed (n % d.factor) ∷ []) d.past (pos d.phase ∷ []) (words-placed (word format) _ d.past long) (ap pos counts, tt);
   tail_values = no-tail _ _ refl;
-  rest_is = no-tail _ _ refl;
 }
 
 -- ---- a call
@@ -133,10 +132,13 @@ channel-finished format old new given before after is none same = record {
   tail = sym (ap (λ l. l ++ []) none);
   count = let nothing : length given ≡ 0 = ap length none in omega (arith, nothing);
   spent = λ _. refl;
-  nothing_left = λ _. refl;
-  multiplies = ap (λ (c : Counts). c.multiplies + 0) same;
-  turns = let turns : after.turns ≡ before.turns = ap (λ (c : Counts). c.turns) same in omega (arith, turns);
+  took = λ n took. subst (λ (d : DecimateState). FilterTook (channel_state format d) n) (sym is) (record { place = took.place; tail_within = took.tail_within });
+  multiplies = λ n _. (let made = made-same n in let counted = ap (λ (c : Counts). c.multiplies) same in omega (arith, made, counted));
+  turns = λ n _. (let made = made-same n in let turned = ap (λ (c : Counts). c.turns) same in omega (arith, made, turned));
 }
+  where
+    made-same : (n : ℕ) → filter_made (channel_state format new) n ≡ filter_made (channel_state format old) n
+    made-same n = ap (λ (d : DecimateState). filter_made (channel_state format d) n) is
 
 -- ---- kept numbers
 
@@ -197,7 +199,6 @@ channel-restored format old new numbers running same keeps =
         running = ended;
         place = subst (λ b. Each IsPlace (kinds_by format b n) (kept new)) (sym block) (subst (λ l. Each IsPlace (kinds_by format (Block.Decimate old.factor old.taps) n) l) (sym keeps) place);
         tail_values = no-tail _ _ refl;
-        rest_is = no-tail _ _ refl;
       };
     }
 

@@ -1,6 +1,6 @@
 -- What a unit sees of a decimator of one of its channels.
 use Rattle.std.specs.Prelude.{[]}
-use Rattle.dsp_defs.specs.Filter.{FilterState}
+use Rattle.dsp_stage.specs.Filter.{FilterState}
 use Rattle.dsp_defs.specs.declared.format.Fmt.{Fmt}
 use Rattle.dsp_defs.specs.declared.script.Block.TheVariants as Block
 use Rattle.dsp_rate.specs.DecimateState.{DecimateState, kept}
@@ -12,6 +12,5 @@ channel_state format d = record {
   capacity = d.block;
   kept = kept d;
   tail = [];
-  rest = 0;
   ended = d.ended;
 }

@@ -3,8 +3,8 @@ use Rattle.std.specs.Prelude.{⊤, ◌-◌, ◌*◌, ◌/◌, ◌<◌, ◌≤◌
 use Rattle.dsp_defs.specs.Formats.{word}
 use Rattle.dsp_defs.specs.Cost.{lane_turns}
 use Rattle.dsp_defs.specs.Shape.{group_of}
-use Rattle.dsp_defs.specs.Filter.{IsByChannel}
-use Rattle.dsp_defs.proofs.KeptLaws.{kept_of_channel-place}
+use Rattle.dsp_stage.specs.Filter.{IsByChannel}
+use Rattle.dsp_stage.proofs.KeptLaws.{kept_of_channel-place}
 use Rattle.dsp_unit.proofs.Units.{scaled}
 use Rattle.dsp_defs.specs.declared.format.Fmt.{Fmt}
 use Rattle.dsp_defs.specs.declared.script.Block.{Block}
@@ -33,7 +33,7 @@ by-channel format (Decimate factor taps) is = record {
   taken = λ n. tt;
   no_measures = λ c number kept. refl;
   live_cost = λ c n. scaled c (n / factor * 1) (length taps);
-  whole_cost = λ c n. scaled c (n / factor * 1) (length taps);
+  so_far = λ c n taken given. scaled c given (length taps);
   turns = λ c m n. scaled c (n / factor - m / factor) (lane_turns format (length taps));
 }
 by-channel format block is = absurd is

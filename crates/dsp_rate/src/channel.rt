@@ -15,7 +15,7 @@ pub struct DecimateChannel<T: LaneSample<L>, const L: usize> {
 impl<T: LaneSample<L>, const L: usize> Model for DecimateChannel<T, L> {
     ghost use Rattle.std.specs.Prelude.{◌≡◌, ◌≤◌, length};
     ghost use Rattle.dsp_defs.specs.Formats.{lanes};
-    ghost use Rattle.dsp_defs.specs.Filter.{FilterState};
+    ghost use Rattle.dsp_stage.specs.Filter.{FilterState};
     ghost use Rattle.dsp_rate.specs.DecimateState.{past_length};
     ghost use Rattle.dsp_rate.specs.Channels.{channel_state};
 
@@ -29,7 +29,7 @@ impl<T: LaneSample<L>, const L: usize> Model for DecimateChannel<T, L> {
 impl<T: LaneSample<L>, const L: usize> DecimateChannel<T, L> {
     ghost use Rattle.std.specs.Prelude.{◌≡◌, map, length, IfOk, IfErr, MatchOption};
     ghost use Rattle.dsp_defs.specs.Formats.{lanes};
-    ghost use Rattle.dsp_defs.specs.Filter.{IsNewFilter};
+    ghost use Rattle.dsp_stage.specs.Filter.{IsNewFilter};
     ghost use Rattle.dsp_rate.specs.DecimateState.{new_decimate, decimate_fault};
     ghost use Rattle.dsp_rate.specs.Channels.{channel_state};
 

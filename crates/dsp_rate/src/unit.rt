@@ -1,10 +1,11 @@
 ghost use Rattle.std.specs.Prelude.{◌≤◌, ◌*◌, IfOk};
-ghost use Rattle.dsp_defs.specs.Unit.{IsNew};
+ghost use Rattle.dsp_stage.specs.Unit.{IsNew};
 ghost use Rattle.dsp_defs.specs.Grammar.{Suits};
 ghost use Rattle.dsp_rate.specs.RateUnit.{IsRateBlock};
 
 use crate::DecimateChannel;
-use dsp_defs::{Block, Fmt, Stage};
+use dsp_defs::{Block, Fmt};
+use dsp_stage::Stage;
 use dsp_unit::{EachChannel, Either};
 use std::alloc::{AllocError, Global};
 

@@ -1,34 +1,37 @@
 -- The samples have ended: the last of them, the tail, and what that makes of the whole stream.
-use Rattle.std.proofs.Common.{◌≡◌, ℕ, ◌+◌, ◌*◌, ◌/◌, ◌^◌, ◌<◌, ◌≤◌, List, [], ◌++◌, length, take, Option, Some, None, Result, Ok, Err, refl, sym, ap, ◌∙◌, subst, arith, append_assoc, append-nil, length-append, inr}
+use Rattle.std.proofs.Common.{◌≡◌, ℕ, suc, ◌+◌, ◌-◌, ◌*◌, ◌/◌, ◌^◌, ◌<◌, ◌≤◌, List, [], ◌++◌, length, take, Option, Some, None, Result, Ok, Err, sym, ap, ◌∙◌, subst, arith, append_assoc, append-nil, length-append, inl, inr}
+use Rattle.std.proofs.lemmas.Bool.{cases_lt}
 use Rattle.std.proofs.lemmas.List.{length-take-le, take-take}
 use Rattle.std.specs.Io.KnownBytes.{append_known}
 use Rattle.dsp_ports.specs.Ports.{SourceState, SinkState, Rose, IsSettled}
 use Rattle.dsp_ports.proofs.Moved.{append_known-append}
 use Rattle.dsp_defs.specs.Block.{Frame}
+use Rattle.dsp_defs.specs.Counts.{Counts}
 use Rattle.dsp_defs.specs.Output.{HasHeader, input_container, input_signal, output_header, output_pad, live_bytes, whole_bytes, output, part}
-use Rattle.dsp_defs.specs.Shape.{frames_given, window_at}
+use Rattle.dsp_defs.specs.Shape.{frames_given, gathered, window_at}
 use Rattle.dsp_defs.specs.Streaming.{Begins}
+use Rattle.dsp_defs.specs.declared.limits.TheConstants.{MAX_GATHERED}
 use Rattle.dsp_defs.specs.declared.measure.Measure.{Measure}
 use Rattle.dsp_defs.specs.declared.script.Script.{Script}
 use Rattle.dsp_defs.specs.declared.wave.Header.{Header}
 use Rattle.dsp_defs.proofs.ChainLaws.{whole_chain_begins}
-use Rattle.dsp_defs.proofs.ChainPlaces.{has_channels}
-use Rattle.dsp_defs.proofs.CostLaws.{live_cost_within, live_cost-zero}
+use Rattle.dsp_stage.proofs.ChainPlaces.{has_channels}
+use Rattle.dsp_stage.proofs.CostLaws.{live_cost_within, products_are_cost}
 use Rattle.dsp_defs.proofs.FrameLaws.{length-whole_chain, frames_are_given}
 use Rattle.dsp_defs.proofs.OutputLaws.{coded_begins}
 use Rattle.dsp_defs.proofs.SampleLaws.{samples-whole}
-use Rattle.dsp_chain.proofs.Making.{no-window}
 use Rattle.dsp_session.specs.SessionState.{SessionState}
-use Rattle.dsp_session.specs.Session.{IsReady, StandsFor, SameSession, Feeds, signal, frame_bytes, whole_values, cost_of, live_cost_of, measures_of}
-use Rattle.dsp_session.specs.Stream.{IsWhole, IsTakenWhole, Stopped, Done, LagsByOne, declared_bytes, frames_in_bytes}
-use Rattle.dsp_session.specs.Passing.{InDeclared, AreAll, Passes, FailsToPass, Passed, WritesRest, TailCosts}
+use Rattle.dsp_session.specs.Session.{IsReady, StandsFor, SameSession, signal, frame_bytes, whole_values, cost_of, live_cost_of, products_of, turns_of, run_turns, measures_of}
+use Rattle.dsp_session.specs.Opening.{Fits}
+use Rattle.dsp_session.specs.Stream.{IsWhole, IsTakenWhole, Stopped, Done, LagsByOne, BlocksKeepLimits, declared_bytes, frames_in_bytes, in_whole_blocks}
+use Rattle.dsp_session.specs.Passing.{InDeclared, AreAll, PassCosts, Passes, FailsToPass, Passed, WritesRest, TailCosts}
 use Rattle.dsp_session.specs.declared.fault.LengthFault.TheVariants as length_fault
 use Rattle.dsp_session.specs.declared.fault.StreamFault.{StreamFault}
 use Rattle.dsp_session.specs.declared.fault.StreamFault.TheVariants as fault
 use Rattle.dsp_session.specs.declared.streaming.Last.{Last}
 use Rattle.dsp_session.proofs.OpeningLaws.{some_frame, floor_within, frames_of_blocks, length-signal, signal-append, frames-whole, signal_is, frames_are, output_is, part_blocks}
-use Rattle.dsp_session.proofs.PassingLaws.{in_declared, lags}
-use Rattle.dsp_session.proofs.WorkerLaws.{never_full}
+use Rattle.dsp_session.proofs.PassingLaws.{in_declared, lags, frames_between, block_some, in_blocks, blocks_keep, whole_blocks_are}
+use Rattle.dsp_session.proofs.TurnLaws.{turns_before, turns_behind, turns_end}
 
 quotient_within : (n f : ℕ) → n / f ≤ n
 quotient_within n f = grind arith
@@ -37,19 +40,19 @@ pub same_frames : (s t : Script) (n : ℕ) → s ≡ t → frames_given s.blocks
 same_frames s t n same = ap (λ (s : Script). frames_given s.blocks n) same
 
 -- a whole signal has the frames that are given
-pub whole_length : (script : Script) (block : ℕ) → IsReady script block → (x : List Frame) → length (whole_values script x) ≡ frames_given script.blocks (length x)
-whole_length script block ready x =
+pub whole_length : (script : Script) (block : ℕ) → IsReady script block → (x : List Frame) → window_at script.blocks (length x) ≡ None → length (whole_values script x) ≡ frames_given script.blocks (length x)
+whole_length script block ready x window =
     let fit = ready.sound.1.fit in
     length-whole_chain script.input.format script.input.channels script.blocks x (has_channels (record { format = script.input.format; channels = script.input.channels }) script.blocks fit.chain fit.channels.0)
-    ∙ frames_are_given script.blocks (length x) (no-window script.blocks (length x) ready.is_built)
+    ∙ frames_are_given script.blocks (length x) window
 
 live_front : (script : Script) (x : List Frame) → Begins (live_bytes script x) (whole_bytes script x)
 live_front script x =
     let (rest, split) = whole_chain_begins script.input.format script.input.channels script.blocks x [] in
     coded_begins script.output _ _ _ (rest, ap (whole_values script) (sym (append-nil x)) ∙ split)
 
-module _ (script : Script) (block : ℕ) (ready : IsReady script block) (session : SessionState) (header : Header) (piece : List ℕ) (last : Last) (input now : SourceState) (sink then : SinkState) (before multiplies : ℕ)
-    (passed : Passed script block session header piece last input now sink then before multiplies) where
+module _ (script : Script) (block : ℕ) (ready : IsReady script block) (session : SessionState) (header : Header) (piece : List ℕ) (last : Last) (input now : SourceState) (sink then : SinkState) (before counts : Counts)
+    (passed : Passed script block session header piece last input now sink then before counts) where
   frame : 0 < frame_bytes script
   frame = some_frame script block ready
 
@@ -155,17 +158,53 @@ module _ (script : Script) (block : ℕ) (ready : IsReady script block) (session
       prefix_declared None within = tt
       prefix_declared (Some size) within = omega (arith, within, passed.heard_count)
 
-  cost_so_far : (multiplied frames : ℕ) → frames ≤ length (x ++ signal script fed_bytes) → multiplied + live_cost_of script 0 ≡ before + live_cost_of script frames → multiplied ≤ before + cost_of script (frames_in_bytes script given)
+  cost_so_far : (multiplied frames : ℕ) → frames ≤ length (x ++ signal script fed_bytes) → multiplied ≡ before.multiplies + live_cost_of script frames → multiplied ≤ before.multiplies + cost_of script (frames_in_bytes script given)
   cost_so_far multiplied frames fewer cost =
       let products = live_cost_within script.input.format script.input.channels script.blocks frames (length (x ++ signal script fed_bytes)) fewer in
       rw frames_is (omega (arith, products, cost))
 
+  -- what was written is the part output of it
+  parted : head ++ live_bytes script x ≡ part script block given
+  parted = sym (part_blocks script frame header passed.first passed.opens block passed.blocks heard rest passed.blocks_heard (omega (arith, rest_length, passed.short, passed.size)) declared)
+
+  fed_all : session.chain.frames + count ≡ length (x ++ signal script fed_bytes)
+  fed_all = ap (λ n. n + count) passed.stands.chain.counted ∙ ap (λ n. length x + n) (sym fed_frames) ∙ sym (length-append x (signal script fed_bytes))
+
+  frames_heard : length x ≡ passed.blocks * block
+  frames_heard = frames-whole script frame heard (passed.blocks * block) (frames_of_blocks script block passed.blocks (length heard) passed.blocks_heard)
+
+  abbrev low : passed.blocks * block ≤ frames_in_bytes script given
+  low = (frames_between script block ready header passed.first passed.opens passed.blocks heard rest declared passed.blocks_heard (omega (arith, rest_length, passed.short, passed.size))).0
+
+  abbrev high : frames_in_bytes script given ≤ suc passed.blocks * block
+  high = (frames_between script block ready header passed.first passed.opens passed.blocks heard rest declared passed.blocks_heard (omega (arith, rest_length, passed.short, passed.size))).1
+
+  whole_blocks : in_whole_blocks block (frames_in_bytes script given) ≡ passed.blocks * block
+  whole_blocks = whole_blocks_are script block ready header passed.first passed.opens passed.blocks heard rest declared passed.blocks_heard (omega (arith, rest_length, passed.short, passed.size))
+
+  limits : BlocksKeepLimits script block given
+  limits = blocks_keep script block header given (passed.opens.said (heard ++ rest)) passed.fits whole_blocks passed.not_full
+
+  early_turns : counts.turns ≤ before.turns + run_turns script block (frames_in_bytes script given)
+  early_turns = turns_before script block passed.blocks (frames_in_bytes script given) before.turns counts.turns (block_some script block ready) low high passed.turned
+
+  fed_turns : (after : Counts) → PassCosts script x fed_bytes counts after → after.turns ≤ counts.turns + turns_of script (passed.blocks * block) (frames_in_bytes script given)
+  fed_turns after costs = subst (λ n. after.turns ≤ counts.turns + n) (λ i. turns_of script (frames_heard i) (sym frames_is i)) costs.turned
+
+  -- where the last samples were too many, some came
+  frames_between_strictly : MAX_GATHERED < gathered script.blocks (length (x ++ signal script fed_bytes)) → passed.blocks * block < frames_in_bytes script given
+  frames_between_strictly over =
+      elim (cases_lt (passed.blocks * block) (frames_in_bytes script given)) [
+        | inl more ↦ more
+        | inr fewer ↦
+            let same : length (x ++ signal script fed_bytes) ≡ passed.blocks * block = omega (arith, fewer, low, frames_is) in
+            absurd (omega (arith, passed.not_full, subst (λ n. MAX_GATHERED < gathered script.blocks n) same over))
+      ]
+
   -- a window ends past its convolution
-  pub stops_window : (end full : ℕ) → window_at script.blocks (session.chain.frames + count) ≡ Some (end, full) → Stopped script block (fault.Lengths (length_fault.Window end full)) input now sink then before multiplies
+  pub stops_window : (end full : ℕ) → window_at script.blocks (session.chain.frames + count) ≡ Some (end, full) → Stopped script block (fault.Lengths (length_fault.Window end full)) input now sink then before counts
   stops_window end full window =
       let frames : session.chain.frames + count ≡ frames_in_bytes script given = sym (frames_is ∙ length-append x (signal script fed_bytes) ∙ omega (arith, passed.stands.chain.counted, fed_frames)) in
-      let parted : head ++ live_bytes script x ≡ part script block given =
-      sym (part_blocks script frame header passed.first passed.opens block passed.blocks heard rest passed.blocks_heard (omega (arith, rest_length, passed.short, passed.size)) declared) in
       record {
         given = given;
         written = head ++ live_bytes script x;
@@ -175,17 +214,19 @@ module _ (script : Script) (block : ℕ) (ready : IsReady script block) (session
           has = has;
           whole = is_whole;
           window = ap (window_at script.blocks) (sym frames) ∙ window;
+          limits = limits;
           wrote = parted;
           clean = passed.no_input_fault;
           kept = passed.no_output_fault;
         };
         lag = λ _. subst (LagsByOne script block given) (append-nil (head ++ live_bytes script x)) (lag []);
-        cost = cost_so_far multiplies (length x) (omega (arith, length-append x (signal script fed_bytes))) passed.cost;
+        cost = cost_so_far counts.multiplies (length x) (omega (arith, length-append x (signal script fed_bytes))) passed.cost;
+        turns = early_turns;
       }
 
   -- the output failed within the values of the last samples
-  pub stops_unpassed : (stop : StreamFault) (final : SinkState) (multiplied : ℕ) → FailsToPass stop script x fed_bytes then final multiplies multiplied → Stopped script block stop input now sink final before multiplied
-  stops_unpassed fault.Output final multiplied (added, written, is, (back, split), put, risen, costs) =
+  pub stops_unpassed : None ≡ window_at script.blocks (session.chain.frames + count) → (stop : StreamFault) (final : SinkState) (after : Counts) → FailsToPass stop script x fed_bytes then final counts after → Stopped script block stop input now sink final before after
+  stops_unpassed window fault.Output final after (added, written, is, (back, split), put, risen, costs, kept) =
       let y = x ++ signal script fed_bytes in
       let (tail, whole) = live_front script y in
       let begins : output script given ≡ (head ++ live_bytes script x ++ written) ++ (back ++ (tail ++ output_pad script header)) =
@@ -199,116 +240,166 @@ module _ (script : Script) (block : ℕ) (ready : IsReady script block) (session
         stops = record {
           has = has;
           wrote = inr ((back ++ (tail ++ output_pad script header), begins), is_whole);
+          limits = limits;
           risen = omega (arith, risen, passed.no_output_fault);
           clean = passed.no_input_fault;
         };
         lag = λ _. lag written;
-        cost = cost_so_far multiplied (length y) (omega arith) (omega (arith, costs.rise, passed.cost));
+        cost = cost_so_far after.multiplies (length y) (omega arith) (omega (arith, costs.rise, passed.cost));
+        turns = turns_behind script block passed.blocks (frames_in_bytes script given) before.turns counts.turns after.turns (block_some script block ready) low high passed.turned (fed_turns after costs);
       }
     where
       regroup : (a b c d e f : List ℕ) → a ++ (((b ++ (c ++ d)) ++ e) ++ f) ≡ (a ++ b ++ c) ++ (d ++ (e ++ f))
       regroup a b c d e f =
           ap (λ xs. a ++ xs) (ap (λ xs. (xs ++ e) ++ f) (sym (append_assoc b c d)) ∙ append_assoc ((b ++ c) ++ d) e f ∙ append_assoc (b ++ c) d (e ++ f))
           ∙ sym (append_assoc a (b ++ c) (d ++ (e ++ f))) ∙ ap (λ xs. xs ++ (d ++ (e ++ f))) (sym (append_assoc a b c))
-  stops_unpassed (fault.Lengths (length_fault.Gather told more)) final multiplied (over, held_is, more_is, same, still) =
-      absurd (never_full script block ready script.blocks (length (x ++ signal script fed_bytes)) refl over)
-  stops_unpassed _ final multiplied none = absurd none
-
-  -- a whole signal has so many frames
-  pub tail_few : (fed : SessionState) → SameSession session fed → Feeds script x fed_bytes fed → (frames : ℕ) → frames ≡ frames_given script.blocks ((last.before + last.count) / frame_bytes script) → (z : List Frame) → StandsFor fed z → length (whole_values fed.script z) ≤ frames
-  tail_few fed same feeds frames is z stands =
-      let long : length z ≡ (last.before + last.count) / frame_bytes script = sym stands.chain.counted ∙ feeds.stands.chain.counted ∙ frames_taken in
-      let all : length (whole_values fed.script z) ≡ frames = ap (λ (s : Script). length (whole_values s z)) (same.script ∙ passed.script_is) ∙ whole_length script block ready z ∙ ap (frames_given script.blocks) long ∙ sym is in
-      omega (arith, all)
-
-  -- the last samples have passed
-  module _ (fed : SessionState) (mid : SinkState) (multiplied : ℕ) (same : SameSession session fed) (passes : Passes script x fed_bytes fed then mid multiplies multiplied) where
-    abbrev y : List Frame
-    y = x ++ signal script fed_bytes
-
-    fed_script : fed.script ≡ script
-    fed_script = same.script ∙ passed.script_is
-
-    put_all : (final : SinkState) (written : List ℕ) → final.put ≡ append_known mid.put written → final.put ≡ append_known sink.put (head ++ live_bytes script x ++ (fed.out ++ written))
-    put_all final written put =
-        put ∙ ap (λ known. append_known known written) passes.took.put ∙ sym (append_known-append then.put fed.out written)
-        ∙ ap (λ known. append_known known (fed.out ++ written)) passed.took.put ∙ sym (append_known-append sink.put (head ++ live_bytes script x) (fed.out ++ written))
-
-    written_is : (written : List ℕ) → head ++ live_bytes script x ++ (fed.out ++ written) ≡ head ++ (live_bytes script y ++ written)
-    written_is written =
-        append_assoc head (live_bytes script x) (fed.out ++ written)
-        ∙ ap (λ xs. head ++ xs) (sym (append_assoc (live_bytes script x) fed.out written) ∙ ap (λ xs. xs ++ written) (sym passes.feeds.out))
-
-    cost_all : (more : ℕ) → more + live_cost_of script (length y) ≤ multiplied + cost_of script (length y) → more ≤ before + cost_of script (length y)
-    cost_all more limit = omega (arith, limit, passes.costs.rise, passed.cost)
-
-    module _ {E : Type 0} (result : Result (Unit {0}) E) (final : SinkState) (spent : ℕ) (writes : WritesRest result (live_bytes fed.script y) (whole_bytes fed.script y ++ output_pad fed.script header) mid final) (costs : TailCosts result fed.script (length y) multiplied spent) where
-      tail_writes : WritesRest result (live_bytes script y) (whole_bytes script y ++ output_pad script header) mid final
-      tail_writes = subst (λ (s : Script). WritesRest result (live_bytes s y) (whole_bytes s y ++ output_pad s header) mid final) fed_script writes
-
-      tail_costs : TailCosts result script (length y) multiplied spent
-      tail_costs = subst (λ (s : Script). TailCosts result s (length y) multiplied spent) fed_script costs
-
-    pub stream_done : {E : Type 0} (final : SinkState) (spent frames : ℕ) → WritesRest {T = Unit {0}} {E = E} (Ok tt) (live_bytes fed.script y) (whole_bytes fed.script y ++ output_pad fed.script header) mid final → TailCosts {T = Unit {0}} {E = E} (Ok tt) fed.script (length y) multiplied spent
-        → IsSettled final → final.faults ≡ mid.faults → frames ≡ (last.before + last.count) / frame_bytes script → (found : List Measure) → found ≡ measures_of fed.script y → Done script block frames input now sink final before spent found
-    stream_done {E} final spent frames writes costs settled faults is found measured =
-        let tail = tail_writes {E = E} (Ok tt) final spent writes costs in
-        let all : head ++ live_bytes script x ++ (fed.out ++ tail.written) ≡ output script given = written_is tail.written ∙ ap (λ xs. head ++ xs) tail.whole ∙ sym output_all in
-        let exact : spent + live_cost_of script (length y) ≡ multiplied + cost_of script (length y) = (tail_costs {E = E} (Ok tt) final spent writes costs).exact in
-        record {
-          given = given;
-          gave = passed.gave;
+  stops_unpassed window (fault.Lengths (length_fault.Gather told more)) final after (over, held_is, more_is, same, still) =
+      record {
+        given = given;
+        written = head ++ live_bytes script x;
+        gave = passed.gave;
+        put = ap (λ (s : SinkState). s.put) same ∙ passed.took.put;
+        stops = record {
           has = has;
-          in_limit = omega (arith, given_all, passed.in_limit);
-          room_left = λ none. omega (arith, given_all, passed.room_left (ap (λ (h : Header). h.size) (sym (passed.opens.said (heard ++ rest))) ∙ none));
-          whole = is_whole;
-          put = put_all final tail.written tail.put ∙ ap (append_known sink.put) all;
-          lag = subst (LagsByOne script block given) all (lag (fed.out ++ tail.written));
-          settled = settled;
-          no_input_fault = passed.no_input_fault;
-          no_output_fault = faults ∙ passes.no_fault ∙ passed.no_output_fault;
-          frame_count = is ∙ sym (frames_is ∙ frames_taken);
-          cost = omega (arith, exact, passes.costs.rise, passed.cost, live_cost-zero script.input.format script.input.channels script.blocks) ∙ ap (λ n. before + cost_of script n) (frames_taken ∙ sym is);
-          measures = measured ∙ ap (λ (s : Script). measures_of s y) fed_script ∙ ap (measures_of script) (sym signal_all);
-        }
-
-    pub stream_unfinished : {E : Type 0} (error : E) (final : SinkState) (spent : ℕ) → WritesRest {T = Unit {0}} (Err error) (live_bytes fed.script y) (whole_bytes fed.script y ++ output_pad fed.script header) mid final → TailCosts {T = Unit {0}} (Err error) fed.script (length y) multiplied spent
-        → Rose mid.faults final.faults → Stopped script block fault.Output input now sink final before spent
-    stream_unfinished error final spent writes costs failed =
-        let tail = tail_writes (Err error) final spent writes costs in
-        let (back, split) = tail.begins in
-        let limit = (tail_costs (Err error) final spent writes costs).limit in
-        let begins : output script given ≡ (head ++ live_bytes script x ++ (fed.out ++ tail.written)) ++ back =
-        output_all ∙ ap (λ xs. head ++ xs) split ∙ sym (append_assoc head (live_bytes script y ++ tail.written) back) ∙ ap (λ xs. xs ++ back) (sym (written_is tail.written)) in
-        record {
-          given = given;
-          written = head ++ live_bytes script x ++ (fed.out ++ tail.written);
-          gave = passed.gave;
-          put = put_all final tail.written tail.put;
-          stops = record {
-            has = has;
-            wrote = inr ((back, begins), is_whole);
-            risen = omega (arith, failed, passes.no_fault, passed.no_output_fault);
-            clean = passed.no_input_fault;
+          over = subst (λ n. MAX_GATHERED < gathered script.blocks n) (sym frames_is) over;
+          before = length x;
+          before_is = frames_heard ∙ sym (in_blocks passed.blocks block (frames_in_bytes script given - 1) (block_some script block ready) (omega (arith, frames_between_strictly over)) (omega (arith, high, block_some script block ready)));
+          limits = record {
+            fits = subst (Fits script) (sym (passed.opens.said (heard ++ rest))) passed.fits;
+            not_full = subst (λ n. gathered script.blocks n ≤ MAX_GATHERED) (sym frames_heard) passed.not_full;
           };
-          lag = λ _. lag (fed.out ++ tail.written);
-          cost = rw frames_is (cost_all spent limit);
-        }
+          made = ap (λ (c : Counts). c.multiplies) still ∙ passed.cost;
+          no_window = λ _. (is_whole, ap (window_at script.blocks) (frames_is ∙ sym fed_all) ∙ sym window);
+          held_is = held_is;
+          more_is = more_is ∙ ap (gathered script.blocks) (sym frames_is);
+          wrote = parted;
+          clean = passed.no_input_fault;
+          kept = ap (λ (s : SinkState). s.faults) same ∙ passed.no_output_fault;
+        };
+        lag = λ _. subst (LagsByOne script block given) (append-nil (head ++ live_bytes script x)) (lag []);
+        cost = cost_so_far after.multiplies (length x) (omega (arith, length-append x (signal script fed_bytes))) (ap (λ (c : Counts). c.multiplies) still ∙ passed.cost);
+        turns = subst (λ (c : Counts). c.turns ≤ before.turns + run_turns script block (frames_in_bytes script given)) (sym still) early_turns;
+      }
+  stops_unpassed window _ final after none = absurd none
+
+  -- no window ends past its convolution
+  module _ (window : None ≡ window_at script.blocks (session.chain.frames + count)) where
+    no_window : window_at script.blocks (length (x ++ signal script fed_bytes)) ≡ None
+    no_window = ap (window_at script.blocks) (sym fed_all) ∙ sym window
+
+    products_are : products_of script (length (x ++ signal script fed_bytes)) ≡ cost_of script (length (x ++ signal script fed_bytes))
+    products_are = products_are_cost script.input.format script.input.channels script.blocks (length (x ++ signal script fed_bytes)) no_window
+
+    -- a whole signal has so many frames
+    pub tail_few : (fed : SessionState) → SameSession session fed → StandsFor fed (x ++ signal script fed_bytes) → (frames : ℕ) → frames ≡ frames_given script.blocks ((last.before + last.count) / frame_bytes script) → (z : List Frame) → StandsFor fed z → length (whole_values fed.script z) ≤ frames
+    tail_few fed same fed_stands frames is z stands =
+        let long : length z ≡ length (x ++ signal script fed_bytes) = sym stands.chain.counted ∙ fed_stands.chain.counted in
+        let all : length (whole_values fed.script z) ≡ frames =
+        ap (λ (s : Script). length (whole_values s z)) (same.script ∙ passed.script_is) ∙ whole_length script block ready z (ap (window_at script.blocks) long ∙ no_window) ∙ ap (frames_given script.blocks) (long ∙ frames_taken) ∙ sym is in
+        omega (arith, all)
+
+    -- the last samples have passed
+    module _ (fed : SessionState) (mid : SinkState) (fed_counts : Counts) (same : SameSession session fed) (passes : Passes script x fed_bytes fed then mid counts fed_counts) where
+      abbrev y : List Frame
+      y = x ++ signal script fed_bytes
+
+      fed_script : fed.script ≡ script
+      fed_script = same.script ∙ passed.script_is
+
+      put_all : (final : SinkState) (written : List ℕ) → final.put ≡ append_known mid.put written → final.put ≡ append_known sink.put (head ++ live_bytes script x ++ (fed.out ++ written))
+      put_all final written put =
+          put ∙ ap (λ known. append_known known written) passes.took.put ∙ sym (append_known-append then.put fed.out written)
+          ∙ ap (λ known. append_known known (fed.out ++ written)) passed.took.put ∙ sym (append_known-append sink.put (head ++ live_bytes script x) (fed.out ++ written))
+
+      written_is : (written : List ℕ) → head ++ live_bytes script x ++ (fed.out ++ written) ≡ head ++ (live_bytes script y ++ written)
+      written_is written =
+          append_assoc head (live_bytes script x) (fed.out ++ written)
+          ∙ ap (λ xs. head ++ xs) (sym (append_assoc (live_bytes script x) fed.out written) ∙ ap (λ xs. xs ++ written) (sym passes.out))
+
+      late_turns : (spent : Counts) → spent.multiplies + live_cost_of script (length y) ≤ fed_counts.multiplies + products_of script (length y) → spent.turns + fed_counts.multiplies ≤ fed_counts.turns + spent.multiplies → spent.turns ≤ before.turns + run_turns script block (frames_in_bytes script given)
+      late_turns spent limit turned =
+          let all : spent.multiplies + live_cost_of script (length y) ≤ fed_counts.multiplies + cost_of script (length y) = omega (arith, limit, products_are) in
+          turns_end script block passed.blocks (frames_in_bytes script given) before.turns counts.turns fed_counts.turns spent.turns fed_counts.multiplies spent.multiplies (block_some script block ready) low high passed.turned (fed_turns fed_counts passes.costs) turned
+          (subst (λ n. spent.multiplies + live_cost_of script n ≤ fed_counts.multiplies + cost_of script n) (sym frames_is) all)
+
+      cost_all : (more : ℕ) → more + live_cost_of script (length y) ≤ fed_counts.multiplies + products_of script (length y) → more ≤ before.multiplies + cost_of script (length y)
+      cost_all more limit = omega (arith, limit, products_are, passes.costs.rise, passed.cost)
+
+      module _ {E : Type 0} (result : Result (Unit {0}) E) (final : SinkState) (spent : Counts) (writes : WritesRest result (live_bytes fed.script y) (whole_bytes fed.script y ++ output_pad fed.script header) mid final) (costs : TailCosts result fed.script (length y) fed_counts spent) where
+        tail_writes : WritesRest result (live_bytes script y) (whole_bytes script y ++ output_pad script header) mid final
+        tail_writes = subst (λ (s : Script). WritesRest result (live_bytes s y) (whole_bytes s y ++ output_pad s header) mid final) fed_script writes
+
+        tail_costs : TailCosts result script (length y) fed_counts spent
+        tail_costs = subst (λ (s : Script). TailCosts result s (length y) fed_counts spent) fed_script costs
+
+      pub stream_done : {E : Type 0} (final : SinkState) (spent : Counts) (frames : ℕ) → WritesRest {T = Unit {0}} {E = E} (Ok tt) (live_bytes fed.script y) (whole_bytes fed.script y ++ output_pad fed.script header) mid final → TailCosts {T = Unit {0}} {E = E} (Ok tt) fed.script (length y) fed_counts spent
+          → IsSettled final → final.faults ≡ mid.faults → frames ≡ (last.before + last.count) / frame_bytes script → (found : List Measure) → found ≡ measures_of fed.script y → Done script block frames input now sink final before spent found
+      stream_done {E} final spent frames writes costs settled faults is found measured =
+          let tail = tail_writes {E = E} (Ok tt) final spent writes costs in
+          let all : head ++ live_bytes script x ++ (fed.out ++ tail.written) ≡ output script given = written_is tail.written ∙ ap (λ xs. head ++ xs) tail.whole ∙ sym output_all in
+          let exact : spent.multiplies + live_cost_of script (length y) ≡ fed_counts.multiplies + products_of script (length y) = (tail_costs {E = E} (Ok tt) final spent writes costs).exact in
+          record {
+            given = given;
+            gave = passed.gave;
+            has = has;
+            in_limit = omega (arith, given_all, passed.in_limit);
+            room_left = λ none. omega (arith, given_all, passed.room_left (ap (λ (h : Header). h.size) (sym (passed.opens.said (heard ++ rest))) ∙ none));
+            whole = is_whole;
+            limits = record {
+              fits = subst (Fits script) (sym (passed.opens.said (heard ++ rest))) passed.fits;
+              not_full = subst (λ n. gathered script.blocks n ≤ MAX_GATHERED) (frames_taken ∙ sym is) passes.not_full;
+            };
+            no_window = ap (window_at script.blocks) (is ∙ sym frames_taken) ∙ no_window;
+            put = put_all final tail.written tail.put ∙ ap (append_known sink.put) all;
+            lag = subst (LagsByOne script block given) all (lag (fed.out ++ tail.written));
+            settled = settled;
+            no_input_fault = passed.no_input_fault;
+            no_output_fault = faults ∙ passes.no_fault ∙ passed.no_output_fault;
+            frame_count = is ∙ sym (frames_is ∙ frames_taken);
+            cost = (let sum : spent.multiplies ≡ before.multiplies + cost_of script (length y) = omega (arith, exact, products_are, passes.costs.rise, passed.cost) in sum ∙ ap (λ n. before.multiplies + cost_of script n) (frames_taken ∙ sym is));
+            turns = subst (λ n. spent.turns ≤ before.turns + run_turns script block n) (frames_is ∙ frames_taken ∙ sym is) (late_turns spent (omega (arith, exact)) (tail_costs {E = E} (Ok tt) final spent writes costs).turned);
+            measures = measured ∙ ap (λ (s : Script). measures_of s y) fed_script ∙ ap (measures_of script) (sym signal_all);
+          }
+
+      pub stream_unfinished : {E : Type 0} (error : E) (final : SinkState) (spent : Counts) → WritesRest {T = Unit {0}} (Err error) (live_bytes fed.script y) (whole_bytes fed.script y ++ output_pad fed.script header) mid final → TailCosts {T = Unit {0}} (Err error) fed.script (length y) fed_counts spent
+          → Rose mid.faults final.faults → Stopped script block fault.Output input now sink final before spent
+      stream_unfinished error final spent writes costs failed =
+          let tail = tail_writes (Err error) final spent writes costs in
+          let (back, split) = tail.begins in
+          let limit = (tail_costs (Err error) final spent writes costs).limit in
+          let begins : output script given ≡ (head ++ live_bytes script x ++ (fed.out ++ tail.written)) ++ back =
+          output_all ∙ ap (λ xs. head ++ xs) split ∙ sym (append_assoc head (live_bytes script y ++ tail.written) back) ∙ ap (λ xs. xs ++ back) (sym (written_is tail.written)) in
+          record {
+            given = given;
+            written = head ++ live_bytes script x ++ (fed.out ++ tail.written);
+            gave = passed.gave;
+            put = put_all final tail.written tail.put;
+            stops = record {
+              has = has;
+              wrote = inr ((back, begins), is_whole);
+              limits = limits;
+              risen = omega (arith, failed, passes.no_fault, passed.no_output_fault);
+              clean = passed.no_input_fault;
+            };
+            lag = λ _. lag (fed.out ++ tail.written);
+            cost = rw frames_is (cost_all spent.multiplies limit);
+            turns = late_turns spent limit (tail_costs (Err error) final spent writes costs).turned;
+          }
 
 -- the same of equal scripts and block lengths
-pub passed_as : (script same_script : Script) (block same_block : ℕ) (session : SessionState) (header : Header) (piece same_piece : List ℕ) (last : Last) (input now : SourceState) (sink then : SinkState) (before multiplies : ℕ) →
-    same_script ≡ script → same_block ≡ block → same_piece ≡ piece → Passed script block session header piece last input now sink then before multiplies → Passed same_script same_block session header same_piece last input now sink then before multiplies
-passed_as script same_script block same_block session header piece same_piece last input now sink then before multiplies s b p passed =
-    subst (λ (t : Script). Passed t same_block session header same_piece last input now sink then before multiplies) (sym s)
-    (subst (λ n. Passed script n session header same_piece last input now sink then before multiplies) (sym b)
-    (subst (λ xs. Passed script block session header xs last input now sink then before multiplies) (sym p) passed))
+pub passed_as : (script same_script : Script) (block same_block : ℕ) (session : SessionState) (header : Header) (piece same_piece : List ℕ) (last : Last) (input now : SourceState) (sink then : SinkState) (before counts : Counts) →
+    same_script ≡ script → same_block ≡ block → same_piece ≡ piece → Passed script block session header piece last input now sink then before counts → Passed same_script same_block session header same_piece last input now sink then before counts
+passed_as script same_script block same_block session header piece same_piece last input now sink then before counts s b p passed =
+    subst (λ (t : Script). Passed t same_block session header same_piece last input now sink then before counts) (sym s)
+    (subst (λ n. Passed script n session header same_piece last input now sink then before counts) (sym b)
+    (subst (λ xs. Passed script block session header xs last input now sink then before counts) (sym p) passed))
 
-pub done_as : (script same_script : Script) (block same_block frames same_frames : ℕ) (input now : SourceState) (sink then : SinkState) (before multiplies : ℕ) (found : List Measure) →
-    script ≡ same_script → block ≡ same_block → frames ≡ same_frames → Done script block frames input now sink then before multiplies found → Done same_script same_block same_frames input now sink then before multiplies found
-done_as script same_script block same_block frames same_frames input now sink then before multiplies found s b f done =
-    subst (λ (t : Script). Done t same_block same_frames input now sink then before multiplies found) s
-    (subst (λ n. Done script n same_frames input now sink then before multiplies found) b
-    (subst (λ n. Done script block n input now sink then before multiplies found) f done))
+pub done_as : (script same_script : Script) (block same_block frames same_frames : ℕ) (input now : SourceState) (sink then : SinkState) (before counts : Counts) (found : List Measure) →
+    script ≡ same_script → block ≡ same_block → frames ≡ same_frames → Done script block frames input now sink then before counts found → Done same_script same_block same_frames input now sink then before counts found
+done_as script same_script block same_block frames same_frames input now sink then before counts found s b f done =
+    subst (λ (t : Script). Done t same_block same_frames input now sink then before counts found) s
+    (subst (λ n. Done script n same_frames input now sink then before counts found) b
+    (subst (λ n. Done script block n input now sink then before counts found) f done))
 
 pub few_taken : (start before count f : ℕ) → start + (before + count) ≤ 2 ^ 40 → (before + count) / f ≤ 2 ^ 40
 few_taken start before count f limit = omega (arith, quotient_within (before + count) f, limit)

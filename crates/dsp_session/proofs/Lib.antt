@@ -5,3 +5,4 @@ pub mod CloseLaws
 pub mod EndLaws
 pub mod WorkerLaws
 pub mod PassingLaws
+pub mod TurnLaws

@@ -7,9 +7,10 @@ use Rattle.dsp_ports.specs.Ports.{SourceState, SinkState, Rose, Gave, Took}
 use Rattle.dsp_ports.proofs.Moved.{Took-nil}
 use Rattle.dsp_defs.specs.Block.{channels_after}
 use Rattle.dsp_defs.specs.Grammar.{IsChain}
+use Rattle.dsp_defs.specs.Counts.{Counts}
 use Rattle.dsp_defs.specs.Output.{HasHeader, HeaderIsThere, input_header, output_header, output_pad, live_bytes, known_frames, wanted_of, format_of, channels_of, rate_of, part}
 use Rattle.dsp_defs.specs.Table.{flow_after}
-use Rattle.dsp_defs.specs.Wave.{header_of, wave_header, pad}
+use Rattle.dsp_defs.specs.Wave.{header_of, wave_header, pad, HeaderFits}
 use Rattle.dsp_defs.specs.declared.format.Container.TheVariants as container
 use Rattle.dsp_defs.specs.declared.flow.Flow.{Flow}
 use Rattle.dsp_defs.specs.declared.format.InputKind.TheVariants as kind
@@ -18,18 +19,21 @@ use Rattle.dsp_defs.specs.declared.script.Block.{Block}
 use Rattle.dsp_defs.specs.declared.script.Script.{Script}
 use Rattle.dsp_defs.specs.declared.wave.Header.{Header}
 use Rattle.dsp_defs.specs.declared.wave.HeaderFault.{HeaderFault}
-use Rattle.dsp_defs.proofs.ChainPlaces.{few_channels_after}
+use Rattle.dsp_stage.proofs.ChainPlaces.{few_channels_after}
 use Rattle.dsp_wave.specs.Reading.{IsSure}
 use Rattle.dsp_script.proofs.Paces.{legal_parts}
+use Rattle.dsp_defs.specs.Shape.{gathered}
+use Rattle.dsp_defs.specs.declared.limits.TheConstants.{MAX_GATHERED}
+use Rattle.dsp_chain.proofs.NewChain.{gathered-nothing}
 use Rattle.dsp_session.specs.declared.fault.LengthFault.{LengthFault}
 use Rattle.dsp_session.specs.declared.fault.LengthFault.TheVariants as length_fault
 use Rattle.dsp_session.specs.declared.fault.StreamFault.{StreamFault}
 use Rattle.dsp_session.specs.declared.fault.StreamFault.TheVariants as fault
 use Rattle.dsp_session.specs.Session.{IsReady, frame_bytes, block_bytes, signal}
-use Rattle.dsp_session.specs.Opening.{Opened, Unopened, IsUnopened, IsTooLong, TooLong}
-use Rattle.dsp_session.specs.Stream.{StopsAt, Stopped, Nothing, LagsByOne, declared_bytes}
+use Rattle.dsp_session.specs.Opening.{Opened, Unopened, IsUnopened, IsTooLong, TooLong, Fits}
+use Rattle.dsp_session.specs.Stream.{StopsAt, Stopped, Nothing, LagsByOne, declared_bytes, frames_in_bytes, in_whole_blocks}
 use Rattle.dsp_session.specs.Passing.{InDeclared}
-use Rattle.dsp_session.proofs.OpeningLaws.{some_frame, part_blocks}
+use Rattle.dsp_session.proofs.OpeningLaws.{some_frame, part_blocks, frames_are, signal-nil}
 use Rattle.std.proofs.Math.Nat.{mul-le-mul}
 
 -- the output has few channels
@@ -65,8 +69,8 @@ no_header script fault offset given now wave sure has =
     said (inr (end, here)) = here
 
 -- nothing was written before the header of the input was there
-module _ (script : Script) (block multiplies : ℕ) (input now : SourceState) (sink : SinkState) where
-  unwritten : (fault : StreamFault) (given : List ℕ) → Gave input now given → (HasHeader script given → ⊥) → StopsAt fault script block given [] input now sink sink → Stopped script block fault input now sink sink multiplies multiplies
+module _ (script : Script) (block : ℕ) (counts : Counts) (input now : SourceState) (sink : SinkState) where
+  unwritten : (fault : StreamFault) (given : List ℕ) → Gave input now given → (HasHeader script given → ⊥) → StopsAt fault script block given [] input now sink sink counts counts → Stopped script block fault input now sink sink counts counts
   unwritten fault given gave none stops =
       record {
         given = given;
@@ -76,24 +80,37 @@ module _ (script : Script) (block multiplies : ℕ) (input now : SourceState) (s
         stops = stops;
         lag = λ has. absurd (none has);
         cost = omega arith;
+        turns = omega arith;
       }
 
-  by_cause : (fault : StreamFault) (given : List ℕ) → Gave input now given → IsUnopened fault script given input now → Stopped script block fault input now sink sink multiplies multiplies
+  by_cause : (fault : StreamFault) (given : List ℕ) → Gave input now given → IsUnopened fault script given input now → Stopped script block fault input now sink sink counts counts
   by_cause fault.Input given gave cause =
       unwritten fault.Input given gave cause.2 (record { wrote = Nothing cause.2 refl; risen = cause.0; in_limit = cause.1 })
   by_cause (fault.Header f offset) given gave cause =
       unwritten (fault.Header f offset) given gave (no_header script f offset given now cause.0 cause.1)
       (inl (record { wave = cause.0; sure = cause.1; untouched = refl; clean = cause.2 }))
   by_cause (fault.Lengths (length_fault.Input taken limit)) given gave cause =
-      unwritten (fault.Lengths (length_fault.Input taken limit)) given gave cause.3
-      (record { wrote = Nothing cause.3 refl; all = cause.0; wanted = λ has. absurd (cause.3 has); at_limit = cause.1; limit = cause.2; clean = cause.4 })
+      unwritten (fault.Lengths (length_fault.Input taken limit)) given gave cause.3.none
+      (record { wrote = Nothing cause.3.none refl; all = cause.0; unheaded = λ _. cause.3; wanted = λ has. absurd (cause.3.none has); at_limit = cause.1; limit = cause.2; clean = cause.4 })
   by_cause _ given gave cause = absurd cause
 
-  pub stops_unopened : (fault : StreamFault) → Unopened script fault input now → Stopped script block fault input now sink sink multiplies multiplies
+  pub stops_unopened : (fault : StreamFault) → Unopened script fault input now → Stopped script block fault input now sink sink counts counts
   stops_unopened fault u = by_cause fault u.given u.gave u.cause
 
+-- the test of the sizes was passed
+pub fits_known : (script : Script) (header : Header) (known : Option ℕ) → known ≡ known_frames script header
+    → (script.output ≡ container.Wave → HeaderFits (format_of script) (channels_of script) known) → Fits script header
+fits_known script header known is fits =
+    subst (λ count. script.output ≡ container.Wave → HeaderFits (format_of script) (channels_of script) count) is fits
+
+none_whole : (block : ℕ) → in_whole_blocks block 0 ≡ 0
+none_whole block =
+    let none : 0 / block ≡ 0 = omega arith in
+    let nothing : 0 * block ≡ 0 = omega arith in
+    ap (λ q. q * block) none ∙ nothing
+
 -- the header of the input is there, and no sample was taken
-module _ (script : Script) (block multiplies : ℕ) (ready : IsReady script block) (header : Header) (input now : SourceState) (sink : SinkState) (opened : Opened script header input now) where
+module _ (script : Script) (block : ℕ) (counts : Counts) (ready : IsReady script block) (header : Header) (input now : SourceState) (sink : SinkState) (opened : Opened script header input now) where
   abbrev first : List ℕ
   first = opened.first
 
@@ -108,7 +125,7 @@ module _ (script : Script) (block multiplies : ℕ) (ready : IsReady script bloc
       let start : (input_header script first).start ≡ length first = ap (λ (h : Header). h.start) header_is ∙ opened.opens.start in
       record { blocks = 0; taken = omega (arith, start); wrote = inl refl; one = omega (arith, start) }
 
-  stops_first : (fault : StreamFault) (after : SinkState) (written : List ℕ) → after.put ≡ append_known sink.put written → StopsAt fault script block first written input now sink after → Stopped script block fault input now sink after multiplies multiplies
+  stops_first : (fault : StreamFault) (after : SinkState) (written : List ℕ) → after.put ≡ append_known sink.put written → StopsAt fault script block first written input now sink after counts counts → Stopped script block fault input now sink after counts counts
   stops_first fault after written put stops =
       record {
         given = first;
@@ -118,9 +135,10 @@ module _ (script : Script) (block multiplies : ℕ) (ready : IsReady script bloc
         stops = stops;
         lag = λ _. lags_none written;
         cost = omega arith;
+        turns = omega arith;
       }
 
-  pub stops_too_long : (length : LengthFault) (known : Option ℕ) → known ≡ known_frames script header → TooLong length script known → Stopped script block (fault.Lengths length) input now sink sink multiplies multiplies
+  pub stops_too_long : (length : LengthFault) (known : Option ℕ) → known ≡ known_frames script header → TooLong length script known → Stopped script block (fault.Lengths length) input now sink sink counts counts
   stops_too_long (length_fault.Riff size limit) known is (long, most) =
       stops_first (fault.Lengths (length_fault.Riff size limit)) sink [] (Took-nil sink).put
       (record {
@@ -140,12 +158,26 @@ module _ (script : Script) (block multiplies : ℕ) (ready : IsReady script bloc
       by_size None = tt
       by_size (Some size) = omega arith
 
-  pub stops_unwritten : (after : SinkState) (count : ℕ) → Took sink after (take count (output_header script header)) → Rose sink.faults after.faults → Stopped script block fault.Output input now sink after multiplies multiplies
-  stops_unwritten after count took risen =
+  no_frames : frames_in_bytes script first ≡ 0
+  no_frames =
+      ap (frames_in_bytes script) (sym (append-nil first)) ∙ frames_are script (some_frame script block ready) header first opened.opens [] none_declared
+      ∙ ap length (signal-nil script (some_frame script block ready))
+
+  pub stops_unwritten : Fits script header → (after : SinkState) (count : ℕ) → Took sink after (take count (output_header script header)) → Rose sink.faults after.faults → Stopped script block fault.Output input now sink after counts counts
+  stops_unwritten fits after count took risen =
       let all = output_header script header in
       let parted : part script block first ≡ all ++ live_bytes script (signal script []) =
       ap (part script block) (sym (append-nil first)) ∙ part_blocks script (some_frame script block ready) header first opened.opens block 0 [] [] (omega arith) (some_block script block ready) none_declared in
       let split : part script block first ≡ take count all ++ (drop count all ++ live_bytes script (signal script [])) =
       parted ∙ ap (λ xs. xs ++ live_bytes script (signal script [])) (sym (take-append-drop count all)) ∙ append_assoc (take count all) (drop count all) (live_bytes script (signal script [])) in
       stops_first fault.Output after (take count all) took.put
-      (record { has = has; wrote = inl (drop count all ++ live_bytes script (signal script []), split); risen = risen; clean = opened.no_fault })
+      (record {
+        has = has;
+        wrote = inl (drop count all ++ live_bytes script (signal script []), split);
+        limits = record {
+          fits = subst (Fits script) (sym header_is) fits;
+          not_full = subst (λ n. gathered script.blocks n ≤ MAX_GATHERED) (sym (ap (in_whole_blocks block) no_frames ∙ none_whole block)) (omega (arith, gathered-nothing script.blocks));
+        };
+        risen = risen;
+        clean = opened.no_fault;
+      })

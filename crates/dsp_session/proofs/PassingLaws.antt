@@ -1,31 +1,44 @@
 -- A stream goes on block by block.
-use Rattle.std.proofs.Common.{◌≡◌, ℕ, ◌+◌, ◌*◌, ◌/◌, ◌^◌, ◌<◌, ◌≤◌, List, [], ◌++◌, length, take, Option, Some, None, IfSome, refl, sym, ap, ◌∙◌, subst, arith, append_assoc, append-nil, length-append, inl, inr}
+use Rattle.std.proofs.Common.{◌≡◌, ℕ, zero, suc, ◌+◌, ◌-◌, ◌*◌, ◌/◌, ◌^◌, ◌<◌, ◌≤◌, true, false, List, [], ◌∷◌, ◌++◌, length, take, Option, Some, None, IfSome, refl, sym, ap, ◌∙◌, subst, arith, append_assoc, append-nil, length-append, inl, inr}
+use Rattle.std.specs.Prelude.{is_some}
+use Rattle.std.proofs.lemmas.Bool.{cases_lt}
 use Rattle.std.proofs.lemmas.List.{take_at, take_all}
 use Rattle.std.specs.Io.KnownBytes.{append_known}
 use Rattle.dsp_ports.specs.Ports.{SourceState, SinkState, Gave, Took}
 use Rattle.dsp_ports.proofs.Moved.{Gave-nil, Took-nil, Gave-append, Took-append, append_known-append}
-use Rattle.dsp_defs.specs.Block.{Frame}
-use Rattle.dsp_defs.specs.Output.{HasHeader, input_header, output_header, live_bytes, part}
+use Rattle.dsp_defs.specs.Block.{Frame, live, live_chain, format_after, channels_after}
+use Rattle.dsp_defs.specs.Counts.{Counts}
+use Rattle.dsp_defs.specs.Cost.{live_cost}
+use Rattle.dsp_defs.specs.Output.{HasHeader, input_header, output_header, format_of, live_bytes, part}
 use Rattle.dsp_defs.specs.Streaming.{Begins}
-use Rattle.dsp_defs.specs.Shape.{gathered}
+use Rattle.dsp_defs.specs.Shape.{gathered, held, whole_frames, HasChannels}
+use Rattle.dsp_defs.specs.declared.fault.GatherFull.{GatherFull}
+use Rattle.dsp_defs.specs.declared.format.Fmt.{Fmt}
+use Rattle.dsp_defs.specs.declared.limits.TheConstants.{MAX_GATHERED}
+use Rattle.dsp_defs.specs.declared.script.Block.{Block}
+use Rattle.dsp_defs.specs.declared.script.Block.TheVariants.{Correlate}
 use Rattle.dsp_defs.specs.declared.script.Script.{Script}
 use Rattle.dsp_defs.specs.declared.wave.Header.{Header}
-use Rattle.dsp_defs.proofs.ChainPlaces.{live_chain-nil}
-use Rattle.dsp_defs.proofs.CostLaws.{live_cost_within}
-use Rattle.dsp_chain.proofs.Making.{no-gather}
+use Rattle.dsp_stage.proofs.ChainPlaces.{live_chain-nil, has_channels}
+use Rattle.dsp_stage.proofs.CostLaws.{live_cost_within, live_cost-zero}
+use Rattle.dsp_defs.proofs.FrameLaws.{length-live}
+use Rattle.dsp_defs.proofs.SampleLaws.{coded-append}
+use Rattle.dsp_chain.specs.Chain.{made_of}
+use Rattle.dsp_chain.proofs.NewChain.{gathered-nothing}
 use Rattle.dsp_session.specs.SessionState.{SessionState}
-use Rattle.dsp_session.specs.Session.{IsReady, StandsFor, SameSession, FeedCosts, signal, frame_bytes, block_bytes, cost_of, live_cost_of}
-use Rattle.dsp_session.specs.Opening.{Opens, Begun}
-use Rattle.dsp_session.specs.Stream.{StopsAt, Stopped, Part, LagsByOne, declared_bytes, frames_in_bytes}
-use Rattle.dsp_session.specs.Passing.{InDeclared, BlockRead, IsUnread, Unread, Passes, FailsToPass, Passed}
+use Rattle.dsp_session.specs.Session.{IsReady, StandsFor, SameSession, Feeds, IsTooMuch, signal, frame_bytes, block_bytes, output_bytes, live_values, cost_of, live_cost_of, turns_of, calls_turns, run_turns}
+use Rattle.dsp_session.specs.Opening.{Fits, Opens, Begun}
+use Rattle.dsp_session.specs.Stream.{StopsAt, Stopped, Part, LagsByOne, BlocksKeepLimits, declared_bytes, frames_in_bytes, in_whole_blocks}
+use Rattle.dsp_session.specs.Passing.{InDeclared, BlockRead, IsUnread, Unread, PassCosts, Passes, FailsToPass, Passed}
 use Rattle.dsp_session.specs.declared.fault.LengthFault.TheVariants as length_fault
 use Rattle.dsp_session.specs.declared.fault.StreamFault.{StreamFault}
 use Rattle.dsp_session.specs.declared.fault.StreamFault.TheVariants as fault
 use Rattle.dsp_session.proofs.OpeningLaws.{some_frame, frames_of_blocks, signal-nil, length-signal, signal-append, frames-whole, frames_are, part_blocks}
 use Rattle.dsp_session.proofs.OpenLaws.{some_block}
+use Rattle.dsp_session.proofs.TurnLaws.{call_more, turns_before, turns_behind}
 
 -- all the blocks so far have passed
-pub record Going (script : Script) (block : ℕ) (header : Header) (taken : ℕ) (session : SessionState) (input now : SourceState) (sink after : SinkState) (before multiplies : ℕ) : Type 0 where
+pub record Going (script : Script) (block : ℕ) (header : Header) (taken : ℕ) (session : SessionState) (input now : SourceState) (sink after : SinkState) (before counts : Counts) : Type 0 where
   pub heard : List ℕ
   pub blocks : ℕ
   pub script_is : session.script ≡ script
@@ -37,9 +50,85 @@ pub record Going (script : Script) (block : ℕ) (header : Header) (taken : ℕ)
   pub in_limit : header.start + taken ≤ 2 ^ 40
   pub gave : Gave input now heard
   pub took : Took sink after (live_bytes script (signal script heard))
+  pub not_full : gathered script.blocks (blocks * block) ≤ MAX_GATHERED
   pub no_input_fault : now.faults ≡ input.faults
   pub no_output_fault : after.faults ≡ sink.faults
-  pub cost : multiplies + live_cost_of script 0 ≡ before + live_cost_of script (length (signal script heard))
+  pub cost : counts.multiplies ≡ before.multiplies + live_cost_of script (length (signal script heard))
+  pub turned : counts.turns ≤ before.turns + calls_turns script block (blocks * block) blocks
+
+-- ---- one call
+
+-- a script that gathers gives nothing of a signal that goes on
+no_frames : (y : List Frame) → length y ≡ 0 → y ≡ []
+no_frames [] none = refl
+no_frames (f ∷ y) none = absurd (omega (arith, none))
+
+quiet_chain : (format : Fmt) (channels : ℕ) (blocks : List Block) (n : ℕ) → HasChannels channels blocks → 0 < gathered blocks n → (x : List Frame) → live_chain format channels blocks x ≡ []
+quiet_chain format channels [] n has some x = absurd (omega (arith, some))
+quiet_chain format zero (block ∷ blocks) n has some x = absurd (omega (arith, has.0))
+quiet_chain format (suc channels) (Correlate taps ∷ blocks) n has some x =
+    ap (live_chain (format_after format (Correlate taps)) (channels_after (suc channels) (Correlate taps)) blocks) (no_frames _ (length-live format channels (Correlate taps) x))
+    ∙ live_chain-nil (format_after format (Correlate taps)) (channels_after (suc channels) (Correlate taps)) blocks
+quiet_chain format (suc channels) (block ∷ blocks) n has some x = quiet_chain (format_after format block) (channels_after (suc channels) block) blocks (whole_frames block n) has.1 some (live format (suc channels) block x)
+
+pub quiet_script : (script : Script) (block : ℕ) → IsReady script block → (n : ℕ) → 0 < gathered script.blocks n → (x : List Frame) → live_bytes script x ≡ []
+quiet_script script block ready n some x =
+    let fit = ready.sound.1.fit in
+    ap (output_bytes script) (quiet_chain script.input.format script.input.channels script.blocks n (has_channels (record { format = script.input.format; channels = script.input.channels }) script.blocks fit.chain fit.channels.0) some x)
+
+-- what a session that stands for x has made
+pub made_live : (s : SessionState) (x : List Frame) → StandsFor s x → made_of s.chain ≡ live_cost_of s.script (length x)
+made_live s x stands = stands.live.made ∙ (λ i. live_cost (stands.holds.input i).format (stands.holds.input i).channels (stands.holds.blocks i) (stands.chain.counted i))
+
+module _ (s next : SessionState) (bytes : List ℕ) (before after : Counts) (same : SameSession s next) (fed : Feeds s next bytes before after) (x : List Frame) (stands : StandsFor s x) where
+  pub feed_out : live_bytes s.script (x ++ signal s.script bytes) ≡ live_bytes s.script x ++ next.out
+  feed_out =
+      ap (output_bytes s.script) (fed.values x stands) ∙ coded-append s.script.output (format_of s.script) (live_values s.script x) fed.given ∙ ap (λ z. live_bytes s.script x ++ z) (sym fed.frames.out)
+
+  pub feed_costs : PassCosts s.script x bytes before after
+  feed_costs =
+      let old = made_live s x stands in
+      let after_is = fed.stands x stands in
+      let new : made_of next.chain ≡ live_cost_of s.script (length (x ++ signal s.script bytes)) = made_live next (x ++ signal s.script bytes) after_is ∙ ap (λ (t : Script). live_cost_of t (length (x ++ signal s.script bytes))) same.script in
+      record {
+        rise = omega (arith, fed.multiplies, old, new);
+        turned = subst (λ m. after.turns ≤ before.turns + turns_of s.script m (length (x ++ signal s.script bytes))) stands.chain.counted
+            (subst (λ n. after.turns ≤ before.turns + turns_of s.script s.chain.frames n) after_is.chain.counted fed.turns);
+      }
+
+  -- it was not refused, so it has gathered no more than it may
+  pub feed_fits : (IsTooMuch s (length (signal s.script bytes)) → ⊥) → gathered s.script.blocks (length (x ++ signal s.script bytes)) ≤ MAX_GATHERED
+  feed_fits taken =
+      let all = ap (λ n. n + length (signal s.script bytes)) stands.chain.counted ∙ sym (length-append x (signal s.script bytes)) in
+      elim (cases_lt MAX_GATHERED (gathered s.script.blocks (s.chain.frames + length (signal s.script bytes)))) [
+        | inl over ↦ absurd (taken (inl over))
+        | inr within ↦ subst (λ n. gathered s.script.blocks n ≤ MAX_GATHERED) all within
+      ]
+
+  pub feed_passes : (sink last : SinkState) → Took sink last next.out → last.faults ≡ sink.faults → (IsTooMuch s (length (signal s.script bytes)) → ⊥) → Passes s.script x bytes next sink last before after
+  feed_passes sink last took faults taken = record { stands = fed.stands x stands; out = feed_out; costs = feed_costs; not_full = feed_fits taken; took = took; no_fault = faults }
+
+-- the call was refused
+pub feed_refused : (s : SessionState) (x : List Frame) (bytes : List ℕ) (full : GatherFull) (sink last : SinkState) (before after : Counts) → StandsFor s x → IsTooMuch s (length (signal s.script bytes))
+    → (full.held ≡ held s.script.blocks s.chain.frames) × (full.held + full.more ≡ gathered s.script.blocks (s.chain.frames + length (signal s.script bytes))) → last ≡ sink → after ≡ before
+    → FailsToPass (fault.Lengths (length_fault.Gather full.held full.more)) s.script x bytes sink last before after
+feed_refused s x bytes full sink last before after stands too_much (held_is, sum_is) same steps =
+    let all : s.chain.frames + length (signal s.script bytes) ≡ length (x ++ signal s.script bytes) = ap (λ n. n + length (signal s.script bytes)) stands.chain.counted ∙ sym (length-append x (signal s.script bytes)) in
+    let sum : full.more + full.held ≡ full.held + full.more = omega arith in (
+      subst (λ n. MAX_GATHERED < gathered s.script.blocks n) all (over too_much),
+      held_is ∙ ap (held s.script.blocks) stands.chain.counted,
+      sum ∙ sum_is ∙ ap (gathered s.script.blocks) all,
+      same,
+      steps,
+    )
+  where
+    over : IsTooMuch s (length (signal s.script bytes)) → MAX_GATHERED < gathered s.script.blocks (s.chain.frames + length (signal s.script bytes))
+    over (inl many) = many
+    over (inr failed) = absurd (let e : true ≡ false = sym failed ∙ ap is_some stands.chain.works in cc)
+
+pub block_some : (script : Script) (block : ℕ) → IsReady script block → 0 < block
+block_some script zero ready = (let none : 0 * frame_bytes script ≡ 0 = omega arith in absurd (omega (arith, some_block script zero ready, none)))
+block_some script (suc n) ready = omega arith
 
 pub in_declared : (declared : Option ℕ) (n m : ℕ) → n ≡ m → InDeclared declared n → InDeclared declared m
 in_declared declared n m same within = subst (InDeclared declared) same within
@@ -48,8 +137,21 @@ further : (start given taken : ℕ) → given ≡ start + taken → (declared : 
 further start given taken is None less = tt
 further start given taken is (Some size) less = omega (arith, is, less)
 
+-- the whole blocks among some frames
+pub in_blocks : (blocks block n : ℕ) → 0 < block → blocks * block ≤ n → n < suc blocks * block → in_whole_blocks block n ≡ blocks * block
+in_blocks blocks block n some low high = ap (λ q. q * block) (floor blocks block n some low high)
+  where
+    floor : (k b m : ℕ) → 0 < b → k * b ≤ m → m < suc k * b → m / b ≡ k
+    floor k b m some low high = grind arith
+
+-- they have kept the limits
+pub blocks_keep : (script : Script) (block : ℕ) (header : Header) (given : List ℕ) → input_header script given ≡ header → Fits script header → {frames : ℕ} → in_whole_blocks block (frames_in_bytes script given) ≡ frames → gathered script.blocks frames ≤ MAX_GATHERED
+    → BlocksKeepLimits script block given
+blocks_keep script block header given said fits whole kept =
+    record { fits = subst (Fits script) (sym said) fits; not_full = subst (λ n. gathered script.blocks n ≤ MAX_GATHERED) (sym whole) kept }
+
 -- at the start no block has passed
-pub starts : (script : Script) (block : ℕ) (ready : IsReady script block) (header : Header) (session : SessionState) (input : SourceState) (sink : SinkState) (before : ℕ) → session.script ≡ script → session.block ≡ block → StandsFor session [] → header.start ≤ 2 ^ 40
+pub starts : (script : Script) (block : ℕ) (ready : IsReady script block) (header : Header) (session : SessionState) (input : SourceState) (sink : SinkState) (before : Counts) → session.script ≡ script → session.block ≡ block → StandsFor session [] → header.start ≤ 2 ^ 40
     → Going script block header 0 session input input sink sink before before
 starts script block ready header session input sink before script_is block_is stands limit =
     let none = signal-nil script (some_frame script block ready) in
@@ -66,9 +168,11 @@ starts script block ready header session input sink before script_is block_is st
       in_limit = omega (arith, limit);
       gave = Gave-nil input;
       took = subst (Took sink sink) (sym nothing) (Took-nil sink);
+      not_full = (let none : 0 ≡ 0 * block = omega arith in subst (λ n. gathered script.blocks n ≤ MAX_GATHERED) none (omega (arith, gathered-nothing script.blocks)));
       no_input_fault = refl;
       no_output_fault = refl;
-      cost = ap (λ (x : List Frame). before + live_cost_of script (length x)) (sym none);
+      cost = omega (arith, live_cost-zero script.input.format script.input.channels script.blocks, ap (λ (x : List Frame). live_cost_of script (length x)) none);
+      turned = omega arith;
     }
   where
     live_bytes-nil : live_bytes script [] ≡ []
@@ -89,7 +193,7 @@ module _ (script : Script) (block : ℕ) (ready : IsReady script block) (header 
   start_is bytes = ap (λ (h : Header). h.start) (opens.said bytes) ∙ opens.start
 
   -- the cost of the frames so far is at most that of all that were taken
-  pub cost_within : (before multiplies : ℕ) (heard bytes : List ℕ) → InDeclared (declared_bytes script header) (length (heard ++ bytes)) → multiplies + live_cost_of script 0 ≡ before + live_cost_of script (length (signal script heard))
+  pub cost_within : (before multiplies : ℕ) (heard bytes : List ℕ) → InDeclared (declared_bytes script header) (length (heard ++ bytes)) → multiplies ≡ before + live_cost_of script (length (signal script heard))
       → multiplies ≤ before + cost_of script (frames_in_bytes script (first ++ (heard ++ bytes)))
   cost_within before multiplies heard bytes declared cost =
       let all = length (signal script (heard ++ bytes)) in
@@ -99,6 +203,35 @@ module _ (script : Script) (block : ℕ) (ready : IsReady script block) (header 
     where
       div_grows : (n m f : ℕ) → n ≤ m → n / f ≤ m / f
       div_grows n m f h = grind arith
+
+  -- the frames are those of the blocks that passed, and at most a block more
+  pub frames_between : (blocks : ℕ) (heard bytes : List ℕ) → InDeclared (declared_bytes script header) (length (heard ++ bytes)) → length heard ≡ blocks * block_bytes script block → length bytes ≤ block_bytes script block
+      → (blocks * block ≤ frames_in_bytes script (first ++ (heard ++ bytes))) × (frames_in_bytes script (first ++ (heard ++ bytes)) ≤ suc blocks * block)
+  frames_between blocks heard bytes declared long short =
+      let count : frames_in_bytes script (first ++ (heard ++ bytes)) ≡ length (heard ++ bytes) / frame_bytes script = frames_are script frame header first opens (heard ++ bytes) declared ∙ length-signal script frame (heard ++ bytes) in
+      rw count (
+        at_least (blocks * block) (length (heard ++ bytes)) (frame_bytes script) frame (omega (arith, frames_of_blocks script block blocks (length heard) long, length-append heard bytes)),
+        at_most (suc blocks * block) (length (heard ++ bytes)) (frame_bytes script) frame (omega (arith, frames_of_blocks script block blocks (length heard) long, short, length-append heard bytes)),
+      )
+    where
+      at_least : (k n f : ℕ) → 0 < f → k * f ≤ n → k ≤ n / f
+      at_least k n f some h = grind arith
+
+      at_most : (k n f : ℕ) → 0 < f → n ≤ k * f → n / f ≤ k
+      at_most k n f some h = grind arith
+
+  -- less than a block more leaves the whole blocks
+  pub whole_blocks_are : (blocks : ℕ) (heard bytes : List ℕ) → InDeclared (declared_bytes script header) (length (heard ++ bytes)) → length heard ≡ blocks * block_bytes script block → length bytes < block_bytes script block
+      → in_whole_blocks block (frames_in_bytes script (first ++ (heard ++ bytes))) ≡ blocks * block
+  whole_blocks_are blocks heard bytes declared long short =
+      let (low, _) = frames_between blocks heard bytes declared long (omega (arith, short)) in
+      let count : frames_in_bytes script (first ++ (heard ++ bytes)) ≡ length (heard ++ bytes) / frame_bytes script = frames_are script frame header first opens (heard ++ bytes) declared ∙ length-signal script frame (heard ++ bytes) in
+      let fewer : length (heard ++ bytes) / frame_bytes script < suc blocks * block =
+      below (suc blocks * block) (length (heard ++ bytes)) (frame_bytes script) frame (omega (arith, frames_of_blocks script block blocks (length heard) long, short, length-append heard bytes)) in
+      in_blocks blocks block (frames_in_bytes script (first ++ (heard ++ bytes))) (block_some script block ready) low (omega (arith, count, fewer))
+    where
+      below : (k n f : ℕ) → 0 < f → n < k * f → n / f < k
+      below k n f some h = grind arith
 
   -- beyond the blocks that passed, at most one block was taken
   pub lags : (blocks : ℕ) (heard bytes written : List ℕ) → InDeclared (declared_bytes script header) (length heard) → length heard ≡ blocks * block_bytes script block → length bytes ≤ block_bytes script block
@@ -118,8 +251,8 @@ module _ (script : Script) (block : ℕ) (ready : IsReady script block) (header 
         one = omega (arith, start, long, short, length-append first (heard ++ bytes), length-append heard bytes);
       }
 
-module _ (script : Script) (block : ℕ) (ready : IsReady script block) (header : Header) (taken : ℕ) (session : SessionState) (input now : SourceState) (sink then : SinkState) (before multiplies : ℕ)
-    (going : Going script block header taken session input now sink then before multiplies) where
+module _ (script : Script) (block : ℕ) (ready : IsReady script block) (header : Header) (taken : ℕ) (session : SessionState) (input now : SourceState) (sink then : SinkState) (before counts : Counts)
+    (going : Going script block header taken session input now sink then before counts) where
   abbrev heard : List ℕ
   heard = going.heard
 
@@ -166,29 +299,45 @@ module _ (script : Script) (block : ℕ) (ready : IsReady script block) (header 
         div_less : (n f : ℕ) → n / f ≤ n
         div_less n f = grind arith
 
-    more_cost : (multiplied : ℕ) → FeedCosts script (signal script heard) piece multiplies multiplied → multiplied + live_cost_of script 0 ≡ before + live_cost_of script (length (signal script (heard ++ piece)))
-    more_cost multiplied costs = omega (arith, costs.rise, going.cost, ap (λ (x : List Frame). live_cost_of script (length x)) more_signal)
+    more_cost : (passed : Counts) → PassCosts script (signal script heard) piece counts passed → passed.multiplies ≡ before.multiplies + live_cost_of script (length (signal script (heard ++ piece)))
+    more_cost passed costs = omega (arith, costs.rise, going.cost, ap (λ (x : List Frame). live_cost_of script (length x)) more_signal)
+
+    more_frames : length (signal script heard ++ signal script piece) ≡ suc going.blocks * block
+    more_frames = length-append (signal script heard) (signal script piece) ∙ omega (arith, frames_taken, block_frames piece long)
+
+    one_more : suc going.blocks * block ≡ (going.blocks + 1) * block
+    one_more = omega arith
+
+    passed_turns : (passed : Counts) → PassCosts script (signal script heard) piece counts passed → passed.turns ≤ counts.turns + turns_of script (going.blocks * block) (suc going.blocks * block)
+    passed_turns passed costs = subst (λ n. passed.turns ≤ counts.turns + n) (λ i. turns_of script (frames_taken i) (more_frames i)) costs.turned
+
+    more_turns : (passed : Counts) → PassCosts script (signal script heard) piece counts passed → passed.turns ≤ before.turns + calls_turns script block ((going.blocks + 1) * block) (going.blocks + 1)
+    more_turns passed costs =
+        let next : suc going.blocks ≡ going.blocks + 1 = omega arith in
+        subst (λ k. passed.turns ≤ before.turns + calls_turns script block (k * block) k) next (omega (arith, passed_turns passed costs, going.turned, call_more script block going.blocks (going.blocks * block) refl))
 
     -- its values were written
-    pub goes_on : (fed : SessionState) (last : SinkState) (multiplied : ℕ) → SameSession session fed → Passes script (signal script heard) piece fed then last multiplies multiplied
-        → Going script block header (taken + count) fed input later sink last before multiplied
-    goes_on fed last multiplied same passes =
-        let more_live : live_bytes script (signal script (heard ++ piece)) ≡ live_heard ++ fed.out = ap (live_bytes script) more_signal ∙ passes.feeds.out in
+    pub goes_on : (fed : SessionState) (last : SinkState) (passed : Counts) → SameSession session fed → Passes script (signal script heard) piece fed then last counts passed
+        → Going script block header (taken + count) fed input later sink last before passed
+    goes_on fed last passed same passes =
+        let more_live : live_bytes script (signal script (heard ++ piece)) ≡ live_heard ++ fed.out = ap (live_bytes script) more_signal ∙ passes.out in
         record {
           heard = heard ++ piece;
           blocks = going.blocks + 1;
           script_is = same.script ∙ going.script_is;
           block_is = same.block ∙ going.block_is;
-          stands = subst (StandsFor fed) (sym more_signal) passes.feeds.stands;
+          stands = subst (StandsFor fed) (sym more_signal) passes.stands;
           blocks_heard = more_heard;
           taken_is = omega (arith, going.taken_is, length-append heard piece, read.within, full);
           declared = read.declared;
           in_limit = omega (arith, read.in_limit);
           gave = Gave-append input now later heard piece going.gave gave_piece;
           took = subst (Took sink last) (sym more_live) (Took-append sink then last live_heard fed.out going.took passes.took);
+          not_full = subst (λ n. gathered script.blocks n ≤ MAX_GATHERED) (more_frames ∙ one_more) passes.not_full;
           no_input_fault = read.no_fault ∙ going.no_input_fault;
           no_output_fault = passes.no_fault ∙ going.no_output_fault;
-          cost = more_cost multiplied passes.costs;
+          cost = more_cost passed passes.costs;
+          turned = more_turns passed passes.costs;
         }
 
   -- from the begin of the input on
@@ -234,18 +383,24 @@ module _ (script : Script) (block : ℕ) (ready : IsReady script block) (header 
       count : length given ≡ header.start + (taken + length bytes)
       count = omega (arith, opens.start, going.taken_is, length-append first (heard ++ bytes), length-append heard bytes)
 
+      limits : BlocksKeepLimits script block given
+      limits =
+          let whole = whole_blocks_are script block ready header first opens going.blocks heard bytes (together bytes unread.declared) going.blocks_heard unread.short in
+          blocks_keep script block header given (opens.said (heard ++ bytes)) begun.fits whole going.not_full
+
       clean : later.faults ≡ now.faults → later.faults ≡ origin.faults
       clean same = same ∙ going.no_input_fault ∙ no_fault_read
 
-      stops : (f : StreamFault) → IsUnread f script header (taken + length bytes) now later → StopsAt f script block given wrote origin later empty then
+      stops : (f : StreamFault) → IsUnread f script header (taken + length bytes) now later → StopsAt f script block given wrote origin later empty then before counts
       stops fault.Input cause = record {
-        wrote = Part has parted no_fault_written;
+        wrote = Part has parted no_fault_written limits;
         risen = omega (arith, cause.0, going.no_input_fault, no_fault_read);
         in_limit = omega (arith, cause.1, count);
       }
       stops (fault.Lengths (length_fault.Input told most)) cause = record {
-        wrote = Part has parted no_fault_written;
+        wrote = Part has parted no_fault_written limits;
         all = omega (arith, cause.0, count);
+        unheaded = λ none. absurd (none has);
         wanted = λ _. subst (λ (h : Header). IfSome (declared_bytes script h) (λ size. length given < h.start + size)) (sym (opens.said (heard ++ bytes))) (further header.start (length given) (taken + length bytes) count (declared_bytes script header) cause.4);
         at_limit = cause.1;
         limit = cause.2;
@@ -262,12 +417,13 @@ module _ (script : Script) (block : ℕ) (ready : IsReady script block) (header 
         fewer = fewer;
         ended = end;
         wrote = parted;
+        limits = limits;
         clean = clean same;
         kept = no_fault_written;
       })
       stops f cause = absurd cause
 
-      pub stops_unread : Stopped script block stop origin later empty then before multiplies
+      pub stops_unread : Stopped script block stop origin later empty then before counts
       stops_unread = record {
         given = given;
         written = wrote;
@@ -275,12 +431,14 @@ module _ (script : Script) (block : ℕ) (ready : IsReady script block) (header 
         put = all_put;
         stops = stops stop unread.cause;
         lag = λ _. subst (LagsByOne script block given) (append-nil wrote) (lags script block ready header first opens going.blocks heard bytes [] heard_declared going.blocks_heard (omega (arith, unread.short)));
-        cost = cost_within script block ready header first opens before multiplies heard bytes (together bytes unread.declared) going.cost;
+        cost = cost_within script block ready header first opens before.multiplies counts.multiplies heard bytes (together bytes unread.declared) going.cost;
+        turns = (let (low, high) = frames_between script block ready header first opens going.blocks heard bytes (together bytes unread.declared) going.blocks_heard (omega (arith, unread.short)) in
+            turns_before script block going.blocks (frames_in_bytes script given) before.turns counts.turns (block_some script block ready) low high going.turned);
       }
 
     -- a part of a block came, since the samples have ended
     pub passes : (later : SourceState) (count : ℕ) (piece : List ℕ) → length piece ≡ size → count < length piece → BlockRead script header taken piece count now later
-        → Passed script block session header piece (record { before = taken; count = count }) origin later empty then before multiplies
+        → Passed script block session header piece (record { before = taken; count = count }) origin later empty then before counts
     passes later count piece long short read =
         record {
           first = first;
@@ -302,7 +460,10 @@ module _ (script : Script) (block : ℕ) (ready : IsReady script block) (header 
           took = Took-append empty sink then (output_header script header) live_heard begun.took going.took;
           no_input_fault = read.no_fault ∙ going.no_input_fault ∙ begun.opened.no_fault;
           no_output_fault = going.no_output_fault ∙ begun.no_fault;
+          fits = begun.fits;
+          not_full = going.not_full;
           cost = going.cost;
+          turned = going.turned;
         }
 
     -- a block came, and the output failed within its values, or a correlation was full
@@ -310,7 +471,7 @@ module _ (script : Script) (block : ℕ) (ready : IsReady script block) (header 
       abbrev taken_bytes : List ℕ
       taken_bytes = first ++ (heard ++ piece)
 
-      module _ (last : SinkState) (multiplied : ℕ) where
+      module _ (last : SinkState) (passed : Counts) where
         written_front : (added written : List ℕ) → live_bytes script (signal script heard ++ signal script piece) ≡ live_heard ++ added → Begins written added → Begins (wrote ++ written) (part script block taken_bytes)
         written_front added written is (rest, split) =
             let none : InDeclared (declared_bytes script header) (length ((heard ++ piece) ++ [])) = in_declared (declared_bytes script header) (length (heard ++ piece)) _ (ap length (sym (append-nil (heard ++ piece)))) (all_declared later count piece long full read) in
@@ -324,8 +485,30 @@ module _ (script : Script) (block : ℕ) (ready : IsReady script block) (header 
         all_put-more : (written : List ℕ) → last.put ≡ append_known then.put written → last.put ≡ append_known empty.put (wrote ++ written)
         all_put-more written put = put ∙ ap (λ known. append_known known written) all_put ∙ sym (append_known-append empty.put wrote written)
 
-        pub stops_unpassed : (gathers : (n : ℕ) → gathered script.blocks n ≡ 0) (stop : StreamFault) → FailsToPass stop script (signal script heard) piece then last multiplies multiplied → Stopped script block stop origin later empty last before multiplied
-        stops_unpassed gathers fault.Output (added, written, is, front, put, risen, costs) =
+        none_declared : InDeclared (declared_bytes script header) (length ((heard ++ piece) ++ []))
+        none_declared = in_declared (declared_bytes script header) (length (heard ++ piece)) _ (ap length (sym (append-nil (heard ++ piece)))) (all_declared later count piece long full read)
+
+        all_cost : (multiplied : ℕ) → multiplied ≡ before.multiplies + live_cost_of script (length (signal script (heard ++ piece))) → multiplied ≤ before.multiplies + cost_of script (frames_in_bytes script taken_bytes)
+        all_cost multiplied cost =
+            subst (λ xs. multiplied ≤ before.multiplies + cost_of script (frames_in_bytes script (first ++ xs))) (append-nil (heard ++ piece)) (cost_within script block ready header first opens before.multiplies multiplied (heard ++ piece) [] none_declared cost)
+
+        all_frames : length (signal script heard ++ signal script piece) ≡ frames_in_bytes script taken_bytes
+        all_frames = ap length (sym (more_signal later count piece long full read)) ∙ sym (frames_are script (some_frame script block ready) header first opens (heard ++ piece) (all_declared later count piece long full read))
+
+        frames_all : frames_in_bytes script taken_bytes ≡ suc going.blocks * block
+        frames_all = sym all_frames ∙ more_frames later count piece long full read
+
+        low : going.blocks * block ≤ frames_in_bytes script taken_bytes
+        low = omega (arith, frames_all)
+
+        high : frames_in_bytes script taken_bytes ≤ suc going.blocks * block
+        high = omega (arith, frames_all)
+
+        whole_all : in_whole_blocks block (frames_in_bytes script taken_bytes) ≡ suc going.blocks * block
+        whole_all = in_blocks (suc going.blocks) block (frames_in_bytes script taken_bytes) (block_some script block ready) (omega (arith, frames_all)) (omega (arith, frames_all, block_some script block ready))
+
+        pub stops_unpassed : (stop : StreamFault) → FailsToPass stop script (signal script heard) piece then last counts passed → Stopped script block stop origin later empty last before passed
+        stops_unpassed fault.Output (added, written, is, front, put, risen, costs, kept) =
             record {
               given = taken_bytes;
               written = wrote ++ written;
@@ -334,19 +517,45 @@ module _ (script : Script) (block : ℕ) (ready : IsReady script block) (header 
               stops = record {
                 has = opens.has (heard ++ piece);
                 wrote = inl (written_front added written is front);
+                limits = blocks_keep script block header taken_bytes (opens.said (heard ++ piece)) begun.fits whole_all (subst (λ n. gathered script.blocks n ≤ MAX_GATHERED) (all_frames ∙ frames_all) kept);
                 risen = omega (arith, risen, going.no_output_fault, begun.no_fault);
                 clean = read.no_fault ∙ going.no_input_fault ∙ begun.opened.no_fault;
               };
               lag = λ _. lags script block ready header first opens going.blocks heard piece written heard_declared going.blocks_heard (omega (arith, long));
-              cost = all_cost (more_cost later count piece long full read multiplied costs);
+              cost = all_cost passed.multiplies (more_cost later count piece long full read passed costs);
+              turns = turns_behind script block going.blocks (frames_in_bytes script taken_bytes) before.turns counts.turns passed.turns (block_some script block ready) low high going.turned
+                  (subst (λ n. passed.turns ≤ counts.turns + turns_of script (going.blocks * block) n) (sym (more_frames later count piece long full read) ∙ all_frames) (passed_turns later count piece long full read passed costs));
             }
-          where
-            all_cost : multiplied + live_cost_of script 0 ≡ before + live_cost_of script (length (signal script (heard ++ piece))) → multiplied ≤ before + cost_of script (frames_in_bytes script taken_bytes)
-            all_cost cost =
-                let none : InDeclared (declared_bytes script header) (length ((heard ++ piece) ++ [])) = in_declared (declared_bytes script header) (length (heard ++ piece)) _ (ap length (sym (append-nil (heard ++ piece)))) (all_declared later count piece long full read) in
-                subst (λ xs. multiplied ≤ before + cost_of script (frames_in_bytes script (first ++ xs))) (append-nil (heard ++ piece)) (cost_within script block ready header first opens before multiplied (heard ++ piece) [] none cost)
-        stops_unpassed gathers (fault.Lengths (length_fault.Gather told more)) (over, held_is, more_is, same, still) = absurd (let few : 1048577 ≤ 0 = rw (gathers (length (signal script heard ++ signal script piece))) at over in omega (arith, few))
-        stops_unpassed gathers _ none = absurd none
-
-pub gathers_none : (script : Script) (block : ℕ) → IsReady script block → (n : ℕ) → gathered script.blocks n ≡ 0
-gathers_none script block ready n = no-gather script.blocks n ready.is_built
+        stops_unpassed (fault.Lengths (length_fault.Gather told more)) (over, held_is, more_is, same, still) =
+            let quiet = quiet_script script block ready (length (signal script heard ++ signal script piece)) (omega (arith, over)) in
+            let parted : part script block taken_bytes ≡ wrote =
+            ap (λ xs. part script block (first ++ xs)) (sym (append-nil (heard ++ piece))) ∙ part_blocks script (some_frame script block ready) header first opens block (going.blocks + 1) (heard ++ piece) [] (more_heard later count piece long full read) some none_declared
+            ∙ ap (λ xs. output_header script header ++ xs) (quiet (signal script (heard ++ piece)) ∙ sym (quiet (signal script heard))) in
+            record {
+              given = taken_bytes;
+              written = wrote;
+              gave = all_given later piece (gave_piece later count piece long full read);
+              put = ap (λ (s : SinkState). s.put) same ∙ all_put;
+              stops = record {
+                has = opens.has (heard ++ piece);
+                over = subst (λ n. MAX_GATHERED < gathered script.blocks n) all_frames over;
+                before = length (signal script heard);
+                before_is = frames_taken ∙ sym (in_blocks going.blocks block (frames_in_bytes script taken_bytes - 1) (block_some script block ready) (omega (arith, frames_all, block_some script block ready)) (omega (arith, frames_all, block_some script block ready)));
+                limits = record {
+                  fits = subst (Fits script) (sym (opens.said (heard ++ piece))) begun.fits;
+                  not_full = subst (λ n. gathered script.blocks n ≤ MAX_GATHERED) (sym frames_taken) going.not_full;
+                };
+                made = ap (λ (c : Counts). c.multiplies) still ∙ going.cost;
+                no_window = λ fewer. absurd (omega (arith, fewer, frames_taken, frames_all));
+                held_is = held_is;
+                more_is = more_is ∙ ap (gathered script.blocks) all_frames;
+                wrote = sym parted;
+                clean = read.no_fault ∙ going.no_input_fault ∙ begun.opened.no_fault;
+                kept = ap (λ (s : SinkState). s.faults) same ∙ going.no_output_fault ∙ begun.no_fault;
+              };
+              lag = λ _. subst (LagsByOne script block taken_bytes) (append-nil wrote) (lags script block ready header first opens going.blocks heard piece [] heard_declared going.blocks_heard (omega (arith, long)));
+              cost = (let fewer = live_cost_within script.input.format script.input.channels script.blocks (length (signal script heard)) (frames_in_bytes script taken_bytes) (omega (arith, all_frames, length-append (signal script heard) (signal script piece))) in
+                  let steps : passed.multiplies ≡ counts.multiplies = ap (λ (c : Counts). c.multiplies) still in omega (arith, fewer, going.cost, steps));
+              turns = subst (λ (c : Counts). c.turns ≤ before.turns + run_turns script block (frames_in_bytes script taken_bytes)) (sym still) (turns_before script block going.blocks (frames_in_bytes script taken_bytes) before.turns counts.turns (block_some script block ready) low high going.turned);
+            }
+        stops_unpassed _ none = absurd none

@@ -1,31 +1,27 @@
 -- What the calls of a chain make of bytes.
-use Rattle.std.proofs.Common.{◌≡◌, ℕ, ◌+◌, ◌*◌, ◌/◌, ◌<◌, ◌≤◌, ℤ, List, [], ◌∷◌, ◌++◌, length, take, drop, fold, flat_map, All, FitsSigned, refl, sym, ap, ◌∙◌, subst, arith, length-append}
+use Rattle.std.proofs.Common.{◌≡◌, ℕ, ◌+◌, ◌*◌, ◌/◌, ◌<◌, ◌≤◌, ℤ, List, [], ◌∷◌, ◌++◌, length, take, drop, fold, flat_map, All, FitsSigned, refl, sym, ap, ◌∙◌, subst, arith, inl, inr}
 use Rattle.dsp_defs.specs.Block.{Frame, format_after}
 use Rattle.dsp_defs.specs.Bytes.{width, bytes_of, sample_of}
-use Rattle.dsp_defs.specs.Cost.{live_cost, chain_turns}
 use Rattle.dsp_defs.specs.Counts.{Counts}
 use Rattle.dsp_defs.specs.Formats.{word}
-use Rattle.dsp_defs.specs.Output.{input_container, format_of, live_bytes}
-use Rattle.dsp_defs.specs.Row as row
-use Rattle.dsp_defs.specs.Row.{Place, Passes, place_after, place_behind, place_room, blocks_of, chain_products, AllCount}
+use Rattle.dsp_defs.specs.Output.{input_container, format_of}
+use Rattle.dsp_stage.specs.Row.{Place, Passes, place_after, place_behind, place_room, blocks_of, chain_products, row_turns}
 use Rattle.dsp_defs.specs.Signal.{values}
-use Rattle.dsp_defs.specs.Unit.{UnitState, frames_in}
-use Rattle.std.proofs.lemmas.List.{length-map}
-use Rattle.dsp_defs.specs.declared.limits.TheConstants.{MAX_SAMPLES, MAX_GATHERED, MAX_BLOCKS}
+use Rattle.dsp_stage.specs.Unit.{frames_in}
+use Rattle.dsp_defs.specs.declared.limits.TheConstants.{MAX_SAMPLES, MAX_GATHERED}
 use Rattle.dsp_defs.specs.declared.script.Block.{Block}
 use Rattle.dsp_defs.specs.declared.script.Script.{Script}
 use Rattle.dsp_defs.proofs.BlockLaws.{length-values}
-use Rattle.dsp_defs.proofs.ChainPlaces.{legal_is_open, open_behind}
-use Rattle.dsp_defs.proofs.CostLaws.{products_are_cost, costs_within}
-use Rattle.dsp_defs.proofs.SampleLaws.{width-some, decoded, encoded, coded-append}
-use Rattle.dsp_defs.specs.Shape.{gathered}
-use Rattle.dsp_chain.proofs.Making.{no-window, no-gather}
+use Rattle.dsp_stage.proofs.ChainPlaces.{legal_is_open, open_behind}
+use Rattle.dsp_defs.proofs.SampleLaws.{width-some, decoded, encoded}
+use Rattle.dsp_defs.specs.Shape.{gathered, held}
+use Rattle.dsp_defs.specs.declared.fault.GatherFull.{GatherFull}
 use Rattle.dsp_chain.proofs.Room.{written-row}
 use Rattle.dsp_wave.specs.Coding.{container_in, format_in}
 use Rattle.dsp_wave.specs.declared.coding.Coding.{Coding}
-use Rattle.dsp_chain.specs.Chain.{ChainState, ChainStandsFor, FeedsChain, FinishesChain, measures_of as chain_measures, live_of, whole_of, output_of, input_place}
+use Rattle.dsp_chain.specs.Chain.{ChainState, ChainStandsFor, SameChain, FeedsChain, FailsChain, FinishesChain, IsNewChain, IsTooMuch as chain_too_much, live_of, output_of, input_place, made_of}
 use Rattle.dsp_session.specs.SessionState.{SessionState}
-use Rattle.dsp_session.specs.Session.{IsReady, Feeds, FeedCosts, FeedTurns, measures_of, Ends, EndCosts, signal, frame_bytes, output_bytes, live_values, whole_values, cost_of, live_cost_of}
+use Rattle.dsp_session.specs.Session.{IsReady, Holds, IsNew, Feeds, Fails, IsTooMuch, Ends, signal, frame_bytes, live_values, products_of, turns_of}
 
 -- the format behind the blocks
 format_behind : (p : Place) (blocks : List Block) → (place_behind p blocks).format ≡ fold format_after p.format blocks
@@ -96,13 +92,6 @@ module _ (script : Script) (block : ℕ) (ready : IsReady script block) where
       → take count (take len (new ++ drop (length new) old)) ≡ flat_map (bytes_of script.output (format_of script)) ys
   write_row coding count len ys new old container format long written = ap (take count) (written-row len new old long) ∙ rw (container, format) at written
 
-  -- no block that is built gathers
-  pub never_full : (blocks : List Block) (n : ℕ) → blocks ≡ script.blocks → MAX_GATHERED < gathered blocks n → ⊥
-  never_full blocks n same full =
-      let none : gathered blocks n ≡ 0 = ap (λ bs. gathered bs n) same ∙ no-gather script.blocks n ready.is_built in
-      let few : 1048577 ≤ 0 = rw none at full in
-      omega (arith, few)
-
   -- ---- calls of the chain
 
   module _ (old new : ChainState) (input : old.input ≡ input_place script block) (blocks : blocks_of old.units ≡ script.blocks) where
@@ -113,86 +102,97 @@ module _ (script : Script) (block : ℕ) (ready : IsReady script block) where
     live_is : (x : List Frame) → live_of old x ≡ live_values script x
     live_is x = rw (input, blocks) refl
 
-    whole_is : (x : List Frame) → whole_of old x ≡ whole_values script x
-    whole_is x = rw (input, blocks) refl
+    module _ (turns : (m n : ℕ) → row_turns old.units m n ≡ turns_of script m n) (earlier out : List ℕ) where
+      abbrev first : SessionState
+      first = record { script = script; block = block; chain = old; out = earlier }
 
-    module _ (xs ys : List ℤ) (bytes out : List ℕ) (same : frames_in script.input.channels xs ≡ signal script bytes) (given : out ≡ flat_map (bytes_of script.output (format_of script)) ys)
-        (before after : Counts) (fed : FeedsChain old new xs ys before after) where
-      taken : frames_in old.input.channels xs ≡ signal script bytes
-      taken = ap (λ (p : Place). frames_in p.channels xs) input ∙ same
+      abbrev next : SessionState
+      next = record { script = script; block = block; chain = new; out = out }
 
-      abbrev gives : List Frame
-      gives = frames_in (output_of old).channels ys
+      -- its chain is still that of the script
+      holds_again : SameChain old new → Holds next
+      holds_again same = record { ready = ready; input = same.input ∙ input; blocks = same.blocks ∙ blocks; turns = λ m n. same.turns m n ∙ turns m n }
 
-      module _ (x : List Frame) (stands : ChainStandsFor old x) (counts : AllCount old.units (length x)) where
-        more_live : live_values script (x ++ signal script bytes) ≡ live_values script x ++ gives
-        more_live = sym (live_is (x ++ signal script bytes)) ∙ ap (λ z. live_of old (x ++ z)) (sym taken) ∙ fed.values x stands ∙ ap (λ z. z ++ gives) (live_is x)
+      module _ (xs ys : List ℤ) (bytes : List ℕ) (same : frames_in script.input.channels xs ≡ signal script bytes) (given : out ≡ flat_map (bytes_of script.output (format_of script)) ys)
+          (before after : Counts) (fed : FeedsChain old new xs ys before after) where
+        taken : frames_in old.input.channels xs ≡ signal script bytes
+        taken = ap (λ (p : Place). frames_in p.channels xs) input ∙ same
 
-        more_frames : length x + length (frames_in old.input.channels xs) ≡ length (x ++ signal script bytes)
-        more_frames = ap (λ (z : List Frame). length x + length z) taken ∙ sym (length-append x (signal script bytes))
+        abbrev live : List Frame
+        live = frames_in (output_of old).channels ys
 
-        pub feeds : Feeds script x bytes (record { script = script; block = block; chain = new; out = out })
+        more_live : (x : List Frame) → ChainStandsFor old x → live_values script (x ++ signal script bytes) ≡ live_values script x ++ live
+        more_live x stands = sym (live_is (x ++ signal script bytes)) ∙ ap (λ z. live_of old (x ++ z)) (sym taken) ∙ fed.values x stands ∙ ap (λ z. z ++ live) (live_is x)
+
+        pub feeds : Feeds first next bytes before after
         feeds = record {
-          stands = record {
-            chain = subst (λ z. ChainStandsFor new (x ++ z)) taken (fed.stands x stands);
-            counts = subst (AllCount new.units) more_frames (fed.counts (length x) counts);
-          };
-          out = ap (output_bytes script) more_live ∙ coded-append script.output (format_of script) (live_values script x) gives
-              ∙ ap (λ z. live_bytes script x ++ z) (sym (given ∙ encoded script.output (format_of script) (output_of old).channels ys fed.passes.signal.whole_frames));
+          holds = holds_again fed.same;
+          running = fed.running;
+          works = fed.works;
+          counted = fed.counted ∙ ap (λ (z : List Frame). old.frames + length z) taken;
+          given = live;
+          frames = record { out = given ∙ encoded script.output (format_of script) (output_of old).channels ys fed.passes.signal.whole_frames; gives = fed.gives };
+          values = λ x stands. more_live x stands.chain;
+          stands = λ x stands. record { holds = holds_again fed.same; chain = subst (λ z. ChainStandsFor new (x ++ z)) taken (fed.stands x stands.chain); live = fed.live };
+          multiplies = fed.multiplies;
+          turns = subst (λ n. after.turns ≤ before.turns + n) (turns old.frames new.frames) fed.turns;
+          live = fed.live;
         }
 
-        pub feed_costs : FeedCosts script x bytes before.multiplies after.multiplies
-        feed_costs =
-            let rise : live_cost_of script (length x + length (frames_in script.input.channels xs)) + before.multiplies ≡ live_cost_of script (length x) + after.multiplies = rw (input, blocks) at (fed.multiplies (length x) counts) in
-            let all : length x + length (frames_in script.input.channels xs) ≡ length (x ++ signal script bytes) = ap (λ (z : List Frame). length x + length z) same ∙ sym (length-append x (signal script bytes)) in
-            record { rise = omega (arith, rise, ap (live_cost_of script) all) }
+      module _ (ys : List ℤ) (given : out ≡ flat_map (bytes_of script.output (format_of script)) ys) (answer w : ℕ) (some : 0 < w) (answer_is : answer ≡ length ys * w)
+          (before after : Counts) (finished : FinishesChain old new ys before after) where
+        abbrev piece : List Frame
+        piece = frames_in (output_of old).channels ys
 
-        pub feed_turns : FeedTurns script x bytes before.turns after.turns
-        feed_turns =
-            let within : after.turns ≤ before.turns + chain_turns script.input.format script.input.channels script.blocks (length x) (length x + length (frames_in script.input.channels xs)) = rw (input, blocks) at (fed.turns (length x) counts) in
-            let all : length x + length (frames_in script.input.channels xs) ≡ length (x ++ signal script bytes) = ap (λ (z : List Frame). length x + length z) same ∙ sym (length-append x (signal script bytes)) in
-            record { within = subst (λ n. after.turns ≤ before.turns + chain_turns script.input.format script.input.channels script.blocks (length x) n) all within }
+        products_are : (n : ℕ) → chain_products new.input.format new.input.channels (blocks_of new.units) n ≡ products_of script n
+        products_are n = rw (finished.same.input, finished.same.blocks, input, blocks) refl
 
-    measures_are : (x : List Frame) → chain_measures old x ≡ measures_of script x
-    measures_are x = rw (input, blocks) refl
+        no_answer : ys ≡ [] → answer ≡ 0
+        no_answer none = answer_is ∙ ap (λ (zs : List ℤ). length zs * w) none ∙ omega arith
 
-    module _ (ys : List ℤ) (out : List ℕ) (given : out ≡ flat_map (bytes_of script.output (format_of script)) ys) (answer : ℕ) (none : answer ≡ 0 → ys ≡ [])
-        (before after : Counts) (finished : FinishesChain old new ys before after) (first : SessionState) (first_is : first.chain ≡ old) where
-      pub ends : Ends script first (record { script = script; block = block; chain = new; out = out }) answer
-      ends = record {
-        ended = finished.ended;
-        begins = λ x rest stands is. rw first_is (finished.begins x rest (rw first_is at stands.chain) (whole_is x ∙ is ∙ ap (λ z. z ++ rest) (sym (live_is x))));
-        piece = λ owed owes.
-            let (later, next, left) = finished.owed owed (rw first_is at owes) in
-            record {
-              given = frames_in (output_of old).channels ys;
-              later = later;
-              next = next;
-              owes = left;
-              out = given ∙ encoded script.output (format_of script) (output_of old).channels ys finished.passes.signal.whole_frames;
-            };
-        spent = λ zero owed owes. finished.spent (none zero) owed owes;
-        measure_begins = λ x stands. rw first_is (subst (row.Measures old.input 1 old.units) (measures_are x) (finished.measure_begins x (rw first_is at stands.chain)));
-        measures = λ ms owes. finished.measures ms (rw first_is at owes);
-        measure_spent = λ zero ms owes. finished.measure_spent (none zero) ms owes;
-      }
+        pub ends : Ends first next answer before after
+        ends = record {
+          holds = holds_again finished.same;
+          ended = finished.ended;
+          failed = finished.failed;
+          counted = finished.counted;
+          given = piece;
+          frames = record { out = given ∙ encoded script.output (format_of script) (output_of old).channels ys finished.passes.signal.whole_frames; gives = finished.gives };
+          gave = λ x ys gave. record { holds = holds_again finished.same; chain = finished.gave x ys gave.chain };
+          multiplies = finished.multiplies;
+          turns = finished.turns;
+          within = subst (λ n. made_of new ≤ n) (products_are new.frames) finished.within;
+          spent = λ zero works. finished.spent (none_written ys w answer some answer_is zero) works;
+          refused = λ failed. (let (nothing, units, steps) = finished.refused failed in (no_answer nothing, units, steps));
+        }
 
-      products_are : (n : ℕ) → chain_products old.input.format old.input.channels (blocks_of old.units) n ≡ cost_of script n
-      products_are n = rw (input, blocks) (products_are_cost script.input.format script.input.channels script.blocks n (no-window script.blocks n ready.is_built))
+    -- a call that is refused leaves all but the fault
+    pub fails : (earlier : List ℕ) (fault : GatherFull) (before after : Counts) → FailsChain old new fault before after
+        → Fails (record { script = script; block = block; chain = old; out = earlier }) (record { script = script; block = block; chain = new; out = [] }) fault before after
+    fails earlier fault before after failed = record {
+      same = λ i. record { script = script; block = block; chain = failed.same i; out = [] };
+      again = failed.again;
+      no_steps = failed.no_steps;
+    }
 
-      live_costs_are : (n : ℕ) → live_cost old.input.format old.input.channels (blocks_of old.units) n ≡ live_cost_of script n
-      live_costs_are n = rw (input, blocks) refl
+    -- where it is refused
+    pub too_much : (earlier : List ℕ) (n m : ℕ) → n ≡ m → chain_too_much old n → IsTooMuch (record { script = script; block = block; chain = old; out = earlier }) m
+    too_much earlier n m same (inl many) = inl (subst (λ k. MAX_GATHERED < k) (λ i. gathered (blocks i) (old.frames + same i)) many)
+    too_much earlier n m same (inr failed) = inr failed
 
-      pub end_costs : EndCosts script first (record { script = script; block = block; chain = new; out = out }) answer before.multiplies after.multiplies
-      end_costs = record {
-        begins = λ x total stands is. rw first_is (finished.cost_begins (length x) total (rw first_is at stands.counts) (omega (arith, is, products_are (length x), live_costs_are (length x))));
-        piece = λ total owes. finished.costs total (rw first_is at owes);
-        spent = λ zero total owes. finished.cost_spent (none zero) total owes;
-        within = λ total owes. costs_within new.input new.units after.multiplies total owes;
-      }
+    pub chain_much : (earlier : List ℕ) (n m : ℕ) → n ≡ m → IsTooMuch (record { script = script; block = block; chain = old; out = earlier }) m → chain_too_much old n
+    chain_much earlier n m same (inl many) = inl (subst (λ k. MAX_GATHERED < k) (sym (λ i. gathered (blocks i) (old.frames + same i))) many)
+    chain_much earlier n m same (inr failed) = inr failed
 
--- a session has no more units than a script may have blocks
-pub few_units : (script : Script) (block : ℕ) → IsReady script block → (units : List UnitState) → blocks_of units ≡ script.blocks → length units ≤ MAX_BLOCKS
-few_units script block ready units blocks =
-    let size : length units ≡ length script.blocks = sym (length-map units (λ (u : UnitState). u.block)) ∙ ap length blocks in
-    omega (arith, size, ready.sound.1.fit.blocks)
+    pub numbers : (fault : GatherFull) (n m : ℕ) → n ≡ m → (fault.held ≡ held (blocks_of old.units) old.frames) × (fault.held + fault.more ≡ gathered (blocks_of old.units) (old.frames + n))
+        → (fault.held ≡ held script.blocks old.frames) × (fault.held + fault.more ≡ gathered script.blocks (old.frames + m))
+    numbers fault n m same (held_is, sum) = (held_is ∙ ap (λ bs. held bs old.frames) blocks, sum ∙ (λ i. gathered (blocks i) (old.frames + same i)))
+
+  -- a new worker
+  pub is_new : (c : ChainState) → IsNewChain (input_place script block) script.blocks c → IsNew script block (record { script = script; block = block; chain = c; out = [] })
+  is_new c is = record {
+    script_is = refl;
+    block_is = refl;
+    stands = record { holds = record { ready = ready; input = is.input; blocks = is.blocks_are; turns = is.turns }; chain = is.stands; live = is.live };
+    empty = refl;
+  }

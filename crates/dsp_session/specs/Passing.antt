@@ -3,6 +3,7 @@ use Rattle.std.specs.Prelude.{◌≡◌, ℕ, ◌+◌, ◌*◌, ◌/◌, ◌^◌
 use Rattle.std.specs.Io.KnownBytes.{IsAtEnd, append_known}
 use Rattle.dsp_ports.specs.Ports.{SourceState, SinkState, Rose, Gave, Took}
 use Rattle.dsp_defs.specs.Block.{Frame}
+use Rattle.dsp_defs.specs.Counts.{Counts}
 use Rattle.dsp_defs.specs.Output.{live_bytes, output_header}
 use Rattle.dsp_defs.specs.Shape.{gathered, held}
 use Rattle.dsp_defs.specs.Streaming.{Begins}
@@ -11,8 +12,8 @@ use Rattle.dsp_defs.specs.declared.script.Script.{Script}
 use Rattle.dsp_defs.specs.declared.wave.Header.{Header}
 use Rattle.dsp_defs.specs.declared.wave.HeaderFault.TheVariants.{Short}
 use Rattle.dsp_session.specs.SessionState.{SessionState}
-use Rattle.dsp_session.specs.Session.{StandsFor, Feeds, FeedCosts, signal, frame_bytes, block_bytes, cost_of, live_cost_of}
-use Rattle.dsp_session.specs.Opening.{Opens}
+use Rattle.dsp_session.specs.Session.{StandsFor, signal, frame_bytes, block_bytes, live_cost_of, products_of, turns_of, calls_turns}
+use Rattle.dsp_session.specs.Opening.{Fits, Opens}
 use Rattle.dsp_session.specs.Stream.{declared_bytes}
 use Rattle.dsp_session.specs.declared.fault.LengthFault.TheVariants as length_fault
 use Rattle.dsp_session.specs.declared.fault.StreamFault.{StreamFault}
@@ -60,27 +61,35 @@ pub record Unread (script : Script) (header : Header) (taken size : ℕ) (fault 
 
 -- ---- working and writing
 
+-- the steps of a call that adds the frames of these bytes to x
+pub record PassCosts (script : Script) (x : List Frame) (bytes : List ℕ) (before counts : Counts) : Type 0 where
+  pub rise : counts.multiplies + live_cost_of script (length x) ≡ before.multiplies + live_cost_of script (length (x ++ signal script bytes))
+  pub turned : counts.turns ≤ before.turns + turns_of script (length x) (length (x ++ signal script bytes))
+
 -- the frames were worked on, and their live values were written
-pub record Passes (script : Script) (x : List Frame) (bytes : List ℕ) (new : SessionState) (sink after : SinkState) (before multiplies : ℕ) : Type 0 where
-  pub feeds : Feeds script x bytes new
-  pub costs : FeedCosts script x bytes before multiplies
+pub record Passes (script : Script) (x : List Frame) (bytes : List ℕ) (new : SessionState) (sink after : SinkState) (before counts : Counts) : Type 0 where
+  pub stands : StandsFor new (x ++ signal script bytes)
+  pub out : live_bytes script (x ++ signal script bytes) ≡ live_bytes script x ++ new.out
+  pub costs : PassCosts script x bytes before counts
+  pub not_full : gathered script.blocks (length (x ++ signal script bytes)) ≤ MAX_GATHERED
   pub took : Took sink after new.out
   pub no_fault : after.faults ≡ sink.faults
 
 -- the frames were worked on, and the sink has failed within their values; or a correlation would gather too many
-abbrev pub FailsToPass : StreamFault → Script → List Frame → List ℕ → SinkState → SinkState → ℕ → ℕ → Type 0
-FailsToPass fault.Output script x bytes sink after before multiplies =
+abbrev pub FailsToPass : StreamFault → Script → List Frame → List ℕ → SinkState → SinkState → Counts → Counts → Type 0
+FailsToPass fault.Output script x bytes sink after before counts =
     (given written : List ℕ) × (live_bytes script (x ++ signal script bytes) ≡ live_bytes script x ++ given) × Begins written given
-    × (after.put ≡ append_known sink.put written) × Rose sink.faults after.faults × FeedCosts script x bytes before multiplies
-FailsToPass (fault.Lengths (length_fault.Gather told more)) script x bytes sink after before multiplies =
+    × (after.put ≡ append_known sink.put written) × Rose sink.faults after.faults × PassCosts script x bytes before counts
+    × (gathered script.blocks (length (x ++ signal script bytes)) ≤ MAX_GATHERED)
+FailsToPass (fault.Lengths (length_fault.Gather told more)) script x bytes sink after before counts =
     (MAX_GATHERED < gathered script.blocks (length (x ++ signal script bytes))) × (told ≡ held script.blocks (length x))
-    × (more + told ≡ gathered script.blocks (length (x ++ signal script bytes))) × (after ≡ sink) × (multiplies ≡ before)
-FailsToPass fault script x bytes sink after before multiplies = ⊥
+    × (more + told ≡ gathered script.blocks (length (x ++ signal script bytes))) × (after ≡ sink) × (counts ≡ before)
+FailsToPass fault script x bytes sink after before counts = ⊥
 
 -- ---- the blocks so far
 
 -- the samples ended within a block, and all the blocks before it have passed
-pub record Passed (script : Script) (frames : ℕ) (session : SessionState) (header : Header) (block : List ℕ) (last : Last) (input now : SourceState) (sink after : SinkState) (before multiplies : ℕ) : Type 0 where
+pub record Passed (script : Script) (frames : ℕ) (session : SessionState) (header : Header) (block : List ℕ) (last : Last) (input now : SourceState) (sink after : SinkState) (before counts : Counts) : Type 0 where
   pub first : List ℕ
   pub heard : List ℕ
   pub blocks : ℕ
@@ -100,12 +109,15 @@ pub record Passed (script : Script) (frames : ℕ) (session : SessionState) (hea
   pub took : Took sink after (output_header script header ++ live_bytes script (signal script heard))
   pub no_input_fault : now.faults ≡ input.faults
   pub no_output_fault : after.faults ≡ sink.faults
-  pub cost : multiplies + live_cost_of script 0 ≡ before + live_cost_of script (length (signal script heard))
+  pub fits : Fits script header
+  pub not_full : gathered script.blocks (blocks * frames) ≤ MAX_GATHERED
+  pub cost : counts.multiplies ≡ before.multiplies + live_cost_of script (length (signal script heard))
+  pub turned : counts.turns ≤ before.turns + calls_turns script frames (blocks * frames) blocks
 
 -- some input has led the session to this
 abbrev pub HasPassed : SessionState → Header → List ℕ → Last → Type 0
 HasPassed session header block last =
-    (before : SourceState) × (now : SourceState) × (empty : SinkState) × (after : SinkState) × (count : ℕ) × (multiplies : ℕ) × Passed session.script session.block session header block last before now empty after count multiplies
+    (before : SourceState) × (now : SourceState) × (empty : SinkState) × (after : SinkState) × (start : Counts) × (counts : Counts) × Passed session.script session.block session header block last before now empty after start counts
 
 -- ---- the end
 
@@ -116,7 +128,8 @@ pub record WritesRest {T E : Type 0} (result : Result T E) (front all : List ℕ
   pub begins : Begins (front ++ written) all
   pub whole : OnOk result (front ++ written ≡ all)
 
--- the multiplies are at most those of a whole signal of n frames, and exactly those where all was written
-pub record TailCosts {T E : Type 0} (result : Result T E) (script : Script) (n before multiplies : ℕ) : Type 0 where
-  pub limit : multiplies + live_cost_of script n ≤ before + cost_of script n
-  pub exact : OnOk result (multiplies + live_cost_of script n ≡ before + cost_of script n)
+-- the multiplies are at most those of a whole signal of n frames, and exactly those where all was written; a turn of a loop makes one at least
+pub record TailCosts {T E : Type 0} (result : Result T E) (script : Script) (n : ℕ) (before counts : Counts) : Type 0 where
+  pub limit : counts.multiplies + live_cost_of script n ≤ before.multiplies + products_of script n
+  pub exact : OnOk result (counts.multiplies + live_cost_of script n ≡ before.multiplies + products_of script n)
+  pub turned : counts.turns + before.multiplies ≤ before.turns + counts.multiplies

@@ -1,18 +1,21 @@
 -- What the calls of a session give, for every signal that it has taken.
-use Rattle.std.specs.Prelude.{◌≡◌, ℕ, ◌+◌, ◌*◌, ◌≤◌, true, List, [], ◌++◌, length, IsTrue}
+use Rattle.std.specs.Prelude.{◌≡◌, ◌⊎◌, ℕ, ◌+◌, ◌*◌, ◌<◌, ◌≤◌, true, false, List, [], ◌++◌, length, Some, None, is_some, IsTrue}
 use Rattle.dsp_defs.specs.Block.{Frame, live_chain, whole_chain}
 use Rattle.dsp_defs.specs.Bytes.{width, coded, samples}
-use Rattle.dsp_defs.specs.Cost.{cost, live_cost, chain_turns}
+use Rattle.dsp_defs.specs.Cost.{cost, live_cost, chain_turns, turns_of_calls, turns}
+use Rattle.dsp_defs.specs.Counts.{Counts}
 use Rattle.dsp_defs.specs.Measure as measure
 use Rattle.dsp_defs.specs.Grammar.{IsSound}
-use Rattle.dsp_defs.specs.Output.{input_container, format_of, live_bytes}
-use Rattle.dsp_defs.specs.Row as row
-use Rattle.dsp_defs.specs.Row.{AllCount, blocks_of}
-use Rattle.dsp_defs.specs.Shape.{is_legal}
+use Rattle.dsp_defs.specs.Output.{input_container, format_of}
+use Rattle.dsp_stage.specs.Row as row
+use Rattle.dsp_stage.specs.Row.{blocks_of, chain_products, row_turns}
+use Rattle.dsp_defs.specs.Shape.{is_legal, gathered}
+use Rattle.dsp_defs.specs.declared.fault.GatherFull.{GatherFull}
+use Rattle.dsp_defs.specs.declared.limits.TheConstants.{MAX_GATHERED}
 use Rattle.dsp_defs.specs.declared.measure.Measure.{Measure}
 use Rattle.dsp_defs.specs.declared.script.Script.{Script}
 use Rattle.dsp_chain.specs.Built.{built}
-use Rattle.dsp_chain.specs.Chain.{ChainStandsFor, input_place}
+use Rattle.dsp_chain.specs.Chain.{ChainStandsFor, ChainGave, IsLive, IsSpent, input_place, given_of, made_of}
 use Rattle.dsp_session.specs.SessionState.{SessionState}
 
 -- ---- bytes and signals
@@ -21,6 +24,7 @@ use Rattle.dsp_session.specs.SessionState.{SessionState}
 abbrev pub frame_bytes : Script → ℕ
 frame_bytes script = script.input.channels * width script.input.format
 
+-- block * frame_bytes
 abbrev pub block_bytes : Script → ℕ → ℕ
 block_bytes script block = block * frame_bytes script
 
@@ -43,8 +47,25 @@ whole_values script x = whole_chain script.input.format script.input.channels sc
 abbrev pub cost_of : Script → ℕ → ℕ
 cost_of script n = cost script.input.format script.input.channels script.blocks n
 
+-- and for one that may go on
 abbrev pub live_cost_of : Script → ℕ → ℕ
 live_cost_of script n = live_cost script.input.format script.input.channels script.blocks n
+
+-- the multiplies that its blocks make for a whole signal of n frames: its cost, where no window ends past the full convolution
+abbrev pub products_of : Script → ℕ → ℕ
+products_of script n = chain_products script.input.format script.input.channels script.blocks n
+
+-- the turn bound of a call that leads its blocks from m input frames to n
+abbrev pub turns_of : Script → ℕ → ℕ → ℕ
+turns_of script m n = chain_turns script.input.format script.input.channels script.blocks m n
+
+-- the turn bound of the first calls of a run of n frames in blocks of this length, and of the whole run
+abbrev pub calls_turns : Script → ℕ → ℕ → ℕ → ℕ
+calls_turns script block n calls = turns_of_calls script.input.format script.input.channels script.blocks block n calls
+
+-- the turn bound of a whole run of n frames
+abbrev pub run_turns : Script → ℕ → ℕ → ℕ
+run_turns script block n = turns script.input.format script.input.channels script.blocks block n
 
 -- the measures of a whole signal
 abbrev pub measures_of : Script → List Frame → List Measure
@@ -63,11 +84,18 @@ pub record Holds (s : SessionState) : Type 0 where
   pub ready : IsReady s.script s.block
   pub input : s.chain.input ≡ input_place s.script s.block
   pub blocks : blocks_of s.chain.units ≡ s.script.blocks
+  pub turns : (m n : ℕ) → row_turns s.chain.units m n ≡ turns_of s.script m n
 
--- it has taken the frames x, and nothing of its tail was given
+-- it has taken the frames x, can take more, and nothing of its tail was given
 pub record StandsFor (s : SessionState) (x : List Frame) : Type 0 where
+  pub holds : Holds s
   pub chain : ChainStandsFor s.chain x
-  pub counts : AllCount s.chain.units (length x)
+  pub live : IsLive s.chain
+
+-- it has taken x in all, and has given ys of what the script gives of it as a whole signal
+pub record HasGiven (s : SessionState) (x ys : List Frame) : Type 0 where
+  pub holds : Holds s
+  pub chain : ChainGave s.chain x ys
 
 -- a session of the script that has taken nothing
 pub record IsNew (script : Script) (block : ℕ) (s : SessionState) : Type 0 where
@@ -81,59 +109,50 @@ pub record SameSession (old new : SessionState) : Type 0 where
   pub script : new.script ≡ old.script
   pub block : new.block ≡ old.block
 
--- fed with bytes, it has taken their frames too, and gave what they add to the live values
-pub record Feeds (script : Script) (x : List Frame) (bytes : List ℕ) (new : SessionState) : Type 0 where
-  pub stands : StandsFor new (x ++ signal script bytes)
-  pub out : live_bytes script (x ++ signal script bytes) ≡ live_bytes script x ++ new.out
-
--- and the multiplies are those that the frames add
-pub record FeedCosts (script : Script) (x : List Frame) (bytes : List ℕ) (before multiplies : ℕ) : Type 0 where
-  pub rise : multiplies + live_cost_of script (length x) ≡ before + live_cost_of script (length (x ++ signal script bytes))
-
--- and the turns of loops are at most as many as the blocks may take for the frames that pass each place
-pub record FeedTurns (script : Script) (x : List Frame) (bytes : List ℕ) (before turns : ℕ) : Type 0 where
-  pub within : turns ≤ before + chain_turns script.input.format script.input.channels script.blocks (length x) (length (x ++ signal script bytes))
-
 -- the measures of what its blocks have taken
 abbrev pub measured : SessionState → List Measure
 measured s = row.measured_by 1 s.chain.units
 
--- ---- tails
+-- the call gave these frames, as bytes of the output
+pub record GivesFrames (old new : SessionState) (given : List Frame) : Type 0 where
+  pub out : new.out ≡ output_bytes old.script given
+  pub gives : given_of new.chain ≡ given_of old.chain + length given
 
--- the frames that it still has to give when its input has ended
-abbrev pub Owes : SessionState → List Frame → Type 0
-Owes s frames = row.Owes s.chain.input s.chain.units frames
-
--- a counter of multiplies that stands at `now` will stand at `total` when they are given
-abbrev pub Costs : SessionState → ℕ → ℕ → Type 0
-Costs s now total = row.Costs s.chain.input s.chain.units now total
-
--- the measures that it has when they are given
-abbrev pub Measures : SessionState → List Measure → Type 0
-Measures s ms = row.Measures s.chain.input 1 s.chain.units ms
-
--- the call gave the next of them
-pub record GavePiece (script : Script) (new : SessionState) (owed : List Frame) : Type 0 where
+-- fed with bytes, it has taken their frames too, and gave what they add to the live values, for the multiplies that these have
+pub record Feeds (old new : SessionState) (bytes : List ℕ) (before after : Counts) : Type 0 where
+  pub holds : Holds new
+  pub running : new.chain.ended ≡ false
+  pub works : new.chain.failed ≡ None
+  pub counted : new.chain.frames ≡ old.chain.frames + length (signal old.script bytes)
   pub given : List Frame
-  pub later : List Frame
-  pub next : owed ≡ given ++ later
-  pub owes : Owes new later
-  pub out : new.out ≡ output_bytes script given
+  pub frames : GivesFrames old new given
+  pub values : (x : List Frame) → StandsFor old x → live_values old.script (x ++ signal old.script bytes) ≡ live_values old.script x ++ given
+  pub stands : (x : List Frame) → StandsFor old x → StandsFor new (x ++ signal old.script bytes)
+  pub multiplies : made_of new.chain + before.multiplies ≡ made_of old.chain + after.multiplies
+  pub turns : after.turns ≤ before.turns + turns_of old.script old.chain.frames new.chain.frames
+  pub live : IsLive new.chain
 
--- it gave the next piece of what the whole signal has after the live values, and nothing only where nothing is left; then its measures are
--- those of the whole signal
-pub record Ends (script : Script) (old new : SessionState) (answer : ℕ) : Type 0 where
+-- it would have gathered too much, or a call before it would: nothing was given, and the session answers the same fault from now on
+pub record Fails (old new : SessionState) (fault : GatherFull) (before after : Counts) : Type 0 where
+  pub same : new ≡ record old { chain = record old.chain { failed = Some fault }; out = [] }
+  pub again : (earlier : GatherFull) → old.chain.failed ≡ Some earlier → fault ≡ earlier
+  pub no_steps : after ≡ before
+
+-- such a call
+abbrev pub IsTooMuch : SessionState → ℕ → Type 0
+IsTooMuch s more = (MAX_GATHERED < gathered s.script.blocks (s.chain.frames + more)) ⊎ IsTrue (is_some s.chain.failed)
+
+-- it gave the next frames of the tail, for the multiplies that these have, and none only where the tail is spent or the session has failed
+pub record Ends (old new : SessionState) (answer : ℕ) (before after : Counts) : Type 0 where
+  pub holds : Holds new
   pub ended : new.chain.ended ≡ true
-  pub begins : (x rest : List Frame) → StandsFor old x → whole_values script x ≡ live_values script x ++ rest → Owes old rest
-  pub piece : (owed : List Frame) → Owes old owed → GavePiece script new owed
-  pub spent : answer ≡ 0 → (owed : List Frame) → Owes new owed → owed ≡ []
-  pub measure_begins : (x : List Frame) → StandsFor old x → Measures old (measures_of script x)
-  pub measures : (ms : List Measure) → Measures old ms → Measures new ms
-  pub measure_spent : answer ≡ 0 → (ms : List Measure) → Measures new ms → measured new ≡ ms
-
--- and the multiplies are those that the piece takes
-pub record EndCosts (script : Script) (old new : SessionState) (answer before multiplies : ℕ) : Type 0 where
-  pub begins : (x : List Frame) (total : ℕ) → StandsFor old x → cost_of script (length x) + before ≡ live_cost_of script (length x) + total → Costs old before total
-  pub piece : (total : ℕ) → Costs old before total → Costs new multiplies total
-  pub spent : answer ≡ 0 → (total : ℕ) → Costs new multiplies total → multiplies ≡ total
-  pub within : (total : ℕ) → Costs new multiplies total → multiplies ≤ total
+  pub failed : new.chain.failed ≡ old.chain.failed
+  pub counted : new.chain.frames ≡ old.chain.frames
+  pub given : List Frame
+  pub frames : GivesFrames old new given
+  pub gave : (x ys : List Frame) → HasGiven old x ys → HasGiven new x (ys ++ given)
+  pub multiplies : made_of new.chain + before.multiplies ≡ made_of old.chain + after.multiplies
+  pub turns : after.turns + before.multiplies ≤ before.turns + after.multiplies
+  pub within : made_of new.chain ≤ products_of new.script new.chain.frames
+  pub spent : answer ≡ 0 → old.chain.failed ≡ None → IsSpent new.chain
+  pub refused : IsTrue (is_some old.chain.failed) → (answer ≡ 0) × (new.chain.units ≡ old.chain.units) × (after ≡ before)

@@ -1,6 +1,7 @@
 -- How the bytes that a stream took and the bytes that it wrote stand to each other at each of its ends.
-use Rattle.std.specs.Prelude.{◌≡◌, ◌⊎◌, ℕ, ◌+◌, ◌*◌, ◌/◌, ◌^◌, ◌<◌, ◌≤◌, List, length, take, Option, Some, None, Err, IfSome}
+use Rattle.std.specs.Prelude.{◌≡◌, ◌⊎◌, ℕ, ◌+◌, ◌-◌, ◌*◌, ◌/◌, ◌^◌, ◌<◌, ◌≤◌, List, length, take, Option, Some, None, Err, IfSome}
 use Rattle.std.specs.Io.KnownBytes.{IsAtEnd, append_known}
+use Rattle.dsp_defs.specs.Counts.{Counts}
 use Rattle.dsp_ports.specs.Ports.{SourceState, SinkState, Rose, Gave, IsSettled}
 use Rattle.dsp_defs.specs.Output.{HasHeader, input_header, input_signal, wanted_of, known_frames, output, part}
 use Rattle.dsp_defs.specs.Shape.{gathered, held, window_at}
@@ -14,8 +15,8 @@ use Rattle.dsp_defs.specs.declared.wave.Header.{Header}
 use Rattle.dsp_defs.specs.declared.wave.HeaderFault.{HeaderFault}
 use Rattle.dsp_defs.specs.declared.wave.HeaderFault.TheVariants.{Short}
 use Rattle.dsp_wave.specs.Reading.{IsSure}
-use Rattle.dsp_session.specs.Opening.{IsTooLong}
-use Rattle.dsp_session.specs.Session.{frame_bytes, block_bytes, cost_of, measures_of}
+use Rattle.dsp_session.specs.Opening.{Fits, IsTooLong, IsUnheaded}
+use Rattle.dsp_session.specs.Session.{frame_bytes, block_bytes, cost_of, live_cost_of, run_turns, measures_of}
 use Rattle.dsp_session.specs.declared.fault.LengthFault.TheVariants as length_fault
 use Rattle.dsp_session.specs.declared.fault.StreamFault.{StreamFault}
 use Rattle.dsp_session.specs.declared.fault.StreamFault.TheVariants as fault
@@ -31,6 +32,7 @@ abbrev pub IsWhole : Option ℕ → Header → List ℕ → SourceState → Type
 IsWhole (Some size) header given now = length given ≡ header.start + size
 IsWhole None header given now = IsAtEnd now.left
 
+-- all samples that the header declares were taken, or all to the end
 abbrev pub IsTakenWhole : Script → List ℕ → SourceState → Type 0
 IsTakenWhole script given now =
     let header = input_header script given in
@@ -47,12 +49,29 @@ pub record LagsByOne (script : Script) (block : ℕ) (given written : List ℕ) 
   pub wrote : (blocks ≡ 0) ⊎ Begins (part script block (take ((input_header script given).start + blocks * block_bytes script block) given)) written
   pub one : length given ≤ (input_header script given).start + (blocks + 1) * block_bytes script block
 
+-- ---- limits
+
+-- the frames of the whole blocks among n frames
+abbrev pub in_whole_blocks : ℕ → ℕ → ℕ
+in_whole_blocks block n = n / block * block
+
+-- where so many frames were worked on: the output fits its header, and what a correlation gathered is not too much
+pub record KeepsLimits (script : Script) (header : Header) (frames : ℕ) : Type 0 where
+  pub fits : Fits script header
+  pub not_full : gathered script.blocks frames ≤ MAX_GATHERED
+
+-- all whole blocks that were taken have kept the limits
+abbrev pub BlocksKeepLimits : Script → ℕ → List ℕ → Type 0
+BlocksKeepLimits script block given =
+    KeepsLimits script (input_header script given) (in_whole_blocks block (frames_in_bytes script given))
+
 -- ---- ends before the end
 
 -- nothing was written since the header of the input isn't there; or exactly the part output of what was taken was
 pub data WrotePart (script : Script) (block : ℕ) (given written : List ℕ) (sink after : SinkState) : Type 0 where
   Nothing : (HasHeader script given → ⊥) → after ≡ sink → WrotePart script block given written sink after
-  Part : HasHeader script given → written ≡ part script block given → after.faults ≡ sink.faults → WrotePart script block given written sink after
+  Part : HasHeader script given → written ≡ part script block given → after.faults ≡ sink.faults → BlocksKeepLimits script block given
+      → WrotePart script block given written sink after
 
 -- the input has failed
 pub record StopsAtInput (script : Script) (block : ℕ) (given written : List ℕ) (input now : SourceState) (sink after : SinkState) : Type 0 where
@@ -64,6 +83,7 @@ pub record StopsAtInput (script : Script) (block : ℕ) (given written : List �
 pub record StopsAtLimit (script : Script) (block told most : ℕ) (given written : List ℕ) (input now : SourceState) (sink after : SinkState) : Type 0 where
   pub wrote : WrotePart script block given written sink after
   pub all : length given ≡ 2 ^ 40
+  pub unheaded : (HasHeader script given → ⊥) → IsUnheaded script given
   pub wanted : HasHeader script given → IfSome (declared_bytes script (input_header script given)) (λ size. length given < (input_header script given).start + size)
   pub at_limit : told ≡ 2 ^ 40
   pub limit : most ≡ 2 ^ 40
@@ -88,14 +108,21 @@ pub record StopsShort (script : Script) (block : ℕ) (fault : HeaderFault) (off
   pub fewer : got < declared / frame_bytes script * frame_bytes script
   pub ended : IsAtEnd now.left
   pub wrote : written ≡ part script block given
+  pub limits : BlocksKeepLimits script block given
   pub clean : now.faults ≡ input.faults
   pub kept : after.faults ≡ sink.faults
 
--- a correlation would gather more samples than it can hold: `before` frames were worked on, and those that came now are too many
-pub record StopsFull (script : Script) (block told more : ℕ) (given written : List ℕ) (input now : SourceState) (sink after : SinkState) : Type 0 where
+-- a correlation would gather more samples than it can hold: `before` frames were worked on, those of the whole blocks before
+-- the last one, and nothing of those that came now; where these are less than a block, no window is at fault
+pub record StopsFull (script : Script) (block told more : ℕ) (given written : List ℕ) (input now : SourceState) (sink after : SinkState) (start counts : Counts) : Type 0 where
   pub has : HasHeader script given
   pub over : MAX_GATHERED < gathered script.blocks (frames_in_bytes script given)
   pub before : ℕ
+  pub before_is : before ≡ in_whole_blocks block (frames_in_bytes script given - 1)
+  pub limits : KeepsLimits script (input_header script given) before
+  pub made : counts.multiplies ≡ start.multiplies + live_cost_of script before
+  pub no_window : frames_in_bytes script given < before + block
+      → IsTakenWhole script given now × (window_at script.blocks (frames_in_bytes script given) ≡ None)
   pub held_is : told ≡ held script.blocks before
   pub more_is : more + told ≡ gathered script.blocks (frames_in_bytes script given)
   pub wrote : written ≡ part script block given
@@ -107,6 +134,7 @@ pub record StopsAtWindow (script : Script) (block end full : ℕ) (given written
   pub has : HasHeader script given
   pub whole : IsTakenWhole script given now
   pub window : window_at script.blocks (frames_in_bytes script given) ≡ Some (end, full)
+  pub limits : BlocksKeepLimits script block given
   pub wrote : written ≡ part script block given
   pub clean : now.faults ≡ input.faults
   pub kept : after.faults ≡ sink.faults
@@ -124,44 +152,51 @@ pub record StopsAtRiff (script : Script) (size most : ℕ) (given : List ℕ) (i
 pub record StopsAtOutput (script : Script) (block : ℕ) (given written : List ℕ) (input now : SourceState) (sink after : SinkState) : Type 0 where
   pub has : HasHeader script given
   pub wrote : Begins written (part script block given) ⊎ (Begins written (output script given) × IsTakenWhole script given now)
+  pub limits : BlocksKeepLimits script block given
   pub risen : Rose sink.faults after.faults
   pub clean : now.faults ≡ input.faults
 
-abbrev pub StopsAt : StreamFault → Script → ℕ → List ℕ → List ℕ → SourceState → SourceState → SinkState → SinkState → Type 0
-StopsAt fault.Input script block given written input now sink after = StopsAtInput script block given written input now sink after
-StopsAt fault.Output script block given written input now sink after = StopsAtOutput script block given written input now sink after
-StopsAt (fault.Header fault offset) script block given written input now sink after =
+-- what each fault says of what was taken and written
+abbrev pub StopsAt : StreamFault → Script → ℕ → List ℕ → List ℕ → SourceState → SourceState → SinkState → SinkState → Counts → Counts → Type 0
+StopsAt fault.Input script block given written input now sink after start counts = StopsAtInput script block given written input now sink after
+StopsAt fault.Output script block given written input now sink after start counts = StopsAtOutput script block given written input now sink after
+StopsAt (fault.Header fault offset) script block given written input now sink after start counts =
     StopsAtHeader script fault offset given input now sink after ⊎ StopsShort script block fault offset given written input now sink after
-StopsAt (fault.Lengths (length_fault.Input taken limit)) script block given written input now sink after = StopsAtLimit script block taken limit given written input now sink after
-StopsAt (fault.Lengths (length_fault.Gather held more)) script block given written input now sink after = StopsFull script block held more given written input now sink after
-StopsAt (fault.Lengths (length_fault.Window end full)) script block given written input now sink after = StopsAtWindow script block end full given written input now sink after
-StopsAt (fault.Lengths (length_fault.Riff size limit)) script block given written input now sink after = StopsAtRiff script size limit given input now sink after
+StopsAt (fault.Lengths (length_fault.Input taken limit)) script block given written input now sink after start counts = StopsAtLimit script block taken limit given written input now sink after
+StopsAt (fault.Lengths (length_fault.Gather held more)) script block given written input now sink after start counts =
+    StopsFull script block held more given written input now sink after start counts
+StopsAt (fault.Lengths (length_fault.Window end full)) script block given written input now sink after start counts = StopsAtWindow script block end full given written input now sink after
+StopsAt (fault.Lengths (length_fault.Riff size limit)) script block given written input now sink after start counts = StopsAtRiff script size limit given input now sink after
 
 -- the stream stopped before its end; `given` and `written` are all bytes that were taken and that were written
-pub record Stopped (script : Script) (block : ℕ) (fault : StreamFault) (input now : SourceState) (sink after : SinkState) (before multiplies : ℕ) : Type 0 where
+pub record Stopped (script : Script) (block : ℕ) (fault : StreamFault) (input now : SourceState) (sink after : SinkState) (before counts : Counts) : Type 0 where
   pub given : List ℕ
   pub written : List ℕ
   pub gave : Gave input now given
   pub put : after.put ≡ append_known sink.put written
-  pub stops : StopsAt fault script block given written input now sink after
+  pub stops : StopsAt fault script block given written input now sink after before counts
   pub lag : HasHeader script given → LagsByOne script block given written
-  pub cost : multiplies ≤ before + cost_of script (frames_in_bytes script given)
+  pub cost : counts.multiplies ≤ before.multiplies + cost_of script (frames_in_bytes script given)
+  pub turns : counts.turns ≤ before.turns + run_turns script block (frames_in_bytes script given)
 
 -- ---- the end
 
 -- all samples were taken, exactly the output of the script was written, and the measures found are those of the whole signal at each place
-pub record Done (script : Script) (block frames : ℕ) (input now : SourceState) (sink after : SinkState) (before multiplies : ℕ) (found : List Measure) : Type 0 where
+pub record Done (script : Script) (block frames : ℕ) (input now : SourceState) (sink after : SinkState) (before counts : Counts) (found : List Measure) : Type 0 where
   pub given : List ℕ
   pub gave : Gave input now given
   pub has : HasHeader script given
   pub in_limit : length given ≤ 2 ^ 40
   pub room_left : (input_header script given).size ≡ None → length given < 2 ^ 40
   pub whole : IsTakenWhole script given now
+  pub limits : KeepsLimits script (input_header script given) frames
+  pub no_window : window_at script.blocks frames ≡ None
   pub put : after.put ≡ append_known sink.put (output script given)
   pub lag : LagsByOne script block given (output script given)
   pub settled : IsSettled after
   pub no_input_fault : now.faults ≡ input.faults
   pub no_output_fault : after.faults ≡ sink.faults
   pub frame_count : frames ≡ frames_in_bytes script given
-  pub cost : multiplies ≡ before + cost_of script frames
+  pub cost : counts.multiplies ≡ before.multiplies + cost_of script frames
+  pub turns : counts.turns ≤ before.turns + run_turns script block frames
   pub measures : found ≡ measures_of script (input_signal script given)

@@ -1,6 +1,7 @@
 ghost use Rattle.std.specs.Prelude.{◌≡◌, ◌+◌, ◌++◌, ◌/◌, ◌≤◌, ℕ, List, length, take, IfOk, IfErr, IsFalse, MatchResult, OnOk};
 ghost use Rattle.dsp_ports.specs.Ports.{SourceState, SinkState, CountsFaults, IsSettled, Took};
 ghost use Rattle.dsp_defs.specs.Block.{Frame};
+ghost use Rattle.dsp_defs.specs.Counts.{Counts};
 ghost use Rattle.dsp_defs.specs.Output.{live_bytes, output_pad, whole_bytes};
 ghost use Rattle.dsp_session.specs.Session.{IsReady, StandsFor, SameSession, frame_bytes, measured, measures_of, whole_values};
 ghost use Rattle.dsp_session.specs.Stream.{Stopped, Done};
@@ -26,7 +27,7 @@ fn write_tail<K: Sink, L: Ledger>(
     requires { (x : List Frame) → StandsFor worker.old x → length (whole_values worker.old.script x) ≤ frames }
     ensures same { SameSession worker.old worker.new }
     ensures written { (x : List Frame) → StandsFor worker.old x → WritesRest result (live_bytes worker.old.script x) (whole_bytes worker.old.script x) (K.state output.old) (K.state output.new) }
-    ensures costs { (x : List Frame) → StandsFor worker.old x → TailCosts result worker.old.script (length x) steps.old.multiplies steps.new.multiplies }
+    ensures costs { (x : List Frame) → StandsFor worker.old x → TailCosts result worker.old.script (length x) steps.old steps.new }
     ensures measures { (x : List Frame) → StandsFor worker.old x → OnOk result (measured worker.new ≡ measures_of worker.old.script x) }
     ensures faults { CountsFaults result (K.state output.old).faults (K.state output.new).faults }
 {
@@ -69,7 +70,7 @@ fn write_end<K: Sink, L: Ledger>(
     requires { (x : List Frame) → StandsFor worker.old x → length (whole_values worker.old.script x) ≤ frames }
     ensures same { SameSession worker.old worker.new }
     ensures written { (x : List Frame) → StandsFor worker.old x → WritesRest result (live_bytes worker.old.script x) (whole_bytes worker.old.script x ++ output_pad worker.old.script header) (K.state output.old) (K.state output.new) }
-    ensures costs { (x : List Frame) → StandsFor worker.old x → TailCosts result worker.old.script (length x) steps.old.multiplies steps.new.multiplies }
+    ensures costs { (x : List Frame) → StandsFor worker.old x → TailCosts result worker.old.script (length x) steps.old steps.new }
     ensures measures { (x : List Frame) → StandsFor worker.old x → OnOk result (measured worker.new ≡ measures_of worker.old.script x) }
     ensures settled { OnOk result (IsSettled (K.state output.new)) }
     ensures faults { CountsFaults result (K.state output.old).faults (K.state output.new).faults }
@@ -91,10 +92,10 @@ pub fn close<K: Sink, L: Ledger>(
 ) -> Result<(), StreamFault>
     requires { HasPassed worker.old header block.now last }
     ensures same { SameSession worker.old worker.new }
-    ensures ok { (before now : SourceState) (empty : SinkState) (count : ℕ) → Passed worker.old.script worker.old.block worker.old header block.now last before now empty (K.state output.old) count steps.old.multiplies
-        → IfOk result (λ _. Done worker.old.script worker.old.block ((last.before + last.count) / frame_bytes worker.old.script) before now empty (K.state output.new) count steps.new.multiplies (measured worker.new)) }
-    ensures err { (before now : SourceState) (empty : SinkState) (count : ℕ) → Passed worker.old.script worker.old.block worker.old header block.now last before now empty (K.state output.old) count steps.old.multiplies
-        → IfErr result (λ fault. Stopped worker.old.script worker.old.block fault before now empty (K.state output.new) count steps.new.multiplies) }
+    ensures ok { (before now : SourceState) (empty : SinkState) (start : Counts) → Passed worker.old.script worker.old.block worker.old header block.now last before now empty (K.state output.old) start steps.old
+        → IfOk result (λ _. Done worker.old.script worker.old.block ((last.before + last.count) / frame_bytes worker.old.script) before now empty (K.state output.new) start steps.new (measured worker.new)) }
+    ensures err { (before now : SourceState) (empty : SinkState) (start : Counts) → Passed worker.old.script worker.old.block worker.old header block.now last before now empty (K.state output.old) start steps.old
+        → IfErr result (λ fault. Stopped worker.old.script worker.old.block fault before now empty (K.state output.new) start steps.new) }
 {
     let frame = frame_bytes(worker.script()) as usize;
     let count = last.count / frame;

@@ -1,5 +1,6 @@
 ghost use Rattle.std.specs.Prelude.{◌≡◌, ◌*◌, ◌/◌, ℕ, length, take, IfOk, IfErr, IfSome, IsNone, IsTrue, IsFalse, MatchResult};
 ghost use Rattle.dsp_ports.specs.Ports.{CountsFaults, Took};
+ghost use Rattle.dsp_defs.specs.Counts.{Counts};
 ghost use Rattle.dsp_defs.specs.Output.{channels_of, format_of, known_frames, output_header, rate_of, wanted_of};
 ghost use Rattle.dsp_defs.specs.Wave.{HeaderFits};
 ghost use Rattle.dsp_defs.specs.declared.format.Container.TheVariants as container;
@@ -114,7 +115,7 @@ pub fn open<S: Source, K: Sink>(
 ) -> Result<Header, StreamFault>
     requires { (block : ℕ) × IsReady script.now block }
     ensures ok { IfOk result (λ header. Begun script.now header (S.state input.old) (S.state input.new) (K.state output.old) (K.state output.new)) }
-    ensures err { (block multiplies : ℕ) → IsReady script.now block → IfErr result (λ fault. Stopped script.now block fault (S.state input.old) (S.state input.new) (K.state output.old) (K.state output.new) multiplies multiplies) }
+    ensures err { (block : ℕ) (counts : Counts) → IsReady script.now block → IfErr result (λ fault. Stopped script.now block fault (S.state input.old) (S.state input.new) (K.state output.old) (K.state output.new) counts counts) }
 {
     let header = read_input_header(script, input)?;
     let known = known_frames(script, header);

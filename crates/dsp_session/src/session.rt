@@ -1,12 +1,10 @@
-ghost use Rattle.std.specs.Prelude.{◌≡◌, ◌+◌, ◌*◌, ◌^◌, ◌<◌, ◌≤◌, ◌↔◌, [], List, Some, length, slice_get, IfOk, IfErr, IsErr, IsFalse};
+ghost use Rattle.std.specs.Prelude.{◌≡◌, ◌+◌, ◌*◌, ◌^◌, ◌<◌, ◌≤◌, ◌↔◌, Some, None, length, slice_get, IfOk, IfErr, IsErr, IsFalse};
 ghost use Rattle.std.specs.Option.{option_map};
-ghost use Rattle.dsp_defs.specs.Block.{Frame};
 ghost use Rattle.dsp_defs.specs.Shape.{gathered, held, window_at};
 ghost use Rattle.dsp_defs.specs.declared.fault.GatherFull.{GatherFull};
 ghost use Rattle.dsp_defs.specs.declared.fault.WindowFault.{WindowFault};
-ghost use Rattle.dsp_defs.specs.declared.limits.TheConstants.{MAX_GATHERED};
 ghost use Rattle.dsp_chain.specs.Row.{measure_counts};
-ghost use Rattle.dsp_session.specs.Session.{IsReady, IsNew, StandsFor, SameSession, Feeds, FeedCosts, FeedTurns, Ends, EndCosts, measured, signal, frame_bytes};
+ghost use Rattle.dsp_session.specs.Session.{IsReady, IsNew, SameSession, Feeds, Fails, IsTooMuch, Ends, measured, signal, frame_bytes};
 
 use crate::opening::frame_bytes;
 use crate::worker::Worker;
@@ -57,7 +55,8 @@ impl<'s> Session<'s> {
 
     /// Takes the whole frames of some bytes in the coding of the input, at most a block, gives the
     /// bytes of the live values that they add, and answers their number. It refuses where a
-    /// correlation would gather more than 1,048,576 samples of a channel.
+    /// correlation would gather more than 1,048,576 samples of a channel, and then answers the same
+    /// fault from then on.
     pub fn feed<L: Ledger>(
         &mut self,
         bytes: &[u8],
@@ -69,14 +68,11 @@ impl<'s> Session<'s> {
         requires count { self.old.chain.frames + length (signal self.old.script bytes.now) ≤ 2 ^ 40 }
         ensures same { SameSession self.old self.new }
         ensures given { IfOk result (λ given. given ≡ length self.new.out) }
-        ensures feeds { IfOk result (λ _. (x : List Frame) → StandsFor self.old x → Feeds self.old.script x bytes.now self.new) }
-        ensures multiplies { IfOk result (λ _. (x : List Frame) → StandsFor self.old x → FeedCosts self.old.script x bytes.now steps.old.multiplies steps.new.multiplies) }
-        ensures turns { IfOk result (λ _. (x : List Frame) → StandsFor self.old x → FeedTurns self.old.script x bytes.now steps.old.turns steps.new.turns) }
-        ensures running { IfOk result (λ _. IsFalse self.new.chain.ended) }
-        ensures full { IsErr result ↔ MAX_GATHERED < gathered self.old.script.blocks (self.old.chain.frames + length (signal self.old.script bytes.now)) }
-        ensures numbers { IfErr result (λ (fault : GatherFull). (fault.held ≡ held self.old.script.blocks self.old.chain.frames)
-            × (fault.more + fault.held ≡ gathered self.old.script.blocks (self.old.chain.frames + length (signal self.old.script bytes.now)))) }
-        ensures refused { IfErr result (λ _. (self.new.out ≡ []) × (steps.new ≡ steps.old)) }
+        ensures fed { IfOk result (λ _. Feeds self.old self.new bytes.now steps.old steps.new) }
+        ensures full { IsErr result ↔ IsTooMuch self.old (length (signal self.old.script bytes.now)) }
+        ensures numbers { self.old.chain.failed ≡ None → IfErr result (λ (fault : GatherFull). (fault.held ≡ held self.old.script.blocks self.old.chain.frames)
+            × (fault.held + fault.more ≡ gathered self.old.script.blocks (self.old.chain.frames + length (signal self.old.script bytes.now)))) }
+        ensures refused { IfErr result (λ fault. Fails self.old self.new fault steps.old steps.new) }
     {
         self.worker.feed(bytes, steps)
     }
@@ -91,13 +87,11 @@ impl<'s> Session<'s> {
     }
 
     /// Ends the input, gives the bytes of the next frames of the tail, and answers their number: 0
-    /// where the tail is spent.
+    /// where the tail is spent or the session has failed.
     pub fn end<L: Ledger>(&mut self, steps: &mut Steps<L>) -> usize
         ensures same { SameSession self.old self.new }
         ensures given { result ≡ length self.new.out }
-        ensures ends { Ends self.old.script self.old self.new result }
-        ensures costs { EndCosts self.old.script self.old self.new result steps.old.multiplies steps.new.multiplies }
-        ensures turns { steps.new.turns + steps.old.multiplies ≤ steps.old.turns + steps.new.multiplies }
+        ensures ends { Ends self.old self.new result steps.old steps.new }
     {
         self.worker.end(steps)
     }

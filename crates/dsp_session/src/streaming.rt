@@ -93,8 +93,8 @@ pub fn pass_block<K: Sink, L: Ledger>(
     requires block { length (signal worker.old.script bytes.now) ≤ worker.old.block }
     requires count { worker.old.chain.frames + length (signal worker.old.script bytes.now) ≤ 2 ^ 40 }
     ensures same { SameSession worker.old worker.new }
-    ensures ok { (x : List Frame) → StandsFor worker.old x → IfOk result (λ _. Passes worker.old.script x bytes.now worker.new (K.state output.old) (K.state output.new) steps.old.multiplies steps.new.multiplies) }
-    ensures err { (x : List Frame) → StandsFor worker.old x → IfErr result (λ fault. FailsToPass fault worker.old.script x bytes.now (K.state output.old) (K.state output.new) steps.old.multiplies steps.new.multiplies) }
+    ensures ok { (x : List Frame) → StandsFor worker.old x → IfOk result (λ _. Passes worker.old.script x bytes.now worker.new (K.state output.old) (K.state output.new) steps.old steps.new) }
+    ensures err { (x : List Frame) → StandsFor worker.old x → IfErr result (λ fault. FailsToPass fault worker.old.script x bytes.now (K.state output.old) (K.state output.new) steps.old steps.new) }
 {
     match worker.feed(bytes, steps) {
         Ok(_) => {}
@@ -122,9 +122,9 @@ fn pass_blocks<S: Source, K: Sink, L: Ledger>(
     requires start { header.start ≤ 2 ^ 40 }
     ensures same { SameSession worker.old worker.new }
     ensures ok { (before : SourceState) (empty : SinkState) → Begun worker.old.script header before (S.state input.old) empty (K.state output.old)
-        → IfOk result (λ last. Passed worker.old.script worker.old.block worker.new header block.new last before (S.state input.new) empty (K.state output.new) steps.old.multiplies steps.new.multiplies) }
+        → IfOk result (λ last. Passed worker.old.script worker.old.block worker.new header block.new last before (S.state input.new) empty (K.state output.new) steps.old steps.new) }
     ensures err { (before : SourceState) (empty : SinkState) → Begun worker.old.script header before (S.state input.old) empty (K.state output.old)
-        → IfErr result (λ fault. Stopped worker.old.script worker.old.block fault before (S.state input.new) empty (K.state output.new) steps.old.multiplies steps.new.multiplies) }
+        → IfErr result (λ fault. Stopped worker.old.script worker.old.block fault before (S.state input.new) empty (K.state output.new) steps.old steps.new) }
 {
     let script = worker.script();
     let mut taken = 0;
@@ -152,10 +152,10 @@ pub fn stream<S: Source, K: Sink, L: Ledger>(
     steps: &mut Steps<L>,
 ) -> Result<Totals, StreamFault>
     requires new { StandsFor session.old [] }
-    ensures ok { IfOk result (λ totals. Done session.old.script session.old.block totals.frames_taken (S.state input.old) (S.state input.new) (K.state output.old) (K.state output.new) steps.old.multiplies steps.new.multiplies (measured session.new)) }
+    ensures ok { IfOk result (λ totals. Done session.old.script session.old.block totals.frames_taken (S.state input.old) (S.state input.new) (K.state output.old) (K.state output.new) steps.old steps.new (measured session.new)) }
     ensures given { IfOk result (λ totals. totals.frames_given ≡ frames_given session.old.script.blocks totals.frames_taken) }
     ensures multiplies { IfOk result (λ totals. totals.multiplies ≡ cost_of session.old.script totals.frames_taken) }
-    ensures err { IfErr result (λ fault. Stopped session.old.script session.old.block fault (S.state input.old) (S.state input.new) (K.state output.old) (K.state output.new) steps.old.multiplies steps.new.multiplies) }
+    ensures err { IfErr result (λ fault. Stopped session.old.script session.old.block fault (S.state input.old) (S.state input.new) (K.state output.old) (K.state output.new) steps.old steps.new) }
     ensures same { SameSession session.old session.new }
 {
     let script = session.worker.script();

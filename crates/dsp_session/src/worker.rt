@@ -1,6 +1,5 @@
-ghost use Rattle.std.specs.Prelude.{◌≡◌, ◌+◌, ◌*◌, ◌/◌, ◌^◌, ◌<◌, ◌≤◌, ◌↔◌, ℕ, [], List, length, take, drop, flat_map, All, FitsSigned, IfOk, IfErr, IsErr, IsFalse, Some, slice_get};
+ghost use Rattle.std.specs.Prelude.{◌≡◌, ◌+◌, ◌*◌, ◌/◌, ◌^◌, ◌<◌, ◌≤◌, ◌↔◌, ℕ, length, take, drop, flat_map, All, FitsSigned, IfOk, IfErr, IsErr, IsFalse, Some, None, slice_get};
 ghost use Rattle.std.specs.Option.{option_map};
-ghost use Rattle.dsp_defs.specs.Block.{Frame};
 ghost use Rattle.dsp_defs.specs.Bytes.{bytes_of, sample_of, width};
 ghost use Rattle.dsp_defs.specs.Formats.{word};
 ghost use Rattle.dsp_defs.specs.Output.{container_of};
@@ -8,10 +7,9 @@ ghost use Rattle.dsp_defs.specs.Shape.{gathered, held, window_at};
 ghost use Rattle.dsp_defs.specs.Signal.{values};
 ghost use Rattle.dsp_defs.specs.declared.fault.GatherFull.{GatherFull};
 ghost use Rattle.dsp_defs.specs.declared.fault.WindowFault.{WindowFault};
-ghost use Rattle.dsp_defs.specs.declared.limits.TheConstants.{MAX_GATHERED};
 ghost use Rattle.dsp_wave.specs.Coding.{container_in, format_in};
 ghost use Rattle.dsp_chain.specs.Row.{measure_counts};
-ghost use Rattle.dsp_session.specs.Session.{IsReady, IsNew, StandsFor, SameSession, Feeds, FeedCosts, FeedTurns, Ends, EndCosts, measured, signal, frame_bytes};
+ghost use Rattle.dsp_session.specs.Session.{IsReady, IsNew, SameSession, Feeds, Fails, IsTooMuch, Ends, measured, signal, frame_bytes};
 
 use dsp_chain::Chain;
 use dsp_defs::{Container, GatherFull, InputKind, Measure, Script, Steps, WindowFault};
@@ -76,7 +74,7 @@ impl<'s> Model for Worker<'s> {
     ghost use Rattle.std.specs.Prelude.{◌≡◌, ◌≤◌, ◌*◌, take, vec_len};
     ghost use Rattle.dsp_defs.specs.Bytes.{width};
     ghost use Rattle.dsp_defs.specs.Output.{input_container, format_of};
-    ghost use Rattle.dsp_defs.specs.Row.{place_room};
+    ghost use Rattle.dsp_stage.specs.Row.{place_room};
     ghost use Rattle.dsp_wave.specs.Coding.{container_in, format_in};
     ghost use Rattle.dsp_chain.specs.Chain.{output_of};
     ghost use Rattle.dsp_session.specs.Session.{Holds};
@@ -150,14 +148,11 @@ impl<'s> Worker<'s> {
         requires count { self.old.chain.frames + length (signal self.old.script bytes.now) ≤ 2 ^ 40 }
         ensures same { SameSession self.old self.new }
         ensures given { IfOk result (λ given. given ≡ length self.new.out) }
-        ensures feeds { IfOk result (λ _. (x : List Frame) → StandsFor self.old x → Feeds self.old.script x bytes.now self.new) }
-        ensures multiplies { IfOk result (λ _. (x : List Frame) → StandsFor self.old x → FeedCosts self.old.script x bytes.now steps.old.multiplies steps.new.multiplies) }
-        ensures turns { IfOk result (λ _. (x : List Frame) → StandsFor self.old x → FeedTurns self.old.script x bytes.now steps.old.turns steps.new.turns) }
-        ensures running { IfOk result (λ _. IsFalse self.new.chain.ended) }
-        ensures full { IsErr result ↔ MAX_GATHERED < gathered self.old.script.blocks (self.old.chain.frames + length (signal self.old.script bytes.now)) }
-        ensures numbers { IfErr result (λ (fault : GatherFull). (fault.held ≡ held self.old.script.blocks self.old.chain.frames)
-            × (fault.more + fault.held ≡ gathered self.old.script.blocks (self.old.chain.frames + length (signal self.old.script bytes.now)))) }
-        ensures refused { IfErr result (λ _. (self.new.out ≡ []) × (steps.new ≡ steps.old)) }
+        ensures fed { IfOk result (λ _. Feeds self.old self.new bytes.now steps.old steps.new) }
+        ensures full { IsErr result ↔ IsTooMuch self.old (length (signal self.old.script bytes.now)) }
+        ensures numbers { self.old.chain.failed ≡ None → IfErr result (λ (fault : GatherFull). (fault.held ≡ held self.old.script.blocks self.old.chain.frames)
+            × (fault.held + fault.more ≡ gathered self.old.script.blocks (self.old.chain.frames + length (signal self.old.script bytes.now)))) }
+        ensures refused { IfErr result (λ fault. Fails self.old self.new fault steps.old steps.new) }
     {
         self.given = 0;
         let count = decode_front(self.input, bytes, self.samples.as_mut_slice());
@@ -182,13 +177,11 @@ impl<'s> Worker<'s> {
     }
 
     /// Ends the input, gives the bytes of the next frames of the tail, and answers their number: 0
-    /// where the tail is spent.
+    /// where the tail is spent or the chain has failed.
     pub fn end<L: Ledger>(&mut self, steps: &mut Steps<L>) -> usize
         ensures same { SameSession self.old self.new }
         ensures given { result ≡ length self.new.out }
-        ensures ends { Ends self.old.script self.old self.new result }
-        ensures costs { EndCosts self.old.script self.old self.new result steps.old.multiplies steps.new.multiplies }
-        ensures turns { steps.new.turns + steps.old.multiplies ≤ steps.old.turns + steps.new.multiplies }
+        ensures ends { Ends self.old self.new result steps.old steps.new }
     {
         let count = self.chain.finish(self.values.as_mut_slice(), steps);
         self.given = encode_front(

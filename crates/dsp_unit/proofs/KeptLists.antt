@@ -4,10 +4,10 @@ use Rattle.std.specs.Prelude.{Option}
 use Rattle.std.proofs.lemmas.List.{append-nil, take_more, length-map, get_or-map}
 use Rattle.std.proofs.lemmas.Grind.{flat_map-append}
 use Rattle.std.proofs.lemmas.List.Folds.{flat_map-map, length-flat_map-take}
-use Rattle.dsp_defs.specs.Kept.{Fits, FitsChannel, place_of}
-use Rattle.dsp_defs.specs.Filter.{FilterState, AreFilters, filter_at, no_filter, kept_of_all}
-use Rattle.dsp_defs.specs.Channels.{numbers_in}
-use Rattle.dsp_defs.proofs.ChannelRestores.{fits-channels, channels-fit}
+use Rattle.dsp_stage.specs.Kept.{Fits, FitsAfter, FitsChannel, place_of}
+use Rattle.dsp_stage.specs.Filter.{FilterState, AreFilters, filter_at, no_filter, kept_of_all}
+use Rattle.dsp_stage.specs.Channels.{numbers_in}
+use Rattle.dsp_stage.proofs.ChannelRestores.{fits-channels, channels-fit}
 use Rattle.dsp_defs.specs.declared.format.Fmt.{Fmt}
 
 module _ {F : Type 0} (filter : F → FilterState) (filters : List F) (i : ℕ) (x : F) (inside : i < length filters) (read : x ≡ get_or filters i x) where
@@ -43,7 +43,7 @@ module _ (format : Fmt) (capacity : ℕ) (filters : List FilterState) (are : Are
       subst (λ b. FitsChannel format b n xs) like.block (subst (λ f. FitsChannel f (filter_at filters c).block n xs) (like.format ∙ are.format_is) fits)
 
   pub fits-by_channel : (n : ℕ) → length numbers % length filters ≡ 0 →
-      ((c : ℕ) → c < length filters → FitsChannel (filter_at filters c).format (filter_at filters c).block n (numbers_in (length numbers / length filters) numbers c)) → Fits format (length filters) (filter_at filters 0).block numbers
+      ((c : ℕ) → c < length filters → FitsChannel (filter_at filters c).format (filter_at filters c).block n (numbers_in (length numbers / length filters) numbers c)) → FitsAfter format (length filters) (filter_at filters 0).block n numbers
   fits-by_channel n whole each =
       channels-fit format (filter_at filters 0).block are.by_channel (length filters) some numbers n (all_of (length numbers) (length filters) some whole)
       (λ c h. as-fits c n (numbers_in (length numbers / length filters) numbers c) h (each c h))
@@ -81,9 +81,9 @@ module _ {F : Type 0} (format : Fmt) (capacity : ℕ) (filter : F → FilterStat
       (subst (λ (s : FilterState). FitsChannel s.format s.block n piece) (state-at c x inside is) fits)
 
   pub fits-all : (n : ℕ) → length numbers % length filters ≡ 0 →
-      ((c : ℕ) → c < length filters → FitsChannel (filter_at (map filter filters) c).format (filter_at (map filter filters) c).block n (numbers_in (length numbers / length filters) numbers c)) → Fits format (length filters) (filter_at (map filter filters) 0).block numbers
+      ((c : ℕ) → c < length filters → FitsChannel (filter_at (map filter filters) c).format (filter_at (map filter filters) c).block n (numbers_in (length numbers / length filters) numbers c)) → FitsAfter format (length filters) (filter_at (map filter filters) 0).block n numbers
   fits-all n whole each =
       let size : length (map filter filters) ≡ length filters = length-map filters filter in
-      subst (λ k. Fits format k (filter_at (map filter filters) 0).block numbers) size
+      subst (λ k. FitsAfter format k (filter_at (map filter filters) 0).block n numbers) size
       (fits-by_channel format capacity (map filter filters) are numbers n (ap (λ k. length numbers % k) size ∙ whole)
       (λ c h. subst (λ k. FitsChannel (filter_at (map filter filters) c).format (filter_at (map filter filters) c).block n (numbers_in (length numbers / k) numbers c)) (sym size) (each c (omega (arith, h, size)))))

@@ -5,9 +5,9 @@ use Rattle.std.proofs.lemmas.List.{length-replicate, length_push, take-append-dr
 use Rattle.dsp_defs.specs.declared.format.Fmt.{Fmt}
 use Rattle.dsp_defs.specs.Formats.{word}
 use Rattle.dsp_defs.specs.Signal.{sample}
-use Rattle.dsp_defs.specs.Kept.{Kind, InWord, Fixed, Each, IsOfKind, in_words}
-use Rattle.dsp_defs.proofs.KeptLaws.{Each-append}
-use Rattle.dsp_defs.proofs.ChannelKept.{each-length, words-fit, fit-words}
+use Rattle.dsp_stage.specs.Kept.{Kind, InWord, Fixed, Each, IsOfKind, in_words}
+use Rattle.dsp_stage.proofs.KeptLaws.{Each-append}
+use Rattle.dsp_stage.proofs.ChannelKept.{each-length, words-fit, fit-words}
 
 -- the last number is of the last kind
 pub each-last : (P : Kind → ℤ → Type 0) (ks : List Kind) (k : Kind) (xs : List ℤ) (z : ℤ) → Each P (ks ++ k ∷ []) (xs ++ z ∷ []) → P k z

@@ -1,5 +1,5 @@
 -- Filters that are called one after another, channel by channel.
-use Rattle.std.proofs.Common.{◌≡◌, ◌≢◌, ◌∙◌, ap, refl, sym, subst, ℕ, ◌+◌, ◌*◌, ◌<◌, ◌≤◌, min, ℤ, pos, zero, suc, List, [], ◌∷◌, length, map, get_or, set, arith, false, below_more, get_or-set_other, get_or-set_same, length-set}
+use Rattle.std.proofs.Common.{◌≡◌, ◌≢◌, ◌∙◌, ap, refl, sym, subst, ℕ, ◌+◌, ◌-◌, ◌*◌, ◌<◌, ◌≤◌, min, ℤ, pos, zero, suc, List, length, map, get_or, set, arith, false, below_more, get_or-set_other, get_or-set_same, length-set, length-append}
 use Rattle.std.specs.Prelude.{All}
 use Rattle.std.proofs.lemmas.List.{get_or-map}
 use Rattle.std.proofs.lemmas.List.FromFn.{fill_by_all}
@@ -7,11 +7,11 @@ use Rattle.dsp_defs.specs.Signal.{sample}
 use Rattle.dsp_defs.specs.Shape.{live_frames}
 use Rattle.dsp_defs.specs.Cost.{live_block_cost, block_turns}
 use Rattle.dsp_defs.specs.Counts.{Counts}
-use Rattle.dsp_defs.specs.Unit.{most_frames}
-use Rattle.dsp_defs.specs.Filter.{FilterState, FilterCounts, FilterFeeds, FilterFinishes, FilterRestores, AreFilters, filter_at, filter_room, no_filter, rest_of_all}
-use Rattle.dsp_defs.specs.Channels.{samples_in, numbers_in, AreFed, AreFinished}
+use Rattle.dsp_stage.specs.Unit.{most_frames}
+use Rattle.dsp_stage.specs.Filter.{FilterState, FilterCounts, FilterTook, FilterFeeds, FilterFinishes, FilterRestores, IsLike, AreFilters, filter_at, filter_made, filter_room, made_with_left, no_filter}
+use Rattle.dsp_stage.specs.Channels.{samples_in, numbers_in, made_now, AreFed, AreFinished}
 use Rattle.dsp_defs.proofs.Signal.{values_cong}
-use Rattle.dsp_defs.proofs.ChannelFrames.{length-samples_in}
+use Rattle.dsp_stage.proofs.ChannelFrames.{length-samples_in}
 use Rattle.dsp_defs.specs.declared.format.Fmt.{Fmt}
 
 pub set-here : (filters : List FilterState) (k : ℕ) (y : FilterState) → k < length filters → filter_at (set filters k y) k ≡ y
@@ -19,12 +19,6 @@ set-here filters k y h = get_or-set_same filters k y no_filter h
 
 pub set-apart : (filters : List FilterState) (k c : ℕ) (y : FilterState) → c ≢ k → filter_at (set filters k y) c ≡ filter_at filters c
 set-apart filters k c y apart = get_or-set_other filters k c y no_filter apart
-
--- the multiplies that are left when one filter is changed
-rest_set : (filters : List FilterState) (k : ℕ) (y : FilterState) → k < length filters → rest_of_all (set filters k y) + (filter_at filters k).rest ≡ rest_of_all filters + y.rest
-rest_set [] k y h = absurd (omega (arith, h))
-rest_set (f ∷ filters) zero y h = omega arith
-rest_set (f ∷ filters) (suc k) y h = let later = rest_set filters k y (omega (arith, h)) in omega (arith, later)
 
 -- the filters from `channel` on are as they were
 abbrev pub AreLeft : List FilterState → List FilterState → ℕ → Type 0
@@ -56,8 +50,8 @@ pub record FinishedSoFar (olds news : List FilterState) (channel many : ℕ) (gi
   pub size : length news ≡ length olds
   pub left : AreLeft olds news channel
   pub each : (c : ℕ) → c < channel → (start stop : Counts) × FilterFinishes (filter_at olds c) (filter_at news c) (samples_in (length olds) many given c) start stop
-  pub multiplies : now.multiplies + rest_of_all news ≡ before.multiplies + rest_of_all olds
-  pub turns : now.turns + rest_of_all news ≤ before.turns + rest_of_all olds
+  pub multiplies : (n : ℕ) → All (λ f. FilterTook f n) olds → channel * made_now olds many n + before.multiplies ≡ channel * made_now olds 0 n + now.multiplies
+  pub turns : (n : ℕ) → All (λ f. FilterTook f n) olds → now.turns + channel * made_now olds 0 n ≤ before.turns + channel * made_now olds many n
 
 pub record RestoredSoFar (olds news : List FilterState) (channel size_of_each : ℕ) (numbers : List ℤ) : Type 0 where
   pub size : length news ≡ length olds
@@ -187,8 +181,8 @@ module _ (format : Fmt) (capacity : ℕ) (olds : List FilterState) (are : AreFil
     size = refl;
     left = λ c _. refl;
     each = λ c h. absurd (omega (arith, h));
-    multiplies = refl;
-    turns = omega arith;
+    multiplies = λ n took. omega arith;
+    turns = λ n took. omega arith;
   }
 
   pub finished-all : (news : List FilterState) (many : ℕ) (given : List ℤ) (before after : Counts) → FinishedSoFar olds news (length olds) many given before after → AreFinished olds news many given before after
@@ -248,22 +242,33 @@ module _ (format : Fmt) (capacity : ℕ) (olds : List FilterState) (are : AreFil
           subst (λ g. FilterFinishes (filter_at olds channel) g (samples_in (length olds) (length ys) written channel) now after) (sym (set-here news channel y within_new))
               (subst (λ v. FilterFinishes (filter_at olds channel) y v now after) (written-here (length olds) channel given written ys here) finishes),
         );
-    multiplies =
-        (let earlier = so_far.multiplies in
-        let paid = finishes.multiplies in
-        let change = rest_set news channel y within_new in
-        let same = ap (λ (f : FilterState). f.rest) (so_far.left channel (omega arith)) in
-        omega (arith, earlier, paid, change, same));
-    turns =
-        (let earlier = so_far.turns in
-        let turned = finishes.turns in
-        let change = rest_set news channel y within_new in
-        let same = ap (λ (f : FilterState). f.rest) (so_far.left channel (omega arith)) in
-        omega (arith, earlier, turned, change, same));
+    multiplies = λ n took. (let earlier = so_far.multiplies n took in let paid = finishes.multiplies n (took channel no_filter inside) in omega (arith, earlier, paid, made-before n, made-after n took, moved n));
+    turns = λ n took. (let earlier = so_far.turns n took in let turned = finishes.turns n (took channel no_filter inside) in omega (arith, earlier, turned, made-before n, made-after n took, moved n));
   }
     where
       within_new : channel < length news
       within_new = (let size = so_far.size in omega (arith, inside, size))
+
+      like : IsLike (filter_at olds 0) capacity (filter_at olds channel)
+      like = are.alike channel no_filter inside
+
+      made-before : (n : ℕ) → filter_made (filter_at olds channel) n ≡ made_now olds 0 n
+      made-before n = (λ i. made_with_left (like.format i) (like.block i) n (like.tail i)) ∙ ap (made_with_left (filter_at olds 0).format (filter_at olds 0).block n) (omega arith)
+
+      made-after : (n : ℕ) → All (λ f. FilterTook f n) olds → filter_made y n ≡ made_now olds (length ys) n
+      made-after n took =
+          let size : length (filter_at olds channel).tail ≡ length ys + length y.tail = ap length finishes.tail ∙ length-append ys y.tail in
+          let same = like.tail in
+          let left : length y.tail ≡ length (filter_at olds 0).tail - length ys = omega (arith, size, same) in
+          (λ i. made_with_left ((finishes.made.format ∙ like.format) i) ((finishes.made.block ∙ like.block) i) n (left i))
+
+      -- those before it gave as many values
+      moved : (n : ℕ) → channel * made_now olds many n ≡ channel * made_now olds (length ys) n
+      moved n = times channel (λ c below. ap (λ k. made_now olds k n) (finished-long news channel many given ys y before now after inside so_far finishes c below))
+        where
+          times : (k : ℕ) → ((c : ℕ) → c < k → made_now olds many n ≡ made_now olds (length ys) n) → k * made_now olds many n ≡ k * made_now olds (length ys) n
+          times zero same = omega arith
+          times (suc k) same = ap (λ m. suc k * m) (same k (omega arith))
 
   -- ---- keeping other numbers
 

@@ -1,10 +1,12 @@
 -- A unit of filters, one for each channel.
-use Rattle.std.proofs.Common.{◌≡◌, ◌∙◌, sym, subst, ℕ, ◌+◌, ◌*◌, ◌<◌, ◌≤◌, List, ◌++◌, get_or, length, take, drop, arith}
+use Rattle.std.proofs.Common.{◌≡◌, ◌∙◌, sym, subst, ℕ, ◌+◌, ◌-◌, ◌*◌, ◌<◌, ◌≤◌, List, ◌++◌, get_or, length, take, drop, arith}
 use Rattle.std.specs.Prelude.{All}
 use Rattle.std.proofs.lemmas.List.{take-append-le, take_all}
+use Rattle.std.proofs.Math.Nat.{mul-sub}
 use Rattle.dsp_defs.specs.Shape.{whole_frames, live_frames}
-use Rattle.dsp_defs.specs.Unit.{most_frames}
-use Rattle.dsp_defs.specs.Filter.{FilterState, FilterMadeAs, IsByChannel, IsLike, IsNewFilter, AreFilters, filter_at, filter_room, no_filter}
+use Rattle.dsp_stage.specs.Unit.{most_frames}
+use Rattle.dsp_stage.proofs.ChannelLaws.{counts-took}
+use Rattle.dsp_stage.specs.Filter.{FilterState, FilterMadeAs, IsByChannel, IsLike, IsNewFilter, AreFilters, filter_at, filter_room, no_filter}
 use Rattle.dsp_defs.specs.declared.format.Fmt.{Fmt}
 use Rattle.dsp_defs.specs.declared.script.Block.{Block}
 
@@ -26,6 +28,7 @@ new-filters block format capacity filters some by new = record {
   format_is = first.format;
   by_channel = subst (λ b. IsByChannel format b) (sym first.block) by;
   counted = λ _. (0, λ c d h. (new c d h).counts);
+  took = (0, λ c d h. counts-took _ 0 (new c d h).counts);
 }
   where
     first : IsNewFilter block format capacity (filter_at filters 0)
@@ -47,10 +50,14 @@ new-filters block format capacity filters some by new = record {
 
 -- what stays of a unit's filters when each was made as before
 pub kept-whole : (format : Fmt) (capacity input output channels : ℕ) (olds news : List FilterState) → AreFilters format capacity news → FilterMadeAs (filter_at olds 0) (filter_at news 0) →
-    AreFilters format capacity olds × (input ≡ capacity) × (output ≡ filter_room (filter_at olds 0)) × (output * channels ≤ 1048576) × (channels ≤ 255) →
-    AreFilters format capacity news × (input ≡ capacity) × (output ≡ filter_room (filter_at news 0)) × (output * channels ≤ 1048576) × (channels ≤ 255)
+    AreFilters format capacity olds × (input ≡ capacity) × (output ≡ filter_room (filter_at olds 0)) × (output * channels ≤ 1099511627776) × (channels ≤ 255) →
+    AreFilters format capacity news × (input ≡ capacity) × (output ≡ filter_room (filter_at news 0)) × (output * channels ≤ 1099511627776) × (channels ≤ 255)
 kept-whole format capacity input output channels olds news are made before = (are, before.1, before.2 ∙ sym (room-kept (filter_at olds 0) (filter_at news 0) made), before.3, before.4)
 
 -- a cost of all channels, from that of one
 pub scaled : (c a b : ℕ) → c * a * b ≡ c * (1 * a * b)
 scaled c a b = omega arith
+
+-- and a difference of costs
+pub less-scaled : (c m n a : ℕ) → c * n * a - c * m * a ≡ c * (1 * n * a - 1 * m * a)
+less-scaled c m n a = (λ i. scaled c n a i - scaled c m a i) ∙ sym (mul-sub c (1 * n * a) (1 * m * a))

@@ -1,5 +1,5 @@
 -- One of two units.
-use Rattle.dsp_defs.specs.Unit.{UnitState}
+use Rattle.dsp_stage.specs.Unit.{UnitState}
 use Rattle.dsp_unit.specs.declared.either.Either.{Either}
 use Rattle.dsp_unit.specs.declared.either.Either.TheVariants.{First, Second}
 

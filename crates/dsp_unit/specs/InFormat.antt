@@ -1,5 +1,5 @@
 -- The unit of a block in one of the formats.
-use Rattle.dsp_defs.specs.Unit.{UnitState}
+use Rattle.dsp_stage.specs.Unit.{UnitState}
 use Rattle.dsp_unit.specs.declared.in_format.InFormat.{InFormat}
 use Rattle.dsp_unit.specs.declared.in_format.InFormat.TheVariants.{Q7, Q15, Q31}
 

@@ -1,6 +1,6 @@
 ghost use Rattle.std.specs.Prelude.{◌≡◌, ◌≢◌, ◌≤◌, ◌<◌, ◌+◌, ◌*◌, ℕ, All, FitsSigned, IsFalse, length, map};
-ghost use Rattle.dsp_defs.specs.Channels.{AreFed, AreFinished, samples_in};
-ghost use Rattle.dsp_defs.specs.Filter.{AreFilters, filter_at, filter_room};
+ghost use Rattle.dsp_stage.specs.Channels.{AreFed, AreFinished, samples_in};
+ghost use Rattle.dsp_stage.specs.Filter.{AreFilters, filter_at, filter_room};
 ghost use Rattle.dsp_defs.specs.Formats.{word};
 ghost use Rattle.dsp_defs.specs.Signal.{sample};
 

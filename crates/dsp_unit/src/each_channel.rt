@@ -1,6 +1,7 @@
-use crate::kept::{count_kept, fits_channels, keep_channels, restore_channels};
+use crate::kept::{count_kept, keep_channels, place_channels, restore_channels};
 use crate::{Filter, feed_block, finish_channels, most_frames};
-use dsp_defs::{Block, Measure, Stage, Steps};
+use dsp_defs::{Block, Measure, Steps};
+use dsp_stage::Stage;
 use dsp_sat::Sample;
 use std::alloc::{AllocError, Global};
 use std::marker::Model;
@@ -17,21 +18,21 @@ pub struct EachChannel<T: Sample, F: Filter<T> + Drop> {
 
 impl<T: Sample, F: Filter<T> + Drop> Model for EachChannel<T, F> {
     ghost use Rattle.std.specs.Prelude.{◌≡◌, ◌≤◌, ◌*◌, map, vec_len};
-    ghost use Rattle.dsp_defs.specs.Unit.{UnitState};
-    ghost use Rattle.dsp_defs.specs.Filter.{filter_at, filter_room, AreFilters};
-    ghost use Rattle.dsp_defs.specs.Channels.{unit_of_filters};
+    ghost use Rattle.dsp_stage.specs.Unit.{UnitState};
+    ghost use Rattle.dsp_stage.specs.Filter.{filter_at, filter_room, AreFilters};
+    ghost use Rattle.dsp_stage.specs.Channels.{unit_of_filters};
 
     ghost Value = { UnitState };
 
     ghost view = { λ u. unit_of_filters T.format u.capacity (map F.filter u.filters.items) };
 
-    ghost invariant = { λ u. (AreFilters T.format u.capacity (map F.filter u.filters.items)) × (vec_len u.input ≡ u.capacity) × (vec_len u.output ≡ filter_room (filter_at (map F.filter u.filters.items) 0)) × (vec_len u.output * vec_len u.filters ≤ 1048576) × (vec_len u.filters ≤ 255) };
+    ghost invariant = { λ u. (AreFilters T.format u.capacity (map F.filter u.filters.items)) × (vec_len u.input ≡ u.capacity) × (vec_len u.output ≡ filter_room (filter_at (map F.filter u.filters.items) 0)) × (vec_len u.output * vec_len u.filters ≤ 1099511627776) × (vec_len u.filters ≤ 255) };
 }
 
 impl<T: Sample, F: Filter<T> + Drop> EachChannel<T, F> {
     ghost use Rattle.std.specs.Prelude.{◌≡◌, ◌≤◌, ◌*◌, map, length, All, IfOk};
-    ghost use Rattle.dsp_defs.specs.Unit.{IsNew, most_frames};
-    ghost use Rattle.dsp_defs.specs.Filter.{IsNewFilter, filter_at, AreFilters};
+    ghost use Rattle.dsp_stage.specs.Unit.{IsNew, most_frames};
+    ghost use Rattle.dsp_stage.specs.Filter.{IsNewFilter, filter_at, AreFilters};
 
     /// A unit of filters that have taken nothing, one for each channel, for at most `frames` frames a
     /// call, of which a call gives at most `room`. All its memory is taken here.
@@ -44,7 +45,7 @@ impl<T: Sample, F: Filter<T> + Drop> EachChannel<T, F> {
         requires alike { AreFilters T.format frames (map F.filter filters.items) }
         requires fresh { All (IsNewFilter (filter_at (map F.filter filters.items) 0).block T.format frames) (map F.filter filters.items) }
         requires room { room ≡ most_frames (filter_at (map F.filter filters.items) 0).block frames }
-        requires samples { room * length filters.items ≤ 1048576 }
+        requires samples { room * length filters.items ≤ 1099511627776 }
         requires channels { length filters.items ≤ 255 }
         ensures { IfOk result (IsNew (filter_at (map F.filter filters.items) 0).block T.format (length filters.items) frames) }
     {
@@ -68,7 +69,7 @@ impl<T: Sample, F: Filter<T> + Drop> EachChannel<T, F> {
     ) -> Result<Self, AllocError>
         requires block { F.IsOf block.now }
         requires channels { 1 ≤ channels }
-        requires samples { most_frames block.now frames * channels ≤ 1048576 }
+        requires samples { most_frames block.now frames * channels ≤ 1099511627776 }
         ensures { IfOk result (IsNew block.now T.format channels frames) }
     {
         let mut filters = Vec::with_capacity(alloc, usize::from(channels))?;
@@ -119,7 +120,11 @@ impl<T: Sample, F: Filter<T> + Drop> Stage for EachChannel<T, F> {
     }
 
     fn fits(&self, numbers: &[i64]) -> bool {
-        fits_channels(self.filters.as_slice(), numbers)
+        self.place(numbers).is_some()
+    }
+
+    fn place(&self, numbers: &[i64]) -> Option<u64> {
+        place_channels(self.filters.as_slice(), numbers)
     }
 
     fn restore(&mut self, numbers: &[i64]) {

@@ -1,6 +1,7 @@
 ghost use Rattle.dsp_unit.specs.Either.{either_unit};
 
-use dsp_defs::{Measure, Stage, Steps};
+use dsp_defs::{Measure, Steps};
+use dsp_stage::Stage;
 use std::sync::ledger::Ledger;
 
 /// One of two units: of two blocks, or of a block in two formats.
@@ -45,6 +46,10 @@ impl<A: Stage, B: Stage> Stage for Either<A, B> {
 
     fn fits(&self, numbers: &[i64]) -> bool {
         for_unit!(self, unit => unit.fits(numbers))
+    }
+
+    fn place(&self, numbers: &[i64]) -> Option<u64> {
+        for_unit!(self, unit => unit.place(numbers))
     }
 
     fn restore(&mut self, numbers: &[i64]) {

@@ -1,6 +1,7 @@
 ghost use Rattle.dsp_unit.specs.InFormat.{unit_in_format};
 
-use dsp_defs::{Measure, Stage, Steps};
+use dsp_defs::{Measure, Steps};
+use dsp_stage::Stage;
 use std::sync::ledger::Ledger;
 
 /// A block in one of the formats, with the unit that it has there.
@@ -47,6 +48,10 @@ impl<A: Stage, B: Stage, C: Stage> Stage for InFormat<A, B, C> {
 
     fn fits(&self, numbers: &[i64]) -> bool {
         for_unit!(self, unit => unit.fits(numbers))
+    }
+
+    fn place(&self, numbers: &[i64]) -> Option<u64> {
+        for_unit!(self, unit => unit.place(numbers))
     }
 
     fn restore(&mut self, numbers: &[i64]) {

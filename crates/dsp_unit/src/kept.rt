@@ -1,7 +1,7 @@
-ghost use Rattle.std.specs.Prelude.{◌≡◌, ◌≤◌, ◌+◌, ◌*◌, ◌↔◌, All, IsFalse, IsTrue, length, map};
-ghost use Rattle.dsp_defs.specs.Channels.{AreRestored, numbers_in};
-ghost use Rattle.dsp_defs.specs.Filter.{AreFilters, filter_at, kept_of_all};
-ghost use Rattle.dsp_defs.specs.Kept.{Fits};
+ghost use Rattle.std.specs.Prelude.{◌≡◌, ◌≤◌, ◌+◌, ◌*◌, ℕ, Some, All, IfSome, IsFalse, length, map};
+ghost use Rattle.dsp_stage.specs.Channels.{AreRestored, numbers_in};
+ghost use Rattle.dsp_stage.specs.Filter.{AreFilters, filter_at, kept_of_all};
+ghost use Rattle.dsp_stage.specs.Kept.{Fits, FitsAfter, place_of};
 
 use crate::Filter;
 use dsp_sat::Sample;
@@ -42,28 +42,29 @@ fn numbers_of(numbers: &[i64], size: usize, channel: usize) -> &[i64]
     &numbers[start..start + size]
 }
 
-/// Whether the filters can keep these numbers, of one number of samples.
-pub fn fits_channels<T: Sample, F: Filter<T>>(filters: &[F], numbers: &[i64]) -> bool
+/// The least number of samples of which these can be the numbers that the filters keep, if there is one.
+pub fn place_channels<T: Sample, F: Filter<T>>(filters: &[F], numbers: &[i64]) -> Option<u64>
     requires { AreFilters T.format (filter_at (map F.filter filters.now) 0).capacity (map F.filter filters.now) }
-    ensures { IsTrue result ↔ Fits T.format (length filters.now) (filter_at (map F.filter filters.now) 0).block numbers.now }
+    ensures fits { IfSome result (λ n. FitsAfter T.format (length filters.now) (filter_at (map F.filter filters.now) 0).block n numbers.now) }
+    ensures least { (n : ℕ) → FitsAfter T.format (length filters.now) (filter_at (map F.filter filters.now) 0).block n numbers.now → result ≡ Some (place_of (filter_at (map F.filter filters.now) 0).block n) }
 {
     let channels = filters.len();
     if numbers.len() % channels != 0 {
-        return false;
+        return None;
     }
     let size = numbers.len() / channels;
     let Some(place) = filters[0].place(numbers_of(numbers, size, 0)) else {
-        return false;
+        return None;
     };
     for (channel, filter) in filters.iter().enumerate() {
         let Some(other) = filter.place(numbers_of(numbers, size, channel)) else {
-            return false;
+            return None;
         };
         if other != place {
-            return false;
+            return None;
         }
     }
-    true
+    Some(place)
 }
 
 /// Each filter keeps its channel's numbers from now on.

@@ -1,6 +1,6 @@
 ghost use Rattle.std.specs.Prelude.{◌≡◌, ◌<◌, ◌^◌, IfSome};
 ghost use Rattle.dsp_defs.specs.Shape.{group_of};
-ghost use Rattle.dsp_defs.specs.Unit.{most_frames};
+ghost use Rattle.dsp_stage.specs.Unit.{most_frames};
 
 use dsp_defs::Block;
 

@@ -9,7 +9,7 @@ use Rattle.std.specs.Prelude.{All, nat_abs}
 use Rattle.std.proofs.lemmas.List.{length-map, get_or-map}
 use Rattle.std.proofs.lemmas.List.FromFn.{get_or-map-range_with_len}
 use Rattle.dsp_defs.specs.Signal.{sample, values}
-use Rattle.dsp_defs.specs.Unit.{IsSignal}
+use Rattle.dsp_stage.specs.Unit.{IsSignal}
 use Rattle.dsp_defs.proofs.FrameLemmas.{sample-within}
 use Rattle.dsp_defs.specs.declared.format.Fmt.{Fmt}
 use Rattle.dsp_frames.specs.Memoryless.{Gives}

@@ -1,10 +1,12 @@
-ghost use Rattle.std.specs.Prelude.{◌≡◌, ◌≤◌, ◌≤ℤ◌, ℤ, All, FitsSigned, length, map, take};
+ghost use Rattle.std.specs.Prelude.{◌≡◌, ◌≤◌, ◌*◌, ◌≤ℤ◌, ℕ, ℤ, All, FitsSigned, length, map, take};
+ghost use Rattle.dsp_defs.specs.Counts.{Rises};
 ghost use Rattle.dsp_defs.specs.Elementwise.{abs, add, clip, convert, negate, scale, shift, IsScaleShift, IsShift};
 ghost use Rattle.dsp_defs.specs.Formats.{word};
 
-use crate::VectorSample;
 use crate::conversions::converted;
+use dsp_defs::Steps;
 use dsp_sat::Sample;
+use std::sync::ledger::Ledger;
 
 /// An operation on one sample, whose parameters are numbers of its format.
 pub(crate) trait Change<T: Sample, U: Sample>: Copy {
@@ -12,9 +14,13 @@ pub(crate) trait Change<T: Sample, U: Sample>: Copy {
 
     ghost value: { Self → ℤ → ℤ };
 
-    fn change(self, x: T) -> U
+    // The products of a change.
+    ghost price: { ℕ };
+
+    fn change<L: Ledger>(self, x: T, steps: &mut Steps<L>) -> U
         requires { CanChange self }
-        ensures { U.number result ≡ value self (T.number x) };
+        ensures value { U.number result ≡ value self (T.number x) }
+        ensures steps { Rises steps.old steps.new price price };
 }
 
 /// Adds a constant.
@@ -28,7 +34,9 @@ impl<T: Sample> Change<T, T> for Offset {
 
     ghost value = { λ offset x. add T.format x offset.value };
 
-    fn change(self, x: T) -> T {
+    ghost price = { 0 };
+
+    fn change<L: Ledger>(self, x: T, _steps: &mut Steps<L>) -> T {
         T::add(x, T::of_number(self.value))
     }
 }
@@ -42,7 +50,9 @@ impl<T: Sample> Change<T, T> for Negate {
 
     ghost value = { λ _. negate T.format };
 
-    fn change(self, x: T) -> T {
+    ghost price = { 0 };
+
+    fn change<L: Ledger>(self, x: T, _steps: &mut Steps<L>) -> T {
         T::negate(x)
     }
 }
@@ -56,7 +66,9 @@ impl<T: Sample> Change<T, T> for Abs {
 
     ghost value = { λ _. abs T.format };
 
-    fn change(self, x: T) -> T {
+    ghost price = { 0 };
+
+    fn change<L: Ledger>(self, x: T, _steps: &mut Steps<L>) -> T {
         T::abs(x)
     }
 }
@@ -68,13 +80,15 @@ pub(crate) struct Scale {
     pub shift: i32,
 }
 
-impl<T: VectorSample> Change<T, T> for Scale {
+impl<T: Sample> Change<T, T> for Scale {
     ghost CanChange = { λ scaled. FitsSigned (word T.format) scaled.fract × IsScaleShift T.format scaled.shift };
 
     ghost value = { λ scaled. scale T.format scaled.fract scaled.shift };
 
-    fn change(self, x: T) -> T {
-        x.scaled(T::of_number(self.fract), self.shift)
+    ghost price = { 1 };
+
+    fn change<L: Ledger>(self, x: T, steps: &mut Steps<L>) -> T {
+        T::scale(x, T::of_number(self.fract), self.shift, steps)
     }
 }
 
@@ -89,7 +103,9 @@ impl<T: Sample> Change<T, T> for Shift {
 
     ghost value = { λ moved. shift T.format moved.shift };
 
-    fn change(self, x: T) -> T {
+    ghost price = { 0 };
+
+    fn change<L: Ledger>(self, x: T, _steps: &mut Steps<L>) -> T {
         T::shift(x, self.shift)
     }
 }
@@ -106,7 +122,9 @@ impl<T: Sample> Change<T, T> for Clip {
 
     ghost value = { λ limits. clip limits.low limits.high };
 
-    fn change(self, x: T) -> T {
+    ghost price = { 0 };
+
+    fn change<L: Ledger>(self, x: T, _steps: &mut Steps<L>) -> T {
         T::clip(x, T::of_number(self.low), T::of_number(self.high))
     }
 }
@@ -120,17 +138,20 @@ impl<T: Sample, U: Sample> Change<T, U> for Convert {
 
     ghost value = { λ _. convert T.format U.format };
 
-    fn change(self, x: T) -> U {
+    ghost price = { 0 };
+
+    fn change<L: Ledger>(self, x: T, _steps: &mut Steps<L>) -> U {
         converted(x)
     }
 }
 
 /// Writes what the operation makes of each sample, and answers their number.
 #[inline(always)]
-pub(crate) fn change_each<T: Sample, U: Sample, O: Change<T, U>>(
+pub(crate) fn change_each<T: Sample, U: Sample, O: Change<T, U>, L: Ledger>(
     operation: O,
     samples: &[i32],
     out: &mut [i32],
+    steps: &mut Steps<L>,
 ) -> usize
     requires can { O.CanChange operation }
     requires in_format { All (FitsSigned (word T.format)) samples.now }
@@ -138,9 +159,10 @@ pub(crate) fn change_each<T: Sample, U: Sample, O: Change<T, U>>(
     ensures count { result ≡ length samples.now }
     ensures values { take (length samples.now) out.new ≡ map (O.value operation) samples.now }
     ensures fits { All (FitsSigned (word U.format)) (take (length samples.now) out.new) }
+    ensures steps { Rises steps.old steps.new (length samples.now * O.price) (length samples.now * O.price) }
 {
     for (i, sample) in samples.iter().enumerate() {
-        out[i] = operation.change(T::of_number(*sample)).number();
+        out[i] = operation.change(T::of_number(*sample), steps).number();
     }
     samples.len()
 }

@@ -1,17 +1,23 @@
-ghost use Rattle.std.specs.Prelude.{◌≡◌, ◌≤◌, ◌<◌, ◌+◌, ◌*◌, ◌/◌, ℤ, All, FitsSigned, length, take};
+ghost use Rattle.std.specs.Prelude.{◌≡◌, ◌≤◌, ◌<◌, ◌+◌, ◌*◌, ◌/◌, ℕ, ℤ, All, FitsSigned, length, take};
+ghost use Rattle.dsp_defs.specs.Counts.{Rises};
 ghost use Rattle.dsp_defs.specs.Elementwise.{add, mult, sub};
 ghost use Rattle.dsp_defs.specs.Formats.{word};
 ghost use Rattle.dsp_defs.specs.Signal.{sample, values};
 
-use crate::VectorSample;
+use dsp_defs::Steps;
 use dsp_sat::Sample;
+use std::sync::ledger::Ledger;
 
 /// An operation on two samples.
 pub(crate) trait Join<T: Sample>: Copy {
     ghost value: { ℤ → ℤ → ℤ };
 
-    fn join(self, a: T, b: T) -> T
-        ensures { T.number result ≡ value (T.number a) (T.number b) };
+    // The products of a frame.
+    ghost price: { ℕ };
+
+    fn join<L: Ledger>(self, a: T, b: T, steps: &mut Steps<L>) -> T
+        ensures value { T.number result ≡ value (T.number a) (T.number b) }
+        ensures steps { Rises steps.old steps.new price price };
 }
 
 /// The sum.
@@ -21,7 +27,9 @@ pub(crate) struct Sum;
 impl<T: Sample> Join<T> for Sum {
     ghost value = { add T.format };
 
-    fn join(self, a: T, b: T) -> T {
+    ghost price = { 0 };
+
+    fn join<L: Ledger>(self, a: T, b: T, _steps: &mut Steps<L>) -> T {
         T::add(a, b)
     }
 }
@@ -33,7 +41,9 @@ pub(crate) struct Difference;
 impl<T: Sample> Join<T> for Difference {
     ghost value = { sub T.format };
 
-    fn join(self, a: T, b: T) -> T {
+    ghost price = { 0 };
+
+    fn join<L: Ledger>(self, a: T, b: T, _steps: &mut Steps<L>) -> T {
         T::sub(a, b)
     }
 }
@@ -42,32 +52,36 @@ impl<T: Sample> Join<T> for Difference {
 #[derive(Clone, Copy)]
 pub(crate) struct Product;
 
-impl<T: VectorSample> Join<T> for Product {
+impl<T: Sample> Join<T> for Product {
     ghost value = { mult T.format };
 
-    fn join(self, a: T, b: T) -> T {
-        a.times(b)
+    ghost price = { 1 };
+
+    fn join<L: Ledger>(self, a: T, b: T, steps: &mut Steps<L>) -> T {
+        T::mult(a, b, steps)
     }
 }
 
 /// Writes what the operation makes of each frame of two samples, and answers the number of frames.
 #[inline(always)]
-pub(crate) fn join_pairs<T: Sample, O: Join<T>>(
+pub(crate) fn join_pairs<T: Sample, O: Join<T>, L: Ledger>(
     operation: O,
     samples: &[i32],
     out: &mut [i32],
+    steps: &mut Steps<L>,
 ) -> usize
     requires in_format { All (FitsSigned (word T.format)) samples.now }
     requires room { length samples.now / 2 ≤ length out.old }
     ensures count { result ≡ length samples.now / 2 }
     ensures values { take (length samples.now / 2) out.new ≡ values (length samples.now / 2) (λ n. O.value (sample samples.now (n * 2)) (sample samples.now (n * 2 + 1))) }
     ensures fits { All (FitsSigned (word T.format)) (take (length samples.now / 2) out.new) }
+    ensures steps { Rises steps.old steps.new (length samples.now / 2 * O.price) (length samples.now / 2 * O.price) }
 {
     let count = samples.len() / 2;
     for n in 0..count {
         let a = T::of_number(samples[n * 2]);
         let b = T::of_number(samples[n * 2 + 1]);
-        out[n] = operation.join(a, b).number();
+        out[n] = operation.join(a, b, steps).number();
     }
     count
 }

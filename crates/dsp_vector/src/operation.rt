@@ -1,7 +1,7 @@
 ghost use Rattle.std.specs.Prelude.{◌≡◌, ◌≤◌, ◌+◌, ◌*◌, IfOk, length, take};
 ghost use Rattle.dsp_defs.specs.Block.{frames_in, channels_after};
 ghost use Rattle.dsp_defs.specs.Grammar.{Suits};
-ghost use Rattle.dsp_defs.specs.Unit.{IsSignal};
+ghost use Rattle.dsp_stage.specs.Unit.{IsSignal};
 ghost use Rattle.dsp_frames.specs.Memoryless.{Gives, price};
 
 use crate::VectorSample;
@@ -62,40 +62,35 @@ impl Operation {
     {
         match self {
             Operation::Offset { value } => {
-                change_each::<T, T, Offset>(Offset { value: *value }, frames, out)
+                change_each::<T, T, Offset, L>(Offset { value: *value }, frames, out, steps)
             }
-            Operation::Negate => change_each::<T, T, Negate>(Negate, frames, out),
-            Operation::Abs => change_each::<T, T, Abs>(Abs, frames, out),
+            Operation::Negate => change_each::<T, T, Negate, L>(Negate, frames, out, steps),
+            Operation::Abs => change_each::<T, T, Abs, L>(Abs, frames, out, steps),
             Operation::Scale { fract, shift } => {
                 let scale = Scale {
                     fract: *fract,
                     shift: *shift,
                 };
-                steps.count(frames.len() as u64, frames.len() as u64);
-                change_each::<T, T, Scale>(scale, frames, out)
+                change_each::<T, T, Scale, L>(scale, frames, out, steps)
             }
             Operation::Shift { shift } => {
-                change_each::<T, T, Shift>(Shift { shift: *shift }, frames, out)
+                change_each::<T, T, Shift, L>(Shift { shift: *shift }, frames, out, steps)
             }
             Operation::Clip { low, high } => {
                 let clip = Clip {
                     low: *low,
                     high: *high,
                 };
-                change_each::<T, T, Clip>(clip, frames, out)
+                change_each::<T, T, Clip, L>(clip, frames, out, steps)
             }
             Operation::To { format } => match format {
-                Fmt::Q7 => change_each::<T, i8, Convert>(Convert, frames, out),
-                Fmt::Q15 => change_each::<T, i16, Convert>(Convert, frames, out),
-                Fmt::Q31 => change_each::<T, i32, Convert>(Convert, frames, out),
+                Fmt::Q7 => change_each::<T, i8, Convert, L>(Convert, frames, out, steps),
+                Fmt::Q15 => change_each::<T, i16, Convert, L>(Convert, frames, out, steps),
+                Fmt::Q31 => change_each::<T, i32, Convert, L>(Convert, frames, out, steps),
             },
-            Operation::Add => join_pairs::<T, Sum>(Sum, frames, out),
-            Operation::Sub => join_pairs::<T, Difference>(Difference, frames, out),
-            Operation::Mult => {
-                let count = join_pairs::<T, Product>(Product, frames, out);
-                steps.count(count as u64, count as u64);
-                count
-            }
+            Operation::Add => join_pairs::<T, Sum, L>(Sum, frames, out, steps),
+            Operation::Sub => join_pairs::<T, Difference, L>(Difference, frames, out, steps),
+            Operation::Mult => join_pairs::<T, Product, L>(Product, frames, out, steps),
             Operation::Route { channels: list } => {
                 let list = list.as_slice();
                 let count = frames.len() / channels;

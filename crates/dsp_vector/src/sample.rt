@@ -1,7 +1,6 @@
-ghost use Rattle.std.specs.Prelude.{◌≡◌, ◌≤ℤ◌, ◌*ℤ◌, negsuc, length, map};
+ghost use Rattle.std.specs.Prelude.{◌≡◌, length, map};
 ghost use Rattle.std.specs.Simd.Lanes.{zip2};
 ghost use Rattle.dsp_defs.specs.Cost.{lane_turns};
-ghost use Rattle.dsp_defs.specs.Numbers.{floor_shift, saturate};
 ghost use Rattle.dsp_defs.specs.Elementwise.{mult, scale, IsScaleShift};
 ghost use Rattle.dsp_lanes.specs.Turns.{RisesWithin};
 
@@ -31,30 +30,6 @@ pub trait VectorSample: LaneSample<4> {
         requires same { length a.now ≡ length out.old }
         ensures out { map Self.number out.new ≡ map (scale Self.format (Self.number factor) places) (map Self.number a.now) }
         ensures steps { RisesWithin steps.old steps.new (length out.old) (lane_turns Self.format (length out.old)) };
-
-    /// The saturated product, which the caller counts.
-    fn times(self, other: Self) -> Self
-        ensures { Self.number result ≡ mult Self.format (Self.number self) (Self.number other) };
-
-    /// Times a fraction and 2^places; the caller counts the product.
-    fn scaled(self, factor: Self, places: i32) -> Self
-        requires { IsScaleShift Self.format places }
-        ensures { Self.number result ≡ scale Self.format (Self.number factor) places (Self.number self) };
-}
-
-/// The nearest number of 16 bits.
-fn narrowed(value: i32) -> i16
-    ensures { result ≡ saturate 16 value }
-{
-    value.clamp(-0x8000, 0x7fff) as i16
-}
-
-/// The high word of a product.
-fn high_word(a: i32, b: i32) -> i32
-    ensures value { result ≡ floor_shift (a *ℤ b) 32 }
-    ensures low { negsuc 1073741823 ≤ℤ result }
-{
-    ((i64::from(a) * i64::from(b)) >> 32) as i32
 }
 
 impl VectorSample for i8 {
@@ -70,14 +45,6 @@ impl VectorSample for i8 {
         steps: &mut Steps<M>,
     ) {
         Lanes::<i8, 16>::scale(a, factor, places, out, steps)
-    }
-
-    fn times(self, other: i8) -> i8 {
-        dsp_sat::sat8((i32::from(self) * i32::from(other)) >> 7)
-    }
-
-    fn scaled(self, factor: i8, places: i32) -> i8 {
-        dsp_sat::sat8((i32::from(self) * i32::from(factor)) >> (7 - places).unsigned_abs())
     }
 }
 
@@ -95,14 +62,6 @@ impl VectorSample for i16 {
     ) {
         Lanes::<i16, 8>::scale(a, factor, places, out, steps)
     }
-
-    fn times(self, other: i16) -> i16 {
-        narrowed((i32::from(self) * i32::from(other)) >> 15)
-    }
-
-    fn scaled(self, factor: i16, places: i32) -> i16 {
-        narrowed((i32::from(self) * i32::from(factor)) >> (15 - places).unsigned_abs())
-    }
 }
 
 impl VectorSample for i32 {
@@ -118,13 +77,5 @@ impl VectorSample for i32 {
         steps: &mut Steps<M>,
     ) {
         Lanes::<i32, 4>::scale(a, factor, places, out, steps)
-    }
-
-    fn times(self, other: i32) -> i32 {
-        2 * high_word(self, other).min(0x3fff_ffff)
-    }
-
-    fn scaled(self, factor: i32, places: i32) -> i32 {
-        dsp_sat::shift(high_word(self, factor), places + 1)
     }
 }

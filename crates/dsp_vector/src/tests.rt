@@ -1,12 +1,13 @@
 ghost use Rattle.std.specs.Prelude.{◌≡◌, ◌≤◌, ◌*◌};
 ghost use Rattle.dsp_defs.specs.Grammar.{Suits};
 ghost use Rattle.dsp_defs.specs.Parameters.{least, greatest};
-ghost use Rattle.dsp_defs.specs.Unit.{IsSignal};
+ghost use Rattle.dsp_stage.specs.Unit.{IsSignal};
 ghost use Rattle.dsp_vector.specs.Vector.{IsVectorBlock};
 
 use crate::operation::list_of;
 use crate::*;
-use dsp_defs::{Block, Fmt, Stage, Steps};
+use dsp_defs::{Block, Fmt, Steps};
+use dsp_stage::Stage;
 use std::alloc::Global;
 use std::marker::Brand;
 use std::process::Abort;

@@ -1,8 +1,8 @@
 use Rattle.std.proofs.Common.{◌≡◌, ◌∙◌, ap, ap₂, sym, subst, ℕ, ◌+◌, ◌*◌, ◌/◌, ◌≤◌, ℤ, List, length, arith, All, FitsSigned}
 use Rattle.dsp_defs.specs.Formats.{word}
 use Rattle.dsp_defs.specs.Numbers.{w32}
-use Rattle.dsp_defs.specs.Unit.{frames_in}
-use Rattle.dsp_defs.specs.Row.{Place, Passes}
+use Rattle.dsp_stage.specs.Unit.{frames_in}
+use Rattle.dsp_stage.specs.Row.{Place, Passes}
 use Rattle.dsp_defs.specs.declared.format.Fmt.{Fmt}
 use Rattle.dsp_defs.specs.declared.format.Fmt.TheVariants.{Q31}
 use Rattle.dsp_defs.proofs.FrameLemmas.{length-frames_in}

@@ -1,5 +1,5 @@
 use Rattle.std.proofs.Common.{◌≡◌, ◌<◌, ◌≤◌, false, vec_len}
-use Rattle.dsp_defs.specs.Row.{place_room}
+use Rattle.dsp_stage.specs.Row.{place_room}
 use Rattle.dsp_chain.specs.Chain.{output_of, input_place}
 use Rattle.dsp_chain.proofs.tests.gives.Given as goal
 

@@ -13,12 +13,12 @@ amount g c = ap (λ n. n + 1) (c.WORD_BITS-else-WORD_BITS-eq32.ensures ∙ g.met
 
 pub of_number-requires-else-WORD_BITS-eq32 : goal.of_number-requires-else-WORD_BITS-eq32
 of_number-requires-else-WORD_BITS-eq32 g c =
-    magnitude-in-word g.T.Sample.format c.product_of_parts.result c.product_of_parts-else-WORD_BITS-eq32.result _ (narrow g c) c.product_of_parts.ensures.small c.product_of_parts-else-WORD_BITS-eq32.ensures.small (amount g c)
+    magnitude-in-word g.T.Sample.format c.wide_product.result c.wide_product-else-WORD_BITS-eq32.result _ (narrow g c) c.wide_product.ensures.small c.wide_product-else-WORD_BITS-eq32.ensures.small (amount g c)
 
 pub returns-else-WORD_BITS-eq32-clause-value : goal.returns-else-WORD_BITS-eq32-clause-value
 returns-else-WORD_BITS-eq32-clause-value g c =
     c.of_number-else-WORD_BITS-eq32.ensures
-    ∙ magnitude-is g.T.Sample.format c.product_of_parts.result c.product_of_parts-else-WORD_BITS-eq32.result _ (λ e. c.if-WORD_BITS-eq32.false (c.WORD_BITS.ensures ∙ g.met.T.Sample.has_word_bits ∙ e)) c.product_of_parts.ensures.small c.product_of_parts-else-WORD_BITS-eq32.ensures.small
+    ∙ magnitude-is g.T.Sample.format c.wide_product.result c.wide_product-else-WORD_BITS-eq32.result _ (λ e. c.if-WORD_BITS-eq32.false (c.WORD_BITS.ensures ∙ g.met.T.Sample.has_word_bits ∙ e)) c.wide_product.ensures.small c.wide_product-else-WORD_BITS-eq32.ensures.small
     (ap (λ n. n + 1) (c.WORD_BITS-else-WORD_BITS-eq32.ensures ∙ g.met.T.Sample.has_word_bits) ∙ shift-is g.T.Sample.format)
-    ∙ (λ i. c.product_of_parts.ensures.value i +ℤ c.product_of_parts-else-WORD_BITS-eq32.ensures.value i >> product_shift g.T.Sample.format)
+    ∙ (λ i. c.wide_product.ensures.value i +ℤ c.wide_product-else-WORD_BITS-eq32.ensures.value i >> product_shift g.T.Sample.format)
     ∙ sym (magnitude-narrow g.T.Sample.format _ _ (λ e. c.if-WORD_BITS-eq32.false (c.WORD_BITS.ensures ∙ g.met.T.Sample.has_word_bits ∙ e)))

@@ -1,5 +1,5 @@
 use Rattle.std.proofs.Common.{◌≡◌, ◌-◌, ◌≤◌, ℕ, length, false}
-use Rattle.dsp_defs.specs.Unit.{room_of, Accepts}
+use Rattle.dsp_stage.specs.Unit.{room_of, Accepts}
 use Rattle.dsp_complex.proofs.tests.gives_in_blocks.Given as goal
 
 -- the unit is at its place, and runs

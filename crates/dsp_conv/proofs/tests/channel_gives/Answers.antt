@@ -1,6 +1,6 @@
 use Rattle.std.proofs.Common.{◌≡◌, ap₂, arith}
-use Rattle.dsp_defs.specs.Unit.{most_frames}
-use Rattle.dsp_defs.specs.Filter.{filter_room}
+use Rattle.dsp_stage.specs.Unit.{most_frames}
+use Rattle.dsp_stage.specs.Filter.{filter_room}
 use Rattle.dsp_conv.proofs.tests.channel_gives.Goals as goal
 
 pub finish-count-requires : goal.finish-count-requires

@@ -1,5 +1,5 @@
 use Rattle.std.proofs.Common.{◌≡◌, ◌≤◌, ◌-◌, length, false}
-use Rattle.dsp_defs.specs.Filter.{filter_room}
+use Rattle.dsp_stage.specs.Filter.{filter_room}
 use Rattle.dsp_fir.proofs.tests.cut_gives.Given as goal
 
 abbrev pub invariant-loop-start : goal.invariant-loop-start

@@ -3,7 +3,7 @@ use Rattle.std.specs.Prelude.{FitsSigned}
 use Rattle.std.specs.List.{AllByRecursion}
 use Rattle.std.proofs.lemmas.List.Elements.{All-from_recursion}
 use Rattle.dsp_defs.specs.Formats.{word}
-use Rattle.dsp_defs.specs.Unit.{IsSignal}
+use Rattle.dsp_stage.specs.Unit.{IsSignal}
 use Rattle.dsp_defs.specs.declared.format.Fmt.{Fmt}
 use Rattle.dsp_defs.specs.declared.format.Fmt.TheVariants.{Q7, Q15}
 use Rattle.dsp_defs.proofs.FrameLemmas.{length-frames_in}

@@ -1,7 +1,6 @@
-use Rattle.std.proofs.Common.{◌≡◌, ◌∙◌, ◌+◌, sym, subst, ℕ, ℤ, List, rules}
-use Rattle.dsp_defs.specs.Kept.{Fits, IsTaken}
-use Rattle.dsp_defs.specs.Unit.{UnitState, IsNew, Restores, Accepts}
-use Rattle.dsp_defs.proofs.ChannelKept.{kinds-place}
+use Rattle.std.proofs.Common.{◌≡◌, ◌∙◌, ap, refl, ◌+◌, ◌≤◌, sym, subst, ℕ, ℤ, List, None, IfSome, rules}
+use Rattle.dsp_stage.specs.Kept.{Fits, limit_of}
+use Rattle.dsp_stage.specs.Unit.{UnitState, CountsFrames, IsNew, Restores, Accepts}
 use Rattle.dsp_defs.specs.declared.format.Fmt.{Fmt}
 use Rattle.dsp_defs.specs.declared.script.Block.{Block}
 use Rattle.dsp_defs.specs.declared.script.Block.TheVariants.{Fir, Sparse}
@@ -19,21 +18,23 @@ AnyFormat = InFormat UnitState UnitState UnitState
 abbrev seen : Either AnyFormat AnyFormat → UnitState
 seen u = either_unit (unit_in_format (λ u. u) (λ u. u) (λ u. u)) (unit_in_format (λ u. u) (λ u. u) (λ u. u)) u
 
-taken : (block : Block) (n : ℕ) → IsFirBlock block → IsTaken block n
-taken (Fir taps) n h = tt
-taken (Sparse taps delays) n h = tt
-taken block n h = absurd h
+no-limit : (block : Block) → IsFirBlock block → limit_of block ≡ None
+no-limit (Fir taps) h = refl
+no-limit (Sparse taps delays) h = refl
+no-limit block h = absurd h
+
+any-more : (u : UnitState) (more : ℕ) → limit_of u.block ≡ None → Accepts u more
+any-more u more none = subst (λ limit. IfSome limit (λ limit. (n : ℕ) × CountsFrames u n × (n + more ≤ limit))) (sym none) tt
 
 -- a new unit can take any frames
 begins : (block : Block) (format : Fmt) (channels frames more : ℕ) (u : UnitState) → IsFirBlock block → IsNew block format channels frames u → Accepts u more
-begins block format channels frames more u h is = (0, is.counts, subst (λ b. IsTaken b (0 + more)) (sym is.block) (taken block (0 + more) h))
+begins block format channels frames more u h is = any-more u more (ap limit_of is.block ∙ no-limit block h)
 
 -- a unit that goes on from numbers that fit can take any more frames
 goes-on : (block : Block) (format : Fmt) (channels frames more : ℕ) (old new : UnitState) (numbers same : List ℤ) →
     IsFirBlock block → IsNew block format channels frames old → Fits old.format old.channels old.block numbers → numbers ≡ same → Restores old new same → Accepts new more
 goes-on block format channels frames more old new numbers same h is fits e restored =
-    let place = kinds-place _ numbers fits.1.1 in
-    (fits.0, restored.counts fits.0 (rw e at place), subst (λ b. IsTaken b (fits.0 + more)) (sym (restored.made.block ∙ is.block)) (taken block (fits.0 + more) h))
+    any-more new more (ap limit_of (restored.made.block ∙ is.block) ∙ no-limit block h)
 
 pub feed-count-requires-2-clause-accepts : goal.feed-count-requires-2-clause-accepts
 feed-count-requires-2-clause-accepts g c =

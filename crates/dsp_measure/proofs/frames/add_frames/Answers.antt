@@ -1,7 +1,7 @@
 use Rattle.std.proofs.Common.{◌≡◌, ◌∙◌, ap, ◌<◌, length, arith, rules, SFits, to_z-of_z, below_more, pos, set}
 use Rattle.std.specs.Prelude.{FitsSigned}
 use mir.Syntax.{w64}
-use Rattle.dsp_defs.specs.Channels.{samples_in}
+use Rattle.dsp_stage.specs.Channels.{samples_in}
 use Rattle.dsp_defs.specs.Formats.{accumulator}
 use Rattle.dsp_defs.specs.Signal.{sample}
 use Rattle.dsp_measure.specs.Sums.{with_squares}

@@ -1,6 +1,6 @@
 use Rattle.std.proofs.Common.{◌≡◌, ◌*◌, ◌<◌, ◌≤◌, ℕ}
 use Rattle.std.specs.Prelude.{All, FitsSigned}
-use Rattle.dsp_defs.specs.Channels.{samples_in}
+use Rattle.dsp_stage.specs.Channels.{samples_in}
 use Rattle.dsp_defs.specs.Counts.{Rises}
 use Rattle.dsp_defs.specs.Formats.{accumulator}
 use Rattle.dsp_defs.specs.Signal.{sample}

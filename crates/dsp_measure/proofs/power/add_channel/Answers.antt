@@ -1,10 +1,10 @@
 use Rattle.std.proofs.Common.{ap, rules, SFits, to_z-of_z, ◌≡◌, ◌∙◌, sym, ℕ, ◌+◌, ◌*◌, ◌<◌, ◌≤◌, length, arith}
 use mir.Syntax.{w64}
 use Rattle.std.proofs.Math.Nat.{mul-le-mul_right}
-use Rattle.dsp_defs.specs.Channels.{samples_in}
+use Rattle.dsp_stage.specs.Channels.{samples_in}
 use Rattle.dsp_defs.specs.Signal.{sample}
 use Rattle.dsp_measure.specs.Sums.{with_squares}
-use Rattle.dsp_defs.proofs.ChannelFrames.{length-samples_in, sample-values}
+use Rattle.dsp_stage.proofs.ChannelFrames.{length-samples_in, sample-values}
 use Rattle.dsp_measure.proofs.power.add_channel.Goals as goal
 
 -- a sample of a channel stands within its frames

@@ -16,11 +16,11 @@ returns-then-end-eq0-clause-same g c = record { script = c.end.ensures.same.scri
 
 pub returns-then-end-eq0-clause-written : goal.returns-then-end-eq0-clause-written
 returns-then-end-eq0-clause-written g c x stands =
-    laws.tail_ends _ x _ _ _ _ _ _ _ (c.loop.invariant.tailing x stands) _ _ _ c.end.ensures.ends c.end.ensures.costs c.if-end-eq0.true c.end.ensures.given
+    laws.tail_ends _ x _ _ _ _ _ _ _ (c.loop.invariant.tailing x stands) _ _ _ c.end.ensures.ends c.end.ensures.same c.if-end-eq0.true c.end.ensures.given
 
 pub returns-then-end-eq0-clause-costs : goal.returns-then-end-eq0-clause-costs
 returns-then-end-eq0-clause-costs g c x stands =
-    laws.tail_ends_costs _ x _ _ _ _ _ _ _ (c.loop.invariant.tailing x stands) _ _ _ c.end.ensures.ends c.end.ensures.costs c.if-end-eq0.true
+    laws.tail_ends_costs _ x _ _ _ _ _ _ _ (c.loop.invariant.tailing x stands) _ _ _ c.end.ensures.ends c.end.ensures.same c.if-end-eq0.true
 
 pub returns-then-end-eq0-clause-faults : goal.returns-then-end-eq0-clause-faults
 returns-then-end-eq0-clause-faults g c = c.loop.invariant.no_fault
@@ -32,12 +32,12 @@ pub returns-in_err-write_all-clause-written : goal.returns-in_err-write_all-clau
 returns-in_err-write_all-clause-written g c x stands =
     let error = err_from_is_err_and c.from_residual.result c.from_residual.ensures.1 in
     let (count, took) = c.in_err-write_all.ensures.took in
-    rw error.1 (laws.tail_fails _ x _ _ _ _ _ _ _ (c.loop.invariant.tailing x stands) _ _ _ c.end.ensures.ends c.end.ensures.costs _ _ count (rw c.out.ensures at took))
+    rw error.1 (laws.tail_fails _ x _ _ _ _ _ _ _ (c.loop.invariant.tailing x stands) _ _ _ c.end.ensures.ends c.end.ensures.same _ _ count (rw c.out.ensures at took))
 
 pub returns-in_err-write_all-clause-costs : goal.returns-in_err-write_all-clause-costs
 returns-in_err-write_all-clause-costs g c x stands =
     let error = err_from_is_err_and c.from_residual.result c.from_residual.ensures.1 in
-    rw error.1 (laws.tail_fails_costs _ x _ _ _ _ _ _ _ (c.loop.invariant.tailing x stands) _ _ _ c.end.ensures.ends c.end.ensures.costs _)
+    rw error.1 (laws.tail_fails_costs _ x _ _ _ _ _ _ _ (c.loop.invariant.tailing x stands) _ _ _ c.end.ensures.ends c.end.ensures.same _)
 
 pub returns-in_err-write_all-clause-faults : goal.returns-in_err-write_all-clause-faults
 returns-in_err-write_all-clause-faults g c =
@@ -50,21 +50,21 @@ loop-preserved g c =
       same = record { script = c.end.ensures.same.script ∙ c.loop.invariant.same.script; block = c.end.ensures.same.block ∙ c.loop.invariant.same.block };
       no_fault = c.in_ok-write_all.ensures.faults ∙ c.loop.invariant.no_fault;
       tailing = λ x stands.
-          laws.tail_goes_on _ x _ _ _ _ _ _ _ (c.loop.invariant.tailing x stands) _ _ _ c.end.ensures.ends c.end.ensures.costs _ c.if-end-eq0.false c.end.ensures.given c.end.ensures.same (rw c.out.ensures at c.in_ok-write_all.ensures.took) c.in_ok-write_all.ensures.faults;
+          laws.tail_goes_on _ x _ _ _ _ _ _ _ (c.loop.invariant.tailing x stands) _ _ _ c.end.ensures.ends c.end.ensures.same _ c.if-end-eq0.false c.end.ensures.given (rw c.out.ensures at c.in_ok-write_all.ensures.took) c.in_ok-write_all.ensures.faults;
     }
 
 pub returns-clause-costs : goal.returns-clause-costs
 returns-clause-costs g c x stands =
     let tailing = c.loop.invariant.tailing x stands in
-    let zero = laws.tail_spent _ x _ _ _ _ _ _ _ tailing _ _ _ c.end-spent.ensures.ends c.end-spent.ensures.costs c.loop-test.false c.end-spent.ensures.given in
-    laws.tail_ends_costs _ x _ _ _ _ _ _ _ tailing _ _ _ c.end-spent.ensures.ends c.end-spent.ensures.costs zero
+    let zero = laws.tail_spent _ x _ _ _ _ _ _ _ tailing _ _ _ c.end-spent.ensures.ends c.end-spent.ensures.same c.loop-test.false c.end-spent.ensures.given in
+    laws.tail_ends_costs _ x _ _ _ _ _ _ _ tailing _ _ _ c.end-spent.ensures.ends c.end-spent.ensures.same zero
 
 pub returns-then-end-eq0-clause-measures : goal.returns-then-end-eq0-clause-measures
 returns-then-end-eq0-clause-measures g c x stands =
-    laws.tail_measured _ x _ _ _ _ _ _ _ (c.loop.invariant.tailing x stands) _ _ _ c.end.ensures.ends c.end.ensures.costs c.if-end-eq0.true
+    laws.tail_measured _ x _ _ _ _ _ _ _ (c.loop.invariant.tailing x stands) _ _ _ c.end.ensures.ends c.end.ensures.same c.if-end-eq0.true
 
 pub returns-clause-measures : goal.returns-clause-measures
 returns-clause-measures g c x stands =
     let tailing = c.loop.invariant.tailing x stands in
-    let zero = laws.tail_spent _ x _ _ _ _ _ _ _ tailing _ _ _ c.end-spent.ensures.ends c.end-spent.ensures.costs c.loop-test.false c.end-spent.ensures.given in
-    laws.tail_measured _ x _ _ _ _ _ _ _ tailing _ _ _ c.end-spent.ensures.ends c.end-spent.ensures.costs zero
+    let zero = laws.tail_spent _ x _ _ _ _ _ _ _ tailing _ _ _ c.end-spent.ensures.ends c.end-spent.ensures.same c.loop-test.false c.end-spent.ensures.given in
+    laws.tail_measured _ x _ _ _ _ _ _ _ tailing _ _ _ c.end-spent.ensures.ends c.end-spent.ensures.same zero

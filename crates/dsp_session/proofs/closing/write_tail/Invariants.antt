@@ -8,5 +8,5 @@ abbrev pub invariant-loop : goal.invariant-loop
 invariant-loop g l = record {
   same : SameSession l.fn.worker l.worker;
   no_fault : (g.K.Sink.state l.output).faults ≡ (g.K.Sink.state l.fn.output).faults;
-  tailing : (x : List Frame) → StandsFor l.fn.worker x → Tailing l.fn.worker.script x l.frames l.counter l.worker (g.K.Sink.state l.fn.output) (g.K.Sink.state l.output) l.fn.steps.multiplies l.steps.multiplies;
+  tailing : (x : List Frame) → StandsFor l.fn.worker x → Tailing l.fn.worker.script x l.frames l.counter l.worker (g.K.Sink.state l.fn.output) (g.K.Sink.state l.output) l.fn.steps l.steps;
 }

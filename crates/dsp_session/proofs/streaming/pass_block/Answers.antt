@@ -1,5 +1,6 @@
-use Rattle.std.proofs.Common.{◌∙◌, sym, take, drop}
+use Rattle.std.proofs.Common.{◌∙◌, sym, subst, take, drop, IsErr}
 use Rattle.std.proofs.lemmas.List.{take-append-drop}
+use Rattle.dsp_session.proofs.PassingLaws as laws
 use Rattle.dsp_session.proofs.streaming.pass_block.Goals as goal
 
 pub returns-in-Err-write_all-clause-err : goal.returns-in-Err-write_all-clause-err
@@ -8,9 +9,10 @@ returns-in-Err-write_all-clause-err g c x stands =
     let out = c.out.result.now in (
       c.feed.new.self.out,
       take count out,
-      (c.in-Ok.ensures.feeds x stands).out,
+      laws.feed_out _ _ _ _ _ c.in-Ok.ensures.same c.in-Ok.ensures.fed x stands,
       (drop count out, sym c.out.ensures ∙ sym (take-append-drop count out)),
       took.put,
       c.in-Err-write_all.ensures.faults.1,
-      c.in-Ok.ensures.multiplies x stands,
+      laws.feed_costs _ _ _ _ _ c.in-Ok.ensures.same c.in-Ok.ensures.fed x stands,
+      laws.feed_fits _ _ _ _ _ c.in-Ok.ensures.same c.in-Ok.ensures.fed x stands (λ over. let bad = subst IsErr c.in-Ok.is (c.feed.ensures.full.1 over) in absurd cc),
     )

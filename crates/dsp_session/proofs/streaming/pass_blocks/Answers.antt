@@ -36,7 +36,7 @@ returns-in_err-pass_block-clause-err g c before empty begun =
     let size : length c.read_block.new.block ≡ block_bytes c.args.worker.now.script c.args.worker.now.block = c.read_block.auto.block ∙ c.passing.auto.block ∙ c.requires.block in
     let read = rw c.script-script.ensures.script at c.in_ok-count.ensures.ok in
     let fails = rw c.passing.invariant.script_is at (c.in_err-pass_block.ensures.err _ c.passing.invariant.stands) in
-    rw (is, same) (laws.stops_unpassed _ _ c.script-script.ensures.ready _ _ _ _ _ _ _ _ _ c.passing.invariant _ _ begun _ c.in_ok-count.count _ size c.if-count-block.false read _ _ (laws.gathers_none _ _ c.script-script.ensures.ready) _ fails)
+    rw (is, same) (laws.stops_unpassed _ _ c.script-script.ensures.ready _ _ _ _ _ _ _ _ _ c.passing.invariant _ _ begun _ c.in_ok-count.count _ size c.if-count-block.false read _ _ _ fails)
 
 pub passing-preserved : goal.passing-preserved
 passing-preserved g c =

@@ -4,7 +4,7 @@ use Rattle.dsp_session.proofs.streaming.pass_blocks.Given as goal
 
 abbrev pub invariant-passing : goal.invariant-passing
 invariant-passing g l =
-    Going l.fn.worker.script l.fn.worker.block l.header l.taken l.worker (g.S.Source.state l.fn.input) (g.S.Source.state l.input) (g.K.Sink.state l.fn.output) (g.K.Sink.state l.output) l.fn.steps.multiplies l.steps.multiplies
+    Going l.fn.worker.script l.fn.worker.block l.header l.taken l.worker (g.S.Source.state l.fn.input) (g.S.Source.state l.input) (g.K.Sink.state l.fn.output) (g.K.Sink.state l.output) l.fn.steps l.steps
 
 abbrev pub decreases-passing : goal.decreases-passing
 decreases-passing g l = 2 ^ 40 - l.taken

@@ -14,8 +14,8 @@ close-requires g c =
       g.S.Source.state c.pass_blocks.new.input,
       g.K.Sink.state c.args.output.now,
       g.K.Sink.state c.pass_blocks.new.output,
-      c.args.steps.now.multiplies,
-      c.pass_blocks.new.steps.multiplies,
+      c.args.steps.now,
+      c.pass_blocks.new.steps,
       laws.passed_as _ _ _ _ _ _ _ _ _ _ _ _ _ _ _ c.in_ok-last.ensures.same.script c.in_ok-last.ensures.same.block piece (c.in_ok-last.ensures.ok _ _ begun),
     )
 

@@ -3,8 +3,8 @@ use Rattle.std.specs.Prelude.{FitsSigned}
 use Rattle.std.proofs.lemmas.List.{length-map, map-set}
 use Rattle.dsp_defs.specs.Formats.{word}
 use Rattle.dsp_defs.specs.Signal.{sample}
-use Rattle.dsp_defs.specs.Filter.{FilterFeeds, filter_at, no_filter}
-use Rattle.dsp_defs.specs.Channels.{samples_in}
+use Rattle.dsp_stage.specs.Filter.{FilterFeeds, filter_at, no_filter}
+use Rattle.dsp_stage.specs.Channels.{samples_in}
 use Rattle.dsp_unit.proofs.Rounds.{FedSoFar, fed-none, fed-more, fed-long, fed-all, called-at, fits-more, same-room}
 use Rattle.dsp_unit.proofs.channels.feed_channels.Goals as goal
 

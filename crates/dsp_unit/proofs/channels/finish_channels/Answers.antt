@@ -3,7 +3,7 @@ use Rattle.std.specs.Prelude.{FitsSigned}
 use Rattle.std.proofs.lemmas.List.{length-map, map-set}
 use Rattle.dsp_defs.specs.Formats.{word}
 use Rattle.dsp_defs.specs.Signal.{sample}
-use Rattle.dsp_defs.specs.Filter.{FilterFinishes, filter_at}
+use Rattle.dsp_stage.specs.Filter.{FilterFinishes, filter_at}
 use Rattle.dsp_unit.proofs.Rounds.{FinishedSoFar, finished-none, finished-more, finished-long, finished-all, called-at, fits-more, same-room}
 use Rattle.dsp_unit.proofs.channels.finish_channels.Goals as goal
 

@@ -1,5 +1,5 @@
 use Rattle.std.proofs.Common.{◌≡◌, ◌≤◌, ◌*◌, length, map, take}
-use Rattle.dsp_defs.specs.Filter.{kept_of_all}
+use Rattle.dsp_stage.specs.Filter.{kept_of_all}
 use Rattle.dsp_unit.proofs.kept.count_kept.Given as goal
 
 -- the numbers of the filters so far

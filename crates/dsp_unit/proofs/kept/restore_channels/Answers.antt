@@ -1,8 +1,8 @@
 use Rattle.std.proofs.Common.{◌≡◌, ◌∙◌, ◌<◌, ◌/◌, sym, subst, length, map, ◌+◌, get_or, arith}
 use Rattle.std.proofs.lemmas.List.{length-map, map-set}
-use Rattle.dsp_defs.specs.Kept.{FitsChannel}
-use Rattle.dsp_defs.specs.Filter.{FilterState, FilterRestores, filter_at, no_filter}
-use Rattle.dsp_defs.specs.Channels.{numbers_in}
+use Rattle.dsp_stage.specs.Kept.{FitsChannel}
+use Rattle.dsp_stage.specs.Filter.{FilterState, FilterRestores, filter_at, no_filter}
+use Rattle.dsp_stage.specs.Channels.{numbers_in}
 use Rattle.dsp_unit.proofs.KeptLists.{fits-each}
 use Rattle.dsp_unit.proofs.Rounds.{RestoredSoFar, restored-more, called-at}
 use Rattle.dsp_unit.proofs.kept.restore_channels.Goals as goal

@@ -1,4 +1,4 @@
-use Rattle.std.proofs.Common.{◌≡◌, ◌∙◌, ap, sym, subst, ◌<◌, length, arith, rules, SFits, to_z, of_z, to_z-of_z}
+use Rattle.std.proofs.Common.{◌≡◌, ◌∙◌, ap, sym, subst, ℕ, ◌+◌, ◌*◌, ◌<◌, length, arith, rules, SFits, to_z, of_z, to_z-of_z}
 use Rattle.std.specs.Prelude.{FitsSigned}
 use mir.Syntax.{w32}
 use Rattle.dsp_defs.specs.Formats.{word}
@@ -19,6 +19,10 @@ loop-i-preserved g c =
     let made : v ≡ c.number.result = to_z-of_z fits in
     record {
       values = map-more f i out samples v room c.loop-i-test.true c.loop-i.invariant.values
-          (made ∙ c.number.ensures.value ∙ c.change.ensures ∙ ap f (c.of_number.ensures ∙ to_z-of_z fits_taken));
+          (made ∙ c.number.ensures.value ∙ c.change.ensures.value ∙ ap f (c.of_number.ensures ∙ to_z-of_z fits_taken));
       fits = fits-more (word g.U.Sample.format) i out v room c.loop-i.invariant.fits (subst (FitsSigned (word g.U.Sample.format)) (sym made) c.number.ensures.fits);
+      steps = record {
+        multiplies_rise = omega (arith, c.loop-i.invariant.steps, c.change.ensures.steps);
+        turns_rise = omega (arith, c.loop-i.invariant.steps, c.change.ensures.steps);
+      };
     }

@@ -1,15 +1,27 @@
-use Rattle.std.proofs.Common.{refl, sym, subst, take, arith}
-use Rattle.dsp_defs.specs.Row.{Place, InRow}
+use Rattle.std.proofs.Common.{◌≡◌, ◌∙◌, ap, refl, sym, subst, take, length, arith, false, Option, Some, None, length-take}
+use Rattle.std.specs.Prelude.{is_some}
+use Rattle.dsp_stage.specs.Row.{Place, InRow}
 use Rattle.dsp_chain.proofs.Room.{written-row}
-use Rattle.dsp_chain.proofs.ChainCalls.{chain-finished}
+use Rattle.dsp_chain.proofs.ChainCalls.{chain-finished, chain-refused}
 use Rattle.dsp_chain.proofs.chain.Chain.finish.Goals as goal
+
+is-none : {A : Type 0} (o : Option A) → is_some o ≡ false → o ≡ None
+is-none None e = refl
+is-none (Some a) e = cc
+
+pub returns-then-is_some-clause-finished : goal.returns-then-is_some-clause-finished
+returns-then-is_some-clause-finished g c =
+    let is = c.self.invariant.0 in
+    rw (← c.self.view_is) (chain-refused _ _ c.args.steps.now refl refl refl refl refl (sym c.is_some.ensures ∙ c.if-is_some.true) is.row is.took)
 
 pub returns-clause-finished : goal.returns-clause-finished
 returns-clause-finished g c =
+    let is = c.self.invariant.0 in
     let p : Place = record { format = c.self.inside.format; channels = c.self.inside.channels; capacity = c.self.inside.capacity } in
-    let row : InRow p c.as_mut_slice.result.now = subst (InRow p) (sym c.as_mut_slice.ensures.value) c.self.invariant.0 in
-    let finished = c.finish_row.ensures.finished p row in
-    let same = written-row c.self.inside.links.len c.finish_row.new.links c.self.inside.links.items (omega (arith, c.finish_row.auto.links, c.as_mut_slice.ensures.len)) in
+    let row : InRow p c.as_mut_slice.result.now = subst (InRow p) (sym c.as_mut_slice.ensures.value) is.row in
+    let whole = written-row c.self.inside.links.len c.finish_row.new.links c.self.inside.links.items (omega (arith, c.finish_row.auto.links, c.as_mut_slice.ensures.len)) in
     rw (← c.self.view_is)
     (chain-finished _ _ c.as_mut_slice.result.now c.finish_row.new.links (take c.finish_row.result c.finish_row.new.out) c.args.steps.now c.finish_row.new.steps
-    c.as_mut_slice.ensures.value same refl refl refl row finished)
+    c.as_mut_slice.ensures.value whole refl refl refl (is-none c.self.inside.failed (sym c.is_some.ensures ∙ c.if-is_some.false)) refl is.row is.took
+    (c.finish_row.ensures.finished p row)
+    (λ none. c.finish_row.ensures.spent (omega (arith, ap length none, length-take c.finish_row.result c.finish_row.new.out, c.finish_row.ensures.within, c.finish_row.auto.out))))

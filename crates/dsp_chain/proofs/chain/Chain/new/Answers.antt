@@ -1,23 +1,24 @@
-use Rattle.std.proofs.Common.{◌≡◌, ◌∙◌, ap, refl, sym, subst, ◌+◌, ◌*◌, ◌<◌, ◌≤◌, [], ◌∷◌, ◌++◌, length, take, drop, get_or, arith, List}
+use Rattle.std.proofs.Common.{◌≡◌, ◌∙◌, ap, sym, subst, ◌+◌, ◌*◌, ◌<◌, ◌≤◌, [], ◌∷◌, ◌++◌, length, take, drop, get_or, arith, List}
 use Rattle.std.proofs.lemmas.List.{take_more, take_all}
-use Rattle.dsp_defs.specs.Row.{Place, place_after, blocks_of, place_behind, place_room}
+use Rattle.dsp_stage.specs.Row.{Place, place_after, blocks_of, place_behind, place_room}
 use Rattle.dsp_defs.specs.Block.{channels_after}
 use Rattle.dsp_defs.specs.declared.script.Block.{Block}
-use Rattle.dsp_defs.specs.Unit.{UnitState}
+use Rattle.dsp_stage.specs.Unit.{UnitState}
 use Rattle.dsp_chain.specs.Chain.{input_place, state_of}
-use Rattle.dsp_defs.proofs.ChainPlaces.{legal_is_open, has_groups, flow_at}
-use Rattle.dsp_defs.proofs.NewRow.{new-stand, new-count, new-run}
-use Rattle.dsp_defs.proofs.TailLaws.{runs-in-order}
-use Rattle.dsp_chain.proofs.Making.{Making, making-none, making-more, next-place, all-taken, making-open, Next, next-first, making-next}
-use Rattle.dsp_chain.proofs.Measured.{few-places}
+use Rattle.dsp_stage.proofs.ChainPlaces.{legal_is_open, has_groups, flow_at}
+use Rattle.dsp_chain.proofs.Making.{Making, making-none, making-more, next-place, making-open, Next, next-first, making-next}
+use Rattle.dsp_chain.proofs.NewChain.{new-whole, new-chain, rules-more}
+use Rattle.dsp_chain.specs.FrameRule.{rules_of}
 use Rattle.dsp_chain.proofs.chain.Chain.new.Goals as goal
 
 pub loop-block-init : goal.loop-block-init
 loop-block-init c =
-    let p = input_place c.args.script.now c.args.block in
-    subst (λ (us : List UnitState). Making p p c.as_slice-blocks.result.now 0 us) (sym (c.in_ok-links.ensures.items))
-    (subst (λ (blocks : List Block). Making p p blocks 0 []) (sym c.as_slice-blocks.ensures)
-    (making-none p c.args.script.now.blocks c.requires.few_channels (legal_is_open p c.args.script.now.blocks c.requires.chain c.requires.channels c.requires.legal) c.requires.built))
+    let p = input_place c.args.script.now c.args.block in (
+      subst (λ (us : List UnitState). Making p p c.as_slice-blocks.result.now 0 us) (sym (c.in_ok-links.ensures.items))
+          (subst (λ (blocks : List Block). Making p p blocks 0 []) (sym c.as_slice-blocks.ensures)
+          (making-none p c.args.script.now.blocks c.requires.few_channels (legal_is_open p c.args.script.now.blocks c.requires.chain c.requires.channels c.requires.legal) c.requires.built)),
+      c.in_ok-rules.ensures.items,
+    )
 
 pub new-requires : goal.new-requires
 new-requires c =
@@ -25,7 +26,7 @@ new-requires c =
     let i = c.loop-block.block-index in
     let b = c.block-item.result in
     let here : Place = record { format = c.loop-block.flow.format; channels = c.loop-block.flow.channels; capacity = c.loop-block.frames } in
-    let next : Next here b = making-next (input_place c.args.script.now c.args.block) here blocks i (i + 1) c.loop-block.links.items b (next-first blocks i b c.loop-block-test.true c.block-item.is) c.loop-block.invariant in
+    let next : Next here b = making-next (input_place c.args.script.now c.args.block) here blocks i (i + 1) c.loop-block.links.items b (next-first blocks i b c.loop-block-test.true c.block-item.is) c.loop-block.invariant.0 in
     record { built = next.built; suits = next.suits; channels = next.open_here.channels; frames = next.open_here.capacity; samples = next.open_here.samples }
 
 pub after-flow-requires : goal.after-flow-requires
@@ -34,7 +35,7 @@ after-flow-requires c =
     let i = c.loop-block.block-index in
     let b = c.block-item.result in
     let here : Place = record { format = c.loop-block.flow.format; channels = c.loop-block.flow.channels; capacity = c.loop-block.frames } in
-    let next : Next here b = making-next (input_place c.args.script.now c.args.block) here blocks i (i + 1) c.loop-block.links.items b (next-first blocks i b c.loop-block-test.true c.block-item.is) c.loop-block.invariant in
+    let next : Next here b = making-next (input_place c.args.script.now c.args.block) here blocks i (i + 1) c.loop-block.links.items b (next-first blocks i b c.loop-block-test.true c.block-item.is) c.loop-block.invariant.0 in
     let few : channels_after c.loop-block.flow.channels b ≤ 16 = next.few_channels in
     omega (arith, few)
 
@@ -51,34 +52,34 @@ loop-block-preserved c =
     let first : drop i blocks ≡ b ∷ drop (i + 1) blocks = next-first blocks i b within read in
     let more : take (i + 1) blocks ≡ take i blocks ++ b ∷ [] = take_more blocks i b within ∙ ap (λ (e : Block). take i blocks ++ e ∷ []) (sym read) in
     let pushed : c.push.new.self.items ≡ c.loop-block.links.items ++ state_of c.in_ok-unit.unit ∷ [] = c.in_ok-push.ensures.items ∙ ap (λ (u : UnitState). c.loop-block.links.items ++ u ∷ []) c.in_ok-new.ensures in
-    let step : next ≡ place_after here b = next-place here next b c.after-flow.ensures c.most_frames-frames.ensures in
-    rw pushed (making-more p here next blocks i (i + 1) c.loop-block.links.items (state_of c.in_ok-unit.unit) b first more step c.in_ok-unit.ensures c.loop-block.invariant)
+    let step : next ≡ place_after here b = next-place here next b c.after-flow.ensures c.most_frames-frames.ensures in (
+      rw pushed (making-more p here next blocks i (i + 1) c.loop-block.links.items (state_of c.in_ok-unit.unit) b first more step c.in_ok-unit.ensures c.loop-block.invariant.0),
+      rw c.in_ok-push-2.ensures.items (rules-more c.loop-block.rules.items c.of.result b blocks i (i + 1) more c.of.ensures c.loop-block.invariant.1),
+    )
 
 pub invariant_of-result : goal.invariant_of-result
 invariant_of-result c =
-    let run = new-run c.loop-block.links.items c.loop-block.invariant.fresh in
     let p = input_place c.args.script.now c.args.block in
-    let n = c.loop-block.block-index in
+    let us = c.loop-block.links.items in
     let read = c.as_slice-blocks.result.now in
-    let so_far = c.loop-block.invariant.blocks_so_far in
-    let blocks : blocks_of c.loop-block.links.items ≡ c.args.script.now.blocks = so_far ∙ take_all n read (omega arith) ∙ c.as_slice-blocks.ensures in
-    let room : c.loop-block.frames * c.from-2.result ≡ place_room (place_behind p (blocks_of c.loop-block.links.items)) = ap (λ n. c.loop-block.frames * n) c.from-2.ensures ∙ sym (ap place_room (ap (place_behind p) so_far ∙ c.loop-block.invariant.reached)) in
-    let counts = new-count c.loop-block.links.items c.loop-block.invariant.fresh in
-    let few = few-places (record { format = c.args.script.now.input.format; channels = c.args.script.now.input.channels }) c.args.script.now.blocks c.requires.chain c.requires.few_channels in
-    let taken = all-taken c.args.script.now.blocks 0 c.requires.built in
-    rw c.from.ensures (c.loop-block.invariant.row, runs-in-order c.loop-block.links.items 0 0 run counts (rw blocks taken) (omega arith), λ _. (run, counts), c.requires.channels, rw blocks c.requires.built, rw blocks few, room)
+    let so_far = c.loop-block.invariant.0.blocks_so_far in
+    let all : take c.loop-block.block-index read ≡ c.args.script.now.blocks = take_all c.loop-block.block-index read (omega arith) ∙ c.as_slice-blocks.ensures in
+    let blocks : blocks_of us ≡ c.args.script.now.blocks = so_far ∙ all in
+    let room : c.loop-block.frames * c.from-2.result ≡ place_room (place_behind p (blocks_of us)) = ap (λ n. c.loop-block.frames * n) c.from-2.ensures ∙ sym (ap place_room (ap (place_behind p) so_far ∙ c.loop-block.invariant.0.reached)) in
+    let open_all = legal_is_open p c.args.script.now.blocks c.requires.chain c.requires.channels c.requires.legal in
+    rw c.from.ensures (
+      new-whole p us c.args.script.now.blocks blocks c.loop-block.invariant.0.row c.loop-block.invariant.0.fresh c.requires.chain c.requires.channels c.requires.few_channels c.requires.few_blocks c.requires.one_correlate open_all,
+      c.loop-block.invariant.1 ∙ ap rules_of (all ∙ sym blocks),
+      room,
+    )
 
 pub returns : goal.returns
 returns c =
-    let blocks = c.as_slice-blocks.result.now in
+    let p = input_place c.args.script.now c.args.block in
     let us = c.loop-block.links.items in
-    let fresh = c.loop-block.invariant.fresh in
-    rw c.from.ensures (record {
-      input = refl;
-      blocks_are = c.loop-block.invariant.blocks_so_far ∙ take_all c.loop-block.block-index blocks (omega arith) ∙ c.as_slice-blocks.ensures;
-      stands = record { running = refl; counted = refl; units = new-stand c.args.script.now.input.format c.args.script.now.input.channels us fresh };
-      counts = new-count us fresh;
-    })
+    let read = c.as_slice-blocks.result.now in
+    let blocks : blocks_of us ≡ c.args.script.now.blocks = c.loop-block.invariant.0.blocks_so_far ∙ take_all c.loop-block.block-index read (omega arith) ∙ c.as_slice-blocks.ensures in
+    rw c.from.ensures (new-chain p us c.args.script.now.blocks blocks c.loop-block.invariant.0.row c.loop-block.invariant.0.fresh)
 
 pub most_frames-frames-requires : goal.most_frames-frames-requires
 most_frames-frames-requires c =
@@ -86,11 +87,11 @@ most_frames-frames-requires c =
     let i = c.loop-block.block-index in
     let b = c.block-item.result in
     let here : Place = record { format = c.loop-block.flow.format; channels = c.loop-block.flow.channels; capacity = c.loop-block.frames } in
-    let next : Next here b = making-next (input_place c.args.script.now c.args.block) here blocks i (i + 1) c.loop-block.links.items b (next-first blocks i b c.loop-block-test.true c.block-item.is) c.loop-block.invariant in
+    let next : Next here b = making-next (input_place c.args.script.now c.args.block) here blocks i (i + 1) c.loop-block.links.items b (next-first blocks i b c.loop-block-test.true c.block-item.is) c.loop-block.invariant.0 in
     record { groups = (has_groups (flow_at here) (b ∷ []) (next.suits, tt)).0; fits = omega (arith, next.few_frames) }
 
 pub overflow_mul-result : goal.overflow_mul-result
 overflow_mul-result c =
     let here : Place = record { format = c.loop-block.flow.format; channels = c.loop-block.flow.channels; capacity = c.loop-block.frames } in
-    let samples : c.loop-block.frames * c.loop-block.flow.channels ≤ 1048576 = (making-open (input_place c.args.script.now c.args.block) here c.as_slice-blocks.result.now c.loop-block.block-index c.loop-block.links.items c.loop-block.invariant).samples in
+    let samples : c.loop-block.frames * c.loop-block.flow.channels ≤ 1048576 = (making-open (input_place c.args.script.now c.args.block) here c.as_slice-blocks.result.now c.loop-block.block-index c.loop-block.links.items c.loop-block.invariant.0).samples in
     rw c.from-2.ensures (omega (arith, samples))

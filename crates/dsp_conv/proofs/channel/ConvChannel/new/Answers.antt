@@ -1,6 +1,6 @@
 use Rattle.std.proofs.Common.{◌≤◌, sym, subst, map, length, [], arith}
 use Rattle.std.proofs.lemmas.List.{length-map}
-use Rattle.dsp_defs.specs.Filter.{IsNewFilter}
+use Rattle.dsp_stage.specs.Filter.{IsNewFilter}
 use Rattle.dsp_defs.specs.declared.script.Block.TheVariants as Block
 use Rattle.dsp_conv.specs.ConvState.{ConvState, StandsFor}
 use Rattle.dsp_conv.specs.Channels.{channel_state}

@@ -20,4 +20,4 @@ returns-clause-finished g c =
     let some : 1 ≤ d.block = omega (arith, block, c.self.invariant.2) in
     rw (← c.self.view_is)
     (rw front
-    (channel-finished g.T.Sample.format g.row.L d c.finish.new.self (map number (take c.finish.result piece)) c.finish.result c.args.steps.now c.finish.new.steps some e.same given_long count e.tail e.multiplies e.turns))
+    (channel-finished g.T.Sample.format g.row.L d c.finish.new.self (map number (take c.finish.result piece)) c.finish.result c.args.steps.now c.finish.new.steps some c.self.invariant.4 e.same e.kept given_long count e.tail e.multiplies e.turns))

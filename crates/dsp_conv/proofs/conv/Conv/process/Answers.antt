@@ -1,6 +1,6 @@
 use Rattle.std.proofs.Common.{◌≡◌, ◌∙◌, ap, ap₂, sym, refl, ◌+◌, ◌-◌, ◌*◌, ◌<◌, ◌++◌, length, map, take, reverse, arith, vec_len, rules, length-append, length-take-le}
 use Rattle.std.proofs.lemmas.List.{length-map, length-reverse}
-use Rattle.dsp_defs.specs.Kept.{flag}
+use Rattle.dsp_stage.specs.Kept.{flag}
 use Rattle.dsp_defs.specs.Streaming.{last_of, rows}
 use Rattle.dsp_unit.proofs.Slices.{front-written}
 use Rattle.dsp_window.proofs.Pushed.{shows-after, keeps-after}

@@ -1,7 +1,7 @@
 use Rattle.std.proofs.lemmas.Grind.{common_steps}
 use Rattle.std.proofs.Common.{◌≡◌, ◌∙◌, ap, ap₂, sym, ◌+◌, ◌-◌, ◌*◌, ◌<◌, ◌++◌, [], ◌∷◌, length, map, reverse, pos, arith, vec_len, rules}
 use Rattle.std.proofs.lemmas.List.{length-map, length-reverse, length_push, same_from_push}
-use Rattle.dsp_defs.specs.Kept.{flag}
+use Rattle.dsp_stage.specs.Kept.{flag}
 use Rattle.dsp_defs.specs.Streaming.{last_of}
 use Rattle.dsp_window.proofs.Rolls.{length-last_of, length-last_samples}
 use Rattle.dsp_conv.specs.ConvState.{ConvState}

@@ -1,5 +1,5 @@
 use Rattle.std.proofs.Common.{sym, subst, map}
-use Rattle.dsp_defs.specs.Filter.{IsNewFilter}
+use Rattle.dsp_stage.specs.Filter.{IsNewFilter}
 use Rattle.dsp_defs.specs.declared.script.Block.TheVariants as Block
 use Rattle.dsp_fir.specs.FirState.{FirState, channel_state}
 use Rattle.dsp_fir.proofs.ChannelLemmas.{new-channel}

@@ -1,8 +1,8 @@
 use Rattle.std.proofs.Common.{◌≡◌, ◌≤◌, pos, sym, subst, map, length, replicate, arith}
 use Rattle.std.specs.Prelude.{All}
 use Rattle.std.proofs.lemmas.List.{length-replicate}
-use Rattle.dsp_defs.proofs.ChannelFrames.{get_or-default}
-use Rattle.dsp_defs.specs.Filter.{IsNewFilter}
+use Rattle.dsp_stage.proofs.ChannelFrames.{get_or-default}
+use Rattle.dsp_stage.specs.Filter.{IsNewFilter}
 use Rattle.dsp_defs.specs.declared.script.Block.TheVariants as Block
 use Rattle.dsp_fir.specs.SparseState.{SparseState, channel_state, greatest_delay}
 use Rattle.dsp_fir.proofs.ChannelLemmas.{few-delays, new-sparse}

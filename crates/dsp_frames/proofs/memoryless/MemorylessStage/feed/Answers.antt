@@ -16,5 +16,5 @@ returns-clause-fed g c =
     let block = g.W.FrameWork.block u.work in
     let running = rw (← c.self.view_is) at c.requires.running in
     rw (← c.self.view_is)
-    (gives-fed _ (price block u.channels) c.args.frames.now _ c.feed.ensures.given (record { running = running; kept = refl; tail = refl; rest = refl })
+    (gives-fed _ (price block u.channels) c.args.frames.now _ c.feed.ensures.given (record { running = running; kept = refl; tail = refl; plain = refl })
     (g.met.W.FrameWork.memoryless u.work u.format u.channels) c.args.steps.now c.feed.new.steps c.feed.ensures.multiplies c.feed.ensures.turns)

@@ -1,5 +1,5 @@
 use Rattle.std.proofs.Common.{◌≡◌, ◌∙◌, ap, refl, sym, ℕ, ◌+◌, ◌*◌, ◌/◌, ◌≤◌, length, drop, arith}
-use Rattle.dsp_defs.specs.Channels.{samples_in}
+use Rattle.dsp_stage.specs.Channels.{samples_in}
 use Rattle.dsp_defs.specs.Signal.{sample}
 use Rattle.dsp_defs.proofs.FrameLemmas.{length-frames_in}
 use Rattle.dsp_measure.specs.Sums.{with_squares}
@@ -25,9 +25,9 @@ returns-clause-fed g c =
     let turned : c.add_formatted.new.steps.turns ≤ c.args.steps.now.turns + m * u.channels = omega (arith, steps.turns_rise, whole) in
     rw (← c.self.view_is, given)
     (power-feeds _ _ frames m c.args.steps.now c.add_formatted.new.steps
-    (record { block = refl; running = running; tail = refl; rest = refl; sums = old_sums })
-    (record { block = refl; running = running; tail = refl; rest = refl; sums = ap length kept ∙ new_sums })
-    (record { block = refl; format = refl; channels = refl; capacity = refl })
+    (record { block = refl; running = running; tail = refl; plain = refl; sums = old_sums })
+    (record { block = refl; running = running; tail = refl; plain = refl; sums = ap length kept ∙ new_sums })
+    (record { block = refl; format = refl; channels = refl; capacity = refl; banked = refl })
     size
     (λ k h. ap (λ l. sample l k) kept
     ∙ c.add_formatted.ensures.sums k (omega (arith, h, channels))

@@ -23,6 +23,6 @@ returns c =
     let running = rw (← c.self.view_is) at c.requires.running in
     rw (← c.self.view_is)
     (power-restores _ _ c.args.numbers.now
-    (record { block = refl; running = running; tail = refl; rest = refl; sums = ap length (kept ∙ c.copy_from_slice.ensures.after) ∙ fits.0 })
-    (record { block = refl; format = refl; channels = refl; capacity = refl })
+    (record { block = refl; running = running; tail = refl; plain = refl; sums = ap length (kept ∙ c.copy_from_slice.ensures.after) ∙ fits.0 })
+    (record { block = refl; format = refl; channels = refl; capacity = refl; banked = refl })
     (kept ∙ c.copy_from_slice.ensures.after))

@@ -1,5 +1,5 @@
 use Rattle.std.proofs.Common.{sym, subst, map}
-use Rattle.dsp_defs.specs.Filter.{IsNewFilter}
+use Rattle.dsp_stage.specs.Filter.{IsNewFilter}
 use Rattle.dsp_defs.specs.declared.script.Block.TheVariants as Block
 use Rattle.dsp_rate.specs.DecimateState.{DecimateState}
 use Rattle.dsp_rate.specs.Channels.{channel_state}

@@ -1,5 +1,8 @@
-use Rattle.std.proofs.Common.{◌≡◌, ◌∙◌, length, take, All, FitsSigned, refl, sym, arith}
+use Rattle.std.proofs.Common.{◌≡◌, ◌∙◌, ap, [], length, take, All, FitsSigned, refl, sym, arith}
 use Rattle.std.proofs.lemmas.List.{length-take-le}
+use Rattle.std.proofs.lemmas.Result.{err_from_is_err_and}
+use Rattle.dsp_stage.specs.Row.{Place}
+use Rattle.dsp_stage.specs.Unit.{frames_in}
 use Rattle.dsp_defs.specs.Bytes.{width}
 use Rattle.dsp_defs.specs.Formats.{word}
 use Rattle.dsp_session.specs.Session.{signal}
@@ -38,17 +41,46 @@ feed-requires-clause-count g c =
     let frames = laws.frames_are script c.self.inside.block ready c.args.bytes.now (take c.decode_front-count.result c.deref.result.now) whole row in
     rw (c.self.invariant.0.input, frames) count
 
-pub invariant_of-self : goal.invariant_of-self
-invariant_of-self g c = absurd (laws.never_full c.self.inside.script.now c.self.inside.block c.self.invariant.0.ready _ _ c.self.invariant.0.blocks (c.in_err-count.ensures.full.0 refl))
+pub returns-in_err-count-clause-refused : goal.returns-in_err-count-clause-refused
+returns-in_err-count-clause-refused g c =
+    let holds = c.self.invariant.0 in
+    let (error, is, same) = err_from_is_err_and c.from_residual.result c.from_residual.ensures.1 in
+    rw (is, same, ← c.self.view_is) (laws.fails c.self.inside.script.now c.self.inside.block holds.ready c.self.inside.chain c.feed.new.self holds.input holds.blocks _ _ _ _ c.in_err-count.ensures.refused)
 
 pub returns-in_err-count-clause-full : goal.returns-in_err-count-clause-full
-returns-in_err-count-clause-full g c = absurd (laws.never_full c.self.inside.script.now c.self.inside.block c.self.invariant.0.ready _ _ c.self.invariant.0.blocks (c.in_err-count.ensures.full.0 refl))
+returns-in_err-count-clause-full g c =
+    let (error, is, same) = err_from_is_err_and c.from_residual.result c.from_residual.ensures.1 in
+    let holds = c.self.invariant.0 in
+    let whole = rw (← c.self.view_is) at c.requires.whole in
+    let row = laws.read_row c.self.inside.script.now c.self.inside.block holds.ready c.self.inside.input c.decode_front-count.result c.self.inside.samples.len c.args.bytes.now c.deref.result.now c.decode_front-count.new.samples c.self.inside.samples.items
+    c.self.invariant.1 c.self.invariant.2 (c.decode_front-count.auto.samples ∙ c.as_mut_slice.ensures.len) c.deref.ensures.value c.decode_front-count.ensures.values in
+    let xs = take c.decode_front-count.result c.deref.result.now in
+    let frames = laws.frames_are c.self.inside.script.now c.self.inside.block holds.ready c.args.bytes.now xs whole row in
+    let count : length (frames_in c.self.inside.chain.input.channels xs) ≡ length (signal c.self.inside.script.now c.args.bytes.now) = ap (λ (p : Place). length (frames_in p.channels xs)) holds.input ∙ ap length frames in
+    rw (is, ← c.self.view_is) ((λ e. laws.too_much c.self.inside.script.now c.self.inside.block holds.ready c.self.inside.chain c.feed.new.self holds.input holds.blocks [] (length (frames_in c.self.inside.chain.input.channels xs)) (length (signal c.self.inside.script.now c.args.bytes.now)) count (c.in_err-count.ensures.full.0 refl)), (λ many. refl))
 
 pub returns-in_err-count-clause-numbers : goal.returns-in_err-count-clause-numbers
-returns-in_err-count-clause-numbers g c = absurd (laws.never_full c.self.inside.script.now c.self.inside.block c.self.invariant.0.ready _ _ c.self.invariant.0.blocks (c.in_err-count.ensures.full.0 refl))
+returns-in_err-count-clause-numbers g c =
+    let (error, is, same) = err_from_is_err_and c.from_residual.result c.from_residual.ensures.1 in
+    let holds = c.self.invariant.0 in
+    let whole = rw (← c.self.view_is) at c.requires.whole in
+    let row = laws.read_row c.self.inside.script.now c.self.inside.block holds.ready c.self.inside.input c.decode_front-count.result c.self.inside.samples.len c.args.bytes.now c.deref.result.now c.decode_front-count.new.samples c.self.inside.samples.items
+    c.self.invariant.1 c.self.invariant.2 (c.decode_front-count.auto.samples ∙ c.as_mut_slice.ensures.len) c.deref.ensures.value c.decode_front-count.ensures.values in
+    let xs = take c.decode_front-count.result c.deref.result.now in
+    let frames = laws.frames_are c.self.inside.script.now c.self.inside.block holds.ready c.args.bytes.now xs whole row in
+    let count : length (frames_in c.self.inside.chain.input.channels xs) ≡ length (signal c.self.inside.script.now c.args.bytes.now) = ap (λ (p : Place). length (frames_in p.channels xs)) holds.input ∙ ap length frames in
+    rw (is, same, ← c.self.view_is) (λ works. laws.numbers c.self.inside.script.now c.self.inside.block holds.ready c.self.inside.chain c.feed.new.self holds.input holds.blocks _ _ _ count (c.in_err-count.ensures.numbers works))
 
-pub returns-in_err-count-clause-refused : goal.returns-in_err-count-clause-refused
-returns-in_err-count-clause-refused g c = absurd (laws.never_full c.self.inside.script.now c.self.inside.block c.self.invariant.0.ready _ _ c.self.invariant.0.blocks (c.in_err-count.ensures.full.0 refl))
+pub returns-clause-full : goal.returns-clause-full
+returns-clause-full g c =
+    let holds = c.self.invariant.0 in
+    let whole = rw (← c.self.view_is) at c.requires.whole in
+    let row = laws.read_row c.self.inside.script.now c.self.inside.block holds.ready c.self.inside.input c.decode_front-count.result c.self.inside.samples.len c.args.bytes.now c.deref.result.now c.decode_front-count.new.samples c.self.inside.samples.items
+    c.self.invariant.1 c.self.invariant.2 (c.decode_front-count.auto.samples ∙ c.as_mut_slice.ensures.len) c.deref.ensures.value c.decode_front-count.ensures.values in
+    let xs = take c.decode_front-count.result c.deref.result.now in
+    let frames = laws.frames_are c.self.inside.script.now c.self.inside.block holds.ready c.args.bytes.now xs whole row in
+    let count : length (frames_in c.self.inside.chain.input.channels xs) ≡ length (signal c.self.inside.script.now c.args.bytes.now) = ap (λ (p : Place). length (frames_in p.channels xs)) holds.input ∙ ap length frames in
+    rw (← c.self.view_is) ((λ e. absurd (cc)), (λ many. absurd (let e = c.in_ok-count.ensures.full.1 (laws.chain_much c.self.inside.script.now c.self.inside.block holds.ready c.self.inside.chain c.feed.new.self holds.input holds.blocks [] (length (frames_in c.self.inside.chain.input.channels xs)) (length (signal c.self.inside.script.now c.args.bytes.now)) count many) in cc)))
 
 pub encode_front-self-inside-requires-clause-fits : goal.encode_front-self-inside-requires-clause-fits
 encode_front-self-inside-requires-clause-fits g c =
@@ -62,8 +94,8 @@ returns-clause-given g c =
     let long : length front ≡ c.self.inside.bytes.len = c.encode_front-self-inside.auto.bytes ∙ c.as_mut_slice-3.ensures.len in
     rw (written-row c.self.inside.bytes.len front c.self.inside.bytes.items long) (sym (length-take-le c.encode_front-self-inside.result front (omega (arith, c.encode_front-self-inside.ensures.within, c.encode_front-self-inside.auto.bytes))))
 
-pub returns-clause-feeds : goal.returns-clause-feeds
-returns-clause-feeds g c x stands =
+pub returns-clause-fed : goal.returns-clause-fed
+returns-clause-fed g c =
     let script = c.self.inside.script.now in
     let holds = c.self.invariant.0 in
     let ready = holds.ready in
@@ -74,35 +106,5 @@ returns-clause-feeds g c x stands =
     let same : c.deref-2.result.now ≡ c.feed.new.out = c.deref-2.ensures.value ∙ written-row c.self.inside.values.len c.feed.new.out c.self.inside.values.items (c.feed.auto.out ∙ c.as_mut_slice-2.ensures.len) in
     let out = laws.write_row script c.self.inside.block ready c.self.inside.output c.encode_front-self-inside.result c.self.inside.bytes.len (take c.in_ok-count.count c.feed.new.out) c.encode_front-self-inside.new.bytes c.self.inside.bytes.items
     c.self.invariant.3 c.self.invariant.4 (c.encode_front-self-inside.auto.bytes ∙ c.as_mut_slice-3.ensures.len) (rw same at c.encode_front-self-inside.ensures.bytes) in
-    let is = rw (← c.self.view_is) at stands in
     rw (← c.self.view_is)
-    (laws.feeds script c.self.inside.block ready c.self.inside.chain c.feed.new.self holds.input holds.blocks (take c.decode_front-count.result c.deref.result.now) (take c.in_ok-count.count c.feed.new.out) c.args.bytes.now _ frames out _ _ c.in_ok-count.ensures.fed x is.chain is.counts)
-
-pub returns-clause-multiplies : goal.returns-clause-multiplies
-returns-clause-multiplies g c x stands =
-    let script = c.self.inside.script.now in
-    let holds = c.self.invariant.0 in
-    let ready = holds.ready in
-    let whole = rw (← c.self.view_is) at c.requires.whole in
-    let row = laws.read_row script c.self.inside.block ready c.self.inside.input c.decode_front-count.result c.self.inside.samples.len c.args.bytes.now c.deref.result.now c.decode_front-count.new.samples c.self.inside.samples.items
-    c.self.invariant.1 c.self.invariant.2 (c.decode_front-count.auto.samples ∙ c.as_mut_slice.ensures.len) c.deref.ensures.value c.decode_front-count.ensures.values in
-    let frames = laws.frames_are script c.self.inside.block ready c.args.bytes.now (take c.decode_front-count.result c.deref.result.now) whole row in
-    let is = rw (← c.self.view_is) at stands in
-    rw (← c.self.view_is)
-    (laws.feed_costs script c.self.inside.block ready c.self.inside.chain c.feed.new.self holds.input holds.blocks (take c.decode_front-count.result c.deref.result.now) (take c.in_ok-count.count c.feed.new.out) c.args.bytes.now _ frames refl _ _ c.in_ok-count.ensures.fed x is.chain is.counts)
-
-pub returns-clause-turns : goal.returns-clause-turns
-returns-clause-turns g c x stands =
-    let script = c.self.inside.script.now in
-    let holds = c.self.invariant.0 in
-    let ready = holds.ready in
-    let whole = rw (← c.self.view_is) at c.requires.whole in
-    let row = laws.read_row script c.self.inside.block ready c.self.inside.input c.decode_front-count.result c.self.inside.samples.len c.args.bytes.now c.deref.result.now c.decode_front-count.new.samples c.self.inside.samples.items
-    c.self.invariant.1 c.self.invariant.2 (c.decode_front-count.auto.samples ∙ c.as_mut_slice.ensures.len) c.deref.ensures.value c.decode_front-count.ensures.values in
-    let frames = laws.frames_are script c.self.inside.block ready c.args.bytes.now (take c.decode_front-count.result c.deref.result.now) whole row in
-    let is = rw (← c.self.view_is) at stands in
-    rw (← c.self.view_is)
-    (laws.feed_turns script c.self.inside.block ready c.self.inside.chain c.feed.new.self holds.input holds.blocks (take c.decode_front-count.result c.deref.result.now) (take c.in_ok-count.count c.feed.new.out) c.args.bytes.now _ frames refl _ _ c.in_ok-count.ensures.fed x is.chain is.counts)
-
-pub returns-clause-full : goal.returns-clause-full
-returns-clause-full g c = rw (← c.self.view_is) ((λ e. absurd (cc)), (λ full. absurd (laws.never_full c.self.inside.script.now c.self.inside.block c.self.invariant.0.ready _ _ refl full)))
+    (laws.feeds script c.self.inside.block ready c.self.inside.chain c.feed.new.self holds.input holds.blocks holds.turns _ _ (take c.decode_front-count.result c.deref.result.now) (take c.in_ok-count.count c.feed.new.out) c.args.bytes.now frames out _ _ c.in_ok-count.ensures.fed)

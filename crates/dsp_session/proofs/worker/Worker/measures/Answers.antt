@@ -1,12 +1,6 @@
 use Rattle.std.proofs.Common.{◌∙◌}
 use Rattle.dsp_chain.specs.Row.{measure_counts}
-use Rattle.dsp_session.proofs.WorkerLaws as laws
 use Rattle.dsp_session.proofs.worker.Worker.measures.Goals as goal
-
-pub measures-requires : goal.measures-requires
-measures-requires c =
-    let holds = c.self.invariant.0 in
-    laws.few_units c.self.inside.script.now c.self.inside.block holds.ready c.self.inside.chain.units holds.blocks
 
 pub returns-clause-stays : goal.returns-clause-stays
 returns-clause-stays c =

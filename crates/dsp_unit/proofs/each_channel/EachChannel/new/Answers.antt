@@ -2,8 +2,8 @@ use Rattle.std.proofs.Common.{◌≤◌, ◌≡◌, sym, subst, map, length, IfO
 use Rattle.std.specs.Prelude.{All}
 use Rattle.std.proofs.lemmas.List.{length-map, length_push}
 use Rattle.std.proofs.lemmas.List.Elements.{All-map, All-push}
-use Rattle.dsp_defs.specs.Filter.{IsNewFilter, filter_at, no_filter}
-use Rattle.dsp_defs.specs.Unit.{IsNew, most_frames}
+use Rattle.dsp_stage.specs.Filter.{IsNewFilter, filter_at, no_filter}
+use Rattle.dsp_stage.specs.Unit.{IsNew, most_frames}
 use Rattle.dsp_unit.proofs.Units.{new-filters}
 use Rattle.dsp_unit.proofs.each_channel.EachChannel.new.Goals as goal
 

@@ -1,6 +1,6 @@
 use Rattle.std.proofs.Common.{◌≡◌, length}
 use Rattle.std.specs.Prelude.{All}
-use Rattle.dsp_defs.specs.Filter.{IsNewFilter}
+use Rattle.dsp_stage.specs.Filter.{IsNewFilter}
 use Rattle.dsp_unit.proofs.each_channel.EachChannel.new.Given as goal
 
 -- as many new filters as there were turns

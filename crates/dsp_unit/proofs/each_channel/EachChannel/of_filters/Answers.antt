@@ -1,9 +1,9 @@
 use Rattle.std.proofs.Common.{subst, map}
 use Rattle.std.proofs.lemmas.List.{length-map}
-use Rattle.dsp_defs.specs.Filter.{filter_at}
-use Rattle.dsp_defs.specs.Channels.{unit_of_filters}
-use Rattle.dsp_defs.specs.Unit.{IsNew}
-use Rattle.dsp_defs.proofs.ChannelRestores.{new-unit}
+use Rattle.dsp_stage.specs.Filter.{filter_at}
+use Rattle.dsp_stage.specs.Channels.{unit_of_filters}
+use Rattle.dsp_stage.specs.Unit.{IsNew}
+use Rattle.dsp_stage.proofs.ChannelRestores.{new-unit}
 use Rattle.dsp_unit.proofs.each_channel.EachChannel.of_filters.Goals as goal
 
 pub returns : goal.returns

@@ -1,6 +1,6 @@
 use Rattle.std.proofs.Common.{◌≡◌, ◌<◌, ◌∙◌, ap, false, length, map, arith}
 use Rattle.std.proofs.lemmas.List.{length-map, get_or-map}
-use Rattle.dsp_defs.specs.Filter.{filter_at, no_filter}
+use Rattle.dsp_stage.specs.Filter.{filter_at, no_filter}
 use Rattle.dsp_unit.proofs.each_channel.EachChannelStage.keep.Goals as goal
 
 pub keep_channels-requires-clause-running : goal.keep_channels-requires-clause-running

@@ -83,8 +83,8 @@ returns-in-Sub-clause-given g c =
 pub returns-in-Mult-clause-given : goal.returns-in-Mult-clause-given
 returns-in-Mult-clause-given g c =
     let two : c.args.channels ≡ 2 = rw c.in-Mult.is at c.requires.suits.channels in
-    rw (c.in-Mult.is, c.join_pairs-count.ensures.count)
-    (pairs-give g.T.Sample.format c.args.channels Mult c.args.frames.now _ (mult g.T.Sample.format) two refl (λ x. refl) c.join_pairs-count.ensures.values c.join_pairs-count.ensures.fits)
+    rw (c.in-Mult.is, c.join_pairs-in-Mult.ensures.count)
+    (pairs-give g.T.Sample.format c.args.channels Mult c.args.frames.now _ (mult g.T.Sample.format) two refl (λ x. refl) c.join_pairs-in-Mult.ensures.values c.join_pairs-in-Mult.ensures.fits)
 
 pub route_frames-requires-clause-whole : goal.route_frames-requires-clause-whole
 route_frames-requires-clause-whole g c = c.requires.signal.whole_frames ∙ ap (λ n. n * c.args.channels) (length-frames_in c.args.channels c.args.frames.now)

@@ -1,0 +1,4 @@
+pub mod SectionSteps
+pub mod Cascades
+pub mod SectionNumbers
+pub mod TestSignals

@@ -1,0 +1,4 @@
+pub mod Sections
+pub mod Blocks
+pub mod Making
+pub mod BiquadUnit

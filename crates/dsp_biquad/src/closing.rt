@@ -1,0 +1,81 @@
+//! Sums of five products, and how a section closes them.
+ghost use Rattle.std.specs.Prelude.{◌≡◌, ◌+◌, ◌-◌, ◌^◌, ◌≤◌, ◌+ℤ◌, ◌*ℤ◌, pos};
+ghost use Rattle.dsp_defs.specs.Numbers.{floor_shift, wrap, w32, w64};
+ghost use Rattle.dsp_defs.specs.Biquad.{section_close, fed_back};
+ghost use Rattle.dsp_defs.specs.declared.format.Fmt.TheVariants.{Q15, Q31};
+
+use dsp_sat::{low_word, sat16};
+
+#[inline(always)]
+fn sum_of_two(first: i32, second: i32) -> i64
+    ensures { result ≡ first +ℤ second }
+{
+    i64::from(first) + i64::from(second)
+}
+
+#[inline(always)]
+fn sum_of_three(first: i32, second: i32, third: i32) -> i64
+    ensures { result ≡ first +ℤ second +ℤ third }
+{
+    i64::from(first) + i64::from(second) + i64::from(third)
+}
+
+/// The sum, the last two added to each other.
+#[inline(always)]
+pub(crate) fn exact_sum(first: i32, second: i32, third: i32, fourth: i32, fifth: i32) -> i64
+    ensures { result ≡ first +ℤ second +ℤ third +ℤ (fourth +ℤ fifth) }
+{
+    sum_of_three(first, second, third) + sum_of_two(fourth, fifth)
+}
+
+/// The sum of three numbers, wrapped.
+#[inline(always)]
+fn wrapped_sum(first: i64, second: i64, third: i64) -> i64
+    ensures { result ≡ wrap w64 (first +ℤ second +ℤ third) }
+{
+    first.wrapping_add(second).wrapping_add(third)
+}
+
+/// The sum of five numbers, wrapped.
+#[inline(always)]
+pub(crate) fn wrapped_five(first: i64, second: i64, third: i64, fourth: i64, fifth: i64) -> i64
+    ensures paired { result ≡ wrap w64 (first +ℤ second +ℤ third +ℤ (fourth +ℤ fifth)) }
+    ensures in_turn { result ≡ wrap w64 (first +ℤ second +ℤ third +ℤ fourth +ℤ fifth) }
+{
+    let forward = wrapped_sum(first, second, third);
+    wrapped_sum(forward, fourth, fifth)
+}
+
+/// A section's output in Q15.
+#[inline(always)]
+pub(crate) fn close15(sum: i64, post_shift: u8) -> i16
+    ensures { result ≡ section_close Q15 post_shift sum }
+{
+    sat16(sum >> 15u32.saturating_sub(u32::from(post_shift)))
+}
+
+/// A sum as a fraction, wrapped.
+#[inline(always)]
+pub(crate) fn fraction31(sum: i64, post_shift: u8) -> i32
+    ensures { result ≡ wrap w32 (floor_shift sum (31 - post_shift)) }
+{
+    low_word(sum >> 31u32.saturating_sub(u32::from(post_shift)))
+}
+
+/// The power of two that a sum is fed back by.
+#[inline(always)]
+fn power(post_shift: u8) -> i64
+    requires { post_shift ≤ 30 }
+    ensures { result ≡ pos (2 ^ (post_shift + 1)) }
+{
+    1i64 << (post_shift + 1)
+}
+
+/// What is fed back of a sum.
+#[inline(always)]
+pub(crate) fn fed_back(sum: i64, post_shift: u8) -> i64
+    requires { post_shift ≤ 30 }
+    ensures { result ≡ fed_back post_shift sum }
+{
+    sum.wrapping_mul(power(post_shift))
+}

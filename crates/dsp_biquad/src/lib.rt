@@ -1,0 +1,25 @@
+//! Cascades of second-order sections.
+#![tactic(auto)]
+
+mod biquad_sample;
+mod biquads;
+mod cascade;
+mod cascade_section;
+mod closing;
+mod kept;
+mod making;
+mod parameters;
+mod section;
+mod section64;
+mod unit;
+
+pub use biquad_sample::BiquadSample;
+pub use biquads::{Biquad15, Biquad31, Biquad64, Biquads};
+pub use cascade::Cascade;
+pub use cascade_section::CascadeSection;
+pub use section::Section;
+pub use section64::Section64;
+pub use unit::{BiquadUnit, biquad_unit};
+
+#[cfg(test)]
+mod tests;

@@ -1,0 +1,31 @@
+ghost use Rattle.std.specs.Prelude.{◌≡◌, ◌≤◌, Err, Ok, MatchOption};
+ghost use Rattle.dsp_biquad.specs.Making.{coefficients_fault, shift_fault};
+
+use dsp_defs::{MAX_SECTIONS, MakeFault};
+
+/// Refuses a count of numbers that is not that of 1..64 sections of `size`.
+pub(crate) fn check_coefficients(count: usize, size: usize) -> Result<(), MakeFault>
+    requires some { 1 ≤ size }
+    requires few { size ≤ 6 }
+    ensures { MatchOption (coefficients_fault size count) (result ≡ Ok tt) (λ e. result ≡ Err e) }
+{
+    if count == 0 || count > MAX_SECTIONS * size || count % size != 0 {
+        return Err(MakeFault::Length {
+            taps: count as u64,
+            factor: size as u64,
+        });
+    }
+    Ok(())
+}
+
+/// Refuses a post shift that is too great.
+pub(crate) fn check_shift(post_shift: u8, greatest: u8) -> Result<(), MakeFault>
+    ensures { MatchOption (shift_fault greatest post_shift) (result ≡ Ok tt) (λ e. result ≡ Err e) }
+{
+    if post_shift > greatest {
+        return Err(MakeFault::Range {
+            value: i128::from(post_shift),
+        });
+    }
+    Ok(())
+}

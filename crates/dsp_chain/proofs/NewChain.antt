@@ -1,0 +1,74 @@
+-- A new chain.
+use Rattle.std.proofs.Common.{◌≡◌, ◌∙◌, ap, refl, sym, ℕ, ◌*◌, ◌/◌, ◌≤◌, false, List, [], ◌∷◌, ◌++◌, take, length, Option, Some, None, arith}
+use Rattle.std.proofs.lemmas.List.{map-append}
+use Rattle.dsp_defs.specs.Grammar.{IsChain, correlates}
+use Rattle.dsp_defs.specs.Cost.{chain_turns}
+use Rattle.dsp_defs.specs.Shape.{group_of, groups_after, whole_frames, gathered}
+use Rattle.dsp_stage.specs.Unit.{UnitState}
+use Rattle.dsp_stage.specs.Row.{Place, blocks_of, InRow, AllNew, AllCount}
+use Rattle.dsp_defs.specs.declared.limits.TheConstants.{MAX_BLOCKS, MAX_CHANNELS, MAX_CORRELATES}
+use Rattle.dsp_defs.specs.declared.script.Block.{Block}
+use Rattle.dsp_defs.specs.declared.script.Block.TheVariants.{Interpolate, Conv, ConvPartial, Correlate}
+use Rattle.dsp_stage.proofs.ChainPlaces.{AllOpen, flow_at}
+use Rattle.dsp_stage.proofs.NewRow.{new-stand, new-count, new-turns}
+use Rattle.dsp_stage.proofs.TailLaws.{count-took}
+use Rattle.dsp_stage.proofs.FewFrames.{few_places, few-taken}
+use Rattle.dsp_chain.specs.Chain.{ChainState, IsWhole, IsNewChain}
+use Rattle.dsp_chain.specs.FrameRule.{rule_of, rules_of}
+use Rattle.dsp_chain.specs.declared.frame_rule.FrameRule.{FrameRule}
+use Rattle.dsp_chain.proofs.ChainCalls.{chain-live}
+use Rattle.dsp_chain.proofs.Measured.{few-places}
+
+-- ---- no frames
+
+groups-nothing : (group : Option (ℕ × ℕ)) → groups_after group 0 ≡ 0
+groups-nothing None = refl
+groups-nothing (Some g) = let none : 0 / g.0 ≡ 0 = omega arith in ap (λ q. q * g.1) none ∙ omega arith
+
+whole-nothing : (b : Block) → whole_frames b 0 ≡ 0
+whole-nothing (Interpolate factor taps) = omega arith
+whole-nothing (Conv taps) = refl
+whole-nothing (ConvPartial first count taps) = omega arith
+whole-nothing (Correlate taps) = refl
+whole-nothing b = groups-nothing (group_of b)
+
+pub gathered-nothing : (blocks : List Block) → gathered blocks 0 ≡ 0
+gathered-nothing [] = refl
+gathered-nothing (Correlate taps ∷ blocks) = refl
+gathered-nothing (b ∷ blocks) = ap (gathered blocks) (whole-nothing b) ∙ gathered-nothing blocks
+
+-- ---- the chain
+
+-- one rule more
+pub rules-more : (rules : List FrameRule) (r : FrameRule) (b : Block) (blocks : List Block) (i j : ℕ) → take j blocks ≡ take i blocks ++ b ∷ [] → r ≡ rule_of b → rules ≡ rules_of (take i blocks) → rules ++ r ∷ [] ≡ rules_of (take j blocks)
+rules-more rules r b blocks i j more is so_far =
+    (λ k. so_far k ++ is k ∷ []) ∙ sym (map-append rule_of (take i blocks) (b ∷ [])) ∙ ap rules_of (sym more)
+
+-- a chain of new units
+abbrev pub made : Place → List UnitState → ChainState
+made p us = record { input = p; units = us; frames = 0; ended = false; failed = None }
+
+pub new-whole : (p : Place) (us : List UnitState) (blocks : List Block) → blocks_of us ≡ blocks → InRow p us → AllNew us → IsChain (flow_at p) blocks → 1 ≤ p.channels → p.channels ≤ MAX_CHANNELS → length blocks ≤ MAX_BLOCKS → correlates blocks ≤ MAX_CORRELATES → AllOpen p blocks → IsWhole (made p us)
+new-whole p us blocks are row fresh chain some few many one opens =
+    let counts : AllCount us 0 = new-count us fresh in
+    record {
+      row = row;
+      took = count-took us 0 counts;
+      counts = λ _. counts;
+      taken = rw are (few-taken blocks 0 one (omega (arith, gathered-nothing blocks)) (few_places p blocks 0 opens many one (omega arith)));
+      chain = rw are chain;
+      channels = some;
+      few_channels = rw are (few-places (flow_at p) blocks chain few);
+      few_blocks = rw are many;
+      one_correlate = rw are one;
+      few_frames = rw are (λ n fits. few_places p blocks n opens many one fits);
+    }
+
+pub new-chain : (p : Place) (us : List UnitState) (blocks : List Block) → blocks_of us ≡ blocks → InRow p us → AllNew us → IsNewChain p blocks (made p us)
+new-chain p us blocks are row fresh = record {
+  input = refl;
+  blocks_are = are;
+  stands = record { running = refl; works = refl; counted = refl; units = new-stand p.format p.channels us fresh };
+  live = chain-live (made p us) row (new-count us fresh);
+  turns = λ m n. new-turns p us m n row fresh ∙ ap (λ bs. chain_turns p.format p.channels bs m n) are;
+}

@@ -1,0 +1,46 @@
+-- Save and resume of a chain: the numbers that it keeps, which numbers it can keep, and what it is with them.
+use Rattle.std.specs.Prelude.{◌≡◌, ℕ, ◌≤◌, ◌^◌, ℤ, false, List, [], ◌∷◌, ◌++◌, length, flat_map, None}
+use Rattle.dsp_defs.specs.Block.{Frame, format_after, channels_after}
+use Rattle.dsp_stage.specs.Kept.{FitsAfter, kept_of_chain}
+use Rattle.dsp_defs.specs.Shape.{live_frames, gathered}
+use Rattle.dsp_stage.specs.Unit.{UnitState, Restores}
+use Rattle.dsp_stage.specs.Row.{Place, place_after, blocks_of}
+use Rattle.dsp_defs.specs.declared.format.Fmt.{Fmt}
+use Rattle.dsp_defs.specs.declared.limits.TheConstants.{MAX_GATHERED}
+use Rattle.dsp_defs.specs.declared.script.Block.{Block}
+use Rattle.dsp_chain.specs.Chain.{ChainState, ChainStandsFor, SameChain, IsLive}
+
+-- the numbers of its units, one after another
+abbrev pub kept_of : ChainState → List ℤ
+kept_of c = flat_map (λ (u : UnitState). u.kept) c.units
+
+-- the numbers are such that the blocks can keep them of n frames, each of the live frames at its place
+abbrev pub FitsBlocks : Fmt → ℕ → List Block → ℕ → List ℤ → Type 0
+FitsBlocks format channels [] n numbers = numbers ≡ []
+FitsBlocks format channels (block ∷ blocks) n numbers =
+    (here later : List ℤ) × (numbers ≡ here ++ later) × FitsAfter format channels block n here
+    × FitsBlocks (format_after format block) (channels_after channels block) blocks (live_frames block n) later
+
+-- and the chain can have been fed with so many
+pub record FitsChain (c : ChainState) (frames : ℕ) (numbers : List ℤ) : Type 0 where
+  pub limit : frames ≤ 2 ^ 40
+  pub gathers : gathered (blocks_of c.units) frames ≤ MAX_GATHERED
+  pub fits : FitsBlocks c.input.format c.input.channels (blocks_of c.units) frames numbers
+
+-- each unit keeps its numbers from now on, which it can keep of the live frames at its place
+abbrev pub AllRestores : Place → List UnitState → List UnitState → ℕ → List ℤ → Type 0
+AllRestores p [] [] n numbers = numbers ≡ []
+AllRestores p (u ∷ us) (v ∷ vs) n numbers =
+    (here later : List ℤ) × (numbers ≡ here ++ later) × FitsAfter p.format p.channels u.block n here × Restores u v here
+    × AllRestores (place_after p u.block) us vs (live_frames u.block n) later
+AllRestores p us vs n numbers = ⊥
+
+-- the chain keeps these numbers from now on, and so many frames count as fed
+pub record RestoresChain (old new : ChainState) (frames : ℕ) (numbers : List ℤ) : Type 0 where
+  pub same : SameChain old new
+  pub running : new.ended ≡ false
+  pub works : new.failed ≡ None
+  pub counted : new.frames ≡ frames
+  pub kept : kept_of new ≡ numbers
+  pub live : IsLive new
+  pub stands : (x : List Frame) → length x ≡ frames → numbers ≡ kept_of_chain old.input.format old.input.channels (blocks_of old.units) x → ChainStandsFor new x

@@ -1,0 +1,32 @@
+use Rattle.std.proofs.Common.{◌≡◌, ◌∙◌, refl, ap, subst, IsTrue}
+use Rattle.dsp_defs.specs.Shape.{frames_given}
+use Rattle.dsp_defs.specs.declared.script.Script.{Script}
+use Rattle.dsp_session.specs.Session.{cost_of}
+use Rattle.dsp_cli.specs.Script.{is_legal_for}
+use Rattle.dsp_cli.specs.declared.report.Summary.{Summary}
+use Rattle.dsp_cli.proofs.PerformLaws.{done_by, text_by}
+use Rattle.dsp_cli.proofs.top.run_script.Goals as goal
+
+pub returns-clause-ok : goal.returns-clause-ok
+returns-clause-ok g c =
+    let script = c.args.script.now in
+    let taken = c.in-Ok-stream.totals.frames_taken in
+    let same : c.in-Ok.session.script ≡ script = c.in-Ok.ensures.script_is in
+    let summary : Summary = record {
+      input = record { format = script.input.format; channels = script.input.channels };
+      output = c.output_flow.result;
+      totals = c.in-Ok-stream.totals;
+      measures = c.find_measures.new.measures;
+    } in
+    let passed : IsTrue c.legal.result = search in
+    let legal : IsTrue (is_legal_for script c.chosen-block.result) = subst IsTrue c.legal.ensures passed in
+    record {
+      goes = record {
+        legal = subst (λ n. IsTrue (is_legal_for script n)) c.chosen-block.ensures legal;
+        is_built = search;
+        done = done_by _ _ _ _ _ _ _ _ _ _ _ _ _ same (c.in-Ok.ensures.block_is ∙ c.chosen-block.ensures) c.find_measures.ensures c.in-Ok-stream.ensures.ok;
+      };
+      text = text_by script summary refl c.output_flow.ensures
+          (c.in-Ok-stream.ensures.given ∙ ap (λ (s : Script). frames_given s.blocks taken) same)
+          (c.in-Ok-stream.ensures.multiplies ∙ ap (λ (s : Script). cost_of s taken) same);
+    }

@@ -1,0 +1,178 @@
+-- Sections of a lattice without feedback, on pairs (f, g).
+use Rattle.std.proofs.Common.{◌≡◌, ◌∙◌, ap, ap₂, refl, sym, subst, ℕ, suc, ◌+◌, ◌<◌, ℤ, pos, ◌+ℤ◌, ◌*ℤ◌, List, [], ◌∷◌, ◌++◌, map, fold, reverse, length, take, drop, set, get_or, replicate, ◌≤◌, arith, length-append, length-drop}
+use Rattle.std.specs.List.{zip}
+use Rattle.std.proofs.lemmas.List.{map-append, map_more, take_more_set, reverse-append, get_or-drop, length-map, length-take-le, drop-drop}
+use Rattle.std.proofs.lemmas.Slice.{take-put_mid, drop-put_mid}
+use Rattle.std.proofs.Math.Seq.{take-add}
+use borrow.Rule.Slice.PartMut.{put_mid}
+use Rattle.std.proofs.lemmas.List.Sums.{fold-append}
+use Rattle.std.proofs.lemmas.Slice.Zip.{firsts-zip}
+use Rattle.std.proofs.Math.ListN.{get_or-map}
+use Rattle.dsp_defs.specs.Numbers.{◌>>◌, saturate}
+use Rattle.dsp_defs.specs.Formats.{word_bits}
+use Rattle.dsp_defs.specs.Signal.{sample}
+use Rattle.dsp_defs.specs.Lattice.{lattice_output, lattice_stage, lattice_fir}
+use Rattle.dsp_stage.specs.Kept.{latest, lattice_kept}
+use Rattle.dsp_defs.specs.Streaming.{GoesOn, Continues}
+use Rattle.dsp_stage.proofs.GoingOn.{goes-twice, goes-chain, outputs-next, latest-new}
+use Rattle.dsp_defs.specs.declared.format.Fmt.{Fmt}
+use Rattle.dsp_defs.specs.declared.format.Fmt.TheVariants.{Q15}
+use Rattle.dsp_lattice.specs.LatticeState.{reflection, section_kept, sections_give, pairs_of, filter_kept}
+
+pub reverse-map : {A B : Type 0} (f : A → B) (xs : List A) → reverse (map f xs) ≡ map f (reverse xs)
+reverse-map f [] = refl
+reverse-map f (x ∷ xs) =
+    reverse-append (f x ∷ []) (map f xs) ∙ ap (λ r. r ++ f x ∷ []) (reverse-map f xs) ∙ sym (map-append f (reverse xs) (x ∷ [])) ∙ ap (map f) (sym (reverse-append (x ∷ []) xs))
+
+-- ---- one section
+
+-- the last g of some pairs, as the recurrence reads it
+last-second : (x : List (ℤ × ℤ)) → latest (map (λ (w : ℤ × ℤ). w.1) x) 0 ≡ (get_or (reverse x) 0 (pos 0, pos 0)).1
+last-second x =
+    ap (λ l. sample l 0) (reverse-map (λ (w : ℤ × ℤ). w.1) x)
+    ∙ get_or-map (λ (w : ℤ × ℤ). w.1) (reverse x) 0 (pos 0, pos 0)
+
+pub section-step : (k b f g f' g' : ℤ) → f' ≡ saturate 16 ((k *ℤ b >> 15) +ℤ f) → g' ≡ saturate 16 ((k *ℤ f >> 15) +ℤ b) →
+    GoesOn (λ x. lattice_stage x k) section_kept (b ∷ []) (g ∷ []) ((f, g) ∷ []) ((f', g') ∷ [])
+section-step k b f g f' g' forward backward = record {
+  values = λ x e.
+      let before : b ≡ (get_or (reverse x) 0 (pos 0, pos 0)).1 = (cc e) ∙ last-second x in
+      outputs-next (lattice_output k) x (f, g) (f', g')
+      (λ i. ((forward ∙ ap (λ c. saturate 16 ((k *ℤ c >> 15) +ℤ f)) before) i, (backward ∙ ap (λ c. saturate 16 ((k *ℤ f >> 15) +ℤ c)) before) i));
+  stands = λ x e.
+      let last : latest (map (λ (w : ℤ × ℤ). w.1) (x ++ (f, g) ∷ [])) 0 ≡ g =
+      ap (λ l. latest l 0) (map-append (λ (w : ℤ × ℤ). w.1) x ((f, g) ∷ [])) ∙ latest-new (map (λ (w : ℤ × ℤ). w.1) x) g in
+      (λ i. sym last i ∷ []);
+}
+
+-- the same of the products of samples in Q15
+pub section-step-in : (format : Fmt) → format ≡ Q15 → (k b f g f' g' down up : ℤ) → down ≡ k *ℤ b → up ≡ k *ℤ f →
+    f' ≡ saturate (word_bits format) (reflection format down +ℤ f) → g' ≡ saturate (word_bits format) (reflection format up +ℤ b) →
+    GoesOn (λ x. lattice_stage x k) section_kept (b ∷ []) (g ∷ []) ((f, g) ∷ []) ((f', g') ∷ [])
+section-step-in format is k b f g f' g' down up is_down is_up forward backward =
+    let closed : (p x : ℤ) → saturate (word_bits format) (reflection format p +ℤ x) ≡ saturate 16 ((p >> 15) +ℤ x) = λ p x. ap (λ (format : Fmt). saturate (word_bits format) (reflection format p +ℤ x)) is in
+    section-step k b f g f' g'
+    (forward ∙ closed down f ∙ ap (λ p. saturate 16 ((p >> 15) +ℤ f)) is_down)
+    (backward ∙ closed up b ∙ ap (λ p. saturate 16 ((p >> 15) +ℤ b)) is_up)
+
+-- ---- a section over all samples
+
+zip-one : {A B : Type 0} (xs : List A) (ys : List B) (a : A) (b : B) → length ys ≡ length xs → zip (xs ++ a ∷ []) (ys ++ b ∷ []) ≡ zip xs ys ++ (a, b) ∷ []
+zip-one [] [] a b same = refl
+zip-one [] (y ∷ ys) a b same = absurd (omega (arith, same))
+zip-one (x ∷ xs) [] a b same = absurd (omega (arith, same))
+zip-one (x ∷ xs) (y ∷ ys) a b same = ap (λ l. (x, y) ∷ l) (zip-one xs ys a b (omega (arith, same)))
+
+-- what was not written yet is what it was
+pub there : {X : Type 0} (old new : List X) (i : ℕ) (d : X) → drop i new ≡ drop i old → get_or new i d ≡ get_or old i d
+there old new i d rest =
+    let here : i + 0 ≡ i = omega arith in
+    sym (ap (λ k. get_or new k d) here) ∙ sym (get_or-drop i new 0 d) ∙ ap (λ l. get_or l 0 d) rest ∙ get_or-drop i old 0 d ∙ ap (λ k. get_or old k d) here
+
+module _ {X : Type 0} (number : X → ℤ) (i : ℕ) where
+  -- one more number of a list that was read at i, and of one that was written there
+  pub read-more : (old new : List X) (x : X) → i < length old → drop i new ≡ drop i old → x ≡ get_or new i x → map number (take (i + 1) old) ≡ map number (take i old) ++ number x ∷ []
+  read-more old new x inside rest is = map_more number old i x inside ∙ ap (λ v. map number (take i old) ++ number v ∷ []) (sym (is ∙ there old new i x rest))
+
+  pub written-more : (new : List X) (y : X) → i < length new → map number (take (i + 1) (set new i y)) ≡ map number (take i new) ++ number y ∷ []
+  written-more new y inside = ap (map number) (take_more_set new i y inside) ∙ map-append number (take i new) (y ∷ [])
+
+  long : (xs : List X) → i < length xs → length (map number (take i xs)) ≡ i
+  long xs inside = length-map (take i xs) number ∙ length-take-le i xs (omega (arith, inside))
+
+  pub pairs-more :
+      {S : Type 0} (give : List (ℤ × ℤ) → List (ℤ × ℤ)) (kept : List (ℤ × ℤ) → S) (fs gs fs' gs' : List X) (old between new : S) (f g f' g' : X) →
+      i < length fs → length gs ≡ length fs → length fs' ≡ length fs → length gs' ≡ length fs → drop i fs' ≡ drop i fs → drop i gs' ≡ drop i gs → f ≡ get_or fs' i f → g ≡ get_or gs' i g →
+      GoesOn give kept old between (zip (map number (take i fs)) (map number (take i gs))) (zip (map number (take i fs')) (map number (take i gs'))) →
+      GoesOn give kept between new ((number f, number g) ∷ []) ((number f', number g') ∷ []) →
+      GoesOn give kept old new (zip (map number (take (i + 1) fs)) (map number (take (i + 1) gs))) (zip (map number (take (i + 1) (set fs' i f'))) (map number (take (i + 1) (set gs' i g'))))
+  pairs-more give kept fs gs fs' gs' old between new f g f' g' inside same same_f same_g rest_f rest_g is_f is_g before step =
+      let inside_g : i < length gs = omega (arith, inside, same) in
+      let inside_f' : i < length fs' = omega (arith, inside, same_f) in
+      let inside_g' : i < length gs' = omega (arith, inside, same_g) in
+      let taken : zip (map number (take (i + 1) fs)) (map number (take (i + 1) gs)) ≡ zip (map number (take i fs)) (map number (take i gs)) ++ (number f, number g) ∷ [] =
+      ap₂ zip (read-more fs fs' f inside rest_f is_f) (read-more gs gs' g inside_g rest_g is_g)
+      ∙ zip-one (map number (take i fs)) (map number (take i gs)) (number f) (number g) (long gs inside_g ∙ sym (long fs inside)) in
+      let given : zip (map number (take (i + 1) (set fs' i f'))) (map number (take (i + 1) (set gs' i g'))) ≡ zip (map number (take i fs')) (map number (take i gs')) ++ (number f', number g') ∷ [] =
+      ap₂ zip (written-more fs' f' inside_f') (written-more gs' g' inside_g')
+      ∙ zip-one (map number (take i fs')) (map number (take i gs')) (number f') (number g') (long gs' inside_g' ∙ sym (long fs' inside_f')) in
+      rw (taken, given)
+      (goes-twice give kept old between new (zip (map number (take i fs)) (map number (take i gs))) ((number f, number g) ∷ []) (zip (map number (take i fs')) (map number (take i gs'))) ((number f', number g') ∷ []) before step)
+
+-- ---- sections one after another
+
+length-kept : (ks : List ℤ) (x : List (ℤ × ℤ)) → length (lattice_kept ks x) ≡ length ks
+length-kept [] x = refl
+length-kept (k ∷ ks) x = ap suc (length-kept ks (lattice_stage x k))
+
+kept-more : (ks : List ℤ) (k : ℤ) (x : List (ℤ × ℤ)) → lattice_kept (ks ++ k ∷ []) x ≡ lattice_kept ks x ++ section_kept (sections_give ks x)
+kept-more [] k x = refl
+kept-more (a ∷ ks) k x = ap (λ l. latest (map (λ (w : ℤ × ℤ). w.1) x) 0 ∷ l) (kept-more ks k (lattice_stage x a))
+
+pub no-section : (x : List (ℤ × ℤ)) → GoesOn (sections_give []) (lattice_kept []) [] [] x x
+no-section x = record { values = λ y e. refl; stands = λ y e. refl }
+
+pub one-section-more :
+    (ks : List ℤ) (k : ℤ) (old new : List ℤ) (b b' : ℤ) (xs ys zs : List (ℤ × ℤ)) → length old ≡ length ks → GoesOn (sections_give ks) (lattice_kept ks) old new xs ys →
+    GoesOn (λ x. lattice_stage x k) section_kept (b ∷ []) (b' ∷ []) ys zs →
+    GoesOn (sections_give (ks ++ k ∷ [])) (lattice_kept (ks ++ k ∷ [])) (old ++ b ∷ []) (new ++ b' ∷ []) xs zs
+one-section-more ks k old new b b' xs ys zs size first second =
+    subst (λ (give : List (ℤ × ℤ) → List (ℤ × ℤ)). GoesOn give (lattice_kept (ks ++ k ∷ [])) (old ++ b ∷ []) (new ++ b' ∷ []) xs zs) (λ i x. sym (fold-append lattice_stage x ks (k ∷ [])) i)
+    (subst (λ (kept : List (ℤ × ℤ) → List ℤ). GoesOn (λ x. lattice_stage (sections_give ks x) k) kept (old ++ b ∷ []) (new ++ b' ∷ []) xs zs) (λ i x. sym (kept-more ks k x) i)
+    (goes-chain (sections_give ks) (λ x. lattice_stage x k) (lattice_kept ks) section_kept old new (b ∷ []) (b' ∷ []) xs ys zs (λ x. size ∙ sym (length-kept ks x)) first second))
+
+-- ---- the whole lattice
+
+zip-same : (x : List ℤ) → zip x x ≡ pairs_of x
+zip-same [] = refl
+zip-same (a ∷ x) = ap (λ l. (a, a) ∷ l) (zip-same x)
+
+pub lattice-whole : (ks old new xs fs gs : List ℤ) → length gs ≡ length fs → GoesOn (sections_give ks) (lattice_kept ks) old new (zip xs xs) (zip fs gs) → GoesOn (lattice_fir ks) (filter_kept ks) old new xs fs
+lattice-whole ks old new xs fs gs same goes = record {
+  values = λ x e.
+      ap (λ l. map (λ (w : ℤ × ℤ). w.0) (sections_give ks l)) (pairs x)
+      ∙ ap (map (λ (w : ℤ × ℤ). w.0)) (goes.values (pairs_of x) e)
+      ∙ map-append (λ (w : ℤ × ℤ). w.0) (sections_give ks (pairs_of x)) (zip fs gs)
+      ∙ ap (λ l. lattice_fir ks x ++ l) (firsts-zip fs gs same);
+  stands = λ x e. goes.stands (pairs_of x) e ∙ ap (lattice_kept ks) (sym (pairs x));
+}
+  where
+    pairs : (x : List ℤ) → pairs_of (x ++ xs) ≡ pairs_of x ++ zip xs xs
+    pairs x = map-append (λ a. (a, a)) x xs ∙ ap (λ l. pairs_of x ++ l) (sym (zip-same xs))
+
+-- ---- piece after piece
+
+pub fresh : (ks : List ℤ) → filter_kept ks [] ≡ replicate (length ks) (pos 0)
+fresh [] = refl
+fresh (k ∷ ks) = ap (λ l. pos 0 ∷ l) (fresh ks)
+
+module _ {X : Type 0} (number : X → ℤ) (inputs outputs piece : List X) (start size : ℕ) (inside : start + size ≤ length inputs) (same : length outputs ≡ length inputs) (long : length piece ≡ size) (rest : drop start outputs ≡ drop start inputs) where
+  pub piece-more :
+      {S : Type 0} (f : List ℤ → List ℤ) (kept : List ℤ → S) (old between new : S) →
+      GoesOn f kept old between (map number (take start inputs)) (map number (take start outputs)) → GoesOn f kept between new (map number (take size (drop start outputs))) (map number piece) →
+      GoesOn f kept old new (map number (take (start + size) inputs)) (map number (take (start + size) (put_mid start size outputs piece)))
+  piece-more f kept old between new before step =
+      let taken : map number (take (start + size) inputs) ≡ map number (take start inputs) ++ map number (take size (drop start outputs)) =
+      ap (map number) (take-add start size inputs) ∙ map-append number (take start inputs) (take size (drop start inputs)) ∙ ap (λ l. map number (take start inputs) ++ map number (take size l)) (sym rest) in
+      let given : map number (take (start + size) (put_mid start size outputs piece)) ≡ map number (take start outputs) ++ map number piece =
+      ap (map number) (take-put_mid start size outputs piece (start + size) (omega (arith, long)) (omega (arith, inside, same))) ∙ map-append number (take start outputs) piece in
+      rw (taken, given) (goes-twice f kept old between new (map number (take start inputs)) (map number (take size (drop start outputs))) (map number (take start outputs)) (map number piece) before step)
+
+  pub piece-rest : drop (start + size) (put_mid start size outputs piece) ≡ drop (start + size) inputs
+  piece-rest =
+      let end : start + size ≤ start + size = omega arith in
+      drop-put_mid start size outputs piece (start + size) end (omega (arith, inside, same)) long ∙ sym (drop-drop size start outputs) ∙ ap (drop size) rest ∙ drop-drop size start inputs
+
+  pub piece-long : length (put_mid start size outputs piece) ≡ length inputs
+  piece-long =
+      omega (
+        arith,
+        inside,
+        same,
+        long,
+        length-append (take start outputs) (piece ++ drop size (drop start outputs)),
+        length-append piece (drop size (drop start outputs)),
+        length-take-le start outputs (omega (arith, inside, same)),
+        length-drop size (drop start outputs),
+        length-drop start outputs,
+      )

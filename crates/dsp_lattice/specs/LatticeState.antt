@@ -1,0 +1,179 @@
+-- What a contract sees of a lattice.
+use Rattle.std.specs.Prelude.{⊤, ◌≡◌, ℕ, ◌+◌, ◌-◌, ◌*◌, ◌≤◌, ℤ, List, [], ◌∷◌, map, fold, length, All, FitsSigned, refl}
+use Rattle.std.proofs.Common.{◌∙◌, arith}
+use Rattle.std.proofs.lemmas.List.{length-replicate}
+use Rattle.dsp_defs.specs.Numbers.{◌>>◌, wrap, w32}
+use Rattle.dsp_defs.specs.Formats.{word}
+use Rattle.dsp_defs.specs.Lattice.{lattice_stage}
+use Rattle.dsp_stage.specs.Kept.{InWord, latest, lattice_kept, ladder_kept}
+use Rattle.dsp_stage.specs.Filter.{IsSteady, IsStepwise}
+use Rattle.dsp_stage.proofs.KeptLaws.{kept_of_channel-place}
+use Rattle.dsp_stage.proofs.ChannelKept.{words-placed}
+use Rattle.dsp_unit.proofs.Units.{scaled, less-scaled}
+use Rattle.dsp_defs.specs.declared.limits.TheConstants.{MAX_STAGES}
+use Rattle.dsp_defs.specs.declared.format.Fmt.{Fmt}
+use Rattle.dsp_defs.specs.declared.format.Fmt.TheVariants.{Q7, Q15, Q31}
+use Rattle.dsp_defs.specs.declared.script.Block.{Block}
+use Rattle.dsp_defs.specs.declared.script.Block.TheVariants.{LatticeFir, LatticeIir}
+
+-- a product of a reflection coefficient as a fraction: p >> 15, and wrap_32(p >> 31) in Q31
+abbrev pub reflection : Fmt → ℤ → ℤ
+reflection Q7 p = p >> 7
+reflection Q15 p = p >> 15
+reflection Q31 p = wrap w32 (p >> 31)
+
+-- ---- without feedback
+
+-- a section keeps the last g of its pairs (f, g)
+abbrev pub section_kept : List (ℤ × ℤ) → List ℤ
+section_kept pairs = latest (map (λ (w : ℤ × ℤ). w.1) pairs) 0 ∷ []
+
+-- the sections k_1 to k_S one after another, on pairs (f, g)
+abbrev pub sections_give : List ℤ → List (ℤ × ℤ) → List (ℤ × ℤ)
+sections_give ks pairs = fold lattice_stage pairs ks
+
+-- f_0(n) = g_0(n) = x(n)
+abbrev pub pairs_of : List ℤ → List (ℤ × ℤ)
+pairs_of x = map (λ a. (a, a)) x
+
+-- g_0, .., g_{S-1} at the last place of x
+abbrev pub filter_kept : List ℤ → List ℤ → List ℤ
+filter_kept ks x = lattice_kept ks (pairs_of x)
+
+-- k_1 to k_S, and g_0, .., g_{S-1} at the last sample
+pub record FirLatticeState : Type 0 where
+  pub k : List ℤ
+  pub kept : List ℤ
+
+abbrev pub new_fir_lattice : List ℤ → FirLatticeState
+new_fir_lattice k = record { k = k; kept = filter_kept k [] }
+
+abbrev pub fir_block_of : FirLatticeState → Block
+fir_block_of s = LatticeFir s.k
+
+abbrev pub fir_kept_of : FirLatticeState → List ℤ
+fir_kept_of s = s.kept
+
+-- ---- with feedback
+
+-- k_S to k_1, v_S to v_0, and g_0, .., g_{S-1} at the last sample
+pub record IirLatticeState : Type 0 where
+  pub k : List ℤ
+  pub v : List ℤ
+  pub kept : List ℤ
+
+abbrev pub new_iir_lattice : Fmt → List ℤ → List ℤ → IirLatticeState
+new_iir_lattice format k v = record { k = k; v = v; kept = ladder_kept format k [] }
+
+abbrev pub iir_block_of : IirLatticeState → Block
+iir_block_of s = LatticeIir s.k s.v
+
+abbrev pub iir_kept_of : IirLatticeState → List ℤ
+iir_kept_of s = s.kept
+
+-- ---- the blocks
+
+-- the reflection coefficients of a block
+abbrev pub coefficients_of : Block → List ℤ
+coefficients_of (LatticeFir k) = k
+coefficients_of (LatticeIir k v) = k
+coefficients_of block = []
+
+-- 1 to 255 coefficients of the format
+pub record AreReflections (format : Fmt) (k : List ℤ) : Type 0 where
+  pub in_format : All (FitsSigned (word format)) k
+  pub few : length k ≤ MAX_STAGES
+
+-- and one more of the ladder
+pub record AreLadder (format : Fmt) (k v : List ℤ) : Type 0 where
+  pub in_format : All (FitsSigned (word format)) v
+  pub one_more : length v ≡ length k + 1
+
+abbrev pub IsFirLatticeIn : Fmt → Block → Type 0
+IsFirLatticeIn format (LatticeFir k) = AreReflections format k
+IsFirLatticeIn format block = ⊥
+
+abbrev pub IsIirLatticeIn : Fmt → Block → Type 0
+IsIirLatticeIn format (LatticeIir k v) = AreReflections format k × AreLadder format k v
+IsIirLatticeIn format block = ⊥
+
+one : (n a : ℕ) → 1 * n * a ≡ n * a
+one n a = omega arith
+
+less-one : (m n a : ℕ) → 1 * n * a - 1 * m * a ≡ n * a - m * a
+less-one m n a = (λ i. one n a i - one m a i)
+
+-- they work on samples one by one
+pub fir-steady : (format : Fmt) (k : List ℤ) → IsSteady format (LatticeFir k) (2 * length k)
+fir-steady format k = record {
+  by_channel = record {
+    live_is = refl;
+    whole_is = refl;
+    channels_same = λ c. refl;
+    format_same = refl;
+    keeps_is = λ c x. refl;
+    kinds_are = λ c n. refl;
+    keeps_place = λ x. kept_of_channel-place format (LatticeFir k) x tt;
+    taken = λ n. tt;
+    no_measures = λ c number kept. refl;
+    live_cost = λ c n. scaled c n (2 * length k);
+    so_far = λ c n taken given. scaled c taken (2 * length k);
+    turns = λ c m n. less-scaled c m n (2 * length k);
+  };
+  whole_is_live = λ x. refl;
+  most_same = λ n. refl;
+  live_same = λ n. refl;
+  whole_same = λ n. refl;
+  kinds_same = λ n. refl;
+  placed = λ numbers size. words-placed (word format) (length k) numbers (size ∙ length-replicate (length k) (InWord (word format)));
+  live_cost = λ n. one n (2 * length k);
+}
+
+pub fir-stepwise : (format : Fmt) (block : Block) → IsFirLatticeIn format block → IsStepwise format block (2 * length (coefficients_of block))
+fir-stepwise format (LatticeFir k) is = record {
+  steady = fir-steady format k;
+  turns = λ m n. less-one m n (2 * length k);
+  no_place = λ n. refl;
+  no_group = tt;
+}
+fir-stepwise format block is = absurd is
+
+pub iir-steady : (format : Fmt) (k v : List ℤ) → IsSteady format (LatticeIir k v) (3 * length k + 1)
+iir-steady format k v = record {
+  by_channel = record {
+    live_is = refl;
+    whole_is = refl;
+    channels_same = λ c. refl;
+    format_same = refl;
+    keeps_is = λ c x. refl;
+    kinds_are = λ c n. refl;
+    keeps_place = λ x. kept_of_channel-place format (LatticeIir k v) x tt;
+    taken = λ n. tt;
+    no_measures = λ c number kept. refl;
+    live_cost = λ c n. scaled c n (3 * length k + 1);
+    so_far = λ c n taken given. scaled c taken (3 * length k + 1);
+    turns = λ c m n. less-scaled c m n (3 * length k + 1);
+  };
+  whole_is_live = λ x. refl;
+  most_same = λ n. refl;
+  live_same = λ n. refl;
+  whole_same = λ n. refl;
+  kinds_same = λ n. refl;
+  placed = λ numbers size. words-placed (word format) (length k) numbers (size ∙ length-replicate (length k) (InWord (word format)));
+  live_cost = λ n. one n (3 * length k + 1);
+}
+
+pub iir-stepwise : (format : Fmt) (block : Block) → IsIirLatticeIn format block → IsStepwise format block (3 * length (coefficients_of block) + 1)
+iir-stepwise format (LatticeIir k v) is = record {
+  steady = iir-steady format k v;
+  turns = λ m n. less-one m n (3 * length k + 1);
+  no_place = λ n. refl;
+  no_group = tt;
+}
+iir-stepwise format block is = absurd is
+
+-- the block is one of this crate's
+abbrev pub IsLatticeBlock : Block → Type 0
+IsLatticeBlock (LatticeFir k) = ⊤
+IsLatticeBlock (LatticeIir k v) = ⊤
+IsLatticeBlock block = ⊥

@@ -1,0 +1,25 @@
+-- The product of two samples is small enough for 64 bits.
+use Rattle.std.proofs.Common.{◌≡◌, ℕ, ◌-◌, ◌*◌, ◌^◌, ◌≤◌, ℤ, ◌*ℤ◌, SFits, arith, lit<}
+use Rattle.std.specs.Prelude.{FitsSigned, nat_abs}
+use Rattle.std.specs.Int.{w8, w16, w32, w64}
+use Rattle.std.proofs.lemmas.Int.{unsigned_abs-mul, ints}
+use Rattle.std.proofs.Math.Nat.{mul-le-mul}
+use Rattle.dsp_sat.proofs.Words.{abs_within, product_fits}
+use Rattle.dsp_defs.specs.Formats.{word, word_bits}
+use Rattle.dsp_defs.specs.declared.format.Fmt.{Fmt}
+use Rattle.dsp_defs.specs.declared.format.Fmt.TheVariants.{Q7, Q15, Q31}
+
+pub product-small : (format : Fmt) (a b : ℤ) → FitsSigned (word format) a → FitsSigned (word format) b → nat_abs (a *ℤ b) ≤ 2 ^ (2 * word_bits format - 2)
+product-small Q7 a b f g = rw unsigned_abs-mul (mul-le-mul (abs_within w8 a f) (abs_within w8 b g))
+product-small Q15 a b f g = rw unsigned_abs-mul (mul-le-mul (abs_within w16 a f) (abs_within w16 b g))
+product-small Q31 a b f g = rw unsigned_abs-mul (mul-le-mul (abs_within w32 a f) (abs_within w32 b g))
+
+-- a number of the word is one of 32 bits
+pub word-in-32 : (format : Fmt) (z : ℤ) → FitsSigned (word format) z → SFits w32 z
+word-in-32 Q7 z f = record { sfits = omega (arith, f.sfits) }
+word-in-32 Q15 z f = record { sfits = omega (arith, f.sfits) }
+word-in-32 Q31 z f = f
+
+-- the product of two numbers of the word, as one of 64 bits
+pub product-in-64 : (format : Fmt) (a b : ℤ) → FitsSigned (word format) a → FitsSigned (word format) b → SFits w64 (a *ℤ b)
+product-in-64 format a b f g = product_fits w64 w32 w32 a b (word-in-32 format a f) (word-in-32 format b g) (lit< tt)

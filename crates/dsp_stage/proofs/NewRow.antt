@@ -1,0 +1,124 @@
+-- What is given of no frames, and a row of units that have taken nothing.
+use Rattle.std.proofs.Common.{◌≡◌, ◌∙◌, ap, ap₂, refl, ℕ, zero, suc, ◌+◌, ◌-◌, ◌*◌, ◌/◌, ℤ, List, [], ◌∷◌, ◌++◌, map, length, take, arith, nat_abs, Option, Some, None}
+use Rattle.dsp_defs.specs.Signal.{values}
+use Rattle.dsp_defs.specs.Block.{each_channel, live, live_conv, live_conv_partial, format_after, channels_after}
+use Rattle.dsp_defs.specs.Sums.{fir, sparse, decimate, interpolate, conv_partial}
+use Rattle.dsp_defs.specs.Lattice.{lattice_fir, lattice_iir}
+use Rattle.dsp_defs.specs.Biquad.{biquad, biquad64}
+use Rattle.dsp_defs.specs.Adaptive.{pid}
+use Rattle.dsp_defs.specs.Matrix.{each_group, added, subtracted, scaled, transposed, multiplied, mat_add, mat_sub, mat_scale, mat_trans, mat_mult}
+use Rattle.dsp_defs.specs.Shape.{live_frames, groups_after, group_of}
+use Rattle.dsp_defs.specs.Cost.{unit_turns, chain_turns}
+use Rattle.dsp_stage.specs.Unit.{UnitState}
+use Rattle.dsp_stage.specs.Row.{Place, place_after, place_behind, MadeFor, blocks_of, InRow, AllRun, AllStand, AllCount, AllNew, row_turns}
+use Rattle.dsp_defs.proofs.BlockLaws.{length-values, length-lattice_fir, length-biquad, length-biquad64}
+use Rattle.dsp_defs.specs.declared.format.Fmt.{Fmt}
+use Rattle.dsp_defs.specs.declared.script.Block.{Block}
+use Rattle.dsp_defs.specs.declared.script.Block.TheVariants.{Offset, Negate, Abs, Scale, Shift, Clip, To, Add, Sub, Mult, Conj, CmplxMult, CmplxMultReal, MagSquared, Fir, Sparse, Decimate, Interpolate, LatticeFir, LatticeIir, Biquad, Biquad64, Conv, ConvPartial, Correlate, Lms, Pid, MatAdd, MatSub, MatScale, MatTrans, MatMult, Power, Dot, CmplxDot, Max, Min, Route}
+
+no-list : {A : Type 0} (xs : List A) → length xs ≡ 0 → xs ≡ []
+no-list [] e = refl
+no-list (x ∷ xs) e = absurd (omega (arith, e))
+
+no-values : {A : Type 0} (n : ℕ) (f : ℕ → A) → n ≡ 0 → values n f ≡ []
+no-values n f e = ap (λ m. values m f) e
+
+no-groups : (taken given : ℕ) (result : List ℤ → ℕ → ℤ) → each_group taken given result [] ≡ []
+no-groups taken given result = no-list (each_group taken given result []) (length-values (0 / taken * given) _ ∙ (let none : 0 / taken ≡ 0 = omega arith in ap (λ q. q * given) none ∙ omega arith))
+
+none-before : (first : ℕ) → 0 - first ≡ 0
+none-before first = omega arith
+
+each-nothing : (channels : ℕ) (f : List ℤ → List ℤ) → f [] ≡ [] → each_channel channels f [] ≡ []
+each-nothing zero f none = refl
+each-nothing (suc channels) f none = no-list (each_channel (suc channels) f []) (length-values (length (f [])) _ ∙ ap length none)
+
+-- a block has given nothing of no frames
+pub live-nothing : (format : Fmt) (channels : ℕ) (block : Block) → live format channels block [] ≡ []
+live-nothing format channels (Offset value) = refl
+live-nothing format channels Negate = refl
+live-nothing format channels Abs = refl
+live-nothing format channels (Scale fract shift) = refl
+live-nothing format channels (Shift shift) = refl
+live-nothing format channels (Clip low high) = refl
+live-nothing format channels (To target) = refl
+live-nothing format channels Add = refl
+live-nothing format channels Sub = refl
+live-nothing format channels Mult = refl
+live-nothing format channels Conj = refl
+live-nothing format channels CmplxMult = refl
+live-nothing format channels CmplxMultReal = refl
+live-nothing format channels MagSquared = refl
+live-nothing format channels (Fir taps) = each-nothing channels (fir format taps) refl
+live-nothing format channels (Sparse taps delays) = each-nothing channels (sparse format taps (map nat_abs delays)) refl
+live-nothing format channels (Decimate factor taps) = each-nothing channels (decimate format factor taps) (no-values (0 / factor) _ (omega arith))
+live-nothing format channels (Interpolate factor taps) = each-nothing channels (interpolate format factor taps) (no-values (0 * factor) _ (omega arith))
+live-nothing format channels (LatticeFir k) = each-nothing channels (lattice_fir k) (no-list (lattice_fir k []) (length-lattice_fir k []))
+live-nothing format channels (LatticeIir k v) = each-nothing channels (lattice_iir format k v) refl
+live-nothing format channels (Biquad p coefficients) = each-nothing channels (biquad format p coefficients) (no-list (biquad format p coefficients []) (length-biquad format p coefficients []))
+live-nothing format channels (Biquad64 p coefficients) = each-nothing channels (biquad64 p coefficients) (no-list (biquad64 p coefficients []) (length-biquad64 p coefficients []))
+live-nothing format channels (Conv taps) = each-nothing channels (live_conv format taps) refl
+live-nothing format channels (ConvPartial first count taps) = each-nothing channels (live_conv_partial format first count taps) (ap (λ n. take n (conv_partial format first count taps [])) (none-before first))
+live-nothing format channels (Correlate taps) = each-nothing channels (λ x. []) refl
+live-nothing format channels (Lms p mu taps) = refl
+live-nothing format channels (Pid kp ki kd) = each-nothing channels (pid format kp ki kd) refl
+live-nothing format channels (MatAdd rows columns matrix) = each-nothing channels (mat_add format rows columns matrix) (no-groups (rows * columns) (rows * columns) (added format matrix))
+live-nothing format channels (MatSub rows columns matrix) = each-nothing channels (mat_sub format rows columns matrix) (no-groups (rows * columns) (rows * columns) (subtracted format matrix))
+live-nothing format channels (MatScale rows columns fract shift) = each-nothing channels (mat_scale format rows columns fract shift) (no-groups (rows * columns) (rows * columns) (scaled format fract shift))
+live-nothing format channels (MatTrans rows columns) = each-nothing channels (mat_trans rows columns) (no-groups (rows * columns) (rows * columns) (transposed rows columns))
+live-nothing format channels (MatMult rows columns given matrix) = each-nothing channels (mat_mult rows columns given matrix) (no-groups (rows * columns) (rows * given) (multiplied columns given matrix))
+live-nothing format channels Power = refl
+live-nothing format channels Dot = refl
+live-nothing format channels CmplxDot = refl
+live-nothing format channels Max = refl
+live-nothing format channels Min = refl
+live-nothing format channels (Route list) = refl
+
+groups-nothing : (group : Option (ℕ × ℕ)) → groups_after group 0 ≡ 0
+groups-nothing None = refl
+groups-nothing (Some g) = let none : 0 / g.0 ≡ 0 = omega arith in ap (λ q. q * g.1) none ∙ omega arith
+
+pub frames-nothing : (block : Block) → live_frames block 0 ≡ 0
+frames-nothing (Interpolate factor taps) = omega arith
+frames-nothing (Conv taps) = omega arith
+frames-nothing (ConvPartial first count taps) = omega arith
+frames-nothing (Correlate taps) = refl
+frames-nothing block = groups-nothing (group_of block)
+
+-- ---- a row
+
+pub new-stand : (format : Fmt) (channels : ℕ) (us : List UnitState) → AllNew us → AllStand format channels us []
+new-stand format channels [] h = tt
+new-stand format channels (u ∷ us) h =
+    (h.0.0, rw (live-nothing format channels u.block) (new-stand (format_after format u.block) (channels_after channels u.block) us h.1))
+
+pub new-count : (us : List UnitState) → AllNew us → AllCount us 0
+new-count [] h = tt
+new-count (u ∷ us) h = (h.0.1, rw (frames-nothing u.block) (new-count us h.1))
+
+pub new-run : (us : List UnitState) → AllNew us → AllRun us
+new-run [] h = tt
+new-run (u ∷ us) h = (h.0.0.running, new-run us h.1)
+
+-- without a bank the turn bound is that of the blocks
+pub new-turns : (p : Place) (us : List UnitState) (m n : ℕ) → InRow p us → AllNew us → row_turns us m n ≡ chain_turns p.format p.channels (blocks_of us) m n
+new-turns p [] m n row h = refl
+new-turns p (u ∷ us) m n row h = ap₂ (λ (here later : ℕ). here + later) (λ i. unit_turns (h.0.2 i) (row.0.format i) (row.0.channels i) u.block m n) (new-turns (place_after p u.block) us (live_frames u.block m) (live_frames u.block n) row.1 h.1)
+
+-- ---- one unit more
+
+pub place-more : (p : Place) (blocks : List Block) (block : Block) → place_behind p (blocks ++ block ∷ []) ≡ place_after (place_behind p blocks) block
+place-more p [] block = refl
+place-more p (b ∷ blocks) block = place-more (place_after p b) blocks block
+
+pub blocks-more : (us : List UnitState) (u : UnitState) → blocks_of (us ++ u ∷ []) ≡ blocks_of us ++ u.block ∷ []
+blocks-more [] u = refl
+blocks-more (v ∷ us) u = ap (λ bs. v.block ∷ bs) (blocks-more us u)
+
+pub row-more : (p : Place) (us : List UnitState) (u : UnitState) → InRow p us → MadeFor (place_behind p (blocks_of us)) u → InRow p (us ++ u ∷ [])
+row-more p [] u row made = (made, tt)
+row-more p (v ∷ us) u row made = (row.0, row-more (place_after p v.block) us u row.1 made)
+
+pub new-more : (us : List UnitState) (u : UnitState) → AllNew us → AllNew (u ∷ []) → AllNew (us ++ u ∷ [])
+new-more [] u h one = one
+new-more (v ∷ us) u h one = (h.0, new-more us u h.1 one)

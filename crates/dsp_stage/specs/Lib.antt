@@ -1,0 +1,5 @@
+pub mod Kept
+pub mod Unit
+pub mod Row
+pub mod Filter
+pub mod Channels

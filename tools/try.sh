@@ -1,0 +1,22 @@
+#!/usr/bin/env bash
+# Runs the program's words with no proof, within a minute, for as long as nothing is built: tools/try.sh
+# run SCRIPT IN OUT. It has the program compiled with checks, so a run is slow, and ends after 10 minutes.
+top=$(cd "$(dirname "$(readlink -f "${BASH_SOURCE[0]}")")/.." && pwd) || exit 70
+command -v rt >/dev/null || { echo "dspfx: rt, the command of the Rattle toolchain, is not on the PATH" >&2; exit 70; }
+echo "dspfx: compiled without its proofs: nothing is proved of this run" >&2
+
+# The program runs in another folder, so the files are named from the root.
+words=()
+for place in $(seq $#); do
+    word=${!place}
+    case ${1-}:$place in
+    run:[234] | gen:[45] | print:2) [[ -z $word || $word = /* ]] || word=$PWD/$word ;;
+    esac
+    words+=("$word")
+done
+log=$(mktemp) || exit 70
+trap 'rm -f "$log"' EXIT
+(cd "$top/crates/dspfx" && exec rt try --seconds 600 -- "${words[@]}") 2>"$log" </dev/null
+status=$?
+grep -q '^run=ended ' "$log" || { cat "$log" >&2; exit 70; }
+exit $status

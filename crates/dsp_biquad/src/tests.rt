@@ -1,13 +1,14 @@
 ghost use Rattle.std.specs.Prelude.{◌≡◌, ◌≤◌, length, IsFalse};
 ghost use Rattle.dsp_defs.specs.Grammar.{Suits};
-ghost use Rattle.dsp_defs.specs.Unit.{IsSignal, frames_in};
+ghost use Rattle.dsp_stage.specs.Unit.{IsSignal, frames_in};
 ghost use Rattle.dsp_biquad.specs.Sections.{IsBiquadBlock};
 
 use crate::{
     Biquad15, Biquad31, Biquad64, Biquads, CascadeSection, Section, Section64, biquad_unit,
 };
-use dsp_defs::{Block, Fmt, List, MakeFault, Stage, Steps};
+use dsp_defs::{Block, Fmt, List, MakeFault, Steps};
 use dsp_sat::Sample;
+use dsp_stage::Stage;
 use std::alloc::Global;
 use std::fmt::Debug;
 use std::marker::Brand;

@@ -11,11 +11,11 @@ use Rattle.dsp_defs.specs.Shape.{group_of, live_frames}
 use Rattle.dsp_defs.specs.Cost.{live_block_cost, block_turns}
 use Rattle.dsp_defs.specs.Streaming.{Continues}
 use Rattle.dsp_defs.specs.Counts.{Counts}
-use Rattle.dsp_defs.specs.Kept.{kept_of_channel, kinds_by, in_words, Each, IsPlace, IsOfKind, FitsChannel, place_of, InWord}
-use Rattle.dsp_defs.specs.Unit.{most_frames}
-use Rattle.dsp_defs.specs.Filter.{FilterStandsFor, FilterCounts, FilterFeeds, FilterFinishes, FilterRestores, IsNewFilter, of_channel, steady_filter}
-use Rattle.dsp_defs.proofs.ChannelKept.{words-placed, length-words, words-fit, fit-words}
-use Rattle.dsp_defs.proofs.CostLaws.{quotient_more}
+use Rattle.dsp_stage.specs.Kept.{kept_of_channel, kinds_by, in_words, Each, IsPlace, IsOfKind, FitsChannel, place_of, InWord}
+use Rattle.dsp_stage.specs.Unit.{most_frames}
+use Rattle.dsp_stage.specs.Filter.{FilterStandsFor, FilterCounts, FilterFeeds, FilterFinishes, FilterRestores, IsNewFilter, of_channel, steady_filter}
+use Rattle.dsp_stage.proofs.ChannelKept.{words-placed, length-words, words-fit, fit-words}
+use Rattle.dsp_stage.proofs.CostLaws.{quotient_more}
 use Rattle.dsp_defs.specs.declared.format.Fmt.{Fmt}
 use Rattle.dsp_defs.specs.declared.script.Block.{Block}
 use Rattle.dsp_lanes.specs.Turns.{RisesWithin}
@@ -54,13 +54,6 @@ module _ (format : Fmt) (block : Block) (g : Group) (is : IsGrouped format block
       let groups = room-groups p n below in
       let more = room-more n capacity few in
       omega (arith, groups, more, enough)
-
-  pub room-limit : (n : ℕ) → most_frames block n ≤ 4096 * (n + 1)
-  room-limit n =
-      let most = is.most n in
-      let groups : div_ceil n g.taken ≤ n + 1 = (let quotient = div-le_self n g.taken in omega (arith, quotient)) in
-      let samples = mul-le (div_ceil n g.taken) g.given (n + 1) 4096 groups is.few_given in
-      omega (arith, most, samples)
 
   -- and few enough for a unit
   pub room-few : (frames channels : ℕ) → frames * channels ≤ 1048576 → channels ≤ 255 → most_frames block frames * channels ≤ 1099511627776

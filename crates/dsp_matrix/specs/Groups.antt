@@ -5,11 +5,11 @@ use Rattle.std.specs.Int.{div_ceil}
 use Rattle.dsp_defs.specs.Formats.{word}
 use Rattle.dsp_defs.specs.Signal.{values}
 use Rattle.dsp_defs.specs.Matrix.{each_group}
-use Rattle.dsp_defs.specs.Kept.{open_group, in_words, kept_of_channel, kinds_by, place_of}
+use Rattle.dsp_stage.specs.Kept.{open_group, in_words, kept_of_channel, kinds_by, place_of}
 use Rattle.dsp_defs.specs.Shape.{group_of, live_frames, whole_frames}
 use Rattle.dsp_defs.specs.Cost.{live_block_cost, block_turns}
-use Rattle.dsp_defs.specs.Unit.{most_frames}
-use Rattle.dsp_defs.specs.Filter.{IsByChannel, of_channel, of_whole_channel}
+use Rattle.dsp_stage.specs.Unit.{most_frames}
+use Rattle.dsp_stage.specs.Filter.{IsByChannel, of_channel, of_whole_channel}
 use Rattle.dsp_defs.specs.declared.format.Fmt.{Fmt}
 use Rattle.dsp_defs.specs.declared.script.Block.{Block}
 

@@ -1,5 +1,5 @@
 -- The unit of a matrix block, in one of its forms.
-use Rattle.dsp_defs.specs.Unit.{UnitState}
+use Rattle.dsp_stage.specs.Unit.{UnitState}
 use Rattle.dsp_matrix.specs.declared.unit.MatrixUnit.{MatrixUnit}
 use Rattle.dsp_matrix.specs.declared.unit.MatrixUnit.TheVariants.{Q15, Q31, Product}
 

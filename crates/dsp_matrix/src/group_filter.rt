@@ -1,6 +1,6 @@
 ghost use Rattle.std.specs.Prelude.{◌≡◌, ◌≤◌, ◌<◌, ◌+◌, ◌*◌, ◌/◌, ◌++◌, ◌↔◌, IsTrue, length, map, take, drop};
 ghost use Rattle.dsp_defs.specs.Formats.{word};
-ghost use Rattle.dsp_defs.specs.Kept.{Each, IsOfKind, in_words};
+ghost use Rattle.dsp_stage.specs.Kept.{Each, IsOfKind, in_words};
 ghost use Rattle.dsp_lanes.specs.Turns.{RisesWithin};
 ghost use Rattle.dsp_matrix.specs.Groups.{given_group, given_groups, left_open};
 
@@ -24,7 +24,7 @@ pub struct GroupFilter<T: Sample, W: GroupWork<T> + Drop> {
 
 impl<T: Sample, W: GroupWork<T> + Drop> Model for GroupFilter<T, W> {
     ghost use Rattle.std.specs.Prelude.{◌≡◌, ◌<◌, length};
-    ghost use Rattle.dsp_defs.specs.Filter.{FilterState, steady_filter};
+    ghost use Rattle.dsp_stage.specs.Filter.{FilterState, steady_filter};
 
     ghost Value = { FilterState };
 
@@ -165,17 +165,16 @@ fn are_open<T: Sample, W: GroupWork<T>>(work: &W, numbers: &[i64]) -> bool
 
 impl<T: Sample, W: GroupWork<T> + Drop> GroupFilter<T, W> {
     ghost use Rattle.std.specs.Prelude.{◌≡◌, ◌≤◌, ◌<◌, ◌+◌, ◌*◌, ◌/◌, ◌^◌, ◌++◌, ◌↔◌, ℕ, [], true, IfOk, IsFalse, IsTrue, length, map, take, drop};
-    ghost use Rattle.dsp_defs.specs.Filter.{FilterFeeds, FilterFinishes, FilterRestores, IsNewFilter, filter_room};
-    ghost use Rattle.dsp_defs.specs.Kept.{FitsChannel};
-    ghost use Rattle.dsp_defs.specs.Unit.{most_frames};
+    ghost use Rattle.dsp_stage.specs.Filter.{FilterFeeds, FilterFinishes, FilterRestores, IsNewFilter};
+    ghost use Rattle.dsp_stage.specs.Kept.{FitsChannel};
+    ghost use Rattle.dsp_stage.specs.Unit.{most_frames};
     ghost use Rattle.dsp_matrix.specs.Groups.{given_groups, left_open};
 
     /// A filter that has taken nothing, for at most `capacity` samples a call. All its memory is taken
     /// here.
     pub fn of_work(alloc: Global, work: W, capacity: usize) -> Result<Self, AllocError>
         requires { W.IsOf (W.block work) }
-        ensures made { IfOk result (IsNewFilter (W.block work) T.format capacity) }
-        ensures few { IfOk result (λ f. filter_room f ≤ 4096 * (capacity + 1)) }
+        ensures { IfOk result (IsNewFilter (W.block work) T.format capacity) }
     {
         let open = OpenGroup::new(alloc, work.taken())?;
         Ok(GroupFilter {
@@ -190,7 +189,7 @@ impl<T: Sample, W: GroupWork<T> + Drop> GroupFilter<T, W> {
     /// whole.
     pub fn room(&self, n: usize) -> usize
         requires block { n ≤ self.now.capacity }
-        requires fits { filter_room self.now < 2 ^ 64 }
+        requires fits { most_frames self.now.block n < 2 ^ 64 }
         ensures { result ≡ most_frames self.now.block n }
     {
         n.div_ceil(self.work.taken()) * self.work.given()

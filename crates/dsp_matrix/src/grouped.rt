@@ -2,9 +2,9 @@ ghost use Rattle.std.specs.Prelude.{◌≡◌};
 ghost use Rattle.dsp_matrix.specs.Faults.{block_of_op};
 
 use crate::making::{check_count, check_op, check_side, check_sides};
-use crate::{GroupFilter, GroupWork, MatrixSample, MatrixWork, ProductWork};
+use crate::{GroupFilter, MatrixSample, MatrixWork, ProductWork};
 use dsp_defs::{Block, List, MakeFault};
-use dsp_unit::{all_fit, check_block};
+use dsp_unit::{Filter, all_fit, check_block};
 use std::alloc::Global;
 
 /// What becomes of the elements of each group of `rows` rows and `columns` columns. A list has an element
@@ -82,8 +82,8 @@ fn block_of(op: GroupOp) -> Block
 }
 
 impl<T: MatrixSample> GroupFilter<T, MatrixWork<T>> {
-    ghost use Rattle.std.specs.Prelude.{◌≡◌, ◌≤◌, ◌+◌, ◌*◌, IfOk, IfErr, MatchOption};
-    ghost use Rattle.dsp_defs.specs.Filter.{IsNewFilter, filter_room};
+    ghost use Rattle.std.specs.Prelude.{◌≡◌, IfOk, IfErr, MatchOption};
+    ghost use Rattle.dsp_stage.specs.Filter.{IsNewFilter};
     ghost use Rattle.dsp_matrix.specs.Faults.{block_of_op, grouped_fault};
 
     /// A filter that has taken nothing, from its operation, for blocks of at most `block` samples.
@@ -93,15 +93,11 @@ impl<T: MatrixSample> GroupFilter<T, MatrixWork<T>> {
     /// memory.
     pub fn new(alloc: Global, op: GroupOp, block: usize) -> Result<Self, MakeFault>
         ensures made { IfOk result (IsNewFilter (block_of_op op) T.format block) }
-        ensures few { IfOk result (λ f. filter_room f ≤ 4096 * (block + 1)) }
         ensures fault { MatchOption (grouped_fault T.format op block) (IfErr result (λ e. e ≡ MakeFault.Memory)) (λ e. result ≡ Err e) }
     {
         check_op::<T>(&op)?;
         check_block(block)?;
-        let Ok(work) = MatrixWork::of_block(alloc, &block_of(op)) else {
-            return Err(MakeFault::Memory);
-        };
-        let Ok(filter) = GroupFilter::of_work(alloc, work, block) else {
+        let Ok(filter) = GroupFilter::of_block(alloc, &block_of(op), block) else {
             return Err(MakeFault::Memory);
         };
         Ok(filter)
@@ -109,8 +105,8 @@ impl<T: MatrixSample> GroupFilter<T, MatrixWork<T>> {
 }
 
 impl GroupFilter<i16, ProductWork> {
-    ghost use Rattle.std.specs.Prelude.{◌≡◌, ◌≤◌, ◌+◌, ◌*◌, IfOk, IfErr, MatchOption, length};
-    ghost use Rattle.dsp_defs.specs.Filter.{IsNewFilter, filter_room};
+    ghost use Rattle.std.specs.Prelude.{◌≡◌, IfOk, IfErr, MatchOption, length, map};
+    ghost use Rattle.dsp_stage.specs.Filter.{IsNewFilter};
     ghost use Rattle.dsp_defs.specs.declared.format.Fmt.TheVariants.{Q15};
     ghost use Rattle.dsp_defs.specs.declared.script.Block.TheVariants.{MatMult};
     ghost use Rattle.dsp_matrix.specs.Faults.{product_fault};
@@ -128,7 +124,6 @@ impl GroupFilter<i16, ProductWork> {
         block: usize,
     ) -> Result<Self, MakeFault>
         ensures made { IfOk result (IsNewFilter (MatMult rows columns given list.now) Q15 block) }
-        ensures few { IfOk result (λ f. filter_room f ≤ 4096 * (block + 1)) }
         ensures fault { MatchOption (product_fault rows columns given (length list.now) block) (IfErr result (λ e. e ≡ MakeFault.Memory)) (λ e. result ≡ Err e) }
     {
         check_sides(rows, columns)?;

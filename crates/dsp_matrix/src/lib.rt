@@ -22,6 +22,3 @@ pub use matrix_sample::MatrixSample;
 pub use matrix_work::MatrixWork;
 pub use product_work::ProductWork;
 pub use unit::{MatrixUnit, matrix_unit};
-
-#[cfg(test)]
-mod tests;

@@ -1,12 +1,13 @@
 ghost use Rattle.std.specs.Prelude.{◌≤◌, ◌≢◌, ◌*◌, IfOk};
-ghost use Rattle.dsp_defs.specs.Unit.{IsNew};
+ghost use Rattle.dsp_stage.specs.Unit.{IsNew};
 ghost use Rattle.dsp_defs.specs.Grammar.{Suits};
 ghost use Rattle.dsp_defs.specs.declared.format.Fmt.TheVariants.{Q7, Q15, Q31};
 ghost use Rattle.dsp_matrix.specs.Matrices.{IsElementwiseIn, IsMatrixBlock, IsProductIn};
 ghost use Rattle.dsp_matrix.specs.MatrixUnit.{unit_of};
 
 use crate::{Grouped, GroupedMult};
-use dsp_defs::{Block, Fmt, Measure, Stage, Steps};
+use dsp_defs::{Block, Fmt, Measure, Steps};
+use dsp_stage::Stage;
 use dsp_unit::EachChannel;
 use std::alloc::{AllocError, Global};
 use std::sync::ledger::Ledger;

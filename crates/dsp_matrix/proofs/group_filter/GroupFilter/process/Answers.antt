@@ -1,6 +1,6 @@
 use Rattle.std.proofs.Common.{◌≡◌, ◌≤◌, ◌<◌, ◌+◌, ◌*◌, ◌/◌, length, map, take, ap, arith}
 use Rattle.std.proofs.lemmas.List.{length-map}
-use Rattle.dsp_defs.specs.Unit.{most_frames}
+use Rattle.dsp_stage.specs.Unit.{most_frames}
 use Rattle.dsp_matrix.specs.Groups.{OpenState}
 use Rattle.dsp_matrix.proofs.GroupFilters.{room-groups, group-process}
 use Rattle.dsp_matrix.proofs.group_filter.GroupFilter.process.Goals as goal

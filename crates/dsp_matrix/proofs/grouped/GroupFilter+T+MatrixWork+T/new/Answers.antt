@@ -1,4 +1,4 @@
-use Rattle.std.proofs.Common.{◌∙◌, sym, subst}
+use Rattle.std.proofs.Common.{sym, subst}
 use Rattle.dsp_defs.specs.declared.script.Block.{Block}
 use Rattle.dsp_matrix.specs.Faults.{op_fault}
 use Rattle.dsp_matrix.specs.Matrices.{IsElementwiseIn}
@@ -10,11 +10,4 @@ of_block-requires g c =
     let format = g.T.Sample.format in
     let op = c.args.op in
     subst (λ (b : Block). IsElementwiseIn format b) (sym c.block_of.ensures)
-    (sound-op format op g.met.T.MatrixSample.is_wide (no-fault (op_fault format op) c.check_op.result c.check_op.ensures c.in_ok-check_op.was))
-
-pub of_work-requires : goal.of_work-requires
-of_work-requires g c =
-    let format = g.T.Sample.format in
-    let op = c.args.op in
-    subst (λ (b : Block). IsElementwiseIn format b) (sym (c.in-Ok.ensures ∙ c.block_of.ensures))
     (sound-op format op g.met.T.MatrixSample.is_wide (no-fault (op_fault format op) c.check_op.result c.check_op.ensures c.in_ok-check_op.was))

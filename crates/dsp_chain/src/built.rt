@@ -20,8 +20,6 @@ pub enum Family {
     Lattice,
     /// Controllers.
     Adapt,
-    /// Matrices over groups of samples.
-    Matrix,
     /// Convolutions, which end with a tail.
     Conv,
     /// Measures, which pass the frames on.
@@ -53,11 +51,6 @@ pub fn family_of(block: &Block) -> Option<Family>
         Block::Conv { .. } => Some(Family::Conv),
         Block::LatticeFir { .. } | Block::LatticeIir { .. } => Some(Family::Lattice),
         Block::Pid { .. } => Some(Family::Adapt),
-        Block::MatAdd { .. }
-        | Block::MatSub { .. }
-        | Block::MatScale { .. }
-        | Block::MatTrans { .. }
-        | Block::MatMult { .. } => Some(Family::Matrix),
         Block::Power => Some(Family::Measure),
         _ => None,
     }

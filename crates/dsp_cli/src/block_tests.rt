@@ -1,5 +1,5 @@
-//! Recursive filters and matrices in blocks of several lengths, worked by hand.
-use crate::chain_tests::{Chain, IN_BLOCKS, IN_FOURS, IN_PAIRS, play_chain};
+//! Recursive filters in blocks of several lengths, worked by hand.
+use crate::chain_tests::{Chain, IN_BLOCKS, play_chain};
 use std::test::Fail;
 
 const ROWS: &[Chain] = &[
@@ -77,29 +77,6 @@ const ROWS: &[Chain] = &[
         output: &[0x01, 0x00, 0x00, 0x00, 0xFF, 0xFF, 0xFF, 0xFF],
         report: b"dspfx: done\nin 2 frames of 1 channels q31\nout 2 frames of 1 channels q31\nmultiplies 8\n",
     },
-    // A row times a column, and 10 is in a group that is open.
-    Chain {
-        blocks: IN_PAIRS,
-        script: b"dspfx 1 input raw q15 1 8000 mat_mult 1 2 1 {16384 16384} output raw",
-        input: &[0x02, 0x00, 0x04, 0x00, 0x06, 0x00, 0x08, 0x00, 0x0A, 0x00],
-        output: &[0x03, 0x00, 0x07, 0x00],
-        report: b"dspfx: done\nin 5 frames of 1 channels q15\nout 2 frames of 1 channels q15\nmultiplies 4\n",
-    },
-    Chain {
-        blocks: IN_FOURS,
-        script: b"dspfx 1 input raw q15 1 8000 mat_trans 2 2 output raw",
-        input: &[0x01, 0x00, 0x02, 0x00, 0x03, 0x00, 0x04, 0x00],
-        output: &[0x01, 0x00, 0x03, 0x00, 0x02, 0x00, 0x04, 0x00],
-        report: b"dspfx: done\nin 4 frames of 1 channels q15\nout 4 frames of 1 channels q15\nmultiplies 0\n",
-    },
-    // The sum saturates, and 5 is in a group that is open.
-    Chain {
-        blocks: IN_PAIRS,
-        script: b"dspfx 1 input raw q15 1 8000 mat_add 1 2 {1 32767} output raw",
-        input: &[0x01, 0x00, 0x02, 0x00, 0x03, 0x00, 0x04, 0x00, 0x05, 0x00],
-        output: &[0x02, 0x00, 0xFF, 0x7F, 0x04, 0x00, 0xFF, 0x7F],
-        report: b"dspfx: done\nin 5 frames of 1 channels q15\nout 4 frames of 1 channels q15\nmultiplies 0\n",
-    },
     // A stereo file through two sections, behind a chunk of an odd size.
     Chain {
         blocks: IN_BLOCKS,
@@ -141,7 +118,7 @@ const ROWS: &[Chain] = &[
 ];
 
 #[test]
-fn recursions_and_groups_give_the_same_in_any_blocks(rt: HostRuntime) -> Result<(), Fail> {
+fn recursions_give_the_same_in_any_blocks(rt: HostRuntime) -> Result<(), Fail> {
     for row in ROWS {
         play_chain(rt.alloc(), &rt, row)?;
     }

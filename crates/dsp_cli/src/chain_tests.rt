@@ -14,14 +14,14 @@ pub(crate) const IN_BLOCKS: &[&[&str]] = &[
     &["run", "s", "i", "o", "block", "256"],
 ];
 
-pub(crate) const IN_PAIRS: &[&[&str]] = &[
+const IN_PAIRS: &[&[&str]] = &[
     &["run", "s", "i", "o"],
     &["run", "s", "i", "o", "block", "2"],
     &["run", "s", "i", "o", "block", "4"],
     &["run", "s", "i", "o", "block", "6"],
 ];
 
-pub(crate) const IN_FOURS: &[&[&str]] = &[
+const IN_FOURS: &[&[&str]] = &[
     &["run", "s", "i", "o"],
     &["run", "s", "i", "o", "block", "4"],
     &["run", "s", "i", "o", "block", "8"],

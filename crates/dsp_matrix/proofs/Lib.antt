@@ -1,5 +1,0 @@
-pub mod GroupLaws
-pub mod GroupFilters
-pub mod RowWrites
-pub mod Sound
-pub mod Filling

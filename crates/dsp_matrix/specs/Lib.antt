@@ -1,5 +1,0 @@
-pub mod Groups
-pub mod Matrices
-pub mod Grouping
-pub mod Faults
-pub mod MatrixUnit

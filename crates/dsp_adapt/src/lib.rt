@@ -11,6 +11,3 @@ pub use pid::{Pid, Pid15, Pid31};
 pub use pid_sample::PidSample;
 pub use pid_work::PidWork;
 pub use unit::{AdaptUnit, adapt_unit};
-
-#[cfg(test)]
-mod tests;

@@ -4,7 +4,7 @@ ghost use Rattle.dsp_defs.specs.Grammar.{Suits};
 ghost use Rattle.dsp_adapt.specs.PidState.{IsPidBlock};
 
 use crate::PidWork;
-use dsp_defs::{Block, Fmt};
+use dsp_defs::{Block, Fmt, MAX_SAMPLES};
 use dsp_stage::Stage;
 use dsp_unit::{EachChannel, Either, StepFilter};
 use std::alloc::{AllocError, Global};
@@ -28,7 +28,7 @@ pub fn adapt_unit(
     requires suits { Suits (record { format = format; channels = channels }) block.now }
     requires channels { 1 ≤ channels }
     requires frames { 1 ≤ frames }
-    requires samples { frames * channels ≤ 1048576 }
+    requires samples { frames * channels ≤ MAX_SAMPLES }
     ensures { IfOk result (λ u. IsNew block.now format channels frames (⟦<AdaptUnit as Stage>⟧.unit u)) }
 {
     match format {

@@ -1,13 +1,14 @@
 -- The faults of what a cascade is made of.
-use Rattle.std.specs.Prelude.{ℕ, ◌*◌, ◌%◌, pos, Option, Some, None, nat_le, nat_eq, ◌&&◌, if◌then◌else◌}
+use Rattle.std.specs.Prelude.{ℕ, ◌*◌, pos, Option, Some, None, nat_le, if◌then◌else◌}
 use Rattle.std.specs.Option.{option_or}
-use Rattle.dsp_unit.specs.Making.{block_fault}
+use Rattle.dsp_unit.specs.Making.{block_fault, multiple_fault}
+use Rattle.dsp_defs.specs.declared.limits.TheConstants.{MAX_SECTIONS}
 use Rattle.dsp_defs.specs.declared.fault.MakeFault.{MakeFault}
-use Rattle.dsp_defs.specs.declared.fault.MakeFault.TheVariants.{Length, Range}
+use Rattle.dsp_defs.specs.declared.fault.MakeFault.TheVariants.{Range}
 
 -- the fault of so many numbers, for sections of `size`
 abbrev pub coefficients_fault : ℕ → ℕ → Option MakeFault
-coefficients_fault size count = if nat_le 1 count && nat_le count (64 * size) && nat_eq (count % size) 0 then None else Some (Length count size)
+coefficients_fault size count = multiple_fault (MAX_SECTIONS * size) size count
 
 -- the fault of such a post shift
 abbrev pub shift_fault : ℕ → ℕ → Option MakeFault

@@ -20,6 +20,3 @@ pub use cascade_section::CascadeSection;
 pub use section::Section;
 pub use section64::Section64;
 pub use unit::{BiquadUnit, biquad_unit};
-
-#[cfg(test)]
-mod tests;

@@ -2,6 +2,7 @@ ghost use Rattle.std.specs.Prelude.{◌≡◌, ◌≤◌, Err, Ok, MatchOption};
 ghost use Rattle.dsp_biquad.specs.Making.{coefficients_fault, shift_fault};
 
 use dsp_defs::{MAX_SECTIONS, MakeFault};
+use dsp_unit::check_multiple;
 
 /// Refuses a count of numbers that is not that of 1..64 sections of `size`.
 pub(crate) fn check_coefficients(count: usize, size: usize) -> Result<(), MakeFault>
@@ -9,13 +10,7 @@ pub(crate) fn check_coefficients(count: usize, size: usize) -> Result<(), MakeFa
     requires few { size ≤ 6 }
     ensures { MatchOption (coefficients_fault size count) (result ≡ Ok tt) (λ e. result ≡ Err e) }
 {
-    if count == 0 || count > MAX_SECTIONS * size || count % size != 0 {
-        return Err(MakeFault::Length {
-            taps: count as u64,
-            factor: size as u64,
-        });
-    }
-    Ok(())
+    check_multiple(count, size, MAX_SECTIONS * size)
 }
 
 /// Refuses a post shift that is too great.

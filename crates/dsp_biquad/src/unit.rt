@@ -6,7 +6,7 @@ ghost use Rattle.dsp_biquad.specs.Sections.{IsBiquadBlock, IsBiquadIn, IsBiquad6
 ghost use Rattle.dsp_biquad.specs.BiquadUnit.{unit_of};
 
 use crate::{Cascade, Section, Section64};
-use dsp_defs::{Block, Fmt, Measure, Steps};
+use dsp_defs::{Block, Fmt, MAX_SAMPLES, Measure, Steps};
 use dsp_stage::Stage;
 use dsp_unit::{EachChannel, StepFilter};
 use std::alloc::{AllocError, Global};
@@ -92,7 +92,8 @@ fn biquad_in_format(
     requires block { IsBiquadIn format block.now }
     requires wide { format ≢ Q7 }
     requires channels { 1 ≤ channels }
-    requires samples { frames * channels ≤ 1048576 }
+    requires frames { 1 ≤ frames }
+    requires samples { frames * channels ≤ MAX_SAMPLES }
     ensures { IfOk result (λ u. IsNew block.now format channels frames (unit_of u)) }
 {
     match format {
@@ -111,7 +112,8 @@ fn wide_biquad(
 ) -> Result<BiquadUnit, AllocError>
     requires block { IsBiquad64 block.now }
     requires channels { 1 ≤ channels }
-    requires samples { frames * channels ≤ 1048576 }
+    requires frames { 1 ≤ frames }
+    requires samples { frames * channels ≤ MAX_SAMPLES }
     ensures { IfOk result (λ u. IsNew block.now Q31 channels frames (unit_of u)) }
 {
     Ok(BiquadUnit::Wide(EachChannel::new(alloc, block, channels, frames)?))
@@ -130,7 +132,7 @@ pub fn biquad_unit(
     requires suits { Suits (record { format = format; channels = channels }) block.now }
     requires channels { 1 ≤ channels }
     requires frames { 1 ≤ frames }
-    requires samples { frames * channels ≤ 1048576 }
+    requires samples { frames * channels ≤ MAX_SAMPLES }
     ensures { IfOk result (λ u. IsNew block.now format channels frames (unit_of u)) }
 {
     match block {

@@ -2,7 +2,7 @@
 use Rattle.std.specs.Prelude.{Bool, is_some, Option, Some, None}
 use Rattle.std.specs.List.{list_all}
 use Rattle.dsp_defs.specs.declared.script.Block.{Block}
-use Rattle.dsp_defs.specs.declared.script.Block.TheVariants.{Offset, Negate, Abs, Scale, Shift, Clip, To, Add, Sub, Mult, Route, Conj, CmplxMult, CmplxMultReal, MagSquared, Fir, Sparse, Decimate, LatticeFir, LatticeIir, Biquad, Biquad64, Conv, Pid, Power}
+use Rattle.dsp_defs.specs.declared.script.Block.TheVariants.{Offset, Negate, Abs, Scale, Shift, Clip, To, Add, Sub, Mult, Route, Conj, CmplxMult, CmplxMultReal, MagSquared, Fir, Sparse, Decimate, Interpolate, LatticeFir, LatticeIir, Biquad, Biquad64, Conv, Pid, Power}
 use Rattle.dsp_defs.specs.declared.script.Script.{Script}
 use Rattle.dsp_chain.specs.declared.built.Family.{Family}
 use Rattle.dsp_chain.specs.declared.built.Family.TheVariants as family
@@ -27,6 +27,7 @@ family_of MagSquared = Some family.Complex
 family_of (Fir taps) = Some family.Fir
 family_of (Sparse taps delays) = Some family.Fir
 family_of (Decimate factor taps) = Some family.Rate
+family_of (Interpolate factor taps) = Some family.Rate
 family_of (LatticeFir k) = Some family.Lattice
 family_of (LatticeIir k v) = Some family.Lattice
 family_of (Biquad post_shift coefficients) = Some family.Biquad

@@ -31,7 +31,7 @@ abbrev pub state_of : BlockUnit → UnitState
 state_of (unit.Vector u) = u
 state_of (unit.Complex u) = u
 state_of (unit.Fir u) = either_unit (unit_in_format seen seen seen) (unit_in_format seen seen seen) u
-state_of (unit.Rate u) = either_unit seen seen u
+state_of (unit.Rate u) = either_unit (either_unit seen seen) (either_unit seen seen) u
 state_of (unit.Lattice u) = lattice_of u
 state_of (unit.Biquad u) = unit_of u
 state_of (unit.Adapt u) = either_unit seen seen u

@@ -9,7 +9,7 @@ use dsp_adapt::{AdaptUnit, adapt_unit};
 use dsp_biquad::{BiquadUnit, biquad_unit};
 use dsp_complex::ComplexUnit;
 use dsp_conv::{ConvUnit, conv_unit};
-use dsp_defs::{Block, Fmt, Measure, Steps};
+use dsp_defs::{Block, Fmt, MAX_SAMPLES, Measure, Steps};
 use dsp_fir::{FirUnit, fir_unit};
 use dsp_lattice::{LatticeUnit, lattice_unit};
 use dsp_rate::{RateUnit, rate_unit};
@@ -46,7 +46,7 @@ impl BlockUnit {
         requires suits { Suits (record { format = format; channels = channels }) block.now }
         requires channels { 1 ≤ channels }
         requires frames { 1 ≤ frames }
-        requires samples { frames * channels ≤ 1048576 }
+        requires samples { frames * channels ≤ MAX_SAMPLES }
         ensures { IfOk result (λ u. IsNew block.now format channels frames (state_of u)) }
     {
         match family_of(block) {

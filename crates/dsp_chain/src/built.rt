@@ -46,7 +46,7 @@ pub fn family_of(block: &Block) -> Option<Family>
             Some(Family::Complex)
         }
         Block::Fir { .. } | Block::Sparse { .. } => Some(Family::Fir),
-        Block::Decimate { .. } => Some(Family::Rate),
+        Block::Decimate { .. } | Block::Interpolate { .. } => Some(Family::Rate),
         Block::Biquad { .. } | Block::Biquad64 { .. } => Some(Family::Biquad),
         Block::Conv { .. } => Some(Family::Conv),
         Block::LatticeFir { .. } | Block::LatticeIir { .. } => Some(Family::Lattice),

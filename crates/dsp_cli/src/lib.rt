@@ -14,14 +14,3 @@ pub use command::places;
 pub use dsp_defs::Places;
 pub use top::run;
 pub use words::Words;
-
-#[cfg(test)]
-mod block_tests;
-#[cfg(test)]
-mod chain_tests;
-#[cfg(test)]
-mod gen_tests;
-#[cfg(test)]
-mod tests;
-#[cfg(test)]
-mod wave_tests;

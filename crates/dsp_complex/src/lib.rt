@@ -5,8 +5,6 @@ mod calls;
 mod frames;
 mod operation;
 mod scalars;
-#[cfg(test)]
-mod tests;
 mod unit;
 
 pub use calls::{conj, mag_squared, mult_cmplx, mult_real};

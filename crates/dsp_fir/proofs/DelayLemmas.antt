@@ -1,10 +1,10 @@
 -- Delays of a sparse filter, and the sums that its taps add to.
 use Rattle.std.proofs.Common.{◌≡◌, ◌∙◌, ap, sym, refl, ℕ, zero, suc, ◌+◌, ◌-◌, ◌*◌, ◌<◌, ◌≤◌, ℤ, pos, ◌+ℤ◌, List, [], ◌∷◌, ◌++◌, length, map, get_or, slice_range, None, Some, true, false, drop, length-take-le, length-drop, arith, ⊎_elim}
-use Rattle.std.specs.Prelude.{All, fold, max, find, nat_lt, cond, Option, MatchOption, Result, Ok, Err}
-use Rattle.std.specs.Option.{option_map}
+use Rattle.std.specs.Prelude.{◌≤ℤ◌, ◌&&◌, if◌then◌else◌, All, fold, max, find, nat_eq, nat_le, nat_lt, cond, Option, MatchOption, Result, Ok, Err}
+use Rattle.std.specs.Option.{option_map, option_or}
 use Rattle.std.specs.Simd.Lanes.{zip2}
 use Rattle.std.proofs.lemmas.Bool.{cases_lt}
-use Rattle.std.proofs.lemmas.Int.{int_wrap-add_left, int_wrap-mul_right}
+use Rattle.std.proofs.lemmas.Int.{ints, int_wrap-add_left, int_wrap-mul_right}
 use Rattle.std.proofs.lemmas.Bool.Decides.{nat_tests}
 use Rattle.std.proofs.lemmas.List.{length-map}
 use Rattle.std.proofs.lemmas.List.FromFn.{length-map-range_with_len, get_or-map-range_with_len, fill_by_all}
@@ -14,15 +14,16 @@ use Rattle.dsp_defs.specs.Numbers.{◌>>◌, saturate, wrap, w32}
 use Rattle.dsp_defs.specs.Signal.{sample, delayed, values, sum_below}
 use Rattle.dsp_defs.specs.Streaming.{Continues, last_of}
 use Rattle.dsp_defs.specs.Sums.{sparse, sparse_term, sparse_close}
+use Rattle.dsp_defs.specs.declared.limits.TheConstants.{MAX_DELAY, MAX_SAMPLES, MAX_TAPS}
 use Rattle.dsp_defs.proofs.FormatLemmas.{wrap-wrap}
 use Rattle.dsp_defs.proofs.Signal.{values_cong, values-add, sum_below_cong, delayed-append}
 use Rattle.dsp_defs.proofs.Streaming.{window_at}
 use Rattle.std.proofs.lemmas.List.{length-append}
 use Rattle.dsp_lanes.specs.Turns.{RisesWithin}
 use Rattle.dsp_defs.specs.Counts.{Counts}
-use Rattle.dsp_fir.specs.SparseState.{greatest_delay, delays_fault, delayed_sum, sparse_rows}
+use Rattle.dsp_fir.specs.SparseState.{greatest_delay, delays_fault, sparse_fault, delayed_sum, sparse_rows}
 use Rattle.dsp_defs.specs.declared.fault.MakeFault.{MakeFault}
-use Rattle.dsp_defs.specs.declared.fault.MakeFault.TheVariants.{Range}
+use Rattle.dsp_defs.specs.declared.fault.MakeFault.TheVariants.{Length, Range}
 use Rattle.dsp_unit.proofs.Slices.{sample-piece}
 use Rattle.dsp_defs.specs.declared.format.Fmt.{Fmt}
 use Rattle.dsp_defs.specs.declared.format.Fmt.TheVariants.{Q7, Q15, Q31}
@@ -56,12 +57,36 @@ greatest-within n a (d ∷ delays) h none =
     some_is_some d e = cc e
 
 -- delays without a fault are as they may be
-pub delays-fit : (delays : List ℕ) (u : Unit {0}) → MatchOption (delays_fault delays) (◌≡◌ {A = Result (Unit {0}) MakeFault} (Ok u) (Ok tt)) (λ e. ◌≡◌ {A = Result (Unit {0}) MakeFault} (Ok u) (Err e)) → greatest_delay delays ≤ 65535
-delays-fit delays u answer = greatest-within 65535 0 delays (omega arith) (none (find (λ d. nat_lt 65535 d) delays) answer)
+pub delays-fit : (delays : List ℕ) (u : Unit {0}) → MatchOption (delays_fault delays) (◌≡◌ {A = Result (Unit {0}) MakeFault} (Ok u) (Ok tt)) (λ e. ◌≡◌ {A = Result (Unit {0}) MakeFault} (Ok u) (Err e)) → greatest_delay delays ≤ MAX_DELAY
+delays-fit delays u answer = greatest-within MAX_DELAY 0 delays (omega arith) (none (find (λ d. nat_lt MAX_DELAY d) delays) answer)
   where
     none : (found : Option ℕ) → MatchOption (option_map (λ d. Range (pos d)) found) (◌≡◌ {A = Result (Unit {0}) MakeFault} (Ok u) (Ok tt)) (λ e. ◌≡◌ {A = Result (Unit {0}) MakeFault} (Ok u) (Err e)) → found ≡ None
     none None answer = refl
     none (Some d) answer = absurd (cc answer)
+
+-- delays that a block may have are not refused
+pub delays-taken : (delays : List ℕ) → All (λ d. d ≤ℤ pos MAX_DELAY) (map pos delays) → find (λ d. nat_lt MAX_DELAY d) delays ≡ None
+delays-taken [] all = refl
+delays-taken (d ∷ delays) all =
+    let first : pos d ≤ℤ pos MAX_DELAY = all 0 (pos 0) (omega arith) in
+    let fits : d ≤ MAX_DELAY = omega (arith, ints, first) in
+    let test : nat_lt MAX_DELAY d ≡ false = grind (arith, nat_tests) in
+    ap (λ t. cond t (Some d) (find (λ d. nat_lt MAX_DELAY d) delays)) test ∙ delays-taken delays (λ k e h. all (suc k) e (omega (arith, h)))
+
+-- nor is the sparse filter of such a block
+pub sparse-taken :
+    (taps : ℕ) (delays : List ℕ) (block : ℕ) → 2 ≤ taps → taps ≤ MAX_TAPS → length delays ≡ taps → All (λ d. d ≤ℤ pos MAX_DELAY) (map pos delays) → 1 ≤ block → block ≤ MAX_SAMPLES →
+    sparse_fault taps delays block ≡ None
+sparse-taken taps delays block some few same within begun fits =
+    let more : nat_le 2 taps ≡ true = grind (arith, nat_tests) in
+    let limit : nat_le taps MAX_TAPS ≡ true = grind (arith, nat_tests) in
+    let each : nat_eq (length delays) taps ≡ true = grind (arith, nat_tests) in
+    let first : nat_le 1 block ≡ true = grind (arith, nat_tests) in
+    let last : nat_le block MAX_SAMPLES ≡ true = grind (arith, nat_tests) in
+    let none = delays-taken delays within in
+    λ i. if more i && limit i
+    then (if each i then option_or (option_map (λ d. Range (pos d)) (none i)) (if first i && last i then None else Some (Range (pos block))) else Some (Length (length delays) taps))
+    else Some (Length taps 2)
 
 -- ---- the sums
 

@@ -1,6 +1,7 @@
 -- The blocks whose units are FIR and sparse filters.
-use Rattle.std.specs.Prelude.{⊤, ℤ, pos, ◌≤ℤ◌, ◌-◌, ◌<◌, List, length, All, FitsSigned, IfSome, refl}
-use Rattle.dsp_defs.specs.Formats.{word}
+use Rattle.std.specs.Prelude.{⊤, ℤ, pos, ◌≡◌, ◌≤◌, ◌≤ℤ◌, ◌-◌, ◌<◌, List, length, All, IfSome, refl}
+use Rattle.dsp_defs.specs.declared.limits.TheConstants.{MAX_DELAY}
+use Rattle.dsp_unit.specs.Making.{AreTaps}
 use Rattle.dsp_defs.specs.Cost.{lane_turns}
 use Rattle.dsp_defs.specs.Shape.{group_of}
 use Rattle.dsp_stage.specs.Filter.{IsByChannel}
@@ -18,9 +19,9 @@ IsFirBlock block = ⊥
 
 -- ---- FIR
 
--- the block is a FIR filter, and its taps are numbers of the format
+-- the block is a FIR filter that no maker refuses
 abbrev pub IsFirIn : Fmt → Block → Type 0
-IsFirIn format (Fir taps) = All (FitsSigned (word format)) taps
+IsFirIn format (Fir taps) = AreTaps format taps
 IsFirIn format block = ⊥
 
 -- it works on each channel by itself
@@ -51,9 +52,10 @@ has-groups format block is = absurd is
 
 -- ---- sparse filters
 
--- the block is a sparse filter, its taps are numbers of the format, and no delay is negative
+-- the block is a sparse filter that no maker refuses
 abbrev pub IsSparseIn : Fmt → Block → Type 0
-IsSparseIn format (Sparse taps delays) = All (FitsSigned (word format)) taps × All (λ d. pos 0 ≤ℤ d) delays
+IsSparseIn format (Sparse taps delays) =
+    (2 ≤ length taps) × (length delays ≡ length taps) × AreTaps format taps × All (λ d. pos 0 ≤ℤ d) delays × All (λ d. d ≤ℤ pos MAX_DELAY) delays
 IsSparseIn format block = ⊥
 
 -- it works on each channel by itself

@@ -8,6 +8,7 @@ use Rattle.dsp_stage.specs.Filter.{FilterState}
 use Rattle.dsp_unit.specs.Making.{block_fault}
 use Rattle.dsp_defs.specs.declared.format.Fmt.{Fmt}
 use Rattle.dsp_defs.specs.declared.script.Block.TheVariants as Block
+use Rattle.dsp_defs.specs.declared.limits.TheConstants.{MAX_DELAY, MAX_TAPS}
 use Rattle.dsp_defs.specs.declared.fault.MakeFault.{MakeFault}
 use Rattle.dsp_defs.specs.declared.fault.MakeFault.TheVariants.{Length, Range}
 
@@ -35,12 +36,12 @@ StandsFor sparse x = sparse.past ≡ last_of (greatest_delay sparse.delays) x
 
 -- the first delay that is too great
 abbrev pub delays_fault : List ℕ → Option MakeFault
-delays_fault delays = option_map (λ d. Range (pos d)) (find (λ d. nat_lt 65535 d) delays)
+delays_fault delays = option_map (λ d. Range (pos d)) (find (λ d. nat_lt MAX_DELAY d) delays)
 
 -- the first fault of so many taps, such delays and such a block
 abbrev pub sparse_fault : ℕ → List ℕ → ℕ → Option MakeFault
 sparse_fault taps delays block =
-    if nat_le 2 taps && nat_le taps 4096
+    if nat_le 2 taps && nat_le taps MAX_TAPS
     then (if nat_eq (length delays) taps then option_or (delays_fault delays) (block_fault block) else Some (Length (length delays) taps))
     else Some (Length taps 2)
 

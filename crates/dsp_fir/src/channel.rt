@@ -62,10 +62,14 @@ impl<T: LaneSample<L>, const L: usize> Filter<T> for FirChannel<T, L> {
 
     fn of_block(alloc: Global, block: &Block, capacity: usize) -> Result<Self, AllocError> {
         let Block::Fir { taps } = block else {
-            return Err(AllocError);
+            unreachable!();
         };
         let taps = samples_of::<T>(alloc, taps.as_slice())?;
-        FirChannel::new(alloc, &taps, capacity).map_err(|_| AllocError)
+        match FirChannel::new(alloc, &taps, capacity) {
+            Ok(filter) => Ok(filter),
+            Err(MakeFault::Memory) => Err(AllocError),
+            Err(_) => unreachable!(),
+        }
     }
 
     fn process<M: Ledger>(&mut self, input: &[T], output: &mut [T], steps: &mut Steps<M>) -> usize {
@@ -151,11 +155,15 @@ impl<T: LaneSample<L>, const L: usize> Filter<T> for SparseChannel<T, L> {
 
     fn of_block(alloc: Global, block: &Block, capacity: usize) -> Result<Self, AllocError> {
         let Block::Sparse { taps, delays } = block else {
-            return Err(AllocError);
+            unreachable!();
         };
         let taps = samples_of::<T>(alloc, taps.as_slice())?;
         let delays = delays_of(alloc, delays.as_slice())?;
-        SparseChannel::new(alloc, &taps, &delays, capacity).map_err(|_| AllocError)
+        match SparseChannel::new(alloc, &taps, &delays, capacity) {
+            Ok(filter) => Ok(filter),
+            Err(MakeFault::Memory) => Err(AllocError),
+            Err(_) => unreachable!(),
+        }
     }
 
     fn process<M: Ledger>(&mut self, input: &[T], output: &mut [T], steps: &mut Steps<M>) -> usize {

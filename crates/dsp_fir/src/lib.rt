@@ -12,6 +12,3 @@ pub use channel::{FirChannel, SparseChannel};
 pub use fir::Fir;
 pub use sparse::Sparse;
 pub use unit::{FirUnit, fir_unit};
-
-#[cfg(test)]
-mod tests;

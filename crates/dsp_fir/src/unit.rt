@@ -4,7 +4,7 @@ ghost use Rattle.dsp_defs.specs.Grammar.{Suits};
 ghost use Rattle.dsp_fir.specs.FirUnit.{IsFirBlock, IsFirIn, IsSparseIn};
 
 use crate::{FirChannel, SparseChannel};
-use dsp_defs::{Block, Fmt};
+use dsp_defs::{Block, Fmt, MAX_SAMPLES};
 use dsp_stage::Stage;
 use dsp_unit::{EachChannel, Either, InFormat};
 use std::alloc::{AllocError, Global};
@@ -34,7 +34,8 @@ fn fir_in_format(
 ) -> Result<FirInFormat, AllocError>
     requires block { IsFirIn format block.now }
     requires channels { 1 ≤ channels }
-    requires samples { frames * channels ≤ 1048576 }
+    requires frames { 1 ≤ frames }
+    requires samples { frames * channels ≤ MAX_SAMPLES }
     ensures { IfOk result (λ u. IsNew block.now format channels frames (⟦<FirInFormat as Stage>⟧.unit u)) }
 {
     match format {
@@ -54,7 +55,8 @@ fn sparse_in_format(
 ) -> Result<SparseInFormat, AllocError>
     requires block { IsSparseIn format block.now }
     requires channels { 1 ≤ channels }
-    requires samples { frames * channels ≤ 1048576 }
+    requires frames { 1 ≤ frames }
+    requires samples { frames * channels ≤ MAX_SAMPLES }
     ensures { IfOk result (λ u. IsNew block.now format channels frames (⟦<SparseInFormat as Stage>⟧.unit u)) }
 {
     match format {
@@ -77,7 +79,7 @@ pub fn fir_unit(
     requires suits { Suits (record { format = format; channels = channels }) block.now }
     requires channels { 1 ≤ channels }
     requires frames { 1 ≤ frames }
-    requires samples { frames * channels ≤ 1048576 }
+    requires samples { frames * channels ≤ MAX_SAMPLES }
     ensures { IfOk result (λ u. IsNew block.now format channels frames (⟦<FirUnit as Stage>⟧.unit u)) }
 {
     match block {
@@ -87,6 +89,6 @@ pub fn fir_unit(
         Block::Sparse { .. } => Ok(Either::Second(sparse_in_format(
             alloc, block, format, channels, frames,
         )?)),
-        _ => Err(AllocError),
+        _ => unreachable!(),
     }
 }

@@ -1,5 +1,5 @@
 use crate::FrameWork;
-use dsp_defs::{Block, Fmt, Measure, Steps};
+use dsp_defs::{Block, Fmt, MAX_SAMPLES, Measure, Steps};
 use dsp_stage::Stage;
 use std::alloc::{AllocError, Global};
 use std::marker::Model;
@@ -19,6 +19,7 @@ impl<W: FrameWork + Drop> Model for Memoryless<W> {
     ghost use Rattle.std.specs.Prelude.{◌≤◌, ◌*◌, [], false};
     ghost use Rattle.dsp_defs.specs.Grammar.{Suits};
     ghost use Rattle.dsp_stage.specs.Unit.{UnitState};
+    ghost use Rattle.dsp_defs.specs.declared.limits.TheConstants.{MAX_SAMPLES};
 
     ghost Value = { UnitState };
 
@@ -33,7 +34,7 @@ impl<W: FrameWork + Drop> Model for Memoryless<W> {
       ended = u.ended;
     } };
 
-    ghost invariant = { λ u. (Suits (record { format = u.format; channels = u.channels }) (W.block u.work)) × (1 ≤ u.channels) × (u.capacity * u.channels ≤ 1048576) };
+    ghost invariant = { λ u. (Suits (record { format = u.format; channels = u.channels }) (W.block u.work)) × (1 ≤ u.channels) × (u.capacity * u.channels ≤ MAX_SAMPLES) };
 }
 
 impl<W: FrameWork + Drop> Memoryless<W> {
@@ -55,7 +56,7 @@ impl<W: FrameWork + Drop> Memoryless<W> {
         requires suits { Suits (record { format = format; channels = channels }) block.now }
         requires channels { 1 ≤ channels }
         requires frames { 1 ≤ frames }
-        requires samples { frames * channels ≤ 1048576 }
+        requires samples { frames * channels ≤ MAX_SAMPLES }
         ensures { IfOk result (IsNew block.now format channels frames) }
     {
         Ok(Memoryless {

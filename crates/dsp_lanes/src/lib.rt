@@ -21,8 +21,6 @@ mod q7;
 mod regroup;
 mod row_form;
 mod rows;
-#[cfg(test)]
-mod tests;
 mod wide_pairs;
 
 pub use kernels::{FilterKernels, LaneKernels, LaneSample};

@@ -18,6 +18,3 @@ pub use iir_lattice::IirLattice;
 pub use iir_work::IirLatticeWork;
 pub use lattice_sample::{LatticeSample, NarrowSample};
 pub use unit::{LatticeUnit, lattice_unit};
-
-#[cfg(test)]
-mod tests;

@@ -6,7 +6,7 @@ ghost use Rattle.dsp_lattice.specs.LatticeState.{IsFirLatticeIn, IsIirLatticeIn,
 ghost use Rattle.dsp_lattice.specs.LatticeUnit.{unit_of};
 
 use crate::{FirLatticeWork, IirLatticeWork};
-use dsp_defs::{Block, Fmt, Measure, Steps};
+use dsp_defs::{Block, Fmt, MAX_SAMPLES, Measure, Steps};
 use dsp_stage::Stage;
 use dsp_unit::{EachChannel, StepFilter};
 use std::alloc::{AllocError, Global};
@@ -90,7 +90,8 @@ fn fir_lattice(
 ) -> Result<LatticeUnit, AllocError>
     requires block { IsFirLatticeIn Q15 block.now }
     requires channels { 1 ≤ channels }
-    requires samples { frames * channels ≤ 1048576 }
+    requires frames { 1 ≤ frames }
+    requires samples { frames * channels ≤ MAX_SAMPLES }
     ensures { IfOk result (λ u. IsNew block.now Q15 channels frames (unit_of u)) }
 {
     Ok(LatticeUnit::Fir15(EachChannel::new(alloc, block, channels, frames)?))
@@ -107,7 +108,8 @@ fn iir_lattice(
     requires block { IsIirLatticeIn format block.now }
     requires wide { format ≢ Q7 }
     requires channels { 1 ≤ channels }
-    requires samples { frames * channels ≤ 1048576 }
+    requires frames { 1 ≤ frames }
+    requires samples { frames * channels ≤ MAX_SAMPLES }
     ensures { IfOk result (λ u. IsNew block.now format channels frames (unit_of u)) }
 {
     match format {
@@ -130,7 +132,7 @@ pub fn lattice_unit(
     requires suits { Suits (record { format = format; channels = channels }) block.now }
     requires channels { 1 ≤ channels }
     requires frames { 1 ≤ frames }
-    requires samples { frames * channels ≤ 1048576 }
+    requires samples { frames * channels ≤ MAX_SAMPLES }
     ensures { IfOk result (λ u. IsNew block.now format channels frames (unit_of u)) }
 {
     match block {

@@ -43,6 +43,3 @@ pub fn integer<const N: usize>(line: &mut ArrayVec<u8, N>, number: i64)
 {
     text(line, Buffer::new().format(number).as_bytes());
 }
-
-#[cfg(test)]
-mod tests;

@@ -1,2 +1,4 @@
 pub mod DecimateLemmas
 pub mod ChannelLemmas
+pub mod InterpolateLemmas
+pub mod InterpolateFilters

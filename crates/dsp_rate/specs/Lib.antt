@@ -1,3 +1,4 @@
 pub mod DecimateState
 pub mod Channels
 pub mod RateUnit
+pub mod InterpolateState

@@ -1,28 +1,31 @@
 -- The blocks whose units change the rate.
-use Rattle.std.specs.Prelude.{⊤, ◌-◌, ◌*◌, ◌/◌, ◌<◌, ◌≤◌, length, All, FitsSigned, IfSome, refl}
-use Rattle.dsp_defs.specs.Formats.{word}
+use Rattle.std.specs.Prelude.{⊤, ◌-◌, ◌*◌, ◌/◌, ◌%◌, ◌<◌, ◌≡◌, ◌≤◌, length, IfSome, refl}
 use Rattle.dsp_defs.specs.Cost.{lane_turns}
 use Rattle.dsp_defs.specs.Shape.{group_of}
 use Rattle.dsp_stage.specs.Filter.{IsByChannel}
 use Rattle.dsp_stage.proofs.KeptLaws.{kept_of_channel-place}
+use Rattle.dsp_unit.specs.Making.{AreTaps}
 use Rattle.dsp_unit.proofs.Units.{scaled}
 use Rattle.dsp_defs.specs.declared.format.Fmt.{Fmt}
 use Rattle.dsp_defs.specs.declared.script.Block.{Block}
-use Rattle.dsp_defs.specs.declared.script.Block.TheVariants.{Decimate}
+use Rattle.dsp_defs.specs.declared.script.Block.TheVariants.{Decimate, Interpolate}
 
 -- the block is one of this crate's
 abbrev pub IsRateBlock : Block → Type 0
 IsRateBlock (Decimate factor taps) = ⊤
+IsRateBlock (Interpolate factor taps) = ⊤
 IsRateBlock block = ⊥
 
--- and its taps are numbers of the format
-abbrev pub IsRateIn : Fmt → Block → Type 0
-IsRateIn format (Decimate factor taps) = (1 ≤ factor) × All (FitsSigned (word format)) taps
-IsRateIn format block = ⊥
+-- ---- decimators
+
+-- the block is a decimator that no maker refuses
+abbrev pub IsDecimateIn : Fmt → Block → Type 0
+IsDecimateIn format (Decimate factor taps) = (1 ≤ factor) × AreTaps format taps
+IsDecimateIn format block = ⊥
 
 -- it works on each channel by itself
-pub by-channel : (format : Fmt) (block : Block) → IsRateIn format block → IsByChannel format block
-by-channel format (Decimate factor taps) is = record {
+pub decimate-by-channel : (format : Fmt) (block : Block) → IsDecimateIn format block → IsByChannel format block
+decimate-by-channel format (Decimate factor taps) is = record {
   live_is = refl;
   whole_is = refl;
   channels_same = λ c. refl;
@@ -36,9 +39,39 @@ by-channel format (Decimate factor taps) is = record {
   so_far = λ c n taken given. scaled c given (length taps);
   turns = λ c m n. scaled c (n / factor - m / factor) (lane_turns format (length taps));
 }
-by-channel format block is = absurd is
+decimate-by-channel format block is = absurd is
 
 -- in groups of one frame and more
-pub has-groups : (format : Fmt) (block : Block) → IsRateIn format block → IfSome (group_of block) (λ g. 0 < g.0)
-has-groups format (Decimate factor taps) is = is.0
-has-groups format block is = absurd is
+pub decimate-groups : (format : Fmt) (block : Block) → IsDecimateIn format block → IfSome (group_of block) (λ g. 0 < g.0)
+decimate-groups format (Decimate factor taps) is = is.0
+decimate-groups format block is = absurd is
+
+-- ---- interpolators
+
+-- the block is an interpolator that no maker refuses
+abbrev pub IsInterpolateIn : Fmt → Block → Type 0
+IsInterpolateIn format (Interpolate factor taps) = (1 ≤ factor) × (factor ≤ 255) × (length taps % factor ≡ 0) × AreTaps format taps
+IsInterpolateIn format block = ⊥
+
+-- it works on each channel by itself
+pub interpolate-by-channel : (format : Fmt) (block : Block) → IsInterpolateIn format block → IsByChannel format block
+interpolate-by-channel format (Interpolate factor taps) is = record {
+  live_is = refl;
+  whole_is = refl;
+  channels_same = λ c. refl;
+  format_same = refl;
+  keeps_is = λ c x. refl;
+  kinds_are = λ c n. refl;
+  keeps_place = λ x. kept_of_channel-place format (Interpolate factor taps) x tt;
+  taken = λ n. tt;
+  no_measures = λ c number kept. refl;
+  live_cost = λ c n. scaled c n (length taps);
+  so_far = λ c n taken given. scaled c taken (length taps);
+  turns = λ c m n. scaled c (length taps) (lane_turns format (n - m));
+}
+interpolate-by-channel format block is = absurd is
+
+-- and not on groups
+pub interpolate-groups : (format : Fmt) (block : Block) → IsInterpolateIn format block → IfSome (group_of block) (λ g. 0 < g.0)
+interpolate-groups format (Interpolate factor taps) is = tt
+interpolate-groups format block is = absurd is

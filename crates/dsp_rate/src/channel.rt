@@ -1,6 +1,7 @@
 use crate::Decimate;
 use dsp_defs::{Block, MakeFault, Steps};
 use dsp_lanes::LaneSample;
+use dsp_sat::WideSample;
 use dsp_unit::{Filter, samples_of};
 use std::alloc::{AllocError, Global};
 use std::marker::Model;
@@ -8,11 +9,11 @@ use std::sync::ledger::Ledger;
 
 /// The decimator of one channel of a unit, with as many lanes as its format has.
 #[derive(Drop)]
-pub struct DecimateChannel<T: LaneSample<L>, const L: usize> {
+pub struct DecimateChannel<T: LaneSample<L> + WideSample, const L: usize> {
     decimate: Decimate<T, L>,
 }
 
-impl<T: LaneSample<L>, const L: usize> Model for DecimateChannel<T, L> {
+impl<T: LaneSample<L> + WideSample, const L: usize> Model for DecimateChannel<T, L> {
     ghost use Rattle.std.specs.Prelude.{◌≡◌, ◌≤◌, length};
     ghost use Rattle.dsp_defs.specs.Formats.{lanes};
     ghost use Rattle.dsp_stage.specs.Filter.{FilterState};
@@ -26,7 +27,7 @@ impl<T: LaneSample<L>, const L: usize> Model for DecimateChannel<T, L> {
     ghost invariant = { λ c. (L ≡ lanes T.format) × (1 ≤ c.decimate.factor) × (c.decimate.factor ≤ 255) × (length c.decimate.past ≡ past_length c.decimate.factor (length c.decimate.taps)) };
 }
 
-impl<T: LaneSample<L>, const L: usize> DecimateChannel<T, L> {
+impl<T: LaneSample<L> + WideSample, const L: usize> DecimateChannel<T, L> {
     ghost use Rattle.std.specs.Prelude.{◌≡◌, map, length, IfOk, IfErr, MatchOption};
     ghost use Rattle.dsp_defs.specs.Formats.{lanes};
     ghost use Rattle.dsp_stage.specs.Filter.{IsNewFilter};
@@ -47,25 +48,29 @@ impl<T: LaneSample<L>, const L: usize> DecimateChannel<T, L> {
     }
 }
 
-impl<T: LaneSample<L>, const L: usize> Filter<T> for DecimateChannel<T, L> {
+impl<T: LaneSample<L> + WideSample, const L: usize> Filter<T> for DecimateChannel<T, L> {
     ghost use Rattle.std.specs.Prelude.{◌≡◌};
     ghost use Rattle.dsp_defs.specs.Formats.{lanes};
-    ghost use Rattle.dsp_rate.specs.RateUnit.{IsRateIn, by-channel, has-groups};
+    ghost use Rattle.dsp_rate.specs.RateUnit.{IsDecimateIn, decimate-by-channel, decimate-groups};
 
     ghost filter = { λ c. c };
 
-    ghost IsOf = { λ block. (L ≡ lanes T.format) × IsRateIn T.format block };
+    ghost IsOf = { λ block. (L ≡ lanes T.format) × IsDecimateIn T.format block };
 
-    ghost by_channel = { λ block is. by-channel T.format block is.1 };
+    ghost by_channel = { λ block is. decimate-by-channel T.format block is.1 };
 
-    ghost groups = { λ block is. has-groups T.format block is.1 };
+    ghost groups = { λ block is. decimate-groups T.format block is.1 };
 
     fn of_block(alloc: Global, block: &Block, capacity: usize) -> Result<Self, AllocError> {
         let Block::Decimate { factor, taps } = block else {
-            return Err(AllocError);
+            unreachable!();
         };
         let taps = samples_of::<T>(alloc, taps.as_slice())?;
-        DecimateChannel::new(alloc, *factor, &taps, capacity).map_err(|_| AllocError)
+        match DecimateChannel::new(alloc, *factor, &taps, capacity) {
+            Ok(filter) => Ok(filter),
+            Err(MakeFault::Memory) => Err(AllocError),
+            Err(_) => unreachable!(),
+        }
     }
 
     fn process<M: Ledger>(&mut self, input: &[T], output: &mut [T], steps: &mut Steps<M>) -> usize {

@@ -1,6 +1,7 @@
 use crate::strided_rows::strided_rows;
-use dsp_defs::{MakeFault, Steps};
+use dsp_defs::{MAX_TAPS, MakeFault, Steps};
 use dsp_lanes::LaneSample;
+use dsp_sat::WideSample;
 use dsp_unit::{check_block, check_taps};
 use dsp_window::Window;
 use std::alloc::Global;
@@ -11,7 +12,7 @@ use std::sync::ledger::Ledger;
 /// `factor` samples it gives the filtered value at the group's first sample, once the group is whole.
 /// `L` is the number of lanes.
 #[derive(Drop)]
-pub struct Decimate<T: LaneSample<L>, const L: usize> {
+pub struct Decimate<T: LaneSample<L> + WideSample, const L: usize> {
     factor: usize,
     taps: Vec<T>,
     window: Window<T>,
@@ -19,19 +20,20 @@ pub struct Decimate<T: LaneSample<L>, const L: usize> {
     ended: bool,
 }
 
-impl<T: LaneSample<L>, const L: usize> Model for Decimate<T, L> {
+impl<T: LaneSample<L> + WideSample, const L: usize> Model for Decimate<T, L> {
     ghost use Rattle.std.specs.Prelude.{◌≡◌, ◌≤◌, ◌<◌, ◌+◌, length, map, vec_len};
     ghost use Rattle.dsp_window.specs.Rolling.{last_samples};
+    ghost use Rattle.dsp_defs.specs.declared.limits.TheConstants.{MAX_SAMPLES, MAX_TAPS};
     ghost use Rattle.dsp_rate.specs.DecimateState.{DecimateState};
 
     ghost Value = { DecimateState };
 
     ghost view = { λ d. record { factor = d.factor; taps = map T.number d.taps.items; past = last_samples d.window.past d.window.samples; phase = d.phase; block = d.window.room; ended = d.ended } };
 
-    ghost invariant = { λ d. (d.window.past + 2 ≡ vec_len d.taps + d.factor) × (1 ≤ vec_len d.taps) × (vec_len d.taps ≤ 4096) × (d.phase < d.factor) × (d.factor ≤ 255) × (d.window.room ≤ 1048576) × (d.window.past ≤ length d.window.samples) };
+    ghost invariant = { λ d. (d.window.past + 2 ≡ vec_len d.taps + d.factor) × (1 ≤ vec_len d.taps) × (vec_len d.taps ≤ MAX_TAPS) × (d.phase < d.factor) × (d.factor ≤ 255) × (d.window.room ≤ MAX_SAMPLES) × (d.window.past ≤ length d.window.samples) };
 }
 
-impl<T: LaneSample<L>, const L: usize> Decimate<T, L> {
+impl<T: LaneSample<L> + WideSample, const L: usize> Decimate<T, L> {
     ghost use Rattle.std.specs.Prelude.{◌≡◌, ◌≤◌, ◌+◌, ◌*◌, ◌/◌, ◌++◌, ℕ, List, [], ℤ, true, length, map, take, drop, IfOk, OnOk, IfErr, IsFalse, IsTrue, ◌↔◌, MatchOption};
     ghost use Rattle.std.specs.Int.{div_ceil};
     ghost use Rattle.dsp_defs.specs.Streaming.{Continues};
@@ -141,7 +143,7 @@ impl<T: LaneSample<L>, const L: usize> Decimate<T, L> {
     /// How many numbers the decimator keeps from block to block: T+M-2 samples, and the phase.
     pub fn kept_count(&self) -> usize
         ensures count { result ≡ length (kept self.now) }
-        ensures few { result ≤ 4350 }
+        ensures few { result ≤ MAX_TAPS + 254 }
     {
         self.taps.len() + self.factor - 1
     }

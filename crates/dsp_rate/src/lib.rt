@@ -3,12 +3,14 @@
 
 mod channel;
 mod decimate;
+mod interpolate;
+mod interpolate_channel;
+mod phases;
 mod strided_rows;
 mod unit;
 
 pub use channel::DecimateChannel;
 pub use decimate::Decimate;
+pub use interpolate::Interpolate;
+pub use interpolate_channel::InterpolateChannel;
 pub use unit::{RateUnit, rate_unit};
-
-#[cfg(test)]
-mod tests;

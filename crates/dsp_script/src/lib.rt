@@ -22,6 +22,3 @@ pub use lengths::{cost, default_block, frames_given, legal, unit};
 pub use output::{output_flow, output_rate};
 pub use printer::print;
 pub use reader::parse;
-
-#[cfg(test)]
-mod tests;

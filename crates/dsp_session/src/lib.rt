@@ -12,6 +12,3 @@ mod worker;
 pub use fault::{LengthFault, StreamFault};
 pub use session::Session;
 pub use streaming::{Totals, stream};
-
-#[cfg(test)]
-mod tests;

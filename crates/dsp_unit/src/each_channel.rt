@@ -1,6 +1,6 @@
 use crate::kept::{count_kept, keep_channels, place_channels, restore_channels};
 use crate::{Filter, feed_block, finish_channels, most_frames};
-use dsp_defs::{Block, Measure, Steps};
+use dsp_defs::{Block, MAX_SAMPLES, Measure, Steps};
 use dsp_sat::Sample;
 use dsp_stage::Stage;
 use std::alloc::{AllocError, Global};
@@ -69,7 +69,9 @@ impl<T: Sample, F: Filter<T> + Drop> EachChannel<T, F> {
     ) -> Result<Self, AllocError>
         requires block { F.IsOf block.now }
         requires channels { 1 ≤ channels }
-        requires samples { most_frames block.now frames * channels ≤ 1099511627776 }
+        requires frames { 1 ≤ frames }
+        requires samples { frames * channels ≤ MAX_SAMPLES }
+        requires room { most_frames block.now frames * channels ≤ 1099511627776 }
         ensures { IfOk result (IsNew block.now T.format channels frames) }
     {
         let mut filters = Vec::with_capacity(alloc, usize::from(channels))?;

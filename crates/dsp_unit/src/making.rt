@@ -1,5 +1,5 @@
-ghost use Rattle.std.specs.Prelude.{◌≡◌, Err, Ok, MatchOption};
-ghost use Rattle.dsp_unit.specs.Making.{block_fault, taps_fault};
+ghost use Rattle.std.specs.Prelude.{◌≡◌, ◌≤◌, Err, Ok, MatchOption};
+ghost use Rattle.dsp_unit.specs.Making.{block_fault, multiple_fault, taps_fault};
 
 use dsp_defs::{MAX_SAMPLES, MAX_TAPS, MakeFault};
 
@@ -11,6 +11,20 @@ pub fn check_taps(taps: usize) -> Result<(), MakeFault>
         return Err(MakeFault::Length {
             taps: taps as u64,
             factor: 1,
+        });
+    }
+    Ok(())
+}
+
+/// Refuses a count of numbers that is not in 1..`most`, or no multiple of `factor`.
+pub fn check_multiple(count: usize, factor: usize, most: usize) -> Result<(), MakeFault>
+    requires { 1 ≤ factor }
+    ensures { MatchOption (multiple_fault most factor count) (result ≡ Ok tt) (λ e. result ≡ Err e) }
+{
+    if count == 0 || count > most || count % factor != 0 {
+        return Err(MakeFault::Length {
+            taps: count as u64,
+            factor: factor as u64,
         });
     }
     Ok(())

@@ -8,8 +8,6 @@ mod joins;
 mod operation;
 mod routes;
 mod sample;
-#[cfg(test)]
-mod tests;
 mod unit;
 
 pub use calls::{

@@ -12,6 +12,3 @@ pub use generator::GenSource;
 pub use reader::{HeaderOr, read_header};
 pub use slices::{decode, encode};
 pub use writer::{HEADER_ROOM, pad, riff_size, write_header};
-
-#[cfg(test)]
-mod tests;

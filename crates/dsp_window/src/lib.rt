@@ -6,6 +6,3 @@ mod window;
 
 pub use numbers::is_sample;
 pub use window::Window;
-
-#[cfg(test)]
-mod tests;

@@ -1,4 +1,5 @@
 use crate::numbers::{is_sample, load_numbers, roll, zeros};
+use dsp_defs::{MAX_DELAY, MAX_SAMPLES};
 use dsp_sat::Sample;
 use std::alloc::{AllocError, Global};
 use std::marker::Model;
@@ -29,8 +30,8 @@ impl<T: Sample> Window<T> {
 
     /// A past of zeros and an empty block. `past` and `block` are numbers of samples; all memory is taken here.
     pub fn new(alloc: Global, past: usize, block: usize) -> Result<Self, AllocError>
-        requires past { past ≤ 65535 }
-        requires block { block ≤ 1048576 }
+        requires past { past ≤ MAX_DELAY }
+        requires block { block ≤ MAX_SAMPLES }
         ensures made { IfOk result (λ w. w ≡ record { past = past; room = block; samples = replicate past (pos 0) }) }
         ensures shows { IfOk result (λ w. Shows w [] []) }
     {

@@ -33,7 +33,7 @@ of_filters-requires-clause-room g c =
 pub of_filters-requires-clause-samples : goal.of_filters-requires-clause-samples
 of_filters-requires-clause-samples g c =
     let count : length c.loop.filters.items ≡ c.args.channels = omega (arith, c.loop.invariant.count) in
-    rw (c.most_frames.ensures, count) c.requires.samples
+    rw (c.most_frames.ensures, count) c.requires.room
 
 pub loop-preserved : goal.loop-preserved
 loop-preserved g c =

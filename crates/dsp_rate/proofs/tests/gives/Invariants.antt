@@ -1,8 +1,0 @@
-use Rattle.std.proofs.Common.{◌≡◌, ◌-◌, false, length}
-use Rattle.dsp_rate.proofs.tests.gives.Given as goal
-
-abbrev pub invariant-loop-start : goal.invariant-loop-start
-invariant-loop-start g l = (l.filter.block ≡ l.block) × (l.filter.ended ≡ false)
-
-abbrev pub decreases-loop-start : goal.decreases-loop-start
-decreases-loop-start g l = length l.input - l.start

@@ -1,0 +1,88 @@
+//! Callers of dsp_biquad.
+use dsp_biquad::{Biquad15, Biquad31, Biquad64};
+use dsp_defs::{MakeFault, Steps};
+use std::alloc::Global;
+use std::process::Abort;
+use std::sync::ledger::Ledger;
+
+/// A cascade goes on where another one was kept.
+fn goes_on<M: Ledger>(rt: &impl Abort, alloc: Global, steps: &mut Steps<M>) {
+    let mut output = [7i16; 2];
+    let mut kept = [0i64; 8];
+    let coefficients = [16384i16, 0, 0, 0, 16384, 0, 16384, 0, 0, 0, 0, 0];
+    let mut first = Biquad15::new(alloc, 0, &coefficients, 1).expect(rt, "a cascade");
+    assert_eq!(rt; (first.room(1), first.kept_count()), (1, 8));
+    assert_eq!(rt; first.process(&[1000], &mut output, steps), 1);
+    assert_eq!(rt; output, [250, 7]);
+    first.keep(&mut kept);
+    assert_eq!(rt; kept, [1000, 0, 500, 0, 500, 0, 250, 0]);
+    let mut second = Biquad15::new(alloc, 0, &coefficients, 1).expect(rt, "a cascade");
+    assert!(rt; second.fits(&kept));
+    second.restore(&kept);
+    assert_eq!(rt; second.process(&[0], &mut output, steps), 1);
+    assert_eq!(rt; output, [125, 7]);
+    assert_eq!(rt;
+        (second.finish(&mut output, steps), second.is_ended()),
+        (0, true)
+    );
+}
+
+/// The wide feedback keeps what a sample has no room for.
+fn feedback<M: Ledger>(rt: &impl Abort, alloc: Global, steps: &mut Steps<M>) {
+    let mut output = [7i32; 4];
+    let coefficients = [268435456, 0, 0, 1073741824, 0];
+    let mut narrow = Biquad31::new(alloc, 1, &coefficients, 4).expect(rt, "a cascade");
+    assert_eq!(rt; narrow.process(&[1; 4], &mut output, steps), 4);
+    assert_eq!(rt; output, [0; 4]);
+    let mut wide = Biquad64::new(alloc, 1, &coefficients, 4).expect(rt, "a cascade");
+    assert_eq!(rt; wide.process(&[1; 4], &mut output, steps), 4);
+    assert_eq!(rt; output, [0, 0, 0, 1]);
+}
+
+/// The calls that count their products.
+pub(crate) fn counted<M: Ledger>(rt: &impl Abort, alloc: Global, steps: &mut Steps<M>) {
+    goes_on(rt, alloc, steps);
+    feedback(rt, alloc, steps);
+}
+
+#[test]
+fn faults(rt: HostRuntime) {
+    let alloc = rt.alloc();
+    assert!(rt;
+        matches!(
+            Biquad15::new(alloc, 14, &[0; 6], 4),
+            Err(MakeFault::Range { value: 14 })
+        )
+    );
+    assert!(rt;
+        matches!(
+            Biquad15::new(alloc, 14, &[0; 5], 0),
+            Err(MakeFault::Length { taps: 5, factor: 6 })
+        )
+    );
+    assert!(rt;
+        matches!(
+            Biquad31::new(alloc, 0, &[0; 325], 4),
+            Err(MakeFault::Length {
+                taps: 325,
+                factor: 5
+            })
+        )
+    );
+    assert!(rt;
+        matches!(
+            Biquad64::new(alloc, 31, &[0; 5], 0),
+            Err(MakeFault::Range { value: 31 })
+        )
+    );
+    assert!(rt;
+        matches!(
+            Biquad64::new(alloc, 30, &[0; 5], 0),
+            Err(MakeFault::Range { value: 0 })
+        )
+    );
+    let cascade = Biquad15::new(alloc, 13, &[0; 6], 1048576).expect(&rt, "a cascade");
+    assert!(rt; !cascade.fits(&[0; 3]) && !cascade.fits(&[0, 0, 0, 32768]));
+    let cascade = Biquad64::new(alloc, 30, &[0; 5], 4).expect(&rt, "a cascade");
+    assert!(rt; cascade.fits(&[0, 0, 4294967296, 0]) && !cascade.fits(&[0, 4294967296, 0, 0]));
+}

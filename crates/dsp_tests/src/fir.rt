@@ -1,0 +1,151 @@
+//! Callers of dsp_fir.
+ghost use Rattle.std.specs.Prelude.{◌≤◌, ◌+◌};
+
+use dsp_defs::{MakeFault, Steps};
+use dsp_fir::{Fir, Sparse};
+use std::alloc::Global;
+use std::process::Abort;
+use std::sync::ledger::Ledger;
+
+/// Whole groups of lanes: a moving sum of three samples.
+fn long_blocks<M: Ledger>(rt: &impl Abort, alloc: Global, steps: &mut Steps<M>) {
+    let input = [1024i16; 37];
+    let mut wanted = [768i16; 37];
+    wanted[0] = 256;
+    wanted[1] = 512;
+    let mut output = [0i16; 37];
+    let mut fir = Fir::<i16, 8>::new(alloc, &[8192; 3], 37).expect(rt, "a filter");
+    let count = fir.process(&input, &mut output, steps);
+    assert_eq!(rt; (count, output), (37, wanted));
+    let mut sparse = Sparse::<i16, 8>::new(alloc, &[8192; 3], &[2, 0, 1], 37).expect(
+        rt, "a filter",
+    );
+    let count = sparse.process(&input, &mut output, steps);
+    assert_eq!(rt; (count, output), (37, wanted));
+}
+
+/// A sample by three taps takes three turns, and no samples take none.
+fn few_turns<M: Ledger>(rt: &impl Abort, alloc: Global, steps: &mut Steps<M>)
+    ensures { steps.new.turns ≤ steps.old.turns + 3 }
+{
+    let mut filter = Fir::<i16, 8>::new(alloc, &[16384, 0, 8192], 1).expect(rt, "a filter");
+    let mut output = [7, 7];
+    assert_eq!(rt; filter.room(1), 1);
+    assert_eq!(rt; filter.process(&[4], &mut output, steps), 1);
+    assert_eq!(rt; output, [1, 7]);
+    assert_eq!(rt; filter.process(&[], &mut output, steps), 0);
+    assert_eq!(rt; output, [1, 7]);
+}
+
+/// A FIR filter goes on where another one was kept.
+fn fir_goes_on<M: Ledger>(rt: &impl Abort, alloc: Global, steps: &mut Steps<M>) {
+    let mut output = [0i16; 2];
+    let mut kept = [0i64; 1];
+    let mut first = Fir::<i16, 8>::new(alloc, &[8192, 16384], 2).expect(rt, "a filter");
+    first.process(&[4, 8], &mut output, steps);
+    assert_eq!(rt; first.kept_count(), 1);
+    first.keep(&mut kept);
+    assert_eq!(rt; kept, [8]);
+    let mut second = Fir::<i16, 8>::new(alloc, &[8192, 16384], 2).expect(rt, "a filter");
+    assert!(rt; !second.fits(&[32768]) && !second.fits(&[]));
+    assert!(rt; second.fits(&kept));
+    second.restore(&kept);
+    second.process(&[0], &mut output, steps);
+    assert_eq!(rt; output, [2, 5]);
+    assert_eq!(rt;
+        (second.finish(&mut output, steps), second.is_ended()),
+        (0, true)
+    );
+}
+
+/// A sparse filter goes on where another one was kept.
+fn sparse_goes_on<M: Ledger>(rt: &impl Abort, alloc: Global, steps: &mut Steps<M>) {
+    let mut output = [0i16; 2];
+    let mut kept = [0i64; 1];
+    let taps = [19950, -32193];
+    let mut first = Sparse::<i16, 8>::new(alloc, &taps, &[0, 1], 2).expect(rt, "a filter");
+    first.process(&[16384, 16385], &mut output, steps);
+    assert_eq!(rt; output, [9975, -6121]);
+    assert_eq!(rt; (first.kept_count(), first.room(2)), (1, 2));
+    first.keep(&mut kept);
+    assert_eq!(rt; kept, [16385]);
+    let mut second = Sparse::<i16, 8>::new(alloc, &taps, &[0, 1], 2).expect(rt, "a filter");
+    assert!(rt; !second.fits(&[-32769]) && !second.is_ended());
+    assert!(rt; second.fits(&kept));
+    second.restore(&kept);
+    second.process(&[32767], &mut output, steps);
+    assert_eq!(rt; output, [3851, -6121]);
+    assert_eq!(rt;
+        (second.finish(&mut output, steps), second.is_ended()),
+        (0, true)
+    );
+}
+
+/// In the other formats: twice the least number does not saturate in Q31, and is the greatest in Q7.
+fn other_formats<M: Ledger>(rt: &impl Abort, alloc: Global, steps: &mut Steps<M>) {
+    let mut words = [0i32; 2];
+    let mut wide = Fir::<i32, 4>::new(alloc, &[i32::MIN; 2], 2).expect(rt, "a filter");
+    assert_eq!(rt; wide.process(&[i32::MIN; 2], &mut words, steps), 2);
+    assert_eq!(rt; words, [i32::MIN, 0]);
+    let mut bytes = [0i8; 2];
+    let mut narrow = Fir::<i8, 16>::new(alloc, &[-128; 2], 2).expect(rt, "a filter");
+    assert_eq!(rt; narrow.process(&[-128; 2], &mut bytes, steps), 2);
+    assert_eq!(rt; bytes, [127, 127]);
+}
+
+/// The sum of a sparse filter has 32 bits, and that of a FIR filter 64.
+fn sums<M: Ledger>(rt: &impl Abort, alloc: Global, steps: &mut Steps<M>) {
+    let mut output = [0i16; 2];
+    let taps = [-32768i16; 2];
+    let mut sparse = Sparse::<i16, 8>::new(alloc, &taps, &[0, 1], 2).expect(rt, "a filter");
+    sparse.process(&[-32768; 2], &mut output, steps);
+    assert_eq!(rt; output, [32767, -32768]);
+    let mut fir = Fir::<i16, 8>::new(alloc, &taps, 2).expect(rt, "a filter");
+    fir.process(&[-32768; 2], &mut output, steps);
+    assert_eq!(rt; output, [32767, 32767]);
+}
+
+/// The calls that count their products.
+pub(crate) fn counted<M: Ledger>(rt: &impl Abort, alloc: Global, steps: &mut Steps<M>) {
+    long_blocks(rt, alloc, steps);
+    few_turns(rt, alloc, steps);
+    fir_goes_on(rt, alloc, steps);
+    sparse_goes_on(rt, alloc, steps);
+    other_formats(rt, alloc, steps);
+    sums(rt, alloc, steps);
+}
+
+#[test]
+fn faults(rt: HostRuntime) {
+    let alloc = rt.alloc();
+    assert!(rt;
+        matches!(
+            Fir::<i16, 8>::new(alloc, &[], 4),
+            Err(MakeFault::Length { taps: 0, factor: 1 })
+        )
+    );
+    assert!(rt;
+        matches!(
+            Fir::<i16, 8>::new(alloc, &[1], 0),
+            Err(MakeFault::Range { value: 0 })
+        )
+    );
+    assert!(rt;
+        matches!(
+            Sparse::<i8, 16>::new(alloc, &[1], &[0], 4),
+            Err(MakeFault::Length { taps: 1, factor: 2 })
+        )
+    );
+    assert!(rt;
+        matches!(
+            Sparse::<i16, 8>::new(alloc, &[1, 2], &[0, 1, 2], 4),
+            Err(MakeFault::Length { taps: 3, factor: 2 })
+        )
+    );
+    assert!(rt;
+        matches!(
+            Sparse::<i32, 4>::new(alloc, &[1, 2], &[65535, 65537], 0),
+            Err(MakeFault::Range { value: 65537 })
+        )
+    );
+}

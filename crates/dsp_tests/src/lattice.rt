@@ -1,0 +1,123 @@
+//! Callers of dsp_lattice.
+use dsp_defs::{MakeFault, Steps};
+use dsp_lattice::{FirLattice15, IirLattice};
+use std::alloc::Global;
+use std::process::Abort;
+use std::sync::ledger::Ledger;
+
+/// More samples than the sections work on at once: a lattice of the coefficient 0 gives its input.
+fn long_block<M: Ledger>(rt: &impl Abort, alloc: Global, steps: &mut Steps<M>) {
+    let mut lattice = FirLattice15::new(alloc, &[0, -32768], 600).expect(rt, "a lattice");
+    let mut output = [0i16; 601];
+    let count = lattice.process(&[1; 600], &mut output, steps);
+    assert_eq!(rt; (count, output[1], output[2], output[257]), (600, 1, 0, 0));
+    assert_eq!(rt; (output[0], output[599], output[600]), (1, 0, 0));
+}
+
+/// A lattice goes on where another one was kept.
+fn fir_goes_on<M: Ledger>(rt: &impl Abort, alloc: Global, steps: &mut Steps<M>) {
+    let mut output = [7i16; 2];
+    let mut kept = [0i64; 1];
+    let mut first = FirLattice15::new(alloc, &[16384], 2).expect(rt, "a lattice");
+    assert_eq!(rt; (first.room(1), first.kept_count()), (1, 1));
+    assert_eq!(rt; first.process(&[1000], &mut output, steps), 1);
+    assert_eq!(rt; output, [1000, 7]);
+    first.keep(&mut kept);
+    assert_eq!(rt; kept, [1000]);
+    let mut second = FirLattice15::new(alloc, &[16384], 2).expect(rt, "a lattice");
+    assert!(rt; !second.fits(&[]) && !second.fits(&[-32769]));
+    assert!(rt; second.fits(&kept));
+    second.restore(&kept);
+    assert_eq!(rt; second.process(&[0], &mut output, steps), 1);
+    assert_eq!(rt; output, [500, 7]);
+    assert_eq!(rt;
+        (second.finish(&mut output, steps), second.is_ended()),
+        (0, true)
+    );
+}
+
+/// The same of a lattice that feeds back.
+fn iir_goes_on<M: Ledger>(rt: &impl Abort, alloc: Global, steps: &mut Steps<M>) {
+    let mut output = [7i16; 2];
+    let mut kept = [0i64; 1];
+    let (k, v) = ([16384i16], [0i16, 16384]);
+    let mut first = IirLattice::<i16>::new(alloc, &k, &v, 2).expect(rt, "a lattice");
+    assert_eq!(rt; (first.room(1), first.kept_count()), (1, 1));
+    assert_eq!(rt; first.process(&[1000], &mut output, steps), 1);
+    assert_eq!(rt; output, [500, 7]);
+    first.keep(&mut kept);
+    assert_eq!(rt; kept, [1000]);
+    let mut second = IirLattice::<i16>::new(alloc, &k, &v, 2).expect(rt, "a lattice");
+    assert!(rt; !second.fits(&[0, 0]));
+    assert!(rt; second.fits(&kept));
+    second.restore(&kept);
+    assert_eq!(rt; second.process(&[0], &mut output, steps), 1);
+    assert_eq!(rt; output, [-250, 7]);
+    assert_eq!(rt;
+        (second.finish(&mut output, steps), second.is_ended()),
+        (0, true)
+    );
+}
+
+/// The ladder alone in Q31, halved and rounded down.
+fn ladder<M: Ledger>(rt: &impl Abort, alloc: Global, steps: &mut Steps<M>) {
+    let mut output = [0i32; 2];
+    let mut lattice = IirLattice::<i32>::new(alloc, &[0], &[0, 1073741824], 2).expect(
+        rt,
+        "a lattice",
+    );
+    assert_eq!(rt; lattice.process(&[2, -1], &mut output, steps), 2);
+    assert_eq!(rt; output, [1, -1]);
+}
+
+/// The calls that count their products.
+pub(crate) fn counted<M: Ledger>(rt: &impl Abort, alloc: Global, steps: &mut Steps<M>) {
+    long_block(rt, alloc, steps);
+    fir_goes_on(rt, alloc, steps);
+    iir_goes_on(rt, alloc, steps);
+    ladder(rt, alloc, steps);
+}
+
+#[test]
+fn faults(rt: HostRuntime) {
+    let alloc = rt.alloc();
+    assert!(rt;
+        matches!(
+            FirLattice15::new(alloc, &[], 0),
+            Err(MakeFault::Length { taps: 0, factor: 1 })
+        )
+    );
+    assert!(rt;
+        matches!(
+            FirLattice15::new(alloc, &[0; 256], 4),
+            Err(MakeFault::Length {
+                taps: 256,
+                factor: 1
+            })
+        )
+    );
+    assert!(rt;
+        matches!(
+            FirLattice15::new(alloc, &[0], 0),
+            Err(MakeFault::Range { value: 0 })
+        )
+    );
+    assert!(rt;
+        matches!(
+            IirLattice::<i32>::new(alloc, &[], &[], 0),
+            Err(MakeFault::Length { taps: 0, factor: 1 })
+        )
+    );
+    assert!(rt;
+        matches!(
+            IirLattice::<i16>::new(alloc, &[1, 2], &[0, 1], 0),
+            Err(MakeFault::Length { taps: 2, factor: 3 })
+        )
+    );
+    assert!(rt;
+        matches!(
+            IirLattice::<i16>::new(alloc, &[1; 255], &[1; 256], 1048577),
+            Err(MakeFault::Range { value: 1048577 })
+        )
+    );
+}

@@ -1,0 +1,46 @@
+//! Callers of the library's crates, each of its public calls once: what to write to use them, and tests.
+//! Whole runs of the program over ports in memory.
+#![tactic(auto)]
+
+#[cfg(test)]
+mod adapt;
+#[cfg(test)]
+mod biquad;
+#[cfg(test)]
+mod block_runs;
+#[cfg(test)]
+mod chain;
+#[cfg(test)]
+mod chain_runs;
+#[cfg(test)]
+mod complex;
+#[cfg(test)]
+mod fir;
+#[cfg(test)]
+mod gen_runs;
+#[cfg(test)]
+mod lanes;
+#[cfg(test)]
+mod lattice;
+#[cfg(test)]
+mod line;
+#[cfg(test)]
+mod ports;
+#[cfg(test)]
+mod rate;
+#[cfg(test)]
+mod runs;
+#[cfg(test)]
+mod script;
+#[cfg(test)]
+mod session;
+#[cfg(test)]
+mod tests;
+#[cfg(test)]
+mod vector;
+#[cfg(test)]
+mod wave;
+#[cfg(test)]
+mod wave_runs;
+#[cfg(test)]
+mod window;

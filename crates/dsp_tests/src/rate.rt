@@ -1,0 +1,124 @@
+//! Callers of dsp_rate.
+ghost use Rattle.std.specs.Prelude.{◌≡◌, ◌≤◌, ◌+◌};
+
+use dsp_defs::{MakeFault, Steps};
+use dsp_rate::{Decimate, Interpolate};
+use std::alloc::Global;
+use std::process::Abort;
+use std::sync::ledger::Ledger;
+
+/// The group that is open at the end gives nothing, and goes on in another decimator.
+fn goes_on<M: Ledger>(rt: &impl Abort, alloc: Global, steps: &mut Steps<M>) {
+    let mut output = [7i16; 3];
+    let mut kept = [0i64; 2];
+    let mut first = Decimate::<i16, 8>::new(alloc, 2, &[16384], 4).expect(rt, "a decimator");
+    assert_eq!(rt; first.room(3), 2);
+    assert_eq!(rt; first.process(&[2, 4, 6], &mut output, steps), 1);
+    assert_eq!(rt; output, [1, 7, 7]);
+    assert_eq!(rt; first.kept_count(), 2);
+    first.keep(&mut kept);
+    assert_eq!(rt; kept, [6, 1]);
+    let mut second = Decimate::<i16, 8>::new(alloc, 2, &[16384], 4).expect(rt, "a decimator");
+    assert!(rt; !second.fits(&[6]) && !second.fits(&[32768, 1]));
+    assert!(rt; !second.fits(&[6, 2]) && !second.fits(&[6, -1]));
+    assert!(rt; second.fits(&kept));
+    second.restore(&kept);
+    assert_eq!(rt; second.process(&[8], &mut output, steps), 1);
+    assert_eq!(rt; output, [3, 7, 7]);
+    assert_eq!(rt; second.process(&[10], &mut output, steps), 0);
+    assert_eq!(rt;
+        (second.finish(&mut output, steps), second.is_ended()),
+        (0, true)
+    );
+    assert_eq!(rt; output, [3, 7, 7]);
+}
+
+/// A value by three taps takes three turns at eight lanes, and an open group takes none.
+fn few_turns<M: Ledger>(rt: &impl Abort, alloc: Global, steps: &mut Steps<M>)
+    ensures multiplies { steps.new.multiplies ≡ steps.old.multiplies + 3 }
+    ensures turns { steps.new.turns ≤ steps.old.turns + 3 }
+{
+    let mut filter = Decimate::<i16, 8>::new(alloc, 2, &[16384, 0, 8192], 3).expect(
+        rt,
+        "a decimator",
+    );
+    let mut output = [7i16; 2];
+    filter.process(&[4], &mut output, steps);
+    filter.process(&[5], &mut output, steps);
+    filter.process(&[6], &mut output, steps);
+    assert_eq!(rt; output, [1, 7]);
+}
+
+/// Two values for each sample: the last tap, then the one before it. Another interpolator goes on.
+fn phases<M: Ledger>(rt: &impl Abort, alloc: Global, steps: &mut Steps<M>) {
+    let taps = [0i16, 16384, 8192, 16384];
+    let mut output = [7i16; 5];
+    let mut kept = [0i64; 1];
+    let mut first = Interpolate::<i16, 8>::new(alloc, 2, &taps, 2).expect(rt, "an interpolator");
+    assert_eq!(rt; first.room(2), 4);
+    assert_eq!(rt; first.process(&[4, 8], &mut output, steps), 4);
+    assert_eq!(rt; output, [2, 1, 6, 2, 7]);
+    assert_eq!(rt; first.kept_count(), 1);
+    first.keep(&mut kept);
+    assert_eq!(rt; kept, [8]);
+    let mut second = Interpolate::<i16, 8>::new(alloc, 2, &taps, 1).expect(rt, "an interpolator");
+    assert!(rt; !second.fits(&[]) && !second.fits(&[32768]));
+    assert!(rt; second.fits(&kept));
+    second.restore(&kept);
+    assert_eq!(rt; second.process(&[0], &mut output, steps), 2);
+    assert_eq!(rt; output, [4, 0, 6, 2, 7]);
+    assert_eq!(rt;
+        (second.finish(&mut output, steps), second.is_ended()),
+        (0, true)
+    );
+}
+
+/// The calls that count their products.
+pub(crate) fn counted<M: Ledger>(rt: &impl Abort, alloc: Global, steps: &mut Steps<M>) {
+    goes_on(rt, alloc, steps);
+    few_turns(rt, alloc, steps);
+    phases(rt, alloc, steps);
+}
+
+#[test]
+fn faults(rt: HostRuntime) {
+    let alloc = rt.alloc();
+    assert!(rt;
+        matches!(
+            Decimate::<i16, 8>::new(alloc, 0, &[], 0),
+            Err(MakeFault::Length { taps: 0, factor: 1 })
+        )
+    );
+    assert!(rt;
+        matches!(
+            Decimate::<i16, 8>::new(alloc, 0, &[1], 1048577),
+            Err(MakeFault::Range { value: 0 })
+        )
+    );
+    assert!(rt;
+        matches!(
+            Decimate::<i32, 4>::new(alloc, 255, &[1], 1048577),
+            Err(MakeFault::Range { value: 1048577 })
+        )
+    );
+    assert!(rt; Decimate::<i16, 8>::new(alloc, 255, &[1; 4096], 1048576).is_ok());
+    assert!(rt;
+        matches!(
+            Interpolate::<i16, 8>::new(alloc, 2, &[1, 2, 3], 0),
+            Err(MakeFault::Length { taps: 3, factor: 2 })
+        )
+    );
+    assert!(rt;
+        matches!(
+            Interpolate::<i32, 4>::new(alloc, 0, &[], 4),
+            Err(MakeFault::Length { taps: 0, factor: 1 })
+        )
+    );
+    assert!(rt;
+        matches!(
+            Interpolate::<i32, 4>::new(alloc, 0, &[1], 0),
+            Err(MakeFault::Range { value: 0 })
+        )
+    );
+    assert!(rt; Interpolate::<i16, 8>::new(alloc, 255, &[1; 4080], 1).is_ok());
+}

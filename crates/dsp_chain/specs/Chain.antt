@@ -16,6 +16,7 @@ use Rattle.dsp_chain.specs.declared.block_unit.BlockUnit.{BlockUnit}
 use Rattle.dsp_chain.specs.declared.block_unit.BlockUnit.TheVariants as unit
 use Rattle.dsp_biquad.specs.BiquadUnit.{unit_of}
 use Rattle.dsp_lattice.specs.LatticeUnit.{unit_of as lattice_of}
+use Rattle.dsp_matrix.specs.MatrixUnit.{unit_of as matrix_of}
 use Rattle.dsp_unit.specs.InFormat.{unit_in_format}
 use Rattle.dsp_unit.specs.Either.{either_unit}
 use Rattle.dsp_defs.specs.declared.measure.Measure.{Measure}
@@ -35,6 +36,7 @@ state_of (unit.Rate u) = either_unit (either_unit seen seen) (either_unit seen s
 state_of (unit.Lattice u) = lattice_of u
 state_of (unit.Biquad u) = unit_of u
 state_of (unit.Adapt u) = either_unit seen seen u
+state_of (unit.Matrix u) = matrix_of u
 state_of (unit.Conv u) = unit_in_format seen seen seen u
 state_of (unit.Measure u) = u
 

@@ -12,6 +12,7 @@ use dsp_conv::{ConvUnit, conv_unit};
 use dsp_defs::{Block, Fmt, MAX_SAMPLES, Measure, Steps};
 use dsp_fir::{FirUnit, fir_unit};
 use dsp_lattice::{LatticeUnit, lattice_unit};
+use dsp_matrix::{MatrixUnit, matrix_unit};
 use dsp_rate::{RateUnit, rate_unit};
 use dsp_stage::Stage;
 use dsp_vector::VectorUnit;
@@ -28,6 +29,7 @@ pub enum BlockUnit {
     Lattice(LatticeUnit),
     Biquad(BiquadUnit),
     Adapt(AdaptUnit),
+    Matrix(MatrixUnit),
     Conv(ConvUnit),
     Measure(dsp_measure::Unit),
 }
@@ -71,6 +73,9 @@ impl BlockUnit {
             Some(Family::Adapt) => Ok(BlockUnit::Adapt(adapt_unit(
                 alloc, block, format, channels, frames,
             )?)),
+            Some(Family::Matrix) => Ok(BlockUnit::Matrix(matrix_unit(
+                alloc, block, format, channels, frames,
+            )?)),
             Some(Family::Conv) => Ok(BlockUnit::Conv(conv_unit(
                 alloc, block, format, channels, frames,
             )?)),
@@ -93,6 +98,7 @@ macro_rules! for_unit {
             BlockUnit::Lattice($unit) => $result,
             BlockUnit::Biquad($unit) => $result,
             BlockUnit::Adapt($unit) => $result,
+            BlockUnit::Matrix($unit) => $result,
             BlockUnit::Conv($unit) => $result,
             BlockUnit::Measure($unit) => $result,
         }

@@ -20,6 +20,8 @@ pub enum Family {
     Lattice,
     /// Controllers.
     Adapt,
+    /// Matrices over groups of samples.
+    Matrix,
     /// Convolutions, which end with a tail.
     Conv,
     /// Measures, which pass the frames on.
@@ -51,7 +53,14 @@ pub fn family_of(block: &Block) -> Option<Family>
         Block::Conv { .. } => Some(Family::Conv),
         Block::LatticeFir { .. } | Block::LatticeIir { .. } => Some(Family::Lattice),
         Block::Pid { .. } => Some(Family::Adapt),
-        Block::Power => Some(Family::Measure),
+        Block::MatAdd { .. }
+        | Block::MatSub { .. }
+        | Block::MatScale { .. }
+        | Block::MatTrans { .. }
+        | Block::MatMult { .. } => Some(Family::Matrix),
+        Block::Power | Block::Dot | Block::CmplxDot | Block::Max | Block::Min => {
+            Some(Family::Measure)
+        }
         _ => None,
     }
 }

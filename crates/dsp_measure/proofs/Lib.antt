@@ -1,2 +1,6 @@
 pub mod SumLaws
+pub mod ExtremeLaws
+pub mod MeasureParts
 pub mod MeasureUnits
+pub mod MeasureResults
+pub mod TestSignals

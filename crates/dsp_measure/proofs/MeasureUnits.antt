@@ -1,177 +1,321 @@
--- Units of `power`: they give the frames as they take them, and keep a sum for each channel.
-use Rattle.std.proofs.Common.{◌≡◌, ◌∙◌, ap, refl, sym, ℕ, zero, suc, ◌+◌, ◌-◌, ◌*◌, ◌/◌, ◌<◌, ◌≤◌, ℤ, pos, List, [], ◌∷◌, ◌++◌, map, length, take, drop, get_or, arith, false, Some, None, flat_map, zero-add}
-use Rattle.std.specs.Prelude.{All, FitsSigned, slice_get}
+-- Units of measures: they give the frames as they take them, and keep numbers for each measure.
+use Rattle.std.proofs.Common.{◌≡◌, ◌∙◌, ap, refl, sym, subst, ℕ, zero, suc, ◌+◌, ◌-◌, ◌*◌, ◌/◌, ◌<◌, ◌≤◌, ℤ, pos, List, [], ◌∷◌, ◌++◌, length, take, drop, replicate, flat_map, Bool, false, IfSome, arith, rules}
+use Rattle.std.specs.Prelude.{FitsSigned}
 use Rattle.std.specs.List.{range_with_len}
 use Rattle.std.proofs.lemmas.List.{append-nil, take-append-le, take_all}
-use Rattle.std.proofs.lemmas.List.FromFn.{length-map-range_with_len}
-use Rattle.dsp_defs.specs.Block.{Frame, channel}
-use Rattle.dsp_stage.specs.Channels.{samples_in}
-use Rattle.dsp_defs.specs.Counts.{Counts}
+use Rattle.dsp_defs.specs.Block.{Frame, live, whole, format_after, channels_after}
+use Rattle.dsp_defs.specs.Cost.{live_block_cost, block_turns}
+use Rattle.dsp_defs.specs.Counts.{Counts, Rises}
 use Rattle.dsp_defs.specs.Formats.{accumulator}
-use Rattle.dsp_stage.specs.Kept.{kept_numbers, InWord, Each, IsPlace, IsOfKind, Fits, FitsAfter}
-use Rattle.dsp_defs.specs.Measure.{power}
-use Rattle.dsp_defs.specs.Numbers.{Width, int_wrap}
+use Rattle.dsp_defs.specs.Grammar.{Suits}
+use Rattle.dsp_defs.specs.Numbers.{int_wrap}
+use Rattle.dsp_defs.specs.Shape.{live_frames, whole_frames}
 use Rattle.dsp_defs.specs.Signal.{sample}
-use Rattle.dsp_stage.specs.Unit.{UnitState, MadeAs, StandsFor, CountsFrames, Feeds, Restores, IsSignal, IsOutput, frames_in, measures_of}
 use Rattle.dsp_defs.specs.declared.format.Fmt.{Fmt}
 use Rattle.dsp_defs.specs.declared.format.Fmt.TheVariants.{Q7, Q15, Q31}
-use Rattle.dsp_defs.specs.declared.measure.Measure.TheVariants as Measures
-use Rattle.dsp_defs.specs.declared.script.Block.TheVariants.{Power}
-use Rattle.dsp_stage.proofs.ChannelFrames.{channel-frames_in, channel-more}
+use Rattle.dsp_defs.specs.declared.script.Block.{Block}
+use Rattle.dsp_stage.specs.Channels.{numbers_in}
+use Rattle.dsp_stage.specs.Kept.{Each, IsPlace, IsOfKind, IsTaken, Fits, FitsAfter, HasPlace, kinds_by, kept_kinds, kept_numbers, extreme_kinds, limit_of}
+use Rattle.dsp_stage.specs.Unit.{UnitState, MadeAs, StandsFor, CountsFrames, Feeds, Restores, Accepts, IsNew, IsSignal, IsOutput, frames_in, most_frames}
 use Rattle.dsp_defs.proofs.FrameLemmas.{length-frames_in}
-use Rattle.dsp_stage.proofs.MeasureLaws.{sample-singles}
-use Rattle.dsp_defs.proofs.SumLemmas.{same_numbers}
-use Rattle.dsp_measure.specs.Sums.{with_squares}
-use Rattle.dsp_measure.proofs.SumLaws.{power-more}
+use Rattle.dsp_stage.proofs.ChannelKept.{kinds-place, each-length, pieces-same, pieces-each}
+use Rattle.dsp_measure.specs.Measures.{block_of, channels_of, parts_of, size_of, price_of, part_kept, AllCanTake, PartsFeed}
+use Rattle.dsp_measure.specs.declared.measure_block.MeasureBlock.{MeasureBlock}
+use Rattle.dsp_measure.specs.declared.measure_block.MeasureBlock.TheVariants as measure
+use Rattle.dsp_measure.proofs.ExtremeLaws.{four-numbers}
+use Rattle.dsp_measure.proofs.MeasureParts.{length-kept, kinds-each, each-kinds, kinds-parts, numbers-parts}
 
--- ---- numbers of one width
+-- ---- what the blocks have in common
 
-one-of : {B : Type 0} (w : B) (a n : ℕ) (f : ℕ → ℤ) → length (flat_map (λ c. f c ∷ []) (range_with_len a n)) ≡ n
-one-of w a zero f = refl
-one-of w a (suc n) f = ap suc (one-of w (a + 1) n f)
+module _ (format : Fmt) (channels : ℕ) where
+  pub passes : (m : MeasureBlock) (x : List Frame) → live format channels (block_of m) x ≡ x
+  passes measure.Power x = refl
+  passes measure.Dot x = refl
+  passes measure.CmplxDot x = refl
+  passes measure.Max x = refl
+  passes measure.Min x = refl
 
-words-place : (w : Width) (a n : ℕ) (xs : List ℤ) → length xs ≡ n → Each IsPlace (flat_map (λ (_ : ℕ). InWord w ∷ []) (range_with_len a n)) xs
-words-place w a zero [] e = tt
-words-place w a zero (x ∷ xs) e = absurd (omega (arith, e))
-words-place w a (suc n) [] e = absurd (omega (arith, e))
-words-place w a (suc n) (x ∷ xs) e = (tt, words-place w (a + 1) n xs (omega (arith, e)))
+  pub passes-whole : (m : MeasureBlock) (x : List Frame) → whole format channels (block_of m) x ≡ x
+  passes-whole measure.Power x = refl
+  passes-whole measure.Dot x = refl
+  passes-whole measure.CmplxDot x = refl
+  passes-whole measure.Max x = refl
+  passes-whole measure.Min x = refl
 
-all-of : (w : Width) (x : ℤ) (xs : List ℤ) → FitsSigned w x → All (FitsSigned w) xs → (k : ℕ) (d : ℤ) → k < suc (length xs) → FitsSigned w (get_or (x ∷ xs) k d)
-all-of w x xs first rest zero d h = first
-all-of w x xs first rest (suc k) d h = rest k d (omega (arith, h))
+  pub channels-stay : (m : MeasureBlock) → channels_after channels (block_of m) ≡ channels
+  channels-stay measure.Power = refl
+  channels-stay measure.Dot = refl
+  channels-stay measure.CmplxDot = refl
+  channels-stay measure.Max = refl
+  channels-stay measure.Min = refl
 
-words-of : (w : Width) (a n : ℕ) (xs : List ℤ) → length xs ≡ n → All (FitsSigned w) xs → Each IsOfKind (flat_map (λ (_ : ℕ). InWord w ∷ []) (range_with_len a n)) xs
-words-of w a zero [] e fits = tt
-words-of w a zero (x ∷ xs) e fits = absurd (omega (arith, e))
-words-of w a (suc n) [] e fits = absurd (omega (arith, e))
-words-of w a (suc n) (x ∷ xs) e fits = (fits 0 x (omega arith), words-of w (a + 1) n xs (omega (arith, e)) (λ k d h. fits (suc k) d (omega (arith, h))))
+  pub format-stays : (m : MeasureBlock) → format_after format (block_of m) ≡ format
+  format-stays measure.Power = refl
+  format-stays measure.Dot = refl
+  format-stays measure.CmplxDot = refl
+  format-stays measure.Max = refl
+  format-stays measure.Min = refl
 
-of-words : (w : Width) (a n : ℕ) (xs : List ℤ) → Each IsOfKind (flat_map (λ (_ : ℕ). InWord w ∷ []) (range_with_len a n)) xs → (length xs ≡ n) × All (FitsSigned w) xs
-of-words w a zero [] h = (refl, λ k d inside. absurd (omega (arith, inside)))
-of-words w a zero (x ∷ xs) h = absurd h
-of-words w a (suc n) [] h = absurd h
-of-words w a (suc n) (x ∷ xs) h =
-    let rest = of-words w (a + 1) n xs h.1 in
-    (ap suc rest.0, all-of w x xs h.0 rest.1)
+  pub cost-of : (m : MeasureBlock) (n : ℕ) → live_block_cost format channels (block_of m) n ≡ parts_of m channels * (price_of m * n)
+  cost-of measure.Power n = omega arith
+  cost-of measure.Dot n = omega arith
+  cost-of measure.CmplxDot n = omega arith
+  cost-of measure.Max n = omega arith
+  cost-of measure.Min n = omega arith
+
+  pub turns-of : (m : MeasureBlock) (a b : ℕ) → block_turns format channels (block_of m) a b ≡ live_block_cost format channels (block_of m) b - live_block_cost format channels (block_of m) a
+  turns-of measure.Power a b = refl
+  turns-of measure.Dot a b = refl
+  turns-of measure.CmplxDot a b = refl
+  turns-of measure.Max a b = refl
+  turns-of measure.Min a b = refl
+
+pub frames-stay : (m : MeasureBlock) (n : ℕ) → live_frames (block_of m) n ≡ n
+frames-stay measure.Power n = refl
+frames-stay measure.Dot n = refl
+frames-stay measure.CmplxDot n = refl
+frames-stay measure.Max n = refl
+frames-stay measure.Min n = refl
+
+pub whole-stay : (m : MeasureBlock) (n : ℕ) → whole_frames (block_of m) n ≡ n
+whole-stay measure.Power n = refl
+whole-stay measure.Dot n = refl
+whole-stay measure.CmplxDot n = refl
+whole-stay measure.Max n = refl
+whole-stay measure.Min n = refl
+
+pub most-stay : (m : MeasureBlock) (n : ℕ) → most_frames (block_of m) n ≡ n
+most-stay measure.Power n = refl
+most-stay measure.Dot n = refl
+most-stay measure.CmplxDot n = refl
+most-stay measure.Max n = refl
+most-stay measure.Min n = refl
+
+-- as many measures as channels at most, and at least one
+pub parts-few : (m : MeasureBlock) (channels : ℕ) → channels_of m ≤ channels → (0 < parts_of m channels) × (parts_of m channels ≤ channels)
+parts-few measure.Power channels h = (omega (arith, h), omega arith)
+parts-few measure.Dot channels h = (omega arith, omega (arith, h))
+parts-few measure.CmplxDot channels h = (omega arith, omega (arith, h))
+parts-few measure.Max channels h = (omega (arith, h), omega arith)
+parts-few measure.Min channels h = (omega (arith, h), omega arith)
+
+-- a block that suits its place has the channels that it measures
+pub enough-channels : (m : MeasureBlock) (format : Fmt) (channels : ℕ) (b : Block) → block_of m ≡ b → 1 ≤ channels → Suits (record { format = format; channels = channels }) b → channels_of m ≤ channels
+enough-channels m format channels b is some suits = by m (subst (Suits (record { format = format; channels = channels })) (sym is) suits)
+  where
+    by : (k : MeasureBlock) → Suits (record { format = format; channels = channels }) (block_of k) → channels_of k ≤ channels
+    by measure.Power fits = some
+    by measure.Dot fits = omega (arith, fits.channels)
+    by measure.CmplxDot fits = omega (arith, fits.channels)
+    by measure.Max fits = some
+    by measure.Min fits = some
+
+-- ---- numbers at their place
+
+four-kinds : (format : Fmt) (a b : ℕ) (p q r s : ℤ) → Each IsOfKind (extreme_kinds format a) (p ∷ q ∷ r ∷ s ∷ []) → Each IsPlace (extreme_kinds format b) (p ∷ q ∷ r ∷ s ∷ []) → a ≡ b
+four-kinds format zero zero p q r s kinds place = refl
+four-kinds format zero (suc b) p q r s kinds place = (let zero_is : p ≡ pos 0 = kinds.0 in let one_is : p ≡ pos 1 = place.0 in cc)
+four-kinds format (suc a) zero p q r s kinds place = (let zero_is : p ≡ pos 0 = place.0 in let one_is : p ≡ pos 1 = kinds.0 in cc)
+four-kinds format (suc a) (suc b) p q r s kinds place = (let one : s ≡ pos (suc a) = kinds.1.1.1.0 in let other : s ≡ pos (suc b) = place.1.1.1.0 in cc)
+
+length-extreme_kinds : (format : Fmt) (n : ℕ) → length (extreme_kinds format n) ≡ 4
+length-extreme_kinds format zero = refl
+length-extreme_kinds format (suc n) = refl
+
+extreme-place : (format : Fmt) (a b : ℕ) (xs : List ℤ) → Each IsOfKind (extreme_kinds format a) xs → Each IsPlace (extreme_kinds format b) xs → a ≡ b
+extreme-place format a b xs kinds place =
+    let whole = four-numbers xs (each-length IsOfKind (extreme_kinds format a) xs kinds ∙ length-extreme_kinds format a) in
+    four-kinds format a b (sample xs 0) (sample xs 1) (sample xs 2) (sample xs 3) (subst (Each IsOfKind (extreme_kinds format a)) whole kinds) (subst (Each IsPlace (extreme_kinds format b)) whole place)
+
+-- numbers of some count that are at the place of another are of its kinds
+part-kinds : (format : Fmt) (m : MeasureBlock) (a b : ℕ) (xs : List ℤ) → Each IsOfKind (kinds_by format (block_of m) a) xs → Each IsPlace (kinds_by format (block_of m) b) xs → Each IsOfKind (kinds_by format (block_of m) b) xs
+part-kinds format measure.Power a b xs kinds place = kinds
+part-kinds format measure.Dot a b xs kinds place = kinds
+part-kinds format measure.CmplxDot a b xs kinds place = kinds
+part-kinds format measure.Max a b xs kinds place = subst (λ n. Each IsOfKind (extreme_kinds format n) xs) (extreme-place format a b xs kinds place) kinds
+part-kinds format measure.Min a b xs kinds place = subst (λ n. Each IsOfKind (extreme_kinds format n) xs) (extreme-place format a b xs kinds place) kinds
+
+pub place-kinds : (format : Fmt) (channels : ℕ) (m : MeasureBlock) (a b : ℕ) (xs : List ℤ) → Each IsOfKind (kept_kinds format channels (block_of m) a) xs → HasPlace format channels (block_of m) b xs → Each IsOfKind (kept_kinds format channels (block_of m) b) xs
+place-kinds format channels m a b xs kinds place =
+    each-kinds format channels m IsOfKind b xs (length-kept format channels m IsOfKind a xs kinds)
+    (λ p h. part-kinds format m a b (numbers_in (size_of m) xs p) (kinds-each format channels m IsOfKind a xs kinds p h) (kinds-each format channels m IsPlace b xs place p h))
 
 -- ---- the unit
 
--- a unit of `power` that is not ended, with a sum for each channel
-pub record IsPower (u : UnitState) : Type 0 where
-  pub block : u.block ≡ Power
+-- a unit of the measure that is not ended
+pub record IsMeasuring (m : MeasureBlock) (u : UnitState) : Type 0 where
+  pub block : u.block ≡ block_of m
   pub running : u.ended ≡ false
   pub tail : u.tail ≡ []
   pub plain : u.banked ≡ false
-  pub sums : length u.kept ≡ u.channels
 
-powers : Fmt → ℕ → List Frame → ℕ → ℤ
-powers format channels x c = power format (channel c x)
+module _ (m : MeasureBlock) (u : UnitState) (is : IsMeasuring m u) where
+  pub measure-stands : (x : List Frame) → u.kept ≡ kept_numbers u.format u.channels (block_of m) x → StandsFor u x
+  measure-stands x keeps = record {
+    running = is.running;
+    keeps = rw is.block keeps;
+    tail_follows = rw (is.block, is.tail, passes-whole u.format u.channels m x, passes u.format u.channels m x) (sym (append-nil x));
+  }
 
--- it stands for the frames whose powers it keeps
-pub power-stands : (u : UnitState) → IsPower u → (x : List Frame) → ((c : ℕ) → c < u.channels → sample u.kept c ≡ power u.format (channel c x)) → StandsFor u x
-power-stands u is x each = record {
-  running = is.running;
-  keeps = rw is.block
-      (same_numbers u.kept (flat_map (λ c. power u.format (channel c x) ∷ []) (range_with_len 0 u.channels)) (is.sums ∙ sym (one-of Power 0 u.channels (λ c. power u.format (channel c x))))
-      (λ c h. let inside : c < u.channels = omega (arith, h, is.sums) in each c inside ∙ sym (sample-singles (λ c. power u.format (channel c x)) u.channels c inside)));
-  tail_follows = rw (is.block, is.tail) (sym (append-nil x));
-}
+  pub measure-keeps : (x : List Frame) → StandsFor u x → u.kept ≡ kept_numbers u.format u.channels (block_of m) x
+  measure-keeps x stands = rw is.block at stands.keeps
 
-stands-power : (u : UnitState) → IsPower u → (x : List Frame) → StandsFor u x → (c : ℕ) → c < u.channels → sample u.kept c ≡ power u.format (channel c x)
-stands-power u is x stands c inside =
-    let keeps = rw is.block at stands.keeps in
-    ap (λ l. sample l c) keeps ∙ sample-singles (λ c. power u.format (channel c x)) u.channels c inside
+  pub measure-counts : (n : ℕ) → HasPlace u.format u.channels (block_of m) n u.kept → CountsFrames u n
+  measure-counts n place = record {
+    running = is.running;
+    place = rw is.block place;
+    tail_frames = rw (is.block, is.tail, whole-stay m n, frames-stay m n) (omega arith);
+  }
 
-pub power-counts : (u : UnitState) → IsPower u → (n : ℕ) → CountsFrames u n
-power-counts u is n = record {
-  running = is.running;
-  place = rw is.block (words-place (accumulator u.format) 0 u.channels u.kept is.sums);
-  tail_frames = rw (is.block, is.tail) (omega arith);
-}
+  pub measure-place : (n : ℕ) → CountsFrames u n → HasPlace u.format u.channels (block_of m) n u.kept
+  measure-place n counts = rw is.block at counts.place
 
--- fed with frames, each sum goes on by the squares of its channel
-pub power-feeds :
-    (u v : UnitState) (frames : List ℤ) (m : ℕ) (before after : Counts) → IsPower u → IsPower v → MadeAs u v → length frames / u.channels ≡ m →
-    ((c : ℕ) → c < u.channels → sample v.kept c ≡ with_squares u.format (sample u.kept c) (samples_in u.channels m frames c)) →
-    after.multiplies ≡ before.multiplies + m * u.channels → after.turns ≤ before.turns + m * u.channels →
+-- what it may take
+pub can-take : (m : MeasureBlock) (u : UnitState) (more : ℕ) → IsMeasuring m u → Fits u.format u.channels (block_of m) u.kept → Accepts u more → AllCanTake u.format u.channels m more u.kept
+can-take m u more is fits accepts = by m is fits
+  where
+    limited : (k : MeasureBlock) → IsMeasuring k u → Fits u.format u.channels (block_of k) u.kept → (n : ℕ) → CountsFrames u n → IsTaken (block_of k) (n + more) → AllCanTake u.format u.channels k more u.kept
+    limited k mine fits n counts few = (n, place-kinds u.format u.channels k fits.0 n u.kept fits.1.1 (measure-place k u mine n counts), few)
+
+    told : {b : Block} → u.block ≡ b → IfSome (limit_of b) (λ limit. (n : ℕ) × CountsFrames u n × (n + more ≤ limit))
+    told e = subst (λ b. IfSome (limit_of b) (λ limit. (n : ℕ) × CountsFrames u n × (n + more ≤ limit))) e accepts
+
+    by : (k : MeasureBlock) → IsMeasuring k u → Fits u.format u.channels (block_of k) u.kept → AllCanTake u.format u.channels k more u.kept
+    by measure.Power mine fits = (fits.0, fits.1.1, tt)
+    by measure.Dot mine fits = (fits.0, fits.1.1, tt)
+    by measure.CmplxDot mine fits = (fits.0, fits.1.1, tt)
+    by measure.Max mine fits = let h : (n : ℕ) × CountsFrames u n × (n + more ≤ 4611686018427387903) = told mine.block in limited measure.Max mine fits h.0 h.1 h.2
+    by measure.Min mine fits = let h : (n : ℕ) × CountsFrames u n × (n + more ≤ 4611686018427387903) = told mine.block in limited measure.Min mine fits h.0 h.1 h.2
+
+-- fed with frames, each measure goes on
+pub measure-feeds :
+    (m : MeasureBlock) (u v : UnitState) (frames : List ℤ) (before after : Counts) → IsMeasuring m u → IsMeasuring m v → MadeAs u v → Fits u.format u.channels (block_of m) u.kept →
+    PartsFeed u.format m u.channels frames u.kept v.kept →
+    Rises before after (parts_of m u.channels * (price_of m * (length frames / u.channels))) (parts_of m u.channels * (price_of m * (length frames / u.channels))) →
     Feeds u v (frames_in u.channels frames) (frames_in u.channels frames) before after
-power-feeds u v frames m before after is is' made size each paid turned = record {
+measure-feeds m u v frames before after is is' made fits fed rises = record {
   made = made;
-  values = λ x _. rw is.block refl;
-  stands = λ x stands. power-stands v is' (x ++ taken) (λ c h. let inside : c < u.channels = rw made.channels at h in
-      rw made.format (each c inside ∙ ap (λ s. with_squares u.format s (samples_in u.channels m frames c)) (stands-power u is x stands c inside) ∙ goes-on x c inside));
-  frames = λ n _. rw is.block refl;
-  counts = λ n _. power-counts v is' (n + length taken);
-  multiplies = λ n _. rw (is.block, many) (omega (arith, paid));
-  turns = λ n _. rw (is.plain, is.block, many) (omega (arith, turned, more n m u.channels));
+  values = λ x _. rw (is.block, passes u.format u.channels m (x ++ taken), passes u.format u.channels m x) refl;
+  stands = λ x stands. measure-stands m v is' (x ++ taken) (rw (made.format, made.channels) (fed.stands x (measure-keeps m u is x stands)));
+  frames = λ n _. rw (is.block, frames-stay m (n + length taken), frames-stay m n) refl;
+  counts = λ n counts. measure-counts m v is' (n + length taken) (rw (made.format, made.channels, many) (kinds-place _ v.kept (fed.kinds n (place-kinds u.format u.channels m fits.0 n u.kept fits.1.1 (measure-place m u is n counts)))));
+  multiplies = λ n _. rw (is.block, cost-of u.format u.channels m (n + length taken), cost-of u.format u.channels m n, many) (omega (arith, rises.multiplies_rise, more n (length frames / u.channels)));
+  turns = λ n _. rw (is.plain, is.block, turns-of u.format u.channels m n (n + length taken), cost-of u.format u.channels m (n + length taken), cost-of u.format u.channels m n, many) (omega (arith, rises.turns_rise, more n (length frames / u.channels)));
 }
   where
     taken : List Frame
     taken = frames_in u.channels frames
 
-    many : length taken ≡ m
-    many = length-frames_in u.channels frames ∙ size
+    many : length taken ≡ length frames / u.channels
+    many = length-frames_in u.channels frames
 
-    more : (n m c : ℕ) → c * (n + m) - c * n ≡ m * c
-    more n m c = omega arith
+    product : (a b n k : ℕ) → a * (b * (n + k)) ≡ a * (b * n) + a * (b * k)
+    product a b n k = omega arith
 
-    goes-on : (x : List Frame) (c : ℕ) → c < u.channels → with_squares u.format (power u.format (channel c x)) (samples_in u.channels m frames c) ≡ power u.format (channel c (x ++ taken))
-    goes-on x c inside =
-        let more_of : channel c taken ≡ samples_in u.channels m frames c = channel-frames_in u.channels frames c inside ∙ ap (λ k. samples_in u.channels k frames c) size in
-        ap (with_squares u.format (power u.format (channel c x))) (sym more_of)
-        ∙ power-more u.format (channel c x) (channel c taken)
-        ∙ ap (power u.format) (sym (channel-more c x taken))
+    more : (n k : ℕ) → parts_of m u.channels * (price_of m * (n + k)) ≡ parts_of m u.channels * (price_of m * n) + parts_of m u.channels * (price_of m * k)
+    more n k = product (parts_of m u.channels) (price_of m) n k
 
 -- what it gives is what it took
-pub power-output : (u : UnitState) (frames : List ℤ) → u.block ≡ Power → IsSignal u.format u.channels frames → length (frames_in u.channels frames) ≤ u.capacity → IsOutput u u.capacity frames
-power-output u frames is signal few = record { signal = rw is signal; at_most = rw is few }
+pub measure-output : (m : MeasureBlock) (u : UnitState) (frames : List ℤ) → IsMeasuring m u → IsSignal u.format u.channels frames → length (frames_in u.channels frames) ≤ u.capacity → IsOutput u (most_frames u.block u.capacity) frames
+measure-output m u frames is signal few = record { signal = rw (is.block, format-stays u.format u.channels m, channels-stay u.format u.channels m) signal; at_most = rw (is.block, channels-stay u.format u.channels m, most-stay m u.capacity) few }
 
--- ---- kept numbers and measures
-
-pub power-fits : (format : Fmt) (channels : ℕ) (numbers : List ℤ) → length numbers ≡ channels → All (FitsSigned (accumulator format)) numbers → Fits format channels Power numbers
-power-fits format channels numbers size fits = (0, (tt, words-of (accumulator format) 0 channels numbers size fits))
-
-pub power-place : (format : Fmt) (channels : ℕ) (numbers : List ℤ) → Fits format channels Power numbers → FitsAfter format channels Power 0 numbers
-power-place format channels numbers fits = let words = of-words (accumulator format) 0 channels numbers fits.1.1 in (tt, words-of (accumulator format) 0 channels numbers words.0 words.1)
-
-pub fits-power : (format : Fmt) (channels : ℕ) (numbers : List ℤ) → Fits format channels Power numbers → (length numbers ≡ channels) × All (FitsSigned (accumulator format)) numbers
-fits-power format channels numbers fits = of-words (accumulator format) 0 channels numbers fits.1.1
-
-pub power-restores : (u v : UnitState) (numbers : List ℤ) → IsPower v → MadeAs u v → v.kept ≡ numbers → Restores u v numbers
-power-restores u v numbers is made kept = record {
+pub measure-restores : (m : MeasureBlock) (u v : UnitState) (numbers : List ℤ) → IsMeasuring m u → IsMeasuring m v → MadeAs u v → v.kept ≡ numbers → Restores u v numbers
+measure-restores m u v numbers is is' made kept = record {
   made = made;
-  running = is.running;
+  running = is'.running;
   kept = kept;
-  stands = λ x e. power-stands v is x (λ c h. stands-sums x e c h);
-  counts = λ n _. power-counts v is n;
+  stands = λ x e. measure-stands m v is' x (rw (made.format, made.channels) (kept ∙ (rw is.block at e)));
+  counts = λ n place. measure-counts m v is' n (rw (made.format, made.channels, kept) (rw is.block at place));
 }
+
+-- ---- a new one
+
+zero-sum : (format : Fmt) → FitsSigned (accumulator format) (pos 0)
+zero-sum Q7 = search rules
+zero-sum Q15 = search rules
+zero-sum Q31 = search rules
+
+zero-kinds : (format : Fmt) (m : MeasureBlock) → Each IsOfKind (kinds_by format (block_of m) 0) (replicate (size_of m) (pos 0))
+zero-kinds format measure.Power = (zero-sum format, tt)
+zero-kinds format measure.Dot = (zero-sum format, tt)
+zero-kinds format measure.CmplxDot = (zero-sum format, (zero-sum format, tt))
+zero-kinds format measure.Max = (refl, (refl, (refl, (refl, tt))))
+zero-kinds format measure.Min = (refl, (refl, (refl, (refl, tt))))
+
+none-taken : (m : MeasureBlock) → IsTaken (block_of m) 0
+none-taken measure.Power = tt
+none-taken measure.Dot = tt
+none-taken measure.CmplxDot = tt
+none-taken measure.Max = omega arith
+none-taken measure.Min = omega arith
+
+zero-part : (format : Fmt) (m : MeasureBlock) (p : ℕ) → replicate (size_of m) (pos 0) ≡ part_kept format m p []
+unfolding int_wrap
+zero-part Q7 measure.Power p = refl
+zero-part Q15 measure.Power p = refl
+zero-part Q31 measure.Power p = refl
+zero-part Q7 measure.Dot p = refl
+zero-part Q15 measure.Dot p = refl
+zero-part Q31 measure.Dot p = refl
+zero-part Q7 measure.CmplxDot p = refl
+zero-part Q15 measure.CmplxDot p = refl
+zero-part Q31 measure.CmplxDot p = refl
+zero-part format measure.Max p = refl
+zero-part format measure.Min p = refl
+
+-- what all keep of nothing
+zeros-parts : (size a n : ℕ) → flat_map (λ (_ : ℕ). replicate {A = ℤ} size (pos 0)) (range_with_len a n) ≡ replicate (n * size) (pos 0)
+zeros-parts size a zero = ap (λ k. replicate k (pos 0)) (let e : 0 ≡ 0 * size = omega arith in e)
+zeros-parts size a (suc n) =
+    ap (λ l. replicate size (pos 0) ++ l) (zeros-parts size (a + 1) n)
+    ∙ replicate-more size (n * size)
+    ∙ ap (λ k. replicate k (pos 0)) (let e : size + n * size ≡ suc n * size = omega arith in e)
   where
-    stands-sums : (x : List Frame) → numbers ≡ kept_numbers u.format u.channels u.block x → (c : ℕ) → c < v.channels → sample v.kept c ≡ power v.format (channel c x)
-    stands-sums x e c h =
-        let same_block : u.block ≡ Power = sym made.block ∙ is.block in
-        let inside : c < u.channels = rw made.channels at h in
-        let keeps : numbers ≡ flat_map (λ c. power u.format (channel c x) ∷ []) (range_with_len 0 u.channels) = rw same_block at e in
-        rw made.format (ap (λ l. sample l c) (kept ∙ keeps) ∙ sample-singles (λ c. power u.format (channel c x)) u.channels c inside)
+    replicate-more : (j k : ℕ) → replicate {A = ℤ} j (pos 0) ++ replicate k (pos 0) ≡ replicate (j + k) (pos 0)
+    replicate-more zero k = ap (λ m. replicate m (pos 0)) (let e : k ≡ 0 + k = omega arith in e)
+    replicate-more (suc j) k = ap (λ l. pos 0 ∷ l) (replicate-more j k) ∙ ap (λ m. replicate m (pos 0)) (let e : suc (j + k) ≡ suc j + k = omega arith in e)
 
-pub length-powers : (u : UnitState) (number : ℕ) → u.block ≡ Power → length (measures_of number u) ≡ u.channels
-length-powers u number is = rw is (length-map-range_with_len (λ c. Measures.Power number c (sample u.kept c)) 0 u.channels)
+module _ (format : Fmt) (channels : ℕ) (m : MeasureBlock) where
+  abbrev many : ℕ
+  many = parts_of m channels
 
-get-values : {A : Type 0} (f : ℕ → A) (a n i : ℕ) → i < n → slice_get (map f (range_with_len a n)) i ≡ Some (f (a + i))
-get-values f a zero i h = absurd (omega (arith, h))
-get-values f a (suc n) zero h = let here : a + 0 ≡ a = omega arith in ap (λ k. Some (f k)) (sym here)
-get-values f a (suc n) (suc i) h = let next : a + 1 + i ≡ a + suc i = omega arith in get-values f (a + 1) n i (omega (arith, h)) ∙ ap (λ k. Some (f k)) next
+  pub zeros-kept : replicate (many * size_of m) (pos 0) ≡ kept_numbers format channels (block_of m) []
+  zeros-kept =
+      sym (zeros-parts (size_of m) 0 many)
+      ∙ pieces-same (λ (_ : ℕ). replicate (size_of m) (pos 0)) (λ p. part_kept format m p []) many (λ p _. zero-part format m p)
+      ∙ sym (numbers-parts format channels m [])
 
-past-values : {A : Type 0} (f : ℕ → A) (a n i : ℕ) → n ≤ i → slice_get (map f (range_with_len a n)) i ≡ None
-past-values f a zero i h = refl
-past-values f a (suc n) zero h = absurd (omega (arith, h))
-past-values f a (suc n) (suc i) h = past-values f (a + 1) n i (omega (arith, h))
+  pub zeros-fit : FitsAfter format channels (block_of m) 0 (replicate (many * size_of m) (pos 0))
+  zeros-fit = (
+    none-taken m,
+    subst (λ ks. Each IsOfKind ks (replicate (many * size_of m) (pos 0))) (sym (kinds-parts format channels m 0))
+        (subst (Each IsOfKind (flat_map (λ (_ : ℕ). kinds_by format (block_of m) 0) (range_with_len 0 many))) (zeros-parts (size_of m) 0 many)
+        (pieces-each IsOfKind (kinds_by format (block_of m) 0) (λ (_ : ℕ). replicate (size_of m) (pos 0)) many (λ p _. zero-kinds format m))),
+  )
 
-pub power-measure : (u : UnitState) (number i : ℕ) → u.block ≡ Power → i < u.channels → Some (Measures.Power number i (sample u.kept i)) ≡ slice_get (measures_of number u) i
-power-measure u number i is h =
-    rw is (sym (get-values (λ c. Measures.Power number c (sample u.kept c)) 0 u.channels i h ∙ ap (λ k. Some (Measures.Power number k (sample u.kept k))) (zero-add i)))
+-- the state of a unit
+abbrev pub state : MeasureBlock → Fmt → ℕ → ℕ → List ℤ → Bool → UnitState
+state m format channels capacity kept ended =
+    record { block = block_of m; format = format; channels = channels; capacity = capacity; banked = false; kept = kept; tail = []; ended = ended }
 
-pub power-no-measure : (u : UnitState) (number i : ℕ) → u.block ≡ Power → u.channels ≤ i → None ≡ slice_get (measures_of number u) i
-power-no-measure u number i is h = rw is (sym (past-values (λ c. Measures.Power number c (sample u.kept c)) 0 u.channels i h))
+pub is-measuring : (m : MeasureBlock) (format : Fmt) (channels capacity : ℕ) (kept : List ℤ) (ended : Bool) → ended ≡ false → IsMeasuring m (state m format channels capacity kept ended)
+is-measuring m format channels capacity kept ended running = record { block = refl; running = running; tail = refl; plain = refl }
+
+-- a unit that has taken nothing
+pub measure-new : (m : MeasureBlock) (format : Fmt) (channels capacity : ℕ) (b : Block) → block_of m ≡ b → IsNew b format channels capacity (state m format channels capacity (replicate (parts_of m channels * size_of m) (pos 0)) false)
+measure-new m format channels capacity b is =
+    let zeros = replicate (parts_of m channels * size_of m) (pos 0) in
+    let u = state m format channels capacity zeros false in
+    let mine = is-measuring m format channels capacity zeros false refl in
+    record {
+      block = is;
+      format = refl;
+      channels = refl;
+      capacity = refl;
+      plain = refl;
+      stands = measure-stands m u mine [] (zeros-kept format channels m);
+      counts = measure-counts m u mine 0 (kinds-place _ zeros (zeros-fit format channels m).1);
+    }
 
 -- a row that was written whole
 pub whole-row : {X : Type 0} → (size : ℕ) (new old : List X) → length new ≡ size → take size (new ++ drop (length new) old) ≡ new
@@ -180,14 +324,27 @@ whole-row size new old e =
     let full : length new ≤ size = omega (arith, e) in
     take-append-le size new (drop (length new) old) fits ∙ take_all size new full
 
-pub power-of_nothing : (format : Fmt) → pos 0 ≡ power format []
-unfolding int_wrap
-power-of_nothing Q7 = refl
-power-of_nothing Q15 = refl
-power-of_nothing Q31 = refl
-
 pub front-row : {X : Type 0} → (size : ℕ) (new rest : List X) → length new ≡ size → take size (new ++ rest) ≡ new
 front-row size new rest e =
     let fits : size ≤ length new = omega (arith, e) in
     let full : length new ≤ size = omega (arith, e) in
     take-append-le size new rest fits ∙ take_all size new full
+
+-- at most four numbers a channel
+pub few-kept : (m : MeasureBlock) (format : Fmt) (channels : ℕ) (kept : List ℤ) → channels_of m ≤ channels → channels < 256 → Fits format channels (block_of m) kept → length kept ≤ 1099511627776
+few-kept m format channels kept enough few fits =
+    let size : length kept ≡ parts_of m channels * size_of m = length-kept format channels m IsOfKind fits.0 kept fits.1.1 in
+    let parts = (parts-few m channels enough).1 in
+    by m size parts
+  where
+    by : (k : MeasureBlock) → length kept ≡ parts_of k channels * size_of k → parts_of k channels ≤ channels → length kept ≤ 1099511627776
+    by measure.Power size parts = omega (arith, size, few)
+    by measure.Dot size parts = omega (arith, size, few)
+    by measure.CmplxDot size parts = omega (arith, size, few)
+    by measure.Max size parts = omega (arith, size, few)
+    by measure.Min size parts = omega (arith, size, few)
+
+-- as many numbers fit as are kept
+pub same-count : (m : MeasureBlock) (format : Fmt) (channels : ℕ) (kept numbers : List ℤ) → Fits format channels (block_of m) kept → Fits format channels (block_of m) numbers → length kept ≡ length numbers
+same-count m format channels kept numbers fits other =
+    length-kept format channels m IsOfKind fits.0 kept fits.1.1 ∙ sym (length-kept format channels m IsOfKind other.0 numbers other.1.1)

@@ -1,1 +1,3 @@
 pub mod Sums
+pub mod Extremes
+pub mod Measures

@@ -1,11 +1,11 @@
-ghost use Rattle.std.specs.Prelude.{◌≡◌, ◌+ℤ◌, ◌↔◌, IsTrue, FitsSigned};
+ghost use Rattle.std.specs.Prelude.{◌≡◌, ◌+ℤ◌, ◌-ℤ◌, ◌↔◌, IsTrue, FitsSigned};
 ghost use Rattle.dsp_defs.specs.Counts.{Rises};
-ghost use Rattle.dsp_defs.specs.Formats.{accumulator};
-ghost use Rattle.dsp_defs.specs.Measure.{measured_product};
+ghost use Rattle.dsp_defs.specs.Formats.{accumulator, word};
+ghost use Rattle.dsp_defs.specs.Measure.{cmplx_dot_close, measured_product};
 ghost use Rattle.dsp_defs.specs.Numbers.{wrap};
 
 use dsp_defs::Steps;
-use dsp_sat::Sample;
+use dsp_sat::{Sample, low_word};
 use std::sync::ledger::Ledger;
 
 /// A sample that can be measured.
@@ -17,9 +17,23 @@ pub trait MeasureSample: Sample {
         ensures value { result ≡ wrap (accumulator Self.format) (sum +ℤ measured_product Self.format (Self.number a) (Self.number b)) }
         ensures steps { Rises steps.old steps.new 1 1 };
 
+    /// Takes a product away in the same way.
+    fn subtract_measured<L: Ledger>(sum: i64, a: Self, b: Self, steps: &mut Steps<L>) -> i64
+        requires { FitsSigned (accumulator Self.format) sum }
+        ensures value { result ≡ wrap (accumulator Self.format) (sum -ℤ measured_product Self.format (Self.number a) (Self.number b)) }
+        ensures steps { Rises steps.old steps.new 1 1 };
+
+    /// A sum of complex products as a result: in Q15 it is shifted right by 6 and wrapped to 32 bits.
+    fn close_complex(sum: i64) -> i64
+        ensures { result ≡ cmplx_dot_close Self.format sum };
+
     /// Whether a number is in the range of the accumulator.
     fn is_sum(number: i64) -> bool
         ensures { IsTrue result ↔ FitsSigned (accumulator Self.format) number };
+
+    /// Whether a number is in the range of the format's word.
+    fn is_word(number: i64) -> bool
+        ensures { IsTrue result ↔ FitsSigned (word Self.format) number };
 }
 
 impl MeasureSample for i8 {
@@ -28,8 +42,21 @@ impl MeasureSample for i8 {
         i64::from((sum as i32).wrapping_add(product))
     }
 
+    fn subtract_measured<L: Ledger>(sum: i64, a: i8, b: i8, steps: &mut Steps<L>) -> i64 {
+        let product = Self::product(a, b, steps);
+        i64::from((sum as i32).wrapping_sub(product))
+    }
+
+    fn close_complex(sum: i64) -> i64 {
+        sum
+    }
+
     fn is_sum(number: i64) -> bool {
         i32::try_from(number).is_ok()
+    }
+
+    fn is_word(number: i64) -> bool {
+        i8::try_from(number).is_ok()
     }
 }
 
@@ -39,8 +66,21 @@ impl MeasureSample for i16 {
         sum.wrapping_add(i64::from(product))
     }
 
+    fn subtract_measured<L: Ledger>(sum: i64, a: i16, b: i16, steps: &mut Steps<L>) -> i64 {
+        let product = Self::product(a, b, steps);
+        sum.wrapping_sub(i64::from(product))
+    }
+
+    fn close_complex(sum: i64) -> i64 {
+        i64::from(low_word(sum >> 6))
+    }
+
     fn is_sum(_number: i64) -> bool {
         true
+    }
+
+    fn is_word(number: i64) -> bool {
+        i16::try_from(number).is_ok()
     }
 }
 
@@ -50,7 +90,20 @@ impl MeasureSample for i32 {
         sum.wrapping_add(product >> 14)
     }
 
+    fn subtract_measured<L: Ledger>(sum: i64, a: i32, b: i32, steps: &mut Steps<L>) -> i64 {
+        let product = Self::product(a, b, steps);
+        sum.wrapping_sub(product >> 14)
+    }
+
+    fn close_complex(sum: i64) -> i64 {
+        sum
+    }
+
     fn is_sum(_number: i64) -> bool {
         true
+    }
+
+    fn is_word(number: i64) -> bool {
+        i32::try_from(number).is_ok()
     }
 }

@@ -1,5 +1,10 @@
-use crate::frames::{add_formatted, are_sums, no_sums};
-use dsp_defs::{Block, Fmt, Measure, Steps};
+ghost use Rattle.std.specs.Prelude.{◌≡◌, IfOk, pos, replicate};
+
+use crate::measure_block::MeasureBlock;
+use crate::parts::feed_parts;
+use crate::places::place_parts;
+use crate::results::result_of;
+use dsp_defs::{Block, Fmt, MAX_SAMPLES, Measure, Steps};
 use dsp_stage::Stage;
 use std::alloc::{AllocError, Global};
 use std::marker::Model;
@@ -8,60 +13,76 @@ use std::sync::ledger::Ledger;
 /// A measure at its place, on all channels of a frame. It gives the frames as it takes them.
 #[derive(Drop)]
 pub struct Unit {
+    measure: MeasureBlock,
     format: Fmt,
     channels: u8,
     capacity: usize,
-    sums: Vec<i64>,
+    kept: Vec<i64>,
     ended: bool,
 }
 
 impl Model for Unit {
-    ghost use Rattle.std.specs.Prelude.{◌≡◌, ◌≤◌, ◌*◌, [], false, All, FitsSigned, vec_len};
-    ghost use Rattle.dsp_defs.specs.Formats.{accumulator};
+    ghost use Rattle.std.specs.Prelude.{[], false};
     ghost use Rattle.dsp_stage.specs.Unit.{UnitState};
-    ghost use Rattle.dsp_defs.specs.declared.script.Block.TheVariants.{Power};
+    ghost use Rattle.dsp_measure.specs.Measures.{IsWhole, block_of};
 
     ghost Value = { UnitState };
 
     ghost view = { λ u. record {
-      block = Power;
+      block = block_of u.measure;
       format = u.format;
       channels = u.channels;
       capacity = u.capacity;
-      kept = u.sums.items;
+      kept = u.kept.items;
       tail = [];
       banked = false;
       ended = u.ended;
     } };
 
-    ghost invariant = { λ u. (vec_len u.sums ≡ u.channels) × (1 ≤ u.channels) × (u.capacity * u.channels ≤ 1048576) × All (FitsSigned (accumulator u.format)) u.sums.items };
+    ghost invariant = { λ u. IsWhole u.format u.measure u.channels u.capacity u.kept.items };
+}
+
+/// So many zeros.
+fn zeros(alloc: Global, count: usize) -> Result<Vec<i64>, AllocError>
+    ensures { IfOk result (λ v. v.items ≡ replicate count (pos 0)) }
+{
+    let mut numbers = Vec::with_capacity(alloc, count)?;
+    for _ in 0..count {
+        numbers.push(0)?;
+    }
+    Ok(numbers)
 }
 
 impl Unit {
-    ghost use Rattle.std.specs.Prelude.{◌≡◌, ◌≤◌, ◌*◌, IfOk};
+    ghost use Rattle.std.specs.Prelude.{◌≤◌, ◌*◌, IfOk};
+    ghost use Rattle.dsp_defs.specs.Grammar.{Suits};
     ghost use Rattle.dsp_stage.specs.Unit.{IsNew};
-    ghost use Rattle.dsp_defs.specs.declared.script.Block.TheVariants.{Power};
+    ghost use Rattle.dsp_measure.specs.Measures.{IsMeasureBlock};
 
-    /// A unit of `power` that has taken nothing, for at most `frames` frames a call; all its memory is
-    /// taken here.
+    /// A unit that has taken nothing, of a block that measures and suits its place, for at most
+    /// `frames` frames a call; all its memory is taken here.
     pub fn new(
         alloc: Global,
-        _block: &Block,
+        block: &Block,
         format: Fmt,
         channels: u8,
         frames: usize,
     ) -> Result<Unit, AllocError>
-        requires block { _block.now ≡ Power }
+        requires block { IsMeasureBlock block.now }
+        requires suits { Suits (record { format = format; channels = channels }) block.now }
         requires channels { 1 ≤ channels }
-        requires samples { frames * channels ≤ 1048576 }
-        ensures { IfOk result (IsNew _block.now format channels frames) }
+        requires samples { frames * channels ≤ MAX_SAMPLES }
+        ensures { IfOk result (IsNew block.now format channels frames) }
     {
-        let sums = no_sums(alloc, channels)?;
+        let measure = MeasureBlock::of(block);
+        let count = measure.parts(usize::from(channels)) * measure.size();
+        let kept = zeros(alloc, count)?;
         Ok(Unit {
+            measure,
             format,
             channels,
             capacity: frames,
-            sums,
+            kept,
             ended: false,
         })
     }
@@ -75,8 +96,9 @@ impl Stage for Unit {
     }
 
     fn feed<L: Ledger>(&mut self, frames: &[i32], out: &mut [i32], steps: &mut Steps<L>) -> usize {
-        let count = frames.len() / usize::from(self.channels);
-        add_formatted(self.format, self.sums.as_mut_slice(), frames, count, steps);
+        let channels = usize::from(self.channels);
+        let kept = self.kept.as_mut_slice();
+        feed_parts(self.measure, self.format, kept, frames, channels, steps);
         out[..frames.len()].copy_from_slice(frames);
         frames.len()
     }
@@ -87,38 +109,40 @@ impl Stage for Unit {
     }
 
     fn kept_count(&self) -> usize {
-        usize::from(self.channels)
+        self.kept.len()
     }
 
     fn keep(&self, out: &mut [i64]) {
-        out.copy_from_slice(&self.sums);
+        out.copy_from_slice(&self.kept);
     }
 
     fn fits(&self, numbers: &[i64]) -> bool {
-        numbers.len() == usize::from(self.channels) && are_sums(self.format, numbers)
+        self.place(numbers).is_some()
     }
 
     fn place(&self, numbers: &[i64]) -> Option<u64> {
-        let _sums = &self.sums;
-        if self.fits(numbers) { Some(0) } else { None }
+        place_parts(self.measure, self.format, self.channels, numbers)
     }
 
     fn restore(&mut self, numbers: &[i64]) {
-        self.sums.as_mut_slice().copy_from_slice(numbers);
+        self.kept.as_mut_slice().copy_from_slice(numbers);
     }
 
     fn measures(&self) -> usize {
-        usize::from(self.channels)
+        self.measure.parts(usize::from(self.channels))
     }
 
     fn measure(&self, number: u8, index: usize) -> Option<Measure> {
-        if index >= usize::from(self.channels) {
+        if index >= self.measures() {
             return None;
         }
-        Some(Measure::Power {
+        Some(result_of(
+            self.measure,
+            self.format,
+            &self.kept,
             number,
-            channel: index as u8,
-            value: self.sums[index],
-        })
+            index,
+            self.channels,
+        ))
     }
 }

@@ -172,6 +172,13 @@ fn a_block_without_a_unit_is_not_built(rt: HostRuntime) {
     let alloc = rt.alloc();
     let mut blocks = Blocks::new(alloc);
     push_fir(&rt, alloc, &mut blocks, 0, HALF);
-    blocks.push(Block::Max).expect(&rt, "memory");
+    let taps = List::new(alloc);
+    let (post_shift, mu) = (0, 1);
+    let block = Block::Lms {
+        post_shift,
+        mu,
+        taps,
+    };
+    blocks.push(block).expect(&rt, "memory");
     assert!(rt; !is_built(&stereo(blocks)));
 }

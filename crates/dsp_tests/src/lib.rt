@@ -25,6 +25,10 @@ mod lattice;
 #[cfg(test)]
 mod line;
 #[cfg(test)]
+mod matrix;
+#[cfg(test)]
+mod measure;
+#[cfg(test)]
 mod ports;
 #[cfg(test)]
 mod rate;

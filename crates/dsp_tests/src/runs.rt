@@ -143,7 +143,7 @@ const CASES: &[Case<'static>] = &[
     },
     Case {
         words: RUN,
-        script: b"dspfx 1 input raw q7 1 8000 max output raw",
+        script: b"dspfx 1 input raw q15 2 8000 lms 0 1 {1} output raw",
         input: EXAMPLE,
         failing_reads: &[],
         room: 64,

@@ -1,21 +1,27 @@
-use Rattle.std.proofs.Common.{◌∙◌, ap, refl, sym, pos, false, length, []}
-use Rattle.std.proofs.lemmas.List.{length-replicate, get_or-replicate}
-use Rattle.dsp_defs.specs.Signal.{sample}
-use Rattle.dsp_defs.specs.declared.script.Block.TheVariants.{Power}
-use Rattle.dsp_measure.proofs.MeasureUnits.{IsPower, power-stands, power-counts, power-of_nothing}
+use Rattle.std.proofs.Common.{◌≡◌, ◌∙◌, ap, sym, subst, ◌*◌, ◌<◌, pos, replicate, false, rules}
+use Rattle.dsp_stage.specs.Unit.{IsNew}
+use Rattle.dsp_stage.specs.Kept.{FitsAfter}
+use Rattle.dsp_measure.specs.Measures.{block_of, parts_of, size_of}
+use Rattle.dsp_measure.proofs.MeasureUnits.{measure-new, zeros-fit, enough-channels, state}
 use Rattle.dsp_measure.proofs.unit.Unit.new.Goals as goal
+
+pub invariant_of-result : goal.invariant_of-result
+invariant_of-result c =
+    let m = c.of-measure.result in
+    let narrow : c.args.channels < 256 = search rules in
+    let count : c.parts.result * c.size.result ≡ parts_of m c.args.channels * size_of m = (λ i. (c.parts.ensures ∙ ap (parts_of m) c.from.ensures) i * c.size.ensures i) in
+    let zeros = c.in_ok-kept.ensures ∙ ap (λ k. replicate k (pos 0)) count in
+    record {
+      enough = enough-channels m c.args.format c.args.channels c.args.block.now c.of-measure.ensures c.requires.channels c.requires.suits;
+      narrow = narrow;
+      few = c.requires.samples;
+      fits = (0, subst (FitsAfter c.args.format c.args.channels (block_of m) 0) (sym zeros) (zeros-fit c.args.format c.args.channels m));
+    }
 
 pub returns : goal.returns
 returns c =
-    let sums = c.in_ok-sums.ensures in
-    let size = ap length sums ∙ length-replicate c.args.channels (pos 0) in
-    let is : IsPower (record { block = Power; format = c.args.format; channels = c.args.channels; capacity = c.args.frames; kept = c.in_ok-sums.sums.items; banked = false; tail = []; ended = false }) = record { block = refl; running = refl; tail = refl; plain = refl; sums = size } in
-    record {
-      block = sym c.requires.block;
-      format = refl;
-      channels = refl;
-      capacity = refl;
-      plain = refl;
-      stands = power-stands _ is [] (λ k h. ap (λ l. sample l k) sums ∙ get_or-replicate _ _ _ (pos 0) h ∙ power-of_nothing c.args.format);
-      counts = power-counts _ is 0;
-    }
+    let m = c.of-measure.result in
+    let count : c.parts.result * c.size.result ≡ parts_of m c.args.channels * size_of m = (λ i. (c.parts.ensures ∙ ap (parts_of m) c.from.ensures) i * c.size.ensures i) in
+    let zeros = c.in_ok-kept.ensures ∙ ap (λ k. replicate k (pos 0)) count in
+    subst (λ kept. IsNew c.args.block.now c.args.format c.args.channels c.args.frames (state m c.args.format c.args.channels c.args.frames kept false)) (sym zeros)
+    (measure-new m c.args.format c.args.channels c.args.frames c.args.block.now c.of-measure.ensures)

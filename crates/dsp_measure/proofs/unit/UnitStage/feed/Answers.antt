@@ -1,35 +1,44 @@
-use Rattle.std.proofs.Common.{◌≡◌, ◌∙◌, ap, refl, sym, ℕ, ◌+◌, ◌*◌, ◌/◌, ◌≤◌, length, drop, arith}
-use Rattle.dsp_stage.specs.Channels.{samples_in}
-use Rattle.dsp_defs.specs.Signal.{sample}
+use Rattle.std.proofs.Common.{◌∙◌, ap, refl, subst, ℕ, ℤ, List, ◌+◌, ◌*◌, ◌/◌, length, drop}
+use Rattle.dsp_defs.specs.Counts.{Rises}
 use Rattle.dsp_defs.proofs.FrameLemmas.{length-frames_in}
-use Rattle.dsp_measure.specs.Sums.{with_squares}
-use Rattle.dsp_measure.proofs.MeasureUnits.{power-feeds, whole-row, front-row}
+use Rattle.dsp_measure.specs.Measures.{AllCanTake, PartsFeed, parts_of, price_of}
+use Rattle.dsp_measure.proofs.MeasureUnits.{is-measuring, state, can-take, channels-stay, measure-feeds, whole-row, front-row}
 use Rattle.dsp_measure.proofs.unit.UnitStage.feed.Goals as goal
+
+pub feed_parts-requires-clause-kept : goal.feed_parts-requires-clause-kept
+feed_parts-requires-clause-kept g c =
+    let u = c.self.inside in
+    let running = rw (← c.self.view_is) at c.requires.running in
+    let accepts = rw (← c.self.view_is) at c.requires.accepts in
+    let taken = can-take u.measure (state u.measure u.format u.channels u.capacity u.kept.items u.ended) _ (is-measuring u.measure u.format u.channels u.capacity u.kept.items u.ended running) c.self.invariant.fits accepts in
+    rw (c.from-channels.ensures, c.as_mut_slice-kept.ensures.value) (subst (λ k. AllCanTake u.format u.channels u.measure k u.kept.items) (length-frames_in u.channels c.args.frames.now) taken)
+
+pub invariant_of-self : goal.invariant_of-self
+invariant_of-self g c =
+    let u = c.self.inside in
+    let frames = c.args.frames.now in
+    let new = c.feed_parts.new.kept in
+    let running = rw (← c.self.view_is) at c.requires.running in
+    let accepts = rw (← c.self.view_is) at c.requires.accepts in
+    let taken = can-take u.measure (state u.measure u.format u.channels u.capacity u.kept.items u.ended) _ (is-measuring u.measure u.format u.channels u.capacity u.kept.items u.ended running) c.self.invariant.fits accepts in
+    let many = subst (λ k. AllCanTake u.format u.channels u.measure k u.kept.items) (length-frames_in u.channels frames) taken in
+    let kept = whole-row u.kept.len new u.kept.items (c.feed_parts.auto.kept ∙ c.as_mut_slice-kept.ensures.len) in
+    let fed = subst (λ (p : ℕ × List ℤ). PartsFeed u.format u.measure p.0 frames p.1 new) (λ i. (c.from-channels.ensures i, c.as_mut_slice-kept.ensures.value i)) c.feed_parts.ensures.fed in
+    rw kept (record { enough = c.self.invariant.enough; narrow = c.self.invariant.narrow; few = c.self.invariant.few; fits = (many.0 + length frames / u.channels, (many.2, fed.kinds many.0 many.1)) })
 
 pub returns-clause-fed : goal.returns-clause-fed
 returns-clause-fed g c =
     let u = c.self.inside in
     let frames = c.args.frames.now in
-    let m = length frames / c.from.result in
+    let new = c.feed_parts.new.kept in
     let running = rw (← c.self.view_is) at c.requires.running in
-    let signal = rw (← c.self.view_is) at c.requires.signal in
-    let size : length frames / u.channels ≡ m = ap (λ (k : ℕ). length frames / k) (sym c.from.ensures) in
-    let whole : length frames ≡ m * u.channels = signal.whole_frames ∙ ap (λ (n : ℕ). n * u.channels) (length-frames_in u.channels frames ∙ size) in
-    let channels : length c.as_mut_slice.result.now ≡ u.channels = c.as_mut_slice.ensures.len ∙ c.self.invariant.0 in
-    let kept = whole-row u.sums.len c.add_formatted.new.sums u.sums.items (c.add_formatted.auto.sums ∙ c.as_mut_slice.ensures.len) in
+    let kept = whole-row u.kept.len new u.kept.items (c.feed_parts.auto.kept ∙ c.as_mut_slice-kept.ensures.len) in
     let given = front-row (length frames) c.copy_from_slice.new.self (drop (length frames) c.args.out.now) (ap length c.copy_from_slice.ensures.after) ∙ c.copy_from_slice.ensures.after in
-    let steps = c.add_formatted.ensures.steps in
-    let old_sums : length u.sums.items ≡ u.channels = sym (ap length c.as_mut_slice.ensures.value) ∙ channels in
-    let new_sums : length c.add_formatted.new.sums ≡ u.channels = c.add_formatted.auto.sums ∙ channels in
-    let paid : c.add_formatted.new.steps.multiplies ≡ c.args.steps.now.multiplies + m * u.channels = omega (arith, steps.multiplies_rise, whole) in
-    let turned : c.add_formatted.new.steps.turns ≤ c.args.steps.now.turns + m * u.channels = omega (arith, steps.turns_rise, whole) in
-    rw (← c.self.view_is, given)
-    (power-feeds _ _ frames m c.args.steps.now c.add_formatted.new.steps
-    (record { block = refl; running = running; tail = refl; plain = refl; sums = old_sums })
-    (record { block = refl; running = running; tail = refl; plain = refl; sums = ap length kept ∙ new_sums })
+    let fed = subst (λ (p : ℕ × List ℤ). PartsFeed u.format u.measure p.0 frames p.1 new) (λ i. (c.from-channels.ensures i, c.as_mut_slice-kept.ensures.value i)) c.feed_parts.ensures.fed in
+    let rises = subst (λ k. Rises c.args.steps.now c.feed_parts.new.steps (parts_of u.measure k * (price_of u.measure * (length frames / k))) (parts_of u.measure k * (price_of u.measure * (length frames / k)))) c.from-channels.ensures c.feed_parts.ensures.steps in
+    rw (← c.self.view_is, given, channels-stay u.format u.channels u.measure, kept)
+    (measure-feeds u.measure (state u.measure u.format u.channels u.capacity u.kept.items u.ended) (state u.measure u.format u.channels u.capacity new u.ended) frames c.args.steps.now c.feed_parts.new.steps
+    (is-measuring u.measure u.format u.channels u.capacity u.kept.items u.ended running)
+    (is-measuring u.measure u.format u.channels u.capacity new u.ended running)
     (record { block = refl; format = refl; channels = refl; capacity = refl; banked = refl })
-    size
-    (λ k h. ap (λ l. sample l k) kept
-    ∙ c.add_formatted.ensures.sums k (omega (arith, h, channels))
-    ∙ (λ i. with_squares u.format (sample (c.as_mut_slice.ensures.value i) k) (samples_in (channels i) m frames k)))
-    paid turned)
+    c.self.invariant.fits fed rises)

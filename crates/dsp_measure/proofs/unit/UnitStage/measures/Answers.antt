@@ -1,6 +1,9 @@
 use Rattle.std.proofs.Common.{◌∙◌, ap, sym}
-use Rattle.dsp_measure.proofs.MeasureUnits.{length-powers}
+use Rattle.dsp_measure.specs.Measures.{parts_of}
+use Rattle.dsp_measure.proofs.MeasureResults.{length-results}
 use Rattle.dsp_measure.proofs.unit.UnitStage.measures.Goals as goal
 
 pub returns : goal.returns
-returns c = c.from.ensures ∙ ap (λ u. u.channels) c.self.view_is ∙ sym (length-powers c.args.self.now 0 (sym (ap (λ u. u.block) c.self.view_is)))
+returns c =
+    let u = c.self.inside in
+    rw (← c.self.view_is) (c.parts.ensures ∙ ap (parts_of u.measure) c.from.ensures ∙ sym (length-results u.format u.channels 0 u.kept.items u.measure))

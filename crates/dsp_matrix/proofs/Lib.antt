@@ -1,0 +1,6 @@
+pub mod GroupLaws
+pub mod GroupFilters
+pub mod RowWrites
+pub mod Sound
+pub mod Filling
+pub mod Turned

@@ -1,0 +1,6 @@
+use Rattle.std.proofs.Common.{rules}
+use Rattle.std.proofs.lemmas.Int.{wraps}
+use Rattle.dsp_measure.proofs.measured.I32MeasureSample.subtract_measured.Goals as goal
+
+pub returns-clause-value : goal.returns-clause-value
+returns-clause-value g c = rw (c.product-product.ensures.value) (search (rules, wraps))

@@ -1,0 +1,174 @@
+//! Callers of dsp_measure.
+ghost use Rattle.std.specs.Prelude.{◌≡◌, length};
+
+use dsp_defs::{Measure, Steps};
+use dsp_measure::{CmplxDot, Dot, Max, MeasureSample, Min, Power, line};
+use std::process::Abort;
+use std::sync::ledger::Ledger;
+
+#[test]
+fn lines_of_measures(rt: HostRuntime) {
+    let power = Measure::Power {
+        number: 1,
+        channel: 0,
+        value: 25,
+    };
+    assert_eq!(rt;
+        line(&power).as_slice(),
+        b"power 1 channel 0 = 25\n".as_slice()
+    );
+    let found = Measure::Max {
+        number: 2,
+        channel: 0,
+        found: Some((3, 0)),
+    };
+    assert_eq!(rt;
+        line(&found).as_slice(),
+        b"max 2 channel 0 = 3 at 0\n".as_slice()
+    );
+    let none = Measure::Min {
+        number: 12,
+        channel: 15,
+        found: None,
+    };
+    assert_eq!(rt;
+        line(&none).as_slice(),
+        b"min 12 channel 15 = none\n".as_slice()
+    );
+    let dot = Measure::Dot {
+        number: 3,
+        value: -4,
+    };
+    assert_eq!(rt; line(&dot).as_slice(), b"dot 3 = -4\n".as_slice());
+    let sums = Measure::CmplxDot {
+        number: 4,
+        re: -1,
+        im: 7,
+    };
+    assert_eq!(rt; line(&sums).as_slice(), b"cmplx_dot 4 = -1 7\n".as_slice());
+}
+
+/// Takes a signal in two pieces, the second after the sum was kept and restored, and compares its power.
+fn power_is<T: MeasureSample, L: Ledger>(
+    rt: &impl Abort,
+    front: &[T],
+    rest: &[T],
+    wanted: i64,
+    steps: &mut Steps<L>,
+) {
+    let mut first = Power::<T>::new();
+    first.put(front, steps);
+    let mut kept = [0i64; 1];
+    assert_eq!(rt; first.kept_count(), 1);
+    first.keep(&mut kept);
+    let mut second = Power::<T>::new();
+    assert!(rt; !second.fits(&[]));
+    assert!(rt; second.fits(&kept));
+    second.restore(&kept);
+    second.put(rest, steps);
+    assert_eq!(rt; second.value(), wanted);
+}
+
+fn powers<L: Ledger>(rt: &impl Abort, steps: &mut Steps<L>) {
+    power_is::<i8, L>(rt, &[-6], &[23, 118], 14489, steps);
+    power_is::<i16, L>(rt, &[3], &[-4], 25, steps);
+    power_is::<i16, L>(rt, &[], &[], 0, steps);
+    power_is::<i32, L>(
+        rt,
+        &[-2147483648, 17],
+        &[-15, -16, 1073741824],
+        351843720888320,
+        steps,
+    );
+}
+
+/// The dot product of two signals that come in two pieces, the second after the sum was kept and
+/// restored.
+fn dot_is<T: MeasureSample, L: Ledger>(
+    rt: &impl Abort,
+    front: (&[T], &[T]),
+    rest: (&[T], &[T]),
+    wanted: i64,
+    steps: &mut Steps<L>,
+)
+    requires front { length front.0.now ≡ length front.1.now }
+    requires rest { length rest.0.now ≡ length rest.1.now }
+{
+    let mut first = Dot::<T>::new();
+    first.put(front.0, front.1, steps);
+    let mut kept = [0i64; 1];
+    assert_eq!(rt; first.kept_count(), 1);
+    first.keep(&mut kept);
+    let mut second = Dot::<T>::new();
+    assert!(rt; !second.fits(&[]) && second.fits(&kept));
+    second.restore(&kept);
+    second.put(rest.0, rest.1, steps);
+    assert_eq!(rt; second.value(), wanted);
+}
+
+fn dots<L: Ledger>(rt: &impl Abort, steps: &mut Steps<L>) {
+    dot_is::<i8, L>(
+        rt,
+        (&[65, -1], &[-121, -13]),
+        (&[127, -128], &[-87, 103]),
+        -32085,
+        steps,
+    );
+    dot_is::<i16, L>(
+        rt,
+        (&[32766], &[-1]),
+        (&[32766, 32766], &[-1, -1]),
+        -98298,
+        steps,
+    );
+    dot_is::<i32, L>(
+        rt,
+        (&[1073741824], &[1073741824]),
+        (&[], &[]),
+        70368744177664,
+        steps,
+    );
+}
+
+fn complex_dots<L: Ledger>(rt: &impl Abort, steps: &mut Steps<L>) {
+    let mut first = CmplxDot::<i16>::new();
+    first.put(&[16384, 0], &[16384, 0], steps);
+    assert!(rt; first.value() == (4194304, 0));
+    let mut kept = [0i64; 2];
+    assert_eq!(rt; first.kept_count(), 2);
+    first.keep(&mut kept);
+    let mut second = CmplxDot::<i16>::new();
+    assert!(rt; second.fits(&kept) && !second.fits(&[0]));
+    second.restore(&kept);
+    assert!(rt; second.value() == (4194304, 0));
+    let mut wide = CmplxDot::<i32>::new();
+    wide.put(&[3, 2147483647], &[-4, 2147483647], steps);
+    assert!(rt; wide.value() == (-281474976448513, -131073));
+}
+
+#[test]
+fn extremes_of_signals(rt: HostRuntime) {
+    let mut least = Min::<i8>::new();
+    assert!(rt; least.value().is_none());
+    least.put(&[-128, 5]);
+    let mut kept = [0i64; 4];
+    assert_eq!(rt; least.kept_count(), 4);
+    least.keep(&mut kept);
+    assert!(rt; kept == [1, -128, 0, 2]);
+    let mut again = Min::<i8>::new();
+    assert!(rt; again.fits(&kept) && !again.fits(&[1, -129, 0, 2]) && !again.fits(&[1, 5, 2, 2]));
+    assert!(rt; again.fits(&[0, 0, 0, 0]) && !again.fits(&[0, 0, 0, 1]) && !again.fits(&[0]));
+    again.restore(&kept);
+    again.put(&[-128]);
+    assert!(rt; again.value() == Some((-128, 0)));
+    let mut greatest = Max::<i8>::new();
+    greatest.put(&[-128, 5, -128]);
+    assert!(rt; greatest.value() == Some((5, 1)));
+}
+
+/// The calls that count their products.
+pub(crate) fn counted<L: Ledger>(rt: &impl Abort, steps: &mut Steps<L>) {
+    powers(rt, steps);
+    dots(rt, steps);
+    complex_dots(rt, steps);
+}

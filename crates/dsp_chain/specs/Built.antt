@@ -2,7 +2,7 @@
 use Rattle.std.specs.Prelude.{Bool, is_some, Option, Some, None}
 use Rattle.std.specs.List.{list_all}
 use Rattle.dsp_defs.specs.declared.script.Block.{Block}
-use Rattle.dsp_defs.specs.declared.script.Block.TheVariants.{Offset, Negate, Abs, Scale, Shift, Clip, To, Add, Sub, Mult, Route, Conj, CmplxMult, CmplxMultReal, MagSquared, Fir, Sparse, Decimate, Interpolate, LatticeFir, LatticeIir, Biquad, Biquad64, Conv, Pid, MatAdd, MatSub, MatScale, MatTrans, MatMult, Power, Dot, CmplxDot, Max, Min}
+use Rattle.dsp_defs.specs.declared.script.Block.TheVariants.{Offset, Negate, Abs, Scale, Shift, Clip, To, Add, Sub, Mult, Route, Conj, CmplxMult, CmplxMultReal, MagSquared, Fir, Sparse, Decimate, Interpolate, LatticeFir, LatticeIir, Biquad, Biquad64, Conv, ConvPartial, Pid, MatAdd, MatSub, MatScale, MatTrans, MatMult, Power, Dot, CmplxDot, Max, Min}
 use Rattle.dsp_defs.specs.declared.script.Script.{Script}
 use Rattle.dsp_chain.specs.declared.built.Family.{Family}
 use Rattle.dsp_chain.specs.declared.built.Family.TheVariants as family
@@ -33,6 +33,7 @@ family_of (LatticeIir k v) = Some family.Lattice
 family_of (Biquad post_shift coefficients) = Some family.Biquad
 family_of (Biquad64 post_shift coefficients) = Some family.Biquad
 family_of (Conv taps) = Some family.Conv
+family_of (ConvPartial first count taps) = Some family.Conv
 family_of (Pid kp ki kd) = Some family.Adapt
 family_of (MatAdd rows columns matrix) = Some family.Matrix
 family_of (MatSub rows columns matrix) = Some family.Matrix

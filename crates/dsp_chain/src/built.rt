@@ -50,7 +50,7 @@ pub fn family_of(block: &Block) -> Option<Family>
         Block::Fir { .. } | Block::Sparse { .. } => Some(Family::Fir),
         Block::Decimate { .. } | Block::Interpolate { .. } => Some(Family::Rate),
         Block::Biquad { .. } | Block::Biquad64 { .. } => Some(Family::Biquad),
-        Block::Conv { .. } => Some(Family::Conv),
+        Block::Conv { .. } | Block::ConvPartial { .. } => Some(Family::Conv),
         Block::LatticeFir { .. } | Block::LatticeIir { .. } => Some(Family::Lattice),
         Block::Pid { .. } => Some(Family::Adapt),
         Block::MatAdd { .. }

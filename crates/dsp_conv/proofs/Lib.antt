@@ -1,2 +1,6 @@
+pub mod ExtentLemmas
 pub mod ConvLemmas
+pub mod CallLemmas
 pub mod ChannelLemmas
+pub mod SliceSums
+pub mod Correlations

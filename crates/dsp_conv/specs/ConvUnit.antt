@@ -1,24 +1,32 @@
 -- The blocks whose units are convolutions.
-use Rattle.std.specs.Prelude.{⊤, ◌-◌, ◌<◌, min, length, All, FitsSigned, IfSome, refl}
-use Rattle.dsp_defs.specs.Formats.{word}
+use Rattle.std.specs.Prelude.{⊤, ℕ, ◌-◌, ◌<◌, min, ℤ, List, [], length, IfSome, refl}
 use Rattle.dsp_defs.specs.Sums.{full_length}
 use Rattle.dsp_defs.specs.Cost.{lane_turns}
 use Rattle.dsp_defs.specs.Shape.{group_of}
 use Rattle.dsp_stage.specs.Filter.{IsByChannel}
 use Rattle.dsp_stage.proofs.KeptLaws.{kept_of_channel-place}
-use Rattle.dsp_unit.proofs.Units.{scaled}
+use Rattle.dsp_unit.specs.Making.{AreTaps}
+use Rattle.dsp_unit.proofs.Units.{scaled, less-scaled}
 use Rattle.dsp_defs.specs.declared.format.Fmt.{Fmt}
 use Rattle.dsp_defs.specs.declared.script.Block.{Block}
-use Rattle.dsp_defs.specs.declared.script.Block.TheVariants.{Conv}
+use Rattle.dsp_defs.specs.declared.script.Block.TheVariants.{Conv, ConvPartial}
 
 -- the block is one of this crate's
 abbrev pub IsConvBlock : Block → Type 0
 IsConvBlock (Conv taps) = ⊤
+IsConvBlock (ConvPartial first count taps) = ⊤
 IsConvBlock block = ⊥
 
--- and its taps are numbers of the format
+-- its taps
+abbrev pub taps_of : Block → List ℤ
+taps_of (Conv taps) = taps
+taps_of (ConvPartial first count taps) = taps
+taps_of _ = []
+
+-- the block is a convolution, or a part of one
 abbrev pub IsConvIn : Fmt → Block → Type 0
-IsConvIn format (Conv taps) = All (FitsSigned (word format)) taps
+IsConvIn format (Conv taps) = AreTaps format taps
+IsConvIn format (ConvPartial first count taps) = AreTaps format taps
 IsConvIn format block = ⊥
 
 -- it works on each channel by itself
@@ -37,9 +45,26 @@ by-channel format (Conv taps) is = record {
   so_far = λ c n taken given. scaled c given (length taps);
   turns = λ c m n. scaled c (length taps) (lane_turns format (min n (full_length n (length taps)) - min m (full_length m (length taps))));
 }
+by-channel format (ConvPartial first count taps) is =
+    let live = λ (n : ℕ). min (n - first) (min count (full_length n (length taps) - first)) in
+    record {
+      live_is = refl;
+      whole_is = refl;
+      channels_same = λ c. refl;
+      format_same = refl;
+      keeps_is = λ c x. refl;
+      kinds_are = λ c n. refl;
+      keeps_place = λ x. kept_of_channel-place format (ConvPartial first count taps) x tt;
+      taken = λ n. tt;
+      no_measures = λ c number kept. refl;
+      live_cost = λ c n. scaled c (live n) (length taps);
+      so_far = λ c n taken given. scaled c given (length taps);
+      turns = λ c m n. less-scaled c (live m) (live n) (length taps);
+    }
 by-channel format block is = absurd is
 
 -- and not on groups
 pub has-groups : (format : Fmt) (block : Block) → IsConvIn format block → IfSome (group_of block) (λ g. 0 < g.0)
 has-groups format (Conv taps) is = tt
+has-groups format (ConvPartial first count taps) is = tt
 has-groups format block is = absurd is

@@ -3,12 +3,22 @@
 
 mod channel;
 mod conv;
+mod conv_partial;
+mod convolution;
+mod correlate;
+mod extent;
+mod gather;
 mod making;
+mod slices;
+mod sums;
 mod unit;
 
-pub use channel::ConvChannel;
-pub use conv::Conv;
+pub use channel::{ConvChannel, OfBlock};
+pub use conv::{Conv, Everything};
+pub use conv_partial::{ConvPartial, Stretch};
+pub use convolution::Convolution;
+pub use correlate::Correlate;
+pub use extent::Extent;
+pub use gather::Gather;
+pub use slices::{conv_partial_slices, conv_slices, correlate_slices};
 pub use unit::{ConvUnit, conv_unit};
-
-#[cfg(test)]
-mod tests;

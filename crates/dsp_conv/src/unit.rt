@@ -4,12 +4,12 @@ ghost use Rattle.dsp_defs.specs.Grammar.{Suits};
 ghost use Rattle.dsp_conv.specs.ConvUnit.{IsConvBlock};
 
 use crate::ConvChannel;
-use dsp_defs::{Block, Fmt};
+use dsp_defs::{Block, Fmt, MAX_SAMPLES};
 use dsp_stage::Stage;
 use dsp_unit::{EachChannel, InFormat};
 use std::alloc::{AllocError, Global};
 
-/// A convolution at its place, on all channels of a frame.
+/// A convolution, or a part of one, at its place, on all channels of a frame.
 pub type ConvUnit = InFormat<
     EachChannel<i8, ConvChannel<i8, 16>>,
     EachChannel<i16, ConvChannel<i16, 8>>,
@@ -29,7 +29,7 @@ pub fn conv_unit(
     requires suits { Suits (record { format = format; channels = channels }) block.now }
     requires channels { 1 ≤ channels }
     requires frames { 1 ≤ frames }
-    requires samples { frames * channels ≤ 1048576 }
+    requires samples { frames * channels ≤ MAX_SAMPLES }
     ensures { IfOk result (λ u. IsNew block.now format channels frames (⟦<ConvUnit as Stage>⟧.unit u)) }
 {
     match format {

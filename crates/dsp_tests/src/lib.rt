@@ -15,6 +15,8 @@ mod chain_runs;
 #[cfg(test)]
 mod complex;
 #[cfg(test)]
+mod conv;
+#[cfg(test)]
 mod fir;
 #[cfg(test)]
 mod gen_runs;

@@ -1,6 +1,6 @@
 ghost use Rattle.std.specs.Prelude.{◌≡◌};
 
-use crate::{adapt, biquad, complex, fir, lanes, lattice, matrix, measure, rate, vector};
+use crate::{adapt, biquad, complex, conv, fir, lanes, lattice, matrix, measure, rate, vector};
 use dsp_defs::Steps;
 use std::alloc::Global;
 use std::marker::Brand;
@@ -22,6 +22,7 @@ fn counted<M: Ledger>(rt: &impl Abort, alloc: Global, blank: Blank)
     lattice::counted(rt, alloc, &mut steps);
     biquad::counted(rt, alloc, &mut steps);
     adapt::counted(rt, &mut steps);
+    conv::counted(rt, alloc, &mut steps);
     matrix::counted(rt, alloc, &mut steps);
     measure::counted(rt, &mut steps);
 }

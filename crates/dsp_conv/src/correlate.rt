@@ -1,0 +1,108 @@
+use crate::Gather;
+use crate::sums::correlation_values;
+use dsp_defs::{GatherFull, MakeFault, Steps};
+use dsp_sat::Sample;
+use dsp_unit::check_taps;
+use std::alloc::Global;
+use std::marker::Model;
+use std::sync::ledger::Ledger;
+
+/// The correlation of one channel with a list of taps (`arm_correlate_q7`, `arm_correlate_q15`,
+/// `arm_correlate_q31`): it gathers the samples, and gives all values once they have ended. Of N
+/// samples and T taps there are `2 * max(N, T) - 1` values, and none without a sample.
+#[derive(Drop)]
+pub struct Correlate<T: Sample> {
+    taps: Vec<T>,
+    gather: Gather<T>,
+    given: usize,
+    ended: bool,
+}
+
+impl<T: Sample> Model for Correlate<T> {
+    ghost use Rattle.std.specs.Prelude.{length, map, vec_len};
+    ghost use Rattle.dsp_conv.specs.CorrelateState.{CorrelateState, IsGathered};
+
+    ghost Value = { CorrelateState };
+
+    ghost view = { λ c. record {
+      taps = map T.number c.taps.items;
+      samples = c.gather;
+      given = c.given;
+      ended = c.ended;
+    } };
+
+    ghost invariant = { λ c. IsGathered (vec_len c.taps) (length c.gather) c.given c.ended };
+}
+
+impl<T: Sample> Correlate<T> {
+    ghost use Rattle.std.specs.Prelude.{◌≡◌, ◌≤◌, ◌<◌, ◌+◌, ◌++◌, ◌↔◌, [], true, min, length, map, take, drop, IfOk, OnOk, IfErr, IsErr, IsFalse, MatchOption};
+    ghost use Rattle.dsp_unit.specs.Making.{taps_fault};
+    ghost use Rattle.dsp_defs.specs.declared.fault.GatherFull.{GatherFull};
+    ghost use Rattle.dsp_defs.specs.declared.limits.TheConstants.{MAX_GATHERED};
+    ghost use Rattle.dsp_conv.specs.CorrelateState.{new_correlate, tail_of, made_of};
+
+    /// A correlation that has taken nothing, with the taps `b[0]` to `b[T-1]`. `Length` where there are
+    /// no taps or more than 4,096, then `Memory`. No later call takes memory.
+    pub fn new(alloc: Global, taps: &[T]) -> Result<Self, MakeFault>
+        ensures made { IfOk result (λ c. c ≡ new_correlate (map T.number taps.now)) }
+        ensures fault { MatchOption (taps_fault (length taps.now)) (IfErr result (λ e. e ≡ MakeFault.Memory)) (λ e. result ≡ Err e) }
+    {
+        check_taps(taps.len())?;
+        let Ok(gather) = Gather::new(alloc) else {
+            return Err(MakeFault::Memory);
+        };
+        let Ok(taps) = Vec::from_slice(alloc, taps) else {
+            return Err(MakeFault::Memory);
+        };
+        Ok(Correlate {
+            taps,
+            gather,
+            given: 0,
+            ended: false,
+        })
+    }
+
+    /// Takes samples. `GatherFull` where it would hold more than 1,048,576; then nothing changes.
+    pub fn put(&mut self, input: &[T]) -> Result<(), GatherFull>
+        requires running { IsFalse self.old.ended }
+        ensures full { IsErr result ↔ MAX_GATHERED < length self.old.samples + length input.now }
+        ensures held { IfErr result (λ (fault : GatherFull). fault.held ≡ length self.old.samples) }
+        ensures more { IfErr result (λ (fault : GatherFull). fault.more ≡ length input.now) }
+        ensures refused { IfErr result (λ _. self.new ≡ self.old) }
+        ensures taken { OnOk result (self.new ≡ record self.old { samples = self.old.samples ++ map T.number input.now }) }
+    {
+        self.gather.put(input)
+    }
+
+    /// Ends the signal: writes the next values of the correlation to the front of the output, as many
+    /// as fit in it, and answers their number. The rest of the output stays. The answer for an output
+    /// that is not empty is 0 exactly where all values were given.
+    pub fn finish<M: Ledger>(&mut self, output: &mut [T], steps: &mut Steps<M>) -> usize
+        ensures given { result ≡ min (length (tail_of T.format self.old)) (length output.old) }
+        ensures tail { tail_of T.format self.old ≡ map T.number (take result output.new) ++ tail_of T.format self.new }
+        ensures same { self.new ≡ record self.old { given = self.old.given + result; ended = true } }
+        ensures spent { 0 < length output.old → (result ≡ 0 ↔ tail_of T.format self.old ≡ []) }
+        ensures rest { drop result output.new ≡ drop result output.old }
+        ensures multiplies { made_of self.old + steps.new.multiplies ≡ made_of self.new + steps.old.multiplies }
+        ensures turns { made_of self.old + steps.new.turns ≡ made_of self.new + steps.old.turns }
+    {
+        self.ended = true;
+        let samples = self.gather.slice();
+        if samples.is_empty() {
+            return 0;
+        }
+        let whole = 2 * samples.len().max(self.taps.len()) - 1;
+        let count = (whole - self.given).min(output.len());
+        let output = &mut output[..count];
+        correlation_values(samples, &self.taps, self.given, output, steps);
+        self.given += count;
+        count
+    }
+
+    /// Whether `finish` was called.
+    pub fn is_ended(&self) -> bool
+        ensures { result ≡ self.now.ended }
+    {
+        self.ended
+    }
+}

@@ -1,0 +1,175 @@
+//! Callers of dsp_conv.
+ghost use Rattle.std.specs.Prelude.{◌≡◌, ◌≤◌, ◌+◌};
+
+use dsp_conv::{
+    Conv, ConvPartial, Correlate, Gather, conv_partial_slices, conv_slices, correlate_slices,
+};
+use dsp_defs::{GatherFull, MAX_GATHERED, MakeFault, Steps, WindowFault};
+use std::alloc::Global;
+use std::process::Abort;
+use std::sync::ledger::Ledger;
+
+/// In blocks of one sample each value takes two turns, and the tail is one value.
+fn few_turns<M: Ledger>(rt: &impl Abort, alloc: Global, steps: &mut Steps<M>)
+    ensures multiplies { steps.new.multiplies ≡ steps.old.multiplies + 6 }
+    ensures turns { steps.new.turns ≤ steps.old.turns + 6 }
+{
+    let mut filter = Conv::<i16, 8>::new(alloc, &[16384, 16384], 1).expect(rt, "a convolution");
+    let mut output = [7i16; 3];
+    assert_eq!(rt; filter.process(&[2], &mut output, steps), 1);
+    assert_eq!(rt; output, [1, 7, 7]);
+    assert_eq!(rt; filter.process(&[4], &mut output, steps), 1);
+    assert_eq!(rt; output, [3, 7, 7]);
+    assert_eq!(rt; filter.finish(&mut output, steps), 1);
+    assert_eq!(rt; output, [2, 7, 7]);
+    assert_eq!(rt; filter.finish(&mut output, steps), 0);
+    assert_eq!(rt; output, [2, 7, 7]);
+}
+
+/// A convolution goes on where another one was kept, and its tail comes as it fits.
+fn goes_on<M: Ledger>(rt: &impl Abort, alloc: Global, steps: &mut Steps<M>) {
+    let taps = [16384i16, 0, 16384, 8192];
+    let mut output = [0i16; 4];
+    let mut kept = [0i64; 4];
+    let mut first = Conv::<i16, 8>::new(alloc, &taps, 2).expect(rt, "a convolution");
+    assert_eq!(rt; (first.room(2), first.kept_count()), (2, 4));
+    first.keep(&mut kept);
+    assert_eq!(rt; kept, [0, 0, 0, 0]);
+    first.process(&[2, 4], &mut output, steps);
+    first.keep(&mut kept);
+    assert_eq!(rt; kept, [0, 2, 4, 1]);
+    let mut second = Conv::<i16, 8>::new(alloc, &taps, 2).expect(rt, "a convolution");
+    assert!(rt; !second.fits(&[0, 2, 4]) && !second.fits(&[0, 2, 32768, 1]));
+    assert!(rt; !second.fits(&[0, 2, 4, 2]) && !second.fits(&[0, 2, 4, -1]));
+    assert!(rt; second.fits(&kept));
+    second.restore(&kept);
+    assert!(rt; !second.is_ended());
+    assert_eq!(rt; second.finish(&mut [], steps), 0);
+    assert!(rt; second.is_ended());
+    let mut piece = [7i16; 2];
+    assert_eq!(rt; second.finish(&mut piece, steps), 2);
+    assert_eq!(rt; piece, [1, 2]);
+    assert_eq!(rt; second.finish(&mut piece, steps), 1);
+    assert_eq!(rt; piece, [1, 2]);
+    assert_eq!(rt; second.finish(&mut piece, steps), 0);
+}
+
+/// A correlation gathers its samples, and gives all its values at the end, as they fit.
+fn gathered<M: Ledger>(rt: &impl Abort, alloc: Global, steps: &mut Steps<M>) {
+    let mut correlate = Correlate::new(alloc, &[16384i16]).expect(rt, "a correlation");
+    let mut output = [7i16; 3];
+    assert!(rt; correlate.put(&[2, 4]).is_ok() && correlate.put(&[6]).is_ok());
+    assert!(rt; !correlate.is_ended());
+    assert_eq!(rt; correlate.finish(&mut output, steps), 3);
+    assert_eq!(rt; output, [0, 0, 1]);
+    assert_eq!(rt; correlate.finish(&mut output, steps), 2);
+    assert_eq!(rt; output, [2, 3, 1]);
+    assert_eq!(rt; correlate.finish(&mut output, steps), 0);
+    assert!(rt; correlate.is_ended());
+}
+
+/// The calls over slices.
+fn sliced<M: Ledger>(rt: &impl Abort, steps: &mut Steps<M>) {
+    let mut full = [7i16; 3];
+    conv_slices(&[2, 4], &[16384, 16384], &mut full, steps);
+    assert_eq!(rt; full, [1, 3, 2]);
+    let mut part = [7i16; 2];
+    assert!(rt; conv_partial_slices(&[2, 4], &[16384, 16384], 1, &mut part, steps).is_ok());
+    assert_eq!(rt; part, [3, 2]);
+    let fault = conv_partial_slices(&[2, 4], &[16384, 16384], 2, &mut part, steps);
+    assert_eq!(rt; fault, Err(WindowFault { end: 4, length: 3 }));
+    let mut values = [7i16; 5];
+    correlate_slices(&[2, 4, 6], &[16384], &mut values, steps);
+    assert_eq!(rt; values, [0, 0, 1, 2, 3]);
+}
+
+/// A part of a convolution gives its window alone, here the values behind the first.
+fn part<M: Ledger>(rt: &impl Abort, alloc: Global, steps: &mut Steps<M>) {
+    let mut output = [7i16; 2];
+    let mut filter = ConvPartial::<i16, 8>::new(alloc, 1, 2, &[16384, 16384], 2).expect(
+        rt, "a part",
+    );
+    assert_eq!(rt; filter.process(&[2, 4], &mut output, steps), 1);
+    assert_eq!(rt; output, [3, 7]);
+    assert_eq!(rt; filter.finish(&mut output, steps), 1);
+    assert_eq!(rt; output, [2, 7]);
+    assert_eq!(rt; filter.finish(&mut output, steps), 0);
+}
+
+/// Convolutions in the other formats.
+fn other_formats<M: Ledger>(rt: &impl Abort, alloc: Global, steps: &mut Steps<M>) {
+    let mut bytes = [0i8; 1];
+    let mut narrow = Conv::<i8, 16>::new(alloc, &[127], 1).expect(rt, "a convolution");
+    assert_eq!(rt; narrow.process(&[126], &mut bytes, steps), 1);
+    assert_eq!(rt; bytes, [125]);
+    let mut words = [0i32; 3];
+    let mut wide = Conv::<i32, 4>::new(alloc, &[i32::MIN, i32::MIN], 3).expect(rt, "a convolution");
+    assert_eq!(rt; wide.process(&[i32::MIN, i32::MIN], &mut words, steps), 2);
+    assert_eq!(rt; words, [i32::MIN, 0, 0]);
+}
+
+/// The calls that count their products.
+pub(crate) fn counted<M: Ledger>(rt: &impl Abort, alloc: Global, steps: &mut Steps<M>) {
+    few_turns(rt, alloc, steps);
+    goes_on(rt, alloc, steps);
+    part(rt, alloc, steps);
+    other_formats(rt, alloc, steps);
+    gathered(rt, alloc, steps);
+    sliced(rt, steps);
+}
+
+#[test]
+fn faults(rt: HostRuntime) {
+    let alloc = rt.alloc();
+    assert!(rt;
+        matches!(
+            Conv::<i16, 8>::new(alloc, &[], 0),
+            Err(MakeFault::Length { taps: 0, factor: 1 })
+        )
+    );
+    assert!(rt;
+        matches!(
+            Conv::<i8, 16>::new(alloc, &[1; 4097], 1),
+            Err(MakeFault::Length {
+                taps: 4097,
+                factor: 1
+            })
+        )
+    );
+    assert!(rt;
+        matches!(
+            Conv::<i32, 4>::new(alloc, &[1], 1048577),
+            Err(MakeFault::Range { value: 1048577 })
+        )
+    );
+    assert!(rt;
+        matches!(
+            ConvPartial::<i16, 8>::new(alloc, 4294967296, 0, &[1], 0),
+            Err(MakeFault::Range { value: 4294967296 })
+        )
+    );
+    assert!(rt;
+        matches!(
+            ConvPartial::<i16, 8>::new(alloc, 4294967295, 0, &[1], 0),
+            Err(MakeFault::Range { value: 0 })
+        )
+    );
+    assert!(rt; Correlate::<i8>::new(alloc, &[]).is_err());
+    assert!(rt; Conv::<i16, 8>::new(alloc, &[1; 4096], 1048576).is_ok());
+}
+
+/// A gather holds 1,048,576 samples and no more.
+#[test]
+fn full_gather(rt: HostRuntime) {
+    let mut gather = Gather::<i16>::new(rt.alloc()).expect(&rt, "a gather");
+    for _ in 0..MAX_GATHERED / 4096 {
+        assert!(rt; gather.put(&[5; 4096]).is_ok());
+    }
+    assert_eq!(rt; gather.slice().len(), MAX_GATHERED);
+    let fault = GatherFull {
+        held: 1048576,
+        more: 1,
+    };
+    assert_eq!(rt; gather.put(&[5]), Err(fault));
+    assert!(rt; gather.put(&[]).is_ok());
+}

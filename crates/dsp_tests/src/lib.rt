@@ -1,5 +1,5 @@
-//! Callers of the library's crates, each of its public calls once: what to write to use them, and tests.
-//! Whole runs of the program over ports in memory.
+//! Callers of the library's crates: what to write to use them, and tests. Whole runs of the program over
+//! ports in memory.
 #![tactic(auto)]
 
 #[cfg(test)]

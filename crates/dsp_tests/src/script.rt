@@ -3,8 +3,8 @@ ghost use Rattle.dsp_defs.specs.Grammar.{IsSound};
 
 use dsp_defs::{Fmt, MAX_INPUT, Script};
 use dsp_script::{
-    ParseFault, ScriptFault, ScriptKind, cost, default_block, frames_given, legal, output_rate,
-    parse, print, unit,
+    ParseFault, ScriptFault, ScriptKind, cost, default_block, frames_given, legal, parse, print,
+    unit,
 };
 use std::alloc::{AllocError, Global};
 use std::test::Fail;

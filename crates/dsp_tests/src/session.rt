@@ -1,10 +1,10 @@
 ghost use Rattle.std.specs.Prelude.{◌≡◌};
 
 use dsp_chain::is_built;
-use dsp_defs::{HeaderFault, Steps};
+use dsp_defs::{HeaderFault, Steps, WindowFault};
 use dsp_ports::{MemSink, MemSource};
 use dsp_script::{legal, parse};
-use dsp_session::{LengthFault, Session, StreamFault, Totals, stream};
+use dsp_session::{Session, StreamFault, Totals, stream};
 use std::alloc::Global;
 use std::marker::Brand;
 use std::sync::ledger::{Blank, Ledger};
@@ -28,9 +28,6 @@ fn streamed<L: Ledger>(
         return None;
     }
     let mut session = Session::new(alloc, &script, 2).ok()?;
-    if !session.out().is_empty() || session.window_fault(0).is_some() {
-        return None;
-    }
     Some(stream(&mut session, input, output, &mut steps))
 }
 
@@ -122,4 +119,33 @@ fn each_stream_answers_and_writes(rt: HostRuntime) -> Result<(), Fail> {
         assert_eq!(rt; output.bytes(), case.output);
     }
     Ok(())
+}
+
+/// How many bytes a new session of a script has given, and its window fault where nothing comes, and where
+/// one frame does.
+fn first_windows(
+    alloc: Global,
+    script: &[u8],
+) -> Option<(usize, Option<WindowFault>, Option<WindowFault>)> {
+    let script = parse(alloc, script).ok()?;
+    if !legal(&script, 2) || !is_built(&script) {
+        return None;
+    }
+    let session = Session::new(alloc, &script, 2).ok()?;
+    Some((
+        session.out().len(),
+        session.window_fault(0),
+        session.window_fault(1),
+    ))
+}
+
+#[test]
+fn a_window_of_one_value_wants_one_frame(rt: HostRuntime) {
+    assert_eq!(rt;
+        first_windows(
+            rt.alloc(),
+            b"dspfx 1 input raw q15 1 8000 conv_partial 0 1 {1} output raw"
+        ),
+        Some((0, Some(WindowFault { end: 1, length: 0 }), None))
+    );
 }

@@ -1,7 +1,7 @@
 use dsp_defs::{Fmt, Input, InputKind};
 use dsp_ports::{Source, fill};
 use dsp_wave::{
-    Coding, GenSource, HeaderOr, bytes_of, decode, encode, pad, read_header, riff_size, sample_of,
+    Coding, GenSource, HeaderOr, bytes_of, decode, encode, read_header, riff_size, sample_of,
     width, write_header,
 };
 use std::process::Abort;

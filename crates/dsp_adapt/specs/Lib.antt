@@ -1,1 +1,4 @@
+pub mod AdaptUnit
+pub mod LmsUnit
+pub mod LmsState
 pub mod PidState

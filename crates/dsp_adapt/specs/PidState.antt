@@ -58,12 +58,12 @@ pid-steady format kp ki kd = record {
     keeps_is = λ c x. refl;
     kinds_are = λ c n. refl;
     keeps_place = λ x. kept_of_channel-place format (Pid kp ki kd) x tt;
-    taken = λ n. tt;
     no_measures = λ c number kept. refl;
     live_cost = λ c n. omega arith;
     so_far = λ c n taken given. omega arith;
     turns = λ c m n. less-scaled c m n 3;
   };
+  taken = λ n. tt;
   whole_is_live = λ x. refl;
   most_same = λ n. refl;
   live_same = λ n. refl;
@@ -82,7 +82,7 @@ pid-stepwise format (Pid kp ki kd) is = record {
 }
 pid-stepwise format block is = absurd is
 
--- the block is one of this crate's
+-- the block is a controller
 abbrev pub IsPidBlock : Block → Type 0
 IsPidBlock (Pid kp ki kd) = ⊤
 IsPidBlock block = ⊥

@@ -68,12 +68,12 @@ biquad-steady format p numbers = record {
     keeps_is = λ c x. refl;
     kinds_are = λ c n. refl;
     keeps_place = λ x. kept_of_channel-place format (Biquad p numbers) x tt;
-    taken = λ n. tt;
     no_measures = λ c number kept. refl;
     live_cost = λ c n. scaled c n (5 * section_count format numbers);
     so_far = λ c n taken given. scaled c taken (5 * section_count format numbers);
     turns = λ c m n. less-scaled c m n (5 * section_count format numbers);
   };
+  taken = λ n. tt;
   whole_is_live = λ x. refl;
   most_same = λ n. refl;
   live_same = λ n. refl;
@@ -105,12 +105,12 @@ biquad64-steady p numbers = record {
     keeps_is = λ c x. refl;
     kinds_are = λ c n. refl;
     keeps_place = λ x. kept_of_channel-place Q31 (Biquad64 p numbers) x tt;
-    taken = λ n. tt;
     no_measures = λ c number kept. refl;
     live_cost = λ c n. scaled c n (5 * section_count Q31 numbers);
     so_far = λ c n taken given. scaled c taken (5 * section_count Q31 numbers);
     turns = λ c m n. less-scaled c m n (5 * section_count Q31 numbers);
   };
+  taken = λ n. tt;
   whole_is_live = λ x. refl;
   most_same = λ n. refl;
   live_same = λ n. refl;

@@ -2,7 +2,7 @@
 use Rattle.std.specs.Prelude.{Bool, is_some, Option, Some, None}
 use Rattle.std.specs.List.{list_all}
 use Rattle.dsp_defs.specs.declared.script.Block.{Block}
-use Rattle.dsp_defs.specs.declared.script.Block.TheVariants.{Offset, Negate, Abs, Scale, Shift, Clip, To, Add, Sub, Mult, Route, Conj, CmplxMult, CmplxMultReal, MagSquared, Fir, Sparse, Decimate, Interpolate, LatticeFir, LatticeIir, Biquad, Biquad64, Conv, ConvPartial, Pid, MatAdd, MatSub, MatScale, MatTrans, MatMult, Power, Dot, CmplxDot, Max, Min}
+use Rattle.dsp_defs.specs.declared.script.Block.TheVariants.{Offset, Negate, Abs, Scale, Shift, Clip, To, Add, Sub, Mult, Route, Conj, CmplxMult, CmplxMultReal, MagSquared, Fir, Sparse, Decimate, Interpolate, LatticeFir, LatticeIir, Biquad, Biquad64, Conv, ConvPartial, Correlate, Lms, Pid, MatAdd, MatSub, MatScale, MatTrans, MatMult, Power, Dot, CmplxDot, Max, Min}
 use Rattle.dsp_defs.specs.declared.script.Script.{Script}
 use Rattle.dsp_chain.specs.declared.built.Family.{Family}
 use Rattle.dsp_chain.specs.declared.built.Family.TheVariants as family
@@ -34,6 +34,8 @@ family_of (Biquad post_shift coefficients) = Some family.Biquad
 family_of (Biquad64 post_shift coefficients) = Some family.Biquad
 family_of (Conv taps) = Some family.Conv
 family_of (ConvPartial first count taps) = Some family.Conv
+family_of (Correlate taps) = Some family.Conv
+family_of (Lms post_shift mu taps) = Some family.Adapt
 family_of (Pid kp ki kd) = Some family.Adapt
 family_of (MatAdd rows columns matrix) = Some family.Matrix
 family_of (MatSub rows columns matrix) = Some family.Matrix
@@ -45,7 +47,6 @@ family_of Dot = Some family.Measure
 family_of CmplxDot = Some family.Measure
 family_of Max = Some family.Measure
 family_of Min = Some family.Measure
-family_of block = None
 
 -- the block has a unit
 abbrev pub is_built_block : Block → Bool

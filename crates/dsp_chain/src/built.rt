@@ -18,11 +18,11 @@ pub enum Family {
     Biquad,
     /// Lattices.
     Lattice,
-    /// Controllers.
+    /// Adaptive filters and controllers.
     Adapt,
     /// Matrices over groups of samples.
     Matrix,
-    /// Convolutions, which end with a tail.
+    /// Convolutions and correlations, which end with a tail.
     Conv,
     /// Measures, which pass the frames on.
     Measure,
@@ -50,9 +50,11 @@ pub fn family_of(block: &Block) -> Option<Family>
         Block::Fir { .. } | Block::Sparse { .. } => Some(Family::Fir),
         Block::Decimate { .. } | Block::Interpolate { .. } => Some(Family::Rate),
         Block::Biquad { .. } | Block::Biquad64 { .. } => Some(Family::Biquad),
-        Block::Conv { .. } | Block::ConvPartial { .. } => Some(Family::Conv),
+        Block::Conv { .. } | Block::ConvPartial { .. } | Block::Correlate { .. } => {
+            Some(Family::Conv)
+        }
         Block::LatticeFir { .. } | Block::LatticeIir { .. } => Some(Family::Lattice),
-        Block::Pid { .. } => Some(Family::Adapt),
+        Block::Lms { .. } | Block::Pid { .. } => Some(Family::Adapt),
         Block::MatAdd { .. }
         | Block::MatSub { .. }
         | Block::MatScale { .. }
@@ -61,7 +63,6 @@ pub fn family_of(block: &Block) -> Option<Family>
         Block::Power | Block::Dot | Block::CmplxDot | Block::Max | Block::Min => {
             Some(Family::Measure)
         }
-        _ => None,
     }
 }
 

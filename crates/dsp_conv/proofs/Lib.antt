@@ -4,3 +4,4 @@ pub mod CallLemmas
 pub mod ChannelLemmas
 pub mod SliceSums
 pub mod Correlations
+pub mod CorrelateChannels

@@ -1,26 +1,34 @@
--- The blocks whose units are convolutions.
+-- The blocks whose units are convolutions and correlations.
 use Rattle.std.specs.Prelude.{⊤, ℕ, ◌-◌, ◌<◌, min, ℤ, List, [], length, IfSome, refl}
 use Rattle.dsp_defs.specs.Sums.{full_length}
-use Rattle.dsp_defs.specs.Cost.{lane_turns}
+use Rattle.dsp_defs.specs.Cost.{lane_turns, correlation_products}
 use Rattle.dsp_defs.specs.Shape.{group_of}
 use Rattle.dsp_stage.specs.Filter.{IsByChannel}
 use Rattle.dsp_stage.proofs.KeptLaws.{kept_of_channel-place}
 use Rattle.dsp_unit.specs.Making.{AreTaps}
-use Rattle.dsp_unit.proofs.Units.{scaled, less-scaled}
+use Rattle.dsp_unit.proofs.Units.{scaled, scaled-one, scaled-none, less-scaled, less-none}
 use Rattle.dsp_defs.specs.declared.format.Fmt.{Fmt}
 use Rattle.dsp_defs.specs.declared.script.Block.{Block}
-use Rattle.dsp_defs.specs.declared.script.Block.TheVariants.{Conv, ConvPartial}
+use Rattle.dsp_defs.specs.declared.script.Block.TheVariants.{Conv, ConvPartial, Correlate}
 
 -- the block is one of this crate's
 abbrev pub IsConvBlock : Block → Type 0
 IsConvBlock (Conv taps) = ⊤
 IsConvBlock (ConvPartial first count taps) = ⊤
+IsConvBlock (Correlate taps) = ⊤
 IsConvBlock block = ⊥
+
+-- it is a convolution, or a part of one
+abbrev pub HasExtent : Block → Type 0
+HasExtent (Conv taps) = ⊤
+HasExtent (ConvPartial first count taps) = ⊤
+HasExtent block = ⊥
 
 -- its taps
 abbrev pub taps_of : Block → List ℤ
 taps_of (Conv taps) = taps
 taps_of (ConvPartial first count taps) = taps
+taps_of (Correlate taps) = taps
 taps_of _ = []
 
 -- the block is a convolution, or a part of one
@@ -39,7 +47,6 @@ by-channel format (Conv taps) is = record {
   keeps_is = λ c x. refl;
   kinds_are = λ c n. refl;
   keeps_place = λ x. kept_of_channel-place format (Conv taps) x tt;
-  taken = λ n. tt;
   no_measures = λ c number kept. refl;
   live_cost = λ c n. scaled c (min n (full_length n (length taps))) (length taps);
   so_far = λ c n taken given. scaled c given (length taps);
@@ -55,7 +62,6 @@ by-channel format (ConvPartial first count taps) is =
       keeps_is = λ c x. refl;
       kinds_are = λ c n. refl;
       keeps_place = λ x. kept_of_channel-place format (ConvPartial first count taps) x tt;
-      taken = λ n. tt;
       no_measures = λ c number kept. refl;
       live_cost = λ c n. scaled c (live n) (length taps);
       so_far = λ c n taken given. scaled c given (length taps);
@@ -68,3 +74,32 @@ pub has-groups : (format : Fmt) (block : Block) → IsConvIn format block → If
 has-groups format (Conv taps) is = tt
 has-groups format (ConvPartial first count taps) is = tt
 has-groups format block is = absurd is
+
+-- ---- correlations
+
+-- the block is a correlation
+abbrev pub IsCorrelateIn : Fmt → Block → Type 0
+IsCorrelateIn format (Correlate taps) = AreTaps format taps
+IsCorrelateIn format block = ⊥
+
+-- it works on each channel by itself
+pub correlate-by-channel : (format : Fmt) (block : Block) → IsCorrelateIn format block → IsByChannel format block
+correlate-by-channel format (Correlate taps) is = record {
+  live_is = refl;
+  whole_is = refl;
+  channels_same = λ c. refl;
+  format_same = refl;
+  keeps_is = λ c x. refl;
+  kinds_are = λ c n. refl;
+  keeps_place = λ x. kept_of_channel-place format (Correlate taps) x tt;
+  no_measures = λ c number kept. refl;
+  live_cost = λ c n. scaled-none c;
+  so_far = λ c n taken given. scaled-one c (correlation_products n (length taps) given);
+  turns = λ c m n. less-none c;
+}
+correlate-by-channel format block is = absurd is
+
+-- and not on groups
+pub correlate-groups : (format : Fmt) (block : Block) → IsCorrelateIn format block → IfSome (group_of block) (λ g. 0 < g.0)
+correlate-groups format (Correlate taps) is = tt
+correlate-groups format block is = absurd is

@@ -1,9 +1,9 @@
 use crate::Gather;
 use crate::sums::correlation_values;
-use dsp_defs::{GatherFull, MakeFault, Steps};
+use dsp_defs::{GatherFull, MAX_GATHERED, MakeFault, Steps};
 use dsp_sat::Sample;
-use dsp_unit::check_taps;
-use std::alloc::Global;
+use dsp_unit::{are_samples, check_taps};
+use std::alloc::{AllocError, Global};
 use std::marker::Model;
 use std::sync::ledger::Ledger;
 
@@ -35,10 +35,12 @@ impl<T: Sample> Model for Correlate<T> {
 }
 
 impl<T: Sample> Correlate<T> {
-    ghost use Rattle.std.specs.Prelude.{◌≡◌, ◌≤◌, ◌<◌, ◌+◌, ◌++◌, ◌↔◌, [], true, min, length, map, take, drop, IfOk, OnOk, IfErr, IsErr, IsFalse, MatchOption};
+    ghost use Rattle.std.specs.Prelude.{◌≡◌, ◌≤◌, ◌<◌, ◌+◌, ◌++◌, ◌↔◌, [], true, min, length, map, take, drop, IfOk, OnOk, IfErr, IsErr, IsFalse, IsTrue, MatchOption};
     ghost use Rattle.dsp_unit.specs.Making.{taps_fault};
     ghost use Rattle.dsp_defs.specs.declared.fault.GatherFull.{GatherFull};
-    ghost use Rattle.dsp_defs.specs.declared.limits.TheConstants.{MAX_GATHERED};
+    ghost use Rattle.dsp_defs.specs.declared.limits.TheConstants.{MAX_GATHERED, MAX_TAPS};
+    ghost use Rattle.dsp_defs.specs.Formats.{word};
+    ghost use Rattle.dsp_stage.specs.Kept.{Each, IsOfKind, in_words};
     ghost use Rattle.dsp_conv.specs.CorrelateState.{new_correlate, tail_of, made_of};
 
     /// A correlation that has taken nothing, with the taps `b[0]` to `b[T-1]`. `Length` where there are
@@ -48,12 +50,20 @@ impl<T: Sample> Correlate<T> {
         ensures fault { MatchOption (taps_fault (length taps.now)) (IfErr result (λ e. e ≡ MakeFault.Memory)) (λ e. result ≡ Err e) }
     {
         check_taps(taps.len())?;
-        let Ok(gather) = Gather::new(alloc) else {
+        let Ok(correlate) = Correlate::of_taps(alloc, taps) else {
             return Err(MakeFault::Memory);
         };
-        let Ok(taps) = Vec::from_slice(alloc, taps) else {
-            return Err(MakeFault::Memory);
-        };
+        Ok(correlate)
+    }
+
+    /// A correlation that has taken nothing, with 1 to 4,096 taps. All its memory is taken here.
+    pub(crate) fn of_taps(alloc: Global, taps: &[T]) -> Result<Self, AllocError>
+        requires some { 1 ≤ length taps.now }
+        requires few { length taps.now ≤ MAX_TAPS }
+        ensures { IfOk result (λ c. c ≡ new_correlate (map T.number taps.now)) }
+    {
+        let gather = Gather::new(alloc)?;
+        let taps = Vec::from_slice(alloc, taps)?;
         Ok(Correlate {
             taps,
             gather,
@@ -104,5 +114,38 @@ impl<T: Sample> Correlate<T> {
         ensures { result ≡ self.now.ended }
     {
         self.ended
+    }
+
+    /// How many samples came: so many numbers are kept.
+    pub fn kept_count(&self) -> usize
+        ensures count { result ≡ length self.now.samples }
+        ensures few { result ≤ MAX_GATHERED }
+    {
+        self.gather.slice().len()
+    }
+
+    /// Writes the kept numbers: the samples that came, the oldest first.
+    pub fn keep(&self, out: &mut [i64])
+        requires { length out.old ≡ length self.now.samples }
+        ensures { out.new ≡ self.now.samples }
+    {
+        self.gather.keep(out);
+    }
+
+    /// Whether these can be kept numbers: at most 1,048,576 of them, each in the range of the format.
+    pub fn fits(&self, numbers: &[i64]) -> bool
+        ensures { IsTrue result ↔ (length numbers.now ≤ MAX_GATHERED) × Each IsOfKind (in_words (word T.format) (length numbers.now)) numbers.now }
+    {
+        numbers.len() <= MAX_GATHERED && are_samples::<T>(numbers, numbers.len())
+    }
+
+    /// Has taken the samples of these numbers from now on, and no others.
+    pub fn restore(&mut self, numbers: &[i64])
+        requires running { IsFalse self.old.ended }
+        requires few { length numbers.now ≤ MAX_GATHERED }
+        requires samples { Each IsOfKind (in_words (word T.format) (length numbers.now)) numbers.now }
+        ensures { self.new ≡ record self.old { samples = numbers.now } }
+    {
+        self.gather.restore(numbers);
     }
 }

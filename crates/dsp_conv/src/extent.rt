@@ -1,5 +1,5 @@
 ghost use Rattle.std.specs.Prelude.{◌≡◌, ◌≤◌, ◌+◌, ◌*◌};
-ghost use Rattle.dsp_conv.specs.ConvUnit.{IsConvBlock, taps_of};
+ghost use Rattle.dsp_conv.specs.ConvUnit.{HasExtent, taps_of};
 
 use dsp_defs::Block;
 use std::ops::Range;
@@ -25,9 +25,9 @@ fn end_of(first: u32, count: u32) -> u64
 impl Extent {
     ghost use Rattle.dsp_conv.specs.Extent.{block_of, greatest_place, place_after, start_in, stop_in};
 
-    /// What a block of this crate gives.
+    /// What a convolution, or a part of one, gives.
     pub fn of_block(block: &Block) -> Extent
-        requires { IsConvBlock block.now }
+        requires { HasExtent block.now }
         ensures { block_of result (taps_of block.now) ≡ block.now }
     {
         match block {

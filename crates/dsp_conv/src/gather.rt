@@ -3,6 +3,7 @@ ghost use Rattle.std.specs.Prelude.{◌≡◌, ◌≤◌, ◌+◌, ◌++◌, len
 use crate::making::zeros;
 use dsp_defs::{GatherFull, MAX_GATHERED};
 use dsp_sat::Sample;
+use dsp_window::load_numbers;
 use std::alloc::{AllocError, Global};
 use std::marker::Model;
 
@@ -33,7 +34,8 @@ impl<T: Sample> Model for Gather<T> {
 }
 
 impl<T: Sample> Gather<T> {
-    ghost use Rattle.std.specs.Prelude.{◌≡◌, ◌<◌, ◌≤◌, ◌+◌, ◌++◌, ◌↔◌, [], length, map, IfOk, OnOk, IfErr, IsErr};
+    ghost use Rattle.std.specs.Prelude.{◌≡◌, ◌<◌, ◌≤◌, ◌+◌, ◌++◌, ◌↔◌, [], length, map, IfOk, OnOk, IfErr, IsErr, All, FitsSigned};
+    ghost use Rattle.dsp_defs.specs.Formats.{word};
     ghost use Rattle.dsp_defs.specs.declared.fault.GatherFull.{GatherFull};
     ghost use Rattle.dsp_defs.specs.declared.limits.TheConstants.{MAX_GATHERED};
 
@@ -73,5 +75,25 @@ impl<T: Sample> Gather<T> {
         put_behind(&mut self.samples, held, input);
         self.held = held + input.len();
         Ok(())
+    }
+
+    /// Writes the numbers of the samples that came, the oldest first.
+    pub fn keep(&self, out: &mut [i64])
+        requires { length out.old ≡ length self.now }
+        ensures { out.new ≡ self.now }
+    {
+        for (k, slot) in out.iter_mut().enumerate() {
+            *slot = i64::from(self.samples[k].number());
+        }
+    }
+
+    /// Holds the samples of these numbers from now on, and no others.
+    pub fn restore(&mut self, numbers: &[i64])
+        requires few { length numbers.now ≤ MAX_GATHERED }
+        requires samples { All (FitsSigned (word T.format)) numbers.now }
+        ensures { self.new ≡ numbers.now }
+    {
+        load_numbers(&mut self.samples, numbers);
+        self.held = numbers.len();
     }
 }

@@ -31,7 +31,9 @@ pub fn taps_of(block: &Block) -> &[i32]
     ensures { result.now ≡ taps_of block.now }
 {
     match block {
-        Block::Conv { taps } | Block::ConvPartial { taps, .. } => taps.as_slice(),
+        Block::Conv { taps } | Block::ConvPartial { taps, .. } | Block::Correlate { taps } => {
+            taps.as_slice()
+        }
         _ => unreachable!(),
     }
 }

@@ -32,6 +32,7 @@ turns-within format L price before after m n count same more within =
 pub fir-block : (format : Fmt) (taps : List ℤ) → IsSampleBlock format (Block.Fir taps) (length taps - 1) (length taps)
 fir-block format taps = record {
   by_channel = fir-by-channel format taps;
+  taken = λ n. tt;
   whole_is_live = λ x. refl;
   most_same = λ n. refl;
   live_same = λ n. refl;
@@ -89,6 +90,7 @@ greatest-named delays = ap greatest_delay (delays-named delays)
 pub sparse-block : (format : Fmt) (taps : List ℤ) (delays : List ℕ) → IsSampleBlock format (Block.Sparse taps (map pos delays)) (greatest_delay delays) (length taps)
 sparse-block format taps delays = record {
   by_channel = sparse-by-channel format taps (map pos delays);
+  taken = λ n. tt;
   whole_is_live = λ x. refl;
   most_same = λ n. refl;
   live_same = λ n. refl;

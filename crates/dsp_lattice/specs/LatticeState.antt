@@ -114,12 +114,12 @@ fir-steady format k = record {
     keeps_is = λ c x. refl;
     kinds_are = λ c n. refl;
     keeps_place = λ x. kept_of_channel-place format (LatticeFir k) x tt;
-    taken = λ n. tt;
     no_measures = λ c number kept. refl;
     live_cost = λ c n. scaled c n (2 * length k);
     so_far = λ c n taken given. scaled c taken (2 * length k);
     turns = λ c m n. less-scaled c m n (2 * length k);
   };
+  taken = λ n. tt;
   whole_is_live = λ x. refl;
   most_same = λ n. refl;
   live_same = λ n. refl;
@@ -148,12 +148,12 @@ iir-steady format k v = record {
     keeps_is = λ c x. refl;
     kinds_are = λ c n. refl;
     keeps_place = λ x. kept_of_channel-place format (LatticeIir k v) x tt;
-    taken = λ n. tt;
     no_measures = λ c number kept. refl;
     live_cost = λ c n. scaled c n (3 * length k + 1);
     so_far = λ c n taken given. scaled c taken (3 * length k + 1);
     turns = λ c m n. less-scaled c m n (3 * length k + 1);
   };
+  taken = λ n. tt;
   whole_is_live = λ x. refl;
   most_same = λ n. refl;
   live_same = λ n. refl;

@@ -184,7 +184,7 @@ module _ (format : Fmt) (block : Block) (g : Group) (is : IsGrouped format block
   pub group-fits : (n : ℕ) (numbers : List ℤ) → length numbers < g.taken → length numbers ≡ n → Each IsOfKind (in_words (word format) (length numbers)) numbers → FitsChannel format block n numbers
   group-fits n numbers below count each =
       let size : length numbers ≡ n % g.taken = count ∙ sym (mod-eq_of_lt (subst (λ (k : ℕ). k < g.taken) count below)) in
-      (is.by_channel.taken n, subst (λ ks. Each IsOfKind ks numbers) (sym (is.kinds n)) (subst (λ (k : ℕ). Each IsOfKind (in_words (word format) k) numbers) size each))
+      (is.taken n, subst (λ ks. Each IsOfKind ks numbers) (sym (is.kinds n)) (subst (λ (k : ℕ). Each IsOfKind (in_words (word format) k) numbers) size each))
 
   pub fits-size : (n : ℕ) (numbers : List ℤ) → FitsChannel format block n numbers → length numbers ≡ n % g.taken
   fits-size n numbers fits = length-words IsOfKind (word format) (n % g.taken) numbers (subst (λ ks. Each IsOfKind ks numbers) (is.kinds n) fits.1)

@@ -6,7 +6,7 @@ use Rattle.dsp_defs.specs.declared.limits.TheConstants.{MAX_MATRIX_SIDE}
 use Rattle.dsp_defs.specs.Formats.{word}
 use Rattle.dsp_defs.specs.Signal.{values}
 use Rattle.dsp_defs.specs.Matrix.{each_group}
-use Rattle.dsp_stage.specs.Kept.{open_group, in_words, kept_of_channel, kinds_by, place_of}
+use Rattle.dsp_stage.specs.Kept.{open_group, IsTaken, in_words, kept_of_channel, kinds_by, place_of}
 use Rattle.dsp_defs.specs.Shape.{group_of, live_frames, whole_frames}
 use Rattle.dsp_defs.specs.Cost.{live_block_cost, block_turns}
 use Rattle.dsp_defs.specs.Counts.{Counts}
@@ -53,6 +53,7 @@ pub record IsGrouped (format : Fmt) (block : Block) (g : Group) : Type 0 where
   pub few_taken : g.taken ≤ MAX_MATRIX_SIDE * MAX_MATRIX_SIDE
   pub few_given : g.given ≤ MAX_MATRIX_SIDE * MAX_MATRIX_SIDE
   pub by_channel : IsByChannel format block
+  pub taken : (n : ℕ) → IsTaken block n
   pub gives : (x : List ℤ) → of_channel format block x ≡ given_groups g x
   pub whole_is_live : (x : List ℤ) → of_whole_channel format block x ≡ of_channel format block x
   pub keeps : (x : List ℤ) → kept_of_channel format block x ≡ left_open g x

@@ -39,7 +39,7 @@ impl<T: LaneSample<L> + WideSample, const L: usize> Interpolate<T, L> {
     ghost use Rattle.dsp_lanes.specs.Turns.{lane_turns};
     ghost use Rattle.dsp_rate.specs.InterpolateState.{StandsFor, interpolate_fault, new_interpolate};
 
-    /// An interpolator that has taken nothing, from its factor L and the taps in time-reversed order,
+    /// An interpolator that has taken nothing, from its factor and the taps in time-reversed order,
     /// `b[T-1]` to `b[0]`, for blocks of at most `block` samples. `Length` where the taps are not
     /// 1..4,096 or no multiple of the factor, then `Range` where the factor is 0, `Range` where the
     /// block is not in 1..1,048,576, then `Memory`. No later call takes memory.
@@ -73,7 +73,7 @@ impl<T: LaneSample<L> + WideSample, const L: usize> Interpolate<T, L> {
         })
     }
 
-    /// How many values a block of `n` samples gives: L for each.
+    /// How many values a block of `n` samples gives: `factor` for each.
     pub fn room(&self, n: usize) -> usize
         requires { n ≤ self.now.block }
         ensures { result ≡ n * self.now.factor }
@@ -81,8 +81,8 @@ impl<T: LaneSample<L> + WideSample, const L: usize> Interpolate<T, L> {
         n * self.factor
     }
 
-    /// Writes the values of the next block to the front of the output, and answers their number: L for
-    /// each sample. The rest of the output stays.
+    /// Writes the values of the next block to the front of the output, and answers their number: `factor`
+    /// for each sample. The rest of the output stays.
     pub fn process<M: Ledger>(
         &mut self,
         input: &[T],
@@ -134,7 +134,7 @@ impl<T: LaneSample<L> + WideSample, const L: usize> Interpolate<T, L> {
         self.ended
     }
 
-    /// How many numbers the interpolator keeps from block to block: T/L - 1 samples.
+    /// How many numbers the interpolator keeps from block to block: `T / factor - 1` samples.
     pub fn kept_count(&self) -> usize
         ensures count { result ≡ length self.now.past }
         ensures few { result ≤ MAX_TAPS }

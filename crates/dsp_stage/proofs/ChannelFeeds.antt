@@ -1,14 +1,15 @@
 -- A unit of filters is fed as its filters are fed.
 use Rattle.std.proofs.Common.{◌≡◌, ◌∙◌, ap, refl, sym, subst, ℕ, ◌+◌, ◌*◌, ◌/◌, ◌<◌, ◌≤◌, ℤ, List, ◌++◌, length, arith, false}
-use Rattle.std.specs.Prelude.{All}
+use Rattle.std.specs.Prelude.{All, Option, Some, None, IfSome}
 use Rattle.dsp_defs.specs.Signal.{values}
 use Rattle.dsp_defs.specs.Streaming.{Continues}
 use Rattle.dsp_defs.specs.Block.{Frame, channel, frames_of, live}
 use Rattle.dsp_defs.specs.Shape.{live_frames}
 use Rattle.dsp_defs.specs.Cost.{live_block_cost, block_turns}
 use Rattle.dsp_defs.specs.Counts.{Counts}
-use Rattle.dsp_stage.specs.Unit.{StandsFor, CountsFrames, Feeds, frames_in}
-use Rattle.dsp_stage.specs.Filter.{of_channel, IsByChannel, FilterState, FilterStandsFor, FilterCounts, filter_at, no_filter, IsLike, AreFilters}
+use Rattle.dsp_stage.specs.Unit.{StandsFor, CountsFrames, Accepts, Feeds, frames_in}
+use Rattle.dsp_stage.specs.Kept.{limit_of}
+use Rattle.dsp_stage.specs.Filter.{of_channel, IsByChannel, FilterState, FilterStandsFor, FilterCounts, FilterAccepts, filter_at, no_filter, IsLike, AreFilters}
 use Rattle.dsp_stage.specs.Channels.{unit_of_filters, samples_in, AreFed}
 use Rattle.dsp_defs.proofs.FrameLemmas.{length-frames_in}
 use Rattle.dsp_stage.proofs.ChannelFrames.{frames-append, frames-cong, channel-frames_in, length-samples_in, frames-of_channels, channel-more, get_or-default}
@@ -55,6 +56,23 @@ are-counted format capacity n olds news are size made counted = record {
       ended = (counted k no_filter h).running ∙ sym (counted 0 no_filter first).running;
       tail = tail_of k h;
     }
+
+-- a number of samples below a limit that a unit counts is one that its filters count
+if-counts : (limit : Option ℕ) (Counts Filters : ℕ → Type 0) (more : ℕ) → ((n : ℕ) → Counts n → Filters n) →
+    IfSome limit (λ limit. (n : ℕ) × Counts n × (n + more ≤ limit)) → IfSome limit (λ limit. (n : ℕ) × Filters n × (n + more ≤ limit))
+if-counts None Counts Filters more each accepts = tt
+if-counts (Some limit) Counts Filters more each (n, counts, within) = (n, each n counts, within)
+
+-- the filters of a unit that can take so many frames more can take as many samples more
+pub accept-filters :
+    (format : Fmt) (capacity : ℕ) (filters : List FilterState) → AreFilters format capacity filters → (filter_at filters 0).ended ≡ false → (more : ℕ) →
+    Accepts (unit_of_filters format capacity filters) more → All (λ f. FilterAccepts f more) filters
+accept-filters format capacity filters are running more accepts = λ c d h.
+    let (m, counted) = are.counted running in
+    let first = if-counts (limit_of (filter_at filters 0).block) (CountsFrames (unit_of_filters format capacity filters)) (FilterCounts (filter_at filters c)) more
+    (λ n counts. count-filters format capacity filters are m counted n counts c no_filter h) accepts in
+    rw (get_or-default filters c d no_filter h)
+    (subst (λ b. IfSome (limit_of b) (λ limit. (n : ℕ) × FilterCounts (filter_at filters c) n × (n + more ≤ limit))) (sym (are.alike c no_filter h).block) first)
 
 module _ (format : Fmt) (capacity : ℕ) (olds news : List FilterState) (are : AreFilters format capacity olds) (running : (filter_at olds 0).ended ≡ false)
     (count many : ℕ) (taken given : List ℤ) (before after : Counts) (fed : AreFed olds news count taken many given before after) where

@@ -33,15 +33,15 @@ module _ (format : Fmt) (block : Block) (by : IsByChannel format block) (channel
       (subst (λ ks. Each P ks numbers) (by.kinds_are channels n) each))
 
   -- numbers that fit a unit fit each of its channels, at one number of frames
-  pub fits-channels : (n : ℕ) → Each IsOfKind (kept_kinds format channels block n) numbers → (c : ℕ) → c < channels → FitsChannel format block n (numbers_in (length numbers / channels) numbers c)
-  fits-channels n each c h = (by.taken n, each-cut IsOfKind n each c h)
+  pub fits-channels : (n : ℕ) → FitsAfter format channels block n numbers → (c : ℕ) → c < channels → FitsChannel format block n (numbers_in (length numbers / channels) numbers c)
+  fits-channels n fits c h = (fits.0, each-cut IsOfKind n fits.1 c h)
 
   pub fits-whole : Fits format channels block numbers → length numbers % channels ≡ 0
   fits-whole (n, fits) = let whole = cut-kinds IsOfKind n fits.1 in ap (λ k. k % channels) whole ∙ mul-mod_right channels (length (kinds_by format block n))
 
   pub channels-fit : (n : ℕ) → length numbers ≡ channels * (length numbers / channels) → ((c : ℕ) → c < channels → FitsChannel format block n (numbers_in (length numbers / channels) numbers c)) → FitsAfter format channels block n numbers
   channels-fit n whole each = (
-    by.taken n,
+    (each 0 some).0,
     subst (λ ks. Each IsOfKind ks numbers) (sym (by.kinds_are channels n))
         (subst (λ xs. Each IsOfKind (flat_map (λ (_ : ℕ). kinds_by format block n) (range_with_len 0 channels)) xs) (sym (numbers-in_pieces (length numbers / channels) channels numbers whole))
         (pieces-each IsOfKind (kinds_by format block n) (numbers_in (length numbers / channels) numbers) channels (λ c h. (each c h).1))),

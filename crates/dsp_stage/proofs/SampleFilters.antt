@@ -7,7 +7,7 @@ use Rattle.dsp_defs.specs.Streaming.{Continues}
 use Rattle.dsp_defs.specs.Shape.{whole_frames, live_frames}
 use Rattle.dsp_defs.specs.Cost.{live_block_cost, block_turns}
 use Rattle.dsp_defs.specs.Counts.{Counts}
-use Rattle.dsp_stage.specs.Kept.{kept_of_channel, kinds_by, in_words, InWord, Each, IsPlace, IsOfKind, FitsChannel}
+use Rattle.dsp_stage.specs.Kept.{kept_of_channel, kinds_by, in_words, InWord, Each, IsPlace, IsOfKind, IsTaken, FitsChannel}
 use Rattle.dsp_stage.specs.Unit.{most_frames}
 use Rattle.dsp_stage.specs.Filter.{FilterState, FilterFeeds, FilterFinishes, FilterRestores, IsByChannel, IsNewFilter, IsSteady, of_channel, of_whole_channel, steady_filter}
 use Rattle.dsp_stage.proofs.ChannelKept.{words-placed, length-words, words-fit, fit-words}
@@ -18,6 +18,7 @@ use Rattle.dsp_defs.specs.declared.script.Block.{Block}
 -- the block of such a filter, which keeps `count` numbers and makes `price` products for a sample
 pub record IsSampleBlock (format : Fmt) (block : Block) (count price : ℕ) : Type 0 where
   pub by_channel : IsByChannel format block
+  pub taken : (n : ℕ) → IsTaken block n
   pub whole_is_live : (x : List ℤ) → of_whole_channel format block x ≡ of_channel format block x
   pub most_same : (n : ℕ) → most_frames block n ≡ n
   pub live_same : (n : ℕ) → live_frames block n ≡ n
@@ -32,6 +33,7 @@ module _ (format : Fmt) (block : Block) (count price capacity : ℕ) (is : IsSam
   steady : IsSteady format block price
   steady = record {
     by_channel = is.by_channel;
+    taken = is.taken;
     whole_is_live = is.whole_is_live;
     most_same = is.most_same;
     live_same = is.live_same;

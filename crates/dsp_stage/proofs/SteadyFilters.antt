@@ -82,7 +82,7 @@ module _ (format : Fmt) (block : Block) (price capacity : ℕ) (is : IsSteady fo
 
   -- numbers fit at any place, or at none
   pub steady-fits : (n : ℕ) (numbers : List ℤ) → Each IsOfKind (kinds_by format block 0) numbers → FitsChannel format block n numbers
-  steady-fits n numbers each = (is.by_channel.taken n, subst (λ ks. Each IsOfKind ks numbers) (sym (is.kinds_same n)) each)
+  steady-fits n numbers each = (is.taken n, subst (λ ks. Each IsOfKind ks numbers) (sym (is.kinds_same n)) each)
 
   pub fits-steady : (n : ℕ) (numbers : List ℤ) → FitsChannel format block n numbers → Each IsOfKind (kinds_by format block 0) numbers
   fits-steady n numbers fits = subst (λ ks. Each IsOfKind ks numbers) (is.kinds_same n) fits.1

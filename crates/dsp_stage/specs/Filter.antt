@@ -6,7 +6,7 @@ use Rattle.dsp_defs.specs.Block.{Frame, channel, live_channel, whole_channel, fo
 use Rattle.dsp_defs.specs.Shape.{group_of, whole_frames, live_frames}
 use Rattle.dsp_defs.specs.Cost.{live_block_cost, cost_so_far, block_turns}
 use Rattle.dsp_defs.specs.Counts.{Counts}
-use Rattle.dsp_stage.specs.Kept.{kept_of_channel, kept_numbers, kinds_by, kept_kinds, Each, IsPlace, IsTaken, place_of}
+use Rattle.dsp_stage.specs.Kept.{kept_of_channel, kept_numbers, kinds_by, kept_kinds, Each, IsPlace, IsTaken, limit_of, place_of}
 use Rattle.dsp_stage.specs.Kept.{kept_measures}
 use Rattle.dsp_stage.specs.Unit.{most_frames}
 use Rattle.dsp_defs.specs.declared.format.Fmt.TheVariants.{Q15}
@@ -65,6 +65,10 @@ pub record FilterTook (f : FilterState) (n : ℕ) : Type 0 where
   pub place : Each IsPlace (kinds_by f.format f.block n) f.kept
   pub tail_within : length f.tail ≤ whole_frames f.block n
 
+-- if its block has a limit, it can take so many samples more
+abbrev pub FilterAccepts : FilterState → ℕ → Type 0
+FilterAccepts f more = IfSome (limit_of f.block) (λ limit. (n : ℕ) × FilterCounts f n × (n + more ≤ limit))
+
 -- the multiplies of one channel that has so many values left of those of n samples
 abbrev pub made_with_left : Fmt → Block → ℕ → ℕ → ℕ
 made_with_left format block n left = cost_so_far format 1 block n n (whole_frames block n - left)
@@ -122,7 +126,6 @@ pub record IsByChannel (format : Fmt) (block : Block) : Type 0 where
   pub keeps_is : (c : ℕ) (x : List Frame) → kept_numbers format c block x ≡ flat_map (λ i. kept_of_channel format block (channel i x)) (range_with_len 0 c)
   pub kinds_are : (c n : ℕ) → kept_kinds format c block n ≡ flat_map (λ (_ : ℕ). kinds_by format block n) (range_with_len 0 c)
   pub keeps_place : (x : List ℤ) → Each IsPlace (kinds_by format block (length x)) (kept_of_channel format block x)
-  pub taken : (n : ℕ) → IsTaken block n
   pub no_measures : (c number : ℕ) (kept : List ℤ) → kept_measures format c number block kept ≡ []
   pub live_cost : (c n : ℕ) → live_block_cost format c block n ≡ c * live_block_cost format 1 block n
   pub so_far : (c n taken given : ℕ) → cost_so_far format c block n taken given ≡ c * cost_so_far format 1 block n taken given
@@ -133,6 +136,7 @@ pub record IsByChannel (format : Fmt) (block : Block) : Type 0 where
 -- the block has no tail, keeps as many numbers at all times, and makes `price` products for a sample
 pub record IsSteady (format : Fmt) (block : Block) (price : ℕ) : Type 0 where
   pub by_channel : IsByChannel format block
+  pub taken : (n : ℕ) → IsTaken block n
   pub whole_is_live : (x : List ℤ) → of_whole_channel format block x ≡ of_channel format block x
   pub most_same : (n : ℕ) → most_frames block n ≡ n
   pub live_same : (n : ℕ) → live_frames block n ≡ n

@@ -1,6 +1,7 @@
 //! Callers of dsp_adapt.
-use dsp_adapt::{Pid15, Pid31};
+use dsp_adapt::{Lms15, Lms31, Pid15, Pid31};
 use dsp_defs::{MakeFault, Steps};
+use std::alloc::Global;
 use std::process::Abort;
 use std::sync::ledger::Ledger;
 
@@ -33,10 +34,45 @@ fn pid_wraps<M: Ledger>(rt: &impl Abort, steps: &mut Steps<M>) {
     assert_eq!(rt; output, [-2147483645, -2147483643, 8, -2147483637]);
 }
 
+/// An adaptive filter goes on where another one was kept. Its taps stand from the last weight to the
+/// first.
+fn lms_goes_on<M: Ledger>(rt: &impl Abort, alloc: Global, steps: &mut Steps<M>) {
+    let mut output = [0i16; 2];
+    let mut error = [0i16; 2];
+    let mut kept = [0i64; 3];
+    let mut first = Lms15::new(alloc, 0, 16384, &[8192, 16384], 2).expect(rt, "a filter");
+    first.process(&[16384, 0], &[8192, 12288], &mut output, &mut error, steps);
+    assert_eq!(rt; (output, error), ([8192, 4096], [0, 8192]));
+    assert_eq!(rt; first.kept_count(), 3);
+    first.keep(&mut kept);
+    assert_eq!(rt; kept, [0, 16384, 10240]);
+    let mut second = Lms15::new(alloc, 0, 16384, &[0, 0], 1).expect(rt, "a filter");
+    assert!(rt; second.fits(&kept));
+    second.restore(&kept);
+    second.process(&[16384], &[8192], &mut output[..1], &mut error[..1], steps);
+    assert_eq!(rt; (output, error), ([8192, 4096], [0, 8192]));
+}
+
+/// An adaptive filter comes nearer to its reference, and its error wraps.
+fn lms_adapts<M: Ledger>(rt: &impl Abort, alloc: Global, steps: &mut Steps<M>) {
+    let mut output = [7i16; 2];
+    let mut error = [7i16; 2];
+    let mut lms = Lms15::new(alloc, 0, 16384, &[0], 2).expect(rt, "a filter");
+    lms.process(&[16384; 2], &[8192; 2], &mut output, &mut error, steps);
+    assert_eq!(rt; (output, error), ([0, 1024], [8192, 7168]));
+    let mut output = [7i32];
+    let mut error = [7i32];
+    let mut lms = Lms31::new(alloc, 0, 1073741824, &[0], 1).expect(rt, "a filter");
+    lms.process(&[i32::MAX], &[i32::MIN], &mut output, &mut error, steps);
+    assert_eq!(rt; (output, error), ([0], [i32::MIN]));
+}
+
 /// The calls that count their products.
-pub(crate) fn counted<M: Ledger>(rt: &impl Abort, steps: &mut Steps<M>) {
+pub(crate) fn counted<M: Ledger>(rt: &impl Abort, alloc: Global, steps: &mut Steps<M>) {
     pid_goes_on(rt, steps);
     pid_wraps(rt, steps);
+    lms_goes_on(rt, alloc, steps);
+    lms_adapts(rt, alloc, steps);
 }
 
 #[test]
@@ -51,6 +87,29 @@ fn gains_and_faults(rt: HostRuntime) {
         matches!(
             Pid31::new(1, 2, 3, 1048577),
             Err(MakeFault::Range { value: 1048577 })
+        )
+    );
+}
+
+#[test]
+fn faults_of_adaptive_filters(rt: HostRuntime) {
+    let none: [i16; 0] = [];
+    assert!(rt;
+        matches!(
+            Lms15::new(rt.alloc(), 15, 1, &none, 1),
+            Err(MakeFault::Length { taps: 0, factor: 1 })
+        )
+    );
+    assert!(rt;
+        matches!(
+            Lms15::new(rt.alloc(), 15, 1, &[1], 0),
+            Err(MakeFault::Range { value: 15 })
+        )
+    );
+    assert!(rt;
+        matches!(
+            Lms31::new(rt.alloc(), 30, 1, &[1], 0),
+            Err(MakeFault::Range { value: 0 })
         )
     );
 }

@@ -166,19 +166,3 @@ fn no_blocks_pass_frames_on(rt: HostRuntime) {
         &[1, 2, 3, 4, 5, 6],
     );
 }
-
-#[test]
-fn a_block_without_a_unit_is_not_built(rt: HostRuntime) {
-    let alloc = rt.alloc();
-    let mut blocks = Blocks::new(alloc);
-    push_fir(&rt, alloc, &mut blocks, 0, HALF);
-    let taps = List::new(alloc);
-    let (post_shift, mu) = (0, 1);
-    let block = Block::Lms {
-        post_shift,
-        mu,
-        taps,
-    };
-    blocks.push(block).expect(&rt, "memory");
-    assert!(rt; !is_built(&stereo(blocks)));
-}

@@ -142,18 +142,6 @@ const CASES: &[Case<'static>] = &[
         report: b"dspfx: output not written\n",
     },
     Case {
-        words: RUN,
-        script: b"dspfx 1 input raw q15 2 8000 lms 0 1 {1} output raw",
-        input: EXAMPLE,
-        failing_reads: &[],
-        room: 64,
-        failing_writes: &[],
-        failing_reports: &[],
-        status: 12,
-        output: b"",
-        report: b"dspfx: form not built\n",
-    },
-    Case {
         words: &["run", "a", "b", "b"],
         script: HALVES,
         input: EXAMPLE,

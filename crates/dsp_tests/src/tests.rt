@@ -21,7 +21,7 @@ fn counted<M: Ledger>(rt: &impl Abort, alloc: Global, blank: Blank)
     rate::counted(rt, alloc, &mut steps);
     lattice::counted(rt, alloc, &mut steps);
     biquad::counted(rt, alloc, &mut steps);
-    adapt::counted(rt, &mut steps);
+    adapt::counted(rt, alloc, &mut steps);
     conv::counted(rt, alloc, &mut steps);
     matrix::counted(rt, alloc, &mut steps);
     measure::counted(rt, &mut steps);

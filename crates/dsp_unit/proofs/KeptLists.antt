@@ -53,7 +53,7 @@ module _ (format : Fmt) (capacity : ℕ) (filters : List FilterState) (are : Are
 
   -- and numbers that fit all fit each
   pub fits-each : (fits : Fits format (length filters) (filter_at filters 0).block numbers) (c : ℕ) → c < length filters → FitsChannel (filter_at filters c).format (filter_at filters c).block fits.0 (numbers_in (length numbers / length filters) numbers c)
-  fits-each fits c h = fits-as c fits.0 (numbers_in (length numbers / length filters) numbers c) h (fits-channels format (filter_at filters 0).block are.by_channel (length filters) some numbers fits.0 fits.1.1 c h)
+  fits-each fits c h = fits-as c fits.0 (numbers_in (length numbers / length filters) numbers c) h (fits-channels format (filter_at filters 0).block are.by_channel (length filters) some numbers fits.0 fits.1 c h)
 
 -- the same of the filters of a program
 module _ {F : Type 0} (format : Fmt) (capacity : ℕ) (filter : F → FilterState) (filters : List F) (are : AreFilters format capacity (map filter filters)) (numbers : List ℤ) where

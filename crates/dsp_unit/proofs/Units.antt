@@ -58,6 +58,16 @@ kept-whole format capacity input output channels olds news are made before = (ar
 pub scaled : (c a b : ℕ) → c * a * b ≡ c * (1 * a * b)
 scaled c a b = omega arith
 
+pub scaled-one : (c n : ℕ) → c * n ≡ c * (1 * n)
+scaled-one c n = omega arith
+
+-- one that is nothing
+pub scaled-none : (c : ℕ) → 0 ≡ c * 0
+scaled-none c = omega arith
+
+pub less-none : (c : ℕ) → 0 - 0 ≡ c * (0 - 0)
+less-none c = omega arith
+
 -- and a difference of costs
 pub less-scaled : (c m n a : ℕ) → c * n * a - c * m * a ≡ c * (1 * n * a - 1 * m * a)
 less-scaled c m n a = (λ i. scaled c n a i - scaled c m a i) ∙ sym (mul-sub c (1 * n * a) (1 * m * a))

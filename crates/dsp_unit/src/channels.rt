@@ -1,6 +1,6 @@
 ghost use Rattle.std.specs.Prelude.{◌≡◌, ◌≢◌, ◌≤◌, ◌<◌, ◌+◌, ◌*◌, ℕ, All, FitsSigned, IsFalse, length, map};
 ghost use Rattle.dsp_stage.specs.Channels.{AreFed, AreFinished, samples_in};
-ghost use Rattle.dsp_stage.specs.Filter.{AreFilters, filter_at, filter_room};
+ghost use Rattle.dsp_stage.specs.Filter.{AreFilters, FilterAccepts, filter_at, filter_room};
 ghost use Rattle.dsp_defs.specs.Formats.{word};
 ghost use Rattle.dsp_defs.specs.Signal.{sample};
 
@@ -48,6 +48,7 @@ fn feed_channels<T: Sample, F: Filter<T>, L: Ledger>(
     requires whole { length frames.now ≡ length input.old * length filters.old }
     requires in_format { All (FitsSigned (word T.format)) frames.now }
     requires capacity { length input.old ≤ (filter_at (map F.filter filters.old) 0).capacity }
+    requires accepts { All (λ f. FilterAccepts f (length input.old)) (map F.filter filters.old) }
     requires output { length output.old ≡ filter_room (filter_at (map F.filter filters.old) 0) }
     requires room { length output.old * length filters.old ≤ length out.old }
     ensures within { result ≤ length output.old }
@@ -80,6 +81,7 @@ pub fn feed_block<T: Sample, F: Filter<T>, L: Ledger>(
     requires whole { length frames.now ≡ count * length filters.old }
     requires in_format { All (FitsSigned (word T.format)) frames.now }
     requires input { count ≤ length input.old }
+    requires accepts { All (λ f. FilterAccepts f count) (map F.filter filters.old) }
     requires output { length output.old ≡ filter_room (filter_at (map F.filter filters.old) 0) }
     requires room { length output.old * length filters.old ≤ length out.old }
     ensures within { result ≤ length output.old }

@@ -4,5 +4,5 @@
 mod numbers;
 mod window;
 
-pub use numbers::is_sample;
+pub use numbers::{is_sample, load_numbers};
 pub use window::Window;

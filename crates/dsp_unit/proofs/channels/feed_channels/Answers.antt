@@ -3,7 +3,7 @@ use Rattle.std.specs.Prelude.{FitsSigned}
 use Rattle.std.proofs.lemmas.List.{length-map, map-set}
 use Rattle.dsp_defs.specs.Formats.{word}
 use Rattle.dsp_defs.specs.Signal.{sample}
-use Rattle.dsp_stage.specs.Filter.{FilterFeeds, filter_at, no_filter}
+use Rattle.dsp_stage.specs.Filter.{FilterAccepts, FilterFeeds, filter_at, no_filter}
 use Rattle.dsp_stage.specs.Channels.{samples_in}
 use Rattle.dsp_unit.proofs.Rounds.{FedSoFar, fed-none, fed-more, fed-long, fed-all, called-at, fits-more, same-room}
 use Rattle.dsp_unit.proofs.channels.feed_channels.Goals as goal
@@ -27,6 +27,14 @@ process-given-requires-clause-block g c =
     let like = c.requires.alike.alike c.loop-channel.channel no_filter inside in
     rw (called-at g.F.Filter.filter c.args.filters.now c.loop-channel.filters c.loop-channel.channel c.index-filters-channel.result (omega arith) c.loop-channel.invariant.fed.left, like.capacity)
     (omega (arith, c.take_channel.auto.input, c.loop-channel.auto.input, c.requires.capacity))
+
+pub process-given-requires-clause-accepts : goal.process-given-requires-clause-accepts
+process-given-requires-clause-accepts g c =
+    let olds = map g.F.Filter.filter c.args.filters.now in
+    let inside : c.loop-channel.channel < length olds = omega (arith, c.loop-channel-test.true, length-map c.args.filters.now g.F.Filter.filter) in
+    let size : length c.args.input.now ≡ length c.take_channel.new.input = omega (arith, c.take_channel.auto.input, c.loop-channel.auto.input) in
+    rw (called-at g.F.Filter.filter c.args.filters.now c.loop-channel.filters c.loop-channel.channel c.index-filters-channel.result (omega arith) c.loop-channel.invariant.fed.left)
+    (subst (λ n. FilterAccepts (filter_at olds c.loop-channel.channel) n) size (c.requires.accepts c.loop-channel.channel no_filter inside))
 
 pub process-given-requires-clause-room : goal.process-given-requires-clause-room
 process-given-requires-clause-room g c =

@@ -1,13 +1,14 @@
-use Rattle.std.proofs.Common.{◌≡◌, sym, subst, ℕ, false, ◌+◌, ◌*◌, ◌/◌, ◌<◌, ◌≤◌, ◌++◌, length, map, take, drop, arith}
-use Rattle.std.specs.Prelude.{FitsSigned}
+use Rattle.std.proofs.Common.{◌≡◌, ◌∙◌, ap, sym, subst, ℕ, false, ◌+◌, ◌*◌, ◌/◌, ◌<◌, ◌≤◌, ◌++◌, length, map, take, drop, arith}
+use Rattle.std.specs.Prelude.{All, FitsSigned}
 use Rattle.std.proofs.lemmas.List.{length-map}
 use Rattle.dsp_defs.specs.Formats.{word}
 use Rattle.dsp_defs.specs.Signal.{sample}
-use Rattle.dsp_stage.specs.Filter.{AreFilters, filter_at, filter_room, no_filter}
+use Rattle.dsp_stage.specs.Filter.{AreFilters, FilterAccepts, filter_at, filter_room, no_filter}
 use Rattle.dsp_stage.specs.Channels.{unit_of_filters, AreFed}
 use Rattle.dsp_stage.specs.Unit.{Feeds, IsOutput, frames_in, most_frames}
 use Rattle.dsp_defs.specs.Block.{channels_after}
-use Rattle.dsp_stage.proofs.ChannelFeeds.{are-fed}
+use Rattle.dsp_defs.proofs.FrameLemmas.{length-frames_in}
+use Rattle.dsp_stage.proofs.ChannelFeeds.{are-fed, accept-filters}
 use Rattle.dsp_stage.proofs.ChannelOutput.{whole-frames, unit-output, unit-fed, room-for}
 use Rattle.dsp_unit.proofs.Units.{written-whole, kept-whole}
 use Rattle.dsp_unit.proofs.each_channel.EachChannelStage.feed.Goals as goal
@@ -22,6 +23,19 @@ feed_block-given-requires-clause-whole g c =
     let slice : length c.as_mut_slice.result.now ≡ c.len.result = omega (arith, c.as_mut_slice.ensures.len, c.len.ensures) in
     let whole' : length frames ≡ length frames / c.len.result * c.len.result = rw size at whole in
     rw slice whole'
+
+pub feed_block-given-requires-clause-accepts : goal.feed_block-given-requires-clause-accepts
+feed_block-given-requires-clause-accepts g c =
+    let items = c.self.inside.filters.items in
+    let olds = map g.F.Filter.filter items in
+    let frames = c.args.frames.now in
+    let running : (filter_at olds 0).ended ≡ false = rw (← c.self.view_is) at c.requires.running in
+    let accepts = rw (← c.self.view_is) at c.requires.accepts in
+    let size : length olds ≡ c.len.result = omega (arith, length-map items g.F.Filter.filter, c.len.ensures, c.self.inside.filters.ok.0) in
+    let count : length (frames_in (length olds) frames) ≡ length frames / c.len.result = length-frames_in (length olds) frames ∙ ap (λ n. length frames / n) size in
+    let all : All (λ f. FilterAccepts f (length frames / c.len.result)) olds =
+    subst (λ n. All (λ f. FilterAccepts f n) olds) count (accept-filters g.T.Sample.format c.self.inside.capacity olds c.self.invariant.0 running (length (frames_in (length olds) frames)) accepts) in
+    subst (λ xs. All (λ f. FilterAccepts f (length frames / c.len.result)) (map g.F.Filter.filter xs)) (sym c.as_mut_slice.ensures.value) all
 
 pub invariant_of-self : goal.invariant_of-self
 invariant_of-self g c =

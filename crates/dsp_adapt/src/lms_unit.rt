@@ -1,0 +1,135 @@
+use crate::pairs::feed_pairs;
+use crate::{Lms, LmsSample};
+use dsp_defs::{Block, MAX_SAMPLES, MakeFault, Measure, Steps};
+use dsp_lanes::LaneSample;
+use dsp_sat::Sample;
+use dsp_stage::Stage;
+use dsp_unit::samples_of;
+use std::alloc::{AllocError, Global};
+use std::marker::Model;
+use std::sync::ledger::Ledger;
+
+/// An LMS filter at its place, on frames of an input and its reference. It gives frames of an output
+/// and its error.
+#[derive(Drop)]
+pub struct LmsUnit<T: LmsSample + LaneSample<L>, const L: usize> {
+    lms: Lms<T, L>,
+    inputs: Vec<T>,
+    references: Vec<T>,
+    outputs: Vec<T>,
+    errors: Vec<T>,
+    ended: bool,
+}
+
+impl<T: LmsSample + LaneSample<L>, const L: usize> Model for LmsUnit<T, L> {
+    ghost use Rattle.std.specs.Prelude.{◌≡◌, ◌≤◌, ◌*◌, length, vec_len};
+    ghost use Rattle.dsp_stage.specs.Unit.{UnitState};
+    ghost use Rattle.dsp_defs.specs.declared.limits.TheConstants.{MAX_SAMPLES, MAX_TAPS};
+    ghost use Rattle.dsp_adapt.specs.LmsUnit.{HasRows, unit_of_lms};
+
+    ghost Value = { UnitState };
+
+    ghost view = { λ u. unit_of_lms T.format u.lms u.ended };
+
+    ghost invariant = { λ u. HasRows u.lms (vec_len u.inputs) (vec_len u.references) (vec_len u.outputs) (vec_len u.errors) };
+}
+
+impl<T: LmsSample + LaneSample<L>, const L: usize> LmsUnit<T, L> {
+    ghost use Rattle.std.specs.Prelude.{◌≤◌, ◌*◌, IfOk};
+    ghost use Rattle.dsp_stage.specs.Unit.{IsNew};
+    ghost use Rattle.dsp_defs.specs.declared.limits.TheConstants.{MAX_SAMPLES};
+    ghost use Rattle.dsp_adapt.specs.LmsUnit.{IsLmsIn};
+
+    /// A unit that has taken nothing, for at most `frames` frames a call. All its memory is taken here.
+    pub fn new(alloc: Global, block: &Block, frames: usize) -> Result<Self, AllocError>
+        requires block { IsLmsIn T.format block.now }
+        requires frames { 1 ≤ frames }
+        requires samples { frames * 2 ≤ MAX_SAMPLES }
+        ensures { IfOk result (IsNew block.now T.format 2 frames) }
+    {
+        let Block::Lms {
+            post_shift,
+            mu,
+            taps,
+        } = block
+        else {
+            unreachable!();
+        };
+        let taps = samples_of::<T>(alloc, taps.as_slice())?;
+        let mu = T::of_number(*mu);
+        let lms = match Lms::new(alloc, *post_shift, mu, &taps, frames) {
+            Ok(lms) => lms,
+            Err(MakeFault::Memory) => return Err(AllocError),
+            Err(_) => unreachable!(),
+        };
+        Ok(LmsUnit {
+            lms,
+            inputs: vec![in alloc; T::zero(); frames]?,
+            references: vec![in alloc; T::zero(); frames]?,
+            outputs: vec![in alloc; T::zero(); frames]?,
+            errors: vec![in alloc; T::zero(); frames]?,
+            ended: false,
+        })
+    }
+}
+
+impl<T: LmsSample + LaneSample<L>, const L: usize> Stage for LmsUnit<T, L> {
+    ghost unit = { λ u. u };
+
+    fn room(&self) -> usize {
+        self.inputs.len() * 2
+    }
+
+    fn feed<M: Ledger>(&mut self, frames: &[i32], out: &mut [i32], steps: &mut Steps<M>) -> usize {
+        feed_pairs(
+            &mut self.lms,
+            frames,
+            self.inputs.as_mut_slice(),
+            self.references.as_mut_slice(),
+            self.outputs.as_mut_slice(),
+            self.errors.as_mut_slice(),
+            out,
+            steps,
+        );
+        frames.len()
+    }
+
+    fn finish<M: Ledger>(&mut self, _out: &mut [i32], _steps: &mut Steps<M>) -> usize {
+        self.ended = true;
+        0
+    }
+
+    fn kept_count(&self) -> usize {
+        self.lms.kept_count()
+    }
+
+    fn keep(&self, out: &mut [i64]) {
+        self.lms.keep(out);
+    }
+
+    fn fits(&self, numbers: &[i64]) -> bool {
+        self.lms.fits(numbers)
+    }
+
+    fn place(&self, numbers: &[i64]) -> Option<u64> {
+        if self.lms.fits(numbers) {
+            Some(0)
+        } else {
+            None
+        }
+    }
+
+    fn restore(&mut self, numbers: &[i64]) {
+        self.lms.restore(numbers);
+    }
+
+    fn measures(&self) -> usize {
+        let _lms = &self.lms;
+        0
+    }
+
+    fn measure(&self, _number: u8, _index: usize) -> Option<Measure> {
+        let _lms = &self.lms;
+        None
+    }
+}

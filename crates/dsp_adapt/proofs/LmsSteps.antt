@@ -161,14 +161,6 @@ module _ (format : Fmt) (p : ℕ) (mu : ℤ) (taps : List ℤ) (x : List (ℤ ×
 
 -- ---- slices
 
--- an element behind those that were written
-pub read-still : {X : Type 0} → (number : X → ℤ) (xs ys : List X) (j : ℕ) → drop j xs ≡ drop j ys → sample (map number xs) j ≡ sample (map number ys) j
-read-still number xs ys j same =
-    let here : j + 0 ≡ j = omega arith in
-    let read : (l : List _) → sample (map number l) j ≡ sample (map number (drop j l)) 0 = λ l.
-    ap (sample (map number l)) (sym here) ∙ sym (get_or-drop j (map number l) 0 (pos 0)) ∙ ap (λ s. sample s 0) (drop-map number j l) in
-    read xs ∙ ap (λ l. sample (map number l) 0) same ∙ sym (read ys)
-
 -- one more element that was written
 pub written-more : {X : Type 0} → (number : X → ℤ) (out : List X) (i : ℕ) (v : X) → i < length out → map number (take (i + 1) (set out i v)) ≡ map number (take i out) ++ number v ∷ []
 written-more number out i v room = ap (map number) (take_more_set out i v room) ∙ map-append number (take i out) (v ∷ [])

@@ -10,26 +10,9 @@ ghost use Rattle.dsp_adapt.specs.LmsState.{Adapts, inputs_of, pairs};
 
 use crate::LmsSample;
 use dsp_defs::Steps;
-use dsp_lanes::{LaneSample, Lanes};
-use dsp_sat::{Sample, product};
+use dsp_lanes::{LaneSample, Lanes, update_weights};
+use dsp_sat::product;
 use std::sync::ledger::Ledger;
-
-/// Updates each weight by the product of the step size and its sample.
-fn update_weights<T: LmsSample, M: Ledger>(
-    alpha: T,
-    weights: &mut [T],
-    window: &[T],
-    steps: &mut Steps<M>,
-)
-    requires { length window.now ≡ length weights.old }
-    ensures weights { map T.number weights.new ≡ values (length weights.old) (λ j. weight_after T.format (T.number alpha) (sample (map T.number weights.old) j) (sample (map T.number window.now) j)) }
-    ensures steps { Rises steps.old steps.new (length weights.old) (length weights.old) }
-{
-    for (j, weight) in weights.iter_mut().enumerate() {
-        let change = product(alpha, window[j], steps);
-        *weight = T::weight_after(*weight, change);
-    }
-}
 
 /// The output and the error of one sample, the last of a window of as many samples as there are
 /// weights. Then the weights are updated.
@@ -52,7 +35,7 @@ fn adapt<T: LmsSample + LaneSample<L>, const L: usize, M: Ledger>(
     let error = T::error(reference, output);
     let change = product(error, mu, steps);
     let alpha = T::step_size(change);
-    update_weights(alpha, weights, window, steps);
+    update_weights(alpha, window, weights, steps);
     (output, error)
 }
 

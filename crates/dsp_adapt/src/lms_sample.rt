@@ -1,11 +1,12 @@
-ghost use Rattle.std.specs.Prelude.{◌≡◌, refl, ℕ, ℤ, pos, ◌-◌, ◌-ℤ◌, ◌*ℤ◌};
+ghost use Rattle.std.specs.Prelude.{◌≡◌, refl, ℕ, ℤ, ◌-◌, ◌-ℤ◌, ◌*ℤ◌};
 ghost use Rattle.dsp_defs.specs.Numbers.{floor_shift, wrap, w16, w32};
 ghost use Rattle.dsp_defs.specs.Formats.{accumulator, word};
-ghost use Rattle.dsp_defs.specs.Adaptive.{lms_close, step_size, weight_after};
+ghost use Rattle.dsp_defs.specs.Adaptive.{lms_close, step_size};
 ghost use Rattle.dsp_defs.specs.Parameters.{greatest_lms_shift};
-ghost use Rattle.dsp_defs.specs.declared.format.Fmt.TheVariants.{Q15, Q31};
+ghost use Rattle.dsp_defs.specs.declared.format.Fmt.TheVariants.{Q15};
 
-use dsp_sat::{Sample, WideSample, low_word, sat16, wrap16};
+use dsp_lanes::WeightSample;
+use dsp_sat::{WideSample, low_word, sat16, wrap16};
 
 /// The output of a sum of products in Q15.
 #[inline(always)]
@@ -31,24 +32,8 @@ fn step15(product: i32) -> i16
     wrap16(i64::from(product >> 15))
 }
 
-/// A weight after an update by a product of the step size and a sample in Q15.
-#[inline(always)]
-fn weight15(weight: i16, product: i32) -> i16
-    ensures { (alpha x : ℤ) → product ≡ alpha *ℤ x → result ≡ weight_after Q15 alpha weight x }
-{
-    sat16(i64::from(weight) + i64::from(product >> 15))
-}
-
-/// Twice the high word of a product, wrapped.
-#[inline(always)]
-fn change31(product: i64) -> i32
-    ensures { (alpha x : ℤ) → product ≡ alpha *ℤ x → result ≡ wrap w32 (pos 2 *ℤ floor_shift (alpha *ℤ x) 32) }
-{
-    low_word(2 * (product >> 32))
-}
-
 /// The samples of an LMS filter.
-pub trait LmsSample: WideSample {
+pub trait LmsSample: WideSample + WeightSample {
     const GREATEST_SHIFT: u8;
 
     // The greatest post shift.
@@ -65,10 +50,6 @@ pub trait LmsSample: WideSample {
     /// The step size, from the product of the error and mu.
     fn step_size(product: Self::Wide) -> Self
         ensures { (mu e : ℤ) → Self.wide product ≡ e *ℤ mu → Self.number result ≡ step_size Self.format mu e };
-
-    /// The next weight, from the product of the step size and the sample.
-    fn weight_after(weight: Self, product: Self::Wide) -> Self
-        ensures { (alpha x : ℤ) → Self.wide product ≡ alpha *ℤ x → Self.number result ≡ weight_after Self.format alpha (Self.number weight) x };
 
     ghost has_shift: { GREATEST_SHIFT ≡ greatest_lms_shift Self.format };
 }
@@ -93,11 +74,6 @@ impl LmsSample for i16 {
         step15(product)
     }
 
-    #[inline(always)]
-    fn weight_after(weight: i16, product: i32) -> i16 {
-        weight15(weight, product)
-    }
-
     ghost has_shift = { refl };
 }
 
@@ -119,11 +95,6 @@ impl LmsSample for i32 {
     #[inline(always)]
     fn step_size(product: i64) -> i32 {
         low_word(product >> 31)
-    }
-
-    #[inline(always)]
-    fn weight_after(weight: i32, product: i64) -> i32 {
-        Self::add(weight, change31(product))
     }
 
     ghost has_shift = { refl };

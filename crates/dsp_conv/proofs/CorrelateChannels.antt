@@ -113,7 +113,7 @@ module _ (format : Fmt) (capacity : ℕ) where
 
       pub channel-finished :
           (given : List ℤ) (before after : Counts) → length given ≡ result → tail_of format old ≡ given ++ tail_of format new →
-          made_of old + after.multiplies ≡ made_of new + before.multiplies → made_of old + after.turns ≡ made_of new + before.turns →
+          made_of old + after.multiplies ≡ made_of new + before.multiplies → made_of old + after.turns ≤ made_of new + before.turns →
           FilterFinishes (correlate_state format capacity old) (correlate_state format capacity new) given before after
       channel-finished given before after long tail multiplies turns = record {
         made = record { block = ap block.Correlate taps_same; format = refl; capacity = refl };

@@ -3,5 +3,6 @@ pub mod ConvLemmas
 pub mod CallLemmas
 pub mod ChannelLemmas
 pub mod SliceSums
+pub mod Stretches
 pub mod Correlations
 pub mod CorrelateChannels

@@ -37,15 +37,15 @@ part-sum total start size f within front back =
     ∙ +ℤ_idr (sum_below size (λ j. f (start + j))))
     ∙ +ℤ_idl (sum_below size (λ j. f (start + j)))
 
-times-zero : (a b : ℤ) → b ≡ pos 0 → a *ℤ b ≡ pos 0
+pub times-zero : (a b : ℤ) → b ≡ pos 0 → a *ℤ b ≡ pos 0
 times-zero a b none = ap (λ z. a *ℤ z) none ∙ omega (arith, ints)
 
-zero-times : (a b : ℤ) → a ≡ pos 0 → a *ℤ b ≡ pos 0
+pub zero-times : (a b : ℤ) → a ≡ pos 0 → a *ℤ b ≡ pos 0
 zero-times a b none = ap (λ z. z *ℤ b) none ∙ omega (arith, ints)
 
 -- ---- pieces of lists
 
-piece : (xs : List ℤ) (start size j : ℕ) → j < size → sample (take size (drop start xs)) j ≡ sample xs (start + j)
+pub piece : (xs : List ℤ) (start size j : ℕ) → j < size → sample (take size (drop start xs)) j ≡ sample xs (start + j)
 piece xs start size j below = get_or-take size (drop start xs) j (pos 0) below ∙ get_or-drop start xs j (pos 0)
 
 pub piece-long : {X : Type 0} (xs : List X) (start size : ℕ) → start + size ≤ length xs → length (take size (drop start xs)) ≡ size

@@ -1,7 +1,7 @@
 use crate::Gather;
 use crate::sums::correlation_values;
 use dsp_defs::{GatherFull, MAX_GATHERED, MakeFault, Steps};
-use dsp_sat::Sample;
+use dsp_lanes::OwnLanes;
 use dsp_unit::{are_samples, check_taps};
 use std::alloc::{AllocError, Global};
 use std::marker::Model;
@@ -11,14 +11,14 @@ use std::sync::ledger::Ledger;
 /// `arm_correlate_q31`): it gathers the samples, and gives all values once they have ended. Of N
 /// samples and T taps there are `2 * max(N, T) - 1` values, and none without a sample.
 #[derive(Drop)]
-pub struct Correlate<T: Sample> {
+pub struct Correlate<T: OwnLanes> {
     taps: Vec<T>,
     gather: Gather<T>,
     given: usize,
     ended: bool,
 }
 
-impl<T: Sample> Model for Correlate<T> {
+impl<T: OwnLanes> Model for Correlate<T> {
     ghost use Rattle.std.specs.Prelude.{length, map, vec_len};
     ghost use Rattle.dsp_conv.specs.CorrelateState.{CorrelateState, IsGathered};
 
@@ -34,7 +34,7 @@ impl<T: Sample> Model for Correlate<T> {
     ghost invariant = { λ c. IsGathered (vec_len c.taps) (length c.gather) c.given c.ended };
 }
 
-impl<T: Sample> Correlate<T> {
+impl<T: OwnLanes> Correlate<T> {
     ghost use Rattle.std.specs.Prelude.{◌≡◌, ◌≤◌, ◌<◌, ◌+◌, ◌++◌, ◌↔◌, [], true, min, length, map, take, drop, IfOk, OnOk, IfErr, IsErr, IsFalse, IsTrue, MatchOption};
     ghost use Rattle.dsp_unit.specs.Making.{taps_fault};
     ghost use Rattle.dsp_defs.specs.declared.fault.GatherFull.{GatherFull};
@@ -94,7 +94,7 @@ impl<T: Sample> Correlate<T> {
         ensures spent { 0 < length output.old → (result ≡ 0 ↔ tail_of T.format self.old ≡ []) }
         ensures rest { drop result output.new ≡ drop result output.old }
         ensures multiplies { made_of self.old + steps.new.multiplies ≡ made_of self.new + steps.old.multiplies }
-        ensures turns { made_of self.old + steps.new.turns ≡ made_of self.new + steps.old.turns }
+        ensures turns { made_of self.old + steps.new.turns ≤ made_of self.new + steps.old.turns }
     {
         self.ended = true;
         let samples = self.gather.slice();

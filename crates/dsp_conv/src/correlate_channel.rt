@@ -1,7 +1,7 @@
 use crate::Correlate;
 use crate::making::taps_of;
 use dsp_defs::{Block, Steps};
-use dsp_sat::Sample;
+use dsp_lanes::OwnLanes;
 use dsp_unit::{Filter, samples_of};
 use std::alloc::{AllocError, Global};
 use std::marker::Model;
@@ -9,12 +9,12 @@ use std::sync::ledger::Ledger;
 
 /// The correlation of one channel of a unit. It gives nothing before its samples have ended.
 #[derive(Drop)]
-pub struct CorrelateChannel<T: Sample> {
+pub struct CorrelateChannel<T: OwnLanes> {
     correlate: Correlate<T>,
     capacity: usize,
 }
 
-impl<T: Sample> Model for CorrelateChannel<T> {
+impl<T: OwnLanes> Model for CorrelateChannel<T> {
     ghost use Rattle.dsp_stage.specs.Filter.{FilterState};
     ghost use Rattle.dsp_conv.specs.Channels.{correlate_state, IsCorrelateChannel};
 
@@ -25,7 +25,7 @@ impl<T: Sample> Model for CorrelateChannel<T> {
     ghost invariant = { λ c. IsCorrelateChannel c.capacity c.correlate };
 }
 
-impl<T: Sample> Filter<T> for CorrelateChannel<T> {
+impl<T: OwnLanes> Filter<T> for CorrelateChannel<T> {
     ghost use Rattle.dsp_conv.specs.ConvUnit.{IsCorrelateIn, correlate-by-channel, correlate-groups};
 
     ghost filter = { λ c. c };

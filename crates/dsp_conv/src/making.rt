@@ -19,9 +19,7 @@ pub fn zeros<T: Sample>(alloc: Global, count: usize) -> Result<Vec<T>, AllocErro
     ensures { IfOk result (λ v. map T.number v.items ≡ replicate count (pos 0)) }
 {
     let mut zeros = Vec::with_capacity(alloc, count)?;
-    for _ in 0..count {
-        zeros.push(T::zero())?;
-    }
+    zeros.resize(count, T::zero())?;
     Ok(zeros)
 }
 

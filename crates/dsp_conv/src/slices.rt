@@ -5,12 +5,13 @@ ghost use Rattle.dsp_conv.specs.Sums.{RisesAtMost};
 
 use crate::sums::{convolution_values, correlation_values};
 use dsp_defs::{Steps, WindowFault};
+use dsp_lanes::OwnLanes;
 use dsp_sat::Sample;
 use std::sync::ledger::Ledger;
 
 /// The full convolution of two lists of samples: `arm_conv_q7`, `arm_conv_q15`, `arm_conv_q31`.
 /// Neither is empty, and the output has one value less than both have samples.
-pub fn conv_slices<T: Sample, M: Ledger>(a: &[T], b: &[T], out: &mut [T], steps: &mut Steps<M>)
+pub fn conv_slices<T: OwnLanes, M: Ledger>(a: &[T], b: &[T], out: &mut [T], steps: &mut Steps<M>)
     requires a { 1 ≤ length a.now }
     requires b { 1 ≤ length b.now }
     requires out { length out.old + 1 ≡ length a.now + length b.now }
@@ -25,7 +26,7 @@ pub fn conv_slices<T: Sample, M: Ledger>(a: &[T], b: &[T], out: &mut [T], steps:
 /// Neither list is empty, and the lengths add up within 64 bits, as all do of samples in memory.
 /// `WindowFault` where they would end past the full convolution; then the
 /// output stays.
-pub fn conv_partial_slices<T: Sample, M: Ledger>(
+pub fn conv_partial_slices<T: OwnLanes, M: Ledger>(
     a: &[T],
     b: &[T],
     first: u64,
@@ -56,7 +57,12 @@ pub fn conv_partial_slices<T: Sample, M: Ledger>(
 
 /// The correlation of two lists of samples: `arm_correlate_q7`, `arm_correlate_q15`,
 /// `arm_correlate_q31`. Neither is empty, and the output has one value less than twice the longer one.
-pub fn correlate_slices<T: Sample, M: Ledger>(a: &[T], b: &[T], out: &mut [T], steps: &mut Steps<M>)
+pub fn correlate_slices<T: OwnLanes, M: Ledger>(
+    a: &[T],
+    b: &[T],
+    out: &mut [T],
+    steps: &mut Steps<M>,
+)
     requires a { 1 ≤ length a.now }
     requires b { 1 ≤ length b.now }
     requires out { length out.old + 1 ≡ 2 * max (length a.now) (length b.now) }

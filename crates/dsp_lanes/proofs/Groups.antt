@@ -16,7 +16,7 @@ zip2-append f (x ∷ xs) xs' [] ys' e = absurd (omega (arith, e))
 zip2-append f (x ∷ xs) xs' (y ∷ ys) ys' e = ap (λ l. f x y ∷ l) (zip2-append f xs xs' ys ys' (omega arith))
 
 -- ---- the next group
-pub zip2-group : (f : ℤ → ℤ → ℤ) (at n : ℕ) (new old a b : List ℤ) → length a ≡ length old → length b ≡ length old → at + n ≤ length old
+pub zip2-group : (f : ℤ → ℤ → ℤ) (at n : ℕ) (new old a b : List ℤ) → length a ≡ length old → length old ≤ length b → at + n ≤ length old
     → take at old ≡ zip2 f (take at a) (take at b) → new ≡ put_chunk at old (zip2 f (chunk at n a) (chunk at n b)) → take (at + n) new ≡ zip2 f (take (at + n) a) (take (at + n) b)
 zip2-group f at n new old a b e h room done is =
     let long_a : length (chunk at n a) ≡ n = length-chunk at n a (omega arith) in
@@ -75,7 +75,7 @@ put_chunk-append at old xs ys room =
     ∙ sym (put_chunk_is (at + n) first ys (omega (arith, same, room)))
 
 -- ---- the next element
-pub zip2-one : (f : ℤ → ℤ → ℤ) (at m : ℕ) (old a b : List ℤ) (v : ℤ) → m ≡ at + 1 → length a ≡ length old → length b ≡ length old → at < length old
+pub zip2-one : (f : ℤ → ℤ → ℤ) (at m : ℕ) (old a b : List ℤ) (v : ℤ) → m ≡ at + 1 → length a ≡ length old → length old ≤ length b → at < length old
     → take at old ≡ zip2 f (take at a) (take at b) → v ≡ f (sample a at) (sample b at) → take m (set old at v) ≡ zip2 f (take m a) (take m b)
 zip2-one f at m old a b v next same_a same_b room done is =
     let front_a : length (take at a) ≡ at = length-take-le at a (omega arith) in

@@ -39,7 +39,7 @@ by_four P h [] e = absurd (omega (arith, e))
 by_four P h (a ∷ []) e = absurd (omega (arith, e))
 by_four P h (a ∷ b ∷ xs) e = by_two (λ ys. P (a ∷ b ∷ ys)) (λ c d. h a b c d) xs (omega arith)
 
-by_eight : (P : List ℤ → Type 0) → ((a b c d e f x y : ℤ) → P (a ∷ b ∷ c ∷ d ∷ e ∷ f ∷ x ∷ y ∷ [])) → (xs : List ℤ) → length xs ≡ 8 → P xs
+pub by_eight : (P : List ℤ → Type 0) → ((a b c d e f x y : ℤ) → P (a ∷ b ∷ c ∷ d ∷ e ∷ f ∷ x ∷ y ∷ [])) → (xs : List ℤ) → length xs ≡ 8 → P xs
 by_eight P h [] e = absurd (omega (arith, e))
 by_eight P h (a ∷ []) e = absurd (omega (arith, e))
 by_eight P h (a ∷ b ∷ []) e = absurd (omega (arith, e))
@@ -84,7 +84,7 @@ each_odd P [] f = tt
 each_odd P (x ∷ []) f = tt
 each_odd P (x ∷ y ∷ xs) f = (f.1.0, each_odd P xs f.1.1)
 
-each_in_turn : (P : ℤ → Type 0) (even odd : List ℤ) → Each1 P even → Each1 P odd → Each1 P (in_turn even odd)
+pub each_in_turn : (P : ℤ → Type 0) (even odd : List ℤ) → Each1 P even → Each1 P odd → Each1 P (in_turn even odd)
 each_in_turn P [] odd f g = tt
 each_in_turn P (x ∷ even) [] f g = tt
 each_in_turn P (x ∷ even) (y ∷ odd) f g = (f.0, (g.0, each_in_turn P even odd f.1 g.1))

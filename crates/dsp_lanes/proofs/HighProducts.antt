@@ -9,8 +9,8 @@ use lib.Lanes.{zip2, chunk, Each1}
 use lib.Signed.{shr_z}
 use mir.Val.{SFits, to_z, of_z}
 use Rattle.dsp_sat.proofs.Words.{product_shift_fits, abs_within}
-use Rattle.dsp_lanes.proofs.LaneOps.{bits_of, ints_of_bits, cast_lanes, widened, casts_asked, casts_are, each_widens, each_pair, group_fits, lesser, greater, saturates_to, narrowed, narrow_asked, narrow_is, shifted, shifted_up, added, each_shift_fits, Each1-map, map-same, map-zip2, length-map}
-use Rattle.dsp_lanes.proofs.LaneSums.{map-self, plus_in, times_in, products_in, splat_bits}
+use Rattle.dsp_lanes.proofs.LaneOps.{splat_bits, bits_of, ints_of_bits, cast_lanes, widened, casts_asked, casts_are, each_widens, each_pair, group_fits, lesser, greater, saturates_to, narrowed, narrow_asked, narrow_is, shifted, shifted_up, added, each_shift_fits, Each1-map, map-same, map-zip2, length-map}
+use Rattle.dsp_lanes.proofs.LaneSums.{map-self, plus_in, times_in, products_in}
 use Rattle.dsp_lanes.proofs.LaneClosings.{Castable, down_in, up_in, low_lanes, low_lanes_are, words_fit}
 
 abbrev pub high_lanes : ℕ → List ℤ → List ℤ → List ℕ
@@ -19,7 +19,7 @@ high_lanes n xs ys = zip2 (down_in w64) (zip2 (times_in w64) (widened w32 w64 xs
 abbrev pub high : ℤ → ℤ → ℤ
 high x y = shr_z (x *ℤ y) (2 ^ 32)
 
-high_fits : (x y : ℤ) → SFits w32 x → SFits w32 y → SFits w32 (high x y)
+pub high_fits : (x y : ℤ) → SFits w32 x → SFits w32 y → SFits w32 (high x y)
 high_fits x y f g = product_shift_fits w32 w32 w32 x y 32 f g (lit< tt)
 
 pub highs_are : (n : ℕ) (xs ys : List ℤ) → length xs ≡ n → length ys ≡ n → Each1 (SFits w32) xs → Each1 (SFits w32) ys
@@ -68,7 +68,7 @@ doubled_is h =
     twice_is : (z : ℤ) → z +ℤ z ≡ pos 2 *ℤ z
     twice_is z = omega (arith, ints)
 
-zip2-self : (f : ℤ → ℤ → ℤ) (xs : List ℤ) → zip2 f xs xs ≡ map (λ x. f x x) xs
+pub zip2-self : (f : ℤ → ℤ → ℤ) (xs : List ℤ) → zip2 f xs xs ≡ map (λ x. f x x) xs
 zip2-self f [] = refl
 zip2-self f (x ∷ xs) = ap (λ l. f x x ∷ l) (zip2-self f xs)
 

@@ -13,8 +13,8 @@ use mir.Val.{SFits, to_z, of_z, hbits}
 use borrow.Table.Row.{s_int}
 use borrow.Rule.Simd.Lanes.{Asks1, act2}
 use Rattle.dsp_lanes.proofs.WordLemmas.{left, wrap_bits-is, wrap_bits-congruent}
-use Rattle.dsp_lanes.proofs.LaneOps.{bits_of, cast_lanes, widened, group_fits, narrowed, narrow_asked, narrow_is, shifted, shifted_up, each_shift_fits, Each1-map, map-same, map-zip2, length-map}
-use Rattle.dsp_lanes.proofs.LaneSums.{map-self, times_in, products_in, splat_bits}
+use Rattle.dsp_lanes.proofs.LaneOps.{splat_bits, bits_of, cast_lanes, widened, group_fits, narrowed, narrow_asked, narrow_is, shifted, shifted_up, each_shift_fits, Each1-map, map-same, map-zip2, length-map}
+use Rattle.dsp_lanes.proofs.LaneSums.{map-self, times_in, products_in}
 
 abbrev pub down_in : Width → ℕ → ℕ → ℕ
 down_in v = act2 (shr signed) (s_int v) (s_int v) (s_int v)

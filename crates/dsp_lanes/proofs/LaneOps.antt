@@ -1,15 +1,15 @@
 -- A vector of signed lanes stands in a goal as the bits of its lanes, `map (of_z w) xs`. Each lemma says which integers an operation gives.
 use Rattle.std.proofs.Common.{ℕ, ◌≡◌, List, [], ◌∷◌, ◌<◌, ◌≤◌, ◌+◌, ◌*◌, ◌%◌, ◌^◌, ◌-◌, w8, w16, w32, w64, arith, zero, suc, length, replicate, map, cond, Bool, true, false, ap, sym, subst, ◌∙◌, refl}
-use Rattle.std.proofs.lemmas.Int.{ints, to_z-of_z, of_z-to_z, wrapping_add_is, wrapping_mul_is}
+use Rattle.std.proofs.lemmas.Int.{ints, to_z-of_z, of_z-to_z, wrapping_add_is, wrapping_sub_is, wrapping_mul_is}
 use Rattle.std.specs.Int.{saturate_to_bits, int_wrap}
-use Rattle.std.proofs.lemmas.Simd.{Each1-from_get_or, length-chunk, get_or-chunk, map-map}
+use Rattle.std.proofs.lemmas.Simd.{Each1-from_get_or, Each1-replicate, length-chunk, get_or-chunk, map-map, zip2_splat}
 use lib.Lanes.{Each1, zip2, sel_l, top, chunk}
 use lib.Pow.{pow_pos, pow_mono}
 use Rattle.std.specs.List.{All}
-use lib.IntN.{ℤ, pos, negsuc, ◌*ℤ◌, ◌+ℤ◌}
+use lib.IntN.{ℤ, pos, negsuc, ◌*ℤ◌, ◌+ℤ◌, ◌-ℤ◌}
 use native.Mathlib.Nat.{lt_of_le_of_lt}
 use lib.Signed.{shr_z, lt_z, mag_shr}
-use mir.Syntax.{cast, signed, mask, lt, w128, Width, wrap_add, wrap_mul, shr, shl}
+use mir.Syntax.{cast, signed, mask, lt, w128, Width, wrap_add, wrap_sub, wrap_mul, shr, shl}
 use mir.Val.{SFits, to_z, of_z, hbits, bits}
 use borrow.Table.Row.{s_int}
 use borrow.Rule.Simd.Lanes.{Asks1, act1, act2}
@@ -17,6 +17,10 @@ use borrow.Rule.Simd.Lanes.{Asks1, act1, act2}
 -- the bits of lanes of width w
 abbrev pub bits_of : Width → List ℤ → List ℕ
 bits_of w xs = map (of_z w) xs
+
+pub splat_bits : (v : Width) (n : ℕ) (t : ℤ) → replicate n (of_z v t) ≡ bits_of v (replicate n t)
+splat_bits v zero t = refl
+splat_bits v (suc n) t = ap (λ l. of_z v t ∷ l) (splat_bits v n t)
 
 pub ints_of_bits : (w : Width) (xs : List ℤ) → Each1 (SFits w) xs → map (to_z w) (bits_of w xs) ≡ xs
 ints_of_bits w [] f = refl
@@ -47,6 +51,13 @@ add_lane w16 a b = refl
 add_lane w32 a b = refl
 add_lane w64 a b = refl
 add_lane w128 a b = refl
+
+sub_lane : (w : Width) (a b : ℕ) → act2 wrap_sub (s_int w) (s_int w) (s_int w) a b ≡ (a + (2 ^ bits w - b)) % 2 ^ bits w
+sub_lane w8 a b = refl
+sub_lane w16 a b = refl
+sub_lane w32 a b = refl
+sub_lane w64 a b = refl
+sub_lane w128 a b = refl
 
 mul_lane : (w : Width) (a b : ℕ) → act2 wrap_mul (s_int w) (s_int w) (s_int w) a b ≡ (a * b) % 2 ^ bits w
 mul_lane w8 a b = refl
@@ -79,6 +90,11 @@ in_width w128 m = omega arith
 pub add_ints : (w : Width) (a b : ℤ) → SFits w a → SFits w b → act2 wrap_add (s_int w) (s_int w) (s_int w) (of_z w a) (of_z w b) ≡ of_z w (int_wrap w (a +ℤ b))
 add_ints w a b f g = add_lane w (of_z w a) (of_z w b) ∙ sym (of_z-to_z w ((of_z w a + of_z w b) % 2 ^ bits w) (in_width w (of_z w a + of_z w b))) ∙ ap (of_z w) (wrapping_add_is w a b f g)
 
+sub_ints : (w : Width) (a b : ℤ) → SFits w a → SFits w b → act2 wrap_sub (s_int w) (s_int w) (s_int w) (of_z w a) (of_z w b) ≡ of_z w (int_wrap w (a -ℤ b))
+sub_ints w a b f g =
+    let m = of_z w a + (2 ^ bits w - of_z w b) in
+    sub_lane w (of_z w a) (of_z w b) ∙ sym (of_z-to_z w (m % 2 ^ bits w) (in_width w m)) ∙ ap (of_z w) (wrapping_sub_is w a b f g)
+
 mul_ints : (w : Width) (a b : ℤ) → SFits w a → SFits w b → act2 wrap_mul (s_int w) (s_int w) (s_int w) (of_z w a) (of_z w b) ≡ of_z w (int_wrap w (a *ℤ b))
 mul_ints w a b f g = mul_lane w (of_z w a) (of_z w b) ∙ sym (of_z-to_z w ((of_z w a * of_z w b) % 2 ^ bits w) (in_width w (of_z w a * of_z w b))) ∙ ap (of_z w) (wrapping_mul_is w a b f g)
 
@@ -88,12 +104,17 @@ added w [] ys f g = refl
 added w (x ∷ xs) [] f g = refl
 added w (x ∷ xs) (y ∷ ys) f g = ap (λ z. z ∷ zip2 (act2 wrap_add (s_int w) (s_int w) (s_int w)) (bits_of w xs) (bits_of w ys)) (add_ints w x y f.0 g.0) ∙ ap (λ zs. of_z w (int_wrap w (x +ℤ y)) ∷ zs) (added w xs ys f.1 g.1)
 
+pub subtracted : (w : Width) (xs ys : List ℤ) → Each1 (SFits w) xs → Each1 (SFits w) ys → zip2 (act2 wrap_sub (s_int w) (s_int w) (s_int w)) (bits_of w xs) (bits_of w ys) ≡ bits_of w (zip2 (λ a b. int_wrap w (a -ℤ b)) xs ys)
+subtracted w [] ys f g = refl
+subtracted w (x ∷ xs) [] f g = refl
+subtracted w (x ∷ xs) (y ∷ ys) f g = ap (λ z. z ∷ zip2 (act2 wrap_sub (s_int w) (s_int w) (s_int w)) (bits_of w xs) (bits_of w ys)) (sub_ints w x y f.0 g.0) ∙ ap (λ zs. of_z w (int_wrap w (x -ℤ y)) ∷ zs) (subtracted w xs ys f.1 g.1)
+
 pub multiplied : (w : Width) (xs ys : List ℤ) → Each1 (SFits w) xs → Each1 (SFits w) ys → zip2 (act2 wrap_mul (s_int w) (s_int w) (s_int w)) (bits_of w xs) (bits_of w ys) ≡ bits_of w (zip2 (λ a b. int_wrap w (a *ℤ b)) xs ys)
 multiplied w [] ys f g = refl
 multiplied w (x ∷ xs) [] f g = refl
 multiplied w (x ∷ xs) (y ∷ ys) f g = ap (λ z. z ∷ zip2 (act2 wrap_mul (s_int w) (s_int w) (s_int w)) (bits_of w xs) (bits_of w ys)) (mul_ints w x y f.0 g.0) ∙ ap (λ zs. of_z w (int_wrap w (x *ℤ y)) ∷ zs) (multiplied w xs ys f.1 g.1)
 
--- `simd_min` and `simd_max` with a constant in each lane
+-- `simd_min` and `simd_max`
 abbrev pub lesser : Width → List ℕ → List ℕ → List ℕ
 lesser w xs ys = sel_l (map (top (hbits w)) (zip2 (act2 (mask (lt signed)) (s_int w) (s_int w) (s_int w)) xs ys)) xs ys
 
@@ -112,10 +133,10 @@ top_of w64 false = refl
 top_of w128 true = refl
 top_of w128 false = refl
 
-abbrev least : ℤ → ℤ → ℤ
+abbrev pub least : ℤ → ℤ → ℤ
 least a b = cond (lt_z a b) a b
 
-abbrev most : ℤ → ℤ → ℤ
+abbrev pub most : ℤ → ℤ → ℤ
 most a b = cond (lt_z a b) b a
 
 less_is : (w : Width) (a b : ℤ) → SFits w a → SFits w b → top (hbits w) (act2 (mask (lt signed)) (s_int w) (s_int w) (s_int w) (of_z w a) (of_z w b)) ≡ lt_z a b
@@ -125,23 +146,30 @@ cond_of : {A B : Type 0} (f : A → B) (t : Bool) (a b : A) → cond t (f a) (f 
 cond_of f true a b = refl
 cond_of f false a b = refl
 
+pub lesser_is : (w : Width) (xs ys : List ℤ) → Each1 (SFits w) xs → Each1 (SFits w) ys → lesser w (bits_of w xs) (bits_of w ys) ≡ bits_of w (zip2 least xs ys)
+lesser_is w [] ys f g = refl
+lesser_is w (x ∷ xs) [] f g = refl
+lesser_is w (x ∷ xs) (y ∷ ys) f g =
+    ap (λ t. cond t (of_z w x) (of_z w y) ∷ lesser w (bits_of w xs) (bits_of w ys)) (less_is w x y f.0 g.0)
+    ∙ ap (λ z. z ∷ lesser w (bits_of w xs) (bits_of w ys)) (cond_of (of_z w) (lt_z x y) x y)
+    ∙ ap (λ zs. of_z w (least x y) ∷ zs) (lesser_is w xs ys f.1 g.1)
+
+pub greater_is : (w : Width) (xs ys : List ℤ) → Each1 (SFits w) xs → Each1 (SFits w) ys → greater w (bits_of w xs) (bits_of w ys) ≡ bits_of w (zip2 most xs ys)
+greater_is w [] ys f g = refl
+greater_is w (x ∷ xs) [] f g = refl
+greater_is w (x ∷ xs) (y ∷ ys) f g =
+    ap (λ t. cond t (of_z w y) (of_z w x) ∷ greater w (bits_of w xs) (bits_of w ys)) (less_is w x y f.0 g.0)
+    ∙ ap (λ z. z ∷ greater w (bits_of w xs) (bits_of w ys)) (cond_of (of_z w) (lt_z x y) y x)
+    ∙ ap (λ zs. of_z w (most x y) ∷ zs) (greater_is w xs ys f.1 g.1)
+
+-- ... with a constant in each lane
 pub least_are : (w : Width) (n : ℕ) (c : ℤ) (xs : List ℤ) → length xs ≡ n → Each1 (SFits w) xs → SFits w c → lesser w (bits_of w xs) (replicate n (of_z w c)) ≡ bits_of w (map (λ x. least x c) xs)
-least_are w zero c [] e f g = refl
-least_are w zero c (x ∷ xs) e f g = absurd (omega (arith, e))
-least_are w (suc n) c [] e f g = absurd (omega (arith, e))
-least_are w (suc n) c (x ∷ xs) e f g =
-    ap (λ t. cond t (of_z w x) (of_z w c) ∷ lesser w (bits_of w xs) (replicate n (of_z w c))) (less_is w x c f.0 g)
-    ∙ ap (λ z. z ∷ lesser w (bits_of w xs) (replicate n (of_z w c))) (cond_of (of_z w) (lt_z x c) x c)
-    ∙ ap (λ zs. of_z w (least x c) ∷ zs) (least_are w n c xs (omega arith) f.1 g)
+least_are w n c xs e f g =
+    ap (lesser w (bits_of w xs)) (splat_bits w n c) ∙ lesser_is w xs (replicate n c) f (Each1-replicate (SFits w) n c g) ∙ ap (bits_of w) (zip2_splat least xs n c e)
 
 pub most_are : (w : Width) (n : ℕ) (c : ℤ) (xs : List ℤ) → length xs ≡ n → Each1 (SFits w) xs → SFits w c → greater w (bits_of w xs) (replicate n (of_z w c)) ≡ bits_of w (map (λ x. most x c) xs)
-most_are w zero c [] e f g = refl
-most_are w zero c (x ∷ xs) e f g = absurd (omega (arith, e))
-most_are w (suc n) c [] e f g = absurd (omega (arith, e))
-most_are w (suc n) c (x ∷ xs) e f g =
-    ap (λ t. cond t (of_z w c) (of_z w x) ∷ greater w (bits_of w xs) (replicate n (of_z w c))) (less_is w x c f.0 g)
-    ∙ ap (λ z. z ∷ greater w (bits_of w xs) (replicate n (of_z w c))) (cond_of (of_z w) (lt_z x c) c x)
-    ∙ ap (λ zs. of_z w (most x c) ∷ zs) (most_are w n c xs (omega arith) f.1 g)
+most_are w n c xs e f g =
+    ap (greater w (bits_of w xs)) (splat_bits w n c) ∙ greater_is w xs (replicate n c) f (Each1-replicate (SFits w) n c g) ∙ ap (bits_of w) (zip2_splat most xs n c e)
 
 -- two clamps, as a saturation to h bits and a sign
 clamped : (h : ℕ) (x : ℤ) → most (least x (pos (2 ^ h - 1))) (negsuc (2 ^ h - 1)) ≡ saturate_to_bits h x
@@ -164,7 +192,7 @@ pub map-same : (P : ℤ → Type 0) (f g : ℤ → ℤ) → ((x : ℤ) → P x �
 map-same P f g h [] e = refl
 map-same P f g h (x ∷ xs) e = ap (λ z. z ∷ map f xs) (h x e.0) ∙ ap (λ zs. g x ∷ zs) (map-same P f g h xs e.1)
 
-least_fits : (w : Width) (c x : ℤ) → SFits w c → SFits w x → SFits w (least x c)
+pub least_fits : (w : Width) (c x : ℤ) → SFits w c → SFits w x → SFits w (least x c)
 least_fits w c x f g = by (lt_z x c)
   where
     by : (t : Bool) → SFits w (cond t x c)
@@ -195,6 +223,12 @@ pub map-zip2 : (f : ℤ → ℤ) (g : ℤ → ℤ → ℤ) (xs ys : List ℤ) �
 map-zip2 f g [] ys = refl
 map-zip2 f g (x ∷ xs) [] = refl
 map-zip2 f g (x ∷ xs) (y ∷ ys) = ap (λ zs. f (g x y) ∷ zs) (map-zip2 f g xs ys)
+
+-- an operation with a number that was changed
+pub zip2-right : (f : ℤ → ℤ → ℤ) (h : ℤ → ℤ) (ss xs : List ℤ) → zip2 f ss (map h xs) ≡ zip2 (λ s x. f s (h x)) ss xs
+zip2-right f h [] xs = refl
+zip2-right f h (s ∷ ss) [] = refl
+zip2-right f h (s ∷ ss) (x ∷ xs) = ap (λ l. f s (h x) ∷ l) (zip2-right f h ss xs)
 
 pub each_pair : (P Q : ℤ → Type 0) (f : ℤ → ℤ → ℤ) → ((x y : ℤ) → P x → P y → Q (f x y)) → (xs ys : List ℤ) → Each1 P xs → Each1 P ys → Each1 Q (zip2 f xs ys)
 each_pair P Q f h [] ys p q = tt

@@ -13,7 +13,7 @@ use borrow.Table.Row.{s_int}
 use borrow.Rule.Simd.Lanes.{act2}
 use Rattle.dsp_sat.proofs.Words.{product_fits}
 use Rattle.dsp_lanes.specs.Regrouped.{list_sum}
-use Rattle.dsp_lanes.proofs.LaneOps.{bits_of, cast_lanes, ints_of_bits, added, add_ints, multiplied, widened, casts_are, each_widens, each_pair, zip2-same, group_fits}
+use Rattle.dsp_lanes.proofs.LaneOps.{bits_of, splat_bits, cast_lanes, ints_of_bits, added, add_ints, multiplied, widened, casts_are, each_widens, each_pair, zip2-same, group_fits}
 
 abbrev pub plus_in : Width → ℕ → ℕ → ℕ
 plus_in v = act2 wrap_add (s_int v) (s_int v) (s_int v)
@@ -30,10 +30,6 @@ pub lanes_read : (v : Width) (lanes : List ℕ) (xs : List ℤ) → lanes ≡ bi
 lanes_read v lanes xs e f =
     let is = ap (map (to_z v)) e ∙ ints_of_bits v xs f in
     (is, subst (λ (zs : List ℤ). Each1 (SFits v) zs) (sym is) f)
-
-pub splat_bits : (v : Width) (n : ℕ) (t : ℤ) → replicate n (of_z v t) ≡ bits_of v (replicate n t)
-splat_bits v zero t = refl
-splat_bits v (suc n) t = ap (λ l. of_z v t ∷ l) (splat_bits v n t)
 
 -- sums that are wrapped
 abbrev pub raised : Width → List ℤ → List ℤ → List ℤ

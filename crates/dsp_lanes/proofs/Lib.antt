@@ -11,4 +11,11 @@ pub mod HalfSums
 pub mod HalfProducts
 pub mod ProductPairs
 pub mod PairSums
-pub mod WideSums
+pub mod RowProducts
+pub mod Fractions
+pub mod ReflectedGroups
+pub mod WeightLanes
+pub mod HighSums
+pub mod HighRows
+pub mod DotSums
+pub mod NarrowSums

@@ -17,8 +17,8 @@ use Rattle.dsp_defs.specs.Signal.{sample, sum_below, values}
 use Rattle.dsp_defs.proofs.Signal.{sum_below-front, sum_below_cong}
 use Rattle.dsp_sat.proofs.Words.{product_fits}
 use Rattle.dsp_lanes.specs.Pairs.{four, pair_sum, repeated, in_turn}
-use Rattle.dsp_lanes.proofs.LaneOps.{bits_of, widened, casts_are, casts_asked, ints_of_bits, group_fits, added, multiplied, each_widens, each_pair, zip2-same}
-use Rattle.dsp_lanes.proofs.LaneSums.{map-self, plus_in, times_in, raised, raised_fit, summed_fit, lanes_read, splat_bits}
+use Rattle.dsp_lanes.proofs.LaneOps.{splat_bits, bits_of, widened, casts_are, casts_asked, ints_of_bits, group_fits, added, multiplied, each_widens, each_pair, zip2-same}
+use Rattle.dsp_lanes.proofs.LaneSums.{map-self, plus_in, times_in, raised, raised_fit, summed_fit, lanes_read}
 use Rattle.dsp_lanes.proofs.LaneClosings.{Castable}
 use Rattle.dsp_lanes.proofs.LaneRows.{row, chunk-values}
 use Rattle.dsp_lanes.proofs.HalfSums.{picked, evens, odds, products, evens_of_eight, odds_of_eight, each_even, each_odd, length-evens, length-odds, half_fits, in_turn-zip2}
@@ -152,19 +152,25 @@ tap_fits at even odd xs window t is_x room long_even long_odd fit_even fit_odd f
     (e.0, o.0, e.1, o.1)
 
 -- ---- two taps in eight sums
-pair_step : (s a b : ℤ) → int_wrap w32 (s +ℤ int_wrap w32 (a +ℤ b)) ≡ int_wrap w32 (int_wrap w32 (s +ℤ a) +ℤ b)
-pair_step s a b = int_wrap-add_right w32 s (a +ℤ b) ∙ ap (int_wrap w32) (sym (+ℤ_assoc s a b)) ∙ sym (int_wrap-add_left w32 (s +ℤ a) b)
+pair_step : (w : Width) (s a b : ℤ) → int_wrap w (s +ℤ (a +ℤ b)) ≡ int_wrap w (int_wrap w (s +ℤ a) +ℤ b)
+pair_step w s a b = ap (int_wrap w) (sym (+ℤ_assoc s a b)) ∙ sym (int_wrap-add_left w (s +ℤ a) b)
 
 -- both products at once are one after the other
-both_steps : (t u : ℤ) (x y : ℕ → ℤ) (sums : List ℤ) (ks : List ℕ)
-    → raised w32 sums (map (λ k. int_wrap w32 ((x k *ℤ t) +ℤ (y k *ℤ u))) ks)
-    ≡ zip2 (λ s b. int_wrap w32 (s +ℤ (u *ℤ b))) (zip2 (λ s a. int_wrap w32 (s +ℤ (t *ℤ a))) sums (map x ks)) (map y ks)
-both_steps t u x y [] ks = refl
-both_steps t u x y (s ∷ sums) [] = refl
-both_steps t u x y (s ∷ sums) (k ∷ ks) =
-    ap (λ z. z ∷ raised w32 sums (map (λ k. int_wrap w32 ((x k *ℤ t) +ℤ (y k *ℤ u))) ks))
-    (pair_step s (x k *ℤ t) (y k *ℤ u) ∙ (λ i. int_wrap w32 (int_wrap w32 (s +ℤ *ℤ_comm (x k) t i) +ℤ *ℤ_comm (y k) u i)))
-    ∙ ap (λ l. int_wrap w32 (int_wrap w32 (s +ℤ (t *ℤ x k)) +ℤ (u *ℤ y k)) ∷ l) (both_steps t u x y sums ks)
+both_steps : (w : Width) (t u : ℤ) (x y : ℕ → ℤ) (sums : List ℤ) (ks : List ℕ)
+    → raised w sums (map (λ k. (x k *ℤ t) +ℤ (y k *ℤ u)) ks)
+    ≡ zip2 (λ s b. int_wrap w (s +ℤ (u *ℤ b))) (zip2 (λ s a. int_wrap w (s +ℤ (t *ℤ a))) sums (map x ks)) (map y ks)
+both_steps w t u x y [] ks = refl
+both_steps w t u x y (s ∷ sums) [] = refl
+both_steps w t u x y (s ∷ sums) (k ∷ ks) =
+    ap (λ z. z ∷ raised w sums (map (λ k. (x k *ℤ t) +ℤ (y k *ℤ u)) ks))
+    (pair_step w s (x k *ℤ t) (y k *ℤ u) ∙ (λ i. int_wrap w (int_wrap w (s +ℤ *ℤ_comm (x k) t i) +ℤ *ℤ_comm (y k) u i)))
+    ∙ ap (λ l. int_wrap w (int_wrap w (s +ℤ (t *ℤ x k)) +ℤ (u *ℤ y k)) ∷ l) (both_steps w t u x y sums ks)
+
+-- to wrap what is added changes nothing
+raised_wraps : (w : Width) (sums ss : List ℤ) → raised w sums (map (int_wrap w) ss) ≡ raised w sums ss
+raised_wraps w [] ss = refl
+raised_wraps w (s ∷ sums) [] = refl
+raised_wraps w (s ∷ sums) (x ∷ ss) = (λ i. int_wrap-add_right w s x i ∷ raised_wraps w sums ss i)
 
 abbrev pair_lanes : List ℤ → List ℤ → List ℕ
 pair_lanes sums pairs = zip2 (plus_in w32) (bits_of w32 sums) (bits_of w32 pairs)
@@ -189,17 +195,28 @@ fours_in_turn w g even odd at long_even long_odd =
     (λ i. in_turn (raised w even (g (e0 i) ∷ g (at + 2) ∷ g (at + 4) ∷ g (at + 6) ∷ [])) (raised w odd (g (at + 1) ∷ g (e3 i) ∷ g (e5 i) ∷ g (e7 i) ∷ [])))
     ∙ in_turn-zip2 (λ s p. int_wrap w (s +ℤ p)) even odd ps (omega arith)
 
+-- what two taps give at a place
+abbrev pub pair_at : List ℤ → List ℤ → ℕ → ℕ → ℤ
+pair_at taps window j p = (sample window p *ℤ sample taps j) +ℤ (sample window (p + 1) *ℤ sample taps (j + 1))
+
+pub pairs_raise : (w : Width) (taps window even odd : List ℤ) (j at : ℕ) → length even ≡ 4 → length odd ≡ 4 → at + 1 + 8 ≤ length window
+    → in_turn (raised w even (four (pair_at taps window j) at)) (raised w odd (four (pair_at taps window j) (at + 1)))
+    ≡ zip2 (λ s x. int_wrap w (s +ℤ (sample taps (j + 1) *ℤ x))) (zip2 (λ s x. int_wrap w (s +ℤ (sample taps j *ℤ x))) (in_turn even odd) (chunk at 8 window)) (chunk (at + 1) 8 window)
+pairs_raise w taps window even odd j at long_even long_odd room =
+    let t = sample taps j in
+    let u = sample taps (j + 1) in
+    let swap : (k : ℕ) → at + k + 1 ≡ at + 1 + k = λ k. omega arith in
+    fours_in_turn w (pair_at taps window j) even odd at long_even long_odd
+    ∙ (λ i. raised w (in_turn even odd) (map (λ k. (sample window (at + k) *ℤ t) +ℤ (sample window (swap k i) *ℤ u)) (range_with_len 0 8)))
+    ∙ both_steps w t u (λ k. sample window (at + k)) (λ k. sample window (at + 1 + k)) (in_turn even odd) (range_with_len 0 8)
+    ∙ (λ i. zip2 (λ s b. int_wrap w (s +ℤ (u *ℤ b))) (zip2 (λ s a. int_wrap w (s +ℤ (t *ℤ a))) (in_turn even odd) (sym (chunk-values at 8 window (omega arith)) i)) (sym (chunk-values (at + 1) 8 window room) i))
+
 pub pair_added : (taps window even odd : List ℤ) (j at : ℕ) → length even ≡ 4 → length odd ≡ 4 → at + 1 + 8 ≤ length window
     → in_turn (raised w32 even (four (pair_sum taps window j) at)) (raised w32 odd (four (pair_sum taps window j) (at + 1)))
     ≡ zip2 (λ s x. int_wrap w32 (s +ℤ (sample taps (j + 1) *ℤ x))) (zip2 (λ s x. int_wrap w32 (s +ℤ (sample taps j *ℤ x))) (in_turn even odd) (chunk at 8 window)) (chunk (at + 1) 8 window)
 pair_added taps window even odd j at long_even long_odd room =
-    let t = sample taps j in
-    let u = sample taps (j + 1) in
-    let swap : (k : ℕ) → at + k + 1 ≡ at + 1 + k = λ k. omega arith in
-    fours_in_turn w32 (pair_sum taps window j) even odd at long_even long_odd
-    ∙ (λ i. raised w32 (in_turn even odd) (map (λ k. int_wrap w32 ((sample window (at + k) *ℤ t) +ℤ (sample window (swap k i) *ℤ u))) (range_with_len 0 8)))
-    ∙ both_steps t u (λ k. sample window (at + k)) (λ k. sample window (at + 1 + k)) (in_turn even odd) (range_with_len 0 8)
-    ∙ (λ i. zip2 (λ s b. int_wrap w32 (s +ℤ (u *ℤ b))) (zip2 (λ s a. int_wrap w32 (s +ℤ (t *ℤ a))) (in_turn even odd) (sym (chunk-values at 8 window (omega arith)) i)) (sym (chunk-values (at + 1) 8 window room) i))
+    (λ i. in_turn (raised_wraps w32 even (four (pair_at taps window j) at) i) (raised_wraps w32 odd (four (pair_at taps window j) (at + 1)) i))
+    ∙ pairs_raise w32 taps window even odd j at long_even long_odd room
 
 -- ---- samples, read and written
 pub eight_read : (w : Width) → hbits w ≤ hbits w16 → (at : ℕ) (samples : List ℤ) → All (SFits w) samples → at + 8 ≤ length samples

@@ -8,8 +8,8 @@ use Rattle.std.specs.Int.{int_wrap}
 use lib.Lanes.{zip2, Each1}
 use mir.Val.{SFits, to_z, of_z}
 use Rattle.dsp_lanes.specs.Regrouped.{list_sum}
-use Rattle.dsp_lanes.proofs.LaneOps.{bits_of, cast_lanes, casts_are, widened, added, each_pair, each_widens}
-use Rattle.dsp_lanes.proofs.LaneSums.{plus_in, times_in, raised, raised_fit, lanes_read, products_in, splat_bits}
+use Rattle.dsp_lanes.proofs.LaneOps.{splat_bits, bits_of, cast_lanes, casts_are, widened, added, each_pair, each_widens}
+use Rattle.dsp_lanes.proofs.LaneSums.{plus_in, times_in, raised, raised_fit, lanes_read, products_in}
 use Rattle.dsp_lanes.proofs.LaneRows.{list_sum-wraps}
 use Rattle.dsp_lanes.proofs.HalfSums.{picked, evens, odds, products, evens_of_eight, odds_of_eight, each_even, each_odd, length-evens, length-odds, half_fits, list_sum-halves}
 

@@ -1,6 +1,5 @@
 ghost use Rattle.std.specs.Prelude.{◌≡◌, ◌+◌, ◌≤◌, ℕ, ℤ, pos, ◌+ℤ◌, ◌*ℤ◌, length, map};
-ghost use Rattle.dsp_defs.specs.Numbers.{wrap};
-ghost use Rattle.dsp_defs.specs.Formats.{accumulator};
+ghost use Rattle.dsp_defs.specs.Numbers.{wrap, Width};
 ghost use Rattle.dsp_defs.specs.Signal.{sample, sum_below};
 
 use dsp_sat::Sample;
@@ -11,6 +10,8 @@ pub(crate) trait DotForm<T: Sample> {
     type Sums: Copy;
 
     ghost size: { ℕ };
+
+    ghost width: { Width };
 
     ghost value: { Self.Sums → ℤ };
 
@@ -30,11 +31,11 @@ pub(crate) trait DotForm<T: Sample> {
         requires fit { AreSums sums }
         requires taps { at + size ≤ length taps.now }
         requires window { at + size ≤ length window.now }
-        ensures sums { wrap (accumulator T.format) (value result) ≡ wrap (accumulator T.format) (value sums +ℤ sum_below size (λ k. sample (map T.number taps.now) (at + k) *ℤ sample (map T.number window.now) (at + k))) }
+        ensures sums { wrap width (value result) ≡ wrap width (value sums +ℤ sum_below size (λ k. sample (map T.number taps.now) (at + k) *ℤ sample (map T.number window.now) (at + k))) }
         ensures fit { AreSums result };
 
     /// The sum.
     fn total(sums: Self::Sums) -> T::Acc
         requires { AreSums sums }
-        ensures { T.total result ≡ wrap (accumulator T.format) (value sums) };
+        ensures { T.total result ≡ wrap width (value sums) };
 }

@@ -32,7 +32,7 @@ impl RowForm<i32> for Halves {
 
     ghost lanes = { λ s. in_turn s.even s.odd };
 
-    ghost AreSums = { λ s. (Each1 (FitsSigned w64) s.even) × (Each1 (FitsSigned w64) s.odd) × (length s.even ≡ 2) × (length s.odd ≡ 2) };
+    ghost AreSums = { λ s n. (Each1 (FitsSigned w64) s.even) × (Each1 (FitsSigned w64) s.odd) × (length s.even ≡ 2) × (length s.odd ≡ 2) };
 
     ghost Takes = { λ taps. Unit {0} };
 
@@ -88,6 +88,8 @@ impl DotForm<i32> for Halves {
     ghost use Rattle.dsp_lanes.specs.Regrouped.{list_sum};
 
     ghost size = { 4 };
+
+    ghost width = { w64 };
 
     ghost value = { λ s. list_sum s.even +ℤ list_sum s.odd };
 

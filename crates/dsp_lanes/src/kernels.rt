@@ -6,8 +6,10 @@ ghost use Rattle.dsp_defs.specs.Elementwise.{mult, scale, IsScaleShift};
 ghost use Rattle.dsp_defs.specs.Sums.{sparse_term};
 ghost use Rattle.dsp_defs.specs.Signal.{sample, sum_below, values};
 ghost use Rattle.dsp_lanes.specs.Regrouped.{list_sum};
+ghost use Rattle.dsp_lanes.specs.Rows.{row_at};
 ghost use Rattle.dsp_lanes.specs.Turns.{RisesWithin, lane_turns};
 
+use crate::four_dots::Four;
 use dsp_defs::Steps;
 use dsp_sat::Sample;
 use std::sync::ledger::Ledger;
@@ -112,6 +114,26 @@ pub trait FilterKernels<const L: usize>: LaneKernels<L> {
         requires window { at + 2 * L + length taps.now ≤ length window.now + 1 }
         ensures out { map Self.number out.new ≡ put_chunk at (map Self.number out.old) (values (2 * L) (λ i. close Self.format (sum_below (length taps.now) (λ j. sample (map Self.number taps.now) j *ℤ sample (map Self.number window.now) (at + i + j))))) }
         ensures steps { RisesWithin steps.old steps.new (length taps.now * (2 * L)) (2 * length taps.now) };
+
+    /// The sums of the products of the taps and the windows at `first`, `first + step`,
+    /// `first + 2 * step` and `first + 3 * step`, wrapped to the accumulator.
+    fn four_dots<M: Ledger>(
+        taps: &[Self],
+        window: &[Self],
+        first: usize,
+        step: usize,
+        small: bool,
+        steps: &mut Steps<M>,
+    ) -> Four<Self::Acc>
+        requires some { 0 < L }
+        requires few { L ≤ 64 }
+        requires small { IsTrue small → AreSmall taps.now }
+        requires window { first + 3 * step + length taps.now ≤ length window.now }
+        ensures first { Self.total result.first ≡ wrap (accumulator Self.format) (row_at (map Self.number taps.now) (map Self.number window.now) first) }
+        ensures second { Self.total result.second ≡ wrap (accumulator Self.format) (row_at (map Self.number taps.now) (map Self.number window.now) (first + step)) }
+        ensures third { Self.total result.third ≡ wrap (accumulator Self.format) (row_at (map Self.number taps.now) (map Self.number window.now) (first + 2 * step)) }
+        ensures fourth { Self.total result.fourth ≡ wrap (accumulator Self.format) (row_at (map Self.number taps.now) (map Self.number window.now) (first + 3 * step)) }
+        ensures steps { RisesWithin steps.old steps.new (4 * length taps.now) (4 * lane_turns L (length taps.now)) };
 
     /// The sum of the products, wrapped to the accumulator.
     fn dot<M: Ledger>(taps: &[Self], window: &[Self], steps: &mut Steps<M>) -> Self::Acc

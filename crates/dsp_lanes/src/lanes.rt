@@ -1,11 +1,12 @@
-ghost use Rattle.std.specs.Prelude.{◌≡◌, ◌+◌, ◌*◌, ◌<◌, ◌≤◌, ◌≤ℤ◌, ◌+ℤ◌, ◌*ℤ◌, length, map};
+ghost use Rattle.std.specs.Prelude.{◌≡◌, ◌+◌, ◌*◌, ℕ, ◌<◌, ◌≤◌, ◌≤ℤ◌, ◌+ℤ◌, ◌*ℤ◌, length, map};
 ghost use Rattle.std.specs.Simd.Lanes.{zip2};
 ghost use Rattle.dsp_defs.specs.Numbers.{wrap, w32};
-ghost use Rattle.dsp_defs.specs.Formats.{accumulator};
-ghost use Rattle.dsp_defs.specs.Signal.{sample, sum_below};
+ghost use Rattle.dsp_defs.specs.Formats.{accumulator, close};
+ghost use Rattle.dsp_defs.specs.Signal.{sample, sum_below, values};
 ghost use Rattle.dsp_defs.specs.Elementwise.{abs, add, clip, mult, negate, scale, shift, sub, IsScaleShift, IsShift};
 ghost use Rattle.dsp_defs.specs.Sums.{sparse_term};
 ghost use Rattle.dsp_defs.specs.Streaming.{rows};
+ghost use Rattle.dsp_lanes.specs.Rows.{row_at};
 ghost use Rattle.dsp_lanes.specs.Turns.{RisesWithin, lane_turns};
 
 use crate::kernels::LaneSample;
@@ -13,6 +14,7 @@ use crate::operations::{
     Abs, Clip, Difference, Negate, Offset, Shift, Sum, change_each, join_each,
 };
 use crate::rows::row_sum;
+use crate::updates::{SparseTerms, update_each};
 use dsp_defs::Steps;
 use std::marker::PhantomData;
 use std::sync::ledger::Ledger;
@@ -163,6 +165,37 @@ impl<T: LaneSample<L>, const L: usize> Lanes<T, L> {
         }
     }
 
+    /// `out[i] = close(sum over j of taps[j] * window[first + i * step + j])`: the work of a decimator.
+    pub fn strided_rows<M: Ledger>(
+        taps: &[T],
+        window: &[T],
+        first: usize,
+        step: usize,
+        out: &mut [T],
+        steps: &mut Steps<M>,
+    )
+        requires { (i : ℕ) → i < length out.old → first + i * step + length taps.now ≤ length window.now }
+        ensures out { map T.number out.new ≡ values (length out.old) (λ i. close T.format (row_at (map T.number taps.now) (map T.number window.now) (first + i * step))) }
+        ensures steps { RisesWithin steps.old steps.new (length out.old * length taps.now) (length out.old * lane_turns L (length taps.now)) }
+    {
+        let small = T::are_small(taps);
+        let mut at = 0;
+        'fours: while out.len() - at >= 4 {
+            let sums = T::four_dots(taps, window, first + at * step, step, small, steps);
+            out[at] = T::close(sums.first);
+            out[at + 1] = T::close(sums.second);
+            out[at + 2] = T::close(sums.third);
+            out[at + 3] = T::close(sums.fourth);
+            at += 4;
+        }
+        'rest: while at < out.len() {
+            let start = first + at * step;
+            let sum = T::dot(taps, &window[start..start + taps.len()], steps);
+            out[at] = T::close(sum);
+            at += 1;
+        }
+    }
+
     /// Adds one tap's term to each sum, wrapped to 32 bits: the inner step of `arm_fir_sparse_q7`,
     /// `arm_fir_sparse_q15`, `arm_fir_sparse_q31`. Lengths are equal.
     pub fn delayed<M: Ledger>(tap: T, window: &[T], sums: &mut [T::Acc], steps: &mut Steps<M>)
@@ -170,16 +203,6 @@ impl<T: LaneSample<L>, const L: usize> Lanes<T, L> {
         ensures sums { map T.total sums.new ≡ zip2 (λ s x. wrap w32 (s +ℤ sparse_term T.format (T.number tap) x)) (map T.total sums.old) (map T.number window.now) }
         ensures steps { RisesWithin steps.old steps.new (length sums.old) (lane_turns L (length sums.old)) }
     {
-        let mut at = 0;
-        'groups: while sums.len() - at >= L {
-            T::delay_group(tap, window, sums, at);
-            steps.count(L as u64, 1);
-            at += L;
-        }
-        'rest: while at < sums.len() {
-            let term = T::sparse_term(tap, window[at], steps);
-            sums[at] = T::sparse_add(sums[at], term);
-            at += 1;
-        }
+        update_each::<T, SparseTerms<L>, M>(tap, window, sums, steps)
     }
 }

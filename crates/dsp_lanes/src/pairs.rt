@@ -77,7 +77,7 @@ impl<T: PairSample> RowForm<T> for Pairs {
 
     ghost lanes = { λ s. in_turn s.even s.odd };
 
-    ghost AreSums = { λ s. (Each1 (FitsSigned w32) s.even) × (Each1 (FitsSigned w32) s.odd) × (length s.even ≡ 4) × (length s.odd ≡ 4) };
+    ghost AreSums = { λ s n. (Each1 (FitsSigned w32) s.even) × (Each1 (FitsSigned w32) s.odd) × (length s.even ≡ 4) × (length s.odd ≡ 4) };
 
     ghost Takes = { T.AreSmall };
 

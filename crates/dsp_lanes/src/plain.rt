@@ -17,7 +17,7 @@ impl<T: LaneKernels<L>, const L: usize> RowForm<T> for Plain<L> {
 
     ghost lanes = { T.lanes };
 
-    ghost AreSums = { T.AreSums };
+    ghost AreSums = { λ s n. T.AreSums s };
 
     ghost Takes = { λ taps. Unit {0} };
 
@@ -57,9 +57,12 @@ impl<T: LaneKernels<L>, const L: usize> DotForm<T> for Plain<L> {
     type Sums = T::Sums;
 
     ghost use Rattle.std.specs.Prelude.{◌≡◌, length};
+    ghost use Rattle.dsp_defs.specs.Formats.{accumulator};
     ghost use Rattle.dsp_lanes.specs.Regrouped.{list_sum};
 
     ghost size = { L };
+
+    ghost width = { accumulator T.format };
 
     ghost value = { λ s. list_sum (T.lanes s) };
 

@@ -1,13 +1,18 @@
 use crate::dots::dot_groups;
+use crate::doubled::Doubled;
 use crate::eights::{double_group_of_eights, group_of_eights};
 use crate::fits::{q15_fit, sums_64_fit};
+use crate::four_dots::{Four, four_sums};
+use crate::high_pairs::HighPairs;
 use crate::kernels::{FilterKernels, LaneKernels};
+use crate::narrow_dots::NarrowDots;
 use crate::pair_dots::PairDots;
 use crate::pair_samples::is_narrow;
 use crate::pairs::Pairs;
 use crate::plain::Plain;
-use crate::wide_pairs::WidePairs;
+use crate::rows::row_group;
 use dsp_defs::Steps;
+use dsp_sat::low_word;
 use std::simd::prelude::*;
 use std::sync::ledger::Ledger;
 
@@ -115,8 +120,10 @@ impl<const L: usize> FilterKernels<L> for i16 {
     ) {
         if small {
             group_of_eights::<i16, Pairs, L, M>(taps, window, out, at, steps)
+        } else if taps.len() < 0x8000 {
+            group_of_eights::<i16, HighPairs, L, M>(taps, window, out, at, steps)
         } else {
-            group_of_eights::<i16, WidePairs, L, M>(taps, window, out, at, steps)
+            row_group::<i16, Plain<L>, M>(taps, window, out, at, steps)
         }
     }
 
@@ -131,8 +138,35 @@ impl<const L: usize> FilterKernels<L> for i16 {
     ) {
         if small {
             double_group_of_eights::<i16, Pairs, L, M>(taps, window, out, at, steps)
+        } else if taps.len() < 0x8000 {
+            double_group_of_eights::<i16, HighPairs, L, M>(taps, window, out, at, steps)
         } else {
-            double_group_of_eights::<i16, WidePairs, L, M>(taps, window, out, at, steps)
+            row_group::<i16, Doubled<Plain<L>>, M>(taps, window, out, at, steps)
+        }
+    }
+
+    #[inline(always)]
+    fn four_dots<M: Ledger>(
+        taps: &[i16],
+        window: &[i16],
+        first: usize,
+        step: usize,
+        small: bool,
+        steps: &mut Steps<M>,
+    ) -> Four<i64> {
+        if L != 8 {
+            four_sums::<i16, Plain<L>, M>(taps, window, first, step, steps)
+        } else if small {
+            q15_fit(window);
+            let sums = four_sums::<i16, NarrowDots, M>(taps, window, first, step, steps);
+            Four {
+                first: i64::from(low_word(sums.first)),
+                second: i64::from(low_word(sums.second)),
+                third: i64::from(low_word(sums.third)),
+                fourth: i64::from(low_word(sums.fourth)),
+            }
+        } else {
+            four_sums::<i16, PairDots, M>(taps, window, first, step, steps)
         }
     }
 

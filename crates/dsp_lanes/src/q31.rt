@@ -1,6 +1,7 @@
 use crate::dots::dot_groups;
 use crate::doubled::Doubled;
 use crate::fits::{q31_fit, sums_64_fit};
+use crate::four_dots::{Four, four_sums};
 use crate::halves::Halves;
 use crate::kernels::{FilterKernels, LaneKernels};
 use crate::plain::Plain;
@@ -137,6 +138,22 @@ impl<const L: usize> FilterKernels<L> for i32 {
             row_group::<i32, Doubled<Halves>, M>(taps, window, out, at, steps)
         } else {
             row_group::<i32, Doubled<Plain<L>>, M>(taps, window, out, at, steps)
+        }
+    }
+
+    #[inline(always)]
+    fn four_dots<M: Ledger>(
+        taps: &[i32],
+        window: &[i32],
+        first: usize,
+        step: usize,
+        small: bool,
+        steps: &mut Steps<M>,
+    ) -> Four<i64> {
+        if L == 4 {
+            four_sums::<i32, Halves, M>(taps, window, first, step, steps)
+        } else {
+            four_sums::<i32, Plain<L>, M>(taps, window, first, step, steps)
         }
     }
 

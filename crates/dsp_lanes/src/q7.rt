@@ -1,6 +1,7 @@
 use crate::dots::dot_groups;
 use crate::eights::{double_group_of_eights, group_of_eights};
 use crate::fits::{q7_fit, q31_fit};
+use crate::four_dots::{Four, four_sums};
 use crate::kernels::{FilterKernels, LaneKernels};
 use crate::pairs::Pairs;
 use crate::plain::Plain;
@@ -122,6 +123,18 @@ impl<const L: usize> FilterKernels<L> for i8 {
         steps: &mut Steps<M>,
     ) {
         double_group_of_eights::<i8, Pairs, L, M>(taps, window, out, at, steps)
+    }
+
+    #[inline(always)]
+    fn four_dots<M: Ledger>(
+        taps: &[i8],
+        window: &[i8],
+        first: usize,
+        step: usize,
+        small: bool,
+        steps: &mut Steps<M>,
+    ) -> Four<i32> {
+        four_sums::<i8, Plain<L>, M>(taps, window, first, step, steps)
     }
 
     #[inline(always)]

@@ -1,8 +1,8 @@
 -- A step of a lattice with feedback, from the last section to the first.
-use Rattle.std.proofs.Common.{◌≡◌, ◌≢◌, ◌∙◌, ap, ap₂, refl, sym, ℕ, zero, suc, ◌+◌, ◌*◌, ◌^◌, ◌<◌, ◌≤◌, ℤ, pos, negsuc, ◌+ℤ◌, ◌-ℤ◌, ◌*ℤ◌, List, [], ◌∷◌, ◌++◌, map, reverse, length, take, drop, set, get_or, replicate, arith, append_assoc, SFits}
+use Rattle.std.proofs.Common.{◌≡◌, ◌∙◌, ap, ap₂, refl, sym, ℕ, zero, suc, ◌+◌, ◌*◌, ◌^◌, ◌<◌, ◌≤◌, ℤ, pos, negsuc, ◌+ℤ◌, ◌-ℤ◌, ◌*ℤ◌, List, [], ◌∷◌, ◌++◌, map, reverse, length, take, drop, set, get_or, replicate, arith, append_assoc, SFits}
 use Rattle.std.specs.Prelude.{unsigned_abs, FitsSigned, All}
 use mir.Val.{hbits}
-use Rattle.std.proofs.lemmas.List.{map-append, take_more_set, get_or-drop, drop-drop, drop_all, take_all, reverse-reverse, append-nil, length-set}
+use Rattle.std.proofs.lemmas.List.{map-append, take_more_set, get_or-drop, drop-drop, drop_all, take_all, reverse-reverse, length-set}
 use Rattle.std.proofs.lemmas.List.Elements.{All-get_or, All-cons}
 use Rattle.std.proofs.lemmas.Int.{ints, SFits-int_wrap, int_wrap_fits, unsigned_abs-mul, fits_signed_from_abs}
 use Rattle.std.proofs.Math.Nat.{mul-le-mul}

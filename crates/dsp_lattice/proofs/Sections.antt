@@ -1,23 +1,22 @@
 -- Sections of a lattice without feedback, on pairs (f, g).
-use Rattle.std.proofs.Common.{◌≡◌, ◌∙◌, ap, ap₂, refl, sym, subst, ℕ, suc, ◌+◌, ◌<◌, ℤ, pos, ◌+ℤ◌, ◌*ℤ◌, List, [], ◌∷◌, ◌++◌, map, fold, reverse, length, take, drop, set, get_or, replicate, ◌≤◌, arith, length-append, length-drop}
+use Rattle.std.proofs.Common.{◌≡◌, ◌∙◌, ap, refl, sym, subst, ℕ, suc, ◌+◌, ◌<◌, ℤ, pos, ◌+ℤ◌, ◌*ℤ◌, List, [], ◌∷◌, ◌++◌, map, reverse, length, take, drop, set, get_or, replicate, ◌≤◌, arith, length-append, length-drop}
 use Rattle.std.specs.List.{zip}
-use Rattle.std.proofs.lemmas.List.{map-append, map_more, take_more_set, reverse-append, get_or-drop, length-map, length-take-le, drop-drop}
+use Rattle.std.proofs.lemmas.List.{map-append, map_more, take_more_set, reverse-append, get_or-drop, length-take-le, drop-drop}
 use Rattle.std.proofs.lemmas.Slice.{take-put_mid, drop-put_mid}
 use Rattle.std.proofs.Math.Seq.{take-add}
+use lib.Lanes.{zip2}
 use borrow.Rule.Slice.PartMut.{put_mid}
 use Rattle.std.proofs.lemmas.List.Sums.{fold-append}
 use Rattle.std.proofs.lemmas.Slice.Zip.{firsts-zip}
 use Rattle.std.proofs.Math.ListN.{get_or-map}
 use Rattle.dsp_defs.specs.Numbers.{◌>>◌, saturate}
-use Rattle.dsp_defs.specs.Formats.{word_bits}
 use Rattle.dsp_defs.specs.Signal.{sample}
 use Rattle.dsp_defs.specs.Lattice.{lattice_output, lattice_stage, lattice_fir}
 use Rattle.dsp_stage.specs.Kept.{latest, lattice_kept}
-use Rattle.dsp_defs.specs.Streaming.{GoesOn, Continues}
-use Rattle.dsp_stage.proofs.GoingOn.{goes-twice, goes-chain, outputs-next, latest-new}
-use Rattle.dsp_defs.specs.declared.format.Fmt.{Fmt}
-use Rattle.dsp_defs.specs.declared.format.Fmt.TheVariants.{Q15}
-use Rattle.dsp_lattice.specs.LatticeState.{reflection, section_kept, sections_give, pairs_of, filter_kept}
+use Rattle.dsp_defs.specs.Streaming.{GoesOn}
+use Rattle.dsp_stage.proofs.GoingOn.{goes-nothing, goes-twice, goes-chain, outputs-next, latest-new}
+use Rattle.dsp_lanes.specs.Reflected.{reflected}
+use Rattle.dsp_lattice.specs.LatticeState.{section_kept, sections_give, pairs_of, filter_kept}
 
 pub reverse-map : {A B : Type 0} (f : A → B) (xs : List A) → reverse (map f xs) ≡ map f (reverse xs)
 reverse-map f [] = refl
@@ -45,23 +44,32 @@ section-step k b f g f' g' forward backward = record {
       (λ i. sym last i ∷ []);
 }
 
--- the same of the products of samples in Q15
-pub section-step-in : (format : Fmt) → format ≡ Q15 → (k b f g f' g' down up : ℤ) → down ≡ k *ℤ b → up ≡ k *ℤ f →
-    f' ≡ saturate (word_bits format) (reflection format down +ℤ f) → g' ≡ saturate (word_bits format) (reflection format up +ℤ b) →
-    GoesOn (λ x. lattice_stage x k) section_kept (b ∷ []) (g ∷ []) ((f, g) ∷ []) ((f', g') ∷ [])
-section-step-in format is k b f g f' g' down up is_down is_up forward backward =
-    let closed : (p x : ℤ) → saturate (word_bits format) (reflection format p +ℤ x) ≡ saturate 16 ((p >> 15) +ℤ x) = λ p x. ap (λ (format : Fmt). saturate (word_bits format) (reflection format p +ℤ x)) is in
-    section-step k b f g f' g'
-    (forward ∙ closed down f ∙ ap (λ p. saturate 16 ((p >> 15) +ℤ f)) is_down)
-    (backward ∙ closed up b ∙ ap (λ p. saturate 16 ((p >> 15) +ℤ b)) is_up)
-
 -- ---- a section over all samples
 
-zip-one : {A B : Type 0} (xs : List A) (ys : List B) (a : A) (b : B) → length ys ≡ length xs → zip (xs ++ a ∷ []) (ys ++ b ∷ []) ≡ zip xs ys ++ (a, b) ∷ []
-zip-one [] [] a b same = refl
-zip-one [] (y ∷ ys) a b same = absurd (omega (arith, same))
-zip-one (x ∷ xs) [] a b same = absurd (omega (arith, same))
-zip-one (x ∷ xs) (y ∷ ys) a b same = ap (λ l. (x, y) ∷ l) (zip-one xs ys a b (omega (arith, same)))
+pub section-over :
+    (k b : ℤ) (fs gs : List ℤ) → length gs ≡ length fs →
+    GoesOn (λ x. lattice_stage x k) section_kept (b ∷ []) (sample (b ∷ gs) (length fs) ∷ []) (zip fs gs) (zip (zip2 (λ f g. reflected k g f) fs (b ∷ gs)) (zip2 (λ f g. reflected k f g) fs (b ∷ gs)))
+section-over k b [] [] same = goes-nothing (λ x. lattice_stage x k) section_kept (b ∷ [])
+section-over k b [] (g ∷ gs) same = absurd (omega (arith, same))
+section-over k b (f ∷ fs) [] same = absurd (omega (arith, same))
+section-over k b (f ∷ fs) (g ∷ gs) same =
+    goes-twice (λ x. lattice_stage x k) section_kept (b ∷ []) (g ∷ []) (sample (g ∷ gs) (length fs) ∷ []) ((f, g) ∷ []) (zip fs gs) ((reflected k b f, reflected k f b) ∷ []) (zip (zip2 (λ f g. reflected k g f) fs (g ∷ gs)) (zip2 (λ f g. reflected k f g) fs (g ∷ gs)))
+    (section-step k b f g (reflected k b f) (reflected k f b) refl refl)
+    (section-over k g fs gs (omega (arith, same)))
+
+-- the numbers of samples in Q15 are themselves
+themselves : (xs : List ℤ) → map (λ x. x) xs ≡ xs
+themselves [] = refl
+themselves (x ∷ xs) = ap (λ l. x ∷ l) (themselves xs)
+
+-- the same of the samples before and after
+pub section-runs :
+    (k b last : ℤ) (fs gs fs' gs' : List ℤ) → length gs ≡ length fs → fs' ≡ zip2 (λ f g. reflected k g f) fs (b ∷ gs) → gs' ≡ zip2 (λ f g. reflected k f g) fs (b ∷ gs) → last ≡ sample (b ∷ gs) (length fs) →
+    GoesOn (λ x. lattice_stage x k) section_kept (b ∷ []) (last ∷ []) (zip (map (λ x. x) fs) (map (λ x. x) gs)) (zip (map (λ x. x) fs') (map (λ x. x) gs'))
+section-runs k b last fs gs fs' gs' same forward backward is_last =
+    rw (themselves fs, themselves gs, themselves fs', themselves gs', forward, backward, is_last) (section-over k b fs gs same)
+
+-- ---- loops over sections
 
 -- what was not written yet is what it was
 pub there : {X : Type 0} (old new : List X) (i : ℕ) (d : X) → drop i new ≡ drop i old → get_or new i d ≡ get_or old i d
@@ -76,28 +84,6 @@ module _ {X : Type 0} (number : X → ℤ) (i : ℕ) where
 
   pub written-more : (new : List X) (y : X) → i < length new → map number (take (i + 1) (set new i y)) ≡ map number (take i new) ++ number y ∷ []
   written-more new y inside = ap (map number) (take_more_set new i y inside) ∙ map-append number (take i new) (y ∷ [])
-
-  long : (xs : List X) → i < length xs → length (map number (take i xs)) ≡ i
-  long xs inside = length-map (take i xs) number ∙ length-take-le i xs (omega (arith, inside))
-
-  pub pairs-more :
-      {S : Type 0} (give : List (ℤ × ℤ) → List (ℤ × ℤ)) (kept : List (ℤ × ℤ) → S) (fs gs fs' gs' : List X) (old between new : S) (f g f' g' : X) →
-      i < length fs → length gs ≡ length fs → length fs' ≡ length fs → length gs' ≡ length fs → drop i fs' ≡ drop i fs → drop i gs' ≡ drop i gs → f ≡ get_or fs' i f → g ≡ get_or gs' i g →
-      GoesOn give kept old between (zip (map number (take i fs)) (map number (take i gs))) (zip (map number (take i fs')) (map number (take i gs'))) →
-      GoesOn give kept between new ((number f, number g) ∷ []) ((number f', number g') ∷ []) →
-      GoesOn give kept old new (zip (map number (take (i + 1) fs)) (map number (take (i + 1) gs))) (zip (map number (take (i + 1) (set fs' i f'))) (map number (take (i + 1) (set gs' i g'))))
-  pairs-more give kept fs gs fs' gs' old between new f g f' g' inside same same_f same_g rest_f rest_g is_f is_g before step =
-      let inside_g : i < length gs = omega (arith, inside, same) in
-      let inside_f' : i < length fs' = omega (arith, inside, same_f) in
-      let inside_g' : i < length gs' = omega (arith, inside, same_g) in
-      let taken : zip (map number (take (i + 1) fs)) (map number (take (i + 1) gs)) ≡ zip (map number (take i fs)) (map number (take i gs)) ++ (number f, number g) ∷ [] =
-      ap₂ zip (read-more fs fs' f inside rest_f is_f) (read-more gs gs' g inside_g rest_g is_g)
-      ∙ zip-one (map number (take i fs)) (map number (take i gs)) (number f) (number g) (long gs inside_g ∙ sym (long fs inside)) in
-      let given : zip (map number (take (i + 1) (set fs' i f'))) (map number (take (i + 1) (set gs' i g'))) ≡ zip (map number (take i fs')) (map number (take i gs')) ++ (number f', number g') ∷ [] =
-      ap₂ zip (written-more fs' f' inside_f') (written-more gs' g' inside_g')
-      ∙ zip-one (map number (take i fs')) (map number (take i gs')) (number f') (number g') (long gs' inside_g' ∙ sym (long fs' inside_f')) in
-      rw (taken, given)
-      (goes-twice give kept old between new (zip (map number (take i fs)) (map number (take i gs))) ((number f, number g) ∷ []) (zip (map number (take i fs')) (map number (take i gs'))) ((number f', number g') ∷ []) before step)
 
 -- ---- sections one after another
 

@@ -1,43 +1,18 @@
-ghost use Rattle.std.specs.Prelude.{◌≡◌, ◌≤◌, ◌+◌, ◌*◌, ◌∷◌, [], length, map, fold};
+ghost use Rattle.std.specs.Prelude.{◌≡◌, ◌≤◌, ◌*◌, length, map};
 ghost use Rattle.std.specs.List.{zip};
 ghost use Rattle.dsp_defs.specs.Counts.{Rises};
 ghost use Rattle.dsp_stage.specs.Kept.{lattice_kept};
-ghost use Rattle.dsp_defs.specs.Lattice.{lattice_fir, lattice_stage};
+ghost use Rattle.dsp_defs.specs.Lattice.{lattice_fir};
 ghost use Rattle.dsp_defs.specs.Streaming.{GoesOn};
-ghost use Rattle.dsp_lattice.specs.LatticeState.{section_kept, sections_give, filter_kept};
+ghost use Rattle.dsp_lattice.specs.LatticeState.{sections_give, filter_kept};
 
 use crate::NarrowSample;
 use dsp_defs::Steps;
-use dsp_sat::product;
+use dsp_sat::Sample;
 use std::sync::ledger::Ledger;
 
-/// Writes over the values f and g of each sample those that a section with the coefficient `k` gives for
-/// them, and answers the last g that it was given. `before` is that of the samples before.
-fn run_section<T: NarrowSample, L: Ledger>(
-    k: T,
-    before: T,
-    forward: &mut [T],
-    backward: &mut [T],
-    steps: &mut Steps<L>,
-) -> T
-    requires { length backward.old ≡ length forward.old }
-    ensures goes { GoesOn (λ x. lattice_stage x (T.number k)) section_kept (T.number before ∷ []) (T.number result ∷ []) (zip (map T.number forward.old) (map T.number backward.old)) (zip (map T.number forward.new) (map T.number backward.new)) }
-    ensures steps { Rises steps.old steps.new (length forward.old * 2) (length forward.old * 2) }
-{
-    let mut before = before;
-    for i in 0..forward.len() {
-        let f = forward[i];
-        let g = backward[i];
-        let down = product(k, before, steps);
-        let up = product(k, f, steps);
-        forward[i] = T::raised(down, f);
-        backward[i] = T::raised(up, before);
-        before = g;
-    }
-    before
-}
-
-/// The same by all sections, one after another.
+/// Writes over the values f and g of each sample those that the sections give for them, one section
+/// after another.
 fn run_sections<T: NarrowSample, L: Ledger>(
     coefficients: &[T],
     states: &mut [T],
@@ -51,7 +26,7 @@ fn run_sections<T: NarrowSample, L: Ledger>(
     ensures steps { Rises steps.old steps.new (length coefficients.now * (length forward.old * 2)) (length coefficients.now * (length forward.old * 2)) }
 {
     for m in 0..coefficients.len() {
-        states[m] = run_section(coefficients[m], states[m], forward, backward, steps);
+        states[m] = T::run_section(coefficients[m], states[m], forward, backward, steps);
     }
 }
 

@@ -1,10 +1,17 @@
-ghost use Rattle.std.specs.Prelude.{◌≡◌, ◌+ℤ◌, ◌-ℤ◌, refl};
+ghost use Rattle.std.specs.Prelude.{◌≡◌, ◌*◌, ◌+ℤ◌, ◌-ℤ◌, ◌∷◌, [], length, map, refl};
+ghost use Rattle.std.specs.List.{zip};
+ghost use Rattle.dsp_defs.specs.Counts.{Rises};
+ghost use Rattle.dsp_defs.specs.Lattice.{lattice_stage};
 ghost use Rattle.dsp_defs.specs.Numbers.{saturate};
+ghost use Rattle.dsp_defs.specs.Streaming.{GoesOn};
 ghost use Rattle.dsp_defs.specs.Formats.{word_bits};
 ghost use Rattle.dsp_defs.specs.declared.format.Fmt.TheVariants.{Q15};
-ghost use Rattle.dsp_lattice.specs.LatticeState.{reflection};
+ghost use Rattle.dsp_lattice.specs.LatticeState.{reflection, section_kept};
 
+use dsp_defs::Steps;
+use dsp_lanes::reflect;
 use dsp_sat::{Sample, WideSample, low_word};
+use std::sync::ledger::Ledger;
 
 /// The samples of a lattice.
 pub trait LatticeSample: WideSample {
@@ -19,41 +26,72 @@ pub trait LatticeSample: WideSample {
 
 /// The samples of a lattice without feedback.
 pub trait NarrowSample: LatticeSample {
+    /// Writes over the values f and g of each sample those that a section with the coefficient `k` gives
+    /// for them, and answers the last g that it was given. `before` is that of the samples before.
+    fn run_section<L: Ledger>(
+        k: Self,
+        before: Self,
+        forward: &mut [Self],
+        backward: &mut [Self],
+        steps: &mut Steps<L>,
+    ) -> Self
+        requires { length backward.old ≡ length forward.old }
+        ensures goes { GoesOn (λ x. lattice_stage x (Self.number k)) section_kept (Self.number before ∷ []) (Self.number result ∷ []) (zip (map Self.number forward.old) (map Self.number backward.old)) (zip (map Self.number forward.new) (map Self.number backward.new)) }
+        ensures steps { Rises steps.old steps.new (length forward.old * 2) (length forward.old * 2) };
+
     ghost is_q15: { Self.format ≡ Q15 };
 }
 
-/// The sample that is nearest to a number.
+/// The sample in Q15 that is nearest to a number.
 #[inline(always)]
-fn nearest(v: i32) -> i16
+fn nearest15(v: i32) -> i16
     ensures { result ≡ saturate 16 v }
 {
     v.clamp(i32::from(i16::MIN), i32::from(i16::MAX)) as i16
 }
 
+/// The sample in Q31 that is nearest to a number.
+#[inline(always)]
+fn nearest31(v: i64) -> i32
+    ensures { result ≡ saturate 32 v }
+{
+    v.clamp(i64::from(i32::MIN), i64::from(i32::MAX)) as i32
+}
+
 impl LatticeSample for i16 {
     #[inline(always)]
     fn lowered(f: i16, reflected: i32) -> i16 {
-        nearest(i32::from(f) - (reflected >> 15))
+        nearest15(i32::from(f) - (reflected >> 15))
     }
 
     #[inline(always)]
     fn raised(reflected: i32, g: i16) -> i16 {
-        nearest((reflected >> 15) + i32::from(g))
+        nearest15((reflected >> 15) + i32::from(g))
     }
 }
 
 impl NarrowSample for i16 {
     ghost is_q15 = { refl };
+
+    fn run_section<L: Ledger>(
+        k: i16,
+        before: i16,
+        forward: &mut [i16],
+        backward: &mut [i16],
+        steps: &mut Steps<L>,
+    ) -> i16 {
+        reflect(k, before, forward, backward, steps)
+    }
 }
 
 impl LatticeSample for i32 {
     #[inline(always)]
     fn lowered(f: i32, reflected: i64) -> i32 {
-        Self::sub(f, low_word(reflected >> 31))
+        nearest31(i64::from(f) - i64::from(low_word(reflected >> 31)))
     }
 
     #[inline(always)]
     fn raised(reflected: i64, g: i32) -> i32 {
-        Self::add(low_word(reflected >> 31), g)
+        nearest31(i64::from(low_word(reflected >> 31)) + i64::from(g))
     }
 }

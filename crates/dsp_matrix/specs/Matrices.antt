@@ -1,5 +1,5 @@
 -- The blocks of matrices: what they do with a group, and which of them are sound in a format.
-use Rattle.std.specs.Prelude.{⊤, ◌≡◌, ℕ, ◌+◌, ◌*◌, ◌/◌, ◌%◌, ◌≤◌, ℤ, ◌*ℤ◌, List, length, map, All, FitsSigned}
+use Rattle.std.specs.Prelude.{⊤, ◌≡◌, ℕ, ◌+◌, ◌*◌, ◌/◌, ◌%◌, ◌<◌, ◌≤◌, ℤ, ◌*ℤ◌, List, length, map, All, FitsSigned}
 use Rattle.dsp_defs.specs.Formats.{word, close}
 use Rattle.dsp_defs.specs.Signal.{sample, sum_below}
 use Rattle.dsp_defs.specs.Elementwise.{IsMatrixScaleShift}
@@ -8,6 +8,8 @@ use Rattle.dsp_defs.specs.declared.limits.TheConstants.{MAX_MATRIX_SIDE}
 use Rattle.dsp_defs.specs.declared.format.Fmt.{Fmt}
 use Rattle.dsp_defs.specs.declared.script.Block.{Block}
 use Rattle.dsp_defs.specs.declared.script.Block.TheVariants.{MatAdd, MatSub, MatScale, MatTrans, MatMult}
+use Rattle.dsp_lanes.specs.Narrow.{IsNarrow}
+use Rattle.dsp_lanes.specs.MatrixRows.{column_of}
 use Rattle.dsp_matrix.specs.Groups.{Group}
 use Rattle.dsp_matrix.specs.declared.matrix_work.MatrixWork.{MatrixWork}
 use Rattle.dsp_matrix.specs.declared.matrix_work.MatrixWork.TheVariants.{Add, Sub, Scale, Trans}
@@ -80,6 +82,13 @@ pub record ProductState : Type 0 where
 
 abbrev pub block_of_product : ProductState → Block
 block_of_product p = MatMult p.rows p.columns p.given p.matrix
+
+-- so many rows can be multiplied by a matrix two at once: its columns are narrow
+pub record IsPaired (rows columns given : ℕ) (matrix : List ℤ) : Type 0 where
+  pub rows_even : rows % 2 ≡ 0
+  pub columns_even : columns % 2 ≡ 0
+  pub fours : given % 4 ≡ 0
+  pub narrow : (l : ℕ) → l < given → IsNarrow (column_of matrix columns given l)
 
 -- the sum of the products of a row and column l of a matrix (columns by given), which stands in some order: `place` says where
 abbrev pub row_times : (ℕ → ℕ → ℕ → ℕ → ℕ) → ℕ → ℕ → List ℤ → List ℤ → ℕ → ℤ

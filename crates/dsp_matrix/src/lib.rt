@@ -10,6 +10,7 @@ mod making;
 mod matrix_sample;
 mod matrix_work;
 mod open_group;
+mod paired_products;
 mod product_work;
 mod products;
 mod turned_rows;

@@ -1,7 +1,7 @@
-ghost use Rattle.std.specs.Prelude.{◌≡◌, ◌≤◌, ◌+◌, ◌++◌, All, FitsSigned, length, map, take};
-ghost use Rattle.dsp_defs.specs.Formats.{word};
+ghost use Rattle.std.specs.Prelude.{◌≡◌, ◌≤◌, ◌+◌, ◌++◌, length, take};
 
 use dsp_sat::Sample;
+use dsp_window::load_numbers;
 use std::alloc::{AllocError, Global};
 use std::marker::Model;
 
@@ -29,17 +29,6 @@ fn write_at<T: Copy>(samples: &mut [T], at: usize, block: &[T])
     ensures { take (at + length block.now) samples.new ≡ take at samples.old ++ block.now }
 {
     samples[at..at + block.len()].copy_from_slice(block);
-}
-
-/// Writes the samples of numbers to the front.
-fn load_numbers<T: Sample>(samples: &mut [T], numbers: &[i64])
-    requires room { length numbers.now ≤ length samples.old }
-    requires samples { All (FitsSigned (word T.format)) numbers.now }
-    ensures { map T.number (take (length numbers.now) samples.new) ≡ numbers.now }
-{
-    for (k, number) in numbers.iter().enumerate() {
-        samples[k] = T::of_number(*number as i32);
-    }
 }
 
 impl<T: Sample> OpenGroup<T> {

@@ -1,3 +1,4 @@
+use crate::paired_products::{are_paired, multiply_in_pairs};
 use crate::products::{ByColumns, multiply};
 use crate::{GroupWork, mat_trans};
 use dsp_defs::{Block, Steps};
@@ -8,7 +9,7 @@ use std::sync::ledger::Ledger;
 
 /// The product of a group of `rows` rows and `columns` columns with a matrix of `columns` rows and
 /// `given` columns. The matrix is also kept column by column, so that a row of the group and a column
-/// of the matrix are slices.
+/// of the matrix are slices. Where the columns are narrow, rows are multiplied two at once.
 #[derive(Drop)]
 pub struct ProductWork {
     rows: u8,
@@ -16,19 +17,20 @@ pub struct ProductWork {
     given: u8,
     matrix: Vec<i16>,
     turned: Vec<i16>,
+    paired: bool,
 }
 
 impl Model for ProductWork {
-    ghost use Rattle.std.specs.Prelude.{◌≡◌, ◌*◌, vec_len};
+    ghost use Rattle.std.specs.Prelude.{◌≡◌, ◌*◌, vec_len, IsTrue};
     ghost use Rattle.dsp_defs.specs.Matrix.{transposed};
     ghost use Rattle.dsp_defs.specs.Signal.{values};
-    ghost use Rattle.dsp_matrix.specs.Matrices.{ProductState};
+    ghost use Rattle.dsp_matrix.specs.Matrices.{IsPaired, ProductState};
 
     ghost Value = { ProductState };
 
     ghost view = { λ p. record { rows = p.rows; columns = p.columns; given = p.given; matrix = p.matrix.items } };
 
-    ghost invariant = { λ p. p.turned.items ≡ values (p.columns * p.given) (transposed p.columns p.given p.matrix.items) };
+    ghost invariant = { λ p. (p.turned.items ≡ values (p.columns * p.given) (transposed p.columns p.given p.matrix.items)) × (IsTrue p.paired → IsPaired p.rows p.columns p.given p.matrix.items) };
 }
 
 impl ProductWork {
@@ -52,12 +54,19 @@ impl ProductWork {
             usize::from(given),
             &mut turned,
         );
+        let paired = are_paired(
+            usize::from(rows),
+            usize::from(columns),
+            usize::from(given),
+            &turned,
+        );
         Ok(ProductWork {
             rows,
             columns,
             given,
             matrix,
             turned,
+            paired,
         })
     }
 }
@@ -98,14 +107,12 @@ impl GroupWork<i16> for ProductWork {
     }
 
     fn transform<L: Ledger>(&self, samples: &[i16], out: &mut [i16], steps: &mut Steps<L>) {
-        multiply::<i16, ByColumns, L>(
-            samples,
-            &self.turned,
-            usize::from(self.rows),
-            usize::from(self.columns),
-            usize::from(self.given),
-            out,
-            steps,
-        )
+        let rows = usize::from(self.rows);
+        let columns = usize::from(self.columns);
+        let given = usize::from(self.given);
+        if self.paired {
+            return multiply_in_pairs(samples, &self.matrix, rows, columns, given, out, steps);
+        }
+        multiply::<i16, ByColumns, L>(samples, &self.turned, rows, columns, given, out, steps)
     }
 }

@@ -1,7 +1,8 @@
 -- Extremes of signals that go on.
-use Rattle.std.proofs.Common.{◌≡◌, ◌∙◌, ap, refl, sym, ℕ, zero, suc, ◌+◌, ◌<◌, ℤ, pos, negsuc, List, [], ◌∷◌, ◌++◌, length, arith, Bool, true, false, int_lt, if◌then◌else◌, Option, Some, None, ◌≤ℤ◌, ◌<ℤ◌, replicate, rules, subst}
+use Rattle.std.proofs.Common.{◌≡◌, ◌∙◌, ap, refl, sym, ℕ, zero, suc, ◌+◌, ◌<◌, ℤ, pos, negsuc, List, [], ◌∷◌, ◌++◌, length, arith, Bool, true, false, ◌||◌, int_lt, if◌then◌else◌, Option, Some, None, ◌≤ℤ◌, ◌<ℤ◌, replicate, rules, subst, append_assoc}
 use Rattle.std.specs.Prelude.{FitsSigned}
 use Rattle.std.proofs.lemmas.Bool.Decides.{nat_tests}
+use Rattle.std.proofs.lemmas.List.{append-nil}
 use Rattle.dsp_defs.specs.Formats.{word}
 use Rattle.dsp_defs.specs.Measure.{better_of, maximum, minimum}
 use Rattle.dsp_defs.specs.Numbers.{w32}
@@ -63,6 +64,19 @@ extreme-more least (x ∷ xs) v = ap (λ b. Some (better_of (wins least) x b)) (
     by : (found : Option (ℤ × ℕ)) → extreme least xs ≡ found → better_of (wins least) x (Some (better_behind least found v (length xs))) ≡ better_behind least (Some (better_of (wins least) x found)) v (suc (length xs))
     by None e = ap (λ k. better_of (wins least) x (Some (v, k))) (none-found least xs e) ∙ ap (λ (k : ℕ). if wins least v x then (v, suc k) else (x, 0)) (sym (none-found least xs e))
     by (Some best) e = both-ends least x v best (length xs) (wins least v best.0) (wins least best.0 x) (wins least v x) refl refl refl ∙ ap (λ k. better_behind least (Some (better_of (wins least) x (Some best))) v k) (let next : length xs + 1 ≡ suc (length xs) = omega arith in next)
+
+-- neither of two
+pub neither : (a b : Bool) → (a || b) ≡ false → (a ≡ false) × (b ≡ false)
+neither true b e = (let never : true ≡ false = e in (cc, cc))
+neither false b e = (refl, e)
+
+-- where none of further samples wins, the best one stays
+pub extreme-kept : (least : Bool) (x y : List ℤ) (best : ℤ × ℕ) → extreme least x ≡ Some best → ((n : ℕ) → n < length y → wins least (sample y n) best.0 ≡ false) → extreme least (x ++ y) ≡ Some best
+extreme-kept least x [] best is none = ap (extreme least) (append-nil x) ∙ is
+extreme-kept least x (v ∷ y) best is none =
+    let here : extreme least (x ++ (v ∷ [])) ≡ Some best =
+    extreme-more least x v ∙ ap (λ found. Some (better_behind least found v (length x))) is ∙ ap (λ won. Some (if won then (v, length x) else best)) (none 0 (omega arith)) in
+    ap (extreme least) (sym (append_assoc x (v ∷ []) y)) ∙ extreme-kept least (x ++ (v ∷ [])) y best here (λ n below. none (suc n) (omega (arith, below)))
 
 -- what is found stays a number of the format, with an index below the count
 pub found-more : (format : Fmt) (least : Bool) (found : Option (ℤ × ℕ)) (count m : ℕ) (v : ℤ) → m ≡ count + 1 → IsFound format found count → FitsSigned (word format) v → IsFound format (Some (better_behind least found v count)) m

@@ -11,8 +11,20 @@ use Rattle.dsp_defs.specs.Numbers.{Width, wrap}
 use Rattle.dsp_defs.specs.Signal.{sample, sum_below, values}
 use Rattle.dsp_defs.specs.declared.format.Fmt.{Fmt}
 use Rattle.dsp_defs.proofs.Signal.{sum_below_cong, sample-append, values_cong, values-add}
+use Rattle.dsp_defs.proofs.SumLemmas.{same_numbers}
+use Rattle.dsp_stage.specs.Channels.{samples_in}
 use Rattle.dsp_stage.proofs.ChannelFrames.{length-samples_in, sample-values}
 use Rattle.dsp_measure.specs.Sums.{with_products, with_complex, parts_in, complex_sums}
+
+-- the only channel is the frames
+pub one-channel : (xs : List ℤ) → samples_in 1 (length xs / 1) xs 0 ≡ xs
+one-channel xs =
+    let count : length xs / 1 ≡ length xs = omega arith in
+    let long = length-samples_in 1 (length xs / 1) xs 0 in
+    same_numbers (samples_in 1 (length xs / 1) xs 0) xs (long ∙ count)
+    (λ i below.
+    let here : i * 1 + 0 ≡ i = omega arith in
+    sample-values (length xs / 1) (λ k. sample xs (k * 1 + 0)) i (omega (arith, below, long)) ∙ ap (sample xs) here)
 
 -- a wrapped sum, and the first n of these terms more
 abbrev pub sum_with : Width → ℤ → ℕ → (ℕ → ℤ) → ℤ

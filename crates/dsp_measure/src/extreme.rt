@@ -1,6 +1,6 @@
-ghost use Rattle.std.specs.Prelude.{◌≡◌, ◌+◌, ◌++◌, ◌<◌, ℕ, ℤ, List, length};
+ghost use Rattle.std.specs.Prelude.{◌≡◌, ◌+◌, ◌++◌, ◌<◌, ℕ, ℤ, List, length, IsFalse};
 ghost use Rattle.dsp_defs.specs.Signal.{sample};
-ghost use Rattle.dsp_measure.specs.Extremes.{better_behind, extreme, IsFew, IsFound};
+ghost use Rattle.dsp_measure.specs.Extremes.{better_behind, extreme, wins, IsFew, IsFound};
 
 use crate::extreme_numbers::{place_extreme, read_extreme, write_extreme};
 use crate::{Greatest, Least, MeasureSample, Order};
@@ -22,6 +22,18 @@ fn better<O: Order>(found: Option<(i32, u64)>, value: i32, index: u64) -> (i32, 
     }
 }
 
+/// Whether one of the samples wins, where `at` gives the sample of each place.
+fn any_wins<T: MeasureSample, O: Order, F: Fn(usize) -> T>(best: i32, more: usize, at: &F) -> bool
+    requires { (n : ℕ) → n < more → F.pre at.now n }
+    ensures { (y : List ℤ) → length y ≡ more → ((n : ℕ) (s : _) → n < more → F.post at.now n s → T.number s ≡ sample y n) → IsFalse result → (n : ℕ) → n < more → IsFalse (wins O.least (sample y n) best) }
+{
+    let mut any = false;
+    for n in 0..more {
+        any |= O::wins(at(n).number(), best);
+    }
+    any
+}
+
 /// The best of a signal that goes on by `more` samples, where `at` gives the sample of each place.
 fn best_of<T: MeasureSample, O: Order, F: Fn(usize) -> T>(
     found: Option<(i32, u64)>,
@@ -35,6 +47,12 @@ fn best_of<T: MeasureSample, O: Order, F: Fn(usize) -> T>(
     ensures stands { (x y : List ℤ) → found ≡ extreme O.least x → count ≡ length x → length y ≡ more → ((n : ℕ) (s : _) → n < more → F.post at n s → T.number s ≡ sample y n) → result ≡ extreme O.least (x ++ y) }
     ensures found { IsFound T.format result (count + more) }
 {
+    // Few blocks have a sample that wins, and lanes tell which.
+    if let Some(best) = found
+        && !any_wins::<T, O, F>(best.0, more, &at)
+    {
+        return found;
+    }
     let mut best = found;
     for n in 0..more {
         let value = at(n).number();
@@ -100,6 +118,22 @@ impl<T: MeasureSample, O: Order> Extreme<T, O> {
         self.count += samples.len() as u64;
     }
 
+    /// Takes the next frames, which are of one channel.
+    fn put_frames(&mut self, frames: &[i32])
+        requires in_format { All (FitsSigned (word T.format)) frames.now }
+        requires few { IsFew (self.old.count + length frames.now) }
+        ensures stands { (x : List ℤ) → self.old ≡ extreme_of O.least x → self.new ≡ extreme_of O.least (x ++ frames.now) }
+        ensures count { self.new.count ≡ self.old.count + length frames.now }
+    {
+        let at = |n: usize| -> T
+            requires inside { n < length frames.now }
+            requires in_format { All (FitsSigned (word T.format)) frames.now }
+            ensures { T.number result ≡ sample frames.entry.now n }
+        { T::of_number(frames[n]) };
+        self.found = best_of::<T, O, _>(self.found, self.count, frames.len(), at);
+        self.count += frames.len() as u64;
+    }
+
     /// Takes one channel of the next frames.
     pub(crate) fn put_channel(&mut self, frames: &[i32], channels: usize, channel: usize)
         requires inside { channel < channels }
@@ -108,6 +142,10 @@ impl<T: MeasureSample, O: Order> Extreme<T, O> {
         ensures stands { (x : List ℤ) → self.old ≡ extreme_of O.least x → self.new ≡ extreme_of O.least (x ++ samples_in channels (length frames.now / channels) frames.now channel) }
         ensures count { self.new.count ≡ self.old.count + length frames.now / channels }
     {
+        if channels == 1 {
+            self.put_frames(frames);
+            return;
+        }
         let at = |n: usize| -> T
             requires inside { n * channels + channel < length frames.now }
             requires in_format { All (FitsSigned (word T.format)) frames.now }

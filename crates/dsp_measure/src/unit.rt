@@ -47,9 +47,7 @@ fn zeros(alloc: Global, count: usize) -> Result<Vec<i64>, AllocError>
     ensures { IfOk result (λ v. v.items ≡ replicate count (pos 0)) }
 {
     let mut numbers = Vec::with_capacity(alloc, count)?;
-    for _ in 0..count {
-        numbers.push(0)?;
-    }
+    numbers.resize(count, 0)?;
     Ok(numbers)
 }
 

@@ -1,5 +1,5 @@
 -- The values of a decimator, over the window of its past and a block.
-use Rattle.std.proofs.Common.{◌≡◌, ◌∙◌, ap, ap₂, sym, ℕ, suc, ◌+◌, ◌-◌, ◌*◌, ◌/◌, ◌%◌, ◌<◌, ◌≤◌, ℤ, pos, ◌*ℤ◌, List, ◌++◌, length, map, reverse, slice_range, arith, length-append, ⊎_elim}
+use Rattle.std.proofs.Common.{◌≡◌, ◌∙◌, ap, ap₂, sym, ℕ, suc, ◌+◌, ◌-◌, ◌*◌, ◌/◌, ◌%◌, ◌<◌, ◌≤◌, ℤ, pos, ◌*ℤ◌, List, ◌++◌, length, map, reverse, arith, length-append, ⊎_elim}
 use Rattle.std.proofs.lemmas.Bool.{cases_lt}
 use Rattle.std.proofs.lemmas.List.{get_or-reverse, length-reverse, length-map, same_from_push}
 use Rattle.std.proofs.lemmas.Grind.{div_ceil_times}
@@ -7,16 +7,13 @@ use Rattle.std.specs.Int.{div_ceil}
 use Rattle.std.proofs.lemmas.Nat.{div-mul-add, mod-mul-add, div-add-mod', div_below, mod_below, mul-le}
 use Rattle.dsp_defs.specs.declared.format.Fmt.{Fmt}
 use Rattle.dsp_defs.specs.Counts.{Counts}
-use Rattle.dsp_defs.specs.Formats.{accumulator, close}
-use Rattle.dsp_defs.specs.Numbers.{wrap}
-use Rattle.dsp_defs.proofs.FormatLemmas.{close-wrap}
+use Rattle.dsp_defs.specs.Formats.{close}
 use Rattle.dsp_defs.specs.Signal.{sample, delayed, values, sum_below}
 use Rattle.dsp_defs.specs.Streaming.{Continues, last_of}
 use Rattle.dsp_defs.specs.Sums.{convolution_at, decimate}
 use Rattle.dsp_defs.proofs.Signal.{values_cong, values-add, sum_below_cong, sum_below_reversed, delayed-append, delayed_before, delayed_after}
 use Rattle.dsp_defs.proofs.Streaming.{window_at}
 use Rattle.dsp_lanes.specs.Turns.{RisesWithin}
-use Rattle.dsp_unit.proofs.Slices.{sample-piece}
 use Rattle.dsp_rate.specs.DecimateState.{DecimateState, StandsFor, kept, kept_of, past_length, strided_rows}
 
 -- ---- groups
@@ -136,23 +133,6 @@ kept-stands format d numbers x keeps is =
     let parts = same_from_push d.past (last_of (past_length d.factor (length d.taps)) x) (pos d.phase) (pos (length x % d.factor)) (keeps ∙ is) in
     let last : pos d.phase ≡ pos (length x % d.factor) = parts.1 in
     record { past_is = parts.0; phase_is = cc }
-
--- ---- one value after another
-
--- a value, from the sum over a piece of the window
-pub strided-value :
-    {X : Type 0} → (number : X → ℤ) (format : Fmt) (taps window : List X) (start : ℕ) (total value : ℤ) →
-    total ≡ wrap (accumulator format) (sum_below (length taps) (λ k. sample (map number taps) k *ℤ sample (map number (slice_range window start (start + length taps))) k)) →
-    value ≡ close format total →
-    value ≡ close format (sum_below (length (map number taps)) (λ j. sample (map number taps) j *ℤ sample (map number window) (start + j)))
-strided-value number format taps window start total value summed closed =
-    let products : ℕ → ℤ = λ j. sample (map number taps) j *ℤ sample (map number window) (start + j) in
-    closed
-    ∙ ap (close format) summed
-    ∙ close-wrap format _
-    ∙ ap (close format)
-    (sum_below_cong (length taps) _ products (λ k h. ap (λ v. sample (map number taps) k *ℤ v) (sample-piece number window start (length taps) k h))
-    ∙ ap (λ n. sum_below n products) (sym (length-map taps number)))
 
 -- one more value is counted
 pub value-counted : (a b c : Counts) (i m p q : ℕ) → m ≡ i + 1 → RisesWithin a b (i * p) (i * q) → RisesWithin b c p q → RisesWithin a c (m * p) (m * q)

@@ -1,6 +1,5 @@
-use crate::strided_rows::strided_rows;
 use dsp_defs::{MAX_TAPS, MakeFault, Steps};
-use dsp_lanes::LaneSample;
+use dsp_lanes::{LaneSample, Lanes};
 use dsp_sat::WideSample;
 use dsp_unit::{check_block, check_taps};
 use dsp_window::Window;
@@ -110,7 +109,7 @@ impl<T: LaneSample<L> + WideSample, const L: usize> Decimate<T, L> {
         let first = self.factor - 1 - self.phase;
         self.window.push_block(input);
         let output = &mut output[..count];
-        strided_rows::<T, L, M>(
+        Lanes::<T, L>::strided_rows(
             &self.taps,
             self.window.slice(),
             first,

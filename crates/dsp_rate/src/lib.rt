@@ -6,7 +6,6 @@ mod decimate;
 mod interpolate;
 mod interpolate_channel;
 mod phases;
-mod strided_rows;
 mod unit;
 
 pub use channel::DecimateChannel;

@@ -1,4 +1,4 @@
-use Rattle.std.proofs.Common.{◌≡◌, ◌∙◌, ap, sym, ℕ, ◌+◌, ◌-◌, ◌*◌, max, length, map, arith}
+use Rattle.std.proofs.Common.{◌≡◌, ◌∙◌, ap, sym, ℕ, ◌+◌, ◌-◌, ◌*◌, ◌≤◌, max, length, map, arith}
 use Rattle.std.proofs.lemmas.List.{length-map}
 use Rattle.dsp_defs.specs.Formats.{close}
 use Rattle.dsp_defs.specs.Signal.{values}
@@ -26,7 +26,7 @@ returns-clause-steps g c =
     let products = ap (correlation_products n t) all ∙ all-products n t c.requires.a in
     let rise = c.correlation_values.ensures.steps in
     let multiplies : c.correlation_values.new.steps.multiplies ≡ n * t + c.args.steps.now.multiplies = omega (arith, rise.multiplies, products) in
-    let turns : c.correlation_values.new.steps.turns ≡ n * t + c.args.steps.now.turns = omega (arith, rise.turns, products) in
+    let turns : c.correlation_values.new.steps.turns ≤ n * t + c.args.steps.now.turns = omega (arith, rise.turns, products) in
     record {
       multiplies_rise = omega (arith, multiplies);
       multiplies_most = omega (arith, multiplies);

@@ -1,21 +1,8 @@
-use Rattle.std.proofs.Common.{◌≡◌, ◌+◌, ◌*◌, length, map, arith}
-use Rattle.dsp_defs.specs.Formats.{close}
-use Rattle.dsp_defs.specs.Sums.{convolution_at}
-use Rattle.dsp_conv.proofs.SliceSums.{written-more}
+use Rattle.std.proofs.Common.{◌∙◌, length, map}
+use Rattle.dsp_conv.proofs.Stretches.{swapped}
 use Rattle.dsp_conv.proofs.sums.convolution_values.Goals as goal
 
-pub loop-i-preserved : goal.loop-i-preserved
-loop-i-preserved g c =
+pub returns-then-a-b-clause-values : goal.returns-then-a-b-clause-values
+returns-then-a-b-clause-values g c =
     let T = g.T.Sample in
-    let i = c.loop-i.i in
-    let most : (i + 1) * length c.args.b.now ≡ i * length c.args.b.now + length c.args.b.now = omega arith in
-    let so_far = c.loop-i.invariant.steps in
-    let one = c.convolution_value.ensures.steps in
-    record {
-      values = written-more T.number c.loop-i.out i c.convolution_value.result (λ k. close T.format (convolution_at (map T.number c.args.b.now) (map T.number c.args.a.now) (c.args.first + k))) (omega arith) c.loop-i.invariant.values c.convolution_value.ensures.value;
-      steps = record {
-        multiplies_rise = omega (arith, so_far, one);
-        multiplies_most = omega (arith, so_far, one, most);
-        turns_most = omega (arith, so_far, one, most);
-      };
-    }
+    c.convolution_by_taps.ensures.values ∙ swapped T.format (map T.number c.args.a.now) (map T.number c.args.b.now) c.args.first (length c.args.out.now)

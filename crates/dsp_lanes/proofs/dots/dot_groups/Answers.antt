@@ -1,11 +1,10 @@
-use Rattle.std.proofs.Common.{◌+◌, ◌∙◌, ap, sym, refl, arith, length, map, ◌+ℤ◌, ◌*ℤ◌}
-use Rattle.std.proofs.lemmas.Int.{int_wrap-add_left}
-use Rattle.dsp_defs.specs.Numbers.{wrap}
+use Rattle.std.proofs.Common.{◌≡◌, ◌+◌, ◌∙◌, ap, subst, refl, arith, length, map, ◌+ℤ◌, ◌*ℤ◌}
+use Rattle.dsp_defs.specs.Numbers.{wrap, Width}
 use Rattle.dsp_defs.specs.Formats.{accumulator}
 use Rattle.dsp_defs.specs.Signal.{sample, sum_below}
 use Rattle.dsp_defs.proofs.SumLemmas.{sample-map}
 use Rattle.dsp_defs.proofs.SumLemmas.{wrapped_sum-more}
-use Rattle.dsp_lanes.proofs.LaneRows.{sum_below-add}
+use Rattle.dsp_lanes.proofs.DotSums.{group-more}
 use Rattle.dsp_lanes.proofs.Groups.{counted_group, counted_one, counted_all, one_group, one_product}
 use Rattle.dsp_lanes.specs.Turns.{lane_turns}
 use Rattle.dsp_lanes.proofs.dots.dot_groups.Goals as goal
@@ -23,21 +22,15 @@ groups-preserved g c =
     let T = g.T.Sample in
     let F = g.F.DotForm in
     let at = c.groups.at in
-    let w = accumulator T.format in
     let taps = map T.number c.args.taps.now in
     let window = map T.number c.args.window.now in
     let next = sum_below F.size (λ k. sample taps (at + k) *ℤ sample window (at + k)) in
-    let before = sum_below at (λ k. sample taps k *ℤ sample window k) in
+    let sums = c.add_products-sums in
+    let summed = subst (λ (w : Width). wrap w (F.value sums.result) ≡ wrap w (F.value c.groups.sums +ℤ next)) c.requires.width sums.ensures.sums in
     record {
       within = omega arith;
-      fit = c.add_products-sums.ensures.fit;
-      done =
-          c.add_products-sums.ensures.sums
-          ∙ sym (int_wrap-add_left w (F.value c.groups.sums) next)
-          ∙ ap (λ z. wrap w (z +ℤ next)) c.groups.invariant.done
-          ∙ int_wrap-add_left w before next
-          ∙ ap (wrap w) (sum_below-add at F.size (λ k. sample taps k *ℤ sample window k))
-          ∙ ap (λ n. wrap w (sum_below (at + n) (λ k. sample taps k *ℤ sample window k))) (sym c.size-size.ensures);
+      fit = sums.ensures.fit;
+      done = group-more (accumulator T.format) at F.size _ taps window _ _ (ap (λ k. at + k) c.size-size.ensures) summed c.groups.invariant.done;
       counted = counted_group _ _ _ 1 c.size-size.result at c.groups.invariant.counted (one_group _ _ c.size-size.result c.count.ensures);
     }
 
@@ -45,7 +38,7 @@ pub rest-init : goal.rest-init
 rest-init g c = record {
   within = omega arith;
   started = omega arith;
-  done = c.total-sum.ensures ∙ c.groups.invariant.done;
+  done = c.total-sum.ensures ∙ ap (λ (w : Width). wrap w (g.F.DotForm.value c.groups.sums)) c.requires.width ∙ c.groups.invariant.done;
   counted = record { multiplies_rise = omega arith; turns_rise = omega arith };
 }
 

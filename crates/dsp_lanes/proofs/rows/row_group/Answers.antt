@@ -1,4 +1,4 @@
-use Rattle.std.proofs.Common.{ℤ, ◌≡◌, ◌+◌, ◌∙◌, ap, refl, arith, length, map, ◌+ℤ◌, ◌*ℤ◌}
+use Rattle.std.proofs.Common.{ℕ, subst, ℤ, ◌≡◌, ◌+◌, ◌∙◌, ap, refl, arith, length, map, ◌+ℤ◌, ◌*ℤ◌}
 use Rattle.std.proofs.lemmas.List.{length-map}
 use Rattle.std.proofs.lemmas.Simd.{map-map}
 use Rattle.std.specs.Int.{int_wrap}
@@ -46,6 +46,22 @@ pairs-preserved g c =
           ∙ row_lanes-more w at F.size (j + 1) (j + 2) taps window (sample taps (j + 1)) (omega arith) refl (omega (arith, long, within));
       counted = (h.counted.0 + 1, omega (arith, h.counted.1), record { multiplies_rise = omega (arith, before, more); turns_rise = omega (arith, before, more) });
     }
+
+pub close-requires-clause-fit : goal.close-requires-clause-fit
+close-requires-clause-fit g c =
+    let F = g.F.RowForm in
+    let n = length c.args.taps.now in
+    let j = c.pairs.j in
+    let h = c.pairs.invariant in
+    let fit : F.AreSums c.if-j-taps.sums n = (elim c.if-j-taps.branch [
+      | then-j-taps b ↦
+          let last : j + 1 ≡ n = omega (arith, b.if-j-taps, c.pairs-test.false) in
+          subst (λ (m : ℕ). F.AreSums c.if-j-taps.sums m) last (rw b.sums-is b.add_tap-sums.ensures.fit)
+      | else-j-taps b ↦
+          let all : j ≡ n = omega (arith, b.if-j-taps, h.within) in
+          subst (λ (m : ℕ). F.AreSums c.if-j-taps.sums m) all (rw b.sums-is h.fit)
+    ]) in
+    (n, fit)
 
 pub returns-clause-out : goal.returns-clause-out
 returns-clause-out g c =

@@ -1,8 +1,8 @@
-use Rattle.std.proofs.Common.{◌≡◌, ◌∙◌, ap, refl, sym, arith, ◌+◌, ◌*◌, ◌++◌, ◌∷◌, [], take, length, map, length-take-le}
+use Rattle.std.proofs.Common.{◌≡◌, ◌∙◌, refl, sym, arith, take, length, map, length-take-le}
 use Rattle.std.specs.List.{zip}
 use Rattle.std.proofs.lemmas.List.{take_all, length-map}
 use Rattle.dsp_stage.proofs.GoingOn.{rest-stays}
-use Rattle.dsp_lattice.proofs.Sections.{no-section, one-section-more, read-more, written-more}
+use Rattle.dsp_lattice.proofs.Sections.{one-section-more, read-more, written-more}
 use Rattle.dsp_lattice.proofs.fir_sections.run_sections.Goals as goal
 
 pub loop-m-preserved : goal.loop-m-preserved

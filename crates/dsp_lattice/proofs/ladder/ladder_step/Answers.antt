@@ -1,4 +1,4 @@
-use Rattle.std.proofs.Common.{◌≡◌, ◌≢◌, ◌∙◌, ap, refl, sym, subst, ℕ, ℤ, List, ◌<◌, ◌≤◌, ◌+◌, ◌*◌, ◌+ℤ◌, ◌-ℤ◌, ◌*ℤ◌, length, map, take, drop, set, arith}
+use Rattle.std.proofs.Common.{◌≡◌, ◌≢◌, ◌∙◌, ap, refl, sym, subst, ℕ, ℤ, List, ◌<◌, ◌+◌, ◌+ℤ◌, ◌-ℤ◌, ◌*ℤ◌, length, map, drop, set, arith}
 use Rattle.std.specs.Prelude.{FitsSigned, All}
 use Rattle.std.proofs.lemmas.List.{map-set, length-map, length-set, drop-set-lt, drop-drop}
 use Rattle.dsp_defs.specs.Numbers.{saturate, wrap}

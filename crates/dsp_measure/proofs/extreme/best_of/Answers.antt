@@ -1,9 +1,9 @@
-use Rattle.std.proofs.Common.{◌≡◌, ◌∙◌, ap, sym, subst, rules, ◌+◌, ◌++◌, [], ◌∷◌, pos, length, take, Some, arith, length-append, length-take, append_assoc, SFits, to_z-of_z}
+use Rattle.std.proofs.Common.{◌≡◌, ◌∙◌, ap, sym, subst, rules, ◌+◌, ◌++◌, [], ◌∷◌, pos, length, take, Some, false, arith, length-append, length-take, append_assoc, SFits, to_z-of_z}
 use Rattle.std.proofs.lemmas.List.{take_more, take_all}
 use mir.Syntax.{w32}
 use Rattle.dsp_defs.specs.Signal.{sample}
-use Rattle.dsp_measure.specs.Extremes.{better_behind, extreme, IsFound}
-use Rattle.dsp_measure.proofs.ExtremeLaws.{extreme-more, found-more}
+use Rattle.dsp_measure.specs.Extremes.{better_behind, extreme, wins, IsFound}
+use Rattle.dsp_measure.proofs.ExtremeLaws.{extreme-kept, extreme-more, found-more, word-fits}
 use Rattle.dsp_measure.proofs.extreme.best_of.Goals as goal
 
 pub loop-n-preserved : goal.loop-n-preserved
@@ -30,4 +30,15 @@ loop-n-preserved g c =
 
 pub returns-clause-stands : goal.returns-clause-stands
 returns-clause-stands g c = λ x y found counted size is.
+    let none : c.any_wins.result ≡ false = search rules in
+    let least = g.O.Order.least in
+    let format = g.T.Sample.format in
+    let best = c.in-Some.best in
+    let there : Some best ≡ extreme least x = sym c.in-Some.is ∙ found in
+    let held : IsFound format (Some best) c.args.count = subst (λ o. IsFound format o c.args.count) c.in-Some.is c.requires.found in
+    let word = word-fits format best.0 held.0 in
+    sym (extreme-kept least x y best (sym there) (λ n below. ap (wins least (sample y n)) (sym (to_z-of_z word)) ∙ c.any_wins.ensures y size is none n (omega (arith, below, size))))
+
+pub returns-2-clause-stands : goal.returns-2-clause-stands
+returns-2-clause-stands g c = λ x y found counted size is.
     c.loop-n.invariant.stands x y found counted size is ∙ ap (λ l. extreme g.O.Order.least (x ++ l)) (take_all c.loop-n.n y (omega (arith, size, c.loop-n-test.false)))

@@ -11,8 +11,8 @@ returns g c =
     let long_o = length-map c.args.out.now g.T.Sample.number in
     let first = map F.shut (F.lanes c.args.sums.first) in
     let second = map F.shut (F.lanes c.args.sums.second) in
-    let long_1 : length first ≡ F.size = length-map (F.lanes c.args.sums.first) F.shut ∙ c.requires.fit.2 in
-    let long_2 : length second ≡ F.size = length-map (F.lanes c.args.sums.second) F.shut ∙ c.requires.fit.3 in
+    let long_1 : length first ≡ F.size = length-map (F.lanes c.args.sums.first) F.shut ∙ c.requires.fit.1.2 in
+    let long_2 : length second ≡ F.size = length-map (F.lanes c.args.sums.second) F.shut ∙ c.requires.fit.1.3 in
     let room = c.requires.room in
     c.close-2.ensures
     ∙ (λ i. put_chunk ((c.behind.ensures ∙ ap (λ n. c.args.at + n) (sym long_1)) i) (c.close.ensures i) second)

@@ -1,4 +1,4 @@
-use Rattle.std.proofs.Common.{◌≡◌, ◌∙◌, ap, sym, ◌+◌, length, map, drop, reverse, arith, rules}
+use Rattle.std.proofs.Common.{◌≡◌, ◌∙◌, ap, sym, ◌+◌, length, map, drop, reverse, rules}
 use Rattle.std.proofs.lemmas.List.{length-map}
 use Rattle.dsp_defs.specs.Formats.{word}
 use Rattle.dsp_stage.specs.Kept.{IsOfKind}

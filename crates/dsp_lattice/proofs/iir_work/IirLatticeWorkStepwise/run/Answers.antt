@@ -1,4 +1,4 @@
-use Rattle.std.proofs.Common.{◌≡◌, ◌∙◌, ap, sym, [], ◌∷◌, ◌*◌, ◌+◌, ◌-◌, get_or, length, map, take, drop, reverse, arith, rules, length-drop}
+use Rattle.std.proofs.Common.{◌≡◌, ◌∙◌, ap, sym, ◌-◌, get_or, length, map, drop, reverse, arith, rules, length-drop}
 use Rattle.std.proofs.lemmas.List.{take_all, length-map, length-reverse}
 use Rattle.dsp_defs.specs.Lattice.{lattice_iir}
 use Rattle.dsp_stage.specs.Kept.{ladder_kept}

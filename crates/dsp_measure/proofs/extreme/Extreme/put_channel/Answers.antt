@@ -1,9 +1,18 @@
-use Rattle.std.proofs.Common.{◌≡◌, ◌∙◌, ap, sym, ◌/◌, ◌+◌, ◌*◌, ◌++◌, length, arith, length-append}
+use Rattle.std.proofs.Common.{◌≡◌, ◌∙◌, ap, sym, ◌/◌, ◌+◌, ◌*◌, ◌++◌, length, rules, arith, length-append}
 use Rattle.dsp_stage.specs.Channels.{samples_in}
 use Rattle.dsp_defs.specs.Signal.{sample}
 use Rattle.dsp_stage.proofs.ChannelFrames.{length-samples_in, sample-values}
-use Rattle.dsp_measure.specs.Extremes.{ExtremeState, extreme}
+use Rattle.dsp_measure.specs.Extremes.{ExtremeState, extreme, extreme_of}
+use Rattle.dsp_measure.proofs.SumLaws.{one-channel}
 use Rattle.dsp_measure.proofs.extreme.Extreme.put_channel.Goals as goal
+
+pub returns-then-channels-eq1-clause-stands : goal.returns-then-channels-eq1-clause-stands
+returns-then-channels-eq1-clause-stands g c = λ x stood.
+    let frames = c.args.frames.now in
+    let one : c.args.channels ≡ 1 = search rules in
+    let first : c.args.channel ≡ 0 = omega (arith, one, c.requires.inside) in
+    c.put_frames.ensures.stands x stood
+    ∙ ap (λ l. extreme_of g.O.Order.least (x ++ l)) (sym (one-channel frames) ∙ (λ i. samples_in (sym one i) (length frames / sym one i) frames (sym first i)))
 
 pub returns-clause-stands : goal.returns-clause-stands
 returns-clause-stands g c = λ x stood. (

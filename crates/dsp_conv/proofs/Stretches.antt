@@ -1,0 +1,152 @@
+-- Stretches of values: pieces behind one another, and those that are sums over all of the shorter list.
+use Rattle.std.proofs.Common.{◌≡◌, ◌∙◌, ap, ap₂, sym, ℕ, zero, suc, ◌+◌, ◌-◌, ◌*◌, ◌≤◌, ℤ, ◌*ℤ◌, List, ◌++◌, length, map, reverse, pos, take, drop, slice_range, arith}
+use Rattle.std.proofs.Math.IntN.{*ℤ_comm}
+use Rattle.std.proofs.Math.Nat.{mul-le-mul_left}
+use Rattle.std.proofs.lemmas.List.{length-map, length-reverse, map-append, get_or-reverse, get_or_past}
+use Rattle.dsp_defs.specs.Formats.{close, lanes}
+use Rattle.dsp_defs.specs.Signal.{sample, delayed, values, sum_below}
+use Rattle.dsp_defs.specs.Streaming.{rows}
+use Rattle.dsp_defs.specs.Sums.{convolution_at}
+use Rattle.dsp_defs.specs.Cost.{correlation_products}
+use Rattle.dsp_defs.specs.declared.format.Fmt.{Fmt}
+use Rattle.dsp_defs.specs.declared.format.Fmt.TheVariants.{Q7, Q15, Q31}
+use Rattle.dsp_defs.proofs.Signal.{values_cong, values-add, sum_below_cong, sum_below_reversed, delayed_before, delayed_after}
+use Rattle.dsp_lanes.specs.Turns.{lane_turns}
+use Rattle.dsp_unit.proofs.Slices.{sample-piece}
+use Rattle.dsp_conv.specs.Sums.{convolution_stretch, correlation_at, correlation_stretch, correlation_terms}
+use Rattle.dsp_conv.proofs.SliceSums.{correlation-part, correlation-more, part-sum, piece, times-zero, zero-times}
+
+-- ---- pieces behind one another
+
+stretch-add : (f : ℕ → ℤ) (first p q : ℕ) → values (p + q) (λ i. f (first + i)) ≡ values p (λ i. f (first + i)) ++ values q (λ i. f (first + p + i))
+stretch-add f first p q =
+    values-add p q (λ i. f (first + i))
+    ∙ ap (λ l. values p (λ i. f (first + i)) ++ l) (values_cong q _ _ (λ i _. let place : first + (p + i) ≡ first + p + i = omega arith in ap f place))
+
+-- three pieces that were written
+pub three-written :
+    {X : Type 0} (number : X → ℤ) (f : ℕ → ℤ) (first p q r n : ℕ) (before inside behind : List X) → n ≡ p + (q + r) →
+    map number before ≡ values p (λ i. f (first + i)) → map number inside ≡ values q (λ i. f (first + p + i)) → map number behind ≡ values r (λ i. f (first + (p + q) + i)) →
+    map number (before ++ (inside ++ behind)) ≡ values n (λ i. f (first + i))
+three-written number f first p q r n before inside behind whole is_before is_inside is_behind =
+    let place : first + (p + q) ≡ first + p + q = omega arith in
+    map-append number before (inside ++ behind)
+    ∙ ap₂ (λ l m. l ++ m) is_before
+    (map-append number inside behind
+    ∙ ap₂ (λ l m. l ++ m) is_inside (is_behind ∙ ap (λ k. values r (λ i. f (k + i))) place)
+    ∙ sym (stretch-add f (first + p) q r))
+    ∙ sym (stretch-add f first p (q + r))
+    ∙ ap (λ k. values k (λ i. f (first + i))) (sym whole)
+
+-- ---- sums over all of the shorter list
+
+middle-value : (a b : List ℤ) (d : ℕ) → 1 ≤ length b → d + length b ≤ length a → correlation_at b a (length a - 1 + d) ≡ sum_below (length b) (λ k. sample b k *ℤ sample a (d + k))
+middle-value a b d taps inside =
+    let t = length b in
+    let size : d + t - d ≡ t = omega arith in
+    correlation-part a b (length a - 1 + d) d (d + t) 0 (length a) (omega (arith, taps, inside)) taps (omega (arith, inside)) (omega (arith, taps, inside)) (omega (arith, taps, inside)) (omega (arith, taps, inside))
+    ∙ ap (λ m. sum_below m (λ k. sample (take m (drop d a)) k *ℤ sample (take m (drop 0 b)) k)) size
+    ∙ sum_below_cong t _ _
+    (λ j below.
+    let place : 0 + j ≡ j = omega arith in
+    ap₂ (λ p q. p *ℤ q) (piece a d t j below) (piece b 0 t j below ∙ ap (sample b) place) ∙ *ℤ_comm (sample a (d + j)) (sample b j))
+
+pub middle-stretch :
+    {X : Type 0} (format : Fmt) (number : X → ℤ) (xs : List X) (b : List ℤ) (first count start end : ℕ) → 1 ≤ length b → 1 ≤ count → length xs ≤ first + 1 → first + count + length b ≤ 2 * length xs →
+    start ≡ first - (length xs - 1) → end ≡ start + (count - 1) + length b →
+    rows format b (map number (slice_range xs start end)) count ≡ correlation_stretch format b (map number xs) first count
+middle-stretch format number xs b first count start end taps some from inside is_start is_end =
+    let t = length b in
+    let long : length (map number xs) ≡ length xs = length-map xs number in
+    values_cong count _ _
+    (λ i below.
+    let place : length (map number xs) - 1 + (start + i) ≡ first + i = omega (arith, long, from, is_start, taps, inside) in
+    ap (close format)
+    (sum_below_cong t _ _
+    (λ j under.
+    let whole : end ≡ start + (count - 1 + t) = omega (arith, is_end) in
+    let moved : start + (i + j) ≡ start + i + j = omega arith in
+    ap (λ z. sample b j *ℤ z)
+    (ap (λ e. sample (map number (slice_range xs start e)) (i + j)) whole
+    ∙ sample-piece number xs start (count - 1 + t) (i + j) (omega (arith, below, under, some))
+    ∙ ap (sample (map number xs)) moved))
+    ∙ sym (middle-value (map number xs) b (start + i) taps (omega (arith, long, below, some, from, inside, is_start)))
+    ∙ ap (correlation_at b (map number xs)) place))
+
+-- each has a product for each of its samples
+pub middle-products : (n t first count : ℕ) → 1 ≤ n → 1 ≤ t → n ≤ first + 1 → first + count + t ≤ 2 * n → correlation_products n t (first + count) ≡ correlation_products n t first + t * count
+middle-products n t first zero some taps from inside = (let same : first + 0 ≡ first = omega arith in ap (correlation_products n t) same ∙ omega arith)
+middle-products n t first (suc c) some taps from inside =
+    let next : first + suc c ≡ first + (c + 1) = omega arith in
+    let more = correlation-more n t first c in
+    let terms : correlation_terms n t (first + c) ≡ t = omega (arith, some, taps, from, inside) in
+    let before = middle-products n t first c some taps from (omega (arith, inside)) in
+    ap (correlation_products n t) next ∙ omega (arith, more, terms, before)
+
+-- the same of the full convolution, which reads one list from its end
+convolution-value : (a b : List ℤ) (n : ℕ) → 1 ≤ length b → length b ≤ n + 1 → convolution_at b a n ≡ sum_below (length b) (λ j. sample (reverse b) j *ℤ sample a (n + 1 - length b + j))
+convolution-value a b n taps inside =
+    let t = length b in
+    sum_below_reversed t (λ k. sample b k *ℤ delayed a n k) (λ j. sample (reverse b) j *ℤ sample a (n + 1 - t + j))
+    (λ j below.
+    let place : n + 1 - t + j ≡ n - (t - suc j) = omega (arith, below, inside) in
+    let other : t - 1 - j ≡ t - suc j = omega arith in
+    ap₂ (λ p q. p *ℤ q) (get_or-reverse b j (pos 0) (omega (arith, below)) ∙ ap (sample b) other)
+    (ap (sample a) place ∙ sym (delayed_after a n (t - suc j) (omega (arith, below, inside)))))
+
+pub convolution-middle :
+    {X : Type 0} (format : Fmt) (number : X → ℤ) (xs : List X) (b : List ℤ) (first count start end : ℕ) → 1 ≤ length b → length b ≤ first + 1 →
+    start ≡ first - (length b - 1) → end ≡ first + count →
+    rows format (reverse b) (map number (slice_range xs start end)) count ≡ convolution_stretch format b (map number xs) first count
+convolution-middle format number xs b first count start end taps from is_start is_end =
+    let t = length b in
+    let long : length (reverse b) ≡ t = length-reverse b in
+    let whole : end ≡ start + (count + t - 1) = omega (arith, taps, from, is_start, is_end) in
+    values_cong count _ _
+    (λ i below.
+    ap (close format)
+    (ap (λ m. sum_below m (λ j. sample (reverse b) j *ℤ sample (map number (slice_range xs start end)) (i + j))) long
+    ∙ sum_below_cong t _ _
+    (λ j under.
+    let moved : start + (i + j) ≡ first + i + 1 - t + j = omega (arith, taps, from, is_start) in
+    ap (λ z. sample (reverse b) j *ℤ z)
+    (ap (λ e. sample (map number (slice_range xs start e)) (i + j)) whole
+    ∙ sample-piece number xs start (count + t - 1) (i + j) (omega (arith, below, under, taps))
+    ∙ ap (sample (map number xs)) moved))
+    ∙ sym (convolution-value (map number xs) b (first + i) taps (omega (arith, from)))))
+
+-- lanes take no more turns than there are products
+pub lanes-within : (format : Fmt) (n : ℕ) → lane_turns (lanes format) n ≤ n
+lanes-within Q7 n = omega arith
+lanes-within Q15 n = omega arith
+lanes-within Q31 n = omega arith
+
+pub turns-within : (format : Fmt) (t n : ℕ) → t * lane_turns (lanes format) n ≤ t * n
+turns-within format t n = mul-le-mul_left t (lanes-within format n)
+
+-- ---- the other way round
+
+-- all products whose samples can be there
+all-terms : (a b : List ℤ) (n : ℕ) → convolution_at b a n ≡ sum_below (n + 1) (λ k. sample b k *ℤ sample a (n - k))
+all-terms a b n =
+    let t = length b in
+    let f : ℕ → ℤ = λ k. sample b k *ℤ delayed a n k in
+    let from : (k : ℕ) → f (0 + k) ≡ f k = λ k. let same : 0 + k ≡ k = omega arith in ap f same in
+    sum_below_cong t _ _ (λ k _. sym (from k))
+    ∙ sym (part-sum (t + (n + 1)) 0 t f (omega arith) (λ k below. absurd (omega (arith, below))) (λ k past _. zero-times (sample b k) (delayed a n k) (get_or_past b k (pos 0) (omega (arith, past)))))
+    ∙ part-sum (t + (n + 1)) 0 (n + 1) f (omega arith) (λ k below. absurd (omega (arith, below))) (λ k past _. times-zero (sample b k) (delayed a n k) (delayed_before a n k (omega (arith, past))))
+    ∙ sum_below_cong (n + 1) _ _ (λ k below. from k ∙ ap (λ z. sample b k *ℤ z) (delayed_after a n k (omega (arith, below))))
+
+swapped-at : (a b : List ℤ) (n : ℕ) → convolution_at b a n ≡ convolution_at a b n
+swapped-at a b n =
+    all-terms a b n
+    ∙ sum_below_reversed (n + 1) (λ k. sample b k *ℤ sample a (n - k)) (λ k. sample a k *ℤ sample b (n - k))
+    (λ k below.
+    let other : n - k ≡ n + 1 - suc k = omega (arith, below) in
+    let back : k ≡ n - (n + 1 - suc k) = omega (arith, below) in
+    *ℤ_comm (sample a k) (sample b (n - k)) ∙ ap₂ (λ p q. sample b p *ℤ sample a q) other back)
+    ∙ sym (all-terms b a n)
+
+-- a convolution is the same with both lists exchanged
+pub swapped : (format : Fmt) (a b : List ℤ) (first count : ℕ) → convolution_stretch format a b first count ≡ convolution_stretch format b a first count
+swapped format a b first count = values_cong count _ _ (λ i _. ap (close format) (sym (swapped-at a b (first + i))))

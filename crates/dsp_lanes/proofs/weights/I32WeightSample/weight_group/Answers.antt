@@ -1,0 +1,22 @@
+use Rattle.std.proofs.Common.{◌∙◌, sym, w32}
+use lib.Lanes.{chunk, zip2}
+use Rattle.dsp_defs.specs.Adaptive.{weight_after}
+use Rattle.dsp_defs.specs.declared.format.Fmt.TheVariants.{Q31}
+use Rattle.dsp_lanes.proofs.LaneClosings.{stored}
+use Rattle.dsp_lanes.proofs.LaneOps.{group_fits, ints_of_bits}
+use Rattle.dsp_lanes.proofs.LaneSums.{map-self}
+use Rattle.dsp_lanes.proofs.WeightLanes.{grown_31_is}
+use Rattle.dsp_lanes.proofs.weights.I32WeightSample.weight_group.Goals as goal
+
+pub returns : goal.returns
+returns c =
+    let at = c.args.at in
+    let window = c.args.window.now in
+    let weights = c.args.weights.now in
+    let high = c.high_words-high in
+    let sums = c.saturating_sum in
+    stored at weights _ _
+    (ints_of_bits w32 sums.result sums.ensures.fit
+    ∙ grown_31_is (chunk at 4 weights) (chunk at 4 window) high.result sums.result c.args.alpha c.ranges.alpha (group_fits w32 at 4 weights c.q31_fit-2.ensures c.requires.room) (group_fits w32 at 4 window c.q31_fit.ensures c.requires.window)
+    high.ensures.fit high.ensures.words sums.ensures.sums
+    ∙ (λ i. zip2 (weight_after Q31 c.args.alpha) (chunk at 4 (sym (map-self weights) i)) (chunk at 4 (sym (map-self window) i))))

@@ -43,7 +43,7 @@ group-is : (group : Option (ℕ × ℕ)) → IfSome group (λ g. 0 < g.0) → Is
 group-is None h = omega arith
 group-is (Some g) h = h
 
-is-rule : (flow : Flow) (b : Block) → Suits flow b → IsRule (rule_of b)
+pub is-rule : (flow : Flow) (b : Block) → Suits flow b → IsRule (rule_of b)
 is-rule flow (Interpolate factor taps) s = omega arith
 is-rule flow (Conv taps) s = s.parameters.0.limit
 is-rule flow (ConvPartial first count taps) s = (omega (arith, s.parameters.1), omega (arith, s.parameters.2.1), s.parameters.2.2.0.limit)

@@ -6,3 +6,5 @@ pub mod Measured
 pub mod FrameRules
 pub mod NewChain
 pub mod Restored
+pub mod KeptRules
+pub mod KeptRows

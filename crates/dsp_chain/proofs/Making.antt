@@ -1,7 +1,5 @@
 -- A chain in the making: the units of the blocks so far.
-use Rattle.std.proofs.Common.{◌≡◌, ◌∙◌, ap, refl, sym, subst, ℕ, ◌+◌, ◌*◌, ◌<◌, ◌≤◌, Bool, ◌&&◌, List, [], ◌∷◌, ◌++◌, length, take, drop, get_or, IsTrue, arith}
-use Rattle.std.specs.List.{list_all}
-use Rattle.std.proofs.lemmas.Bool.Decides.{nat_tests}
+use Rattle.std.proofs.Common.{◌≡◌, ◌∙◌, ap, refl, sym, subst, ℕ, ◌+◌, ◌*◌, ◌<◌, ◌≤◌, List, [], ◌∷◌, ◌++◌, length, take, drop, get_or, arith}
 use Rattle.dsp_stage.specs.Unit.{UnitState, IsNew, most_frames}
 use Rattle.dsp_stage.specs.Row.{Place, place_after, place_behind, blocks_of, InRow, AllNew}
 use Rattle.dsp_stage.proofs.NewRow.{place-more, blocks-more, row-more, new-more}
@@ -12,16 +10,9 @@ use Rattle.std.proofs.lemmas.List.{drop_more}
 use Rattle.std.proofs.lemmas.Nat.{mul-le}
 use Rattle.dsp_defs.specs.declared.limits.TheConstants.{MAX_CHANNELS}
 use Rattle.dsp_defs.specs.Table.{flow_after}
-use Rattle.dsp_chain.specs.Built.{is_built_block}
 use Rattle.dsp_defs.specs.declared.script.Block.{Block}
 
-and_left : (a b : Bool) → IsTrue (a && b) → IsTrue a
-and_left a b h = grind (arith, nat_tests)
-
-and_right : (a b : Bool) → IsTrue (a && b) → IsTrue b
-and_right a b h = grind (arith, nat_tests)
-
--- the blocks so far have new units in their places and end at `here`, and each of those left has its place open and is built
+-- the blocks so far have new units in their places and end at `here`, and each of those left has its place open
 pub record Making (p here : Place) (blocks : List Block) (i : ℕ) (us : List UnitState) : Type 0 where
   pub blocks_so_far : blocks_of us ≡ take i blocks
   pub row : InRow p us
@@ -29,11 +20,10 @@ pub record Making (p here : Place) (blocks : List Block) (i : ℕ) (us : List Un
   pub reached : place_behind p (take i blocks) ≡ here
   pub few_channels : here.channels ≤ MAX_CHANNELS
   pub places : AllOpen here (drop i blocks)
-  pub left : IsTrue (list_all is_built_block (drop i blocks))
 
 -- no unit is made
-pub making-none : (p : Place) (blocks : List Block) → p.channels ≤ MAX_CHANNELS → AllOpen p blocks → IsTrue (list_all is_built_block blocks) → Making p p blocks 0 []
-making-none p blocks few places left = record { blocks_so_far = refl; row = tt; fresh = tt; reached = refl; few_channels = few; places = places; left = left }
+pub making-none : (p : Place) (blocks : List Block) → p.channels ≤ MAX_CHANNELS → AllOpen p blocks → Making p p blocks 0 []
+making-none p blocks few places = record { blocks_so_far = refl; row = tt; fresh = tt; reached = refl; few_channels = few; places = places }
 
 -- one more is
 pub making-more :
@@ -46,14 +36,10 @@ making-more p here next blocks i j us u b first more step is m = record {
   reached = ap (place_behind p) more ∙ place-more p (take i blocks) b ∙ ap (λ q. place_after q b) m.reached ∙ sym step;
   few_channels = subst (λ (q : Place). q.channels ≤ MAX_CHANNELS) (sym step) (few_channels_after (flow_at here) b places.1 m.few_channels);
   places = subst (λ (q : Place). AllOpen q (drop j blocks)) (sym step) places.2;
-  left = and_right (is_built_block b) (list_all is_built_block (drop j blocks)) left;
 }
   where
     places : AllOpen here (b ∷ drop j blocks)
     places = subst (AllOpen here) first m.places
-
-    left : IsTrue (list_all is_built_block (b ∷ drop j blocks))
-    left = subst (λ (bs : List Block). IsTrue (list_all is_built_block bs)) first m.left
 
     behind : place_behind p (blocks_of us) ≡ here
     behind = ap (place_behind p) m.blocks_so_far ∙ m.reached
@@ -72,7 +58,6 @@ making-open p here blocks i us m = open-here here (drop i blocks) m.places
 
 -- what the next block of a chain in the making needs
 pub record Next (here : Place) (b : Block) : Type 0 where
-  pub built : IsTrue (is_built_block b)
   pub suits : Suits (flow_at here) b
   pub open_here : IsOpen here
   pub few_channels : channels_after here.channels b ≤ MAX_CHANNELS
@@ -86,7 +71,6 @@ few-frames p is =
 
 pub making-next : (p here : Place) (blocks : List Block) (i j : ℕ) (us : List UnitState) (b : Block) → drop i blocks ≡ b ∷ drop j blocks → Making p here blocks i us → Next here b
 making-next p here blocks i j us b first m = record {
-  built = and_left (is_built_block b) (list_all is_built_block (drop j blocks)) (subst (λ (bs : List Block). IsTrue (list_all is_built_block bs)) first m.left);
   suits = places.1;
   open_here = places.0;
   few_channels = few_channels_after (flow_at here) b places.1 m.few_channels;

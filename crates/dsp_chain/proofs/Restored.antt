@@ -1,23 +1,76 @@
--- A row whose units keep numbers that they can keep counts the frames.
-use Rattle.std.proofs.Common.{◌≡◌, ◌∙◌, ap₂, refl, sym, subst, ℕ, ℤ, List, [], ◌∷◌, ◌++◌, flat_map}
-use Rattle.dsp_stage.specs.Kept.{Each, IsPlace, kept_kinds}
-use Rattle.dsp_defs.specs.Shape.{live_frames}
-use Rattle.dsp_stage.specs.Unit.{UnitState}
-use Rattle.dsp_stage.specs.Row.{Place, place_after, blocks_of, InRow, AllCount}
-use Rattle.dsp_stage.proofs.ChannelKept.{kinds-place}
-use Rattle.dsp_chain.specs.Restored.{AllRestores}
+-- A row whose units keep numbers that they can keep counts the frames, and stands for each signal that gives the numbers.
+use Rattle.std.proofs.Common.{◌≡◌, ◌∙◌, ap, ap₂, refl, sym, subst, ℕ, zero, suc, ◌+◌, ◌<◌, ◌≤◌, ℤ, List, [], ◌∷◌, ◌++◌, length, arith}
+use Rattle.dsp_defs.specs.Block.{Frame, live}
+use Rattle.dsp_defs.specs.Grammar.{IsChain}
+use Rattle.dsp_defs.specs.Shape.{live_frames, HasChannels}
+use Rattle.dsp_defs.specs.Table.{flow_after}
+use Rattle.dsp_defs.specs.declared.script.Block.{Block}
+use Rattle.dsp_defs.specs.declared.script.Block.TheVariants.{Decimate, MatAdd, MatSub, MatScale, MatTrans, MatMult}
+use Rattle.dsp_defs.specs.declared.flow.Flow.{Flow}
+use Rattle.dsp_defs.proofs.FrameLaws.{length-live}
+use Rattle.dsp_stage.specs.Kept.{Each, IsPlace, IsOfKind, kept_kinds, kept_count, kept_numbers, kept_of_chain}
+use Rattle.dsp_stage.specs.Unit.{UnitState, turns_of}
+use Rattle.dsp_stage.specs.Row.{Place, place_after, blocks_of, InRow, AllCount, AllStand, row_turns}
+use Rattle.dsp_stage.proofs.ChannelKept.{append-apart, each-length, kinds-place}
+use Rattle.dsp_stage.proofs.KeptLaws.{kept_numbers-place}
+use Rattle.dsp_chain.specs.FrameRule.{rule_of, IsRule}
+use Rattle.dsp_chain.specs.KeptRule.{kept_rule, unit_rule, unit_rules, HaveGroups}
+use Rattle.dsp_chain.specs.Restored.{kept_by, FitsBlocks, FitsUnits, AllRestores}
+use Rattle.dsp_chain.proofs.FrameRules.{is-rule}
+
+-- ---- units in their places
+
+pub fits-blocks : (p : Place) (us : List UnitState) (n : ℕ) (numbers : List ℤ) → InRow p us → FitsUnits us n numbers → FitsBlocks p.format p.channels (blocks_of us) n numbers
+fits-blocks p [] n numbers row fits = fits
+fits-blocks p (u ∷ us) n numbers row (here, later, split, fits, rest) =
+    (here, later, split, rw (row.0.format, row.0.channels) at fits, fits-blocks (place_after p u.block) us (live_frames u.block n) later row.1 rest)
+
+pub fits-units : (p : Place) (us : List UnitState) (n : ℕ) (numbers : List ℤ) → InRow p us → FitsBlocks p.format p.channels (blocks_of us) n numbers → FitsUnits us n numbers
+fits-units p [] n numbers row fits = fits
+fits-units p (u ∷ us) n numbers row (here, later, split, fits, rest) =
+    (here, later, split, rw (row.0.format, row.0.channels) fits, fits-units (place_after p u.block) us (live_frames u.block n) later row.1 rest)
+
+-- the rules of units are those of their blocks at their places
+pub same-rules : (p : Place) (us vs : List UnitState) → InRow p us → InRow p vs → blocks_of vs ≡ blocks_of us → unit_rules vs ≡ unit_rules us
+same-rules p [] [] row later blocks = refl
+same-rules p [] (v ∷ vs) row later blocks = absurd (let bad = ap length blocks in omega (arith, bad))
+same-rules p (u ∷ us) [] row later blocks = absurd (let bad = ap length blocks in omega (arith, bad))
+same-rules p (u ∷ us) (v ∷ vs) row later blocks =
+    let block : v.block ≡ u.block = cc blocks in
+    let behind : blocks_of vs ≡ blocks_of us = cc blocks in
+    let format : v.format ≡ u.format = later.0.format ∙ sym row.0.format in
+    let channels : v.channels ≡ u.channels = later.0.channels ∙ sym row.0.channels in
+    let here : unit_rule v ≡ unit_rule u = λ i. kept_rule (kept_count (format i) (channels i) (block i) 0) (channels i) (block i) in
+    let rest : unit_rules vs ≡ unit_rules us = same-rules (place_after p u.block) us vs row.1 (subst (λ b. InRow (place_after p b) vs) block later.1) behind in
+    λ i. here i ∷ rest i
+
+some-group : (fixed channels : ℕ) (b : Block) → IsRule (rule_of b) → 0 < (kept_rule fixed channels b).period
+some-group fixed channels (Decimate factor taps) is = is
+some-group fixed channels (MatAdd rows columns matrix) is = is
+some-group fixed channels (MatSub rows columns matrix) is = is
+some-group fixed channels (MatScale rows columns fract shift) is = is
+some-group fixed channels (MatTrans rows columns) is = is
+some-group fixed channels (MatMult rows columns given matrix) is = is
+some-group fixed channels b is = omega arith
+
+-- each group of a chain has a frame
+pub have-groups : (flow : Flow) (us : List UnitState) → IsChain flow (blocks_of us) → HaveGroups (unit_rules us)
+have-groups flow [] chain = tt
+have-groups flow (u ∷ us) chain = (some-group (kept_count u.format u.channels u.block 0) u.channels u.block (is-rule flow u.block chain.0), have-groups (flow_after u.block flow) us chain.1)
+
+-- ---- units that were restored
 
 -- each unit counts the live frames at its place
-pub restored-counts : (p : Place) (us vs : List UnitState) (n : ℕ) (numbers : List ℤ) → InRow p us → AllRestores p us vs n numbers → AllCount vs n
-restored-counts p [] [] n numbers row restored = tt
-restored-counts p [] (v ∷ vs) n numbers row restored = absurd restored
-restored-counts p (u ∷ us) [] n numbers row restored = absurd restored
-restored-counts p (u ∷ us) (v ∷ vs) n numbers row (here, later, cut, fits, one, rest) =
-    let place : Each IsPlace (kept_kinds u.format u.channels u.block n) here = rw (row.0.format, row.0.channels) (kinds-place _ here fits.1) in
-    (one.counts n place, subst (λ b. AllCount vs (live_frames b n)) (sym one.made.block) (restored-counts (place_after p u.block) us vs (live_frames u.block n) later row.1 rest))
+pub restored-counts : (us vs : List UnitState) (n : ℕ) (numbers : List ℤ) → AllRestores us vs n numbers → AllCount vs n
+restored-counts [] [] n numbers restored = tt
+restored-counts [] (v ∷ vs) n numbers restored = absurd restored
+restored-counts (u ∷ us) [] n numbers restored = absurd restored
+restored-counts (u ∷ us) (v ∷ vs) n numbers (here, later, cut, fits, one, rest) =
+    let place : Each IsPlace (kept_kinds u.format u.channels u.block n) here = kinds-place _ here fits.1 in
+    (one.counts n place, subst (λ b. AllCount vs (live_frames b n)) (sym one.made.block) (restored-counts us vs (live_frames u.block n) later rest))
 
 -- the row keeps the numbers, is in its places and has the same blocks
-pub restored-row : (p : Place) (us vs : List UnitState) (n : ℕ) (numbers : List ℤ) → InRow p us → AllRestores p us vs n numbers → InRow p vs × (blocks_of vs ≡ blocks_of us) × (flat_map (λ (u : UnitState). u.kept) vs ≡ numbers)
+pub restored-row : (p : Place) (us vs : List UnitState) (n : ℕ) (numbers : List ℤ) → InRow p us → AllRestores us vs n numbers → InRow p vs × (blocks_of vs ≡ blocks_of us) × (kept_by vs ≡ numbers)
 restored-row p [] [] n numbers row restored = (tt, refl, sym restored)
 restored-row p [] (v ∷ vs) n numbers row restored = absurd restored
 restored-row p (u ∷ us) [] n numbers row restored = absurd restored
@@ -30,3 +83,34 @@ restored-row p (u ∷ us) (v ∷ vs) n numbers row (here, later, cut, fits, one,
       ap₂ (λ b bs. b ∷ bs) one.made.block behind.1,
       ap₂ {C = List ℤ} (λ xs ys. xs ++ ys) one.kept behind.2 ∙ sym cut,
     )
+
+-- its bound on turns stays
+pub restored-turns : (us vs : List UnitState) (n : ℕ) (numbers : List ℤ) → AllRestores us vs n numbers → (from to : ℕ) → row_turns vs from to ≡ row_turns us from to
+restored-turns [] [] n numbers restored from to = refl
+restored-turns [] (v ∷ vs) n numbers restored from to = absurd restored
+restored-turns (u ∷ us) [] n numbers restored from to = absurd restored
+restored-turns (u ∷ us) (v ∷ vs) n numbers (here, later, cut, fits, one, rest) from to =
+    rw (one.made.block, one.made.format, one.made.channels, one.made.banked) (ap (λ turns. turns_of u from to + turns) (restored-turns us vs (live_frames u.block n) later rest (live_frames u.block from) (live_frames u.block to)))
+
+-- the live frames of a signal on at least one channel
+some-live : (channels : ℕ) (u : UnitState) (x : List Frame) → 1 ≤ channels → u.channels ≡ channels → length (live u.format u.channels u.block x) ≡ live_frames u.block (length x)
+some-live (suc channels) u x some is = rw is (length-live u.format channels u.block x)
+some-live zero u x some is = absurd (omega (arith, some))
+
+-- the row stands for each signal whose numbers they are
+pub restored-stand : (p : Place) (us vs : List UnitState) (n : ℕ) (numbers : List ℤ) (x : List Frame) → InRow p us → HasChannels p.channels (blocks_of us) → AllRestores us vs n numbers → length x ≡ n
+    → numbers ≡ kept_of_chain p.format p.channels (blocks_of us) x → AllStand p.format p.channels vs x
+restored-stand p [] [] n numbers x row some restored long is = tt
+restored-stand p [] (v ∷ vs) n numbers x row some restored long is = absurd restored
+restored-stand p (u ∷ us) [] n numbers x row some restored long is = absurd restored
+restored-stand p (u ∷ us) (v ∷ vs) n numbers x row some (here, later, cut, fits, one, rest) long is =
+    let q = place_after p u.block in
+    let kept = kept_numbers u.format u.channels u.block x in
+    let behind = kept_of_chain q.format q.channels (blocks_of us) (live u.format u.channels u.block x) in
+    let whole : numbers ≡ kept ++ behind = rw (row.0.format, row.0.channels) is in
+    let place : Each IsPlace (kept_kinds u.format u.channels u.block n) kept = subst (λ k. Each IsPlace (kept_kinds u.format u.channels u.block k) kept) long (kept_numbers-place u.format u.channels u.block x) in
+    let size : length here ≡ length kept = each-length IsOfKind _ here fits.1 ∙ sym (each-length IsPlace _ kept place) in
+    let apart = append-apart here kept later behind size (sym cut ∙ whole) in
+    let live_long = some-live p.channels u x some.0 row.0.channels ∙ ap (live_frames u.block) long in
+    let stand = restored-stand q us vs (live_frames u.block n) later (live u.format u.channels u.block x) row.1 some.1 rest live_long apart.1 in
+    (one.stands x apart.0, rw one.made.block (rw (row.0.format, row.0.channels) at stand))

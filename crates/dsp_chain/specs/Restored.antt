@@ -4,15 +4,22 @@ use Rattle.dsp_defs.specs.Block.{Frame, format_after, channels_after}
 use Rattle.dsp_stage.specs.Kept.{FitsAfter, kept_of_chain}
 use Rattle.dsp_defs.specs.Shape.{live_frames, gathered}
 use Rattle.dsp_stage.specs.Unit.{UnitState, Restores}
-use Rattle.dsp_stage.specs.Row.{Place, place_after, blocks_of}
+use Rattle.dsp_stage.specs.Row.{blocks_of}
 use Rattle.dsp_defs.specs.declared.format.Fmt.{Fmt}
 use Rattle.dsp_defs.specs.declared.limits.TheConstants.{MAX_GATHERED}
 use Rattle.dsp_defs.specs.declared.script.Block.{Block}
 use Rattle.dsp_chain.specs.Chain.{ChainState, ChainStandsFor, SameChain, IsLive}
+use Rattle.dsp_chain.specs.FrameRule.{rules_of, AreFew}
+use Rattle.dsp_chain.specs.KeptRule.{unit_rules, HaveGroups}
+use Rattle.dsp_chain.specs.declared.frame_rule.FrameRule.{FrameRule}
+use Rattle.dsp_chain.specs.declared.kept_rule.KeptRule.{KeptRule}
 
--- the numbers of its units, one after another
+-- the numbers of units, one after another
+abbrev pub kept_by : List UnitState → List ℤ
+kept_by us = flat_map (λ (u : UnitState). u.kept) us
+
 abbrev pub kept_of : ChainState → List ℤ
-kept_of c = flat_map (λ (u : UnitState). u.kept) c.units
+kept_of c = kept_by c.units
 
 -- the numbers are such that the blocks can keep them of n frames, each of the live frames at its place
 abbrev pub FitsBlocks : Fmt → ℕ → List Block → ℕ → List ℤ → Type 0
@@ -27,13 +34,26 @@ pub record FitsChain (c : ChainState) (frames : ℕ) (numbers : List ℤ) : Type
   pub gathers : gathered (blocks_of c.units) frames ≤ MAX_GATHERED
   pub fits : FitsBlocks c.input.format c.input.channels (blocks_of c.units) frames numbers
 
+-- the same of units
+abbrev pub FitsUnits : List UnitState → ℕ → List ℤ → Type 0
+FitsUnits [] n numbers = numbers ≡ []
+FitsUnits (u ∷ us) n numbers =
+    (here later : List ℤ) × (numbers ≡ here ++ later) × FitsAfter u.format u.channels u.block n here × FitsUnits us (live_frames u.block n) later
+
 -- each unit keeps its numbers from now on, which it can keep of the live frames at its place
-abbrev pub AllRestores : Place → List UnitState → List UnitState → ℕ → List ℤ → Type 0
-AllRestores p [] [] n numbers = numbers ≡ []
-AllRestores p (u ∷ us) (v ∷ vs) n numbers =
-    (here later : List ℤ) × (numbers ≡ here ++ later) × FitsAfter p.format p.channels u.block n here × Restores u v here
-    × AllRestores (place_after p u.block) us vs (live_frames u.block n) later
-AllRestores p us vs n numbers = ⊥
+abbrev pub AllRestores : List UnitState → List UnitState → ℕ → List ℤ → Type 0
+AllRestores [] [] n numbers = numbers ≡ []
+AllRestores (u ∷ us) (v ∷ vs) n numbers =
+    (here later : List ℤ) × (numbers ≡ here ++ later) × FitsAfter u.format u.channels u.block n here × Restores u v here
+    × AllRestores us vs (live_frames u.block n) later
+AllRestores us vs n numbers = ⊥
+
+-- the rules are those of the row, and each of its places has few frames
+pub record HasRules (us : List UnitState) (rules : List FrameRule) (kept : List KeptRule) (n : ℕ) : Type 0 where
+  pub frames : rules ≡ rules_of (blocks_of us)
+  pub numbers : kept ≡ unit_rules us
+  pub groups : HaveGroups kept
+  pub few : AreFew rules n
 
 -- the chain keeps these numbers from now on, and so many frames count as fed
 pub record RestoresChain (old new : ChainState) (frames : ℕ) (numbers : List ℤ) : Type 0 where

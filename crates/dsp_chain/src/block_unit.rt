@@ -1,10 +1,9 @@
-ghost use Rattle.std.specs.Prelude.{◌≡◌, ◌≤◌, ◌*◌, IsTrue, IfOk};
+ghost use Rattle.std.specs.Prelude.{◌≡◌, ◌≤◌, ◌*◌, IfOk};
 ghost use Rattle.dsp_stage.specs.Unit.{IsNew};
 ghost use Rattle.dsp_defs.specs.Grammar.{Suits};
-ghost use Rattle.dsp_chain.specs.Built.{is_built_block};
 ghost use Rattle.dsp_chain.specs.Chain.{state_of};
 
-use crate::built::{Family, family_of};
+use crate::family::{Family, family_of};
 use dsp_adapt::{AdaptUnit, adapt_unit};
 use dsp_biquad::{BiquadUnit, biquad_unit};
 use dsp_complex::ComplexUnit;
@@ -19,7 +18,7 @@ use dsp_vector::VectorUnit;
 use std::alloc::{AllocError, Global};
 use std::sync::ledger::Ledger;
 
-/// The unit of any block that is built.
+/// The unit of any block.
 #[derive(Drop)]
 pub enum BlockUnit {
     Vector(VectorUnit),
@@ -44,7 +43,6 @@ impl BlockUnit {
         channels: u8,
         frames: usize,
     ) -> Result<BlockUnit, AllocError>
-        requires built { IsTrue (is_built_block block.now) }
         requires suits { Suits (record { format = format; channels = channels }) block.now }
         requires channels { 1 ≤ channels }
         requires frames { 1 ≤ frames }
@@ -52,37 +50,30 @@ impl BlockUnit {
         ensures { IfOk result (λ u. IsNew block.now format channels frames (state_of u)) }
     {
         match family_of(block) {
-            Some(Family::Vector) => Ok(BlockUnit::Vector(VectorUnit::new(
+            Family::Vector => Ok(BlockUnit::Vector(VectorUnit::new(
                 alloc, block, format, channels, frames,
             )?)),
-            Some(Family::Complex) => Ok(BlockUnit::Complex(ComplexUnit::new(
+            Family::Complex => Ok(BlockUnit::Complex(ComplexUnit::new(
                 alloc, block, format, channels, frames,
             )?)),
-            Some(Family::Fir) => Ok(BlockUnit::Fir(fir_unit(
+            Family::Fir => Ok(BlockUnit::Fir(fir_unit(alloc, block, format, channels, frames)?)),
+            Family::Rate => Ok(BlockUnit::Rate(rate_unit(alloc, block, format, channels, frames)?)),
+            Family::Lattice => Ok(BlockUnit::Lattice(lattice_unit(
                 alloc, block, format, channels, frames,
             )?)),
-            Some(Family::Rate) => Ok(BlockUnit::Rate(rate_unit(
+            Family::Biquad => Ok(BlockUnit::Biquad(biquad_unit(
                 alloc, block, format, channels, frames,
             )?)),
-            Some(Family::Lattice) => Ok(BlockUnit::Lattice(lattice_unit(
+            Family::Adapt => Ok(BlockUnit::Adapt(adapt_unit(
                 alloc, block, format, channels, frames,
             )?)),
-            Some(Family::Biquad) => Ok(BlockUnit::Biquad(biquad_unit(
+            Family::Matrix => Ok(BlockUnit::Matrix(matrix_unit(
                 alloc, block, format, channels, frames,
             )?)),
-            Some(Family::Adapt) => Ok(BlockUnit::Adapt(adapt_unit(
+            Family::Conv => Ok(BlockUnit::Conv(conv_unit(alloc, block, format, channels, frames)?)),
+            Family::Measure => Ok(BlockUnit::Measure(dsp_measure::Unit::new(
                 alloc, block, format, channels, frames,
             )?)),
-            Some(Family::Matrix) => Ok(BlockUnit::Matrix(matrix_unit(
-                alloc, block, format, channels, frames,
-            )?)),
-            Some(Family::Conv) => Ok(BlockUnit::Conv(conv_unit(
-                alloc, block, format, channels, frames,
-            )?)),
-            Some(Family::Measure) => Ok(BlockUnit::Measure(dsp_measure::Unit::new(
-                alloc, block, format, channels, frames,
-            )?)),
-            None => unreachable!(),
         }
     }
 }

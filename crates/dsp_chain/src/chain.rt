@@ -1,7 +1,12 @@
 use crate::block_unit::BlockUnit;
-use crate::frame_rule::{FrameRule, gather_fault, window_fault};
+use crate::frame_rule::{FrameRule, gather_fault, gathered, window_fault};
+use crate::keeping::{count_kept, fits_row, keep_row, restore_row};
+use crate::kept_rule::KeptRule;
 use crate::row::{Link, count_measures, feed_row, find_measure, finish_row};
-use dsp_defs::{Flow, Fmt, GatherFull, Input, Measure, Script, Steps, WindowFault};
+use dsp_defs::{
+    Flow, Fmt, GatherFull, Input, MAX_GATHERED, MAX_INPUT, Measure, Script, Steps, WindowFault,
+};
+use dsp_stage::Stage;
 use dsp_unit::most_frames;
 use std::alloc::{AllocError, Global};
 use std::marker::Model;
@@ -12,6 +17,7 @@ use std::sync::ledger::Ledger;
 pub struct Chain {
     links: Vec<Link<BlockUnit>>,
     rules: Vec<FrameRule>,
+    kept: Vec<KeptRule>,
     format: Fmt,
     channels: usize,
     capacity: usize,
@@ -26,6 +32,7 @@ impl Model for Chain {
     ghost use Rattle.dsp_stage.specs.Row.{blocks_of, place_room};
     ghost use Rattle.dsp_chain.specs.Chain.{ChainState, IsWhole, output_of};
     ghost use Rattle.dsp_chain.specs.FrameRule.{rules_of};
+    ghost use Rattle.dsp_chain.specs.KeptRule.{unit_rules};
 
     ghost Value = { ChainState };
 
@@ -33,6 +40,7 @@ impl Model for Chain {
 
     ghost invariant = { λ c. (IsWhole (record { input = record { format = c.format; channels = c.channels; capacity = c.capacity }; units = c.links.items; frames = c.frames; ended = c.ended; failed = c.failed }))
         × (c.rules.items ≡ rules_of (blocks_of c.links.items))
+        × (c.kept.items ≡ unit_rules c.links.items)
         × (c.room ≡ place_room (output_of (record { input = record { format = c.format; channels = c.channels; capacity = c.capacity }; units = c.links.items; frames = c.frames; ended = c.ended; failed = c.failed }))) };
 }
 
@@ -41,11 +49,11 @@ impl Chain {
     ghost use Rattle.std.specs.Option.{option_map};
     ghost use Rattle.dsp_defs.specs.Shape.{gathered, held, window_at, is_legal};
     ghost use Rattle.dsp_defs.specs.Grammar.{IsChain, correlates, input_flow};
-    ghost use Rattle.dsp_chain.specs.Built.{built};
     ghost use Rattle.dsp_defs.specs.declared.fault.GatherFull.{GatherFull};
     ghost use Rattle.dsp_defs.specs.declared.fault.WindowFault.{WindowFault};
     ghost use Rattle.dsp_stage.specs.Row.{Passes, place_room, blocks_of, measured_by};
     ghost use Rattle.dsp_stage.specs.Unit.{frames_in};
+    ghost use Rattle.dsp_chain.specs.Restored.{kept_of, FitsChain, RestoresChain};
     ghost use Rattle.dsp_chain.specs.Row.{measure_counts};
     ghost use Rattle.dsp_chain.specs.Chain.{ChainState, output_of, IsTooMuch, FeedsChain, FailsChain, FinishesChain, input_place, IsNewChain};
     ghost use Rattle.dsp_defs.specs.declared.limits.TheConstants.{MAX_BLOCKS, MAX_CHANNELS, MAX_CORRELATES};
@@ -58,7 +66,6 @@ impl Chain {
         requires few_channels { script.now.input.channels ≤ MAX_CHANNELS }
         requires few_blocks { length script.now.blocks ≤ MAX_BLOCKS }
         requires one_correlate { correlates script.now.blocks ≤ MAX_CORRELATES }
-        requires built { IsTrue (built script.now) }
         requires legal { IsTrue (is_legal script.now.input.channels script.now.blocks block) }
         ensures { IfOk result (IsNewChain (input_place script.now block) script.now.blocks) }
     {
@@ -73,16 +80,20 @@ impl Chain {
         let blocks = script.blocks.as_slice();
         let mut links = Vec::with_capacity(alloc, blocks.len())?;
         let mut rules = Vec::with_capacity(alloc, blocks.len())?;
+        let mut kept = Vec::with_capacity(alloc, blocks.len())?;
         for block in blocks {
             let unit = BlockUnit::new(alloc, block, flow.format, flow.channels, frames)?;
+            let numbers = KeptRule::of_block(block, flow.channels, unit.kept_count() as u64);
             links.push(Link::new(alloc, unit)?)?;
             rules.push(FrameRule::of(block))?;
+            kept.push(numbers)?;
             flow = flow.after(block);
             frames = most_frames(block, frames);
         }
         Ok(Chain {
             links,
             rules,
+            kept,
             format,
             channels: usize::from(channels),
             capacity,
@@ -172,5 +183,56 @@ impl Chain {
             Some(measure) => measure,
             None => unreachable!(),
         }
+    }
+
+    /// How many numbers the chain keeps: those of its blocks, one after another, and in a block those of
+    /// its channels or measures.
+    pub fn kept_count(&self) -> usize
+        ensures { result ≡ length (kept_of self.now) }
+    {
+        count_kept(&self.links)
+    }
+
+    /// Writes the numbers that the chain keeps.
+    pub fn keep(&self, out: &mut [i64])
+        requires running { IsFalse self.now.ended }
+        requires works { self.now.failed ≡ None }
+        requires length { length out.old ≡ length (kept_of self.now) }
+        ensures { out.new ≡ kept_of self.now }
+    {
+        keep_row(&self.links, out);
+    }
+
+    /// Whether a chain of these blocks can keep these numbers of so many frames: at most 2^40, whose
+    /// correlation gathers no more than it may, and each count, length, phase and flag is theirs.
+    pub fn fits(&self, frames: u64, numbers: &[i64]) -> bool
+        ensures { IsTrue result ↔ FitsChain self.now frames numbers.now }
+    {
+        if frames > MAX_INPUT {
+            return false;
+        }
+        if gathered(&self.rules, frames) > MAX_GATHERED as u64 {
+            return false;
+        }
+        fits_row(&self.links, &self.rules, &self.kept, frames, numbers)
+    }
+
+    /// Gives a new chain these numbers, and counts so many frames as fed: it goes on as one that was fed
+    /// with frames that left it with these numbers.
+    pub fn restore(&mut self, frames: u64, numbers: &[i64])
+        requires fresh { self.old.frames ≡ 0 }
+        requires running { IsFalse self.old.ended }
+        requires works { self.old.failed ≡ None }
+        requires fits { FitsChain self.old frames numbers.now }
+        ensures { RestoresChain self.old self.new frames numbers.now }
+    {
+        restore_row(
+            self.links.as_mut_slice(),
+            &self.rules,
+            &self.kept,
+            frames,
+            numbers,
+        );
+        self.frames = frames;
     }
 }

@@ -111,7 +111,7 @@ impl FrameRule {
     }
 
     /// The frames that it has given of a signal that may go on.
-    fn live(self, frames: u64) -> u64
+    pub(crate) fn live(self, frames: u64) -> u64
         requires rule { IsRule self }
         requires taken { frames < 2 ^ 62 }
         requires given { whole_by self frames < 2 ^ 62 }
@@ -141,7 +141,7 @@ fn full_length(frames: u64, taps: u64) -> u64
 }
 
 /// The frames at the place of the correlation when so many are the whole input, or 0 without one.
-fn gathered(rules: &[FrameRule], frames: u64) -> u64
+pub(crate) fn gathered(rules: &[FrameRule], frames: u64) -> u64
     requires { AreFew rules.now frames }
     ensures { result ≡ frames_gathered whole_by rules.now frames }
 {

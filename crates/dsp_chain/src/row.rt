@@ -12,7 +12,7 @@ use std::sync::ledger::Ledger;
 /// A unit with the samples that it wrote last.
 #[derive(Drop)]
 pub struct Link<S: Stage + Drop> {
-    stage: S,
+    pub(crate) stage: S,
     row: Vec<i32>,
 }
 

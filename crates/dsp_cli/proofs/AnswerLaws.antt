@@ -26,15 +26,15 @@ pub either_answers : (command : Option Command) (status : ℕ) → IsSome comman
 either_answers None status some is = absurd (cc)
 either_answers (Some (Run named)) status some (inl two) = inr (inr (inl two))
 either_answers (Some (Run named)) status some (inr (inl six)) = inr (inr (inr (inr (inl six))))
-either_answers (Some (Run named)) status some (inr (inr ten)) = inr (inr (inr (inr (inr (inl ten)))))
+either_answers (Some (Run named)) status some (inr (inr ten)) = inr (inr (inr (inr (inr ten))))
 either_answers (Some (Gen seed frames)) status some (inl two) = inr (inr (inr (inl two)))
 either_answers (Some (Gen seed frames)) status some (inr (inl six)) = inr (inr (inr (inr (inr (inl six)))))
-either_answers (Some (Gen seed frames)) status some (inr (inr ten)) = inr (inr (inr (inr (inr (inr (inl ten))))))
+either_answers (Some (Gen seed frames)) status some (inr (inr ten)) = inr (inr (inr (inr (inr (inr ten)))))
 either_answers (Some Print) status some is = inr is
 
 -- one that a run and a gen may end with
 abbrev pub StreamStatus : ℕ → Type 0
-StreamStatus status = IsDone status ⊎ (status ≡ 5) ⊎ (status ≡ 8) ⊎ (status ≡ 3) ⊎ (status ≡ 12)
+StreamStatus status = IsDone status ⊎ (status ≡ 5) ⊎ (status ≡ 8) ⊎ (status ≡ 3)
 
 pub stream_answers : (command : Option Command) (named : Option ℕ) → stream_of command ≡ Some named → (status : ℕ) → StreamStatus status → IsAnswer command status
 stream_answers None named is status which = absurd (cc)
@@ -42,13 +42,11 @@ stream_answers (Some Print) named is status which = absurd (cc)
 stream_answers (Some (Run block)) named is status (inl done) = inl done
 stream_answers (Some (Run block)) named is status (inr (inl five)) = inr (inl (inl (inr (inl five))))
 stream_answers (Some (Run block)) named is status (inr (inr (inl eight))) = inr (inl (inr eight))
-stream_answers (Some (Run block)) named is status (inr (inr (inr (inl three)))) = inr (inr (inr (inl three)))
-stream_answers (Some (Run block)) named is status (inr (inr (inr (inr twelve)))) = inr (inr (inr (inr (inr (inr twelve)))))
+stream_answers (Some (Run block)) named is status (inr (inr (inr three))) = inr (inr (inr (inl three)))
 stream_answers (Some (Gen seed frames)) named is status (inl done) = inl done
 stream_answers (Some (Gen seed frames)) named is status (inr (inl five)) = inr (inl five)
 stream_answers (Some (Gen seed frames)) named is status (inr (inr (inl eight))) = inr (inr (inl eight))
-stream_answers (Some (Gen seed frames)) named is status (inr (inr (inr (inl three)))) = inr (inr (inr (inr (inl three))))
-stream_answers (Some (Gen seed frames)) named is status (inr (inr (inr (inr twelve)))) = inr (inr (inr (inr (inr (inr (inr twelve))))))
+stream_answers (Some (Gen seed frames)) named is status (inr (inr (inr three))) = inr (inr (inr (inr (inl three))))
 
 -- a port may fail, and its header have a fault, in a run alone
 pub port_answers : (command : Option Command) (named : Option ℕ) → stream_of command ≡ Some named → ((seed frames : ℕ) → command ≡ Some (Gen seed frames) → ⊥)

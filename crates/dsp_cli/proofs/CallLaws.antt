@@ -70,8 +70,6 @@ module _ (words : List (List ℕ)) (source read port later : SourceState) (sink 
       input_read = input_read words source read port later sink after report told before counts status ways;
       output_written = cause_of 8;
       report_written = λ is. (cause_of 9 is).risen;
-      not_built = cause_of 12;
-      unbuilt = an_end.2.comes.unbuilt;
     }
 
     pub completes : IfSome (command_of words) MakesFew → Completes (called status)

@@ -1,6 +1,6 @@
 -- Each way in which the top call may end, from the port of the input: a run reads it, and a gen what is generated.
 use Rattle.std.proofs.Common.{◌≡◌, ◌⊎◌, ℕ, ◌+◌, ◌^◌, ◌≤◌, List, refl, sym, ap, ◌∙◌, subst, arith, inl, inr, None, Some, Option, IsSome, IfSome, IfOk, IfErr, Result, Ok, Err}
-use Rattle.dsp_ports.specs.Ports.{SourceState, SinkState, Rose}
+use Rattle.dsp_ports.specs.Ports.{SourceState, SinkState, Rose, one_more}
 use Rattle.dsp_defs.specs.Counts.{Counts}
 use Rattle.dsp_defs.specs.Generator.{generated_bytes}
 use Rattle.dsp_defs.specs.Output.{input_signal, output}
@@ -20,14 +20,14 @@ use Rattle.dsp_cli.specs.Perform.{ReadsAs, Untouched, IsGenerated, IsReading, Ma
 use Rattle.dsp_cli.specs.Run.{IsStream, IsGen, IsPrint, IsDone, IsStopped, IsRefused, IsAnswer, MakesFew, IsReader, IsGood, IsRunnable, InLimit, IfWhole, MayEndAtLimit, Wrote, Tells, TellsHeader, input_fault, generated_source, read_from, report_over}
 use Rattle.dsp_cli.specs.Stands.{Stands}
 use Rattle.dsp_cli.specs.declared.fault.Fault.{Fault}
-use Rattle.dsp_cli.specs.declared.fault.Fault.TheVariants.{Usage, ScriptRead, Script as BadScript, BlockLength, NotBuilt, Memory, Stream}
+use Rattle.dsp_cli.specs.declared.fault.Fault.TheVariants.{Usage, ScriptRead, Script as BadScript, BlockLength, Memory, Stream}
 use Rattle.dsp_cli.specs.declared.top.Outcome.{Outcome}
 use Rattle.dsp_cli.specs.declared.top.Outcome.TheVariants as outcome
 use Rattle.dsp_cli.proofs.AnswerLaws.{some_run}
 use Rattle.dsp_cli.proofs.GeneratedLaws.{generated_good, generated_in_limit, generated_frames}
 use Rattle.dsp_cli.proofs.Told.{told_script, use_script}
 use Rattle.dsp_cli.proofs.Ends.{IsFree, Cause, Ends, refused_not_done, refused_not_stopped, run_or_print}
-use Rattle.dsp_cli.proofs.RunLaws.{ends_usage, ends_unread, ends_memory, ends_faulty, ends_length, ends_form, ends_input, ends_output, ends_header, ends_lengths, ends_ran, ends_printed, ends_unprinted}
+use Rattle.dsp_cli.proofs.RunLaws.{ends_usage, ends_unread, ends_memory, ends_faulty, ends_length, ends_input, ends_output, ends_header, ends_lengths, ends_ran, ends_printed, ends_unprinted}
 
 abbrev faults_of : SourceState → ℕ
 faults_of state = state.faults
@@ -94,8 +94,7 @@ gen_not_four seed frames (inr (inr (inl is))) = omega (arith, is)
 gen_not_four seed frames (inr (inr (inr (inl is)))) = omega (arith, is)
 gen_not_four seed frames (inr (inr (inr (inr (inl is))))) = omega (arith, is)
 gen_not_four seed frames (inr (inr (inr (inr (inr (inl is)))))) = omega (arith, is)
-gen_not_four seed frames (inr (inr (inr (inr (inr (inr (inl is))))))) = omega (arith, is)
-gen_not_four seed frames (inr (inr (inr (inr (inr (inr (inr is))))))) = omega (arith, is)
+gen_not_four seed frames (inr (inr (inr (inr (inr (inr is)))))) = omega (arith, is)
 
 module _ (words : List (List ℕ)) (source read port later : SourceState) (sink after report told : SinkState) (before counts : Counts) where
   abbrev EndOver : SourceState → SourceState → ℕ → Type 0
@@ -155,18 +154,16 @@ module _ (words : List (List ℕ)) (source read port later : SourceState) (sink 
   load_by Memory some fails untouched tells =
       inl (record {
         port_same = untouched.input_same;
-        begun = not_begun 10 (inr (inr (inr (inr (inl refl)))));
+        begun = not_begun 10 (inr (inr (inr (inr refl))));
         ends = λ input. ends_memory words source read input input sink after report told before counts some (here untouched input) tells;
       })
   load_by Usage some fails untouched tells = absurd fails
   load_by (BlockLength block divisor) some fails untouched tells = absurd fails
-  load_by NotBuilt some fails untouched tells = absurd fails
   load_by (Stream fault) some fails untouched tells = absurd fails
 
   run_ends : (fault : Fault) (stop : StopsAtRun fault words source read port later sink after before counts) → Tells (fault_line fault) report told → EndOver stop.input stop.now (status_of fault)
   run_ends (BlockLength block divisor) stop tells =
       ends_length words source read stop.input stop.now sink after report told before counts port later stop.named stop.script stop.runs stop.reading block divisor stop.stops.0 stop.stops.1 tells
-  run_ends NotBuilt stop tells = ends_form words source read stop.input stop.now sink after report told before counts port later stop.named stop.script stop.runs stop.reading stop.stops.0 stop.stops.1 tells
   run_ends Memory stop tells = ends_memory words source read stop.input stop.now sink after report told before counts (some_run words (stop.named, stop.runs.command)) stop.stops tells
   run_ends (Stream Unread) stop tells = ends_input words source read stop.input stop.now sink after report told before counts port later stop.named stop.script stop.runs stop.reading stop.stops tells
   run_ends (Stream Output) stop tells = ends_output words source read stop.input stop.now sink after report told before counts port later stop.named stop.script stop.runs stop.reading stop.stops tells
@@ -292,14 +289,14 @@ module _ (words : List (List ℕ)) (source read port later : SourceState) (sink 
         | inr gen ↦ ap faults_of gen.3.port_same
       ]
 
-  pub input_read : (status : ℕ) → EndsBy status → status ≡ 7 → Rose port.faults later.faults
+  pub input_read : (status : ℕ) → EndsBy status → status ≡ 7 → later.faults ≡ one_more port.faults
   input_read status (inl untaken) is =
-      subst (λ (state : SourceState). Rose port.faults state.faults) (sym untaken.port_same)
+      subst (λ (state : SourceState). state.faults ≡ one_more port.faults) (sym untaken.port_same)
       (subst (Cause words source read port port sink after report told before counts) is (untaken.ends port).cause)
   input_read status (inr taken) is =
-      let risen : Rose taken.input.faults taken.now.faults = subst (Cause words source read taken.input taken.now sink after report told before counts) is taken.ends.cause in
+      let risen : taken.now.faults ≡ one_more taken.input.faults = subst (Cause words source read taken.input taken.now sink after report told before counts) is taken.ends.cause in
       elim (port_or_made (command_of words) taken.script.input port later taken.input taken.now taken.reading) [
-        | inl run ↦ subst (λ (state : SourceState). Rose port.faults state.faults) run.1 (subst (λ (state : SourceState). Rose state.faults taken.now.faults) run.0 risen)
+        | inl run ↦ subst (λ (state : SourceState). state.faults ≡ one_more port.faults) run.1 (subst (λ (state : SourceState). taken.now.faults ≡ one_more state.faults) run.0 risen)
         | inr gen ↦ absurd (let first = ap faults_of gen.3.input_is in omega (arith, risen, first, gen.3.clean))
       ]
 
@@ -334,7 +331,6 @@ module _ (words : List (List ℕ)) (source read port later : SourceState) (sink 
         script = sound.script;
         reads = sound.reads;
         legal = sound.legal;
-        is_built = sound.is_built;
         bytes = sound.bytes;
         told_bytes = ap (λ (state : SourceState). state.left) from ∙ sound.told_bytes;
         good = good.0;

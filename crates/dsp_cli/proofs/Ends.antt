@@ -1,8 +1,7 @@
 -- What the top call ensures, gathered in one record, and what is the same for many ways to end.
 use Rattle.std.proofs.Common.{◌≡◌, ◌⊎◌, ◌↔◌, ℕ, ◌+◌, ◌*◌, ◌/◌, ◌^◌, ◌<◌, ◌≤◌, ◌==◌, Bool, true, false, List, ◌++◌, length, refl, sym, ap, ◌∙◌, subst, arith, inl, inr, None, Some, Option, IsNone, IsSome, IfSome, IsTrue, IsFalse}
 use Rattle.std.specs.Io.KnownBytes.{append_known}
-use Rattle.dsp_ports.specs.Ports.{SourceState, SinkState, Rose, Gave, IsSettled}
-use Rattle.dsp_chain.specs.Built.{built}
+use Rattle.dsp_ports.specs.Ports.{SourceState, SinkState, Rose, one_more, Gave, IsSettled}
 use Rattle.dsp_defs.specs.Canon.{canon}
 use Rattle.dsp_defs.specs.Counts.{Counts}
 use Rattle.dsp_defs.specs.Grammar.{Reads}
@@ -42,7 +41,6 @@ pub record IsFree (words : List (List ℕ)) (source input : SourceState) : Type 
   pub script : Script
   pub reads : Reads text script
   pub legal : IsTrue (is_legal_for script (chosen_block words script))
-  pub is_built : IsTrue (built script)
   pub bytes : List ℕ
   pub told_bytes : input.left ≡ Some bytes
   pub good : input_fault script bytes ≡ None
@@ -76,16 +74,15 @@ module _ (words : List (List ℕ)) (source read input now : SourceState) (sink a
     pub tells : IfScript source.left (λ s. Tells (block_length_line (chosen_block words s) (unit s.input.channels s.blocks)) report told)
 
   pub record BadReport : Type 0 where
-    pub risen : Rose report.faults told.faults
+    pub risen : told.faults ≡ one_more report.faults
     pub tells : IsPrint words → IfScript source.left (λ s. Tells (canon s) report told)
 
   abbrev pub Cause : ℕ → Type 0
   Cause status =
       when (status == 0) AllWell (when (status == 1) (read ≡ source) (when (status == 2) BadText (when (status == 3) BadLength
       (when (status == 4) (TellsHeader source.left input report told) (when (status == 5) (TellsLength source.left (chosen_block words) input now sink after report told)
-      (when (status == 6) (Rose source.faults read.faults) (when (status == 7) (Rose input.faults now.faults)
-      (when (status == 8) (Rose sink.faults after.faults) (when (status == 9) BadReport
-      (when (status == 12) (IfScript source.left (λ s. IsTrue (is_legal_for s (chosen_block words s)) × IsFalse (built s))) (Unit {0})))))))))))
+      (when (status == 6) (read.faults ≡ one_more source.faults) (when (status == 7) (now.faults ≡ one_more input.faults)
+      (when (status == 8) (after.faults ≡ one_more sink.faults) (when (status == 9) BadReport (Unit {0}))))))))))
 
   -- ---- where a status must come
 
@@ -97,7 +94,6 @@ module _ (words : List (List ℕ)) (source read input now : SourceState) (sink a
     pub usage : (status ≡ 1) ↔ IsNone (command_of words)
     pub faulty : IsSome (command_of words) → IfFault source.left (λ _. Unloaded 2 status)
     pub illegal : IsStream words → IfScript source.left (λ s. IsFalse (is_legal_for s (chosen_block words s)) → Unloaded 3 status)
-    pub unbuilt : IsStream words → IfScript source.left (λ s. IsTrue (is_legal_for s (chosen_block words s)) → IsFalse (built s) → Unloaded 12 status)
     pub runnable : IsFree words source input → (Rose source.faults read.faults → ⊥) → (Rose input.faults now.faults → ⊥) → (Rose sink.faults after.faults → ⊥) → (Rose report.faults told.faults → ⊥) → (status ≡ 0) ⊎ (status ≡ 10)
     pub printable : IsPrintable words source → (Rose source.faults read.faults → ⊥) → (Rose report.faults told.faults → ⊥) → (status ≡ 0) ⊎ (status ≡ 10)
 
@@ -173,8 +169,7 @@ refused_only status (inl a) = (λ b. omega arith, λ b. omega arith, λ b. omega
 refused_only status (inr (inl a)) = (λ b. omega arith, λ b. omega arith, λ b. omega arith, not_broken status 2 a (λ e. omega (arith, e), λ e. omega (arith, e), λ e. omega (arith, e)))
 refused_only status (inr (inr (inl a))) = (λ b. omega arith, λ b. omega arith, λ b. omega arith, not_broken status 3 a (λ e. omega (arith, e), λ e. omega (arith, e), λ e. omega (arith, e)))
 refused_only status (inr (inr (inr (inl a)))) = (λ b. omega arith, λ b. omega arith, λ b. omega arith, not_broken status 6 a (λ e. omega (arith, e), λ e. omega (arith, e), λ e. omega (arith, e)))
-refused_only status (inr (inr (inr (inr (inl a))))) = (λ b. omega arith, λ b. omega arith, λ b. omega arith, not_broken status 10 a (λ e. omega (arith, e), λ e. omega (arith, e), λ e. omega (arith, e)))
-refused_only status (inr (inr (inr (inr (inr a))))) = (λ b. omega arith, λ b. omega arith, λ b. omega arith, not_broken status 12 a (λ e. omega (arith, e), λ e. omega (arith, e), λ e. omega (arith, e)))
+refused_only status (inr (inr (inr (inr a)))) = (λ b. omega arith, λ b. omega arith, λ b. omega arith, not_broken status 10 a (λ e. omega (arith, e), λ e. omega (arith, e), λ e. omega (arith, e)))
 
 pub refused_not_stopped : (status : ℕ) → IsRefused status → IsStopped status → ⊥
 refused_not_stopped status refused (inl broken) = (refused_only status refused).3 broken
@@ -293,7 +288,7 @@ module _ (words : List (List ℕ)) (source read input now : SourceState) (sink a
       text_is = ran.text ∙ (λ i. report_text script (done.frame_count i) (done.measures i))
 
       some : 0 < frame_bytes script
-      some = some_frame script (chosen named script) (record { sound = (runs.reads.text, runs.reads.reads); is_built = ran.goes.is_built; legal = ran.goes.legal })
+      some = some_frame script (chosen named script) (record { sound = (runs.reads.text, runs.reads.reads); legal = ran.goes.legal })
 
       at_limit : length done.given ≡ 2 ^ 40 → (size : ℕ) × ((input_header script done.given).size ≡ Some size)
       at_limit all = by (input_header script done.given).size refl

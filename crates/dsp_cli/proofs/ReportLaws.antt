@@ -3,7 +3,7 @@ use Rattle.std.proofs.Common.{◌≡◌, ℕ, zero, suc, ◌+◌, ◌<◌, List,
 use Rattle.std.proofs.lemmas.List.{take-append-drop, take-append-le, take_all}
 use Rattle.std.specs.Io.KnownBytes.{append_known}
 use Rattle.std.specs.Prelude.{slice_get, Some}
-use Rattle.dsp_ports.specs.Ports.{SinkState, Rose, Took}
+use Rattle.dsp_ports.specs.Ports.{SinkState, Rose, one_more, Took}
 use Rattle.dsp_ports.proofs.Moved.{append_known-append}
 use Rattle.dsp_defs.specs.Report.{measure_line}
 use Rattle.dsp_defs.specs.Streaming.{Begins}
@@ -38,12 +38,16 @@ wrote-behind old mid new so_far piece wrote more = more ∙ ap (λ known. append
 pub wrote-more : (old mid new : SinkState) (so_far piece : List ℕ) → Wrote so_far old mid → Took mid new piece → Wrote (so_far ++ piece) old new
 wrote-more old mid new so_far piece wrote took = wrote-behind old mid new so_far piece wrote took.put
 
+-- a count that is one more has risen
+pub rose : (before now : ℕ) → now ≡ one_more before → Rose before now
+rose before now is = omega (arith, is)
+
 -- a front of the text was written, and the report has failed
-pub tells-front : (old new : SinkState) (text written : List ℕ) → Begins written text → Wrote written old new → Rose old.faults new.faults → Tells text old new
+pub tells-front : (old new : SinkState) (text written : List ℕ) → Begins written text → Wrote written old new → new.faults ≡ one_more old.faults → Tells text old new
 tells-front old new text written begins wrote risen = record {
   count = length written;
   put = wrote ∙ ap (append_known old.put) (sym (ap (take (length written)) begins.1 ∙ take-append-le (length written) written begins.0 (omega arith) ∙ take_all (length written) written (omega arith)));
-  all = λ none. absurd (none risen);
+  all = λ none. absurd (none (rose _ _ risen));
 }
 
 -- it was written whole

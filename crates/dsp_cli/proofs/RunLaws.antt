@@ -1,8 +1,7 @@
 -- Each way in which the top call may end, from what was read.
 use Rattle.std.proofs.Common.{◌≡◌, ◌⊎◌, ℕ, ◌^◌, ◌≤◌, List, ◌++◌, length, refl, sym, ap, ◌∙◌, subst, arith, inl, inr, None, Some, Option, IsNone, IsSome, IfSome, IsTrue, IsFalse, Bool, true, false}
 use Rattle.std.specs.Io.KnownBytes.{append_known}
-use Rattle.dsp_ports.specs.Ports.{SourceState, SinkState, Rose, Gave, IsSettled}
-use Rattle.dsp_chain.specs.Built.{built}
+use Rattle.dsp_ports.specs.Ports.{SourceState, SinkState, Rose, one_more, Gave, IsSettled}
 use Rattle.dsp_defs.specs.Canon.{canon}
 use Rattle.dsp_defs.specs.Counts.{Counts}
 use Rattle.dsp_defs.specs.Generator.{generated_bytes}
@@ -26,14 +25,15 @@ use Rattle.dsp_session.specs.declared.fault.StreamFault.TheVariants.{Header, Inp
 use Rattle.dsp_session.proofs.OpeningLaws.{some_frame}
 use Rattle.dsp_cli.specs.Fault.{fault_line, summary_text}
 use Rattle.dsp_cli.specs.Script.{IfScript, chosen, chosen_block, is_legal_for}
-use Rattle.dsp_cli.specs.Perform.{Untouched, IsGenerated, IsReading, RunsScript, Ran, MadeText, HasFault, StopsAtLength, StopsAtForm, StopsInStream, StopsAtWords, ReportsText}
+use Rattle.dsp_cli.specs.Perform.{Untouched, IsGenerated, IsReading, RunsScript, Ran, MadeText, HasFault, StopsAtLength, StopsInStream, StopsAtWords, ReportsText}
 use Rattle.dsp_cli.specs.Run.{IsStream, IsDone, IsRefused, IsAnswer, IsPrintable, InLimit, IfTaken, WantsMore, IsOverfull, input_fault, Wrote, WrotePart, Tells, TellsLength, Taken, Gather, Window, Riff, bytes_taken}
-use Rattle.dsp_cli.specs.declared.fault.Fault.TheVariants.{Usage, ScriptRead, Script as BadScript, BlockLength, NotBuilt, Memory, Stream}
+use Rattle.dsp_cli.specs.declared.fault.Fault.TheVariants.{Usage, ScriptRead, Script as BadScript, BlockLength, Memory, Stream}
 use Rattle.dsp_cli.specs.declared.report.Summary.{Summary}
 use Rattle.dsp_cli.proofs.AnswerLaws.{command_not_none, some_run, not_usage, StreamStatus, either_answers, stream_answers, port_answers}
 use Rattle.dsp_cli.proofs.EarlyEnds.{header_wave, header_cause, header_part}
 use Rattle.dsp_cli.proofs.GeneratedLaws.{generated_good}
 use Rattle.dsp_cli.proofs.InputLaws.{header_stays, frames_stay, signal_stays, some_not_none, past_limit}
+use Rattle.dsp_cli.proofs.ReportLaws.{rose}
 use Rattle.dsp_cli.proofs.Told.{IfSome-map, IfSome-always, told_more, told_taken, told_script, told_sound, told_some, told_fault, told_faulty, use_script}
 use Rattle.dsp_cli.proofs.Ends.{IsFree, named_is, Comes, Standing, Ends, done_not_broken, done_not_stopped, eight_not_broken, refused_not_done, refused_not_stopped, run_or_print, run_command, print_command, stands_untouched, stands_ran, stands_stopped}
 use Rattle.dsp_cli.proofs.CostGrows.{gathered_more}
@@ -78,7 +78,6 @@ module _ (words : List (List ℕ)) (source read input now : SourceState) (sink a
         usage = (λ _. subst IsNone (sym none) refl, λ _. refl);
         faulty = λ some. absurd (command_not_none (command_of words) some none);
         illegal = λ run. absurd (run_command words run none);
-        unbuilt = λ run. absurd (run_command words run none);
         runnable = λ sound _ _ _ _. absurd (run_command words sound.run none);
         printable = λ sound _ _. absurd (print_command words sound.print none);
       }
@@ -102,17 +101,16 @@ module _ (words : List (List ℕ)) (source read input now : SourceState) (sink a
         usage = not_usage (command_of words) status other some;
         faulty = λ _. IfSome-always source.left _ (λ _ _ _. inr is);
         illegal = λ _. IfSome-always source.left _ (λ _ _ _ _. inr is);
-        unbuilt = λ _. IfSome-always source.left _ (λ _ _ _ _ _. inr is);
         runnable = runnable;
         printable = printable;
       }
 
-  pub ends_unread : IsSome (command_of words) → Rose source.faults read.faults → Untouched input now sink after before counts → Tells (fault_line ScriptRead) report told → End 6
+  pub ends_unread : IsSome (command_of words) → read.faults ≡ one_more source.faults → Untouched input now sink after before counts → Tells (fault_line ScriptRead) report told → End 6
   ends_unread some risen untouched tells =
       record {
         cause = risen;
         tells = tells;
-        comes = comes_unread 6 (inl refl) (λ is. omega arith) some (λ _ kept _ _ _. absurd (kept risen)) (λ _ kept _. absurd (kept risen));
+        comes = comes_unread 6 (inl refl) (λ is. omega arith) some (λ _ kept _ _ _. absurd (kept (rose _ _ risen))) (λ _ kept _. absurd (kept (rose _ _ risen)));
         stands = stands_refused 6 (inr (inr (inr (inl refl)))) untouched;
       }
 
@@ -122,7 +120,7 @@ module _ (words : List (List ℕ)) (source read input now : SourceState) (sink a
         cause = tt;
         tells = tells;
         comes = comes_unread 10 (inr refl) (λ is. omega arith) some (λ _ _ _ _ _. inr refl) (λ _ _ _. inr refl);
-        stands = stands_refused 10 (inr (inr (inr (inr (inl refl))))) untouched;
+        stands = stands_refused 10 (inr (inr (inr (inr refl)))) untouched;
       }
 
   pub ends_faulty : (fault : ScriptFault) → IsSome (command_of words) → HasFault fault source read → Untouched input now sink after before counts → Tells (fault_line (BadScript fault)) report told → End 2
@@ -135,7 +133,6 @@ module _ (words : List (List ℕ)) (source read input now : SourceState) (sink a
           usage = not_usage (command_of words) 2 (λ is. omega arith) some;
           faulty = λ _. IfSome-always source.left _ (λ _ _ _. inl refl);
           illegal = λ _. told_faulty source read fault _ has;
-          unbuilt = λ _. told_faulty source read fault _ has;
           runnable = λ sound _ _ _ _. absurd (use_script source.left sound.text sound.script (λ _. ⊥) sound.told_text sound.reads (told_faulty source read fault (λ _. ⊥) has));
           printable = λ sound _ _. absurd (use_script source.left sound.text sound.script (λ _. ⊥) sound.told_text sound.reads (told_faulty source read fault (λ _. ⊥) has));
         };
@@ -191,46 +188,25 @@ module _ (words : List (List ℕ)) (source read input now : SourceState) (sink a
           };
           tells = tt;
           comes = record {
-            answer = answers 3 (inr (inr (inr (inl refl))));
+            answer = answers 3 (inr (inr (inr refl)));
             usage = not_usage (command_of words) 3 (λ is. omega arith) (some_run words is_run);
             faulty = λ _. told_sound source read script _ runs.reads;
             illegal = λ _. IfSome-always source.left _ (λ _ _ _ _. inl refl);
-            unbuilt = λ _. for_script _ (λ legal _. absurd (legal_not legal illegal));
             runnable = λ sound _ _ _ _. absurd (legal_not sound.legal (use_script source.left sound.text sound.script _ sound.told_text sound.reads told_illegal));
             printable = no_print 3;
           };
           stands = stands_refused 3 (inr (inr (inl refl))) untouched;
         }
 
-    pub ends_form : StopsAtForm named script → Untouched input now sink after before counts → Tells (fault_line NotBuilt) report told → End 12
-    ends_form stops untouched tells =
-        let legal : IsTrue (is_legal_for script (chosen_block words script)) = subst (λ n. IsTrue (is_legal_for script n)) (sym chosen_is) stops.legal in
-        let told_form = for_script (λ s. IsTrue (is_legal_for s (chosen_block words s)) × IsFalse (built s)) (legal, stops.unbuilt) in
-        record {
-          cause = told_form;
-          tells = tells;
-          comes = record {
-            answer = answers 12 (inr (inr (inr (inr refl))));
-            usage = not_usage (command_of words) 12 (λ is. omega arith) (some_run words is_run);
-            faulty = λ _. told_sound source read script _ runs.reads;
-            illegal = λ _. for_script _ (λ illegal. absurd (legal_not legal illegal));
-            unbuilt = λ _. IfSome-always source.left _ (λ _ _ _ _ _. inl refl);
-            runnable = λ sound _ _ _ _. absurd (legal_not sound.is_built (use_script source.left sound.text sound.script _ sound.told_text sound.reads told_form).1);
-            printable = no_print 12;
-          };
-          stands = stands_refused 12 (inr (inr (inr (inr (inr refl))))) untouched;
-        }
-
-    -- a legal block length and a built form: the stream was begun
-    comes_begun : (status : ℕ) → IsTrue (is_legal_for script (chosen named script)) → IsTrue (built script) → (status ≡ 1 → ⊥) → IsAnswer (command_of words) status → Runnable status → Come status
-    comes_begun status is_legal is_built other answer runnable =
+    -- a legal block length: the stream was begun
+    comes_begun : (status : ℕ) → IsTrue (is_legal_for script (chosen named script)) → (status ≡ 1 → ⊥) → IsAnswer (command_of words) status → Runnable status → Come status
+    comes_begun status is_legal other answer runnable =
         let legal : IsTrue (is_legal_for script (chosen_block words script)) = subst (λ n. IsTrue (is_legal_for script n)) (sym chosen_is) is_legal in
         record {
           answer = answer;
           usage = not_usage (command_of words) status other (some_run words is_run);
           faulty = λ _. told_sound source read script _ runs.reads;
           illegal = λ _. for_script _ (λ illegal. absurd (legal_not legal illegal));
-          unbuilt = λ _. for_script _ (λ _ unbuilt. absurd (legal_not is_built unbuilt));
           runnable = runnable;
           printable = no_print status;
         }
@@ -244,7 +220,7 @@ module _ (words : List (List ℕ)) (source read input now : SourceState) (sink a
         record {
           cause = stops.risen;
           tells = tells;
-          comes = comes_begun 7 stream.legal stream.is_built (λ is. omega arith) (port_answers (command_of words) named runs.command never 7 (inr refl)) (λ _ _ kept _ _. absurd (kept stops.risen));
+          comes = comes_begun 7 stream.legal (λ is. omega arith) (port_answers (command_of words) named runs.command never 7 (inr refl)) (λ _ _ kept _ _. absurd (kept (rose _ _ stops.risen)));
           stands = stands_stopped words source read input now sink after report told before counts 7 named script runs Input stopped (inl (inr (inr refl)))
               (λ _. part_of (chosen named script) stopped.given stopped.written stopped.put stops.wrote) (λ is. absurd (omega arith)) (λ all. absurd (omega (arith, all, stops.in_limit)))
               (λ _. wrote_kept (chosen named script) stopped.given stopped.written stops.wrote);
@@ -256,7 +232,7 @@ module _ (words : List (List ℕ)) (source read input now : SourceState) (sink a
         record {
           cause = stops.risen;
           tells = tells;
-          comes = comes_begun 8 stream.legal stream.is_built (λ is. omega arith) (answers 8 (inr (inr (inl refl)))) (λ _ _ _ kept _. absurd (kept stops.risen));
+          comes = comes_begun 8 stream.legal (λ is. omega arith) (answers 8 (inr (inr (inl refl)))) (λ _ _ _ kept _. absurd (kept (rose _ _ stops.risen)));
           stands = stands_stopped words source read input now sink after report told before counts 8 named script runs Output stream.stopped (inr refl)
               (λ broken. absurd (eight_not_broken 8 refl broken)) (λ _. (stops.has, stops.wrote)) (λ _. inr (inl refl))
               (λ broken. absurd (eight_not_broken 8 refl broken));
@@ -282,7 +258,7 @@ module _ (words : List (List ℕ)) (source read input now : SourceState) (sink a
         record {
           cause = record { fault = fault; offset = offset; cause = cause; line = tells };
           tells = tt;
-          comes = comes_begun 4 stream.legal stream.is_built (λ is. omega arith) (port_answers (command_of words) named runs.command never 4 (inl refl))
+          comes = comes_begun 4 stream.legal (λ is. omega arith) (port_answers (command_of words) named runs.command never 4 (inl refl))
               (λ sound _ _ _ _. absurd (some_not_none (input_fault sound.script sound.bytes) (fault, offset)
               (subst (λ left. IfSome left (λ bytes. input_fault sound.script bytes ≡ Some (fault, offset))) sound.told_bytes
               (use_script source.left sound.text sound.script (λ s. (s.input.kind ≡ kind.Wave) × IfSome input.left (λ bytes. input_fault s bytes ≡ Some (fault, offset))) sound.told_text sound.reads cause).1)
@@ -313,7 +289,7 @@ module _ (words : List (List ℕ)) (source read input now : SourceState) (sink a
         record {
           cause = cause;
           tells = tt;
-          comes = comes_begun 5 stream.legal stream.is_built (λ is. omega arith) (answers 5 (inr (inl refl))) (λ sound _ _ _ _. absurd (blocked sound));
+          comes = comes_begun 5 stream.legal (λ is. omega arith) (answers 5 (inr (inl refl))) (λ sound _ _ _ _. absurd (blocked sound));
           stands = stands_stopped words source read input now sink after report told before counts 5 named script runs (Lengths fault) stream.stopped (inl (inr (inl refl)))
               (λ _. wrote) (λ is. absurd (omega arith)) (λ _. inl refl) (λ _. kept);
         }
@@ -348,7 +324,7 @@ module _ (words : List (List ℕ)) (source read input now : SourceState) (sink a
     ends_window end full stream tells =
         let stopped = stream.stopped in
         let stops = stopped.stops in
-        let some = some_frame script (chosen named script) (record { sound = (runs.reads.text, runs.reads.reads); is_built = stream.is_built; legal = stream.legal }) in
+        let some = some_frame script (chosen named script) (record { sound = (runs.reads.text, runs.reads.reads); legal = stream.legal }) in
         ends_length_fault (length_fault.Window end full) stream
         (Window end full (for_taken stopped.given (λ s given. HasHeader s given × IsTakenWhole s given now × (window_at s.blocks (frames_in_bytes s given) ≡ Some (end, full))) stopped.gave (stops.has, stops.whole, stops.window)) tells)
         (inl (stops.has, stopped.put ∙ ap (append_known sink.put) stops.wrote)) stops.kept
@@ -393,16 +369,16 @@ module _ (words : List (List ℕ)) (source read input now : SourceState) (sink a
               settled = settled;
             };
             tells = tt;
-            comes = comes_begun 0 ran.goes.legal ran.goes.is_built (λ is. omega arith) (answers 0 (inl (inl refl))) (λ _ _ _ _ _. inl refl);
+            comes = comes_begun 0 ran.goes.legal (λ is. omega arith) (answers 0 (inl (inl refl))) (λ _ _ _ _ _. inl refl);
             stands = stands_ran words source read input now sink after report told before counts 0 named script runs summary ran (inl refl) tells (λ _. wrote);
           }
 
-      ends_unreported : Rose report.faults told.faults → Tells (summary_text summary) report told → End 9
+      ends_unreported : told.faults ≡ one_more report.faults → Tells (summary_text summary) report told → End 9
       ends_unreported risen tells =
           record {
             cause = record { risen = risen; tells = λ print. absurd (run_or_print words is_run print) };
             tells = tt;
-            comes = comes_begun 9 ran.goes.legal ran.goes.is_built (λ is. omega arith) (answers 9 (inl (inr refl))) (λ _ _ _ _ kept. absurd (kept risen));
+            comes = comes_begun 9 ran.goes.legal (λ is. omega arith) (answers 9 (inl (inr refl))) (λ _ _ _ _ kept. absurd (kept (rose _ _ risen)));
             stands = stands_ran words source read input now sink after report told before counts 9 named script runs summary ran (inr refl) tells (λ is. absurd (omega arith));
           }
 
@@ -423,7 +399,6 @@ module _ (words : List (List ℕ)) (source read input now : SourceState) (sink a
           usage = not_usage (command_of words) status other (subst IsSome (sym made.print) refl);
           faulty = λ _. told_sound source read made.script _ made.reads;
           illegal = λ run. absurd (run_or_print words run made.print);
-          unbuilt = λ run. absurd (run_or_print words run made.print);
           runnable = λ sound _ _ _ _. absurd (run_or_print words sound.run made.print);
           printable = printable;
         }
@@ -451,11 +426,11 @@ module _ (words : List (List ℕ)) (source read input now : SourceState) (sink a
           stands = stands_printed 0 (inl refl);
         }
 
-    pub ends_unprinted : Rose report.faults told.faults → Tells text report told → End 9
+    pub ends_unprinted : told.faults ≡ one_more report.faults → Tells text report told → End 9
     ends_unprinted risen tells =
         record {
           cause = record { risen = risen; tells = λ _. for_canon (λ text. Tells text report told) tells };
           tells = tt;
-          comes = comes_printed 9 (inr refl) (λ is. omega arith) (λ _ _ kept. absurd (kept risen));
+          comes = comes_printed 9 (inr refl) (λ is. omega arith) (λ _ _ kept. absurd (kept (rose _ _ risen)));
           stands = stands_printed 9 (inr refl);
         }

@@ -1,7 +1,6 @@
 -- Where each exit status of the top call comes from, and what its report says.
-use Rattle.std.specs.Prelude.{◌≡◌, ◌↔◌, ◌⊎◌, ◌+◌, ◌^◌, ◌≤◌, ℕ, Option, IsNone, IsSome, IfSome, IsTrue, IsFalse}
-use Rattle.dsp_ports.specs.Ports.{Rose, IsSettled}
-use Rattle.dsp_chain.specs.Built.{built}
+use Rattle.std.specs.Prelude.{◌≡◌, ◌↔◌, ◌⊎◌, ◌+◌, ◌^◌, ◌≤◌, ℕ, Option, IsNone, IsSome, IfSome, IsFalse}
+use Rattle.dsp_ports.specs.Ports.{Rose, one_more, IsSettled}
 use Rattle.dsp_defs.specs.Canon.{canon}
 use Rattle.dsp_defs.specs.Reading.{first_fault}
 use Rattle.dsp_defs.specs.Report.{block_length_line, script_line}
@@ -34,14 +33,11 @@ pub record Causes (c : Call) : Type 0 where
   -- 5: also where as many bytes were taken as may be, unless a fault was found there or the declared samples end there
   pub limited : c.later.taken ≡ c.port.taken + 2 ^ 40
       → (c.status ≡ 5) ⊎ (c.status ≡ 8) ⊎ MayEndAtLimit c.source.left c.port c.later c.status
-  -- 6 to 9: a port has failed
-  pub script_read : c.status ≡ 6 → Rose c.source.faults c.read.faults
-  pub input_read : c.status ≡ 7 → Rose c.port.faults c.later.faults
-  pub output_written : c.status ≡ 8 → Rose c.sink.faults c.after.faults
-  pub report_written : c.status ≡ 9 → Rose c.report.faults c.told.faults
-  -- 12: exactly where the script is of a form that isn't built
-  pub not_built : c.status ≡ 12 → IfScript c.source.left (λ s. IsTrue (is_legal_for s (chosen_block c.words s)) × IsFalse (built s))
-  pub unbuilt : IsStream c.words → IfScript c.source.left (λ s. IsTrue (is_legal_for s (chosen_block c.words s)) → IsFalse (built s) → EndsEarly 12 c)
+  -- 6 to 9: a port has failed, once
+  pub script_read : c.status ≡ 6 → c.read.faults ≡ one_more c.source.faults
+  pub input_read : c.status ≡ 7 → c.later.faults ≡ one_more c.port.faults
+  pub output_written : c.status ≡ 8 → c.after.faults ≡ one_more c.sink.faults
+  pub report_written : c.status ≡ 9 → c.told.faults ≡ one_more c.report.faults
 
 -- no port has failed
 pub record NoneFailed (c : Call) : Type 0 where

@@ -1,7 +1,6 @@
 -- What was done, or why it stopped.
 use Rattle.std.specs.Prelude.{◌≡◌, ◌⊎◌, ◌≤◌, ℕ, List, Option, Some, None, IsSome, IsTrue, IsFalse, Result, Ok, Err}
-use Rattle.dsp_ports.specs.Ports.{SourceState, SinkState, Rose, IsSettled}
-use Rattle.dsp_chain.specs.Built.{built}
+use Rattle.dsp_ports.specs.Ports.{SourceState, SinkState, one_more, IsSettled}
 use Rattle.dsp_defs.specs.Canon.{canon}
 use Rattle.dsp_defs.specs.Counts.{Counts}
 use Rattle.dsp_defs.specs.Grammar.{Reads}
@@ -22,7 +21,7 @@ use Rattle.dsp_cli.specs.Fault.{status_of, fault_line, summary_text}
 use Rattle.dsp_cli.specs.Script.{IsReadWhole, stream_of, chosen, is_legal_for}
 use Rattle.dsp_cli.specs.Run.{IsPrint, generated_source, Wrote, Tells}
 use Rattle.dsp_cli.specs.declared.fault.Fault.{Fault}
-use Rattle.dsp_cli.specs.declared.fault.Fault.TheVariants.{Usage, ScriptRead, Script as BadText, BlockLength, NotBuilt, Memory, Stream}
+use Rattle.dsp_cli.specs.declared.fault.Fault.TheVariants.{Usage, ScriptRead, Script as BadText, BlockLength, Memory, Stream}
 use Rattle.dsp_cli.specs.declared.report.Summary.{Summary}
 use Rattle.dsp_cli.specs.declared.top.Outcome.{Outcome}
 use Rattle.dsp_cli.specs.declared.top.Outcome.TheVariants as outcome
@@ -59,7 +58,6 @@ IsReading command made port later input now = (input ≡ port) × (now ≡ later
 -- the run went over the whole input of so many frames, with these measures
 pub record Goes (named : Option ℕ) (script : Script) (frames : ℕ) (found : List Measure) (input now : SourceState) (output after : SinkState) (before counts : Counts) : Type 0 where
   pub legal : IsTrue (is_legal_for script (chosen named script))
-  pub is_built : IsTrue (built script)
   pub done : Done script (chosen named script) frames input now output after before counts found
 
 -- and its report was made
@@ -102,7 +100,7 @@ pub record HasFault (fault : ScriptFault) (source now : SourceState) : Type 0 wh
 
 -- the script's source failed, or its text is no script
 abbrev pub FailsToLoad : Fault → SourceState → SourceState → Type 0
-FailsToLoad ScriptRead source now = Rose source.faults now.faults
+FailsToLoad ScriptRead source now = now.faults ≡ one_more source.faults
 FailsToLoad (BadText fault) source now = HasFault fault source now
 FailsToLoad Memory source now = Unit {0}
 FailsToLoad fault source now = ⊥
@@ -113,21 +111,14 @@ pub record StopsAtLength (block divisor : ℕ) (named : Option ℕ) (script : Sc
   pub block_is : block ≡ chosen named script
   pub divisor_is : divisor ≡ unit script.input.channels script.blocks
 
--- the script is of a form that isn't built
-pub record StopsAtForm (named : Option ℕ) (script : Script) : Type 0 where
-  pub legal : IsTrue (is_legal_for script (chosen named script))
-  pub unbuilt : IsFalse (built script)
-
 -- the stream stopped
 pub record StopsInStream (fault : StreamFault) (named : Option ℕ) (script : Script) (input now : SourceState) (output after : SinkState) (before counts : Counts) : Type 0 where
   pub legal : IsTrue (is_legal_for script (chosen named script))
-  pub is_built : IsTrue (built script)
   pub stopped : Stopped script (chosen named script) fault input now output after before counts
 
 -- why a script does not run, and what was called by then
 abbrev pub FailsToRun : Fault → Option ℕ → Script → SourceState → SourceState → SinkState → SinkState → Counts → Counts → Type 0
 FailsToRun (BlockLength block divisor) named script input now output after before counts = StopsAtLength block divisor named script × Untouched input now output after before counts
-FailsToRun NotBuilt named script input now output after before counts = StopsAtForm named script × Untouched input now output after before counts
 FailsToRun Memory named script input now output after before counts = Untouched input now output after before counts
 FailsToRun (Stream fault) named script input now output after before counts = StopsInStream fault named script input now output after before counts
 FailsToRun fault named script input now output after before counts = ⊥
@@ -165,7 +156,7 @@ StopsBy fault words source read input now output after before counts =
 
 -- the text was reported and settled, or the report has failed
 pub record ReportsText (text : List ℕ) (status : ℕ) (old new : SinkState) : Type 0 where
-  pub way : ((status ≡ 0) × (new.faults ≡ old.faults) × Wrote text old new × IsSettled new) ⊎ ((status ≡ 9) × Rose old.faults new.faults)
+  pub way : ((status ≡ 0) × (new.faults ≡ old.faults) × Wrote text old new × IsSettled new) ⊎ ((status ≡ 9) × (new.faults ≡ one_more old.faults))
   pub tells : Tells text old new
 
 -- the status of an outcome, and what became of the report

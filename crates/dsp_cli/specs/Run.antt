@@ -3,11 +3,10 @@ use Rattle.std.specs.Prelude.{◌≡◌, ◌⊎◌, ◌+◌, ◌-◌, ◌*◌, �
 use Rattle.std.specs.Option.{option_map}
 use Rattle.std.specs.Io.KnownBytes.{append_known}
 use Rattle.dsp_ports.specs.Ports.{SourceState, SinkState, Rose}
-use Rattle.dsp_chain.specs.Built.{built}
 use Rattle.dsp_defs.specs.Generator.{generated_bytes}
 use Rattle.dsp_defs.specs.Grammar.{Reads}
 use Rattle.dsp_defs.specs.Output.{HasHeader, input_header, input_signal, wanted_of, known_frames, format_of, channels_of, part}
-use Rattle.dsp_defs.specs.Report.{usage_line, header_line, input_limit_line, gather_line, window_line, riff_line, report_text, script_read_line, input_read_line, output_line, memory_line, not_built_line}
+use Rattle.dsp_defs.specs.Report.{usage_line, header_line, input_limit_line, gather_line, window_line, riff_line, report_text, script_read_line, input_read_line, output_line, memory_line}
 use Rattle.dsp_defs.specs.Shape.{gathered, held, window_at}
 use Rattle.dsp_defs.specs.Streaming.{Begins}
 use Rattle.dsp_defs.specs.Wave.{header_of, HeaderFits}
@@ -63,13 +62,13 @@ IsStopped status = IsBroken status ⊎ (status ≡ 8)
 
 -- nothing was begun
 abbrev pub IsRefused : ℕ → Type 0
-IsRefused status = (status ≡ 1) ⊎ (status ≡ 2) ⊎ (status ≡ 3) ⊎ (status ≡ 6) ⊎ (status ≡ 10) ⊎ (status ≡ 12)
+IsRefused status = (status ≡ 1) ⊎ (status ≡ 2) ⊎ (status ≡ 3) ⊎ (status ≡ 6) ⊎ (status ≡ 10)
 
 -- the statuses that a command may end with
 abbrev pub IsAnswer : Option Command → ℕ → Type 0
 IsAnswer None status = status ≡ 1
-IsAnswer (Some (Run named)) status = IsDone status ⊎ IsStopped status ⊎ (status ≡ 2) ⊎ (status ≡ 3) ⊎ (status ≡ 6) ⊎ (status ≡ 10) ⊎ (status ≡ 12)
-IsAnswer (Some (Gen seed frames)) status = IsDone status ⊎ (status ≡ 5) ⊎ (status ≡ 8) ⊎ (status ≡ 2) ⊎ (status ≡ 3) ⊎ (status ≡ 6) ⊎ (status ≡ 10) ⊎ (status ≡ 12)
+IsAnswer (Some (Run named)) status = IsDone status ⊎ IsStopped status ⊎ (status ≡ 2) ⊎ (status ≡ 3) ⊎ (status ≡ 6) ⊎ (status ≡ 10)
+IsAnswer (Some (Gen seed frames)) status = IsDone status ⊎ (status ≡ 5) ⊎ (status ≡ 8) ⊎ (status ≡ 2) ⊎ (status ≡ 3) ⊎ (status ≡ 6) ⊎ (status ≡ 10)
 IsAnswer (Some Print) status = IsDone status ⊎ (status ≡ 2) ⊎ (status ≡ 6) ⊎ (status ≡ 10)
 
 -- ---- what is read
@@ -172,8 +171,7 @@ line_of_status status =
     else (if status == 7 then Some input_read_line
     else (if status == 8 then Some output_line
     else (if status == 10 then Some memory_line
-    else (if status == 12 then Some not_built_line
-    else None)))))
+    else None))))
 
 -- the input is WAVE and has this fault, and the line says it
 pub record TellsHeader (text : Option (List ℕ)) (input : SourceState) (report told : SinkState) : Type 0 where
@@ -229,7 +227,7 @@ abbrev pub IsGood : Option Command → Script → List ℕ → Type 0
 IsGood (Some (Gen seed frames)) script bytes = Unit {0}
 IsGood command script bytes = (input_fault script bytes ≡ None) × InLimit script bytes
 
--- a run or a gen, a script that is built, and an input that is whole and keeps all limits: nothing stands in the way
+-- a run or a gen, a sound script, and an input that is whole and keeps all limits: nothing stands in the way
 pub record IsRunnable (words : List (List ℕ)) (source port : SourceState) : Type 0 where
   pub run : IsStream words
   pub text : List ℕ
@@ -237,7 +235,6 @@ pub record IsRunnable (words : List (List ℕ)) (source port : SourceState) : Ty
   pub script : Script
   pub reads : Reads text script
   pub legal : IsTrue (is_legal_for script (chosen_block words script))
-  pub is_built : IsTrue (built script)
   pub bytes : List ℕ
   pub told_bytes : (read_from (command_of words) script.input port).left ≡ Some bytes
   pub good : IsGood (command_of words) script bytes

@@ -12,8 +12,6 @@ pub enum Fault {
     Script(ScriptFault),
     /// No block may have so many frames; `unit` divides each length that it may have, and is 0 where there is none.
     BlockLength { block: u64, unit: u64 },
-    /// The script is of a form that is not built.
-    NotBuilt,
     /// Want of memory.
     Memory,
     /// The stream stopped.

@@ -26,7 +26,6 @@ pub fn status_of(fault: &Fault) -> u8
         Fault::Stream(StreamFault::Input) => 7,
         Fault::Stream(StreamFault::Output) => 8,
         Fault::Memory => 10,
-        Fault::NotBuilt => 12,
     }
 }
 
@@ -204,7 +203,6 @@ pub fn line_of(fault: &Fault) -> Line
         Fault::ScriptRead => text(&mut line, b"dspfx: script not read\n"),
         Fault::Script(fault) => script_line(&mut line, *fault),
         Fault::BlockLength { block, unit } => block_length_line(&mut line, *block, *unit),
-        Fault::NotBuilt => text(&mut line, b"dspfx: form not built\n"),
         Fault::Memory => text(&mut line, b"dspfx: want of memory\n"),
         Fault::Stream(StreamFault::Header { fault, offset }) => {
             header_line(&mut line, *fault, *offset);

@@ -1,6 +1,6 @@
 ghost use Rattle.std.specs.Prelude.{◌≡◌, ◌+◌, ◌≤◌, IfOk, IsErrOf};
 ghost use Rattle.dsp_defs.specs.declared.limits.TheConstants.{MAX_SCRIPT};
-ghost use Rattle.dsp_ports.specs.Ports.{Rose};
+ghost use Rattle.dsp_ports.specs.Ports.{one_more};
 ghost use Rattle.dsp_cli.specs.Script.{IsReadWhole};
 
 use dsp_defs::MAX_SCRIPT;
@@ -18,7 +18,7 @@ pub enum ReadFault {
 pub fn read_script<P: Source>(alloc: Global, script: &mut P) -> Result<Vec<u8>, ReadFault>
     ensures read { IfOk result (λ text. IsReadWhole (P.state script.old) (P.state script.new) text.items) }
     ensures taken { (P.state script.new).taken ≤ (P.state script.old).taken + MAX_SCRIPT + 1 }
-    ensures failed { IsErrOf result ReadFault.Failed → Rose (P.state script.old).faults (P.state script.new).faults }
+    ensures failed { IsErrOf result ReadFault.Failed → (P.state script.new).faults ≡ one_more (P.state script.old).faults }
 {
     let mut text = Vec::new(alloc);
     let mut chunk = [0; 4096];

@@ -22,7 +22,6 @@ use crate::fault_line::{line_of, status_of};
 use crate::report::{Summary, find_measures, head_of};
 use crate::script::{ReadFault, read_script};
 use crate::words::Words;
-use dsp_chain::is_built;
 use dsp_defs::{Command, Flow, Measure, Script, Steps};
 use dsp_measure::line;
 use dsp_ports::{Failed, Sink, Source, write_all};
@@ -87,9 +86,6 @@ fn run_script<S: Source, K: Sink, L: Ledger>(
     if !legal(script, block) {
         let unit = unit(script);
         return Err(Fault::BlockLength { block, unit });
-    }
-    if !is_built(script) {
-        return Err(Fault::NotBuilt);
     }
     let Ok(mut session) = Session::new(alloc, script, block) else {
         return Err(Fault::Memory);

@@ -123,10 +123,6 @@ output_line = line (codes "dspfx: output not written")
 abbrev pub memory_line : List ℕ
 memory_line = line (codes "dspfx: want of memory")
 
--- the script is sound, and of a form that isn't built
-abbrev pub not_built_line : List ℕ
-not_built_line = line (codes "dspfx: form not built")
-
 -- ---- a run that is done
 
 -- `dspfx: done`

@@ -1,7 +1,7 @@
 -- What is taken of an input for one block.
 use Rattle.std.specs.Prelude.{◌≡◌, ℕ, ◌<◌, ◌≤◌, List, length, take}
 use Rattle.std.specs.Io.KnownBytes.{IsAtEnd}
-use Rattle.dsp_ports.specs.Ports.{SourceState, Rose, Gave}
+use Rattle.dsp_ports.specs.Ports.{SourceState, one_more, Gave}
 use Rattle.dsp_ports.specs.declared.filling.FillFault.{FillFault}
 use Rattle.dsp_ports.specs.declared.filling.FillFault.TheVariants.{Failed, LimitReached}
 
@@ -17,7 +17,7 @@ pub record Filled (old new : SourceState) (block : List ℕ) (room count : ℕ) 
 
 -- the source has failed, or all the room was taken
 abbrev pub HasFillCause : FillFault → SourceState → SourceState → ℕ → ℕ → Type 0
-HasFillCause Failed old new count room = (old.faults ≤ new.faults) × Rose old.faults new.faults × (count < room)
+HasFillCause Failed old new count room = (new.faults ≡ one_more old.faults) × (count < room)
 HasFillCause LimitReached old new count room = (new.faults ≡ old.faults) × (count ≡ room)
 
 -- less than a block came

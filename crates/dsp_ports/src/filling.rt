@@ -1,4 +1,4 @@
-ghost use Rattle.std.specs.Prelude.{◌≡◌, ◌+◌, ◌<◌, ◌≤◌, ◌^◌, length, IfOk, IfErr};
+ghost use Rattle.std.specs.Prelude.{◌≡◌, ◌+◌, ◌<◌, ◌≤◌, ◌^◌, ◌⊎◌, length, IfOk, IfErr};
 ghost use Rattle.dsp_ports.specs.Fill.{Filled, Unfilled};
 
 use crate::source::Source;
@@ -6,14 +6,18 @@ use crate::source::Source;
 /// Why a block was not filled: its source has failed, or no more bytes may be taken of it.
 #[derive(Clone, Copy, Debug, PartialEq, Eq)]
 pub enum FillFault {
+    /// The source has failed.
     Failed,
+    /// No more bytes may be taken.
     LimitReached,
 }
 
-/// Reads until the block is full or the input has ended, and takes at most `room` bytes.
+/// Reads until the block is full or the input has ended, and takes at most `room` bytes. It does not read where
+/// nothing is missing or nothing may be taken.
 pub fn fill<S: Source>(input: &mut S, block: &mut [u8], room: u64) -> Result<usize, FillFault>
     ensures ok { IfOk result (λ count. Filled (S.state input.old) (S.state input.new) block.new room count) }
     ensures err { IfErr result (λ fault. Unfilled (S.state input.old) (S.state input.new) (length block.new) room fault) }
+    ensures untouched { length block.old ≡ 0 ⊎ room ≡ 0 → input.new ≡ input.old }
 {
     let mut filled = 0;
     while filled < block.len() {

@@ -2,6 +2,7 @@ ghost use Rattle.std.specs.Prelude.{◌≡◌, ◌≤◌, ◌≤ℤ◌, pos, neg
 ghost use Rattle.dsp_defs.specs.Numbers.{floor_shift};
 ghost use Rattle.dsp_defs.specs.Elementwise.{shift_in};
 
+/// The number divided by 2^s, rounded down.
 pub fn floor_shift(v: i128, s: u32) -> i128
     requires { s ≤ 126 }
     ensures { result ≡ floor_shift v s }

@@ -3,7 +3,7 @@ use Rattle.std.proofs.Common.{◌≡◌, ℕ, suc, ◌+◌, ◌-◌, ◌*◌, �
 use Rattle.std.proofs.lemmas.Bool.{cases_lt}
 use Rattle.std.proofs.lemmas.List.{length-take-le, take-take}
 use Rattle.std.specs.Io.KnownBytes.{append_known}
-use Rattle.dsp_ports.specs.Ports.{SourceState, SinkState, Rose, IsSettled}
+use Rattle.dsp_ports.specs.Ports.{SourceState, SinkState, one_more, IsSettled}
 use Rattle.dsp_ports.proofs.Moved.{append_known-append}
 use Rattle.dsp_defs.specs.Block.{Frame}
 use Rattle.dsp_defs.specs.Counts.{Counts}
@@ -241,7 +241,7 @@ module _ (script : Script) (block : ℕ) (ready : IsReady script block) (session
           has = has;
           wrote = inr ((back ++ (tail ++ output_pad script header), begins), is_whole);
           limits = limits;
-          risen = omega (arith, risen, passed.no_output_fault);
+          risen = risen ∙ ap one_more passed.no_output_fault;
           clean = passed.no_input_fault;
         };
         lag = λ _. lag written;
@@ -362,7 +362,7 @@ module _ (script : Script) (block : ℕ) (ready : IsReady script block) (session
           }
 
       pub stream_unfinished : {E : Type 0} (error : E) (final : SinkState) (spent : Counts) → WritesRest {T = Unit {0}} (Err error) (live_bytes fed.script y) (whole_bytes fed.script y ++ output_pad fed.script header) mid final → TailCosts {T = Unit {0}} (Err error) fed.script (length y) fed_counts spent
-          → Rose mid.faults final.faults → Stopped script block fault.Output input now sink final before spent
+          → final.faults ≡ one_more mid.faults → Stopped script block fault.Output input now sink final before spent
       stream_unfinished error final spent writes costs failed =
           let tail = tail_writes (Err error) final spent writes costs in
           let (back, split) = tail.begins in
@@ -378,7 +378,7 @@ module _ (script : Script) (block : ℕ) (ready : IsReady script block) (session
               has = has;
               wrote = inr ((back, begins), is_whole);
               limits = limits;
-              risen = omega (arith, failed, passes.no_fault, passed.no_output_fault);
+              risen = failed ∙ ap one_more (passes.no_fault ∙ passed.no_output_fault);
               clean = passed.no_input_fault;
             };
             lag = λ _. lag (fed.out ++ tail.written);

@@ -3,7 +3,7 @@ use Rattle.std.proofs.Common.{◌≡◌, ℕ, ◌*◌, ◌/◌, ◌<◌, ◌≤�
 use Rattle.std.proofs.lemmas.List.{take-append-drop}
 use Rattle.std.specs.Result.{IsOk}
 use Rattle.std.specs.Io.KnownBytes.{append_known}
-use Rattle.dsp_ports.specs.Ports.{SourceState, SinkState, Rose, Gave, Took}
+use Rattle.dsp_ports.specs.Ports.{SourceState, SinkState, one_more, Gave, Took}
 use Rattle.dsp_ports.proofs.Moved.{Took-nil}
 use Rattle.dsp_defs.specs.Block.{channels_after}
 use Rattle.dsp_defs.specs.Grammar.{IsChain}
@@ -163,7 +163,7 @@ module _ (script : Script) (block : ℕ) (counts : Counts) (ready : IsReady scri
       ap (frames_in_bytes script) (sym (append-nil first)) ∙ frames_are script (some_frame script block ready) header first opened.opens [] none_declared
       ∙ ap length (signal-nil script (some_frame script block ready))
 
-  pub stops_unwritten : Fits script header → (after : SinkState) (count : ℕ) → Took sink after (take count (output_header script header)) → Rose sink.faults after.faults → Stopped script block fault.Output input now sink after counts counts
+  pub stops_unwritten : Fits script header → (after : SinkState) (count : ℕ) → Took sink after (take count (output_header script header)) → after.faults ≡ one_more sink.faults → Stopped script block fault.Output input now sink after counts counts
   stops_unwritten fits after count took risen =
       let all = output_header script header in
       let parted : part script block first ≡ all ++ live_bytes script (signal script []) =

@@ -4,7 +4,7 @@ use Rattle.std.specs.Prelude.{is_some}
 use Rattle.std.proofs.lemmas.Bool.{cases_lt}
 use Rattle.std.proofs.lemmas.List.{take_at, take_all}
 use Rattle.std.specs.Io.KnownBytes.{append_known}
-use Rattle.dsp_ports.specs.Ports.{SourceState, SinkState, Gave, Took}
+use Rattle.dsp_ports.specs.Ports.{SourceState, SinkState, Gave, Took, one_more as fault_more}
 use Rattle.dsp_ports.proofs.Moved.{Gave-nil, Took-nil, Gave-append, Took-append, append_known-append}
 use Rattle.dsp_defs.specs.Block.{Frame, live, live_chain, format_after, channels_after}
 use Rattle.dsp_defs.specs.Counts.{Counts}
@@ -394,7 +394,7 @@ module _ (script : Script) (block : ℕ) (ready : IsReady script block) (header 
       stops : (f : StreamFault) → IsUnread f script header (taken + length bytes) now later → StopsAt f script block given wrote origin later empty then before counts
       stops fault.Input cause = record {
         wrote = Part has parted no_fault_written limits;
-        risen = omega (arith, cause.0, going.no_input_fault, no_fault_read);
+        risen = cause.0 ∙ ap fault_more (going.no_input_fault ∙ no_fault_read);
         in_limit = omega (arith, cause.1, count);
       }
       stops (fault.Lengths (length_fault.Input told most)) cause = record {
@@ -518,7 +518,7 @@ module _ (script : Script) (block : ℕ) (ready : IsReady script block) (header 
                 has = opens.has (heard ++ piece);
                 wrote = inl (written_front added written is front);
                 limits = blocks_keep script block header taken_bytes (opens.said (heard ++ piece)) begun.fits whole_all (subst (λ n. gathered script.blocks n ≤ MAX_GATHERED) (all_frames ∙ frames_all) kept);
-                risen = omega (arith, risen, going.no_output_fault, begun.no_fault);
+                risen = risen ∙ ap fault_more (going.no_output_fault ∙ begun.no_fault);
                 clean = read.no_fault ∙ going.no_input_fault ∙ begun.opened.no_fault;
               };
               lag = λ _. lags script block ready header first opens going.blocks heard piece written heard_declared going.blocks_heard (omega (arith, long));

@@ -1,6 +1,6 @@
 -- The begin of a stream: what is taken of the input before its first sample, and what is written before the first one.
 use Rattle.std.specs.Prelude.{◌≡◌, ℕ, ◌^◌, ◌<◌, ◌≤◌, List, ◌++◌, length, Option, Some, Err}
-use Rattle.dsp_ports.specs.Ports.{SourceState, SinkState, Rose, Gave, Took}
+use Rattle.dsp_ports.specs.Ports.{SourceState, SinkState, one_more, Gave, Took}
 use Rattle.dsp_defs.specs.Output.{HasHeader, input_header, output_header, known_frames, wanted_of, format_of, channels_of}
 use Rattle.dsp_defs.specs.Wave.{header_of, riff_size, HeaderFits}
 use Rattle.dsp_defs.specs.declared.format.Container.TheVariants as container
@@ -39,7 +39,7 @@ pub record IsUnheaded (script : Script) (given : List ℕ) : Type 0 where
 
 -- the cause of an end without a header, where these bytes were taken
 abbrev pub IsUnopened : StreamFault → Script → List ℕ → SourceState → SourceState → Type 0
-IsUnopened fault.Input script given input now = Rose input.faults now.faults × (length given < 2 ^ 40) × (HasHeader script given → ⊥)
+IsUnopened fault.Input script given input now = (now.faults ≡ one_more input.faults) × (length given < 2 ^ 40) × (HasHeader script given → ⊥)
 IsUnopened (fault.Header fault offset) script given input now =
     (script.input.kind ≡ kind.Wave) × IsSure (λ bytes. header_of bytes (wanted_of script)) now given (Err (fault, offset)) × (now.faults ≡ input.faults)
 IsUnopened (fault.Lengths (length_fault.Input taken limit)) script given input now =

@@ -1,7 +1,7 @@
 -- Block after block: what is taken, worked on and written.
 use Rattle.std.specs.Prelude.{◌≡◌, ℕ, ◌+◌, ◌*◌, ◌/◌, ◌^◌, ◌<◌, ◌≤◌, List, ◌++◌, length, take, Option, Some, None, IfSome, Result, OnOk}
 use Rattle.std.specs.Io.KnownBytes.{IsAtEnd, append_known}
-use Rattle.dsp_ports.specs.Ports.{SourceState, SinkState, Rose, Gave, Took}
+use Rattle.dsp_ports.specs.Ports.{SourceState, SinkState, one_more, Gave, Took}
 use Rattle.dsp_defs.specs.Block.{Frame}
 use Rattle.dsp_defs.specs.Counts.{Counts}
 use Rattle.dsp_defs.specs.Output.{live_bytes, output_header}
@@ -43,7 +43,7 @@ pub record BlockRead (script : Script) (header : Header) (taken : ℕ) (block : 
 
 -- why it did not come
 abbrev pub IsUnread : StreamFault → Script → Header → ℕ → SourceState → SourceState → Type 0
-IsUnread fault.Input script header taken input now = Rose input.faults now.faults × (header.start + taken < 2 ^ 40)
+IsUnread fault.Input script header taken input now = (now.faults ≡ one_more input.faults) × (header.start + taken < 2 ^ 40)
 IsUnread (fault.Lengths (length_fault.Input told most)) script header taken input now =
     (header.start + taken ≡ 2 ^ 40) × (told ≡ 2 ^ 40) × (most ≡ 2 ^ 40) × (now.faults ≡ input.faults) × IfSome (declared_bytes script header) (λ size. taken < size)
 IsUnread (fault.Header fault offset) script header taken input now =
@@ -79,7 +79,7 @@ pub record Passes (script : Script) (x : List Frame) (bytes : List ℕ) (new : S
 abbrev pub FailsToPass : StreamFault → Script → List Frame → List ℕ → SinkState → SinkState → Counts → Counts → Type 0
 FailsToPass fault.Output script x bytes sink after before counts =
     (given written : List ℕ) × (live_bytes script (x ++ signal script bytes) ≡ live_bytes script x ++ given) × Begins written given
-    × (after.put ≡ append_known sink.put written) × Rose sink.faults after.faults × PassCosts script x bytes before counts
+    × (after.put ≡ append_known sink.put written) × (after.faults ≡ one_more sink.faults) × PassCosts script x bytes before counts
     × (gathered script.blocks (length (x ++ signal script bytes)) ≤ MAX_GATHERED)
 FailsToPass (fault.Lengths (length_fault.Gather told more)) script x bytes sink after before counts =
     (MAX_GATHERED < gathered script.blocks (length (x ++ signal script bytes))) × (told ≡ held script.blocks (length x))

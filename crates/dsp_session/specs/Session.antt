@@ -14,7 +14,6 @@ use Rattle.dsp_defs.specs.declared.fault.GatherFull.{GatherFull}
 use Rattle.dsp_defs.specs.declared.limits.TheConstants.{MAX_GATHERED}
 use Rattle.dsp_defs.specs.declared.measure.Measure.{Measure}
 use Rattle.dsp_defs.specs.declared.script.Script.{Script}
-use Rattle.dsp_chain.specs.Built.{built}
 use Rattle.dsp_chain.specs.Chain.{ChainStandsFor, ChainGave, IsLive, IsSpent, input_place, given_of, made_of}
 use Rattle.dsp_session.specs.SessionState.{SessionState}
 
@@ -73,10 +72,9 @@ measures_of script x = measure.measures script.input.format script.input.channel
 
 -- ---- sessions
 
--- a session of a sound script that is built, in blocks of a legal length
+-- a session of a sound script, in blocks of a legal length
 pub record IsReady (script : Script) (block : ℕ) : Type 0 where
   pub sound : IsSound script
-  pub is_built : IsTrue (built script)
   pub legal : IsTrue (is_legal script.input.channels script.blocks block)
 
 -- its chain is that of the script

@@ -2,7 +2,7 @@
 use Rattle.std.specs.Prelude.{◌≡◌, ◌⊎◌, ℕ, ◌+◌, ◌-◌, ◌*◌, ◌/◌, ◌^◌, ◌<◌, ◌≤◌, List, length, take, Option, Some, None, Err, IfSome}
 use Rattle.std.specs.Io.KnownBytes.{IsAtEnd, append_known}
 use Rattle.dsp_defs.specs.Counts.{Counts}
-use Rattle.dsp_ports.specs.Ports.{SourceState, SinkState, Rose, Gave, IsSettled}
+use Rattle.dsp_ports.specs.Ports.{SourceState, SinkState, one_more, Gave, IsSettled}
 use Rattle.dsp_defs.specs.Output.{HasHeader, input_header, input_signal, wanted_of, known_frames, output, part}
 use Rattle.dsp_defs.specs.Shape.{gathered, held, window_at}
 use Rattle.dsp_defs.specs.Streaming.{Begins}
@@ -76,7 +76,7 @@ pub data WrotePart (script : Script) (block : ℕ) (given written : List ℕ) (s
 -- the input has failed
 pub record StopsAtInput (script : Script) (block : ℕ) (given written : List ℕ) (input now : SourceState) (sink after : SinkState) : Type 0 where
   pub wrote : WrotePart script block given written sink after
-  pub risen : Rose input.faults now.faults
+  pub risen : now.faults ≡ one_more input.faults
   pub in_limit : length given < 2 ^ 40
 
 -- as many bytes were taken as may be, and a further one is wanted
@@ -153,7 +153,7 @@ pub record StopsAtOutput (script : Script) (block : ℕ) (given written : List �
   pub has : HasHeader script given
   pub wrote : Begins written (part script block given) ⊎ (Begins written (output script given) × IsTakenWhole script given now)
   pub limits : BlocksKeepLimits script block given
-  pub risen : Rose sink.faults after.faults
+  pub risen : after.faults ≡ one_more sink.faults
   pub clean : now.faults ≡ input.faults
 
 -- what each fault says of what was taken and written

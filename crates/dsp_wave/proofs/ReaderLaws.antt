@@ -8,7 +8,7 @@ use Rattle.std.specs.Int.{from_le_bytes}
 use Rattle.dsp_defs.specs.Numbers.{w32}
 use Rattle.std.specs.Option.{is_none}
 use Rattle.std.specs.Str.{bytes_eq}
-use Rattle.dsp_ports.specs.Ports.{SourceState, Rose}
+use Rattle.dsp_ports.specs.Ports.{SourceState, one_more}
 use Rattle.dsp_ports.specs.Fill.{Filled, Unfilled}
 use Rattle.dsp_ports.specs.declared.filling.FillFault.TheVariants.{Failed}
 use Rattle.std.specs.Result.{IsErr}
@@ -41,7 +41,7 @@ both_came place first second old mid now front back a b =
 missed_later : (error : HeaderOr) (place first : ℕ) (old mid now : SourceState) (front bytes : List ℕ) → length front ≡ first → mid.faults ≡ old.faults → IsMissed error (place + first) mid now bytes → IsMissed error place old now (front ++ bytes)
 missed_later (Fault fault offset) place first old mid now front bytes long clean missed =
     (missed.0, omega (arith, missed.1, long, length-append front bytes), missed.2, missed.3 ∙ clean)
-missed_later Read place first old mid now front bytes long clean missed = (omega (arith, missed.0, clean), subst (λ n. Rose n now.faults) clean missed.1, omega (arith, missed.2, long, length-append front bytes))
+missed_later Read place first old mid now front bytes long clean missed = (missed.0 ∙ ap one_more clean, omega (arith, missed.1, long, length-append front bytes))
 missed_later Long place first old mid now front bytes long clean missed = (omega (arith, missed.0, long, length-append front bytes), missed.1 ∙ clean)
 
 pub missing_later : (place first second : ℕ) (old mid now : SourceState) (front : List ℕ) (error : HeaderOr) → Came place first old mid front → Missing (place + first) second mid now error → Missing place (first + second) old now error
@@ -64,7 +64,7 @@ module _ (says : Says) (place : ℕ) (old now : SourceState) where
   caused : (error : HeaderOr) (bytes : List ℕ) → says bytes ≡ Err (NoSamples, place + length bytes) → IsMissed error place old now bytes → HasCause error says place old now bytes
   caused (Fault fault offset) bytes said missed =
       (inr (missed.2, said ∙ ap₂ {C = Result Header (HeaderFault × ℕ)} (λ (f : HeaderFault) (o : ℕ). Err (f, o)) (sym missed.0) (sym missed.1)), missed.3)
-  caused Read bytes said missed = (missed.0, missed.1, missed.2, subst IsErr (sym said) refl)
+  caused Read bytes said missed = (missed.0, missed.1, subst IsErr (sym said) refl)
   caused Long bytes said missed = (missed.0, said ∙ ap {B = Result Header (HeaderFault × ℕ)} (λ (o : ℕ). Err (NoSamples, o)) missed.0, missed.1)
 
   -- fewer bytes came than any header needs
@@ -275,7 +275,7 @@ fails_riff wanted old now u =
       bytes = u.bytes;
       gave = u.gave;
       in_limit = omega (arith, u.in_room);
-      cause = (u.cause.0, u.cause.1, omega (arith, u.cause.2), short_file wanted u.bytes u.short);
+      cause = (u.cause.0, omega (arith, u.cause.1), short_file wanted u.bytes u.short);
     }
 
 module _ (wanted : Wanted) (old now : SourceState) (block : List ℕ) (count : ℕ) (twelve : length block ≡ 12) (filled : Filled old now block (2 ^ 40) count) where
@@ -343,7 +343,7 @@ module _ (says later : Says) (place : ℕ) (old mid now : SourceState) (front : 
   cause_sooner : (error : HeaderOr) (bytes : List ℕ) → HasCause error later place mid now bytes → HasCause error says 0 old now (front ++ bytes)
   cause_sooner (Fault fault offset) bytes (inl sure, clean) = (inl (λ more. said_sooner bytes more ∙ sure more), clean ∙ came.no_fault)
   cause_sooner (Fault fault offset) bytes (inr (end, sure), clean) = (inr (end, said bytes ∙ sure), clean ∙ came.no_fault)
-  cause_sooner Read bytes cause = (omega (arith, cause.0, came.no_fault), subst (λ n. Rose n now.faults) came.no_fault cause.1, omega (arith, cause.2, came.long, length-append front bytes), subst IsErr (sym (said bytes)) cause.3)
+  cause_sooner Read bytes cause = (cause.0 ∙ ap one_more came.no_fault, omega (arith, cause.1, came.long, length-append front bytes), subst IsErr (sym (said bytes)) cause.2)
   cause_sooner Long bytes cause = (omega (arith, cause.0, came.long, length-append front bytes), said bytes ∙ cause.1, cause.2 ∙ came.no_fault)
 
   pub stopped_sooner : (error : HeaderOr) → Stopped later place mid now error → Stopped says 0 old now error

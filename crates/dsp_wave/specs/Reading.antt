@@ -1,7 +1,7 @@
 -- What a header's reader answers, and what it has taken of its source by then.
 use Rattle.std.specs.Prelude.{◌≡◌, ℕ, ◌+◌, ◌^◌, ◌<◌, ◌≤◌, ◌⊎◌, IsErr, List, ◌++◌, length, Option, Result, Ok, Err}
 use Rattle.std.specs.Io.KnownBytes.{IsAtEnd}
-use Rattle.dsp_ports.specs.Ports.{SourceState, Rose, Gave}
+use Rattle.dsp_ports.specs.Ports.{SourceState, one_more, Gave}
 use Rattle.dsp_defs.specs.Wave.{chunks_behind, header_in}
 use Rattle.dsp_defs.specs.declared.wave.Wanted.{Wanted}
 use Rattle.dsp_defs.specs.declared.wave.Header.{Header}
@@ -26,7 +26,7 @@ IsSure says now bytes answer = ((more : List ℕ) → says (bytes ++ more) ≡ a
 -- file, or 2^40 such bytes from the file's begin
 abbrev pub HasCause : HeaderOr → Says → ℕ → SourceState → SourceState → List ℕ → Type 0
 HasCause (Fault fault offset) says place old now bytes = IsSure says now bytes (Err (fault, offset)) × (now.faults ≡ old.faults)
-HasCause Read says place old now bytes = (old.faults ≤ now.faults) × Rose old.faults now.faults × (place + length bytes < 2 ^ 40) × IsErr (says bytes)
+HasCause Read says place old now bytes = (now.faults ≡ one_more old.faults) × (place + length bytes < 2 ^ 40) × IsErr (says bytes)
 HasCause Long says place old now bytes = (place + length bytes ≡ 2 ^ 40) × (says bytes ≡ Err (NoSamples, 2 ^ 40)) × (now.faults ≡ old.faults)
 
 -- no header came: what was taken, and why

@@ -1,7 +1,7 @@
 -- What is taken of a source for a piece of a header.
 use Rattle.std.specs.Prelude.{◌≡◌, ℕ, ◌+◌, ◌^◌, ◌<◌, ◌≤◌, List, [], ◌++◌, length, Option, None}
 use Rattle.std.specs.Io.KnownBytes.{IsAtEnd}
-use Rattle.dsp_ports.specs.Ports.{SourceState, Rose, Gave}
+use Rattle.dsp_ports.specs.Ports.{SourceState, one_more, Gave}
 use Rattle.dsp_defs.specs.Wave.{Chunk, header_of}
 use Rattle.dsp_defs.specs.declared.wave.Wanted.{Wanted}
 use Rattle.dsp_defs.specs.declared.wave.HeaderFault.TheVariants.{NoSamples}
@@ -21,7 +21,7 @@ pub record Came (place count : ℕ) (old now : SourceState) (bytes : List ℕ) :
 -- why fewer came: the file has ended, the source has failed, or all was taken that may be
 abbrev pub IsMissed : HeaderOr → ℕ → SourceState → SourceState → List ℕ → Type 0
 IsMissed (Fault fault offset) place old now bytes = (fault ≡ NoSamples) × (offset ≡ place + length bytes) × IsAtEnd now.left × (now.faults ≡ old.faults)
-IsMissed Read place old now bytes = (old.faults ≤ now.faults) × Rose old.faults now.faults × (place + length bytes < 2 ^ 40)
+IsMissed Read place old now bytes = (now.faults ≡ one_more old.faults) × (place + length bytes < 2 ^ 40)
 IsMissed Long place old now bytes = (place + length bytes ≡ 2 ^ 40) × (now.faults ≡ old.faults)
 
 pub record Missing (place count : ℕ) (old now : SourceState) (error : HeaderOr) : Type 0 where

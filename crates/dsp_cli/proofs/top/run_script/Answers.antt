@@ -23,7 +23,6 @@ returns-clause-ok g c =
     record {
       goes = record {
         legal = subst (λ n. IsTrue (is_legal_for script n)) c.chosen-block.ensures legal;
-        is_built = search;
         done = done_by _ _ _ _ _ _ _ _ _ _ _ _ _ same (c.in-Ok.ensures.block_is ∙ c.chosen-block.ensures) c.find_measures.ensures c.in-Ok-stream.ensures.ok;
       };
       text = text_by script summary refl c.output_flow.ensures

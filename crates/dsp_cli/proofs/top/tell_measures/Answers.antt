@@ -31,7 +31,7 @@ returns-in_err-write_all-clause-tells g c =
     let took' : Took (g.R.Sink.state c.loop-measure.report) (g.R.Sink.state c.write_all.new.sink) (take count line) = rw (c.deref.ensures.0, c.line.ensures) at took in
     let wrote = wrote-more (g.R.Sink.state c.args.report.now) (g.R.Sink.state c.loop-measure.report) (g.R.Sink.state c.write_all.new.sink) (lines (take i ms)) (take count line) c.loop-measure.invariant.0 took' in
     tells-front (g.R.Sink.state c.args.report.now) (g.R.Sink.state c.write_all.new.sink) (lines ms) _ (line-begins ms i count (Power 0 0 (pos 0)) c.loop-measure-test.true) wrote
-    (rw (← c.loop-measure.invariant.1) c.in_err-write_all.ensures.faults.1)
+    (rw (← c.loop-measure.invariant.1) c.in_err-write_all.ensures.faults)
 
 pub returns-in_err-write_all-clause-faults : goal.returns-in_err-write_all-clause-faults
 returns-in_err-write_all-clause-faults g c =

@@ -11,7 +11,7 @@ returns-in_err-write_all-clause-tells g c =
     let (count, took) = c.in_err-write_all.ensures.took in
     let took' : Took (g.R.Sink.state c.args.report.now) (g.R.Sink.state c.write_all.new.sink) (take count head) = rw (c.deref.ensures.0, c.head_of.ensures) at took in
     tells-front (g.R.Sink.state c.args.report.now) (g.R.Sink.state c.write_all.new.sink) (head ++ lines c.args.summary.now.measures.items) (take count head)
-    (head-begins head (lines c.args.summary.now.measures.items) count) took'.put c.in_err-write_all.ensures.faults.1
+    (head-begins head (lines c.args.summary.now.measures.items) count) took'.put c.in_err-write_all.ensures.faults
 
 pub returns-in_err-tell_measures-clause-tells : goal.returns-in_err-tell_measures-clause-tells
 returns-in_err-tell_measures-clause-tells g c =

@@ -9,6 +9,7 @@ invariant-loop-filled g l =
       room : l.filled ≤ l.room;
       gave : Gave (g.S.Source.state l.fn.input) (g.S.Source.state l.input) (take l.filled l.block);
       faults : (g.S.Source.state l.input).faults ≡ (g.S.Source.state l.fn.input).faults;
+      fresh : l.filled ≡ 0 → l.input ≡ l.fn.input;
     }
 
 abbrev pub decreases-loop-filled : goal.decreases-loop-filled

@@ -60,4 +60,4 @@ pub returns-in-Err-clause-err : goal.returns-in-Err-clause-err
 returns-in-Err-clause-err g c before now empty count passed =
     let frame : c.frame_bytes-frame.result ≡ frame_bytes c.args.worker.now.script = c.frame_bytes-frame.ensures ∙ ap frame_bytes c.script.ensures.script in
     let passes = rw frame at (c.in_ok-pass_block.ensures.ok _ passed.stands) in
-    laws.stream_unfinished _ _ c.script.ensures.ready _ _ _ _ _ _ _ _ _ _ passed (rw (c.in_default.is, frame) at c.window_fault.ensures) _ _ _ c.in_ok-pass_block.ensures.same passes _ _ _ (c.in-Err.ensures.written _ passes.stands) (c.in-Err.ensures.costs _ passes.stands) c.in-Err.ensures.faults.1
+    laws.stream_unfinished _ _ c.script.ensures.ready _ _ _ _ _ _ _ _ _ _ passed (rw (c.in_default.is, frame) at c.window_fault.ensures) _ _ _ c.in_ok-pass_block.ensures.same passes _ _ _ (c.in-Err.ensures.written _ passes.stands) (c.in-Err.ensures.costs _ passes.stands) c.in-Err.ensures.faults

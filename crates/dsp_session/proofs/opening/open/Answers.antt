@@ -15,4 +15,4 @@ returns-in-Some-clause-err g c block counts ready =
 pub returns-in-Err-clause-err : goal.returns-in-Err-clause-err
 returns-in-Err-clause-err g c block counts ready =
     let (count, took) = c.in-Err.ensures.took in
-    laws.stops_unwritten c.args.script.now block counts ready _ _ _ _ c.in_ok-header.ensures.ok (laws.fits_known c.args.script.now c.in_ok-header.header _ c.known_frames-known.ensures (c.riff_fault.ensures.none (subst IsNone (sym c.in_default.is) refl))) _ count took c.in-Err.ensures.faults.1
+    laws.stops_unwritten c.args.script.now block counts ready _ _ _ _ c.in_ok-header.ensures.ok (laws.fits_known c.args.script.now c.in_ok-header.header _ c.known_frames-known.ensures (c.riff_fault.ensures.none (subst IsNone (sym c.in_default.is) refl))) _ count took c.in-Err.ensures.faults

@@ -12,7 +12,7 @@ returns-in-Err-write_all-clause-err g c x stands =
       laws.feed_out _ _ _ _ _ c.in-Ok.ensures.same c.in-Ok.ensures.fed x stands,
       (drop count out, sym c.out.ensures ∙ sym (take-append-drop count out)),
       took.put,
-      c.in-Err-write_all.ensures.faults.1,
+      c.in-Err-write_all.ensures.faults,
       laws.feed_costs _ _ _ _ _ c.in-Ok.ensures.same c.in-Ok.ensures.fed x stands,
       laws.feed_fits _ _ _ _ _ c.in-Ok.ensures.same c.in-Ok.ensures.fed x stands (λ over. let bad = subst IsErr c.in-Ok.is (c.feed.ensures.full.1 over) in absurd cc),
     )

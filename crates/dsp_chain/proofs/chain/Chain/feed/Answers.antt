@@ -11,6 +11,7 @@ use Rattle.dsp_chain.specs.Row.{MayTake}
 use Rattle.dsp_chain.proofs.Room.{written-row}
 use Rattle.dsp_chain.proofs.FrameRules.{rules-few, rules-gathered, rules-held}
 use Rattle.dsp_chain.proofs.ChainCalls.{whole-again, chain-fed}
+use Rattle.dsp_chain.proofs.Restored.{same-rules}
 use Rattle.dsp_chain.proofs.chain.Chain.feed.Goals as goal
 
 pub gather_fault-requires-clause-few : goal.gather_fault-requires-clause-few
@@ -83,7 +84,8 @@ invariant_of-self-2 g c =
     rw whole (
       whole-again _ _ is refl blocks fed.feeds.in_row (count-took news n counts) (λ _. counts) (subst (λ bs. AllTaken bs n) (sym blocks) taken),
       c.self.invariant.1 ∙ ap rules_of (sym blocks),
-      c.self.invariant.2 ∙ ap (λ bs. place_room (place_behind p bs)) (sym blocks),
+      c.self.invariant.2 ∙ sym (same-rules p links news is.row fed.feeds.in_row blocks),
+      c.self.invariant.3 ∙ ap (λ bs. place_room (place_behind p bs)) (sym blocks),
     )
 
 pub returns-clause-fed : goal.returns-clause-fed

@@ -1,8 +1,10 @@
 use Rattle.std.proofs.Common.{◌≡◌, ◌∙◌, ap, refl, sym, subst, take, length, arith, false, Option, Some, None, length-take}
 use Rattle.std.specs.Prelude.{is_some}
-use Rattle.dsp_stage.specs.Row.{Place, InRow}
+use Rattle.dsp_stage.specs.Row.{Place, InRow, AllTook, AllTaken, blocks_of, place_behind, place_room}
+use Rattle.dsp_chain.specs.FrameRule.{rules_of}
+use Rattle.dsp_chain.proofs.Restored.{same-rules}
 use Rattle.dsp_chain.proofs.Room.{written-row}
-use Rattle.dsp_chain.proofs.ChainCalls.{chain-finished, chain-refused}
+use Rattle.dsp_chain.proofs.ChainCalls.{whole-again, chain-finished, chain-refused}
 use Rattle.dsp_chain.proofs.chain.Chain.finish.Goals as goal
 
 is-none : {A : Type 0} (o : Option A) → is_some o ≡ false → o ≡ None
@@ -25,3 +27,22 @@ returns-clause-finished g c =
     c.as_mut_slice.ensures.value whole refl refl refl (is-none c.self.inside.failed (sym c.is_some.ensures ∙ c.if-is_some.false)) refl is.row is.took
     (c.finish_row.ensures.finished p row)
     (λ none. c.finish_row.ensures.spent (omega (arith, ap length none, length-take c.finish_row.result c.finish_row.new.out, c.finish_row.ensures.within, c.finish_row.auto.out))))
+
+pub invariant_of-self-2 : goal.invariant_of-self-2
+invariant_of-self-2 g c =
+    let is = c.self.invariant.0 in
+    let p : Place = record { format = c.self.inside.format; channels = c.self.inside.channels; capacity = c.self.inside.capacity } in
+    let links = c.self.inside.links.items in
+    let news = c.finish_row.new.links in
+    let n = c.self.inside.frames in
+    let row : InRow p c.as_mut_slice.result.now = subst (InRow p) (sym c.as_mut_slice.ensures.value) is.row in
+    let finished = (c.finish_row.ensures.finished p row).finishes in
+    let whole = written-row c.self.inside.links.len news links (omega (arith, c.finish_row.auto.links, c.as_mut_slice.ensures.len)) in
+    let blocks : blocks_of news ≡ blocks_of links = finished.blocks ∙ ap blocks_of c.as_mut_slice.ensures.value in
+    let took : AllTook news n = finished.took n (subst (λ us. AllTook us n) (sym c.as_mut_slice.ensures.value) is.took) in
+    rw whole (
+      whole-again _ _ is refl blocks finished.in_row took (λ e. absurd (cc)) (subst (λ bs. AllTaken bs n) (sym blocks) is.taken),
+      c.self.invariant.1 ∙ ap rules_of (sym blocks),
+      c.self.invariant.2 ∙ sym (same-rules p links news is.row finished.in_row blocks),
+      c.self.invariant.3 ∙ ap (λ bs. place_room (place_behind p bs)) (sym blocks),
+    )

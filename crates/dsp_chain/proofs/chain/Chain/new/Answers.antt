@@ -9,6 +9,8 @@ use Rattle.dsp_stage.proofs.ChainPlaces.{legal_is_open, has_groups, flow_at}
 use Rattle.dsp_chain.proofs.Making.{Making, making-none, making-more, next-place, making-open, Next, next-first, making-next}
 use Rattle.dsp_chain.proofs.NewChain.{new-whole, new-chain, rules-more}
 use Rattle.dsp_chain.specs.FrameRule.{rules_of}
+use Rattle.dsp_chain.specs.KeptRule.{unit_rules}
+use Rattle.dsp_chain.proofs.KeptRows.{keeps-more}
 use Rattle.dsp_chain.proofs.chain.Chain.new.Goals as goal
 
 pub loop-block-init : goal.loop-block-init
@@ -16,8 +18,9 @@ loop-block-init c =
     let p = input_place c.args.script.now c.args.block in (
       subst (λ (us : List UnitState). Making p p c.as_slice-blocks.result.now 0 us) (sym (c.in_ok-links.ensures.items))
           (subst (λ (blocks : List Block). Making p p blocks 0 []) (sym c.as_slice-blocks.ensures)
-          (making-none p c.args.script.now.blocks c.requires.few_channels (legal_is_open p c.args.script.now.blocks c.requires.chain c.requires.channels c.requires.legal) c.requires.built)),
+          (making-none p c.args.script.now.blocks c.requires.few_channels (legal_is_open p c.args.script.now.blocks c.requires.chain c.requires.channels c.requires.legal))),
       c.in_ok-rules.ensures.items,
+      c.in_ok-kept.ensures.items ∙ sym (ap unit_rules c.in_ok-links.ensures.items),
     )
 
 pub new-requires : goal.new-requires
@@ -27,7 +30,7 @@ new-requires c =
     let b = c.block-item.result in
     let here : Place = record { format = c.loop-block.flow.format; channels = c.loop-block.flow.channels; capacity = c.loop-block.frames } in
     let next : Next here b = making-next (input_place c.args.script.now c.args.block) here blocks i (i + 1) c.loop-block.links.items b (next-first blocks i b c.loop-block-test.true c.block-item.is) c.loop-block.invariant.0 in
-    record { built = next.built; suits = next.suits; channels = next.open_here.channels; frames = next.open_here.capacity; samples = next.open_here.samples }
+    record { suits = next.suits; channels = next.open_here.channels; frames = next.open_here.capacity; samples = next.open_here.samples }
 
 pub after-flow-requires : goal.after-flow-requires
 after-flow-requires c =
@@ -55,6 +58,7 @@ loop-block-preserved c =
     let step : next ≡ place_after here b = next-place here next b c.after-flow.ensures c.most_frames-frames.ensures in (
       rw pushed (making-more p here next blocks i (i + 1) c.loop-block.links.items (state_of c.in_ok-unit.unit) b first more step c.in_ok-unit.ensures c.loop-block.invariant.0),
       rw c.in_ok-push-2.ensures.items (rules-more c.loop-block.rules.items c.of.result b blocks i (i + 1) more c.of.ensures c.loop-block.invariant.1),
+      rw (pushed, c.in_ok-push-3.ensures.items) (keeps-more c.loop-block.links.items (state_of c.in_ok-unit.unit) b here.format here.channels here.capacity _ c.loop-block.kept.items c.of_block-numbers.result c.in_ok-unit.ensures c.kept_count.ensures.count c.of_block-numbers.ensures c.loop-block.invariant.2),
     )
 
 pub invariant_of-result : goal.invariant_of-result
@@ -70,6 +74,7 @@ invariant_of-result c =
     rw c.from.ensures (
       new-whole p us c.args.script.now.blocks blocks c.loop-block.invariant.0.row c.loop-block.invariant.0.fresh c.requires.chain c.requires.channels c.requires.few_channels c.requires.few_blocks c.requires.one_correlate open_all,
       c.loop-block.invariant.1 ∙ ap rules_of (all ∙ sym blocks),
+      c.loop-block.invariant.2,
       room,
     )
 

@@ -1,0 +1,111 @@
+ghost use Rattle.std.specs.Prelude.{◌≡◌, ◌≤◌, ◌*◌, ◌↔◌, IsTrue, length};
+ghost use Rattle.dsp_stage.specs.Row.{AllRun};
+ghost use Rattle.dsp_chain.specs.Restored.{kept_by, FitsUnits, AllRestores, HasRules};
+
+use crate::frame_rule::FrameRule;
+use crate::kept_rule::KeptRule;
+use crate::row::Link;
+use dsp_stage::Stage;
+
+/// How many numbers the units of a row keep.
+pub fn count_kept<S: Stage + Drop>(links: &[Link<S>]) -> usize
+    requires few { length links.now ≤ 64 }
+    ensures count { result ≡ length (kept_by links.now) }
+    ensures few { result ≤ 1099511627776 * length links.now }
+{
+    let Some((link, behind)) = links.split_first() else {
+        return 0;
+    };
+    link.stage.kept_count() + count_kept(behind)
+}
+
+/// Writes the numbers that the units of a row keep, one after another.
+pub fn keep_row<S: Stage + Drop>(links: &[Link<S>], out: &mut [i64])
+    requires running { AllRun links.now }
+    requires length { length out.old ≡ length (kept_by links.now) }
+    ensures { out.new ≡ kept_by links.now }
+{
+    let Some((link, behind)) = links.split_first() else {
+        return;
+    };
+    let (here, later) = out.split_at_mut(link.stage.kept_count());
+    link.stage.keep(here);
+    keep_row(behind, later);
+}
+
+/// Whether the units of a row can keep these numbers, one after another, where so many frames come to the row.
+pub fn fits_row<S: Stage + Drop>(
+    links: &[Link<S>],
+    rules: &[FrameRule],
+    kept: &[KeptRule],
+    frames: u64,
+    numbers: &[i64],
+) -> bool
+    requires { HasRules links.now rules.now kept.now frames }
+    ensures { IsTrue result ↔ FitsUnits links.now frames numbers.now }
+{
+    let Some((link, links_behind)) = links.split_first() else {
+        return numbers.is_empty();
+    };
+    let (Some((rule, rules_behind)), Some((kept_here, kept_behind))) = (
+        rules.split_first(),
+        kept.split_first(),
+    ) else {
+        unreachable!()
+    };
+    let count = kept_here.count(frames);
+    if count > numbers.len() as u128 {
+        return false;
+    }
+    let (here, later) = numbers.split_at(count as usize);
+    let Some(place) = link.stage.place(here) else {
+        return false;
+    };
+    if place != kept_here.place(frames) {
+        return false;
+    }
+    fits_row(
+        links_behind,
+        rules_behind,
+        kept_behind,
+        rule.live(frames),
+        later,
+    )
+}
+
+/// Gives the units of a row these numbers, one after another, where so many frames came to the row.
+pub fn restore_row<S: Stage + Drop>(
+    links: &mut [Link<S>],
+    rules: &[FrameRule],
+    kept: &[KeptRule],
+    frames: u64,
+    numbers: &[i64],
+)
+    requires running { AllRun links.old }
+    requires rules { HasRules links.old rules.now kept.now frames }
+    requires fits { FitsUnits links.old frames numbers.now }
+    ensures { AllRestores links.old links.new frames numbers.now }
+{
+    let Some((link, links_behind)) = links.split_first_mut() else {
+        return;
+    };
+    let (Some((rule, rules_behind)), Some((kept_here, kept_behind))) = (
+        rules.split_first(),
+        kept.split_first(),
+    ) else {
+        unreachable!()
+    };
+    let count = kept_here.count(frames);
+    if count > numbers.len() as u128 {
+        unreachable!()
+    }
+    let (here, later) = numbers.split_at(count as usize);
+    link.stage.restore(here);
+    restore_row(
+        links_behind,
+        rules_behind,
+        kept_behind,
+        rule.live(frames),
+        later,
+    );
+}

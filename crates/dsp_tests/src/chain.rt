@@ -1,4 +1,4 @@
-ghost use Rattle.std.specs.Prelude.{◌≡◌, ◌≤◌, ◌+◌, ◌*◌, ◌/◌, ◌^◌, [], ◌∷◌, ◌++◌, length, IsTrue, IsFalse, All, FitsSigned};
+ghost use Rattle.std.specs.Prelude.{◌≡◌, ◌≤◌, ◌+◌, ◌*◌, ◌/◌, ◌^◌, None, [], ◌∷◌, ◌++◌, length, IsTrue, IsFalse, All, FitsSigned};
 ghost use Rattle.dsp_stage.specs.Row.{place_room, blocks_of};
 ghost use Rattle.dsp_chain.specs.Chain.{output_of};
 ghost use Rattle.dsp_defs.specs.Numbers.{w32};
@@ -7,9 +7,8 @@ ghost use Rattle.dsp_defs.specs.Shape.{is_legal};
 ghost use Rattle.dsp_defs.specs.declared.limits.TheConstants.{MAX_BLOCKS, MAX_CORRELATES};
 ghost use Rattle.dsp_defs.specs.declared.format.Fmt.TheVariants.{Q31};
 ghost use Rattle.dsp_defs.specs.declared.script.Block.TheVariants.{Fir};
-ghost use Rattle.dsp_chain.specs.Built.{built};
 
-use dsp_chain::{Chain, is_built};
+use dsp_chain::Chain;
 use dsp_defs::{Block, Blocks, Container, Fmt, Input, InputKind, List, Script, Steps};
 use std::alloc::Global;
 use std::marker::Brand;
@@ -78,6 +77,7 @@ fn feed_piece<L: Ledger>(
     requires capacity { length piece.now / 2 ≤ chain.old.input.capacity }
     requires count { chain.old.frames + length piece.now / 2 ≤ 2 ^ 40 }
     ensures running { IsFalse chain.new.ended }
+    ensures works { chain.new.failed ≡ None }
     ensures input { chain.new.input ≡ chain.old.input }
     ensures blocks { blocks_of chain.new.units ≡ blocks_of chain.old.units }
     ensures frames { chain.new.frames ≡ chain.old.frames + length piece.now / 2 }
@@ -109,7 +109,6 @@ fn gives<L: Ledger>(
     requires chain { IsChain (input_flow script.now.input) script.now.blocks }
     requires few_blocks { length script.now.blocks ≤ MAX_BLOCKS }
     requires one_correlate { correlates script.now.blocks ≤ MAX_CORRELATES }
-    requires built { IsTrue (built script.now) }
     requires legal { IsTrue (is_legal 2 script.now.blocks block) }
 {
     let mut steps = Steps::<L>::new(blank);
@@ -130,6 +129,46 @@ fn gives<L: Ledger>(
     assert_eq!(rt; chain.finish(&mut out, &mut steps), 0);
 }
 
+/// Feeds a chain of the script two frames, gives the numbers that it keeps of them to a new one, and feeds
+/// that with the next frame.
+fn resumes<L: Ledger>(rt: &impl Abort, alloc: Global, blank: Blank, script: &Script)
+    requires name { blank.name ≡ L.name }
+    requires parts { blank.parts ≡ 2 }
+    requires ledger_parts { L.parts ≡ 2 }
+    requires format { script.now.input.format ≡ Q31 }
+    requires channels { script.now.input.channels ≡ 2 }
+    requires chain { IsChain (input_flow script.now.input) script.now.blocks }
+    requires few_blocks { length script.now.blocks ≤ MAX_BLOCKS }
+    requires one_correlate { correlates script.now.blocks ≤ MAX_CORRELATES }
+    requires legal { IsTrue (is_legal 2 script.now.blocks 2) }
+{
+    let mut steps = Steps::<L>::new(blank);
+    let mut chain = Chain::new(alloc, script, 2).expect(rt, "memory");
+    let mut out = vec![in alloc; 0; chain.room()].expect(rt, "memory");
+    let piece = [1000, 8, -1000, 3];
+    let count = feed_piece(rt, alloc, &mut chain, &piece, &mut out, &mut steps);
+    assert_eq!(rt; &out[..count], [250, 2, -125, 1].as_slice());
+    let mut kept = vec![in alloc; 0; chain.kept_count()].expect(rt, "memory");
+    chain.keep(&mut kept);
+    // Each filter keeps the last frame that came to it, the left channel before the right one.
+    assert_eq!(rt; kept.as_slice(), [-1000, 3, -500, 1].as_slice());
+    let mut next = Chain::new(alloc, script, 2).expect(rt, "memory");
+    assert!(rt; !next.fits(2, &kept[..3]));
+    assert!(rt; next.fits(2, &kept));
+    next.restore(2, &kept);
+    let count = feed_piece(rt, alloc, &mut next, &[400, -16], &mut out, &mut steps);
+    assert_eq!(rt; &out[..count], [-25, -4].as_slice());
+}
+
+#[test]
+fn a_new_chain_goes_on(rt: HostRuntime) {
+    let alloc = rt.alloc();
+    let mut blocks = Blocks::new(alloc);
+    push_fir(&rt, alloc, &mut blocks, 0, HALF);
+    push_fir(&rt, alloc, &mut blocks, QUARTER, HALF);
+    resumes::<Brand>(&rt, alloc, Blank::new(2), &stereo(blocks));
+}
+
 #[test]
 fn two_filters_in_any_blocks(rt: HostRuntime) {
     let alloc = rt.alloc();
@@ -137,7 +176,6 @@ fn two_filters_in_any_blocks(rt: HostRuntime) {
     push_fir(&rt, alloc, &mut blocks, 0, HALF);
     push_fir(&rt, alloc, &mut blocks, QUARTER, HALF);
     let script = stereo(blocks);
-    assert!(rt; is_built(&script));
     for block in 1..4 {
         // Half of the frames is 500 4, -500 1, 200 -8; then half of each and a quarter of the one before.
         gives::<Brand>(

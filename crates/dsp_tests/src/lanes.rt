@@ -3,7 +3,7 @@ ghost use Rattle.std.specs.Prelude.{◌≡◌};
 ghost use Rattle.dsp_lanes.specs.Turns.{RisesWithin};
 
 use dsp_defs::Steps;
-use dsp_lanes::Lanes;
+use dsp_lanes::{Lanes, update_weights};
 use std::process::Abort;
 use std::sync::ledger::Ledger;
 
@@ -114,6 +114,31 @@ fn q15_least<M: Ledger>(rt: &impl Abort, steps: &mut Steps<M>) {
     assert_eq!(rt; sum, 9663676416);
 }
 
+/// Weights that grow, a group and a rest of them, some to the ends.
+fn grown_weights<M: Ledger>(rt: &impl Abort, steps: &mut Steps<M>) {
+    let mut weights = [32767i16, -32768, 0, 100, 0, 0, 0, 0, 5];
+    let window = [-32768i16, 32767, 2, -3, 32767, 1, 0, 4, -32768];
+    update_weights(-32768, &window, &mut weights, steps);
+    assert_eq!(rt; weights, [32767, -32768, -2, 103, -32767, -1, 0, -4, 32767]);
+    let mut longer = [0, i32::MAX, i32::MIN, 7, 1];
+    update_weights(1 << 30, &[8, i32::MAX, i32::MIN, -1, 4], &mut longer, steps);
+    assert_eq!(rt; longer, [4, i32::MAX, i32::MIN, 5, 3]);
+}
+
+/// Every second output, four at a time and one more, by narrow taps, and by the least ones.
+fn every_second<M: Ledger>(rt: &impl Abort, steps: &mut Steps<M>) {
+    let mut out = [0i16; 5];
+    let window = [2i16, 4, 6, 8, 10, 12, 14, 16, 18, 20];
+    Lanes::<i16, 8>::strided_rows(&[16384, 16384], &window, 0, 2, &mut out, steps);
+    assert_eq!(rt; out, [3, 7, 11, 15, 19]);
+    Lanes::<i16, 8>::strided_rows(&[i16::MIN; 9], &[i16::MIN; 17], 0, 2, &mut out, steps);
+    assert_eq!(rt; out, [i16::MAX; 5]);
+    let mut last = [0i32; 5];
+    let longer = [2, 4, 6, 8, 10, 12, 14, 16, 18, 20];
+    Lanes::<i32, 4>::strided_rows(&[1 << 30, 1 << 30], &longer, 0, 2, &mut last, steps);
+    assert_eq!(rt; last, [3, 7, 11, 15, 19]);
+}
+
 /// Nothing is counted for no samples.
 fn no_samples<M: Ledger>(steps: &mut Steps<M>)
     ensures { RisesWithin steps.old steps.new 0 0 }
@@ -134,5 +159,7 @@ pub(crate) fn counted<M: Ledger>(rt: &impl Abort, steps: &mut Steps<M>) {
     q15_factors(rt, steps);
     halves_of_sums(rt, steps);
     q15_least(rt, steps);
+    grown_weights(rt, steps);
+    every_second(rt, steps);
     no_samples(steps);
 }

@@ -1,5 +1,4 @@
-//! Callers of the library's crates: what to write to use them, and tests. Whole runs of the program over
-//! ports in memory.
+//! Callers of the library's crates: what to write to use them, and tests.
 #![tactic(auto)]
 
 #[cfg(test)]
@@ -7,19 +6,13 @@ mod adapt;
 #[cfg(test)]
 mod biquad;
 #[cfg(test)]
-mod block_runs;
-#[cfg(test)]
 mod chain;
-#[cfg(test)]
-mod chain_runs;
 #[cfg(test)]
 mod complex;
 #[cfg(test)]
 mod conv;
 #[cfg(test)]
 mod fir;
-#[cfg(test)]
-mod gen_runs;
 #[cfg(test)]
 mod lanes;
 #[cfg(test)]
@@ -35,8 +28,6 @@ mod ports;
 #[cfg(test)]
 mod rate;
 #[cfg(test)]
-mod runs;
-#[cfg(test)]
 mod script;
 #[cfg(test)]
 mod session;
@@ -46,7 +37,5 @@ mod tests;
 mod vector;
 #[cfg(test)]
 mod wave;
-#[cfg(test)]
-mod wave_runs;
 #[cfg(test)]
 mod window;

@@ -1,6 +1,5 @@
 ghost use Rattle.std.specs.Prelude.{◌≡◌};
 
-use dsp_chain::is_built;
 use dsp_defs::{HeaderFault, Steps, WindowFault};
 use dsp_ports::{MemSink, MemSource};
 use dsp_script::{legal, parse};
@@ -24,7 +23,7 @@ fn streamed<L: Ledger>(
 {
     let mut steps: Steps<L> = Steps::new(blank);
     let script = parse(alloc, script).ok()?;
-    if !legal(&script, 2) || !is_built(&script) {
+    if !legal(&script, 2) {
         return None;
     }
     let mut session = Session::new(alloc, &script, 2).ok()?;
@@ -128,7 +127,7 @@ fn first_windows(
     script: &[u8],
 ) -> Option<(usize, Option<WindowFault>, Option<WindowFault>)> {
     let script = parse(alloc, script).ok()?;
-    if !legal(&script, 2) || !is_built(&script) {
+    if !legal(&script, 2) {
         return None;
     }
     let session = Session::new(alloc, &script, 2).ok()?;

@@ -2,7 +2,7 @@ ghost use Rattle.std.specs.Prelude.{◌≡◌};
 
 use dsp_cli::{Words, places, run};
 use dsp_defs::Steps;
-use dsp_ports::{MemSink, MemSource, Source};
+use dsp_ports::{CleanSource, MemSink, MemSource, Source};
 use std::alloc::{AllocError, Global};
 use std::marker::Brand;
 use std::process::Abort;
@@ -10,11 +10,11 @@ use std::sync::ledger::{Blank, Ledger};
 use std::test::Fail;
 
 /// A run over these ports with a counter of its own.
-fn counted<L: Ledger>(
+fn counted<S: Source, L: Ledger>(
     alloc: Global,
     words: &Words,
     script: &mut MemSource,
-    input: &mut MemSource,
+    input: &mut S,
     output: &mut MemSink,
     report: &mut MemSink,
     blank: Blank,
@@ -295,7 +295,7 @@ pub fn play(alloc: Global, rt: &impl Abort, case: &Case<'_>) -> Result<(), Alloc
     let mut input = MemSource::new(alloc, case.input, 3, case.failing_reads)?;
     let mut output = MemSink::new(alloc, case.room, 5, case.failing_writes)?;
     let mut report = MemSink::new(alloc, 512, 500, case.failing_reports)?;
-    let status = counted::<Brand>(
+    let status = counted::<MemSource, Brand>(
         alloc,
         &words,
         &mut script,
@@ -390,7 +390,7 @@ fn long_run(
     let mut input = MemSource::new(alloc, &bytes, 512, failing_reads)?;
     let mut output = MemSink::new(alloc, 4096, 4096, failing_writes)?;
     let mut report = MemSink::new(alloc, 512, 500, &[])?;
-    let status = counted::<Brand>(
+    let status = counted::<MemSource, Brand>(
         alloc,
         &words,
         &mut script,
@@ -416,6 +416,77 @@ fn a_long_run_stops_where_a_port_fails(rt: HostRuntime) -> Result<(), Fail> {
     assert_eq!(rt; unread, (7, 512, Some(176), Some(0)));
     let unwritten = long_run(rt.alloc(), &rt, &[], &[1])?;
     assert_eq!(rt; unwritten, (8, 0, Some(512), Some(176)));
+    Ok(())
+}
+
+#[test]
+fn an_input_that_never_fails_is_run(rt: HostRuntime) -> Result<(), Fail> {
+    let alloc = rt.alloc();
+    let words = words_of(alloc, RUN)?;
+    let mut script = MemSource::new(alloc, HALVES, 7, &[])?;
+    let mut input = CleanSource::new(alloc, EXAMPLE, 3)?;
+    let mut output = MemSink::new(alloc, 64, 64, &[])?;
+    let mut report = MemSink::new(alloc, 512, 500, &[])?;
+    let status = counted::<CleanSource, Brand>(
+        alloc,
+        &words,
+        &mut script,
+        &mut input,
+        &mut output,
+        &mut report,
+        Blank::new(2),
+    );
+    assert_eq!(rt; status, 0);
+    assert_eq!(rt;
+        output.bytes(),
+        [0xF4, 0x01, 0x0C, 0xFE, 0xFF, 0xFF].as_slice()
+    );
+    Ok(())
+}
+
+/// What a gen of 100,000 frames of noise from 7 writes and reports.
+fn long_gen(
+    alloc: Global,
+    rt: &impl Abort,
+    script: &[u8],
+) -> Result<(MemSink, MemSink), AllocError> {
+    let words = words_of(alloc, &["gen", "7", "100000", "s", "o"])?;
+    let mut script = MemSource::new(alloc, script, 100, &[])?;
+    let mut input = CleanSource::new(alloc, &[], 1)?;
+    let mut output = MemSink::new(alloc, 200_000, 4096, &[])?;
+    let mut report = MemSink::new(alloc, 512, 500, &[])?;
+    let status = counted::<CleanSource, Brand>(
+        alloc,
+        &words,
+        &mut script,
+        &mut input,
+        &mut output,
+        &mut report,
+        Blank::new(2),
+    );
+    assert_eq!(rt; status, 0);
+    Ok((output, report))
+}
+
+/// The sums of squares were computed by the formulas, sample by sample.
+const LONG_REPORT: &[u8] =
+    b"dspfx: done\nin 100000 frames of 2 channels q15\nout 50000 frames of 2 channels q15\nmultiplies 4100000\npower 4 channel 0 = 131228\npower 4 channel 1 = 127901\n";
+
+const LONG_SCRIPTS: &[&[u8]] = &[
+    b"dspfx 1 input raw q15 2 48000 block 64 biquad 0 {16384 0 0 0 8192 0 16384 0 0 0 8192 0} fir {1 2 3 4 4 3 2 1} decimate 2 {4096 8192 8192 4096} power output raw",
+    b"dspfx 1 input raw q15 2 48000 block 4096 biquad 0 {16384 0 0 0 8192 0 16384 0 0 0 8192 0} fir {1 2 3 4 4 3 2 1} decimate 2 {4096 8192 8192 4096} power output raw",
+    b"dspfx 1 input raw q15 2 48000 biquad 0 {16384 0 0 0 8192 0 16384 0 0 0 8192 0} fir {1 2 3 4 4 3 2 1} decimate 2 {4096 8192 8192 4096} power output raw",
+];
+
+#[test]
+fn a_long_gen_is_the_same_in_any_blocks(rt: HostRuntime) -> Result<(), Fail> {
+    let (first, _report) = long_gen(rt.alloc(), &rt, LONG_SCRIPTS[0])?;
+    assert_eq!(rt; first.bytes().len(), 200_000);
+    for script in LONG_SCRIPTS {
+        let (output, report) = long_gen(rt.alloc(), &rt, script)?;
+        assert!(rt; output.bytes() == first.bytes());
+        assert_eq!(rt; report.bytes(), LONG_REPORT);
+    }
     Ok(())
 }
 

@@ -62,9 +62,9 @@ impl<T: LmsSample + LaneSample<L>, const L: usize> Lms<T, L> {
     ghost use Rattle.dsp_adapt.specs.LmsState.{StandsFor, kept, lms_errors, lms_fault, lms_outputs, new_lms, pairs};
 
     /// A filter that has taken nothing, from its first weights in time-reversed order, `w[T-1]` to
-    /// `w[0]`, for blocks of at most `block` samples. `Length` where the weights are not 1..4,096, then
+    /// `w[0]`, for blocks of at most `block` samples. `Length` where the weights are not 1..`MAX_TAPS`, then
     /// `Range` where the post shift is over 14 in Q15 or over 30 in Q31, `Range` where the block is not
-    /// in 1..1,048,576, then `Memory`. No later call takes memory.
+    /// in 1..`MAX_SAMPLES`, then `Memory`. No later call takes memory.
     pub fn new(
         alloc: Global,
         post_shift: u8,

@@ -28,15 +28,15 @@ pub record Front (u : UnitState) (us : List UnitState) (rule : FrameRule) (rules
   pub live : live_by rule n ≡ live_frames u.block n
   pub behind : HasRules us rules keeps (live_by rule n)
 
-module _ (links us : List UnitState) (link u : UnitState) (all rules : List FrameRule) (rule : FrameRule) (every keeps : List KeptRule) (kept : KeptRule) (n : ℕ)
-    (links_are : links ≡ link ∷ us) (same : u ≡ link) (rules_are : all ≡ rule ∷ rules) (keeps_are : every ≡ kept ∷ keeps) where
-  pub row-is : links ≡ u ∷ us
-  row-is = links_are ∙ ap (λ f. f ∷ us) (sym same)
+row-is : (links us : List UnitState) (link u : UnitState) → links ≡ link ∷ us → u ≡ link → links ≡ u ∷ us
+row-is links us link u links_are same = links_are ∙ ap (λ f. f ∷ us) (sym same)
 
+module _ {links us : List UnitState} {link u : UnitState} {all rules : List FrameRule} {rule : FrameRule} {every keeps : List KeptRule} {kept : KeptRule} {n : ℕ}
+    (links_are : links ≡ link ∷ us) (same : u ≡ link) (rules_are : all ≡ rule ∷ rules) (keeps_are : every ≡ kept ∷ keeps) where
   pub front : HasRules links all every n → Front u us rule rules kept keeps n
   front has =
-      let framed : rule ∷ rules ≡ rule_of u.block ∷ rules_of (blocks_of us) = sym rules_are ∙ has.frames ∙ ap (λ l. rules_of (blocks_of l)) row-is in
-      let numbered : kept ∷ keeps ≡ unit_rule u ∷ unit_rules us = sym keeps_are ∙ has.numbers ∙ ap unit_rules row-is in
+      let framed : rule ∷ rules ≡ rule_of u.block ∷ rules_of (blocks_of us) = sym rules_are ∙ has.frames ∙ ap (λ l. rules_of (blocks_of l)) (row-is links us link u links_are same) in
+      let numbered : kept ∷ keeps ≡ unit_rule u ∷ unit_rules us = sym keeps_are ∙ has.numbers ∙ ap unit_rules (row-is links us link u links_are same) in
       let rule_is : rule ≡ rule_of u.block = cc framed in
       let rules_behind : rules ≡ rules_of (blocks_of us) = cc framed in
       let kept_is : kept ≡ unit_rule u = cc numbered in

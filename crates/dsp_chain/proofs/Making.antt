@@ -8,7 +8,7 @@ use Rattle.dsp_defs.specs.Grammar.{Suits}
 use Rattle.dsp_defs.specs.Block.{channels_after}
 use Rattle.std.proofs.lemmas.List.{drop_more}
 use Rattle.std.proofs.lemmas.Nat.{mul-le}
-use Rattle.dsp_defs.specs.declared.limits.TheConstants.{MAX_CHANNELS}
+use Rattle.dsp_defs.specs.declared.limits.TheConstants.{MAX_CHANNELS, MAX_SAMPLES}
 use Rattle.dsp_defs.specs.Table.{flow_after}
 use Rattle.dsp_defs.specs.declared.script.Block.{Block}
 
@@ -61,10 +61,10 @@ pub record Next (here : Place) (b : Block) : Type 0 where
   pub suits : Suits (flow_at here) b
   pub open_here : IsOpen here
   pub few_channels : channels_after here.channels b ≤ MAX_CHANNELS
-  pub few_frames : most_frames b here.capacity ≤ 1048576
+  pub few_frames : most_frames b here.capacity ≤ MAX_SAMPLES
 
 -- an open place has no more frames than samples
-few-frames : (p : Place) → IsOpen p → p.capacity ≤ 1048576
+few-frames : (p : Place) → IsOpen p → p.capacity ≤ MAX_SAMPLES
 few-frames p is =
     let frames : p.capacity * 1 ≤ p.capacity * p.channels = mul-le p.capacity 1 p.capacity p.channels (omega arith) is.channels in
     omega (arith, frames, is.samples)

@@ -23,11 +23,11 @@ pub few-places : (flow : Flow) (blocks : List Block) → IsChain flow blocks →
 few-places flow [] chain few = few
 few-places flow (b ∷ blocks) chain few = (few, few-places (flow_after b flow) blocks chain.1 (few_channels_after flow b chain.0 few))
 
-few-values : (channels : ℕ) (f : ℕ → Measure) → channels ≤ 16 → length (values channels f) ≤ 16
+few-values : (channels : ℕ) (f : ℕ → Measure) → channels ≤ MAX_CHANNELS → length (values channels f) ≤ MAX_CHANNELS
 few-values channels f h = omega (arith, h, length-map-range_with_len f 0 channels)
 
 -- one measure for each channel at most
-few-measures : (format : Fmt) (channels : ℕ) (block : Block) (kept : List ℤ) → channels ≤ 16 → length (kept_measures format channels 0 block kept) ≤ 16
+few-measures : (format : Fmt) (channels : ℕ) (block : Block) (kept : List ℤ) → channels ≤ MAX_CHANNELS → length (kept_measures format channels 0 block kept) ≤ MAX_CHANNELS
 few-measures format channels Power kept h = few-values channels _ h
 few-measures format channels Max kept h = few-values channels _ h
 few-measures format channels Min kept h = few-values channels _ h
@@ -35,11 +35,11 @@ few-measures format channels Dot kept h = omega arith
 few-measures format channels CmplxDot kept h = omega arith
 few-measures format channels block kept h = omega arith
 
-each-of : (u : UnitState) (us : List UnitState) → length (measures_of 0 u) ≤ 16 → All (λ u. length (measures_of 0 u) ≤ 16) us → (k : ℕ) (d : UnitState) → k < suc (length us) → length (measures_of 0 (get_or (u ∷ us) k d)) ≤ 16
+each-of : (u : UnitState) (us : List UnitState) → length (measures_of 0 u) ≤ MAX_CHANNELS → All (λ u. length (measures_of 0 u) ≤ MAX_CHANNELS) us → (k : ℕ) (d : UnitState) → k < suc (length us) → length (measures_of 0 (get_or (u ∷ us) k d)) ≤ MAX_CHANNELS
 each-of u us first rest zero d h = first
 each-of u us first rest (suc k) d h = rest k d (omega (arith, h))
 
-pub each-few : (p : Place) (us : List UnitState) → InRow p us → FewChannels p.channels (blocks_of us) → All (λ u. length (measures_of 0 u) ≤ 16) us
+pub each-few : (p : Place) (us : List UnitState) → InRow p us → FewChannels p.channels (blocks_of us) → All (λ u. length (measures_of 0 u) ≤ MAX_CHANNELS) us
 each-few p [] row few = λ k d h. absurd (omega (arith, h))
 each-few p (u ∷ us) row few = each-of u us (few-measures u.format u.channels u.block u.kept (omega (arith, row.0.channels, few.0))) (each-few (place_after p u.block) us row.1 few.1)
 
@@ -58,9 +58,9 @@ module _ (links : List UnitState) (link u : UnitState) (behind : List UnitState)
       ap₂ (λ (a b : ℕ). a + b) (here ∙ ap (λ v. length (measures_of 0 v)) same ∙ length-measures_of 0 1 link) (rest ∙ length-measured 1 2 behind)
       ∙ sym (length-append (measures_of 1 link) (measured_by 2 behind)) ∙ ap (λ us. length (measured_by 1 us)) (sym is_first)
 
-  pub few-row : All (λ v. length (measures_of 0 v) ≤ 16) links → later ≤ 16 * length behind → first + later ≤ 16 * length links
+  pub few-row : All (λ v. length (measures_of 0 v) ≤ MAX_CHANNELS) links → later ≤ MAX_CHANNELS * length behind → first + later ≤ MAX_CHANNELS * length links
   few-row each rest =
-      let one : length (measures_of 0 link) ≤ 16 = subst (All (λ v. length (measures_of 0 v) ≤ 16)) is_first each 0 link (omega arith) in
+      let one : length (measures_of 0 link) ≤ MAX_CHANNELS = subst (All (λ v. length (measures_of 0 v) ≤ MAX_CHANNELS)) is_first each 0 link (omega arith) in
       omega (arith, here ∙ ap (λ v. length (measures_of 0 v)) same, one, rest, ap length is_first)
 
 -- a row has the measures of its blocks

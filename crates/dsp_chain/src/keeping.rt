@@ -1,4 +1,6 @@
 ghost use Rattle.std.specs.Prelude.{◌≡◌, ◌≤◌, ◌*◌, ◌↔◌, IsTrue, length};
+ghost use Rattle.dsp_defs.specs.declared.limits.TheConstants.{MAX_BLOCKS};
+ghost use Rattle.dsp_stage.specs.Unit.{most_kept};
 ghost use Rattle.dsp_stage.specs.Row.{AllRun};
 ghost use Rattle.dsp_chain.specs.Restored.{kept_by, FitsUnits, AllRestores, HasRules};
 
@@ -9,9 +11,9 @@ use dsp_stage::Stage;
 
 /// How many numbers the units of a row keep.
 pub fn count_kept<S: Stage + Drop>(links: &[Link<S>]) -> usize
-    requires few { length links.now ≤ 64 }
+    requires few { length links.now ≤ MAX_BLOCKS }
     ensures count { result ≡ length (kept_by links.now) }
-    ensures few { result ≤ 1099511627776 * length links.now }
+    ensures few { result ≤ most_kept * length links.now }
 {
     let Some((link, behind)) = links.split_first() else {
         return 0;

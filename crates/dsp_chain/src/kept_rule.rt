@@ -4,7 +4,7 @@ ghost use Rattle.dsp_chain.specs.KeptRule.{kept_rule, count_by, place_by};
 use dsp_defs::Block;
 
 /// More frames than any place of a chain may have.
-pub const ENDLESS: u64 = 1 << 62;
+const ENDLESS: u64 = 1 << 62;
 
 /// How many numbers a block keeps, by the frames that it took, and the least number of frames of which
 /// it would keep such.

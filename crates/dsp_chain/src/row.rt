@@ -1,4 +1,5 @@
 ghost use Rattle.std.specs.Prelude.{◌≡◌, ◌≤◌, ◌+◌, ◌*◌, All, length, take, slice_get};
+ghost use Rattle.dsp_defs.specs.declared.limits.TheConstants.{MAX_BLOCKS, MAX_CHANNELS};
 ghost use Rattle.dsp_stage.specs.Unit.{measures_of};
 ghost use Rattle.dsp_stage.specs.Row.{Place, Passes, InRow, AllRun, AllSpent, FirstSpent, IsFed, IsFinished, measured_by};
 ghost use Rattle.dsp_chain.specs.Row.{MayTake, MayFinish};
@@ -105,12 +106,12 @@ pub fn finish_row<S: Stage + Drop, L: Ledger>(
     finish_row(behind, out, steps)
 }
 
-/// How many measures a row of at most 64 units has.
+/// How many measures a row of units has.
 pub fn count_measures<S: Stage + Drop>(links: &[Link<S>]) -> usize
-    requires few { length links.now ≤ 64 }
-    requires each { All (λ u. length (measures_of 0 u) ≤ 16) links.now }
+    requires few { length links.now ≤ MAX_BLOCKS }
+    requires each { All (λ u. length (measures_of 0 u) ≤ MAX_CHANNELS) links.now }
     ensures count { result ≡ length (measured_by 1 links.now) }
-    ensures few { result ≤ 16 * length links.now }
+    ensures few { result ≤ MAX_CHANNELS * length links.now }
 {
     let Some((link, behind)) = links.split_first() else {
         return 0;

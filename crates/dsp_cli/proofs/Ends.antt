@@ -1,5 +1,5 @@
 -- What the top call ensures, gathered in one record, and what is the same for many ways to end.
-use Rattle.std.proofs.Common.{◌≡◌, ◌⊎◌, ◌↔◌, ℕ, ◌+◌, ◌*◌, ◌/◌, ◌^◌, ◌<◌, ◌≤◌, ◌==◌, Bool, true, false, List, ◌++◌, length, refl, sym, ap, ◌∙◌, subst, arith, inl, inr, None, Some, Option, IsNone, IsSome, IfSome, IsTrue, IsFalse}
+use Rattle.std.proofs.Common.{◌≡◌, ◌≢◌, ◌⊎◌, ◌↔◌, ℕ, ◌+◌, ◌*◌, ◌/◌, ◌^◌, ◌<◌, ◌≤◌, ◌==◌, Bool, true, false, List, ◌++◌, length, refl, sym, ap, ◌∙◌, subst, arith, inl, inr, None, Some, Option, IsNone, IsSome, IfSome, IsTrue, IsFalse}
 use Rattle.std.specs.Io.KnownBytes.{append_known}
 use Rattle.dsp_ports.specs.Ports.{SourceState, SinkState, Rose, one_more, Gave, IsSettled}
 use Rattle.dsp_defs.specs.Canon.{canon}
@@ -20,7 +20,7 @@ use Rattle.dsp_defs.specs.declared.format.InputKind.TheVariants as kind
 use Rattle.dsp_defs.specs.declared.limits.TheConstants.{MAX_GATHERED}
 use Rattle.dsp_defs.specs.declared.script.Script.{Script}
 use Rattle.dsp_defs.specs.declared.measure.Measure.{Measure}
-use Rattle.dsp_session.specs.Session.{frame_bytes, cost_of, run_turns, measures_of}
+use Rattle.dsp_session.specs.Session.{frame_bytes, least_frame_bytes, cost_of, run_turns, measures_of}
 use Rattle.dsp_session.specs.Stream.{LagsByOne, KeepsLimits, Stopped, Done, IsTakenWhole, declared_bytes, frames_in_bytes}
 use Rattle.dsp_session.specs.declared.fault.StreamFault.{StreamFault}
 use Rattle.dsp_session.proofs.OpeningLaws.{some_frame}
@@ -30,7 +30,7 @@ use Rattle.dsp_cli.specs.Perform.{Untouched, RunsScript, Ran}
 use Rattle.dsp_cli.specs.Run.{IsStream, IsPrint, IsDone, IsBroken, IsStopped, IsRefused, IsAnswer, IsPrintable, InLimit, MayEndAtLimit, IfTaken, TookFrames, FoundMeasures, report_over, input_fault, count_taken, bytes_taken, Wrote, WroteFront, WrotePart, Tells, TellsHeader, TellsLength, line_of_status}
 use Rattle.dsp_cli.specs.declared.report.Summary.{Summary}
 use Rattle.dsp_cli.proofs.CostGrows.{cost_more}
-use Rattle.dsp_cli.proofs.InputLaws.{declares_wave, frames_within, raw_frames, signal_stays, output_stays}
+use Rattle.dsp_cli.proofs.InputLaws.{declares_wave, frame_in, frames_within, raw_frames, signal_stays, output_stays}
 use Rattle.dsp_cli.proofs.Told.{IfSome-map, IfSome-always, told_more, told_taken, told_script}
 
 -- nothing stands in the way of a stream over these bytes
@@ -47,7 +47,7 @@ pub record IsFree (words : List (List ℕ)) (source input : SourceState) : Type 
   pub in_limit : InLimit script bytes
   pub no_window : window_at script.blocks (frames_in_bytes script bytes) ≡ None
   pub not_full : gathered script.blocks (frames_in_bytes script bytes) ≤ MAX_GATHERED
-  pub fits : script.output ≡ container.Wave → HeaderFits (format_of script) (channels_of script) (known_frames script (input_header script bytes))
+  pub fits : script.output ≢ container.Raw → HeaderFits script.output (format_of script) (channels_of script) (known_frames script (input_header script bytes))
 
 -- one fact or another, by a test
 abbrev pub when : Bool → Type 0 → Type 0 → Type 0
@@ -114,7 +114,7 @@ module _ (words : List (List ℕ)) (source read input now : SourceState) (sink a
         (written : List ℕ) × Wrote written sink after × (HasHeader s given → LagsByOne s (chosen_block words s) given written))
     pub untouched : IsRefused status ⊎ IsPrint words → (now ≡ input) × (after ≡ sink) × (counts ≡ before)
     pub cost : IfTaken source.left input now (λ s given. counts.multiplies ≤ before.multiplies + cost_of s (frames_in_bytes s given))
-    pub most : IfScript source.left (λ s. counts.multiplies ≤ before.multiplies + cost_of s (count_taken input now / frame_bytes s))
+    pub most : IfScript source.left (λ s. counts.multiplies ≤ before.multiplies + cost_of s (count_taken input now / least_frame_bytes s))
     pub exact : IsStream words → IsDone status → IfScript source.left (λ s. (frames : ℕ) × TookFrames s frames input now × (counts.multiplies ≡ before.multiplies + cost_of s frames))
     pub reported : IsStream words → IsDone status → IfScript source.left (λ s. (frames : ℕ) × (found : List Measure) × TookFrames s frames input now × FoundMeasures s found input now
         × Tells (report_text s frames found) report told × (status ≡ 0 → Wrote (report_text s frames found) report told))
@@ -242,10 +242,10 @@ module _ (words : List (List ℕ)) (source read input now : SourceState) (sink a
 
     -- the cost for the frames in the bytes taken is at most that for as many bytes
     within_most : (given : List ℕ) → Gave input now given → counts.multiplies ≤ before.multiplies + cost_of script (frames_in_bytes script given)
-        → counts.multiplies ≤ before.multiplies + cost_of script (count_taken input now / frame_bytes script)
+        → counts.multiplies ≤ before.multiplies + cost_of script (count_taken input now / least_frame_bytes script)
     within_most given gave within =
-        let more = cost_more script.input.format script.input.channels script.blocks (frames_in_bytes script given) (length given / frame_bytes script) (frames_within script given) in
-        subst (λ n. counts.multiplies ≤ before.multiplies + cost_of script (n / frame_bytes script)) (sym (count_is given gave)) (omega (arith, within, more))
+        let more = cost_more script.input.format script.input.channels script.blocks (frames_in_bytes script given) (length given / least_frame_bytes script) (frames_within script given) in
+        subst (λ n. counts.multiplies ≤ before.multiplies + cost_of script (n / least_frame_bytes script)) (sym (count_is given gave)) (omega (arith, within, more))
 
     turned : (given : List ℕ) → counts.turns ≤ before.turns + run_turns script (chosen named script) (frames_in_bytes script given) → counts.turns ≤ before.turns + run_turns script (chosen_block words script) (frames_in_bytes script given)
     turned given within = subst (λ block. counts.turns ≤ before.turns + run_turns script block (frames_in_bytes script given)) (sym chosen_is) within
@@ -255,8 +255,8 @@ module _ (words : List (List ℕ)) (source read input now : SourceState) (sink a
         let same = count_is given gave in
         record {
           told = for_given given (λ given. frames ≡ frames_in_bytes script given) gave is;
-          most = subst (λ n. frames ≤ n / frame_bytes script) (sym same) (omega (arith, is, frames_within script given));
-          raw = elim (raw_frames script given) [ inl wave ↦ inl wave | inr raw ↦ inr (is ∙ raw ∙ ap (λ n. n / frame_bytes script) (sym same)) ];
+          most = subst (λ n. frames ≤ n / least_frame_bytes script) (sym same) (omega (arith, is, frames_within script given));
+          raw = elim (raw_frames script given) [ inl wave ↦ inl wave | inr raw ↦ inr (is ∙ raw ∙ ap (λ n. n / least_frame_bytes script) (sym same)) ];
         }
 
     -- the run went over the whole input
@@ -287,8 +287,8 @@ module _ (words : List (List ℕ)) (source read input now : SourceState) (sink a
       text_is : summary_text summary ≡ report_over_signal (input_signal script done.given)
       text_is = ran.text ∙ (λ i. report_text script (done.frame_count i) (done.measures i))
 
-      some : 0 < frame_bytes script
-      some = some_frame script (chosen named script) (record { sound = (runs.reads.text, runs.reads.reads); legal = ran.goes.legal })
+      some : 0 < frame_in script done.given
+      some = some_frame script (input_header script done.given).coding (chosen named script) (record { sound = (runs.reads.text, runs.reads.reads); legal = ran.goes.legal })
 
       at_limit : length done.given ≡ 2 ^ 40 → (size : ℕ) × ((input_header script done.given).size ≡ Some size)
       at_limit all = by (input_header script done.given).size refl
@@ -320,7 +320,7 @@ module _ (words : List (List ℕ)) (source read input now : SourceState) (sink a
             lag = λ _ _. lags done.given (output script done.given) done.gave done.put (λ _. done.lag);
             untouched = λ is. elim is [ inl refuses ↦ absurd (refused refuses) | inr print ↦ absurd (run_or_print words is_run print) ];
             cost = for_taken done.given (λ s given. counts.multiplies ≤ before.multiplies + cost_of s (frames_in_bytes s given)) done.gave (omega (arith, exact_count));
-            most = for_script (λ s. counts.multiplies ≤ before.multiplies + cost_of s (count_taken input now / frame_bytes s)) (within_most done.given done.gave (omega (arith, exact_count)));
+            most = for_script (λ s. counts.multiplies ≤ before.multiplies + cost_of s (count_taken input now / least_frame_bytes s)) (within_most done.given done.gave (omega (arith, exact_count)));
             exact = λ _ _. for_script (λ s. (frames : ℕ) × TookFrames s frames input now × (counts.multiplies ≡ before.multiplies + cost_of s frames)) (summary.totals.frames_taken, frames, done.cost);
             reported = λ _ _. for_script (λ s. (frames : ℕ) × (found : List Measure) × TookFrames s frames input now × FoundMeasures s found input now × Tells (report_text s frames found) report told × (status ≡ 0 → Wrote (report_text s frames found) report told))
                 (summary.totals.frames_taken, summary.measures.items, frames, measured, subst (λ text. Tells text report told) ran.text tells, λ zero_is. subst (λ text. Wrote text report told) ran.text (wrote zero_is));
@@ -338,7 +338,7 @@ module _ (words : List (List ℕ)) (source read input now : SourceState) (sink a
                   for_script (λ s. (s.input.kind ≡ kind.Wave) × (IsDone status → IfSome (bytes_taken input now) (λ given. IsSome (declared_bytes s (input_header s given))))) (
                     declares_wave script done.given size declared,
                     λ _. for_given done.given (λ given. IsSome (declared_bytes script (input_header script given))) done.gave
-                        (is_declared (input_header script done.given).size size (frame_bytes script) declared),
+                        (is_declared (input_header script done.given).size size (frame_in script done.given) declared),
                   ),
                 ));
           }
@@ -373,7 +373,7 @@ module _ (words : List (List ℕ)) (source read input now : SourceState) (sink a
           lag = λ _ _. lags given stopped.written stopped.gave stopped.put stopped.lag;
           untouched = λ refuses. elim refuses [ inl refused ↦ absurd (refused_not_stopped status refused is) | inr print ↦ absurd (run_or_print words is_run print) ];
           cost = for_taken given (λ s given. counts.multiplies ≤ before.multiplies + cost_of s (frames_in_bytes s given)) stopped.gave stopped.cost;
-          most = for_script (λ s. counts.multiplies ≤ before.multiplies + cost_of s (count_taken input now / frame_bytes s)) (within_most given stopped.gave stopped.cost);
+          most = for_script (λ s. counts.multiplies ≤ before.multiplies + cost_of s (count_taken input now / least_frame_bytes s)) (within_most given stopped.gave stopped.cost);
           exact = λ _ ends. absurd (done ends);
           reported = λ _ ends. absurd (done ends);
           counted = λ _ ends. absurd (done ends);

@@ -5,11 +5,14 @@ use Rattle.std.proofs.lemmas.List.{take_all, length-take, length-drop}
 use Rattle.std.proofs.lemmas.Nat.{div-mul-add}
 use Rattle.std.proofs.Math.Nat.{mul-le-mul}
 use Rattle.std.specs.Result.{result_unwrap_or}
-use Rattle.dsp_defs.specs.Bytes.{coded, width}
+use Rattle.dsp_defs.specs.Bytes.{coded, coding_of, width, word_bytes}
 use Rattle.dsp_defs.specs.Generator.{generated, generated_bytes}
 use Rattle.dsp_defs.specs.Output.{HasHeader, header_by, input_header, sample_bytes, wanted_of}
 use Rattle.dsp_defs.specs.Wave.{header_of, wave_header, pad}
+use Rattle.dsp_defs.specs.declared.format.Coding.{Coding}
 use Rattle.dsp_defs.specs.declared.format.Container.{Container}
+use Rattle.dsp_defs.specs.declared.format.Fmt.{Fmt}
+use Rattle.dsp_defs.specs.declared.format.Fmt.TheVariants.{Q7, Q15, Q31}
 use Rattle.dsp_defs.specs.declared.format.Container.TheVariants as container
 use Rattle.dsp_defs.specs.declared.format.InputKind.{InputKind}
 use Rattle.dsp_defs.specs.declared.format.InputKind.TheVariants as kind
@@ -17,13 +20,13 @@ use Rattle.dsp_defs.specs.declared.limits.TheConstants.{MAX_CHANNELS, MAX_GENERA
 use Rattle.dsp_defs.specs.declared.script.Script.{Script}
 use Rattle.dsp_defs.specs.declared.wave.Header.{Header}
 use Rattle.dsp_defs.specs.declared.wave.HeaderFault.TheVariants.{Short}
+use Rattle.dsp_defs.proofs.CodingLemmas.{width-coding_of}
 use Rattle.dsp_defs.proofs.WaveLaws.{header_of-wave_header}
-use Rattle.dsp_defs.proofs.SampleLaws.{width-some}
 use Rattle.dsp_wave.proofs.GeneratorLemmas.{data_small, header_fits, generated-made, generated_bytes-small, length-made}
 use Rattle.dsp_session.specs.Session.{frame_bytes}
-use Rattle.dsp_session.specs.Stream.{declared_bytes, frames_in_bytes}
+use Rattle.dsp_session.specs.Stream.{declared_bytes, frames_in_bytes, in_whole_frames}
 use Rattle.dsp_cli.specs.Run.{EndsWithin, InLimit, input_fault, short_fault, wave_fault}
-use Rattle.dsp_cli.proofs.InputLaws.{frames_of_bytes, good_header}
+use Rattle.dsp_cli.proofs.InputLaws.{frame_in, frames_of_bytes, good_header}
 
 some_product : (a b : ℕ) → 1 ≤ a → 1 ≤ b → 1 ≤ a * b
 some_product a b h k = mul-le-mul h k
@@ -32,10 +35,10 @@ floor_within : (n f : ℕ) → n / f * f ≤ n
 floor_within n f = grind (arith)
 
 -- all declared bytes are there
-not_short : (script : Script) (rate declared count : ℕ) → 44 + declared ≤ count → short_fault script (record { rate = rate; start = 44; size = Some declared }) count ≡ None
-not_short script rate declared count all =
-    let floor = floor_within declared (frame_bytes script) in
-    let test : nat_lt count (44 + declared / frame_bytes script * frame_bytes script) ≡ false = grind (arith, nat_tests) in
+not_short : (script : Script) (coding : Coding) (rate declared count : ℕ) → 44 + declared ≤ count → short_fault script (record { rate = rate; start = 44; size = Some declared; coding = coding }) count ≡ None
+not_short script coding rate declared count all =
+    let floor = floor_within declared (frame_bytes script coding) in
+    let test : nat_lt count (44 + in_whole_frames script coding declared) ≡ false = grind (arith, nat_tests) in
     ap (λ (b : Bool). if b then Some (Short declared (count - 44), count) else None) test
 
 module _ (script : Script) (seed frames : ℕ) (few : (1 ≤ script.input.channels) × (script.input.channels ≤ MAX_CHANNELS)) (short : frames ≤ MAX_GENERATED) where
@@ -43,12 +46,12 @@ module _ (script : Script) (seed frames : ℕ) (few : (1 ≤ script.input.channe
   bytes = generated_bytes script.input seed frames
 
   abbrev size : ℕ
-  size = frames * script.input.channels * width script.input.format
+  size = frames * script.input.channels * word_bytes script.input.format
 
   small : size ≤ 1073741824
   small = data_small script.input.format script.input.channels frames few.1 short
 
-  samples_size : (c : Container) → length (coded c script.input.format (generated script.input.format script.input.channels seed frames)) ≡ size
+  samples_size : (c : Container) → length (coded (coding_of c script.input.format) (generated script.input.format script.input.channels seed frames)) ≡ size
   samples_size c =
       ap length (generated-made c script.input.format script.input.channels seed frames) ∙ length-made c script.input.format seed (frames * script.input.channels)
 
@@ -58,27 +61,27 @@ module _ (script : Script) (seed frames : ℕ) (few : (1 ≤ script.input.channe
   -- ---- a WAVE input
 
   abbrev head : List ℕ
-  head = wave_header script.input.format script.input.channels GENERATED_RATE (Some frames)
+  head = wave_header container.Wave script.input.format script.input.channels GENERATED_RATE (Some frames)
 
   abbrev behind : List ℕ
-  behind = coded container.Wave script.input.format (generated script.input.format script.input.channels seed frames) ++ pad script.input.format script.input.channels (Some frames)
+  behind = coded (coding_of container.Wave script.input.format) (generated script.input.format script.input.channels seed frames) ++ pad script.input.format script.input.channels (Some frames)
 
   wave_bytes : script.input.kind ≡ kind.Wave → bytes ≡ head ++ behind
   wave_bytes is =
       of_kind kind.Wave is
-      ∙ append_assoc head (coded container.Wave script.input.format (generated script.input.format script.input.channels seed frames)) (pad script.input.format script.input.channels (Some frames))
+      ∙ append_assoc head (coded (coding_of container.Wave script.input.format) (generated script.input.format script.input.channels seed frames)) (pad script.input.format script.input.channels (Some frames))
 
   abbrev header : Header
-  header = record { rate = GENERATED_RATE; start = 44; size = Some size }
+  header = record { rate = GENERATED_RATE; start = 44; size = Some size; coding = coding_of container.Wave script.input.format }
 
   wave_header_of : script.input.kind ≡ kind.Wave → header_of bytes (wanted_of script) ≡ Ok header
   wave_header_of is =
       ap (λ bytes. header_of bytes (wanted_of script)) (wave_bytes is)
-      ∙ header_of-wave_header script.input.format script.input.channels GENERATED_RATE (Some frames) behind few.1 (omega arith) (header_fits script.input.format script.input.channels frames few.1 short)
+      ∙ header_of-wave_header script.input.format script.input.channels GENERATED_RATE (Some frames) behind few.1 (omega arith) container.Wave (header_fits script.input.format script.input.channels frames few.1 short)
 
   wave_length : script.input.kind ≡ kind.Wave → 44 + size ≤ length bytes
   wave_length is =
-      let samples = coded container.Wave script.input.format (generated script.input.format script.input.channels seed frames) in
+      let samples = coded (coding_of container.Wave script.input.format) (generated script.input.format script.input.channels seed frames) in
       let last = pad script.input.format script.input.channels (Some frames) in
       let first : length head ≡ 44 = refl in
       omega (arith, ap length (wave_bytes is), length-append head behind, length-append samples last, samples_size container.Wave, first)
@@ -93,15 +96,15 @@ module _ (script : Script) (seed frames : ℕ) (few : (1 ≤ script.input.channe
       by kind.Wave is =
           ap (λ k. elim k [ kind.Raw rate ↦ None | kind.Wave ↦ wave_fault script bytes ]) is
           ∙ ap (λ r. elim r [ Err fault ↦ Some fault | Ok header ↦ short_fault script header (length bytes) ]) (wave_header_of is)
-          ∙ not_short script GENERATED_RATE size (length bytes) (wave_length is)
+          ∙ not_short script (coding_of container.Wave script.input.format) GENERATED_RATE size (length bytes) (wave_length is)
 
-  raw_header_is : (rate : ℕ) → script.input.kind ≡ kind.Raw rate → input_header script bytes ≡ record { rate = rate; start = 0; size = None }
+  raw_header_is : (rate : ℕ) → script.input.kind ≡ kind.Raw rate → input_header script bytes ≡ record { rate = rate; start = 0; size = None; coding = coding_of container.Raw script.input.format }
   raw_header_is rate is = ap (λ k. header_by k (wanted_of script) bytes) is
 
   wave_header_is : script.input.kind ≡ kind.Wave → input_header script bytes ≡ header
   wave_header_is is =
       ap (λ k. header_by k (wanted_of script) bytes) is
-      ∙ ap (λ r. result_unwrap_or r (record { rate = 0; start = length bytes; size = None })) (wave_header_of is)
+      ∙ ap (λ r. result_unwrap_or r (record { rate = 0; start = length bytes; size = None; coding = coding_of container.Wave script.input.format })) (wave_header_of is)
 
   raw_length : (rate : ℕ) → script.input.kind ≡ kind.Raw rate → length bytes ≡ size
   raw_length rate is = ap length (of_kind (kind.Raw rate) is) ∙ samples_size container.Raw
@@ -124,16 +127,22 @@ module _ (script : Script) (seed frames : ℕ) (few : (1 ≤ script.input.channe
       by kind.Wave is =
           let start : (input_header script bytes).start ≡ 44 = ap (λ (h : Header). h.start) (wave_header_is is) in
           subst (λ h. EndsWithin (declared_bytes script h) script bytes) (sym (wave_header_is is))
-          (has, omega (arith, start, small, floor_within size (frame_bytes script)))
+          (has, omega (arith, start, small, floor_within size (frame_bytes script (coding_of container.Wave script.input.format))))
 
   -- as many frames as were asked for
-  some : 0 < frame_bytes script
-  some = some_product script.input.channels (width script.input.format) few.0 (width-some script.input.format)
+  some : 0 < script.input.channels * word_bytes script.input.format
+  some = some_product script.input.channels (word_bytes script.input.format) few.0 (word-some script.input.format)
+    where
+      word-some : (format : Fmt) → 0 < word_bytes format
+      word-some Q7 = omega arith
+      word-some Q15 = omega arith
+      word-some Q31 = omega arith
 
-  whole : size / frame_bytes script ≡ frames
+  whole : size / (script.input.channels * word_bytes script.input.format) ≡ frames
   whole =
-      let same : size ≡ frames * frame_bytes script + 0 = grind arith in
-      ap (λ n. n / frame_bytes script) same ∙ div-mul-add frames (frame_bytes script) 0 some
+      let frame = script.input.channels * word_bytes script.input.format in
+      let same : size ≡ frames * frame + 0 = grind arith in
+      ap (λ n. n / frame) same ∙ div-mul-add frames frame 0 some
 
   sample_count : length (sample_bytes (input_header script bytes) bytes) ≡ size
   sample_count = by script.input.kind refl
@@ -144,5 +153,12 @@ module _ (script : Script) (seed frames : ℕ) (few : (1 ≤ script.input.channe
           ap (λ h. length (sample_bytes h bytes)) (wave_header_is is)
           ∙ omega (arith, length-take size (drop 44 bytes), length-drop 44 bytes, wave_length is)
 
+  frame_is : frame_in script bytes ≡ script.input.channels * word_bytes script.input.format
+  frame_is = by script.input.kind refl
+    where
+      by : (k : InputKind) → script.input.kind ≡ k → frame_in script bytes ≡ script.input.channels * word_bytes script.input.format
+      by (kind.Raw rate) is = ap (λ (h : Header). script.input.channels * width h.coding) (raw_header_is rate is) ∙ ap (λ w. script.input.channels * w) (width-coding_of container.Raw script.input.format)
+      by kind.Wave is = ap (λ (h : Header). script.input.channels * width h.coding) (wave_header_is is) ∙ ap (λ w. script.input.channels * w) (width-coding_of container.Wave script.input.format)
+
   pub generated_frames : frames_in_bytes script bytes ≡ frames
-  generated_frames = frames_of_bytes script bytes ∙ ap (λ n. n / frame_bytes script) sample_count ∙ whole
+  generated_frames = frames_of_bytes script bytes ∙ (λ i. sample_count i / frame_is i) ∙ whole

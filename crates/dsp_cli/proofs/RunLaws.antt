@@ -1,5 +1,5 @@
 -- Each way in which the top call may end, from what was read.
-use Rattle.std.proofs.Common.{◌≡◌, ◌⊎◌, ℕ, ◌^◌, ◌≤◌, List, ◌++◌, length, refl, sym, ap, ◌∙◌, subst, arith, inl, inr, None, Some, Option, IsNone, IsSome, IfSome, IsTrue, IsFalse, Bool, true, false}
+use Rattle.std.proofs.Common.{◌≡◌, ◌≢◌, ◌⊎◌, ℕ, ◌^◌, ◌≤◌, List, ◌++◌, length, refl, sym, ap, ◌∙◌, subst, arith, inl, inr, None, Some, Option, IsNone, IsSome, IfSome, IsTrue, IsFalse, Bool, true, false}
 use Rattle.std.specs.Io.KnownBytes.{append_known}
 use Rattle.dsp_ports.specs.Ports.{SourceState, SinkState, Rose, one_more, Gave, IsSettled}
 use Rattle.dsp_defs.specs.Canon.{canon}
@@ -51,7 +51,7 @@ source_faults state = state.faults
 abbrev IsBlocked : Script → List ℕ → Type 0
 IsBlocked s bytes =
     InLimit s bytes → window_at s.blocks (frames_in_bytes s bytes) ≡ None → gathered s.blocks (frames_in_bytes s bytes) ≤ MAX_GATHERED
-    → (s.output ≡ container.Wave → HeaderFits (format_of s) (channels_of s) (known_frames s (input_header s bytes))) → ⊥
+    → (s.output ≢ container.Raw → HeaderFits s.output (format_of s) (channels_of s) (known_frames s (input_header s bytes))) → ⊥
 
 module _ (words : List (List ℕ)) (source read input now : SourceState) (sink after report told : SinkState) (before counts : Counts) where
   abbrev Come : ℕ → Type 0
@@ -324,7 +324,7 @@ module _ (words : List (List ℕ)) (source read input now : SourceState) (sink a
     ends_window end full stream tells =
         let stopped = stream.stopped in
         let stops = stopped.stops in
-        let some = some_frame script (chosen named script) (record { sound = (runs.reads.text, runs.reads.reads); legal = stream.legal }) in
+        let some = some_frame script (input_header script stopped.given).coding (chosen named script) (record { sound = (runs.reads.text, runs.reads.reads); legal = stream.legal }) in
         ends_length_fault (length_fault.Window end full) stream
         (Window end full (for_taken stopped.given (λ s given. HasHeader s given × IsTakenWhole s given now × (window_at s.blocks (frames_in_bytes s given) ≡ Some (end, full))) stopped.gave (stops.has, stops.whole, stops.window)) tells)
         (inl (stops.has, stopped.put ∙ ap (append_known sink.put) stops.wrote)) stops.kept
@@ -345,7 +345,7 @@ module _ (words : List (List ℕ)) (source read input now : SourceState) (sink a
         (inr (inr (size, long), stops.untouched)) (ap faults_of stops.untouched)
         (blocks stopped.given stopped.gave (λ more left _ _ _ fits.
         let known : known_frames script (input_header script (stopped.given ++ more)) ≡ Some long.frames = ap (known_frames script) (header_stays script stopped.given more stops.has) ∙ long.known in
-        let within = subst (HeaderFits (format_of script) (channels_of script)) known (fits long.wave) in
+        let within = subst (HeaderFits script.output (format_of script) (channels_of script)) known (fits long.headed) in
         absurd (omega (arith, within, long.size_is, long.over))))
 
     pub ends_lengths : (fault : LengthFault) → StopsInStream (Lengths fault) named script input now sink after before counts → Tells (fault_line (Stream (Lengths fault))) report told → End 5

@@ -1,5 +1,5 @@
 -- What the top call answers, and what stands behind its answers.
-use Rattle.std.specs.Prelude.{◌≡◌, ◌⊎◌, ◌+◌, ◌-◌, ◌*◌, ◌/◌, ◌^◌, ◌<◌, ℕ, ◌≤◌, ◌==◌, nat_lt, if◌then◌else◌, List, length, take, Option, Some, None, IfSome, IsSome, IsTrue, Ok, Err}
+use Rattle.std.specs.Prelude.{◌≡◌, ◌≢◌, ◌⊎◌, ◌+◌, ◌-◌, ◌*◌, ◌/◌, ◌^◌, ◌<◌, ℕ, ◌≤◌, ◌==◌, nat_lt, if◌then◌else◌, List, length, take, Option, Some, None, IfSome, IsSome, IsTrue, Ok, Err}
 use Rattle.std.specs.Option.{option_map}
 use Rattle.std.specs.Io.KnownBytes.{append_known}
 use Rattle.dsp_ports.specs.Ports.{SourceState, SinkState, Rose}
@@ -23,8 +23,8 @@ use Rattle.dsp_defs.specs.declared.wave.Header.{Header}
 use Rattle.dsp_defs.specs.declared.wave.HeaderFault.{HeaderFault}
 use Rattle.dsp_defs.specs.declared.wave.HeaderFault.TheVariants.{Short}
 use Rattle.dsp_session.specs.Opening.{IsTooLong, IsUnheaded}
-use Rattle.dsp_session.specs.Session.{frame_bytes, measures_of}
-use Rattle.dsp_session.specs.Stream.{IsTakenWhole, declared_bytes, frames_in_bytes, in_whole_blocks}
+use Rattle.dsp_session.specs.Session.{least_frame_bytes, measures_of}
+use Rattle.dsp_session.specs.Stream.{IsTakenWhole, declared_bytes, frames_in_bytes, in_whole_blocks, in_whole_frames}
 use Rattle.dsp_cli.specs.Script.{IfScript, stream_of, chosen_block, is_legal_for}
 
 -- ---- commands
@@ -108,8 +108,8 @@ IfTaken text old new P = IfScript text (λ s. IfSome (bytes_taken old new) (P s)
 -- so many whole frames were taken: those in the bytes that are told, and for raw samples those in as many bytes as were taken
 pub record TookFrames (script : Script) (frames : ℕ) (old new : SourceState) : Type 0 where
   pub told : IfSome (bytes_taken old new) (λ given. frames ≡ frames_in_bytes script given)
-  pub most : frames ≤ count_taken old new / frame_bytes script
-  pub raw : (script.input.kind ≡ kind.Wave) ⊎ (frames ≡ count_taken old new / frame_bytes script)
+  pub most : frames ≤ count_taken old new / least_frame_bytes script
+  pub raw : (script.input.kind ≡ kind.Wave) ⊎ (frames ≡ count_taken old new / least_frame_bytes script)
 
 -- the measures are those of the whole signal, where its bytes are told
 abbrev pub FoundMeasures : Script → List Measure → SourceState → SourceState → Type 0
@@ -143,7 +143,8 @@ WrotePart script block given old new = (HasHeader script given × Wrote (part sc
 abbrev pub short_fault : Script → Header → ℕ → Option (HeaderFault × ℕ)
 short_fault script header count =
     elim header.size [
-      | Some declared ↦ if nat_lt count (header.start + declared / frame_bytes script * frame_bytes script) then Some (Short declared (count - header.start), count) else None
+      | Some declared ↦ if nat_lt count (header.start + in_whole_frames script header.coding declared)
+          then Some (Short declared (count - header.start), count) else None
       | None ↦ None
     ]
 
@@ -240,7 +241,7 @@ pub record IsRunnable (words : List (List ℕ)) (source port : SourceState) : Ty
   pub good : IsGood (command_of words) script bytes
   pub no_window : window_at script.blocks (frames_in_bytes script bytes) ≡ None
   pub not_full : gathered script.blocks (frames_in_bytes script bytes) ≤ MAX_GATHERED
-  pub fits : script.output ≡ container.Wave → HeaderFits (format_of script) (channels_of script) (known_frames script (input_header script bytes))
+  pub fits : script.output ≢ container.Raw → HeaderFits script.output (format_of script) (channels_of script) (known_frames script (input_header script bytes))
 
 -- a command to print, and a script
 pub record IsPrintable (words : List (List ℕ)) (source : SourceState) : Type 0 where

@@ -7,7 +7,7 @@ use Rattle.dsp_defs.specs.Report.{report_text}
 use Rattle.dsp_defs.specs.Shape.{window_at}
 use Rattle.dsp_defs.specs.Words.{command_of}
 use Rattle.dsp_defs.specs.declared.measure.Measure.{Measure}
-use Rattle.dsp_session.specs.Session.{frame_bytes, cost_of, run_turns}
+use Rattle.dsp_session.specs.Session.{least_frame_bytes, cost_of, run_turns}
 use Rattle.dsp_session.specs.Stream.{LagsByOne, KeepsLimits, IsTakenWhole, frames_in_bytes}
 use Rattle.dsp_cli.specs.Script.{IfScript, chosen_block}
 use Rattle.dsp_cli.specs.Run.{IsDone, IsBroken, IsReader, IfTaken, TookFrames, FoundMeasures, count_taken, Wrote, WroteFront, WrotePart, Tells, TellsLength}
@@ -36,7 +36,7 @@ pub record Stands (words : List (List ℕ)) (text : Option (List ℕ)) (port lat
   pub lengths : status ≡ 5 → TellsLength text (chosen_block words) input now sink after report told
   -- the multiplies, for the whole frames that were taken
   pub cost : IfTaken text input now (λ s given. counts.multiplies ≤ before.multiplies + cost_of s (frames_in_bytes s given))
-  pub most : IfScript text (λ s. counts.multiplies ≤ before.multiplies + cost_of s (count_taken input now / frame_bytes s))
+  pub most : IfScript text (λ s. counts.multiplies ≤ before.multiplies + cost_of s (count_taken input now / least_frame_bytes s))
   pub exact_cost : IsDone status → IfScript text (λ s. (frames : ℕ) × TookFrames s frames input now × (counts.multiplies ≡ before.multiplies + cost_of s frames))
   -- the turns of its loops, for these frames
   pub turns : IfTaken text input now (λ s given.

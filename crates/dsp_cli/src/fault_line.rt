@@ -44,6 +44,8 @@ fn kind_name(kind: ScriptKind) -> &'static [u8]
         ScriptKind::ChannelsHere { .. } => b"ChannelsHere",
         ScriptKind::Length { .. } => b"Length",
         ScriptKind::TooMany { .. } => b"TooMany",
+        ScriptKind::BadName => b"BadName",
+        ScriptKind::NameTaken => b"NameTaken",
     }
 }
 

@@ -20,8 +20,8 @@ impl<T: LaneSample<L>, const L: usize> Convolution<T, L, Everything> {
     ghost use Rattle.dsp_conv.specs.ConvState.{StandsFor, new_conv};
 
     /// A convolution that has taken nothing, with the taps `b[0]` to `b[T-1]`, for blocks of at most
-    /// `block` samples. `Length` where there are no taps or more than 4,096, then `Range` where the
-    /// block is not in 1..1,048,576, then `Memory`. No later call takes memory.
+    /// `block` samples. `Length` where there are no taps or more than `MAX_TAPS`, then `Range` where the
+    /// block is not in 1..`MAX_SAMPLES`, then `Memory`. No later call takes memory.
     pub fn new(alloc: Global, taps: &[T], block: usize) -> Result<Self, MakeFault>
         ensures made { IfOk result (λ c. c ≡ new_conv Full (map T.number taps.now) block) }
         ensures stands { IfOk result (λ c. StandsFor T.format c []) }

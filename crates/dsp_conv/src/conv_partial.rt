@@ -23,8 +23,8 @@ impl<T: LaneSample<L>, const L: usize> Convolution<T, L, Stretch> {
 
     /// The `count` values from the one with index `first` on of a convolution that has taken nothing,
     /// with the taps `b[0]` to `b[T-1]`, for blocks of at most `block` samples. `Length` where there
-    /// are no taps or more than 4,096, then `Range` where `first` is over 4,294,967,295, `Range` where
-    /// `count` is not in 1..4,294,967,295, `Range` where the block is not in 1..1,048,576, then
+    /// are no taps or more than `MAX_TAPS`, then `Range` where `first` is over 4,294,967,295, `Range` where
+    /// `count` is not in 1..4,294,967,295, `Range` where the block is not in 1..`MAX_SAMPLES`, then
     /// `Memory`. No later call takes memory.
     pub fn new(
         alloc: Global,

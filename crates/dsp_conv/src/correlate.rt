@@ -44,7 +44,7 @@ impl<T: OwnLanes> Correlate<T> {
     ghost use Rattle.dsp_conv.specs.CorrelateState.{new_correlate, tail_of, made_of};
 
     /// A correlation that has taken nothing, with the taps `b[0]` to `b[T-1]`. `Length` where there are
-    /// no taps or more than 4,096, then `Memory`. No later call takes memory.
+    /// no taps or more than `MAX_TAPS`, then `Memory`. No later call takes memory.
     pub fn new(alloc: Global, taps: &[T]) -> Result<Self, MakeFault>
         ensures made { IfOk result (λ c. c ≡ new_correlate (map T.number taps.now)) }
         ensures fault { MatchOption (taps_fault (length taps.now)) (IfErr result (λ e. e ≡ MakeFault.Memory)) (λ e. result ≡ Err e) }
@@ -56,7 +56,7 @@ impl<T: OwnLanes> Correlate<T> {
         Ok(correlate)
     }
 
-    /// A correlation that has taken nothing, with 1 to 4,096 taps. All its memory is taken here.
+    /// A correlation that has taken nothing, with 1 to `MAX_TAPS` taps. All its memory is taken here.
     pub(crate) fn of_taps(alloc: Global, taps: &[T]) -> Result<Self, AllocError>
         requires some { 1 ≤ length taps.now }
         requires few { length taps.now ≤ MAX_TAPS }
@@ -72,7 +72,7 @@ impl<T: OwnLanes> Correlate<T> {
         })
     }
 
-    /// Takes samples. `GatherFull` where it would hold more than 1,048,576; then nothing changes.
+    /// Takes samples. `GatherFull` where it would hold more than `MAX_GATHERED`; then nothing changes.
     pub fn put(&mut self, input: &[T]) -> Result<(), GatherFull>
         requires running { IsFalse self.old.ended }
         ensures full { IsErr result ↔ MAX_GATHERED < length self.old.samples + length input.now }
@@ -132,7 +132,7 @@ impl<T: OwnLanes> Correlate<T> {
         self.gather.keep(out);
     }
 
-    /// Whether these can be kept numbers: at most 1,048,576 of them, each in the range of the format.
+    /// Whether these can be kept numbers: at most `MAX_GATHERED` of them, each in the range of the format.
     pub fn fits(&self, numbers: &[i64]) -> bool
         ensures { IsTrue result ↔ (length numbers.now ≤ MAX_GATHERED) × Each IsOfKind (in_words (word T.format) (length numbers.now)) numbers.now }
     {

@@ -4,6 +4,7 @@ pub mod Causal
 pub mod BlockLaws
 pub mod ChainLaws
 pub mod BytesLaws
+pub mod CodingLemmas
 pub mod FrameLaws
 pub mod OutputLaws
 pub mod CountLemmas
@@ -16,3 +17,4 @@ pub mod UnitLaws
 pub mod WaveCuts
 pub mod FrameLemmas
 pub mod SampleLaws
+pub mod HeaderCoding

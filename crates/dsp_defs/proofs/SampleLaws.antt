@@ -11,18 +11,12 @@ use Rattle.dsp_defs.specs.Block.{Frame}
 use Rattle.dsp_defs.specs.Bytes.{width, bytes_of, sample_of, coded, samples}
 use Rattle.dsp_defs.specs.Signal.{sample, values}
 use Rattle.dsp_defs.specs.Block.{frames_in}
-use Rattle.dsp_defs.specs.declared.format.Container.{Container}
-use Rattle.dsp_defs.specs.declared.format.Fmt.{Fmt}
-use Rattle.dsp_defs.specs.declared.format.Fmt.TheVariants.{Q7, Q15, Q31}
+use Rattle.dsp_defs.specs.declared.format.Coding.{Coding}
 use Rattle.dsp_defs.proofs.BlockLaws.{length-values}
+use Rattle.dsp_defs.proofs.CodingLemmas.{width-some}
 use Rattle.dsp_defs.proofs.FrameLemmas.{length-frames_in}
 use Rattle.dsp_defs.proofs.Signal.{values_cong, values-add}
 use Rattle.dsp_defs.proofs.SumLemmas.{same_numbers}
-
-pub width-some : (format : Fmt) → 0 < width format
-width-some Q7 = omega arith
-width-some Q15 = omega arith
-width-some Q31 = omega arith
 
 -- ---- the signal of bytes
 
@@ -32,58 +26,58 @@ sample_inside i n channels c w below inside = grind arith
 sample_behind : (i n channels c w : ℕ) → ((n + i) * channels + c) * w ≡ n * (channels * w) + (i * channels + c) * w
 sample_behind i n channels c w = grind arith
 
-pub length-samples : (container : Container) (format : Fmt) (channels : ℕ) (bytes : List ℕ) → length (samples container format channels bytes) ≡ length bytes / (channels * width format)
-length-samples container format channels bytes = length-values (length bytes / (channels * width format)) _
+pub length-samples : (coding : Coding) (channels : ℕ) (bytes : List ℕ) → length (samples coding channels bytes) ≡ length bytes / (channels * width coding)
+length-samples coding channels bytes = length-values (length bytes / (channels * width coding)) _
 
-no_frames : (container : Container) (format : Fmt) (channels : ℕ) (bytes : List ℕ) → length bytes / (channels * width format) ≡ 0 → samples container format channels bytes ≡ []
-no_frames container format channels bytes none =
-    ap (λ (n : ℕ). values n (λ i. values channels (λ c. sample_of container format (take (width format) (drop ((i * channels + c) * width format) bytes))))) none
+no_frames : (coding : Coding) (channels : ℕ) (bytes : List ℕ) → length bytes / (channels * width coding) ≡ 0 → samples coding channels bytes ≡ []
+no_frames coding channels bytes none =
+    ap (λ (n : ℕ). values n (λ i. values channels (λ c. sample_of coding (take (width coding) (drop ((i * channels + c) * width coding) bytes))))) none
 
-pub samples-nil : (container : Container) (format : Fmt) (channels : ℕ) → samples container format channels [] ≡ []
-samples-nil container format channels = no_frames container format channels [] (nothing (channels * width format))
+pub samples-nil : (coding : Coding) (channels : ℕ) → samples coding channels [] ≡ []
+samples-nil coding channels = no_frames coding channels [] (nothing (channels * width coding))
   where
     nothing : (k : ℕ) → 0 / k ≡ 0
     nothing k = omega arith
 
 -- bytes that are n whole frames, and more bytes behind them
-module _ (container : Container) (format : Fmt) (channels n : ℕ) (bytes more : List ℕ) (some : zero < channels * width format) (whole : length bytes ≡ n * (channels * width format)) where
+module _ (coding : Coding) (channels n : ℕ) (bytes more : List ℕ) (some : zero < channels * width coding) (whole : length bytes ≡ n * (channels * width coding)) where
   abbrev frame_of : List ℕ → ℕ → Frame
-  frame_of bytes i = values channels (λ c. sample_of container format (take (width format) (drop ((i * channels + c) * width format) bytes)))
+  frame_of bytes i = values channels (λ c. sample_of coding (take (width coding) (drop ((i * channels + c) * width coding) bytes)))
 
-  frames : length (bytes ++ more) / (channels * width format) ≡ n + length more / (channels * width format)
+  frames : length (bytes ++ more) / (channels * width coding) ≡ n + length more / (channels * width coding)
   frames =
-      let total : length (bytes ++ more) ≡ length more + n * (channels * width format) = omega (arith, length-append bytes more) in
+      let total : length (bytes ++ more) ≡ length more + n * (channels * width coding) = omega (arith, length-append bytes more) in
       let split = add-mul-div_right (length more) n some in
-      ap (λ k. k / (channels * width format)) total ∙ split ∙ add_comm (length more / (channels * width format)) n
+      ap (λ k. k / (channels * width coding)) total ∙ split ∙ add_comm (length more / (channels * width coding)) n
 
-  pub count-whole : length bytes / (channels * width format) ≡ n
+  pub count-whole : length bytes / (channels * width coding) ≡ n
   count-whole =
-      let exact : length bytes ≡ n * (channels * width format) + 0 = omega (arith, whole) in
-      ap (λ k. k / (channels * width format)) exact ∙ div-mul-add n (channels * width format) 0 some
+      let exact : length bytes ≡ n * (channels * width coding) + 0 = omega (arith, whole) in
+      ap (λ k. k / (channels * width coding)) exact ∙ div-mul-add n (channels * width coding) 0 some
 
-  front : (i c : ℕ) → i < n → c < channels → take (width format) (drop ((i * channels + c) * width format) (bytes ++ more)) ≡ take (width format) (drop ((i * channels + c) * width format) bytes)
+  front : (i c : ℕ) → i < n → c < channels → take (width coding) (drop ((i * channels + c) * width coding) (bytes ++ more)) ≡ take (width coding) (drop ((i * channels + c) * width coding) bytes)
   front i c below inside =
-      let start = (i * channels + c) * width format in
-      let fits : start + width format ≤ length bytes = rw whole (sample_inside i n channels c (width format) below inside) in
-      let room : width format ≤ length (drop start bytes) = omega (arith, length-drop start bytes) in
-      ap (take (width format)) (drop-append-le start bytes more (omega arith)) ∙ take-append-le (width format) (drop start bytes) more room
+      let start = (i * channels + c) * width coding in
+      let fits : start + width coding ≤ length bytes = rw whole (sample_inside i n channels c (width coding) below inside) in
+      let room : width coding ≤ length (drop start bytes) = omega (arith, length-drop start bytes) in
+      ap (take (width coding)) (drop-append-le start bytes more (omega arith)) ∙ take-append-le (width coding) (drop start bytes) more room
 
-  back : (i c : ℕ) → take (width format) (drop (((n + i) * channels + c) * width format) (bytes ++ more)) ≡ take (width format) (drop ((i * channels + c) * width format) more)
+  back : (i c : ℕ) → take (width coding) (drop (((n + i) * channels + c) * width coding) (bytes ++ more)) ≡ take (width coding) (drop ((i * channels + c) * width coding) more)
   back i c =
-      let start = (i * channels + c) * width format in
-      let place : ((n + i) * channels + c) * width format ≡ length bytes + start = sample_behind i n channels c (width format) ∙ ap (λ k. k + start) (sym whole) in
-      ap (λ k. take (width format) (drop k (bytes ++ more))) place ∙ ap (take (width format)) (drop-append-add bytes more start)
+      let start = (i * channels + c) * width coding in
+      let place : ((n + i) * channels + c) * width coding ≡ length bytes + start = sample_behind i n channels c (width coding) ∙ ap (λ k. k + start) (sym whole) in
+      ap (λ k. take (width coding) (drop k (bytes ++ more))) place ∙ ap (take (width coding)) (drop-append-add bytes more start)
 
   -- the signal of both is the signal of the one and then of the other
-  pub samples-append : samples container format channels (bytes ++ more) ≡ samples container format channels bytes ++ samples container format channels more
+  pub samples-append : samples coding channels (bytes ++ more) ≡ samples coding channels bytes ++ samples coding channels more
   samples-append =
-      let later = length more / (channels * width format) in
+      let later = length more / (channels * width coding) in
       ap (λ k. values k (frame_of (bytes ++ more))) frames
       ∙ values-add n later (frame_of (bytes ++ more))
       ∙ ap₂ (λ xs ys. xs ++ ys)
-      (values_cong n _ (frame_of bytes) (λ i below. values_cong channels _ _ (λ c inside. ap (sample_of container format) (front i c below inside)))
+      (values_cong n _ (frame_of bytes) (λ i below. values_cong channels _ _ (λ c inside. ap (sample_of coding) (front i c below inside)))
       ∙ ap (λ k. values k (frame_of bytes)) (sym count-whole))
-      (values_cong later _ (frame_of more) (λ i _. values_cong channels _ _ (λ c _. ap (sample_of container format) (back i c))))
+      (values_cong later _ (frame_of more) (λ i _. values_cong channels _ _ (λ c _. ap (sample_of coding) (back i c))))
 
 rest_below : (n size k : ℕ) → 0 < k → n ≡ size / k → (n * k ≤ size) × (size - n * k < k)
 rest_below n size k some is = grind arith
@@ -92,19 +86,19 @@ small_quotient : (size k : ℕ) → size < k → size / k ≡ 0
 small_quotient size k h = grind arith
 
 -- a rest that is no whole frame changes nothing
-pub samples-whole : (container : Container) (format : Fmt) (channels n : ℕ) (bytes : List ℕ) → 0 < channels * width format → n ≡ length bytes / (channels * width format)
-    → samples container format channels (take (n * (channels * width format)) bytes) ≡ samples container format channels bytes
-samples-whole container format channels n bytes some is =
-    let size = channels * width format in
+pub samples-whole : (coding : Coding) (channels n : ℕ) (bytes : List ℕ) → 0 < channels * width coding → n ≡ length bytes / (channels * width coding)
+    → samples coding channels (take (n * (channels * width coding)) bytes) ≡ samples coding channels bytes
+samples-whole coding channels n bytes some is =
+    let size = channels * width coding in
     let bounds = rest_below n (length bytes) size some is in
     let front = take (n * size) bytes in
     let rest = drop (n * size) bytes in
     let long : length front ≡ n * size = length-take-le (n * size) bytes bounds.0 in
     let short : length rest < size = omega (arith, length-drop (n * size) bytes, bounds.1) in
-    sym (ap (samples container format channels) (sym (take-append-drop (n * size) bytes))
-    ∙ samples-append container format channels n front rest some long
-    ∙ ap (λ (later : List Frame). samples container format channels front ++ later) (no_frames container format channels rest (small_quotient (length rest) size short))
-    ∙ append-nil (samples container format channels front))
+    sym (ap (samples coding channels) (sym (take-append-drop (n * size) bytes))
+    ∙ samples-append coding channels n front rest some long
+    ∙ ap (λ (later : List Frame). samples coding channels front ++ later) (no_frames coding channels rest (small_quotient (length rest) size short))
+    ∙ append-nil (samples coding channels front))
 
 -- ---- samples of a slice
 
@@ -112,21 +106,21 @@ frame_bytes : (n channels w : ℕ) → n * channels * w ≡ n * (channels * w)
 frame_bytes n channels w = omega arith
 
 -- samples that were read one after another are the signal, frame by frame
-pub decoded : (container : Container) (format : Fmt) (channels n count : ℕ) (bytes : List ℕ) → 0 < channels → length bytes ≡ count * width format → count ≡ n * channels
-    → frames_in channels (values count (λ i. sample_of container format (take (width format) (drop (i * width format) bytes)))) ≡ samples container format channels bytes
+pub decoded : (coding : Coding) (channels n count : ℕ) (bytes : List ℕ) → 0 < channels → length bytes ≡ count * width coding → count ≡ n * channels
+    → frames_in channels (values count (λ i. sample_of coding (take (width coding) (drop (i * width coding) bytes)))) ≡ samples coding channels bytes
 unfolding frames_in
-decoded container format channels n count bytes some long is =
-    let w = width format in
-    let one : ℕ → ℤ = λ i. sample_of container format (take w (drop (i * w) bytes)) in
+decoded coding channels n count bytes some long is =
+    let w = width coding in
+    let one : ℕ → ℤ = λ i. sample_of coding (take w (drop (i * w) bytes)) in
     let quotient : length (values count one) / channels ≡ n = ap (λ (k : ℕ). k / channels) (length-values count one ∙ is) ∙ mul-div_cancel n some in
-    let size_some : 0 < channels * w = product-some channels w some (width-some format) in
+    let size_some : 0 < channels * w = product-some channels w some (width-some coding) in
     let whole : length bytes ≡ n * (channels * w) = long ∙ ap (λ (k : ℕ). k * w) is ∙ frame_bytes n channels w in
     ap (λ (k : ℕ). values k (λ i. values channels (λ c. sample (values count one) (i * channels + c)))) quotient
     ∙ values_cong n _ _ (λ i below. values_cong channels _ _ (λ c inside.
     let bound = mul-add-lt i channels c n below inside in
     let within : i * channels + c < count = omega (arith, is, bound) in
     get_or-map-range_with_len one 0 count (i * channels + c) (i * channels + c) (pos 0) within (zero-add (i * channels + c))))
-    ∙ ap (λ (k : ℕ). values k (λ i. values channels (λ c. one (i * channels + c)))) (sym (count-whole container format channels n bytes [] size_some whole))
+    ∙ ap (λ (k : ℕ). values k (λ i. values channels (λ c. one (i * channels + c)))) (sym (count-whole coding channels n bytes [] size_some whole))
   where
     product-some : (a b : ℕ) → 0 < a → 0 < b → 0 < a * b
     product-some a b h k = grind arith
@@ -156,14 +150,14 @@ values_of xs =
     (λ i h. get_or-map-range_with_len (sample xs) 0 (length xs) i i (pos 0) (omega (arith, length-values (length xs) (sample xs))) (zero-add i))
 
 -- samples of whole frames that were written one after another are the bytes of the frames
-pub encoded : (container : Container) (format : Fmt) (channels : ℕ) (xs : List ℤ) → length xs ≡ length (frames_in channels xs) * channels
-    → flat_map (bytes_of container format) xs ≡ coded container format (frames_in channels xs)
+pub encoded : (coding : Coding) (channels : ℕ) (xs : List ℤ) → length xs ≡ length (frames_in channels xs) * channels
+    → flat_map (bytes_of coding) xs ≡ coded coding (frames_in channels xs)
 unfolding frames_in
-encoded container format channels xs whole =
+encoded coding channels xs whole =
     let n = length xs / channels in
     let count : length xs ≡ n * channels = whole ∙ ap (λ (k : ℕ). k * channels) (length-frames_in channels xs) in
-    ap (flat_map (bytes_of container format)) (sym (values_of xs) ∙ ap (λ (k : ℕ). values k (sample xs)) count)
-    ∙ sym (flat_rows (bytes_of container format) (sample xs) channels n)
+    ap (flat_map (bytes_of coding)) (sym (values_of xs) ∙ ap (λ (k : ℕ). values k (sample xs)) count)
+    ∙ sym (flat_rows (bytes_of coding) (sample xs) channels n)
 
-pub coded-append : (container : Container) (format : Fmt) (xs ys : List Frame) → coded container format (xs ++ ys) ≡ coded container format xs ++ coded container format ys
-coded-append container format xs ys = flat_map-append (λ (frame : Frame). flat_map (bytes_of container format) frame) xs ys
+pub coded-append : (coding : Coding) (xs ys : List Frame) → coded coding (xs ++ ys) ≡ coded coding xs ++ coded coding ys
+coded-append coding xs ys = flat_map-append (λ (frame : Frame). flat_map (bytes_of coding) frame) xs ys

@@ -1,102 +1,132 @@
 -- A good header that is cut has the fault of the place at which it is cut.
-use Rattle.std.proofs.Common.{◌≡◌, ℕ, zero, suc, ◌+◌, ◌-◌, ◌<◌, ◌≤◌, Bool, true, false, not, nat_eq, ◌&&◌, if◌then◌else◌, List, [], ◌∷◌, ◌++◌, length, take, drop, codes, Option, Some, None, Result, Ok, Err, refl, sym, ap, ap₂, ◌∙◌, arith, subst, ⊎_elim}
+use Rattle.std.proofs.Common.{◌≡◌, ℕ, zero, suc, ◌+◌, ◌*◌, ◌-◌, ◌<◌, ◌≤◌, Bool, true, false, not, nat_eq, ◌&&◌, if◌then◌else◌, List, [], ◌∷◌, ◌++◌, length, take, drop, codes, Option, Some, None, Result, Ok, Err, refl, sym, ap, ap₂, ◌∙◌, arith, subst, ◌⊎◌, inl, inr, ⊎_elim}
 use Rattle.std.proofs.lemmas.Grind.{common_steps}
 use Rattle.std.proofs.lemmas.Bool.{cases_lt}
 use Rattle.std.proofs.lemmas.List.{take-append-drop, take-append-le, drop-take, length-take, length-take-le, length-drop}
-use Rattle.std.specs.Int.{from_le_bytes}
 use Rattle.std.specs.Str.{bytes_eq}
 use Rattle.std.specs.Result.{result_unwrap_or, result_err}
-use Rattle.dsp_defs.specs.Numbers.{w32}
-use Rattle.dsp_defs.specs.Wave
-use Rattle.dsp_defs.specs.Wave.{Chunk, chunk_at, chunks_behind, chunks, padded, has_id, u16_at, u32_at, format_fault, unless, header_in, header_of, header_fault, cut_fault}
+use Rattle.dsp_defs.specs.Bytes.{width}
+use Rattle.dsp_defs.specs.Wave.{Chunk, chunk_at, chunks_behind, chunks, padded, has_id, u16_at, extensible_tag, pcm_subformat, sampling, format_fault, unless, header_in, header_of, header_fault, cut_fault}
+use Rattle.dsp_defs.specs.declared.wave.Sampling.{Sampling}
 use Rattle.dsp_defs.specs.declared.wave.Wanted.{Wanted}
 use Rattle.dsp_defs.specs.declared.wave.Header.{Header}
 use Rattle.dsp_defs.specs.declared.wave.HeaderFault.{HeaderFault}
 use Rattle.dsp_defs.specs.declared.wave.HeaderFault.TheVariants.{NotRiff, NotWave, NoFormat, NoSamples}
-use Rattle.dsp_defs.proofs.WaveLemmas.{GoodFormat, good_format, format_is_good, longer, words, no_header, piece-append, u16_at-append, chunk_at-append, chunks_behind-end, chunks_behind-first, short_file}
+use Rattle.dsp_defs.proofs.WaveLemmas.{Extended, GoodFormat, found, same_sampling, good_format, format_is_good, longer, words, no_header, piece-append, u16_at-append, chunk_at-append, chunks_behind-end, chunks_behind-first, short_file}
 
--- a `fmt ` chunk of whose body 16 bytes are there is good, where the longer one is
-shorter_format : (wanted : Wanted) (c : Chunk) (more : List ℕ) → GoodFormat wanted (longer c more) → 16 ≤ length c.body → GoodFormat wanted c
-shorter_format wanted c more g long = record {
-  size = g.size;
-  body = long;
-  tag = sym (u16_at-append c.body more 0 (omega (arith, long))) ∙ g.tag;
-  channels = sym (u16_at-append c.body more 2 (omega (arith, long))) ∙ g.channels;
-  bits = sym (u16_at-append c.body more 14 (omega (arith, long))) ∙ g.bits;
-  align = sym (u16_at-append c.body more 12 (omega (arith, long))) ∙ g.align;
-}
+-- a good `fmt ` chunk that is cut is good still, or it is known that bytes are missing
+module _ (wanted : Wanted) (total : ℕ) (c : Chunk) (more : List ℕ) (g : GoodFormat wanted (longer c more)) where
+  cut_short : length c.body < 16 → format_fault wanted total c ≡ Some (NoSamples, total)
+  cut_short short = grind (arith, common_steps, g.size, short)
 
-cut_format : (wanted : Wanted) (total : ℕ) (c : Chunk) → 16 ≤ c.size → length c.body < 16 → format_fault wanted total c ≡ Some (NoSamples, total)
-cut_format wanted total c size short = grind (arith, common_steps, size, short)
+  -- the first 16 bytes are there
+  tag_is_there : 16 ≤ length c.body → u16_at c.body 0 ≡ u16_at (c.body ++ more) 0
+  tag_is_there long = sym (u16_at-append c.body more 0 (omega (arith, long)))
 
-start_is : (rate start : ℕ) (size : Option ℕ) (header : Header) → ◌≡◌ {A = Result Header (HeaderFault × ℕ)} (Ok (record { rate = rate; start = start; size = size })) (Ok header) → start ≡ header.start
-start_is rate start size header e = ap (λ r. (result_unwrap_or r header).start) e
+  good_still : 16 ≤ length c.body → (u16_at c.body 0 ≡ 1) ⊎ Extended c → format_fault wanted total c ≡ None
+  good_still long pcm =
+      let same : sampling wanted (longer c more) ≡ sampling wanted c = same_sampling wanted c more long in
+      good_format wanted total c (record {
+        size = g.size;
+        body = long;
+        pcm = pcm;
+        channels = sym (u16_at-append c.body more 2 (omega (arith, long))) ∙ g.channels;
+        bits = sym (u16_at-append c.body more 14 (omega (arith, long))) ∙ g.bits ∙ ap (λ s. 8 * width s.coding) same;
+        align = sym (u16_at-append c.body more 12 (omega (arith, long))) ∙ g.align ∙ ap (λ s. wanted.channels * width s.coding) same;
+      })
+
+  cut_in_extension : 16 ≤ length c.body → length c.body < 40 → Extended (longer c more) → format_fault wanted total c ≡ Some (NoSamples, total)
+  cut_in_extension long short e = (let tag : u16_at c.body 0 ≡ extensible_tag = tag_is_there long ∙ e.tag in grind (arith, common_steps, g.size, long, short, tag, e.size))
+
+  whole_extension : 16 ≤ length c.body → 40 ≤ length c.body → Extended (longer c more) → Extended c
+  whole_extension long there e = record {
+    tag = tag_is_there long ∙ e.tag;
+    size = e.size;
+    body = there;
+    subformat = ap (λ l. bytes_eq l pcm_subformat) (sym (piece-append 16 24 c.body more (omega (arith, there)))) ∙ e.subformat;
+  }
+
+  by_pcm : 16 ≤ length c.body → (u16_at (c.body ++ more) 0 ≡ 1) ⊎ Extended (longer c more) → (format_fault wanted total c ≡ None) ⊎ (format_fault wanted total c ≡ Some (NoSamples, total))
+  by_pcm long (inl plain) = inl (good_still long (inl (tag_is_there long ∙ plain)))
+  by_pcm long (inr e) =
+      ⊎_elim
+      (λ (short : length c.body < 40). inr (cut_in_extension long short e))
+      (λ (there : 40 ≤ length c.body). inl (good_still long (inr (whole_extension long there e))))
+      (cases_lt (length c.body) 40)
+
+start_is : (found header : Header) → ◌≡◌ {A = Result Header (HeaderFault × ℕ)} (Ok found) (Ok header) → found.start ≡ header.start
+start_is found header e = ap (λ r. (result_unwrap_or r header).start) e
 
 module _ (wanted : Wanted) (total total' : ℕ) (header : Header) where
   abbrev ended : Result Header (HeaderFault × ℕ)
   ended = Err (NoSamples, total')
 
-  nothing_ends : (rate : Option ℕ) → header_in wanted total' rate [] ≡ ended
+  nothing_ends : (known : Option Sampling) → header_in wanted total' known [] ≡ ended
   nothing_ends None = refl
-  nothing_ends (Some rate) = refl
+  nothing_ends (Some known) = refl
 
   -- the samples begin past the cut
-  cut_before_samples : (rate : ℕ) (c : Chunk) (more : List ℕ) (cs cs' : List Chunk) → c.offset + 8 < header.start
-      → (header_in wanted total (Some rate) cs ≡ Ok header → header_in wanted total' (Some rate) cs' ≡ ended)
-      → header_in wanted total (Some rate) (longer c more ∷ cs) ≡ Ok header → header_in wanted total' (Some rate) (c ∷ cs') ≡ ended
-  cut_before_samples rate c more cs cs' before later h = at_data (has_id (codes "data") c) h
+  cut_before_samples : (known : Sampling) (c : Chunk) (more : List ℕ) (cs cs' : List Chunk) → c.offset + 8 < header.start
+      → (header_in wanted total (Some known) cs ≡ Ok header → header_in wanted total' (Some known) cs' ≡ ended)
+      → header_in wanted total (Some known) (longer c more ∷ cs) ≡ Ok header → header_in wanted total' (Some known) (c ∷ cs') ≡ ended
+  cut_before_samples known c more cs cs' before later h = at_data (has_id (codes "data") c) h
     where
-      at_data : (b : Bool) → (if b then Ok (record { rate = rate; start = c.offset + 8; size = Wave.declared_size c.size }) else header_in wanted total (Some rate) cs) ≡ Ok header
-          → (if b then Ok (record { rate = rate; start = c.offset + 8; size = Wave.declared_size c.size }) else header_in wanted total' (Some rate) cs') ≡ ended
-      at_data true e = absurd (let s : c.offset + 8 ≡ header.start = start_is rate (c.offset + 8) (Wave.declared_size c.size) header e in omega (arith, s, before))
+      at_data : (b : Bool) → (if b then Ok (found known c) else header_in wanted total (Some known) cs) ≡ Ok header
+          → (if b then Ok (found known c) else header_in wanted total' (Some known) cs') ≡ ended
+      at_data true e = absurd (let s : c.offset + 8 ≡ header.start = start_is (found known c) header e in omega (arith, s, before))
       at_data false e = later e
 
-  cut_in_format : (c : Chunk) (more : List ℕ) (cs cs' : List Chunk) → ((rate : Option ℕ) → header_in wanted total rate cs ≡ Ok header → header_in wanted total' rate cs' ≡ ended)
+  cut_in_format : (c : Chunk) (more : List ℕ) (cs cs' : List Chunk) → ((known : Option Sampling) → header_in wanted total known cs ≡ Ok header → header_in wanted total' known cs' ≡ ended)
       → (fault : Option (HeaderFault × ℕ)) → format_fault wanted total (longer c more) ≡ fault
-      → unless fault (header_in wanted total (Some (u32_at (c.body ++ more) 4)) cs) ≡ Ok header
-      → unless (format_fault wanted total' c) (header_in wanted total' (Some (u32_at c.body 4)) cs') ≡ ended
+      → unless fault (header_in wanted total (Some (sampling wanted (longer c more))) cs) ≡ Ok header
+      → unless (format_fault wanted total' c) (header_in wanted total' (Some (sampling wanted c)) cs') ≡ ended
   cut_in_format c more cs cs' later (Some f) e h = no_header f header h
   cut_in_format c more cs cs' later None e h =
       let good : GoodFormat wanted (longer c more) = format_is_good wanted total (longer c more) e in
       ⊎_elim
-      (λ (short : length c.body < 16). ap (λ f. unless f (header_in wanted total' (Some (u32_at c.body 4)) cs')) (cut_format wanted total' c good.size short))
-      (λ (long : 16 ≤ length c.body).
-      let rate : u32_at (c.body ++ more) 4 ≡ u32_at c.body 4 = ap (from_le_bytes w32) (piece-append 4 4 c.body more (omega (arith, long))) in
-      ap (λ f. unless f (header_in wanted total' (Some (u32_at c.body 4)) cs')) (good_format wanted total' c (shorter_format wanted c more good long))
-      ∙ later (Some (u32_at c.body 4)) (subst (λ r. header_in wanted total (Some r) cs ≡ Ok header) rate h))
+      (λ (short : length c.body < 16). is_cut (cut_short wanted total' c more good short))
+      (λ (long : 16 ≤ length c.body). ⊎_elim
+      (λ (none : format_fault wanted total' c ≡ None).
+      ap (λ f. unless f (header_in wanted total' (Some (sampling wanted c)) cs')) none
+      ∙ later (Some (sampling wanted c)) (subst (λ s. header_in wanted total (Some s) cs ≡ Ok header) (same_sampling wanted c more long) h))
+      is_cut
+      (by_pcm wanted total' c more good long good.pcm))
       (cases_lt (length c.body) 16)
+    where
+      is_cut : format_fault wanted total' c ≡ Some (NoSamples, total') → unless (format_fault wanted total' c) (header_in wanted total' (Some (sampling wanted c)) cs') ≡ ended
+      is_cut e = ap (λ f. unless f (header_in wanted total' (Some (sampling wanted c)) cs')) e
 
-  cut_in_chunk : (rate : Option ℕ) (c : Chunk) (more : List ℕ) (cs cs' : List Chunk) → c.offset + 8 < header.start
-      → ((rate : Option ℕ) → header_in wanted total rate cs ≡ Ok header → header_in wanted total' rate cs' ≡ ended)
-      → header_in wanted total rate (longer c more ∷ cs) ≡ Ok header → header_in wanted total' rate (c ∷ cs') ≡ ended
-  cut_in_chunk (Some rate) c more cs cs' before later h = cut_before_samples rate c more cs cs' before (later (Some rate)) h
+  cut_in_chunk : (known : Option Sampling) (c : Chunk) (more : List ℕ) (cs cs' : List Chunk) → c.offset + 8 < header.start
+      → ((known : Option Sampling) → header_in wanted total known cs ≡ Ok header → header_in wanted total' known cs' ≡ ended)
+      → header_in wanted total known (longer c more ∷ cs) ≡ Ok header → header_in wanted total' known (c ∷ cs') ≡ ended
+  cut_in_chunk (Some known) c more cs cs' before later h = cut_before_samples known c more cs cs' before (later (Some known)) h
   cut_in_chunk None c more cs cs' before later h = at_data (has_id (codes "data") c) (has_id (codes "fmt ") c) h
     where
-      at_format : (b : Bool) → (if b then unless (format_fault wanted total (longer c more)) (header_in wanted total (Some (u32_at (c.body ++ more) 4)) cs) else header_in wanted total None cs) ≡ Ok header
-          → (if b then unless (format_fault wanted total' c) (header_in wanted total' (Some (u32_at c.body 4)) cs') else header_in wanted total' None cs') ≡ ended
+      at_format : (b : Bool) → (if b then unless (format_fault wanted total (longer c more)) (header_in wanted total (Some (sampling wanted (longer c more))) cs) else header_in wanted total None cs) ≡ Ok header
+          → (if b then unless (format_fault wanted total' c) (header_in wanted total' (Some (sampling wanted c)) cs') else header_in wanted total' None cs') ≡ ended
       at_format true e = cut_in_format c more cs cs' later (format_fault wanted total (longer c more)) refl e
       at_format false e = later None e
 
       at_data : (b b' : Bool)
-          → (if b then Err (NoFormat, c.offset) else (if b' then unless (format_fault wanted total (longer c more)) (header_in wanted total (Some (u32_at (c.body ++ more) 4)) cs) else header_in wanted total None cs)) ≡ Ok header
-          → (if b then Err (NoFormat, c.offset) else (if b' then unless (format_fault wanted total' c) (header_in wanted total' (Some (u32_at c.body 4)) cs') else header_in wanted total' None cs')) ≡ ended
+          → (if b then Err (NoFormat, c.offset) else (if b' then unless (format_fault wanted total (longer c more)) (header_in wanted total (Some (sampling wanted (longer c more))) cs) else header_in wanted total None cs)) ≡ Ok header
+          → (if b then Err (NoFormat, c.offset) else (if b' then unless (format_fault wanted total' c) (header_in wanted total' (Some (sampling wanted c)) cs') else header_in wanted total' None cs')) ≡ ended
       at_data true b' e = no_header _ header e
       at_data false b' e = at_format b' e
 
   -- from an offset on, cut to so many bytes
-  cut_in_chunks : (bytes : List ℕ) (kept skipped offset : ℕ) (rate : Option ℕ) → offset + kept < header.start
-      → header_in wanted total rate (chunks_behind skipped offset bytes) ≡ Ok header → header_in wanted total' rate (chunks_behind skipped offset (take kept bytes)) ≡ ended
-  cut_in_chunks bytes zero skipped offset rate before h = nothing_ends rate
-  cut_in_chunks [] (suc kept) skipped offset rate before h = nothing_ends rate
-  cut_in_chunks (byte ∷ bytes) (suc kept) (suc skipped) offset rate before h = cut_in_chunks bytes kept skipped (offset + 1) rate (omega (arith, before)) h
-  cut_in_chunks (byte ∷ bytes) (suc kept) zero offset rate before h =
+  cut_in_chunks : (bytes : List ℕ) (kept skipped offset : ℕ) (known : Option Sampling) → offset + kept < header.start
+      → header_in wanted total known (chunks_behind skipped offset bytes) ≡ Ok header → header_in wanted total' known (chunks_behind skipped offset (take kept bytes)) ≡ ended
+  cut_in_chunks bytes zero skipped offset known before h = nothing_ends known
+  cut_in_chunks [] (suc kept) skipped offset known before h = nothing_ends known
+  cut_in_chunks (byte ∷ bytes) (suc kept) (suc skipped) offset known before h = cut_in_chunks bytes kept skipped (offset + 1) known (omega (arith, before)) h
+  cut_in_chunks (byte ∷ bytes) (suc kept) zero offset known before h =
       let there = take kept bytes in
       let gone = drop kept bytes in
       let all : there ++ gone ≡ bytes = take-append-drop kept bytes in
       let few : length there ≤ kept = omega (arith, length-take kept bytes) in
       let enough : length there ≤ length bytes = omega (arith, length-take kept bytes) in
       ⊎_elim
-      (λ (short : length there < 7). ap (header_in wanted total' rate) (chunks_behind-end offset (byte ∷ there) (omega (arith, short))) ∙ nothing_ends rate)
+      (λ (short : length there < 7). ap (header_in wanted total' known) (chunks_behind-end offset (byte ∷ there) (omega (arith, short))) ∙ nothing_ends known)
       (λ (long : 7 ≤ length there).
       let (rest, e) = chunk_at-append offset (byte ∷ there) gone (omega (arith, long)) in
       let first = chunk_at offset (byte ∷ there) in
@@ -104,52 +134,52 @@ module _ (wanted : Wanted) (total total' : ℕ) (header : Header) where
       let long' : 7 ≤ length bytes = omega (arith, long, enough) in
       let whole : chunks_behind zero offset (byte ∷ bytes) ≡ longer first rest ∷ chunks_behind (7 + padded first.size) (offset + 1) bytes =
       chunks_behind-first offset byte bytes long' ∙ ap (λ (c : Chunk). c ∷ chunks_behind (7 + padded c.size) (offset + 1) bytes) same in
-      ap (header_in wanted total' rate) (chunks_behind-first offset byte there long)
-      ∙ cut_in_chunk rate first rest (chunks_behind (7 + padded first.size) (offset + 1) bytes) (chunks_behind (7 + padded first.size) (offset + 1) there) (omega (arith, before, few, long))
+      ap (header_in wanted total' known) (chunks_behind-first offset byte there long)
+      ∙ cut_in_chunk known first rest (chunks_behind (7 + padded first.size) (offset + 1) bytes) (chunks_behind (7 + padded first.size) (offset + 1) there) (omega (arith, before, few, long))
       (λ r. cut_in_chunks bytes kept (7 + padded first.size) (offset + 1) r (omega (arith, before)))
-      (subst (λ cs. header_in wanted total rate cs ≡ Ok header) whole h))
+      (subst (λ cs. header_in wanted total known cs ≡ Ok header) whole h))
       (cases_lt (length there) 7)
 
 -- ---- the samples begin within the file
 
 module _ (wanted : Wanted) (total : ℕ) (header : Header) where
-  begins_in_chunk : (rate : Option ℕ) (c : Chunk) (cs : List Chunk) (n : ℕ) → c.offset + 8 ≤ n → ((rate : Option ℕ) → header_in wanted total rate cs ≡ Ok header → header.start ≤ n)
-      → header_in wanted total rate (c ∷ cs) ≡ Ok header → header.start ≤ n
-  begins_in_chunk (Some rate) c cs n room later h = at_data (has_id (codes "data") c) h
+  begins_in_chunk : (known : Option Sampling) (c : Chunk) (cs : List Chunk) (n : ℕ) → c.offset + 8 ≤ n → ((known : Option Sampling) → header_in wanted total known cs ≡ Ok header → header.start ≤ n)
+      → header_in wanted total known (c ∷ cs) ≡ Ok header → header.start ≤ n
+  begins_in_chunk (Some known) c cs n room later h = at_data (has_id (codes "data") c) h
     where
-      at_data : (b : Bool) → (if b then Ok (record { rate = rate; start = c.offset + 8; size = Wave.declared_size c.size }) else header_in wanted total (Some rate) cs) ≡ Ok header → header.start ≤ n
-      at_data true e = (let s : c.offset + 8 ≡ header.start = start_is rate (c.offset + 8) (Wave.declared_size c.size) header e in omega (arith, s, room))
-      at_data false e = later (Some rate) e
+      at_data : (b : Bool) → (if b then Ok (found known c) else header_in wanted total (Some known) cs) ≡ Ok header → header.start ≤ n
+      at_data true e = (let s : c.offset + 8 ≡ header.start = start_is (found known c) header e in omega (arith, s, room))
+      at_data false e = later (Some known) e
   begins_in_chunk None c cs n room later h = at_data (has_id (codes "data") c) (has_id (codes "fmt ") c) h
     where
-      at_fault : (fault : Option (HeaderFault × ℕ)) → unless fault (header_in wanted total (Some (u32_at c.body 4)) cs) ≡ Ok header → header.start ≤ n
+      at_fault : (fault : Option (HeaderFault × ℕ)) → unless fault (header_in wanted total (Some (sampling wanted c)) cs) ≡ Ok header → header.start ≤ n
       at_fault (Some fault) e = no_header fault header e
-      at_fault None e = later (Some (u32_at c.body 4)) e
+      at_fault None e = later (Some (sampling wanted c)) e
 
-      at_format : (b : Bool) → (if b then unless (format_fault wanted total c) (header_in wanted total (Some (u32_at c.body 4)) cs) else header_in wanted total None cs) ≡ Ok header → header.start ≤ n
+      at_format : (b : Bool) → (if b then unless (format_fault wanted total c) (header_in wanted total (Some (sampling wanted c)) cs) else header_in wanted total None cs) ≡ Ok header → header.start ≤ n
       at_format true e = at_fault (format_fault wanted total c) e
       at_format false e = later None e
 
       at_data : (b b' : Bool)
-          → (if b then Err (NoFormat, c.offset) else (if b' then unless (format_fault wanted total c) (header_in wanted total (Some (u32_at c.body 4)) cs) else header_in wanted total None cs)) ≡ Ok header → header.start ≤ n
+          → (if b then Err (NoFormat, c.offset) else (if b' then unless (format_fault wanted total c) (header_in wanted total (Some (sampling wanted c)) cs) else header_in wanted total None cs)) ≡ Ok header → header.start ≤ n
       at_data true b' e = no_header _ header e
       at_data false b' e = at_format b' e
 
-  begins_in_chunks : (bytes : List ℕ) (skipped offset : ℕ) (rate : Option ℕ) → header_in wanted total rate (chunks_behind skipped offset bytes) ≡ Ok header → header.start ≤ offset + length bytes
+  begins_in_chunks : (bytes : List ℕ) (skipped offset : ℕ) (known : Option Sampling) → header_in wanted total known (chunks_behind skipped offset bytes) ≡ Ok header → header.start ≤ offset + length bytes
   begins_in_chunks [] skipped offset None h = no_header _ header h
-  begins_in_chunks [] skipped offset (Some rate) h = no_header _ header h
-  begins_in_chunks (byte ∷ bytes) (suc skipped) offset rate h = (let l : header.start ≤ offset + 1 + length bytes = begins_in_chunks bytes skipped (offset + 1) rate h in omega (arith, l))
-  begins_in_chunks (byte ∷ bytes) zero offset rate h =
+  begins_in_chunks [] skipped offset (Some known) h = no_header _ header h
+  begins_in_chunks (byte ∷ bytes) (suc skipped) offset known h = (let l : header.start ≤ offset + 1 + length bytes = begins_in_chunks bytes skipped (offset + 1) known h in omega (arith, l))
+  begins_in_chunks (byte ∷ bytes) zero offset known h =
       ⊎_elim
-      (λ (short : length bytes < 7). none rate (subst (λ cs. header_in wanted total rate cs ≡ Ok header) (chunks_behind-end offset (byte ∷ bytes) (omega (arith, short))) h))
+      (λ (short : length bytes < 7). none known (subst (λ cs. header_in wanted total known cs ≡ Ok header) (chunks_behind-end offset (byte ∷ bytes) (omega (arith, short))) h))
       (λ (long : 7 ≤ length bytes).
       let first = chunk_at offset (byte ∷ bytes) in
-      begins_in_chunk rate first (chunks_behind (7 + padded first.size) (offset + 1) bytes) (offset + length (byte ∷ bytes)) (omega (arith, long))
+      begins_in_chunk known first (chunks_behind (7 + padded first.size) (offset + 1) bytes) (offset + length (byte ∷ bytes)) (omega (arith, long))
       (λ r e. let l : header.start ≤ offset + 1 + length bytes = begins_in_chunks bytes (7 + padded first.size) (offset + 1) r e in omega (arith, l))
-      (subst (λ cs. header_in wanted total rate cs ≡ Ok header) (chunks_behind-first offset byte bytes long) h))
+      (subst (λ cs. header_in wanted total known cs ≡ Ok header) (chunks_behind-first offset byte bytes long) h))
       (cases_lt (length bytes) 7)
     where
-      none : (r : Option ℕ) → header_in wanted total r [] ≡ Ok header → header.start ≤ offset + length (byte ∷ bytes)
+      none : (r : Option Sampling) → header_in wanted total r [] ≡ Ok header → header.start ≤ offset + length (byte ∷ bytes)
       none None e = no_header _ header e
       none (Some r) e = no_header _ header e
 

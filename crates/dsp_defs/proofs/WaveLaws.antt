@@ -1,65 +1,111 @@
 -- A written header is read back.
-use Rattle.std.proofs.Common.{◌≡◌, ℕ, ◌+◌, ◌*◌, ◌^◌, ◌<◌, ◌≤◌, List, ◌∷◌, ◌++◌, length, drop, Option, Some, None, Ok, refl, ap, ap₂, ◌∙◌, arith}
+use Rattle.std.proofs.Common.{◌≡◌, ℕ, ◌+◌, ◌*◌, ◌^◌, ◌<◌, ◌≤◌, true, if◌then◌else◌, List, ◌∷◌, ◌++◌, length, drop, drop-drop, codes, Option, Some, None, Ok, refl, sym, ap, ap₂, ◌∙◌, arith, inl, inr}
 use Rattle.std.proofs.lemmas.Grind.{common_steps}
 use Rattle.std.proofs.lemmas.Nat.{from_le_bytes-to_le_bytes_2, from_le_bytes-to_le_bytes_4}
-use Rattle.dsp_defs.specs.Bytes.{width}
-use Rattle.dsp_defs.specs.Wave
-use Rattle.dsp_defs.specs.Wave.{Chunk, chunk_at, chunks_behind, chunks, format_fault, unless, header_in, header_of, declared_size, data_size, riff_size, wave_header, written_size, HeaderFits, u16_at, u32_at}
+use Rattle.std.specs.Int.{to_le_bytes, from_le_bytes}
+use Rattle.std.specs.Option.{option_map}
+use Rattle.dsp_defs.specs.Numbers.{w16, w32}
+use Rattle.dsp_defs.specs.Bytes.{coding_of, width, word_bytes}
+use Rattle.dsp_defs.specs.Wave.{Chunk, chunk_at, padded, chunks_behind, chunks, file_coding, format_size, has_id, sampling, unless, header_in, header_of, declared_size, data_size, wave_header, written_header, HeaderFits, u32_at}
 use Rattle.dsp_defs.specs.declared.format.Fmt.{Fmt}
 use Rattle.dsp_defs.specs.declared.format.Fmt.TheVariants.{Q7, Q15, Q31}
+use Rattle.dsp_defs.specs.declared.format.Container.{Container}
+use Rattle.dsp_defs.specs.declared.format.Container.TheVariants.{Wave as Plain, Wavex}
+use Rattle.dsp_defs.specs.declared.wave.Sampling.{Sampling}
 use Rattle.dsp_defs.specs.declared.wave.Wanted.{Wanted}
-use Rattle.dsp_defs.proofs.WaveLemmas.{GoodFormat, good_format, chunks_behind-more}
+use Rattle.dsp_defs.proofs.CodingLemmas.{width-coding_of, word_bytes-small}
+use Rattle.dsp_defs.proofs.WaveLemmas.{GoodFormat, found, good_format, chunks_behind-more}
 
-small_width : (format : Fmt) → width format ≤ 4
-small_width Q7 = omega arith
-small_width Q15 = omega arith
-small_width Q31 = omega arith
+data_fits : (container : Container) (format : Fmt) (channels : ℕ) (frames : Option ℕ) → HeaderFits container format channels frames → data_size format channels frames < 2 ^ 32
+data_fits container format channels None h = omega arith
+data_fits container format channels (Some frames) h = omega (arith, h)
 
-data_fits : (format : Fmt) (channels : ℕ) (frames : Option ℕ) → HeaderFits format channels frames → data_size format channels frames < 2 ^ 32
-data_fits format channels None h = omega arith
-data_fits format channels (Some frames) h = omega (arith, h)
+size_is_read : (container : Container) (format : Fmt) (channels : ℕ) (frames : Option ℕ) → HeaderFits container format channels frames
+    → declared_size (data_size format channels frames) ≡ option_map (λ n. data_size format channels (Some n)) frames
+size_is_read container format channels None h = refl
+size_is_read container format channels (Some frames) h = grind (arith, common_steps, h)
 
-size_is_read : (format : Fmt) (channels : ℕ) (frames : Option ℕ) → HeaderFits format channels frames → declared_size (data_size format channels frames) ≡ written_size format channels frames
-size_is_read format channels None h = refl
-size_is_read format channels (Some frames) h = grind (arith, common_steps, h)
+coding_is_read : (format : Fmt) → file_coding format (from_le_bytes w16 (to_le_bytes w16 (8 * word_bytes format))) ≡ coding_of Plain format
+coding_is_read Q7 = refl
+coding_is_read Q15 = refl
+coding_is_read Q31 = refl
 
-module _ (format : Fmt) (channels rate : ℕ) (frames : Option ℕ) (rest : List ℕ) (few : channels ≤ 16) (small : rate < 2 ^ 32) (fits : HeaderFits format channels frames) where
-  abbrev file : List ℕ
-  file = wave_header format channels rate frames ++ rest
+-- the chunks of a file whose first chunk ends before a place
+two_chunks : (place : ℕ) (bytes : List ℕ) → 12 + (8 + padded (u32_at (drop 12 bytes) 4)) ≡ place → 8 ≤ length (drop 12 bytes) → 8 ≤ length (drop place bytes)
+    → (more : List Chunk) × (chunks bytes ≡ chunk_at 12 (drop 12 bytes) ∷ chunk_at place (drop place bytes) ∷ more)
+two_chunks place bytes is first second =
+    let skipped = 8 + padded (u32_at (drop 12 bytes) 4) in
+    let later = chunks_behind 0 (place + (8 + padded (u32_at (drop place bytes) 4))) (drop (8 + padded (u32_at (drop place bytes) 4)) (drop place bytes)) in
+    let behind : drop skipped (drop 12 bytes) ≡ drop place bytes = drop-drop skipped 12 bytes ∙ ap (λ k. drop k bytes) is in (
+      later,
+      chunks_behind-more 12 (drop 12 bytes) first
+          ∙ ap (λ cs. chunk_at 12 (drop 12 bytes) ∷ cs) (ap₂ (chunks_behind 0) is behind ∙ chunks_behind-more place (drop place bytes) second),
+    )
+
+module _ (format : Fmt) (channels rate : ℕ) (frames : Option ℕ) (rest : List ℕ) (few : channels ≤ 16) (small : rate < 2 ^ 32) where
+  abbrev file : Container → List ℕ
+  file container = wave_header container format channels rate frames ++ rest
 
   abbrev wanted : Wanted
   wanted = record { format = format; channels = channels }
 
-  abbrev format_chunk : Chunk
-  format_chunk = chunk_at 12 (drop 12 file)
+  abbrev format_chunk : Container → Chunk
+  format_chunk container = chunk_at 12 (drop 12 (file container))
 
-  abbrev data_chunk : Chunk
-  data_chunk = chunk_at 36 (drop 36 file)
+  abbrev data_chunk : Container → Chunk
+  data_chunk container = chunk_at (20 + format_size container) (drop (20 + format_size container) (file container))
 
-  narrow : channels * width format < 2 ^ 16
-  narrow = (let w : width format ≤ 4 = small_width format in grind arith)
+  narrow : channels * word_bytes format < 2 ^ 16
+  narrow = (let w : word_bytes format ≤ 4 = word_bytes-small format in grind arith)
 
-  good : GoodFormat wanted format_chunk
-  good = record {
+  read_channels : from_le_bytes w16 (to_le_bytes w16 channels) ≡ channels
+  read_channels = from_le_bytes-to_le_bytes_2 channels (omega (arith, few))
+
+  read_width : width (file_coding format (from_le_bytes w16 (to_le_bytes w16 (8 * word_bytes format)))) ≡ word_bytes format
+  read_width = ap width (coding_is_read format) ∙ width-coding_of Plain format
+
+  read_bits : from_le_bytes w16 (to_le_bytes w16 (8 * word_bytes format)) ≡ 8 * width (file_coding format (from_le_bytes w16 (to_le_bytes w16 (8 * word_bytes format))))
+  read_bits = (let w : word_bytes format ≤ 4 = word_bytes-small format in from_le_bytes-to_le_bytes_2 (8 * word_bytes format) (omega (arith, w))) ∙ ap (λ k. 8 * k) (sym read_width)
+
+  read_align : from_le_bytes w16 (to_le_bytes w16 (channels * word_bytes format)) ≡ channels * width (file_coding format (from_le_bytes w16 (to_le_bytes w16 (8 * word_bytes format))))
+  read_align = from_le_bytes-to_le_bytes_2 (channels * word_bytes format) narrow ∙ ap (λ k. channels * k) (sym read_width)
+
+  good : (container : Container) → GoodFormat wanted (format_chunk container)
+  good Wavex = record {
     size = omega arith;
     body = omega arith;
-    tag = refl;
-    channels = from_le_bytes-to_le_bytes_2 channels (omega (arith, few));
-    bits = (let w : width format ≤ 4 = small_width format in from_le_bytes-to_le_bytes_2 (8 * width format) (omega (arith, w)));
-    align = from_le_bytes-to_le_bytes_2 (channels * width format) narrow;
+    pcm = inr (record { tag = refl; size = omega arith; body = omega arith; subformat = refl });
+    channels = read_channels;
+    bits = read_bits;
+    align = read_align;
   }
+  good _ = record { size = omega arith; body = omega arith; pcm = inl refl; channels = read_channels; bits = read_bits; align = read_align }
 
-  the_chunks : (more : List Chunk) × (chunks file ≡ format_chunk ∷ data_chunk ∷ more)
-  the_chunks =
-      let later = chunks_behind 0 (36 + (8 + Wave.padded (u32_at (drop 36 file) 4))) (drop (8 + Wave.padded (u32_at (drop 36 file) 4)) (drop 36 file)) in
-      (later, chunks_behind-more 12 (drop 12 file) (omega arith) ∙ ap (λ cs. format_chunk ∷ cs) (chunks_behind-more 36 (drop 36 file) (omega arith)))
+  read_sampling : (container : Container) → sampling wanted (format_chunk container) ≡ record { rate = rate; coding = coding_of Plain format }
+  read_sampling Wavex = ap₂ {C = Sampling} (λ r coding. record { rate = r; coding = coding }) (from_le_bytes-to_le_bytes_4 rate small) (coding_is_read format)
+  read_sampling _ = ap₂ {C = Sampling} (λ r coding. record { rate = r; coding = coding }) (from_le_bytes-to_le_bytes_4 rate small) (coding_is_read format)
 
-  pub header_of-wave_header : header_of file wanted ≡ Ok (record { rate = rate; start = 44; size = written_size format channels frames })
-  header_of-wave_header =
-      let (more, e) = the_chunks in
-      let read_rate : u32_at format_chunk.body 4 ≡ rate = from_le_bytes-to_le_bytes_4 rate small in
-      let read_size : declared_size data_chunk.size ≡ written_size format channels frames =
-      ap declared_size (from_le_bytes-to_le_bytes_4 (data_size format channels frames) (data_fits format channels frames fits)) ∙ size_is_read format channels frames fits in
-      ap (header_in wanted (length file) None) e
-      ∙ ap (λ f. unless f (header_in wanted (length file) (Some (u32_at format_chunk.body 4)) (data_chunk ∷ more))) (good_format wanted (length file) format_chunk good)
-      ∙ ap₂ (λ (r : ℕ) (s : Option ℕ). Ok (record { rate = r; start = 44; size = s })) read_rate read_size
+  the_chunks : (container : Container) → (more : List Chunk) × (chunks (file container) ≡ format_chunk container ∷ data_chunk container ∷ more)
+  the_chunks Wavex = two_chunks 60 (file Wavex) refl (omega arith) (omega arith)
+  the_chunks plain = two_chunks 36 (file plain) refl (omega arith) (omega arith)
+
+  is_data : (container : Container) → has_id (codes "data") (data_chunk container) ≡ true
+  is_data Wavex = refl
+  is_data _ = refl
+
+  data_bytes : (container : Container) → (data_chunk container).size ≡ from_le_bytes w32 (to_le_bytes w32 (data_size format channels frames))
+  data_bytes Wavex = refl
+  data_bytes _ = refl
+
+  pub header_of-wave_header : (container : Container) → HeaderFits container format channels frames → header_of (file container) wanted ≡ Ok (written_header container format channels rate frames)
+  header_of-wave_header container fits =
+      let (more, e) = the_chunks container in
+      let total = length (file container) in
+      let start : 20 + format_size container + 8 ≡ 28 + format_size container = omega arith in
+      let read_size : declared_size (data_chunk container).size ≡ option_map (λ n. data_size format channels (Some n)) frames =
+      ap declared_size (data_bytes container ∙ from_le_bytes-to_le_bytes_4 (data_size format channels frames) (data_fits container format channels frames fits)) ∙ size_is_read container format channels frames fits in
+      ap (header_in wanted total None) e
+      ∙ ap (λ f. unless f (header_in wanted total (Some (sampling wanted (format_chunk container))) (data_chunk container ∷ more))) (good_format wanted total (format_chunk container) (good container))
+      ∙ ap (λ b. if b then Ok (found (sampling wanted (format_chunk container)) (data_chunk container)) else header_in wanted total (Some (sampling wanted (format_chunk container))) more) (is_data container)
+      ∙ ap₂ (λ (s : Sampling) (size : Option ℕ). Ok (record { rate = s.rate; start = 20 + format_size container + 8; size = size; coding = s.coding })) (read_sampling container) read_size
+      ∙ ap (λ (k : ℕ). Ok (record { rate = rate; start = k; size = option_map (λ n. data_size format channels (Some n)) frames; coding = coding_of Plain format })) start

@@ -3,7 +3,7 @@ use Rattle.std.specs.Prelude.{ℕ, zero, suc, ◌+◌, ◌*◌, ◌%◌, ◌^◌
 use Rattle.dsp_defs.specs.Numbers.{◌>>◌, wrap, w8, w16, w32}
 use Rattle.dsp_defs.specs.Signal.{values}
 use Rattle.dsp_defs.specs.Block.{Frame}
-use Rattle.dsp_defs.specs.Bytes.{coded}
+use Rattle.dsp_defs.specs.Bytes.{coding_of, coded}
 use Rattle.dsp_defs.specs.Wave.{wave_header, pad}
 use Rattle.dsp_defs.specs.declared.limits.TheConstants.{GENERATED_RATE}
 use Rattle.dsp_defs.specs.declared.format.Container.TheVariants as Containers
@@ -33,6 +33,7 @@ abbrev pub generated_bytes : Input → ℕ → ℕ → List ℕ
 generated_bytes input seed frames =
     let signal = generated input.format input.channels seed frames in
     elim input.kind [
-      | Raw rate ↦ coded Containers.Raw input.format signal
-      | Wave ↦ wave_header input.format input.channels GENERATED_RATE (Some frames) ++ coded Containers.Wave input.format signal ++ pad input.format input.channels (Some frames)
+      | Raw rate ↦ coded (coding_of Containers.Raw input.format) signal
+      | Wave ↦ wave_header Containers.Wave input.format input.channels GENERATED_RATE (Some frames)
+          ++ coded (coding_of Containers.Wave input.format) signal ++ pad input.format input.channels (Some frames)
     ]

@@ -12,34 +12,43 @@ use Rattle.dsp_defs.specs.declared.script.Script.{Script}
 use Rattle.dsp_defs.specs.declared.flow.Flow.{Flow}
 use Rattle.dsp_defs.specs.declared.word.Word.{Word}
 use Rattle.dsp_defs.specs.declared.word.Word.TheVariants as words
-use Rattle.dsp_defs.specs.declared.limits.TheConstants.{MAX_SCRIPT, MAX_BLOCKS, MAX_CORRELATES, MAX_BLOCK_LENGTH, MAX_CHANNELS}
+use Rattle.dsp_defs.specs.declared.limits.TheConstants.{MAX_SCRIPT, MAX_BLOCKS, MAX_CORRELATES, MAX_BLOCK_LENGTH, MAX_CHANNELS, MAX_VERSION}
 use Rattle.dsp_defs.specs.Token.{Token, Open, Close, Run, Item, items}
 use Rattle.dsp_defs.specs.Numeral.{value_of}
 use Rattle.dsp_defs.specs.Parameters.{Argument, Number, Listed, Format, Fits}
+use Rattle.dsp_defs.specs.Tables.{Named, numbers_of, MayStand}
 use Rattle.dsp_defs.specs.Table.{name_of, format_name, container_name, has_form, channels_wanted, is_correlate, flow_after, parameters}
 
 -- ---- what stands in a text
 
--- a word, a number, or a brace
+-- a word, a number, a brace, or a whole list
 pub data Symbol : Type 0 where
   Name : List ℕ → Symbol
   Numeral : ℤ → Symbol
   OpenBrace : Symbol
   CloseBrace : Symbol
+  Whole : List ℤ → Symbol
 
--- a word is written in one way, a number by any of its numerals.
-abbrev pub IsWritten : Token → Symbol → Type 0
-IsWritten (Run run) (Name name) = run ≡ name
-IsWritten (Run run) (Numeral n) = value_of run ≡ Some n
-IsWritten Open OpenBrace = Unit {0}
-IsWritten Close CloseBrace = Unit {0}
-IsWritten token symbol = ⊥
+-- What token writes a symbol, or is the first to: a word is written in one way, a number by any of its numerals, and a whole list in braces, or by the name of a table that has its numbers.
+abbrev pub IsWritten : List Named → Token → Symbol → Type 0
+IsWritten tables (Run run) (Name name) = run ≡ name
+IsWritten tables (Run run) (Numeral n) = value_of run ≡ Some n
+IsWritten tables (Run run) (Whole numbers) = numbers_of tables run ≡ Some numbers
+IsWritten tables Open OpenBrace = Unit {0}
+IsWritten tables Open (Whole numbers) = Unit {0}
+IsWritten tables Close CloseBrace = Unit {0}
+IsWritten tables token symbol = ⊥
 
--- each item writes its symbol, and there are as many
-abbrev pub Spells : List Item → List Symbol → Type 0
-Spells [] [] = Unit {0}
-Spells (item ∷ items) (symbol ∷ symbols) = IsWritten item.token symbol × Spells items symbols
-Spells items symbols = ⊥
+-- what of a symbol comes behind its first token: the numbers of a list in braces, and its end
+abbrev pub unwritten : Symbol → Token → List Symbol
+unwritten (Whole numbers) Open = map Numeral numbers ++ CloseBrace ∷ []
+unwritten symbol token = []
+
+-- the items write the symbols, one after another, and there are as many
+abbrev pub Spells : List Named → List Item → List Symbol → Type 0
+Spells tables [] [] = Unit {0}
+Spells tables (item ∷ items) (symbol ∷ symbols) = IsWritten tables item.token symbol × Spells tables items (unwritten symbol item.token ++ symbols)
+Spells tables items symbols = ⊥
 
 -- ---- blocks
 
@@ -125,10 +134,10 @@ arguments block.Max = []
 arguments block.Min = []
 arguments (block.Route channels) = Listed channels ∷ []
 
--- a number, a list in braces, or the name of a format
+-- a number, a list, or the name of a format
 abbrev pub argument_symbols : Argument → List Symbol
 argument_symbols (Number n) = Numeral n ∷ []
-argument_symbols (Listed numbers) = OpenBrace ∷ map Numeral numbers ++ CloseBrace ∷ []
+argument_symbols (Listed numbers) = Whole numbers ∷ []
 argument_symbols (Format format) = Name (format_name format) ∷ []
 
 -- the word, and what follows it
@@ -176,9 +185,21 @@ length_symbols (Some frames) = Name (codes "block") ∷ Numeral (pos frames) ∷
 abbrev pub output_symbols : Container → List Symbol
 output_symbols output = Name (codes "output") ∷ Name (container_name output) ∷ []
 
--- dspfx VERSION, the input, the block length, the blocks, the output
-abbrev pub symbols : Script → List Symbol
-symbols s = Name (codes "dspfx") ∷ Numeral (pos s.version) ∷ input_symbols s.input ++ length_symbols s.block ++ flat_map block_symbols s.blocks ++ output_symbols s.output
+-- table NAME { the numbers }
+abbrev pub table_symbols : Named → List Symbol
+table_symbols t = Name (codes "table") ∷ Name t.name ∷ OpenBrace ∷ map Numeral t.numbers ++ CloseBrace ∷ []
+
+-- dspfx VERSION, the input, the block length
+abbrev pub front_symbols : Script → List Symbol
+front_symbols s = Name (codes "dspfx") ∷ Numeral (pos s.version) ∷ input_symbols s.input ++ length_symbols s.block
+
+-- the blocks, the output
+abbrev pub chain_symbols : Script → List Symbol
+chain_symbols s = flat_map block_symbols s.blocks ++ output_symbols s.output
+
+-- the front, the tables, the chain
+abbrev pub symbols : List Named → Script → List Symbol
+symbols tables s = front_symbols s ++ (flat_map table_symbols tables ++ chain_symbols s)
 
 -- what flows to the first block
 abbrev pub input_flow : Input → Flow
@@ -191,7 +212,7 @@ HasRate (kind.Raw rate) = (1 ≤ rate) × (rate ≤ 4294967295)
 
 -- all ranges, counts, formats and channels fit
 pub record IsFit (s : Script) : Type 0 where
-  pub version : s.version ≡ 1
+  pub version : (1 ≤ s.version) × (s.version ≤ MAX_VERSION)
   pub channels : (1 ≤ s.input.channels) × (s.input.channels ≤ MAX_CHANNELS)
   pub rate : HasRate s.input.kind
   pub block : IfSome s.block (λ frames. (1 ≤ frames) × (frames ≤ MAX_BLOCK_LENGTH))
@@ -199,10 +220,12 @@ pub record IsFit (s : Script) : Type 0 where
   pub one_correlate : correlates s.blocks ≤ MAX_CORRELATES
   pub chain : IsChain (input_flow s.input) s.blocks
 
--- a text reads as a script
+-- a text reads as a script, with the tables that it names
 pub record Reads (text : List ℕ) (s : Script) : Type 0 where
   pub short : length text ≤ MAX_SCRIPT
-  pub spelled : Spells (items text) (symbols s)
+  pub tables : List Named
+  pub stand : MayStand s.version tables
+  pub spelled : Spells tables (items text) (symbols tables s)
   pub fit : IsFit s
 
 -- some text reads as the script

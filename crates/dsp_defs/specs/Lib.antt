@@ -22,6 +22,7 @@ pub mod Token
 pub mod Numeral
 pub mod Parameters
 pub mod Table
+pub mod Tables
 pub mod Grammar
 pub mod Places
 pub mod Reading

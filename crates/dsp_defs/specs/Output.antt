@@ -4,10 +4,10 @@ use Rattle.std.specs.Option.{option_map}
 use Rattle.std.specs.Result.{result_unwrap_or}
 use Rattle.dsp_defs.specs.Block.{Frame, live_chain, whole_chain, format_after, channels_after}
 use Rattle.dsp_defs.specs.Shape.{frames_given, rate_after}
-use Rattle.dsp_defs.specs.Bytes.{width, coded, samples}
+use Rattle.dsp_defs.specs.Bytes.{coding_of, width, coded, samples}
 use Rattle.dsp_defs.specs.Wave.{header_of, wave_header, pad}
 use Rattle.dsp_defs.specs.declared.format.Fmt.{Fmt}
-use Rattle.dsp_defs.specs.declared.format.Container.{Container}
+use Rattle.dsp_defs.specs.declared.format.Coding.{Coding}
 use Rattle.dsp_defs.specs.declared.format.Container.TheVariants as Containers
 use Rattle.dsp_defs.specs.declared.format.InputKind.{InputKind}
 use Rattle.dsp_defs.specs.declared.format.InputKind.TheVariants.{Wave, Raw}
@@ -23,8 +23,9 @@ wanted_of script = record { format = script.input.format; channels = script.inpu
 
 -- where the samples stand in an input: raw samples are all of it, and without a good header there are none
 abbrev pub header_by : InputKind → Wanted → List ℕ → Header
-header_by (Raw rate) wanted bytes = record { rate = rate; start = 0; size = None }
-header_by Wave wanted bytes = result_unwrap_or (header_of bytes wanted) (record { rate = 0; start = length bytes; size = None })
+header_by (Raw rate) wanted bytes = record { rate = rate; start = 0; size = None; coding = coding_of Containers.Raw wanted.format }
+header_by Wave wanted bytes =
+    result_unwrap_or (header_of bytes wanted) (record { rate = 0; start = length bytes; size = None; coding = coding_of Containers.Wave wanted.format })
 
 -- of a script
 abbrev pub input_header : Script → List ℕ → Header
@@ -43,22 +44,15 @@ HasHeader script bytes = HeaderIsThere script.input.kind (wanted_of script) byte
 abbrev pub sample_bytes : Header → List ℕ → List ℕ
 sample_bytes header bytes = elim header.size [ Some size ↦ take size (drop header.start bytes) | None ↦ drop header.start bytes ]
 
--- the form of an input
-abbrev pub container_of : InputKind → Container
-container_of (Raw rate) = Containers.Raw
-container_of Wave = Containers.Wave
-
--- of a script
-abbrev pub input_container : Script → Container
-input_container script = container_of script.input.kind
-
--- the signal of all whole frames of the input
+-- the signal of all whole frames of the input, in the coding that its header says
 abbrev pub input_signal : Script → List ℕ → List Frame
-input_signal script bytes = samples (input_container script) script.input.format script.input.channels (sample_bytes (input_header script bytes) bytes)
+input_signal script bytes =
+    let header = input_header script bytes in
+    samples header.coding script.input.channels (sample_bytes header bytes)
 
 -- the whole frames that a header declares, if it does
 abbrev pub declared_frames : Script → Header → Option ℕ
-declared_frames script header = option_map (λ size. size / (script.input.channels * width script.input.format)) header.size
+declared_frames script header = option_map (λ size. size / (script.input.channels * width header.coding)) header.size
 
 -- ---- the output
 
@@ -74,13 +68,17 @@ channels_of script = fold channels_after script.input.channels script.blocks
 abbrev pub rate_of : Script → ℕ → ℕ
 rate_of script rate = fold rate_after rate script.blocks
 
+-- how its samples stand as bytes
+abbrev pub output_coding : Script → Coding
+output_coding script = coding_of script.output (format_of script)
+
 -- the bytes of what the chain has given of a signal that may go on
 abbrev pub live_bytes : Script → List Frame → List ℕ
-live_bytes script x = coded script.output (format_of script) (live_chain script.input.format script.input.channels script.blocks x)
+live_bytes script x = coded (output_coding script) (live_chain script.input.format script.input.channels script.blocks x)
 
 -- and of what it gives of a whole one
 abbrev pub whole_bytes : Script → List Frame → List ℕ
-whole_bytes script x = coded script.output (format_of script) (whole_chain script.input.format script.input.channels script.blocks x)
+whole_bytes script x = coded (output_coding script) (whole_chain script.input.format script.input.channels script.blocks x)
 
 -- the frames that the output is to have, where the input declares its own
 abbrev pub known_frames : Script → Header → Option ℕ
@@ -90,14 +88,14 @@ known_frames script header = option_map (frames_given script.blocks) (declared_f
 abbrev pub output_header : Script → Header → List ℕ
 output_header script header = elim script.output [
   | Containers.Raw ↦ []
-  | Containers.Wave ↦ wave_header (format_of script) (channels_of script) (rate_of script header.rate) (known_frames script header)
+  | _ ↦ wave_header script.output (format_of script) (channels_of script) (rate_of script header.rate) (known_frames script header)
 ]
 
 -- the pad byte behind them, if there is one
 abbrev pub output_pad : Script → Header → List ℕ
 output_pad script header = elim script.output [
   | Containers.Raw ↦ []
-  | Containers.Wave ↦ pad (format_of script) (channels_of script) (known_frames script header)
+  | _ ↦ pad (format_of script) (channels_of script) (known_frames script header)
 ]
 
 -- the output of a whole input: the header, the samples of the whole signal's values, and the pad byte

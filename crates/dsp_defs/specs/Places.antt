@@ -1,17 +1,19 @@
 -- What each place of a text wants, and the fault where another thing stands there.
-use Rattle.std.specs.Prelude.{ℕ, ℤ, pos, ◌+◌, ◌&&◌, ⊤, Bool, List, [], ◌∷◌, Option, Some, None, Result, Ok, Err, nat_le, int_le, unsigned_abs, if◌then◌else◌}
+use Rattle.std.specs.Prelude.{ℕ, ℤ, zero, suc, pos, ◌+◌, ◌&&◌, ◌==◌, ⊤, is_some, Bool, false, List, [], ◌∷◌, Option, Some, None, Result, Ok, Err, nat_le, int_le, unsigned_abs, codes, ◌++◌, if◌then◌else◌}
 use Rattle.std.specs.Str.{bytes_eq}
 use Rattle.dsp_defs.specs.declared.script_fault.ScriptKind.{ScriptKind}
-use Rattle.dsp_defs.specs.declared.script_fault.ScriptKind.TheVariants.{BadByte, UnknownWord, BadNumber, OutOfRange, Missing, NoSuchForm, Length, TooMany}
+use Rattle.dsp_defs.specs.declared.script_fault.ScriptKind.TheVariants.{BadByte, UnknownWord, BadNumber, OutOfRange, Missing, NoSuchForm, Length, TooMany, BadName, NameTaken}
 use Rattle.dsp_defs.specs.declared.script_fault.ScriptFault.{ScriptFault}
 use Rattle.dsp_defs.specs.declared.format.Fmt.{Fmt}
 use Rattle.dsp_defs.specs.declared.format.Fmt.TheVariants.{Q7, Q15, Q31}
 use Rattle.dsp_defs.specs.declared.format.Container.{Container}
+use Rattle.dsp_defs.specs.declared.limits.TheConstants.{MAX_TABLES}
 use Rattle.dsp_defs.specs.declared.list_rule.ListRule.{ListRule}
 use Rattle.dsp_defs.specs.Token.{Token, Open, Close, Run, Bad, Item, Rest}
 use Rattle.dsp_defs.specs.Numeral.{value_of}
 use Rattle.dsp_defs.specs.Parameters.{is_complete, factor_of}
 use Rattle.dsp_defs.specs.Table.{format_by_name, container_by_name}
+use Rattle.dsp_defs.specs.Tables.{Named, is_name, numbers_of, table_rule}
 
 infixl 10 ◌>>=◌
 abbrev pub ◌>>=◌ : {A B : Type 0} → Result A ScriptFault → (A → Result B ScriptFault) → Result B ScriptFault
@@ -70,9 +72,14 @@ word_at name rest = next_at (choice (named name)) rest
 unfoldable pub format_at : Rest → Result (Fmt × Rest) ScriptFault
 format_at rest = next_at (choice format_by_name) rest
 
--- a container next
-unfoldable pub container_at : Rest → Result (Container × Rest) ScriptFault
-container_at rest = next_at (choice container_by_name) rest
+-- one of these containers next
+unfoldable pub container_at : List Container → Rest → Result (Container × Rest) ScriptFault
+container_at containers rest = next_at (choice (container_by_name containers)) rest
+
+-- the first of the items is this word
+abbrev pub begins_with : List ℕ → List Item → Bool
+begins_with name [] = false
+begins_with name (item ∷ items) = is_some (meaning_of (named name) item.token)
 
 -- low <= n <= high
 abbrev pub is_between : (low high n : ℤ) → Bool
@@ -98,21 +105,40 @@ natural_at low high rest = do
 
 -- ---- lists
 
--- the brace that opens a list
-abbrev pub opening : Judge ⊤
-opening offset Open = Ok tt
-opening offset token = fault offset Missing
+-- n as the next number of a list that has count numbers, at an offset
+abbrev pub next_number : ListRule → ℕ → ℕ → ℤ → Result ℤ ScriptFault
+next_number rule count offset n = if nat_le rule.limit count then fault offset (TooMany rule.limit) else in_range offset rule.low rule.high n
 
--- that brace next
-unfoldable pub open_at : Rest → Result (⊤ × Rest) ScriptFault
-open_at rest = next_at opening rest
+-- the end of a list that has count numbers, at an offset
+abbrev pub list_end : ListRule → ℕ → ℕ → Result ⊤ ScriptFault
+list_end rule count offset = if is_complete rule.count count then Ok tt else fault offset (Length count (factor_of rule.count))
+
+-- numbers as a list's, after count of them, up to its end, all at one offset
+unfoldable pub judged : ListRule → ℕ → ℕ → List ℤ → Result ⊤ ScriptFault
+judged rule count offset [] = list_end rule count offset
+judged rule count offset (n ∷ numbers) = next_number rule count offset n >>= λ _. judged rule (count + 1) offset numbers
+
+-- The tables of a text, if its version has them.
+abbrev pub Environment : Type 0
+Environment = Option (List Named)
+
+-- the brace that opens a list, or the numbers of the table that is named in its place, judged at the name
+abbrev pub opening : Environment → ListRule → Judge (Option (List ℤ))
+opening tables rule offset Open = Ok None
+opening (Some tables) rule offset (Run name) = do
+  numbers ← or_fault offset UnknownWord (numbers_of tables name)
+  _ ← judged rule 0 offset numbers
+  Ok (Some numbers)
+opening tables rule offset token = fault offset Missing
+
+-- that next
+unfoldable pub open_at : Environment → ListRule → Rest → Result (Option (List ℤ) × Rest) ScriptFault
+open_at tables rule rest = next_at (opening tables rule) rest
 
 -- the next number of a list that has count numbers, or its end
 abbrev pub entry : ListRule → ℕ → Judge (Option ℤ)
-entry rule count offset Close = if is_complete rule.count count then Ok None else fault offset (Length count (factor_of rule.count))
-entry rule count offset token = do
-  n ← or_fault offset BadNumber (meaning_of value_of token)
-  if nat_le rule.limit count then fault offset (TooMany rule.limit) else (in_range offset rule.low rule.high n >>= λ _. Ok (Some n))
+entry rule count offset Close = list_end rule count offset >>= λ _. Ok None
+entry rule count offset token = or_fault offset BadNumber (meaning_of value_of token) >>= λ n. next_number rule count offset n >>= λ _. Ok (Some n)
 
 -- the next number of a list that has count numbers, or its end, and what is left behind it
 unfoldable pub entry_at : ListRule → ℕ → Rest → Result (Option ℤ × Rest) ScriptFault
@@ -128,11 +154,44 @@ entries_at rule count end (item ∷ items) = do
     | Some n ↦ (entries_at rule (count + 1) end items >>= λ more. Ok (n ∷ more.0, more.1))
   ]
 
--- a list next: its brace, its numbers, its end
-unfoldable pub list_at : ListRule → Rest → Result (List ℤ × Rest) ScriptFault
-list_at rule rest = do
-  opened ← open_at rest
-  entries_at rule 0 opened.1.end opened.1.items
+-- a list next: its numbers in braces, or the name of a table
+unfoldable pub list_at : Environment → ListRule → Rest → Result (List ℤ × Rest) ScriptFault
+list_at tables rule rest = do
+  opened ← open_at tables rule rest
+  elim opened.0 [
+    | None ↦ entries_at rule 0 opened.1.end opened.1.items
+    | Some numbers ↦ Ok (numbers, opened.1)
+  ]
+
+-- ---- tables
+
+-- the word `table`, where so many more may come
+abbrev pub table_word : ℕ → Judge ⊤
+table_word left offset token = choice (named (codes "table")) offset token >>= λ _. if left == 0 then fault offset (TooMany MAX_TABLES) else Ok tt
+
+-- a name that none of these tables has
+abbrev pub new_name : List Named → Judge (List ℕ)
+new_name tables offset (Run run) = if is_name run then (if is_some (numbers_of tables run) then fault offset NameTaken else Ok run) else fault offset BadName
+new_name tables offset token = fault offset BadName
+
+-- a table next, behind these, where so many more may come: its word, its name, its numbers in braces
+unfoldable pub table_at : ℕ → List Named → Rest → Result (Named × Rest) ScriptFault
+table_at left tables rest = do
+  word ← next_at (table_word left) rest
+  name ← next_at (new_name tables) word.1
+  numbers ← list_at None table_rule name.1
+  Ok (record { name = name.0; numbers = numbers.0 }, numbers.1)
+
+-- these tables, and those that come next, of which so many may come
+unfoldable pub tables_at : ℕ → List Named → Rest → Result (List Named × Rest) ScriptFault
+tables_at zero tables rest = if begins_with (codes "table") rest.items then (table_at 0 tables rest >>= λ t. Ok (tables, t.1)) else Ok (tables, rest)
+tables_at (suc left) tables rest = if begins_with (codes "table") rest.items
+    then (table_at (suc left) tables rest >>= λ t. tables_at left (tables ++ t.0 ∷ []) t.1)
+    else Ok (tables, rest)
+
+-- the tables next, in a version that has them
+unfoldable pub environment_at : ℕ → Rest → Result (Environment × Rest) ScriptFault
+environment_at version rest = if version == 1 then Ok (None, rest) else (tables_at MAX_TABLES [] rest >>= λ t. Ok (Some t.0, t.1))
 
 -- ---- conversions
 

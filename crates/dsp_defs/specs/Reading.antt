@@ -13,22 +13,22 @@ use Rattle.dsp_defs.specs.declared.script.Block.{Block}
 use Rattle.dsp_defs.specs.declared.script.Script.{Script}
 use Rattle.dsp_defs.specs.declared.flow.Flow.{Flow}
 use Rattle.dsp_defs.specs.declared.word.Word.{Word}
-use Rattle.dsp_defs.specs.declared.limits.TheConstants.{MAX_SCRIPT, MAX_BLOCKS, MAX_CORRELATES, MAX_BLOCK_LENGTH, MAX_CHANNELS}
+use Rattle.dsp_defs.specs.declared.limits.TheConstants.{MAX_SCRIPT, MAX_BLOCKS, MAX_CORRELATES, MAX_BLOCK_LENGTH, MAX_CHANNELS, MAX_VERSION}
 use Rattle.dsp_defs.specs.Token.{Bad, Item, Rest, rest_of}
 use Rattle.dsp_defs.specs.Parameters.{Form, Done, Integer, Natural, Numbers, Conversion}
-use Rattle.dsp_defs.specs.Table.{word_by_name, has_form, channels_wanted, is_correlate, flow_after, parameters}
+use Rattle.dsp_defs.specs.Table.{word_by_name, has_form, channels_wanted, is_correlate, flow_after, parameters, input_containers, output_containers}
 use Rattle.dsp_defs.specs.Grammar.{input_flow}
-use Rattle.dsp_defs.specs.Places.{◌>>=◌, fault, Judge, next_at, meaning_of, choice, named, word_at, format_at, container_at, number_at, natural_at, list_at, conversion_at}
+use Rattle.dsp_defs.specs.Places.{◌>>=◌, fault, Judge, next_at, choice, begins_with, word_at, format_at, container_at, number_at, natural_at, Environment, list_at, environment_at, conversion_at}
 
 -- ---- blocks
 
 -- the parameters of a form, and the block that they make
-unfoldable pub block_at : Form → Rest → Result (Block × Rest) ScriptFault
-block_at (Done made) rest = Ok (made, rest)
-block_at (Integer low high next) rest = number_at low high rest >>= λ n. block_at (next n.0) n.1
-block_at (Natural low high next) rest = natural_at low high rest >>= λ n. block_at (next n.0) n.1
-block_at (Numbers rule next) rest = list_at rule rest >>= λ numbers. block_at (next numbers.0) numbers.1
-block_at (Conversion from next) rest = conversion_at from rest >>= λ format. block_at (next format.0) format.1
+unfoldable pub block_at : Environment → Form → Rest → Result (Block × Rest) ScriptFault
+block_at tables (Done made) rest = Ok (made, rest)
+block_at tables (Integer low high next) rest = number_at low high rest >>= λ n. block_at tables (next n.0) n.1
+block_at tables (Natural low high next) rest = natural_at low high rest >>= λ n. block_at tables (next n.0) n.1
+block_at tables (Numbers rule next) rest = list_at tables rule rest >>= λ numbers. block_at tables (next numbers.0) numbers.1
+block_at tables (Conversion from next) rest = conversion_at from rest >>= λ format. block_at tables (next format.0) format.1
 
 -- what may stand at a block's place: the output, or a block's word
 pub data Place : Type 0 where
@@ -66,23 +66,18 @@ unfoldable pub next_block_at : ℕ → Bool → Flow → Rest → Result (Option
 next_block_at left correlated flow rest = next_at (next_block left correlated flow) rest
 
 -- the blocks up to the output, of which so many may come
-unfoldable pub blocks_at : ℕ → Bool → Flow → Rest → Result (List Block × Rest) ScriptFault
-blocks_at zero correlated flow rest = do
+unfoldable pub blocks_at : Environment → ℕ → Bool → Flow → Rest → Result (List Block × Rest) ScriptFault
+blocks_at tables zero correlated flow rest = do
   next ← next_block_at 0 correlated flow rest
   Ok ([], next.1)
-blocks_at (suc left) correlated flow rest = do
+blocks_at tables (suc left) correlated flow rest = do
   next ← next_block_at (suc left) correlated flow rest
   elim next.0 [
     | None ↦ Ok ([], next.1)
-    | Some w ↦ (block_at (parameters w flow) next.1 >>= λ b. blocks_at left (correlated || is_correlate w) (flow_after b.0 flow) b.1 >>= λ more. Ok (b.0 ∷ more.0, more.1))
+    | Some w ↦ (block_at tables (parameters w flow) next.1 >>= λ b. blocks_at tables left (correlated || is_correlate w) (flow_after b.0 flow) b.1 >>= λ more. Ok (b.0 ∷ more.0, more.1))
   ]
 
 -- ---- scripts
-
--- the first of the items is this word
-abbrev pub begins_with : List ℕ → List Item → Bool
-begins_with name [] = false
-begins_with name (item ∷ items) = is_some (meaning_of (named name) item.token)
 
 -- the block length, if there is one
 unfoldable pub length_at : Rest → Result (Option ℕ × Rest) ScriptFault
@@ -97,14 +92,14 @@ nothing_of (item ∷ items) = elim item.token [ Bad ↦ fault item.offset BadByt
 
 -- raw samples come with their rate
 unfoldable pub kind_at : Container → Rest → Result (InputKind × Rest) ScriptFault
-kind_at container.Wave rest = Ok (kind.Wave, rest)
 kind_at container.Raw rest = natural_at 1 4294967295 rest >>= λ rate. Ok (kind.Raw rate.0, rate.1)
+kind_at _ rest = Ok (kind.Wave, rest)
 
 -- the input next: its container, format, channels, and the rate of raw samples
 unfoldable pub input_at : Rest → Result (Input × Rest) ScriptFault
 input_at rest = do
   name ← word_at (codes "input") rest
-  container ← container_at name.1
+  container ← container_at input_containers name.1
   format ← format_at container.1
   channels ← natural_at 1 MAX_CHANNELS format.1
   kind ← kind_at container.0 channels.1
@@ -114,11 +109,12 @@ input_at rest = do
 unfoldable pub script_at : Rest → Result Script ScriptFault
 script_at rest = do
   name ← word_at (codes "dspfx") rest
-  version ← natural_at 1 1 name.1
+  version ← natural_at 1 MAX_VERSION name.1
   input ← input_at version.1
   frames ← length_at input.1
-  blocks ← blocks_at MAX_BLOCKS false (input_flow input.0) frames.1
-  output ← container_at blocks.1
+  tables ← environment_at version.0 frames.1
+  blocks ← blocks_at tables.0 MAX_BLOCKS false (input_flow input.0) tables.1
+  output ← container_at output_containers blocks.1
   _ ← nothing_of output.1.items
   Ok (record { version = version.0; input = input.0; block = frames.0; blocks = blocks.0; output = output.0 })
 

@@ -7,7 +7,7 @@ use Rattle.dsp_defs.specs.declared.measure.Measure.TheVariants.{Power, Dot, Cmpl
 use Rattle.dsp_defs.specs.declared.script.Script.{Script}
 use Rattle.dsp_defs.specs.declared.script_fault.ScriptFault.{ScriptFault}
 use Rattle.dsp_defs.specs.declared.script_fault.ScriptKind.{ScriptKind}
-use Rattle.dsp_defs.specs.declared.script_fault.ScriptKind.TheVariants.{TooLong, BadByte, UnknownWord, BadNumber, OutOfRange, Missing, NoSuchForm, ChannelsHere, Length, TooMany}
+use Rattle.dsp_defs.specs.declared.script_fault.ScriptKind.TheVariants.{TooLong, BadByte, UnknownWord, BadNumber, OutOfRange, Missing, NoSuchForm, ChannelsHere, Length, TooMany, BadName, NameTaken}
 use Rattle.dsp_defs.specs.declared.wave.HeaderFault.{HeaderFault}
 use Rattle.dsp_defs.specs.declared.wave.HeaderFault.TheVariants.{NotRiff, NotWave, NoFormat, FormatSize, Tag, Bits, Channels, Align, NoSamples, Short}
 use Rattle.dsp_defs.specs.Canon.{line}
@@ -34,6 +34,8 @@ kind_name (NoSuchForm format) = codes "NoSuchForm"
 kind_name (ChannelsHere got wanted) = codes "ChannelsHere"
 kind_name (Length taps factor) = codes "Length"
 kind_name (TooMany limit) = codes "TooMany"
+kind_name BadName = codes "BadName"
+kind_name NameTaken = codes "NameTaken"
 
 -- its fields, in their order
 abbrev pub kind_fields : ScriptKind → List ℕ

@@ -6,7 +6,7 @@ use Rattle.dsp_defs.specs.Parameters.{Form, Done, Integer, Natural, Numbers, Con
 use Rattle.dsp_defs.specs.declared.format.Fmt.{Fmt}
 use Rattle.dsp_defs.specs.declared.format.Fmt.TheVariants.{Q7, Q15, Q31}
 use Rattle.dsp_defs.specs.declared.format.Container.{Container}
-use Rattle.dsp_defs.specs.declared.format.Container.TheVariants.{Wave, Raw}
+use Rattle.dsp_defs.specs.declared.format.Container.TheVariants.{Wave, Wavex, Raw}
 use Rattle.dsp_defs.specs.declared.script.Block.{Block}
 use Rattle.dsp_defs.specs.declared.script.Block.TheVariants as block
 use Rattle.dsp_defs.specs.declared.flow.Flow.{Flow}
@@ -99,18 +99,23 @@ format_name Q31 = codes "q31"
 unfoldable pub format_by_name : List ℕ → Option Fmt
 format_by_name run = find (λ f. bytes_eq run (format_name f)) every_format
 
--- all containers
-abbrev pub every_container : List Container
-every_container = Wave ∷ Raw ∷ []
+-- the containers of an input
+abbrev pub input_containers : List Container
+input_containers = Wave ∷ Raw ∷ []
 
--- wave, raw
+-- the containers of an output
+abbrev pub output_containers : List Container
+output_containers = Wave ∷ Wavex ∷ Raw ∷ []
+
+-- wave, wavex, raw
 abbrev pub container_name : Container → List ℕ
 container_name Wave = codes "wave"
+container_name Wavex = codes "wavex"
 container_name Raw = codes "raw"
 
--- the container of a text
-unfoldable pub container_by_name : List ℕ → Option Container
-container_by_name run = find (λ c. bytes_eq run (container_name c)) every_container
+-- the container of a text, among those that may stand there
+unfoldable pub container_by_name : List Container → List ℕ → Option Container
+container_by_name containers run = find (λ c. bytes_eq run (container_name c)) containers
 
 -- ---- where a block may stand
 

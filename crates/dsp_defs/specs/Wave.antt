@@ -1,13 +1,19 @@
 -- WAVE files: their chunks, what a header says, its faults, and the header that is written. All numbers are little-endian.
-use Rattle.std.specs.Prelude.{◌≡◌, ℕ, zero, suc, ◌+◌, ◌*◌, ◌%◌, ◌-◌, ◌^◌, ◌≤◌, Bool, not, nat_eq, nat_lt, if◌then◌else◌, List, [], ◌∷◌, ◌++◌, length, take, drop, codes, Option, Some, None, IfSome, Result, Ok, Err}
+use Rattle.std.specs.Prelude.{◌≡◌, ℕ, zero, suc, ◌+◌, ◌*◌, ◌%◌, ◌-◌, ◌^◌, ◌≤◌, Bool, not, ◌||◌, nat_eq, nat_le, nat_lt, if◌then◌else◌, List, [], ◌∷◌, ◌++◌, length, take, drop, codes, Option, Some, None, IfSome, Result, Ok, Err}
 use Rattle.std.specs.Int.{to_le_bytes, from_le_bytes}
 use Rattle.std.specs.Option.{option_map}
 use Rattle.std.specs.Str.{bytes_eq}
 use Rattle.std.specs.Result.{result_err}
 use Rattle.dsp_defs.specs.Numbers.{w16, w32}
-use Rattle.dsp_defs.specs.Bytes.{width}
+use Rattle.dsp_defs.specs.Bytes.{coding_of, width, word_bytes}
 use Rattle.dsp_defs.specs.declared.limits.TheConstants.{MAX_RIFF_SIZE}
 use Rattle.dsp_defs.specs.declared.format.Fmt.{Fmt}
+use Rattle.dsp_defs.specs.declared.format.Fmt.TheVariants.{Q31}
+use Rattle.dsp_defs.specs.declared.format.Container.{Container}
+use Rattle.dsp_defs.specs.declared.format.Container.TheVariants.{Wave, Wavex}
+use Rattle.dsp_defs.specs.declared.format.Coding.{Coding}
+use Rattle.dsp_defs.specs.declared.format.Coding.TheVariants.{Wave24, Wave31}
+use Rattle.dsp_defs.specs.declared.wave.Sampling.{Sampling}
 use Rattle.dsp_defs.specs.declared.wave.Wanted.{Wanted}
 use Rattle.dsp_defs.specs.declared.wave.Header.{Header}
 use Rattle.dsp_defs.specs.declared.wave.HeaderFault.{HeaderFault}
@@ -54,22 +60,69 @@ chunks bytes = chunks_behind 0 12 (drop 12 bytes)
 abbrev pub has_id : List ℕ → Chunk → Bool
 has_id id chunk = bytes_eq chunk.id id
 
--- ---- reading
+-- ---- a `fmt ` chunk
 
--- what is at fault in the first `fmt ` chunk of a file of `total` bytes: the tag is 1, the channels are those wanted,
--- the bits are those of the format, and the block align is channels * bits / 8
-abbrev pub format_fault : Wanted → ℕ → Chunk → Option (HeaderFault × ℕ)
-format_fault wanted total chunk =
+-- a test: whether it holds, and what is at fault where it does not, with the offset
+pub record Test : Type 0 where
+  pub holds : Bool
+  pub fault : HeaderFault
+  pub offset : ℕ
+
+-- the fault of the first test that does not hold
+abbrev pub first_failed : List Test → Option (HeaderFault × ℕ)
+first_failed [] = None
+first_failed (test ∷ tests) = if test.holds then first_failed tests else Some (test.fault, test.offset)
+
+-- the 16 bytes that stand for linear PCM in an extension
+abbrev pub pcm_subformat : List ℕ
+pcm_subformat = 1 ∷ 0 ∷ 0 ∷ 0 ∷ 0 ∷ 0 ∷ 16 ∷ 0 ∷ 128 ∷ 0 ∷ 0 ∷ 170 ∷ 0 ∷ 56 ∷ 155 ∷ 113 ∷ []
+
+-- the tag of a chunk with an extension, 0xFFFE
+abbrev pub extensible_tag : ℕ
+extensible_tag = 65534
+
+-- the chunk is whole, and says linear PCM: by the tag 1, or by the tag 0xFFFE and the extension of 24 bytes behind the first
+-- 16, whose other fields are not tested. The file has `total` bytes
+abbrev pub pcm_tests : ℕ → Chunk → List Test
+pcm_tests total chunk =
+    let body = chunk.offset + 8 in
+    let tag = u16_at chunk.body 0 in
+    let plain = not (nat_eq tag extensible_tag) in
+    record { holds = nat_le 16 chunk.size; fault = FormatSize chunk.size; offset = chunk.offset + 4 }
+    ∷ record { holds = nat_le 16 (length chunk.body); fault = NoSamples; offset = total }
+    ∷ record { holds = nat_eq tag 1 || nat_eq tag extensible_tag; fault = Tag tag; offset = body }
+    ∷ record { holds = plain || nat_le 40 chunk.size; fault = FormatSize chunk.size; offset = chunk.offset + 4 }
+    ∷ record { holds = plain || nat_le 40 (length chunk.body); fault = NoSamples; offset = total }
+    ∷ record { holds = plain || bytes_eq (take 16 (drop 24 chunk.body)) pcm_subformat; fault = Tag (u16_at chunk.body 24); offset = body + 24 }
+    ∷ []
+
+-- how samples of a format stand, where a file says so many bits: Q31 may have 24, else the bits are to be those of the word
+abbrev pub file_coding : Fmt → ℕ → Coding
+file_coding Q31 bits = if nat_eq bits 24 then Wave24 else Wave31
+file_coding format bits = coding_of Wave format
+
+-- what the chunk says of the samples
+abbrev pub sampling : Wanted → Chunk → Sampling
+sampling wanted chunk = record { rate = u32_at chunk.body 4; coding = file_coding wanted.format (u16_at chunk.body 14) }
+
+-- the channels are those wanted, the bits those of the coding, and the block align is channels * bits / 8
+abbrev pub sample_tests : Wanted → Chunk → List Test
+sample_tests wanted chunk =
     let body = chunk.offset + 8 in
     let channels = u16_at chunk.body 2 in
-    let align = wanted.channels * width wanted.format in
-    let bits = 8 * width wanted.format in
-    if nat_lt chunk.size 16 then Some (FormatSize chunk.size, chunk.offset + 4) else
-    (if nat_lt (length chunk.body) 16 then Some (NoSamples, total) else
-    (if not (nat_eq (u16_at chunk.body 0) 1) then Some (Tag (u16_at chunk.body 0), body) else
-    (if not (nat_eq channels wanted.channels) then Some (Channels channels wanted.channels, body + 2) else
-    (if not (nat_eq (u16_at chunk.body 14) bits) then Some (Bits (u16_at chunk.body 14) bits, body + 14) else
-    (if not (nat_eq (u16_at chunk.body 12) align) then Some (Align (u16_at chunk.body 12) align, body + 12) else None)))))
+    let bits = u16_at chunk.body 14 in
+    let align = u16_at chunk.body 12 in
+    let bytes = width (sampling wanted chunk).coding in
+    record { holds = nat_eq channels wanted.channels; fault = Channels channels wanted.channels; offset = body + 2 }
+    ∷ record { holds = nat_eq bits (8 * bytes); fault = Bits bits (8 * bytes); offset = body + 14 }
+    ∷ record { holds = nat_eq align (wanted.channels * bytes); fault = Align align (wanted.channels * bytes); offset = body + 12 }
+    ∷ []
+
+-- what is at fault in the first `fmt ` chunk of a file of `total` bytes
+abbrev pub format_fault : Wanted → ℕ → Chunk → Option (HeaderFault × ℕ)
+format_fault wanted total chunk = first_failed (pcm_tests total chunk ++ sample_tests wanted chunk)
+
+-- ---- reading
 
 -- the fault, if there is one, and else what is said
 abbrev pub unless : Option (HeaderFault × ℕ) → Result Header (HeaderFault × ℕ) → Result Header (HeaderFault × ℕ)
@@ -81,18 +134,18 @@ abbrev pub declared_size : ℕ → Option ℕ
 declared_size size = if nat_eq size (2 ^ 32 - 1) then None else Some size
 
 -- what the chunks say, one after another: the first `fmt ` chunk counts, and the samples begin with the first `data` chunk.
--- `rate` is that of the `fmt ` chunk, if it came
-abbrev pub header_in : Wanted → ℕ → Option ℕ → List Chunk → Result Header (HeaderFault × ℕ)
-header_in wanted total rate [] = Err (NoSamples, total)
+-- `known` is what the `fmt ` chunk said, if it came
+abbrev pub header_in : Wanted → ℕ → Option Sampling → List Chunk → Result Header (HeaderFault × ℕ)
+header_in wanted total known [] = Err (NoSamples, total)
 header_in wanted total None (chunk ∷ chunks) =
     if has_id (codes "data") chunk then Err (NoFormat, chunk.offset) else
     (if has_id (codes "fmt ") chunk
-    then unless (format_fault wanted total chunk) (header_in wanted total (Some (u32_at chunk.body 4)) chunks)
+    then unless (format_fault wanted total chunk) (header_in wanted total (Some (sampling wanted chunk)) chunks)
     else header_in wanted total None chunks)
-header_in wanted total (Some rate) (chunk ∷ chunks) =
+header_in wanted total (Some known) (chunk ∷ chunks) =
     if has_id (codes "data") chunk
-    then Ok (record { rate = rate; start = chunk.offset + 8; size = declared_size chunk.size })
-    else header_in wanted total (Some rate) chunks
+    then Ok (record { rate = known.rate; start = chunk.offset + 8; size = declared_size chunk.size; coding = known.coding })
+    else header_in wanted total (Some known) chunks
 
 -- what a file's header says: `RIFF`, a size that is not tested, `WAVE`, and the chunks
 abbrev pub header_of : List ℕ → Wanted → Result Header (HeaderFault × ℕ)
@@ -118,29 +171,54 @@ cut_fault n = if nat_lt n 4 then (NotRiff, 0) else (if nat_lt n 12 then (NotWave
 -- the bytes of the samples of a file of so many frames, and 2^32 - 1 where the number is not known
 abbrev pub data_size : Fmt → ℕ → Option ℕ → ℕ
 data_size format channels None = 2 ^ 32 - 1
-data_size format channels (Some frames) = frames * channels * width format
+data_size format channels (Some frames) = frames * channels * word_bytes format
 
--- 36, the sample bytes and the pad byte
-abbrev pub riff_size : Fmt → ℕ → Option ℕ → ℕ
-riff_size format channels None = 2 ^ 32 - 1
-riff_size format channels (Some frames) = 36 + padded (data_size format channels (Some frames))
+-- the bytes in the `fmt ` chunk, with the extension or without
+abbrev pub format_size : Container → ℕ
+format_size Wavex = 40
+format_size _ = 16
 
--- the size that a header of so many frames declares
-abbrev pub written_size : Fmt → ℕ → Option ℕ → Option ℕ
-written_size format channels frames = option_map (λ n. data_size format channels (Some n)) frames
+-- the bytes before the samples: 44, with the extension 68
+abbrev pub header_size : Container → ℕ
+header_size container = 28 + format_size container
+
+-- all behind the first eight bytes: the rest of the header, the sample bytes and the pad byte
+abbrev pub riff_size : Container → Fmt → ℕ → Option ℕ → ℕ
+riff_size container format channels None = 2 ^ 32 - 1
+riff_size container format channels (Some frames) = 20 + format_size container + padded (data_size format channels (Some frames))
 
 -- the sizes of a known length stand in 32 bits, below the number that stands for none
-abbrev pub HeaderFits : Fmt → ℕ → Option ℕ → Type 0
-HeaderFits format channels frames = IfSome frames (λ n. riff_size format channels (Some n) ≤ MAX_RIFF_SIZE)
+abbrev pub HeaderFits : Container → Fmt → ℕ → Option ℕ → Type 0
+HeaderFits container format channels frames = IfSome frames (λ n. riff_size container format channels (Some n) ≤ MAX_RIFF_SIZE)
 
--- the 44 bytes before the samples of a file; the byte rate is rate * align modulo 2^32
-abbrev pub wave_header : Fmt → ℕ → ℕ → Option ℕ → List ℕ
-wave_header format channels rate frames =
-    let align = channels * width format in
-    codes "RIFF" ++ to_le_bytes w32 (riff_size format channels frames) ++ codes "WAVE"
-    ++ codes "fmt " ++ to_le_bytes w32 16 ++ to_le_bytes w16 1 ++ to_le_bytes w16 channels ++ to_le_bytes w32 rate
-    ++ to_le_bytes w32 (rate * align % 2 ^ 32) ++ to_le_bytes w16 align ++ to_le_bytes w16 (8 * width format)
-    ++ codes "data" ++ to_le_bytes w32 (data_size format channels frames)
+-- 1, with the extension 0xFFFE
+abbrev pub format_tag : Container → ℕ
+format_tag Wavex = extensible_tag
+format_tag _ = 1
+
+-- the extension: its size, the valid bits, no mask of channels, and linear PCM
+abbrev pub extension : Container → ℕ → List ℕ
+extension Wavex bits = to_le_bytes w16 22 ++ to_le_bytes w16 bits ++ to_le_bytes w32 0 ++ pcm_subformat
+extension _ bits = []
+
+-- the bytes before the samples of a file; the byte rate is rate * align modulo 2^32
+abbrev pub wave_header : Container → Fmt → ℕ → ℕ → Option ℕ → List ℕ
+wave_header container format channels rate frames =
+    let align = channels * word_bytes format in
+    let bits = 8 * word_bytes format in
+    codes "RIFF" ++ to_le_bytes w32 (riff_size container format channels frames) ++ codes "WAVE"
+    ++ codes "fmt " ++ to_le_bytes w32 (format_size container) ++ to_le_bytes w16 (format_tag container) ++ to_le_bytes w16 channels
+    ++ to_le_bytes w32 rate ++ to_le_bytes w32 (rate * align % 2 ^ 32) ++ to_le_bytes w16 align ++ to_le_bytes w16 bits
+    ++ extension container bits ++ codes "data" ++ to_le_bytes w32 (data_size format channels frames)
+
+-- what that header says
+abbrev pub written_header : Container → Fmt → ℕ → ℕ → Option ℕ → Header
+written_header container format channels rate frames = record {
+  rate = rate;
+  start = header_size container;
+  size = option_map (λ n. data_size format channels (Some n)) frames;
+  coding = coding_of Wave format;
+}
 
 -- the byte 0 behind samples of an odd number of bytes, where their number is known
 abbrev pub pad : Fmt → ℕ → Option ℕ → List ℕ

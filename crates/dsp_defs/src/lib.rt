@@ -19,7 +19,7 @@ mod word;
 pub use command::{Command, Places};
 pub use fault::{GatherFull, MakeFault, WindowFault};
 pub use flow::Flow;
-pub use format::{Container, Fmt, Input, InputKind};
+pub use format::{Coding, Container, Fmt, Input, InputKind};
 pub use laws::{
     cut_header_is_named, divisor_is_greatest, frames_are_counted, given_bytes_stay,
     given_values_stay, header_is_read_back, header_stays, part_stays, samples_are_bytes,
@@ -28,7 +28,8 @@ pub use laws::{
 pub use limits::{
     DEFAULT_BLOCK_LENGTH, GENERATED_RATE, MAX_BLOCK_LENGTH, MAX_BLOCKS, MAX_CHANNELS,
     MAX_CORRELATES, MAX_DELAY, MAX_FACTOR, MAX_GATHERED, MAX_GENERATED, MAX_INPUT, MAX_MATRIX_SIDE,
-    MAX_RIFF_SIZE, MAX_SAMPLES, MAX_SCRIPT, MAX_SECTIONS, MAX_STAGES, MAX_TAPS,
+    MAX_NAME, MAX_RIFF_SIZE, MAX_SAMPLES, MAX_SCRIPT, MAX_SECTIONS, MAX_STAGES, MAX_TABLES,
+    MAX_TAPS, MAX_VERSION,
 };
 pub use list::List;
 pub use list_rule::{Count, ListRule};
@@ -36,5 +37,5 @@ pub use measure::Measure;
 pub use script::{Block, Blocks, Script};
 pub use script_fault::{ScriptFault, ScriptKind};
 pub use steps::Steps;
-pub use wave::{Header, HeaderFault, Wanted};
+pub use wave::{Header, HeaderFault, Sampling, Wanted};
 pub use word::{Formats, Word};

@@ -1,7 +1,7 @@
 //! The limits of a script and of a run.
 
 /// The greatest number of taps of a filter, and of entries of a list of coefficients.
-pub const MAX_TAPS: usize = 4096;
+pub const MAX_TAPS: usize = 16_384;
 
 /// The greatest number of sections of a biquad cascade.
 pub const MAX_SECTIONS: usize = 64;
@@ -26,6 +26,15 @@ pub const MAX_BLOCKS: usize = 64;
 
 /// The greatest number of `correlate` blocks in a script.
 pub const MAX_CORRELATES: usize = 1;
+
+/// The greatest number of tables in a script.
+pub const MAX_TABLES: usize = 64;
+
+/// The greatest number of bytes of a table's name.
+pub const MAX_NAME: usize = 32;
+
+/// The greatest version of the script language.
+pub const MAX_VERSION: u8 = 2;
 
 /// The greatest number of bytes of a script.
 pub const MAX_SCRIPT: usize = 1_048_576;

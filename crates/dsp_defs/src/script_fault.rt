@@ -10,7 +10,8 @@ pub enum ScriptKind {
     /// A byte begins no token.
     #[error("a byte begins no token")]
     BadByte,
-    /// A word is wanted, and this is none that may stand here; or the text goes on behind its end.
+    /// A word is wanted, and this is none that may stand here; or the text goes on behind its end;
+    /// or a list is wanted, and this is the name of no table.
     #[error("unknown word")]
     UnknownWord,
     /// A number is wanted, and this is no numeral.
@@ -18,7 +19,7 @@ pub enum ScriptKind {
     BadNumber,
     #[error("a number outside {low} to {high}")]
     OutOfRange { low: i64, high: i64 },
-    /// The text ends too early, or a list does not begin.
+    /// The text ends too early, or a list begins with no brace where no name may stand.
     #[error("something is missing")]
     Missing,
     /// The block has no form in the present format, or a conversion names the present format.
@@ -31,6 +32,12 @@ pub enum ScriptKind {
     Length { taps: u64, factor: u64 },
     #[error("more than {limit}")]
     TooMany { limit: u64 },
+    /// A table is to be named, and this is no name.
+    #[error("no name")]
+    BadName,
+    /// A table is to be named, and an earlier one has this name.
+    #[error("a name that is taken")]
+    NameTaken,
 }
 
 /// The first item of a text, or its end, that can't stand after the items before it.

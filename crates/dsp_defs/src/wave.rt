@@ -1,4 +1,4 @@
-use crate::Fmt;
+use crate::{Coding, Fmt};
 use thiserror::Error;
 
 /// What the header of a WAVE file is wanted to say of its samples.
@@ -8,13 +8,23 @@ pub struct Wanted {
     pub channels: u8,
 }
 
+/// What the `fmt ` chunk of a file says of its samples: the rate in frames a second, and how they
+/// stand as bytes.
+#[derive(Clone, Copy, Debug, PartialEq, Eq)]
+pub struct Sampling {
+    pub rate: u32,
+    pub coding: Coding,
+}
+
 /// What the header of a file says: the rate in frames a second, the offset of the first sample
-/// byte, and the bytes of the samples. No size means that they go to the end of the file.
+/// byte, the bytes of the samples, and how they stand as bytes. No size means that they go to the
+/// end of the file.
 #[derive(Clone, Copy, Debug, PartialEq, Eq)]
 pub struct Header {
     pub rate: u32,
     pub start: u64,
     pub size: Option<u32>,
+    pub coding: Coding,
 }
 
 /// Why a WAVE file's samples are not read.
@@ -29,13 +39,13 @@ pub enum HeaderFault {
     /// A `data` chunk stands before any `fmt ` chunk.
     #[error("samples before their format")]
     NoFormat,
-    /// The `fmt ` chunk has fewer than 16 bytes.
+    /// The `fmt ` chunk has fewer than 16 bytes, or fewer than 40 where it is extensible.
     #[error("a format of {got} bytes")]
     FormatSize { got: u32 },
     /// The samples are not linear PCM.
     #[error("the format tag {got}")]
     Tag { got: u16 },
-    /// The bits of a sample are not those of the format.
+    /// The bits of a sample are not those of the format; Q31 takes 24 and 32.
     #[error("{got} bits, where {wanted} are wanted")]
     Bits { got: u16, wanted: u16 },
     /// The file has another number of channels.

@@ -36,8 +36,8 @@ impl<T: LaneSample<L>, const L: usize> Fir<T, L> {
     ghost use Rattle.dsp_fir.specs.FirState.{StandsFor, new_fir};
 
     /// A filter that has taken nothing, from the taps in time-reversed order, `b[T-1]` to `b[0]`, for blocks of at most
-    /// `block` samples. `Length` where there are no taps or more than 4,096, then `Range` where the block is not in
-    /// 1..1,048,576, then `Memory`. No later call takes memory.
+    /// `block` samples. `Length` where there are no taps or more than `MAX_TAPS`, then `Range` where the block is not in
+    /// 1..`MAX_SAMPLES`, then `Memory`. No later call takes memory.
     pub fn new(alloc: Global, taps: &[T], block: usize) -> Result<Self, MakeFault>
         ensures made { IfOk result (λ f. f ≡ new_fir (map T.number taps.now) block) }
         ensures stands { IfOk result (λ f. StandsFor f []) }

@@ -42,9 +42,9 @@ impl<T: LaneSample<L>, const L: usize> Sparse<T, L> {
     ghost use Rattle.dsp_fir.specs.SparseState.{StandsFor, new_sparse, sparse_fault};
 
     /// A filter that has taken nothing, from the taps `b[0]` to `b[T-1]` and their delays in samples,
-    /// for blocks of at most `block` samples. `Length` where the taps are not 2..4,096 or the delays
-    /// not as many, then `Range` of the first delay over 65,535, `Range` where the block is not in
-    /// 1..1,048,576, then `Memory`. No later call takes memory.
+    /// for blocks of at most `block` samples. `Length` where the taps are not 2..`MAX_TAPS` or the delays
+    /// not as many, then `Range` of the first delay over `MAX_DELAY`, `Range` where the block is not in
+    /// 1..`MAX_SAMPLES`, then `Memory`. No later call takes memory.
     pub fn new(alloc: Global, taps: &[T], delays: &[u32], block: usize) -> Result<Self, MakeFault>
         ensures made { IfOk result (λ s. s ≡ new_sparse (map T.number taps.now) delays.now block) }
         ensures stands { IfOk result (λ s. StandsFor s []) }

@@ -11,10 +11,13 @@ use crate::pair_samples::is_narrow;
 use crate::pairs::Pairs;
 use crate::plain::Plain;
 use crate::rows::row_group;
-use dsp_defs::Steps;
+use dsp_defs::{MAX_TAPS, Steps};
 use dsp_sat::low_word;
 use std::simd::prelude::*;
 use std::sync::ledger::Ledger;
+
+/// Sums of two parts hold the products of as many taps as a filter may have.
+const _: () = prove!(MAX_TAPS < 0x8000);
 
 impl<const L: usize> LaneKernels<L> for i16 {
     type Sums = Simd<i64, L>;

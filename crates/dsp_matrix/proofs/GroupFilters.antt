@@ -16,6 +16,7 @@ use Rattle.dsp_stage.specs.Unit.{most_frames}
 use Rattle.dsp_stage.specs.Filter.{FilterStandsFor, FilterCounts, FilterFeeds, FilterFinishes, FilterRestores, IsNewFilter, of_channel, steady_filter}
 use Rattle.dsp_stage.proofs.ChannelKept.{words-placed, length-words, fit-words}
 use Rattle.dsp_stage.proofs.CostLaws.{quotient_more}
+use Rattle.dsp_defs.specs.declared.limits.TheConstants.{MAX_MATRIX_SIDE, MAX_SAMPLES}
 use Rattle.dsp_defs.specs.declared.format.Fmt.{Fmt}
 use Rattle.dsp_defs.specs.declared.script.Block.{Block}
 use Rattle.dsp_lanes.specs.Turns.{RisesWithin}
@@ -56,12 +57,12 @@ module _ (format : Fmt) (block : Block) (g : Group) (is : IsGrouped format block
       omega (arith, groups, more, enough)
 
   -- and few enough for a unit
-  pub room-few : (frames channels : ℕ) → frames * channels ≤ 1048576 → channels ≤ 255 → most_frames block frames * channels ≤ 1099511627776
+  pub room-few : (frames channels : ℕ) → frames * channels ≤ MAX_SAMPLES → channels ≤ 255 → most_frames block frames * channels ≤ 1099511627776
   room-few frames channels few all =
       let most = is.most frames in
       let groups : div_ceil frames g.taken ≤ frames + 1 = (let quotient = div-le_self frames g.taken in omega (arith, quotient)) in
-      let frames_given = mul-le (div_ceil frames g.taken) g.given (frames + 1) 4096 groups is.few_given in
-      let samples = mul-le (div_ceil frames g.taken * g.given) channels ((frames + 1) * 4096) channels frames_given (omega arith) in
+      let frames_given = mul-le (div_ceil frames g.taken) g.given (frames + 1) (MAX_MATRIX_SIDE * MAX_MATRIX_SIDE) groups is.few_given in
+      let samples = mul-le (div_ceil frames g.taken * g.given) channels ((frames + 1) * (MAX_MATRIX_SIDE * MAX_MATRIX_SIDE)) channels frames_given (omega arith) in
       let both : most_frames block frames * channels ≡ div_ceil frames g.taken * g.given * channels = ap (λ n. n * channels) most in
       omega (arith, both, samples, few, all)
 

@@ -16,7 +16,7 @@ use Rattle.dsp_defs.specs.declared.format.Fmt.TheVariants.{Q7, Q15, Q31}
 use Rattle.dsp_defs.specs.declared.script.Block.{Block}
 use Rattle.dsp_stage.specs.Channels.{numbers_in}
 use Rattle.dsp_stage.specs.Kept.{Each, IsPlace, IsOfKind, IsTaken, Fits, FitsAfter, HasPlace, kinds_by, kept_kinds, kept_numbers, extreme_kinds, limit_of}
-use Rattle.dsp_stage.specs.Unit.{UnitState, MadeAs, StandsFor, CountsFrames, Feeds, Restores, Accepts, IsNew, IsSignal, IsOutput, frames_in, most_frames}
+use Rattle.dsp_stage.specs.Unit.{UnitState, MadeAs, StandsFor, CountsFrames, Feeds, Restores, Accepts, IsNew, IsSignal, IsOutput, frames_in, most_frames, most_kept}
 use Rattle.dsp_defs.proofs.FrameLemmas.{length-frames_in}
 use Rattle.dsp_stage.proofs.ChannelKept.{kinds-place, each-length, pieces-same, pieces-each}
 use Rattle.dsp_measure.specs.Measures.{block_of, channels_of, parts_of, size_of, price_of, part_kept, AllCanTake, PartsFeed}
@@ -331,13 +331,13 @@ front-row size new rest e =
     take-append-le size new rest fits ∙ take_all size new full
 
 -- at most four numbers a channel
-pub few-kept : (m : MeasureBlock) (format : Fmt) (channels : ℕ) (kept : List ℤ) → channels_of m ≤ channels → channels < 256 → Fits format channels (block_of m) kept → length kept ≤ 1099511627776
+pub few-kept : (m : MeasureBlock) (format : Fmt) (channels : ℕ) (kept : List ℤ) → channels_of m ≤ channels → channels < 256 → Fits format channels (block_of m) kept → length kept ≤ most_kept
 few-kept m format channels kept enough few fits =
     let size : length kept ≡ parts_of m channels * size_of m = length-kept format channels m IsOfKind fits.0 kept fits.1.1 in
     let parts = (parts-few m channels enough).1 in
     by m size parts
   where
-    by : (k : MeasureBlock) → length kept ≡ parts_of k channels * size_of k → parts_of k channels ≤ channels → length kept ≤ 1099511627776
+    by : (k : MeasureBlock) → length kept ≡ parts_of k channels * size_of k → parts_of k channels ≤ channels → length kept ≤ most_kept
     by measure.Power size parts = omega (arith, size, few)
     by measure.Dot size parts = omega (arith, size, few)
     by measure.CmplxDot size parts = omega (arith, size, few)

@@ -42,7 +42,7 @@ impl<T: LaneSample<L> + WideSample, const L: usize> Decimate<T, L> {
 
     /// A decimator that has taken nothing, from its factor M and the taps in time-reversed order,
     /// `b[T-1]` to `b[0]`, for blocks of at most `block` samples. `Length` where the taps are not
-    /// 1..4,096, then `Range` where the factor is 0, `Range` where the block is not in 1..1,048,576,
+    /// 1..`MAX_TAPS`, then `Range` where the factor is 0, `Range` where the block is not in 1..`MAX_SAMPLES`,
     /// then `Memory`. No later call takes memory.
     pub fn new(alloc: Global, factor: u8, taps: &[T], block: usize) -> Result<Self, MakeFault>
         ensures made { IfOk result (λ d. d ≡ new_decimate factor (map T.number taps.now) block) }

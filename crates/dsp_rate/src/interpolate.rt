@@ -41,8 +41,8 @@ impl<T: LaneSample<L> + WideSample, const L: usize> Interpolate<T, L> {
 
     /// An interpolator that has taken nothing, from its factor and the taps in time-reversed order,
     /// `b[T-1]` to `b[0]`, for blocks of at most `block` samples. `Length` where the taps are not
-    /// 1..4,096 or no multiple of the factor, then `Range` where the factor is 0, `Range` where the
-    /// block is not in 1..1,048,576, then `Memory`. No later call takes memory.
+    /// 1..`MAX_TAPS` or no multiple of the factor, then `Range` where the factor is 0, `Range` where the
+    /// block is not in 1..`MAX_SAMPLES`, then `Memory`. No later call takes memory.
     pub fn new(alloc: Global, factor: u8, taps: &[T], block: usize) -> Result<Self, MakeFault>
         ensures made { IfOk result (λ f. f ≡ new_interpolate factor (map T.number taps.now) block) }
         ensures stands { IfOk result (λ f. StandsFor f []) }

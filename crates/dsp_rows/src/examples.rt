@@ -5,3 +5,4 @@ mod chains;
 mod files;
 mod headers;
 mod kept;
+mod scripts;

@@ -1,5 +1,5 @@
 -- Blocks: what is read is written so and fits, and what is written so and fits is read.
-use Rattle.std.proofs.Common.{◌≡◌, ◌≢◌, ℕ, zero, suc, ℤ, pos, negsuc, ◌+◌, ◌<◌, ◌≤◌, Bool, true, false, cond, ◌&&◌, ◌||◌, List, [], ◌∷◌, ◌++◌, length, Option, Some, None, Result, Ok, Err, refl, sym, ap, subst, ◌∙◌, append_assoc, arith, eqb, eq-eqb}
+use Rattle.std.proofs.Common.{◌≡◌, ◌≢◌, ℕ, zero, suc, ℤ, pos, negsuc, ◌+◌, ◌<◌, ◌≤◌, Bool, true, false, cond, ◌&&◌, ◌||◌, List, [], ◌∷◌, ◌++◌, length, Option, Some, None, Ok, refl, sym, ap, subst, ◌∙◌, append_assoc, arith, eqb, eq-eqb}
 use Rattle.std.specs.Prelude.{⊤, IfSome, codes}
 use Rattle.std.specs.Str.{bytes_eq}
 use Rattle.std.specs.List.{flat_map}
@@ -8,7 +8,6 @@ use Rattle.std.proofs.lemmas.Bool.{eqb-true}
 use Rattle.std.proofs.lemmas.Bool.Decides.{nat_tests}
 use Rattle.std.proofs.lemmas.List.Concat.{flat_map-cons}
 use Rattle.std.proofs.lemmas.Slice.Eq.{bytes_eq-Decides}
-use Rattle.dsp_defs.specs.declared.script_fault.ScriptFault.{ScriptFault}
 use Rattle.dsp_defs.specs.declared.format.Fmt.{Fmt}
 use Rattle.dsp_defs.specs.declared.script.Block.{Block}
 use Rattle.dsp_defs.specs.declared.script.Block.TheVariants as block
@@ -21,11 +20,12 @@ use Rattle.dsp_defs.specs.Table.{name_of, word_by_name, has_form, channels_wante
 use Rattle.dsp_defs.specs.Parameters.{Form, Done, Integer, Natural, Numbers, Conversion, IsBetween, IsWithin, Argument, Number, Listed, Format, Fits, routes}
 use Rattle.dsp_script.specs.Answers.{HasFewChannels}
 use Rattle.dsp_defs.specs.Grammar.{Symbol, Name, word_of, arguments, argument_symbols, block_symbols, IsChain, correlates}
-use Rattle.dsp_defs.specs.Places.{◌>>=◌, choice, number_at, natural_at, list_at, conversion_at}
+use Rattle.dsp_defs.specs.Places.{◌>>=◌, choice, number_at, natural_at, Environment, list_at, conversion_at}
+use Rattle.dsp_defs.specs.Tables.{Named}
 use Rattle.dsp_defs.specs.Reading.{block_at, Place, Output, Begin, place_of, fed, may_begin, allowed, next_block, next_block_at, blocks_at}
-use Rattle.dsp_script.proofs.Steps.{bind_ok, passed, written_name, one_taken, ok_is, pair, pair_is, Strips, Strips-split, Takes, Takes-then, next_takes, one_again, choice_run, word_named, number_takes, natural_takes, conversion_takes, number_read, natural_read, conversion_read}
+use Rattle.dsp_script.proofs.Steps.{bind_ok, passed, chosen, written_name, one_taken, ok_is, pair, pair_is, Strips, Strips-split, Takes, Takes-then, next_takes, one_again, choice_run, word_named, number_takes, natural_takes, conversion_takes, number_read, natural_read, conversion_read}
 use Rattle.dsp_script.proofs.Names.{place_again, place_again_output}
-use Rattle.dsp_script.proofs.ListLaws.{refused, list_takes, list_read}
+use Rattle.dsp_script.proofs.ListLaws.{refused, tables_in, list_takes, list_read}
 
 -- ---- what a form's arguments are
 
@@ -60,58 +60,58 @@ fits_conversion from next (Format f ∷ args) b h = (f, args, refl, h.0, h.1)
 
 -- ---- forms
 
-took : (args : List Argument) (a : Argument) (rest between after : Rest) → Takes rest between (argument_symbols a) → Takes between after (flat_map argument_symbols args) → Takes rest after (flat_map argument_symbols (a ∷ args))
-took args a rest between after first then = rw flat_map-cons (Takes-then rest between after (argument_symbols a) (flat_map argument_symbols args) first then)
+took : (environment : Environment) (args : List Argument) (a : Argument) (rest between after : Rest) → Takes (tables_in environment) rest between (argument_symbols a) → Takes (tables_in environment) between after (flat_map argument_symbols args) → Takes (tables_in environment) rest after (flat_map argument_symbols (a ∷ args))
+took environment args a rest between after first then = rw flat_map-cons (Takes-then (tables_in environment) rest between after (argument_symbols a) (flat_map argument_symbols args) first then)
 
-pub form_takes : (form : Form) (rest after : Rest) (b : Block) → block_at form rest ≡ Ok (b, after) → (args : List Argument) × Takes rest after (flat_map argument_symbols args) × Fits form args b
+pub form_takes : (environment : Environment) (form : Form) (rest after : Rest) (b : Block) → block_at environment form rest ≡ Ok (b, after) → (args : List Argument) × Takes (tables_in environment) rest after (flat_map argument_symbols args) × Fits form args b
 unfolding block_at
-form_takes (Done made) rest after b e = let p = pair_is made b rest after e in ([], record { strips = ap (λ (r : Rest). r.items) p.1; end = ap (λ (r : Rest). r.end) p.1 }, p.0)
-form_takes (Integer low high next) rest after b e =
+form_takes environment (Done made) rest after b e = let p = pair_is made b rest after e in ([], record { strips = ap (λ (r : Rest). r.items) p.1; end = ap (λ (r : Rest). r.end) p.1 }, p.0)
+form_takes environment (Integer low high next) rest after b e =
     let a = bind_ok (number_at low high rest) _ (b, after) e in
-    let t = number_takes low high rest a.0.1 a.0.0 a.1 in
-    let more = form_takes (next a.0.0) a.0.1 after b a.2 in
-    (Number a.0.0 ∷ more.0, took more.0 (Number a.0.0) rest a.0.1 after t.0 more.1, (t.1, more.2))
-form_takes (Natural low high next) rest after b e =
+    let t = number_takes (tables_in environment) low high rest a.0.1 a.0.0 a.1 in
+    let more = form_takes environment (next a.0.0) a.0.1 after b a.2 in
+    (Number a.0.0 ∷ more.0, took environment more.0 (Number a.0.0) rest a.0.1 after t.0 more.1, (t.1, more.2))
+form_takes environment (Natural low high next) rest after b e =
     let a = bind_ok (natural_at low high rest) _ (b, after) e in
-    let t = natural_takes low high rest a.0.1 a.0.0 a.1 in
-    let more = form_takes (next a.0.0) a.0.1 after b a.2 in
-    (Number (pos a.0.0) ∷ more.0, took more.0 (Number (pos a.0.0)) rest a.0.1 after t.0 more.1, (t.1, t.2, more.2))
-form_takes (Numbers rule next) rest after b e =
-    let a = bind_ok (list_at rule rest) _ (b, after) e in
-    let t = list_takes rule rest a.0.1 a.0.0 a.1 in
-    let more = form_takes (next a.0.0) a.0.1 after b a.2 in
-    (Listed a.0.0 ∷ more.0, took more.0 (Listed a.0.0) rest a.0.1 after t.0 more.1, (t.1, more.2))
-form_takes (Conversion from next) rest after b e =
+    let t = natural_takes (tables_in environment) low high rest a.0.1 a.0.0 a.1 in
+    let more = form_takes environment (next a.0.0) a.0.1 after b a.2 in
+    (Number (pos a.0.0) ∷ more.0, took environment more.0 (Number (pos a.0.0)) rest a.0.1 after t.0 more.1, (t.1, t.2, more.2))
+form_takes environment (Numbers rule next) rest after b e =
+    let a = bind_ok (list_at environment rule rest) _ (b, after) e in
+    let t = list_takes environment rule rest a.0.1 a.0.0 a.1 in
+    let more = form_takes environment (next a.0.0) a.0.1 after b a.2 in
+    (Listed a.0.0 ∷ more.0, took environment more.0 (Listed a.0.0) rest a.0.1 after t.0 more.1, (t.1, more.2))
+form_takes environment (Conversion from next) rest after b e =
     let a = bind_ok (conversion_at from rest) _ (b, after) e in
-    let t = conversion_takes from rest a.0.1 a.0.0 a.1 in
-    let more = form_takes (next a.0.0) a.0.1 after b a.2 in
-    (Format a.0.0 ∷ more.0, took more.0 (Format a.0.0) rest a.0.1 after t.0 more.1, (t.1, more.2))
+    let t = conversion_takes (tables_in environment) from rest a.0.1 a.0.0 a.1 in
+    let more = form_takes environment (next a.0.0) a.0.1 after b a.2 in
+    (Format a.0.0 ∷ more.0, took environment more.0 (Format a.0.0) rest a.0.1 after t.0 more.1, (t.1, more.2))
 
-parts : (args more : List Argument) (a : Argument) (items left : List Item) → args ≡ a ∷ more → Strips items (flat_map argument_symbols args) left → (between : List Item) × Strips items (argument_symbols a) between × Strips between (flat_map argument_symbols more) left
-parts args more a items left e h = Strips-split items (argument_symbols a) (flat_map argument_symbols more) left (rw (e, flat_map-cons) at h)
+parts : (environment : Environment) (args more : List Argument) (a : Argument) (items left : List Item) → args ≡ a ∷ more → Strips (tables_in environment) items (flat_map argument_symbols args) left → (between : List Item) × Strips (tables_in environment) items (argument_symbols a) between × Strips (tables_in environment) between (flat_map argument_symbols more) left
+parts environment args more a items left e h = Strips-split (tables_in environment) items (argument_symbols a) (flat_map argument_symbols more) left (rw (e, flat_map-cons) at h)
 
-pub form_read : (form : Form) (args : List Argument) (b : Block) (items left : List Item) (end : ℕ) → Fits form args b → Strips items (flat_map argument_symbols args) left → block_at form (record { items = items; end = end }) ≡ Ok (b, record { items = left; end = end })
+pub form_read : (environment : Environment) (form : Form) (args : List Argument) (b : Block) (items left : List Item) (end : ℕ) → Fits form args b → Strips (tables_in environment) items (flat_map argument_symbols args) left → block_at environment form (record { items = items; end = end }) ≡ Ok (b, record { items = left; end = end })
 unfolding block_at
-form_read (Done made) args b items left end fits h =
+form_read environment (Done made) args b items left end fits h =
     let d = fits_done made args b fits in
     let same : items ≡ left = rw d.0 at h in
     rw (d.1, same) refl
-form_read (Integer low high next) args b items left end fits h =
+form_read environment (Integer low high next) args b items left end fits h =
     let f = fits_integer low high next args b fits in
-    let s = parts args f.1 (Number f.0) items left f.2 h in
-    rw (number_read low high f.0 items s.0 end f.3 s.1) (form_read (next f.0) f.1 b s.0 left end f.4 s.2)
-form_read (Natural low high next) args b items left end fits h =
+    let s = parts environment args f.1 (Number f.0) items left f.2 h in
+    rw (number_read (tables_in environment) low high f.0 items s.0 end f.3 s.1) (form_read environment (next f.0) f.1 b s.0 left end f.4 s.2)
+form_read environment (Natural low high next) args b items left end fits h =
     let f = fits_natural low high next args b fits in
-    let s = parts args f.1 (Number (pos f.0)) items left f.2 h in
-    rw (natural_read low high f.0 items s.0 end f.3 f.4 s.1) (form_read (next f.0) f.1 b s.0 left end f.5 s.2)
-form_read (Numbers rule next) args b items left end fits h =
+    let s = parts environment args f.1 (Number (pos f.0)) items left f.2 h in
+    rw (natural_read (tables_in environment) low high f.0 items s.0 end f.3 f.4 s.1) (form_read environment (next f.0) f.1 b s.0 left end f.5 s.2)
+form_read environment (Numbers rule next) args b items left end fits h =
     let f = fits_numbers rule next args b fits in
-    let s = parts args f.1 (Listed f.0) items left f.2 h in
-    rw (list_read rule f.0 items s.0 end f.3 s.1) (form_read (next f.0) f.1 b s.0 left end f.4 s.2)
-form_read (Conversion from next) args b items left end fits h =
+    let s = parts environment args f.1 (Listed f.0) items left f.2 h in
+    rw (list_read environment rule f.0 items s.0 end f.3 s.1) (form_read environment (next f.0) f.1 b s.0 left end f.4 s.2)
+form_read environment (Conversion from next) args b items left end fits h =
     let f = fits_conversion from next args b fits in
-    let s = parts args f.1 (Format f.0) items left f.2 h in
-    rw (conversion_read from f.0 items s.0 end f.3 s.1) (form_read (next f.0) f.1 b s.0 left end f.4 s.2)
+    let s = parts environment args f.1 (Format f.0) items left f.2 h in
+    rw (conversion_read (tables_in environment) from f.0 items s.0 end f.3 s.1) (form_read environment (next f.0) f.1 b s.0 left end f.4 s.2)
 
 -- ---- the rows: a block's arguments are those that made it
 
@@ -190,15 +190,10 @@ few w flow args (block.Route channels) is fits =
 few w flow args b is fits = tt
 
 -- a block that was read gives up to 16 channels
-pub few_channels : (w : Word) (flow : Flow) (rest after : Rest) (b : Block) → block_at (parameters w flow) rest ≡ Ok (b, after) → HasFewChannels b
-few_channels w flow rest after b e =
-    let f = form_takes (parameters w flow) rest after b e in
+pub few_channels : (environment : Environment) (w : Word) (flow : Flow) (rest after : Rest) (b : Block) → block_at environment (parameters w flow) rest ≡ Ok (b, after) → HasFewChannels b
+few_channels environment w flow rest after b e =
+    let f = form_takes environment (parameters w flow) rest after b e in
     few w flow f.0 b (made w flow f.0 b f.2).0 f.2
-
--- a test that chose the first
-chosen : {A : Type 0} (b : Bool) (r : Result A ScriptFault) (d : ScriptFault) (y : A) → cond b r (Err d) ≡ Ok y → (b ≡ true) × (r ≡ Ok y)
-chosen true r d y e = (refl, e)
-chosen false r d y e = absurd cc
 
 -- ---- a block's word
 
@@ -248,31 +243,31 @@ place_word run w e = tested (bytes_eq run (codes "output")) (word_by_name run) r
     tested false (Some v) h e = let same : v ≡ w = cc in word_named run w (h ∙ ap Some same)
 
 -- the next block's word, or the output's, was taken
-pub data NextIs (left : ℕ) (correlated : Bool) (flow : Flow) (rest after : Rest) : Option Word → Type 0 where
-  AtOutput : Takes rest after (Name (codes "output") ∷ []) → NextIs left correlated flow rest after None
-  AtBlock : (w : Word) → Takes rest after (Name (name_of w) ∷ []) → IsAllowed left correlated flow w → NextIs left correlated flow rest after (Some w)
+pub data NextIs (tables : List Named) (left : ℕ) (correlated : Bool) (flow : Flow) (rest after : Rest) : Option Word → Type 0 where
+  AtOutput : Takes tables rest after (Name (codes "output") ∷ []) → NextIs tables left correlated flow rest after None
+  AtBlock : (w : Word) → Takes tables rest after (Name (name_of w) ∷ []) → IsAllowed left correlated flow w → NextIs tables left correlated flow rest after (Some w)
 
-pub next_block_takes : (left : ℕ) (correlated : Bool) (flow : Flow) (rest after : Rest) (next : Option Word) → next_block_at left correlated flow rest ≡ Ok (next, after) → NextIs left correlated flow rest after next
+pub next_block_takes : (tables : List Named) (left : ℕ) (correlated : Bool) (flow : Flow) (rest after : Rest) (next : Option Word) → next_block_at left correlated flow rest ≡ Ok (next, after) → NextIs tables left correlated flow rest after next
 unfolding next_block_at
-next_block_takes left correlated flow rest after next e =
+next_block_takes tables left correlated flow rest after next e =
     let n = next_takes (next_block left correlated flow) rest after next e in
     let b = bind_ok (choice place_of n.0.offset n.0.token) _ next n.3 in
     let run = choice_run place_of n.0.offset n.0.token b.0 b.1 in
     placed b.0 n.0 n.1 n.2 run.0 run.1 run.2 b.2
   where
-    placed : (place : Place) (item : Item) → rest.items ≡ item ∷ after.items → rest.end ≡ after.end → (run : List ℕ) → item.token ≡ Run run → place_of run ≡ Some place → allowed left correlated flow item.offset place ≡ Ok next → NextIs left correlated flow rest after next
-    placed Output item e end run is p h = rw (← ok_is None next h) (AtOutput (one_taken rest after item (Name (codes "output")) e end (rw is (place_output run p))))
+    placed : (place : Place) (item : Item) → rest.items ≡ item ∷ after.items → rest.end ≡ after.end → (run : List ℕ) → item.token ≡ Run run → place_of run ≡ Some place → allowed left correlated flow item.offset place ≡ Ok next → NextIs tables left correlated flow rest after next
+    placed Output item e end run is p h = rw (← ok_is None next h) (AtOutput (one_taken tables rest after item (Name (codes "output")) tt e end (rw is (place_output run p))))
     placed (Begin w) item e end run is p h =
         let a = bind_ok (may_begin left correlated flow item.offset w) _ next h in
-        rw (← ok_is (Some w) next a.2) (AtBlock w (one_taken rest after item (Name (name_of w)) e end (rw is (place_word run w p))) (may_begin_is left correlated flow item.offset w a.0 a.1))
+        rw (← ok_is (Some w) next a.2) (AtBlock w (one_taken tables rest after item (Name (name_of w)) tt e end (rw is (place_word run w p))) (may_begin_is left correlated flow item.offset w a.0 a.1))
 
-output_read : (left : ℕ) (correlated : Bool) (flow : Flow) (items after : List Item) (end : ℕ) → Strips items (Name (codes "output") ∷ []) after → next_block_at left correlated flow (record { items = items; end = end }) ≡ Ok (None, record { items = after; end = end })
+output_read : (tables : List Named) (left : ℕ) (correlated : Bool) (flow : Flow) (items after : List Item) (end : ℕ) → Strips tables items (Name (codes "output") ∷ []) after → next_block_at left correlated flow (record { items = items; end = end }) ≡ Ok (None, record { items = after; end = end })
 unfolding next_block_at
-output_read left correlated flow items after end h = one_again (next_block left correlated flow) None (Name (codes "output")) items after end h (λ item w. let e = written_name item.token (codes "output") w in (rw e tt, rw (e, place_again_output) refl))
+output_read tables left correlated flow items after end h = one_again tables (next_block left correlated flow) None (Name (codes "output")) items after end tt h (λ item w. let e = written_name tables item.token (codes "output") w in (rw e tt, rw (e, place_again_output) refl))
 
-word_of_block_read : (left : ℕ) (correlated : Bool) (flow : Flow) (w : Word) (items after : List Item) (end : ℕ) → IsAllowed left correlated flow w → Strips items (Name (name_of w) ∷ []) after → next_block_at left correlated flow (record { items = items; end = end }) ≡ Ok (Some w, record { items = after; end = end })
+word_of_block_read : (tables : List Named) (left : ℕ) (correlated : Bool) (flow : Flow) (w : Word) (items after : List Item) (end : ℕ) → IsAllowed left correlated flow w → Strips tables items (Name (name_of w) ∷ []) after → next_block_at left correlated flow (record { items = items; end = end }) ≡ Ok (Some w, record { items = after; end = end })
 unfolding next_block_at
-word_of_block_read left correlated flow w items after end a h = one_again (next_block left correlated flow) (Some w) (Name (name_of w)) items after end h (λ item is. let e = written_name item.token (name_of w) is in (rw e tt, rw (e, place_again w, may_begin_again left correlated flow item.offset w a) refl))
+word_of_block_read tables left correlated flow w items after end a h = one_again tables (next_block left correlated flow) (Some w) (Name (name_of w)) items after end tt h (λ item is. let e = written_name tables item.token (name_of w) is in (rw e tt, rw (e, place_again w, may_begin_again left correlated flow item.offset w a) refl))
 
 -- ---- blocks
 
@@ -280,8 +275,8 @@ abbrev pub one_if : Bool → ℕ
 one_if b = cond b 1 0
 
 -- the blocks that were read, up to the output
-pub record IsBlocks (left : ℕ) (correlated : Bool) (flow : Flow) (rest after : Rest) (blocks : List Block) : Type 0 where
-  pub takes : Takes rest after (flat_map block_symbols blocks ++ Name (codes "output") ∷ [])
+pub record IsBlocks (environment : Environment) (left : ℕ) (correlated : Bool) (flow : Flow) (rest after : Rest) (blocks : List Block) : Type 0 where
+  pub takes : Takes (tables_in environment) rest after (flat_map block_symbols blocks ++ Name (codes "output") ∷ [])
   pub few : length blocks ≤ left
   pub once : correlates blocks + one_if correlated ≤ 1
   pub chain : IsChain flow blocks
@@ -302,64 +297,64 @@ once_at_end : (b : Bool) → 0 + one_if b ≤ 1
 once_at_end true = omega arith
 once_at_end false = omega arith
 
-blocks_end : (left : ℕ) (correlated : Bool) (flow : Flow) (rest after : Rest) → Takes rest after (Name (codes "output") ∷ []) → IsBlocks left correlated flow rest after []
-blocks_end left correlated flow rest after t = record { takes = t; few = omega arith; once = once_at_end correlated; chain = tt }
+blocks_end : (environment : Environment) (left : ℕ) (correlated : Bool) (flow : Flow) (rest after : Rest) → Takes (tables_in environment) rest after (Name (codes "output") ∷ []) → IsBlocks environment left correlated flow rest after []
+blocks_end environment left correlated flow rest after t = record { takes = t; few = omega arith; once = once_at_end correlated; chain = tt }
 
-blocks_more : (left : ℕ) (correlated : Bool) (flow : Flow) (rest r1 r2 after : Rest) (w : Word) (args : List Argument) (b : Block) (blocks : List Block) → Takes rest r1 (Name (name_of w) ∷ []) → IsAllowed (suc left) correlated flow w
-    → Takes r1 r2 (flat_map argument_symbols args) → Fits (parameters w flow) args b → IsBlocks left (correlated || is_correlate w) (flow_after b flow) r2 after blocks → IsBlocks (suc left) correlated flow rest after (b ∷ blocks)
-blocks_more left correlated flow rest r1 r2 after w args b blocks first a then fits more =
+blocks_more : (environment : Environment) (left : ℕ) (correlated : Bool) (flow : Flow) (rest r1 r2 after : Rest) (w : Word) (args : List Argument) (b : Block) (blocks : List Block) → Takes (tables_in environment) rest r1 (Name (name_of w) ∷ []) → IsAllowed (suc left) correlated flow w
+    → Takes (tables_in environment) r1 r2 (flat_map argument_symbols args) → Fits (parameters w flow) args b → IsBlocks environment left (correlated || is_correlate w) (flow_after b flow) r2 after blocks → IsBlocks environment (suc left) correlated flow rest after (b ∷ blocks)
+blocks_more environment left correlated flow rest r1 r2 after w args b blocks first a then fits more =
     let m = made w flow args b fits in
     let block-is : block_symbols b ≡ Name (name_of w) ∷ flat_map argument_symbols args = rw (m.0, m.1) refl in
-    let both = Takes-then rest r2 after (Name (name_of w) ∷ flat_map argument_symbols args) (flat_map block_symbols blocks ++ Name (codes "output") ∷ []) (Takes-then rest r1 r2 (Name (name_of w) ∷ []) (flat_map argument_symbols args) first then) more.takes in
+    let both = Takes-then (tables_in environment) rest r2 after (Name (name_of w) ∷ flat_map argument_symbols args) (flat_map block_symbols blocks ++ Name (codes "output") ∷ []) (Takes-then (tables_in environment) rest r1 r2 (Name (name_of w) ∷ []) (flat_map argument_symbols args) first then) more.takes in
     let regrouped : flat_map block_symbols (b ∷ blocks) ++ Name (codes "output") ∷ [] ≡ (Name (name_of w) ∷ flat_map argument_symbols args) ++ (flat_map block_symbols blocks ++ Name (codes "output") ∷ []) = ap (λ (x : List Symbol). x ++ Name (codes "output") ∷ []) (flat_map-cons block_symbols b blocks ∙ ap (λ (x : List Symbol). x ++ flat_map block_symbols blocks) block-is) ∙ append_assoc (Name (name_of w) ∷ flat_map argument_symbols args) (flat_map block_symbols blocks) (Name (codes "output") ∷ []) in
     record {
-      takes = subst (Takes rest after) (sym regrouped) both;
+      takes = subst (Takes (tables_in environment) rest after) (sym regrouped) both;
       few = omega (arith, more.few);
       once = rw m.0 (once_more (correlates blocks) correlated (is_correlate w) a.once more.once);
       chain = (record { form = rw m.0 a.form; channels = rw m.0 a.channels; parameters = rw (m.0, m.1) fits }, more.chain);
     }
 
-pub blocks_take : (left : ℕ) (correlated : Bool) (flow : Flow) (rest after : Rest) (blocks : List Block) → blocks_at left correlated flow rest ≡ Ok (blocks, after) → IsBlocks left correlated flow rest after blocks
+pub blocks_take : (environment : Environment) (left : ℕ) (correlated : Bool) (flow : Flow) (rest after : Rest) (blocks : List Block) → blocks_at environment left correlated flow rest ≡ Ok (blocks, after) → IsBlocks environment left correlated flow rest after blocks
 unfolding blocks_at
-blocks_take zero correlated flow rest after blocks e =
+blocks_take environment zero correlated flow rest after blocks e =
     let n = bind_ok (next_block_at 0 correlated flow rest) _ (blocks, after) e in
     let p = pair_is [] blocks n.0.1 after n.2 in
-    rw (← p.0, ← p.1) (last n.0.0 n.0.1 (next_block_takes 0 correlated flow rest n.0.1 n.0.0 n.1))
+    rw (← p.0, ← p.1) (last n.0.0 n.0.1 (next_block_takes (tables_in environment) 0 correlated flow rest n.0.1 n.0.0 n.1))
   where
-    last : (next : Option Word) (r : Rest) → NextIs 0 correlated flow rest r next → IsBlocks 0 correlated flow rest r []
-    last None r (AtOutput t) = blocks_end 0 correlated flow rest r t
+    last : (next : Option Word) (r : Rest) → NextIs (tables_in environment) 0 correlated flow rest r next → IsBlocks environment 0 correlated flow rest r []
+    last None r (AtOutput t) = blocks_end environment 0 correlated flow rest r t
     last (Some v) r (AtBlock w t a) = absurd (omega (arith, a.some))
-blocks_take (suc left) correlated flow rest after blocks e =
+blocks_take environment (suc left) correlated flow rest after blocks e =
     let n = bind_ok (next_block_at (suc left) correlated flow rest) _ (blocks, after) e in
-    cases n.0.0 n.0.1 (next_block_takes (suc left) correlated flow rest n.0.1 n.0.0 n.1) n.2 (blocks_take left)
+    cases n.0.0 n.0.1 (next_block_takes (tables_in environment) (suc left) correlated flow rest n.0.1 n.0.0 n.1) n.2 (blocks_take environment left)
   where
-    cases : (next : Option Word) (r : Rest) → NextIs (suc left) correlated flow rest r next
-        → elim next [ None ↦ Ok ([], r) | Some w ↦ (block_at (parameters w flow) r >>= λ b. blocks_at left (correlated || is_correlate w) (flow_after b.0 flow) b.1 >>= λ more. Ok (b.0 ∷ more.0, more.1)) ] ≡ pair blocks after
-        → ((c : Bool) (f : Flow) (from to : Rest) (bs : List Block) → blocks_at left c f from ≡ Ok (bs, to) → IsBlocks left c f from to bs) → IsBlocks (suc left) correlated flow rest after blocks
-    cases None r (AtOutput t) h later = let p = pair_is [] blocks r after h in rw (← p.0, ← p.1) (blocks_end (suc left) correlated flow rest r t)
+    cases : (next : Option Word) (r : Rest) → NextIs (tables_in environment) (suc left) correlated flow rest r next
+        → elim next [ None ↦ Ok ([], r) | Some w ↦ (block_at environment (parameters w flow) r >>= λ b. blocks_at environment left (correlated || is_correlate w) (flow_after b.0 flow) b.1 >>= λ more. Ok (b.0 ∷ more.0, more.1)) ] ≡ pair blocks after
+        → ((c : Bool) (f : Flow) (from to : Rest) (bs : List Block) → blocks_at environment left c f from ≡ Ok (bs, to) → IsBlocks environment left c f from to bs) → IsBlocks environment (suc left) correlated flow rest after blocks
+    cases None r (AtOutput t) h later = let p = pair_is [] blocks r after h in rw (← p.0, ← p.1) (blocks_end environment (suc left) correlated flow rest r t)
     cases (Some v) r (AtBlock w t a) h later =
-        let b = bind_ok (block_at (parameters w flow) r) _ (blocks, after) h in
-        let m = bind_ok (blocks_at left (correlated || is_correlate w) (flow_after b.0.0 flow) b.0.1) _ (blocks, after) b.2 in
+        let b = bind_ok (block_at environment (parameters w flow) r) _ (blocks, after) h in
+        let m = bind_ok (blocks_at environment left (correlated || is_correlate w) (flow_after b.0.0 flow) b.0.1) _ (blocks, after) b.2 in
         let p = pair_is (b.0.0 ∷ m.0.0) blocks m.0.1 after m.2 in
-        let f = form_takes (parameters w flow) r b.0.1 b.0.0 b.1 in
-        let read : blocks_at left (correlated || is_correlate w) (flow_after b.0.0 flow) b.0.1 ≡ pair m.0.0 after = m.1 ∙ ap (pair m.0.0) p.1 in
+        let f = form_takes environment (parameters w flow) r b.0.1 b.0.0 b.1 in
+        let read : blocks_at environment left (correlated || is_correlate w) (flow_after b.0.0 flow) b.0.1 ≡ pair m.0.0 after = m.1 ∙ ap (pair m.0.0) p.1 in
         let more = later (correlated || is_correlate w) (flow_after b.0.0 flow) b.0.1 after m.0.0 read in
-        rw (← p.0) (blocks_more left correlated flow rest r b.0.1 after w f.0 b.0.0 m.0.0 t a f.1 f.2 more)
+        rw (← p.0) (blocks_more environment left correlated flow rest r b.0.1 after w f.0 b.0.0 m.0.0 t a f.1 f.2 more)
 
-pub blocks_read : (left : ℕ) (correlated : Bool) (flow : Flow) (blocks : List Block) (items after : List Item) (end : ℕ) → Strips items (flat_map block_symbols blocks ++ Name (codes "output") ∷ []) after
-    → length blocks ≤ left → correlates blocks + one_if correlated ≤ 1 → IsChain flow blocks → blocks_at left correlated flow (record { items = items; end = end }) ≡ Ok (blocks, record { items = after; end = end })
+pub blocks_read : (environment : Environment) (left : ℕ) (correlated : Bool) (flow : Flow) (blocks : List Block) (items after : List Item) (end : ℕ) → Strips (tables_in environment) items (flat_map block_symbols blocks ++ Name (codes "output") ∷ []) after
+    → length blocks ≤ left → correlates blocks + one_if correlated ≤ 1 → IsChain flow blocks → blocks_at environment left correlated flow (record { items = items; end = end }) ≡ Ok (blocks, record { items = after; end = end })
 unfolding blocks_at
-blocks_read zero correlated flow [] items after end h few once chain = rw (output_read 0 correlated flow items after end h) refl
-blocks_read (suc left) correlated flow [] items after end h few once chain = rw (output_read (suc left) correlated flow items after end h) refl
-blocks_read zero correlated flow (b ∷ blocks) items after end h few once chain = absurd (omega arith)
-blocks_read (suc left) correlated flow (b ∷ blocks) items after end h few once chain =
+blocks_read environment zero correlated flow [] items after end h few once chain = rw (output_read (tables_in environment) 0 correlated flow items after end h) refl
+blocks_read environment (suc left) correlated flow [] items after end h few once chain = rw (output_read (tables_in environment) (suc left) correlated flow items after end h) refl
+blocks_read environment zero correlated flow (b ∷ blocks) items after end h few once chain = absurd (omega arith)
+blocks_read environment (suc left) correlated flow (b ∷ blocks) items after end h few once chain =
     let o = once_less (correlates blocks) correlated (is_correlate (word_of b)) once in
     let regrouped : flat_map block_symbols (b ∷ blocks) ++ Name (codes "output") ∷ [] ≡ (Name (name_of (word_of b)) ∷ []) ++ (flat_map argument_symbols (arguments b) ++ (flat_map block_symbols blocks ++ Name (codes "output") ∷ [])) = ap (λ (x : List Symbol). x ++ Name (codes "output") ∷ []) (flat_map-cons block_symbols b blocks) ∙ append_assoc (block_symbols b) (flat_map block_symbols blocks) (Name (codes "output") ∷ []) in
-    let first = Strips-split items (Name (name_of (word_of b)) ∷ []) (flat_map argument_symbols (arguments b) ++ (flat_map block_symbols blocks ++ Name (codes "output") ∷ [])) after (subst (λ (x : List Symbol). Strips items x after) regrouped h) in
-    let then = Strips-split first.0 (flat_map argument_symbols (arguments b)) (flat_map block_symbols blocks ++ Name (codes "output") ∷ []) after first.2 in
+    let first = Strips-split (tables_in environment) items (Name (name_of (word_of b)) ∷ []) (flat_map argument_symbols (arguments b) ++ (flat_map block_symbols blocks ++ Name (codes "output") ∷ [])) after (subst (λ (x : List Symbol). Strips (tables_in environment) items x after) regrouped h) in
+    let then = Strips-split (tables_in environment) first.0 (flat_map argument_symbols (arguments b)) (flat_map block_symbols blocks ++ Name (codes "output") ∷ []) after first.2 in
     let allowed : IsAllowed (suc left) correlated flow (word_of b) = record { some = omega arith; once = o.0; form = chain.0.form; channels = chain.0.channels } in
     rw (
-      word_of_block_read (suc left) correlated flow (word_of b) items first.0 end allowed first.1,
-      form_read (parameters (word_of b) flow) (arguments b) b first.0 then.0 end chain.0.parameters then.1,
-      blocks_read left (correlated || is_correlate (word_of b)) (flow_after b flow) blocks then.0 after end then.2 (omega arith) o.1 chain.1,
+      word_of_block_read (tables_in environment) (suc left) correlated flow (word_of b) items first.0 end allowed first.1,
+      form_read environment (parameters (word_of b) flow) (arguments b) b first.0 then.0 end chain.0.parameters then.1,
+      blocks_read environment left (correlated || is_correlate (word_of b)) (flow_after b flow) blocks then.0 after end then.2 (omega arith) o.1 chain.1,
     ) refl

@@ -1,6 +1,6 @@
 -- The canonical text is read back.
-use Rattle.std.proofs.Common.{◌≡◌, ℕ, zero, suc, ℤ, pos, ◌+◌, ◌^◌, ◌<◌, ◌≤◌, Bool, true, false, cond, ◌&&◌, eqb, List, [], ◌∷◌, ◌++◌, length, map, get_or, drop, Option, Some, None, refl, sym, ap, subst, ◌∙◌, append_assoc, arith}
-use Rattle.std.specs.Prelude.{codes, nat_le}
+use Rattle.std.proofs.Common.{◌≡◌, ℕ, zero, suc, ℤ, pos, negsuc, ◌+◌, ◌^◌, ◌<◌, ◌≤◌, Bool, true, false, cond, ◌&&◌, eqb, List, [], ◌∷◌, ◌++◌, length, map, get_or, drop, Option, Some, None, refl, sym, ap, subst, ◌∙◌, append_assoc, arith}
+use Rattle.std.specs.Prelude.{codes, nat_le, find}
 use Rattle.std.specs.Char.{is_ascii_digit}
 use Rattle.std.specs.Fmt.{decimal, signed_decimal}
 use Rattle.std.specs.List.{AllByRecursion, flat_map, join_by, list_all}
@@ -22,8 +22,12 @@ use Rattle.dsp_defs.specs.declared.script.Script.{Script}
 use Rattle.dsp_defs.specs.Token.{Token, Open, Close, Run, Bad, Item, items, items_from, is_run_byte}
 use Rattle.dsp_defs.specs.Numeral.{natural_of, value_of}
 use Rattle.dsp_defs.specs.Table.{name_of, format_name, container_name}
-use Rattle.dsp_defs.specs.Parameters.{Argument, Number, Listed, Format}
-use Rattle.dsp_defs.specs.Grammar.{Symbol, Name, Numeral, OpenBrace, CloseBrace, IsWritten, Spells, word_of, arguments, argument_symbols, block_symbols, input_symbols, length_symbols, symbols, Reads, IsSound, container_of, rate_symbols, output_symbols}
+use Rattle.dsp_defs.specs.Parameters.{Argument, Number, Listed, Format, IsBetween, least, greatest}
+use Rattle.dsp_defs.specs.Tables.{Named, numbers_of, AreTables}
+use Rattle.dsp_defs.specs.declared.format.Fmt.TheVariants.{Q31}
+use Rattle.std.proofs.lemmas.Int.{ints}
+use Rattle.std.specs.Str.{bytes_eq}
+use Rattle.dsp_defs.specs.Grammar.{Symbol, Name, Numeral, OpenBrace, CloseBrace, Whole, IsWritten, unwritten, Spells, front_symbols, table_symbols, chain_symbols, word_of, arguments, argument_symbols, block_symbols, input_symbols, length_symbols, symbols, Reads, IsSound, container_of, rate_symbols, output_symbols}
 use Rattle.dsp_defs.specs.Canon.{line, argument_text, arguments_text, block_line, input_line, length_line, canon, rate_text, output_line}
 use Rattle.dsp_script.proofs.Tokens.{EndsRun, run_begins}
 use Rattle.dsp_script.proofs.Steps.{both_true}
@@ -33,9 +37,9 @@ use Rattle.dsp_script.proofs.Numerals.{in_range}
 -- ---- numerals
 
 -- the number has a numeral, and the decimal text is one
-record IsNumeralOf (n : ℤ) : Type 0 where
-  run : IsRun (signed_decimal n)
-  value : value_of (signed_decimal n) ≡ Some n
+pub record IsNumeralOf (n : ℤ) : Type 0 where
+  pub run : IsRun (signed_decimal n)
+  pub value : value_of (signed_decimal n) ≡ Some n
 
 digits_all : (ds : List ℕ) → AllDigits 10 ds → list_all is_ascii_digit ds ≡ true
 digits_all [] h = refl
@@ -100,7 +104,7 @@ numeral_again run n e = tested (eqb (get_or run 0 0) 45) (natural_of (drop 1 run
 
 -- whatever place it stands at, the text has tokens that are written as the symbols
 abbrev Lexes : List ℕ → List Symbol → Type 0
-Lexes text symbols = (at : ℕ) → Spells (items_from false at text) symbols
+Lexes text symbols = (at : ℕ) → Spells [] (items_from false at text) symbols
 
 -- the same, behind a run
 record Follows (text : List ℕ) (symbols : List Symbol) : Type 0 where
@@ -119,9 +123,9 @@ after_space : (text : List ℕ) (symbols : List Symbol) → Lexes text symbols �
 unfolding items_from
 after_space text symbols h = record { ends = refl; lexes = λ at. h (at + 1) }
 
-after_open : (text : List ℕ) (symbols : List Symbol) → Lexes text symbols → Follows (123 ∷ text) (OpenBrace ∷ symbols)
+after_open : (numbers : List ℤ) (text : List ℕ) (symbols : List Symbol) → Lexes text ((map Numeral numbers ++ CloseBrace ∷ []) ++ symbols) → Follows (123 ∷ text) (Whole numbers ∷ symbols)
 unfolding items_from
-after_open text symbols h = record { ends = refl; lexes = λ at. (tt, h (at + 1)) }
+after_open numbers text symbols h = record { ends = refl; lexes = λ at. (tt, h (at + 1)) }
 
 after_close : (text : List ℕ) (symbols : List Symbol) → Lexes text symbols → Follows (125 ∷ text) (CloseBrace ∷ symbols)
 unfolding items_from
@@ -131,50 +135,95 @@ all_run : (run : List ℕ) → list_all is_run_byte run ≡ true → AllByRecurs
 all_run [] h = tt
 all_run (b ∷ run) h = let t = both_true (is_run_byte b) (list_all is_run_byte run) h in (t.0, all_run run t.1)
 
-after_run : (run text : List ℕ) (symbol : Symbol) (symbols : List Symbol) → IsRun run → IsWritten (Run run) symbol → Follows text symbols → Lexes (run ++ text) (symbol ∷ symbols)
-after_run run text symbol symbols is written follows = λ at. rw (run_begins at run text (all_run run is.0) is.1 follows.ends) (written, follows.lexes (at + length run))
+unwritten_run : (symbol : Symbol) (run : List ℕ) → unwritten symbol (Run run) ≡ []
+unwritten_run (Name name) run = refl
+unwritten_run (Numeral n) run = refl
+unwritten_run OpenBrace run = refl
+unwritten_run CloseBrace run = refl
+unwritten_run (Whole numbers) run = refl
+
+after_run : (run text : List ℕ) (symbol : Symbol) (symbols : List Symbol) → IsRun run → IsWritten [] (Run run) symbol → Follows text symbols → Lexes (run ++ text) (symbol ∷ symbols)
+after_run run text symbol symbols is written follows = λ at. rw (run_begins at run text (all_run run is.0) is.1 follows.ends, unwritten_run symbol run) (written, follows.lexes (at + length run))
 
 after_number : (n : ℤ) (text : List ℕ) (symbols : List Symbol) → IsNumeralOf n → Follows text symbols → Lexes (signed_decimal n ++ text) (Numeral n ∷ symbols)
 after_number n text symbols is follows = after_run (signed_decimal n) text (Numeral n) symbols is.run is.value follows
 
 -- ---- what can be written
 
--- the numbers among the symbols have numerals
+-- all the numbers have numerals
+abbrev pub AreNumerals : List ℤ → Type 0
+AreNumerals numbers = AllByRecursion IsNumeralOf numbers
+
+-- the numbers of the symbol have numerals
 abbrev IsWritable : Symbol → Type 0
 IsWritable (Numeral n) = IsNumeralOf n
+IsWritable (Whole numbers) = AreNumerals numbers
 IsWritable symbol = Unit {0}
 
 abbrev AllWritable : List Symbol → Type 0
 AllWritable symbols = AllByRecursion IsWritable symbols
 
-writable : (token : Token) (symbol : Symbol) → IsWritten token symbol → IsWritable symbol
-writable token (Name name) h = tt
-writable token OpenBrace h = tt
-writable token CloseBrace h = tt
-writable (Run run) (Numeral n) h = numeral_again run n h
-writable Open (Numeral n) h = absurd h
-writable Close (Numeral n) h = absurd h
-writable Bad (Numeral n) h = absurd h
-
-all_writable : (items : List Item) (symbols : List Symbol) → Spells items symbols → AllWritable symbols
-all_writable items [] h = tt
-all_writable [] (symbol ∷ symbols) h = absurd h
-all_writable (item ∷ items) (symbol ∷ symbols) h = (writable item.token symbol h.0, all_writable items symbols h.1)
-
 writable_parts : (xs ys : List Symbol) → AllWritable (xs ++ ys) → AllWritable xs × AllWritable ys
 writable_parts [] ys h = (tt, h)
 writable_parts (x ∷ xs) ys h = let more = writable_parts xs ys h.1 in ((h.0, more.0), more.1)
 
+writable_both : (xs ys : List Symbol) → AllWritable xs → AllWritable ys → AllWritable (xs ++ ys)
+writable_both [] ys h k = k
+writable_both (x ∷ xs) ys h k = (h.0, writable_both xs ys h.1 k)
+
+writable_numbers : (numbers : List ℤ) (symbols : List Symbol) → AllWritable (map Numeral numbers ++ symbols) → AreNumerals numbers
+writable_numbers [] symbols h = tt
+writable_numbers (n ∷ numbers) symbols h = (h.0, writable_numbers numbers symbols h.1)
+
+-- numbers of 32 bits have numerals
+within_numeral : (n : ℤ) → IsBetween (least Q31) (greatest Q31) n → IsNumeralOf n
+within_numeral (pos n) h = numeral_positive n (omega (arith, ints))
+within_numeral (negsuc n) h = numeral_negative (suc n) (omega (arith, ints))
+
+within_numerals : (numbers : List ℤ) → AllByRecursion (IsBetween (least Q31) (greatest Q31)) numbers → AreNumerals numbers
+within_numerals [] h = tt
+within_numerals (n ∷ numbers) h = (within_numeral n h.0, within_numerals numbers h.1)
+
+-- and so have those of tables
+pub table_numerals : (before tables : List Named) (name : List ℕ) (numbers : List ℤ) → AreTables before tables → numbers_of tables name ≡ Some numbers → AreNumerals numbers
+unfolding numbers_of
+table_numerals before [] name numbers are e = absurd cc
+table_numerals before (t ∷ tables) name numbers are e = tested (bytes_eq name t.name) e (table_numerals (before ++ t ∷ []) tables name numbers are.1)
+  where
+    tested : (b : Bool) → option_map (λ t. t.numbers) (cond b (Some t) (find (λ t. bytes_eq name t.name) tables)) ≡ Some numbers → (numbers_of tables name ≡ Some numbers → AreNumerals numbers) → AreNumerals numbers
+    tested true e later = let same : t.numbers ≡ numbers = cc in rw same at (within_numerals t.numbers are.0.numbers.each)
+    tested false e later = later e
+
+writable : (tables : List Named) (token : Token) (symbol : Symbol) → AreTables [] tables → IsWritten tables token symbol → AllWritable (unwritten symbol token) → IsWritable symbol
+writable tables token (Name name) are h w = tt
+writable tables token OpenBrace are h w = tt
+writable tables token CloseBrace are h w = tt
+writable tables (Run run) (Numeral n) are h w = numeral_again run n h
+writable tables Open (Numeral n) are h w = absurd h
+writable tables Close (Numeral n) are h w = absurd h
+writable tables Bad (Numeral n) are h w = absurd h
+writable tables (Run name) (Whole numbers) are h w = table_numerals [] tables name numbers are h
+writable tables Open (Whole numbers) are h w = writable_numbers numbers (CloseBrace ∷ []) w
+writable tables Close (Whole numbers) are h w = absurd h
+writable tables Bad (Whole numbers) are h w = absurd h
+
+all_writable : (tables : List Named) (items : List Item) (symbols : List Symbol) → AreTables [] tables → Spells tables items symbols → AllWritable symbols
+all_writable tables items [] are h = tt
+all_writable tables [] (symbol ∷ symbols) are h = absurd h
+all_writable tables (item ∷ items) (symbol ∷ symbols) are h =
+    let parts = writable_parts (unwritten symbol item.token) symbols (all_writable tables items (unwritten symbol item.token ++ symbols) are h.1) in
+    (writable tables item.token symbol are h.0 parts.0, parts.1)
+
 -- ---- arguments
 
-after_spaced : (numbers : List ℤ) (text : List ℕ) (symbols : List Symbol) → AllWritable (map Numeral numbers) → Follows text symbols → Follows (flat_map (λ n. codes " " ++ signed_decimal n) numbers ++ text) (map Numeral numbers ++ symbols)
+after_spaced : (numbers : List ℤ) (text : List ℕ) (symbols : List Symbol) → AreNumerals numbers → Follows text symbols → Follows (flat_map (λ n. codes " " ++ signed_decimal n) numbers ++ text) (map Numeral numbers ++ symbols)
 after_spaced [] text symbols w follows = follows
 after_spaced (n ∷ numbers) text symbols w follows =
     let more = after_spaced numbers text symbols w.1 follows in
     let regrouped : signed_decimal n ++ (flat_map (λ n. codes " " ++ signed_decimal n) numbers ++ text) ≡ (signed_decimal n ++ flat_map (λ n. codes " " ++ signed_decimal n) numbers) ++ text = sym (append_assoc (signed_decimal n) (flat_map (λ n. codes " " ++ signed_decimal n) numbers) text) in
     after_space ((signed_decimal n ++ flat_map (λ n. codes " " ++ signed_decimal n) numbers) ++ text) (Numeral n ∷ map Numeral numbers ++ symbols) (subst (λ (t : List ℕ). Lexes t (Numeral n ∷ map Numeral numbers ++ symbols)) regrouped (after_number n _ (map Numeral numbers ++ symbols) w.0 more))
 
-after_joined : (numbers : List ℤ) (text : List ℕ) (symbols : List Symbol) → AllWritable (map Numeral numbers) → Follows text symbols → Lexes (join_by signed_decimal (codes " ") numbers ++ text) (map Numeral numbers ++ symbols)
+after_joined : (numbers : List ℤ) (text : List ℕ) (symbols : List Symbol) → AreNumerals numbers → Follows text symbols → Lexes (join_by signed_decimal (codes " ") numbers ++ text) (map Numeral numbers ++ symbols)
 after_joined [] text symbols w follows = follows.lexes
 after_joined (n ∷ numbers) text symbols w follows =
     let spaced = flat_map (λ n. codes " " ++ signed_decimal n) numbers in
@@ -186,12 +235,12 @@ after_argument (Number n) text symbols w follows = after_number n text symbols w
 after_argument (Format f) text symbols w follows = after_run (format_name f) text (Name (format_name f)) symbols (format_run f) refl follows
 after_argument (Listed numbers) text symbols w follows =
     let closed = after_close text symbols follows.lexes in
-    let inner = after_joined numbers (125 ∷ text) (CloseBrace ∷ symbols) (writable_parts (map Numeral numbers) (CloseBrace ∷ []) w.1).0 closed in
+    let inner = after_joined numbers (125 ∷ text) (CloseBrace ∷ symbols) w.0 closed in
     let joined = join_by signed_decimal (codes " ") numbers in
-    let opened = after_open (joined ++ 125 ∷ text) (map Numeral numbers ++ CloseBrace ∷ symbols) inner in
+    let symbols_is : map Numeral numbers ++ CloseBrace ∷ symbols ≡ (map Numeral numbers ++ CloseBrace ∷ []) ++ symbols = sym (append_assoc (map Numeral numbers) (CloseBrace ∷ []) symbols) in
+    let opened = after_open numbers (joined ++ 125 ∷ text) symbols (subst (λ (x : List Symbol). Lexes (joined ++ 125 ∷ text) x) symbols_is inner) in
     let text_is : 123 ∷ (joined ++ 125 ∷ text) ≡ argument_text (Listed numbers) ++ text = ap (λ (t : List ℕ). 123 ∷ t) (sym (append_assoc joined (125 ∷ []) text)) in
-    let symbols_is : OpenBrace ∷ (map Numeral numbers ++ CloseBrace ∷ symbols) ≡ argument_symbols (Listed numbers) ++ symbols = ap (λ (x : List Symbol). OpenBrace ∷ x) (sym (append_assoc (map Numeral numbers) (CloseBrace ∷ []) symbols)) in
-    subst (λ (t : List ℕ). Lexes t (argument_symbols (Listed numbers) ++ symbols)) text_is (subst (λ (x : List Symbol). Lexes (123 ∷ (joined ++ 125 ∷ text)) x) symbols_is opened.lexes)
+    subst (λ (t : List ℕ). Lexes t (argument_symbols (Listed numbers) ++ symbols)) text_is opened.lexes
 
 after_arguments : (args : List Argument) (text : List ℕ) (symbols : List Symbol) → AllWritable (flat_map argument_symbols args) → Follows text symbols → Follows (arguments_text args ++ text) (flat_map argument_symbols args ++ symbols)
 after_arguments [] text symbols w follows = follows
@@ -258,10 +307,10 @@ after_output output =
 lines_joined : (a b c d e : List ℕ) → a ++ (b ++ (c ++ (d ++ e))) ≡ (((a ++ b) ++ c) ++ d) ++ e
 lines_joined a b c d e = simp append_assoc
 
-canon_lexes : (s : Script) → AllWritable (symbols s) → Lexes (canon s) (symbols s)
+canon_lexes : (s : Script) → AllWritable (symbols [] s) → Lexes (canon s) (symbols [] s)
 canon_lexes s w =
     let output = output_symbols s.output in
-    let nested : symbols s ≡ Name (codes "dspfx") ∷ Numeral (pos s.version) ∷ (input_symbols s.input ++ (length_symbols s.block ++ (flat_map block_symbols s.blocks ++ output))) = simp append_assoc in
+    let nested : symbols [] s ≡ Name (codes "dspfx") ∷ Numeral (pos s.version) ∷ (input_symbols s.input ++ (length_symbols s.block ++ (flat_map block_symbols s.blocks ++ output))) = simp append_assoc in
     let parts = subst AllWritable nested w in
     let p1 = writable_parts (input_symbols s.input) (length_symbols s.block ++ (flat_map block_symbols s.blocks ++ output)) parts.1.1 in
     let p2 = writable_parts (length_symbols s.block) (flat_map block_symbols s.blocks ++ output) p1.1 in
@@ -277,7 +326,17 @@ canon_lexes s w =
     let whole = after_run (codes "dspfx") (32 ∷ (decimal s.version ++ 10 ∷ input_text)) (Name (codes "dspfx")) (Numeral (pos s.version) ∷ input_symbols_all) (refl, omega arith) refl (after_space (decimal s.version ++ 10 ∷ input_text) (Numeral (pos s.version) ∷ input_symbols_all) version) in
     let text_is : codes "dspfx " ++ (decimal s.version ++ 10 ∷ input_text) ≡ canon s =
     sym (append_assoc (codes "dspfx " ++ decimal s.version) (10 ∷ []) input_text) ∙ lines_joined (line (codes "dspfx " ++ decimal s.version)) (input_line s.input) (length_line s.block) (flat_map block_line s.blocks) (output_line s.output) in
-    subst (λ (t : List ℕ). Lexes t (symbols s)) text_is (subst (λ (x : List Symbol). Lexes (codes "dspfx " ++ (decimal s.version ++ 10 ∷ input_text)) x) (sym nested) whole)
+    subst (λ (t : List ℕ). Lexes t (symbols [] s)) text_is (subst (λ (x : List Symbol). Lexes (codes "dspfx " ++ (decimal s.version ++ 10 ∷ input_text)) x) (sym nested) whole)
 
 pub canon_read : (s : Script) → IsSound s → length (canon s) ≤ MAX_SCRIPT → Reads (canon s) s
-canon_read s (text, reads) short = record { short = short; spelled = canon_lexes s (all_writable (items text) (symbols s) reads.spelled) 0; fit = reads.fit }
+canon_read s (text, reads) short =
+    let written = all_writable reads.tables (items text) (symbols reads.tables s) reads.stand.each reads.spelled in
+    let front = writable_parts (front_symbols s) (flat_map table_symbols reads.tables ++ chain_symbols s) written in
+    let chain = writable_parts (flat_map table_symbols reads.tables) (chain_symbols s) front.1 in
+    record {
+      short = short;
+      tables = [];
+      stand = record { few = omega arith; each = tt; allowed = λ _. refl };
+      spelled = canon_lexes s (writable_both (front_symbols s) (chain_symbols s) front.0 chain.1) 0;
+      fit = reads.fit;
+    }

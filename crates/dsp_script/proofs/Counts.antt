@@ -4,7 +4,7 @@ use Rattle.std.specs.Prelude.{max, nat_le}
 use Rattle.std.proofs.lemmas.Bool.Decides.{nat_tests}
 use Rattle.std.proofs.lemmas.Nat.{mul-le, le-div}
 use Rattle.std.proofs.Math.Nat.{mul-div_cancel, mul_assoc, div-le_self, div-mul-le_self, le-mul_of_pos_right}
-use Rattle.dsp_defs.specs.declared.limits.TheConstants.{MAX_SAMPLES, MAX_INPUT, MAX_CHANNELS}
+use Rattle.dsp_defs.specs.declared.limits.TheConstants.{MAX_TAPS, MAX_SECTIONS, MAX_FACTOR, MAX_MATRIX_SIDE, MAX_CHANNELS, MAX_SAMPLES, MAX_INPUT}
 use Rattle.dsp_defs.specs.declared.format.Fmt.{Fmt}
 use Rattle.dsp_defs.specs.declared.format.Fmt.TheVariants.{Q7, Q15, Q31}
 use Rattle.dsp_defs.specs.declared.flow.Flow.{Flow}
@@ -62,11 +62,11 @@ steady_some flow b n s whole some = grouped_some (group_of b) n (group_here flow
 
 grouped_few : (group : Option (ℕ × ℕ)) (n : ℕ) → GivesSome group → n ≤ MAX_SAMPLES → groups_after group n ≤ 2 ^ 32
 grouped_few None n few h = omega arith
-grouped_few (Some g) n few h = mul-le (n / g.0) g.1 1048576 4096 (omega (arith, div-le_self n g.0)) few
+grouped_few (Some g) n few h = mul-le (n / g.0) g.1 MAX_SAMPLES (MAX_MATRIX_SIDE * MAX_MATRIX_SIDE) (omega (arith, div-le_self n g.0)) few
 
 -- the frames of a block that fits give fewer than 2^32 at the next place
 pub steady_few : (flow : Flow) (b : Block) (n : ℕ) → Suits flow b → n ≤ MAX_SAMPLES → steady_frames b n ≤ 2 ^ 32
-steady_few flow (Interpolate factor taps) n s h = mul-le n factor 1048576 4096 h (omega (arith, s.parameters.1))
+steady_few flow (Interpolate factor taps) n s h = omega (arith, mul-le n factor MAX_SAMPLES MAX_FACTOR h s.parameters.1)
 steady_few flow b n s h = grouped_few (group_of b) n (group_few flow b s) h
 
 pub few_frames : (channels n : ℕ) → 1 ≤ channels → n * channels ≤ MAX_SAMPLES → n ≤ MAX_SAMPLES
@@ -88,22 +88,22 @@ GivesFew (b ∷ blocks) n = (given_frames b n < 2 ^ 63) × GivesFew blocks (give
 
 -- how many times a legal block bounds the frames behind a block, where it did so a times before it
 abbrev grown : Block → ℕ → ℕ
-grown (Conv taps) a = a + 4096
+grown (Conv taps) a = a + MAX_TAPS
 grown (ConvPartial first count taps) a = a + 2 ^ 32
-grown (Correlate taps) a = 2 * a + 8192
+grown (Correlate taps) a = 2 * a + 2 * MAX_TAPS
 grown b a = a
 
-conv_le : (n t : ℕ) → t ≤ 4096 → full_length n t ≤ n + 4096
+conv_le : (n t : ℕ) → t ≤ MAX_TAPS → full_length n t ≤ n + MAX_TAPS
 conv_le n t few = tested (eqb n 0)
   where
-    tested : (b : Bool) → cond b 0 (n + t - 1) ≤ n + 4096
+    tested : (b : Bool) → cond b 0 (n + t - 1) ≤ n + MAX_TAPS
     tested true = omega arith
     tested false = omega arith
 
-correlation_le : (n t : ℕ) → t ≤ 4096 → correlation_length n t ≤ 2 * n + 8192
+correlation_le : (n t : ℕ) → t ≤ MAX_TAPS → correlation_length n t ≤ 2 * n + 2 * MAX_TAPS
 correlation_le n t few = tested (eqb n 0)
   where
-    tested : (b : Bool) → cond b 0 (2 * max n t - 1) ≤ 2 * n + 8192
+    tested : (b : Bool) → cond b 0 (2 * max n t - 1) ≤ 2 * n + 2 * MAX_TAPS
     tested true = omega arith
     tested false = omega arith
 
@@ -111,9 +111,9 @@ more_times : (n a more piece m : ℕ) → n ≤ a * piece → m ≤ n + more →
 more_times n a more piece m h k some = omega (arith, le-mul_of_pos_right more some)
 
 given_le : (flow : Flow) (b : Block) (a piece n : ℕ) → Suits flow b → HasWholeGroups (group_of b) piece → 1 ≤ piece → n ≤ a * piece → given_frames b n ≤ grown b a * steady_frames b piece
-given_le flow (Conv taps) a piece n s whole some h = more_times n a 4096 piece (full_length n (length taps)) h (conv_le n (length taps) s.parameters.0.limit) some
+given_le flow (Conv taps) a piece n s whole some h = more_times n a MAX_TAPS piece (full_length n (length taps)) h (conv_le n (length taps) s.parameters.0.limit) some
 given_le flow (ConvPartial first count taps) a piece n s whole some h = more_times 0 a (2 ^ 32) piece count (omega arith) (omega (arith, s.parameters.2.1)) some
-given_le flow (Correlate taps) a piece n s whole some h = more_times (2 * n) (2 * a) 8192 piece (correlation_length n (length taps)) (omega arith) (correlation_le n (length taps) s.parameters.0.limit) some
+given_le flow (Correlate taps) a piece n s whole some h = more_times (2 * n) (2 * a) (2 * MAX_TAPS) piece (correlation_length n (length taps)) (omega arith) (correlation_le n (length taps) s.parameters.0.limit) some
 given_le flow b a piece n s whole some h =
     let g = group_here flow b s in
     rw (← steady_scaled b a piece g whole) (steady_le b n (a * piece) g h)
@@ -130,7 +130,7 @@ room_behind b blocks a h = omega arith
 
 -- so many times a block that fits are few frames
 few_times : (a piece n : ℕ) → n ≤ a * piece → a ≤ 2 ^ 42 → piece ≤ MAX_SAMPLES → n < 2 ^ 63
-few_times a piece n h few fits = omega (arith, mul-le a piece (2 ^ 42) 1048576 few fits)
+few_times a piece n h few fits = omega (arith, mul-le a piece (2 ^ 42) MAX_SAMPLES few fits)
 
 few_given : (blocks : List Block) (flow : Flow) (a piece n : ℕ) → IsPlaced flow blocks → IsWhole blocks piece → fits_everywhere flow.channels blocks piece ≡ true → 1 ≤ piece → n ≤ a * piece → room blocks a ≤ 2 ^ 42 → GivesFew blocks n
 few_given [] flow a piece n p whole fits some h r = tt
@@ -161,30 +161,31 @@ few_first n b items blocks e few = rw e at few
 
 -- ---- products of a whole run
 
-frames_product : (c n t : ℕ) → c ≤ 16 → n < 2 ^ 63 → t ≤ 16384 → c * n * t ≤ 2 ^ 85
-frames_product c n t channels few taps = omega (arith, mul-le (c * n) t (16 * 2 ^ 63) 16384 (mul-le c n 16 (2 ^ 63) channels (omega arith)) taps)
+frames_product : (c n t : ℕ) → c ≤ MAX_CHANNELS → n < 2 ^ 63 → t ≤ MAX_TAPS → c * n * t ≤ 2 ^ 85
+frames_product c n t channels few taps = omega (arith, mul-le (c * n) t (MAX_CHANNELS * 2 ^ 63) MAX_TAPS (mul-le c n MAX_CHANNELS (2 ^ 63) channels (omega arith)) taps)
 
-channel_product : (c n : ℕ) → c ≤ 16 → n < 2 ^ 63 → c * n ≤ 2 ^ 85
-channel_product c n channels few = omega (arith, mul-le c n 16 (2 ^ 63) channels (omega arith))
+channel_product : (c n : ℕ) → c ≤ MAX_CHANNELS → n < 2 ^ 63 → c * n ≤ 2 ^ 85
+channel_product c n channels few = omega (arith, mul-le c n MAX_CHANNELS (2 ^ 63) channels (omega arith))
 
 section_le : (f : Fmt) (coefficients : List ℤ) → section_count f coefficients ≤ length coefficients
 section_le Q7 coefficients = div-le_self (length coefficients) 5
 section_le Q15 coefficients = div-le_self (length coefficients) 6
 section_le Q31 coefficients = div-le_self (length coefficients) 5
 
-sections_few : (f : Fmt) (n : ℕ) → n ≤ 64 * section_length f → n ≤ 384
+sections_few : (f : Fmt) (n : ℕ) → n ≤ MAX_SECTIONS * section_length f → 5 * n ≤ MAX_TAPS
 sections_few Q7 n h = omega arith
 sections_few Q15 n h = omega arith
 sections_few Q31 n h = omega arith
 
-sections_product : (flow : Flow) (coefficients : List ℤ) (c n : ℕ) → length coefficients ≤ 64 * section_length flow.format → c ≤ 16 → n < 2 ^ 63 → c * n * (5 * section_count flow.format coefficients) ≤ 2 ^ 85
+sections_product : (flow : Flow) (coefficients : List ℤ) (c n : ℕ) → length coefficients ≤ MAX_SECTIONS * section_length flow.format → c ≤ MAX_CHANNELS → n < 2 ^ 63 → c * n * (5 * section_count flow.format coefficients) ≤ 2 ^ 85
 sections_product flow coefficients c n limit channels few = frames_product c n (5 * section_count flow.format coefficients) channels few (omega (arith, section_le flow.format coefficients, sections_few flow.format (length coefficients) limit))
 
-matrix_product : (c n rows columns given : ℕ) → c ≤ 16 → n < 2 ^ 63 → rows ≤ 64 → columns ≤ 64 → given ≤ 64 → c * (n / (rows * columns)) * rows * columns * given ≤ 2 ^ 85
+matrix_product : (c n rows columns given : ℕ) → c ≤ MAX_CHANNELS → n < 2 ^ 63 → rows ≤ MAX_MATRIX_SIDE → columns ≤ MAX_MATRIX_SIDE → given ≤ MAX_MATRIX_SIDE → c * (n / (rows * columns)) * rows * columns * given ≤ 2 ^ 85
 matrix_product c n rows columns given channels few r k g =
     let q = n / (rows * columns) in
     let quotient : q ≤ 2 ^ 63 = omega (arith, div-le_self n (rows * columns)) in
-    mul-le (c * q * rows * columns) given (16 * 2 ^ 63 * 64 * 64) 64 (mul-le (c * q * rows) columns (16 * 2 ^ 63 * 64) 64 (mul-le (c * q) rows (16 * 2 ^ 63) 64 (mul-le c q 16 (2 ^ 63) channels quotient) r) k) g
+    let (all, side) : ℕ × ℕ = (MAX_CHANNELS * 2 ^ 63, MAX_MATRIX_SIDE) in
+    mul-le (c * q * rows * columns) given (all * side * side) side (mul-le (c * q * rows) columns (all * side) side (mul-le (c * q) rows all side (mul-le c q MAX_CHANNELS (2 ^ 63) channels quotient) r) k) g
 
 block_few : (flow : Flow) (b : Block) (n given : ℕ) → Suits flow b → flow.channels ≤ MAX_CHANNELS → n < 2 ^ 63 → given < 2 ^ 63 → block_cost flow.format flow.channels b n given ≤ 2 ^ 85
 block_few flow (Scale fract shift) n given s c few out = channel_product flow.channels n c few
@@ -203,7 +204,7 @@ block_few flow (Biquad64 post_shift coefficients) n given s c few out = sections
 block_few flow (Conv taps) n given s c few out = frames_product flow.channels given (length taps) c out (omega (arith, s.parameters.0.limit))
 block_few flow (ConvPartial first count taps) n given s c few out = frames_product flow.channels given (length taps) c out (omega (arith, s.parameters.2.2.0.limit))
 block_few flow (Correlate taps) n given s c few out = frames_product flow.channels n (length taps) c few (omega (arith, s.parameters.0.limit))
-block_few flow (Lms post_shift mu taps) n given s c few out = omega (arith, mul-le n (2 * length taps + 1) (2 ^ 63) 16384 (omega arith) (omega (arith, s.parameters.2.1.0.limit)))
+block_few flow (Lms post_shift mu taps) n given s c few out = omega (arith, mul-le n (2 * length taps + 1) (2 ^ 63) (2 * MAX_TAPS + 1) (omega arith) (omega (arith, s.parameters.2.1.0.limit)))
 block_few flow (Pid kp ki kd) n given s c few out = frames_product flow.channels n 3 c few (omega arith)
 block_few flow (MatScale rows columns fract shift) n given s c few out = channel_product flow.channels given c out
 block_few flow (MatMult rows columns given matrix) n out_frames s c few out = matrix_product flow.channels n rows columns given c few s.parameters.1 s.parameters.2.1 s.parameters.2.2.1

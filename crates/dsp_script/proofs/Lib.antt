@@ -4,9 +4,11 @@ pub mod Loops
 pub mod Names
 pub mod Steps
 pub mod ListLaws
+pub mod TableLaws
 pub mod BlockLaws
 pub mod ScriptLaws
 pub mod CanonLaws
+pub mod PlainLaws
 pub mod Placed
 pub mod Paces
 pub mod Counts

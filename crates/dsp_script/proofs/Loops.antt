@@ -1,5 +1,5 @@
 -- Reading a list of numbers, or of blocks, one after another, as a loop does.
-use Rattle.std.proofs.Common.{◌≡◌, ℕ, zero, suc, ℤ, ◌+◌, ◌-◌, ◌<◌, Bool, ◌||◌, List, [], ◌∷◌, ◌++◌, Option, Some, None, Result, Ok, Err, refl, sym, ap, ◌∙◌, append_assoc, arith}
+use Rattle.std.proofs.Common.{◌≡◌, ℕ, zero, suc, ℤ, ◌+◌, ◌-◌, ◌<◌, Bool, ◌||◌, true, false, List, [], ◌∷◌, ◌++◌, length, get_or, drop, add-one, drop-cons, pos, Option, Some, None, Result, Ok, Err, refl, sym, ap, ◌∙◌, append_assoc, arith}
 use Rattle.std.proofs.lemmas.List.{append-nil}
 use Rattle.dsp_defs.specs.declared.script_fault.ScriptFault.{ScriptFault}
 use Rattle.dsp_script.specs.declared.fault.ParseFault.{ParseFault}
@@ -9,7 +9,9 @@ use Rattle.dsp_defs.specs.declared.word.Word.{Word}
 use Rattle.dsp_defs.specs.declared.list_rule.ListRule.{ListRule}
 use Rattle.dsp_defs.specs.declared.flow.Flow.{Flow}
 use Rattle.dsp_defs.specs.Token.{Token, Open, Close, Run, Bad, Item, Rest}
-use Rattle.dsp_defs.specs.Places.{◌>>=◌, token_at, entry, entry_at, entries_at}
+use Rattle.dsp_defs.specs.Places.{◌>>=◌, token_at, begins_with, next_number, judged, entry, entry_at, entries_at, Environment, table_at, tables_at}
+use Rattle.dsp_defs.specs.Tables.{Named}
+use Rattle.std.specs.Prelude.{⊤, codes}
 use Rattle.dsp_script.specs.Answers.{Fails}
 use Rattle.dsp_defs.specs.Reading.{next_block_at, block_at, blocks_at}
 use Rattle.dsp_defs.specs.Table.{is_correlate, parameters, flow_after}
@@ -82,40 +84,78 @@ numbers_done front rule count rest after total h so_far =
     let step : entries_at rule count rest.end rest.items ≡ Ok ([], after) = entries_step rule count rest.end rest.items ∙ rw h refl in
     sym so_far ∙ ap (with_numbers front) step ∙ ap (λ (xs : List ℤ). Ok (xs, after)) (append-nil front)
 
+-- ---- the numbers of a table
+
+judged_first : (rule : ListRule) (i offset : ℕ) (numbers : List ℤ) → i < length numbers → judged rule i offset (drop i numbers) ≡ (next_number rule i offset (get_or numbers i (pos 0)) >>= λ _. judged rule (i + 1) offset (drop (i + 1) numbers))
+unfolding judged
+judged_first rule i offset numbers lt =
+    let parts : drop i numbers ≡ get_or numbers i (pos 0) ∷ drop (i + 1) numbers = rw (add-one, drop-cons numbers i (pos 0) lt) refl in
+    rw parts refl
+
+pub judged_goes_on : (rule : ListRule) (i offset : ℕ) (numbers : List ℤ) (n m : ℤ) (whole : Result ⊤ ScriptFault) → i < length numbers → n ≡ get_or numbers i (pos 0) → next_number rule i offset n ≡ Ok m
+    → judged rule i offset (drop i numbers) ≡ whole → judged rule (i + 1) offset (drop (i + 1) numbers) ≡ whole
+judged_goes_on rule i offset numbers n m whole lt is next so_far = sym (judged_first rule i offset numbers lt ∙ rw (← is, next) refl) ∙ so_far
+
+pub judged_fails : (rule : ListRule) (i offset : ℕ) (numbers : List ℤ) (n : ℤ) (f : ScriptFault) (whole : Result ⊤ ScriptFault) → i < length numbers → n ≡ get_or numbers i (pos 0) → next_number rule i offset n ≡ Err f
+    → judged rule i offset (drop i numbers) ≡ whole → whole ≡ Err f
+judged_fails rule i offset numbers n f whole lt is next so_far = sym so_far ∙ judged_first rule i offset numbers lt ∙ rw (← is, next) refl
+
+-- ---- the tables of a script
+
+pub tables_go_on : (left : ℕ) (tables : List Named) (rest r1 : Rest) (t : Named) (whole : Result (List Named × Rest) ScriptFault) → 0 < left → begins_with (codes "table") rest.items ≡ true → table_at left tables rest ≡ Ok (t, r1)
+    → tables_at left tables rest ≡ whole → tables_at (left - 1) (tables ++ t ∷ []) r1 ≡ whole
+unfolding tables_at
+tables_go_on zero tables rest r1 t whole some begins read so_far = absurd (omega arith)
+tables_go_on (suc left) tables rest r1 t whole some begins read so_far =
+    let one : suc left - 1 ≡ left = omega arith in
+    let step : tables_at (suc left) tables rest ≡ tables_at left (tables ++ t ∷ []) r1 = rw (begins, read) refl in
+    rw one (sym step ∙ so_far)
+
+pub tables_fail : (e : ParseFault) (left : ℕ) (tables : List Named) (rest : Rest) (whole : Result (List Named × Rest) ScriptFault) → begins_with (codes "table") rest.items ≡ true → Fails e (table_at left tables rest) → tables_at left tables rest ≡ whole → Fails e whole
+unfolding tables_at
+tables_fail errors.Memory left tables rest whole begins read so_far = tt
+tables_fail (errors.Script f) zero tables rest whole begins read so_far = let step : tables_at 0 tables rest ≡ Err f = rw (begins, read) refl in sym so_far ∙ step
+tables_fail (errors.Script f) (suc left) tables rest whole begins read so_far = let step : tables_at (suc left) tables rest ≡ Err f = rw (begins, read) refl in sym so_far ∙ step
+
+pub tables_done : (left : ℕ) (tables : List Named) (rest : Rest) → begins_with (codes "table") rest.items ≡ false → tables_at left tables rest ≡ Ok (tables, rest)
+unfolding tables_at
+tables_done zero tables rest begins = rw begins refl
+tables_done (suc left) tables rest begins = rw begins refl
+
 -- ---- the blocks of a script
 
-pub blocks_go_on : (front : List Block) (left : ℕ) (correlated : Bool) (flow : Flow) (rest r1 r2 : Rest) (w : Word) (b : Block) (total : Result (List Block × Rest) ScriptFault) → 0 < left
-    → next_block_at left correlated flow rest ≡ Ok (Some w, r1) → block_at (parameters w flow) r1 ≡ Ok (b, r2)
-    → with_blocks front (blocks_at left correlated flow rest) ≡ total → with_blocks (front ++ b ∷ []) (blocks_at (left - 1) (correlated || is_correlate w) (flow_after b flow) r2) ≡ total
+pub blocks_go_on : (tables : Environment) (front : List Block) (left : ℕ) (correlated : Bool) (flow : Flow) (rest r1 r2 : Rest) (w : Word) (b : Block) (total : Result (List Block × Rest) ScriptFault) → 0 < left
+    → next_block_at left correlated flow rest ≡ Ok (Some w, r1) → block_at tables (parameters w flow) r1 ≡ Ok (b, r2)
+    → with_blocks front (blocks_at tables left correlated flow rest) ≡ total → with_blocks (front ++ b ∷ []) (blocks_at tables (left - 1) (correlated || is_correlate w) (flow_after b flow) r2) ≡ total
 unfolding blocks_at
-blocks_go_on front zero correlated flow rest r1 r2 w b total some next read so_far = absurd (omega arith)
-blocks_go_on front (suc left) correlated flow rest r1 r2 w b total some next read so_far =
+blocks_go_on tables front zero correlated flow rest r1 r2 w b total some next read so_far = absurd (omega arith)
+blocks_go_on tables front (suc left) correlated flow rest r1 r2 w b total some next read so_far =
     let one : suc left - 1 ≡ left = omega arith in
-    let more = blocks_at left (correlated || is_correlate w) (flow_after b flow) r2 in
-    let step : blocks_at (suc left) correlated flow rest ≡ (more >>= λ m. Ok (b ∷ m.0, m.1)) = rw (next, read) refl in
+    let more = blocks_at tables left (correlated || is_correlate w) (flow_after b flow) r2 in
+    let step : blocks_at tables (suc left) correlated flow rest ≡ (more >>= λ m. Ok (b ∷ m.0, m.1)) = rw (next, read) refl in
     rw one (sym (regroup front b more) ∙ sym (ap (with_blocks front) step) ∙ so_far)
 
-pub blocks_fail_at_word : (front : List Block) (left : ℕ) (correlated : Bool) (flow : Flow) (rest : Rest) (f : ScriptFault) (total : Result (List Block × Rest) ScriptFault)
-    → next_block_at left correlated flow rest ≡ Err f → with_blocks front (blocks_at left correlated flow rest) ≡ total → total ≡ Err f
+pub blocks_fail_at_word : (tables : Environment) (front : List Block) (left : ℕ) (correlated : Bool) (flow : Flow) (rest : Rest) (f : ScriptFault) (total : Result (List Block × Rest) ScriptFault)
+    → next_block_at left correlated flow rest ≡ Err f → with_blocks front (blocks_at tables left correlated flow rest) ≡ total → total ≡ Err f
 unfolding blocks_at
-blocks_fail_at_word front zero correlated flow rest f total next so_far = let step : blocks_at 0 correlated flow rest ≡ Err f = rw next refl in sym so_far ∙ ap (with_blocks front) step
-blocks_fail_at_word front (suc left) correlated flow rest f total next so_far = let step : blocks_at (suc left) correlated flow rest ≡ Err f = rw next refl in sym so_far ∙ ap (with_blocks front) step
+blocks_fail_at_word tables front zero correlated flow rest f total next so_far = let step : blocks_at tables 0 correlated flow rest ≡ Err f = rw next refl in sym so_far ∙ ap (with_blocks front) step
+blocks_fail_at_word tables front (suc left) correlated flow rest f total next so_far = let step : blocks_at tables (suc left) correlated flow rest ≡ Err f = rw next refl in sym so_far ∙ ap (with_blocks front) step
 
-pub blocks_fail_within : (e : ParseFault) (front : List Block) (left : ℕ) (correlated : Bool) (flow : Flow) (rest r1 : Rest) (w : Word) (total : Result (List Block × Rest) ScriptFault) → 0 < left
-    → next_block_at left correlated flow rest ≡ Ok (Some w, r1) → Fails e (block_at (parameters w flow) r1) → with_blocks front (blocks_at left correlated flow rest) ≡ total → Fails e total
+pub blocks_fail_within : (tables : Environment) (e : ParseFault) (front : List Block) (left : ℕ) (correlated : Bool) (flow : Flow) (rest r1 : Rest) (w : Word) (total : Result (List Block × Rest) ScriptFault) → 0 < left
+    → next_block_at left correlated flow rest ≡ Ok (Some w, r1) → Fails e (block_at tables (parameters w flow) r1) → with_blocks front (blocks_at tables left correlated flow rest) ≡ total → Fails e total
 unfolding blocks_at
-blocks_fail_within errors.Memory front left correlated flow rest r1 w total some next read so_far = tt
-blocks_fail_within (errors.Script f) front zero correlated flow rest r1 w total some next read so_far = absurd (omega arith)
-blocks_fail_within (errors.Script f) front (suc left) correlated flow rest r1 w total some next read so_far =
-    let step : blocks_at (suc left) correlated flow rest ≡ Err f = rw (next, read) refl in
+blocks_fail_within tables errors.Memory front left correlated flow rest r1 w total some next read so_far = tt
+blocks_fail_within tables (errors.Script f) front zero correlated flow rest r1 w total some next read so_far = absurd (omega arith)
+blocks_fail_within tables (errors.Script f) front (suc left) correlated flow rest r1 w total some next read so_far =
+    let step : blocks_at tables (suc left) correlated flow rest ≡ Err f = rw (next, read) refl in
     sym so_far ∙ ap (with_blocks front) step
 
-pub blocks_done : (front : List Block) (left : ℕ) (correlated : Bool) (flow : Flow) (rest after : Rest) (total : Result (List Block × Rest) ScriptFault)
-    → next_block_at left correlated flow rest ≡ Ok (None, after) → with_blocks front (blocks_at left correlated flow rest) ≡ total → total ≡ Ok (front, after)
+pub blocks_done : (tables : Environment) (front : List Block) (left : ℕ) (correlated : Bool) (flow : Flow) (rest after : Rest) (total : Result (List Block × Rest) ScriptFault)
+    → next_block_at left correlated flow rest ≡ Ok (None, after) → with_blocks front (blocks_at tables left correlated flow rest) ≡ total → total ≡ Ok (front, after)
 unfolding blocks_at
-blocks_done front zero correlated flow rest after total next so_far =
-    let step : blocks_at 0 correlated flow rest ≡ Ok ([], after) = rw next refl in
+blocks_done tables front zero correlated flow rest after total next so_far =
+    let step : blocks_at tables 0 correlated flow rest ≡ Ok ([], after) = rw next refl in
     sym so_far ∙ ap (with_blocks front) step ∙ ap (λ (xs : List Block). Ok (xs, after)) (append-nil front)
-blocks_done front (suc left) correlated flow rest after total next so_far =
-    let step : blocks_at (suc left) correlated flow rest ≡ Ok ([], after) = rw next refl in
+blocks_done tables front (suc left) correlated flow rest after total next so_far =
+    let step : blocks_at tables (suc left) correlated flow rest ≡ Ok ([], after) = rw next refl in
     sym so_far ∙ ap (with_blocks front) step ∙ ap (λ (xs : List Block). Ok (xs, after)) (append-nil front)

@@ -7,20 +7,23 @@ use Rattle.std.proofs.lemmas.Bool.Decides.{nat_tests}
 use Rattle.dsp_defs.specs.declared.format.Fmt.{Fmt}
 use Rattle.dsp_defs.specs.declared.format.Fmt.TheVariants.{Q7, Q15, Q31}
 use Rattle.dsp_defs.specs.declared.format.Container.{Container}
-use Rattle.dsp_defs.specs.declared.format.Container.TheVariants.{Wave, Raw}
+use Rattle.dsp_defs.specs.declared.format.Container.TheVariants.{Wave, Wavex, Raw}
+use Rattle.dsp_defs.specs.declared.format.InputKind.{InputKind}
+use Rattle.dsp_defs.specs.declared.format.InputKind.TheVariants as kind
 use Rattle.dsp_defs.specs.declared.word.Word.{Word}
 use Rattle.dsp_defs.specs.declared.word.Word.TheVariants as words
 use Rattle.dsp_defs.specs.Token.{is_run_byte}
-use Rattle.dsp_defs.specs.Table.{name_of, word_by_name, format_name, format_by_name, container_name, container_by_name}
+use Rattle.dsp_defs.specs.Table.{name_of, word_by_name, format_name, format_by_name, container_name, container_by_name, input_containers, output_containers}
+use Rattle.dsp_defs.specs.Grammar.{container_of}
 use Rattle.dsp_defs.specs.Places.{named}
 use Rattle.dsp_defs.specs.Reading.{Begin, Output, place_of}
 
 abbrev other_than : List ℕ → List ℕ → Bool
 other_than name run = if bytes_eq run name then false else true
 
--- a run of bytes that is neither `output` nor `block`
+-- a run of bytes that is none of `output`, `block` and `table`
 abbrev is_plain : List ℕ → Bool
-is_plain run = list_all is_run_byte run && nat_lt 0 (length run) && other_than (codes "output") run && other_than (codes "block") run
+is_plain run = list_all is_run_byte run && nat_lt 0 (length run) && other_than (codes "output") run && other_than (codes "block") run && other_than (codes "table") run
 
 abbrev IsWellNamed : Word → Type 0
 IsWellNamed w = (word_by_name (name_of w) ≡ Some w) × (is_plain (name_of w) ≡ true)
@@ -80,13 +83,15 @@ record IsPlain (run : List ℕ) : Type 0 where
   some : 0 < length run
   no_output : bytes_eq run (codes "output") ≡ false
   no_length : bytes_eq run (codes "block") ≡ false
+  no_table : bytes_eq run (codes "table") ≡ false
 
 plain_parts : (run : List ℕ) → is_plain run ≡ true → IsPlain run
 plain_parts run e =
-    let c = both_true (list_all is_run_byte run && nat_lt 0 (length run) && other_than (codes "output") run) (other_than (codes "block") run) e in
+    let d = both_true (list_all is_run_byte run && nat_lt 0 (length run) && other_than (codes "output") run && other_than (codes "block") run) (other_than (codes "table") run) e in
+    let c = both_true (list_all is_run_byte run && nat_lt 0 (length run) && other_than (codes "output") run) (other_than (codes "block") run) d.0 in
     let b = both_true (list_all is_run_byte run && nat_lt 0 (length run)) (other_than (codes "output") run) c.0 in
     let a = both_true (list_all is_run_byte run) (nat_lt 0 (length run)) b.0 in
-    record { bytes = a.0; some = grind (arith, nat_tests, a.1); no_output = other (bytes_eq run (codes "output")) b.1; no_length = other (bytes_eq run (codes "block")) c.1 }
+    record { bytes = a.0; some = grind (arith, nat_tests, a.1); no_output = other (bytes_eq run (codes "output")) b.1; no_length = other (bytes_eq run (codes "block")) c.1; no_table = other (bytes_eq run (codes "table")) d.1 }
 
 name_parts : (w : Word) → IsPlain (name_of w)
 name_parts w = plain_parts (name_of w) (well_named w).1
@@ -101,6 +106,10 @@ word_run w = let p = name_parts w in (p.bytes, p.some)
 -- no block's word is the word of the block length
 pub no_length : (w : Word) → named (codes "block") (name_of w) ≡ None
 no_length w = rw (name_parts w).no_length refl
+
+-- nor the word of a table
+pub no_table : (w : Word) → named (codes "table") (name_of w) ≡ None
+no_table w = rw (name_parts w).no_table refl
 
 pub place_again : (w : Word) → place_of (name_of w) ≡ Some (Begin w)
 unfolding place_of
@@ -121,11 +130,18 @@ format_run Q7 = (refl, omega arith)
 format_run Q15 = (refl, omega arith)
 format_run Q31 = (refl, omega arith)
 
-pub container_again : (c : Container) → container_by_name (container_name c) ≡ Some c
+pub container_again : (c : Container) → container_by_name output_containers (container_name c) ≡ Some c
 unfolding container_by_name
 container_again Wave = refl
+container_again Wavex = refl
 container_again Raw = refl
+
+pub input_container_again : (k : InputKind) → container_by_name input_containers (container_name (container_of k)) ≡ Some (container_of k)
+unfolding container_by_name
+input_container_again kind.Wave = refl
+input_container_again (kind.Raw rate) = refl
 
 pub container_run : (c : Container) → IsRun (container_name c)
 container_run Wave = (refl, omega arith)
+container_run Wavex = (refl, omega arith)
 container_run Raw = (refl, omega arith)

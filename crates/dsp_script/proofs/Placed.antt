@@ -3,7 +3,7 @@ use Rattle.std.proofs.Common.{◌≡◌, ℕ, ◌+◌, ◌*◌, ◌%◌, ◌<◌
 use Rattle.std.specs.Prelude.{IsTrue, nat_le, ◌&&◌, ◌==◌}
 use Rattle.std.proofs.lemmas.Bool.Decides.{nat_tests}
 use Rattle.std.proofs.Math.Nat.{mul-le-mul}
-use Rattle.dsp_defs.specs.declared.limits.TheConstants.{MAX_CHANNELS}
+use Rattle.dsp_defs.specs.declared.limits.TheConstants.{MAX_CHANNELS, MAX_MATRIX_SIDE}
 use Rattle.dsp_defs.specs.declared.flow.Flow.{Flow}
 use Rattle.dsp_defs.specs.declared.script.Block.{Block}
 use Rattle.dsp_defs.specs.declared.script.Block.TheVariants.{Add, Sub, Mult, CmplxMult, CmplxMultReal, MagSquared, Decimate, MatAdd, MatSub, MatScale, MatTrans, MatMult, Route}
@@ -42,9 +42,9 @@ group_here flow b s = tt
 -- a group gives few frames
 abbrev pub GivesSome : Option (ℕ × ℕ) → Type 0
 GivesSome None = Unit {0}
-GivesSome (Some g) = g.1 ≤ 4096
+GivesSome (Some g) = g.1 ≤ MAX_MATRIX_SIDE * MAX_MATRIX_SIDE
 
-product_few : (a b : ℕ) → a ≤ 64 → b ≤ 64 → a * b ≤ 4096
+product_few : (a b : ℕ) → a ≤ MAX_MATRIX_SIDE → b ≤ MAX_MATRIX_SIDE → a * b ≤ MAX_MATRIX_SIDE * MAX_MATRIX_SIDE
 product_few a b h k = mul-le-mul h k
 
 pub group_few : (flow : Flow) (b : Block) → Suits flow b → GivesSome (group_of b)

@@ -1,10 +1,10 @@
 -- Scripts: what is read is in the grammar, and what is in the grammar is read.
-use Rattle.std.proofs.Common.{◌≡◌, ℕ, pos, ◌≤◌, Bool, true, false, cond, ltb, List, [], ◌∷◌, ◌++◌, length, Option, Some, None, Result, Ok, Err, refl, sym, ap, subst, ◌∙◌, append_assoc, arith}
+use Rattle.std.proofs.Common.{◌≡◌, ◌≢◌, ℕ, pos, ◌+◌, ◌≤◌, Bool, true, false, cond, ltb, List, [], ◌∷◌, ◌++◌, length, Option, Some, None, Result, Ok, Err, refl, sym, ap, subst, ◌∙◌, append_assoc, arith}
 use Rattle.std.specs.Prelude.{⊤, IfOk, IfSome, codes, ◌↔◌}
 use Rattle.std.specs.List.{flat_map}
 use Rattle.std.proofs.lemmas.Bool.{ltb-false, le-ltb}
 use Rattle.std.proofs.lemmas.List.Concat.{flat_map-cons}
-use Rattle.dsp_defs.specs.declared.limits.TheConstants.{MAX_BLOCKS, MAX_BLOCK_LENGTH, MAX_CHANNELS, MAX_SCRIPT}
+use Rattle.dsp_defs.specs.declared.limits.TheConstants.{MAX_BLOCKS, MAX_BLOCK_LENGTH, MAX_CHANNELS, MAX_SCRIPT, MAX_VERSION}
 use Rattle.dsp_defs.specs.declared.script_fault.ScriptFault.{ScriptFault}
 use Rattle.dsp_script.specs.declared.fault.ParseFault.{ParseFault}
 use Rattle.dsp_script.specs.declared.fault.ParseFault.TheVariants as errors
@@ -15,116 +15,138 @@ use Rattle.dsp_defs.specs.declared.format.InputKind.{InputKind}
 use Rattle.dsp_defs.specs.declared.format.InputKind.TheVariants as kind
 use Rattle.dsp_defs.specs.declared.format.Input.{Input}
 use Rattle.dsp_defs.specs.declared.script.Script.{Script}
+use Rattle.dsp_defs.specs.declared.word.Word.{Word}
+use Rattle.std.specs.Str.{bytes_eq}
 use Rattle.dsp_defs.specs.Token.{Token, Open, Close, Run, Bad, Item, Rest, items, rest_of}
-use Rattle.dsp_defs.specs.Table.{name_of, format_name, container_name}
-use Rattle.dsp_defs.specs.Grammar.{Symbol, Name, Numeral, word_of, arguments, argument_symbols, block_symbols, input_symbols, length_symbols, symbols, input_flow, IsFit, Reads, container_of, rate_symbols, HasRate}
-use Rattle.dsp_defs.specs.Places.{◌>>=◌, named, word_at, format_at, natural_at, container_at}
+use Rattle.dsp_defs.specs.Table.{name_of, format_name, container_name, container_by_name, input_containers, output_containers}
+use Rattle.dsp_defs.specs.Tables.{Named, MayStand}
+use Rattle.dsp_defs.specs.Grammar.{Symbol, Name, Numeral, word_of, arguments, argument_symbols, block_symbols, input_symbols, length_symbols, symbols, input_flow, IsFit, Reads, container_of, rate_symbols, HasRate, table_symbols, correlates}
+use Rattle.dsp_defs.specs.Places.{◌>>=◌, choice, named, begins_with, word_at, format_at, natural_at, container_at, environment_at}
 use Rattle.dsp_script.specs.Answers.{GivesUnlessMemory}
-use Rattle.dsp_defs.specs.Reading.{fault_in, blocks_at, begins_with, length_at, nothing_of, input_at, script_at, reading, first_fault, kind_at}
-use Rattle.dsp_script.proofs.Steps.{bind_ok, ok_is, pair, pair_is, named_again, written_name, Strips, Strips-split, Strips-from_spells, spells_from_Strips, Takes, Takes-then, word_takes, format_takes, natural_takes, word_read, format_read, natural_read, container_takes, container_read}
-use Rattle.dsp_script.proofs.Names.{no_length}
-use Rattle.dsp_script.proofs.ListLaws.{refused}
+use Rattle.dsp_defs.specs.Reading.{fault_in, blocks_at, length_at, nothing_of, input_at, script_at, reading, first_fault, kind_at}
+use Rattle.dsp_script.proofs.Steps.{bind_ok, ok_is, pair, pair_is, choice_run, next_takes, begins_word, begins_other, Strips, Strips-split, Strips-from_spells, spells_from_Strips, Takes, Takes-then, word_takes, format_takes, natural_takes, word_read, format_read, natural_read, container_takes, container_read}
+use Rattle.dsp_script.proofs.Names.{no_length, no_table, container_again, input_container_again}
+use Rattle.dsp_script.proofs.ListLaws.{refused, tables_in, braced}
+use Rattle.dsp_script.proofs.TableLaws.{environment_of, tables_of, environment_takes, environment_read}
 use Rattle.dsp_script.proofs.BlockLaws.{blocks_take, blocks_read}
 
 -- ---- the block length
 
-length_takes : (rest after : Rest) (frames : Option ℕ) → length_at rest ≡ Ok (frames, after) → Takes rest after (length_symbols frames) × IfSome frames (λ n. (1 ≤ n) × (n ≤ MAX_BLOCK_LENGTH))
+length_takes : (tables : List Named) (rest after : Rest) (frames : Option ℕ) → length_at rest ≡ Ok (frames, after) → Takes tables rest after (length_symbols frames) × IfSome frames (λ n. (1 ≤ n) × (n ≤ MAX_BLOCK_LENGTH))
 unfolding length_at
-length_takes rest after frames e = tested (begins_with (codes "block") rest.items) e
+length_takes tables rest after frames e = tested (begins_with (codes "block") rest.items) e
   where
-    tested : (b : Bool) → cond b (word_at (codes "block") rest >>= λ name. natural_at 1 MAX_BLOCK_LENGTH name.1 >>= λ n. Ok (Some n.0, n.1)) (Ok (None, rest)) ≡ pair frames after → Takes rest after (length_symbols frames) × IfSome frames (λ n. (1 ≤ n) × (n ≤ MAX_BLOCK_LENGTH))
+    tested : (b : Bool) → cond b (word_at (codes "block") rest >>= λ name. natural_at 1 MAX_BLOCK_LENGTH name.1 >>= λ n. Ok (Some n.0, n.1)) (Ok (None, rest)) ≡ pair frames after → Takes tables rest after (length_symbols frames) × IfSome frames (λ n. (1 ≤ n) × (n ≤ MAX_BLOCK_LENGTH))
     tested true e =
         let a = bind_ok (word_at (codes "block") rest) _ (frames, after) e in
         let b = bind_ok (natural_at 1 MAX_BLOCK_LENGTH a.0.1) _ (frames, after) a.2 in
         let p = pair_is (Some b.0.0) frames b.0.1 after b.2 in
         let read : natural_at 1 MAX_BLOCK_LENGTH a.0.1 ≡ pair b.0.0 after = b.1 ∙ ap (pair b.0.0) p.1 in
-        let t = natural_takes 1 MAX_BLOCK_LENGTH a.0.1 after b.0.0 read in
-        rw (← p.0) (Takes-then rest a.0.1 after (Name (codes "block") ∷ []) (Numeral (pos b.0.0) ∷ []) (word_takes (codes "block") rest a.0.1 a.0.0 a.1) t.0, (t.1, t.2))
+        let t = natural_takes tables 1 MAX_BLOCK_LENGTH a.0.1 after b.0.0 read in
+        rw (← p.0) (Takes-then tables rest a.0.1 after (Name (codes "block") ∷ []) (Numeral (pos b.0.0) ∷ []) (word_takes tables (codes "block") rest a.0.1 a.0.0 a.1) t.0, (t.1, t.2))
     tested false e =
         let p = pair_is None frames rest after e in
         rw (← p.0) (record { strips = ap (λ (r : Rest). r.items) p.1; end = ap (λ (r : Rest). r.end) p.1 }, tt)
 
-begins_word : (name : List ℕ) (items left : List Item) (symbols : List Symbol) → Strips items (Name name ∷ symbols) left → begins_with name items ≡ true
-begins_word name [] left symbols h = absurd h
-begins_word name (item ∷ items) left symbols h = rw (written_name item.token name h.0, named_again name) refl
-
-begins_other : (name other : List ℕ) (items left : List Item) (symbols : List Symbol) → named name other ≡ None → Strips items (Name other ∷ symbols) left → begins_with name items ≡ false
-begins_other name other [] left symbols differs h = absurd h
-begins_other name other (item ∷ items) left symbols differs h = rw (written_name item.token other h.0, differs) refl
-
-begins_blocks : (blocks : List Block) (items left : List Item) (more : List Symbol) → Strips items (flat_map block_symbols blocks ++ Name (codes "output") ∷ more) left → begins_with (codes "block") items ≡ false
-begins_blocks [] items left more h = begins_other (codes "block") (codes "output") items left more refl h
-begins_blocks (b ∷ blocks) items left more h =
-    let regrouped : flat_map block_symbols (b ∷ blocks) ++ Name (codes "output") ∷ more ≡ block_symbols b ++ (flat_map block_symbols blocks ++ Name (codes "output") ∷ more) = ap (λ (x : List Symbol). x ++ Name (codes "output") ∷ more) (flat_map-cons block_symbols b blocks) ∙ append_assoc (block_symbols b) (flat_map block_symbols blocks) (Name (codes "output") ∷ more) in
-    let first = subst (λ (x : List Symbol). Strips items x left) regrouped h in
-    begins_other (codes "block") (name_of (word_of b)) items left (flat_map argument_symbols (arguments b) ++ (flat_map block_symbols blocks ++ Name (codes "output") ∷ more)) (no_length (word_of b)) first
-
-length_read : (frames : Option ℕ) (blocks : List Block) (more : List Symbol) (items between left : List Item) (end : ℕ) → IfSome frames (λ n. (1 ≤ n) × (n ≤ MAX_BLOCK_LENGTH)) → Strips items (length_symbols frames) between → Strips between (flat_map block_symbols blocks ++ Name (codes "output") ∷ more) left
+length_read : (tables : List Named) (frames : Option ℕ) (items between : List Item) (end : ℕ) → IfSome frames (λ n. (1 ≤ n) × (n ≤ MAX_BLOCK_LENGTH)) → Strips tables items (length_symbols frames) between → begins_with (codes "block") between ≡ false
     → length_at (record { items = items; end = end }) ≡ Ok (frames, record { items = between; end = end })
 unfolding length_at
-length_read None blocks more items between left end fits first then = rw (first, begins_blocks blocks between left more then) refl
-length_read (Some n) blocks more items between left end fits first then =
-    let s = Strips-split items (Name (codes "block") ∷ []) (Numeral (pos n) ∷ []) between first in
-    rw (begins_word (codes "block") items between (Numeral (pos n) ∷ []) first, word_read (codes "block") items s.0 end s.1, natural_read 1 MAX_BLOCK_LENGTH n s.0 between end fits.0 fits.1 s.2) refl
+length_read tables None items between end fits first none = rw (first, none) refl
+length_read tables (Some n) items between end fits first none =
+    let s = Strips-split tables items (Name (codes "block") ∷ []) (Numeral (pos n) ∷ []) between first in
+    rw (begins_word tables (codes "block") items between (Numeral (pos n) ∷ []) first, word_read tables (codes "block") items s.0 end s.1, natural_read tables 1 MAX_BLOCK_LENGTH n s.0 between end fits.0 fits.1 s.2) refl
+
+-- blocks begin with no word that is none of theirs
+begins_blocks : (tables : List Named) (name : List ℕ) (blocks : List Block) (items left : List Item) (more : List Symbol) → named name (codes "output") ≡ None → ((w : Word) → named name (name_of w) ≡ None)
+    → Strips tables items (flat_map block_symbols blocks ++ Name (codes "output") ∷ more) left → begins_with name items ≡ false
+begins_blocks tables name [] items left more output words h = begins_other tables name (codes "output") items left more output h
+begins_blocks tables name (b ∷ blocks) items left more output words h =
+    let regrouped : flat_map block_symbols (b ∷ blocks) ++ Name (codes "output") ∷ more ≡ block_symbols b ++ (flat_map block_symbols blocks ++ Name (codes "output") ∷ more) = ap (λ (x : List Symbol). x ++ Name (codes "output") ∷ more) (flat_map-cons block_symbols b blocks) ∙ append_assoc (block_symbols b) (flat_map block_symbols blocks) (Name (codes "output") ∷ more) in
+    let first = subst (λ (x : List Symbol). Strips tables items x left) regrouped h in
+    begins_other tables name (name_of (word_of b)) items left (flat_map argument_symbols (arguments b) ++ (flat_map block_symbols blocks ++ Name (codes "output") ∷ more)) (words (word_of b)) first
+
+-- nor do tables begin with the word of the block length
+begins_tables : (tables named : List Named) (blocks : List Block) (items between left : List Item) → Strips tables items (flat_map table_symbols named) between → Strips tables between (flat_map block_symbols blocks ++ Name (codes "output") ∷ []) left → begins_with (codes "block") items ≡ false
+begins_tables tables [] blocks items between left first then = rw first (begins_blocks tables (codes "block") blocks between left [] refl no_length then)
+begins_tables tables (t ∷ named) blocks items between left first then =
+    begins_other tables (codes "block") (codes "table") items between (Name t.name ∷ braced t.numbers ++ flat_map table_symbols named) refl (subst (λ (x : List Symbol). Strips tables items x between) (flat_map-cons table_symbols t named) first)
 
 -- ---- the input
 
-kind_takes : (wanted : Container) (rest after : Rest) (k : InputKind) → kind_at wanted rest ≡ Ok (k, after) → (container_of k ≡ wanted) × Takes rest after (rate_symbols k) × HasRate k
+-- no input is a WAVE file of the extensible form
+no_wavex : (run : List ℕ) (c : Container) → container_by_name input_containers run ≡ Some c → c ≢ container.Wavex
+unfolding container_by_name
+no_wavex run c e = tested (bytes_eq run (codes "wave")) (bytes_eq run (codes "raw")) e
+  where
+    tested : (a b : Bool) → cond a (Some container.Wave) (cond b (Some container.Raw) None) ≡ Some c → c ≢ container.Wavex
+    tested true b e = λ same. absurd cc
+    tested false true e = λ same. absurd cc
+    tested false false e = absurd cc
+
+no_wavex_at : (rest after : Rest) (c : Container) → container_at input_containers rest ≡ Ok (c, after) → c ≢ container.Wavex
+unfolding container_at
+no_wavex_at rest after c e =
+    let n = next_takes (choice (container_by_name input_containers)) rest after c e in
+    let run = choice_run (container_by_name input_containers) n.0.offset n.0.token c n.3 in
+    no_wavex run.0 c run.2
+
+kind_takes : (tables : List Named) (wanted : Container) (rest after : Rest) (k : InputKind) → wanted ≢ container.Wavex → kind_at wanted rest ≡ Ok (k, after) → (container_of k ≡ wanted) × Takes tables rest after (rate_symbols k) × HasRate k
 unfolding kind_at
-kind_takes container.Wave rest after k e =
+kind_takes tables container.Wavex rest after k differs e = absurd (differs refl)
+kind_takes tables container.Wave rest after k differs e =
     let p = pair_is kind.Wave k rest after e in
     rw (← p.0) (refl, record { strips = ap (λ (r : Rest). r.items) p.1; end = ap (λ (r : Rest). r.end) p.1 }, tt)
-kind_takes container.Raw rest after k e =
+kind_takes tables container.Raw rest after k differs e =
     let b = bind_ok (natural_at 1 4294967295 rest) _ (k, after) e in
     let p = pair_is (kind.Raw b.0.0) k b.0.1 after b.2 in
     let read : natural_at 1 4294967295 rest ≡ pair b.0.0 after = b.1 ∙ ap (pair b.0.0) p.1 in
-    let t = natural_takes 1 4294967295 rest after b.0.0 read in
+    let t = natural_takes tables 1 4294967295 rest after b.0.0 read in
     rw (← p.0) (refl, t.0, (t.1, t.2))
 
-kind_read : (k : InputKind) (items left : List Item) (end : ℕ) → HasRate k → Strips items (rate_symbols k) left → kind_at (container_of k) (record { items = items; end = end }) ≡ Ok (k, record { items = left; end = end })
+kind_read : (tables : List Named) (k : InputKind) (items left : List Item) (end : ℕ) → HasRate k → Strips tables items (rate_symbols k) left → kind_at (container_of k) (record { items = items; end = end }) ≡ Ok (k, record { items = left; end = end })
 unfolding kind_at
-kind_read kind.Wave items left end fits h = rw h refl
-kind_read (kind.Raw rate) items left end fits h = rw (natural_read 1 4294967295 rate items left end fits.0 fits.1 h) refl
+kind_read tables kind.Wave items left end fits h = rw h refl
+kind_read tables (kind.Raw rate) items left end fits h = rw (natural_read tables 1 4294967295 rate items left end fits.0 fits.1 h) refl
 
 record FitsInput (input : Input) : Type 0 where
   channels : (1 ≤ input.channels) × (input.channels ≤ MAX_CHANNELS)
   rate : HasRate input.kind
 
-input_takes : (rest after : Rest) (input : Input) → input_at rest ≡ Ok (input, after) → Takes rest after (input_symbols input) × FitsInput input
+input_takes : (tables : List Named) (rest after : Rest) (input : Input) → input_at rest ≡ Ok (input, after) → Takes tables rest after (input_symbols input) × FitsInput input
 unfolding input_at
-input_takes rest after input e =
+input_takes tables rest after input e =
     let a = bind_ok (word_at (codes "input") rest) _ (input, after) e in
-    let b = bind_ok (container_at a.0.1) _ (input, after) a.2 in
+    let b = bind_ok (container_at input_containers a.0.1) _ (input, after) a.2 in
     let f = bind_ok (format_at b.0.1) _ (input, after) b.2 in
     let c = bind_ok (natural_at 1 MAX_CHANNELS f.0.1) _ (input, after) f.2 in
     let k = bind_ok (kind_at b.0.0 c.0.1) _ (input, after) c.2 in
     let p = pair_is (record { kind = k.0.0; format = f.0.0; channels = c.0.0 }) input k.0.1 after k.2 in
     let read : kind_at b.0.0 c.0.1 ≡ pair k.0.0 after = k.1 ∙ ap (pair k.0.0) p.1 in
-    let tk = kind_takes b.0.0 c.0.1 after k.0.0 read in
-    let tc = natural_takes 1 MAX_CHANNELS f.0.1 c.0.1 c.0.0 c.1 in
+    let tk = kind_takes tables b.0.0 c.0.1 after k.0.0 (no_wavex_at a.0.1 b.0.1 b.0.0 b.1) read in
+    let tc = natural_takes tables 1 MAX_CHANNELS f.0.1 c.0.1 c.0.0 c.1 in
     let rates = rate_symbols k.0.0 in
-    let t3 = Takes-then f.0.1 c.0.1 after (Numeral (pos c.0.0) ∷ []) rates tc.0 tk.1 in
-    let t2 = Takes-then b.0.1 f.0.1 after (Name (format_name f.0.0) ∷ []) (Numeral (pos c.0.0) ∷ rates) (format_takes b.0.1 f.0.1 f.0.0 f.1) t3 in
-    let t1 = Takes-then a.0.1 b.0.1 after (Name (container_name b.0.0) ∷ []) (Name (format_name f.0.0) ∷ Numeral (pos c.0.0) ∷ rates) (container_takes a.0.1 b.0.1 b.0.0 b.1) t2 in
-    let t0 = Takes-then rest a.0.1 after (Name (codes "input") ∷ []) (Name (container_name b.0.0) ∷ Name (format_name f.0.0) ∷ Numeral (pos c.0.0) ∷ rates) (word_takes (codes "input") rest a.0.1 a.0.0 a.1) t1 in
-    let takes = subst (λ (c' : Container). Takes rest after (Name (codes "input") ∷ Name (container_name c') ∷ Name (format_name f.0.0) ∷ Numeral (pos c.0.0) ∷ rates)) (sym tk.0) t0 in
+    let t3 = Takes-then tables f.0.1 c.0.1 after (Numeral (pos c.0.0) ∷ []) rates tc.0 tk.1 in
+    let t2 = Takes-then tables b.0.1 f.0.1 after (Name (format_name f.0.0) ∷ []) (Numeral (pos c.0.0) ∷ rates) (format_takes tables b.0.1 f.0.1 f.0.0 f.1) t3 in
+    let t1 = Takes-then tables a.0.1 b.0.1 after (Name (container_name b.0.0) ∷ []) (Name (format_name f.0.0) ∷ Numeral (pos c.0.0) ∷ rates) (container_takes tables input_containers a.0.1 b.0.1 b.0.0 b.1) t2 in
+    let t0 = Takes-then tables rest a.0.1 after (Name (codes "input") ∷ []) (Name (container_name b.0.0) ∷ Name (format_name f.0.0) ∷ Numeral (pos c.0.0) ∷ rates) (word_takes tables (codes "input") rest a.0.1 a.0.0 a.1) t1 in
+    let takes = subst (λ (c' : Container). Takes tables rest after (Name (codes "input") ∷ Name (container_name c') ∷ Name (format_name f.0.0) ∷ Numeral (pos c.0.0) ∷ rates)) (sym tk.0) t0 in
     rw (← p.0) (takes, record { channels = (tc.1, tc.2); rate = tk.2 })
 
-input_read : (input : Input) (items left : List Item) (end : ℕ) → FitsInput input → Strips items (input_symbols input) left → input_at (record { items = items; end = end }) ≡ Ok (input, record { items = left; end = end })
+input_read : (tables : List Named) (input : Input) (items left : List Item) (end : ℕ) → FitsInput input → Strips tables items (input_symbols input) left → input_at (record { items = items; end = end }) ≡ Ok (input, record { items = left; end = end })
 unfolding input_at
-input_read input items left end fits h =
+input_read tables input items left end fits h =
     let rates = rate_symbols input.kind in
     let named = Name (container_name (container_of input.kind)) in
-    let a = Strips-split items (Name (codes "input") ∷ []) (named ∷ Name (format_name input.format) ∷ Numeral (pos input.channels) ∷ rates) left h in
-    let b = Strips-split a.0 (named ∷ []) (Name (format_name input.format) ∷ Numeral (pos input.channels) ∷ rates) left a.2 in
-    let f = Strips-split b.0 (Name (format_name input.format) ∷ []) (Numeral (pos input.channels) ∷ rates) left b.2 in
-    let c = Strips-split f.0 (Numeral (pos input.channels) ∷ []) rates left f.2 in
+    let a = Strips-split tables items (Name (codes "input") ∷ []) (named ∷ Name (format_name input.format) ∷ Numeral (pos input.channels) ∷ rates) left h in
+    let b = Strips-split tables a.0 (named ∷ []) (Name (format_name input.format) ∷ Numeral (pos input.channels) ∷ rates) left a.2 in
+    let f = Strips-split tables b.0 (Name (format_name input.format) ∷ []) (Numeral (pos input.channels) ∷ rates) left b.2 in
+    let c = Strips-split tables f.0 (Numeral (pos input.channels) ∷ []) rates left f.2 in
     rw (
-      word_read (codes "input") items a.0 end a.1,
-      container_read (container_of input.kind) a.0 b.0 end b.1,
-      format_read input.format b.0 f.0 end f.1,
-      natural_read 1 MAX_CHANNELS input.channels f.0 c.0 end fits.channels.0 fits.channels.1 c.1,
-      kind_read input.kind c.0 left end fits.rate c.2,
+      word_read tables (codes "input") items a.0 end a.1,
+      container_read tables input_containers (container_of input.kind) a.0 b.0 end (input_container_again input.kind) b.1,
+      format_read tables input.format b.0 f.0 end f.1,
+      natural_read tables 1 MAX_CHANNELS input.channels f.0 c.0 end fits.channels.0 fits.channels.1 c.1,
+      kind_read tables input.kind c.0 left end fits.rate c.2,
     ) refl
 
 -- ---- the script
@@ -134,65 +156,86 @@ nothing_is [] x e = refl
 nothing_is (item ∷ items) x e = absurd ((elim item.token as (λ (t : Token). nothing_of (record { offset = item.offset; token = t } ∷ items) ≡ Ok x → ⊥) [ Bad ↦ (λ h. cc) | Open ↦ (λ h. cc) | Close ↦ (λ h. cc) | Run run ↦ (λ h. cc) ]) e)
 
 -- the symbols of a script as they are read
-abbrev read_symbols : Script → List Symbol
-read_symbols s = (Name (codes "dspfx") ∷ []) ++ ((Numeral (pos s.version) ∷ []) ++ (input_symbols s.input ++ (length_symbols s.block ++ ((flat_map block_symbols s.blocks ++ Name (codes "output") ∷ []) ++ Name (container_name s.output) ∷ []))))
+abbrev read_symbols : List Named → Script → List Symbol
+read_symbols tables s = (Name (codes "dspfx") ∷ []) ++ ((Numeral (pos s.version) ∷ []) ++ (input_symbols s.input ++ (length_symbols s.block ++ (flat_map table_symbols tables ++ ((flat_map block_symbols s.blocks ++ Name (codes "output") ∷ []) ++ Name (container_name s.output) ∷ [])))))
 
-same_symbols : (s : Script) → read_symbols s ≡ symbols s
-same_symbols s = simp append_assoc
+same_symbols : (tables : List Named) (s : Script) → read_symbols tables s ≡ symbols tables s
+same_symbols tables s = simp append_assoc
 
-script_takes : (rest : Rest) (s : Script) → script_at rest ≡ Ok s → Strips rest.items (symbols s) [] × IsFit s
+-- a script was read, and nothing is left
+record IsScript (items : List Item) (s : Script) : Type 0 where
+  tables : List Named
+  stand : MayStand s.version tables
+  strips : Strips tables items (symbols tables s) []
+  fit : IsFit s
+
+one_at_most : (n : ℕ) → n + 0 ≤ 1 → n ≤ 1
+one_at_most n h = omega arith
+
+script_takes : (rest : Rest) (s : Script) → script_at rest ≡ Ok s → IsScript rest.items s
 unfolding script_at
 script_takes rest s e =
     let d = bind_ok (word_at (codes "dspfx") rest) _ s e in
-    let v = bind_ok (natural_at 1 1 d.0.1) _ s d.2 in
+    let v = bind_ok (natural_at 1 MAX_VERSION d.0.1) _ s d.2 in
     let i = bind_ok (input_at v.0.1) _ s v.2 in
     let n = bind_ok (length_at i.0.1) _ s i.2 in
-    let b = bind_ok (blocks_at MAX_BLOCKS false (input_flow i.0.0) n.0.1) _ s n.2 in
-    let c = bind_ok (container_at b.0.1) _ s b.2 in
+    let g = bind_ok (environment_at v.0.0 n.0.1) _ s n.2 in
+    let b = bind_ok (blocks_at g.0.0 MAX_BLOCKS false (input_flow i.0.0) g.0.1) _ s g.2 in
+    let c = bind_ok (container_at output_containers b.0.1) _ s b.2 in
     let z = bind_ok (nothing_of c.0.1.items) _ s c.2 in
     let made : Script = record { version = v.0.0; input = i.0.0; block = n.0.0; blocks = b.0.0; output = c.0.0 } in
     let same : made ≡ s = ok_is made s z.2 in
-    let tv = natural_takes 1 1 d.0.1 v.0.1 v.0.0 v.1 in
-    let ti = input_takes v.0.1 i.0.1 i.0.0 i.1 in
-    let tn = length_takes i.0.1 n.0.1 n.0.0 n.1 in
-    let tb = blocks_take MAX_BLOCKS false (input_flow i.0.0) n.0.1 b.0.1 b.0.0 b.1 in
-    let tc = container_takes b.0.1 c.0.1 c.0.0 c.1 in
+    let tables = tables_in g.0.0 in
+    let tv = natural_takes tables 1 MAX_VERSION d.0.1 v.0.1 v.0.0 v.1 in
+    let ti = input_takes tables v.0.1 i.0.1 i.0.0 i.1 in
+    let tn = length_takes tables i.0.1 n.0.1 n.0.0 n.1 in
+    let tg = environment_takes tables v.0.0 n.0.1 g.0.1 g.0.0 g.1 in
+    let tb = blocks_take g.0.0 MAX_BLOCKS false (input_flow i.0.0) g.0.1 b.0.1 b.0.0 b.1 in
+    let tc = container_takes tables output_containers b.0.1 c.0.1 c.0.0 c.1 in
+    let named = flat_map table_symbols tables in
     let blocks = flat_map block_symbols b.0.0 ++ Name (codes "output") ∷ [] in
-    let t4 = Takes-then n.0.1 b.0.1 c.0.1 blocks (Name (container_name c.0.0) ∷ []) tb.takes tc in
-    let t3 = Takes-then i.0.1 n.0.1 c.0.1 (length_symbols n.0.0) (blocks ++ Name (container_name c.0.0) ∷ []) tn.0 t4 in
-    let t2 = Takes-then v.0.1 i.0.1 c.0.1 (input_symbols i.0.0) (length_symbols n.0.0 ++ (blocks ++ Name (container_name c.0.0) ∷ [])) ti.0 t3 in
-    let t1 = Takes-then d.0.1 v.0.1 c.0.1 (Numeral (pos v.0.0) ∷ []) (input_symbols i.0.0 ++ (length_symbols n.0.0 ++ (blocks ++ Name (container_name c.0.0) ∷ []))) tv.0 t2 in
-    let t0 = Takes-then rest d.0.1 c.0.1 (Name (codes "dspfx") ∷ []) ((Numeral (pos v.0.0) ∷ []) ++ (input_symbols i.0.0 ++ (length_symbols n.0.0 ++ (blocks ++ Name (container_name c.0.0) ∷ [])))) (word_takes (codes "dspfx") rest d.0.1 d.0.0 d.1) t1 in
-    let strips : Strips rest.items (read_symbols made) [] = rw (nothing_is c.0.1.items z.0 z.1) at t0.strips in
+    let chain = blocks ++ Name (container_name c.0.0) ∷ [] in
+    let t5 = Takes-then tables g.0.1 b.0.1 c.0.1 blocks (Name (container_name c.0.0) ∷ []) tb.takes tc in
+    let t4 = Takes-then tables n.0.1 g.0.1 c.0.1 named chain tg.takes t5 in
+    let t3 = Takes-then tables i.0.1 n.0.1 c.0.1 (length_symbols n.0.0) (named ++ chain) tn.0 t4 in
+    let t2 = Takes-then tables v.0.1 i.0.1 c.0.1 (input_symbols i.0.0) (length_symbols n.0.0 ++ (named ++ chain)) ti.0 t3 in
+    let t1 = Takes-then tables d.0.1 v.0.1 c.0.1 (Numeral (pos v.0.0) ∷ []) (input_symbols i.0.0 ++ (length_symbols n.0.0 ++ (named ++ chain))) tv.0 t2 in
+    let t0 = Takes-then tables rest d.0.1 c.0.1 (Name (codes "dspfx") ∷ []) ((Numeral (pos v.0.0) ∷ []) ++ (input_symbols i.0.0 ++ (length_symbols n.0.0 ++ (named ++ chain)))) (word_takes tables (codes "dspfx") rest d.0.1 d.0.0 d.1) t1 in
+    let strips : Strips tables rest.items (read_symbols tables made) [] = rw (nothing_is c.0.1.items z.0 z.1) at t0.strips in
     let fit : IsFit made = record {
-      version = omega (arith, tv.1, tv.2);
+      version = (tv.1, tv.2);
       channels = ti.1.channels;
       rate = ti.1.rate;
       block = tn.1;
       blocks = tb.few;
-      one_correlate = omega (arith, tb.once);
+      one_correlate = one_at_most (correlates b.0.0) tb.once;
       chain = tb.chain;
     } in
-    subst (λ (t : Script). Strips rest.items (symbols t) [] × IsFit t) same (subst (λ (x : List Symbol). Strips rest.items x []) (same_symbols made) strips, fit)
+    subst (IsScript rest.items) same (record { tables = tables; stand = tg.stand; strips = subst (λ (x : List Symbol). Strips tables rest.items x []) (same_symbols tables made) strips; fit = fit })
 
-script_read : (items : List Item) (end : ℕ) (s : Script) → Strips items (symbols s) [] → IsFit s → script_at (record { items = items; end = end }) ≡ Ok s
+script_read : (tables : List Named) (items : List Item) (end : ℕ) (s : Script) → MayStand s.version tables → Strips tables items (symbols tables s) [] → IsFit s → script_at (record { items = items; end = end }) ≡ Ok s
 unfolding script_at
-script_read items end s h fit =
+script_read tables items end s stand h fit =
+    let named = flat_map table_symbols tables in
     let blocks = flat_map block_symbols s.blocks ++ Name (codes "output") ∷ [] in
-    let strips : Strips items (read_symbols s) [] = subst (λ (x : List Symbol). Strips items x []) (sym (same_symbols s)) h in
-    let d = Strips-split items (Name (codes "dspfx") ∷ []) ((Numeral (pos s.version) ∷ []) ++ (input_symbols s.input ++ (length_symbols s.block ++ (blocks ++ Name (container_name s.output) ∷ [])))) [] strips in
-    let v = Strips-split d.0 (Numeral (pos s.version) ∷ []) (input_symbols s.input ++ (length_symbols s.block ++ (blocks ++ Name (container_name s.output) ∷ []))) [] d.2 in
-    let i = Strips-split v.0 (input_symbols s.input) (length_symbols s.block ++ (blocks ++ Name (container_name s.output) ∷ [])) [] v.2 in
-    let n = Strips-split i.0 (length_symbols s.block) (blocks ++ Name (container_name s.output) ∷ []) [] i.2 in
-    let b = Strips-split n.0 blocks (Name (container_name s.output) ∷ []) [] n.2 in
-    let one : s.version ≡ 1 = fit.version in
+    let chain = blocks ++ Name (container_name s.output) ∷ [] in
+    let strips : Strips tables items (read_symbols tables s) [] = subst (λ (x : List Symbol). Strips tables items x []) (sym (same_symbols tables s)) h in
+    let d = Strips-split tables items (Name (codes "dspfx") ∷ []) ((Numeral (pos s.version) ∷ []) ++ (input_symbols s.input ++ (length_symbols s.block ++ (named ++ chain)))) [] strips in
+    let v = Strips-split tables d.0 (Numeral (pos s.version) ∷ []) (input_symbols s.input ++ (length_symbols s.block ++ (named ++ chain))) [] d.2 in
+    let i = Strips-split tables v.0 (input_symbols s.input) (length_symbols s.block ++ (named ++ chain)) [] v.2 in
+    let n = Strips-split tables i.0 (length_symbols s.block) (named ++ chain) [] i.2 in
+    let g = Strips-split tables n.0 named chain [] n.2 in
+    let b = Strips-split tables g.0 blocks (Name (container_name s.output) ∷ []) [] g.2 in
+    let environment = environment_of s.version tables in
+    let first : Strips (tables_in environment) g.0 blocks b.0 = rw (tables_of s.version tables stand) b.1 in
     rw (
-      word_read (codes "dspfx") items d.0 end d.1,
-      natural_read 1 1 s.version d.0 v.0 end (omega arith) (omega arith) v.1,
-      input_read s.input v.0 i.0 end (record { channels = fit.channels; rate = fit.rate }) i.1,
-      length_read s.block s.blocks [] i.0 n.0 b.0 end fit.block n.1 b.1,
-      blocks_read MAX_BLOCKS false (input_flow s.input) s.blocks n.0 b.0 end b.1 fit.blocks (omega (arith, fit.one_correlate)) fit.chain,
-      container_read s.output b.0 [] end b.2,
+      word_read tables (codes "dspfx") items d.0 end d.1,
+      natural_read tables 1 MAX_VERSION s.version d.0 v.0 end fit.version.0 fit.version.1 v.1,
+      input_read tables s.input v.0 i.0 end (record { channels = fit.channels; rate = fit.rate }) i.1,
+      length_read tables s.block i.0 n.0 end fit.block n.1 (begins_tables tables tables s.blocks n.0 g.0 b.0 g.1 b.1),
+      environment_read s.version tables n.0 g.0 end stand g.1 (begins_blocks tables (codes "table") s.blocks g.0 b.0 [] refl no_table b.1),
+      blocks_read environment MAX_BLOCKS false (input_flow s.input) s.blocks g.0 b.0 end first fit.blocks (omega (arith, fit.one_correlate)) fit.chain,
+      container_read tables output_containers s.output b.0 [] end (container_again s.output) b.2,
     ) refl
 
 -- ---- texts
@@ -202,13 +245,13 @@ unfolding reading
 reading_takes text s e =
     let short = refused (ltb MAX_SCRIPT (length text)) _ _ s e in
     let t = script_takes (rest_of 0 text) s short.1 in
-    record { short = ltb-false _ _ short.0; spelled = spells_from_Strips (items text) (symbols s) t.0; fit = t.1 }
+    record { short = ltb-false _ _ short.0; tables = t.tables; stand = t.stand; spelled = spells_from_Strips t.tables (items text) (symbols t.tables s) t.strips; fit = t.fit }
 
 pub reading_read : (text : List ℕ) (s : Script) → Reads text s → reading text ≡ Ok s
 unfolding reading
 reading_read text s r =
     let short : ltb MAX_SCRIPT (length text) ≡ false = le-ltb _ _ r.short in
-    rw short (script_read (items text) (length text) s (Strips-from_spells (items text) (symbols s) r.spelled) r.fit)
+    rw short (script_read r.tables (items text) (length text) s r.stand (Strips-from_spells r.tables (items text) (symbols r.tables s) r.spelled) r.fit)
 
 pub one_script : (text : List ℕ) (s t : Script) → Reads text s → Reads text t → s ≡ t
 one_script text s t p q = ok_is s t (sym (reading_read text s p) ∙ reading_read text t q)

@@ -1,7 +1,8 @@
 -- One token: what a reader takes is written so, and what is written so is taken.
-use Rattle.std.proofs.Common.{◌≡◌, ◌≢◌, ℕ, ℤ, pos, ◌≤◌, Bool, true, false, cond, List, [], ◌∷◌, ◌++◌, Option, Some, None, Result, Ok, Err, refl, ap, ◌∙◌, arith}
+use Rattle.std.proofs.Common.{◌≡◌, ◌≢◌, ℕ, ℤ, pos, ◌≤◌, Bool, true, false, cond, List, [], ◌∷◌, ◌++◌, map, Option, Some, None, Result, Ok, Err, refl, sym, ap, subst, ◌∙◌, append_assoc, arith}
 use Rattle.std.specs.Prelude.{⊤, find, unsigned_abs, ◌&&◌, int_le}
 use Rattle.std.specs.Str.{bytes_eq}
+use Rattle.std.specs.List.{AllByRecursion}
 use Rattle.std.proofs.lemmas.Int.{ints}
 use Rattle.std.proofs.lemmas.Slice.Eq.{bytes_eq-Decides}
 use Rattle.dsp_defs.specs.declared.script_fault.ScriptFault.{ScriptFault}
@@ -12,11 +13,12 @@ use Rattle.dsp_defs.specs.declared.word.Word.{Word}
 use Rattle.dsp_defs.specs.declared.format.Container.{Container}
 use Rattle.dsp_defs.specs.Token.{Token, Open, Close, Run, Bad, Item, Rest}
 use Rattle.dsp_defs.specs.Numeral.{value_of}
-use Rattle.dsp_defs.specs.Table.{every_word, name_of, word_by_name, every_format, format_name, format_by_name, every_container, container_name, container_by_name}
+use Rattle.dsp_defs.specs.Tables.{Named}
+use Rattle.dsp_defs.specs.Table.{every_word, name_of, word_by_name, every_format, format_name, format_by_name, container_name, container_by_name}
 use Rattle.dsp_defs.specs.Parameters.{IsBetween}
-use Rattle.dsp_defs.specs.Grammar.{Symbol, Name, Numeral, OpenBrace, CloseBrace, IsWritten, Spells}
-use Rattle.dsp_defs.specs.Places.{◌>>=◌, or_fault, first_of, token_at, Judge, next_at, meaning_of, choice, named, word_at, format_at, is_between, number, number_at, natural_at, opening, open_at, another, conversion, conversion_at, container_at}
-use Rattle.dsp_script.proofs.Names.{format_again, container_again}
+use Rattle.dsp_defs.specs.Grammar.{Symbol, Name, Numeral, OpenBrace, CloseBrace, Whole, IsWritten, unwritten, Spells}
+use Rattle.dsp_defs.specs.Places.{◌>>=◌, or_fault, first_of, token_at, Judge, next_at, meaning_of, choice, named, begins_with, word_at, format_at, is_between, number, number_at, natural_at, another, conversion, conversion_at, container_at}
+use Rattle.dsp_script.proofs.Names.{format_again}
 
 -- ---- results
 
@@ -39,43 +41,96 @@ pub passed : {A : Type 0} (b : Bool) (d : ScriptFault) (x y : A) → cond b (Ok 
 passed true d x y e = (refl, ok_is x y e)
 passed false d x y e = absurd cc
 
+-- a test that chose the first
+pub chosen : {A : Type 0} (b : Bool) (r : Result A ScriptFault) (d : ScriptFault) (y : A) → cond b r (Err d) ≡ Ok y → (b ≡ true) × (r ≡ Ok y)
+chosen true r d y e = (refl, e)
+chosen false r d y e = absurd cc
+
 -- ---- tokens
 
 -- symbols are written at the front of the items, and these are left
-abbrev pub Strips : List Item → List Symbol → List Item → Type 0
-Strips items [] left = items ≡ left
-Strips [] (symbol ∷ symbols) left = ⊥
-Strips (item ∷ items) (symbol ∷ symbols) left = IsWritten item.token symbol × Strips items symbols left
+abbrev pub Strips : List Named → List Item → List Symbol → List Item → Type 0
+Strips tables items [] left = items ≡ left
+Strips tables [] (symbol ∷ symbols) left = ⊥
+Strips tables (item ∷ items) (symbol ∷ symbols) left = IsWritten tables item.token symbol × Strips tables items (unwritten symbol item.token ++ symbols) left
 
-pub Strips-append : (items : List Item) (xs ys : List Symbol) (between left : List Item) → Strips items xs between → Strips between ys left → Strips items (xs ++ ys) left
-Strips-append items [] ys between left first then = rw first then
-Strips-append [] (x ∷ xs) ys between left first then = absurd first
-Strips-append (item ∷ items) (x ∷ xs) ys between left first then = (first.0, Strips-append items xs ys between left first.1 then)
+pub Strips-append : (tables : List Named) (items : List Item) (xs ys : List Symbol) (between left : List Item) → Strips tables items xs between → Strips tables between ys left → Strips tables items (xs ++ ys) left
+Strips-append tables items [] ys between left first then = rw first then
+Strips-append tables [] (x ∷ xs) ys between left first then = absurd first
+Strips-append tables (item ∷ items) (x ∷ xs) ys between left first then =
+    let more = Strips-append tables items (unwritten x item.token ++ xs) ys between left first.1 then in
+    (first.0, subst (λ (symbols : List Symbol). Strips tables items symbols left) (append_assoc (unwritten x item.token) xs ys) more)
 
-pub Strips-split : (items : List Item) (xs ys : List Symbol) (left : List Item) → Strips items (xs ++ ys) left → (between : List Item) × Strips items xs between × Strips between ys left
-Strips-split items [] ys left h = (items, refl, h)
-Strips-split [] (x ∷ xs) ys left h = absurd h
-Strips-split (item ∷ items) (x ∷ xs) ys left h = let more = Strips-split items xs ys left h.1 in (more.0, (h.0, more.1), more.2)
+pub Strips-split : (tables : List Named) (items : List Item) (xs ys : List Symbol) (left : List Item) → Strips tables items (xs ++ ys) left → (between : List Item) × Strips tables items xs between × Strips tables between ys left
+Strips-split tables items [] ys left h = (items, refl, h)
+Strips-split tables [] (x ∷ xs) ys left h = absurd h
+Strips-split tables (item ∷ items) (x ∷ xs) ys left h =
+    let same = sym (append_assoc (unwritten x item.token) xs ys) in
+    let more = Strips-split tables items (unwritten x item.token ++ xs) ys left (subst (λ (symbols : List Symbol). Strips tables items symbols left) same h.1) in
+    (more.0, (h.0, more.1), more.2)
 
-pub Strips-from_spells : (items : List Item) (symbols : List Symbol) → Spells items symbols → Strips items symbols []
-Strips-from_spells [] [] h = refl
-Strips-from_spells [] (x ∷ xs) h = absurd h
-Strips-from_spells (item ∷ items) [] h = absurd h
-Strips-from_spells (item ∷ items) (x ∷ xs) h = (h.0, Strips-from_spells items xs h.1)
+pub Strips-from_spells : (tables : List Named) (items : List Item) (symbols : List Symbol) → Spells tables items symbols → Strips tables items symbols []
+Strips-from_spells tables [] [] h = refl
+Strips-from_spells tables [] (x ∷ xs) h = absurd h
+Strips-from_spells tables (item ∷ items) [] h = absurd h
+Strips-from_spells tables (item ∷ items) (x ∷ xs) h = (h.0, Strips-from_spells tables items (unwritten x item.token ++ xs) h.1)
 
-pub spells_from_Strips : (items : List Item) (symbols : List Symbol) → Strips items symbols [] → Spells items symbols
-spells_from_Strips [] [] h = tt
-spells_from_Strips [] (x ∷ xs) h = absurd h
-spells_from_Strips (item ∷ items) [] h = absurd cc
-spells_from_Strips (item ∷ items) (x ∷ xs) h = (h.0, spells_from_Strips items xs h.1)
+pub spells_from_Strips : (tables : List Named) (items : List Item) (symbols : List Symbol) → Strips tables items symbols [] → Spells tables items symbols
+spells_from_Strips tables [] [] h = tt
+spells_from_Strips tables [] (x ∷ xs) h = absurd h
+spells_from_Strips tables (item ∷ items) [] h = absurd cc
+spells_from_Strips tables (item ∷ items) (x ∷ xs) h = (h.0, spells_from_Strips tables items (unwritten x item.token ++ xs) h.1)
+
+-- a symbol that is written by one token
+abbrev pub IsOne : Symbol → Type 0
+IsOne (Whole numbers) = ⊥
+IsOne symbol = Unit {0}
+
+-- such symbols are written in one way, whatever the tables are
+pub written_any : (tables others : List Named) (token : Token) (symbol : Symbol) → IsOne symbol → IsWritten tables token symbol → IsWritten others token symbol
+written_any tables others (Run run) (Name name) one h = h
+written_any tables others Open (Name name) one h = absurd h
+written_any tables others Close (Name name) one h = absurd h
+written_any tables others Bad (Name name) one h = absurd h
+written_any tables others (Run run) (Numeral n) one h = h
+written_any tables others Open (Numeral n) one h = absurd h
+written_any tables others Close (Numeral n) one h = absurd h
+written_any tables others Bad (Numeral n) one h = absurd h
+written_any tables others (Run run) OpenBrace one h = absurd h
+written_any tables others Open OpenBrace one h = tt
+written_any tables others Close OpenBrace one h = absurd h
+written_any tables others Bad OpenBrace one h = absurd h
+written_any tables others (Run run) CloseBrace one h = absurd h
+written_any tables others Open CloseBrace one h = absurd h
+written_any tables others Close CloseBrace one h = tt
+written_any tables others Bad CloseBrace one h = absurd h
+written_any tables others token (Whole numbers) one h = absurd one
+
+pub unwritten_one : (symbol : Symbol) (token : Token) → IsOne symbol → unwritten symbol token ≡ []
+unwritten_one (Name name) token one = refl
+unwritten_one (Numeral n) token one = refl
+unwritten_one OpenBrace token one = refl
+unwritten_one CloseBrace token one = refl
+unwritten_one (Whole numbers) token one = absurd one
+
+pub Strips-any : (tables others : List Named) (items : List Item) (symbols : List Symbol) (left : List Item) → AllByRecursion IsOne symbols → Strips tables items symbols left → Strips others items symbols left
+Strips-any tables others items [] left one h = h
+Strips-any tables others [] (x ∷ xs) left one h = absurd h
+Strips-any tables others (item ∷ items) (x ∷ xs) left one h =
+    let none : unwritten x item.token ++ xs ≡ xs = ap (λ (symbols : List Symbol). symbols ++ xs) (unwritten_one x item.token one.0) in
+    (written_any tables others item.token x one.0 h.0, rw none (Strips-any tables others items xs left one.1 (rw none at h.1)))
+
+pub numerals_one : (numbers : List ℤ) (symbols : List Symbol) → AllByRecursion IsOne symbols → AllByRecursion IsOne (map Numeral numbers ++ symbols)
+numerals_one [] symbols one = one
+numerals_one (n ∷ numbers) symbols one = (tt, numerals_one numbers symbols one)
 
 -- a reader went from here to there over the symbols
-pub record Takes (rest after : Rest) (symbols : List Symbol) : Type 0 where
-  pub strips : Strips rest.items symbols after.items
+pub record Takes (tables : List Named) (rest after : Rest) (symbols : List Symbol) : Type 0 where
+  pub strips : Strips tables rest.items symbols after.items
   pub end : rest.end ≡ after.end
 
-pub Takes-then : (a b c : Rest) (xs ys : List Symbol) → Takes a b xs → Takes b c ys → Takes a c (xs ++ ys)
-Takes-then a b c xs ys p q = record { strips = Strips-append a.items xs ys b.items c.items p.strips q.strips; end = p.end ∙ q.end }
+pub Takes-then : (tables : List Named) (a b c : Rest) (xs ys : List Symbol) → Takes tables a b xs → Takes tables b c ys → Takes tables a c (xs ++ ys)
+Takes-then tables a b c xs ys p q = record { strips = Strips-append tables a.items xs ys b.items c.items p.strips q.strips; end = p.end ∙ q.end }
 
 abbrev pub IsToken : Token → Type 0
 IsToken Bad = ⊥
@@ -153,9 +208,9 @@ pub word_named : (run : List ℕ) (w : Word) → word_by_name run ≡ Some w →
 unfolding word_by_name
 word_named run w e = (bytes_eq-Decides run (name_of w)).0 (find_passes (λ w. bytes_eq run (name_of w)) every_word w e)
 
-pub container_named : (run : List ℕ) (c : Container) → container_by_name run ≡ Some c → run ≡ container_name c
+pub container_named : (containers : List Container) (run : List ℕ) (c : Container) → container_by_name containers run ≡ Some c → run ≡ container_name c
 unfolding container_by_name
-container_named run c e = (bytes_eq-Decides run (container_name c)).0 (find_passes (λ c. bytes_eq run (container_name c)) every_container c e)
+container_named containers run c e = (bytes_eq-Decides run (container_name c)).0 (find_passes (λ c. bytes_eq run (container_name c)) containers c e)
 
 -- a word that has a meaning is a run
 pub meaning_run : {A : Type 0} (meaning : List ℕ → Option A) (token : Token) (x : A) → meaning_of meaning token ≡ Some x → (run : List ℕ) × (token ≡ Run run) × (meaning run ≡ Some x)
@@ -169,29 +224,29 @@ choice_run meaning offset token x e = meaning_run meaning token x (or_fault_ok o
 
 -- ---- readers of one token
 
-pub one_taken : (rest after : Rest) (item : Item) (symbol : Symbol) → rest.items ≡ item ∷ after.items → rest.end ≡ after.end → IsWritten item.token symbol → Takes rest after (symbol ∷ [])
-one_taken rest after item symbol e end h = record { strips = rw e (h, refl); end = end }
+pub one_taken : (tables : List Named) (rest after : Rest) (item : Item) (symbol : Symbol) → IsOne symbol → rest.items ≡ item ∷ after.items → rest.end ≡ after.end → IsWritten tables item.token symbol → Takes tables rest after (symbol ∷ [])
+one_taken tables rest after item symbol one e end h = record { strips = rw (e, unwritten_one symbol item.token one) (h, refl); end = end }
 
-pub word_takes : (name : List ℕ) (rest after : Rest) (x : ⊤) → word_at name rest ≡ Ok (x, after) → Takes rest after (Name name ∷ [])
+pub word_takes : (tables : List Named) (name : List ℕ) (rest after : Rest) (x : ⊤) → word_at name rest ≡ Ok (x, after) → Takes tables rest after (Name name ∷ [])
 unfolding word_at
-word_takes name rest after x e =
+word_takes tables name rest after x e =
     let n = next_takes (choice (named name)) rest after x e in
     let run = choice_run (named name) n.0.offset n.0.token x n.3 in
-    one_taken rest after n.0 (Name name) n.1 n.2 (rw run.1 (named_is name run.0 x run.2))
+    one_taken tables rest after n.0 (Name name) tt n.1 n.2 (rw run.1 (named_is name run.0 x run.2))
 
-pub format_takes : (rest after : Rest) (f : Fmt) → format_at rest ≡ Ok (f, after) → Takes rest after (Name (format_name f) ∷ [])
+pub format_takes : (tables : List Named) (rest after : Rest) (f : Fmt) → format_at rest ≡ Ok (f, after) → Takes tables rest after (Name (format_name f) ∷ [])
 unfolding format_at
-format_takes rest after f e =
+format_takes tables rest after f e =
     let n = next_takes (choice format_by_name) rest after f e in
     let run = choice_run format_by_name n.0.offset n.0.token f n.3 in
-    one_taken rest after n.0 (Name (format_name f)) n.1 n.2 (rw run.1 (format_named run.0 f run.2))
+    one_taken tables rest after n.0 (Name (format_name f)) tt n.1 n.2 (rw run.1 (format_named run.0 f run.2))
 
-pub container_takes : (rest after : Rest) (c : Container) → container_at rest ≡ Ok (c, after) → Takes rest after (Name (container_name c) ∷ [])
+pub container_takes : (tables : List Named) (containers : List Container) (rest after : Rest) (c : Container) → container_at containers rest ≡ Ok (c, after) → Takes tables rest after (Name (container_name c) ∷ [])
 unfolding container_at
-container_takes rest after c e =
-    let n = next_takes (choice container_by_name) rest after c e in
-    let run = choice_run container_by_name n.0.offset n.0.token c n.3 in
-    one_taken rest after n.0 (Name (container_name c)) n.1 n.2 (rw run.1 (container_named run.0 c run.2))
+container_takes tables containers rest after c e =
+    let n = next_takes (choice (container_by_name containers)) rest after c e in
+    let run = choice_run (container_by_name containers) n.0.offset n.0.token c n.3 in
+    one_taken tables rest after n.0 (Name (container_name c)) tt n.1 n.2 (rw run.1 (container_named containers run.0 c run.2))
 
 pub both_true : (a b : Bool) → (a && b) ≡ true → (a ≡ true) × (b ≡ true)
 both_true true true e = (refl, refl)
@@ -201,38 +256,26 @@ both_true false b e = absurd cc
 pub between_is : (low high n : ℤ) → is_between low high n ≡ true → IsBetween low high n
 between_is low high n e = let both = both_true (int_le low n) (int_le n high) e in (grind (arith, ints), grind (arith, ints))
 
-pub number_takes : (low high : ℤ) (rest after : Rest) (n : ℤ) → number_at low high rest ≡ Ok (n, after) → Takes rest after (Numeral n ∷ []) × IsBetween low high n
+pub number_takes : (tables : List Named) (low high : ℤ) (rest after : Rest) (n : ℤ) → number_at low high rest ≡ Ok (n, after) → Takes tables rest after (Numeral n ∷ []) × IsBetween low high n
 unfolding number_at
-number_takes low high rest after n e =
+number_takes tables low high rest after n e =
     let t = next_takes (number low high) rest after n e in
     let b = bind_ok (or_fault t.0.offset _ (meaning_of value_of t.0.token)) _ n t.3 in
     let g = passed (is_between low high b.0) _ b.0 n b.2 in
     let run = meaning_run value_of t.0.token b.0 (or_fault_ok t.0.offset _ (meaning_of value_of t.0.token) b.0 b.1) in
-    (one_taken rest after t.0 (Numeral n) t.1 t.2 (rw (run.1, run.2, g.1) refl), between_is low high n (rw g.1 at g.0))
+    (one_taken tables rest after t.0 (Numeral n) tt t.1 t.2 (rw (run.1, run.2, g.1) refl), between_is low high n (rw g.1 at g.0))
 
 pub between_again : (low high n : ℤ) → IsBetween low high n → is_between low high n ≡ true
 between_again low high n h = let first : int_le low n ≡ true = grind (arith, ints) in let then : int_le n high ≡ true = grind (arith, ints) in rw (first, then) refl
 
-pub natural_takes : (low high : ℕ) (rest after : Rest) (n : ℕ) → natural_at low high rest ≡ Ok (n, after) → Takes rest after (Numeral (pos n) ∷ []) × (low ≤ n) × (n ≤ high)
+pub natural_takes : (tables : List Named) (low high : ℕ) (rest after : Rest) (n : ℕ) → natural_at low high rest ≡ Ok (n, after) → Takes tables rest after (Numeral (pos n) ∷ []) × (low ≤ n) × (n ≤ high)
 unfolding natural_at
-natural_takes low high rest after n e =
+natural_takes tables low high rest after n e =
     let b = bind_ok (number_at (pos low) (pos high) rest) _ (n, after) e in
     let p = pair_is (unsigned_abs b.0.0) n b.0.1 after b.2 in
-    let t = number_takes (pos low) (pos high) rest b.0.1 b.0.0 b.1 in
+    let t = number_takes tables (pos low) (pos high) rest b.0.1 b.0.0 b.1 in
     let is : b.0.0 ≡ pos n = omega (arith, ints, p.0, t.1) in
     (rw (is, p.1) at t.0, omega (arith, ints, t.1), omega (arith, ints, t.1))
-
-opening_is : (offset : ℕ) (token : Token) (x : ⊤) → opening offset token ≡ Ok x → token ≡ Open
-opening_is offset Open x e = refl
-opening_is offset Close x e = absurd cc
-opening_is offset (Run run) x e = absurd cc
-opening_is offset Bad x e = absurd cc
-
-pub open_takes : (rest after : Rest) (x : ⊤) → open_at rest ≡ Ok (x, after) → Takes rest after (OpenBrace ∷ [])
-unfolding open_at
-open_takes rest after x e =
-    let n = next_takes opening rest after x e in
-    one_taken rest after n.0 OpenBrace n.1 n.2 (rw (opening_is n.0.offset n.0.token x n.3) tt)
 
 another_is : (offset : ℕ) (from format f : Fmt) → another offset from format ≡ Ok f → (format ≡ f) × (f ≢ from)
 another_is offset Q7 Q7 f e = absurd cc
@@ -256,74 +299,80 @@ another_again offset Q31 Q7 ne = refl
 another_again offset Q31 Q15 ne = refl
 another_again offset Q31 Q31 ne = absurd (ne refl)
 
-pub conversion_takes : (from : Fmt) (rest after : Rest) (f : Fmt) → conversion_at from rest ≡ Ok (f, after) → Takes rest after (Name (format_name f) ∷ []) × (f ≢ from)
+pub conversion_takes : (tables : List Named) (from : Fmt) (rest after : Rest) (f : Fmt) → conversion_at from rest ≡ Ok (f, after) → Takes tables rest after (Name (format_name f) ∷ []) × (f ≢ from)
 unfolding conversion_at
-conversion_takes from rest after f e =
+conversion_takes tables from rest after f e =
     let n = next_takes (conversion from) rest after f e in
     let b = bind_ok (choice format_by_name n.0.offset n.0.token) _ f n.3 in
     let run = choice_run format_by_name n.0.offset n.0.token b.0 b.1 in
     let other = another_is n.0.offset from b.0 f b.2 in
-    (one_taken rest after n.0 (Name (format_name f)) n.1 n.2 (rw run.1 (format_named run.0 b.0 run.2 ∙ ap format_name other.0)), other.1)
+    (one_taken tables rest after n.0 (Name (format_name f)) tt n.1 n.2 (rw run.1 (format_named run.0 b.0 run.2 ∙ ap format_name other.0)), other.1)
 
 -- ---- what is written is read again
 
 -- a token that is written as a symbol
-pub written_name : (token : Token) (name : List ℕ) → IsWritten token (Name name) → token ≡ Run name
-written_name (Run run) name h = rw h refl
-written_name Open name h = absurd h
-written_name Close name h = absurd h
-written_name Bad name h = absurd h
+pub written_name : (tables : List Named) (token : Token) (name : List ℕ) → IsWritten tables token (Name name) → token ≡ Run name
+written_name tables (Run run) name h = rw h refl
+written_name tables Open name h = absurd h
+written_name tables Close name h = absurd h
+written_name tables Bad name h = absurd h
 
-pub written_number : (token : Token) (n : ℤ) → IsWritten token (Numeral n) → (run : List ℕ) × (token ≡ Run run) × (value_of run ≡ Some n)
-written_number (Run run) n h = (run, refl, h)
-written_number Open n h = absurd h
-written_number Close n h = absurd h
-written_number Bad n h = absurd h
+pub written_number : (tables : List Named) (token : Token) (n : ℤ) → IsWritten tables token (Numeral n) → (run : List ℕ) × (token ≡ Run run) × (value_of run ≡ Some n)
+written_number tables (Run run) n h = (run, refl, h)
+written_number tables Open n h = absurd h
+written_number tables Close n h = absurd h
+written_number tables Bad n h = absurd h
 
-pub written_open : (token : Token) → IsWritten token OpenBrace → token ≡ Open
-written_open (Run run) h = absurd h
-written_open Open h = refl
-written_open Close h = absurd h
-written_open Bad h = absurd h
+pub written_open : (tables : List Named) (token : Token) → IsWritten tables token OpenBrace → token ≡ Open
+written_open tables (Run run) h = absurd h
+written_open tables Open h = refl
+written_open tables Close h = absurd h
+written_open tables Bad h = absurd h
 
-pub written_close : (token : Token) → IsWritten token CloseBrace → token ≡ Close
-written_close (Run run) h = absurd h
-written_close Open h = absurd h
-written_close Close h = refl
-written_close Bad h = absurd h
+pub written_close : (tables : List Named) (token : Token) → IsWritten tables token CloseBrace → token ≡ Close
+written_close tables (Run run) h = absurd h
+written_close tables Open h = absurd h
+written_close tables Close h = refl
+written_close tables Bad h = absurd h
 
 -- one token is written, and a judge that takes it reads it
-pub one_again : {A : Type 0} (judge : Judge A) (x : A) (symbol : Symbol) (items left : List Item) (end : ℕ) → Strips items (symbol ∷ []) left
-    → ((item : Item) → IsWritten item.token symbol → IsToken item.token × (judge item.offset item.token ≡ Ok x)) → next_at judge (record { items = items; end = end }) ≡ Ok (x, record { items = left; end = end })
-one_again judge x symbol [] left end h judged = absurd h
-one_again judge x symbol (item ∷ items) left end h judged =
+pub one_again : {A : Type 0} (tables : List Named) (judge : Judge A) (x : A) (symbol : Symbol) (items left : List Item) (end : ℕ) → IsOne symbol → Strips tables items (symbol ∷ []) left
+    → ((item : Item) → IsWritten tables item.token symbol → IsToken item.token × (judge item.offset item.token ≡ Ok x)) → next_at judge (record { items = items; end = end }) ≡ Ok (x, record { items = left; end = end })
+one_again tables judge x symbol [] left end one h judged = absurd h
+one_again tables judge x symbol (item ∷ items) left end one h judged =
     let j = judged item h.0 in
-    rw (← h.1) (next_again judge item items end x j.0 j.1)
+    let same : items ≡ left = rw (unwritten_one symbol item.token one) at h.1 in
+    rw (← same) (next_again judge item items end x j.0 j.1)
 
-pub word_read : (name : List ℕ) (items left : List Item) (end : ℕ) → Strips items (Name name ∷ []) left → word_at name (record { items = items; end = end }) ≡ Ok (tt, record { items = left; end = end })
+pub word_read : (tables : List Named) (name : List ℕ) (items left : List Item) (end : ℕ) → Strips tables items (Name name ∷ []) left → word_at name (record { items = items; end = end }) ≡ Ok (tt, record { items = left; end = end })
 unfolding word_at
-word_read name items left end h = one_again (choice (named name)) tt (Name name) items left end h (λ item w. let e = written_name item.token name w in (rw e tt, rw (e, named_again name) refl))
+word_read tables name items left end h = one_again tables (choice (named name)) tt (Name name) items left end tt h (λ item w. let e = written_name tables item.token name w in (rw e tt, rw (e, named_again name) refl))
 
-pub format_read : (f : Fmt) (items left : List Item) (end : ℕ) → Strips items (Name (format_name f) ∷ []) left → format_at (record { items = items; end = end }) ≡ Ok (f, record { items = left; end = end })
+pub begins_word : (tables : List Named) (name : List ℕ) (items left : List Item) (symbols : List Symbol) → Strips tables items (Name name ∷ symbols) left → begins_with name items ≡ true
+begins_word tables name [] left symbols h = absurd h
+begins_word tables name (item ∷ items) left symbols h = rw (written_name tables item.token name h.0, named_again name) refl
+
+pub begins_other : (tables : List Named) (name other : List ℕ) (items left : List Item) (symbols : List Symbol) → named name other ≡ None → Strips tables items (Name other ∷ symbols) left → begins_with name items ≡ false
+begins_other tables name other [] left symbols differs h = absurd h
+begins_other tables name other (item ∷ items) left symbols differs h = rw (written_name tables item.token other h.0, differs) refl
+
+pub format_read : (tables : List Named) (f : Fmt) (items left : List Item) (end : ℕ) → Strips tables items (Name (format_name f) ∷ []) left → format_at (record { items = items; end = end }) ≡ Ok (f, record { items = left; end = end })
 unfolding format_at
-format_read f items left end h = one_again (choice format_by_name) f (Name (format_name f)) items left end h (λ item w. let e = written_name item.token (format_name f) w in (rw e tt, rw (e, format_again f) refl))
+format_read tables f items left end h = one_again tables (choice format_by_name) f (Name (format_name f)) items left end tt h (λ item w. let e = written_name tables item.token (format_name f) w in (rw e tt, rw (e, format_again f) refl))
 
-pub container_read : (c : Container) (items left : List Item) (end : ℕ) → Strips items (Name (container_name c) ∷ []) left → container_at (record { items = items; end = end }) ≡ Ok (c, record { items = left; end = end })
+pub container_read : (tables : List Named) (containers : List Container) (c : Container) (items left : List Item) (end : ℕ) → container_by_name containers (container_name c) ≡ Some c → Strips tables items (Name (container_name c) ∷ []) left
+    → container_at containers (record { items = items; end = end }) ≡ Ok (c, record { items = left; end = end })
 unfolding container_at
-container_read c items left end h = one_again (choice container_by_name) c (Name (container_name c)) items left end h (λ item w. let e = written_name item.token (container_name c) w in (rw e tt, rw (e, container_again c) refl))
+container_read tables containers c items left end is h = one_again tables (choice (container_by_name containers)) c (Name (container_name c)) items left end tt h (λ item w. let e = written_name tables item.token (container_name c) w in (rw e tt, rw (e, is) refl))
 
-pub number_read : (low high n : ℤ) (items left : List Item) (end : ℕ) → IsBetween low high n → Strips items (Numeral n ∷ []) left → number_at low high (record { items = items; end = end }) ≡ Ok (n, record { items = left; end = end })
+pub number_read : (tables : List Named) (low high n : ℤ) (items left : List Item) (end : ℕ) → IsBetween low high n → Strips tables items (Numeral n ∷ []) left → number_at low high (record { items = items; end = end }) ≡ Ok (n, record { items = left; end = end })
 unfolding number_at
-number_read low high n items left end fits h = one_again (number low high) n (Numeral n) items left end h (λ item w. let e = written_number item.token n w in (rw e.1 tt, rw (e.1, e.2, between_again low high n fits) refl))
+number_read tables low high n items left end fits h = one_again tables (number low high) n (Numeral n) items left end tt h (λ item w. let e = written_number tables item.token n w in (rw e.1 tt, rw (e.1, e.2, between_again low high n fits) refl))
 
-pub natural_read : (low high n : ℕ) (items left : List Item) (end : ℕ) → low ≤ n → n ≤ high → Strips items (Numeral (pos n) ∷ []) left → natural_at low high (record { items = items; end = end }) ≡ Ok (n, record { items = left; end = end })
+pub natural_read : (tables : List Named) (low high n : ℕ) (items left : List Item) (end : ℕ) → low ≤ n → n ≤ high → Strips tables items (Numeral (pos n) ∷ []) left → natural_at low high (record { items = items; end = end }) ≡ Ok (n, record { items = left; end = end })
 unfolding natural_at
-natural_read low high n items left end above below h = rw (number_read (pos low) (pos high) (pos n) items left end (omega (arith, ints), omega (arith, ints)) h) refl
+natural_read tables low high n items left end above below h = rw (number_read tables (pos low) (pos high) (pos n) items left end (omega (arith, ints), omega (arith, ints)) h) refl
 
-pub open_read : (items left : List Item) (end : ℕ) → Strips items (OpenBrace ∷ []) left → open_at (record { items = items; end = end }) ≡ Ok (tt, record { items = left; end = end })
-unfolding open_at
-open_read items left end h = one_again opening tt OpenBrace items left end h (λ item w. let e = written_open item.token w in (rw e tt, rw e refl))
-
-pub conversion_read : (from f : Fmt) (items left : List Item) (end : ℕ) → f ≢ from → Strips items (Name (format_name f) ∷ []) left → conversion_at from (record { items = items; end = end }) ≡ Ok (f, record { items = left; end = end })
+pub conversion_read : (tables : List Named) (from f : Fmt) (items left : List Item) (end : ℕ) → f ≢ from → Strips tables items (Name (format_name f) ∷ []) left → conversion_at from (record { items = items; end = end }) ≡ Ok (f, record { items = left; end = end })
 unfolding conversion_at
-conversion_read from f items left end ne h = one_again (conversion from) f (Name (format_name f)) items left end h (λ item w. let e = written_name item.token (format_name f) w in (rw e tt, rw (e, format_again f) (another_again item.offset from f ne)))
+conversion_read tables from f items left end ne h = one_again tables (conversion from) f (Name (format_name f)) items left end tt h (λ item w. let e = written_name tables item.token (format_name f) w in (rw e tt, rw (e, format_again f) (another_again item.offset from f ne)))

@@ -1,19 +1,21 @@
 //! The places of a text: what is wanted there is read, or its fault is answered.
 
-ghost use Rattle.std.specs.Prelude.{◌≤◌, ◌≤ℤ◌, ◌<◌, IfOk, IfSome};
+ghost use Rattle.std.specs.Prelude.{◌≡◌, ◌≤◌, ◌≤ℤ◌, ◌<◌, IfOk, IfSome};
+ghost use Rattle.std.specs.Option.{option_map};
 ghost use Rattle.dsp_defs.specs.Parameters.{least, greatest};
-ghost use Rattle.dsp_defs.specs.Places.{format_at, container_at, word_at, number_at, natural_at, open_at, entry_at, entries_at, list_at, conversion_at};
+ghost use Rattle.dsp_defs.specs.Places.{format_at, container_at, word_at, number_at, natural_at, next_number, list_end, judged, open_at, entry_at, entries_at, list_at, conversion_at};
 ghost use Rattle.dsp_defs.specs.Reading.{next_block_at};
 ghost use Rattle.dsp_script.specs.Answers.{Gives, GivesUnlessMemory};
 
 use crate::fault::ParseFault;
-use crate::token::{Cursor, Token};
+use crate::tables::ListSource;
+use crate::token::{Cursor, Item, Token};
 use crate::{numeral, rules, table};
 use dsp_defs::{
     Container, Flow, Fmt, List, ListRule, MAX_BLOCKS, MAX_CORRELATES, MAX_FACTOR, MAX_MATRIX_SIDE,
     ScriptFault, ScriptKind, Word,
 };
-use std::alloc::Global;
+use std::alloc::{AllocError, Global};
 
 /// This word.
 #[tactic(auto, unfolding(dsp_defs::specs::Places::word_at))]
@@ -41,14 +43,17 @@ pub fn format(cursor: &mut Cursor<'_>) -> Result<Fmt, ScriptFault>
     Err(item.fault(ScriptKind::UnknownWord))
 }
 
-/// A container's word.
+/// The word of one of these containers.
 #[tactic(auto, unfolding(dsp_defs::specs::Places::container_at))]
-pub fn container(cursor: &mut Cursor<'_>) -> Result<Container, ScriptFault>
-    ensures { Gives (λ c. (c, cursor.new)) result (container_at cursor.old) }
+pub fn container(
+    cursor: &mut Cursor<'_>,
+    containers: &[Container],
+) -> Result<Container, ScriptFault>
+    ensures { Gives (λ c. (c, cursor.new)) result (container_at containers.now cursor.old) }
 {
     let item = cursor.token()?;
     if let Token::Run(run) = item.token {
-        if let Some(container) = table::container_by_name(run) {
+        if let Some(container) = table::container_by_name(containers, run) {
             return Ok(container);
         }
     }
@@ -121,14 +126,67 @@ pub fn factor(cursor: &mut Cursor<'_>) -> Result<u8, ScriptFault>
     byte(cursor, 1, MAX_FACTOR)
 }
 
-/// The brace before a list.
+/// A number as the next of a list that has `count` numbers, at the place of an item.
+fn next_number(item: &Item<'_>, rule: ListRule, count: u64, value: i128) -> Result<i32, ScriptFault>
+    ensures value { Gives (λ n. n) result (next_number rule count item.now.offset value) }
+    ensures room { IfOk result (λ _. count < rule.limit) }
+{
+    if rule.limit <= count {
+        return Err(item.fault(ScriptKind::TooMany { limit: rule.limit }));
+    }
+    if i128::from(rule.low) <= value && value <= i128::from(rule.high) {
+        return Ok(value as i32);
+    }
+    Err(item.fault(ScriptKind::OutOfRange {
+        low: i64::from(rule.low),
+        high: i64::from(rule.high),
+    }))
+}
+
+/// The end of a list that has `count` numbers, at the place of an item.
+fn list_end(item: &Item<'_>, rule: ListRule, count: u64) -> Result<(), ScriptFault>
+    ensures { Gives (λ _. tt) result (list_end rule count item.now.offset) }
+{
+    if rules::is_complete(rule.count, count) {
+        Ok(())
+    } else {
+        Err(item.fault(ScriptKind::Length {
+            taps: count,
+            factor: rules::factor_of(rule.count),
+        }))
+    }
+}
+
+/// The numbers of a list and its end, all at the place of an item.
+#[tactic(auto, unfolding(dsp_defs::specs::Places::judged))]
+fn judged(item: &Item<'_>, rule: ListRule, numbers: &[i32]) -> Result<(), ScriptFault>
+    ensures { Gives (λ _. tt) result (judged rule 0 item.now.offset numbers.now) }
+{
+    for (count, number) in numbers.iter().enumerate() {
+        next_number(item, rule, count as u64, i128::from(*number))?;
+    }
+    list_end(item, rule, numbers.len() as u64)
+}
+
+/// The brace that opens a list, or the numbers of the table that is named in its place.
 #[tactic(auto, unfolding(dsp_defs::specs::Places::open_at))]
-pub fn open(cursor: &mut Cursor<'_>) -> Result<(), ScriptFault>
-    ensures { Gives (λ _. (tt, cursor.new)) result (open_at cursor.old) }
+fn open<'t>(
+    lists: &'t ListSource<'_>,
+    cursor: &mut Cursor<'_>,
+    rule: ListRule,
+) -> Result<Option<&'t [i32]>, ScriptFault>
+    ensures { Gives (λ n. (option_map (λ s. s.now) n, cursor.new)) result (open_at lists.now.tables rule cursor.old) }
 {
     let item = cursor.token()?;
-    match item.token {
-        Token::Open => Ok(()),
+    match (item.token, &lists.tables) {
+        (Token::Open, _) => Ok(None),
+        (Token::Run(name), Some(tables)) => {
+            let Some(numbers) = tables.numbers_of(name) else {
+                return Err(item.fault(ScriptKind::UnknownWord));
+            };
+            judged(&item, rule, numbers)?;
+            Ok(Some(numbers))
+        }
         _ => Err(item.fault(ScriptKind::Missing)),
     }
 }
@@ -146,30 +204,16 @@ pub fn entry(
     let item = cursor.token()?;
     match item.token {
         Token::Close => {
-            if rules::is_complete(rule.count, count) {
-                Ok(None)
-            } else {
-                Err(item.fault(ScriptKind::Length {
-                    taps: count,
-                    factor: rules::factor_of(rule.count),
-                }))
-            }
+            list_end(&item, rule, count)?;
+            Ok(None)
         }
         Token::Open => Err(item.fault(ScriptKind::BadNumber)),
         Token::Run(run) => {
             let Some(value) = numeral::value(run) else {
                 return Err(item.fault(ScriptKind::BadNumber));
             };
-            if rule.limit <= count {
-                return Err(item.fault(ScriptKind::TooMany { limit: rule.limit }));
-            }
-            if i128::from(rule.low) <= value && value <= i128::from(rule.high) {
-                return Ok(Some(value as i32));
-            }
-            Err(item.fault(ScriptKind::OutOfRange {
-                low: i64::from(rule.low),
-                high: i64::from(rule.high),
-            }))
+            let number = next_number(&item, rule, count, value)?;
+            Ok(Some(number))
         }
     }
 }
@@ -237,7 +281,7 @@ pub fn next_block(
 }
 
 /// The numbers of a list up to its end.
-pub fn entries(alloc: Global, cursor: &mut Cursor<'_>, rule: ListRule) -> Result<List, ParseFault>
+fn entries(alloc: Global, cursor: &mut Cursor<'_>, rule: ListRule) -> Result<List, ParseFault>
     ensures { GivesUnlessMemory (λ l. (l, cursor.new)) result (entries_at rule 0 cursor.old.end cursor.old.items) }
 {
     let mut numbers = List::new(alloc);
@@ -249,11 +293,28 @@ pub fn entries(alloc: Global, cursor: &mut Cursor<'_>, rule: ListRule) -> Result
     Ok(numbers)
 }
 
-/// A list in its braces.
-#[tactic(auto, unfolding(dsp_defs::specs::Places::list_at))]
-pub fn list(alloc: Global, cursor: &mut Cursor<'_>, rule: ListRule) -> Result<List, ParseFault>
-    ensures { GivesUnlessMemory (λ l. (l, cursor.new)) result (list_at rule cursor.old) }
+/// A list of these numbers.
+fn copied(alloc: Global, numbers: &[i32]) -> Result<List, AllocError>
+    ensures { IfOk result (λ l. l ≡ numbers.now) }
 {
-    open(cursor)?;
-    entries(alloc, cursor, rule)
+    let mut copy = List::new(alloc);
+    for number in numbers {
+        copy.push(*number)?;
+    }
+    Ok(copy)
+}
+
+/// A list in its braces, or by the name of a table.
+#[tactic(auto, unfolding(dsp_defs::specs::Places::list_at))]
+pub fn list(
+    lists: &ListSource<'_>,
+    cursor: &mut Cursor<'_>,
+    rule: ListRule,
+) -> Result<List, ParseFault>
+    ensures { GivesUnlessMemory (λ l. (l, cursor.new)) result (list_at lists.now.tables rule cursor.old) }
+{
+    match open(lists, cursor, rule)? {
+        None => entries(lists.alloc, cursor, rule),
+        Some(numbers) => Ok(copied(lists.alloc, numbers)?),
+    }
 }

@@ -10,23 +10,25 @@ ghost use Rattle.dsp_script.specs.Answers.{Gives, GivesUnlessMemory};
 
 use crate::fault::ParseFault;
 use crate::places::{byte, container, format, natural, next_block, word};
+use crate::table::{INPUT_CONTAINERS, OUTPUT_CONTAINERS};
+use crate::tables::ListSource;
 use crate::token::Cursor;
 use crate::{rows, table};
 use dsp_defs::{
     Block, Blocks, Container, Flow, Input, InputKind, MAX_BLOCK_LENGTH, MAX_BLOCKS, MAX_CHANNELS,
-    MAX_SCRIPT, Script, ScriptFault, ScriptKind, Word,
+    MAX_SCRIPT, MAX_VERSION, Script, ScriptFault, ScriptKind, Word,
 };
 use std::alloc::Global;
 
 /// The parameters of a block, behind its word.
 #[tactic(auto, unfolding(dsp_defs::specs::Reading::block_at))]
 fn block(
-    alloc: Global,
+    lists: &ListSource<'_>,
     cursor: &mut Cursor<'_>,
     word: Word,
     flow: Flow,
 ) -> Result<Block, ParseFault>
-    ensures { GivesUnlessMemory (λ b. (b, cursor.new)) result (block_at (parameters word flow) cursor.old) }
+    ensures { GivesUnlessMemory (λ b. (b, cursor.new)) result (block_at lists.now.tables (parameters word flow) cursor.old) }
 {
     match word {
         Word::Offset => Ok(rows::offset(cursor, flow)?),
@@ -43,30 +45,30 @@ fn block(
         Word::CmplxMult => Ok(Block::CmplxMult),
         Word::CmplxMultReal => Ok(Block::CmplxMultReal),
         Word::MagSquared => Ok(Block::MagSquared),
-        Word::Fir => rows::fir(alloc, cursor, flow),
-        Word::Sparse => rows::sparse(alloc, cursor, flow),
-        Word::Decimate => rows::decimate(alloc, cursor, flow),
-        Word::Interpolate => rows::interpolate(alloc, cursor, flow),
-        Word::LatticeFir => rows::lattice_fir(alloc, cursor, flow),
-        Word::LatticeIir => rows::lattice_iir(alloc, cursor, flow),
-        Word::Biquad => rows::biquad(alloc, cursor, flow),
-        Word::Biquad64 => rows::biquad64(alloc, cursor, flow),
-        Word::Conv => rows::conv(alloc, cursor, flow),
-        Word::ConvPartial => rows::conv_partial(alloc, cursor, flow),
-        Word::Correlate => rows::correlate(alloc, cursor, flow),
-        Word::Lms => rows::lms(alloc, cursor, flow),
+        Word::Fir => rows::fir(lists, cursor, flow),
+        Word::Sparse => rows::sparse(lists, cursor, flow),
+        Word::Decimate => rows::decimate(lists, cursor, flow),
+        Word::Interpolate => rows::interpolate(lists, cursor, flow),
+        Word::LatticeFir => rows::lattice_fir(lists, cursor, flow),
+        Word::LatticeIir => rows::lattice_iir(lists, cursor, flow),
+        Word::Biquad => rows::biquad(lists, cursor, flow),
+        Word::Biquad64 => rows::biquad64(lists, cursor, flow),
+        Word::Conv => rows::conv(lists, cursor, flow),
+        Word::ConvPartial => rows::conv_partial(lists, cursor, flow),
+        Word::Correlate => rows::correlate(lists, cursor, flow),
+        Word::Lms => rows::lms(lists, cursor, flow),
         Word::Pid => Ok(rows::pid(cursor, flow)?),
-        Word::MatAdd => rows::mat_add(alloc, cursor, flow),
-        Word::MatSub => rows::mat_sub(alloc, cursor, flow),
+        Word::MatAdd => rows::mat_add(lists, cursor, flow),
+        Word::MatSub => rows::mat_sub(lists, cursor, flow),
         Word::MatScale => Ok(rows::mat_scale(cursor, flow)?),
         Word::MatTrans => Ok(rows::mat_trans(cursor, flow)?),
-        Word::MatMult => rows::mat_mult(alloc, cursor, flow),
+        Word::MatMult => rows::mat_mult(lists, cursor, flow),
         Word::Power => Ok(Block::Power),
         Word::Dot => Ok(Block::Dot),
         Word::CmplxDot => Ok(Block::CmplxDot),
         Word::Max => Ok(Block::Max),
         Word::Min => Ok(Block::Min),
-        Word::Route => rows::route(alloc, cursor, flow),
+        Word::Route => rows::route(lists, cursor, flow),
     }
 }
 
@@ -78,15 +80,19 @@ fn correlated_after(correlated: bool, word: Word) -> bool
 }
 
 /// The blocks up to the output.
-fn blocks(alloc: Global, cursor: &mut Cursor<'_>, input: Input) -> Result<Blocks, ParseFault>
-    ensures { GivesUnlessMemory (λ b. (b, cursor.new)) result (blocks_at MAX_BLOCKS false (input_flow input) cursor.old) }
+fn blocks(
+    lists: &ListSource<'_>,
+    cursor: &mut Cursor<'_>,
+    input: Input,
+) -> Result<Blocks, ParseFault>
+    ensures { GivesUnlessMemory (λ b. (b, cursor.new)) result (blocks_at lists.now.tables MAX_BLOCKS false (input_flow input) cursor.old) }
 {
-    let mut blocks = Blocks::new(alloc);
+    let mut blocks = Blocks::new(lists.alloc);
     let mut left = MAX_BLOCKS;
     let mut correlated = false;
     let mut flow = table::input_flow(input);
     while let Some(word) = next_block(cursor, left, correlated, flow)? {
-        let block = block(alloc, cursor, word, flow)?;
+        let block = block(lists, cursor, word, flow)?;
         left -= 1;
         correlated = correlated_after(correlated, word);
         flow = table::flow_after(flow, &block);
@@ -115,11 +121,11 @@ fn kind(cursor: &mut Cursor<'_>, container: Container) -> Result<InputKind, Scri
     ensures { Gives (λ k. (k, cursor.new)) result (kind_at container cursor.old) }
 {
     match container {
-        Container::Wave => Ok(InputKind::Wave),
         Container::Raw => {
             let rate = natural(cursor, 1, u32::MAX)?;
             Ok(InputKind::Raw { rate })
         }
+        _ => Ok(InputKind::Wave),
     }
 }
 
@@ -129,7 +135,7 @@ fn input(cursor: &mut Cursor<'_>) -> Result<Input, ScriptFault>
     ensures { Gives (λ i. (i, cursor.new)) result (input_at cursor.old) }
 {
     word(cursor, b"input")?;
-    let container = container(cursor)?;
+    let container = container(cursor, &INPUT_CONTAINERS)?;
     let format = format(cursor)?;
     let channels = byte(cursor, 1, MAX_CHANNELS)?;
     let kind = kind(cursor, container)?;
@@ -146,11 +152,12 @@ fn script(alloc: Global, cursor: &mut Cursor<'_>) -> Result<Script, ParseFault>
     ensures { GivesUnlessMemory (λ s. s) result (script_at cursor.old) }
 {
     word(cursor, b"dspfx")?;
-    let version = byte(cursor, 1, 1)?;
+    let version = byte(cursor, 1, MAX_VERSION)?;
     let input = input(cursor)?;
     let block = length(cursor)?;
-    let blocks = blocks(alloc, cursor, input)?;
-    let output = container(cursor)?;
+    let lists = ListSource::read(alloc, cursor, version)?;
+    let blocks = blocks(&lists, cursor, input)?;
+    let output = container(cursor, &OUTPUT_CONTAINERS)?;
     cursor.end()?;
     Ok(Script {
         version,
@@ -174,7 +181,7 @@ fn read(alloc: Global, text: &[u8]) -> Result<Script, ParseFault>
     script(alloc, &mut Cursor::new(text))
 }
 
-/// The script that a text of any bytes reads as, version 1 of the language, or the text's first
+/// The script that a text of any bytes reads as, in version 1 or 2 of the language, or the text's first
 /// fault: the first token, or the end, that can't stand after the tokens before it, with its
 /// offset in bytes. A text of more than 1,048,576 bytes is too long before all else. Want of memory
 /// is `ParseFault::Memory`, and no fault of the text.

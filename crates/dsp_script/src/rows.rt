@@ -1,6 +1,7 @@
 //! The rows of the table: the parameters of each block that has some, behind its word.
 #![tactic(auto, unfolding(dsp_defs::specs::Reading::block_at))]
 
+ghost use Rattle.dsp_defs.specs.Places.{Environment};
 ghost use Rattle.dsp_defs.specs.Reading.{block_at};
 ghost use Rattle.dsp_defs.specs.Table.{parameters};
 ghost use Rattle.dsp_script.specs.Answers.{Gives, GivesUnlessMemory};
@@ -8,13 +9,13 @@ ghost use Rattle.dsp_script.specs.Answers.{Gives, GivesUnlessMemory};
 use crate::fault::ParseFault;
 use crate::places::{byte, coefficient, conversion, factor, integer, list, natural, side};
 use crate::rules;
+use crate::tables::ListSource;
 use crate::token::Cursor;
 use dsp_defs::{Block, Flow, ScriptFault, Word};
-use std::alloc::Global;
 
 /// `offset VALUE`
 pub fn offset(cursor: &mut Cursor<'_>, flow: Flow) -> Result<Block, ScriptFault>
-    ensures { Gives (λ b. (b, cursor.new)) result (block_at (parameters Word.Offset flow) cursor.old) }
+    ensures { (tables : Environment) → Gives (λ b. (b, cursor.new)) result (block_at tables (parameters Word.Offset flow) cursor.old) }
 {
     let value = coefficient(cursor, flow.format)?;
     Ok(Block::Offset { value })
@@ -22,7 +23,7 @@ pub fn offset(cursor: &mut Cursor<'_>, flow: Flow) -> Result<Block, ScriptFault>
 
 /// `scale FRACT SHIFT`
 pub fn scale(cursor: &mut Cursor<'_>, flow: Flow) -> Result<Block, ScriptFault>
-    ensures { Gives (λ b. (b, cursor.new)) result (block_at (parameters Word.Scale flow) cursor.old) }
+    ensures { (tables : Environment) → Gives (λ b. (b, cursor.new)) result (block_at tables (parameters Word.Scale flow) cursor.old) }
 {
     let fract = coefficient(cursor, flow.format)?;
     let least = rules::least_scale(flow.format);
@@ -33,7 +34,7 @@ pub fn scale(cursor: &mut Cursor<'_>, flow: Flow) -> Result<Block, ScriptFault>
 
 /// `shift SHIFT`
 pub fn shift(cursor: &mut Cursor<'_>, flow: Flow) -> Result<Block, ScriptFault>
-    ensures { Gives (λ b. (b, cursor.new)) result (block_at (parameters Word.Shift flow) cursor.old) }
+    ensures { (tables : Environment) → Gives (λ b. (b, cursor.new)) result (block_at tables (parameters Word.Shift flow) cursor.old) }
 {
     let least = rules::least_shift(flow.format);
     let greatest = rules::greatest_shift(flow.format);
@@ -43,7 +44,7 @@ pub fn shift(cursor: &mut Cursor<'_>, flow: Flow) -> Result<Block, ScriptFault>
 
 /// `clip LOW HIGH`
 pub fn clip(cursor: &mut Cursor<'_>, flow: Flow) -> Result<Block, ScriptFault>
-    ensures { Gives (λ b. (b, cursor.new)) result (block_at (parameters Word.Clip flow) cursor.old) }
+    ensures { (tables : Environment) → Gives (λ b. (b, cursor.new)) result (block_at tables (parameters Word.Clip flow) cursor.old) }
 {
     let low = coefficient(cursor, flow.format)?;
     let high = integer(cursor, low, rules::greatest(flow.format))?;
@@ -52,72 +53,96 @@ pub fn clip(cursor: &mut Cursor<'_>, flow: Flow) -> Result<Block, ScriptFault>
 
 /// `to FORMAT`
 pub fn to(cursor: &mut Cursor<'_>, flow: Flow) -> Result<Block, ScriptFault>
-    ensures { Gives (λ b. (b, cursor.new)) result (block_at (parameters Word.To flow) cursor.old) }
+    ensures { (tables : Environment) → Gives (λ b. (b, cursor.new)) result (block_at tables (parameters Word.To flow) cursor.old) }
 {
     let format = conversion(cursor, flow.format)?;
     Ok(Block::To { format })
 }
 
 /// `fir {TAPS}`
-pub fn fir(alloc: Global, cursor: &mut Cursor<'_>, flow: Flow) -> Result<Block, ParseFault>
-    ensures { GivesUnlessMemory (λ b. (b, cursor.new)) result (block_at (parameters Word.Fir flow) cursor.old) }
+pub fn fir(lists: &ListSource<'_>, cursor: &mut Cursor<'_>, flow: Flow) -> Result<Block, ParseFault>
+    ensures { GivesUnlessMemory (λ b. (b, cursor.new)) result (block_at lists.now.tables (parameters Word.Fir flow) cursor.old) }
 {
-    let taps = list(alloc, cursor, rules::taps(flow, 1))?;
+    let taps = list(lists, cursor, rules::taps(flow, 1))?;
     Ok(Block::Fir { taps })
 }
 
 /// `sparse {TAPS} {DELAYS}`
-pub fn sparse(alloc: Global, cursor: &mut Cursor<'_>, flow: Flow) -> Result<Block, ParseFault>
-    ensures { GivesUnlessMemory (λ b. (b, cursor.new)) result (block_at (parameters Word.Sparse flow) cursor.old) }
+pub fn sparse(
+    lists: &ListSource<'_>,
+    cursor: &mut Cursor<'_>,
+    flow: Flow,
+) -> Result<Block, ParseFault>
+    ensures { GivesUnlessMemory (λ b. (b, cursor.new)) result (block_at lists.now.tables (parameters Word.Sparse flow) cursor.old) }
 {
-    let taps = list(alloc, cursor, rules::sparse_taps(flow))?;
+    let taps = list(lists, cursor, rules::sparse_taps(flow))?;
     let count = taps.as_slice().len() as u64;
-    let delays = list(alloc, cursor, rules::delays(count))?;
+    let delays = list(lists, cursor, rules::delays(count))?;
     Ok(Block::Sparse { taps, delays })
 }
 
 /// `decimate FACTOR {TAPS}`
-pub fn decimate(alloc: Global, cursor: &mut Cursor<'_>, flow: Flow) -> Result<Block, ParseFault>
-    ensures { GivesUnlessMemory (λ b. (b, cursor.new)) result (block_at (parameters Word.Decimate flow) cursor.old) }
+pub fn decimate(
+    lists: &ListSource<'_>,
+    cursor: &mut Cursor<'_>,
+    flow: Flow,
+) -> Result<Block, ParseFault>
+    ensures { GivesUnlessMemory (λ b. (b, cursor.new)) result (block_at lists.now.tables (parameters Word.Decimate flow) cursor.old) }
 {
     let factor = factor(cursor)?;
-    let taps = list(alloc, cursor, rules::taps(flow, 1))?;
+    let taps = list(lists, cursor, rules::taps(flow, 1))?;
     Ok(Block::Decimate { factor, taps })
 }
 
 /// `interpolate FACTOR {TAPS}`
-pub fn interpolate(alloc: Global, cursor: &mut Cursor<'_>, flow: Flow) -> Result<Block, ParseFault>
-    ensures { GivesUnlessMemory (λ b. (b, cursor.new)) result (block_at (parameters Word.Interpolate flow) cursor.old) }
+pub fn interpolate(
+    lists: &ListSource<'_>,
+    cursor: &mut Cursor<'_>,
+    flow: Flow,
+) -> Result<Block, ParseFault>
+    ensures { GivesUnlessMemory (λ b. (b, cursor.new)) result (block_at lists.now.tables (parameters Word.Interpolate flow) cursor.old) }
 {
     let factor = factor(cursor)?;
-    let taps = list(alloc, cursor, rules::taps(flow, u64::from(factor)))?;
+    let taps = list(lists, cursor, rules::taps(flow, u64::from(factor)))?;
     Ok(Block::Interpolate { factor, taps })
 }
 
 /// `lattice_fir {K}`
-pub fn lattice_fir(alloc: Global, cursor: &mut Cursor<'_>, flow: Flow) -> Result<Block, ParseFault>
-    ensures { GivesUnlessMemory (λ b. (b, cursor.new)) result (block_at (parameters Word.LatticeFir flow) cursor.old) }
+pub fn lattice_fir(
+    lists: &ListSource<'_>,
+    cursor: &mut Cursor<'_>,
+    flow: Flow,
+) -> Result<Block, ParseFault>
+    ensures { GivesUnlessMemory (λ b. (b, cursor.new)) result (block_at lists.now.tables (parameters Word.LatticeFir flow) cursor.old) }
 {
-    let k = list(alloc, cursor, rules::reflections(flow))?;
+    let k = list(lists, cursor, rules::reflections(flow))?;
     Ok(Block::LatticeFir { k })
 }
 
 /// `lattice_iir {K} {V}`
-pub fn lattice_iir(alloc: Global, cursor: &mut Cursor<'_>, flow: Flow) -> Result<Block, ParseFault>
-    ensures { GivesUnlessMemory (λ b. (b, cursor.new)) result (block_at (parameters Word.LatticeIir flow) cursor.old) }
+pub fn lattice_iir(
+    lists: &ListSource<'_>,
+    cursor: &mut Cursor<'_>,
+    flow: Flow,
+) -> Result<Block, ParseFault>
+    ensures { GivesUnlessMemory (λ b. (b, cursor.new)) result (block_at lists.now.tables (parameters Word.LatticeIir flow) cursor.old) }
 {
-    let k = list(alloc, cursor, rules::reflections(flow))?;
+    let k = list(lists, cursor, rules::reflections(flow))?;
     let count = k.as_slice().len() as u64 + 1;
-    let v = list(alloc, cursor, rules::exactly(flow, count))?;
+    let v = list(lists, cursor, rules::exactly(flow, count))?;
     Ok(Block::LatticeIir { k, v })
 }
 
 /// `biquad POST_SHIFT {COEFFICIENTS}`
-pub fn biquad(alloc: Global, cursor: &mut Cursor<'_>, flow: Flow) -> Result<Block, ParseFault>
-    ensures { GivesUnlessMemory (λ b. (b, cursor.new)) result (block_at (parameters Word.Biquad flow) cursor.old) }
+pub fn biquad(
+    lists: &ListSource<'_>,
+    cursor: &mut Cursor<'_>,
+    flow: Flow,
+) -> Result<Block, ParseFault>
+    ensures { GivesUnlessMemory (λ b. (b, cursor.new)) result (block_at lists.now.tables (parameters Word.Biquad flow) cursor.old) }
 {
     let post_shift = byte(cursor, 0, rules::greatest_biquad_shift(flow.format))?;
-    let coefficients = list(alloc, cursor, rules::sections(flow))?;
+    let coefficients = list(lists, cursor, rules::sections(flow))?;
     Ok(Block::Biquad {
         post_shift,
         coefficients,
@@ -125,11 +150,15 @@ pub fn biquad(alloc: Global, cursor: &mut Cursor<'_>, flow: Flow) -> Result<Bloc
 }
 
 /// `biquad64 POST_SHIFT {COEFFICIENTS}`
-pub fn biquad64(alloc: Global, cursor: &mut Cursor<'_>, flow: Flow) -> Result<Block, ParseFault>
-    ensures { GivesUnlessMemory (λ b. (b, cursor.new)) result (block_at (parameters Word.Biquad64 flow) cursor.old) }
+pub fn biquad64(
+    lists: &ListSource<'_>,
+    cursor: &mut Cursor<'_>,
+    flow: Flow,
+) -> Result<Block, ParseFault>
+    ensures { GivesUnlessMemory (λ b. (b, cursor.new)) result (block_at lists.now.tables (parameters Word.Biquad64 flow) cursor.old) }
 {
     let post_shift = byte(cursor, 0, 30)?;
-    let coefficients = list(alloc, cursor, rules::sections(flow))?;
+    let coefficients = list(lists, cursor, rules::sections(flow))?;
     Ok(Block::Biquad64 {
         post_shift,
         coefficients,
@@ -137,38 +166,50 @@ pub fn biquad64(alloc: Global, cursor: &mut Cursor<'_>, flow: Flow) -> Result<Bl
 }
 
 /// `conv {TAPS}`
-pub fn conv(alloc: Global, cursor: &mut Cursor<'_>, flow: Flow) -> Result<Block, ParseFault>
-    ensures { GivesUnlessMemory (λ b. (b, cursor.new)) result (block_at (parameters Word.Conv flow) cursor.old) }
+pub fn conv(
+    lists: &ListSource<'_>,
+    cursor: &mut Cursor<'_>,
+    flow: Flow,
+) -> Result<Block, ParseFault>
+    ensures { GivesUnlessMemory (λ b. (b, cursor.new)) result (block_at lists.now.tables (parameters Word.Conv flow) cursor.old) }
 {
-    let taps = list(alloc, cursor, rules::taps(flow, 1))?;
+    let taps = list(lists, cursor, rules::taps(flow, 1))?;
     Ok(Block::Conv { taps })
 }
 
 /// `conv_partial FIRST COUNT {TAPS}`
-pub fn conv_partial(alloc: Global, cursor: &mut Cursor<'_>, flow: Flow) -> Result<Block, ParseFault>
-    ensures { GivesUnlessMemory (λ b. (b, cursor.new)) result (block_at (parameters Word.ConvPartial flow) cursor.old) }
+pub fn conv_partial(
+    lists: &ListSource<'_>,
+    cursor: &mut Cursor<'_>,
+    flow: Flow,
+) -> Result<Block, ParseFault>
+    ensures { GivesUnlessMemory (λ b. (b, cursor.new)) result (block_at lists.now.tables (parameters Word.ConvPartial flow) cursor.old) }
 {
     let first = natural(cursor, 0, u32::MAX)?;
     let count = natural(cursor, 1, u32::MAX)?;
-    let taps = list(alloc, cursor, rules::taps(flow, 1))?;
+    let taps = list(lists, cursor, rules::taps(flow, 1))?;
     Ok(Block::ConvPartial { first, count, taps })
 }
 
 /// `correlate {TAPS}`
-pub fn correlate(alloc: Global, cursor: &mut Cursor<'_>, flow: Flow) -> Result<Block, ParseFault>
-    ensures { GivesUnlessMemory (λ b. (b, cursor.new)) result (block_at (parameters Word.Correlate flow) cursor.old) }
+pub fn correlate(
+    lists: &ListSource<'_>,
+    cursor: &mut Cursor<'_>,
+    flow: Flow,
+) -> Result<Block, ParseFault>
+    ensures { GivesUnlessMemory (λ b. (b, cursor.new)) result (block_at lists.now.tables (parameters Word.Correlate flow) cursor.old) }
 {
-    let taps = list(alloc, cursor, rules::taps(flow, 1))?;
+    let taps = list(lists, cursor, rules::taps(flow, 1))?;
     Ok(Block::Correlate { taps })
 }
 
 /// `lms POST_SHIFT MU {TAPS}`
-pub fn lms(alloc: Global, cursor: &mut Cursor<'_>, flow: Flow) -> Result<Block, ParseFault>
-    ensures { GivesUnlessMemory (λ b. (b, cursor.new)) result (block_at (parameters Word.Lms flow) cursor.old) }
+pub fn lms(lists: &ListSource<'_>, cursor: &mut Cursor<'_>, flow: Flow) -> Result<Block, ParseFault>
+    ensures { GivesUnlessMemory (λ b. (b, cursor.new)) result (block_at lists.now.tables (parameters Word.Lms flow) cursor.old) }
 {
     let post_shift = byte(cursor, 0, rules::greatest_lms_shift(flow.format))?;
     let mu = coefficient(cursor, flow.format)?;
-    let taps = list(alloc, cursor, rules::taps(flow, 1))?;
+    let taps = list(lists, cursor, rules::taps(flow, 1))?;
     Ok(Block::Lms {
         post_shift,
         mu,
@@ -178,7 +219,7 @@ pub fn lms(alloc: Global, cursor: &mut Cursor<'_>, flow: Flow) -> Result<Block, 
 
 /// `pid KP KI KD`
 pub fn pid(cursor: &mut Cursor<'_>, flow: Flow) -> Result<Block, ScriptFault>
-    ensures { Gives (λ b. (b, cursor.new)) result (block_at (parameters Word.Pid flow) cursor.old) }
+    ensures { (tables : Environment) → Gives (λ b. (b, cursor.new)) result (block_at tables (parameters Word.Pid flow) cursor.old) }
 {
     let kp = coefficient(cursor, flow.format)?;
     let ki = coefficient(cursor, flow.format)?;
@@ -187,13 +228,17 @@ pub fn pid(cursor: &mut Cursor<'_>, flow: Flow) -> Result<Block, ScriptFault>
 }
 
 /// `mat_add ROWS COLUMNS {MATRIX}`
-pub fn mat_add(alloc: Global, cursor: &mut Cursor<'_>, flow: Flow) -> Result<Block, ParseFault>
-    ensures { GivesUnlessMemory (λ b. (b, cursor.new)) result (block_at (parameters Word.MatAdd flow) cursor.old) }
+pub fn mat_add(
+    lists: &ListSource<'_>,
+    cursor: &mut Cursor<'_>,
+    flow: Flow,
+) -> Result<Block, ParseFault>
+    ensures { GivesUnlessMemory (λ b. (b, cursor.new)) result (block_at lists.now.tables (parameters Word.MatAdd flow) cursor.old) }
 {
     let rows = side(cursor)?;
     let columns = side(cursor)?;
     let count = u64::from(rows) * u64::from(columns);
-    let matrix = list(alloc, cursor, rules::exactly(flow, count))?;
+    let matrix = list(lists, cursor, rules::exactly(flow, count))?;
     Ok(Block::MatAdd {
         rows,
         columns,
@@ -202,13 +247,17 @@ pub fn mat_add(alloc: Global, cursor: &mut Cursor<'_>, flow: Flow) -> Result<Blo
 }
 
 /// `mat_sub ROWS COLUMNS {MATRIX}`
-pub fn mat_sub(alloc: Global, cursor: &mut Cursor<'_>, flow: Flow) -> Result<Block, ParseFault>
-    ensures { GivesUnlessMemory (λ b. (b, cursor.new)) result (block_at (parameters Word.MatSub flow) cursor.old) }
+pub fn mat_sub(
+    lists: &ListSource<'_>,
+    cursor: &mut Cursor<'_>,
+    flow: Flow,
+) -> Result<Block, ParseFault>
+    ensures { GivesUnlessMemory (λ b. (b, cursor.new)) result (block_at lists.now.tables (parameters Word.MatSub flow) cursor.old) }
 {
     let rows = side(cursor)?;
     let columns = side(cursor)?;
     let count = u64::from(rows) * u64::from(columns);
-    let matrix = list(alloc, cursor, rules::exactly(flow, count))?;
+    let matrix = list(lists, cursor, rules::exactly(flow, count))?;
     Ok(Block::MatSub {
         rows,
         columns,
@@ -218,7 +267,7 @@ pub fn mat_sub(alloc: Global, cursor: &mut Cursor<'_>, flow: Flow) -> Result<Blo
 
 /// `mat_scale ROWS COLUMNS FRACT SHIFT`
 pub fn mat_scale(cursor: &mut Cursor<'_>, flow: Flow) -> Result<Block, ScriptFault>
-    ensures { Gives (λ b. (b, cursor.new)) result (block_at (parameters Word.MatScale flow) cursor.old) }
+    ensures { (tables : Environment) → Gives (λ b. (b, cursor.new)) result (block_at tables (parameters Word.MatScale flow) cursor.old) }
 {
     let rows = side(cursor)?;
     let columns = side(cursor)?;
@@ -236,7 +285,7 @@ pub fn mat_scale(cursor: &mut Cursor<'_>, flow: Flow) -> Result<Block, ScriptFau
 
 /// `mat_trans ROWS COLUMNS`
 pub fn mat_trans(cursor: &mut Cursor<'_>, flow: Flow) -> Result<Block, ScriptFault>
-    ensures { Gives (λ b. (b, cursor.new)) result (block_at (parameters Word.MatTrans flow) cursor.old) }
+    ensures { (tables : Environment) → Gives (λ b. (b, cursor.new)) result (block_at tables (parameters Word.MatTrans flow) cursor.old) }
 {
     let rows = side(cursor)?;
     let columns = side(cursor)?;
@@ -244,14 +293,18 @@ pub fn mat_trans(cursor: &mut Cursor<'_>, flow: Flow) -> Result<Block, ScriptFau
 }
 
 /// `mat_mult ROWS COLUMNS GIVEN {MATRIX}`
-pub fn mat_mult(alloc: Global, cursor: &mut Cursor<'_>, flow: Flow) -> Result<Block, ParseFault>
-    ensures { GivesUnlessMemory (λ b. (b, cursor.new)) result (block_at (parameters Word.MatMult flow) cursor.old) }
+pub fn mat_mult(
+    lists: &ListSource<'_>,
+    cursor: &mut Cursor<'_>,
+    flow: Flow,
+) -> Result<Block, ParseFault>
+    ensures { GivesUnlessMemory (λ b. (b, cursor.new)) result (block_at lists.now.tables (parameters Word.MatMult flow) cursor.old) }
 {
     let rows = side(cursor)?;
     let columns = side(cursor)?;
     let given = side(cursor)?;
     let count = u64::from(columns) * u64::from(given);
-    let matrix = list(alloc, cursor, rules::exactly(flow, count))?;
+    let matrix = list(lists, cursor, rules::exactly(flow, count))?;
     Ok(Block::MatMult {
         rows,
         columns,
@@ -261,9 +314,13 @@ pub fn mat_mult(alloc: Global, cursor: &mut Cursor<'_>, flow: Flow) -> Result<Bl
 }
 
 /// `route {CHANNELS}`
-pub fn route(alloc: Global, cursor: &mut Cursor<'_>, flow: Flow) -> Result<Block, ParseFault>
-    ensures { GivesUnlessMemory (λ b. (b, cursor.new)) result (block_at (parameters Word.Route flow) cursor.old) }
+pub fn route(
+    lists: &ListSource<'_>,
+    cursor: &mut Cursor<'_>,
+    flow: Flow,
+) -> Result<Block, ParseFault>
+    ensures { GivesUnlessMemory (λ b. (b, cursor.new)) result (block_at lists.now.tables (parameters Word.Route flow) cursor.old) }
 {
-    let channels = list(alloc, cursor, rules::routes(flow))?;
+    let channels = list(lists, cursor, rules::routes(flow))?;
     Ok(Block::Route { channels })
 }

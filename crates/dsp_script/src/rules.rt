@@ -2,6 +2,7 @@
 
 ghost use Rattle.std.specs.Prelude.{◌≡◌};
 ghost use Rattle.dsp_defs.specs.Parameters.{least, greatest, least_scale, greatest_scale, least_shift, greatest_shift, least_matrix_shift, greatest_matrix_shift, greatest_biquad_shift, greatest_lms_shift, is_complete, factor_of, coefficients, taps, sparse_taps, delays, sections, reflections, exactly, routes};
+ghost use Rattle.dsp_defs.specs.Tables.{table_rule};
 
 use dsp_defs::{
     Count, Flow, Fmt, ListRule, MAX_CHANNELS, MAX_DELAY, MAX_SECTIONS, MAX_STAGES, MAX_TAPS,
@@ -134,6 +135,18 @@ pub fn factor_of(rule: Count) -> u64
     match rule {
         Count::MultipleOf(factor) => factor,
         Count::AtLeast(wanted) => wanted,
+    }
+}
+
+/// Any count of numbers of 32 bits.
+pub fn table() -> ListRule
+    ensures { result ≡ table_rule }
+{
+    ListRule {
+        low: least(Fmt::Q31),
+        high: greatest(Fmt::Q31),
+        limit: MAX_TAPS as u64,
+        count: Count::AtLeast(0),
     }
 }
 

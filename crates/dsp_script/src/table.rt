@@ -219,13 +219,18 @@ pub fn format_by_name(run: &[u8]) -> Option<Fmt>
         .find(|format| run == format_name(*format).as_bytes())
 }
 
-const CONTAINERS: [Container; 2] = [Container::Wave, Container::Raw];
+/// The containers of an input.
+pub const INPUT_CONTAINERS: [Container; 2] = [Container::Wave, Container::Raw];
+
+/// The containers of an output.
+pub const OUTPUT_CONTAINERS: [Container; 3] = [Container::Wave, Container::Wavex, Container::Raw];
 
 pub fn container_name(container: Container) -> &'static str
     ensures { result.now ≡ container_name container }
 {
     match container {
         Container::Wave => "wave",
+        Container::Wavex => "wavex",
         Container::Raw => "raw",
     }
 }
@@ -240,12 +245,12 @@ pub fn container_of(kind: InputKind) -> Container
     }
 }
 
-/// The container that a run names.
+/// The container that a run names, among those that may stand there.
 #[tactic(auto, unfolding(dsp_defs::specs::Table::container_by_name))]
-pub fn container_by_name(run: &[u8]) -> Option<Container>
-    ensures { result ≡ container_by_name run.now }
+pub fn container_by_name(containers: &[Container], run: &[u8]) -> Option<Container>
+    ensures { result ≡ container_by_name containers.now run.now }
 {
-    CONTAINERS
+    containers
         .iter()
         .copied()
         .find(|container| run == container_name(*container).as_bytes())

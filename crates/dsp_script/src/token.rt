@@ -4,8 +4,8 @@ ghost use Rattle.std.specs.Prelude.{◌≡◌, ◌<◌, ◌≤◌, ◌+◌, ℕ,
 ghost use Rattle.dsp_defs.specs.Token.{items_from, is_white, is_run_byte, rest_of, Rest};
 ghost use Rattle.dsp_script.specs.View.{item_view};
 ghost use Rattle.dsp_script.specs.Answers.{Gives};
-ghost use Rattle.dsp_defs.specs.Places.{token_at};
-ghost use Rattle.dsp_defs.specs.Reading.{begins_with, nothing_of};
+ghost use Rattle.dsp_defs.specs.Places.{begins_with, token_at};
+ghost use Rattle.dsp_defs.specs.Reading.{nothing_of};
 
 use dsp_defs::{ScriptFault, ScriptKind};
 use std::marker::Model;

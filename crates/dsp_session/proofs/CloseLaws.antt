@@ -7,7 +7,7 @@ use Rattle.dsp_ports.specs.Ports.{SourceState, SinkState, one_more, IsSettled}
 use Rattle.dsp_ports.proofs.Moved.{append_known-append}
 use Rattle.dsp_defs.specs.Block.{Frame}
 use Rattle.dsp_defs.specs.Counts.{Counts}
-use Rattle.dsp_defs.specs.Output.{HasHeader, input_container, input_signal, output_header, output_pad, live_bytes, whole_bytes, output, part}
+use Rattle.dsp_defs.specs.Output.{HasHeader, input_signal, output_header, output_pad, output_coding, live_bytes, whole_bytes, output, part}
 use Rattle.dsp_defs.specs.Shape.{frames_given, gathered, window_at}
 use Rattle.dsp_defs.specs.Streaming.{Begins}
 use Rattle.dsp_defs.specs.declared.limits.TheConstants.{MAX_GATHERED}
@@ -49,28 +49,28 @@ whole_length script block ready x window =
 live_front : (script : Script) (x : List Frame) → Begins (live_bytes script x) (whole_bytes script x)
 live_front script x =
     let (rest, split) = whole_chain_begins script.input.format script.input.channels script.blocks x [] in
-    coded_begins script.output _ _ _ (rest, ap (whole_values script) (sym (append-nil x)) ∙ split)
+    coded_begins (output_coding script) _ _ (rest, ap (whole_values script) (sym (append-nil x)) ∙ split)
 
 module _ (script : Script) (block : ℕ) (ready : IsReady script block) (session : SessionState) (header : Header) (piece : List ℕ) (last : Last) (input now : SourceState) (sink then : SinkState) (before counts : Counts)
     (passed : Passed script block session header piece last input now sink then before counts) where
-  frame : 0 < frame_bytes script
-  frame = some_frame script block ready
+  frame : 0 < frame_bytes script header.coding
+  frame = some_frame script header.coding block ready
 
   abbrev heard : List ℕ
   heard = passed.heard
 
   abbrev x : List Frame
-  x = signal script heard
+  x = signal script header.coding heard
 
   abbrev rest : List ℕ
   rest = take last.count piece
 
   -- the frames of the last samples, and their bytes
   abbrev count : ℕ
-  count = last.count / frame_bytes script
+  count = last.count / frame_bytes script header.coding
 
   abbrev fed_bytes : List ℕ
-  fed_bytes = take (count * frame_bytes script) piece
+  fed_bytes = take (count * frame_bytes script header.coding) piece
 
   abbrev given : List ℕ
   given = passed.first ++ (heard ++ rest)
@@ -81,24 +81,24 @@ module _ (script : Script) (block : ℕ) (ready : IsReady script block) (session
   rest_length : length rest ≡ last.count
   rest_length = length-take-le last.count piece (omega (arith, passed.short))
 
-  some_left : count * frame_bytes script ≤ last.count
-  some_left = floor_within last.count (frame_bytes script)
+  some_left : count * frame_bytes script header.coding ≤ last.count
+  some_left = floor_within last.count (frame_bytes script header.coding)
 
-  pub fed_length : length fed_bytes ≡ count * frame_bytes script
-  fed_length = length-take-le (count * frame_bytes script) piece (omega (arith, some_left, passed.short))
+  pub fed_length : length fed_bytes ≡ count * frame_bytes script header.coding
+  fed_length = length-take-le (count * frame_bytes script header.coding) piece (omega (arith, some_left, passed.short))
 
-  pub fed_frames : length (signal script fed_bytes) ≡ count
-  fed_frames = frames-whole script frame fed_bytes count fed_length
+  pub fed_frames : length (signal script header.coding fed_bytes) ≡ count
+  fed_frames = frames-whole script header.coding frame fed_bytes count fed_length
 
-  fed_signal : signal script rest ≡ signal script fed_bytes
+  fed_signal : signal script header.coding rest ≡ signal script header.coding fed_bytes
   fed_signal =
-      let same : take (count * frame_bytes script) rest ≡ fed_bytes = take-take (count * frame_bytes script) last.count piece some_left in
-      let whole = samples-whole (input_container script) script.input.format script.input.channels count rest frame (ap (λ n. n / frame_bytes script) (sym rest_length)) in
-      sym whole ∙ ap (signal script) same
+      let same : take (count * frame_bytes script header.coding) rest ≡ fed_bytes = take-take (count * frame_bytes script header.coding) last.count piece some_left in
+      let whole = samples-whole header.coding script.input.channels count rest frame (ap (λ n. n / frame_bytes script header.coding) (sym rest_length)) in
+      sym whole ∙ ap (signal script header.coding) same
 
-  all_signal : signal script (heard ++ rest) ≡ x ++ signal script fed_bytes
+  all_signal : signal script header.coding (heard ++ rest) ≡ x ++ signal script header.coding fed_bytes
   all_signal =
-      signal-append script frame heard rest (passed.blocks * block) (frames_of_blocks script block passed.blocks (length heard) passed.blocks_heard) ∙ ap (λ y. x ++ y) fed_signal
+      signal-append script header.coding frame heard rest (passed.blocks * block) (frames_of_blocks script header.coding block passed.blocks (length heard) passed.blocks_heard) ∙ ap (λ y. x ++ y) fed_signal
 
   given_length : length (heard ++ rest) ≡ last.before + last.count
   given_length = omega (arith, passed.heard_count, rest_length, length-append heard rest)
@@ -106,29 +106,29 @@ module _ (script : Script) (block : ℕ) (ready : IsReady script block) (session
   declared : InDeclared (declared_bytes script header) (length (heard ++ rest))
   declared = in_declared (declared_bytes script header) (last.before + last.count) (length (heard ++ rest)) (sym given_length) passed.declared
 
-  frames_is : frames_in_bytes script given ≡ length (x ++ signal script fed_bytes)
-  frames_is = frames_are script frame header passed.first passed.opens (heard ++ rest) declared ∙ ap length all_signal
+  frames_is : frames_in_bytes script given ≡ length (x ++ signal script header.coding fed_bytes)
+  frames_is = frames_are script header frame passed.first passed.opens (heard ++ rest) declared ∙ ap length all_signal
 
   -- the signal of all bytes that were taken
-  signal_all : input_signal script given ≡ x ++ signal script fed_bytes
-  signal_all = signal_is script frame header passed.first passed.opens (heard ++ rest) declared ∙ all_signal
+  signal_all : input_signal script given ≡ x ++ signal script header.coding fed_bytes
+  signal_all = signal_is script header frame passed.first passed.opens (heard ++ rest) declared ∙ all_signal
 
-  pub frames_taken : length (x ++ signal script fed_bytes) ≡ (last.before + last.count) / frame_bytes script
-  frames_taken = ap length (sym all_signal) ∙ length-signal script frame (heard ++ rest) ∙ ap (λ n. n / frame_bytes script) given_length
+  pub frames_taken : length (x ++ signal script header.coding fed_bytes) ≡ (last.before + last.count) / frame_bytes script header.coding
+  frames_taken = ap length (sym all_signal) ∙ length-signal script header.coding frame (heard ++ rest) ∙ ap (λ n. n / frame_bytes script header.coding) given_length
 
   -- its frames are not too many
   pub few_frames : (frames : ℕ) → frames ≡ length x → frames + count ≤ 2 ^ 40
   few_frames frames is =
-      let sum : length (x ++ signal script fed_bytes) ≡ frames + count = length-append x (signal script fed_bytes) ∙ omega (arith, is, fed_frames) in
-      omega (arith, sum, frames_taken, quotient_within (last.before + last.count) (frame_bytes script), passed.in_limit)
+      let sum : length (x ++ signal script header.coding fed_bytes) ≡ frames + count = length-append x (signal script header.coding fed_bytes) ∙ omega (arith, is, fed_frames) in
+      omega (arith, sum, frames_taken, quotient_within (last.before + last.count) (frame_bytes script header.coding), passed.in_limit)
 
   few_left : count < block
-  few_left = less last.count block (frame_bytes script) frame (omega (arith, passed.short, passed.size))
+  few_left = less last.count block (frame_bytes script header.coding) frame (omega (arith, passed.short, passed.size))
     where
       less : (n b f : ℕ) → 0 < f → n < b * f → n / f < b
       less n b f some h = grind arith
 
-  pub fed_in_block : length (signal script fed_bytes) ≤ block
+  pub fed_in_block : length (signal script header.coding fed_bytes) ≤ block
   fed_in_block = omega (arith, fed_frames, few_left)
 
   has : HasHeader script given
@@ -144,11 +144,11 @@ module _ (script : Script) (block : ℕ) (ready : IsReady script block) (session
       by_declared None end = end
       by_declared (Some size) all = omega (arith, given_all, all)
 
-  output_all : output script given ≡ head ++ (whole_bytes script (x ++ signal script fed_bytes) ++ output_pad script header)
+  output_all : output script given ≡ head ++ (whole_bytes script (x ++ signal script header.coding fed_bytes) ++ output_pad script header)
   output_all =
-      output_is script frame header passed.first passed.opens (heard ++ rest) declared
+      output_is script header frame passed.first passed.opens (heard ++ rest) declared
       ∙ ap (λ y. head ++ whole_bytes script y ++ output_pad script header) all_signal
-      ∙ append_assoc head (whole_bytes script (x ++ signal script fed_bytes)) (output_pad script header)
+      ∙ append_assoc head (whole_bytes script (x ++ signal script header.coding fed_bytes)) (output_pad script header)
 
   lag : (written : List ℕ) → LagsByOne script block given (head ++ live_bytes script x ++ written)
   lag written =
@@ -158,20 +158,20 @@ module _ (script : Script) (block : ℕ) (ready : IsReady script block) (session
       prefix_declared None within = tt
       prefix_declared (Some size) within = omega (arith, within, passed.heard_count)
 
-  cost_so_far : (multiplied frames : ℕ) → frames ≤ length (x ++ signal script fed_bytes) → multiplied ≡ before.multiplies + live_cost_of script frames → multiplied ≤ before.multiplies + cost_of script (frames_in_bytes script given)
+  cost_so_far : (multiplied frames : ℕ) → frames ≤ length (x ++ signal script header.coding fed_bytes) → multiplied ≡ before.multiplies + live_cost_of script frames → multiplied ≤ before.multiplies + cost_of script (frames_in_bytes script given)
   cost_so_far multiplied frames fewer cost =
-      let products = live_cost_within script.input.format script.input.channels script.blocks frames (length (x ++ signal script fed_bytes)) fewer in
+      let products = live_cost_within script.input.format script.input.channels script.blocks frames (length (x ++ signal script header.coding fed_bytes)) fewer in
       rw frames_is (omega (arith, products, cost))
 
   -- what was written is the part output of it
   parted : head ++ live_bytes script x ≡ part script block given
-  parted = sym (part_blocks script frame header passed.first passed.opens block passed.blocks heard rest passed.blocks_heard (omega (arith, rest_length, passed.short, passed.size)) declared)
+  parted = sym (part_blocks script header frame passed.first passed.opens block passed.blocks heard rest passed.blocks_heard (omega (arith, rest_length, passed.short, passed.size)) declared)
 
-  fed_all : session.chain.frames + count ≡ length (x ++ signal script fed_bytes)
-  fed_all = ap (λ n. n + count) passed.stands.chain.counted ∙ ap (λ n. length x + n) (sym fed_frames) ∙ sym (length-append x (signal script fed_bytes))
+  fed_all : session.chain.frames + count ≡ length (x ++ signal script header.coding fed_bytes)
+  fed_all = ap (λ n. n + count) passed.stands.chain.counted ∙ ap (λ n. length x + n) (sym fed_frames) ∙ sym (length-append x (signal script header.coding fed_bytes))
 
   frames_heard : length x ≡ passed.blocks * block
-  frames_heard = frames-whole script frame heard (passed.blocks * block) (frames_of_blocks script block passed.blocks (length heard) passed.blocks_heard)
+  frames_heard = frames-whole script header.coding frame heard (passed.blocks * block) (frames_of_blocks script header.coding block passed.blocks (length heard) passed.blocks_heard)
 
   abbrev low : passed.blocks * block ≤ frames_in_bytes script given
   low = (frames_between script block ready header passed.first passed.opens passed.blocks heard rest declared passed.blocks_heard (omega (arith, rest_length, passed.short, passed.size))).0
@@ -188,23 +188,23 @@ module _ (script : Script) (block : ℕ) (ready : IsReady script block) (session
   early_turns : counts.turns ≤ before.turns + run_turns script block (frames_in_bytes script given)
   early_turns = turns_before script block passed.blocks (frames_in_bytes script given) before.turns counts.turns (block_some script block ready) low high passed.turned
 
-  fed_turns : (after : Counts) → PassCosts script x fed_bytes counts after → after.turns ≤ counts.turns + turns_of script (passed.blocks * block) (frames_in_bytes script given)
+  fed_turns : (after : Counts) → PassCosts script header.coding x fed_bytes counts after → after.turns ≤ counts.turns + turns_of script (passed.blocks * block) (frames_in_bytes script given)
   fed_turns after costs = subst (λ n. after.turns ≤ counts.turns + n) (λ i. turns_of script (frames_heard i) (sym frames_is i)) costs.turned
 
   -- where the last samples were too many, some came
-  frames_between_strictly : MAX_GATHERED < gathered script.blocks (length (x ++ signal script fed_bytes)) → passed.blocks * block < frames_in_bytes script given
+  frames_between_strictly : MAX_GATHERED < gathered script.blocks (length (x ++ signal script header.coding fed_bytes)) → passed.blocks * block < frames_in_bytes script given
   frames_between_strictly over =
       elim (cases_lt (passed.blocks * block) (frames_in_bytes script given)) [
         | inl more ↦ more
         | inr fewer ↦
-            let same : length (x ++ signal script fed_bytes) ≡ passed.blocks * block = omega (arith, fewer, low, frames_is) in
+            let same : length (x ++ signal script header.coding fed_bytes) ≡ passed.blocks * block = omega (arith, fewer, low, frames_is) in
             absurd (omega (arith, passed.not_full, subst (λ n. MAX_GATHERED < gathered script.blocks n) same over))
       ]
 
   -- a window ends past its convolution
   pub stops_window : (end full : ℕ) → window_at script.blocks (session.chain.frames + count) ≡ Some (end, full) → Stopped script block (fault.Lengths (length_fault.Window end full)) input now sink then before counts
   stops_window end full window =
-      let frames : session.chain.frames + count ≡ frames_in_bytes script given = sym (frames_is ∙ length-append x (signal script fed_bytes) ∙ omega (arith, passed.stands.chain.counted, fed_frames)) in
+      let frames : session.chain.frames + count ≡ frames_in_bytes script given = sym (frames_is ∙ length-append x (signal script header.coding fed_bytes) ∙ omega (arith, passed.stands.chain.counted, fed_frames)) in
       record {
         given = given;
         written = head ++ live_bytes script x;
@@ -220,14 +220,14 @@ module _ (script : Script) (block : ℕ) (ready : IsReady script block) (session
           kept = passed.no_output_fault;
         };
         lag = λ _. subst (LagsByOne script block given) (append-nil (head ++ live_bytes script x)) (lag []);
-        cost = cost_so_far counts.multiplies (length x) (omega (arith, length-append x (signal script fed_bytes))) passed.cost;
+        cost = cost_so_far counts.multiplies (length x) (omega (arith, length-append x (signal script header.coding fed_bytes))) passed.cost;
         turns = early_turns;
       }
 
   -- the output failed within the values of the last samples
-  pub stops_unpassed : None ≡ window_at script.blocks (session.chain.frames + count) → (stop : StreamFault) (final : SinkState) (after : Counts) → FailsToPass stop script x fed_bytes then final counts after → Stopped script block stop input now sink final before after
+  pub stops_unpassed : None ≡ window_at script.blocks (session.chain.frames + count) → (stop : StreamFault) (final : SinkState) (after : Counts) → FailsToPass stop script header.coding x fed_bytes then final counts after → Stopped script block stop input now sink final before after
   stops_unpassed window fault.Output final after (added, written, is, (back, split), put, risen, costs, kept) =
-      let y = x ++ signal script fed_bytes in
+      let y = x ++ signal script header.coding fed_bytes in
       let (tail, whole) = live_front script y in
       let begins : output script given ≡ (head ++ live_bytes script x ++ written) ++ (back ++ (tail ++ output_pad script header)) =
       output_all ∙ ap (λ xs. head ++ (xs ++ output_pad script header)) (whole ∙ ap (λ xs. xs ++ tail) (is ∙ ap (λ xs. live_bytes script x ++ xs) split))
@@ -277,31 +277,31 @@ module _ (script : Script) (block : ℕ) (ready : IsReady script block) (session
           kept = ap (λ (s : SinkState). s.faults) same ∙ passed.no_output_fault;
         };
         lag = λ _. subst (LagsByOne script block given) (append-nil (head ++ live_bytes script x)) (lag []);
-        cost = cost_so_far after.multiplies (length x) (omega (arith, length-append x (signal script fed_bytes))) (ap (λ (c : Counts). c.multiplies) still ∙ passed.cost);
+        cost = cost_so_far after.multiplies (length x) (omega (arith, length-append x (signal script header.coding fed_bytes))) (ap (λ (c : Counts). c.multiplies) still ∙ passed.cost);
         turns = subst (λ (c : Counts). c.turns ≤ before.turns + run_turns script block (frames_in_bytes script given)) (sym still) early_turns;
       }
   stops_unpassed window _ final after none = absurd none
 
   -- no window ends past its convolution
   module _ (window : None ≡ window_at script.blocks (session.chain.frames + count)) where
-    no_window : window_at script.blocks (length (x ++ signal script fed_bytes)) ≡ None
+    no_window : window_at script.blocks (length (x ++ signal script header.coding fed_bytes)) ≡ None
     no_window = ap (window_at script.blocks) (sym fed_all) ∙ sym window
 
-    products_are : products_of script (length (x ++ signal script fed_bytes)) ≡ cost_of script (length (x ++ signal script fed_bytes))
-    products_are = products_are_cost script.input.format script.input.channels script.blocks (length (x ++ signal script fed_bytes)) no_window
+    products_are : products_of script (length (x ++ signal script header.coding fed_bytes)) ≡ cost_of script (length (x ++ signal script header.coding fed_bytes))
+    products_are = products_are_cost script.input.format script.input.channels script.blocks (length (x ++ signal script header.coding fed_bytes)) no_window
 
     -- a whole signal has so many frames
-    pub tail_few : (fed : SessionState) → SameSession session fed → StandsFor fed (x ++ signal script fed_bytes) → (frames : ℕ) → frames ≡ frames_given script.blocks ((last.before + last.count) / frame_bytes script) → (z : List Frame) → StandsFor fed z → length (whole_values fed.script z) ≤ frames
+    pub tail_few : (fed : SessionState) → SameSession session fed → StandsFor fed (x ++ signal script header.coding fed_bytes) → (frames : ℕ) → frames ≡ frames_given script.blocks ((last.before + last.count) / frame_bytes script header.coding) → (z : List Frame) → StandsFor fed z → length (whole_values fed.script z) ≤ frames
     tail_few fed same fed_stands frames is z stands =
-        let long : length z ≡ length (x ++ signal script fed_bytes) = sym stands.chain.counted ∙ fed_stands.chain.counted in
+        let long : length z ≡ length (x ++ signal script header.coding fed_bytes) = sym stands.chain.counted ∙ fed_stands.chain.counted in
         let all : length (whole_values fed.script z) ≡ frames =
         ap (λ (s : Script). length (whole_values s z)) (same.script ∙ passed.script_is) ∙ whole_length script block ready z (ap (window_at script.blocks) long ∙ no_window) ∙ ap (frames_given script.blocks) (long ∙ frames_taken) ∙ sym is in
         omega (arith, all)
 
     -- the last samples have passed
-    module _ (fed : SessionState) (mid : SinkState) (fed_counts : Counts) (same : SameSession session fed) (passes : Passes script x fed_bytes fed then mid counts fed_counts) where
+    module _ (fed : SessionState) (mid : SinkState) (fed_counts : Counts) (same : SameSession session fed) (passes : Passes script header.coding x fed_bytes fed then mid counts fed_counts) where
       abbrev y : List Frame
-      y = x ++ signal script fed_bytes
+      y = x ++ signal script header.coding fed_bytes
 
       fed_script : fed.script ≡ script
       fed_script = same.script ∙ passed.script_is
@@ -333,7 +333,7 @@ module _ (script : Script) (block : ℕ) (ready : IsReady script block) (session
         tail_costs = subst (λ (s : Script). TailCosts result s (length y) fed_counts spent) fed_script costs
 
       pub stream_done : {E : Type 0} (final : SinkState) (spent : Counts) (frames : ℕ) → WritesRest {T = Unit {0}} {E = E} (Ok tt) (live_bytes fed.script y) (whole_bytes fed.script y ++ output_pad fed.script header) mid final → TailCosts {T = Unit {0}} {E = E} (Ok tt) fed.script (length y) fed_counts spent
-          → IsSettled final → final.faults ≡ mid.faults → frames ≡ (last.before + last.count) / frame_bytes script → (found : List Measure) → found ≡ measures_of fed.script y → Done script block frames input now sink final before spent found
+          → IsSettled final → final.faults ≡ mid.faults → frames ≡ (last.before + last.count) / frame_bytes script header.coding → (found : List Measure) → found ≡ measures_of fed.script y → Done script block frames input now sink final before spent found
       stream_done {E} final spent frames writes costs settled faults is found measured =
           let tail = tail_writes {E = E} (Ok tt) final spent writes costs in
           let all : head ++ live_bytes script x ++ (fed.out ++ tail.written) ≡ output script given = written_is tail.written ∙ ap (λ xs. head ++ xs) tail.whole ∙ sym output_all in

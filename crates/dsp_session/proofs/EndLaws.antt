@@ -7,7 +7,7 @@ use Rattle.dsp_ports.proofs.Moved.{Took-nil, append_known-append}
 use Rattle.dsp_defs.specs.Block.{Frame, live_chain, whole_chain}
 use Rattle.dsp_defs.specs.Counts.{Counts}
 use Rattle.dsp_defs.specs.Measure.{measures}
-use Rattle.dsp_defs.specs.Output.{format_of, live_bytes, whole_bytes}
+use Rattle.dsp_defs.specs.Output.{output_coding, live_bytes, whole_bytes}
 use Rattle.dsp_stage.specs.Row.{chain_products}
 use Rattle.dsp_defs.specs.Streaming.{Begins}
 use Rattle.dsp_defs.specs.declared.script.Script.{Script}
@@ -78,7 +78,7 @@ module _ (script : Script) (x : List Frame) (frames pieces : ℕ) (session : Ses
 
     so_far_next : output_bytes script zs ≡ live_bytes script x ++ (tailing.written ++ next.out)
     so_far_next =
-        coded-append script.output (format_of script) tailing.ys ends.given ∙ ap (λ bytes. bytes ++ output_bytes script ends.given) tailing.so_far ∙ ap (λ bytes. (live_bytes script x ++ tailing.written) ++ bytes) (sym out_is) ∙ append_assoc (live_bytes script x) tailing.written next.out
+        coded-append (output_coding script) tailing.ys ends.given ∙ ap (λ bytes. bytes ++ output_bytes script ends.given) tailing.so_far ∙ ap (λ bytes. (live_bytes script x ++ tailing.written) ++ bytes) (sym out_is) ∙ append_assoc (live_bytes script x) tailing.written next.out
 
     made_next : counted.multiplies + live_cost_of script (length x) ≡ before.multiplies + made_of next.chain
     made_next = omega (arith, ends.multiplies, tailing.made)
@@ -93,7 +93,7 @@ module _ (script : Script) (x : List Frame) (frames pieces : ℕ) (session : Ses
 
     -- what was given is the beginning of the whole output
     begins_next : Begins (output_bytes script zs) (whole_bytes script x)
-    begins_next = (let (rest, split) = gave.chain.front in coded_begins script.output (format_of script) zs (whole_values script x) (rest, sym whole_next ∙ split))
+    begins_next = (let (rest, split) = gave.chain.front in coded_begins (output_coding script) zs (whole_values script x) (rest, sym whole_next ∙ split))
 
     some_given : (answer ≡ 0 → ⊥) → answer ≡ length next.out → 1 ≤ length ends.given
     some_given some is = by ends.given out_is

@@ -1,5 +1,5 @@
 -- Where a stream stops before the first sample.
-use Rattle.std.proofs.Common.{◌≡◌, ℕ, ◌*◌, ◌/◌, ◌<◌, ◌≤◌, List, [], ◌∷◌, ◌++◌, length, take, drop, fold, Option, Some, None, Err, refl, sym, ap, ◌∙◌, subst, arith, append-nil, append_assoc, inl, inr}
+use Rattle.std.proofs.Common.{◌≡◌, ◌≢◌, ℕ, ◌*◌, ◌/◌, ◌<◌, ◌≤◌, List, [], ◌∷◌, ◌++◌, length, take, drop, fold, Option, Some, None, Err, refl, sym, ap, ◌∙◌, subst, arith, append-nil, append_assoc, inl, inr}
 use Rattle.std.proofs.lemmas.List.{take-append-drop}
 use Rattle.std.specs.Result.{IsOk}
 use Rattle.std.specs.Io.KnownBytes.{append_known}
@@ -11,6 +11,8 @@ use Rattle.dsp_defs.specs.Counts.{Counts}
 use Rattle.dsp_defs.specs.Output.{HasHeader, HeaderIsThere, input_header, output_header, output_pad, live_bytes, known_frames, wanted_of, format_of, channels_of, rate_of, part}
 use Rattle.dsp_defs.specs.Table.{flow_after}
 use Rattle.dsp_defs.specs.Wave.{header_of, wave_header, pad, HeaderFits}
+use Rattle.dsp_defs.specs.declared.format.Coding.{Coding}
+use Rattle.dsp_defs.specs.declared.format.Container.{Container}
 use Rattle.dsp_defs.specs.declared.format.Container.TheVariants as container
 use Rattle.dsp_defs.specs.declared.flow.Flow.{Flow}
 use Rattle.dsp_defs.specs.declared.format.InputKind.TheVariants as kind
@@ -29,9 +31,9 @@ use Rattle.dsp_session.specs.declared.fault.LengthFault.{LengthFault}
 use Rattle.dsp_session.specs.declared.fault.LengthFault.TheVariants as length_fault
 use Rattle.dsp_session.specs.declared.fault.StreamFault.{StreamFault}
 use Rattle.dsp_session.specs.declared.fault.StreamFault.TheVariants as fault
-use Rattle.dsp_session.specs.Session.{IsReady, frame_bytes, block_bytes, signal}
+use Rattle.dsp_session.specs.Session.{IsReady, block_bytes, signal}
 use Rattle.dsp_session.specs.Opening.{Opened, Unopened, IsUnopened, IsTooLong, TooLong, Fits}
-use Rattle.dsp_session.specs.Stream.{StopsAt, Stopped, Nothing, LagsByOne, declared_bytes, frames_in_bytes, in_whole_blocks}
+use Rattle.dsp_session.specs.Stream.{StopsAt, Stopped, Nothing, LagsByOne, declared_bytes, in_whole_frames, frames_in_bytes, in_whole_blocks}
 use Rattle.dsp_session.specs.Passing.{InDeclared}
 use Rattle.dsp_session.proofs.OpeningLaws.{some_frame, part_blocks, frames_are, signal-nil}
 use Rattle.std.proofs.Math.Nat.{mul-le-mul}
@@ -46,15 +48,21 @@ few_channels script block ready =
     let fit = ready.sound.1.fit in
     channels_stay_few (record { format = script.input.format; channels = script.input.channels }) script.blocks fit.chain fit.channels.1
 
-pub some_block : (script : Script) (block : ℕ) → IsReady script block → 0 < block_bytes script block
-some_block script block ready = mul-le-mul (legal_parts script.input.channels script.blocks block ready.legal).some (some_frame script block ready)
+pub some_block : (script : Script) (coding : Coding) (block : ℕ) → IsReady script block → 0 < block_bytes script coding block
+some_block script coding block ready = mul-le-mul (legal_parts script.input.channels script.blocks block ready.legal).some (some_frame script coding block ready)
 
--- what stands before the samples of a WAVE output, and behind them
-pub header_bytes : (script : Script) (header : Header) → script.output ≡ container.Wave → output_header script header ≡ wave_header (format_of script) (channels_of script) (rate_of script header.rate) (known_frames script header)
-header_bytes script header wave = rw wave refl
+-- a choice of outputs with a header
+headed_choice : (c : Container) (none all : List ℕ) → c ≢ container.Raw → elim c [ container.Raw ↦ none | _ ↦ all ] ≡ all
+headed_choice container.Raw none all headed = absurd (headed refl)
+headed_choice container.Wave none all headed = refl
+headed_choice container.Wavex none all headed = refl
 
-pub pad_bytes : (script : Script) (header : Header) → script.output ≡ container.Wave → output_pad script header ≡ pad (format_of script) (channels_of script) (known_frames script header)
-pad_bytes script header wave = rw wave refl
+-- what stands before the samples of an output with a header, and behind them
+pub header_bytes : (script : Script) (header : Header) → script.output ≢ container.Raw → output_header script header ≡ wave_header script.output (format_of script) (channels_of script) (rate_of script header.rate) (known_frames script header)
+header_bytes script header headed = headed_choice script.output [] _ headed
+
+pub pad_bytes : (script : Script) (header : Header) → script.output ≢ container.Raw → output_pad script header ≡ pad (format_of script) (channels_of script) (known_frames script header)
+pad_bytes script header headed = headed_choice script.output [] _ headed
 
 -- bytes that are known to have a fault have no header
 no_header : (script : Script) (fault : HeaderFault) (offset : ℕ) (given : List ℕ) (now : SourceState) → script.input.kind ≡ kind.Wave → IsSure (λ bytes. header_of bytes (wanted_of script)) now given (Err (fault, offset)) → HasHeader script given → ⊥
@@ -99,9 +107,9 @@ module _ (script : Script) (block : ℕ) (counts : Counts) (input now : SourceSt
 
 -- the test of the sizes was passed
 pub fits_known : (script : Script) (header : Header) (known : Option ℕ) → known ≡ known_frames script header
-    → (script.output ≡ container.Wave → HeaderFits (format_of script) (channels_of script) known) → Fits script header
+    → (script.output ≢ container.Raw → HeaderFits script.output (format_of script) (channels_of script) known) → Fits script header
 fits_known script header known is fits =
-    subst (λ count. script.output ≡ container.Wave → HeaderFits (format_of script) (channels_of script) count) is fits
+    subst (λ count. script.output ≢ container.Raw → HeaderFits script.output (format_of script) (channels_of script) count) is fits
 
 none_whole : (block : ℕ) → in_whole_blocks block 0 ≡ 0
 none_whole block =
@@ -154,26 +162,26 @@ module _ (script : Script) (block : ℕ) (counts : Counts) (ready : IsReady scri
   none_declared : InDeclared (declared_bytes script header) 0
   none_declared = by_size header.size
     where
-      by_size : (size : Option ℕ) → InDeclared (elim size [ Some s ↦ Some (s / frame_bytes script * frame_bytes script) | None ↦ None ]) 0
+      by_size : (size : Option ℕ) → InDeclared (elim size [ Some s ↦ Some (in_whole_frames script header.coding s) | None ↦ None ]) 0
       by_size None = tt
       by_size (Some size) = omega arith
 
   no_frames : frames_in_bytes script first ≡ 0
   no_frames =
-      ap (frames_in_bytes script) (sym (append-nil first)) ∙ frames_are script (some_frame script block ready) header first opened.opens [] none_declared
-      ∙ ap length (signal-nil script (some_frame script block ready))
+      ap (frames_in_bytes script) (sym (append-nil first)) ∙ frames_are script header (some_frame script header.coding block ready) first opened.opens [] none_declared
+      ∙ ap length (signal-nil script header.coding (some_frame script header.coding block ready))
 
   pub stops_unwritten : Fits script header → (after : SinkState) (count : ℕ) → Took sink after (take count (output_header script header)) → after.faults ≡ one_more sink.faults → Stopped script block fault.Output input now sink after counts counts
   stops_unwritten fits after count took risen =
       let all = output_header script header in
-      let parted : part script block first ≡ all ++ live_bytes script (signal script []) =
-      ap (part script block) (sym (append-nil first)) ∙ part_blocks script (some_frame script block ready) header first opened.opens block 0 [] [] (omega arith) (some_block script block ready) none_declared in
-      let split : part script block first ≡ take count all ++ (drop count all ++ live_bytes script (signal script [])) =
-      parted ∙ ap (λ xs. xs ++ live_bytes script (signal script [])) (sym (take-append-drop count all)) ∙ append_assoc (take count all) (drop count all) (live_bytes script (signal script [])) in
+      let parted : part script block first ≡ all ++ live_bytes script (signal script header.coding []) =
+      ap (part script block) (sym (append-nil first)) ∙ part_blocks script header (some_frame script header.coding block ready) first opened.opens block 0 [] [] (omega arith) (some_block script header.coding block ready) none_declared in
+      let split : part script block first ≡ take count all ++ (drop count all ++ live_bytes script (signal script header.coding [])) =
+      parted ∙ ap (λ xs. xs ++ live_bytes script (signal script header.coding [])) (sym (take-append-drop count all)) ∙ append_assoc (take count all) (drop count all) (live_bytes script (signal script header.coding [])) in
       stops_first fault.Output after (take count all) took.put
       (record {
         has = has;
-        wrote = inl (drop count all ++ live_bytes script (signal script []), split);
+        wrote = inl (drop count all ++ live_bytes script (signal script header.coding []), split);
         limits = record {
           fits = subst (Fits script) (sym header_is) fits;
           not_full = subst (λ n. gathered script.blocks n ≤ MAX_GATHERED) (sym (ap (in_whole_blocks block) no_frames ∙ none_whole block)) (omega (arith, gathered-nothing script.blocks));

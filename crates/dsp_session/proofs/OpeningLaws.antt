@@ -1,17 +1,21 @@
 -- Behind the header of the input stand its samples, block after block.
-use Rattle.std.proofs.Common.{◌≡◌, ℕ, ◌+◌, ◌*◌, ◌/◌, ◌<◌, ◌≤◌, List, [], ◌++◌, length, take, drop, Option, Some, None, refl, sym, ap, ◌∙◌, arith, length-append}
+use Rattle.std.proofs.Common.{◌≡◌, ℕ, ◌+◌, ◌*◌, ◌/◌, ◌<◌, ◌≤◌, List, [], ◌++◌, length, take, drop, Option, Some, None, refl, sym, ap, ◌∙◌, subst, arith, length-append}
 use Rattle.std.proofs.lemmas.List.{drop_at, take_all, take_at}
 use Rattle.std.proofs.lemmas.Nat.{div-mul-add}
 use Rattle.std.proofs.Math.Nat.{mul_assoc}
 use Rattle.dsp_defs.specs.Block.{Frame}
-use Rattle.dsp_defs.specs.Bytes.{width}
-use Rattle.dsp_defs.specs.Output.{input_container, input_signal, sample_bytes, output_header, output_pad, live_bytes, whole_bytes, whole_blocks, output, part}
+use Rattle.dsp_defs.specs.Bytes.{format_in, width, word_bytes}
+use Rattle.dsp_defs.specs.Grammar.{container_of}
+use Rattle.dsp_defs.specs.declared.format.Coding.TheVariants.{Raw7, Raw15, Raw31, Wave7, Wave15, Wave24, Wave31}
+use Rattle.dsp_defs.specs.Output.{input_signal, sample_bytes, output_header, output_pad, live_bytes, whole_bytes, whole_blocks, output, part}
+use Rattle.dsp_defs.specs.declared.format.Coding.{Coding}
 use Rattle.dsp_defs.specs.declared.script.Script.{Script}
 use Rattle.dsp_defs.specs.declared.wave.Header.{Header}
-use Rattle.dsp_defs.proofs.SampleLaws.{width-some, length-samples, samples-nil, samples-append, count-whole}
-use Rattle.dsp_session.specs.Session.{IsReady, frame_bytes, block_bytes, signal}
+use Rattle.dsp_defs.proofs.CodingLemmas.{width-some, width-coding_of}
+use Rattle.dsp_defs.proofs.SampleLaws.{length-samples, samples-nil, samples-append, count-whole}
+use Rattle.dsp_session.specs.Session.{IsReady, frame_bytes, block_bytes, input_coding, signal}
 use Rattle.dsp_session.specs.Opening.{Opens}
-use Rattle.dsp_session.specs.Stream.{declared_bytes, frames_in_bytes}
+use Rattle.dsp_session.specs.Stream.{declared_bytes, in_whole_frames, frames_in_bytes}
 use Rattle.dsp_session.specs.Passing.{InDeclared}
 use Rattle.std.proofs.Math.Nat.{mul-le-mul}
 
@@ -20,12 +24,32 @@ use Rattle.std.proofs.Math.Nat.{mul-le-mul}
 some_product : (a b : ℕ) → 1 ≤ a → 1 ≤ b → 1 ≤ a * b
 some_product a b h k = mul-le-mul h k
 
-pub some_frame : (script : Script) (block : ℕ) → IsReady script block → 0 < frame_bytes script
-some_frame script block ready = some_product script.input.channels (width script.input.format) ready.sound.1.fit.channels.0 (width-some script.input.format)
+pub some_frame : (script : Script) (coding : Coding) (block : ℕ) → IsReady script block → 0 < frame_bytes script coding
+some_frame script coding block ready = some_product script.input.channels (width coding) ready.sound.1.fit.channels.0 (width-some coding)
 
 -- a number of frames that are whole blocks
-pub frames_of_blocks : (script : Script) (block blocks count : ℕ) → count ≡ blocks * block_bytes script block → count ≡ blocks * block * frame_bytes script
-frames_of_blocks script block blocks count is = is ∙ sym (mul_assoc blocks block (frame_bytes script))
+pub frames_of_blocks : (script : Script) (coding : Coding) (block blocks count : ℕ) → count ≡ blocks * block_bytes script coding block → count ≡ blocks * block * frame_bytes script coding
+frames_of_blocks script coding block blocks count is = is ∙ sym (mul_assoc blocks block (frame_bytes script coding))
+
+-- no coding of a format is wider than that of all its bits
+narrower : (coding : Coding) → width coding ≤ word_bytes (format_in coding)
+narrower Raw7 = omega arith
+narrower Raw15 = omega arith
+narrower Raw31 = omega arith
+narrower Wave7 = omega arith
+narrower Wave15 = omega arith
+narrower Wave24 = omega arith
+narrower Wave31 = omega arith
+
+pub room_for_block : (script : Script) (coding : Coding) (block : ℕ) → format_in coding ≡ script.input.format → block_bytes script coding block ≤ block_bytes script (input_coding script) block
+room_for_block script coding block is =
+    let format = script.input.format in
+    let all : width (input_coding script) ≡ word_bytes format = width-coding_of (container_of script.input.kind) format in
+    let less : width coding ≤ word_bytes format = subst (λ f. width coding ≤ word_bytes f) is (narrower coding) in
+    let channels : script.input.channels ≤ script.input.channels = omega arith in
+    let frame : frame_bytes script coding ≤ frame_bytes script (input_coding script) = mul-le-mul channels (rw all less) in
+    let blocks : block ≤ block = omega arith in
+    mul-le-mul blocks frame
 
 -- whole blocks of frames, and less than one more
 whole_blocks-append : (block blocks : ℕ) (x y : List Frame) → length x ≡ blocks * block → length y < block → whole_blocks block (x ++ y) ≡ x
@@ -40,51 +64,51 @@ div_less n b f some less = grind (arith)
 pub floor_within : (n f : ℕ) → n / f * f ≤ n
 floor_within n f = grind (arith)
 
-module _ (script : Script) (some : 0 < frame_bytes script) where
-  pub signal-nil : signal script [] ≡ []
-  signal-nil = samples-nil (input_container script) script.input.format script.input.channels
+module _ (script : Script) (coding : Coding) (some : 0 < frame_bytes script coding) where
+  pub signal-nil : signal script coding [] ≡ []
+  signal-nil = samples-nil coding script.input.channels
 
-  pub length-signal : (bytes : List ℕ) → length (signal script bytes) ≡ length bytes / frame_bytes script
-  length-signal bytes = length-samples (input_container script) script.input.format script.input.channels bytes
+  pub length-signal : (bytes : List ℕ) → length (signal script coding bytes) ≡ length bytes / frame_bytes script coding
+  length-signal bytes = length-samples coding script.input.channels bytes
 
-  pub signal-append : (heard more : List ℕ) (n : ℕ) → length heard ≡ n * frame_bytes script → signal script (heard ++ more) ≡ signal script heard ++ signal script more
-  signal-append heard more n whole = samples-append (input_container script) script.input.format script.input.channels n heard more some whole
+  pub signal-append : (heard more : List ℕ) (n : ℕ) → length heard ≡ n * frame_bytes script coding → signal script coding (heard ++ more) ≡ signal script coding heard ++ signal script coding more
+  signal-append heard more n whole = samples-append coding script.input.channels n heard more some whole
 
-  pub frames-whole : (bytes : List ℕ) (n : ℕ) → length bytes ≡ n * frame_bytes script → length (signal script bytes) ≡ n
-  frames-whole bytes n whole = length-signal bytes ∙ count-whole (input_container script) script.input.format script.input.channels n bytes [] some whole
+  pub frames-whole : (bytes : List ℕ) (n : ℕ) → length bytes ≡ n * frame_bytes script coding → length (signal script coding bytes) ≡ n
+  frames-whole bytes n whole = length-signal bytes ∙ count-whole coding script.input.channels n bytes [] some whole
 
 -- ---- behind the header
 
-module _ (script : Script) (some : 0 < frame_bytes script) (header : Header) (first : List ℕ) (opens : Opens script header first) where
+module _ (script : Script) (header : Header) (some : 0 < frame_bytes script header.coding) (first : List ℕ) (opens : Opens script header first) where
   dropped : (bytes : List ℕ) → drop header.start (first ++ bytes) ≡ bytes
   dropped bytes = drop_at first bytes header.start (sym opens.start)
 
-  by_size : (bytes : List ℕ) (size : Option ℕ) → InDeclared (elim size [ Some s ↦ Some (s / frame_bytes script * frame_bytes script) | None ↦ None ]) (length bytes)
+  by_size : (bytes : List ℕ) (size : Option ℕ) → InDeclared (elim size [ Some s ↦ Some (in_whole_frames script header.coding s) | None ↦ None ]) (length bytes)
       → elim size [ Some s ↦ take s (drop header.start (first ++ bytes)) | None ↦ drop header.start (first ++ bytes) ] ≡ bytes
   by_size bytes None declared = dropped bytes
-  by_size bytes (Some size) declared = ap (take size) (dropped bytes) ∙ take_all size bytes (omega (arith, declared, floor_within size (frame_bytes script)))
+  by_size bytes (Some size) declared = ap (take size) (dropped bytes) ∙ take_all size bytes (omega (arith, declared, floor_within size (frame_bytes script header.coding)))
 
   samples_are : (bytes : List ℕ) → InDeclared (declared_bytes script header) (length bytes) → sample_bytes header (first ++ bytes) ≡ bytes
   samples_are bytes declared = by_size bytes header.size declared
 
-  pub signal_is : (bytes : List ℕ) → InDeclared (declared_bytes script header) (length bytes) → input_signal script (first ++ bytes) ≡ signal script bytes
-  signal_is bytes declared = rw (opens.said bytes) (ap (signal script) (samples_are bytes declared))
+  pub signal_is : (bytes : List ℕ) → InDeclared (declared_bytes script header) (length bytes) → input_signal script (first ++ bytes) ≡ signal script header.coding bytes
+  signal_is bytes declared = rw (opens.said bytes) (ap (signal script header.coding) (samples_are bytes declared))
 
-  pub frames_are : (bytes : List ℕ) → InDeclared (declared_bytes script header) (length bytes) → frames_in_bytes script (first ++ bytes) ≡ length (signal script bytes)
+  pub frames_are : (bytes : List ℕ) → InDeclared (declared_bytes script header) (length bytes) → frames_in_bytes script (first ++ bytes) ≡ length (signal script header.coding bytes)
   frames_are bytes declared = ap length (signal_is bytes declared)
 
-  pub output_is : (bytes : List ℕ) → InDeclared (declared_bytes script header) (length bytes) → output script (first ++ bytes) ≡ output_header script header ++ whole_bytes script (signal script bytes) ++ output_pad script header
+  pub output_is : (bytes : List ℕ) → InDeclared (declared_bytes script header) (length bytes) → output script (first ++ bytes) ≡ output_header script header ++ whole_bytes script (signal script header.coding bytes) ++ output_pad script header
   output_is bytes declared = rw (signal_is bytes declared, opens.said bytes) refl
 
-  part_is : (block : ℕ) (bytes : List ℕ) → InDeclared (declared_bytes script header) (length bytes) → part script block (first ++ bytes) ≡ output_header script header ++ live_bytes script (whole_blocks block (signal script bytes))
+  part_is : (block : ℕ) (bytes : List ℕ) → InDeclared (declared_bytes script header) (length bytes) → part script block (first ++ bytes) ≡ output_header script header ++ live_bytes script (whole_blocks block (signal script header.coding bytes))
   part_is block bytes declared = rw (signal_is bytes declared, opens.said bytes) refl
 
   -- the part of whole blocks, and of less than one more
-  pub part_blocks : (block blocks : ℕ) (heard bytes : List ℕ) → length heard ≡ blocks * block_bytes script block → length bytes < block_bytes script block → InDeclared (declared_bytes script header) (length (heard ++ bytes))
-      → part script block (first ++ (heard ++ bytes)) ≡ output_header script header ++ live_bytes script (signal script heard)
+  pub part_blocks : (block blocks : ℕ) (heard bytes : List ℕ) → length heard ≡ blocks * block_bytes script header.coding block → length bytes < block_bytes script header.coding block → InDeclared (declared_bytes script header) (length (heard ++ bytes))
+      → part script block (first ++ (heard ++ bytes)) ≡ output_header script header ++ live_bytes script (signal script header.coding heard)
   part_blocks block blocks heard bytes long short declared =
-      let whole = frames_of_blocks script block blocks (length heard) long in
-      let rest : length (signal script bytes) < block = rw (length-signal script some bytes) (div_less (length bytes) block (frame_bytes script) some short) in
+      let whole = frames_of_blocks script header.coding block blocks (length heard) long in
+      let rest : length (signal script header.coding bytes) < block = rw (length-signal script header.coding some bytes) (div_less (length bytes) block (frame_bytes script header.coding) some short) in
       part_is block (heard ++ bytes) declared
-      ∙ ap (λ x. output_header script header ++ live_bytes script (whole_blocks block x)) (signal-append script some heard bytes (blocks * block) whole)
-      ∙ ap (λ x. output_header script header ++ live_bytes script x) (whole_blocks-append block blocks (signal script heard) (signal script bytes) (frames-whole script some heard (blocks * block) whole) rest)
+      ∙ ap (λ x. output_header script header ++ live_bytes script (whole_blocks block x)) (signal-append script header.coding some heard bytes (blocks * block) whole)
+      ∙ ap (λ x. output_header script header ++ live_bytes script x) (whole_blocks-append block blocks (signal script header.coding heard) (signal script header.coding bytes) (frames-whole script header.coding some heard (blocks * block) whole) rest)

@@ -9,7 +9,7 @@ use Rattle.dsp_ports.proofs.Moved.{Gave-nil, Took-nil, Gave-append, Took-append,
 use Rattle.dsp_defs.specs.Block.{Frame, live, live_chain, format_after, channels_after}
 use Rattle.dsp_defs.specs.Counts.{Counts}
 use Rattle.dsp_defs.specs.Cost.{live_cost}
-use Rattle.dsp_defs.specs.Output.{HasHeader, input_header, output_header, format_of, live_bytes, part}
+use Rattle.dsp_defs.specs.Output.{HasHeader, input_header, output_header, output_coding, live_bytes, part}
 use Rattle.dsp_defs.specs.Streaming.{Begins}
 use Rattle.dsp_defs.specs.Shape.{gathered, held, whole_frames, HasChannels}
 use Rattle.dsp_defs.specs.declared.fault.GatherFull.{GatherFull}
@@ -28,13 +28,14 @@ use Rattle.dsp_chain.proofs.NewChain.{gathered-nothing}
 use Rattle.dsp_session.specs.SessionState.{SessionState}
 use Rattle.dsp_session.specs.Session.{IsReady, StandsFor, SameSession, Feeds, IsTooMuch, signal, frame_bytes, block_bytes, output_bytes, live_values, cost_of, live_cost_of, turns_of, calls_turns, run_turns}
 use Rattle.dsp_session.specs.Opening.{Fits, Opens, Begun}
-use Rattle.dsp_session.specs.Stream.{StopsAt, Stopped, Part, LagsByOne, BlocksKeepLimits, declared_bytes, frames_in_bytes, in_whole_blocks}
+use Rattle.dsp_session.specs.Stream.{StopsAt, Stopped, Part, LagsByOne, BlocksKeepLimits, declared_bytes, in_whole_frames, blocks_end, frames_in_bytes, in_whole_blocks}
 use Rattle.dsp_session.specs.Passing.{InDeclared, BlockRead, IsUnread, Unread, PassCosts, Passes, FailsToPass, Passed}
 use Rattle.dsp_session.specs.declared.fault.LengthFault.TheVariants as length_fault
 use Rattle.dsp_session.specs.declared.fault.StreamFault.{StreamFault}
 use Rattle.dsp_session.specs.declared.fault.StreamFault.TheVariants as fault
 use Rattle.dsp_session.proofs.OpeningLaws.{some_frame, frames_of_blocks, signal-nil, length-signal, signal-append, frames-whole, frames_are, part_blocks}
 use Rattle.dsp_session.proofs.OpenLaws.{some_block}
+use Rattle.dsp_script.proofs.Paces.{legal_parts}
 use Rattle.dsp_session.proofs.TurnLaws.{call_more, turns_before, turns_behind}
 
 -- all the blocks so far have passed
@@ -43,17 +44,18 @@ pub record Going (script : Script) (block : ℕ) (header : Header) (taken : ℕ)
   pub blocks : ℕ
   pub script_is : session.script ≡ script
   pub block_is : session.block ≡ block
-  pub stands : StandsFor session (signal script heard)
-  pub blocks_heard : length heard ≡ blocks * block_bytes script block
+  pub coding_is : session.coding ≡ header.coding
+  pub stands : StandsFor session (signal script header.coding heard)
+  pub blocks_heard : length heard ≡ blocks * block_bytes script header.coding block
   pub taken_is : taken ≡ length heard
   pub declared : InDeclared (declared_bytes script header) taken
   pub in_limit : header.start + taken ≤ 2 ^ 40
   pub gave : Gave input now heard
-  pub took : Took sink after (live_bytes script (signal script heard))
+  pub took : Took sink after (live_bytes script (signal script header.coding heard))
   pub not_full : gathered script.blocks (blocks * block) ≤ MAX_GATHERED
   pub no_input_fault : now.faults ≡ input.faults
   pub no_output_fault : after.faults ≡ sink.faults
-  pub cost : counts.multiplies ≡ before.multiplies + live_cost_of script (length (signal script heard))
+  pub cost : counts.multiplies ≡ before.multiplies + live_cost_of script (length (signal script header.coding heard))
   pub turned : counts.turns ≤ before.turns + calls_turns script block (blocks * block) blocks
 
 -- ---- one call
@@ -81,39 +83,39 @@ pub made_live : (s : SessionState) (x : List Frame) → StandsFor s x → made_o
 made_live s x stands = stands.live.made ∙ (λ i. live_cost (stands.holds.input i).format (stands.holds.input i).channels (stands.holds.blocks i) (stands.chain.counted i))
 
 module _ (s next : SessionState) (bytes : List ℕ) (before after : Counts) (same : SameSession s next) (fed : Feeds s next bytes before after) (x : List Frame) (stands : StandsFor s x) where
-  pub feed_out : live_bytes s.script (x ++ signal s.script bytes) ≡ live_bytes s.script x ++ next.out
+  pub feed_out : live_bytes s.script (x ++ signal s.script s.coding bytes) ≡ live_bytes s.script x ++ next.out
   feed_out =
-      ap (output_bytes s.script) (fed.values x stands) ∙ coded-append s.script.output (format_of s.script) (live_values s.script x) fed.given ∙ ap (λ z. live_bytes s.script x ++ z) (sym fed.frames.out)
+      ap (output_bytes s.script) (fed.values x stands) ∙ coded-append (output_coding s.script) (live_values s.script x) fed.given ∙ ap (λ z. live_bytes s.script x ++ z) (sym fed.frames.out)
 
-  pub feed_costs : PassCosts s.script x bytes before after
+  pub feed_costs : PassCosts s.script s.coding x bytes before after
   feed_costs =
       let old = made_live s x stands in
       let after_is = fed.stands x stands in
-      let new : made_of next.chain ≡ live_cost_of s.script (length (x ++ signal s.script bytes)) = made_live next (x ++ signal s.script bytes) after_is ∙ ap (λ (t : Script). live_cost_of t (length (x ++ signal s.script bytes))) same.script in
+      let new : made_of next.chain ≡ live_cost_of s.script (length (x ++ signal s.script s.coding bytes)) = made_live next (x ++ signal s.script s.coding bytes) after_is ∙ ap (λ (t : Script). live_cost_of t (length (x ++ signal s.script s.coding bytes))) same.script in
       record {
         rise = omega (arith, fed.multiplies, old, new);
-        turned = subst (λ m. after.turns ≤ before.turns + turns_of s.script m (length (x ++ signal s.script bytes))) stands.chain.counted
+        turned = subst (λ m. after.turns ≤ before.turns + turns_of s.script m (length (x ++ signal s.script s.coding bytes))) stands.chain.counted
             (subst (λ n. after.turns ≤ before.turns + turns_of s.script s.chain.frames n) after_is.chain.counted fed.turns);
       }
 
   -- it was not refused, so it has gathered no more than it may
-  pub feed_fits : (IsTooMuch s (length (signal s.script bytes)) → ⊥) → gathered s.script.blocks (length (x ++ signal s.script bytes)) ≤ MAX_GATHERED
+  pub feed_fits : (IsTooMuch s (length (signal s.script s.coding bytes)) → ⊥) → gathered s.script.blocks (length (x ++ signal s.script s.coding bytes)) ≤ MAX_GATHERED
   feed_fits taken =
-      let all = ap (λ n. n + length (signal s.script bytes)) stands.chain.counted ∙ sym (length-append x (signal s.script bytes)) in
-      elim (cases_lt MAX_GATHERED (gathered s.script.blocks (s.chain.frames + length (signal s.script bytes)))) [
+      let all = ap (λ n. n + length (signal s.script s.coding bytes)) stands.chain.counted ∙ sym (length-append x (signal s.script s.coding bytes)) in
+      elim (cases_lt MAX_GATHERED (gathered s.script.blocks (s.chain.frames + length (signal s.script s.coding bytes)))) [
         | inl over ↦ absurd (taken (inl over))
         | inr within ↦ subst (λ n. gathered s.script.blocks n ≤ MAX_GATHERED) all within
       ]
 
-  pub feed_passes : (sink last : SinkState) → Took sink last next.out → last.faults ≡ sink.faults → (IsTooMuch s (length (signal s.script bytes)) → ⊥) → Passes s.script x bytes next sink last before after
+  pub feed_passes : (sink last : SinkState) → Took sink last next.out → last.faults ≡ sink.faults → (IsTooMuch s (length (signal s.script s.coding bytes)) → ⊥) → Passes s.script s.coding x bytes next sink last before after
   feed_passes sink last took faults taken = record { stands = fed.stands x stands; out = feed_out; costs = feed_costs; not_full = feed_fits taken; took = took; no_fault = faults }
 
 -- the call was refused
-pub feed_refused : (s : SessionState) (x : List Frame) (bytes : List ℕ) (full : GatherFull) (sink last : SinkState) (before after : Counts) → StandsFor s x → IsTooMuch s (length (signal s.script bytes))
-    → (full.held ≡ held s.script.blocks s.chain.frames) × (full.held + full.more ≡ gathered s.script.blocks (s.chain.frames + length (signal s.script bytes))) → last ≡ sink → after ≡ before
-    → FailsToPass (fault.Lengths (length_fault.Gather full.held full.more)) s.script x bytes sink last before after
+pub feed_refused : (s : SessionState) (x : List Frame) (bytes : List ℕ) (full : GatherFull) (sink last : SinkState) (before after : Counts) → StandsFor s x → IsTooMuch s (length (signal s.script s.coding bytes))
+    → (full.held ≡ held s.script.blocks s.chain.frames) × (full.held + full.more ≡ gathered s.script.blocks (s.chain.frames + length (signal s.script s.coding bytes))) → last ≡ sink → after ≡ before
+    → FailsToPass (fault.Lengths (length_fault.Gather full.held full.more)) s.script s.coding x bytes sink last before after
 feed_refused s x bytes full sink last before after stands too_much (held_is, sum_is) same steps =
-    let all : s.chain.frames + length (signal s.script bytes) ≡ length (x ++ signal s.script bytes) = ap (λ n. n + length (signal s.script bytes)) stands.chain.counted ∙ sym (length-append x (signal s.script bytes)) in
+    let all : s.chain.frames + length (signal s.script s.coding bytes) ≡ length (x ++ signal s.script s.coding bytes) = ap (λ n. n + length (signal s.script s.coding bytes)) stands.chain.counted ∙ sym (length-append x (signal s.script s.coding bytes)) in
     let sum : full.more + full.held ≡ full.held + full.more = omega arith in (
       subst (λ n. MAX_GATHERED < gathered s.script.blocks n) all (over too_much),
       held_is ∙ ap (held s.script.blocks) stands.chain.counted,
@@ -122,12 +124,12 @@ feed_refused s x bytes full sink last before after stands too_much (held_is, sum
       steps,
     )
   where
-    over : IsTooMuch s (length (signal s.script bytes)) → MAX_GATHERED < gathered s.script.blocks (s.chain.frames + length (signal s.script bytes))
+    over : IsTooMuch s (length (signal s.script s.coding bytes)) → MAX_GATHERED < gathered s.script.blocks (s.chain.frames + length (signal s.script s.coding bytes))
     over (inl many) = many
     over (inr failed) = absurd (let e : true ≡ false = sym failed ∙ ap is_some stands.chain.works in cc)
 
 pub block_some : (script : Script) (block : ℕ) → IsReady script block → 0 < block
-block_some script zero ready = (let none : 0 * frame_bytes script ≡ 0 = omega arith in absurd (omega (arith, some_block script zero ready, none)))
+block_some script zero ready = absurd (omega (arith, (legal_parts script.input.channels script.blocks zero ready.legal).some))
 block_some script (suc n) ready = omega arith
 
 pub in_declared : (declared : Option ℕ) (n m : ℕ) → n ≡ m → InDeclared declared n → InDeclared declared m
@@ -151,16 +153,17 @@ blocks_keep script block header given said fits whole kept =
     record { fits = subst (Fits script) (sym said) fits; not_full = subst (λ n. gathered script.blocks n ≤ MAX_GATHERED) (sym whole) kept }
 
 -- at the start no block has passed
-pub starts : (script : Script) (block : ℕ) (ready : IsReady script block) (header : Header) (session : SessionState) (input : SourceState) (sink : SinkState) (before : Counts) → session.script ≡ script → session.block ≡ block → StandsFor session [] → header.start ≤ 2 ^ 40
+pub starts : (script : Script) (block : ℕ) (ready : IsReady script block) (header : Header) (session : SessionState) (input : SourceState) (sink : SinkState) (before : Counts) → session.script ≡ script → session.block ≡ block → session.coding ≡ header.coding → StandsFor session [] → header.start ≤ 2 ^ 40
     → Going script block header 0 session input input sink sink before before
-starts script block ready header session input sink before script_is block_is stands limit =
-    let none = signal-nil script (some_frame script block ready) in
-    let nothing : live_bytes script (signal script []) ≡ [] = ap (live_bytes script) none ∙ live_bytes-nil in
+starts script block ready header session input sink before script_is block_is coding_is stands limit =
+    let none = signal-nil script header.coding (some_frame script header.coding block ready) in
+    let nothing : live_bytes script (signal script header.coding []) ≡ [] = ap (live_bytes script) none ∙ live_bytes-nil in
     record {
       heard = [];
       blocks = 0;
       script_is = script_is;
       block_is = block_is;
+      coding_is = coding_is;
       stands = subst (StandsFor session) (sym none) stands;
       blocks_heard = omega arith;
       taken_is = refl;
@@ -178,40 +181,40 @@ starts script block ready header session input sink before script_is block_is st
     live_bytes-nil : live_bytes script [] ≡ []
     live_bytes-nil = rw (live_chain-nil script.input.format script.input.channels script.blocks) refl
 
-    none_declared : (size : Option ℕ) → InDeclared (elim size [ Some s ↦ Some (s / frame_bytes script * frame_bytes script) | None ↦ None ]) 0
+    none_declared : (size : Option ℕ) → InDeclared (elim size [ Some s ↦ Some (in_whole_frames script header.coding s) | None ↦ None ]) 0
     none_declared None = tt
     none_declared (Some size) = omega arith
 
 module _ (script : Script) (block : ℕ) (ready : IsReady script block) (header : Header) (first : List ℕ) (opens : Opens script header first) where
-  frame : 0 < frame_bytes script
-  frame = some_frame script block ready
+  frame : 0 < frame_bytes script header.coding
+  frame = some_frame script header.coding block ready
 
   abbrev head : List ℕ
   head = output_header script header
 
-  start_is : (bytes : List ℕ) → (input_header script (first ++ bytes)).start ≡ length first
-  start_is bytes = ap (λ (h : Header). h.start) (opens.said bytes) ∙ opens.start
+  ends_at : (bytes : List ℕ) (blocks : ℕ) → blocks_end script block (input_header script (first ++ bytes)) blocks ≡ length first + blocks * block_bytes script header.coding block
+  ends_at bytes blocks = ap (λ (h : Header). blocks_end script block h blocks) (opens.said bytes) ∙ ap (λ n. n + blocks * block_bytes script header.coding block) opens.start
 
   -- the cost of the frames so far is at most that of all that were taken
-  pub cost_within : (before multiplies : ℕ) (heard bytes : List ℕ) → InDeclared (declared_bytes script header) (length (heard ++ bytes)) → multiplies ≡ before + live_cost_of script (length (signal script heard))
+  pub cost_within : (before multiplies : ℕ) (heard bytes : List ℕ) → InDeclared (declared_bytes script header) (length (heard ++ bytes)) → multiplies ≡ before + live_cost_of script (length (signal script header.coding heard))
       → multiplies ≤ before + cost_of script (frames_in_bytes script (first ++ (heard ++ bytes)))
   cost_within before multiplies heard bytes declared cost =
-      let all = length (signal script (heard ++ bytes)) in
-      let fewer : length (signal script heard) ≤ all = rw (length-signal script frame heard, length-signal script frame (heard ++ bytes)) (div_grows (length heard) (length (heard ++ bytes)) (frame_bytes script) (omega (arith, length-append heard bytes))) in
-      let products = live_cost_within script.input.format script.input.channels script.blocks (length (signal script heard)) all fewer in
-      rw (frames_are script frame header first opens (heard ++ bytes) declared) (omega (arith, products, cost))
+      let all = length (signal script header.coding (heard ++ bytes)) in
+      let fewer : length (signal script header.coding heard) ≤ all = rw (length-signal script header.coding frame heard, length-signal script header.coding frame (heard ++ bytes)) (div_grows (length heard) (length (heard ++ bytes)) (frame_bytes script header.coding) (omega (arith, length-append heard bytes))) in
+      let products = live_cost_within script.input.format script.input.channels script.blocks (length (signal script header.coding heard)) all fewer in
+      rw (frames_are script header frame first opens (heard ++ bytes) declared) (omega (arith, products, cost))
     where
       div_grows : (n m f : ℕ) → n ≤ m → n / f ≤ m / f
       div_grows n m f h = grind arith
 
   -- the frames are those of the blocks that passed, and at most a block more
-  pub frames_between : (blocks : ℕ) (heard bytes : List ℕ) → InDeclared (declared_bytes script header) (length (heard ++ bytes)) → length heard ≡ blocks * block_bytes script block → length bytes ≤ block_bytes script block
+  pub frames_between : (blocks : ℕ) (heard bytes : List ℕ) → InDeclared (declared_bytes script header) (length (heard ++ bytes)) → length heard ≡ blocks * block_bytes script header.coding block → length bytes ≤ block_bytes script header.coding block
       → (blocks * block ≤ frames_in_bytes script (first ++ (heard ++ bytes))) × (frames_in_bytes script (first ++ (heard ++ bytes)) ≤ suc blocks * block)
   frames_between blocks heard bytes declared long short =
-      let count : frames_in_bytes script (first ++ (heard ++ bytes)) ≡ length (heard ++ bytes) / frame_bytes script = frames_are script frame header first opens (heard ++ bytes) declared ∙ length-signal script frame (heard ++ bytes) in
+      let count : frames_in_bytes script (first ++ (heard ++ bytes)) ≡ length (heard ++ bytes) / frame_bytes script header.coding = frames_are script header frame first opens (heard ++ bytes) declared ∙ length-signal script header.coding frame (heard ++ bytes) in
       rw count (
-        at_least (blocks * block) (length (heard ++ bytes)) (frame_bytes script) frame (omega (arith, frames_of_blocks script block blocks (length heard) long, length-append heard bytes)),
-        at_most (suc blocks * block) (length (heard ++ bytes)) (frame_bytes script) frame (omega (arith, frames_of_blocks script block blocks (length heard) long, short, length-append heard bytes)),
+        at_least (blocks * block) (length (heard ++ bytes)) (frame_bytes script header.coding) frame (omega (arith, frames_of_blocks script header.coding block blocks (length heard) long, length-append heard bytes)),
+        at_most (suc blocks * block) (length (heard ++ bytes)) (frame_bytes script header.coding) frame (omega (arith, frames_of_blocks script header.coding block blocks (length heard) long, short, length-append heard bytes)),
       )
     where
       at_least : (k n f : ℕ) → 0 < f → k * f ≤ n → k ≤ n / f
@@ -221,34 +224,35 @@ module _ (script : Script) (block : ℕ) (ready : IsReady script block) (header 
       at_most k n f some h = grind arith
 
   -- less than a block more leaves the whole blocks
-  pub whole_blocks_are : (blocks : ℕ) (heard bytes : List ℕ) → InDeclared (declared_bytes script header) (length (heard ++ bytes)) → length heard ≡ blocks * block_bytes script block → length bytes < block_bytes script block
+  pub whole_blocks_are : (blocks : ℕ) (heard bytes : List ℕ) → InDeclared (declared_bytes script header) (length (heard ++ bytes)) → length heard ≡ blocks * block_bytes script header.coding block → length bytes < block_bytes script header.coding block
       → in_whole_blocks block (frames_in_bytes script (first ++ (heard ++ bytes))) ≡ blocks * block
   whole_blocks_are blocks heard bytes declared long short =
       let (low, _) = frames_between blocks heard bytes declared long (omega (arith, short)) in
-      let count : frames_in_bytes script (first ++ (heard ++ bytes)) ≡ length (heard ++ bytes) / frame_bytes script = frames_are script frame header first opens (heard ++ bytes) declared ∙ length-signal script frame (heard ++ bytes) in
-      let fewer : length (heard ++ bytes) / frame_bytes script < suc blocks * block =
-      below (suc blocks * block) (length (heard ++ bytes)) (frame_bytes script) frame (omega (arith, frames_of_blocks script block blocks (length heard) long, short, length-append heard bytes)) in
+      let count : frames_in_bytes script (first ++ (heard ++ bytes)) ≡ length (heard ++ bytes) / frame_bytes script header.coding = frames_are script header frame first opens (heard ++ bytes) declared ∙ length-signal script header.coding frame (heard ++ bytes) in
+      let fewer : length (heard ++ bytes) / frame_bytes script header.coding < suc blocks * block =
+      below (suc blocks * block) (length (heard ++ bytes)) (frame_bytes script header.coding) frame (omega (arith, frames_of_blocks script header.coding block blocks (length heard) long, short, length-append heard bytes)) in
       in_blocks blocks block (frames_in_bytes script (first ++ (heard ++ bytes))) (block_some script block ready) low (omega (arith, count, fewer))
     where
       below : (k n f : ℕ) → 0 < f → n < k * f → n / f < k
       below k n f some h = grind arith
 
   -- beyond the blocks that passed, at most one block was taken
-  pub lags : (blocks : ℕ) (heard bytes written : List ℕ) → InDeclared (declared_bytes script header) (length heard) → length heard ≡ blocks * block_bytes script block → length bytes ≤ block_bytes script block
-      → LagsByOne script block (first ++ (heard ++ bytes)) (head ++ live_bytes script (signal script heard) ++ written)
+  pub lags : (blocks : ℕ) (heard bytes written : List ℕ) → InDeclared (declared_bytes script header) (length heard) → length heard ≡ blocks * block_bytes script header.coding block → length bytes ≤ block_bytes script header.coding block
+      → LagsByOne script block (first ++ (heard ++ bytes)) (head ++ live_bytes script (signal script header.coding heard) ++ written)
   lags blocks heard bytes written declared long short =
-      let start = start_is (heard ++ bytes) in
-      let count : (input_header script (first ++ (heard ++ bytes))).start + blocks * block_bytes script block ≡ length (first ++ heard) = omega (arith, start, long, length-append first heard) in
-      let front : take ((input_header script (first ++ (heard ++ bytes))).start + blocks * block_bytes script block) (first ++ (heard ++ bytes)) ≡ first ++ heard =
-      ap (take ((input_header script (first ++ (heard ++ bytes))).start + blocks * block_bytes script block)) (sym (append_assoc first heard bytes)) ∙ take_at (first ++ heard) bytes _ (sym count) in
+      let given = first ++ (heard ++ bytes) in
+      let count : blocks_end script block (input_header script given) blocks ≡ length (first ++ heard) = ends_at (heard ++ bytes) blocks ∙ omega (arith, long, length-append first heard) in
+      let next = ends_at (heard ++ bytes) (blocks + 1) in
+      let front : take (blocks_end script block (input_header script given) blocks) given ≡ first ++ heard =
+      ap (take (blocks_end script block (input_header script given) blocks)) (sym (append_assoc first heard bytes)) ∙ take_at (first ++ heard) bytes _ (sym count) in
       let none : InDeclared (declared_bytes script header) (length (heard ++ [])) = in_declared (declared_bytes script header) (length heard) (length (heard ++ [])) (ap length (sym (append-nil heard))) declared in
-      let parted : part script block (first ++ heard) ≡ head ++ live_bytes script (signal script heard) =
-      ap (λ xs. part script block (first ++ xs)) (sym (append-nil heard)) ∙ part_blocks script frame header first opens block blocks heard [] long (some_block script block ready) none in
+      let parted : part script block (first ++ heard) ≡ head ++ live_bytes script (signal script header.coding heard) =
+      ap (λ xs. part script block (first ++ xs)) (sym (append-nil heard)) ∙ part_blocks script header frame first opens block blocks heard [] long (some_block script header.coding block ready) none in
       record {
         blocks = blocks;
-        taken = omega (arith, count, length-append first (heard ++ bytes), length-append heard bytes, length-append first heard);
+        taken = rw count (omega (arith, length-append first (heard ++ bytes), length-append heard bytes, length-append first heard));
         wrote = inr (written, ap (λ xs. xs ++ written) (sym (ap (part script block) front ∙ parted)));
-        one = omega (arith, start, long, short, length-append first (heard ++ bytes), length-append heard bytes);
+        one = rw next (omega (arith, long, short, length-append first (heard ++ bytes), length-append heard bytes));
       }
 
 module _ (script : Script) (block : ℕ) (ready : IsReady script block) (header : Header) (taken : ℕ) (session : SessionState) (input now : SourceState) (sink then : SinkState) (before counts : Counts)
@@ -257,23 +261,23 @@ module _ (script : Script) (block : ℕ) (ready : IsReady script block) (header 
   heard = going.heard
 
   abbrev size : ℕ
-  size = block_bytes script block
+  size = block_bytes script header.coding block
 
   abbrev live_heard : List ℕ
-  live_heard = live_bytes script (signal script heard)
+  live_heard = live_bytes script (signal script header.coding heard)
 
   some : 0 < size
-  some = some_block script block ready
+  some = some_block script header.coding block ready
 
   heard_declared : InDeclared (declared_bytes script header) (length heard)
   heard_declared = in_declared (declared_bytes script header) taken (length heard) going.taken_is going.declared
 
   -- what the next block asks for
-  pub block_frames : (piece : List ℕ) → length piece ≡ size → length (signal script piece) ≡ block
-  block_frames piece long = frames-whole script (some_frame script block ready) piece block long
+  pub block_frames : (piece : List ℕ) → length piece ≡ size → length (signal script header.coding piece) ≡ block
+  block_frames piece long = frames-whole script header.coding (some_frame script header.coding block ready) piece block long
 
-  frames_taken : length (signal script heard) ≡ going.blocks * block
-  frames_taken = frames-whole script (some_frame script block ready) heard (going.blocks * block) (frames_of_blocks script block going.blocks (length heard) going.blocks_heard)
+  frames_taken : length (signal script header.coding heard) ≡ going.blocks * block
+  frames_taken = frames-whole script header.coding (some_frame script header.coding block ready) heard (going.blocks * block) (frames_of_blocks script header.coding block going.blocks (length heard) going.blocks_heard)
 
   -- a block came
   module _ (later : SourceState) (count : ℕ) (piece : List ℕ) (long : length piece ≡ size) (full : length piece ≤ count) (read : BlockRead script header taken piece count now later) where
@@ -283,49 +287,50 @@ module _ (script : Script) (block : ℕ) (ready : IsReady script block) (header 
     more_heard : length (heard ++ piece) ≡ (going.blocks + 1) * size
     more_heard = omega (arith, length-append heard piece, going.blocks_heard, long)
 
-    more_signal : signal script (heard ++ piece) ≡ signal script heard ++ signal script piece
-    more_signal = signal-append script (some_frame script block ready) heard piece (going.blocks * block) (frames_of_blocks script block going.blocks (length heard) going.blocks_heard)
+    more_signal : signal script header.coding (heard ++ piece) ≡ signal script header.coding heard ++ signal script header.coding piece
+    more_signal = signal-append script header.coding (some_frame script header.coding block ready) heard piece (going.blocks * block) (frames_of_blocks script header.coding block going.blocks (length heard) going.blocks_heard)
 
     all_declared : InDeclared (declared_bytes script header) (length (heard ++ piece))
     all_declared = in_declared (declared_bytes script header) (taken + count) (length (heard ++ piece)) (omega (arith, going.taken_is, length-append heard piece, read.within, full)) read.declared
 
     -- its frames are not too many
-    pub few_frames : (frames : ℕ) → frames ≡ length (signal script heard) → frames + length (signal script piece) ≤ 2 ^ 40
+    pub few_frames : (frames : ℕ) → frames ≡ length (signal script header.coding heard) → frames + length (signal script header.coding piece) ≤ 2 ^ 40
     few_frames frames is =
-        let all : length (signal script (heard ++ piece)) ≤ length (heard ++ piece) = rw (length-signal script (some_frame script block ready) (heard ++ piece)) (div_less (length (heard ++ piece)) (frame_bytes script)) in
-        let sum : length (signal script (heard ++ piece)) ≡ length (signal script heard) + length (signal script piece) = ap length more_signal ∙ length-append (signal script heard) (signal script piece) in
+        let all : length (signal script header.coding (heard ++ piece)) ≤ length (heard ++ piece) = rw (length-signal script header.coding (some_frame script header.coding block ready) (heard ++ piece)) (div_less (length (heard ++ piece)) (frame_bytes script header.coding)) in
+        let sum : length (signal script header.coding (heard ++ piece)) ≡ length (signal script header.coding heard) + length (signal script header.coding piece) = ap length more_signal ∙ length-append (signal script header.coding heard) (signal script header.coding piece) in
         omega (arith, is, all, sum, read.in_limit, going.taken_is, length-append heard piece, full)
       where
         div_less : (n f : ℕ) → n / f ≤ n
         div_less n f = grind arith
 
-    more_cost : (passed : Counts) → PassCosts script (signal script heard) piece counts passed → passed.multiplies ≡ before.multiplies + live_cost_of script (length (signal script (heard ++ piece)))
+    more_cost : (passed : Counts) → PassCosts script header.coding (signal script header.coding heard) piece counts passed → passed.multiplies ≡ before.multiplies + live_cost_of script (length (signal script header.coding (heard ++ piece)))
     more_cost passed costs = omega (arith, costs.rise, going.cost, ap (λ (x : List Frame). live_cost_of script (length x)) more_signal)
 
-    more_frames : length (signal script heard ++ signal script piece) ≡ suc going.blocks * block
-    more_frames = length-append (signal script heard) (signal script piece) ∙ omega (arith, frames_taken, block_frames piece long)
+    more_frames : length (signal script header.coding heard ++ signal script header.coding piece) ≡ suc going.blocks * block
+    more_frames = length-append (signal script header.coding heard) (signal script header.coding piece) ∙ omega (arith, frames_taken, block_frames piece long)
 
     one_more : suc going.blocks * block ≡ (going.blocks + 1) * block
     one_more = omega arith
 
-    passed_turns : (passed : Counts) → PassCosts script (signal script heard) piece counts passed → passed.turns ≤ counts.turns + turns_of script (going.blocks * block) (suc going.blocks * block)
+    passed_turns : (passed : Counts) → PassCosts script header.coding (signal script header.coding heard) piece counts passed → passed.turns ≤ counts.turns + turns_of script (going.blocks * block) (suc going.blocks * block)
     passed_turns passed costs = subst (λ n. passed.turns ≤ counts.turns + n) (λ i. turns_of script (frames_taken i) (more_frames i)) costs.turned
 
-    more_turns : (passed : Counts) → PassCosts script (signal script heard) piece counts passed → passed.turns ≤ before.turns + calls_turns script block ((going.blocks + 1) * block) (going.blocks + 1)
+    more_turns : (passed : Counts) → PassCosts script header.coding (signal script header.coding heard) piece counts passed → passed.turns ≤ before.turns + calls_turns script block ((going.blocks + 1) * block) (going.blocks + 1)
     more_turns passed costs =
         let next : suc going.blocks ≡ going.blocks + 1 = omega arith in
         subst (λ k. passed.turns ≤ before.turns + calls_turns script block (k * block) k) next (omega (arith, passed_turns passed costs, going.turned, call_more script block going.blocks (going.blocks * block) refl))
 
     -- its values were written
-    pub goes_on : (fed : SessionState) (last : SinkState) (passed : Counts) → SameSession session fed → Passes script (signal script heard) piece fed then last counts passed
+    pub goes_on : (fed : SessionState) (last : SinkState) (passed : Counts) → SameSession session fed → Passes script header.coding (signal script header.coding heard) piece fed then last counts passed
         → Going script block header (taken + count) fed input later sink last before passed
     goes_on fed last passed same passes =
-        let more_live : live_bytes script (signal script (heard ++ piece)) ≡ live_heard ++ fed.out = ap (live_bytes script) more_signal ∙ passes.out in
+        let more_live : live_bytes script (signal script header.coding (heard ++ piece)) ≡ live_heard ++ fed.out = ap (live_bytes script) more_signal ∙ passes.out in
         record {
           heard = heard ++ piece;
           blocks = going.blocks + 1;
           script_is = same.script ∙ going.script_is;
           block_is = same.block ∙ going.block_is;
+          coding_is = same.coding ∙ going.coding_is;
           stands = subst (StandsFor fed) (sym more_signal) passes.stands;
           blocks_heard = more_heard;
           taken_is = omega (arith, going.taken_is, length-append heard piece, read.within, full);
@@ -369,7 +374,7 @@ module _ (script : Script) (block : ℕ) (ready : IsReady script block) (header 
       given = first ++ (heard ++ bytes)
 
       parted : wrote ≡ part script block given
-      parted = sym (part_blocks script (some_frame script block ready) header first opens block going.blocks heard bytes going.blocks_heard unread.short (together bytes unread.declared))
+      parted = sym (part_blocks script header (some_frame script header.coding block ready) first opens block going.blocks heard bytes going.blocks_heard unread.short (together bytes unread.declared))
 
       has : HasHeader script given
       has = opens.has (heard ++ bytes)
@@ -414,7 +419,7 @@ module _ (script : Script) (block : ℕ) (ready : IsReady script block) (header 
         size = ap (λ (h : Header). h.size) (opens.said (heard ++ bytes)) ∙ size_is;
         place = place ∙ sym count;
         got_is = place ∙ ap (λ n. n + (taken + length bytes)) (sym (ap (λ (h : Header). h.start) (opens.said (heard ++ bytes))));
-        fewer = fewer;
+        fewer = subst (λ (h : Header). taken + length bytes < in_whole_frames script h.coding declared) (sym (opens.said (heard ++ bytes))) fewer;
         ended = end;
         wrote = parted;
         limits = limits;
@@ -446,6 +451,7 @@ module _ (script : Script) (block : ℕ) (ready : IsReady script block) (header 
           blocks = going.blocks;
           script_is = going.script_is;
           block_is = going.block_is;
+          coding_is = going.coding_is;
           opens = opens;
           stands = going.stands;
           heard_count = going.taken_is;
@@ -472,11 +478,11 @@ module _ (script : Script) (block : ℕ) (ready : IsReady script block) (header 
       taken_bytes = first ++ (heard ++ piece)
 
       module _ (last : SinkState) (passed : Counts) where
-        written_front : (added written : List ℕ) → live_bytes script (signal script heard ++ signal script piece) ≡ live_heard ++ added → Begins written added → Begins (wrote ++ written) (part script block taken_bytes)
+        written_front : (added written : List ℕ) → live_bytes script (signal script header.coding heard ++ signal script header.coding piece) ≡ live_heard ++ added → Begins written added → Begins (wrote ++ written) (part script block taken_bytes)
         written_front added written is (rest, split) =
             let none : InDeclared (declared_bytes script header) (length ((heard ++ piece) ++ [])) = in_declared (declared_bytes script header) (length (heard ++ piece)) _ (ap length (sym (append-nil (heard ++ piece)))) (all_declared later count piece long full read) in
-            let parted : part script block taken_bytes ≡ output_header script header ++ live_bytes script (signal script (heard ++ piece)) =
-            ap (λ xs. part script block (first ++ xs)) (sym (append-nil (heard ++ piece))) ∙ part_blocks script (some_frame script block ready) header first opens block (going.blocks + 1) (heard ++ piece) [] (more_heard later count piece long full read) some none in (
+            let parted : part script block taken_bytes ≡ output_header script header ++ live_bytes script (signal script header.coding (heard ++ piece)) =
+            ap (λ xs. part script block (first ++ xs)) (sym (append-nil (heard ++ piece))) ∙ part_blocks script header (some_frame script header.coding block ready) first opens block (going.blocks + 1) (heard ++ piece) [] (more_heard later count piece long full read) some none in (
               rest,
               parted ∙ ap (λ x. output_header script header ++ live_bytes script x) (more_signal later count piece long full read) ∙ ap (λ xs. output_header script header ++ xs) (is ∙ ap (λ xs. live_heard ++ xs) split)
                   ∙ sym (append_assoc (output_header script header) live_heard (written ++ rest)) ∙ sym (append_assoc wrote written rest),
@@ -488,12 +494,12 @@ module _ (script : Script) (block : ℕ) (ready : IsReady script block) (header 
         none_declared : InDeclared (declared_bytes script header) (length ((heard ++ piece) ++ []))
         none_declared = in_declared (declared_bytes script header) (length (heard ++ piece)) _ (ap length (sym (append-nil (heard ++ piece)))) (all_declared later count piece long full read)
 
-        all_cost : (multiplied : ℕ) → multiplied ≡ before.multiplies + live_cost_of script (length (signal script (heard ++ piece))) → multiplied ≤ before.multiplies + cost_of script (frames_in_bytes script taken_bytes)
+        all_cost : (multiplied : ℕ) → multiplied ≡ before.multiplies + live_cost_of script (length (signal script header.coding (heard ++ piece))) → multiplied ≤ before.multiplies + cost_of script (frames_in_bytes script taken_bytes)
         all_cost multiplied cost =
             subst (λ xs. multiplied ≤ before.multiplies + cost_of script (frames_in_bytes script (first ++ xs))) (append-nil (heard ++ piece)) (cost_within script block ready header first opens before.multiplies multiplied (heard ++ piece) [] none_declared cost)
 
-        all_frames : length (signal script heard ++ signal script piece) ≡ frames_in_bytes script taken_bytes
-        all_frames = ap length (sym (more_signal later count piece long full read)) ∙ sym (frames_are script (some_frame script block ready) header first opens (heard ++ piece) (all_declared later count piece long full read))
+        all_frames : length (signal script header.coding heard ++ signal script header.coding piece) ≡ frames_in_bytes script taken_bytes
+        all_frames = ap length (sym (more_signal later count piece long full read)) ∙ sym (frames_are script header (some_frame script header.coding block ready) first opens (heard ++ piece) (all_declared later count piece long full read))
 
         frames_all : frames_in_bytes script taken_bytes ≡ suc going.blocks * block
         frames_all = sym all_frames ∙ more_frames later count piece long full read
@@ -507,7 +513,7 @@ module _ (script : Script) (block : ℕ) (ready : IsReady script block) (header 
         whole_all : in_whole_blocks block (frames_in_bytes script taken_bytes) ≡ suc going.blocks * block
         whole_all = in_blocks (suc going.blocks) block (frames_in_bytes script taken_bytes) (block_some script block ready) (omega (arith, frames_all)) (omega (arith, frames_all, block_some script block ready))
 
-        pub stops_unpassed : (stop : StreamFault) → FailsToPass stop script (signal script heard) piece then last counts passed → Stopped script block stop origin later empty last before passed
+        pub stops_unpassed : (stop : StreamFault) → FailsToPass stop script header.coding (signal script header.coding heard) piece then last counts passed → Stopped script block stop origin later empty last before passed
         stops_unpassed fault.Output (added, written, is, front, put, risen, costs, kept) =
             record {
               given = taken_bytes;
@@ -527,10 +533,10 @@ module _ (script : Script) (block : ℕ) (ready : IsReady script block) (header 
                   (subst (λ n. passed.turns ≤ counts.turns + turns_of script (going.blocks * block) n) (sym (more_frames later count piece long full read) ∙ all_frames) (passed_turns later count piece long full read passed costs));
             }
         stops_unpassed (fault.Lengths (length_fault.Gather told more)) (over, held_is, more_is, same, still) =
-            let quiet = quiet_script script block ready (length (signal script heard ++ signal script piece)) (omega (arith, over)) in
+            let quiet = quiet_script script block ready (length (signal script header.coding heard ++ signal script header.coding piece)) (omega (arith, over)) in
             let parted : part script block taken_bytes ≡ wrote =
-            ap (λ xs. part script block (first ++ xs)) (sym (append-nil (heard ++ piece))) ∙ part_blocks script (some_frame script block ready) header first opens block (going.blocks + 1) (heard ++ piece) [] (more_heard later count piece long full read) some none_declared
-            ∙ ap (λ xs. output_header script header ++ xs) (quiet (signal script (heard ++ piece)) ∙ sym (quiet (signal script heard))) in
+            ap (λ xs. part script block (first ++ xs)) (sym (append-nil (heard ++ piece))) ∙ part_blocks script header (some_frame script header.coding block ready) first opens block (going.blocks + 1) (heard ++ piece) [] (more_heard later count piece long full read) some none_declared
+            ∙ ap (λ xs. output_header script header ++ xs) (quiet (signal script header.coding (heard ++ piece)) ∙ sym (quiet (signal script header.coding heard))) in
             record {
               given = taken_bytes;
               written = wrote;
@@ -539,7 +545,7 @@ module _ (script : Script) (block : ℕ) (ready : IsReady script block) (header 
               stops = record {
                 has = opens.has (heard ++ piece);
                 over = subst (λ n. MAX_GATHERED < gathered script.blocks n) all_frames over;
-                before = length (signal script heard);
+                before = length (signal script header.coding heard);
                 before_is = frames_taken ∙ sym (in_blocks going.blocks block (frames_in_bytes script taken_bytes - 1) (block_some script block ready) (omega (arith, frames_all, block_some script block ready)) (omega (arith, frames_all, block_some script block ready)));
                 limits = record {
                   fits = subst (Fits script) (sym (opens.said (heard ++ piece))) begun.fits;
@@ -554,7 +560,7 @@ module _ (script : Script) (block : ℕ) (ready : IsReady script block) (header 
                 kept = ap (λ (s : SinkState). s.faults) same ∙ going.no_output_fault ∙ begun.no_fault;
               };
               lag = λ _. subst (LagsByOne script block taken_bytes) (append-nil wrote) (lags script block ready header first opens going.blocks heard piece [] heard_declared going.blocks_heard (omega (arith, long)));
-              cost = (let fewer = live_cost_within script.input.format script.input.channels script.blocks (length (signal script heard)) (frames_in_bytes script taken_bytes) (omega (arith, all_frames, length-append (signal script heard) (signal script piece))) in
+              cost = (let fewer = live_cost_within script.input.format script.input.channels script.blocks (length (signal script header.coding heard)) (frames_in_bytes script taken_bytes) (omega (arith, all_frames, length-append (signal script header.coding heard) (signal script header.coding piece))) in
                   let steps : passed.multiplies ≡ counts.multiplies = ap (λ (c : Counts). c.multiplies) still in omega (arith, fewer, going.cost, steps));
               turns = subst (λ (c : Counts). c.turns ≤ before.turns + run_turns script block (frames_in_bytes script taken_bytes)) (sym still) (turns_before script block going.blocks (frames_in_bytes script taken_bytes) before.turns counts.turns (block_some script block ready) low high going.turned);
             }

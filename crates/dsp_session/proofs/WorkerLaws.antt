@@ -1,27 +1,28 @@
 -- What the calls of a chain make of bytes.
 use Rattle.std.proofs.Common.{◌≡◌, ℕ, ◌+◌, ◌*◌, ◌/◌, ◌<◌, ◌≤◌, ℤ, List, [], ◌∷◌, ◌++◌, length, take, drop, fold, flat_map, All, FitsSigned, refl, sym, ap, ◌∙◌, subst, arith, inl, inr}
 use Rattle.dsp_defs.specs.Block.{Frame, format_after}
-use Rattle.dsp_defs.specs.Bytes.{width, bytes_of, sample_of}
+use Rattle.dsp_defs.specs.Bytes.{IsValue, format_in, width, bytes_of, sample_of}
 use Rattle.dsp_defs.specs.Counts.{Counts}
 use Rattle.dsp_defs.specs.Formats.{word}
-use Rattle.dsp_defs.specs.Output.{input_container, format_of}
+use Rattle.dsp_defs.specs.Output.{format_of, output_coding}
 use Rattle.dsp_stage.specs.Row.{Place, Passes, place_after, place_behind, place_room, blocks_of, chain_products, row_turns}
 use Rattle.dsp_defs.specs.Signal.{values}
 use Rattle.dsp_stage.specs.Unit.{frames_in}
 use Rattle.dsp_defs.specs.declared.limits.TheConstants.{MAX_SAMPLES, MAX_GATHERED}
+use Rattle.dsp_defs.specs.declared.format.Coding.{Coding}
 use Rattle.dsp_defs.specs.declared.script.Block.{Block}
 use Rattle.dsp_defs.specs.declared.script.Script.{Script}
 use Rattle.dsp_defs.proofs.BlockLaws.{length-values}
 use Rattle.dsp_stage.proofs.ChainPlaces.{legal_is_open, open_behind}
-use Rattle.dsp_defs.proofs.SampleLaws.{width-some, decoded, encoded}
+use Rattle.dsp_defs.proofs.CodingLemmas.{width-some, IsValue-coding_of, IsValue-fits}
+use Rattle.dsp_defs.proofs.SampleLaws.{decoded, encoded}
+use Rattle.std.proofs.lemmas.List.Elements.{All-weaker}
 use Rattle.dsp_defs.specs.Shape.{gathered, held}
 use Rattle.dsp_defs.specs.declared.fault.GatherFull.{GatherFull}
 use Rattle.dsp_chain.proofs.Room.{written-row}
-use Rattle.dsp_wave.specs.Coding.{container_in, format_in}
-use Rattle.dsp_wave.specs.declared.coding.Coding.{Coding}
 use Rattle.dsp_chain.specs.Chain.{ChainState, ChainStandsFor, SameChain, FeedsChain, FailsChain, FinishesChain, IsNewChain, IsTooMuch as chain_too_much, live_of, output_of, input_place, made_of}
 use Rattle.dsp_session.specs.SessionState.{SessionState}
-use Rattle.dsp_session.specs.Session.{IsReady, Holds, IsNew, Feeds, Fails, IsTooMuch, Ends, signal, frame_bytes, live_values, products_of, turns_of}
+use Rattle.dsp_session.specs.Session.{IsReady, Holds, IsNew, Feeds, Fails, IsTooMuch, Ends, input_coding, signal, frame_bytes, live_values, products_of, turns_of}
 
 -- the format behind the blocks
 format_behind : (p : Place) (blocks : List Block) → (place_behind p blocks).format ≡ fold format_after p.format blocks
@@ -49,28 +50,28 @@ module _ (script : Script) (block : ℕ) (ready : IsReady script block) where
 
   -- ---- the samples of bytes
 
-  module _ (bytes : List ℕ) (xs : List ℤ) (whole : length bytes ≡ length (signal script bytes) * frame_bytes script)
-      (read : xs ≡ values (length bytes / width script.input.format) (λ i. sample_of (input_container script) script.input.format (take (width script.input.format) (drop (i * width script.input.format) bytes)))) where
+  module _ (coding : Coding) (bytes : List ℕ) (xs : List ℤ) (whole : length bytes ≡ length (signal script coding bytes) * frame_bytes script coding)
+      (read : xs ≡ values (length bytes / width coding) (λ i. sample_of coding (take (width coding) (drop (i * width coding) bytes)))) where
     abbrev n : ℕ
-    n = length (signal script bytes)
+    n = length (signal script coding bytes)
 
     abbrev c : ℕ
     c = script.input.channels
 
     abbrev w : ℕ
-    w = width script.input.format
+    w = width coding
 
     bytes_are : length bytes ≡ n * c * w
     bytes_are = whole ∙ grind arith
 
     count : length bytes / w ≡ n * c
-    count = quotient (length bytes) (n * c) w (width-some script.input.format) bytes_are
+    count = quotient (length bytes) (n * c) w (width-some coding) bytes_are
       where
         quotient : (a m w : ℕ) → 0 < w → a ≡ m * w → a / w ≡ m
         quotient a m w some e = grind arith
 
-    pub frames_are : frames_in c xs ≡ signal script bytes
-    frames_are = ap (frames_in c) read ∙ decoded (input_container script) script.input.format c n (length bytes / w) bytes ready.sound.1.fit.channels.0 (bytes_are ∙ ap (λ m. m * w) (sym count)) count
+    pub frames_are : frames_in c xs ≡ signal script coding bytes
+    frames_are = ap (frames_in c) read ∙ decoded coding c n (length bytes / w) bytes ready.sound.1.fit.channels.0 (bytes_are ∙ ap (λ m. m * w) (sym count)) count
 
     pub passes : All (FitsSigned (word script.input.format)) xs → n ≤ block → Passes (input_place script block) xs
     passes fits few = record {
@@ -82,15 +83,25 @@ module _ (script : Script) (block : ℕ) (ready : IsReady script block) where
     }
 
   -- the samples that were read to the front of a row
-  pub read_row : (coding : Coding) (count len : ℕ) (bytes : List ℕ) (row new old : List ℤ) → container_in coding ≡ input_container script → format_in coding ≡ script.input.format → length new ≡ len → row ≡ take len (new ++ drop (length new) old)
-      → take count new ≡ values (length bytes / width (format_in coding)) (λ i. sample_of (container_in coding) (format_in coding) (take (width (format_in coding)) (drop (i * width (format_in coding)) bytes)))
-      → take count row ≡ values (length bytes / width script.input.format) (λ i. sample_of (input_container script) script.input.format (take (width script.input.format) (drop (i * width script.input.format) bytes)))
-  read_row coding count len bytes row new old container format long is read = ap (take count) (is ∙ written-row len new old long) ∙ rw (container, format) at read
+  pub read_row : (coding : Coding) (count len : ℕ) (bytes : List ℕ) (row new old : List ℤ) → length new ≡ len → row ≡ take len (new ++ drop (length new) old)
+      → take count new ≡ values (length bytes / width coding) (λ i. sample_of coding (take (width coding) (drop (i * width coding) bytes)))
+      → take count row ≡ values (length bytes / width coding) (λ i. sample_of coding (take (width coding) (drop (i * width coding) bytes)))
+  read_row coding count len bytes row new old long is read = ap (take count) (is ∙ written-row len new old long) ∙ read
 
   -- the bytes that were written to the front of a row
-  pub write_row : (coding : Coding) (count len : ℕ) (ys : List ℤ) (new old : List ℕ) → container_in coding ≡ script.output → format_in coding ≡ format_of script → length new ≡ len → take count new ≡ flat_map (bytes_of (container_in coding) (format_in coding)) ys
-      → take count (take len (new ++ drop (length new) old)) ≡ flat_map (bytes_of script.output (format_of script)) ys
-  write_row coding count len ys new old container format long written = ap (take count) (written-row len new old long) ∙ rw (container, format) at written
+  pub write_row : (coding : Coding) (count len : ℕ) (ys : List ℤ) (new old : List ℕ) → coding ≡ output_coding script → length new ≡ len → take count new ≡ flat_map (bytes_of coding) ys
+      → take count (take len (new ++ drop (length new) old)) ≡ flat_map (bytes_of (output_coding script)) ys
+  write_row coding count len ys new old is long written = ap (take count) (written-row len new old long) ∙ written ∙ ap (λ (c : Coding). flat_map (bytes_of c) ys) is
+
+  -- what the chain gives are values of the output's coding
+  pub gives_values : (coding : Coding) (ys : List ℤ) → coding ≡ output_coding script → All (FitsSigned (word (format_of script))) ys → All (IsValue coding) ys
+  gives_values coding ys is fits =
+      subst (λ (c : Coding). All (IsValue c) ys) (sym is)
+      (All-weaker (FitsSigned (word (format_of script))) (IsValue (output_coding script)) (IsValue-coding_of script.output (format_of script)) ys fits)
+
+  -- what was read are samples of the coding's format
+  pub read_values : (coding : Coding) (xs : List ℤ) → All (IsValue coding) xs → All (FitsSigned (word (format_in coding))) xs
+  read_values coding xs values = All-weaker (IsValue coding) (FitsSigned (word (format_in coding))) (IsValue-fits coding) xs values
 
   -- ---- calls of the chain
 
@@ -102,27 +113,27 @@ module _ (script : Script) (block : ℕ) (ready : IsReady script block) where
     live_is : (x : List Frame) → live_of old x ≡ live_values script x
     live_is x = rw (input, blocks) refl
 
-    module _ (turns : (m n : ℕ) → row_turns old.units m n ≡ turns_of script m n) (earlier out : List ℕ) where
+    module _ (turns : (m n : ℕ) → row_turns old.units m n ≡ turns_of script m n) (coding : Coding) (earlier out : List ℕ) where
       abbrev first : SessionState
-      first = record { script = script; block = block; chain = old; out = earlier }
+      first = record { script = script; block = block; coding = coding; chain = old; out = earlier }
 
       abbrev next : SessionState
-      next = record { script = script; block = block; chain = new; out = out }
+      next = record { script = script; block = block; coding = coding; chain = new; out = out }
 
       -- its chain is still that of the script
       holds_again : SameChain old new → Holds next
       holds_again same = record { ready = ready; input = same.input ∙ input; blocks = same.blocks ∙ blocks; turns = λ m n. same.turns m n ∙ turns m n }
 
-      module _ (xs ys : List ℤ) (bytes : List ℕ) (same : frames_in script.input.channels xs ≡ signal script bytes) (given : out ≡ flat_map (bytes_of script.output (format_of script)) ys)
+      module _ (xs ys : List ℤ) (bytes : List ℕ) (same : frames_in script.input.channels xs ≡ signal script coding bytes) (given : out ≡ flat_map (bytes_of (output_coding script)) ys)
           (before after : Counts) (fed : FeedsChain old new xs ys before after) where
-        taken : frames_in old.input.channels xs ≡ signal script bytes
+        taken : frames_in old.input.channels xs ≡ signal script coding bytes
         taken = ap (λ (p : Place). frames_in p.channels xs) input ∙ same
 
         abbrev live : List Frame
         live = frames_in (output_of old).channels ys
 
-        more_live : (x : List Frame) → ChainStandsFor old x → live_values script (x ++ signal script bytes) ≡ live_values script x ++ live
-        more_live x stands = sym (live_is (x ++ signal script bytes)) ∙ ap (λ z. live_of old (x ++ z)) (sym taken) ∙ fed.values x stands ∙ ap (λ z. z ++ live) (live_is x)
+        more_live : (x : List Frame) → ChainStandsFor old x → live_values script (x ++ signal script coding bytes) ≡ live_values script x ++ live
+        more_live x stands = sym (live_is (x ++ signal script coding bytes)) ∙ ap (λ z. live_of old (x ++ z)) (sym taken) ∙ fed.values x stands ∙ ap (λ z. z ++ live) (live_is x)
 
         pub feeds : Feeds first next bytes before after
         feeds = record {
@@ -131,7 +142,7 @@ module _ (script : Script) (block : ℕ) (ready : IsReady script block) where
           works = fed.works;
           counted = fed.counted ∙ ap (λ (z : List Frame). old.frames + length z) taken;
           given = live;
-          frames = record { out = given ∙ encoded script.output (format_of script) (output_of old).channels ys fed.passes.signal.whole_frames; gives = fed.gives };
+          frames = record { out = given ∙ encoded (output_coding script) (output_of old).channels ys fed.passes.signal.whole_frames; gives = fed.gives };
           values = λ x stands. more_live x stands.chain;
           stands = λ x stands. record { holds = holds_again fed.same; chain = subst (λ z. ChainStandsFor new (x ++ z)) taken (fed.stands x stands.chain); live = fed.live };
           multiplies = fed.multiplies;
@@ -139,7 +150,7 @@ module _ (script : Script) (block : ℕ) (ready : IsReady script block) where
           live = fed.live;
         }
 
-      module _ (ys : List ℤ) (given : out ≡ flat_map (bytes_of script.output (format_of script)) ys) (answer w : ℕ) (some : 0 < w) (answer_is : answer ≡ length ys * w)
+      module _ (ys : List ℤ) (given : out ≡ flat_map (bytes_of (output_coding script)) ys) (answer w : ℕ) (some : 0 < w) (answer_is : answer ≡ length ys * w)
           (before after : Counts) (finished : FinishesChain old new ys before after) where
         abbrev piece : List Frame
         piece = frames_in (output_of old).channels ys
@@ -157,7 +168,7 @@ module _ (script : Script) (block : ℕ) (ready : IsReady script block) where
           failed = finished.failed;
           counted = finished.counted;
           given = piece;
-          frames = record { out = given ∙ encoded script.output (format_of script) (output_of old).channels ys finished.passes.signal.whole_frames; gives = finished.gives };
+          frames = record { out = given ∙ encoded (output_coding script) (output_of old).channels ys finished.passes.signal.whole_frames; gives = finished.gives };
           gave = λ x ys gave. record { holds = holds_again finished.same; chain = finished.gave x ys gave.chain };
           multiplies = finished.multiplies;
           turns = finished.turns;
@@ -167,32 +178,33 @@ module _ (script : Script) (block : ℕ) (ready : IsReady script block) where
         }
 
     -- a call that is refused leaves all but the fault
-    pub fails : (earlier : List ℕ) (fault : GatherFull) (before after : Counts) → FailsChain old new fault before after
-        → Fails (record { script = script; block = block; chain = old; out = earlier }) (record { script = script; block = block; chain = new; out = [] }) fault before after
-    fails earlier fault before after failed = record {
-      same = λ i. record { script = script; block = block; chain = failed.same i; out = [] };
+    pub fails : (coding : Coding) (earlier : List ℕ) (fault : GatherFull) (before after : Counts) → FailsChain old new fault before after
+        → Fails (record { script = script; block = block; coding = coding; chain = old; out = earlier }) (record { script = script; block = block; coding = coding; chain = new; out = [] }) fault before after
+    fails coding earlier fault before after failed = record {
+      same = λ i. record { script = script; block = block; coding = coding; chain = failed.same i; out = [] };
       again = failed.again;
       no_steps = failed.no_steps;
     }
 
     -- where it is refused
-    pub too_much : (earlier : List ℕ) (n m : ℕ) → n ≡ m → chain_too_much old n → IsTooMuch (record { script = script; block = block; chain = old; out = earlier }) m
-    too_much earlier n m same (inl many) = inl (subst (λ k. MAX_GATHERED < k) (λ i. gathered (blocks i) (old.frames + same i)) many)
-    too_much earlier n m same (inr failed) = inr failed
+    pub too_much : (coding : Coding) (earlier : List ℕ) (n m : ℕ) → n ≡ m → chain_too_much old n → IsTooMuch (record { script = script; block = block; coding = coding; chain = old; out = earlier }) m
+    too_much coding earlier n m same (inl many) = inl (subst (λ k. MAX_GATHERED < k) (λ i. gathered (blocks i) (old.frames + same i)) many)
+    too_much coding earlier n m same (inr failed) = inr failed
 
-    pub chain_much : (earlier : List ℕ) (n m : ℕ) → n ≡ m → IsTooMuch (record { script = script; block = block; chain = old; out = earlier }) m → chain_too_much old n
-    chain_much earlier n m same (inl many) = inl (subst (λ k. MAX_GATHERED < k) (sym (λ i. gathered (blocks i) (old.frames + same i))) many)
-    chain_much earlier n m same (inr failed) = inr failed
+    pub chain_much : (coding : Coding) (earlier : List ℕ) (n m : ℕ) → n ≡ m → IsTooMuch (record { script = script; block = block; coding = coding; chain = old; out = earlier }) m → chain_too_much old n
+    chain_much coding earlier n m same (inl many) = inl (subst (λ k. MAX_GATHERED < k) (sym (λ i. gathered (blocks i) (old.frames + same i))) many)
+    chain_much coding earlier n m same (inr failed) = inr failed
 
     pub numbers : (fault : GatherFull) (n m : ℕ) → n ≡ m → (fault.held ≡ held (blocks_of old.units) old.frames) × (fault.held + fault.more ≡ gathered (blocks_of old.units) (old.frames + n))
         → (fault.held ≡ held script.blocks old.frames) × (fault.held + fault.more ≡ gathered script.blocks (old.frames + m))
     numbers fault n m same (held_is, sum) = (held_is ∙ ap (λ bs. held bs old.frames) blocks, sum ∙ (λ i. gathered (blocks i) (old.frames + same i)))
 
   -- a new worker
-  pub is_new : (c : ChainState) → IsNewChain (input_place script block) script.blocks c → IsNew script block (record { script = script; block = block; chain = c; out = [] })
+  pub is_new : (c : ChainState) → IsNewChain (input_place script block) script.blocks c → IsNew script block (record { script = script; block = block; coding = input_coding script; chain = c; out = [] })
   is_new c is = record {
     script_is = refl;
     block_is = refl;
+    coding_is = refl;
     stands = record { holds = record { ready = ready; input = is.input; blocks = is.blocks_are; turns = is.turns }; chain = is.stands; live = is.live };
     empty = refl;
   }

@@ -3,3 +3,4 @@ pub mod Session
 pub mod Opening
 pub mod Stream
 pub mod Passing
+pub mod Working

@@ -1,5 +1,5 @@
 -- The begin of a stream: what is taken of the input before its first sample, and what is written before the first one.
-use Rattle.std.specs.Prelude.{◌≡◌, ℕ, ◌^◌, ◌<◌, ◌≤◌, List, ◌++◌, length, Option, Some, Err}
+use Rattle.std.specs.Prelude.{◌≡◌, ◌≢◌, ℕ, ◌^◌, ◌<◌, ◌≤◌, List, ◌++◌, length, Option, Some, Err}
 use Rattle.dsp_ports.specs.Ports.{SourceState, SinkState, one_more, Gave, Took}
 use Rattle.dsp_defs.specs.Output.{HasHeader, input_header, output_header, known_frames, wanted_of, format_of, channels_of}
 use Rattle.dsp_defs.specs.Wave.{header_of, riff_size, HeaderFits}
@@ -53,12 +53,12 @@ pub record Unopened (script : Script) (fault : StreamFault) (input now : SourceS
 
 -- ---- the output's header
 
--- the output is WAVE, and where it is to have so many frames its size would be past the limit of its header
+-- the output has a header, and where it is to have so many frames its size would be past the limit of that
 pub record IsTooLong (script : Script) (count : Option ℕ) (size : ℕ) : Type 0 where
-  pub wave : script.output ≡ container.Wave
+  pub headed : script.output ≢ container.Raw
   pub frames : ℕ
   pub known : count ≡ Some frames
-  pub size_is : size ≡ riff_size (format_of script) (channels_of script) (Some frames)
+  pub size_is : size ≡ riff_size script.output (format_of script) (channels_of script) (Some frames)
   pub over : MAX_RIFF_SIZE < size
 
 abbrev pub TooLong : LengthFault → Script → Option ℕ → Type 0
@@ -68,7 +68,7 @@ TooLong fault script count = ⊥
 -- the sizes in the output's header are within its limit
 abbrev pub Fits : Script → Header → Type 0
 Fits script header =
-    script.output ≡ container.Wave → HeaderFits (format_of script) (channels_of script) (known_frames script header)
+    script.output ≢ container.Raw → HeaderFits script.output (format_of script) (channels_of script) (known_frames script header)
 
 -- the input's header was taken, and the output's was written
 pub record Begun (script : Script) (header : Header) (input now : SourceState) (sink after : SinkState) : Type 0 where

@@ -7,14 +7,15 @@ use Rattle.dsp_defs.specs.Counts.{Counts}
 use Rattle.dsp_defs.specs.Output.{live_bytes, output_header}
 use Rattle.dsp_defs.specs.Shape.{gathered, held}
 use Rattle.dsp_defs.specs.Streaming.{Begins}
+use Rattle.dsp_defs.specs.declared.format.Coding.{Coding}
 use Rattle.dsp_defs.specs.declared.limits.TheConstants.{MAX_GATHERED}
 use Rattle.dsp_defs.specs.declared.script.Script.{Script}
 use Rattle.dsp_defs.specs.declared.wave.Header.{Header}
 use Rattle.dsp_defs.specs.declared.wave.HeaderFault.TheVariants.{Short}
 use Rattle.dsp_session.specs.SessionState.{SessionState}
-use Rattle.dsp_session.specs.Session.{StandsFor, signal, frame_bytes, block_bytes, live_cost_of, products_of, turns_of, calls_turns}
+use Rattle.dsp_session.specs.Session.{StandsFor, signal, block_bytes, live_cost_of, products_of, turns_of, calls_turns}
 use Rattle.dsp_session.specs.Opening.{Fits, Opens}
-use Rattle.dsp_session.specs.Stream.{declared_bytes}
+use Rattle.dsp_session.specs.Stream.{declared_bytes, in_whole_frames}
 use Rattle.dsp_session.specs.declared.fault.LengthFault.TheVariants as length_fault
 use Rattle.dsp_session.specs.declared.fault.StreamFault.{StreamFault}
 use Rattle.dsp_session.specs.declared.fault.StreamFault.TheVariants as fault
@@ -48,7 +49,7 @@ IsUnread (fault.Lengths (length_fault.Input told most)) script header taken inpu
     (header.start + taken ≡ 2 ^ 40) × (told ≡ 2 ^ 40) × (most ≡ 2 ^ 40) × (now.faults ≡ input.faults) × IfSome (declared_bytes script header) (λ size. taken < size)
 IsUnread (fault.Header fault offset) script header taken input now =
     (declared : ℕ) × (header.size ≡ Some declared) × (fault ≡ Short declared taken) × (offset ≡ header.start + taken) × IsAtEnd now.left × (now.faults ≡ input.faults)
-    × (taken < declared / frame_bytes script * frame_bytes script)
+    × (taken < in_whole_frames script header.coding declared)
 IsUnread fault script header taken input now = ⊥
 
 -- less than a block came
@@ -62,29 +63,29 @@ pub record Unread (script : Script) (header : Header) (taken size : ℕ) (fault 
 -- ---- working and writing
 
 -- the steps of a call that adds the frames of these bytes to x
-pub record PassCosts (script : Script) (x : List Frame) (bytes : List ℕ) (before counts : Counts) : Type 0 where
-  pub rise : counts.multiplies + live_cost_of script (length x) ≡ before.multiplies + live_cost_of script (length (x ++ signal script bytes))
-  pub turned : counts.turns ≤ before.turns + turns_of script (length x) (length (x ++ signal script bytes))
+pub record PassCosts (script : Script) (coding : Coding) (x : List Frame) (bytes : List ℕ) (before counts : Counts) : Type 0 where
+  pub rise : counts.multiplies + live_cost_of script (length x) ≡ before.multiplies + live_cost_of script (length (x ++ signal script coding bytes))
+  pub turned : counts.turns ≤ before.turns + turns_of script (length x) (length (x ++ signal script coding bytes))
 
 -- the frames were worked on, and their live values were written
-pub record Passes (script : Script) (x : List Frame) (bytes : List ℕ) (new : SessionState) (sink after : SinkState) (before counts : Counts) : Type 0 where
-  pub stands : StandsFor new (x ++ signal script bytes)
-  pub out : live_bytes script (x ++ signal script bytes) ≡ live_bytes script x ++ new.out
-  pub costs : PassCosts script x bytes before counts
-  pub not_full : gathered script.blocks (length (x ++ signal script bytes)) ≤ MAX_GATHERED
+pub record Passes (script : Script) (coding : Coding) (x : List Frame) (bytes : List ℕ) (new : SessionState) (sink after : SinkState) (before counts : Counts) : Type 0 where
+  pub stands : StandsFor new (x ++ signal script coding bytes)
+  pub out : live_bytes script (x ++ signal script coding bytes) ≡ live_bytes script x ++ new.out
+  pub costs : PassCosts script coding x bytes before counts
+  pub not_full : gathered script.blocks (length (x ++ signal script coding bytes)) ≤ MAX_GATHERED
   pub took : Took sink after new.out
   pub no_fault : after.faults ≡ sink.faults
 
 -- the frames were worked on, and the sink has failed within their values; or a correlation would gather too many
-abbrev pub FailsToPass : StreamFault → Script → List Frame → List ℕ → SinkState → SinkState → Counts → Counts → Type 0
-FailsToPass fault.Output script x bytes sink after before counts =
-    (given written : List ℕ) × (live_bytes script (x ++ signal script bytes) ≡ live_bytes script x ++ given) × Begins written given
-    × (after.put ≡ append_known sink.put written) × (after.faults ≡ one_more sink.faults) × PassCosts script x bytes before counts
-    × (gathered script.blocks (length (x ++ signal script bytes)) ≤ MAX_GATHERED)
-FailsToPass (fault.Lengths (length_fault.Gather told more)) script x bytes sink after before counts =
-    (MAX_GATHERED < gathered script.blocks (length (x ++ signal script bytes))) × (told ≡ held script.blocks (length x))
-    × (more + told ≡ gathered script.blocks (length (x ++ signal script bytes))) × (after ≡ sink) × (counts ≡ before)
-FailsToPass fault script x bytes sink after before counts = ⊥
+abbrev pub FailsToPass : StreamFault → Script → Coding → List Frame → List ℕ → SinkState → SinkState → Counts → Counts → Type 0
+FailsToPass fault.Output script coding x bytes sink after before counts =
+    (given written : List ℕ) × (live_bytes script (x ++ signal script coding bytes) ≡ live_bytes script x ++ given) × Begins written given
+    × (after.put ≡ append_known sink.put written) × (after.faults ≡ one_more sink.faults) × PassCosts script coding x bytes before counts
+    × (gathered script.blocks (length (x ++ signal script coding bytes)) ≤ MAX_GATHERED)
+FailsToPass (fault.Lengths (length_fault.Gather told more)) script coding x bytes sink after before counts =
+    (MAX_GATHERED < gathered script.blocks (length (x ++ signal script coding bytes))) × (told ≡ held script.blocks (length x))
+    × (more + told ≡ gathered script.blocks (length (x ++ signal script coding bytes))) × (after ≡ sink) × (counts ≡ before)
+FailsToPass fault script coding x bytes sink after before counts = ⊥
 
 -- ---- the blocks so far
 
@@ -95,23 +96,24 @@ pub record Passed (script : Script) (frames : ℕ) (session : SessionState) (hea
   pub blocks : ℕ
   pub script_is : session.script ≡ script
   pub block_is : session.block ≡ frames
+  pub coding_is : session.coding ≡ header.coding
   pub opens : Opens script header first
-  pub stands : StandsFor session (signal script heard)
+  pub stands : StandsFor session (signal script header.coding heard)
   pub heard_count : last.before ≡ length heard
-  pub blocks_heard : length heard ≡ blocks * block_bytes script frames
-  pub size : length block ≡ block_bytes script frames
+  pub blocks_heard : length heard ≡ blocks * block_bytes script header.coding frames
+  pub size : length block ≡ block_bytes script header.coding frames
   pub short : last.count < length block
   pub in_limit : header.start + (last.before + last.count) ≤ 2 ^ 40
   pub room_left : header.size ≡ None → header.start + (last.before + last.count) < 2 ^ 40
   pub declared : InDeclared (declared_bytes script header) (last.before + last.count)
   pub ended : AreAll (declared_bytes script header) (last.before + last.count) now
   pub gave : Gave input now (first ++ (heard ++ take last.count block))
-  pub took : Took sink after (output_header script header ++ live_bytes script (signal script heard))
+  pub took : Took sink after (output_header script header ++ live_bytes script (signal script header.coding heard))
   pub no_input_fault : now.faults ≡ input.faults
   pub no_output_fault : after.faults ≡ sink.faults
   pub fits : Fits script header
   pub not_full : gathered script.blocks (blocks * frames) ≤ MAX_GATHERED
-  pub cost : counts.multiplies ≡ before.multiplies + live_cost_of script (length (signal script heard))
+  pub cost : counts.multiplies ≡ before.multiplies + live_cost_of script (length (signal script header.coding heard))
   pub turned : counts.turns ≤ before.turns + calls_turns script frames (blocks * frames) blocks
 
 -- some input has led the session to this

@@ -1,16 +1,21 @@
 -- What the calls of a session give, for every signal that it has taken.
 use Rattle.std.specs.Prelude.{◌≡◌, ◌⊎◌, ℕ, ◌+◌, ◌*◌, ◌<◌, ◌≤◌, true, false, List, [], ◌++◌, length, Some, None, is_some, IsTrue}
 use Rattle.dsp_defs.specs.Block.{Frame, live_chain, whole_chain}
-use Rattle.dsp_defs.specs.Bytes.{width, coded, samples}
+use Rattle.dsp_defs.specs.Bytes.{coding_of, width, coded, samples}
 use Rattle.dsp_defs.specs.Cost.{cost, live_cost, chain_turns, turns_of_calls, turns}
 use Rattle.dsp_defs.specs.Counts.{Counts}
 use Rattle.dsp_defs.specs.Measure as measure
-use Rattle.dsp_defs.specs.Grammar.{IsSound}
-use Rattle.dsp_defs.specs.Output.{input_container, format_of}
+use Rattle.dsp_defs.specs.Grammar.{IsSound, container_of}
+use Rattle.dsp_defs.specs.Output.{output_coding}
 use Rattle.dsp_stage.specs.Row as row
 use Rattle.dsp_stage.specs.Row.{blocks_of, chain_products, row_turns}
 use Rattle.dsp_defs.specs.Shape.{is_legal, gathered}
 use Rattle.dsp_defs.specs.declared.fault.GatherFull.{GatherFull}
+use Rattle.dsp_defs.specs.Wave.{file_coding}
+use Rattle.dsp_defs.specs.declared.format.Coding.{Coding}
+use Rattle.dsp_defs.specs.declared.format.Container.TheVariants as container
+use Rattle.dsp_defs.specs.declared.format.Input.{Input}
+use Rattle.dsp_defs.specs.declared.format.InputKind.TheVariants.{Raw, Wave}
 use Rattle.dsp_defs.specs.declared.limits.TheConstants.{MAX_GATHERED}
 use Rattle.dsp_defs.specs.declared.measure.Measure.{Measure}
 use Rattle.dsp_defs.specs.declared.script.Script.{Script}
@@ -19,21 +24,33 @@ use Rattle.dsp_session.specs.SessionState.{SessionState}
 
 -- ---- bytes and signals
 
--- the bytes of a frame of the input, and of a block
-abbrev pub frame_bytes : Script → ℕ
-frame_bytes script = script.input.channels * width script.input.format
+-- the coding of an input whose header says no other
+abbrev pub input_coding : Script → Coding
+input_coding script = coding_of (container_of script.input.kind) script.input.format
+
+-- the bytes of a frame of the input in a coding
+abbrev pub frame_bytes : Script → Coding → ℕ
+frame_bytes script coding = script.input.channels * width coding
+
+-- the narrowest coding that the samples of an input may have: Q31 may have 24 bits in a WAVE file
+abbrev pub narrowest_coding : Input → Coding
+narrowest_coding input = elim input.kind [ Raw rate ↦ coding_of container.Raw input.format | Wave ↦ file_coding input.format 24 ]
+
+-- the bytes that a frame of the input has at least
+abbrev pub least_frame_bytes : Script → ℕ
+least_frame_bytes script = frame_bytes script (narrowest_coding script.input)
 
 -- block * frame_bytes
-abbrev pub block_bytes : Script → ℕ → ℕ
-block_bytes script block = block * frame_bytes script
+abbrev pub block_bytes : Script → Coding → ℕ → ℕ
+block_bytes script coding block = block * frame_bytes script coding
 
--- the signal of bytes that are samples and nothing else
-abbrev pub signal : Script → List ℕ → List Frame
-signal script bytes = samples (input_container script) script.input.format script.input.channels bytes
+-- the signal of bytes that are samples in a coding and nothing else
+abbrev pub signal : Script → Coding → List ℕ → List Frame
+signal script coding bytes = samples coding script.input.channels bytes
 
 -- the bytes of frames of the output
 abbrev pub output_bytes : Script → List Frame → List ℕ
-output_bytes script frames = coded script.output (format_of script) frames
+output_bytes script frames = coded (output_coding script) frames
 
 -- what the blocks give of a signal that may go on, and of a whole one
 abbrev pub live_values : Script → List Frame → List Frame
@@ -99,13 +116,20 @@ pub record HasGiven (s : SessionState) (x ys : List Frame) : Type 0 where
 pub record IsNew (script : Script) (block : ℕ) (s : SessionState) : Type 0 where
   pub script_is : s.script ≡ script
   pub block_is : s.block ≡ block
+  pub coding_is : s.coding ≡ input_coding script
   pub stands : StandsFor s []
   pub empty : s.out ≡ []
 
 -- the same script in the same blocks
+pub record SameScript (old new : SessionState) : Type 0 where
+  pub script : new.script ≡ old.script
+  pub block : new.block ≡ old.block
+
+-- and of an input in the same coding
 pub record SameSession (old new : SessionState) : Type 0 where
   pub script : new.script ≡ old.script
   pub block : new.block ≡ old.block
+  pub coding : new.coding ≡ old.coding
 
 -- the measures of what its blocks have taken
 abbrev pub measured : SessionState → List Measure
@@ -121,11 +145,11 @@ pub record Feeds (old new : SessionState) (bytes : List ℕ) (before after : Cou
   pub holds : Holds new
   pub running : new.chain.ended ≡ false
   pub works : new.chain.failed ≡ None
-  pub counted : new.chain.frames ≡ old.chain.frames + length (signal old.script bytes)
+  pub counted : new.chain.frames ≡ old.chain.frames + length (signal old.script old.coding bytes)
   pub given : List Frame
   pub frames : GivesFrames old new given
-  pub values : (x : List Frame) → StandsFor old x → live_values old.script (x ++ signal old.script bytes) ≡ live_values old.script x ++ given
-  pub stands : (x : List Frame) → StandsFor old x → StandsFor new (x ++ signal old.script bytes)
+  pub values : (x : List Frame) → StandsFor old x → live_values old.script (x ++ signal old.script old.coding bytes) ≡ live_values old.script x ++ given
+  pub stands : (x : List Frame) → StandsFor old x → StandsFor new (x ++ signal old.script old.coding bytes)
   pub multiplies : made_of new.chain + before.multiplies ≡ made_of old.chain + after.multiplies
   pub turns : after.turns ≤ before.turns + turns_of old.script old.chain.frames new.chain.frames
   pub live : IsLive new.chain

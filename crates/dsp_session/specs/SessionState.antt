@@ -1,4 +1,5 @@
 use Rattle.std.specs.Prelude.{ℕ, List}
+use Rattle.dsp_defs.specs.declared.format.Coding.{Coding}
 use Rattle.dsp_defs.specs.declared.script.Script.{Script}
 use Rattle.dsp_chain.specs.Chain.{ChainState}
 
@@ -7,6 +8,8 @@ pub record SessionState : Type 0 where
   pub script : Script
   -- the frames of a block
   pub block : ℕ
+  -- how the samples of the input stand as bytes
+  pub coding : Coding
   -- the script's blocks at work
   pub chain : ChainState
   -- the bytes that the last call gave

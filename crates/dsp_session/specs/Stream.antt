@@ -7,6 +7,7 @@ use Rattle.dsp_defs.specs.Output.{HasHeader, input_header, input_signal, wanted_
 use Rattle.dsp_defs.specs.Shape.{gathered, held, window_at}
 use Rattle.dsp_defs.specs.Streaming.{Begins}
 use Rattle.dsp_defs.specs.Wave.{header_of}
+use Rattle.dsp_defs.specs.declared.format.Coding.{Coding}
 use Rattle.dsp_defs.specs.declared.format.InputKind.TheVariants as kind
 use Rattle.dsp_defs.specs.declared.limits.TheConstants.{MAX_GATHERED, MAX_RIFF_SIZE}
 use Rattle.dsp_defs.specs.declared.measure.Measure.{Measure}
@@ -23,9 +24,13 @@ use Rattle.dsp_session.specs.declared.fault.StreamFault.TheVariants as fault
 
 -- ---- the input
 
+-- the bytes of the whole frames among so many bytes
+abbrev pub in_whole_frames : Script → Coding → ℕ → ℕ
+in_whole_frames script coding size = size / frame_bytes script coding * frame_bytes script coding
+
 -- the bytes at which a header says that there are whole frames of samples, where it declares its samples
 abbrev pub declared_bytes : Script → Header → Option ℕ
-declared_bytes script header = elim header.size [ Some size ↦ Some (size / frame_bytes script * frame_bytes script) | None ↦ None ]
+declared_bytes script header = elim header.size [ Some size ↦ Some (in_whole_frames script header.coding size) | None ↦ None ]
 
 -- all samples were taken: those declared, or all to the end of the input
 abbrev pub IsWhole : Option ℕ → Header → List ℕ → SourceState → Type 0
@@ -42,12 +47,16 @@ IsTakenWhole script given now =
 abbrev pub frames_in_bytes : Script → List ℕ → ℕ
 frames_in_bytes script given = length (input_signal script given)
 
+-- where the first blocks of samples behind a header end
+abbrev pub blocks_end : Script → ℕ → Header → ℕ → ℕ
+blocks_end script block header blocks = header.start + blocks * block_bytes script header.coding block
+
 -- beyond the header and the blocks whose live values were written, at most one block was taken
 pub record LagsByOne (script : Script) (block : ℕ) (given written : List ℕ) : Type 0 where
   pub blocks : ℕ
-  pub taken : (input_header script given).start + blocks * block_bytes script block ≤ length given
-  pub wrote : (blocks ≡ 0) ⊎ Begins (part script block (take ((input_header script given).start + blocks * block_bytes script block) given)) written
-  pub one : length given ≤ (input_header script given).start + (blocks + 1) * block_bytes script block
+  pub taken : blocks_end script block (input_header script given) blocks ≤ length given
+  pub wrote : (blocks ≡ 0) ⊎ Begins (part script block (take (blocks_end script block (input_header script given) blocks) given)) written
+  pub one : length given ≤ blocks_end script block (input_header script given) (blocks + 1)
 
 -- ---- limits
 
@@ -105,7 +114,7 @@ pub record StopsShort (script : Script) (block : ℕ) (fault : HeaderFault) (off
   pub size : (input_header script given).size ≡ Some declared
   pub place : offset ≡ length given
   pub got_is : offset ≡ (input_header script given).start + got
-  pub fewer : got < declared / frame_bytes script * frame_bytes script
+  pub fewer : got < in_whole_frames script (input_header script given).coding declared
   pub ended : IsAtEnd now.left
   pub wrote : written ≡ part script block given
   pub limits : BlocksKeepLimits script block given

@@ -49,14 +49,12 @@ fn write_pad<K: Sink>(script: &Script, header: Header, output: &mut K) -> Result
         (λ _. (count : ℕ) × Took (K.state output.old) (K.state output.new) (take count (output_pad script.now header))) }
     ensures faults { CountsFaults result (K.state output.old).faults (K.state output.new).faults }
 {
-    match script.output {
-        Container::Raw => Ok(()),
-        Container::Wave => {
-            let flow = output_flow(script);
-            let known = known_frames(script, header);
-            write_all(output, pad(flow.format, flow.channels, known))
-        }
+    if script.output == Container::Raw {
+        return Ok(());
     }
+    let flow = output_flow(script);
+    let known = known_frames(script, header);
+    write_all(output, pad(flow.format, flow.channels, known))
 }
 
 /// Writes the tail and the pad byte, and makes sure of the output.
@@ -93,11 +91,11 @@ pub fn close<K: Sink, L: Ledger>(
     requires { HasPassed worker.old header block.now last }
     ensures same { SameSession worker.old worker.new }
     ensures ok { (before now : SourceState) (empty : SinkState) (start : Counts) → Passed worker.old.script worker.old.block worker.old header block.now last before now empty (K.state output.old) start steps.old
-        → IfOk result (λ _. Done worker.old.script worker.old.block ((last.before + last.count) / frame_bytes worker.old.script) before now empty (K.state output.new) start steps.new (measured worker.new)) }
+        → IfOk result (λ _. Done worker.old.script worker.old.block ((last.before + last.count) / frame_bytes worker.old.script header.coding) before now empty (K.state output.new) start steps.new (measured worker.new)) }
     ensures err { (before now : SourceState) (empty : SinkState) (start : Counts) → Passed worker.old.script worker.old.block worker.old header block.now last before now empty (K.state output.old) start steps.old
         → IfErr result (λ fault. Stopped worker.old.script worker.old.block fault before now empty (K.state output.new) start steps.new) }
 {
-    let frame = frame_bytes(worker.script()) as usize;
+    let frame = frame_bytes(worker.script(), header.coding) as usize;
     let count = last.count / frame;
     if let Some(WindowFault { end, length }) = worker.window_fault(count as u64) {
         return Err(StreamFault::Lengths(LengthFault::Window { end, length }));

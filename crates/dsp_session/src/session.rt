@@ -1,14 +1,14 @@
-ghost use Rattle.std.specs.Prelude.{◌≡◌, ◌+◌, ◌*◌, ◌^◌, ◌<◌, ◌≤◌, ◌↔◌, Some, None, length, slice_get, IfOk, IfErr, IsErr, IsFalse};
+ghost use Rattle.std.specs.Prelude.{◌≡◌, ◌+◌, ◌*◌, ◌^◌, ◌<◌, ◌≤◌, ◌↔◌, [], Some, None, length, slice_get, IfOk, IfErr, IsErr, IsFalse};
 ghost use Rattle.std.specs.Option.{option_map};
+ghost use Rattle.dsp_defs.specs.Bytes.{format_in};
 ghost use Rattle.dsp_defs.specs.Shape.{gathered, held, window_at};
 ghost use Rattle.dsp_defs.specs.declared.fault.GatherFull.{GatherFull};
 ghost use Rattle.dsp_defs.specs.declared.fault.WindowFault.{WindowFault};
 ghost use Rattle.dsp_chain.specs.Row.{measure_counts};
-ghost use Rattle.dsp_session.specs.Session.{IsReady, IsNew, SameSession, Feeds, Fails, IsTooMuch, Ends, measured, signal, frame_bytes};
+ghost use Rattle.dsp_session.specs.Session.{IsReady, IsNew, SameSession, StandsFor, Feeds, Fails, IsTooMuch, Ends, measured, signal, frame_bytes};
 
-use crate::opening::frame_bytes;
 use crate::worker::Worker;
-use dsp_defs::{GatherFull, Measure, Script, Steps, WindowFault};
+use dsp_defs::{Coding, GatherFull, Measure, Script, Steps, WindowFault};
 use std::alloc::{AllocError, Global};
 use std::marker::Model;
 use std::sync::ledger::Ledger;
@@ -24,14 +24,14 @@ pub struct Session<'s> {
 
 impl<'s> Model for Session<'s> {
     ghost use Rattle.std.specs.Prelude.{◌≡◌, vec_len};
-    ghost use Rattle.dsp_session.specs.Session.{block_bytes};
+    ghost use Rattle.dsp_session.specs.Session.{block_bytes, input_coding};
     ghost use Rattle.dsp_session.specs.SessionState.{SessionState};
 
     ghost Value = { SessionState };
 
     ghost view = { λ s. s.worker };
 
-    ghost invariant = { λ s. vec_len s.block ≡ block_bytes s.worker.script s.worker.block };
+    ghost invariant = { λ s. vec_len s.block ≡ block_bytes s.worker.script (input_coding s.worker.script) s.worker.block };
 }
 
 impl<'s> Session<'s> {
@@ -42,8 +42,18 @@ impl<'s> Session<'s> {
         ensures { IfOk result (IsNew script.now block) }
     {
         let worker = Worker::new(alloc, script, block)?;
-        let block = vec![in alloc; 0; block as usize * frame_bytes(script) as usize]?;
+        let block = vec![in alloc; 0; worker.block_bytes()]?;
         Ok(Session { worker, block })
+    }
+
+    /// The samples of the input stand in this coding, one of its format; without the call it is
+    /// that of all bits in its container. Nothing was fed before.
+    pub fn set_coding(&mut self, coding: Coding)
+        requires new { StandsFor self.old [] }
+        requires coding { format_in coding ≡ self.old.script.input.format }
+        ensures { self.new ≡ record self.old { coding = coding } }
+    {
+        self.worker.set_coding(coding);
     }
 
     /// The bytes that the last call gave.
@@ -63,15 +73,15 @@ impl<'s> Session<'s> {
         steps: &mut Steps<L>,
     ) -> Result<usize, GatherFull>
         requires running { IsFalse self.old.chain.ended }
-        requires whole { length bytes.now ≡ length (signal self.old.script bytes.now) * frame_bytes self.old.script }
-        requires block { length (signal self.old.script bytes.now) ≤ self.old.block }
-        requires count { self.old.chain.frames + length (signal self.old.script bytes.now) ≤ 2 ^ 40 }
+        requires whole { length bytes.now ≡ length (signal self.old.script self.old.coding bytes.now) * frame_bytes self.old.script self.old.coding }
+        requires block { length (signal self.old.script self.old.coding bytes.now) ≤ self.old.block }
+        requires count { self.old.chain.frames + length (signal self.old.script self.old.coding bytes.now) ≤ 2 ^ 40 }
         ensures same { SameSession self.old self.new }
         ensures given { IfOk result (λ given. given ≡ length self.new.out) }
         ensures fed { IfOk result (λ _. Feeds self.old self.new bytes.now steps.old steps.new) }
-        ensures full { IsErr result ↔ IsTooMuch self.old (length (signal self.old.script bytes.now)) }
+        ensures full { IsErr result ↔ IsTooMuch self.old (length (signal self.old.script self.old.coding bytes.now)) }
         ensures numbers { self.old.chain.failed ≡ None → IfErr result (λ (fault : GatherFull). (fault.held ≡ held self.old.script.blocks self.old.chain.frames)
-            × (fault.held + fault.more ≡ gathered self.old.script.blocks (self.old.chain.frames + length (signal self.old.script bytes.now)))) }
+            × (fault.held + fault.more ≡ gathered self.old.script.blocks (self.old.chain.frames + length (signal self.old.script self.old.coding bytes.now)))) }
         ensures refused { IfErr result (λ fault. Fails self.old self.new fault steps.old steps.new) }
     {
         self.worker.feed(bytes, steps)

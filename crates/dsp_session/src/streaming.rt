@@ -2,9 +2,9 @@ ghost use Rattle.std.specs.Prelude.{◌≡◌, ◌+◌, ◌*◌, ◌/◌, ◌^�
 ghost use Rattle.dsp_ports.specs.Ports.{SourceState, SinkState};
 ghost use Rattle.dsp_defs.specs.Block.{Frame};
 ghost use Rattle.dsp_defs.specs.Shape.{frames_given};
-ghost use Rattle.dsp_session.specs.Session.{StandsFor, SameSession, signal, frame_bytes, block_bytes, cost_of, measured};
+ghost use Rattle.dsp_session.specs.Session.{StandsFor, SameScript, SameSession, signal, frame_bytes, block_bytes, cost_of, measured};
 ghost use Rattle.dsp_session.specs.Opening.{Begun};
-ghost use Rattle.dsp_session.specs.Stream.{Stopped, Done, declared_bytes};
+ghost use Rattle.dsp_session.specs.Stream.{Stopped, Done, declared_bytes, in_whole_frames};
 ghost use Rattle.dsp_session.specs.Passing.{InDeclared, BlockRead, Unread, Passes, FailsToPass, Passed};
 
 use crate::closing::close;
@@ -12,7 +12,7 @@ use crate::fault::{LengthFault, StreamFault};
 use crate::opening::{frame_bytes, open};
 use crate::session::Session;
 use crate::worker::Worker;
-use dsp_defs::{GatherFull, Header, HeaderFault, MAX_INPUT, Script, Steps};
+use dsp_defs::{Coding, GatherFull, Header, HeaderFault, MAX_INPUT, Script, Steps};
 use dsp_ports::{FillFault, Sink, Source, fill, write_all};
 use dsp_script::{cost, frames_given};
 use std::sync::ledger::Ledger;
@@ -42,13 +42,13 @@ fn read_block<S: Source>(
     input: &mut S,
 ) -> Result<usize, StreamFault>
     requires limit { header.start + taken ≤ 2 ^ 40 }
-    requires frame { 1 ≤ frame_bytes script.now }
+    requires frame { 1 ≤ frame_bytes script.now header.coding }
     requires declared { InDeclared (declared_bytes script.now header) taken }
     ensures ok { IfOk result (λ count. BlockRead script.now header taken block.new count (S.state input.old) (S.state input.new)) }
     ensures err { IfErr result (λ fault. Unread script.now header taken (length block.old) fault (S.state input.old) (S.state input.new)) }
 {
     let left = match header.size {
-        Some(size) => declared_bytes(script, size) - taken,
+        Some(size) => in_whole_frames(script, header.coding, size) - taken,
         None => u64::MAX,
     };
     let want = left.min(block.len() as u64) as usize;
@@ -71,13 +71,13 @@ fn read_block<S: Source>(
     }
 }
 
-/// The bytes of the whole frames among so many declared ones.
-fn declared_bytes(script: &Script, size: u32) -> u64
-    requires { 1 ≤ frame_bytes script.now }
-    ensures value { result ≡ size / frame_bytes script.now * frame_bytes script.now }
+/// The bytes of the whole frames among so many bytes.
+fn in_whole_frames(script: &Script, coding: Coding, size: u32) -> u64
+    requires { 1 ≤ frame_bytes script.now coding }
+    ensures value { result ≡ in_whole_frames script.now coding size }
     ensures few { result ≤ size }
 {
-    let frame = frame_bytes(script);
+    let frame = frame_bytes(script, coding);
     u64::from(size) / frame * frame
 }
 
@@ -89,12 +89,12 @@ pub fn pass_block<K: Sink, L: Ledger>(
     steps: &mut Steps<L>,
 ) -> Result<(), StreamFault>
     requires running { IsFalse worker.old.chain.ended }
-    requires whole { length bytes.now ≡ length (signal worker.old.script bytes.now) * frame_bytes worker.old.script }
-    requires block { length (signal worker.old.script bytes.now) ≤ worker.old.block }
-    requires count { worker.old.chain.frames + length (signal worker.old.script bytes.now) ≤ 2 ^ 40 }
+    requires whole { length bytes.now ≡ length (signal worker.old.script worker.old.coding bytes.now) * frame_bytes worker.old.script worker.old.coding }
+    requires block { length (signal worker.old.script worker.old.coding bytes.now) ≤ worker.old.block }
+    requires count { worker.old.chain.frames + length (signal worker.old.script worker.old.coding bytes.now) ≤ 2 ^ 40 }
     ensures same { SameSession worker.old worker.new }
-    ensures ok { (x : List Frame) → StandsFor worker.old x → IfOk result (λ _. Passes worker.old.script x bytes.now worker.new (K.state output.old) (K.state output.new) steps.old steps.new) }
-    ensures err { (x : List Frame) → StandsFor worker.old x → IfErr result (λ fault. FailsToPass fault worker.old.script x bytes.now (K.state output.old) (K.state output.new) steps.old steps.new) }
+    ensures ok { (x : List Frame) → StandsFor worker.old x → IfOk result (λ _. Passes worker.old.script worker.old.coding x bytes.now worker.new (K.state output.old) (K.state output.new) steps.old steps.new) }
+    ensures err { (x : List Frame) → StandsFor worker.old x → IfErr result (λ fault. FailsToPass fault worker.old.script worker.old.coding x bytes.now (K.state output.old) (K.state output.new) steps.old steps.new) }
 {
     match worker.feed(bytes, steps) {
         Ok(_) => {}
@@ -118,7 +118,8 @@ fn pass_blocks<S: Source, K: Sink, L: Ledger>(
     steps: &mut Steps<L>,
 ) -> Result<Last, StreamFault>
     requires new { StandsFor worker.old [] }
-    requires block { length block.old ≡ block_bytes worker.old.script worker.old.block }
+    requires block { length block.old ≡ block_bytes worker.old.script worker.old.coding worker.old.block }
+    requires coding { worker.old.coding ≡ header.coding }
     requires start { header.start ≤ 2 ^ 40 }
     ensures same { SameSession worker.old worker.new }
     ensures ok { (before : SourceState) (empty : SinkState) → Begun worker.old.script header before (S.state input.old) empty (K.state output.old)
@@ -141,6 +142,35 @@ fn pass_blocks<S: Source, K: Sink, L: Ledger>(
     }
 }
 
+/// Works on the samples behind the header, gives the tail, and makes sure of the output; it answers
+/// the frames that it took. The room holds a block of the input.
+fn stream_samples<S: Source, K: Sink, L: Ledger>(
+    worker: &mut Worker<'_>,
+    room: &mut [u8],
+    header: Header,
+    input: &mut S,
+    output: &mut K,
+    steps: &mut Steps<L>,
+) -> Result<u64, StreamFault>
+    requires new { StandsFor worker.old [] }
+    requires room { block_bytes worker.old.script worker.old.coding worker.old.block ≤ length room.old }
+    requires coding { worker.old.coding ≡ header.coding }
+    requires start { header.start ≤ 2 ^ 40 }
+    requires begun { (before : SourceState) × (empty : SinkState) × Begun worker.old.script header before (S.state input.old) empty (K.state output.old) }
+    ensures same { SameSession worker.old worker.new }
+    ensures ok { (before : SourceState) (empty : SinkState) → Begun worker.old.script header before (S.state input.old) empty (K.state output.old)
+        → IfOk result (λ frames. Done worker.old.script worker.old.block frames before (S.state input.new) empty (K.state output.new) steps.old steps.new (measured worker.new)) }
+    ensures err { (before : SourceState) (empty : SinkState) → Begun worker.old.script header before (S.state input.old) empty (K.state output.old)
+        → IfErr result (λ fault. Stopped worker.old.script worker.old.block fault before (S.state input.new) empty (K.state output.new) steps.old steps.new) }
+    ensures few { IfOk result (λ frames. frames ≤ 2 ^ 40) }
+{
+    let size = worker.block_bytes();
+    let block = &mut room[..size];
+    let last = pass_blocks(worker, block, header, input, output, steps)?;
+    close(worker, block, last, header, output, steps)?;
+    Ok((last.before + last.count as u64) / frame_bytes(worker.script(), header.coding))
+}
+
 /// Goes over a whole input: takes its header, works on block after block of its samples, and writes
 /// the output of the script, which it flushes once at the end. It takes no memory.
 ///
@@ -156,11 +186,12 @@ pub fn stream<S: Source, K: Sink, L: Ledger>(
     ensures given { IfOk result (λ totals. totals.frames_given ≡ frames_given session.old.script.blocks totals.frames_taken) }
     ensures multiplies { IfOk result (λ totals. totals.multiplies ≡ cost_of session.old.script totals.frames_taken) }
     ensures err { IfErr result (λ fault. Stopped session.old.script session.old.block fault (S.state input.old) (S.state input.new) (K.state output.old) (K.state output.new) steps.old steps.new) }
-    ensures same { SameSession session.old session.new }
+    ensures same { SameScript session.old session.new }
 {
     let script = session.worker.script();
     let header = open(script, input, output)?;
-    let last = pass_blocks(
+    session.worker.set_coding(header.coding);
+    let frames_taken = stream_samples(
         &mut session.worker,
         session.block.as_mut_slice(),
         header,
@@ -168,15 +199,6 @@ pub fn stream<S: Source, K: Sink, L: Ledger>(
         output,
         steps,
     )?;
-    close(
-        &mut session.worker,
-        &session.block,
-        last,
-        header,
-        output,
-        steps,
-    )?;
-    let frames_taken = (last.before + last.count as u64) / frame_bytes(script);
     Ok(Totals {
         frames_taken,
         frames_given: frames_given(script, frames_taken),

@@ -1,26 +1,25 @@
-ghost use Rattle.std.specs.Prelude.{◌≡◌, ◌+◌, ◌*◌, ◌/◌, ◌^◌, ◌<◌, ◌≤◌, ◌↔◌, ℕ, length, take, drop, flat_map, All, FitsSigned, IfOk, IfErr, IsErr, IsFalse, Some, None, slice_get};
+ghost use Rattle.std.specs.Prelude.{◌≡◌, ◌+◌, ◌*◌, ◌/◌, ◌^◌, ◌<◌, ◌≤◌, ◌↔◌, ℕ, length, take, drop, flat_map, All, IfOk, IfErr, IsErr, IsFalse, Some, None, slice_get};
 ghost use Rattle.std.specs.Option.{option_map};
-ghost use Rattle.dsp_defs.specs.Bytes.{bytes_of, sample_of, width};
-ghost use Rattle.dsp_defs.specs.Formats.{word};
-ghost use Rattle.dsp_defs.specs.Output.{container_of};
+ghost use Rattle.dsp_defs.specs.Bytes.{IsValue, bytes_of, format_in, sample_of, width};
+ghost use Rattle.dsp_defs.specs.Grammar.{container_of};
 ghost use Rattle.dsp_defs.specs.Shape.{gathered, held, window_at};
 ghost use Rattle.dsp_defs.specs.Signal.{values};
 ghost use Rattle.dsp_defs.specs.declared.fault.GatherFull.{GatherFull};
 ghost use Rattle.dsp_defs.specs.declared.fault.WindowFault.{WindowFault};
-ghost use Rattle.dsp_wave.specs.Coding.{container_in, format_in};
 ghost use Rattle.dsp_chain.specs.Row.{measure_counts};
-ghost use Rattle.dsp_session.specs.Session.{IsReady, IsNew, SameSession, Feeds, Fails, IsTooMuch, Ends, measured, signal, frame_bytes};
+ghost use Rattle.dsp_session.specs.Session.{IsReady, IsNew, SameScript, SameSession, Feeds, Fails, IsTooMuch, Ends, block_bytes, measured, signal, frame_bytes};
 
+use crate::opening::frame_bytes;
 use dsp_chain::Chain;
 use dsp_defs::{Container, GatherFull, InputKind, Measure, Script, Steps, WindowFault};
 use dsp_script::output_flow;
-use dsp_wave::{Coding, decode, encode, width};
+use dsp_wave::{Coding, coding_of, decode, encode, width};
 use std::alloc::{AllocError, Global};
 use std::marker::Model;
 use std::sync::ledger::Ledger;
 
 /// The form of an input.
-pub fn container_of(kind: InputKind) -> Container
+fn container_of(kind: InputKind) -> Container
     ensures { result ≡ container_of kind }
 {
     match kind {
@@ -31,11 +30,11 @@ pub fn container_of(kind: InputKind) -> Container
 
 /// Reads the samples of some bytes to the front, and answers their number.
 fn decode_front(coding: Coding, bytes: &[u8], samples: &mut [i32]) -> usize
-    requires { length bytes.now ≤ length samples.old * width (format_in coding) }
-    ensures count { result ≡ length bytes.now / width (format_in coding) }
+    requires { length bytes.now ≤ length samples.old * width coding }
+    ensures count { result ≡ length bytes.now / width coding }
     ensures within { result ≤ length samples.old }
-    ensures values { take result samples.new ≡ values (length bytes.now / width (format_in coding)) (λ i. sample_of (container_in coding) (format_in coding) (take (width (format_in coding)) (drop (i * width (format_in coding)) bytes.now))) }
-    ensures fits { All (FitsSigned (word (format_in coding))) (take result samples.new) }
+    ensures values { take result samples.new ≡ values (length bytes.now / width coding) (λ i. sample_of coding (take (width coding) (drop (i * width coding) bytes.now))) }
+    ensures fits { All (IsValue coding) (take result samples.new) }
 {
     let width = width(coding);
     let count = bytes.len() / width;
@@ -45,11 +44,11 @@ fn decode_front(coding: Coding, bytes: &[u8], samples: &mut [i32]) -> usize
 
 /// Writes the bytes of some samples to the front, and answers their number.
 fn encode_front(coding: Coding, samples: &[i32], bytes: &mut [u8]) -> usize
-    requires room { length samples.now * width (format_in coding) ≤ length bytes.old }
-    requires fits { All (FitsSigned (word (format_in coding))) samples.now }
-    ensures count { result ≡ length samples.now * width (format_in coding) }
+    requires room { length samples.now * width coding ≤ length bytes.old }
+    requires fits { All (IsValue coding) samples.now }
+    ensures count { result ≡ length samples.now * width coding }
     ensures within { result ≤ length bytes.old }
-    ensures bytes { take result bytes.new ≡ flat_map (bytes_of (container_in coding) (format_in coding)) samples.now }
+    ensures bytes { take result bytes.new ≡ flat_map (bytes_of coding) samples.now }
 {
     let count = samples.len() * width(coding);
     encode(coding, samples, &mut bytes[..count]);
@@ -71,24 +70,16 @@ pub struct Worker<'s> {
 }
 
 impl<'s> Model for Worker<'s> {
-    ghost use Rattle.std.specs.Prelude.{◌≡◌, ◌≤◌, ◌*◌, take, vec_len};
-    ghost use Rattle.dsp_defs.specs.Bytes.{width};
-    ghost use Rattle.dsp_defs.specs.Output.{input_container, format_of};
-    ghost use Rattle.dsp_stage.specs.Row.{place_room};
-    ghost use Rattle.dsp_wave.specs.Coding.{container_in, format_in};
-    ghost use Rattle.dsp_chain.specs.Chain.{output_of};
-    ghost use Rattle.dsp_session.specs.Session.{Holds};
+    ghost use Rattle.std.specs.Prelude.{take, vec_len};
     ghost use Rattle.dsp_session.specs.SessionState.{SessionState};
+    ghost use Rattle.dsp_session.specs.Working.{IsWorking};
 
     ghost Value = { SessionState };
 
-    ghost view = { λ w. record { script = w.script.now; block = w.block; chain = w.chain; out = take w.given w.bytes.items } };
+    ghost view = { λ w. record { script = w.script.now; block = w.block; coding = w.input; chain = w.chain; out = take w.given w.bytes.items } };
 
-    ghost invariant = { λ w. (Holds (record { script = w.script.now; block = w.block; chain = w.chain; out = take w.given w.bytes.items }))
-        × (container_in w.input ≡ input_container w.script.now) × (format_in w.input ≡ w.script.now.input.format)
-        × (container_in w.output ≡ w.script.now.output) × (format_in w.output ≡ format_of w.script.now)
-        × (vec_len w.samples ≡ w.block * w.script.now.input.channels) × (vec_len w.values ≡ place_room (output_of w.chain))
-        × (vec_len w.bytes ≡ place_room (output_of w.chain) * width (format_of w.script.now)) × (w.given ≤ vec_len w.bytes) };
+    ghost invariant = { λ w. IsWorking (record { script = w.script.now; block = w.block; coding = w.input; chain = w.chain; out = take w.given w.bytes.items })
+        w.output (vec_len w.samples) (vec_len w.values) (vec_len w.bytes) w.given };
 }
 
 impl<'s> Worker<'s> {
@@ -100,8 +91,8 @@ impl<'s> Worker<'s> {
     {
         let chain = Chain::new(alloc, script, block)?;
         let flow = output_flow(script);
-        let input = Coding::new(container_of(script.input.kind), script.input.format);
-        let output = Coding::new(script.output, flow.format);
+        let input = coding_of(container_of(script.input.kind), script.input.format);
+        let output = coding_of(script.output, flow.format);
         let block = block as usize;
         let room = chain.room();
         let samples = vec![in alloc; 0; block * usize::from(script.input.channels)]?;
@@ -128,6 +119,22 @@ impl<'s> Worker<'s> {
         self.script
     }
 
+    /// The bytes of a block of the input.
+    pub fn block_bytes(&self) -> usize
+        ensures { result ≡ block_bytes self.now.script self.now.coding self.now.block }
+    {
+        self.block * frame_bytes(self.script, self.input) as usize
+    }
+
+    /// The samples of the input stand in this coding of its format.
+    pub fn set_coding(&mut self, coding: Coding)
+        requires { format_in coding ≡ self.old.script.input.format }
+        ensures coding { self.new ≡ record self.old { coding = coding } }
+        ensures same { SameScript self.old self.new }
+    {
+        self.input = coding;
+    }
+
     /// The bytes that the last call gave.
     pub fn out(&self) -> &[u8]
         ensures { result.now ≡ self.now.out }
@@ -143,15 +150,15 @@ impl<'s> Worker<'s> {
         steps: &mut Steps<L>,
     ) -> Result<usize, GatherFull>
         requires running { IsFalse self.old.chain.ended }
-        requires whole { length bytes.now ≡ length (signal self.old.script bytes.now) * frame_bytes self.old.script }
-        requires block { length (signal self.old.script bytes.now) ≤ self.old.block }
-        requires count { self.old.chain.frames + length (signal self.old.script bytes.now) ≤ 2 ^ 40 }
+        requires whole { length bytes.now ≡ length (signal self.old.script self.old.coding bytes.now) * frame_bytes self.old.script self.old.coding }
+        requires block { length (signal self.old.script self.old.coding bytes.now) ≤ self.old.block }
+        requires count { self.old.chain.frames + length (signal self.old.script self.old.coding bytes.now) ≤ 2 ^ 40 }
         ensures same { SameSession self.old self.new }
         ensures given { IfOk result (λ given. given ≡ length self.new.out) }
         ensures fed { IfOk result (λ _. Feeds self.old self.new bytes.now steps.old steps.new) }
-        ensures full { IsErr result ↔ IsTooMuch self.old (length (signal self.old.script bytes.now)) }
+        ensures full { IsErr result ↔ IsTooMuch self.old (length (signal self.old.script self.old.coding bytes.now)) }
         ensures numbers { self.old.chain.failed ≡ None → IfErr result (λ (fault : GatherFull). (fault.held ≡ held self.old.script.blocks self.old.chain.frames)
-            × (fault.held + fault.more ≡ gathered self.old.script.blocks (self.old.chain.frames + length (signal self.old.script bytes.now)))) }
+            × (fault.held + fault.more ≡ gathered self.old.script.blocks (self.old.chain.frames + length (signal self.old.script self.old.coding bytes.now)))) }
         ensures refused { IfErr result (λ fault. Fails self.old self.new fault steps.old steps.new) }
     {
         self.given = 0;

@@ -3,7 +3,7 @@ use Rattle.std.proofs.Common.{◌≡◌, ℕ, ◌+◌, ◌-◌, ◌*◌, ◌/◌
 use Rattle.std.specs.Int.{div_ceil}
 use Rattle.std.proofs.lemmas.Nat.{mul-le}
 use Rattle.std.proofs.Math.Nat.{mul_assoc, mul-div_cancel, le-mul_of_pos_right}
-use Rattle.dsp_defs.specs.declared.limits.TheConstants.{MAX_GATHERED, MAX_CORRELATES, MAX_BLOCKS}
+use Rattle.dsp_defs.specs.declared.limits.TheConstants.{MAX_TAPS, MAX_BLOCKS, MAX_CORRELATES, MAX_GATHERED, MAX_INPUT, MAX_SAMPLES}
 use Rattle.dsp_defs.specs.declared.flow.Flow.{Flow}
 use Rattle.dsp_defs.specs.declared.script.Block.{Block}
 use Rattle.dsp_defs.specs.declared.script.Block.TheVariants.{Interpolate, Conv, ConvPartial, Correlate, Max, Min}
@@ -19,22 +19,22 @@ use Rattle.dsp_stage.proofs.ChainPlaces.{IsOpen, AllOpen, flow_at, takes_some, t
 
 -- how many calls bound the frames behind a block, where so many bounded them before it
 abbrev grown : Block → ℕ → ℕ
-grown (Conv taps) calls = calls + 4096
-grown (ConvPartial first count taps) calls = calls + 4096
-grown (Correlate taps) calls = 2 * calls + 8192
+grown (Conv taps) calls = calls + MAX_TAPS
+grown (ConvPartial first count taps) calls = calls + MAX_TAPS
+grown (Correlate taps) calls = 2 * calls + 2 * MAX_TAPS
 grown block calls = calls
 
-conv_few : (n t : ℕ) → t ≤ 4096 → full_length n t ≤ n + 4096
+conv_few : (n t : ℕ) → t ≤ MAX_TAPS → full_length n t ≤ n + MAX_TAPS
 conv_few n t few = tested (eqb n 0)
   where
-    tested : (b : Bool) → cond b 0 (n + t - 1) ≤ n + 4096
+    tested : (b : Bool) → cond b 0 (n + t - 1) ≤ n + MAX_TAPS
     tested true = omega arith
     tested false = omega arith
 
-correlation_few : (n t : ℕ) → t ≤ 4096 → correlation_length n t ≤ 2 * n + 8192
+correlation_few : (n t : ℕ) → t ≤ MAX_TAPS → correlation_length n t ≤ 2 * n + 2 * MAX_TAPS
 correlation_few n t few = tested (eqb n 0)
   where
-    tested : (b : Bool) → cond b 0 (2 * max n t - 1) ≤ 2 * n + 8192
+    tested : (b : Bool) → cond b 0 (2 * max n t - 1) ≤ 2 * n + 2 * MAX_TAPS
     tested true = omega arith
     tested false = omega arith
 
@@ -55,33 +55,37 @@ groups_few (Some g) calls size n some h =
 
 whole_few : (flow : Flow) (b : Block) (calls size n : ℕ) → Suits flow b → 1 ≤ size → n ≤ calls * size → whole_frames b n ≤ grown b calls * most_frames b size
 whole_few flow (Interpolate factor taps) calls size n s some h = omega (arith, mul-le n factor (calls * size) factor h (omega arith), mul_assoc calls size factor)
-whole_few flow (Conv taps) calls size n s some h = more_calls n calls 4096 size (full_length n (length taps)) h (conv_few n (length taps) s.parameters.0.limit) some
+whole_few flow (Conv taps) calls size n s some h = more_calls n calls MAX_TAPS size (full_length n (length taps)) h (conv_few n (length taps) s.parameters.0.limit) some
 whole_few flow (ConvPartial first count taps) calls size n s some h =
-    more_calls n calls 4096 size (min count (full_length n (length taps) - first)) h (let few = conv_few n (length taps) s.parameters.2.2.0.limit in omega (arith, few)) some
-whole_few flow (Correlate taps) calls size n s some h = more_calls (2 * n) (2 * calls) 8192 size (correlation_length n (length taps)) (omega arith) (correlation_few n (length taps) s.parameters.0.limit) some
+    more_calls n calls MAX_TAPS size (min count (full_length n (length taps) - first)) h (let few = conv_few n (length taps) s.parameters.2.2.0.limit in omega (arith, few)) some
+whole_few flow (Correlate taps) calls size n s some h = more_calls (2 * n) (2 * calls) (2 * MAX_TAPS) size (correlation_length n (length taps)) (omega arith) (correlation_few n (length taps) s.parameters.0.limit) some
 whole_few flow b calls size n s some h = groups_few (group_of b) calls size n (takes_some (group_of b) (takes_and_gives flow b s)) h
 
 -- ---- a chain
 
--- what the blocks may still add to the number of calls
-abbrev calls_left : List Block → ℕ → ℕ
-calls_left blocks calls = calls + 4096 * length blocks + (2 ^ 40 + 2 ^ 20) * correlates blocks
+-- as many calls as an input has frames, and those that a convolution in each block adds
+abbrev most_calls : ℕ
+most_calls = MAX_INPUT + MAX_TAPS * MAX_BLOCKS
 
-calls_behind : (b : Block) (blocks : List Block) (calls : ℕ) → calls_left (b ∷ blocks) calls ≤ 2 ^ 41 + 2 ^ 21 → calls_left blocks (grown b calls) ≤ 2 ^ 41 + 2 ^ 21
+-- what the blocks may still add to the number of calls, which the correlation doubles
+abbrev calls_left : List Block → ℕ → ℕ
+calls_left blocks calls = calls + MAX_TAPS * length blocks + most_calls * correlates blocks
+
+calls_behind : (b : Block) (blocks : List Block) (calls : ℕ) → calls_left (b ∷ blocks) calls ≤ 2 * most_calls → calls_left blocks (grown b calls) ≤ 2 * most_calls
 calls_behind (Conv taps) blocks calls h = omega arith
 calls_behind (ConvPartial first count taps) blocks calls h = omega arith
 calls_behind (Correlate taps) blocks calls h = omega arith
 calls_behind b blocks calls h = omega arith
 
-few_here : (calls size n : ℕ) → n ≤ calls * size → calls ≤ 2 ^ 41 + 2 ^ 21 → size ≤ 1048576 → n < 2 ^ 62
-few_here calls size n h few fits = omega (arith, h, mul-le calls size (2 ^ 41 + 2 ^ 21) 1048576 few fits)
+few_here : (calls size n : ℕ) → n ≤ calls * size → calls ≤ 2 * most_calls → size ≤ MAX_SAMPLES → n < 2 ^ 62
+few_here calls size n h few fits = omega (arith, h, mul-le calls size (2 * most_calls) MAX_SAMPLES few fits)
 
-open_size : (p : Place) → IsOpen p → p.capacity ≤ 1048576
+open_size : (p : Place) → IsOpen p → p.capacity ≤ MAX_SAMPLES
 open_size p is =
     let frames : p.capacity * 1 ≤ p.capacity * p.channels = mul-le p.capacity 1 p.capacity p.channels (omega arith) is.channels in
     omega (arith, frames, is.samples)
 
-few_calls : (p : Place) (blocks : List Block) (calls n : ℕ) → AllOpen p blocks → n ≤ calls * p.capacity → calls_left blocks calls ≤ 2 ^ 41 + 2 ^ 21 → AllFew blocks n
+few_calls : (p : Place) (blocks : List Block) (calls n : ℕ) → AllOpen p blocks → n ≤ calls * p.capacity → calls_left blocks calls ≤ 2 * most_calls → AllFew blocks n
 few_calls p [] calls n is h left = few_here calls p.capacity n h (omega arith) (open_size p is)
 few_calls p (b ∷ blocks) calls n is h left = (
   few_here calls p.capacity n h (omega arith) (open_size p is.0),
@@ -92,8 +96,8 @@ some-size : (p : Place) (blocks : List Block) → AllOpen p blocks → 1 ≤ p.c
 some-size p [] is = is.capacity
 some-size p (b ∷ blocks) is = is.0.capacity
 
--- of 2^40 frames
-pub few_places : (p : Place) (blocks : List Block) (n : ℕ) → AllOpen p blocks → length blocks ≤ MAX_BLOCKS → correlates blocks ≤ MAX_CORRELATES → n ≤ 2 ^ 40 → AllFew blocks n
+-- of the frames of an input
+pub few_places : (p : Place) (blocks : List Block) (n : ℕ) → AllOpen p blocks → length blocks ≤ MAX_BLOCKS → correlates blocks ≤ MAX_CORRELATES → n ≤ MAX_INPUT → AllFew blocks n
 few_places p blocks n is many one few = few_calls p blocks n n is (le-mul_of_pos_right n (some-size p blocks is)) (omega (arith, many, one, few))
 
 -- ---- limits

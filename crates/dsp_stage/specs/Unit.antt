@@ -1,5 +1,5 @@
 -- A unit is one block of a chain at its place. It is fed with frames, block after block, and then gives its tail.
-use Rattle.std.specs.Prelude.{◌≡◌, ℕ, ◌+◌, ◌-◌, ◌*◌, ◌≤◌, ℤ, Bool, true, false, List, [], ◌++◌, length, All, FitsSigned, Option, Some, None, IfSome}
+use Rattle.std.specs.Prelude.{◌≡◌, ℕ, ◌+◌, ◌-◌, ◌*◌, ◌^◌, ◌≤◌, ℤ, Bool, true, false, List, [], ◌++◌, length, All, FitsSigned, Option, Some, None, IfSome}
 use Rattle.std.specs.Int.{div_ceil}
 use Rattle.dsp_defs.specs.Formats.{word}
 use Rattle.dsp_defs.specs.Streaming.{Continues}
@@ -36,6 +36,10 @@ most_groups (Some g) n = div_ceil n g.0 * g.1
 abbrev pub most_frames : Block → ℕ → ℕ
 most_frames (Interpolate factor taps) n = n * factor
 most_frames block n = most_groups (group_of block) n
+
+-- no unit keeps more numbers than this: so few that a chain can add them up
+abbrev pub most_kept : ℕ
+most_kept = 2 ^ 40
 
 -- what a contract sees of a unit: how it was made, and whether as a bank over all channels; the numbers that it keeps,
 -- the tail that it still has to give, and whether the tail was begun

@@ -1,7 +1,7 @@
 ghost use Rattle.std.specs.Prelude.{◌≡◌, ◌≤◌, ◌↔◌, ℕ, Some, length, take, slice_get, IfSome, IsFalse, IsTrue};
 ghost use Rattle.dsp_defs.specs.Block.{channels_after};
 ghost use Rattle.dsp_stage.specs.Kept.{Fits, FitsAfter, place_of};
-ghost use Rattle.dsp_stage.specs.Unit.{UnitState, frames_in, room_of, IsSignal, IsOutput, Accepts, Feeds, Finishes, Restores, measures_of, most_frames};
+ghost use Rattle.dsp_stage.specs.Unit.{UnitState, frames_in, room_of, IsSignal, IsOutput, Accepts, Feeds, Finishes, Restores, measures_of, most_frames, most_kept};
 
 use dsp_defs::{Measure, Steps};
 use std::sync::ledger::Ledger;
@@ -33,10 +33,10 @@ pub trait Stage {
         ensures output { IsOutput (unit self.old) (most_frames (unit self.old).block (unit self.old).capacity) (take result out.new) }
         ensures finished { Finishes (unit self.old) (unit self.new) (frames_in (channels_after (unit self.old).channels (unit self.old).block) (take result out.new)) steps.old steps.new };
 
-    /// How many numbers it keeps from call to call: so few that a chain can add them up.
+    /// How many numbers it keeps from call to call.
     fn kept_count(&self) -> usize
         ensures count { result ≡ length (unit self.now).kept }
-        ensures few { result ≤ 1099511627776 };
+        ensures few { result ≤ most_kept };
 
     /// Writes the numbers that it keeps.
     fn keep(&self, out: &mut [i64])

@@ -4,7 +4,7 @@ ghost use Rattle.std.specs.Prelude.{◌≡◌, ◌≤◌, ◌+◌};
 use dsp_conv::{
     Conv, ConvPartial, Correlate, Gather, conv_partial_slices, conv_slices, correlate_slices,
 };
-use dsp_defs::{GatherFull, MAX_GATHERED, MakeFault, Steps, WindowFault};
+use dsp_defs::{GatherFull, MAX_GATHERED, MAX_SAMPLES, MAX_TAPS, MakeFault, Steps, WindowFault};
 use std::alloc::Global;
 use std::process::Abort;
 use std::sync::ledger::Ledger;
@@ -129,9 +129,9 @@ fn faults(rt: HostRuntime) {
     );
     assert!(rt;
         matches!(
-            Conv::<i8, 16>::new(alloc, &[1; 4097], 1),
+            Conv::<i8, 16>::new(alloc, &[1; MAX_TAPS + 1], 1),
             Err(MakeFault::Length {
-                taps: 4097,
+                taps: 16_385,
                 factor: 1
             })
         )
@@ -155,7 +155,7 @@ fn faults(rt: HostRuntime) {
         )
     );
     assert!(rt; Correlate::<i8>::new(alloc, &[]).is_err());
-    assert!(rt; Conv::<i16, 8>::new(alloc, &[1; 4096], 1048576).is_ok());
+    assert!(rt; Conv::<i16, 8>::new(alloc, &[1; MAX_TAPS], MAX_SAMPLES).is_ok());
 }
 
 /// A gather holds 1,048,576 samples and no more.

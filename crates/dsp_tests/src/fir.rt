@@ -7,21 +7,26 @@ use std::alloc::Global;
 use std::process::Abort;
 use std::sync::ledger::Ledger;
 
-/// Whole groups of lanes: a moving sum of three samples.
-fn long_blocks<M: Ledger>(rt: &impl Abort, alloc: Global, steps: &mut Steps<M>) {
-    let input = [1024i16; 37];
-    let mut wanted = [768i16; 37];
-    wanted[0] = 256;
-    wanted[1] = 512;
+/// What a moving sum of three samples gives of 37 of 1024 each: whole groups of lanes and a rest.
+const THREE_QUARTERS: [i16; 37] = [
+    256, 512, 768, 768, 768, 768, 768, 768, 768, 768, 768, 768, 768, 768, 768, 768, 768, 768, 768,
+    768, 768, 768, 768, 768, 768, 768, 768, 768, 768, 768, 768, 768, 768, 768, 768, 768, 768,
+];
+
+fn long_block<M: Ledger>(rt: &impl Abort, alloc: Global, steps: &mut Steps<M>) {
     let mut output = [0i16; 37];
     let mut fir = Fir::<i16, 8>::new(alloc, &[8192; 3], 37).expect(rt, "a filter");
-    let count = fir.process(&input, &mut output, steps);
-    assert_eq!(rt; (count, output), (37, wanted));
+    assert_eq!(rt; fir.process(&[1024; 37], &mut output, steps), 37);
+    assert_eq!(rt; output, THREE_QUARTERS);
+}
+
+fn long_sparse_block<M: Ledger>(rt: &impl Abort, alloc: Global, steps: &mut Steps<M>) {
+    let mut output = [0i16; 37];
     let mut sparse = Sparse::<i16, 8>::new(alloc, &[8192; 3], &[2, 0, 1], 37).expect(
         rt, "a filter",
     );
-    let count = sparse.process(&input, &mut output, steps);
-    assert_eq!(rt; (count, output), (37, wanted));
+    assert_eq!(rt; sparse.process(&[1024; 37], &mut output, steps), 37);
+    assert_eq!(rt; output, THREE_QUARTERS);
 }
 
 /// A sample by three taps takes three turns, and no samples take none.
@@ -43,40 +48,58 @@ fn fir_goes_on<M: Ledger>(rt: &impl Abort, alloc: Global, steps: &mut Steps<M>) 
     let mut kept = [0i64; 1];
     let mut first = Fir::<i16, 8>::new(alloc, &[8192, 16384], 2).expect(rt, "a filter");
     first.process(&[4, 8], &mut output, steps);
-    assert_eq!(rt; first.kept_count(), 1);
     first.keep(&mut kept);
-    assert_eq!(rt; kept, [8]);
     let mut second = Fir::<i16, 8>::new(alloc, &[8192, 16384], 2).expect(rt, "a filter");
-    assert!(rt; !second.fits(&[32768]) && !second.fits(&[]));
     assert!(rt; second.fits(&kept));
     second.restore(&kept);
     second.process(&[0], &mut output, steps);
-    assert_eq!(rt; output, [2, 5]);
+    assert_eq!(rt; (kept, output), ([8], [2, 5]));
+}
+
+/// A FIR filter keeps as many numbers as its past has samples, each of its format, and has no tail.
+fn fir_ends<M: Ledger>(rt: &impl Abort, alloc: Global, steps: &mut Steps<M>) {
+    let mut filter = Fir::<i16, 8>::new(alloc, &[8192, 16384], 2).expect(rt, "a filter");
+    assert_eq!(rt; filter.kept_count(), 1);
+    assert!(rt; !filter.fits(&[32768]) && !filter.fits(&[]));
     assert_eq!(rt;
-        (second.finish(&mut output, steps), second.is_ended()),
+        (filter.finish(&mut [], steps), filter.is_ended()),
         (0, true)
     );
 }
 
-/// A sparse filter goes on where another one was kept.
-fn sparse_goes_on<M: Ledger>(rt: &impl Abort, alloc: Global, steps: &mut Steps<M>) {
+/// A sparse filter keeps the sample that its greatest delay still wants.
+fn sparse_keeps<M: Ledger>(rt: &impl Abort, alloc: Global, steps: &mut Steps<M>) {
     let mut output = [0i16; 2];
     let mut kept = [0i64; 1];
-    let taps = [19950, -32193];
-    let mut first = Sparse::<i16, 8>::new(alloc, &taps, &[0, 1], 2).expect(rt, "a filter");
-    first.process(&[16384, 16385], &mut output, steps);
+    let mut filter = Sparse::<i16, 8>::new(alloc, &[19950, -32193], &[0, 1], 2).expect(
+        rt, "a filter",
+    );
+    assert_eq!(rt; (filter.kept_count(), filter.room(2)), (1, 2));
+    filter.process(&[16384, 16385], &mut output, steps);
     assert_eq!(rt; output, [9975, -6121]);
-    assert_eq!(rt; (first.kept_count(), first.room(2)), (1, 2));
-    first.keep(&mut kept);
+    filter.keep(&mut kept);
     assert_eq!(rt; kept, [16385]);
-    let mut second = Sparse::<i16, 8>::new(alloc, &taps, &[0, 1], 2).expect(rt, "a filter");
-    assert!(rt; !second.fits(&[-32769]) && !second.is_ended());
-    assert!(rt; second.fits(&kept));
-    second.restore(&kept);
-    second.process(&[32767], &mut output, steps);
-    assert_eq!(rt; output, [3851, -6121]);
+}
+
+/// Another sparse filter goes on from what that one kept.
+fn sparse_goes_on<M: Ledger>(rt: &impl Abort, alloc: Global, steps: &mut Steps<M>) {
+    let kept = [16385i64];
+    let mut output = [0i16; 2];
+    let mut filter = Sparse::<i16, 8>::new(alloc, &[19950, -32193], &[0, 1], 2).expect(
+        rt, "a filter",
+    );
+    assert!(rt; filter.fits(&kept));
+    filter.restore(&kept);
+    filter.process(&[32767], &mut output, steps);
+    assert_eq!(rt; output, [3851, 0]);
+}
+
+/// A sparse filter takes no number of another format, and has no tail.
+fn sparse_ends<M: Ledger>(rt: &impl Abort, alloc: Global, steps: &mut Steps<M>) {
+    let mut filter = Sparse::<i16, 8>::new(alloc, &[1, 2], &[0, 1], 2).expect(rt, "a filter");
+    assert!(rt; !filter.fits(&[-32769]) && !filter.is_ended());
     assert_eq!(rt;
-        (second.finish(&mut output, steps), second.is_ended()),
+        (filter.finish(&mut [], steps), filter.is_ended()),
         (0, true)
     );
 }
@@ -107,10 +130,14 @@ fn sums<M: Ledger>(rt: &impl Abort, alloc: Global, steps: &mut Steps<M>) {
 
 /// The calls that count their products.
 pub(crate) fn counted<M: Ledger>(rt: &impl Abort, alloc: Global, steps: &mut Steps<M>) {
-    long_blocks(rt, alloc, steps);
+    long_block(rt, alloc, steps);
+    long_sparse_block(rt, alloc, steps);
     few_turns(rt, alloc, steps);
     fir_goes_on(rt, alloc, steps);
+    fir_ends(rt, alloc, steps);
+    sparse_keeps(rt, alloc, steps);
     sparse_goes_on(rt, alloc, steps);
+    sparse_ends(rt, alloc, steps);
     other_formats(rt, alloc, steps);
     sums(rt, alloc, steps);
 }

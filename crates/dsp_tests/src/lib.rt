@@ -1,12 +1,10 @@
-//! Callers of the library's crates: what to write to use them, and tests.
+//! Callers of the blocks' crates: what to write to use them, and tests.
 #![tactic(auto)]
 
 #[cfg(test)]
 mod adapt;
 #[cfg(test)]
 mod biquad;
-#[cfg(test)]
-mod chain;
 #[cfg(test)]
 mod complex;
 #[cfg(test)]
@@ -24,18 +22,10 @@ mod matrix;
 #[cfg(test)]
 mod measure;
 #[cfg(test)]
-mod ports;
-#[cfg(test)]
 mod rate;
-#[cfg(test)]
-mod script;
-#[cfg(test)]
-mod session;
 #[cfg(test)]
 mod tests;
 #[cfg(test)]
 mod vector;
-#[cfg(test)]
-mod wave;
 #[cfg(test)]
 mod window;

@@ -1,7 +1,7 @@
 //! Callers of dsp_rate.
 ghost use Rattle.std.specs.Prelude.{◌≡◌, ◌≤◌, ◌+◌};
 
-use dsp_defs::{MakeFault, Steps};
+use dsp_defs::{MAX_SAMPLES, MAX_TAPS, MakeFault, Steps};
 use dsp_rate::{Decimate, Interpolate};
 use std::alloc::Global;
 use std::process::Abort;
@@ -110,7 +110,7 @@ fn faults(rt: HostRuntime) {
             Err(MakeFault::Range { value: 1048577 })
         )
     );
-    assert!(rt; Decimate::<i16, 8>::new(alloc, 255, &[1; 4096], 1048576).is_ok());
+    assert!(rt; Decimate::<i16, 8>::new(alloc, 255, &[1; MAX_TAPS], MAX_SAMPLES).is_ok());
     assert!(rt;
         matches!(
             Interpolate::<i16, 8>::new(alloc, 2, &[1, 2, 3], 0),
@@ -129,5 +129,5 @@ fn faults(rt: HostRuntime) {
             Err(MakeFault::Range { value: 0 })
         )
     );
-    assert!(rt; Interpolate::<i16, 8>::new(alloc, 255, &[1; 4080], 1).is_ok());
+    assert!(rt; Interpolate::<i16, 8>::new(alloc, 255, &[1; MAX_TAPS / 255 * 255], 1).is_ok());
 }

@@ -26,6 +26,6 @@ filter_fault taps block = option_or (taps_fault taps) (block_fault block)
 
 -- ---- what no maker refuses
 
--- the taps of a filter: 1..4,096 numbers of the format
+-- the taps of a filter: 1..MAX_TAPS numbers of the format
 abbrev pub AreTaps : Fmt → List ℤ → Type 0
 AreTaps format taps = (1 ≤ length taps) × (length taps ≤ MAX_TAPS) × All (FitsSigned (word format)) taps

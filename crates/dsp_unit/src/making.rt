@@ -3,7 +3,7 @@ ghost use Rattle.dsp_unit.specs.Making.{block_fault, multiple_fault, taps_fault}
 
 use dsp_defs::{MAX_SAMPLES, MAX_TAPS, MakeFault};
 
-/// Refuses a count of taps that is not in 1..4,096.
+/// Refuses a count of taps that is not in 1..`MAX_TAPS`.
 pub fn check_taps(taps: usize) -> Result<(), MakeFault>
     ensures { MatchOption (taps_fault taps) (result ≡ Ok tt) (λ e. result ≡ Err e) }
 {
@@ -30,7 +30,7 @@ pub fn check_multiple(count: usize, factor: usize, most: usize) -> Result<(), Ma
     Ok(())
 }
 
-/// Refuses a greatest block length that is not in 1..1,048,576 samples.
+/// Refuses a greatest block length that is not in 1..`MAX_SAMPLES` samples.
 pub fn check_block(block: usize) -> Result<(), MakeFault>
     ensures { MatchOption (block_fault block) (result ≡ Ok tt) (λ e. result ≡ Err e) }
 {

@@ -14,16 +14,14 @@ use Rattle.dsp_defs.specs.declared.limits.TheConstants.{GENERATED_RATE}
 use Rattle.dsp_defs.specs.declared.format.InputKind.{InputKind}
 use Rattle.dsp_defs.specs.declared.format.InputKind.TheVariants as Kinds
 use Rattle.dsp_defs.specs.declared.format.Input.{Input}
-use Rattle.dsp_wave.specs.Coding.{container_in, format_in}
-use Rattle.dsp_wave.specs.declared.coding.Coding.{Coding}
 use Rattle.std.proofs.lemmas.Grind.{flat_map-append}
-use Rattle.dsp_defs.specs.Bytes.{width, bytes_of, coded}
+use Rattle.dsp_defs.specs.Bytes.{bytes_of, coded, coding_of, word_bytes}
 use Rattle.dsp_defs.specs.Signal.{values}
 use Rattle.dsp_defs.specs.Generator.{generator_state, state_sample, generated}
 use Rattle.dsp_defs.specs.declared.format.Fmt.{Fmt}
-use Rattle.dsp_defs.specs.declared.format.Fmt.TheVariants.{Q7, Q15, Q31}
 use Rattle.dsp_defs.specs.declared.format.Container.{Container}
 use Rattle.dsp_defs.specs.declared.format.Container.TheVariants.{Wave, Raw}
+use Rattle.dsp_defs.proofs.CodingLemmas.{length-bytes_of, width-coding_of, word_bytes-small}
 use Rattle.dsp_defs.proofs.Signal.{values-add}
 use Rattle.dsp_wave.specs.Generated.{next_state, made, to_come}
 
@@ -40,38 +38,38 @@ module _ (container : Container) (format : Fmt) where
   made-add s zero n = (let e : 0 + n ≡ n = omega arith in ap (made container format s) e)
   made-add s (suc m) n =
       let e : suc m + n ≡ suc (m + n) = omega arith in
-      let first = bytes_of container format (state_sample format (next_state s)) in
+      let first = bytes_of (coding_of container format) (state_sample format (next_state s)) in
       ap (made container format s) e
       ∙ ap (λ l. first ++ l) (made-add (next_state s) m n ∙ ap (λ t. made container format (next_state s) m ++ made container format t n) (state-next s m))
       ∙ sym (append_assoc first (made container format (next_state s) m) (made container format (next_state (generator_state s m)) n))
 
-  made-more : (s n : ℕ) → made container format s (n + 1) ≡ made container format s n ++ bytes_of container format (state_sample format (next_state (generator_state s n)))
+  made-more : (s n : ℕ) → made container format s (n + 1) ≡ made container format s n ++ bytes_of (coding_of container format) (state_sample format (next_state (generator_state s n)))
   made-more s n = made-add s n 1 ∙ ap (λ l. made container format s n ++ l) (append-nil _)
 
   -- a frame's bytes
-  pub frame-made : (seed k n : ℕ) → flat_map (bytes_of container format) (values n (λ c. state_sample format (generator_state seed (suc (k + c))))) ≡ made container format (generator_state seed k) n
+  pub frame-made : (seed k n : ℕ) → flat_map (bytes_of (coding_of container format)) (values n (λ c. state_sample format (generator_state seed (suc (k + c))))) ≡ made container format (generator_state seed k) n
   frame-made seed k zero = refl
   frame-made seed k (suc n) =
       let f : ℕ → ℤ = λ c. state_sample format (generator_state seed (suc (k + c))) in
       let s = generator_state seed k in
       let one : suc n ≡ n + 1 = omega arith in
       let place : k + (n + 0) ≡ k + n = omega arith in
-      ap (λ m. flat_map (bytes_of container format) (values m f)) one
-      ∙ ap (flat_map (bytes_of container format)) (values-add n 1 f)
-      ∙ flat_map-append (bytes_of container format) (values n f) (f (n + 0) ∷ [])
-      ∙ ap (λ l. l ++ flat_map (bytes_of container format) (f (n + 0) ∷ [])) (frame-made seed k n)
-      ∙ ap (λ l. made container format s n ++ l) (append-nil (bytes_of container format (f (n + 0))))
-      ∙ ap (λ j. made container format s n ++ bytes_of container format (state_sample format (next_state (generator_state seed j)))) place
-      ∙ ap (λ t. made container format s n ++ bytes_of container format (state_sample format (next_state t))) (state-add seed k n)
+      ap (λ m. flat_map (bytes_of (coding_of container format)) (values m f)) one
+      ∙ ap (flat_map (bytes_of (coding_of container format))) (values-add n 1 f)
+      ∙ flat_map-append (bytes_of (coding_of container format)) (values n f) (f (n + 0) ∷ [])
+      ∙ ap (λ l. l ++ flat_map (bytes_of (coding_of container format)) (f (n + 0) ∷ [])) (frame-made seed k n)
+      ∙ ap (λ l. made container format s n ++ l) (append-nil (bytes_of (coding_of container format) (f (n + 0))))
+      ∙ ap (λ j. made container format s n ++ bytes_of (coding_of container format) (state_sample format (next_state (generator_state seed j)))) place
+      ∙ ap (λ t. made container format s n ++ bytes_of (coding_of container format) (state_sample format (next_state t))) (state-add seed k n)
       ∙ sym (made-more s n)
       ∙ ap (made container format s) (sym one)
 
   -- and those of the file
-  pub generated-made : (channels seed frames : ℕ) → coded container format (generated format channels seed frames) ≡ made container format seed (frames * channels)
+  pub generated-made : (channels seed frames : ℕ) → coded (coding_of container format) (generated format channels seed frames) ≡ made container format seed (frames * channels)
   generated-made channels seed zero = (let none : 0 ≡ 0 * channels = omega arith in ap (made container format seed) none)
   generated-made channels seed (suc frames) =
       let row : ℕ → List ℤ = λ n. values channels (λ c. state_sample format (generator_state seed (suc (n * channels + c)))) in
-      let bytes : List ℤ → List ℕ = λ frame. flat_map (bytes_of container format) frame in
+      let bytes : List ℤ → List ℕ = λ frame. flat_map (bytes_of (coding_of container format)) frame in
       let one : suc frames ≡ frames + 1 = omega arith in
       let place : frames + 0 ≡ frames = omega arith in
       let size : frames * channels + channels ≡ suc frames * channels = grind arith in
@@ -93,10 +91,10 @@ wrap-cast w n below = ap (to_z w) (mod-eq_of_lt below)
 
 -- the next sample made ready
 pub refilled : (container : Container) (format : Fmt) (s n given : ℕ) (ready : List ℕ) (last : List ℕ) → length ready ≤ given → 0 < n
-    → bytes_of container format (state_sample format (next_state s)) ++ (made container format (next_state s) (n - 1) ++ last) ≡ drop given ready ++ (made container format s n ++ last)
+    → bytes_of (coding_of container format) (state_sample format (next_state s)) ++ (made container format (next_state s) (n - 1) ++ last) ≡ drop given ready ++ (made container format s n ++ last)
 refilled container format s zero given ready last all some = absurd (omega (arith, some))
 refilled container format s (suc n) given ready last all some =
-    let first = bytes_of container format (state_sample format (next_state s)) in
+    let first = bytes_of (coding_of container format) (state_sample format (next_state s)) in
     let e : suc n - 1 ≡ n = omega arith in
     ap (λ m. first ++ (made container format (next_state s) m ++ last)) e
     ∙ sym (append_assoc first (made container format (next_state s) n) last)
@@ -119,33 +117,21 @@ Gave-ready ready given count taken last copied into fits is =
 
 -- ---- the whole input
 
-length-bytes_of : (container : Container) (format : Fmt) (x : ℤ) → length (bytes_of container format x) ≡ width format
-length-bytes_of Wave Q7 x = refl
-length-bytes_of Wave Q15 x = refl
-length-bytes_of Wave Q31 x = refl
-length-bytes_of Raw Q7 x = refl
-length-bytes_of Raw Q15 x = refl
-length-bytes_of Raw Q31 x = refl
-
-pub length-made : (container : Container) (format : Fmt) (s n : ℕ) → length (made container format s n) ≡ n * width format
+pub length-made : (container : Container) (format : Fmt) (s n : ℕ) → length (made container format s n) ≡ n * word_bytes format
 length-made container format s zero = omega arith
 length-made container format s (suc n) =
-    let first = bytes_of container format (state_sample format (next_state s)) in
-    let size : width format + n * width format ≡ suc n * width format = grind arith in
+    let first = bytes_of (coding_of container format) (state_sample format (next_state s)) in
+    let long = length-bytes_of (coding_of container format) (state_sample format (next_state s)) ∙ width-coding_of container format in
+    let size : word_bytes format + n * word_bytes format ≡ suc n * word_bytes format = grind arith in
     length-append first (made container format (next_state s) n)
-    ∙ (λ i. length-bytes_of container format (state_sample format (next_state s)) i + length-made container format (next_state s) n i)
+    ∙ (λ i. long i + length-made container format (next_state s) n i)
     ∙ size
 
-width_small : (format : Fmt) → width format ≤ 4
-width_small Q7 = omega arith
-width_small Q15 = omega arith
-width_small Q31 = omega arith
-
 -- a generated input is small
-pub data_small : (format : Fmt) (channels frames : ℕ) → channels ≤ 16 → frames ≤ 16777216 → frames * channels * width format ≤ 1073741824
-data_small format channels frames few short = mul-le-mul (mul-le-mul short few) (width_small format)
+pub data_small : (format : Fmt) (channels frames : ℕ) → channels ≤ 16 → frames ≤ 16777216 → frames * channels * word_bytes format ≤ 1073741824
+data_small format channels frames few short = mul-le-mul (mul-le-mul short few) (word_bytes-small format)
 
-pub header_fits : (format : Fmt) (channels frames : ℕ) → channels ≤ 16 → frames ≤ 16777216 → HeaderFits format channels (Some frames)
+pub header_fits : (format : Fmt) (channels frames : ℕ) → channels ≤ 16 → frames ≤ 16777216 → HeaderFits Wave format channels (Some frames)
 header_fits format channels frames few short = (let small = data_small format channels frames few short in omega (arith, small))
 
 pad_small : (format : Fmt) (channels frames : ℕ) → length (pad format channels (Some frames)) ≤ 1
@@ -164,9 +150,9 @@ bytes_small (Kinds.Raw rate) format channels seed frames few short =
 bytes_small Kinds.Wave format channels seed frames few short =
     let small = data_small format channels frames few short in
     let size = ap length (generated-made Wave format channels seed frames) ∙ length-made Wave format seed (frames * channels) in
-    let samples = coded Wave format (generated format channels seed frames) in
+    let samples = coded (coding_of Wave format) (generated format channels seed frames) in
     let last = pad format channels (Some frames) in
-    let header = wave_header format channels GENERATED_RATE (Some frames) in
+    let header = wave_header Wave format channels GENERATED_RATE (Some frames) in
     let little = pad_small format channels frames in
     let head : length header ≡ 44 = refl in
     omega (arith, small, size, little, head, length-append (header ++ samples) last, length-append header samples)
@@ -178,28 +164,26 @@ swapped : {A : Type 0} (b : Bool) (x y : A) → (if not b then x else y) ≡ (if
 swapped true x y = refl
 swapped false x y = refl
 
-pub begins-raw : (input : Input) (seed frames samples rate : ℕ) (coding : Coding) (made_of : Container × ArrayVec ℕ × Bool) (ready : ArrayVec ℕ)
-    → input.kind ≡ Kinds.Raw rate → made_of ≡ (Raw, ready, false) → ready.items ≡ [] → container_in coding ≡ made_of.0 → format_in coding ≡ input.format → samples ≡ frames * input.channels
-    → to_come (record { coding = coding; ready = made_of.1; given = 0; state = seed; samples = samples; has_pad = made_of.2 }) ≡ generated_bytes input seed frames
-begins-raw input seed frames samples rate coding made_of ready kind is empty container format count =
-    let same : container_in coding ≡ Raw = container ∙ ap (λ (m : Container × ArrayVec ℕ × Bool). m.0) is in
-    (λ i. (is i).1.items ++ (made (container_in coding) (format_in coding) seed samples ++ (if (is i).2 then (0 ∷ []) else [])))
-    ∙ (λ i. empty i ++ (made (same i) (format i) seed (count i) ++ []))
+pub begins-raw : (input : Input) (seed frames samples rate : ℕ) (made_of : Container × ArrayVec ℕ × Bool) (ready : ArrayVec ℕ)
+    → input.kind ≡ Kinds.Raw rate → made_of ≡ (Raw, ready, false) → ready.items ≡ [] → samples ≡ frames * input.channels
+    → to_come (record { container = made_of.0; format = input.format; ready = made_of.1; given = 0; state = seed; samples = samples; has_pad = made_of.2 }) ≡ generated_bytes input seed frames
+begins-raw input seed frames samples rate made_of ready kind is empty count =
+    (λ i. (is i).1.items ++ (made (is i).0 input.format seed samples ++ (if (is i).2 then (0 ∷ []) else [])))
+    ∙ (λ i. empty i ++ (made Raw input.format seed (count i) ++ []))
     ∙ append-nil (made Raw input.format seed (frames * input.channels))
     ∙ sym (generated-made Raw input.format input.channels seed frames)
     ∙ ap (λ (k : InputKind). generated_bytes (record { kind = k; format = input.format; channels = input.channels }) seed frames) (sym kind)
 
-pub begins-wave : (input : Input) (seed frames samples size : ℕ) (coding : Coding) (made_of : Container × ArrayVec ℕ × Bool) (ready : ArrayVec ℕ)
-    → input.kind ≡ Kinds.Wave → made_of ≡ (Wave, ready, not (nat_eq (size % 2) 0)) → ready.items ≡ wave_header input.format input.channels GENERATED_RATE (Some frames) → size ≡ data_size input.format input.channels (Some frames)
-    → container_in coding ≡ made_of.0 → format_in coding ≡ input.format → samples ≡ frames * input.channels
-    → to_come (record { coding = coding; ready = made_of.1; given = 0; state = seed; samples = samples; has_pad = made_of.2 }) ≡ generated_bytes input seed frames
-begins-wave input seed frames samples size coding made_of ready kind is header known container format count =
-    let same : container_in coding ≡ Wave = container ∙ ap (λ (m : Container × ArrayVec ℕ × Bool). m.0) is in
-    let head = wave_header input.format input.channels GENERATED_RATE (Some frames) in
+pub begins-wave : (input : Input) (seed frames samples size : ℕ) (made_of : Container × ArrayVec ℕ × Bool) (ready : ArrayVec ℕ)
+    → input.kind ≡ Kinds.Wave → made_of ≡ (Wave, ready, not (nat_eq (size % 2) 0)) → ready.items ≡ wave_header Wave input.format input.channels GENERATED_RATE (Some frames) → size ≡ data_size input.format input.channels (Some frames)
+    → samples ≡ frames * input.channels
+    → to_come (record { container = made_of.0; format = input.format; ready = made_of.1; given = 0; state = seed; samples = samples; has_pad = made_of.2 }) ≡ generated_bytes input seed frames
+begins-wave input seed frames samples size made_of ready kind is header known count =
+    let head = wave_header Wave input.format input.channels GENERATED_RATE (Some frames) in
     let last = pad input.format input.channels (Some frames) in
     let samples_are = generated-made Wave input.format input.channels seed frames in
-    (λ i. (is i).1.items ++ (made (container_in coding) (format_in coding) seed samples ++ (if (is i).2 then (0 ∷ []) else [])))
-    ∙ (λ i. header i ++ (made (same i) (format i) seed (count i) ++ swapped (nat_eq (known i % 2) 0) (0 ∷ []) [] i))
+    (λ i. (is i).1.items ++ (made (is i).0 input.format seed samples ++ (if (is i).2 then (0 ∷ []) else [])))
+    ∙ (λ i. header i ++ (made Wave input.format seed (count i) ++ swapped (nat_eq (known i % 2) 0) (0 ∷ []) [] i))
     ∙ ap (λ l. head ++ (l ++ last)) (sym samples_are)
-    ∙ sym (append_assoc head (coded Wave input.format (generated input.format input.channels seed frames)) last)
+    ∙ sym (append_assoc head (coded (coding_of Wave input.format) (generated input.format input.channels seed frames)) last)
     ∙ ap (λ (k : InputKind). generated_bytes (record { kind = k; format = input.format; channels = input.channels }) seed frames) (sym kind)

@@ -1,6 +1,7 @@
 -- Reading a header chunk by chunk.
-use Rattle.std.proofs.Common.{◌≡◌, ◌⊎◌, ℕ, zero, suc, ◌+◌, ◌-◌, ◌<◌, ◌≤◌, ◌^◌, Bool, true, false, not, ◌&&◌, List, [], ◌∷◌, ◌++◌, length, take, drop, codes, Option, Some, None, Result, Ok, Err, refl, sym, ap, ap₂, ◌∙◌, arith, length-append, append_assoc, subst, inl, inr, ⊎_elim}
+use Rattle.std.proofs.Common.{◌≡◌, ◌⊎◌, ℕ, zero, suc, ◌+◌, ◌-◌, ◌<◌, ◌≤◌, ◌^◌, Bool, true, false, not, ◌&&◌, ◌||◌, nat_eq, nat_le, if◌then◌else◌, List, [], ◌∷◌, ◌++◌, length, take, drop, codes, Option, Some, None, Result, Ok, Err, refl, sym, ap, ap₂, ◌∙◌, arith, length-append, append_assoc, subst, inl, inr, ⊎_elim}
 use Rattle.std.proofs.lemmas.Grind.{common_steps}
+use Rattle.std.proofs.lemmas.Slice.Eq.{bytes_eq-Decides}
 use Rattle.std.proofs.lemmas.List.{take-append-le, drop-append-le, drop-drop, drop_all, drop_at, take-take, take_all, length-take-le, length-drop, append-nil}
 use Rattle.std.proofs.lemmas.Bool.{cases_lt}
 use Rattle.std.proofs.Math.Seq.{take-append-add}
@@ -13,8 +14,9 @@ use Rattle.dsp_ports.specs.Fill.{Filled, Unfilled}
 use Rattle.dsp_ports.specs.declared.filling.FillFault.TheVariants.{Failed}
 use Rattle.std.specs.Result.{IsErr}
 use Rattle.dsp_ports.proofs.Moved.{Gave-append, Gave-nil}
-use Rattle.dsp_defs.specs.Wave.{Chunk, chunks_behind, padded, u16_at, u32_at, format_fault, unless, header_in, header_of, declared_size}
-use Rattle.dsp_defs.proofs.WaveLemmas.{chunks_behind-end, chunks_behind-more, piece-append, u16_at-append}
+use Rattle.dsp_defs.specs.Wave.{Chunk, Test, first_failed, pcm_tests, sample_tests, extensible_tag, sampling, chunks_behind, padded, u16_at, u32_at, format_fault, unless, header_in, header_of, declared_size}
+use Rattle.dsp_defs.proofs.WaveLemmas.{same_sampling, chunks_behind-end, chunks_behind-more, piece-append, u16_at-append}
+use Rattle.dsp_defs.specs.declared.wave.Sampling.{Sampling}
 use Rattle.dsp_defs.specs.declared.wave.Wanted.{Wanted}
 use Rattle.dsp_defs.specs.declared.wave.Header.{Header}
 use Rattle.dsp_defs.specs.declared.wave.HeaderFault.{HeaderFault}
@@ -22,7 +24,7 @@ use Rattle.dsp_defs.specs.declared.wave.HeaderFault.TheVariants.{NotRiff, NotWav
 use Rattle.dsp_wave.specs.declared.reader.HeaderOr.{HeaderOr}
 use Rattle.dsp_wave.specs.declared.reader.HeaderOr.TheVariants.{Fault, Read, Long}
 use Rattle.dsp_wave.specs.Reading.{Says, said_from, HasCause, Stopped, Headed}
-use Rattle.dsp_wave.specs.Taking.{Came, IsMissed, Missing, format_chunk}
+use Rattle.dsp_wave.specs.Taking.{Came, IsMissed, Missing, FormatRead, IsEnough, format_chunk, said_behind}
 
 -- ---- pieces, one after another
 
@@ -92,19 +94,105 @@ take-no_longer zero xs = omega arith
 take-no_longer (suc n) [] = omega arith
 take-no_longer (suc n) (x ∷ xs) = omega (arith, take-no_longer n xs)
 
+bytes_eq-same : (xs ys : List ℕ) → bytes_eq xs ys ≡ true → xs ≡ ys
+bytes_eq-same xs ys e = grind (arith, common_steps, bytes_eq-Decides xs ys, e)
+
+-- ---- as much of a `fmt ` chunk as is judged
+
+-- of a body that goes on, as much as a chunk has begins with it
+longer_piece : (size : ℕ) (body more : List ℕ) → length body ≤ size → (rest : List ℕ) × (take size (body ++ more) ≡ body ++ rest)
+longer_piece size body more within =
+    let parts : size ≡ length body + (size - length body) = omega (arith, within) in
+    (take (size - length body) more, ap (λ n. take n (body ++ more)) parts ∙ take-append-add body more (size - length body))
+
+-- an extension that is cut
+cut_extension : (wanted : Wanted) (total : ℕ) (c : Chunk) → 40 ≤ c.size → 16 ≤ length c.body → length c.body < 40 → u16_at c.body 0 ≡ extensible_tag → format_fault wanted total c ≡ Some (NoSamples, total)
+cut_extension wanted total c size long short tag = grind (arith, common_steps, size, long, short, tag)
+
+-- the first test that fails is the same
+abbrev SameTests : List Test → List Test → Type 0
+SameTests [] [] = Unit {0}
+SameTests (t ∷ ts) (u ∷ us) = ((t ≡ u) ⊎ ((t.holds ≡ true) × (u.holds ≡ true))) × (t.holds ≡ true → SameTests ts us)
+SameTests _ _ = ⊥
+
+by_first : (t u : Test) (rest rest' : Option (HeaderFault × ℕ)) → (t ≡ u) ⊎ ((t.holds ≡ true) × (u.holds ≡ true)) → (t.holds ≡ true → rest ≡ rest')
+    → (if t.holds then rest else Some (t.fault, t.offset)) ≡ (if u.holds then rest' else Some (u.fault, u.offset))
+by_first t u rest rest' (inl same) later = by_test t.holds refl ∙ ap (λ v. if v.holds then rest' else Some (v.fault, v.offset)) same
+  where
+    by_test : (b : Bool) → t.holds ≡ b → (if t.holds then rest else Some (t.fault, t.offset)) ≡ (if t.holds then rest' else Some (t.fault, t.offset))
+    by_test true e = ap (λ h. if h then rest else Some (t.fault, t.offset)) e ∙ later e ∙ ap (λ h. if h then rest' else Some (t.fault, t.offset)) (sym e)
+    by_test false e = ap (λ h. if h then rest else Some (t.fault, t.offset)) e ∙ ap (λ h. if h then rest' else Some (t.fault, t.offset)) (sym e)
+by_first t u rest rest' (inr (first, second)) later =
+    ap (λ h. if h then rest else Some (t.fault, t.offset)) first ∙ later first ∙ ap (λ h. if h then rest' else Some (u.fault, u.offset)) (sym second)
+
+same_tests : (ts us : List Test) → SameTests ts us → first_failed ts ≡ first_failed us
+same_tests [] [] h = refl
+same_tests [] (u ∷ us) h = absurd h
+same_tests (t ∷ ts) [] h = absurd h
+same_tests (t ∷ ts) (u ∷ us) (here, later) = by_first t u (first_failed ts) (first_failed us) here (λ holds. same_tests ts us (later holds))
+
+-- the bytes behind it change no fault
+module _ (wanted : Wanted) (place size : ℕ) (body rest : List ℕ) (enough : IsEnough size body) (total : ℕ) where
+  abbrev tests : List Test
+  tests = pcm_tests 0 (format_chunk place size body) ++ sample_tests wanted (format_chunk place size body)
+
+  abbrev more_tests : List Test
+  more_tests = pcm_tests total (format_chunk place size (body ++ rest)) ++ sample_tests wanted (format_chunk place size (body ++ rest))
+
+  tag : u16_at (body ++ rest) 0 ≡ u16_at body 0
+  tag = u16_at-append body rest 0 (omega (arith, enough.plain))
+
+  longer : length body ≤ length (body ++ rest)
+  longer = omega (arith, length-append body rest)
+
+  same_samples : SameTests (drop 6 more_tests) (drop 6 tests)
+  same_samples =
+      let channels = u16_at-append body rest 2 (omega (arith, enough.plain)) in
+      let align = u16_at-append body rest 12 (omega (arith, enough.plain)) in
+      let bits = u16_at-append body rest 14 (omega (arith, enough.plain)) in
+      (inl (rw channels refl), λ _. (inl (rw bits refl), λ _. (inl (rw (bits, align) refl), λ _. tt)))
+
+  by_tag : (extended : Bool) → nat_eq (u16_at body 0) extensible_tag ≡ extended → SameTests (drop 3 more_tests) (drop 3 tests)
+  by_tag false plain =
+      let both : (b : Bool) → (not (nat_eq (u16_at (body ++ rest) 0) extensible_tag) || b) ≡ true = λ b. ap (λ t. not (nat_eq t extensible_tag) || b) tag ∙ ap (λ e. not e || b) plain in
+      let one : (b : Bool) → (not (nat_eq (u16_at body 0) extensible_tag) || b) ≡ true = λ b. ap (λ e. not e || b) plain in
+      (inr (both _, one _), λ _. (inr (both _, one _), λ _. (inr (both _, one _), λ _. same_samples)))
+  by_tag true extended = (inl (rw tag refl), λ holds. in_extension (long holds))
+    where
+      long : (not (nat_eq (u16_at (body ++ rest) 0) extensible_tag) || nat_le 40 size) ≡ true → 40 ≤ size
+      long holds = grind (arith, common_steps, holds, tag, extended)
+
+      in_extension : 40 ≤ size → SameTests (drop 4 more_tests) (drop 4 tests)
+      in_extension enough_bytes =
+          let is : u16_at body 0 ≡ extensible_tag = grind (arith, common_steps, extended) in
+          let there : 40 ≤ length body = enough.extended is enough_bytes in
+          let subformat = u16_at-append body rest 24 (omega (arith, there)) in
+          let piece = piece-append 16 24 body rest (omega (arith, there)) in
+          (inr (grind (arith, common_steps, longer, there), grind (arith, common_steps, there)), λ _. (inl (rw (tag, subformat, piece) refl), λ _. same_samples))
+
+  same_fault : format_fault wanted total (format_chunk place size (body ++ rest)) ≡ format_fault wanted 0 (format_chunk place size body)
+  same_fault =
+      same_tests more_tests tests (
+        inl refl,
+        λ _. (
+          inr (grind (arith, common_steps, longer, enough.plain), grind (arith, common_steps, enough.plain)),
+          λ _. (inl (rw tag refl), λ _. by_tag (nat_eq (u16_at body 0) extensible_tag) refl),
+        ),
+      )
+
 -- ---- the end of the chunks
 
-pub no_chunks : (wanted : Wanted) (total : ℕ) (rate : Option ℕ) → header_in wanted total rate [] ≡ Err (NoSamples, total)
+pub no_chunks : (wanted : Wanted) (total : ℕ) (known : Option Sampling) → header_in wanted total known [] ≡ Err (NoSamples, total)
 no_chunks wanted total None = refl
-no_chunks wanted total (Some rate) = refl
+no_chunks wanted total (Some known) = refl
 
-pub needs_head : (wanted : Wanted) (place : ℕ) (rate : Option ℕ) (bytes : List ℕ) → length bytes < 8 → said_from wanted place rate bytes ≡ Err (NoSamples, place + length bytes)
-needs_head wanted place rate bytes short = ap (header_in wanted (place + length bytes) rate) (chunks_behind-end place bytes short) ∙ no_chunks wanted (place + length bytes) rate
+pub needs_head : (wanted : Wanted) (place : ℕ) (known : Option Sampling) (bytes : List ℕ) → length bytes < 8 → said_from wanted place known bytes ≡ Err (NoSamples, place + length bytes)
+needs_head wanted place known bytes short = ap (header_in wanted (place + length bytes) known) (chunks_behind-end place bytes short) ∙ no_chunks wanted (place + length bytes) known
 
-pub first_format : (rate : Option ℕ) (format : Bool) → (is_none rate && format) ≡ true → (rate ≡ None) × (format ≡ true)
+pub first_format : (known : Option Sampling) (format : Bool) → (is_none known && format) ≡ true → (known ≡ None) × (format ≡ true)
 first_format None true e = (refl, refl)
 first_format None false e = absurd cc
-first_format (Some rate) format e = absurd cc
+first_format (Some known) format e = absurd cc
 
 -- ---- a chunk whose id and size came
 
@@ -115,6 +203,10 @@ module _ (wanted : Wanted) (place : ℕ) (head : List ℕ) (long : length head �
   abbrev pub chunk : List ℕ → Chunk
   chunk more = record { offset = place; id = take 4 head; size = size; body = take size more }
 
+  -- where the bytes behind the head end
+  total : (more : List ℕ) → place + length (head ++ more) ≡ place + 8 + length more
+  total more = omega (arith, long, length-append head more)
+
   pub head_chunks : (more : List ℕ) → chunks_behind 0 place (head ++ more) ≡ chunk more ∷ chunks_behind 0 (place + (8 + padded size)) (drop (padded size) more)
   head_chunks more =
       let id : take 4 (head ++ more) ≡ take 4 head = take-append-le 4 head more (omega (arith, long)) in
@@ -124,114 +216,128 @@ module _ (wanted : Wanted) (place : ℕ) (head : List ℕ) (long : length head �
       chunks_behind-more place (head ++ more) (omega (arith, long, length-append head more))
       ∙ rw (same, id, behind, rest) refl
 
-  module _ (rate later : Option ℕ) (more : List ℕ) (pass : (total : ℕ) (cs : List Chunk) → header_in wanted total rate (chunk more ∷ cs) ≡ header_in wanted total later cs) where
-    passes : said_from wanted place rate (head ++ more) ≡ header_in wanted (place + length (head ++ more)) later (chunks_behind 0 (place + (8 + padded size)) (drop (padded size) more))
-    passes = ap (header_in wanted (place + length (head ++ more)) rate) (head_chunks more) ∙ pass (place + length (head ++ more)) (chunks_behind 0 (place + (8 + padded size)) (drop (padded size) more))
+  module _ (known later : Option Sampling) (more : List ℕ) (pass : (total : ℕ) (cs : List Chunk) → header_in wanted total known (chunk more ∷ cs) ≡ header_in wanted total later cs) where
+    passes : said_from wanted place known (head ++ more) ≡ header_in wanted (place + length (head ++ more)) later (chunks_behind 0 (place + (8 + padded size)) (drop (padded size) more))
+    passes = ap (header_in wanted (place + length (head ++ more)) known) (head_chunks more) ∙ pass (place + length (head ++ more)) (chunks_behind 0 (place + (8 + padded size)) (drop (padded size) more))
 
-    pub passes_short : length more < padded size → said_from wanted place rate (head ++ more) ≡ Err (NoSamples, place + length (head ++ more))
+    pub passes_short : length more < padded size → said_from wanted place known (head ++ more) ≡ Err (NoSamples, place + length (head ++ more))
     passes_short short =
         passes
         ∙ ap (λ xs. header_in wanted (place + length (head ++ more)) later (chunks_behind 0 (place + (8 + padded size)) xs)) (drop_all (padded size) more (omega (arith, short)))
         ∙ no_chunks wanted (place + length (head ++ more)) later
 
-  pub passes_whole : (rate later : Option ℕ) (body more : List ℕ) → length body ≡ padded size → ((total : ℕ) (cs : List Chunk) → header_in wanted total rate (chunk (body ++ more) ∷ cs) ≡ header_in wanted total later cs)
-      → said_from wanted place rate (head ++ (body ++ more)) ≡ said_from wanted (place + 8 + padded size) later more
-  passes_whole rate later body more whole pass =
-      let total : place + length (head ++ (body ++ more)) ≡ place + 8 + padded size + length more = omega (arith, long, whole, length-append head (body ++ more), length-append body more) in
+  pub passes_whole : (known later : Option Sampling) (body more : List ℕ) → length body ≡ padded size → ((total : ℕ) (cs : List Chunk) → header_in wanted total known (chunk (body ++ more) ∷ cs) ≡ header_in wanted total later cs)
+      → said_from wanted place known (head ++ (body ++ more)) ≡ said_from wanted (place + 8 + padded size) later more
+  passes_whole known later body more whole pass =
+      let all : place + length (head ++ (body ++ more)) ≡ place + 8 + padded size + length more = omega (arith, long, whole, length-append head (body ++ more), length-append body more) in
       let behind : drop (padded size) (body ++ more) ≡ more = drop_at body more (padded size) whole in
       let at : place + (8 + padded size) ≡ place + 8 + padded size = omega arith in
-      passes rate later (body ++ more) pass
-      ∙ rw (total, behind, at) refl
+      passes known later (body ++ more) pass
+      ∙ rw (all, behind, at) refl
 
   -- samples
-  pub samples_said : (rate : ℕ) (more : List ℕ) → bytes_eq (take 4 head) (codes "data") ≡ true → said_from wanted place (Some rate) (head ++ more) ≡ Ok (record { rate = rate; start = place + 8; size = declared_size size })
-  samples_said rate more is = ap (header_in wanted (place + length (head ++ more)) (Some rate)) (head_chunks more) ∙ grind (arith, common_steps, is)
+  pub samples_said : (known : Sampling) (more : List ℕ) → bytes_eq (take 4 head) (codes "data") ≡ true
+      → said_from wanted place (Some known) (head ++ more) ≡ Ok (record { rate = known.rate; start = place + 8; size = declared_size size; coding = known.coding })
+  samples_said known more is = ap (header_in wanted (place + length (head ++ more)) (Some known)) (head_chunks more) ∙ grind (arith, common_steps, is)
 
   pub samples_too_early : (more : List ℕ) → bytes_eq (take 4 head) (codes "data") ≡ true → said_from wanted place None (head ++ more) ≡ Err (NoFormat, place)
   samples_too_early more is = ap (header_in wanted (place + length (head ++ more)) None) (head_chunks more) ∙ grind (arith, common_steps, is)
 
   -- another chunk
-  pub other_passes : (rate : Option ℕ) (more : List ℕ) → bytes_eq (take 4 head) (codes "data") ≡ false → (is_none rate && bytes_eq (take 4 head) (codes "fmt ")) ≡ false → (total : ℕ) (cs : List Chunk) → header_in wanted total rate (chunk more ∷ cs) ≡ header_in wanted total rate cs
+  pub other_passes : (known : Option Sampling) (more : List ℕ) → bytes_eq (take 4 head) (codes "data") ≡ false → (is_none known && bytes_eq (take 4 head) (codes "fmt ")) ≡ false → (total : ℕ) (cs : List Chunk) → header_in wanted total known (chunk more ∷ cs) ≡ header_in wanted total known cs
   other_passes None more no_samples format total cs = grind (arith, common_steps, no_samples, format)
-  other_passes (Some rate) more no_samples format total cs = grind (arith, common_steps, no_samples)
+  other_passes (Some known) more no_samples format total cs = grind (arith, common_steps, no_samples)
 
   -- the whole of a chunk came, and what is behind it goes on
-  pub chunk_came : (rate later : Option ℕ) (old mid now : SourceState) (body : List ℕ) → Came place 8 old mid head → Came (place + 8) (padded size) mid now body
-      → ((more : List ℕ) (total : ℕ) (cs : List Chunk) → header_in wanted total rate (chunk (body ++ more) ∷ cs) ≡ header_in wanted total later cs)
+  pub chunk_came : (known later : Option Sampling) (old mid now : SourceState) (body : List ℕ) → Came place 8 old mid head → Came (place + 8) (padded size) mid now body
+      → ((more : List ℕ) → said_from wanted place known (head ++ (body ++ more)) ≡ said_from wanted (place + 8 + padded size) later more)
       → (x : List ℕ) × Came place (length x) old now x × (place + 8 + padded size ≡ place + length x) × (8 ≤ length x)
-      × ((more : List ℕ) → said_from wanted place rate (x ++ more) ≡ said_from wanted (place + 8 + padded size) later more)
-  chunk_came rate later old mid now body first second pass =
+      × ((more : List ℕ) → said_from wanted place known (x ++ more) ≡ said_from wanted (place + 8 + padded size) later more)
+  chunk_came known later old mid now body first second goes =
       let all = both_came place 8 (padded size) old mid now head body first second in
       let whole : length (head ++ body) ≡ 8 + padded size = all.long in (
         head ++ body,
         rw (sym whole) at all,
         omega (arith, whole),
         omega (arith, whole),
-        λ more. ap (said_from wanted place rate) (append_assoc head body more) ∙ passes_whole rate later body more second.long (pass more),
+        λ more. ap (said_from wanted place known) (append_assoc head body more) ∙ goes more,
       )
 
-  -- the first `fmt ` chunk
-  module _ (no_samples : bytes_eq (take 4 head) (codes "data") ≡ false) (format : bytes_eq (take 4 head) (codes "fmt ") ≡ true) where
-    format_said : (total : ℕ) (more : List ℕ) (cs : List Chunk) → header_in wanted total None (chunk more ∷ cs) ≡ unless (format_fault wanted total (chunk more)) (header_in wanted total (Some (u32_at (take size more) 4)) cs)
-    format_said total more cs = grind (arith, common_steps, no_samples, format)
+  -- ---- the first `fmt ` chunk
 
-    format_ends : (more : List ℕ) (fault : HeaderFault) (offset : ℕ) → format_fault wanted (place + length (head ++ more)) (chunk more) ≡ Some (fault, offset) → said_from wanted place None (head ++ more) ≡ Err (fault, offset)
+  module _ (format : bytes_eq (take 4 head) (codes "fmt ") ≡ true) where
+    no_samples : bytes_eq (take 4 head) (codes "data") ≡ false
+    no_samples = ap (λ id. bytes_eq id (codes "data")) (bytes_eq-same (take 4 head) (codes "fmt ") format)
+
+    format_said : (total : ℕ) (more : List ℕ) (cs : List Chunk) → header_in wanted total None (chunk more ∷ cs) ≡ unless (format_fault wanted total (chunk more)) (header_in wanted total (Some (sampling wanted (chunk more))) cs)
+    format_said total more cs =
+        ap (λ b. if b then Err (NoFormat, place) else
+        (if bytes_eq (take 4 head) (codes "fmt ") then unless (format_fault wanted total (chunk more)) (header_in wanted total (Some (sampling wanted (chunk more))) cs) else header_in wanted total None cs)) no_samples
+        ∙ ap (λ b. if b then unless (format_fault wanted total (chunk more)) (header_in wanted total (Some (sampling wanted (chunk more))) cs) else header_in wanted total None cs) format
+
+    format_ends : (more : List ℕ) (fault : HeaderFault) (offset : ℕ) → format_fault wanted (place + length (head ++ more)) (chunk more) ≡ Some (fault, offset) → said_behind wanted place head more ≡ Err (fault, offset)
     format_ends more fault offset is =
-        let total = place + length (head ++ more) in
+        let end = place + length (head ++ more) in
         let cs = chunks_behind 0 (place + (8 + padded size)) (drop (padded size) more) in
-        ap (header_in wanted total None) (head_chunks more)
-        ∙ format_said total more cs
-        ∙ ap (λ f. unless f (header_in wanted total (Some (u32_at (take size more) 4)) cs)) is
+        ap (header_in wanted end None) (head_chunks more)
+        ∙ format_said end more cs
+        ∙ ap (λ f. unless f (header_in wanted end (Some (sampling wanted (chunk more))) cs)) is
 
-    pub format_too_small : (more : List ℕ) → size < 16 → said_from wanted place None (head ++ more) ≡ Err (FormatSize size, place + 4)
+    -- more bytes are missing
+    format_cut : (more : List ℕ) → format_fault wanted (place + length (head ++ more)) (chunk more) ≡ Some (NoSamples, place + length (head ++ more)) → said_behind wanted place head more ≡ Err (NoSamples, place + 8 + length more)
+    format_cut more is = format_ends more NoSamples (place + length (head ++ more)) is ∙ ap (λ (end : ℕ). Err (NoSamples, end)) (total more)
+
+    pub format_too_small : (more : List ℕ) → size < 16 → said_behind wanted place head more ≡ Err (FormatSize size, place + 4)
     format_too_small more small = format_ends more (FormatSize size) (place + 4) (grind (arith, common_steps, small))
 
-    pub format_short : (more : List ℕ) → 16 ≤ size → length more < 16 → said_from wanted place None (head ++ more) ≡ Err (NoSamples, place + length (head ++ more))
-    format_short more enough short =
+    pub format_short : 16 ≤ size → (more : List ℕ) → length more < 16 → said_behind wanted place head more ≡ Err (NoSamples, place + 8 + length more)
+    format_short enough more short =
         let all : length (take size more) < 16 = omega (arith, short, take-no_longer size more) in
-        format_ends more NoSamples (place + length (head ++ more)) (grind (arith, common_steps, enough, all))
+        format_cut more (grind (arith, common_steps, enough, all))
 
-    module _ (body : List ℕ) (sixteen : length body ≡ 16) (enough : 16 ≤ size) where
-      module _ (more : List ℕ) where
-        piece : (rest : List ℕ) × (take size (body ++ more) ≡ body ++ rest)
-        piece =
-            let parts : size ≡ length body + (size - 16) = omega (arith, sixteen, enough) in
-            (take (size - 16) more, ap (λ n. take n (body ++ more)) parts ∙ take-append-add body more (size - 16))
+    pub extension_short : (front : List ℕ) → length front ≡ 16 → 40 ≤ size → u16_at front 0 ≡ extensible_tag → (more : List ℕ) → length more < 24 → said_behind wanted place head (front ++ more) ≡ Err (NoSamples, place + 8 + length (front ++ more))
+    extension_short front sixteen enough tag more short =
+        let many : length (front ++ more) ≡ 16 + length more = omega (arith, sixteen, length-append front more) in
+        let all : take size (front ++ more) ≡ front ++ more = take_all size (front ++ more) (omega (arith, many, short, enough)) in
+        let same : u16_at (front ++ more) 0 ≡ extensible_tag = u16_at-append front more 0 (omega (arith, sixteen)) ∙ tag in
+        format_cut (front ++ more) (rw all (cut_extension wanted _ (record { offset = place; id = take 4 head; size = size; body = front ++ more }) enough (omega (arith, many)) (omega (arith, many, short)) same))
 
-        pub format_same : (total : ℕ) → format_fault wanted total (chunk (body ++ more)) ≡ format_fault wanted 0 (format_chunk place body)
-        format_same total =
-            let (rest, e) = piece in
-            let tag = ap (λ xs. u16_at xs 0) e ∙ u16_at-append body rest 0 (omega (arith, sixteen)) in
-            let channels = ap (λ xs. u16_at xs 2) e ∙ u16_at-append body rest 2 (omega (arith, sixteen)) in
-            let align = ap (λ xs. u16_at xs 12) e ∙ u16_at-append body rest 12 (omega (arith, sixteen)) in
-            let bits = ap (λ xs. u16_at xs 14) e ∙ u16_at-append body rest 14 (omega (arith, sixteen)) in
-            let all : 16 ≤ length (take size (body ++ more)) = omega (arith, ap length e, length-append body rest, sixteen) in
-            grind (arith, common_steps, enough, sixteen, all, tag, channels, align, bits)
+    module _ (body : List ℕ) (enough : IsEnough size body) where
+      judged : (more : List ℕ) (total : ℕ) → format_fault wanted total (chunk (body ++ more)) ≡ format_fault wanted 0 (format_chunk place size body)
+      judged more total = let (rest, e) = longer_piece size body more enough.within in ap (λ b. format_fault wanted total (record { offset = place; id = take 4 head; size = size; body = b })) e ∙ same_fault wanted place size body rest enough total
 
-        pub format_rate : u32_at (take size (body ++ more)) 4 ≡ u32_at body 4
-        format_rate = let (rest, e) = piece in ap (λ xs. u32_at xs 4) e ∙ ap (from_le_bytes w32) (piece-append 4 4 body rest (omega (arith, sixteen)))
+      said : (more : List ℕ) → sampling wanted (chunk (body ++ more)) ≡ sampling wanted (format_chunk place size body)
+      said more = let (rest, e) = longer_piece size body more enough.within in ap (λ b. sampling wanted (record { offset = place; id = take 4 head; size = size; body = b })) e ∙ same_sampling wanted (format_chunk place size body) rest enough.plain
 
-        pub format_faulty : (fault : HeaderFault) (offset : ℕ) → format_fault wanted 0 (format_chunk place body) ≡ Some (fault, offset) → said_from wanted place None (head ++ (body ++ more)) ≡ Err (fault, offset)
-        format_faulty fault offset is = format_ends (body ++ more) fault offset (format_same _ ∙ is)
+      pub faulty_ends : (fault : HeaderFault) (offset : ℕ) → format_fault wanted 0 (format_chunk place size body) ≡ Some (fault, offset) → (more : List ℕ) → said_behind wanted place head (body ++ more) ≡ Err (fault, offset)
+      faulty_ends fault offset is more = format_ends (body ++ more) fault offset (judged more _ ∙ is)
 
-        pub format_passes : format_fault wanted 0 (format_chunk place body) ≡ None → (total : ℕ) (cs : List Chunk) → header_in wanted total None (chunk (body ++ more) ∷ cs) ≡ header_in wanted total (Some (u32_at body 4)) cs
-        format_passes good total cs =
+      -- what came of it is good
+      module _ (good : format_fault wanted 0 (format_chunk place size body) ≡ None) where
+        good_passes : (more : List ℕ) (total : ℕ) (cs : List Chunk) → header_in wanted total None (chunk (body ++ more) ∷ cs) ≡ header_in wanted total (Some (sampling wanted (format_chunk place size body))) cs
+        good_passes more total cs =
             format_said total (body ++ more) cs
-            ∙ ap (λ f. unless f (header_in wanted total (Some (u32_at (take size (body ++ more)) 4)) cs)) (format_same total ∙ good)
-            ∙ ap (λ r. header_in wanted total (Some r) cs) format_rate
+            ∙ ap₂ (λ f s. unless f (header_in wanted total (Some s) cs)) (judged more total ∙ good) (said more)
 
-      -- the first 16 bytes came and are good
-      module _ (good : format_fault wanted 0 (format_chunk place body) ≡ None) where
-        pub rest_passes : (rest more : List ℕ) (total : ℕ) (cs : List Chunk) → header_in wanted total None (chunk ((body ++ rest) ++ more) ∷ cs) ≡ header_in wanted total (Some (u32_at body 4)) cs
-        rest_passes rest more total cs = ap (λ xs. header_in wanted total None (chunk xs ∷ cs)) (append_assoc body rest more) ∙ format_passes (rest ++ more) good total cs
+        module _ (count : ℕ) (counted : length body ≡ count) where
+          pub rest_short : (more : List ℕ) → length more < padded size - count → said_behind wanted place head (body ++ more) ≡ Err (NoSamples, place + 8 + length (body ++ more))
+          rest_short more short =
+              passes_short None (Some (sampling wanted (format_chunk place size body))) (body ++ more) (good_passes more) (omega (arith, short, counted, length-append body more))
+              ∙ ap (λ (end : ℕ). Err (NoSamples, end)) (total (body ++ more))
 
-        pub rest_short : (more : List ℕ) → length more < padded size - 16 → said_from wanted place None ((head ++ body) ++ more) ≡ Err (NoSamples, place + length ((head ++ body) ++ more))
-        rest_short more short =
-            let assoc = append_assoc head body more in
-            rw assoc (passes_short None (Some (u32_at body 4)) (body ++ more) (format_passes more good) (omega (arith, short, length-append body more, sixteen)))
-
-      pub faulty_ends : (fault : HeaderFault) (offset : ℕ) → format_fault wanted 0 (format_chunk place body) ≡ Some (fault, offset) → (more : List ℕ) → said_from wanted place None ((head ++ body) ++ more) ≡ Err (fault, offset)
-      faulty_ends fault offset is more = ap (said_from wanted place None) (append_assoc head body more) ∙ format_faulty more fault offset is
+          pub rest_came : (old mid now : SourceState) (rest : List ℕ) → Came (place + 8) count old mid body → Came (place + 8 + count) (padded size - count) mid now rest
+              → FormatRead wanted place head old now (sampling wanted (format_chunk place size body))
+          rest_came old mid now rest first second =
+              let within : count ≤ size = omega (arith, counted, enough.within) in
+              let all : count + (padded size - count) ≡ padded size = omega (arith, within) in
+              let came = rw all at (both_came (place + 8) count (padded size - count) old mid now body rest first second) in
+              record {
+                body = body ++ rest;
+                came = came;
+                said =
+                    λ more. passes_whole None (Some (sampling wanted (format_chunk place size body))) (body ++ rest) more came.long
+                    (λ total cs. ap (λ b. header_in wanted total None (chunk b ∷ cs)) (append_assoc body rest more) ∙ good_passes (rest ++ more) total cs);
+              }
 
 -- ---- the first twelve bytes
 
@@ -334,40 +440,43 @@ module _ (wanted : Wanted) (old now : SourceState) (block : List ℕ) (count : �
       pub other_wave : bytes_eq (take 4 (drop 8 block)) (codes "WAVE") ≡ false → Stopped (λ bytes. header_of bytes wanted) 0 old now (Fault NotWave 8)
       other_wave other = stops_with NotWave 8 (λ more h. not_wave wanted (first ++ more) (is_riff more) (ap (λ xs. bytes_eq xs (codes "WAVE")) (behind_riff more) ∙ other))
 
--- ---- from the begin of the file
+-- ---- from a sooner place
 
-module _ (says later : Says) (place : ℕ) (old mid now : SourceState) (front : List ℕ) (came : Came 0 place old mid front) (said : (more : List ℕ) → says (front ++ more) ≡ later more) where
+module _ (says later : Says) (begin count place : ℕ) (here : place ≡ begin + count) (old mid now : SourceState) (front : List ℕ) (came : Came begin count old mid front) (said : (more : List ℕ) → says (front ++ more) ≡ later more) where
   said_sooner : (bytes more : List ℕ) → says ((front ++ bytes) ++ more) ≡ later (bytes ++ more)
   said_sooner bytes more = ap says (append_assoc front bytes more) ∙ said (bytes ++ more)
 
-  cause_sooner : (error : HeaderOr) (bytes : List ℕ) → HasCause error later place mid now bytes → HasCause error says 0 old now (front ++ bytes)
+  -- both pieces end where the second does
+  end : (bytes : List ℕ) → begin + length (front ++ bytes) ≡ place + length bytes
+  end bytes = omega (arith, here, came.long, length-append front bytes)
+
+  cause_sooner : (error : HeaderOr) (bytes : List ℕ) → HasCause error later place mid now bytes → HasCause error says begin old now (front ++ bytes)
   cause_sooner (Fault fault offset) bytes (inl sure, clean) = (inl (λ more. said_sooner bytes more ∙ sure more), clean ∙ came.no_fault)
   cause_sooner (Fault fault offset) bytes (inr (end, sure), clean) = (inr (end, said bytes ∙ sure), clean ∙ came.no_fault)
-  cause_sooner Read bytes cause = (cause.0 ∙ ap one_more came.no_fault, omega (arith, cause.1, came.long, length-append front bytes), subst IsErr (sym (said bytes)) cause.2)
-  cause_sooner Long bytes cause = (omega (arith, cause.0, came.long, length-append front bytes), said bytes ∙ cause.1, cause.2 ∙ came.no_fault)
+  cause_sooner Read bytes cause = (cause.0 ∙ ap one_more came.no_fault, omega (arith, cause.1, end bytes), subst IsErr (sym (said bytes)) cause.2)
+  cause_sooner Long bytes cause = (omega (arith, cause.0, end bytes), said bytes ∙ cause.1, cause.2 ∙ came.no_fault)
 
-  pub stopped_sooner : (error : HeaderOr) → Stopped later place mid now error → Stopped says 0 old now error
+  pub stopped_sooner : (error : HeaderOr) → Stopped later place mid now error → Stopped says begin old now error
   stopped_sooner error s =
       record {
         bytes = front ++ s.bytes;
         gave = Gave-append old mid now front s.bytes came.gave s.gave;
-        in_limit = omega (arith, s.in_limit, came.long, length-append front s.bytes);
+        in_limit = omega (arith, s.in_limit, end s.bytes);
         cause = cause_sooner error s.bytes s.cause;
       }
 
-  pub headed_sooner : (header : Header) → Headed later place mid now header → Headed says 0 old now header
+  pub headed_sooner : (header : Header) → Headed later place mid now header → Headed says begin old now header
   headed_sooner header h =
       record {
         bytes = front ++ h.bytes;
         gave = Gave-append old mid now front h.bytes came.gave h.gave;
-        in_limit = omega (arith, h.in_limit, came.long, length-append front h.bytes);
+        in_limit = omega (arith, h.in_limit, end h.bytes);
         said = λ more. said_sooner h.bytes more ∙ h.said more;
-        start = omega (arith, h.start, came.long, length-append front h.bytes);
+        start = omega (arith, h.start, end h.bytes);
         no_fault = h.no_fault ∙ came.no_fault;
       }
 
   pub came_sooner : (next : Says) (taken : ℕ) (bytes : List ℕ) → Came place (length bytes) mid now bytes → taken ≡ place + length bytes → ((more : List ℕ) → later (bytes ++ more) ≡ next more)
-      → (all : List ℕ) × Came 0 taken old now all × ((more : List ℕ) → says (all ++ more) ≡ next more)
+      → (all : List ℕ) × Came begin (count + length bytes) old now all × ((more : List ℕ) → says (all ++ more) ≡ next more)
   came_sooner next taken bytes second taken_is goes =
-      let here : place ≡ 0 + place = omega arith in
-      (front ++ bytes, rw (sym taken_is) at (both_came 0 place (length bytes) old mid now front bytes came (subst (λ p. Came p (length bytes) mid now bytes) here second)), λ more. said_sooner bytes more ∙ goes more)
+      (front ++ bytes, both_came begin count (length bytes) old mid now front bytes came (subst (λ p. Came p (length bytes) mid now bytes) here second), λ more. said_sooner bytes more ∙ goes more)

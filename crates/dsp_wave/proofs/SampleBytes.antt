@@ -4,14 +4,20 @@ use Rattle.std.specs.List.{flat_map}
 use Rattle.std.specs.Int.{w32}
 use Rattle.std.proofs.lemmas.List.{take_more, append-nil}
 use Rattle.std.proofs.lemmas.Grind.{flat_map-append}
+use Rattle.dsp_defs.specs.Bytes.{IsValue, format_in}
 use Rattle.dsp_defs.specs.Formats.{word}
+use Rattle.dsp_defs.specs.declared.format.Coding.{Coding}
 use Rattle.dsp_defs.specs.declared.format.Fmt.{Fmt}
 use Rattle.dsp_defs.specs.declared.format.Fmt.TheVariants.{Q7, Q15, Q31}
+use Rattle.dsp_defs.proofs.CodingLemmas.{IsValue-fits}
 
 pub sample_fits : (format : Fmt) (z : ℤ) → SFits (word format) z → SFits w32 z
 sample_fits Q7 z fits = record { sfits = omega (arith, fits.sfits) }
 sample_fits Q15 z fits = record { sfits = omega (arith, fits.sfits) }
 sample_fits Q31 z fits = fits
+
+pub value_fits : (coding : Coding) (z : ℤ) → IsValue coding z → SFits w32 z
+value_fits coding z h = sample_fits (format_in coding) z (IsValue-fits coding z h)
 
 -- the piece of a slice from one place on
 pub piece : (from size width : ℕ) (bytes : List ℕ) → size ≡ width → slice_range bytes from (from + size) ≡ take width (drop from bytes)

@@ -1,11 +1,10 @@
 -- The generated input as it is given, from a state on.
 use Rattle.std.specs.Prelude.{ℕ, zero, suc, ◌+◌, ◌*◌, ◌%◌, ◌^◌, List, [], ◌∷◌, ◌++◌, drop, if◌then◌else◌, Some}
 use Rattle.dsp_ports.specs.Ports.{SourceState}
-use Rattle.dsp_defs.specs.Bytes.{bytes_of}
+use Rattle.dsp_defs.specs.Bytes.{bytes_of, coding_of}
 use Rattle.dsp_defs.specs.Generator.{state_sample}
 use Rattle.dsp_defs.specs.declared.format.Fmt.{Fmt}
 use Rattle.dsp_defs.specs.declared.format.Container.{Container}
-use Rattle.dsp_wave.specs.Coding.{container_in, format_in}
 use Rattle.dsp_wave.specs.declared.generator.Pieces.{Pieces}
 
 -- (1664525*s + 1013904223) mod 2^32
@@ -15,7 +14,7 @@ next_state s = (1664525 * s + 1013904223) % 2 ^ 32
 -- the bytes of the next n samples behind a state
 abbrev pub made : Container → Fmt → ℕ → ℕ → List ℕ
 made container format s zero = []
-made container format s (suc n) = bytes_of container format (state_sample format (next_state s)) ++ made container format (next_state s) n
+made container format s (suc n) = bytes_of (coding_of container format) (state_sample format (next_state s)) ++ made container format (next_state s) n
 
 -- the bytes of a generated input that are still to come, and how many were given
 pub record Generation : Type 0 where
@@ -30,4 +29,4 @@ generation_state generation = record { left = Some generation.rest; taken = gene
 abbrev pub to_come : Pieces → List ℕ
 to_come pieces =
     drop pieces.given pieces.ready.items
-    ++ (made (container_in pieces.coding) (format_in pieces.coding) pieces.state pieces.samples ++ (if pieces.has_pad then (0 ∷ []) else []))
+    ++ (made pieces.container pieces.format pieces.state pieces.samples ++ (if pieces.has_pad then (0 ∷ []) else []))

@@ -1,4 +1,3 @@
-pub mod Coding
 pub mod Generated
 pub mod Reading
 pub mod Taking

@@ -3,6 +3,7 @@ use Rattle.std.specs.Prelude.{◌≡◌, ℕ, ◌+◌, ◌^◌, ◌<◌, ◌≤�
 use Rattle.std.specs.Io.KnownBytes.{IsAtEnd}
 use Rattle.dsp_ports.specs.Ports.{SourceState, one_more, Gave}
 use Rattle.dsp_defs.specs.Wave.{chunks_behind, header_in}
+use Rattle.dsp_defs.specs.declared.wave.Sampling.{Sampling}
 use Rattle.dsp_defs.specs.declared.wave.Wanted.{Wanted}
 use Rattle.dsp_defs.specs.declared.wave.Header.{Header}
 use Rattle.dsp_defs.specs.declared.wave.HeaderFault.{HeaderFault}
@@ -14,9 +15,9 @@ use Rattle.dsp_wave.specs.declared.reader.HeaderOr.TheVariants.{Fault, Read, Lon
 abbrev pub Says : Type 0
 Says = List ℕ → Result Header (HeaderFault × ℕ)
 
--- what the bytes from a place on say, where the chunks before it have given this rate
-abbrev pub said_from : Wanted → ℕ → Option ℕ → Says
-said_from wanted place rate bytes = header_in wanted (place + length bytes) rate (chunks_behind 0 place bytes)
+-- what the bytes from a place on say, where the chunks before it have said this of the samples
+abbrev pub said_from : Wanted → ℕ → Option Sampling → Says
+said_from wanted place known bytes = header_in wanted (place + length bytes) known (chunks_behind 0 place bytes)
 
 -- the bytes say so whatever comes behind them, or they say so and are all there is
 abbrev pub IsSure : Says → SourceState → List ℕ → Result Header (HeaderFault × ℕ) → Type 0

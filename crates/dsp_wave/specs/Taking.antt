@@ -1,15 +1,17 @@
 -- What is taken of a source for a piece of a header.
-use Rattle.std.specs.Prelude.{◌≡◌, ℕ, ◌+◌, ◌^◌, ◌<◌, ◌≤◌, List, [], ◌++◌, length, Option, None}
+use Rattle.std.specs.Prelude.{◌≡◌, ℕ, ◌+◌, ◌^◌, ◌<◌, ◌≤◌, List, [], ◌++◌, length, take, codes, true, Option, Some, None}
+use Rattle.std.specs.Str.{bytes_eq}
 use Rattle.std.specs.Io.KnownBytes.{IsAtEnd}
 use Rattle.dsp_ports.specs.Ports.{SourceState, one_more, Gave}
-use Rattle.dsp_defs.specs.Wave.{Chunk, header_of}
+use Rattle.dsp_defs.specs.Wave.{Chunk, extensible_tag, header_of, padded, u16_at, u32_at}
+use Rattle.dsp_defs.specs.declared.wave.Sampling.{Sampling}
 use Rattle.dsp_defs.specs.declared.wave.Wanted.{Wanted}
 use Rattle.dsp_defs.specs.declared.wave.HeaderFault.TheVariants.{NoSamples}
 use Rattle.dsp_wave.specs.declared.reader.HeaderOr.{HeaderOr}
 use Rattle.dsp_wave.specs.declared.reader.HeaderOr.TheVariants.{Fault, Read, Long}
 use Rattle.dsp_wave.specs.declared.reader.Next.{Next}
 use Rattle.dsp_wave.specs.declared.reader.Next.TheVariants.{Samples, Other}
-use Rattle.dsp_wave.specs.Reading.{Headed, said_from}
+use Rattle.dsp_wave.specs.Reading.{Headed, Says, said_from}
 
 -- so many bytes came
 pub record Came (place count : ℕ) (old now : SourceState) (bytes : List ℕ) : Type 0 where
@@ -31,9 +33,34 @@ pub record Missing (place count : ℕ) (old now : SourceState) (error : HeaderOr
   pub in_limit : place + length bytes ≤ 2 ^ 40
   pub missed : IsMissed error place old now bytes
 
--- the `fmt ` chunk of these 16 bytes, at an offset
-abbrev pub format_chunk : ℕ → List ℕ → Chunk
-format_chunk offset body = record { offset = offset; id = []; size = 16; body = body }
+-- ---- the first `fmt ` chunk
+
+-- the id and the size of a `fmt ` chunk
+pub record IsFormatHead (head : List ℕ) : Type 0 where
+  pub long : length head ≡ 8
+  pub id : bytes_eq (take 4 head) (codes "fmt ") ≡ true
+
+-- a `fmt ` chunk at an offset, of which these bytes are there
+abbrev pub format_chunk : ℕ → ℕ → List ℕ → Chunk
+format_chunk offset size body = record { offset = offset; id = []; size = size; body = body }
+
+-- as much of such a chunk as is judged: 16 bytes, and with an extension 40
+pub record IsEnough (size : ℕ) (body : List ℕ) : Type 0 where
+  pub plain : 16 ≤ length body
+  pub within : length body ≤ size
+  pub extended : u16_at body 0 ≡ extensible_tag → 40 ≤ size → 40 ≤ length body
+
+-- what the bytes behind the id and the size of the first `fmt ` chunk say
+abbrev pub said_behind : Wanted → ℕ → List ℕ → Says
+said_behind wanted place head bytes = said_from wanted place None (head ++ bytes)
+
+-- the rest of the chunk came, and says this of the samples
+pub record FormatRead (wanted : Wanted) (place : ℕ) (head : List ℕ) (old now : SourceState) (known : Sampling) : Type 0 where
+  pub body : List ℕ
+  pub came : Came (place + 8) (padded (u32_at head 4)) old now body
+  pub said : (more : List ℕ) → said_behind wanted place head (body ++ more) ≡ said_from wanted (place + 8 + padded (u32_at head 4)) (Some known) more
+
+-- ---- chunk after chunk
 
 -- the first 12 bytes came, and the file's chunks begin behind them
 pub record RiffRead (wanted : Wanted) (old now : SourceState) : Type 0 where
@@ -42,8 +69,8 @@ pub record RiffRead (wanted : Wanted) (old now : SourceState) : Type 0 where
   pub said : (more : List ℕ) → header_of (bytes ++ more) wanted ≡ said_from wanted 12 None more
 
 -- the chunk that came, up to the samples or to the chunk behind it
-abbrev pub Chunked : Wanted → ℕ → Option ℕ → SourceState → SourceState → Next → Type 0
-Chunked wanted place rate old now (Samples header) = Headed (said_from wanted place rate) place old now header
-Chunked wanted place rate old now (Other later taken) =
+abbrev pub Chunked : Wanted → ℕ → Option Sampling → SourceState → SourceState → Next → Type 0
+Chunked wanted place known old now (Samples header) = Headed (said_from wanted place known) place old now header
+Chunked wanted place known old now (Other later taken) =
     (bytes : List ℕ) × Came place (length bytes) old now bytes × (taken ≡ place + length bytes) × (8 ≤ length bytes)
-    × ((more : List ℕ) → said_from wanted place rate (bytes ++ more) ≡ said_from wanted taken later more)
+    × ((more : List ℕ) → said_from wanted place known (bytes ++ more) ≡ said_from wanted taken later more)

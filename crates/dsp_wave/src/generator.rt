@@ -2,14 +2,12 @@ ghost use Rattle.std.specs.Prelude.{◌≡◌, ◌+◌, ◌<◌, ◌≤◌, ◌�
 ghost use Rattle.std.specs.Io.KnownBytes.{IsAtEnd};
 ghost use Rattle.arrayvec.specs.ArrayVec.{array_vec_len};
 ghost use Rattle.dsp_defs.specs.Formats.{word};
-ghost use Rattle.dsp_defs.specs.Bytes.{bytes_of};
 ghost use Rattle.dsp_defs.specs.Generator.{generated_bytes, state_sample};
 ghost use Rattle.dsp_defs.specs.declared.limits.TheConstants.{MAX_CHANNELS, MAX_GENERATED};
 ghost use Rattle.dsp_ports.specs.Ports.{CountsFaults, Gave, GaveNothing};
-ghost use Rattle.dsp_wave.specs.Coding.{container_in, format_in};
 ghost use Rattle.dsp_wave.specs.Generated.{Generation, generation_state, next_state, to_come};
 
-use crate::coding::{Coding, bytes_of, width};
+use crate::coding::{bytes_of, coding_of, width};
 use crate::writer::{HEADER_ROOM, append, data_size, write_header};
 use arrayvec::ArrayVec;
 use dsp_defs::{Container, Fmt, GENERATED_RATE, Input, InputKind};
@@ -24,14 +22,14 @@ fn next_state(state: u32) -> u32
 }
 
 /// The sample of a state.
-fn state_sample(coding: Coding, state: u32) -> i32
-    ensures value { result ≡ state_sample (format_in coding) state }
-    ensures fits { FitsSigned (word (format_in coding)) result }
+fn state_sample(format: Fmt, state: u32) -> i32
+    ensures value { result ≡ state_sample format state }
+    ensures fits { FitsSigned (word format) result }
 {
-    match coding {
-        Coding::Raw7 | Coding::Wave7 => i32::from(((state >> 24) as u8).cast_signed()),
-        Coding::Raw15 | Coding::Wave15 => i32::from(((state >> 16) as u16).cast_signed()),
-        Coding::Raw31 | Coding::Wave31 => state.cast_signed(),
+    match format {
+        Fmt::Q7 => i32::from(((state >> 24) as u8).cast_signed()),
+        Fmt::Q15 => i32::from(((state >> 16) as u16).cast_signed()),
+        Fmt::Q31 => state.cast_signed(),
     }
 }
 
@@ -39,7 +37,8 @@ fn state_sample(coding: Coding, state: u32) -> i32
 /// were given, then so many samples behind the state, then the pad byte.
 #[derive(Drop)]
 struct Pieces {
-    coding: Coding,
+    container: Container,
+    format: Fmt,
     ready: ArrayVec<u8, HEADER_ROOM>,
     given: usize,
     state: u32,
@@ -61,10 +60,10 @@ impl Pieces {
         if self.samples > 0 {
             self.samples -= 1;
             self.state = next_state(self.state);
-            let value = state_sample(self.coding, self.state);
+            let coding = coding_of(self.container, self.format);
             let mut bytes = [0; 4];
-            let sample = &mut bytes[..width(self.coding)];
-            bytes_of(self.coding, value, sample);
+            let sample = &mut bytes[..width(coding)];
+            bytes_of(coding, state_sample(self.format, self.state), sample);
             self.given = 0;
             self.ready.clear();
             append(&mut self.ready, sample);
@@ -110,13 +109,20 @@ impl GenSource {
             InputKind::Raw { .. } => (Container::Raw, ArrayVec::new(), false),
             InputKind::Wave => (
                 Container::Wave,
-                write_header(input.format, input.channels, GENERATED_RATE, Some(count)),
+                write_header(
+                    Container::Wave,
+                    input.format,
+                    input.channels,
+                    GENERATED_RATE,
+                    Some(count),
+                ),
                 data_size(input.format, input.channels, count) % 2 != 0,
             ),
         };
         GenSource {
             pieces: Pieces {
-                coding: Coding::new(container, input.format),
+                container,
+                format: input.format,
                 ready,
                 given: 0,
                 state: seed,

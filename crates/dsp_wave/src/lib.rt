@@ -2,12 +2,15 @@
 #![tactic(auto)]
 
 mod coding;
+mod extension;
+mod format;
 mod generator;
 mod reader;
 mod slices;
 mod writer;
 
-pub use coding::{Coding, bytes_of, sample_of, width};
+pub use coding::{bytes_of, coding_of, format_in, sample_of, width};
+pub use dsp_defs::Coding;
 pub use generator::GenSource;
 pub use reader::{HeaderOr, read_header};
 pub use slices::{decode, encode};

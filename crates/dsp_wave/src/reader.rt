@@ -1,13 +1,14 @@
 ghost use Rattle.std.specs.Prelude.{◌≡◌, ℕ, ◌+◌, ◌<◌, ◌≤◌, ◌^◌, ◌&&◌, List, codes, length, IfOk, IfErr};
 ghost use Rattle.std.specs.Option.{option_map, is_none};
 ghost use Rattle.std.specs.Str.{bytes_eq};
-ghost use Rattle.dsp_defs.specs.Wave.{header_of, format_fault, declared_size};
+ghost use Rattle.dsp_defs.specs.Wave.{header_of, declared_size, padded};
 ghost use Rattle.dsp_defs.specs.declared.wave.Wanted.{Wanted};
 ghost use Rattle.dsp_wave.specs.Reading.{Headed, Stopped, said_from};
-ghost use Rattle.dsp_wave.specs.Taking.{Came, Missing, Chunked, RiffRead, format_chunk};
+ghost use Rattle.dsp_wave.specs.Taking.{Came, Missing, Chunked, RiffRead};
 
+use crate::format::read_format;
 use byteorder::{ByteOrder, LittleEndian};
-use dsp_defs::{Fmt, Header, HeaderFault, MAX_INPUT, Wanted};
+use dsp_defs::{Header, HeaderFault, MAX_INPUT, Sampling, Wanted};
 use dsp_ports::{FillFault, Source, fill};
 use thiserror::Error;
 
@@ -29,14 +30,14 @@ pub enum HeaderOr {
 #[derive(Clone, Copy, Debug, PartialEq, Eq)]
 enum Next {
     Samples(Header),
-    Other { rate: Option<u32>, taken: u64 },
+    Other { known: Option<Sampling>, taken: u64 },
 }
 
 /// Unknown chunks are skipped in pieces of so many bytes.
 const PIECE: usize = 4096;
 
 /// Fills the piece. That the file ends before is a fault of it.
-fn take<S: Source>(source: &mut S, piece: &mut [u8], taken: u64) -> Result<(), HeaderOr>
+pub(crate) fn take<S: Source>(source: &mut S, piece: &mut [u8], taken: u64) -> Result<(), HeaderOr>
     requires { taken ≤ 2 ^ 40 }
     ensures ok { IfOk result (λ _. Came taken (length piece.new) (S.state source.old) (S.state source.new) piece.new) }
     ensures err { IfErr result (λ error. Missing taken (length piece.new) (S.state source.old) (S.state source.new) error) }
@@ -53,7 +54,7 @@ fn take<S: Source>(source: &mut S, piece: &mut [u8], taken: u64) -> Result<(), H
 }
 
 /// Takes so many bytes and forgets them.
-fn skip<S: Source>(source: &mut S, count: u64, taken: u64) -> Result<(), HeaderOr>
+pub(crate) fn skip<S: Source>(source: &mut S, count: u64, taken: u64) -> Result<(), HeaderOr>
     requires limit { taken ≤ 2 ^ 40 }
     requires count { count ≤ 2 ^ 33 }
     ensures ok { IfOk result (λ _. (bytes : List ℕ) × Came taken count (S.state source.old) (S.state source.new) bytes) }
@@ -69,78 +70,53 @@ fn skip<S: Source>(source: &mut S, count: u64, taken: u64) -> Result<(), HeaderO
     Ok(())
 }
 
-/// What is at fault in the first 16 bytes of the `fmt ` chunk that begins at the offset.
-fn format_fault(wanted: Wanted, offset: u64, body: &[u8]) -> Option<(HeaderFault, u64)>
-    requires size { length body.now ≡ 16 }
-    requires offset { offset ≤ 2 ^ 40 }
-    ensures { result ≡ format_fault wanted 0 (format_chunk offset body.now) }
-{
-    let width = match wanted.format {
-        Fmt::Q7 => 1,
-        Fmt::Q15 => 2,
-        Fmt::Q31 => 4,
-    };
-    let tag = LittleEndian::read_u16(&body[..2]);
-    if tag != 1 {
-        return Some((HeaderFault::Tag { got: tag }, offset + 8));
-    }
-    let (got, wanted) = (
-        LittleEndian::read_u16(&body[2..4]),
-        u16::from(wanted.channels),
-    );
-    if got != wanted {
-        return Some((HeaderFault::Channels { got, wanted }, offset + 10));
-    }
-    let (got, bits) = (LittleEndian::read_u16(&body[14..16]), 8 * width);
-    if got != bits {
-        return Some((HeaderFault::Bits { got, wanted: bits }, offset + 22));
-    }
-    let (got, align) = (LittleEndian::read_u16(&body[12..14]), wanted * width);
-    if got != align {
-        return Some((HeaderFault::Align { got, wanted: align }, offset + 20));
-    }
-    None
-}
-
 /// What a `data` chunk at the offset heads, where a `fmt ` chunk came before it.
-fn samples_at(rate: Option<u32>, size: u32, offset: u64) -> Option<Header>
+fn samples_at(known: Option<Sampling>, size: u32, offset: u64) -> Option<Header>
     requires { offset ≤ 2 ^ 40 }
-    ensures { result ≡ option_map (λ rate. record { rate = rate; start = offset + 8; size = declared_size size }) rate }
+    ensures { result ≡ option_map (λ known. record { rate = known.rate; start = offset + 8; size = declared_size size; coding = known.coding }) known }
 {
     let size = if size == u32::MAX { None } else { Some(size) };
-    match rate {
+    match known {
         None => None,
-        Some(rate) => Some(Header {
+        Some(Sampling { rate, coding }) => Some(Header {
             rate,
             start: offset + 8,
             size,
+            coding,
         }),
     }
 }
 
 /// Whether a chunk with this id is the first of the format.
-fn is_first_format(rate: Option<u32>, id: &[u8]) -> bool
-    ensures { result ≡ (is_none rate && bytes_eq id.now (codes "fmt ")) }
+fn is_first_format(known: Option<Sampling>, id: &[u8]) -> bool
+    ensures { result ≡ (is_none known && bytes_eq id.now (codes "fmt ")) }
 {
-    rate.is_none() && id == b"fmt ".as_slice()
+    known.is_none() && id == b"fmt ".as_slice()
+}
+
+/// A size with the pad byte of an odd one.
+pub(crate) fn padded(size: u32) -> u64
+    ensures { result ≡ padded size }
+{
+    u64::from(size) + u64::from(size % 2)
 }
 
 /// Reads the chunk that begins at the offset, and of a `data` chunk its id and size alone.
 fn next_chunk<S: Source>(
     source: &mut S,
     wanted: Wanted,
-    rate: Option<u32>,
+    known: Option<Sampling>,
     offset: u64,
 ) -> Result<Next, HeaderOr>
     requires { offset ≤ 2 ^ 40 }
-    ensures ok { IfOk result (λ next. Chunked wanted offset rate (S.state source.old) (S.state source.new) next) }
-    ensures err { IfErr result (λ error. Stopped (said_from wanted offset rate) offset (S.state source.old) (S.state source.new) error) }
+    ensures ok { IfOk result (λ next. Chunked wanted offset known (S.state source.old) (S.state source.new) next) }
+    ensures err { IfErr result (λ error. Stopped (said_from wanted offset known) offset (S.state source.old) (S.state source.new) error) }
 {
     let mut head = [0; 8];
     take(source, &mut head, offset)?;
     let size = LittleEndian::read_u32(&head[4..]);
     if &head[..4] == b"data".as_slice() {
-        return match samples_at(rate, size, offset) {
+        return match samples_at(known, size, offset) {
             Some(header) => Ok(Next::Samples(header)),
             None => Err(HeaderOr::Fault {
                 fault: HeaderFault::NoFormat,
@@ -148,30 +124,13 @@ fn next_chunk<S: Source>(
             }),
         };
     }
-    let padded = u64::from(size) + u64::from(size % 2);
-    if !is_first_format(rate, &head[..4]) {
-        skip(source, padded, offset + 8)?;
-        return Ok(Next::Other {
-            rate,
-            taken: offset + 8 + padded,
-        });
+    let taken = offset + 8 + padded(size);
+    if is_first_format(known, &head[..4]) {
+        let known = Some(read_format(source, wanted, &head, offset)?);
+        return Ok(Next::Other { known, taken });
     }
-    if size < 16 {
-        return Err(HeaderOr::Fault {
-            fault: HeaderFault::FormatSize { got: size },
-            offset: offset + 4,
-        });
-    }
-    let mut body = [0; 16];
-    take(source, &mut body, offset + 8)?;
-    if let Some((fault, offset)) = format_fault(wanted, offset, &body) {
-        return Err(HeaderOr::Fault { fault, offset });
-    }
-    skip(source, padded - 16, offset + 24)?;
-    Ok(Next::Other {
-        rate: Some(LittleEndian::read_u32(&body[4..8])),
-        taken: offset + 8 + padded,
-    })
+    skip(source, padded(size), offset + 8)?;
+    Ok(Next::Other { known, taken })
 }
 
 /// Reads the `RIFF` and `WAVE` with which the file begins.
@@ -208,13 +167,13 @@ pub fn read_header<S: Source>(source: &mut S, wanted: Wanted) -> Result<Header, 
     ensures err { IfErr result (λ error. Stopped (λ bytes. header_of bytes wanted) 0 (S.state source.old) (S.state source.new) error) }
 {
     read_riff(source)?;
-    let mut rate = None;
+    let mut known = None;
     let mut offset = 12;
     loop {
-        match next_chunk(source, wanted, rate, offset)? {
+        match next_chunk(source, wanted, known, offset)? {
             Next::Samples(header) => return Ok(header),
-            Next::Other { rate: next, taken } => {
-                rate = next;
+            Next::Other { known: next, taken } => {
+                known = next;
                 offset = taken;
             }
         }

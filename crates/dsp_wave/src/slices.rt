@@ -1,16 +1,15 @@
-ghost use Rattle.std.specs.Prelude.{◌≡◌, ◌*◌, length, take, drop, flat_map, All, FitsSigned};
-ghost use Rattle.dsp_defs.specs.Formats.{word};
+ghost use Rattle.std.specs.Prelude.{◌≡◌, ◌*◌, length, take, drop, flat_map, All};
 ghost use Rattle.dsp_defs.specs.Signal.{values};
-ghost use Rattle.dsp_defs.specs.Bytes.{bytes_of, sample_of, width};
-ghost use Rattle.dsp_wave.specs.Coding.{container_in, format_in};
+ghost use Rattle.dsp_defs.specs.Bytes.{IsValue, bytes_of, sample_of, width};
 
-use crate::coding::{Coding, bytes_of, sample_of, width};
+use crate::coding::{bytes_of, sample_of, width};
+use dsp_defs::Coding;
 
 #[inline(always)]
 fn decode_by(coding: Coding, bytes: &[u8], samples: &mut [i32])
-    requires { length bytes.now ≡ length samples.old * width (format_in coding) }
-    ensures values { samples.new ≡ values (length samples.old) (λ i. sample_of (container_in coding) (format_in coding) (take (width (format_in coding)) (drop (i * width (format_in coding)) bytes.now))) }
-    ensures fits { All (FitsSigned (word (format_in coding))) samples.new }
+    requires { length bytes.now ≡ length samples.old * width coding }
+    ensures values { samples.new ≡ values (length samples.old) (λ i. sample_of coding (take (width coding) (drop (i * width coding) bytes.now))) }
+    ensures fits { All (IsValue coding) samples.new }
 {
     let width = width(coding);
     for (i, sample) in samples.iter_mut().enumerate() {
@@ -21,9 +20,9 @@ fn decode_by(coding: Coding, bytes: &[u8], samples: &mut [i32])
 
 #[inline(always)]
 fn encode_by(coding: Coding, samples: &[i32], bytes: &mut [u8])
-    requires room { length bytes.old ≡ length samples.now * width (format_in coding) }
-    requires fits { All (FitsSigned (word (format_in coding))) samples.now }
-    ensures { bytes.new ≡ flat_map (bytes_of (container_in coding) (format_in coding)) samples.now }
+    requires room { length bytes.old ≡ length samples.now * width coding }
+    requires fits { All (IsValue coding) samples.now }
+    ensures { bytes.new ≡ flat_map (bytes_of coding) samples.now }
 {
     let width = width(coding);
     for (i, sample) in samples.iter().enumerate() {
@@ -32,11 +31,12 @@ fn encode_by(coding: Coding, samples: &[i32], bytes: &mut [u8])
     }
 }
 
-/// Reads as many samples as there is room for from their bytes.
+/// Reads as many samples as there is room for from their bytes, one after another: there are to be
+/// `width(coding)` bytes for each sample of `samples`.
 pub fn decode(coding: Coding, bytes: &[u8], samples: &mut [i32])
-    requires { length bytes.now ≡ length samples.old * width (format_in coding) }
-    ensures values { samples.new ≡ values (length samples.old) (λ i. sample_of (container_in coding) (format_in coding) (take (width (format_in coding)) (drop (i * width (format_in coding)) bytes.now))) }
-    ensures fits { All (FitsSigned (word (format_in coding))) samples.new }
+    requires { length bytes.now ≡ length samples.old * width coding }
+    ensures values { samples.new ≡ values (length samples.old) (λ i. sample_of coding (take (width coding) (drop (i * width coding) bytes.now))) }
+    ensures fits { All (IsValue coding) samples.new }
 {
     match coding {
         Coding::Raw7 => decode_by(Coding::Raw7, bytes, samples),
@@ -44,15 +44,17 @@ pub fn decode(coding: Coding, bytes: &[u8], samples: &mut [i32])
         Coding::Raw31 => decode_by(Coding::Raw31, bytes, samples),
         Coding::Wave7 => decode_by(Coding::Wave7, bytes, samples),
         Coding::Wave15 => decode_by(Coding::Wave15, bytes, samples),
+        Coding::Wave24 => decode_by(Coding::Wave24, bytes, samples),
         Coding::Wave31 => decode_by(Coding::Wave31, bytes, samples),
     }
 }
 
-/// Writes the bytes of samples of the format, one sample after another.
+/// Writes the bytes of samples, one sample after another: there is to be room for exactly
+/// `width(coding)` bytes a sample. Each sample is to be one that the coding has bytes for.
 pub fn encode(coding: Coding, samples: &[i32], bytes: &mut [u8])
-    requires room { length bytes.old ≡ length samples.now * width (format_in coding) }
-    requires fits { All (FitsSigned (word (format_in coding))) samples.now }
-    ensures { bytes.new ≡ flat_map (bytes_of (container_in coding) (format_in coding)) samples.now }
+    requires room { length bytes.old ≡ length samples.now * width coding }
+    requires fits { All (IsValue coding) samples.now }
+    ensures { bytes.new ≡ flat_map (bytes_of coding) samples.now }
 {
     match coding {
         Coding::Raw7 => encode_by(Coding::Raw7, samples, bytes),
@@ -60,6 +62,7 @@ pub fn encode(coding: Coding, samples: &[i32], bytes: &mut [u8])
         Coding::Raw31 => encode_by(Coding::Raw31, samples, bytes),
         Coding::Wave7 => encode_by(Coding::Wave7, samples, bytes),
         Coding::Wave15 => encode_by(Coding::Wave15, samples, bytes),
+        Coding::Wave24 => encode_by(Coding::Wave24, samples, bytes),
         Coding::Wave31 => encode_by(Coding::Wave31, samples, bytes),
     }
 }

@@ -1,17 +1,18 @@
-ghost use Rattle.std.specs.Prelude.{◌≡◌, ◌+◌, ◌≤◌, ◌++◌, ℕ, List, length, Some};
+ghost use Rattle.std.specs.Prelude.{◌≡◌, ◌≢◌, ◌+◌, ◌*◌, ◌≤◌, ◌++◌, ℕ, List, length, Some};
 ghost use Rattle.arrayvec.specs.ArrayVec.{array_vec_len};
-ghost use Rattle.dsp_defs.specs.Bytes.{width};
-ghost use Rattle.dsp_defs.specs.Wave.{HeaderFits, Heads, data_size, pad, riff_size, wave_header, written_size};
+ghost use Rattle.dsp_defs.specs.Bytes.{word_bytes};
+ghost use Rattle.dsp_defs.specs.Wave.{HeaderFits, Heads, data_size, extension, format_size, format_tag, pad, riff_size, wave_header, written_header};
 ghost use Rattle.dsp_defs.specs.declared.limits.TheConstants.{MAX_CHANNELS};
 
+use crate::extension::{EXTENSIBLE_SIZE, EXTENSIBLE_TAG, PCM_SUBFORMAT, PCM_TAG, PLAIN_SIZE};
 use arrayvec::ArrayVec;
-use dsp_defs::Fmt;
+use dsp_defs::{Container, Fmt};
 
-/// The most bytes that stand before the samples of a file.
+/// The most bytes that stand before the samples of a file that is written.
 pub const HEADER_ROOM: usize = 68;
 
-fn width_of(format: Fmt) -> u8
-    ensures { result ≡ width format }
+fn word_bytes(format: Fmt) -> u8
+    ensures { result ≡ word_bytes format }
 {
     match format {
         Fmt::Q7 => 1,
@@ -24,16 +25,28 @@ fn width_of(format: Fmt) -> u8
 pub(crate) fn data_size(format: Fmt, channels: u8, frames: u64) -> u128
     ensures { result ≡ data_size format channels (Some frames) }
 {
-    u128::from(frames) * u128::from(channels) * u128::from(width_of(format))
+    u128::from(frames) * u128::from(channels) * u128::from(word_bytes(format))
 }
 
-/// The size that the header of a WAVE file of so many frames says of the file: 36, the bytes of the
-/// samples, and the pad byte behind an odd number of them.
-pub fn riff_size(format: Fmt, channels: u8, frames: u64) -> u128
-    ensures { result ≡ riff_size format channels (Some frames) }
+/// The size and the tag of the `fmt ` chunk of a file.
+fn format_of(container: Container) -> (u32, u16)
+    ensures { result ≡ (format_size container, format_tag container) }
+{
+    match container {
+        Container::Wavex => (EXTENSIBLE_SIZE as u32, EXTENSIBLE_TAG),
+        Container::Wave | Container::Raw => (PLAIN_SIZE as u32, PCM_TAG),
+    }
+}
+
+/// The size that the header of a WAVE file of so many frames says of the file, in bytes: the rest of
+/// the header behind the first eight bytes, which is 36 bytes and with the extension 60, the samples,
+/// and the pad byte behind an odd number of them.
+pub fn riff_size(container: Container, format: Fmt, channels: u8, frames: u64) -> u128
+    requires wave { container ≢ Container.Raw }
+    ensures { result ≡ riff_size container format channels (Some frames) }
 {
     let data = data_size(format, channels, frames);
-    36 + data + data % 2
+    20 + u128::from(format_of(container).0) + data + data % 2
 }
 
 /// What stands behind the samples of a WAVE file: the byte 0 where their number is known and they
@@ -55,43 +68,68 @@ pub(crate) fn append(header: &mut ArrayVec<u8, HEADER_ROOM>, field: &[u8])
     header.try_extend_from_slice(field).unwrap();
 }
 
-/// The header of a WAVE file, the 44 bytes before its samples: samples of the format, `channels` of
-/// them a frame, `rate` frames a second. Where the number of frames is not known, both sizes are
-/// 2^32 - 1. A known length is to have a RIFF size of at most 4,294,967,294.
+/// Appends the extension of the `fmt ` chunk, where the container has one.
+fn append_extension(header: &mut ArrayVec<u8, HEADER_ROOM>, container: Container, bits: u16)
+    requires { array_vec_len header.old ≤ 36 }
+    ensures items { header.new.items ≡ header.old.items ++ extension container bits }
+    ensures length { array_vec_len header.new ≤ array_vec_len header.old + 24 }
+{
+    if container == Container::Wavex {
+        append(header, &22u16.to_le_bytes());
+        append(header, &bits.to_le_bytes());
+        append(header, &0u32.to_le_bytes());
+        append(header, &PCM_SUBFORMAT);
+    }
+}
+
+/// What a header says of the sizes: that of the file and that of the samples.
+fn sizes(container: Container, format: Fmt, channels: u8, frames: Option<u64>) -> (u32, u32)
+    requires wave { container ≢ Container.Raw }
+    requires size { HeaderFits container format channels frames }
+    ensures { result ≡ (riff_size container format channels frames, data_size format channels frames) }
+{
+    match frames {
+        None => (u32::MAX, u32::MAX),
+        Some(frames) => (
+            riff_size(container, format, channels, frames) as u32,
+            data_size(format, channels, frames) as u32,
+        ),
+    }
+}
+
+/// The header of a WAVE file, the 44 bytes before its samples, with the extension 68: samples of the
+/// format, `channels` of them a frame, `rate` frames a second. Where the number of frames is not
+/// known, both sizes are 2^32 - 1. A known length is to have a RIFF size of at most 4,294,967,294.
 pub fn write_header(
+    container: Container,
     format: Fmt,
     channels: u8,
     rate: u32,
     frames: Option<u64>,
 ) -> ArrayVec<u8, HEADER_ROOM>
+    requires wave { container ≢ Container.Raw }
     requires channels { channels ≤ MAX_CHANNELS }
-    requires size { HeaderFits format channels frames }
-    ensures bytes { result.items ≡ wave_header format channels rate frames }
-    ensures heads { (rest : List ℕ) → Heads (result.items ++ rest) (record { format = format; channels = channels }) (record { rate = rate; start = 44; size = written_size format channels frames }) }
+    requires size { HeaderFits container format channels frames }
+    ensures bytes { result.items ≡ wave_header container format channels rate frames }
+    ensures heads { (rest : List ℕ) → Heads (result.items ++ rest) (record { format = format; channels = channels }) (written_header container format channels rate frames) }
 {
-    let (riff, data) = match frames {
-        None => (u32::MAX, u32::MAX),
-        Some(frames) => (
-            riff_size(format, channels, frames) as u32,
-            data_size(format, channels, frames) as u32,
-        ),
-    };
-    let width = width_of(format);
-    let align = u16::from(channels) * u16::from(width);
+    let (riff, data) = sizes(container, format, channels, frames);
+    let (size, tag) = format_of(container);
+    let align = u16::from(channels) * u16::from(word_bytes(format));
+    let bytes_a_second = rate.wrapping_mul(u32::from(align));
+    let bits = 8 * u16::from(word_bytes(format));
     let mut header = ArrayVec::new();
     append(&mut header, b"RIFF");
     append(&mut header, &riff.to_le_bytes());
     append(&mut header, b"WAVEfmt ");
-    append(&mut header, &16u32.to_le_bytes());
-    append(&mut header, &1u16.to_le_bytes());
+    append(&mut header, &size.to_le_bytes());
+    append(&mut header, &tag.to_le_bytes());
     append(&mut header, &u16::from(channels).to_le_bytes());
     append(&mut header, &rate.to_le_bytes());
-    append(
-        &mut header,
-        &rate.wrapping_mul(u32::from(align)).to_le_bytes(),
-    );
+    append(&mut header, &bytes_a_second.to_le_bytes());
     append(&mut header, &align.to_le_bytes());
-    append(&mut header, &(8 * u16::from(width)).to_le_bytes());
+    append(&mut header, &bits.to_le_bytes());
+    append_extension(&mut header, container, bits);
     append(&mut header, b"data");
     append(&mut header, &data.to_le_bytes());
     header

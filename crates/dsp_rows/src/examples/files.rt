@@ -7,7 +7,7 @@ ghost use Rattle.dsp_defs.specs.Generator.{generated_bytes};
 ghost use Rattle.dsp_defs.specs.Output.{output, part, input_signal};
 ghost use Rattle.dsp_rows.specs.Given.{raw_script, wave_script};
 
-use dsp_defs::{Block, Container, Fmt, InputKind};
+use dsp_defs::{Block, Coding, Container, Fmt, InputKind};
 
 const SIX_BYTES: [u8; 6] = [0xE8, 0x03, 0x18, 0xFC, 0xFF, 0xFF];
 
@@ -54,6 +54,27 @@ const ODD_OUTPUT: [u8; 48] = [
     0, 0x80, 0x01, 0xFF, 0,
 ];
 
+const THREE_BYTES: [u8; 3] = [1, 0, 0x80];
+
+const FILE_OF_24_BITS: [u8; 48] = [
+    b'R', b'I', b'F', b'F', 40, 0, 0, 0, b'W', b'A', b'V', b'E', b'f', b'm', b't', b' ', 16, 0, 0,
+    0, 1, 0, 1, 0, 0x40, 0x1F, 0, 0, 0xC0, 0x5D, 0, 0, 3, 0, 24, 0, b'd', b'a', b't', b'a', 3, 0,
+    0, 0, 1, 0, 0x80, 0,
+];
+
+const OUTPUT_OF_32_BITS: [u8; 48] = [
+    b'R', b'I', b'F', b'F', 40, 0, 0, 0, b'W', b'A', b'V', b'E', b'f', b'm', b't', b' ', 16, 0, 0,
+    0, 1, 0, 1, 0, 0x40, 0x1F, 0, 0, 0x00, 0x7D, 0, 0, 4, 0, 32, 0, b'd', b'a', b't', b'a', 4, 0,
+    0, 0, 0, 0xFF, 0xFF, 0x7F,
+];
+
+const EXTENSIBLE_OUTPUT: [u8; 72] = [
+    b'R', b'I', b'F', b'F', 64, 0, 0, 0, b'W', b'A', b'V', b'E', b'f', b'm', b't', b' ', 40, 0, 0,
+    0, 0xFE, 0xFF, 1, 0, 0x40, 0x1F, 0, 0, 0x00, 0x7D, 0, 0, 4, 0, 32, 0, 22, 0, 32, 0, 0, 0, 0, 0,
+    1, 0, 0, 0, 0, 0, 0x10, 0, 0x80, 0, 0, 0xAA, 0, 0x38, 0x9B, 0x71, b'd', b'a', b't', b'a', 4, 0,
+    0, 0, 0, 0xFF, 0xFF, 0x7F,
+];
+
 const UNKNOWN_LENGTH: [u8; 45] = [
     b'R', b'I', b'F', b'F', 255, 255, 255, 255, b'W', b'A', b'V', b'E', b'f', b'm', b't', b' ', 16,
     0, 0, 0, 1, 0, 1, 0, 0x40, 0x1F, 0, 0, 0x40, 0x1F, 0, 0, 1, 0, 8, 0, b'd', b'a', b't', b'a',
@@ -61,9 +82,11 @@ const UNKNOWN_LENGTH: [u8; 45] = [
 ];
 
 pub fn raw_samples()
-    ensures samples { samples Container.Raw Fmt.Q15 1 SIX_BYTES ≡ (pos 1000 ∷ []) ∷ (neg 1000 ∷ []) ∷ (neg 1 ∷ []) ∷ [] }
-    ensures coded { coded Container.Raw Fmt.Q15 ((pos 500 ∷ []) ∷ (neg 500 ∷ []) ∷ (neg 1 ∷ []) ∷ []) ≡ HALVED }
-    ensures wave_q7 { coded Container.Wave Fmt.Q7 ((neg 128 ∷ []) ∷ (pos 127 ∷ []) ∷ []) ≡ 0 ∷ 255 ∷ [] }
+    ensures samples { samples Coding.Raw15 1 SIX_BYTES ≡ (pos 1000 ∷ []) ∷ (neg 1000 ∷ []) ∷ (neg 1 ∷ []) ∷ [] }
+    ensures coded { coded Coding.Raw15 ((pos 500 ∷ []) ∷ (neg 500 ∷ []) ∷ (neg 1 ∷ []) ∷ []) ≡ HALVED }
+    ensures wave_24 { samples Coding.Wave24 1 THREE_BYTES ≡ (neg 2147483392 ∷ []) ∷ [] }
+    ensures coded_24 { coded Coding.Wave24 ((neg 2147483392 ∷ []) ∷ []) ≡ THREE_BYTES }
+    ensures wave_q7 { coded Coding.Wave7 ((neg 128 ∷ []) ∷ (pos 127 ∷ []) ∷ []) ≡ 0 ∷ 255 ∷ [] }
 {}
 
 pub fn fir_of_a_raw_file()
@@ -93,6 +116,12 @@ pub fn biquad_of_an_empty_file()
 // A pad byte follows the odd samples.
 pub fn negate_of_odd_bytes()
     ensures { output (wave_script Fmt.Q7 1 (Block.Negate ∷ []) Container.Wave) ODD_FILE ≡ ODD_OUTPUT }
+{}
+
+// A file of 24 bits is read, and one of 32 bits written, without an extension and with one.
+pub fn negate_of_24_bits()
+    ensures plain { output (wave_script Fmt.Q31 1 (Block.Negate ∷ []) Container.Wave) FILE_OF_24_BITS ≡ OUTPUT_OF_32_BITS }
+    ensures extensible { output (wave_script Fmt.Q31 1 (Block.Negate ∷ []) Container.Wavex) FILE_OF_24_BITS ≡ EXTENSIBLE_OUTPUT }
 {}
 
 // Raw input tells no length, so none is written, and no pad byte.

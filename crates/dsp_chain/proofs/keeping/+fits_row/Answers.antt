@@ -9,13 +9,11 @@ never e = cc
 
 pub count-count-requires : goal.count-count-requires
 count-count-requires g t c =
-    (front c.args.links.now c.in-Some.links_behind.now c.in-Some.link.now c.in-Some.link.now c.args.rules.now c.in-Some-Some.rules_behind.now c.in-Some-Some.rule.now c.args.kept.now c.in-Some-Some.kept_behind.now c.in-Some-Some.kept_here.now c.args.frames
-    c.in-Some.ensures.cases.0 refl c.in-Some-Some.ensures.cases.0 c.in-Some-Some.ensures'.cases.0 c.requires).group
+    (front c.in-Some.ensures.cases.0 refl c.in-Some-Some.ensures.cases.0 c.in-Some-Some.ensures'.cases.0 c.requires).group
 
 pub returns-then-count-numbers : goal.returns-then-count-numbers
 returns-then-count-numbers g t c =
-    let first = front c.args.links.now c.in-Some.links_behind.now c.in-Some.link.now c.in-Some.link.now c.args.rules.now c.in-Some-Some.rules_behind.now c.in-Some-Some.rule.now c.args.kept.now c.in-Some-Some.kept_behind.now c.in-Some-Some.kept_here.now c.args.frames
-    c.in-Some.ensures.cases.0 refl c.in-Some-Some.ensures.cases.0 c.in-Some-Some.ensures'.cases.0 c.requires in
+    let first = front c.in-Some.ensures.cases.0 refl c.in-Some-Some.ensures.cases.0 c.in-Some-Some.ensures'.cases.0 c.requires in
     let short : FitsUnits c.args.links.now c.args.frames c.args.numbers.now → ⊥ =
     λ fits.
     let cuts = cut c.in-Some.link.now c.in-Some.links_behind.now c.args.frames c.count-count.result c.args.numbers.now (c.count-count.ensures ∙ first.count) (subst (λ us. FitsUnits us c.args.frames c.args.numbers.now) c.in-Some.ensures.cases.0 fits) in
@@ -24,8 +22,7 @@ returns-then-count-numbers g t c =
 
 pub returns-in_default-place : goal.returns-in_default-place
 returns-in_default-place g t c =
-    let first = front c.args.links.now c.in-Some.links_behind.now c.in-Some.link.now c.in-Some.link.now c.args.rules.now c.in-Some-Some.rules_behind.now c.in-Some-Some.rule.now c.args.kept.now c.in-Some-Some.kept_behind.now c.in-Some-Some.kept_here.now c.args.frames
-    c.in-Some.ensures.cases.0 refl c.in-Some-Some.ensures.cases.0 c.in-Some-Some.ensures'.cases.0 c.requires in
+    let first = front c.in-Some.ensures.cases.0 refl c.in-Some-Some.ensures.cases.0 c.in-Some-Some.ensures'.cases.0 c.requires in
     let tells = told _ c.in-Some.link.now c.in-Some.links_behind.now c.args.frames c.count-count.result c.args.numbers.now c.split_at.result.0.now c.split_at.result.1.now c.place.result
     c.link.view_is (c.count-count.ensures ∙ first.count) c.split_at.ensures.front c.split_at.ensures.back c.place.ensures.fits c.place.ensures.least in
     let none : FitsUnits c.args.links.now c.args.frames c.args.numbers.now → ⊥ =
@@ -34,8 +31,7 @@ returns-in_default-place g t c =
 
 pub returns-then-place : goal.returns-then-place
 returns-then-place g t c =
-    let first = front c.args.links.now c.in-Some.links_behind.now c.in-Some.link.now c.in-Some.link.now c.args.rules.now c.in-Some-Some.rules_behind.now c.in-Some-Some.rule.now c.args.kept.now c.in-Some-Some.kept_behind.now c.in-Some-Some.kept_here.now c.args.frames
-    c.in-Some.ensures.cases.0 refl c.in-Some-Some.ensures.cases.0 c.in-Some-Some.ensures'.cases.0 c.requires in
+    let first = front c.in-Some.ensures.cases.0 refl c.in-Some-Some.ensures.cases.0 c.in-Some-Some.ensures'.cases.0 c.requires in
     let tells = told _ c.in-Some.link.now c.in-Some.links_behind.now c.args.frames c.count-count.result c.args.numbers.now c.split_at.result.0.now c.split_at.result.1.now c.place.result
     c.link.view_is (c.count-count.ensures ∙ first.count) c.split_at.ensures.front c.split_at.ensures.back c.place.ensures.fits c.place.ensures.least in
     let other : FitsUnits c.args.links.now c.args.frames c.args.numbers.now → ⊥ =
@@ -47,19 +43,16 @@ returns-then-place g t c =
 
 pub live-requires-clause-given : goal.live-requires-clause-given
 live-requires-clause-given g t c =
-    (front c.args.links.now c.in-Some.links_behind.now c.in-Some.link.now c.in-Some.link.now c.args.rules.now c.in-Some-Some.rules_behind.now c.in-Some-Some.rule.now c.args.kept.now c.in-Some-Some.kept_behind.now c.in-Some-Some.kept_here.now c.args.frames
-    c.in-Some.ensures.cases.0 refl c.in-Some-Some.ensures.cases.0 c.in-Some-Some.ensures'.cases.0 c.requires).given
+    (front c.in-Some.ensures.cases.0 refl c.in-Some-Some.ensures.cases.0 c.in-Some-Some.ensures'.cases.0 c.requires).given
 
 pub fits_row-requires : goal.fits_row-requires
 fits_row-requires g t c κs within =
-    let first = front c.args.links.now c.in-Some.links_behind.now c.in-Some.link.now c.in-Some.link.now c.args.rules.now c.in-Some-Some.rules_behind.now c.in-Some-Some.rule.now c.args.kept.now c.in-Some-Some.kept_behind.now c.in-Some-Some.kept_here.now c.args.frames
-    c.in-Some.ensures.cases.0 refl c.in-Some-Some.ensures.cases.0 c.in-Some-Some.ensures'.cases.0 c.requires in
+    let first = front c.in-Some.ensures.cases.0 refl c.in-Some-Some.ensures.cases.0 c.in-Some-Some.ensures'.cases.0 c.requires in
     (omega (arith, ap length c.in-Some.ensures.cases.0, c.decreases), (within, rw c.live.ensures first.behind))
 
 pub returns : goal.returns
 returns g t c =
-    let first = front c.args.links.now c.in-Some.links_behind.now c.in-Some.link.now c.in-Some.link.now c.args.rules.now c.in-Some-Some.rules_behind.now c.in-Some-Some.rule.now c.args.kept.now c.in-Some-Some.kept_behind.now c.in-Some-Some.kept_here.now c.args.frames
-    c.in-Some.ensures.cases.0 refl c.in-Some-Some.ensures.cases.0 c.in-Some-Some.ensures'.cases.0 c.requires in
+    let first = front c.in-Some.ensures.cases.0 refl c.in-Some-Some.ensures.cases.0 c.in-Some-Some.ensures'.cases.0 c.requires in
     let tells = told _ c.in-Some.link.now c.in-Some.links_behind.now c.args.frames c.count-count.result c.args.numbers.now c.split_at.result.0.now c.split_at.result.1.now c.place.result
     c.link.view_is (c.count-count.ensures ∙ first.count) c.split_at.ensures.front c.split_at.ensures.back c.place.ensures.fits c.place.ensures.least in
     let live = c.live.ensures ∙ first.live in

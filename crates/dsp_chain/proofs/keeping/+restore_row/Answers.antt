@@ -9,33 +9,28 @@ use Rattle.dsp_chain.proofs.keeping.+restore_row.Goals as goal
 
 pub count-count-requires : goal.count-count-requires
 count-count-requires g t c =
-    (front c.args.links.now c.in-Some.links_behind.now c.in-Some.link.now c.in-Some.link.now c.args.rules.now c.in-Some-Some.rules_behind.now c.in-Some-Some.rule.now c.args.kept.now c.in-Some-Some.kept_behind.now c.in-Some-Some.kept_here.now c.args.frames
-    c.in-Some.ensures.cases.0 refl c.in-Some-Some.ensures.cases.0 c.in-Some-Some.ensures'.cases.0 c.requires.rules).group
+    (front c.in-Some.ensures.cases.0 refl c.in-Some-Some.ensures.cases.0 c.in-Some-Some.ensures'.cases.0 c.requires.rules).group
 
 pub unreachable-requires-then-count-numbers : goal.unreachable-requires-then-count-numbers
 unreachable-requires-then-count-numbers g t c =
-    let first = front c.args.links.now c.in-Some.links_behind.now c.in-Some.link.now c.in-Some.link.now c.args.rules.now c.in-Some-Some.rules_behind.now c.in-Some-Some.rule.now c.args.kept.now c.in-Some-Some.kept_behind.now c.in-Some-Some.kept_here.now c.args.frames
-    c.in-Some.ensures.cases.0 refl c.in-Some-Some.ensures.cases.0 c.in-Some-Some.ensures'.cases.0 c.requires.rules in
+    let first = front c.in-Some.ensures.cases.0 refl c.in-Some-Some.ensures.cases.0 c.in-Some-Some.ensures'.cases.0 c.requires.rules in
     let cuts = cut c.in-Some.link.now c.in-Some.links_behind.now c.args.frames c.count-count.result c.args.numbers.now (c.count-count.ensures ∙ first.count) (subst (λ us. FitsUnits us c.args.frames c.args.numbers.now) c.in-Some.ensures.cases.0 c.requires.fits) in
     omega (arith, c.if-count-numbers.true, cuts.within)
 
 pub restore-requires-clause-fits : goal.restore-requires-clause-fits
 restore-requires-clause-fits g t c =
-    let first = front c.args.links.now c.in-Some.links_behind.now c.in-Some.link.now c.in-Some.link.now c.args.rules.now c.in-Some-Some.rules_behind.now c.in-Some-Some.rule.now c.args.kept.now c.in-Some-Some.kept_behind.now c.in-Some-Some.kept_here.now c.args.frames
-    c.in-Some.ensures.cases.0 refl c.in-Some-Some.ensures.cases.0 c.in-Some-Some.ensures'.cases.0 c.requires.rules in
+    let first = front c.in-Some.ensures.cases.0 refl c.in-Some-Some.ensures.cases.0 c.in-Some-Some.ensures'.cases.0 c.requires.rules in
     let cuts = cut c.in-Some.link.now c.in-Some.links_behind.now c.args.frames c.count-count.result c.args.numbers.now (c.count-count.ensures ∙ first.count) (subst (λ us. FitsUnits us c.args.frames c.args.numbers.now) c.in-Some.ensures.cases.0 c.requires.fits) in
     let here = subst (FitsAfter c.in-Some.link.now.format c.in-Some.link.now.channels c.in-Some.link.now.block c.args.frames) (sym c.split_at.ensures.front) cuts.here in
     (c.args.frames, subst (λ (u : UnitState). FitsAfter u.format u.channels u.block c.args.frames c.split_at.result.0.now) (sym c.link.view_is) here)
 
 pub live-requires-clause-given : goal.live-requires-clause-given
 live-requires-clause-given g t c =
-    (front c.args.links.now c.in-Some.links_behind.now c.in-Some.link.now c.in-Some.link.now c.args.rules.now c.in-Some-Some.rules_behind.now c.in-Some-Some.rule.now c.args.kept.now c.in-Some-Some.kept_behind.now c.in-Some-Some.kept_here.now c.args.frames
-    c.in-Some.ensures.cases.0 refl c.in-Some-Some.ensures.cases.0 c.in-Some-Some.ensures'.cases.0 c.requires.rules).given
+    (front c.in-Some.ensures.cases.0 refl c.in-Some-Some.ensures.cases.0 c.in-Some-Some.ensures'.cases.0 c.requires.rules).given
 
 pub restore_row-requires : goal.restore_row-requires
 restore_row-requires g t c κs within =
-    let first = front c.args.links.now c.in-Some.links_behind.now c.in-Some.link.now c.in-Some.link.now c.args.rules.now c.in-Some-Some.rules_behind.now c.in-Some-Some.rule.now c.args.kept.now c.in-Some-Some.kept_behind.now c.in-Some-Some.kept_here.now c.args.frames
-    c.in-Some.ensures.cases.0 refl c.in-Some-Some.ensures.cases.0 c.in-Some-Some.ensures'.cases.0 c.requires.rules in
+    let first = front c.in-Some.ensures.cases.0 refl c.in-Some-Some.ensures.cases.0 c.in-Some-Some.ensures'.cases.0 c.requires.rules in
     let cuts = cut c.in-Some.link.now c.in-Some.links_behind.now c.args.frames c.count-count.result c.args.numbers.now (c.count-count.ensures ∙ first.count) (subst (λ us. FitsUnits us c.args.frames c.args.numbers.now) c.in-Some.ensures.cases.0 c.requires.fits) in
     let behind = subst (FitsUnits c.in-Some.links_behind.now _) (sym c.split_at.ensures.back) cuts.behind in
     let runs : AllRun c.in-Some.links_behind.now = (subst AllRun c.in-Some.ensures.cases.0 c.requires.running).1 in
@@ -43,8 +38,7 @@ restore_row-requires g t c κs within =
 
 pub returns : goal.returns
 returns g t c =
-    let first = front c.args.links.now c.in-Some.links_behind.now c.in-Some.link.now c.in-Some.link.now c.args.rules.now c.in-Some-Some.rules_behind.now c.in-Some-Some.rule.now c.args.kept.now c.in-Some-Some.kept_behind.now c.in-Some-Some.kept_here.now c.args.frames
-    c.in-Some.ensures.cases.0 refl c.in-Some-Some.ensures.cases.0 c.in-Some-Some.ensures'.cases.0 c.requires.rules in
+    let first = front c.in-Some.ensures.cases.0 refl c.in-Some-Some.ensures.cases.0 c.in-Some-Some.ensures'.cases.0 c.requires.rules in
     let cuts = cut c.in-Some.link.now c.in-Some.links_behind.now c.args.frames c.count-count.result c.args.numbers.now (c.count-count.ensures ∙ first.count) (subst (λ us. FitsUnits us c.args.frames c.args.numbers.now) c.in-Some.ensures.cases.0 c.requires.fits) in
     let here = subst (FitsAfter c.in-Some.link.now.format c.in-Some.link.now.channels c.in-Some.link.now.block c.args.frames) (sym c.split_at.ensures.front) cuts.here in
     let one : Restores c.in-Some.link.now (g.S.Stage.unit c.restore.new.self) c.split_at.result.0.now = subst (λ (u : UnitState). Restores u (g.S.Stage.unit c.restore.new.self) c.split_at.result.0.now) c.link.view_is c.restore.ensures in

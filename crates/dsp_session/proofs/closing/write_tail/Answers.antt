@@ -6,13 +6,13 @@ use Rattle.dsp_session.proofs.closing.write_tail.Goals as goal
 pub loop-init : goal.loop-init
 loop-init g c =
     record {
-      same = record { script = refl; block = refl };
+      same = record { script = refl; block = refl; coding = refl };
       no_fault = refl;
       tailing = λ x stands. laws.tail_starts _ x c.args.frames _ _ _ refl stands (c.requires x stands);
     }
 
 pub returns-then-end-eq0-clause-same : goal.returns-then-end-eq0-clause-same
-returns-then-end-eq0-clause-same g c = record { script = c.end.ensures.same.script ∙ c.loop.invariant.same.script; block = c.end.ensures.same.block ∙ c.loop.invariant.same.block }
+returns-then-end-eq0-clause-same g c = record { script = c.end.ensures.same.script ∙ c.loop.invariant.same.script; block = c.end.ensures.same.block ∙ c.loop.invariant.same.block; coding = c.end.ensures.same.coding ∙ c.loop.invariant.same.coding }
 
 pub returns-then-end-eq0-clause-written : goal.returns-then-end-eq0-clause-written
 returns-then-end-eq0-clause-written g c x stands =
@@ -26,7 +26,7 @@ pub returns-then-end-eq0-clause-faults : goal.returns-then-end-eq0-clause-faults
 returns-then-end-eq0-clause-faults g c = c.loop.invariant.no_fault
 
 pub returns-in_err-write_all-clause-same : goal.returns-in_err-write_all-clause-same
-returns-in_err-write_all-clause-same g c = record { script = c.end.ensures.same.script ∙ c.loop.invariant.same.script; block = c.end.ensures.same.block ∙ c.loop.invariant.same.block }
+returns-in_err-write_all-clause-same g c = record { script = c.end.ensures.same.script ∙ c.loop.invariant.same.script; block = c.end.ensures.same.block ∙ c.loop.invariant.same.block; coding = c.end.ensures.same.coding ∙ c.loop.invariant.same.coding }
 
 pub returns-in_err-write_all-clause-written : goal.returns-in_err-write_all-clause-written
 returns-in_err-write_all-clause-written g c x stands =
@@ -47,7 +47,7 @@ returns-in_err-write_all-clause-faults g c =
 pub loop-preserved : goal.loop-preserved
 loop-preserved g c =
     record {
-      same = record { script = c.end.ensures.same.script ∙ c.loop.invariant.same.script; block = c.end.ensures.same.block ∙ c.loop.invariant.same.block };
+      same = record { script = c.end.ensures.same.script ∙ c.loop.invariant.same.script; block = c.end.ensures.same.block ∙ c.loop.invariant.same.block; coding = c.end.ensures.same.coding ∙ c.loop.invariant.same.coding };
       no_fault = c.in_ok-write_all.ensures.faults ∙ c.loop.invariant.no_fault;
       tailing = λ x stands.
           laws.tail_goes_on _ x _ _ _ _ _ _ _ (c.loop.invariant.tailing x stands) _ _ _ c.end.ensures.ends c.end.ensures.same _ c.if-end-eq0.false c.end.ensures.given (rw c.out.ensures at c.in_ok-write_all.ensures.took) c.in_ok-write_all.ensures.faults;

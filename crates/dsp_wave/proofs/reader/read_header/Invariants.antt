@@ -8,7 +8,7 @@ abbrev pub invariant-loop-header : goal.invariant-loop-header
 invariant-loop-header g l =
     record {
       read : (bytes : List ℕ) × Came 0 l.offset (g.S.Source.state l.fn.source) (g.S.Source.state l.source) bytes
-          × ((more : List ℕ) → header_of (bytes ++ more) l.wanted ≡ said_from l.wanted l.offset l.rate more);
+          × ((more : List ℕ) → header_of (bytes ++ more) l.wanted ≡ said_from l.wanted l.offset l.known more);
     }
 
 abbrev pub decreases-loop-header : goal.decreases-loop-header

@@ -1,6 +1,7 @@
 use Rattle.std.proofs.Common.{◌≡◌, ◌∙◌, ap, sym, subst, ◌+◌, ◌*◌, ◌<◌, ◌≤◌, [], ◌∷◌, ◌++◌, length, take, drop, get_or, arith, List}
 use Rattle.std.proofs.lemmas.List.{take_more, take_all}
 use Rattle.dsp_stage.specs.Row.{Place, place_after, blocks_of, place_behind, place_room}
+use Rattle.dsp_defs.specs.declared.limits.TheConstants.{MAX_CHANNELS, MAX_SAMPLES}
 use Rattle.dsp_defs.specs.Block.{channels_after}
 use Rattle.dsp_defs.specs.declared.script.Block.{Block}
 use Rattle.dsp_stage.specs.Unit.{UnitState}
@@ -39,7 +40,7 @@ after-flow-requires c =
     let b = c.block-item.result in
     let here : Place = record { format = c.loop-block.flow.format; channels = c.loop-block.flow.channels; capacity = c.loop-block.frames } in
     let next : Next here b = making-next (input_place c.args.script.now c.args.block) here blocks i (i + 1) c.loop-block.links.items b (next-first blocks i b c.loop-block-test.true c.block-item.is) c.loop-block.invariant.0 in
-    let few : channels_after c.loop-block.flow.channels b ≤ 16 = next.few_channels in
+    let few : channels_after c.loop-block.flow.channels b ≤ MAX_CHANNELS = next.few_channels in
     omega (arith, few)
 
 pub loop-block-preserved : goal.loop-block-preserved
@@ -98,5 +99,5 @@ most_frames-frames-requires c =
 pub overflow_mul-result : goal.overflow_mul-result
 overflow_mul-result c =
     let here : Place = record { format = c.loop-block.flow.format; channels = c.loop-block.flow.channels; capacity = c.loop-block.frames } in
-    let samples : c.loop-block.frames * c.loop-block.flow.channels ≤ 1048576 = (making-open (input_place c.args.script.now c.args.block) here c.as_slice-blocks.result.now c.loop-block.block-index c.loop-block.links.items c.loop-block.invariant.0).samples in
+    let samples : c.loop-block.frames * c.loop-block.flow.channels ≤ MAX_SAMPLES = (making-open (input_place c.args.script.now c.args.block) here c.as_slice-blocks.result.now c.loop-block.block-index c.loop-block.links.items c.loop-block.invariant.0).samples in
     rw c.from-2.ensures (omega (arith, samples))

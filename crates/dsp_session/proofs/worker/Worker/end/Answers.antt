@@ -1,26 +1,25 @@
 use Rattle.std.proofs.Common.{◌≡◌, ◌*◌, ◌∙◌, length, take}
 use Rattle.dsp_defs.specs.Bytes.{width}
-use Rattle.dsp_defs.proofs.SampleLaws.{width-some}
-use Rattle.dsp_wave.specs.Coding.{format_in}
+use Rattle.dsp_defs.proofs.CodingLemmas.{width-some}
 use Rattle.dsp_chain.proofs.Room.{written-row}
 use Rattle.dsp_session.proofs.WorkerLaws as laws
 use Rattle.dsp_session.proofs.worker.Worker.end.Goals as goal
 
 pub encode_front-self-inside-requires-clause-fits : goal.encode_front-self-inside-requires-clause-fits
 encode_front-self-inside-requires-clause-fits g c =
-    let holds = c.self.invariant.0 in
+    let holds = c.self.invariant.holds in
     let same : c.deref.result.now ≡ c.finish-count.new.out = c.deref.ensures.value ∙ written-row c.self.inside.values.len c.finish-count.new.out c.self.inside.values.items (c.finish-count.auto.out ∙ c.as_mut_slice.ensures.len) in
-    rw (same, c.self.invariant.4, ← laws.gives_format c.self.inside.script.now c.self.inside.block holds.ready c.self.inside.chain c.finish-count.new.self holds.input holds.blocks) c.finish-count.ensures.finished.passes.signal.in_format
+    rw same (laws.gives_values c.self.inside.script.now c.self.inside.block holds.ready c.self.inside.output _ c.self.invariant.output (rw (← laws.gives_format c.self.inside.script.now c.self.inside.block holds.ready c.self.inside.chain c.finish-count.new.self holds.input holds.blocks) c.finish-count.ensures.finished.passes.signal.in_format))
 
 pub returns-clause-ends : goal.returns-clause-ends
 returns-clause-ends g c =
     let script = c.self.inside.script.now in
-    let holds = c.self.invariant.0 in
+    let holds = c.self.invariant.holds in
     let ys = take c.finish-count.result c.finish-count.new.out in
     let same : c.deref.result.now ≡ c.finish-count.new.out = c.deref.ensures.value ∙ written-row c.self.inside.values.len c.finish-count.new.out c.self.inside.values.items (c.finish-count.auto.out ∙ c.as_mut_slice.ensures.len) in
     let out = laws.write_row script c.self.inside.block holds.ready c.self.inside.output c.encode_front-self-inside.result c.self.inside.bytes.len ys c.encode_front-self-inside.new.bytes c.self.inside.bytes.items
-    c.self.invariant.3 c.self.invariant.4 (c.encode_front-self-inside.auto.bytes ∙ c.as_mut_slice-2.ensures.len) (rw same at c.encode_front-self-inside.ensures.bytes) in
-    let answer : c.encode_front-self-inside.result ≡ length ys * width (format_in c.self.inside.output) = rw same at c.encode_front-self-inside.ensures.count in
+    c.self.invariant.output (c.encode_front-self-inside.auto.bytes ∙ c.as_mut_slice-2.ensures.len) (rw same at c.encode_front-self-inside.ensures.bytes) in
+    let answer : c.encode_front-self-inside.result ≡ length ys * width c.self.inside.output = rw same at c.encode_front-self-inside.ensures.count in
     rw (← c.self.view_is)
-    (laws.ends script c.self.inside.block holds.ready c.self.inside.chain c.finish-count.new.self holds.input holds.blocks holds.turns _ _ ys out c.encode_front-self-inside.result
-    (width (format_in c.self.inside.output)) (width-some (format_in c.self.inside.output)) answer _ _ c.finish-count.ensures.finished)
+    (laws.ends script c.self.inside.block holds.ready c.self.inside.chain c.finish-count.new.self holds.input holds.blocks holds.turns _ _ _ ys out c.encode_front-self-inside.result
+    (width c.self.inside.output) (width-some c.self.inside.output) answer _ _ c.finish-count.ensures.finished)

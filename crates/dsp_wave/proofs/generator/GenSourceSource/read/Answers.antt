@@ -1,5 +1,4 @@
 use Rattle.std.proofs.Common.{ap, arith, drop, length, length-take, length-drop, ◌+◌, ◌-◌, ◌≤◌, [], ◌∷◌, ◌++◌, ℕ, List, if◌then◌else◌}
-use Rattle.dsp_wave.specs.Coding.{container_in, format_in}
 use Rattle.dsp_wave.specs.Generated.{made}
 use Rattle.dsp_wave.proofs.GeneratorLemmas.{Gave-ready}
 use Rattle.dsp_wave.proofs.generator.GenSourceSource.read.Goals as goal
@@ -7,7 +6,7 @@ use Rattle.dsp_wave.proofs.generator.GenSourceSource.read.Goals as goal
 pub returns-clause-gave : goal.returns-clause-gave
 returns-clause-gave c =
     let pieces = c.refill.new.self in
-    let last : List ℕ = made (container_in pieces.coding) (format_in pieces.coding) pieces.state pieces.samples ++ (if pieces.has_pad then (0 ∷ []) else []) in
+    let last : List ℕ = made pieces.container pieces.format pieces.state pieces.samples ++ (if pieces.has_pad then (0 ∷ []) else []) in
     let copied = rw c.deref.ensures.0 at c.copy_from_slice.ensures.after in
     let size = ap length c.deref.ensures.0 in
     let all = c.deref.result.now in

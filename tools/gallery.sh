@@ -19,6 +19,7 @@ use mono in.wav wav
 use designed in.raw raw
 use equiripple in.wav wav
 use elliptic in.wav wav
+use halfband in.wav wav
 
 if command -v python3 >/dev/null; then
     check "the gallery is made" python3 "$top/examples/make.py" "$folder/made"

@@ -1,12 +1,12 @@
 #!/usr/bin/env bash
 # WAVE files of other programs through `dspfx run`, and what it writes read by them: python's `wave`
-# module, and sox and libsndfile's tools where they are installed. It is no part of the gate.
+# module, and sox, libsndfile's tools and ffmpeg where they are installed. It is no part of the gate.
 # DSPFX names another program to be tried, which takes `run SCRIPT IN OUT`.
 . "$(dirname "$(readlink -f "${BASH_SOURCE[0]}")")/checking.sh"
 
-# Copies a WAVE file by a script of no blocks: copy FORMAT CHANNELS IN OUT.
+# Copies a WAVE file by a script of no blocks: copy FORMAT CHANNELS IN OUT [CONTAINER].
 copy() {
-    echo "dspfx 1 input wave $1 $2 output wave" >"$folder/script.txt"
+    echo "dspfx 1 input wave $1 $2 output ${5:-wave}" >"$folder/script.txt"
     rm -f "$4"
     "$program" run "$folder/script.txt" "$3" "$4"
 }
@@ -61,37 +61,66 @@ with_python() {
     done
 }
 
-# Whether sox reads the same samples from both files.
-sox_same() {
-    sox "$1" -t raw "$folder/first.raw" && sox "$2" -t raw "$folder/second.raw" && cmp "$folder/first.raw" "$folder/second.raw"
+# A file of noise in so many bits as each program writes it, `wav` or with an extension, `wavex`:
+# write_by_PROGRAM BITS CHANNELS FORM FILE. The noise is the 24 bits of noise.wav.
+write_by_sox() {
+    local kind=wavpcm
+    [ "$3" = wavex ] && kind=wav
+    [ "$3" = wavex ] && [ "$1" -le 16 ] && [ "$2" -le 2 ] && return 2
+    sox -D "$folder/noise.wav" -b "$1" -t "$kind" "$4"
 }
 
-with_sox() {
-    local form format encoding bits
-    for form in q7:unsigned-integer:8 q15:signed-integer:16 q31:signed-integer:32; do
-        IFS=: read -r format encoding bits <<<"$form"
-        check "sox $format: write" sox -D -n -r 48000 -c 2 -e "$encoding" -b "$bits" -t wavpcm "$folder/in.wav" synth 0.1 sine 440 sine 660
-        check "sox $format: run" copy "$format" 2 "$folder/in.wav" "$folder/out.wav"
-        check "sox $format: read" sox_same "$folder/in.wav" "$folder/out.wav"
-    done
+write_by_sndfile() {
+    local kind=pcm$1
+    [ "$1" = 8 ] && kind=pcmu8
+    sndfile-convert "-$kind" "$folder/noise.wav" "$folder/made.$3" && mv "$folder/made.$3" "$4"
 }
 
-with_sndfile() {
-    local form format kind
-    for form in q7:pcmu8 q15:pcm16 q31:pcm32; do
-        IFS=: read -r format kind <<<"$form"
-        check "sndfile $format: write" python_write 2 2 8000 777 "$folder/first.wav"
-        check "sndfile $format: convert" sndfile-convert "-$kind" "$folder/first.wav" "$folder/in.wav"
-        check "sndfile $format: run" copy "$format" 2 "$folder/in.wav" "$folder/out.wav"
-        check "sndfile $format: read" sndfile-convert "-$kind" "$folder/out.wav" "$folder/again.wav"
-        check "sndfile $format: same" cmp "$folder/in.wav" "$folder/again.wav"
+write_by_ffmpeg() {
+    local kind=pcm_s$1le
+    [ "$1" = 8 ] && kind=pcm_u8
+    [ "$3" = wavex ] && [ "$1" -le 16 ] && [ "$2" -le 2 ] && return 2
+    [ "$3" = wav ] && { [ "$1" -gt 16 ] || [ "$2" -gt 2 ]; } && return 2
+    ffmpeg -v error -y -i "$folder/noise.wav" -c:a "$kind" "$4"
+}
+
+# The samples of a file in 32 bits, as each program reads them: read_by_PROGRAM FILE RAW.
+read_by_sox() { sox -D "$1" -t raw -e signed-integer -b 32 "$2"; }
+read_by_sndfile() { sndfile-convert -pcm32 "$1" "$2.raw" && mv "$2.raw" "$2"; }
+read_by_ffmpeg() { ffmpeg -v error -y -i "$1" -f s32le "$2"; }
+
+# Whether a program reads the same samples from both files: same_by PROGRAM FIRST SECOND.
+same_by() {
+    "read_by_$1" "$2" "$folder/first" && "read_by_$1" "$3" "$folder/second" && cmp "$folder/first" "$folder/second"
+}
+
+# Files of a program, read here and written in both forms, and those read by it.
+with_program() {
+    local program_of=$1 bits channels form container name format status
+    for bits in 8:q7 16:q15 24:q31 32:q31; do
+        format=${bits#*:} bits=${bits%:*}
+        for channels in 1 2 6; do
+            python_write 3 "$channels" 48000 333 "$folder/noise.wav"
+            for form in wav wavex; do
+                name="$program_of, $bits bits, $channels channels, $form"
+                "write_by_$program_of" "$bits" "$channels" "$form" "$folder/in.wav" >"$folder/log" 2>&1
+                status=$?
+                [ "$status" = 2 ] && continue # the program has no such form
+                check "$name: written" test "$status" = 0
+                for container in wave wavex; do
+                    check "$name: to $container" copy "$format" "$channels" "$folder/in.wav" "$folder/out.wav" "$container"
+                    check "$name: $container as it was" same_by "$program_of" "$folder/in.wav" "$folder/out.wav"
+                done
+            done
+        done
     done
 }
 
 if has python3; then
     with_python
-    if has sndfile-convert; then with_sndfile; fi
+    if has sox; then with_program sox; fi
+    if has sndfile-convert; then with_program sndfile; fi
+    if has ffmpeg; then with_program ffmpeg; fi
 fi
-if has sox; then with_sox; fi
 
 counted

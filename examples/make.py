@@ -172,6 +172,18 @@ class Gallery:
         self.wave("elliptic", "in.wav", 2, 1, RATE, pack(samples))
         self.wave("elliptic", "expected.wav", 2, 1, RATE, pack(cascaded(sections, 1, samples)))
 
+    def halfband(self):
+        """One table in two blocks: a half-band filter, and again behind the decimator that it makes room for. From
+        24 bits, which Q15 keeps the upper 16 of."""
+        taps = q15(windowed(0, 1 / 4, 23))
+        wide = [round(value) for value in map(sum, zip(tone(200, 2000000, 800), tone(1500, 2000000, 800), tone(3500, 2000000, 800)))]
+        samples = [value >> 8 for value in wide]
+        once = filtered(taps, samples)[::2]
+        table = f"table half {shown(reversed(taps))}\n"
+        self.text("halfband", "script.txt", f"dspfx 2\ninput wave q31 1\n{table}to q15\ndecimate 2 half\nfir half\noutput wave\n")
+        self.wave("halfband", "in.wav", 3, 1, RATE, b"".join(value.to_bytes(3, "little", signed=True) for value in wide))
+        self.wave("halfband", "expected.wav", 2, 1, RATE // 2, pack(filtered(taps, once)))
+
 
 gallery = Gallery(sys.argv[1] if len(sys.argv) > 1 else HERE)
 gallery.lowpass()
@@ -181,3 +193,4 @@ gallery.mono()
 gallery.designed()
 gallery.equiripple()
 gallery.elliptic()
+gallery.halfband()

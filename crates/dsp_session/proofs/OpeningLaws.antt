@@ -1,19 +1,17 @@
 -- Behind the header of the input stand its samples, block after block.
-use Rattle.std.proofs.Common.{◌≡◌, ℕ, ◌+◌, ◌*◌, ◌/◌, ◌<◌, ◌≤◌, List, [], ◌++◌, length, take, drop, Option, Some, None, refl, sym, ap, ◌∙◌, subst, arith, length-append}
+use Rattle.std.proofs.Common.{◌≡◌, ℕ, ◌+◌, ◌*◌, ◌/◌, ◌<◌, ◌≤◌, List, [], ◌++◌, length, take, drop, Option, Some, None, refl, sym, ap, ◌∙◌, arith, length-append}
 use Rattle.std.proofs.lemmas.List.{drop_at, take_all, take_at}
 use Rattle.std.proofs.lemmas.Nat.{div-mul-add}
 use Rattle.std.proofs.Math.Nat.{mul_assoc}
 use Rattle.dsp_defs.specs.Block.{Frame}
-use Rattle.dsp_defs.specs.Bytes.{format_in, width, word_bytes}
-use Rattle.dsp_defs.specs.Grammar.{container_of}
-use Rattle.dsp_defs.specs.declared.format.Coding.TheVariants.{Raw7, Raw15, Raw31, Wave7, Wave15, Wave24, Wave31}
+use Rattle.dsp_defs.specs.Bytes.{width}
 use Rattle.dsp_defs.specs.Output.{input_signal, sample_bytes, output_header, output_pad, live_bytes, whole_bytes, whole_blocks, output, part}
 use Rattle.dsp_defs.specs.declared.format.Coding.{Coding}
 use Rattle.dsp_defs.specs.declared.script.Script.{Script}
 use Rattle.dsp_defs.specs.declared.wave.Header.{Header}
-use Rattle.dsp_defs.proofs.CodingLemmas.{width-some, width-coding_of}
+use Rattle.dsp_defs.proofs.CodingLemmas.{width-some}
 use Rattle.dsp_defs.proofs.SampleLaws.{length-samples, samples-nil, samples-append, count-whole}
-use Rattle.dsp_session.specs.Session.{IsReady, frame_bytes, block_bytes, input_coding, signal}
+use Rattle.dsp_session.specs.Session.{IsReady, frame_bytes, block_bytes, signal}
 use Rattle.dsp_session.specs.Opening.{Opens}
 use Rattle.dsp_session.specs.Stream.{declared_bytes, in_whole_frames, frames_in_bytes}
 use Rattle.dsp_session.specs.Passing.{InDeclared}
@@ -30,26 +28,6 @@ some_frame script coding block ready = some_product script.input.channels (width
 -- a number of frames that are whole blocks
 pub frames_of_blocks : (script : Script) (coding : Coding) (block blocks count : ℕ) → count ≡ blocks * block_bytes script coding block → count ≡ blocks * block * frame_bytes script coding
 frames_of_blocks script coding block blocks count is = is ∙ sym (mul_assoc blocks block (frame_bytes script coding))
-
--- no coding of a format is wider than that of all its bits
-narrower : (coding : Coding) → width coding ≤ word_bytes (format_in coding)
-narrower Raw7 = omega arith
-narrower Raw15 = omega arith
-narrower Raw31 = omega arith
-narrower Wave7 = omega arith
-narrower Wave15 = omega arith
-narrower Wave24 = omega arith
-narrower Wave31 = omega arith
-
-pub room_for_block : (script : Script) (coding : Coding) (block : ℕ) → format_in coding ≡ script.input.format → block_bytes script coding block ≤ block_bytes script (input_coding script) block
-room_for_block script coding block is =
-    let format = script.input.format in
-    let all : width (input_coding script) ≡ word_bytes format = width-coding_of (container_of script.input.kind) format in
-    let less : width coding ≤ word_bytes format = subst (λ f. width coding ≤ word_bytes f) is (narrower coding) in
-    let channels : script.input.channels ≤ script.input.channels = omega arith in
-    let frame : frame_bytes script coding ≤ frame_bytes script (input_coding script) = mul-le-mul channels (rw all less) in
-    let blocks : block ≤ block = omega arith in
-    mul-le-mul blocks frame
 
 -- whole blocks of frames, and less than one more
 whole_blocks-append : (block blocks : ℕ) (x y : List Frame) → length x ≡ blocks * block → length y < block → whole_blocks block (x ++ y) ≡ x

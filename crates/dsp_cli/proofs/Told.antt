@@ -9,6 +9,7 @@ use Rattle.dsp_defs.specs.Grammar.{Reads}
 use Rattle.dsp_defs.specs.Reading.{reading, first_fault}
 use Rattle.dsp_defs.specs.declared.script.Script.{Script}
 use Rattle.dsp_defs.specs.declared.script_fault.ScriptFault.{ScriptFault}
+use Rattle.dsp_defs.specs.declared.limits.TheConstants.{MAX_SCRIPT}
 use Rattle.dsp_defs.specs.declared.script_fault.ScriptKind.TheVariants.{TooLong}
 use Rattle.dsp_script.proofs.ScriptLaws.{one_script, reads_or_fails}
 use Rattle.dsp_cli.specs.Script.{IsReadWhole, IfScript, IfFault}
@@ -65,7 +66,7 @@ told_longer (Some all) rest given front = told_length (Some all) rest given all 
 
 -- the text that was read is the one that is told, or both are too long
 abbrev Same : List ℕ → List ℕ → Type 0
-Same text all = (all ≡ text) ⊎ ((1048576 < length text) × (1048576 < length all))
+Same text all = (all ≡ text) ⊎ ((MAX_SCRIPT < length text) × (MAX_SCRIPT < length all))
 
 told_text : (source now : SourceState) (text : List ℕ) → IsReadWhole source now text → IfSome source.left (Same text)
 told_text source now text read =
@@ -75,10 +76,10 @@ told_text source now text read =
     ]
 
 -- a text that is too long has that fault
-first_fault_long : (text : List ℕ) → 1048576 < length text → first_fault text ≡ Some (record { offset = 1048576; kind = TooLong })
+first_fault_long : (text : List ℕ) → MAX_SCRIPT < length text → first_fault text ≡ Some (record { offset = MAX_SCRIPT; kind = TooLong })
 unfolding reading
 first_fault_long text long =
-    let test : nat_lt 1048576 (length text) ≡ true = grind (arith, nat_tests) in
+    let test : nat_lt MAX_SCRIPT (length text) ≡ true = grind (arith, nat_tests) in
     rw test refl
 
 no_fault : (text : List ℕ) (script : Script) → Reads text script → first_fault text ≡ None

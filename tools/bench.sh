@@ -58,9 +58,11 @@ if gcc -O1 -static -o "$folder/launch" "$folder/launch.c" 2>/dev/null; then LAUN
 FOLDER=$folder python3 - <<'PYTHON'
 import filecmp
 import os
+import random
 import resource
 import subprocess
 import time
+import wave
 
 folder = os.environ["FOLDER"]
 program = os.environ["PROGRAM"]
@@ -71,7 +73,6 @@ passes = int(os.environ.get("PASSES", "7"))
 only = os.environ.get("ONLY", "")
 
 BITS = {"q7": 8, "q15": 16, "q31": 32}
-NOT_BUILT = 12
 
 
 def numbers(values):
@@ -82,6 +83,12 @@ def taps(form, count):
     """Values of both signs whose absolute values add up to less than one, where one fits each."""
     most = max(1, 2 ** (BITS[form] - 1) // count - 1)
     return numbers((1 + index * 7919 % most) * (-1) ** (index % 3 == 0) for index in range(count))
+
+
+def large_taps(form, count):
+    """Values of both signs, near the ends of the range."""
+    most = 2 ** (BITS[form] - 1) - 1
+    return numbers((most - index * 7919 % 1000) * (-1) ** (index % 3 == 0) for index in range(count))
 
 
 def sections(form, count):
@@ -97,7 +104,7 @@ def half(form):
 ALL, WIDE, Q15, Q31 = ("q7", "q15", "q31"), ("q15", "q31"), ("q15",), ("q31",)
 
 # A row of the table: its name, its formats, its channels, the text of its blocks in a format, and the
-# frames that it can take at most. A block that is not built is left out and named at the end.
+# frames that it can take at most.
 BLOCKS = [
     ("no block", ALL, 1, lambda form: ""),
     ("offset", ALL, 1, lambda form: f"offset {half(form)}"),
@@ -117,6 +124,7 @@ BLOCKS = [
     ("fir of 32 taps", ALL, 1, lambda form: "fir " + taps(form, 32)),
     ("fir of 32 taps, stereo", Q15, 2, lambda form: "fir " + taps(form, 32)),
     ("fir of 256 taps", ALL, 1, lambda form: "fir " + taps(form, 256)),
+    ("fir of 256 large taps", Q15, 1, lambda form: "fir " + large_taps(form, 256)),
     ("sparse of 16 taps", ALL, 1, lambda form: f"sparse {taps(form, 16)} {numbers(range(0, 4000, 250))}"),
     ("decimate 4, 64 taps", WIDE, 1, lambda form: "decimate 4 " + taps(form, 64)),
     ("interpolate 4, 64 taps", WIDE, 1, lambda form: "interpolate 4 " + taps(form, 64)),
@@ -127,12 +135,15 @@ BLOCKS = [
     ("conv of 64 taps", ALL, 1, lambda form: "conv " + taps(form, 64)),
     ("conv_partial of 64 taps", ALL, 1, lambda form: "conv_partial 0 1000 " + taps(form, 64)),
     ("correlate of 64 taps", ALL, 1, lambda form: "correlate " + taps(form, 64), 1000000),
+    ("correlate of 256 taps", ALL, 1, lambda form: "correlate " + taps(form, 256), 1000000),
     ("lms of 32 taps", WIDE, 2, lambda form: f"lms 0 {half(form) // 8} {numbers([0] * 32)}"),
     ("pid", WIDE, 1, lambda form: f"pid {half(form) // 4} {half(form) // 32} {half(form) // 64}"),
     ("mat_add of 8 by 8", WIDE, 1, lambda form: "mat_add 8 8 " + taps(form, 64)),
     ("mat_scale of 8 by 8", WIDE, 1, lambda form: f"mat_scale 8 8 {half(form)} 1"),
     ("mat_trans of 8 by 8", WIDE, 1, lambda form: "mat_trans 8 8"),
+    ("mat_mult of 4 by 4", Q15, 1, lambda form: "mat_mult 4 4 4 " + taps(form, 16)),
     ("mat_mult of 8 by 8", Q15, 1, lambda form: "mat_mult 8 8 8 " + taps(form, 64)),
+    ("mat_mult of 16 by 16", Q15, 1, lambda form: "mat_mult 16 16 16 " + taps(form, 256)),
     ("power", ALL, 1, lambda form: "power"),
     ("dot", ALL, 2, lambda form: "dot"),
     ("cmplx_dot", WIDE, 4, lambda form: "cmplx_dot"),
@@ -216,16 +227,11 @@ def shown(value, digits=1):
 def table_of_blocks(programs):
     print(f"| block | format | ns per frame | products per ns | peak KiB | peer, ns per frame | ratio |")
     print("|---|---|---|---|---|---|---|")
-    missing = []
     for name, forms, channels, text, *most in BLOCKS:
         if only not in name:
             continue
         count = min([frames] + most)
         for form in forms:
-            first = least(form, channels, text(form), 1000, programs[:1], 1)[0]
-            if first.status == NOT_BUILT:
-                missing.append(f"{name} {form}")
-                continue
             runs = least(form, channels, text(form), count, programs, passes)
             if runs[0].status != 0:
                 print(f"| {name} | {form} | status {runs[0].status} | | | | |", flush=True)
@@ -235,8 +241,6 @@ def table_of_blocks(programs):
             rate = products / runs[0].spent if products else None
             ratio = ours / theirs if theirs else None
             print(f"| {name} | {form} | {ours:.1f} | {shown(rate, 2)} | {shown(runs[0].peak, 0)} | {shown(theirs)} | {shown(ratio, 2)} |", flush=True)
-    if missing:
-        print(f"\nNot built: {', '.join(missing)}.")
 
 
 def against_frames(programs):
@@ -257,6 +261,23 @@ def against_taps(programs):
         ours = runs[0].spent / count
         theirs = runs[1].spent / count if len(runs) > 1 and runs[1].status == 0 else None
         print(f"| {size} | {ours:.1f} | {size / ours:.2f} | {shown(theirs)} | {shown(ours / theirs if theirs else None, 2)} |", flush=True)
+
+
+def against_bits(programs):
+    """Files of each width, read and written again without blocks."""
+    print("\n| WAVE file | format | ns per frame |")
+    print("|---|---|---|")
+    for bits, form in ((8, "q7"), (16, "q15"), (24, "q31"), (32, "q31")):
+        source, path = f"{folder}/in.wav", f"{folder}/wave.txt"
+        with wave.open(source, "wb") as file:
+            file.setparams((1, bits // 8, 48000, 0, "NONE", ""))
+            file.writeframes(random.Random(bits).randbytes(frames * bits // 8))
+        with open(path, "w") as file:
+            file.write(f"dspfx 1 input wave {form} 1 output wave")
+        runs = [Run([program, "run", path, source, f"{folder}/out.wav"]) for _ in range(passes)]
+        if runs[0].status != 0:
+            raise SystemExit(runs[0].report)
+        print(f"| {bits} bits | {form} | {min(run.spent for run in runs) / frames:.1f} |", flush=True)
 
 
 def long_script(size):
@@ -295,5 +316,6 @@ table_of_blocks(programs)
 if not only:
     against_frames(programs)
     against_taps(programs)
+    against_bits(programs)
     start_and_scripts(programs)
 PYTHON

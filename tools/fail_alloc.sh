@@ -53,7 +53,18 @@ int posix_memalign(void **block, size_t alignment, size_t size) {
 C
 gcc -O1 -shared -fPIC -o "$folder/refuse.so" "$folder/refuse.c" -ldl || exit 70
 
-printf 'dspfx 1 input raw q15 2 8000 fir {16384 1} sparse {1 2} {0 3} sub to q31 route {0 0} output wave' >"$folder/script.txt"
+# Every kind of block.
+cat >"$folder/script.txt" <<'SCRIPT'
+dspfx 2 input raw q15 4 8000
+table two {1 2}
+power max min cmplx_dot negate abs offset 1 scale 16384 1 shift 1 clip -100 100
+route {0 1 2} cmplx_mult_real dot lms 0 100 two cmplx_conj fir two sparse two {0 3}
+decimate 2 two interpolate 2 two biquad 0 {1 0 1 1 1 1} lattice_fir {1} lattice_iir {1} two pid 1 2 3
+mat_add 1 2 two mat_sub 1 2 two mat_scale 1 2 16384 0 mat_trans 2 2 mat_mult 2 2 2 {1 2 3 4}
+conv two conv_partial 0 5 two route {0 1 0 1} cmplx_mult add route {0 0} sub route {0 0} mult
+route {0 0} cmplx_mag_squared to q31 biquad64 0 {1 1 1 1 1} correlate two
+output wave
+SCRIPT
 head -c 4000 /dev/zero >"$folder/in.raw"
 
 # Tries one command, and prints how many allocations it takes: refused_in_turn NAME WORDS..

@@ -25,10 +25,15 @@ fn adapt<T: LmsSample + LaneSample<L>, const L: usize, M: Ledger>(
     steps: &mut Steps<M>,
 ) -> (T, T)
     requires { length window.now ≡ length weights.old }
-    ensures output { T.number result.0 ≡ lms_close T.format post_shift (sum_below (length weights.old) (λ j. sample (map T.number weights.old) j *ℤ sample (map T.number window.now) j)) }
+    ensures output { T.number result.0 ≡ lms_close T.format post_shift
+        (sum_below (length weights.old) (λ j.
+        sample (map T.number weights.old) j *ℤ sample (map T.number window.now) j)) }
     ensures error { T.number result.1 ≡ wrap (word T.format) (T.number reference -ℤ T.number result.0) }
-    ensures weights { map T.number weights.new ≡ values (length weights.old) (λ j. weight_after T.format (step_size T.format (T.number mu) (T.number result.1)) (sample (map T.number weights.old) j) (sample (map T.number window.now) j)) }
-    ensures steps { RisesWithin steps.old steps.new (2 * length weights.old + 1) (2 * length weights.old + 1) }
+    ensures weights { map T.number weights.new ≡ values (length weights.old) (λ j.
+        weight_after T.format (step_size T.format (T.number mu) (T.number result.1))
+        (sample (map T.number weights.old) j) (sample (map T.number window.now) j)) }
+    ensures steps { RisesWithin steps.old steps.new (2 * length weights.old + 1)
+        (2 * length weights.old + 1) }
 {
     let sum = Lanes::<T, L>::dot(weights, window, steps);
     let output = T::closed(sum, post_shift);
@@ -55,8 +60,16 @@ pub(crate) fn adapt_block<T: LmsSample + LaneSample<L>, const L: usize, M: Ledge
     requires window { length window.now + 1 ≡ length references.now + length weights.old }
     requires outputs { length outputs.old ≡ length references.now }
     requires errors { length errors.old ≡ length references.now }
-    ensures adapts { (taps inputs : List ℤ) (x : List (ℤ × ℤ)) → length taps ≡ length weights.old → length inputs ≡ length references.now → map T.number window.now ≡ last_of (length taps - 1) (inputs_of x) ++ inputs → Adapts T.format post_shift (T.number mu) taps x [] (map T.number weights.old) [] [] → Adapts T.format post_shift (T.number mu) taps x (pairs inputs (map T.number references.now)) (map T.number weights.new) (map T.number outputs.new) (map T.number errors.new) }
-    ensures steps { RisesWithin steps.old steps.new (length references.now * (2 * length weights.old + 1)) (length references.now * (2 * length weights.old + 1)) }
+    ensures adapts { (taps inputs : List ℤ) (x : List (ℤ × ℤ)) → length taps ≡ length weights.old
+        → length inputs ≡ length references.now
+        → map T.number window.now ≡ last_of (length taps - 1) (inputs_of x) ++ inputs
+        → Adapts T.format post_shift (T.number mu) taps x [] (map T.number weights.old) [] []
+        → Adapts T.format post_shift (T.number mu) taps x
+        (pairs inputs (map T.number references.now)) (map T.number weights.new)
+        (map T.number outputs.new) (map T.number errors.new) }
+    ensures steps { RisesWithin steps.old steps.new
+        (length references.now * (2 * length weights.old + 1))
+        (length references.now * (2 * length weights.old + 1)) }
 {
     let count = weights.len();
     for (i, reference) in references.iter().enumerate() {

@@ -49,9 +49,19 @@ impl<T: LmsSample + LaneSample<L>, const L: usize> Model for Lms<T, L> {
 
     ghost Value = { LmsState };
 
-    ghost view = { λ f. record { post_shift = f.post_shift; mu = T.number f.mu; taps = map T.number f.taps.items; weights = map T.number f.weights.items; past = last_samples f.window.past f.window.samples; block = f.window.room } };
+    ghost view = { λ f.
+        record {
+          post_shift = f.post_shift;
+          mu = T.number f.mu;
+          taps = map T.number f.taps.items;
+          weights = map T.number f.weights.items;
+          past = last_samples f.window.past f.window.samples;
+          block = f.window.room;
+        } };
 
-    ghost invariant = { λ f. (f.window.past + 1 ≡ vec_len f.taps) × (vec_len f.weights ≡ vec_len f.taps) × (vec_len f.taps ≤ MAX_TAPS) × (f.window.room ≤ MAX_SAMPLES) × (f.window.past ≤ length f.window.samples) };
+    ghost invariant = { λ f. (f.window.past + 1 ≡ vec_len f.taps)
+        × (vec_len f.weights ≡ vec_len f.taps) × (vec_len f.taps ≤ MAX_TAPS)
+        × (f.window.room ≤ MAX_SAMPLES) × (f.window.past ≤ length f.window.samples) };
 }
 
 impl<T: LmsSample + LaneSample<L>, const L: usize> Lms<T, L> {
@@ -72,9 +82,11 @@ impl<T: LmsSample + LaneSample<L>, const L: usize> Lms<T, L> {
         taps: &[T],
         block: usize,
     ) -> Result<Self, MakeFault>
-        ensures made { IfOk result (λ f. f ≡ new_lms post_shift (T.number mu) (map T.number taps.now) block) }
+        ensures made { IfOk result (λ f.
+            f ≡ new_lms post_shift (T.number mu) (map T.number taps.now) block) }
         ensures stands { IfOk result (λ f. StandsFor T.format f []) }
-        ensures fault { MatchOption (lms_fault T.GREATEST_SHIFT post_shift (length taps.now) block) (IfErr result (λ e. e ≡ MakeFault.Memory)) (λ e. result ≡ Err e) }
+        ensures fault { MatchOption (lms_fault T.GREATEST_SHIFT post_shift (length taps.now) block)
+            (IfErr result (λ e. e ≡ MakeFault.Memory)) (λ e. result ≡ Err e) }
     {
         check_taps(taps.len())?;
         check_shift(post_shift, T::GREATEST_SHIFT)?;
@@ -111,14 +123,23 @@ impl<T: LmsSample + LaneSample<L>, const L: usize> Lms<T, L> {
         requires reference { length reference.now ≡ length input.now }
         requires output { length output.old ≡ length input.now }
         requires error { length error.old ≡ length input.now }
-        ensures outputs { (x : List (ℤ × ℤ)) → StandsFor T.format self.old x → Continues (lms_outputs T.format self.old) x (pairs (map T.number input.now) (map T.number reference.now)) (map T.number output.new) }
-        ensures errors { (x : List (ℤ × ℤ)) → StandsFor T.format self.old x → Continues (lms_errors T.format self.old) x (pairs (map T.number input.now) (map T.number reference.now)) (map T.number error.new) }
-        ensures stands { (x : List (ℤ × ℤ)) → StandsFor T.format self.old x → StandsFor T.format self.new (x ++ pairs (map T.number input.now) (map T.number reference.now)) }
+        ensures outputs { (x : List (ℤ × ℤ)) → StandsFor T.format self.old x
+            → Continues (lms_outputs T.format self.old) x
+            (pairs (map T.number input.now) (map T.number reference.now))
+            (map T.number output.new) }
+        ensures errors { (x : List (ℤ × ℤ)) → StandsFor T.format self.old x
+            → Continues (lms_errors T.format self.old) x
+            (pairs (map T.number input.now) (map T.number reference.now)) (map T.number error.new) }
+        ensures stands { (x : List (ℤ × ℤ)) → StandsFor T.format self.old x
+            → StandsFor T.format self.new
+            (x ++ pairs (map T.number input.now) (map T.number reference.now)) }
         ensures same { self.new ≡ record self.old { weights = self.new.weights; past = self.new.past } }
         ensures past { length self.new.past ≡ length self.old.past }
         ensures weights { length self.new.weights ≡ length self.old.weights }
-        ensures multiplies { steps.new.multiplies ≡ steps.old.multiplies + length input.now * (2 * length self.old.taps + 1) }
-        ensures turns { steps.new.turns ≤ steps.old.turns + length input.now * (2 * length self.old.taps + 1) }
+        ensures multiplies { steps.new.multiplies ≡ steps.old.multiplies + length input.now *
+            (2 * length self.old.taps + 1) }
+        ensures turns { steps.new.turns ≤ steps.old.turns + length input.now *
+            (2 * length self.old.taps + 1) }
     {
         self.window.push_block(input);
         adapt_block::<T, L, M>(
@@ -153,16 +174,21 @@ impl<T: LmsSample + LaneSample<L>, const L: usize> Lms<T, L> {
 
     /// Whether these can be the kept numbers of a filter: as many, and each in the range of the format.
     pub fn fits(&self, numbers: &[i64]) -> bool
-        ensures { IsTrue result ↔ Each IsOfKind (in_words (word T.format) (length self.now.taps - 1 + length self.now.taps)) numbers.now }
+        ensures { IsTrue result ↔ Each IsOfKind
+            (in_words (word T.format)
+            (length self.now.taps - 1 + length self.now.taps)) numbers.now }
     {
         are_samples::<T>(numbers, self.taps.len() - 1 + self.taps.len())
     }
 
     /// Keeps these numbers from now on, and no others.
     pub fn restore(&mut self, numbers: &[i64])
-        requires fits { Each IsOfKind (in_words (word T.format) (length self.old.taps - 1 + length self.old.taps)) numbers.now }
+        requires fits { Each IsOfKind (in_words (word T.format)
+            (length self.old.taps - 1 + length self.old.taps)) numbers.now }
         ensures kept { kept self.new ≡ numbers.now }
-        ensures stands { (x : List (ℤ × ℤ)) → numbers.now ≡ lms_kept T.format self.old.post_shift self.old.mu self.old.taps x → StandsFor T.format self.new x }
+        ensures stands { (x : List (ℤ × ℤ))
+            → numbers.now ≡ lms_kept T.format self.old.post_shift self.old.mu self.old.taps x
+            → StandsFor T.format self.new x }
         ensures same { self.new ≡ record self.old { weights = self.new.weights; past = self.new.past } }
         ensures past { length self.new.past ≡ length self.old.past }
         ensures weights { length self.new.weights ≡ length self.old.weights }

@@ -41,15 +41,18 @@ pub trait LmsSample: WideSample + WeightSample {
 
     /// The output of a sum of products that was wrapped to the accumulator.
     fn closed(sum: Self::Acc, post_shift: u8) -> Self
-        ensures { (s : ℤ) → Self.total sum ≡ wrap (accumulator Self.format) s → Self.number result ≡ lms_close Self.format post_shift s };
+        ensures { (s : ℤ) → Self.total sum ≡ wrap (accumulator Self.format) s
+            → Self.number result ≡ lms_close Self.format post_shift s };
 
     /// The wrapped difference of the reference and the output.
     fn error(reference: Self, output: Self) -> Self
-        ensures { Self.number result ≡ wrap (word Self.format) (Self.number reference -ℤ Self.number output) };
+        ensures { Self.number result ≡ wrap (word Self.format)
+            (Self.number reference -ℤ Self.number output) };
 
     /// The step size, from the product of the error and mu.
     fn step_size(product: Self::Wide) -> Self
-        ensures { (mu e : ℤ) → Self.wide product ≡ e *ℤ mu → Self.number result ≡ step_size Self.format mu e };
+        ensures { (mu e : ℤ) → Self.wide product ≡ e *ℤ mu
+            → Self.number result ≡ step_size Self.format mu e };
 
     ghost has_shift: { GREATEST_SHIFT ≡ greatest_lms_shift Self.format };
 }

@@ -31,7 +31,8 @@ impl<T: LmsSample + LaneSample<L>, const L: usize> Model for LmsUnit<T, L> {
 
     ghost view = { λ u. unit_of_lms T.format u.lms u.ended };
 
-    ghost invariant = { λ u. HasRows u.lms (vec_len u.inputs) (vec_len u.references) (vec_len u.outputs) (vec_len u.errors) };
+    ghost invariant = { λ u. HasRows u.lms (vec_len u.inputs) (vec_len u.references)
+        (vec_len u.outputs) (vec_len u.errors) };
 }
 
 impl<T: LmsSample + LaneSample<L>, const L: usize> LmsUnit<T, L> {

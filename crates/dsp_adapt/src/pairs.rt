@@ -19,7 +19,8 @@ pub(crate) fn split_pairs<T: Sample>(frames: &[i32], first: &mut [T], second: &m
     requires same { length second.old ≡ length first.old }
     requires in_format { All (FitsSigned (word T.format)) frames.now }
     ensures first { map T.number first.new ≡ values (length first.old) (λ n. sample frames.now (n * 2)) }
-    ensures second { map T.number second.new ≡ values (length first.old) (λ n. sample frames.now (n * 2 + 1)) }
+    ensures second { map T.number second.new ≡ values (length first.old)
+        (λ n. sample frames.now (n * 2 + 1)) }
 {
     for n in 0..first.len() {
         first[n] = T::of_number(frames[n * 2]);
@@ -31,7 +32,8 @@ pub(crate) fn split_pairs<T: Sample>(frames: &[i32], first: &mut [T], second: &m
 pub(crate) fn join_pairs<T: Sample>(first: &[T], second: &[T], out: &mut [i32])
     requires whole { length out.old ≡ length first.now * 2 }
     requires same { length second.now ≡ length first.now }
-    ensures frames { frames_in 2 out.new ≡ values (length first.now) (λ n. pair_frame (sample (map T.number first.now) n, sample (map T.number second.now) n)) }
+    ensures frames { frames_in 2 out.new ≡ values (length first.now) (λ n.
+        pair_frame (sample (map T.number first.now) n, sample (map T.number second.now) n)) }
     ensures in_format { All (FitsSigned (word T.format)) out.new }
 {
     for n in 0..first.len() {
@@ -60,14 +62,19 @@ pub(crate) fn feed_pairs<T: LmsSample + LaneSample<L>, const L: usize, M: Ledger
     requires outputs { length outputs.old ≡ lms.old.block }
     requires errors { length errors.old ≡ lms.old.block }
     requires room { length frames.now ≤ length out.old }
-    ensures frames { (x : List (ℤ × ℤ)) → StandsFor T.format lms.old x → Continues (lms_frames T.format lms.old) x (input_pairs (frames_in 2 frames.now)) (frames_in 2 (take (length frames.now) out.new)) }
+    ensures frames { (x : List (ℤ × ℤ)) → StandsFor T.format lms.old x
+        → Continues (lms_frames T.format lms.old) x (input_pairs (frames_in 2 frames.now))
+        (frames_in 2 (take (length frames.now) out.new)) }
     ensures in_format { All (FitsSigned (word T.format)) (take (length frames.now) out.new) }
-    ensures stands { (x : List (ℤ × ℤ)) → StandsFor T.format lms.old x → StandsFor T.format lms.new (x ++ input_pairs (frames_in 2 frames.now)) }
+    ensures stands { (x : List (ℤ × ℤ)) → StandsFor T.format lms.old x
+        → StandsFor T.format lms.new (x ++ input_pairs (frames_in 2 frames.now)) }
     ensures same { lms.new ≡ record lms.old { weights = lms.new.weights; past = lms.new.past } }
     ensures past { length lms.new.past ≡ length lms.old.past }
     ensures weights { length lms.new.weights ≡ length lms.old.weights }
-    ensures multiplies { steps.new.multiplies ≡ steps.old.multiplies + length frames.now / 2 * (2 * length lms.old.taps + 1) }
-    ensures turns { steps.new.turns ≤ steps.old.turns + length frames.now / 2 * (2 * length lms.old.taps + 1) }
+    ensures multiplies { steps.new.multiplies ≡ steps.old.multiplies + length frames.now / 2 *
+        (2 * length lms.old.taps + 1) }
+    ensures turns { steps.new.turns ≤ steps.old.turns + length frames.now / 2 *
+        (2 * length lms.old.taps + 1) }
 {
     let count = frames.len() / 2;
     let inputs = &mut inputs[..count];

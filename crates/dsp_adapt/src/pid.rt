@@ -28,9 +28,11 @@ impl<T: PidSample> Pid<T> {
     ghost use Rattle.dsp_defs.specs.declared.script.Block.TheVariants.{Pid as PidBlock};
 
     /// A controller that has taken nothing, from its gains, for blocks of at most `block` samples.
-    /// `Range` where the block is not in 1..1,048,576. No call takes memory.
+    /// `Range` where the block is not in 1..`MAX_SAMPLES`. No call takes memory.
     pub fn new(kp: T, ki: T, kd: T, block: usize) -> Result<Self, MakeFault>
-        ensures made { IfOk result (λ p. IsNewFilter (PidBlock (T.number kp) (T.number ki) (T.number kd)) T.format block p.filter) }
+        ensures made { IfOk result (λ p.
+            IsNewFilter (PidBlock (T.number kp) (T.number ki)
+            (T.number kd)) T.format block p.filter) }
         ensures fault { MatchOption (block_fault block) (IsOk result) (λ e. result ≡ Err e) }
     {
         check_block(block)?;
@@ -42,7 +44,12 @@ impl<T: PidSample> Pid<T> {
 
     /// The gains A0, A1 and A2.
     pub fn gains(&self) -> (T, T, T)
-        ensures { (record { a0 = T.number result.0; a1 = T.number result.1; a2 = T.number result.2 }) ≡ pid_gains T.format (T.number self.now.kp) (T.number self.now.ki) (T.number self.now.kd) }
+        ensures { (record {
+          a0 = T.number result.0;
+          a1 = T.number result.1;
+          a2 = T.number result.2;
+        }) ≡ pid_gains T.format (T.number self.now.kp)
+            (T.number self.now.ki) (T.number self.now.kd) }
     {
         T::gains(self.kp, self.ki, self.kd)
     }
@@ -68,7 +75,8 @@ impl<T: PidSample> Pid<T> {
         requires room { length input.now ≤ length output.old }
         ensures given { result ≡ length input.now }
         ensures running { IsFalse self.new.filter.ended }
-        ensures fed { FilterFeeds self.old.filter self.new.filter (map T.number input.now) (map T.number (take result output.new)) steps.old steps.new }
+        ensures fed { FilterFeeds self.old.filter self.new.filter (map T.number input.now)
+            (map T.number (take result output.new)) steps.old steps.new }
         ensures multiplies { steps.new.multiplies ≡ steps.old.multiplies + result * 3 }
         ensures rest { drop result output.new ≡ drop result output.old }
         ensures same { self.new ≡ record self.old { filter = self.new.filter } }

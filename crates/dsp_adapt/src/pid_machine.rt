@@ -19,7 +19,8 @@ impl<T: PidSample> Machine<T> for PidMachine<T> {
     ghost use Rattle.std.specs.Prelude.{◌∷◌, [], refl};
     ghost use Rattle.dsp_adapt.specs.PidState.{pid_acts};
 
-    ghost acts = { λ m. pid_acts T.format (record { a0 = T.number m.a0; a1 = T.number m.a1; a2 = T.number m.a2 }) };
+    ghost acts = { λ m.
+        pid_acts T.format (record { a0 = T.number m.a0; a1 = T.number m.a1; a2 = T.number m.a2 }) };
 
     ghost kept = { λ m. T.number m.x1 ∷ T.number m.x2 ∷ T.number m.y1 ∷ [] };
 

@@ -39,11 +39,17 @@ fn wrapped_negative(x: i32) -> i32
 pub trait PidSample: WideSample {
     /// The gains A0, A1 and A2 from Kp, Ki and Kd.
     fn gains(kp: Self, ki: Self, kd: Self) -> (Self, Self, Self)
-        ensures { (record { a0 = Self.number result.0; a1 = Self.number result.1; a2 = Self.number result.2 }) ≡ pid_gains Self.format (Self.number kp) (Self.number ki) (Self.number kd) };
+        ensures { (record {
+          a0 = Self.number result.0;
+          a1 = Self.number result.1;
+          a2 = Self.number result.2;
+        }) ≡ pid_gains Self.format (Self.number kp) (Self.number ki)
+            (Self.number kd) };
 
     /// The output from the products of the gains and samples, the newest first, and the output before.
     fn controlled(newest: Self::Wide, second: Self::Wide, third: Self::Wide, before: Self) -> Self
-        ensures { Self.number result ≡ pid_close Self.format (Self.wide newest +ℤ Self.wide second +ℤ Self.wide third) (Self.number before) };
+        ensures { Self.number result ≡ pid_close Self.format
+            (Self.wide newest +ℤ Self.wide second +ℤ Self.wide third) (Self.number before) };
 }
 
 impl PidSample for i16 {

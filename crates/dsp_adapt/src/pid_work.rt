@@ -23,9 +23,22 @@ impl<T: PidSample> Model for PidWork<T> {
 
     ghost Value = { PidState };
 
-    ghost view = { λ p. record { kp = T.number p.kp; ki = T.number p.ki; kd = T.number p.kd; x1 = T.number p.machine.x1; x2 = T.number p.machine.x2; y1 = T.number p.machine.y1 } };
+    ghost view = { λ p. record {
+      kp = T.number p.kp;
+      ki = T.number p.ki;
+      kd = T.number p.kd;
+      x1 = T.number p.machine.x1;
+      x2 = T.number p.machine.x2;
+      y1 = T.number p.machine.y1;
+    } };
 
-    ghost invariant = { λ p. pid_acts T.format (record { a0 = T.number p.machine.a0; a1 = T.number p.machine.a1; a2 = T.number p.machine.a2 }) ≡ pid_acts T.format (pid_gains T.format (T.number p.kp) (T.number p.ki) (T.number p.kd)) };
+    ghost invariant = { λ p.
+        pid_acts T.format (record {
+          a0 = T.number p.machine.a0;
+          a1 = T.number p.machine.a1;
+          a2 = T.number p.machine.a2;
+        }) ≡ pid_acts T.format
+        (pid_gains T.format (T.number p.kp) (T.number p.ki) (T.number p.kd)) };
 }
 
 impl<T: PidSample> PidWork<T> {
@@ -75,7 +88,9 @@ impl<T: PidSample> Stepwise<T> for PidWork<T> {
     }
 
     fn run<L: Ledger>(&mut self, samples: &mut [T], steps: &mut Steps<L>) {
-        run_machine(&mut self.machine, samples, steps);
+        let mut machine = self.machine;
+        run_machine(&mut machine, samples, steps);
+        self.machine = machine;
     }
 
     fn kept_count(&self) -> usize {

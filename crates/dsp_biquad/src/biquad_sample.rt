@@ -26,7 +26,9 @@ pub trait BiquadSample: WideSample {
         fifth: Self::Wide,
         post_shift: u8,
     ) -> Self
-        ensures { Self.number result ≡ section_close Self.format post_shift (Self.wide newest +ℤ Self.wide second +ℤ Self.wide third +ℤ (Self.wide fourth +ℤ Self.wide fifth)) };
+        ensures { Self.number result ≡ section_close Self.format post_shift
+            (Self.wide newest +ℤ Self.wide second +ℤ Self.wide third +ℤ
+            (Self.wide fourth +ℤ Self.wide fifth)) };
 
     ghost has_size: { SIZE ≡ size_in Self.format };
 

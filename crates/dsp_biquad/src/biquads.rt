@@ -32,15 +32,19 @@ impl<T: Sample, S: CascadeSection<T>> Biquads<T, S> {
     /// A cascade that has taken nothing, from the post shift and the numbers of its sections one after
     /// another, for blocks of at most `block` samples. `Length` where the numbers are none, no whole
     /// sections or those of more than 64, then `Range` where the post shift is too great, `Range` where
-    /// the block is not in 1..1,048,576, then `Memory`. No later call takes memory.
+    /// the block is not in 1..`MAX_SAMPLES`, then `Memory`. No later call takes memory.
     pub fn new(
         alloc: Global,
         post_shift: u8,
         coefficients: &[T],
         block: usize,
     ) -> Result<Self, MakeFault>
-        ensures made { IfOk result (λ b. IsNewFilter (S.block post_shift (map T.number coefficients.now)) T.format block b.filter) }
-        ensures fault { MatchOption (cascade_fault S.SIZE S.GREATEST_SHIFT (length coefficients.now) post_shift block) (IfErr result (λ e. e ≡ MakeFault.Memory)) (λ e. result ≡ Err e) }
+        ensures made { IfOk result (λ b.
+            IsNewFilter (S.block post_shift
+            (map T.number coefficients.now)) T.format block b.filter) }
+        ensures fault { MatchOption (cascade_fault S.SIZE S.GREATEST_SHIFT
+            (length coefficients.now) post_shift block) (IfErr result (λ e. e ≡ MakeFault.Memory))
+            (λ e. result ≡ Err e) }
     {
         check_coefficients(coefficients.len(), S::SIZE)?;
         check_shift(post_shift, S::GREATEST_SHIFT)?;
@@ -78,8 +82,10 @@ impl<T: Sample, S: CascadeSection<T>> Biquads<T, S> {
         requires room { length input.now ≤ length output.old }
         ensures given { result ≡ length input.now }
         ensures running { IsFalse self.new.filter.ended }
-        ensures fed { FilterFeeds self.old.filter self.new.filter (map T.number input.now) (map T.number (take result output.new)) steps.old steps.new }
-        ensures multiplies { steps.new.multiplies ≡ steps.old.multiplies + result * (5 * section_count T.format (coefficients_of self.old.filter.block)) }
+        ensures fed { FilterFeeds self.old.filter self.new.filter (map T.number input.now)
+            (map T.number (take result output.new)) steps.old steps.new }
+        ensures multiplies { steps.new.multiplies ≡ steps.old.multiplies + result *
+            (5 * section_count T.format (coefficients_of self.old.filter.block)) }
         ensures rest { drop result output.new ≡ drop result output.old }
     {
         self.filter.process(input, output, steps)

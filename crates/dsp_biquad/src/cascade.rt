@@ -28,9 +28,18 @@ impl<T: Sample, S: CascadeSection<T>> Model for Cascade<T, S> {
 
     ghost Value = { CascadeState };
 
-    ghost view = { λ c. record { post_shift = c.post_shift; coefficients = map T.number c.coefficients.items; kept = flat_map S.kept c.sections.items } };
+    ghost view = { λ c.
+        record {
+          post_shift = c.post_shift;
+          coefficients = map T.number c.coefficients.items;
+          kept = flat_map S.kept c.sections.items;
+        } };
 
-    ghost invariant = { λ c. (chained (map S.acts c.sections.items) ≡ block_acts T.format (S.block c.post_shift (map T.number c.coefficients.items))) × (length c.sections.items ≡ section_count T.format (map T.number c.coefficients.items)) × (length c.sections.items ≤ 64) };
+    ghost invariant = { λ c.
+        (chained (map S.acts c.sections.items)
+        ≡ block_acts T.format (S.block c.post_shift (map T.number c.coefficients.items)))
+        × (length c.sections.items ≡ section_count T.format (map T.number c.coefficients.items))
+        × (length c.sections.items ≤ 64) };
 }
 
 /// New sections of the coefficients, one after another.
@@ -41,7 +50,8 @@ fn sections_of<T: Sample, S: CascadeSection<T>>(
 ) -> Result<Vec<S>, AllocError>
     requires shift { post_shift ≤ S.GREATEST_SHIFT }
     requires whole { length coefficients.now % S.SIZE ≡ 0 }
-    ensures acts { IfOk result (λ v. chained (map S.acts v.items) ≡ block_acts T.format (S.block post_shift (map T.number coefficients.now))) }
+    ensures acts { IfOk result (λ v. chained (map S.acts v.items)
+        ≡ block_acts T.format (S.block post_shift (map T.number coefficients.now))) }
     ensures kept { IfOk result (λ v. flat_map S.kept v.items ≡ (chained (map S.acts v.items)).keeps []) }
     ensures count { IfOk result (λ v. length v.items ≡ length coefficients.now / S.SIZE) }
 {
@@ -66,7 +76,9 @@ impl<T: Sample, S: CascadeSection<T>> Cascade<T, S> {
         requires few { length coefficients.items ≤ 64 * S.SIZE }
         ensures post_shift { IfOk result (λ c. c.post_shift ≡ post_shift) }
         ensures coefficients { IfOk result (λ c. c.coefficients ≡ map T.number coefficients.items) }
-        ensures kept { IfOk result (λ c. c.kept ≡ kept_of_channel T.format (S.block post_shift (map T.number coefficients.items)) []) }
+        ensures kept { IfOk result (λ c.
+            c.kept ≡ kept_of_channel T.format
+            (S.block post_shift (map T.number coefficients.items)) []) }
     {
         let sections = sections_of(alloc, post_shift, &coefficients)?;
         Ok(Cascade {

@@ -72,13 +72,17 @@ pub trait CascadeSection<T: Sample>: Machine<T> + Copy {
 
     ghost numbers: { (p : ℕ) (numbers : List ℤ) → coefficients_of (block p numbers) ≡ numbers };
 
-    ghost of_numbers: { (p : ℕ) (numbers : List ℤ) → AreParameters T.format GREATEST_SHIFT SIZE p numbers → IsOf (block p numbers) };
+    ghost of_numbers: { (p : ℕ) (numbers : List ℤ)
+        → AreParameters T.format GREATEST_SHIFT SIZE p numbers → IsOf (block p numbers) };
 
     ghost is_block: { (b : Block) → IsOf b → b ≡ block (post_shift_of b) (coefficients_of b) };
 
-    ghost parameters: { (b : Block) → IsOf b → AreParameters T.format GREATEST_SHIFT SIZE (post_shift_of b) (coefficients_of b) };
+    ghost parameters: { (b : Block) → IsOf b
+        → AreParameters T.format GREATEST_SHIFT SIZE (post_shift_of b) (coefficients_of b) };
 
-    ghost kinds_are: { (p : ℕ) (numbers : List ℤ) → kinds_by T.format (block p numbers) 0 ≡ flat_map (λ (_ : ℕ). kinds) (range_with_len 0 (section_count T.format numbers)) };
+    ghost kinds_are: { (p : ℕ) (numbers : List ℤ) → kinds_by T.format (block p numbers) 0
+        ≡ flat_map (λ (_ : ℕ). kinds) (range_with_len 0 (section_count T.format numbers)) };
 
-    ghost stepwise: { (b : Block) → IsOf b → IsStepwise T.format b (5 * section_count T.format (coefficients_of b)) };
+    ghost stepwise: { (b : Block) → IsOf b
+        → IsStepwise T.format b (5 * section_count T.format (coefficients_of b)) };
 }

@@ -19,7 +19,8 @@ pub(crate) fn keep_sections<T: Sample, S: CascadeSection<T>>(sections: &[S], out
 /// Whether so many sections can keep these numbers.
 pub(crate) fn fits_sections<T: Sample, S: CascadeSection<T>>(count: usize, numbers: &[i64]) -> bool
     requires { count ≤ 64 }
-    ensures { IsTrue result ↔ Each IsOfKind (flat_map (λ (_ : ℕ). S.kinds) (range_with_len 0 count)) numbers.now }
+    ensures { IsTrue result ↔ Each IsOfKind
+        (flat_map (λ (_ : ℕ). S.kinds) (range_with_len 0 count)) numbers.now }
 {
     if numbers.len() != count * 4 {
         return false;
@@ -36,7 +37,8 @@ pub(crate) fn fits_sections<T: Sample, S: CascadeSection<T>>(count: usize, numbe
 pub(crate) fn restore_sections<T: Sample, S: CascadeSection<T>>(sections: &mut [S], numbers: &[i64])
     requires few { length sections.old ≤ 64 }
     requires count { length numbers.now ≡ length sections.old * 4 }
-    requires fits { Each IsOfKind (flat_map (λ (_ : ℕ). S.kinds) (range_with_len 0 (length sections.old))) numbers.now }
+    requires fits { Each IsOfKind (flat_map (λ (_ : ℕ). S.kinds)
+        (range_with_len 0 (length sections.old))) numbers.now }
     ensures acts { map S.acts sections.new ≡ map S.acts sections.old }
     ensures kept { flat_map S.kept sections.new ≡ numbers.now }
 {

@@ -23,7 +23,15 @@ impl<T: BiquadSample> Machine<T> for Section<T> {
     ghost use Rattle.std.specs.Prelude.{◌∷◌, [], refl};
     ghost use Rattle.dsp_biquad.specs.Sections.{section_acts};
 
-    ghost acts = { λ s. section_acts T.format s.post_shift (record { b0 = T.number s.b0; b1 = T.number s.b1; b2 = T.number s.b2; a1 = T.number s.a1; a2 = T.number s.a2 }) };
+    ghost acts = { λ s.
+        section_acts T.format s.post_shift
+        (record {
+          b0 = T.number s.b0;
+          b1 = T.number s.b1;
+          b2 = T.number s.b2;
+          a1 = T.number s.a1;
+          a2 = T.number s.a2;
+        }) };
 
     ghost kept = { λ s. T.number s.x1 ∷ T.number s.x2 ∷ T.number s.y1 ∷ T.number s.y2 ∷ [] };
 
@@ -92,11 +100,13 @@ impl<T: BiquadSample> CascadeSection<T> for Section<T> {
 
     ghost numbers = { λ p numbers. refl };
 
-    ghost of_numbers = { λ p numbers. of-numbers T.format T.GREATEST_SHIFT T.SIZE T.has_shift T.has_size p numbers };
+    ghost of_numbers = { λ p numbers.
+        of-numbers T.format T.GREATEST_SHIFT T.SIZE T.has_shift T.has_size p numbers };
 
     ghost is_block = { is-biquad T.format };
 
-    ghost parameters = { λ b is. parameters-at T.format T.GREATEST_SHIFT T.SIZE T.has_shift T.has_size b is };
+    ghost parameters = { λ b is.
+        parameters-at T.format T.GREATEST_SHIFT T.SIZE T.has_shift T.has_size b is };
 
     ghost kinds_are = { λ p numbers. words-of_sections (word T.format) (section_count T.format numbers) 0 };
 

@@ -28,7 +28,8 @@ impl Machine<i32> for Section64 {
     ghost use Rattle.std.specs.Prelude.{◌∷◌, [], refl};
     ghost use Rattle.dsp_biquad.specs.Sections.{wide_acts};
 
-    ghost acts = { λ s. wide_acts s.post_shift (record { b0 = s.b0; b1 = s.b1; b2 = s.b2; a1 = s.a1; a2 = s.a2 }) };
+    ghost acts = { λ s.
+        wide_acts s.post_shift (record { b0 = s.b0; b1 = s.b1; b2 = s.b2; a1 = s.a1; a2 = s.a2 }) };
 
     ghost kept = { λ s. s.x1 ∷ s.x2 ∷ s.y1 ∷ s.y2 ∷ [] };
 

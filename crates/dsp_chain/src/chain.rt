@@ -1,8 +1,8 @@
-use crate::block_unit::BlockUnit;
 use crate::frame_rule::{FrameRule, gather_fault, gathered, window_fault};
 use crate::keeping::{count_kept, fits_row, keep_row, restore_row};
 use crate::kept_rule::KeptRule;
 use crate::row::{Link, count_measures, feed_row, find_measure, finish_row};
+use dsp_blocks::BlockUnit;
 use dsp_defs::{
     Flow, Fmt, GatherFull, Input, MAX_GATHERED, MAX_INPUT, Measure, Script, Steps, WindowFault,
 };
@@ -36,7 +36,14 @@ impl Model for Chain {
 
     ghost Value = { ChainState };
 
-    ghost view = { λ c. record { input = record { format = c.format; channels = c.channels; capacity = c.capacity }; units = c.links.items; frames = c.frames; ended = c.ended; failed = c.failed } };
+    ghost view = { λ c.
+        record {
+          input = record { format = c.format; channels = c.channels; capacity = c.capacity };
+          units = c.links.items;
+          frames = c.frames;
+          ended = c.ended;
+          failed = c.failed;
+        } };
 
     ghost invariant = { λ c. (IsWhole (record { input = record { format = c.format; channels = c.channels; capacity = c.capacity }; units = c.links.items; frames = c.frames; ended = c.ended; failed = c.failed }))
         × (c.rules.items ≡ rules_of (blocks_of c.links.items))
@@ -105,7 +112,7 @@ impl Chain {
     }
 
     /// Writes the next live frames, and answers the number of their samples. It refuses where the
-    /// correlation would gather more than 1,048,576 samples of a channel, and then answers the same
+    /// correlation would gather more than `MAX_GATHERED` samples of a channel, and then answers the same
     /// fault from then on.
     pub fn feed<L: Ledger>(
         &mut self,
@@ -118,8 +125,10 @@ impl Chain {
         requires room { place_room (output_of self.old) ≤ length out.old }
         requires count { self.old.frames + length (frames_in self.old.input.channels frames.now) ≤ 2 ^ 40 }
         ensures within { IfOk result (λ given. given ≤ length out.old) }
-        ensures fed { IfOk result (λ given. FeedsChain self.old self.new frames.now (take given out.new) steps.old steps.new) }
-        ensures full { IsErr result ↔ IsTooMuch self.old (length (frames_in self.old.input.channels frames.now)) }
+        ensures fed { IfOk result (λ given.
+            FeedsChain self.old self.new frames.now (take given out.new) steps.old steps.new) }
+        ensures full { IsErr result ↔ IsTooMuch self.old
+            (length (frames_in self.old.input.channels frames.now)) }
         ensures numbers { self.old.failed ≡ None → IfErr result (λ fault. (fault.held ≡ held (blocks_of self.old.units) self.old.frames)
             × (fault.held + fault.more ≡ gathered (blocks_of self.old.units) (self.old.frames + length (frames_in self.old.input.channels frames.now)))) }
         ensures refused { IfErr result (λ fault. FailsChain self.old self.new fault steps.old steps.new) }
@@ -147,7 +156,8 @@ impl Chain {
     /// The first partial convolution whose window ends past the full one, where the frames fed so far and `more` frames are the whole input.
     pub fn window_fault(&self, more: u64) -> Option<WindowFault>
         requires { self.now.frames + more ≤ 2 ^ 40 }
-        ensures { option_map (λ (fault : WindowFault). (fault.end, fault.length)) result ≡ window_at (blocks_of self.now.units) (self.now.frames + more) }
+        ensures { option_map (λ (fault : WindowFault). (fault.end, fault.length)) result
+            ≡ window_at (blocks_of self.now.units) (self.now.frames + more) }
     {
         window_fault(&self.rules, self.frames + more)
     }

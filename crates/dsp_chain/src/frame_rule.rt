@@ -97,7 +97,8 @@ impl FrameRule {
     fn window(self, frames: u64) -> Option<WindowFault>
         requires rule { IsRule self }
         requires taken { frames < 2 ^ 62 }
-        ensures { option_map (λ (fault : WindowFault). (fault.end, fault.length)) result ≡ window_of self frames }
+        ensures { option_map (λ (fault : WindowFault). (fault.end, fault.length)) result
+            ≡ window_of self frames }
     {
         let FrameRule::ConvPartial { first, count, taps } = self else {
             return None;
@@ -175,8 +176,10 @@ pub fn gather_fault(rules: &[FrameRule], before: u64, frames: u64) -> Option<Gat
     requires few { AreFew rules.now frames }
     ensures none { IfNone result (frames_gathered whole_by rules.now frames ≤ MAX_GATHERED) }
     ensures full { IfSome result (λ _. MAX_GATHERED < frames_gathered whole_by rules.now frames) }
-    ensures held { IfSome result (λ (fault : GatherFull). fault.held ≡ frames_gathered live_by rules.now before) }
-    ensures more { IfSome result (λ (fault : GatherFull). fault.held + fault.more ≡ frames_gathered whole_by rules.now frames) }
+    ensures held { IfSome result (λ (fault : GatherFull). fault.held
+        ≡ frames_gathered live_by rules.now before) }
+    ensures more { IfSome result (λ (fault : GatherFull). fault.held + fault.more
+        ≡ frames_gathered whole_by rules.now frames) }
 {
     let gathered = gathered(rules, frames);
     if gathered <= MAX_GATHERED as u64 {
@@ -193,7 +196,8 @@ pub fn gather_fault(rules: &[FrameRule], before: u64, frames: u64) -> Option<Gat
 /// whole input.
 pub fn window_fault(rules: &[FrameRule], frames: u64) -> Option<WindowFault>
     requires { AreFew rules.now frames }
-    ensures { option_map (λ (fault : WindowFault). (fault.end, fault.length)) result ≡ window_by rules.now frames }
+    ensures { option_map (λ (fault : WindowFault). (fault.end, fault.length)) result
+        ≡ window_by rules.now frames }
 {
     let Some((rule, behind)) = rules.split_first() else {
         return None;

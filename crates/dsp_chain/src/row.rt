@@ -50,7 +50,8 @@ pub fn feed_row<S: Stage + Drop, L: Ledger>(
     requires running { AllRun links.old }
     requires passes { MayTake links.old frames.now (length out.old) }
     ensures within { result ≤ length out.old }
-    ensures fed { (p : Place) → InRow p links.old → Passes p frames.now → IsFed p links.old links.new frames.now (take result out.new) steps.old steps.new }
+    ensures fed { (p : Place) → InRow p links.old → Passes p frames.now
+        → IsFed p links.old links.new frames.now (take result out.new) steps.old steps.new }
 {
     let Some((link, behind)) = links.split_first_mut() else {
         out[..frames.len()].copy_from_slice(frames);
@@ -68,7 +69,8 @@ fn finish_first<S: Stage + Drop, L: Ledger>(
 ) -> usize
     requires { MayFinish links.old (length out.old) }
     ensures within { result ≤ length out.old }
-    ensures finished { (p : Place) → InRow p links.old → IsFinished p links.old links.new (take result out.new) steps.old steps.new }
+    ensures finished { (p : Place) → InRow p links.old
+        → IsFinished p links.old links.new (take result out.new) steps.old steps.new }
     ensures spent { result ≡ 0 → FirstSpent links.new }
 {
     let Some((link, behind)) = links.split_first_mut() else {
@@ -93,7 +95,8 @@ pub fn finish_row<S: Stage + Drop, L: Ledger>(
 ) -> usize
     requires { MayFinish links.old (length out.old) }
     ensures within { result ≤ length out.old }
-    ensures finished { (p : Place) → InRow p links.old → IsFinished p links.old links.new (take result out.new) steps.old steps.new }
+    ensures finished { (p : Place) → InRow p links.old
+        → IsFinished p links.old links.new (take result out.new) steps.old steps.new }
     ensures spent { result ≡ 0 → AllSpent links.new }
 {
     let given = finish_first(links, out, steps);

@@ -16,7 +16,7 @@ use Rattle.dsp_defs.specs.declared.format.Fmt.TheVariants.{Q7, Q15, Q31}
 use Rattle.dsp_defs.specs.declared.format.Container.TheVariants as container
 use Rattle.dsp_defs.specs.declared.format.InputKind.{InputKind}
 use Rattle.dsp_defs.specs.declared.format.InputKind.TheVariants as kind
-use Rattle.dsp_defs.specs.declared.limits.TheConstants.{MAX_CHANNELS, MAX_GENERATED, GENERATED_RATE}
+use Rattle.dsp_defs.specs.declared.limits.TheConstants.{MAX_CHANNELS, MAX_GENERATED, MAX_INPUT, GENERATED_RATE}
 use Rattle.dsp_defs.specs.declared.script.Script.{Script}
 use Rattle.dsp_defs.specs.declared.wave.Header.{Header}
 use Rattle.dsp_defs.specs.declared.wave.HeaderFault.TheVariants.{Short}
@@ -48,7 +48,7 @@ module _ (script : Script) (seed frames : ℕ) (few : (1 ≤ script.input.channe
   abbrev size : ℕ
   size = frames * script.input.channels * word_bytes script.input.format
 
-  small : size ≤ 1073741824
+  small : size ≤ MAX_GENERATED * MAX_CHANNELS * word_bytes Q31
   small = data_small script.input.format script.input.channels frames few.1 short
 
   samples_size : (c : Container) → length (coded (coding_of c script.input.format) (generated script.input.format script.input.channels seed frames)) ≡ size
@@ -112,7 +112,7 @@ module _ (script : Script) (seed frames : ℕ) (few : (1 ≤ script.input.channe
   generated_has : HasHeader script bytes
   generated_has = good_header script bytes generated_good
 
-  all_bytes : length bytes ≤ 1099511627776
+  all_bytes : length bytes ≤ MAX_INPUT
   all_bytes = generated_bytes-small script.input seed frames few.1 short
 
   pub generated_in_limit : InLimit script bytes

@@ -95,7 +95,9 @@ fn command_of_six(
     option: &str,
     frames: &str,
 ) -> Option<Command>
-    ensures { result ≡ command_of (verb.now ∷ script.now ∷ input.now ∷ output.now ∷ option.now ∷ frames.now ∷ []) }
+    ensures { result
+        ≡ command_of
+        (verb.now ∷ script.now ∷ input.now ∷ output.now ∷ option.now ∷ frames.now ∷ []) }
 {
     if verb == "run" && are_run_names(script, input, output) && option == "block" {
         let frames = count(frames)?;

@@ -18,7 +18,8 @@ pub enum ReadFault {
 pub fn read_script<P: Source>(alloc: Global, script: &mut P) -> Result<Vec<u8>, ReadFault>
     ensures read { IfOk result (λ text. IsReadWhole (P.state script.old) (P.state script.new) text.items) }
     ensures taken { (P.state script.new).taken ≤ (P.state script.old).taken + MAX_SCRIPT + 1 }
-    ensures failed { IsErrOf result ReadFault.Failed → (P.state script.new).faults ≡ one_more (P.state script.old).faults }
+    ensures failed { IsErrOf result ReadFault.Failed
+        → (P.state script.new).faults ≡ one_more (P.state script.old).faults }
 {
     let mut text = Vec::new(alloc);
     let mut chunk = [0; 4096];

@@ -79,8 +79,12 @@ fn run_script<S: Source, K: Sink, L: Ledger>(
     steps: &mut Steps<L>,
 ) -> Result<Summary, Fault>
     requires { IsSound script.now }
-    ensures ok { IfOk result (λ summary. Ran named script.now summary (S.state input.old) (S.state input.new) (K.state output.old) (K.state output.new) steps.old steps.new) }
-    ensures err { IfErr result (λ fault. FailsToRun fault named script.now (S.state input.old) (S.state input.new) (K.state output.old) (K.state output.new) steps.old steps.new) }
+    ensures ok { IfOk result (λ summary.
+        Ran named script.now summary (S.state input.old) (S.state input.new) (K.state output.old)
+        (K.state output.new) steps.old steps.new) }
+    ensures err { IfErr result (λ fault.
+        FailsToRun fault named script.now (S.state input.old) (S.state input.new)
+        (K.state output.old) (K.state output.new) steps.old steps.new) }
 {
     let block = chosen(named, script);
     if !legal(script, block) {
@@ -121,8 +125,12 @@ fn generate<K: Sink, L: Ledger>(
 ) -> Result<Summary, Fault>
     requires sound { IsSound script.now }
     requires few { frames ≤ MAX_GENERATED }
-    ensures ok { IfOk result (λ summary. RanGenerated seed frames script.now summary (K.state output.old) (K.state output.new) steps.old steps.new) }
-    ensures err { IfErr result (λ fault. FailsToGenerate fault seed frames script.now (K.state output.old) (K.state output.new) steps.old steps.new) }
+    ensures ok { IfOk result (λ summary.
+        RanGenerated seed frames script.now summary (K.state output.old)
+        (K.state output.new) steps.old steps.new) }
+    ensures err { IfErr result (λ fault.
+        FailsToGenerate fault seed frames script.now (K.state output.old)
+        (K.state output.new) steps.old steps.new) }
 {
     let mut input = GenSource::new(&script.input, seed, frames);
     run_script(alloc, None, script, &mut input, output, steps)
@@ -183,7 +191,8 @@ fn tell<R: Sink>(report: &mut R, text: &[u8]) -> Result<(), Failed>
 /// Reports a line for each measure.
 fn tell_measures<R: Sink>(report: &mut R, measures: &[Measure]) -> Result<(), Failed>
     ensures tells { Tells (flat_map measure_line measures.now) (R.state report.old) (R.state report.new) }
-    ensures wrote { OnOk result (Wrote (flat_map measure_line measures.now) (R.state report.old) (R.state report.new)) }
+    ensures wrote { OnOk result (Wrote (flat_map measure_line measures.now) (R.state report.old)
+        (R.state report.new)) }
     ensures faults { CountsFaults result (R.state report.old).faults (R.state report.new).faults }
 {
     for measure in measures {
@@ -195,7 +204,8 @@ fn tell_measures<R: Sink>(report: &mut R, measures: &[Measure]) -> Result<(), Fa
 /// Reports what a run says of itself, and makes sure of it.
 fn tell_summary<R: Sink>(report: &mut R, summary: &Summary) -> Result<(), Failed>
     ensures tells { Tells (summary_text summary.now) (R.state report.old) (R.state report.new) }
-    ensures wrote { OnOk result (Wrote (summary_text summary.now) (R.state report.old) (R.state report.new)) }
+    ensures wrote { OnOk result (Wrote (summary_text summary.now) (R.state report.old)
+        (R.state report.new)) }
     ensures settled { OnOk result (IsSettled (R.state report.new)) }
     ensures faults { CountsFaults result (R.state report.old).faults (R.state report.new).faults }
 {

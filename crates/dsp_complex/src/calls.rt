@@ -14,7 +14,8 @@ use std::sync::ledger::Ledger;
 pub fn conj<T: WideSample>(a: &[T], out: &mut [T])
     requires same { length a.now ≡ length out.old }
     requires pairs { length out.old % 2 ≡ 0 }
-    ensures { map T.number out.new ≡ interleaved (length out.old / 2) (λ n. cmplx_conj T.format (re (map T.number a.now) n) (im (map T.number a.now) n)) }
+    ensures { map T.number out.new ≡ interleaved (length out.old / 2) (λ n.
+        cmplx_conj T.format (re (map T.number a.now) n) (im (map T.number a.now) n)) }
 {
     for n in 0..out.len() / 2 {
         let given = conjugate(Complex {
@@ -33,7 +34,9 @@ pub fn mult_cmplx<T: WideSample, M: Ledger>(a: &[T], b: &[T], out: &mut [T], ste
     requires left { length a.now ≡ length out.old }
     requires right { length b.now ≡ length out.old }
     requires pairs { length out.old % 2 ≡ 0 }
-    ensures out { map T.number out.new ≡ interleaved (length out.old / 2) (λ n. cmplx_mult T.format (re (map T.number a.now) n) (im (map T.number a.now) n) (re (map T.number b.now) n) (im (map T.number b.now) n)) }
+    ensures out { map T.number out.new ≡ interleaved (length out.old / 2) (λ n.
+        cmplx_mult T.format (re (map T.number a.now) n) (im (map T.number a.now) n)
+        (re (map T.number b.now) n) (im (map T.number b.now) n)) }
     ensures steps { RisesWithin steps.old steps.new (4 * (length out.old / 2)) (4 * (length out.old / 2)) }
 {
     for n in 0..out.len() / 2 {
@@ -57,7 +60,8 @@ pub fn mult_cmplx<T: WideSample, M: Ledger>(a: &[T], b: &[T], out: &mut [T], ste
 pub fn mult_real<M: Ledger>(a: &[i16], r: &[i16], out: &mut [i16], steps: &mut Steps<M>)
     requires left { length a.now ≡ 2 * length r.now }
     requires room { length out.old ≡ 2 * length r.now }
-    ensures out { out.new ≡ interleaved (length r.now) (λ n. cmplx_mult_real (re a.now n) (im a.now n) (sample r.now n)) }
+    ensures out { out.new ≡ interleaved (length r.now) (λ n.
+        cmplx_mult_real (re a.now n) (im a.now n) (sample r.now n)) }
     ensures steps { RisesWithin steps.old steps.new (2 * length r.now) (2 * length r.now) }
 {
     for (n, factor) in r.iter().enumerate() {
@@ -71,7 +75,8 @@ pub fn mult_real<M: Ledger>(a: &[i16], r: &[i16], out: &mut [i16], steps: &mut S
 /// are twice as many parts as magnitudes.
 pub fn mag_squared<T: WideSample, M: Ledger>(a: &[T], out: &mut [T], steps: &mut Steps<M>)
     requires { length a.now ≡ 2 * length out.old }
-    ensures out { map T.number out.new ≡ values (length out.old) (λ n. cmplx_mag_squared T.format (re (map T.number a.now) n) (im (map T.number a.now) n)) }
+    ensures out { map T.number out.new ≡ values (length out.old) (λ n.
+        cmplx_mag_squared T.format (re (map T.number a.now) n) (im (map T.number a.now) n)) }
     ensures steps { RisesWithin steps.old steps.new (2 * length out.old) (2 * length out.old) }
 {
     for n in 0..out.len() {

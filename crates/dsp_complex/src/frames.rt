@@ -92,7 +92,8 @@ impl<T: WideSample> FrameOperation<T> for Product {
 
     ghost HasForm = { Unit {0} };
 
-    ghost value = { λ f. pair_frame (cmplx_mult T.format (sample f 0) (sample f 1) (sample f 2) (sample f 3)) };
+    ghost value = { λ f.
+        pair_frame (cmplx_mult T.format (sample f 0) (sample f 1) (sample f 2) (sample f 3)) };
 
     ghost price = { 4 };
 
@@ -194,8 +195,11 @@ pub(crate) fn give_frames<T: WideSample, O: FrameOperation<T>, L: Ledger>(
     requires in_format { All (FitsSigned (word T.format)) frames.now }
     requires room { count * O.GIVEN ≤ length out.old }
     ensures count { result ≡ count * O.GIVEN }
-    ensures values { (n c : ℕ) → n < count → c < O.GIVEN → sample out.new (n * O.GIVEN + c) ≡ sample (O.value (values O.TAKEN (λ k. sample frames.now (n * O.TAKEN + k)))) c }
-    ensures fits { (n c : ℕ) → n < count → c < O.GIVEN → FitsSigned (word T.format) (sample out.new (n * O.GIVEN + c)) }
+    ensures values { (n c : ℕ) → n < count → c < O.GIVEN
+        → sample out.new (n * O.GIVEN + c)
+        ≡ sample (O.value (values O.TAKEN (λ k. sample frames.now (n * O.TAKEN + k)))) c }
+    ensures fits { (n c : ℕ) → n < count → c < O.GIVEN
+        → FitsSigned (word T.format) (sample out.new (n * O.GIVEN + c)) }
     ensures steps { RisesWithin steps.old steps.new (count * O.price) (count * O.price) }
 {
     let taken = O::TAKEN;

@@ -34,11 +34,14 @@ impl Operation {
         requires suits { Suits (record { format = T.format; channels = channels }) (block_of self) }
         requires some { 1 ≤ channels }
         requires signal { IsSignal T.format channels frames.now }
-        requires room { length (frames_in channels frames.now) * channels_after channels (block_of self) ≤ length out.old }
+        requires room { length (frames_in channels frames.now) * channels_after channels
+            (block_of self) ≤ length out.old }
         ensures within { result ≤ length out.old }
         ensures given { Gives T.format channels (block_of self) frames.now (take result out.new) }
-        ensures multiplies { steps.new.multiplies ≡ steps.old.multiplies + length (frames_in channels frames.now) * price (block_of self) channels }
-        ensures turns { steps.new.turns ≤ steps.old.turns + length (frames_in channels frames.now) * price (block_of self) channels }
+        ensures multiplies { steps.new.multiplies ≡ steps.old.multiplies + length
+            (frames_in channels frames.now) * price (block_of self) channels }
+        ensures turns { steps.new.turns ≤ steps.old.turns + length
+            (frames_in channels frames.now) * price (block_of self) channels }
     {
         let count = frames.len() / channels;
         match self {

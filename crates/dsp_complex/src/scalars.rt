@@ -44,8 +44,10 @@ pub(crate) fn product<T: WideSample, L: Ledger>(
     b: Complex<T>,
     steps: &mut Steps<L>,
 ) -> Complex<T>
-    ensures re { T.number result.re ≡ (cmplx_mult T.format (T.number a.re) (T.number a.im) (T.number b.re) (T.number b.im)).0 }
-    ensures im { T.number result.im ≡ (cmplx_mult T.format (T.number a.re) (T.number a.im) (T.number b.re) (T.number b.im)).1 }
+    ensures re { T.number result.re ≡ (cmplx_mult T.format (T.number a.re) (T.number a.im)
+        (T.number b.re) (T.number b.im)).0 }
+    ensures im { T.number result.im ≡ (cmplx_mult T.format (T.number a.re) (T.number a.im)
+        (T.number b.re) (T.number b.im)).1 }
     ensures steps { Rises steps.old steps.new 4 4 }
 {
     let re = shifted_product(a.re, b.re, steps) - shifted_product(a.im, b.im, steps);

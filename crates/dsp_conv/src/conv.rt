@@ -25,7 +25,8 @@ impl<T: LaneSample<L>, const L: usize> Convolution<T, L, Everything> {
     pub fn new(alloc: Global, taps: &[T], block: usize) -> Result<Self, MakeFault>
         ensures made { IfOk result (λ c. c ≡ new_conv Full (map T.number taps.now) block) }
         ensures stands { IfOk result (λ c. StandsFor T.format c []) }
-        ensures fault { MatchOption (filter_fault (length taps.now) block) (IfErr result (λ e. e ≡ MakeFault.Memory)) (λ e. result ≡ Err e) }
+        ensures fault { MatchOption (filter_fault (length taps.now) block)
+            (IfErr result (λ e. e ≡ MakeFault.Memory)) (λ e. result ≡ Err e) }
     {
         check_taps(taps.len())?;
         check_block(block)?;

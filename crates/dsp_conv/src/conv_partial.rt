@@ -35,7 +35,8 @@ impl<T: LaneSample<L>, const L: usize> Convolution<T, L, Stretch> {
     ) -> Result<Self, MakeFault>
         ensures made { IfOk result (λ c. c ≡ new_conv (Within first count) (map T.number taps.now) block) }
         ensures stands { IfOk result (λ c. StandsFor T.format c []) }
-        ensures fault { MatchOption (partial_fault (length taps.now) first count block) (IfErr result (λ e. e ≡ MakeFault.Memory)) (λ e. result ≡ Err e) }
+        ensures fault { MatchOption (partial_fault (length taps.now) first count block)
+            (IfErr result (λ e. e ≡ MakeFault.Memory)) (λ e. result ≡ Err e) }
     {
         check_taps(taps.len())?;
         let first = check_first(first)?;

@@ -43,7 +43,9 @@ impl<T: LaneSample<L>, const L: usize, K: Copy> Model for Convolution<T, L, K> {
       ended = c.ended;
     } };
 
-    ghost invariant = { λ c. IsSound (vec_len c.reversed) c.block c.window (map T.number c.zeros.items) c.skip c.left c.place (greatest_place c.extent) };
+    ghost invariant = { λ c.
+        IsSound (vec_len c.reversed) c.block c.window
+        (map T.number c.zeros.items) c.skip c.left c.place (greatest_place c.extent) };
 }
 
 impl<T: LaneSample<L>, const L: usize, K: Copy> Convolution<T, L, K> {
@@ -106,11 +108,19 @@ impl<T: LaneSample<L>, const L: usize, K: Copy> Convolution<T, L, K> {
         requires block { length input.now ≤ self.old.block }
         requires room { length input.now ≤ length output.old }
         ensures within { result ≤ length input.now }
-        ensures count { (n : ℕ) → CountsFor self.old n → live_count self.old (n + length input.now) ≡ live_count self.old n + result }
-        ensures values { (x : List ℤ) → StandsFor T.format self.old x → Continues (live_of T.format self.old) x (map T.number input.now) (map T.number (take result output.new)) }
-        ensures stands { (x : List ℤ) → StandsFor T.format self.old x → StandsFor T.format self.new (x ++ map T.number input.now) }
+        ensures count { (n : ℕ) → CountsFor self.old n → live_count self.old (n + length input.now)
+            ≡ live_count self.old n + result }
+        ensures values { (x : List ℤ) → StandsFor T.format self.old x
+            → Continues (live_of T.format self.old) x (map T.number input.now)
+            (map T.number (take result output.new)) }
+        ensures stands { (x : List ℤ) → StandsFor T.format self.old x
+            → StandsFor T.format self.new (x ++ map T.number input.now) }
         ensures counts { (n : ℕ) → CountsFor self.old n → CountsFor self.new (n + length input.now) }
-        ensures same { self.new ≡ record self.old { past = self.new.past; place = self.new.place; tail = self.new.tail } }
+        ensures same { self.new ≡ record self.old {
+          past = self.new.past;
+          place = self.new.place;
+          tail = self.new.tail;
+        } }
         ensures kept { length self.new.past ≡ length self.old.past }
         ensures rest { drop result output.new ≡ drop result output.old }
         ensures multiplies { steps.new.multiplies ≡ steps.old.multiplies + result * length self.old.taps }
@@ -128,7 +138,8 @@ impl<T: LaneSample<L>, const L: usize, K: Copy> Convolution<T, L, K> {
 
     /// The tail becomes what the last samples leave to be given.
     fn owe(&mut self)
-        ensures { self.new ≡ record self.old { tail = tail_behind T.format self.old.extent self.old.taps self.old.past self.old.place } }
+        ensures { self.new
+            ≡ record self.old { tail = tail_behind T.format self.old.extent self.old.taps self.old.past self.old.place } }
     {
         let zeros = match self.place {
             0 => 0,
@@ -147,7 +158,11 @@ impl<T: LaneSample<L>, const L: usize, K: Copy> Convolution<T, L, K> {
         ensures tail { self.old.tail ≡ map T.number (take result output.new) ++ self.new.tail }
         ensures ended { IsTrue self.new.ended }
         ensures kept { length self.new.past ≡ length self.old.past }
-        ensures same { self.new ≡ record self.old { past = self.new.past; tail = self.new.tail; ended = true } }
+        ensures same { self.new ≡ record self.old {
+          past = self.new.past;
+          tail = self.new.tail;
+          ended = true;
+        } }
         ensures spent { 0 < length output.old → (result ≡ 0 ↔ self.old.tail ≡ []) }
         ensures rest { drop result output.new ≡ drop result output.old }
         ensures multiplies { steps.new.multiplies ≡ steps.old.multiplies + result * length self.old.taps }
@@ -212,10 +227,16 @@ impl<T: LaneSample<L>, const L: usize, K: Copy> Convolution<T, L, K> {
         requires fits { Fits T.format self.old numbers.now }
         ensures kept { kept self.new ≡ numbers.now }
         ensures count { length self.new.past ≡ length self.old.past }
-        ensures tail { self.new.tail ≡ tail_behind T.format self.old.extent self.old.taps self.new.past self.new.place }
-        ensures stands { (x : List ℤ) → numbers.now ≡ kept_of T.format self.old.extent self.old.taps x → StandsFor T.format self.new x }
+        ensures tail { self.new.tail
+            ≡ tail_behind T.format self.old.extent self.old.taps self.new.past self.new.place }
+        ensures stands { (x : List ℤ) → numbers.now
+            ≡ kept_of T.format self.old.extent self.old.taps x → StandsFor T.format self.new x }
         ensures counts { (n : ℕ) → self.new.place ≡ place_in self.old.extent n → CountsFor self.new n }
-        ensures same { self.new ≡ record self.old { past = self.new.past; place = self.new.place; tail = self.new.tail } }
+        ensures same { self.new ≡ record self.old {
+          past = self.new.past;
+          place = self.new.place;
+          tail = self.new.tail;
+        } }
     {
         let last = numbers.len() - 1;
         self.window.restore(&numbers[..last]);

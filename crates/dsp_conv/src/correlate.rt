@@ -47,7 +47,8 @@ impl<T: OwnLanes> Correlate<T> {
     /// no taps or more than `MAX_TAPS`, then `Memory`. No later call takes memory.
     pub fn new(alloc: Global, taps: &[T]) -> Result<Self, MakeFault>
         ensures made { IfOk result (λ c. c ≡ new_correlate (map T.number taps.now)) }
-        ensures fault { MatchOption (taps_fault (length taps.now)) (IfErr result (λ e. e ≡ MakeFault.Memory)) (λ e. result ≡ Err e) }
+        ensures fault { MatchOption (taps_fault (length taps.now))
+            (IfErr result (λ e. e ≡ MakeFault.Memory)) (λ e. result ≡ Err e) }
     {
         check_taps(taps.len())?;
         let Ok(correlate) = Correlate::of_taps(alloc, taps) else {
@@ -79,7 +80,8 @@ impl<T: OwnLanes> Correlate<T> {
         ensures held { IfErr result (λ (fault : GatherFull). fault.held ≡ length self.old.samples) }
         ensures more { IfErr result (λ (fault : GatherFull). fault.more ≡ length input.now) }
         ensures refused { IfErr result (λ _. self.new ≡ self.old) }
-        ensures taken { OnOk result (self.new ≡ record self.old { samples = self.old.samples ++ map T.number input.now }) }
+        ensures taken { OnOk result (self.new
+            ≡ record self.old { samples = self.old.samples ++ map T.number input.now }) }
     {
         self.gather.put(input)
     }
@@ -89,11 +91,13 @@ impl<T: OwnLanes> Correlate<T> {
     /// that is not empty is 0 exactly where all values were given.
     pub fn finish<M: Ledger>(&mut self, output: &mut [T], steps: &mut Steps<M>) -> usize
         ensures given { result ≡ min (length (tail_of T.format self.old)) (length output.old) }
-        ensures tail { tail_of T.format self.old ≡ map T.number (take result output.new) ++ tail_of T.format self.new }
+        ensures tail { tail_of T.format self.old ≡ map T.number (take result output.new)
+            ++ tail_of T.format self.new }
         ensures same { self.new ≡ record self.old { given = self.old.given + result; ended = true } }
         ensures spent { 0 < length output.old → (result ≡ 0 ↔ tail_of T.format self.old ≡ []) }
         ensures rest { drop result output.new ≡ drop result output.old }
-        ensures multiplies { made_of self.old + steps.new.multiplies ≡ made_of self.new + steps.old.multiplies }
+        ensures multiplies { made_of self.old + steps.new.multiplies
+            ≡ made_of self.new + steps.old.multiplies }
         ensures turns { made_of self.old + steps.new.turns ≤ made_of self.new + steps.old.turns }
     {
         self.ended = true;
@@ -134,7 +138,8 @@ impl<T: OwnLanes> Correlate<T> {
 
     /// Whether these can be kept numbers: at most `MAX_GATHERED` of them, each in the range of the format.
     pub fn fits(&self, numbers: &[i64]) -> bool
-        ensures { IsTrue result ↔ (length numbers.now ≤ MAX_GATHERED) × Each IsOfKind (in_words (word T.format) (length numbers.now)) numbers.now }
+        ensures { IsTrue result ↔ (length numbers.now ≤ MAX_GATHERED)
+            × Each IsOfKind (in_words (word T.format) (length numbers.now)) numbers.now }
     {
         numbers.len() <= MAX_GATHERED && are_samples::<T>(numbers, numbers.len())
     }

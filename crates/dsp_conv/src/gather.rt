@@ -15,7 +15,7 @@ fn put_behind<T: Copy>(samples: &mut [T], held: usize, input: &[T])
     samples[held..held + input.len()].copy_from_slice(input);
 }
 
-/// The samples of one channel that came so far, up to 1,048,576.
+/// The samples of one channel that came so far, up to `MAX_GATHERED`.
 #[derive(Drop)]
 pub struct Gather<T: Sample> {
     samples: Vec<T>,
@@ -39,7 +39,7 @@ impl<T: Sample> Gather<T> {
     ghost use Rattle.dsp_defs.specs.declared.fault.GatherFull.{GatherFull};
     ghost use Rattle.dsp_defs.specs.declared.limits.TheConstants.{MAX_GATHERED};
 
-    /// No samples, and the memory for 1,048,576 of them.
+    /// No samples, and the memory for `MAX_GATHERED` of them.
     pub fn new(alloc: Global) -> Result<Self, AllocError>
         ensures { IfOk result (λ g. g ≡ []) }
     {
@@ -56,7 +56,7 @@ impl<T: Sample> Gather<T> {
         &self.samples[..self.held]
     }
 
-    /// Puts samples behind those that came. `GatherFull` where there would be more than 1,048,576;
+    /// Puts samples behind those that came. `GatherFull` where there would be more than `MAX_GATHERED`;
     /// then nothing changes.
     pub fn put(&mut self, input: &[T]) -> Result<(), GatherFull>
         ensures full { IsErr result ↔ MAX_GATHERED < length self.old + length input.now }

@@ -40,10 +40,12 @@ pub fn conv_partial_slices<T: OwnLanes, M: Ledger>(
     requires end { first + length out.old < 2 ^ 64 }
     ensures past { IsErr result ↔ length a.now + length b.now - 1 < first + length out.old }
     ensures end { IfErr result (λ (fault : WindowFault). fault.end ≡ first + length out.old) }
-    ensures length { IfErr result (λ (fault : WindowFault). fault.length ≡ length a.now + length b.now - 1) }
+    ensures length { IfErr result (λ (fault : WindowFault). fault.length
+        ≡ length a.now + length b.now - 1) }
     ensures refused { IfErr result (λ _. out.new ≡ out.old) }
     ensures unmade { IfErr result (λ _. steps.new ≡ steps.old) }
-    ensures out { OnOk result (map T.number out.new ≡ conv_partial T.format first (length out.old) (map T.number b.now) (map T.number a.now)) }
+    ensures out { OnOk result (map T.number out.new ≡ conv_partial T.format first (length out.old)
+        (map T.number b.now) (map T.number a.now)) }
     ensures steps { RisesAtMost steps.old steps.new (length out.old * length b.now) }
 {
     let end = first + out.len() as u64;

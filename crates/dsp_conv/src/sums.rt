@@ -15,7 +15,9 @@ use std::sync::ledger::Ledger;
 /// The closed sum of the products of two lists of samples, of which the second is read from its end.
 fn closed_backwards<T: Sample, M: Ledger>(a: &[T], b: &[T], steps: &mut Steps<M>) -> T
     requires { length b.now ≡ length a.now }
-    ensures value { T.number result ≡ close T.format (sum_below (length a.now) (λ k. sample (map T.number a.now) k *ℤ sample (reverse (map T.number b.now)) k)) }
+    ensures value { T.number result ≡ close T.format
+        (sum_below (length a.now) (λ k.
+        sample (map T.number a.now) k *ℤ sample (reverse (map T.number b.now)) k)) }
     ensures steps { Rises steps.old steps.new (length a.now) (length a.now) }
 {
     let mut sum = T::empty();
@@ -28,7 +30,9 @@ fn closed_backwards<T: Sample, M: Ledger>(a: &[T], b: &[T], steps: &mut Steps<M>
 /// The closed sum of the products of two lists of samples.
 fn closed_sum<T: OwnLanes, M: Ledger>(a: &[T], b: &[T], steps: &mut Steps<M>) -> T
     requires { length b.now ≡ length a.now }
-    ensures value { T.number result ≡ close T.format (sum_below (length a.now) (λ k. sample (map T.number a.now) k *ℤ sample (map T.number b.now) k)) }
+    ensures value { T.number result ≡ close T.format
+        (sum_below (length a.now) (λ k.
+        sample (map T.number a.now) k *ℤ sample (map T.number b.now) k)) }
     ensures steps { RisesWithin steps.old steps.new (length a.now) (length a.now) }
 {
     T::close(T::dot(a, b, steps))
@@ -39,7 +43,8 @@ fn closed_sum<T: OwnLanes, M: Ledger>(a: &[T], b: &[T], steps: &mut Steps<M>) ->
 fn convolution_value<T: Sample, M: Ledger>(a: &[T], b: &[T], n: usize, steps: &mut Steps<M>) -> T
     requires inside { n + 1 < length a.now + length b.now }
     requires few { n + 1 < 2 ^ 64 }
-    ensures value { T.number result ≡ close T.format (convolution_at (map T.number b.now) (map T.number a.now) n) }
+    ensures value { T.number result ≡ close T.format
+        (convolution_at (map T.number b.now) (map T.number a.now) n) }
     ensures steps { RisesAtMost steps.old steps.new (length b.now) }
 {
     let start = (n + 1).saturating_sub(a.len());
@@ -72,7 +77,8 @@ fn convolution_edge<T: Sample, M: Ledger>(
     requires taps { 1 ≤ length b.now }
     requires window { first + length out.old < length a.now + length b.now }
     requires few { first + length out.old < 2 ^ 64 }
-    ensures values { map T.number out.new ≡ convolution_stretch T.format (map T.number b.now) (map T.number a.now) first (length out.old) }
+    ensures values { map T.number out.new ≡ convolution_stretch T.format (map T.number b.now)
+        (map T.number a.now) first (length out.old) }
     ensures steps { RisesAtMost steps.old steps.new (length out.old * length b.now) }
 {
     for (i, value) in out.iter_mut().enumerate() {
@@ -94,7 +100,8 @@ fn convolution_middle<T: OwnLanes, M: Ledger>(
     requires scratch { 0 < length out.old → length b.now ≤ length scratch.old }
     requires from { 0 < length out.old → length b.now ≤ first + 1 }
     requires whole { 0 < length out.old → first + length out.old ≤ length a.now }
-    ensures values { map T.number out.new ≡ convolution_stretch T.format (map T.number b.now) (map T.number a.now) first (length out.old) }
+    ensures values { map T.number out.new ≡ convolution_stretch T.format (map T.number b.now)
+        (map T.number a.now) first (length out.old) }
     ensures steps { RisesAtMost steps.old steps.new (length out.old * length b.now) }
 {
     if out.is_empty() {
@@ -122,7 +129,8 @@ fn convolution_by_taps<T: OwnLanes, M: Ledger>(
     requires taps { 1 ≤ length b.now }
     requires window { first + length out.old < length a.now + length b.now }
     requires few { first + length out.old < 2 ^ 64 }
-    ensures values { map T.number out.new ≡ convolution_stretch T.format (map T.number b.now) (map T.number a.now) first (length out.old) }
+    ensures values { map T.number out.new ≡ convolution_stretch T.format (map T.number b.now)
+        (map T.number a.now) first (length out.old) }
     ensures steps { RisesAtMost steps.old steps.new (length out.old * length b.now) }
 {
     let from = b.len() - 1;
@@ -149,7 +157,8 @@ pub(crate) fn convolution_values<T: OwnLanes, M: Ledger>(
     requires taps { 1 ≤ length b.now }
     requires window { first + length out.old < length a.now + length b.now }
     requires few { first + length out.old < 2 ^ 64 }
-    ensures values { map T.number out.new ≡ convolution_stretch T.format (map T.number b.now) (map T.number a.now) first (length out.old) }
+    ensures values { map T.number out.new ≡ convolution_stretch T.format (map T.number b.now)
+        (map T.number a.now) first (length out.old) }
     ensures steps { RisesAtMost steps.old steps.new (length out.old * length b.now) }
 {
     if a.len() < b.len() {
@@ -164,8 +173,11 @@ fn correlation_value<T: OwnLanes, M: Ledger>(a: &[T], b: &[T], n: usize, steps: 
     requires some { 1 ≤ length a.now }
     requires taps { 1 ≤ length b.now }
     requires few { n + 1 < 2 ^ 64 }
-    ensures value { T.number result ≡ close T.format (correlation_at (map T.number b.now) (map T.number a.now) n) }
-    ensures steps { RisesWithin steps.old steps.new (correlation_terms (length a.now) (length b.now) n) (correlation_terms (length a.now) (length b.now) n) }
+    ensures value { T.number result ≡ close T.format
+        (correlation_at (map T.number b.now) (map T.number a.now) n) }
+    ensures steps { RisesWithin steps.old steps.new
+        (correlation_terms (length a.now) (length b.now) n)
+        (correlation_terms (length a.now) (length b.now) n) }
 {
     let longest = a.len().max(b.len());
     let end = a.len().min((n + 1).saturating_sub(longest - b.len()));
@@ -185,8 +197,10 @@ fn correlation_edge<T: OwnLanes, M: Ledger>(
     requires some { 1 ≤ length a.now }
     requires taps { 1 ≤ length b.now }
     requires few { first + length out.old < 2 ^ 64 }
-    ensures values { map T.number out.new ≡ correlation_stretch T.format (map T.number b.now) (map T.number a.now) first (length out.old) }
-    ensures steps { CorrelationRises (length a.now) (length b.now) first (first + length out.old) steps.old steps.new }
+    ensures values { map T.number out.new ≡ correlation_stretch T.format (map T.number b.now)
+        (map T.number a.now) first (length out.old) }
+    ensures steps { CorrelationRises (length a.now) (length b.now) first
+        (first + length out.old) steps.old steps.new }
 {
     for (i, value) in out.iter_mut().enumerate() {
         *value = correlation_value(a, b, first + i, steps);
@@ -206,8 +220,10 @@ fn correlation_middle<T: OwnLanes, M: Ledger>(
     requires taps { 1 ≤ length b.now }
     requires from { 0 < length out.old → length a.now ≤ first + 1 }
     requires whole { 0 < length out.old → first + length out.old + length b.now ≤ 2 * length a.now }
-    ensures values { map T.number out.new ≡ correlation_stretch T.format (map T.number b.now) (map T.number a.now) first (length out.old) }
-    ensures steps { CorrelationRises (length a.now) (length b.now) first (first + length out.old) steps.old steps.new }
+    ensures values { map T.number out.new ≡ correlation_stretch T.format (map T.number b.now)
+        (map T.number a.now) first (length out.old) }
+    ensures steps { CorrelationRises (length a.now) (length b.now) first
+        (first + length out.old) steps.old steps.new }
 {
     if out.is_empty() {
         return;
@@ -229,8 +245,10 @@ pub(crate) fn correlation_values<T: OwnLanes, M: Ledger>(
     requires some { 1 ≤ length a.now }
     requires taps { 1 ≤ length b.now }
     requires few { first + length out.old < 2 ^ 64 }
-    ensures values { map T.number out.new ≡ correlation_stretch T.format (map T.number b.now) (map T.number a.now) first (length out.old) }
-    ensures steps { CorrelationRises (length a.now) (length b.now) first (first + length out.old) steps.old steps.new }
+    ensures values { map T.number out.new ≡ correlation_stretch T.format (map T.number b.now)
+        (map T.number a.now) first (length out.old) }
+    ensures steps { CorrelationRises (length a.now) (length b.now) first
+        (first + length out.old) steps.old steps.new }
 {
     let from = a.len() - 1;
     let whole = a.len().saturating_sub(b.len() - 1);

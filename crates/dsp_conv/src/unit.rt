@@ -57,7 +57,8 @@ fn correlate_in_format(
     requires channels { 1 ≤ channels }
     requires frames { 1 ≤ frames }
     requires samples { frames * channels ≤ MAX_SAMPLES }
-    ensures { IfOk result (λ u. IsNew block.now format channels frames (⟦<CorrelateInFormat as Stage>⟧.unit u)) }
+    ensures { IfOk result (λ u.
+        IsNew block.now format channels frames (⟦<CorrelateInFormat as Stage>⟧.unit u)) }
 {
     match format {
         Fmt::Q7 => Ok(InFormat::Q7(EachChannel::new(alloc, block, channels, frames)?)),

@@ -1,5 +1,5 @@
 -- The measures of a whole signal, and those of a chain.
-use Rattle.std.specs.Prelude.{ℕ, suc, ◌+◌, ◌*◌, ℤ, pos, nat_abs, drop, ◌+ℤ◌, ◌-ℤ◌, ◌*ℤ◌, List, [], ◌∷◌, ◌++◌, length, Option, Some, None, Bool, int_lt, if◌then◌else◌}
+use Rattle.std.specs.Prelude.{ℕ, ◌+◌, ℤ, ◌+ℤ◌, ◌-ℤ◌, ◌*ℤ◌, List, [], ◌∷◌, ◌++◌, length, Option, Some, None, Bool, int_lt, if◌then◌else◌}
 use Rattle.dsp_defs.specs.Numbers.{◌>>◌, wrap, w32}
 use Rattle.dsp_defs.specs.Formats.{accumulator}
 use Rattle.dsp_defs.specs.Signal.{sample, values, sum_below}

@@ -1,5 +1,5 @@
 -- Reading a text from left to right: the script, or the first item, or the end, that can't stand after the items before it.
-use Rattle.std.specs.Prelude.{ℕ, zero, suc, ◌==◌, ◌&&◌, ◌||◌, ⊤, is_some, Bool, false, List, [], ◌∷◌, length, Option, Some, None, Result, Ok, Err, nat_lt, if◌then◌else◌, codes}
+use Rattle.std.specs.Prelude.{ℕ, zero, suc, ◌==◌, ◌&&◌, ◌||◌, ⊤, Bool, false, List, [], ◌∷◌, length, Option, Some, None, Result, Ok, Err, nat_lt, if◌then◌else◌, codes}
 use Rattle.std.specs.Str.{bytes_eq}
 use Rattle.std.specs.Option.{option_map}
 use Rattle.dsp_defs.specs.declared.script_fault.ScriptKind.TheVariants.{TooLong, BadByte, UnknownWord, NoSuchForm, ChannelsHere, TooMany}

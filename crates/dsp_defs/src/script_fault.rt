@@ -4,7 +4,7 @@ use thiserror::Error;
 /// What is wrong at a place of a script's text.
 #[derive(Clone, Copy, Debug, PartialEq, Eq, Error)]
 pub enum ScriptKind {
-    /// The text has more than 1,048,576 bytes.
+    /// The text has more than `MAX_SCRIPT` bytes.
     #[error("the text is too long")]
     TooLong,
     /// A byte begins no token.

@@ -23,7 +23,8 @@ impl<T: LaneSample<L>, const L: usize> Model for FirChannel<T, L> {
 
     ghost view = { λ c. channel_state T.format c.fir };
 
-    ghost invariant = { λ c. (L ≡ lanes T.format) × (length c.fir.past ≡ length c.fir.taps - 1) × (length c.fir.past ≤ 4294967295) };
+    ghost invariant = { λ c. (L ≡ lanes T.format) × (length c.fir.past ≡ length c.fir.taps - 1)
+        × (length c.fir.past ≤ 4294967295) };
 }
 
 impl<T: LaneSample<L>, const L: usize> FirChannel<T, L> {
@@ -36,9 +37,13 @@ impl<T: LaneSample<L>, const L: usize> FirChannel<T, L> {
     /// A filter that has taken nothing; it is refused as `Fir::new` refuses it.
     pub fn new(alloc: Global, taps: &[T], block: usize) -> Result<Self, MakeFault>
         requires { L ≡ lanes T.format }
-        ensures made { IfOk result (λ c. c ≡ channel_state T.format (new_fir (map T.number taps.now) block)) }
-        ensures fresh { IfOk result (λ c. IsNewFilter (channel_state T.format (new_fir (map T.number taps.now) block)).block T.format block c) }
-        ensures fault { MatchOption (filter_fault (length taps.now) block) (IfErr result (λ e. e ≡ MakeFault.Memory)) (λ e. result ≡ Err e) }
+        ensures made { IfOk result (λ c.
+            c ≡ channel_state T.format (new_fir (map T.number taps.now) block)) }
+        ensures fresh { IfOk result (λ c.
+            IsNewFilter (channel_state T.format
+            (new_fir (map T.number taps.now) block)).block T.format block c) }
+        ensures fault { MatchOption (filter_fault (length taps.now) block)
+            (IfErr result (λ e. e ≡ MakeFault.Memory)) (λ e. result ≡ Err e) }
     {
         match Fir::new(alloc, taps, block) {
             Ok(fir) => Ok(FirChannel { fir }),
@@ -117,7 +122,9 @@ impl<T: LaneSample<L>, const L: usize> Model for SparseChannel<T, L> {
 
     ghost view = { λ c. channel_state T.format c.sparse };
 
-    ghost invariant = { λ c. (L ≡ lanes T.format) × (length c.sparse.past ≡ greatest_delay c.sparse.delays) × (length c.sparse.past ≤ 4294967295) };
+    ghost invariant = { λ c. (L ≡ lanes T.format)
+        × (length c.sparse.past ≡ greatest_delay c.sparse.delays)
+        × (length c.sparse.past ≤ 4294967295) };
 }
 
 impl<T: LaneSample<L>, const L: usize> SparseChannel<T, L> {
@@ -129,9 +136,13 @@ impl<T: LaneSample<L>, const L: usize> SparseChannel<T, L> {
     /// A filter that has taken nothing; it is refused as `Sparse::new` refuses it.
     pub fn new(alloc: Global, taps: &[T], delays: &[u32], block: usize) -> Result<Self, MakeFault>
         requires { L ≡ lanes T.format }
-        ensures made { IfOk result (λ c. c ≡ channel_state T.format (new_sparse (map T.number taps.now) delays.now block)) }
-        ensures fresh { IfOk result (λ c. IsNewFilter (channel_state T.format (new_sparse (map T.number taps.now) delays.now block)).block T.format block c) }
-        ensures fault { MatchOption (sparse_fault (length taps.now) delays.now block) (IfErr result (λ e. e ≡ MakeFault.Memory)) (λ e. result ≡ Err e) }
+        ensures made { IfOk result (λ c.
+            c ≡ channel_state T.format (new_sparse (map T.number taps.now) delays.now block)) }
+        ensures fresh { IfOk result (λ c.
+            IsNewFilter (channel_state T.format
+            (new_sparse (map T.number taps.now) delays.now block)).block T.format block c) }
+        ensures fault { MatchOption (sparse_fault (length taps.now) delays.now block)
+            (IfErr result (λ e. e ≡ MakeFault.Memory)) (λ e. result ≡ Err e) }
     {
         match Sparse::new(alloc, taps, delays, block) {
             Ok(sparse) => Ok(SparseChannel { sparse }),

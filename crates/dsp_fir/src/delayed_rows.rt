@@ -32,8 +32,11 @@ fn add_taps<T: LaneSample<L>, const L: usize, M: Ledger>(
     requires within { All (λ d. d ≤ past) delays.now }
     requires window { length window.now ≡ past + length sums.old }
     requires empty { map T.total sums.old ≡ values (length sums.old) (λ _. pos 0) }
-    ensures sums { map T.total sums.new ≡ values (length sums.old) (λ i. wrap w32 (delayed_sum T.format (map T.number taps.now) delays.now past (map T.number window.now) (length taps.now) i)) }
-    ensures steps { RisesWithin steps.old steps.new (length taps.now * length sums.old) (length taps.now * lane_turns L (length sums.old)) }
+    ensures sums { map T.total sums.new ≡ values (length sums.old) (λ i.
+        wrap w32 (delayed_sum T.format (map T.number taps.now) delays.now past
+        (map T.number window.now) (length taps.now) i)) }
+    ensures steps { RisesWithin steps.old steps.new (length taps.now * length sums.old)
+        (length taps.now * lane_turns L (length sums.old)) }
 {
     let count = sums.len();
     for (k, tap) in taps.iter().enumerate() {
@@ -45,7 +48,8 @@ fn add_taps<T: LaneSample<L>, const L: usize, M: Ledger>(
 /// Writes each sum as a sample.
 fn close_sums<T: Sample>(sums: &[T::Acc], out: &mut [T])
     requires { length out.old ≡ length sums.now }
-    ensures { map T.number out.new ≡ values (length out.old) (λ i. sparse_close T.format (sample (map T.total sums.now) i)) }
+    ensures { map T.number out.new ≡ values (length out.old) (λ i.
+        sparse_close T.format (sample (map T.total sums.now) i)) }
 {
     for (i, value) in out.iter_mut().enumerate() {
         *value = T::sparse_close(sums[i]);
@@ -67,8 +71,10 @@ pub fn delayed_rows<T: LaneSample<L>, const L: usize, M: Ledger>(
     requires within { All (λ d. d ≤ past) delays.now }
     requires window { length window.now ≡ past + length out.old }
     requires sums { length out.old ≤ length sums.old }
-    ensures out { map T.number out.new ≡ sparse_rows T.format (map T.number taps.now) delays.now past (map T.number window.now) (length out.old) }
-    ensures steps { RisesWithin steps.old steps.new (length taps.now * length out.old) (length taps.now * lane_turns L (length out.old)) }
+    ensures out { map T.number out.new ≡ sparse_rows T.format
+        (map T.number taps.now) delays.now past (map T.number window.now) (length out.old) }
+    ensures steps { RisesWithin steps.old steps.new (length taps.now * length out.old)
+        (length taps.now * lane_turns L (length out.old)) }
 {
     let sums = &mut sums[..out.len()];
     clear_sums::<T>(sums);

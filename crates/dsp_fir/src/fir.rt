@@ -21,9 +21,16 @@ impl<T: LaneSample<L>, const L: usize> Model for Fir<T, L> {
 
     ghost Value = { FirState };
 
-    ghost view = { λ f. record { taps = map T.number f.taps.items; past = last_samples f.window.past f.window.samples; block = f.window.room; ended = f.ended } };
+    ghost view = { λ f.
+        record {
+          taps = map T.number f.taps.items;
+          past = last_samples f.window.past f.window.samples;
+          block = f.window.room;
+          ended = f.ended;
+        } };
 
-    ghost invariant = { λ f. (f.window.past + 1 ≡ vec_len f.taps) × (f.window.past ≤ length f.window.samples) };
+    ghost invariant = { λ f. (f.window.past + 1 ≡ vec_len f.taps)
+        × (f.window.past ≤ length f.window.samples) };
 }
 
 impl<T: LaneSample<L>, const L: usize> Fir<T, L> {
@@ -41,7 +48,8 @@ impl<T: LaneSample<L>, const L: usize> Fir<T, L> {
     pub fn new(alloc: Global, taps: &[T], block: usize) -> Result<Self, MakeFault>
         ensures made { IfOk result (λ f. f ≡ new_fir (map T.number taps.now) block) }
         ensures stands { IfOk result (λ f. StandsFor f []) }
-        ensures fault { MatchOption (filter_fault (length taps.now) block) (IfErr result (λ e. e ≡ MakeFault.Memory)) (λ e. result ≡ Err e) }
+        ensures fault { MatchOption (filter_fault (length taps.now) block)
+            (IfErr result (λ e. e ≡ MakeFault.Memory)) (λ e. result ≡ Err e) }
     {
         check_taps(taps.len())?;
         check_block(block)?;
@@ -77,15 +85,20 @@ impl<T: LaneSample<L>, const L: usize> Fir<T, L> {
         requires block { length input.now ≤ self.old.block }
         requires room { length input.now ≤ length output.old }
         ensures given { result ≡ length input.now }
-        ensures values { (x : List ℤ) → StandsFor self.old x → Continues (fir T.format self.old.taps) x (map T.number input.now) (map T.number (take result output.new)) }
-        ensures stands { (x : List ℤ) → StandsFor self.old x → StandsFor self.new (x ++ map T.number input.now) }
+        ensures values { (x : List ℤ) → StandsFor self.old x
+            → Continues (fir T.format self.old.taps) x (map T.number input.now)
+            (map T.number (take result output.new)) }
+        ensures stands { (x : List ℤ) → StandsFor self.old x
+            → StandsFor self.new (x ++ map T.number input.now) }
         ensures taps { self.new.taps ≡ self.old.taps }
         ensures kept { length self.new.past ≡ length self.old.past }
         ensures block { self.new.block ≡ self.old.block }
         ensures running { IsFalse self.new.ended }
         ensures rest { drop result output.new ≡ drop result output.old }
-        ensures multiplies { steps.new.multiplies ≡ steps.old.multiplies + length input.now * length self.old.taps }
-        ensures turns { steps.new.turns ≤ steps.old.turns + length self.old.taps * lane_turns L (length input.now) }
+        ensures multiplies { steps.new.multiplies
+            ≡ steps.old.multiplies + length input.now * length self.old.taps }
+        ensures turns { steps.new.turns ≤ steps.old.turns + length self.old.taps * lane_turns L
+            (length input.now) }
     {
         let count = input.len();
         self.window.push_block(input);
@@ -130,7 +143,8 @@ impl<T: LaneSample<L>, const L: usize> Fir<T, L> {
 
     /// Whether these can be the kept numbers of a filter: as many, and each in the range of the format.
     pub fn fits(&self, numbers: &[i64]) -> bool
-        ensures { IsTrue result ↔ (length numbers.now ≡ length self.now.past) × All (FitsSigned (word T.format)) numbers.now }
+        ensures { IsTrue result ↔ (length numbers.now ≡ length self.now.past)
+            × All (FitsSigned (word T.format)) numbers.now }
     {
         self.window.fits(numbers)
     }

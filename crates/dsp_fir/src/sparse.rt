@@ -28,9 +28,17 @@ impl<T: LaneSample<L>, const L: usize> Model for Sparse<T, L> {
 
     ghost Value = { SparseState };
 
-    ghost view = { λ s. record { taps = map T.number s.taps.items; delays = s.delays.items; past = last_samples s.window.past s.window.samples; block = s.window.room; ended = s.ended } };
+    ghost view = { λ s. record {
+      taps = map T.number s.taps.items;
+      delays = s.delays.items;
+      past = last_samples s.window.past s.window.samples;
+      block = s.window.room;
+      ended = s.ended;
+    } };
 
-    ghost invariant = { λ s. (vec_len s.delays ≡ vec_len s.taps) × (s.past ≡ greatest_delay s.delays.items) × (s.window.past ≡ s.past) × (s.window.past ≤ length s.window.samples) × (vec_len s.sums ≡ s.window.room) };
+    ghost invariant = { λ s. (vec_len s.delays ≡ vec_len s.taps)
+        × (s.past ≡ greatest_delay s.delays.items) × (s.window.past ≡ s.past)
+        × (s.window.past ≤ length s.window.samples) × (vec_len s.sums ≡ s.window.room) };
 }
 
 impl<T: LaneSample<L>, const L: usize> Sparse<T, L> {
@@ -48,7 +56,8 @@ impl<T: LaneSample<L>, const L: usize> Sparse<T, L> {
     pub fn new(alloc: Global, taps: &[T], delays: &[u32], block: usize) -> Result<Self, MakeFault>
         ensures made { IfOk result (λ s. s ≡ new_sparse (map T.number taps.now) delays.now block) }
         ensures stands { IfOk result (λ s. StandsFor s []) }
-        ensures fault { MatchOption (sparse_fault (length taps.now) delays.now block) (IfErr result (λ e. e ≡ MakeFault.Memory)) (λ e. result ≡ Err e) }
+        ensures fault { MatchOption (sparse_fault (length taps.now) delays.now block)
+            (IfErr result (λ e. e ≡ MakeFault.Memory)) (λ e. result ≡ Err e) }
     {
         if taps.len() < 2 || taps.len() > MAX_TAPS {
             return Err(MakeFault::Length {
@@ -106,16 +115,21 @@ impl<T: LaneSample<L>, const L: usize> Sparse<T, L> {
         requires block { length input.now ≤ self.old.block }
         requires room { length input.now ≤ length output.old }
         ensures given { result ≡ length input.now }
-        ensures values { (x : List ℤ) → StandsFor self.old x → Continues (sparse T.format self.old.taps self.old.delays) x (map T.number input.now) (map T.number (take result output.new)) }
-        ensures stands { (x : List ℤ) → StandsFor self.old x → StandsFor self.new (x ++ map T.number input.now) }
+        ensures values { (x : List ℤ) → StandsFor self.old x
+            → Continues (sparse T.format self.old.taps self.old.delays) x (map T.number input.now)
+            (map T.number (take result output.new)) }
+        ensures stands { (x : List ℤ) → StandsFor self.old x
+            → StandsFor self.new (x ++ map T.number input.now) }
         ensures taps { self.new.taps ≡ self.old.taps }
         ensures delays { self.new.delays ≡ self.old.delays }
         ensures kept { length self.new.past ≡ length self.old.past }
         ensures block { self.new.block ≡ self.old.block }
         ensures running { IsFalse self.new.ended }
         ensures rest { drop result output.new ≡ drop result output.old }
-        ensures multiplies { steps.new.multiplies ≡ steps.old.multiplies + length input.now * length self.old.taps }
-        ensures turns { steps.new.turns ≤ steps.old.turns + length self.old.taps * lane_turns L (length input.now) }
+        ensures multiplies { steps.new.multiplies
+            ≡ steps.old.multiplies + length input.now * length self.old.taps }
+        ensures turns { steps.new.turns ≤ steps.old.turns + length self.old.taps * lane_turns L
+            (length input.now) }
     {
         let count = input.len();
         self.window.push_block(input);
@@ -168,7 +182,8 @@ impl<T: LaneSample<L>, const L: usize> Sparse<T, L> {
 
     /// Whether these can be the kept numbers of a filter: as many, and each in the range of the format.
     pub fn fits(&self, numbers: &[i64]) -> bool
-        ensures { IsTrue result ↔ (length numbers.now ≡ length self.now.past) × All (FitsSigned (word T.format)) numbers.now }
+        ensures { IsTrue result ↔ (length numbers.now ≡ length self.now.past)
+            × All (FitsSigned (word T.format)) numbers.now }
     {
         self.window.fits(numbers)
     }

@@ -34,7 +34,9 @@ impl<W: FrameWork + Drop> Model for Memoryless<W> {
       ended = u.ended;
     } };
 
-    ghost invariant = { λ u. (Suits (record { format = u.format; channels = u.channels }) (W.block u.work)) × (1 ≤ u.channels) × (u.capacity * u.channels ≤ MAX_SAMPLES) };
+    ghost invariant = { λ u.
+        (Suits (record { format = u.format; channels = u.channels }) (W.block u.work))
+        × (1 ≤ u.channels) × (u.capacity * u.channels ≤ MAX_SAMPLES) };
 }
 
 impl<W: FrameWork + Drop> Memoryless<W> {
@@ -71,10 +73,13 @@ impl<W: FrameWork + Drop> Memoryless<W> {
     /// It keeps and measures nothing of what it took.
     fn keeps_nothing(&self)
         ensures kept { self.now.kept ≡ [] }
-        ensures fits { (numbers : List ℤ) → Fits self.now.format self.now.channels self.now.block numbers ↔ (numbers ≡ []) }
+        ensures fits { (numbers : List ℤ)
+            → Fits self.now.format self.now.channels self.now.block numbers ↔ (numbers ≡ []) }
         ensures after { FitsAfter self.now.format self.now.channels self.now.block 0 [] }
         ensures place { (n : ℕ) → place_of self.now.block n ≡ 0 }
-        ensures restores { (numbers : List ℤ) → IsFalse self.now.ended → Fits self.now.format self.now.channels self.now.block numbers → Restores self.now self.now numbers }
+        ensures restores { (numbers : List ℤ) → IsFalse self.now.ended
+            → Fits self.now.format self.now.channels self.now.block numbers
+            → Restores self.now self.now numbers }
         ensures measures { (number : ℕ) → measures_of number self.now ≡ [] }
     {
         let _work = &self.work;

@@ -39,13 +39,18 @@ pub trait FrameWork {
         requires suits { Suits (record { format = format; channels = channels }) (block self.now) }
         requires some { 1 ≤ channels }
         requires signal { IsSignal format channels frames.now }
-        requires room { length (frames_in channels frames.now) * channels_after channels (block self.now) ≤ length out.old }
+        requires room { length (frames_in channels frames.now) * channels_after channels
+            (block self.now) ≤ length out.old }
         ensures within { result ≤ length out.old }
         ensures given { Gives format channels (block self.now) frames.now (take result out.new) }
-        ensures multiplies { steps.new.multiplies ≡ steps.old.multiplies + length (frames_in channels frames.now) * price (block self.now) channels }
-        ensures turns { steps.new.turns ≤ steps.old.turns + length (frames_in channels frames.now) * price (block self.now) channels };
+        ensures multiplies { steps.new.multiplies ≡ steps.old.multiplies + length
+            (frames_in channels frames.now) * price (block self.now) channels }
+        ensures turns { steps.new.turns ≤ steps.old.turns + length
+            (frames_in channels frames.now) * price (block self.now) channels };
 
-    ghost memoryless: { (w : Self) (format : Fmt) (channels : ℕ) → IsMemoryless format channels (block w) (price (block w) channels) (given_frame format (block w)) };
+    ghost memoryless: { (w : Self) (format : Fmt) (channels : ℕ)
+        → IsMemoryless format channels (block w) (price (block w) channels)
+        (given_frame format (block w)) };
 
     ghost as_many: { (w : Self) (n : ℕ) → most_frames (block w) n ≡ n };
 }

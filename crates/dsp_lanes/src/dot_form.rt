@@ -31,7 +31,9 @@ pub(crate) trait DotForm<T: Sample> {
         requires fit { AreSums sums }
         requires taps { at + size ≤ length taps.now }
         requires window { at + size ≤ length window.now }
-        ensures sums { wrap width (value result) ≡ wrap width (value sums +ℤ sum_below size (λ k. sample (map T.number taps.now) (at + k) *ℤ sample (map T.number window.now) (at + k))) }
+        ensures sums { wrap width (value result)
+            ≡ wrap width (value sums +ℤ sum_below size (λ k.
+            sample (map T.number taps.now) (at + k) *ℤ sample (map T.number window.now) (at + k))) }
         ensures fit { AreSums result };
 
     /// The sum.

@@ -19,8 +19,11 @@ pub(crate) fn dot_groups<T: Sample, F: DotForm<T>, M: Ledger>(
     requires some { 0 < F.size }
     requires width { F.width ≡ accumulator T.format }
     requires same { length window.now ≡ length taps.now }
-    ensures sum { T.total result ≡ wrap (accumulator T.format) (sum_below (length taps.now) (λ k. sample (map T.number taps.now) k *ℤ sample (map T.number window.now) k)) }
-    ensures steps { RisesWithin steps.old steps.new (length taps.now) (lane_turns F.size (length taps.now)) }
+    ensures sum { T.total result ≡ wrap (accumulator T.format)
+        (sum_below (length taps.now) (λ k.
+        sample (map T.number taps.now) k *ℤ sample (map T.number window.now) k)) }
+    ensures steps { RisesWithin steps.old steps.new (length taps.now)
+        (lane_turns F.size (length taps.now)) }
 {
     let size = F::size();
     let mut sums = F::no_sums();

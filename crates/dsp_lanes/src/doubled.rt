@@ -25,7 +25,8 @@ impl<T: Sample, F: RowForm<T>> RowForm<T> for Doubled<F> {
 
     ghost lanes = { λ s. F.lanes s.first ++ F.lanes s.second };
 
-    ghost AreSums = { λ s n. (F.AreSums s.first n) × (F.AreSums s.second n) × (length (F.lanes s.first) ≡ F.size) × (length (F.lanes s.second) ≡ F.size) };
+    ghost AreSums = { λ s n. (F.AreSums s.first n) × (F.AreSums s.second n)
+        × (length (F.lanes s.first) ≡ F.size) × (length (F.lanes s.second) ≡ F.size) };
 
     ghost Takes = { F.Takes };
 

@@ -26,7 +26,10 @@ pub(crate) fn group_of_eights<T: LaneKernels<L>, F: RowForm<T>, const L: usize, 
     requires few { L ≤ 64 }
     requires room { at + L ≤ length out.old }
     requires window { at + L + length taps.now ≤ length window.now + 1 }
-    ensures out { map T.number out.new ≡ put_chunk at (map T.number out.old) (values L (λ i. close T.format (sum_below (length taps.now) (λ j. sample (map T.number taps.now) j *ℤ sample (map T.number window.now) (at + i + j))))) }
+    ensures out { map T.number out.new ≡ put_chunk at (map T.number out.old)
+        (values L (λ i.
+        close T.format (sum_below (length taps.now) (λ j.
+        sample (map T.number taps.now) j *ℤ sample (map T.number window.now) (at + i + j))))) }
     ensures steps { RisesWithin steps.old steps.new (length taps.now * L) (length taps.now) }
 {
     if L == 8 {
@@ -52,7 +55,10 @@ pub(crate) fn double_group_of_eights<T: LaneKernels<L>, F: RowForm<T>, const L: 
     requires few { L ≤ 64 }
     requires room { at + 2 * L ≤ length out.old }
     requires window { at + 2 * L + length taps.now ≤ length window.now + 1 }
-    ensures out { map T.number out.new ≡ put_chunk at (map T.number out.old) (values (2 * L) (λ i. close T.format (sum_below (length taps.now) (λ j. sample (map T.number taps.now) j *ℤ sample (map T.number window.now) (at + i + j))))) }
+    ensures out { map T.number out.new ≡ put_chunk at (map T.number out.old)
+        (values (2 * L) (λ i.
+        close T.format (sum_below (length taps.now) (λ j.
+        sample (map T.number taps.now) j *ℤ sample (map T.number window.now) (at + i + j))))) }
     ensures steps { RisesWithin steps.old steps.new (length taps.now * (2 * L)) (length taps.now) }
 {
     if L == 4 {

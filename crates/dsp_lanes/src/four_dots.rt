@@ -22,7 +22,8 @@ pub struct Four<A> {
 /// Adds a product to a sum.
 #[inline(always)]
 fn add_product<T: Sample, M: Ledger>(sum: T::Acc, tap: T, x: T, steps: &mut Steps<M>) -> T::Acc
-    ensures sum { T.total result ≡ wrap (accumulator T.format) (T.total sum +ℤ (T.number tap *ℤ T.number x)) }
+    ensures sum { T.total result ≡ wrap (accumulator T.format)
+        (T.total sum +ℤ (T.number tap *ℤ T.number x)) }
     ensures steps { Rises steps.old steps.new 1 1 }
 {
     let product = T::product(tap, x, steps);
@@ -42,11 +43,18 @@ pub(crate) fn four_sums<T: Sample, F: DotForm<T>, M: Ledger>(
     requires some { 0 < F.size }
     requires narrows { (z : ℤ) → wrap F.width (wrap (accumulator T.format) z) ≡ wrap F.width z }
     requires window { first + 3 * step + length taps.now ≤ length window.now }
-    ensures first { wrap F.width (T.total result.first) ≡ wrap F.width (row_at (map T.number taps.now) (map T.number window.now) first) }
-    ensures second { wrap F.width (T.total result.second) ≡ wrap F.width (row_at (map T.number taps.now) (map T.number window.now) (first + step)) }
-    ensures third { wrap F.width (T.total result.third) ≡ wrap F.width (row_at (map T.number taps.now) (map T.number window.now) (first + 2 * step)) }
-    ensures fourth { wrap F.width (T.total result.fourth) ≡ wrap F.width (row_at (map T.number taps.now) (map T.number window.now) (first + 3 * step)) }
-    ensures steps { RisesWithin steps.old steps.new (4 * length taps.now) (4 * lane_turns F.size (length taps.now)) }
+    ensures first { wrap F.width (T.total result.first)
+        ≡ wrap F.width (row_at (map T.number taps.now) (map T.number window.now) first) }
+    ensures second { wrap F.width (T.total result.second)
+        ≡ wrap F.width (row_at (map T.number taps.now) (map T.number window.now) (first + step)) }
+    ensures third { wrap F.width (T.total result.third)
+        ≡ wrap F.width (row_at (map T.number taps.now) (map T.number window.now)
+        (first + 2 * step)) }
+    ensures fourth { wrap F.width (T.total result.fourth)
+        ≡ wrap F.width (row_at (map T.number taps.now) (map T.number window.now)
+        (first + 3 * step)) }
+    ensures steps { RisesWithin steps.old steps.new (4 * length taps.now)
+        (4 * lane_turns F.size (length taps.now)) }
 {
     let count = taps.len();
     let a = &window[first..first + count];

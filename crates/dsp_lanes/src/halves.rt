@@ -32,7 +32,8 @@ impl RowForm<i32> for Halves {
 
     ghost lanes = { λ s. in_turn s.even s.odd };
 
-    ghost AreSums = { λ s n. (Each1 (FitsSigned w64) s.even) × (Each1 (FitsSigned w64) s.odd) × (length s.even ≡ 2) × (length s.odd ≡ 2) };
+    ghost AreSums = { λ s n. (Each1 (FitsSigned w64) s.even) × (Each1 (FitsSigned w64) s.odd)
+        × (length s.even ≡ 2) × (length s.odd ≡ 2) };
 
     ghost Takes = { λ taps. Unit {0} };
 
@@ -93,7 +94,8 @@ impl DotForm<i32> for Halves {
 
     ghost value = { λ s. list_sum s.even +ℤ list_sum s.odd };
 
-    ghost AreSums = { λ s. (Each1 (FitsSigned w64) s.even) × (Each1 (FitsSigned w64) s.odd) × (length s.even ≡ 2) × (length s.odd ≡ 2) };
+    ghost AreSums = { λ s. (Each1 (FitsSigned w64) s.even) × (Each1 (FitsSigned w64) s.odd)
+        × (length s.even ≡ 2) × (length s.odd ≡ 2) };
 
     #[inline(always)]
     fn size() -> usize {

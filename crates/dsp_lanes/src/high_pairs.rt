@@ -30,7 +30,8 @@ impl RowForm<i16> for HighPairs {
 
     ghost lanes = { λ s. in_turn (wholes s.even.low s.even.high) (wholes s.odd.low s.odd.high) };
 
-    ghost AreSums = { λ s n. (AreHighSums n s.even.low s.even.high) × (AreHighSums n s.odd.low s.odd.high) };
+    ghost AreSums = { λ s n. (AreHighSums n s.even.low s.even.high)
+        × (AreHighSums n s.odd.low s.odd.high) };
 
     ghost Takes = { λ taps. length taps < 32768 };
 

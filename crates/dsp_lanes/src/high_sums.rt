@@ -35,7 +35,8 @@ pub(crate) fn raise(sums: HighSums, more: i32x4) -> HighSums
     requires more { Each1 (FitsSigned w32) more }
     requires long { length more ≡ 4 }
     ensures low { result.low ≡ zip2 (λ s p. wrap w32 (s +ℤ p)) sums.low more }
-    ensures high { result.high ≡ zip2 (λ s p. wrap w32 (s +ℤ floor_shift (wrap w32 (p +ℤ negsuc 0)) 16)) sums.high more }
+    ensures high { result.high ≡ zip2 (λ s p.
+        wrap w32 (s +ℤ floor_shift (wrap w32 (p +ℤ negsuc 0)) 16)) sums.high more }
 {
     HighSums {
         low: sums.low + more,

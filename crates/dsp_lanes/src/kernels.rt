@@ -33,14 +33,18 @@ pub trait LaneKernels<const L: usize>: Sample {
         requires fit { AreSums sums }
         requires taps { at + L ≤ length taps.now }
         requires window { at + L ≤ length window.now }
-        ensures sums { lanes result ≡ zip2 (λ s p. wrap (accumulator Self.format) (s +ℤ p)) (lanes sums) (zip2 (λ t x. t *ℤ x) (chunk at L (map Self.number taps.now)) (chunk at L (map Self.number window.now))) }
+        ensures sums { lanes result ≡ zip2 (λ s p. wrap (accumulator Self.format) (s +ℤ p))
+            (lanes sums) (zip2 (λ t x. t *ℤ x) (chunk at L (map Self.number taps.now))
+            (chunk at L (map Self.number window.now))) }
         ensures fit { AreSums result };
 
     /// Adds the products of one tap with a group.
     fn add_multiples(sums: Self::Sums, tap: Self, window: &[Self], at: usize) -> Self::Sums
         requires fit { AreSums sums }
         requires window { at + L ≤ length window.now }
-        ensures sums { lanes result ≡ zip2 (λ s x. wrap (accumulator Self.format) (s +ℤ (Self.number tap *ℤ x))) (lanes sums) (chunk at L (map Self.number window.now)) }
+        ensures sums { lanes result ≡ zip2 (λ s x.
+            wrap (accumulator Self.format) (s +ℤ (Self.number tap *ℤ x))) (lanes sums)
+            (chunk at L (map Self.number window.now)) }
         ensures fit { AreSums result };
 
     /// The sum of the lanes.
@@ -52,27 +56,34 @@ pub trait LaneKernels<const L: usize>: Sample {
     fn close_group(sums: Self::Sums, out: &mut [Self], at: usize)
         requires fit { AreSums sums }
         requires room { at + L ≤ length out.old }
-        ensures { map Self.number out.new ≡ put_chunk at (map Self.number out.old) (map (close Self.format) (lanes sums)) };
+        ensures { map Self.number out.new ≡ put_chunk at (map Self.number out.old)
+            (map (close Self.format) (lanes sums)) };
 
     /// `mult` of two groups.
     fn mult_group(a: &[Self], b: &[Self], out: &mut [Self], at: usize)
         requires left { at + L ≤ length a.now }
         requires right { at + L ≤ length b.now }
         requires room { at + L ≤ length out.old }
-        ensures { map Self.number out.new ≡ put_chunk at (map Self.number out.old) (zip2 (mult Self.format) (chunk at L (map Self.number a.now)) (chunk at L (map Self.number b.now))) };
+        ensures { map Self.number out.new ≡ put_chunk at (map Self.number out.old)
+            (zip2 (mult Self.format) (chunk at L (map Self.number a.now))
+            (chunk at L (map Self.number b.now))) };
 
     /// `scale` of a group.
     fn scale_group(a: &[Self], factor: Self, places: i32, out: &mut [Self], at: usize)
         requires places { IsScaleShift Self.format places }
         requires input { at + L ≤ length a.now }
         requires room { at + L ≤ length out.old }
-        ensures { map Self.number out.new ≡ put_chunk at (map Self.number out.old) (map (scale Self.format (Self.number factor) places) (chunk at L (map Self.number a.now))) };
+        ensures { map Self.number out.new ≡ put_chunk at (map Self.number out.old)
+            (map (scale Self.format (Self.number factor) places)
+            (chunk at L (map Self.number a.now))) };
 
     /// Adds one tap's terms of a sparse filter to a group of sums.
     fn delay_group(tap: Self, window: &[Self], sums: &mut [Self::Acc], at: usize)
         requires window { at + L ≤ length window.now }
         requires room { at + L ≤ length sums.old }
-        ensures { map Self.total sums.new ≡ put_chunk at (map Self.total sums.old) (zip2 (λ s x. wrap w32 (s +ℤ sparse_term Self.format (Self.number tap) x)) (chunk at L (map Self.total sums.old)) (chunk at L (map Self.number window.now))) };
+        ensures { map Self.total sums.new ≡ put_chunk at (map Self.total sums.old)
+            (zip2 (λ s x. wrap w32 (s +ℤ sparse_term Self.format (Self.number tap) x))
+            (chunk at L (map Self.total sums.old)) (chunk at L (map Self.number window.now))) };
 }
 
 /// How a type of samples makes outputs of a filter, L and 2L at a time, and sums of products.
@@ -96,7 +107,11 @@ pub trait FilterKernels<const L: usize>: LaneKernels<L> {
         requires small { IsTrue small → AreSmall taps.now }
         requires room { at + L ≤ length out.old }
         requires window { at + L + length taps.now ≤ length window.now + 1 }
-        ensures out { map Self.number out.new ≡ put_chunk at (map Self.number out.old) (values L (λ i. close Self.format (sum_below (length taps.now) (λ j. sample (map Self.number taps.now) j *ℤ sample (map Self.number window.now) (at + i + j))))) }
+        ensures out { map Self.number out.new ≡ put_chunk at (map Self.number out.old)
+            (values L (λ i.
+            close Self.format (sum_below (length taps.now) (λ j.
+            sample (map Self.number taps.now) j *ℤ sample (map Self.number window.now)
+            (at + i + j))))) }
         ensures steps { RisesWithin steps.old steps.new (length taps.now * L) (length taps.now) };
 
     /// Writes the 2L outputs from `at` on, at most two turns for each tap.
@@ -112,7 +127,11 @@ pub trait FilterKernels<const L: usize>: LaneKernels<L> {
         requires small { IsTrue small → AreSmall taps.now }
         requires room { at + 2 * L ≤ length out.old }
         requires window { at + 2 * L + length taps.now ≤ length window.now + 1 }
-        ensures out { map Self.number out.new ≡ put_chunk at (map Self.number out.old) (values (2 * L) (λ i. close Self.format (sum_below (length taps.now) (λ j. sample (map Self.number taps.now) j *ℤ sample (map Self.number window.now) (at + i + j))))) }
+        ensures out { map Self.number out.new ≡ put_chunk at (map Self.number out.old)
+            (values (2 * L) (λ i.
+            close Self.format (sum_below (length taps.now) (λ j.
+            sample (map Self.number taps.now) j *ℤ sample (map Self.number window.now)
+            (at + i + j))))) }
         ensures steps { RisesWithin steps.old steps.new (length taps.now * (2 * L)) (2 * length taps.now) };
 
     /// The sums of the products of the taps and the windows at `first`, `first + step`,
@@ -129,19 +148,27 @@ pub trait FilterKernels<const L: usize>: LaneKernels<L> {
         requires few { L ≤ 64 }
         requires small { IsTrue small → AreSmall taps.now }
         requires window { first + 3 * step + length taps.now ≤ length window.now }
-        ensures first { Self.total result.first ≡ wrap (accumulator Self.format) (row_at (map Self.number taps.now) (map Self.number window.now) first) }
-        ensures second { Self.total result.second ≡ wrap (accumulator Self.format) (row_at (map Self.number taps.now) (map Self.number window.now) (first + step)) }
-        ensures third { Self.total result.third ≡ wrap (accumulator Self.format) (row_at (map Self.number taps.now) (map Self.number window.now) (first + 2 * step)) }
-        ensures fourth { Self.total result.fourth ≡ wrap (accumulator Self.format) (row_at (map Self.number taps.now) (map Self.number window.now) (first + 3 * step)) }
-        ensures steps { RisesWithin steps.old steps.new (4 * length taps.now) (4 * lane_turns L (length taps.now)) };
+        ensures first { Self.total result.first ≡ wrap (accumulator Self.format)
+            (row_at (map Self.number taps.now) (map Self.number window.now) first) }
+        ensures second { Self.total result.second ≡ wrap (accumulator Self.format)
+            (row_at (map Self.number taps.now) (map Self.number window.now) (first + step)) }
+        ensures third { Self.total result.third ≡ wrap (accumulator Self.format)
+            (row_at (map Self.number taps.now) (map Self.number window.now) (first + 2 * step)) }
+        ensures fourth { Self.total result.fourth ≡ wrap (accumulator Self.format)
+            (row_at (map Self.number taps.now) (map Self.number window.now) (first + 3 * step)) }
+        ensures steps { RisesWithin steps.old steps.new (4 * length taps.now)
+            (4 * lane_turns L (length taps.now)) };
 
     /// The sum of the products, wrapped to the accumulator.
     fn dot<M: Ledger>(taps: &[Self], window: &[Self], steps: &mut Steps<M>) -> Self::Acc
         requires some { 0 < L }
         requires few { L ≤ 64 }
         requires same { length window.now ≡ length taps.now }
-        ensures sum { Self.total result ≡ wrap (accumulator Self.format) (sum_below (length taps.now) (λ k. sample (map Self.number taps.now) k *ℤ sample (map Self.number window.now) k)) }
-        ensures steps { RisesWithin steps.old steps.new (length taps.now) (lane_turns L (length taps.now)) };
+        ensures sum { Self.total result ≡ wrap (accumulator Self.format)
+            (sum_below (length taps.now) (λ k.
+            sample (map Self.number taps.now) k *ℤ sample (map Self.number window.now) k)) }
+        ensures steps { RisesWithin steps.old steps.new (length taps.now)
+            (lane_turns L (length taps.now)) };
 }
 
 /// A type of samples at L lanes.

@@ -49,7 +49,8 @@ impl<T: LaneSample<L>, const L: usize> Lanes<T, L> {
     /// `arm_offset_q31`. Lengths are equal.
     pub fn offset(a: &[T], constant: T, out: &mut [T])
         requires { length a.now ≡ length out.old }
-        ensures { map T.number out.new ≡ map (λ x. add T.format x (T.number constant)) (map T.number a.now) }
+        ensures { map T.number out.new ≡ map (λ x. add T.format x (T.number constant))
+            (map T.number a.now) }
     {
         change_each(Offset { constant }, a, out)
     }
@@ -95,7 +96,8 @@ impl<T: LaneSample<L>, const L: usize> Lanes<T, L> {
     pub fn mult<M: Ledger>(a: &[T], b: &[T], out: &mut [T], steps: &mut Steps<M>)
         requires left { length a.now ≡ length out.old }
         requires right { length b.now ≡ length out.old }
-        ensures out { map T.number out.new ≡ zip2 (mult T.format) (map T.number a.now) (map T.number b.now) }
+        ensures out { map T.number out.new ≡ zip2 (mult T.format) (map T.number a.now)
+            (map T.number b.now) }
         ensures steps { RisesWithin steps.old steps.new (length out.old) (lane_turns L (length out.old)) }
     {
         let mut at = 0;
@@ -115,7 +117,8 @@ impl<T: LaneSample<L>, const L: usize> Lanes<T, L> {
     pub fn scale<M: Ledger>(a: &[T], factor: T, places: i32, out: &mut [T], steps: &mut Steps<M>)
         requires places { IsScaleShift T.format places }
         requires same { length a.now ≡ length out.old }
-        ensures out { map T.number out.new ≡ map (scale T.format (T.number factor) places) (map T.number a.now) }
+        ensures out { map T.number out.new ≡ map (scale T.format (T.number factor) places)
+            (map T.number a.now) }
         ensures steps { RisesWithin steps.old steps.new (length out.old) (lane_turns L (length out.old)) }
     {
         let mut at = 0;
@@ -134,7 +137,9 @@ impl<T: LaneSample<L>, const L: usize> Lanes<T, L> {
     /// Lengths are equal.
     pub fn dot<M: Ledger>(taps: &[T], window: &[T], steps: &mut Steps<M>) -> T::Acc
         requires { length window.now ≡ length taps.now }
-        ensures sum { T.total result ≡ wrap (accumulator T.format) (sum_below (length taps.now) (λ k. sample (map T.number taps.now) k *ℤ sample (map T.number window.now) k)) }
+        ensures sum { T.total result ≡ wrap (accumulator T.format)
+            (sum_below (length taps.now) (λ k.
+            sample (map T.number taps.now) k *ℤ sample (map T.number window.now) k)) }
         ensures steps { RisesWithin steps.old steps.new (length taps.now) (lane_turns L (length taps.now)) }
     {
         T::dot(taps, window, steps)
@@ -145,8 +150,10 @@ impl<T: LaneSample<L>, const L: usize> Lanes<T, L> {
     pub fn rows<M: Ledger>(taps: &[T], window: &[T], out: &mut [T], steps: &mut Steps<M>)
         requires taps { 0 < length taps.now }
         requires window { length window.now + 1 ≡ length out.old + length taps.now }
-        ensures out { map T.number out.new ≡ rows T.format (map T.number taps.now) (map T.number window.now) (length out.old) }
-        ensures steps { RisesWithin steps.old steps.new (length taps.now * length out.old) (length taps.now * lane_turns L (length out.old)) }
+        ensures out { map T.number out.new ≡ rows T.format (map T.number taps.now)
+            (map T.number window.now) (length out.old) }
+        ensures steps { RisesWithin steps.old steps.new (length taps.now * length out.old)
+            (length taps.now * lane_turns L (length out.old)) }
     {
         let small = T::are_small(taps);
         let mut at = 0;
@@ -175,8 +182,11 @@ impl<T: LaneSample<L>, const L: usize> Lanes<T, L> {
         steps: &mut Steps<M>,
     )
         requires { (i : ℕ) → i < length out.old → first + i * step + length taps.now ≤ length window.now }
-        ensures out { map T.number out.new ≡ values (length out.old) (λ i. close T.format (row_at (map T.number taps.now) (map T.number window.now) (first + i * step))) }
-        ensures steps { RisesWithin steps.old steps.new (length out.old * length taps.now) (length out.old * lane_turns L (length taps.now)) }
+        ensures out { map T.number out.new ≡ values (length out.old) (λ i.
+            close T.format (row_at (map T.number taps.now) (map T.number window.now)
+            (first + i * step))) }
+        ensures steps { RisesWithin steps.old steps.new (length out.old * length taps.now)
+            (length out.old * lane_turns L (length taps.now)) }
     {
         let small = T::are_small(taps);
         let mut at = 0;
@@ -200,7 +210,9 @@ impl<T: LaneSample<L>, const L: usize> Lanes<T, L> {
     /// `arm_fir_sparse_q15`, `arm_fir_sparse_q31`. Lengths are equal.
     pub fn delayed<M: Ledger>(tap: T, window: &[T], sums: &mut [T::Acc], steps: &mut Steps<M>)
         requires { length window.now ≡ length sums.old }
-        ensures sums { map T.total sums.new ≡ zip2 (λ s x. wrap w32 (s +ℤ sparse_term T.format (T.number tap) x)) (map T.total sums.old) (map T.number window.now) }
+        ensures sums { map T.total sums.new ≡ zip2 (λ s x.
+            wrap w32 (s +ℤ sparse_term T.format (T.number tap) x)) (map T.total sums.old)
+            (map T.number window.now) }
         ensures steps { RisesWithin steps.old steps.new (length sums.old) (lane_turns L (length sums.old)) }
     {
         update_each::<T, SparseTerms<L>, M>(tap, window, sums, steps)

@@ -66,8 +66,10 @@ fn four_columns<M: Ledger>(
     requires even { columns % 2 ≡ 0 }
     requires matrix { length matrix.now ≡ columns * given }
     requires room { column + 4 ≤ given }
-    ensures upper { result.upper ≡ values 4 (λ i. wrap w32 (column_sum rows.now matrix.now columns given 0 (column + i))) }
-    ensures lower { result.lower ≡ values 4 (λ i. wrap w32 (column_sum rows.now matrix.now columns given columns (column + i))) }
+    ensures upper { result.upper ≡ values 4 (λ i.
+        wrap w32 (column_sum rows.now matrix.now columns given 0 (column + i))) }
+    ensures lower { result.lower ≡ values 4 (λ i.
+        wrap w32 (column_sum rows.now matrix.now columns given columns (column + i))) }
     ensures steps { RisesWithin steps.old steps.new (8 * columns) (8 * columns) }
 {
     let mut sums = TwoSums {
@@ -120,8 +122,10 @@ pub fn multiply_two_rows<M: Ledger>(
     requires matrix { length matrix.now ≡ columns * given }
     requires narrow { (l : ℕ) → l < given → IsNarrow (column_of matrix.now columns given l) }
     requires out { length out.old ≡ 2 * given }
-    ensures upper { take given out.new ≡ values given (λ l. close Q15 (column_sum rows.now matrix.now columns given 0 l)) }
-    ensures lower { drop given out.new ≡ values given (λ l. close Q15 (column_sum rows.now matrix.now columns given columns l)) }
+    ensures upper { take given out.new ≡ values given (λ l.
+        close Q15 (column_sum rows.now matrix.now columns given 0 l)) }
+    ensures lower { drop given out.new ≡ values given (λ l.
+        close Q15 (column_sum rows.now matrix.now columns given columns l)) }
     ensures steps { RisesWithin steps.old steps.new (2 * given * columns) (2 * given * columns) }
 {
     q15_fit(rows);

@@ -17,14 +17,19 @@ pub trait OwnLanes: Sample {
     fn rows<M: Ledger>(taps: &[Self], window: &[Self], out: &mut [Self], steps: &mut Steps<M>)
         requires taps { 0 < length taps.now }
         requires window { length window.now + 1 ≡ length out.old + length taps.now }
-        ensures out { map Self.number out.new ≡ rows Self.format (map Self.number taps.now) (map Self.number window.now) (length out.old) }
-        ensures steps { RisesWithin steps.old steps.new (length taps.now * length out.old) (length taps.now * lane_turns (lanes Self.format) (length out.old)) };
+        ensures out { map Self.number out.new ≡ rows Self.format (map Self.number taps.now)
+            (map Self.number window.now) (length out.old) }
+        ensures steps { RisesWithin steps.old steps.new (length taps.now * length out.old)
+            (length taps.now * lane_turns (lanes Self.format) (length out.old)) };
 
     /// `Lanes::dot` at this number of lanes.
     fn dot<M: Ledger>(taps: &[Self], window: &[Self], steps: &mut Steps<M>) -> Self::Acc
         requires { length window.now ≡ length taps.now }
-        ensures sum { Self.total result ≡ wrap (accumulator Self.format) (sum_below (length taps.now) (λ k. sample (map Self.number taps.now) k *ℤ sample (map Self.number window.now) k)) }
-        ensures steps { RisesWithin steps.old steps.new (length taps.now) (lane_turns (lanes Self.format) (length taps.now)) };
+        ensures sum { Self.total result ≡ wrap (accumulator Self.format)
+            (sum_below (length taps.now) (λ k.
+            sample (map Self.number taps.now) k *ℤ sample (map Self.number window.now) k)) }
+        ensures steps { RisesWithin steps.old steps.new (length taps.now)
+            (lane_turns (lanes Self.format) (length taps.now)) };
 }
 
 impl OwnLanes for i8 {

@@ -28,7 +28,8 @@ impl DotForm<i16> for PairDots {
 
     ghost value = { λ s. list_sum s.less +ℤ s.pairs };
 
-    ghost AreSums = { λ s. (Each1 (FitsSigned w64) s.less) × (length s.less ≡ 4) × (FitsSigned w64 s.pairs) };
+    ghost AreSums = { λ s. (Each1 (FitsSigned w64) s.less) × (length s.less ≡ 4)
+        × (FitsSigned w64 s.pairs) };
 
     #[inline(always)]
     fn size() -> usize {

@@ -26,13 +26,18 @@ pub(crate) trait PairSample: Sample {
     /// The taps `j` and `j + 1`, four times.
     fn pair(taps: &[Self], j: usize) -> i32x8
         requires { j + 2 ≤ length taps.now }
-        ensures values { result ≡ repeated (sample (map Self.number taps.now) j) (sample (map Self.number taps.now) (j + 1)) }
+        ensures values { result ≡ repeated (sample (map Self.number taps.now) j)
+            (sample (map Self.number taps.now) (j + 1)) }
         ensures fit { Each1 (FitsSigned w16) result };
 
     /// Does nothing: a sum of products by these taps is shut as its exact value is closed.
     fn closes(taps: &[Self], window: &[Self])
         requires { AreSmall taps.now }
-        ensures { (p : ℕ) → shut (wrap w32 (sum_below (length taps.now) (λ j. sample (map Self.number taps.now) j *ℤ sample (map Self.number window.now) (p + j)))) ≡ close Self.format (sum_below (length taps.now) (λ j. sample (map Self.number taps.now) j *ℤ sample (map Self.number window.now) (p + j))) };
+        ensures { (p : ℕ)
+            → shut (wrap w32 (sum_below (length taps.now) (λ j.
+            sample (map Self.number taps.now) j *ℤ sample (map Self.number window.now) (p + j))))
+            ≡ close Self.format (sum_below (length taps.now) (λ j.
+            sample (map Self.number taps.now) j *ℤ sample (map Self.number window.now) (p + j))) };
 
     /// Shuts eight sums.
     fn close_eight(sums: i32x8, out: &mut [Self], at: usize)
@@ -77,7 +82,8 @@ impl<T: PairSample> RowForm<T> for Pairs {
 
     ghost lanes = { λ s. in_turn s.even s.odd };
 
-    ghost AreSums = { λ s n. (Each1 (FitsSigned w32) s.even) × (Each1 (FitsSigned w32) s.odd) × (length s.even ≡ 4) × (length s.odd ≡ 4) };
+    ghost AreSums = { λ s n. (Each1 (FitsSigned w32) s.even) × (Each1 (FitsSigned w32) s.odd)
+        × (length s.even ≡ 4) × (length s.odd ≡ 4) };
 
     ghost Takes = { T.AreSmall };
 

@@ -75,8 +75,12 @@ fn reflect_group(k: i16, before: i16, forward: &mut [i16], backward: &mut [i16],
     requires apart { k ≢ negsuc 32767 }
     requires forward { at + 8 ≤ length forward.old }
     requires backward { at + 8 ≤ length backward.old }
-    ensures forward { forward.new ≡ put_chunk at forward.old (zip2 (λ f g. reflected k g f) (chunk at 8 forward.old) (before ∷ chunk at 7 backward.old)) }
-    ensures backward { backward.new ≡ put_chunk at backward.old (zip2 (λ f g. reflected k f g) (chunk at 8 forward.old) (before ∷ chunk at 7 backward.old)) }
+    ensures forward { forward.new ≡ put_chunk at forward.old
+        (zip2 (λ f g. reflected k g f) (chunk at 8 forward.old)
+        (before ∷ chunk at 7 backward.old)) }
+    ensures backward { backward.new ≡ put_chunk at backward.old
+        (zip2 (λ f g. reflected k f g) (chunk at 8 forward.old)
+        (before ∷ chunk at 7 backward.old)) }
 {
     q15_fit(forward);
     q15_fit(backward);

@@ -41,7 +41,9 @@ pub(crate) trait RowForm<T: Sample> {
         requires fit { AreSums sums j }
         requires tap { j < length taps.now }
         requires window { at + size ≤ length window.now }
-        ensures sums { lanes result ≡ zip2 (λ s x. wrap width (s +ℤ (sample (map T.number taps.now) j *ℤ x))) (lanes sums) (chunk at size (map T.number window.now)) }
+        ensures sums { lanes result ≡ zip2 (λ s x.
+            wrap width (s +ℤ (sample (map T.number taps.now) j *ℤ x))) (lanes sums)
+            (chunk at size (map T.number window.now)) }
         ensures fit { AreSums result (j + 1) };
 
     /// Adds the products of the tap `j` with the samples from `at` on, and those of the tap `j + 1`
@@ -51,13 +53,21 @@ pub(crate) trait RowForm<T: Sample> {
         requires fit { AreSums sums j }
         requires taps { j + 2 ≤ length taps.now }
         requires window { at + 1 + size ≤ length window.now }
-        ensures sums { lanes result ≡ zip2 (λ s x. wrap width (s +ℤ (sample (map T.number taps.now) (j + 1) *ℤ x))) (zip2 (λ s x. wrap width (s +ℤ (sample (map T.number taps.now) j *ℤ x))) (lanes sums) (chunk at size (map T.number window.now))) (chunk (at + 1) size (map T.number window.now)) }
+        ensures sums { lanes result ≡ zip2 (λ s x.
+            wrap width (s +ℤ (sample (map T.number taps.now) (j + 1) *ℤ x)))
+            (zip2 (λ s x. wrap width (s +ℤ (sample (map T.number taps.now) j *ℤ x))) (lanes sums)
+            (chunk at size (map T.number window.now)))
+            (chunk (at + 1) size (map T.number window.now)) }
         ensures fit { AreSums result (j + 2) };
 
     /// Does nothing: a sum of products by these taps is shut as its exact value is closed.
     fn closes(taps: &[T], window: &[T])
         requires { Takes taps.now }
-        ensures { (p : ℕ) → shut (wrap width (sum_below (length taps.now) (λ j. sample (map T.number taps.now) j *ℤ sample (map T.number window.now) (p + j)))) ≡ close T.format (sum_below (length taps.now) (λ j. sample (map T.number taps.now) j *ℤ sample (map T.number window.now) (p + j))) };
+        ensures { (p : ℕ)
+            → shut (wrap width (sum_below (length taps.now) (λ j.
+            sample (map T.number taps.now) j *ℤ sample (map T.number window.now) (p + j))))
+            ≡ close T.format (sum_below (length taps.now) (λ j.
+            sample (map T.number taps.now) j *ℤ sample (map T.number window.now) (p + j))) };
 
     /// Writes the outputs from `at` on.
     fn close(sums: Self::Sums, out: &mut [T], at: usize)

@@ -24,7 +24,10 @@ pub(crate) fn row_group<T: Sample, F: RowForm<T>, M: Ledger>(
     requires takes { F.Takes taps.now }
     requires room { at + F.size ≤ length out.old }
     requires window { at + F.size + length taps.now ≤ length window.now + 1 }
-    ensures out { map T.number out.new ≡ put_chunk at (map T.number out.old) (values F.size (λ i. close T.format (sum_below (length taps.now) (λ j. sample (map T.number taps.now) j *ℤ sample (map T.number window.now) (at + i + j))))) }
+    ensures out { map T.number out.new ≡ put_chunk at (map T.number out.old)
+        (values F.size (λ i.
+        close T.format (sum_below (length taps.now) (λ j.
+        sample (map T.number taps.now) j *ℤ sample (map T.number window.now) (at + i + j))))) }
     ensures steps { RisesWithin steps.old steps.new (length taps.now * F.size) (length taps.now) }
 {
     let size = (F::behind(at) - at) as u64;
@@ -52,7 +55,9 @@ pub(crate) fn row_sum<T: Sample, M: Ledger>(
     steps: &mut Steps<M>,
 ) -> T::Acc
     requires { at + length taps.now ≤ length window.now }
-    ensures sum { T.total result ≡ wrap (accumulator T.format) (sum_below (length taps.now) (λ j. sample (map T.number taps.now) j *ℤ sample (map T.number window.now) (at + j))) }
+    ensures sum { T.total result ≡ wrap (accumulator T.format)
+        (sum_below (length taps.now) (λ j.
+        sample (map T.number taps.now) j *ℤ sample (map T.number window.now) (at + j))) }
     ensures steps { Rises steps.old steps.new (length taps.now) (length taps.now) }
 {
     let mut sum = T::empty();

@@ -29,7 +29,9 @@ pub(crate) trait Update<T: Sample> {
     fn group(factor: T, window: &[T], slots: &mut [Self::Slot], at: usize)
         requires window { at + size ≤ length window.now }
         requires room { at + size ≤ length slots.old }
-        ensures { map number slots.new ≡ put_chunk at (map number slots.old) (zip2 (next factor) (chunk at size (map number slots.old)) (chunk at size (map T.number window.now))) };
+        ensures { map number slots.new ≡ put_chunk at (map number slots.old)
+            (zip2 (next factor) (chunk at size (map number slots.old))
+            (chunk at size (map T.number window.now))) };
 
     /// The next number at one place.
     fn one<M: Ledger>(factor: T, slot: Self::Slot, x: T, steps: &mut Steps<M>) -> Self::Slot
@@ -47,8 +49,10 @@ pub(crate) fn update_each<T: Sample, U: Update<T>, M: Ledger>(
 )
     requires some { 0 < U.size }
     requires same { length window.now ≡ length slots.old }
-    ensures slots { map U.number slots.new ≡ zip2 (U.next factor) (map U.number slots.old) (map T.number window.now) }
-    ensures steps { RisesWithin steps.old steps.new (length slots.old) (lane_turns U.size (length slots.old)) }
+    ensures slots { map U.number slots.new ≡ zip2 (U.next factor) (map U.number slots.old)
+        (map T.number window.now) }
+    ensures steps { RisesWithin steps.old steps.new (length slots.old)
+        (lane_turns U.size (length slots.old)) }
 {
     let size = U::size();
     let mut at = 0;

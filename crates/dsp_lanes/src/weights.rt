@@ -25,7 +25,8 @@ fn weight15(weight: i16, product: i32) -> i16
 /// Twice the high word of a product, wrapped.
 #[inline(always)]
 fn change31(product: i64) -> i32
-    ensures { (alpha x : ℤ) → product ≡ alpha *ℤ x → result ≡ wrap w32 (pos 2 *ℤ floor_shift (alpha *ℤ x) 32) }
+    ensures { (alpha x : ℤ) → product ≡ alpha *ℤ x
+        → result ≡ wrap w32 (pos 2 *ℤ floor_shift (alpha *ℤ x) 32) }
 {
     low_word(2 * (product >> 32))
 }
@@ -40,13 +41,17 @@ pub trait WeightSample: Sample {
 
     /// The next weight, from the product of the step size and the sample.
     fn weight_after(weight: Self, product: Self::Wide) -> Self
-        ensures { (alpha x : ℤ) → Self.wide product ≡ alpha *ℤ x → Self.number result ≡ weight_after Self.format alpha (Self.number weight) x };
+        ensures { (alpha x : ℤ) → Self.wide product ≡ alpha *ℤ x
+            → Self.number result ≡ weight_after Self.format alpha (Self.number weight) x };
 
     /// The next weights of the group at `at`.
     fn weight_group(alpha: Self, window: &[Self], weights: &mut [Self], at: usize)
         requires window { at + group ≤ length window.now }
         requires room { at + group ≤ length weights.old }
-        ensures { map Self.number weights.new ≡ put_chunk at (map Self.number weights.old) (zip2 (λ w x. weight_after Self.format (Self.number alpha) w x) (chunk at group (map Self.number weights.old)) (chunk at group (map Self.number window.now))) };
+        ensures { map Self.number weights.new ≡ put_chunk at (map Self.number weights.old)
+            (zip2 (λ w x. weight_after Self.format (Self.number alpha) w x)
+            (chunk at group (map Self.number weights.old))
+            (chunk at group (map Self.number window.now))) };
 
     ghost some: { 0 < group };
 }
@@ -61,8 +66,11 @@ pub fn update_weights<T: WeightSample, M: Ledger>(
     steps: &mut Steps<M>,
 )
     requires { length window.now ≡ length weights.old }
-    ensures weights { map T.number weights.new ≡ values (length weights.old) (λ j. weight_after T.format (T.number alpha) (sample (map T.number weights.old) j) (sample (map T.number window.now) j)) }
-    ensures steps { RisesWithin steps.old steps.new (length weights.old) (lane_turns T.group (length weights.old)) }
+    ensures weights { map T.number weights.new ≡ values (length weights.old) (λ j.
+        weight_after T.format (T.number alpha) (sample (map T.number weights.old) j)
+        (sample (map T.number window.now) j)) }
+    ensures steps { RisesWithin steps.old steps.new (length weights.old)
+        (lane_turns T.group (length weights.old)) }
 {
     update_each::<T, Weights, M>(alpha, window, weights, steps)
 }

@@ -25,10 +25,12 @@ impl<T: NarrowSample> FirLattice<T> {
 
     /// A lattice that has taken nothing, from its reflection coefficients k_1 to k_S, for blocks of at
     /// most `block` samples. `Length` where they are not 1 to 255, then `Range` where the block is not in
-    /// 1..1,048,576, then `Memory`. No later call takes memory.
+    /// 1..`MAX_SAMPLES`, then `Memory`. No later call takes memory.
     pub fn new(alloc: Global, k: &[T], block: usize) -> Result<Self, MakeFault>
-        ensures made { IfOk result (λ f. IsNewFilter (LatticeFir (map T.number k.now)) T.format block f.filter) }
-        ensures fault { MatchOption (fir_lattice_fault (length k.now) block) (IfErr result (λ e. e ≡ MakeFault.Memory)) (λ e. result ≡ Err e) }
+        ensures made { IfOk result (λ f.
+            IsNewFilter (LatticeFir (map T.number k.now)) T.format block f.filter) }
+        ensures fault { MatchOption (fir_lattice_fault (length k.now) block)
+            (IfErr result (λ e. e ≡ MakeFault.Memory)) (λ e. result ≡ Err e) }
     {
         check_reflections(k.len())?;
         check_block(block)?;
@@ -65,8 +67,10 @@ impl<T: NarrowSample> FirLattice<T> {
         requires room { length input.now ≤ length output.old }
         ensures given { result ≡ length input.now }
         ensures running { IsFalse self.new.filter.ended }
-        ensures fed { FilterFeeds self.old.filter self.new.filter (map T.number input.now) (map T.number (take result output.new)) steps.old steps.new }
-        ensures multiplies { steps.new.multiplies ≡ steps.old.multiplies + result * (2 * length (coefficients_of self.old.filter.block)) }
+        ensures fed { FilterFeeds self.old.filter self.new.filter (map T.number input.now)
+            (map T.number (take result output.new)) steps.old steps.new }
+        ensures multiplies { steps.new.multiplies ≡ steps.old.multiplies + result *
+            (2 * length (coefficients_of self.old.filter.block)) }
         ensures rest { drop result output.new ≡ drop result output.old }
     {
         self.filter.process(input, output, steps)

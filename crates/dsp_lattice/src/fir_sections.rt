@@ -22,8 +22,12 @@ fn run_sections<T: NarrowSample, L: Ledger>(
 )
     requires states { length states.old ≡ length coefficients.now }
     requires same { length backward.old ≡ length forward.old }
-    ensures goes { GoesOn (sections_give (map T.number coefficients.now)) (lattice_kept (map T.number coefficients.now)) (map T.number states.old) (map T.number states.new) (zip (map T.number forward.old) (map T.number backward.old)) (zip (map T.number forward.new) (map T.number backward.new)) }
-    ensures steps { Rises steps.old steps.new (length coefficients.now * (length forward.old * 2)) (length coefficients.now * (length forward.old * 2)) }
+    ensures goes { GoesOn (sections_give (map T.number coefficients.now))
+        (lattice_kept (map T.number coefficients.now)) (map T.number states.old)
+        (map T.number states.new) (zip (map T.number forward.old) (map T.number backward.old))
+        (zip (map T.number forward.new) (map T.number backward.new)) }
+    ensures steps { Rises steps.old steps.new (length coefficients.now * (length forward.old * 2))
+        (length coefficients.now * (length forward.old * 2)) }
 {
     for m in 0..coefficients.len() {
         states[m] = T::run_section(coefficients[m], states[m], forward, backward, steps);
@@ -40,8 +44,11 @@ pub(crate) fn run_lattice<T: NarrowSample, L: Ledger>(
 )
     requires states { length states.old ≡ length coefficients.now }
     requires room { length samples.old ≤ length backward.old }
-    ensures goes { GoesOn (lattice_fir (map T.number coefficients.now)) (filter_kept (map T.number coefficients.now)) (map T.number states.old) (map T.number states.new) (map T.number samples.old) (map T.number samples.new) }
-    ensures steps { Rises steps.old steps.new (length coefficients.now * (length samples.old * 2)) (length coefficients.now * (length samples.old * 2)) }
+    ensures goes { GoesOn (lattice_fir (map T.number coefficients.now))
+        (filter_kept (map T.number coefficients.now)) (map T.number states.old)
+        (map T.number states.new) (map T.number samples.old) (map T.number samples.new) }
+    ensures steps { Rises steps.old steps.new (length coefficients.now * (length samples.old * 2))
+        (length coefficients.now * (length samples.old * 2)) }
 {
     let count = samples.len();
     let backward = &mut backward[..count];

@@ -25,9 +25,11 @@ impl<T: NarrowSample> Model for FirLatticeWork<T> {
 
     ghost Value = { FirLatticeState };
 
-    ghost view = { λ w. record { k = map T.number w.coefficients.items; kept = map T.number w.states.items } };
+    ghost view = { λ w.
+        record { k = map T.number w.coefficients.items; kept = map T.number w.states.items } };
 
-    ghost invariant = { λ w. (length w.states.items ≡ length w.coefficients.items) × (length w.backward.items ≡ 256) × (length w.coefficients.items ≤ 255) };
+    ghost invariant = { λ w. (length w.states.items ≡ length w.coefficients.items)
+        × (length w.backward.items ≡ 256) × (length w.coefficients.items ≤ 255) };
 }
 
 impl<T: NarrowSample> FirLatticeWork<T> {

@@ -24,10 +24,13 @@ impl<T: LatticeSample> IirLattice<T> {
     /// A lattice that has taken nothing, from its reflection coefficients k_S to k_1 and its ladder
     /// coefficients v_S to v_0, for blocks of at most `block` samples. `Length` where the first are not 1
     /// to 255, `Length` where the second are not one more, then `Range` where the block is not in
-    /// 1..1,048,576, then `Memory`. No later call takes memory.
+    /// 1..`MAX_SAMPLES`, then `Memory`. No later call takes memory.
     pub fn new(alloc: Global, k: &[T], v: &[T], block: usize) -> Result<Self, MakeFault>
-        ensures made { IfOk result (λ f. IsNewFilter (LatticeIir (map T.number k.now) (map T.number v.now)) T.format block f.filter) }
-        ensures fault { MatchOption (iir_lattice_fault (length k.now) (length v.now) block) (IfErr result (λ e. e ≡ MakeFault.Memory)) (λ e. result ≡ Err e) }
+        ensures made { IfOk result (λ f.
+            IsNewFilter (LatticeIir (map T.number k.now)
+            (map T.number v.now)) T.format block f.filter) }
+        ensures fault { MatchOption (iir_lattice_fault (length k.now) (length v.now) block)
+            (IfErr result (λ e. e ≡ MakeFault.Memory)) (λ e. result ≡ Err e) }
     {
         check_reflections(k.len())?;
         check_ladder(k.len(), v.len())?;
@@ -69,8 +72,10 @@ impl<T: LatticeSample> IirLattice<T> {
         requires room { length input.now ≤ length output.old }
         ensures given { result ≡ length input.now }
         ensures running { IsFalse self.new.filter.ended }
-        ensures fed { FilterFeeds self.old.filter self.new.filter (map T.number input.now) (map T.number (take result output.new)) steps.old steps.new }
-        ensures multiplies { steps.new.multiplies ≡ steps.old.multiplies + result * (3 * length (coefficients_of self.old.filter.block) + 1) }
+        ensures fed { FilterFeeds self.old.filter self.new.filter (map T.number input.now)
+            (map T.number (take result output.new)) steps.old steps.new }
+        ensures multiplies { steps.new.multiplies ≡ steps.old.multiplies + result *
+            (3 * length (coefficients_of self.old.filter.block) + 1) }
         ensures rest { drop result output.new ≡ drop result output.old }
     {
         self.filter.process(input, output, steps)

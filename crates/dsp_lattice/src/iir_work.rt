@@ -24,9 +24,17 @@ impl<T: LatticeSample> Model for IirLatticeWork<T> {
 
     ghost Value = { IirLatticeState };
 
-    ghost view = { λ w. record { k = map T.number w.reflections.items; v = map T.number w.ladder.items; kept = reverse (drop 1 (map T.number w.backward.items)) } };
+    ghost view = { λ w.
+        record {
+          k = map T.number w.reflections.items;
+          v = map T.number w.ladder.items;
+          kept = reverse (drop 1 (map T.number w.backward.items));
+        } };
 
-    ghost invariant = { λ w. (length w.ladder.items ≡ length w.reflections.items + 1) × (length w.backward.items ≡ length w.reflections.items + 1) × (length w.reflections.items ≤ 255) × All (FitsSigned (word T.format)) (map T.number w.ladder.items) };
+    ghost invariant = { λ w. (length w.ladder.items ≡ length w.reflections.items + 1)
+        × (length w.backward.items ≡ length w.reflections.items + 1)
+        × (length w.reflections.items ≤ 255)
+        × All (FitsSigned (word T.format)) (map T.number w.ladder.items) };
 }
 
 impl<T: LatticeSample> IirLatticeWork<T> {
@@ -39,7 +47,8 @@ impl<T: LatticeSample> IirLatticeWork<T> {
         requires few { length reflections.items ≤ 255 }
         requires ladder { length ladder.items ≡ length reflections.items + 1 }
         requires in_format { All (FitsSigned (word T.format)) (map T.number ladder.items) }
-        ensures { IfOk result (λ w. w ≡ new_iir_lattice T.format (map T.number reflections.items) (map T.number ladder.items)) }
+        ensures { IfOk result (λ w. w ≡ new_iir_lattice T.format (map T.number reflections.items)
+            (map T.number ladder.items)) }
     {
         let backward = zeros(alloc, ladder.len())?;
         Ok(IirLatticeWork {

@@ -22,9 +22,12 @@ pub(crate) fn ladder_step<T: LatticeSample, L: Ledger>(
     requires ladder { length ladder.now ≡ length reflections.now + 1 }
     requires backward { length backward.old ≡ length reflections.now + 1 }
     requires in_format { All (FitsSigned (word T.format)) (map T.number ladder.now) }
-    ensures backward { map T.number backward.new ≡ backward_values T.format (T.number x) (map T.number reflections.now) (drop 1 (map T.number backward.old)) }
-    ensures value { T.number result ≡ ladder_close T.format (ladder_sum (map T.number ladder.now) (map T.number backward.new)) }
-    ensures steps { Rises steps.old steps.new (3 * length reflections.now + 1) (3 * length reflections.now + 1) }
+    ensures backward { map T.number backward.new ≡ backward_values T.format (T.number x)
+        (map T.number reflections.now) (drop 1 (map T.number backward.old)) }
+    ensures value { T.number result ≡ ladder_close T.format
+        (ladder_sum (map T.number ladder.now) (map T.number backward.new)) }
+    ensures steps { Rises steps.old steps.new (3 * length reflections.now + 1)
+        (3 * length reflections.now + 1) }
 {
     // The proof has from this that the sample is a number of the format.
     let _number = x.number();

@@ -17,11 +17,13 @@ use std::sync::ledger::Ledger;
 pub trait LatticeSample: WideSample {
     /// A value less a product of it and a reflection coefficient, saturated.
     fn lowered(f: Self, reflected: Self::Wide) -> Self
-        ensures { Self.number result ≡ saturate (word_bits Self.format) (Self.number f -ℤ reflection Self.format (Self.wide reflected)) };
+        ensures { Self.number result ≡ saturate (word_bits Self.format)
+            (Self.number f -ℤ reflection Self.format (Self.wide reflected)) };
 
     /// A product of a value and a reflection coefficient, and a value, saturated.
     fn raised(reflected: Self::Wide, g: Self) -> Self
-        ensures { Self.number result ≡ saturate (word_bits Self.format) (reflection Self.format (Self.wide reflected) +ℤ Self.number g) };
+        ensures { Self.number result ≡ saturate (word_bits Self.format)
+            (reflection Self.format (Self.wide reflected) +ℤ Self.number g) };
 }
 
 /// The samples of a lattice without feedback.
@@ -36,7 +38,10 @@ pub trait NarrowSample: LatticeSample {
         steps: &mut Steps<L>,
     ) -> Self
         requires { length backward.old ≡ length forward.old }
-        ensures goes { GoesOn (λ x. lattice_stage x (Self.number k)) section_kept (Self.number before ∷ []) (Self.number result ∷ []) (zip (map Self.number forward.old) (map Self.number backward.old)) (zip (map Self.number forward.new) (map Self.number backward.new)) }
+        ensures goes { GoesOn (λ x. lattice_stage x (Self.number k)) section_kept
+            (Self.number before ∷ []) (Self.number result ∷ [])
+            (zip (map Self.number forward.old) (map Self.number backward.old))
+            (zip (map Self.number forward.new) (map Self.number backward.new)) }
         ensures steps { Rises steps.old steps.new (length forward.old * 2) (length forward.old * 2) };
 
     ghost is_q15: { Self.format ≡ Q15 };

@@ -12,7 +12,7 @@ use Rattle.dsp_defs.specs.Cost.{live_block_cost, block_turns}
 use Rattle.dsp_defs.specs.Streaming.{Continues}
 use Rattle.dsp_defs.specs.Counts.{Counts}
 use Rattle.dsp_stage.specs.Kept.{kept_of_channel, kinds_by, in_words, Each, IsPlace, IsOfKind, FitsChannel, place_of}
-use Rattle.dsp_stage.specs.Unit.{most_frames}
+use Rattle.dsp_stage.specs.Unit.{most_frames, most_room}
 use Rattle.dsp_stage.specs.Filter.{FilterStandsFor, FilterCounts, FilterFeeds, FilterFinishes, FilterRestores, IsNewFilter, of_channel, steady_filter}
 use Rattle.dsp_stage.proofs.ChannelKept.{words-placed, length-words, fit-words}
 use Rattle.dsp_stage.proofs.CostLaws.{quotient_more}
@@ -57,7 +57,7 @@ module _ (format : Fmt) (block : Block) (g : Group) (is : IsGrouped format block
       omega (arith, groups, more, enough)
 
   -- and few enough for a unit
-  pub room-few : (frames channels : ℕ) → frames * channels ≤ MAX_SAMPLES → channels ≤ 255 → most_frames block frames * channels ≤ 1099511627776
+  pub room-few : (frames channels : ℕ) → frames * channels ≤ MAX_SAMPLES → channels ≤ 255 → most_frames block frames * channels ≤ most_room
   room-few frames channels few all =
       let most = is.most frames in
       let groups : div_ceil frames g.taken ≤ frames + 1 = (let quotient = div-le_self frames g.taken in omega (arith, quotient)) in

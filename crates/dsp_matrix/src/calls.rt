@@ -18,7 +18,8 @@ use std::sync::ledger::Ledger;
 pub fn mat_add<T: MatrixSample>(a: &[T], b: &[T], out: &mut [T])
     requires left { length a.now ≡ length out.old }
     requires right { length b.now ≡ length out.old }
-    ensures { map T.number out.new ≡ values (length out.old) (added T.format (map T.number b.now) (map T.number a.now)) }
+    ensures { map T.number out.new ≡ values (length out.old)
+        (added T.format (map T.number b.now) (map T.number a.now)) }
 {
     T::add_slices(a, b, out)
 }
@@ -28,7 +29,8 @@ pub fn mat_add<T: MatrixSample>(a: &[T], b: &[T], out: &mut [T])
 pub fn mat_sub<T: MatrixSample>(a: &[T], b: &[T], out: &mut [T])
     requires left { length a.now ≡ length out.old }
     requires right { length b.now ≡ length out.old }
-    ensures { map T.number out.new ≡ values (length out.old) (subtracted T.format (map T.number b.now) (map T.number a.now)) }
+    ensures { map T.number out.new ≡ values (length out.old)
+        (subtracted T.format (map T.number b.now) (map T.number a.now)) }
 {
     T::sub_slices(a, b, out)
 }
@@ -44,8 +46,10 @@ pub fn mat_scale<T: MatrixSample, L: Ledger>(
 )
     requires shift { IsMatrixScaleShift T.format s }
     requires same { length a.now ≡ length out.old }
-    ensures out { map T.number out.new ≡ values (length out.old) (scaled T.format (T.number f) s (map T.number a.now)) }
-    ensures steps { RisesWithin steps.old steps.new (length out.old) (lane_turns T.format (length out.old)) }
+    ensures out { map T.number out.new ≡ values (length out.old)
+        (scaled T.format (T.number f) s (map T.number a.now)) }
+    ensures steps { RisesWithin steps.old steps.new (length out.old)
+        (lane_turns T.format (length out.old)) }
 {
     T::scale_slices(a, f, s, out, steps)
 }
@@ -55,7 +59,8 @@ pub fn mat_scale<T: MatrixSample, L: Ledger>(
 pub fn mat_trans<T: WideSample>(a: &[T], rows: usize, columns: usize, out: &mut [T])
     requires a { length a.now ≡ rows * columns }
     requires out { length out.old ≡ rows * columns }
-    ensures { map T.number out.new ≡ values (rows * columns) (transposed rows columns (map T.number a.now)) }
+    ensures { map T.number out.new ≡ values (rows * columns)
+        (transposed rows columns (map T.number a.now)) }
 {
     let mut row = 0;
     'fours: while rows - row >= 4 {

@@ -31,7 +31,8 @@ impl<T: Sample, W: GroupWork<T> + Drop> Model for GroupFilter<T, W> {
 
     ghost view = { λ f. steady_filter T.format (W.block f.work) f.capacity f.begun.numbers f.ended };
 
-    ghost invariant = { λ f. (W.IsOf (W.block f.work)) × IsBegun (W.group (W.block f.work)) f.begun × (f.capacity ≤ MAX_SAMPLES) };
+    ghost invariant = { λ f. (W.IsOf (W.block f.work)) × IsBegun (W.group (W.block f.work)) f.begun
+        × (f.capacity ≤ MAX_SAMPLES) };
 }
 
 /// Writes what each whole group of the input becomes, straight from the input.
@@ -43,8 +44,10 @@ fn transform_groups<T: Sample, W: GroupWork<T>, L: Ledger>(
 )
     requires work { W.IsOf (W.block work.now) }
     requires room { length output.old ≡ given_count (W.group (W.block work.now)) (length input.now) }
-    ensures out { map T.number output.new ≡ given_groups (W.group (W.block work.now)) (map T.number input.now) }
-    ensures steps { RisesJust steps.old steps.new (product_count (W.group (W.block work.now)) (length input.now)) }
+    ensures out { map T.number output.new ≡ given_groups (W.group (W.block work.now))
+        (map T.number input.now) }
+    ensures steps { RisesJust steps.old steps.new
+        (product_count (W.group (W.block work.now)) (length input.now)) }
 {
     let taken = work.taken();
     let given = work.given();
@@ -72,10 +75,15 @@ fn feed_whole<T: Sample, W: GroupWork<T>, L: Ledger>(
     requires size { begun.old.size ≡ (W.group (W.block work.now)).taken }
     requires room { given_count (W.group (W.block work.now)) (length input.now) ≤ length output.old }
     ensures given { result ≡ given_count (W.group (W.block work.now)) (length input.now) }
-    ensures out { map T.number (take result output.new) ≡ given_groups (W.group (W.block work.now)) (map T.number input.now) }
-    ensures begun { begun.new ≡ record begun.old { numbers = left_open (W.group (W.block work.now)) (map T.number input.now) } }
+    ensures out { map T.number (take result output.new) ≡ given_groups (W.group (W.block work.now))
+        (map T.number input.now) }
+    ensures begun { begun.new ≡ record begun.old {
+      numbers = left_open (W.group (W.block work.now))
+          (map T.number input.now);
+    } }
     ensures rest { drop result output.new ≡ drop result output.old }
-    ensures steps { RisesJust steps.old steps.new (product_count (W.group (W.block work.now)) (length input.now)) }
+    ensures steps { RisesJust steps.old steps.new
+        (product_count (W.group (W.block work.now)) (length input.now)) }
 {
     let groups = input.len() / work.taken();
     let count = groups * work.given();
@@ -95,7 +103,8 @@ fn complete_group<T: Sample, W: GroupWork<T>, L: Ledger>(
     requires whole { length begun.now.numbers ≡ (W.group (W.block work.now)).taken }
     requires room { (W.group (W.block work.now)).given ≤ length output.old }
     ensures given { result ≡ (W.group (W.block work.now)).given }
-    ensures out { map T.number (take result output.new) ≡ given_group (W.group (W.block work.now)) begun.now.numbers }
+    ensures out { map T.number (take result output.new)
+        ≡ given_group (W.group (W.block work.now)) begun.now.numbers }
     ensures rest { drop result output.new ≡ drop result output.old }
     ensures steps { RisesJust steps.old steps.new (W.group (W.block work.now)).products }
 {
@@ -115,12 +124,19 @@ fn feed_behind<T: Sample, W: GroupWork<T>, L: Ledger>(
 ) -> usize
     requires work { W.IsOf (W.block work.now) }
     requires size { begun.old.size ≡ (W.group (W.block work.now)).taken }
-    requires room { place + given_count (W.group (W.block work.now)) (length input.now) ≤ length output.old }
+    requires room { place + given_count (W.group (W.block work.now))
+        (length input.now) ≤ length output.old }
     ensures given { result ≡ given_count (W.group (W.block work.now)) (length input.now) }
-    ensures out { map T.number (take (place + result) output.new) ≡ map T.number (take place output.old) ++ given_groups (W.group (W.block work.now)) (map T.number input.now) }
-    ensures begun { begun.new ≡ record begun.old { numbers = left_open (W.group (W.block work.now)) (map T.number input.now) } }
+    ensures out { map T.number (take (place + result) output.new)
+        ≡ map T.number (take place output.old) ++ given_groups (W.group (W.block work.now))
+        (map T.number input.now) }
+    ensures begun { begun.new ≡ record begun.old {
+      numbers = left_open (W.group (W.block work.now))
+          (map T.number input.now);
+    } }
     ensures rest { drop (place + result) output.new ≡ drop (place + result) output.old }
-    ensures steps { RisesJust steps.old steps.new (product_count (W.group (W.block work.now)) (length input.now)) }
+    ensures steps { RisesJust steps.old steps.new
+        (product_count (W.group (W.block work.now)) (length input.now)) }
 {
     feed_whole(work, begun, input, &mut output[place..], steps)
 }
@@ -137,12 +153,19 @@ fn feed_groups<T: Sample, W: GroupWork<T>, L: Ledger>(
     requires work { W.IsOf (W.block work.now) }
     requires size { begun.old.size ≡ (W.group (W.block work.now)).taken }
     requires begun { length begun.old.numbers < begun.old.size }
-    requires room { given_count (W.group (W.block work.now)) (length begun.old.numbers + length input.now) ≤ length output.old }
-    ensures given { result ≡ given_count (W.group (W.block work.now)) (length begun.old.numbers + length input.now) }
-    ensures out { map T.number (take result output.new) ≡ given_groups (W.group (W.block work.now)) (begun.old.numbers ++ map T.number input.now) }
-    ensures begun { begun.new ≡ record begun.old { numbers = left_open (W.group (W.block work.now)) (begun.old.numbers ++ map T.number input.now) } }
+    requires room { given_count (W.group (W.block work.now))
+        (length begun.old.numbers + length input.now) ≤ length output.old }
+    ensures given { result ≡ given_count (W.group (W.block work.now))
+        (length begun.old.numbers + length input.now) }
+    ensures out { map T.number (take result output.new) ≡ given_groups (W.group (W.block work.now))
+        (begun.old.numbers ++ map T.number input.now) }
+    ensures begun { begun.new ≡ record begun.old {
+      numbers = left_open (W.group (W.block work.now))
+          (begun.old.numbers ++ map T.number input.now);
+    } }
     ensures rest { drop result output.new ≡ drop result output.old }
-    ensures steps { RisesJust steps.old steps.new (product_count (W.group (W.block work.now)) (length begun.old.numbers + length input.now)) }
+    ensures steps { RisesJust steps.old steps.new
+        (product_count (W.group (W.block work.now)) (length begun.old.numbers + length input.now)) }
 {
     if begun.len() == 0 {
         return feed_whole(work, begun, input, output, steps);
@@ -159,7 +182,8 @@ fn feed_groups<T: Sample, W: GroupWork<T>, L: Ledger>(
 /// of the format.
 fn are_open<T: Sample, W: GroupWork<T>>(work: &W, numbers: &[i64]) -> bool
     requires { W.IsOf (W.block work.now) }
-    ensures { IsTrue result ↔ (length numbers.now < (W.group (W.block work.now)).taken) × Each IsOfKind (in_words (word T.format) (length numbers.now)) numbers.now }
+    ensures { IsTrue result ↔ (length numbers.now < (W.group (W.block work.now)).taken)
+        × Each IsOfKind (in_words (word T.format) (length numbers.now)) numbers.now }
 {
     numbers.len() < work.taken() && are_samples::<T>(numbers, numbers.len())
 }
@@ -209,12 +233,19 @@ impl<T: Sample, W: GroupWork<T> + Drop> GroupFilter<T, W> {
         requires running { IsFalse self.old.ended }
         requires block { length input.now ≤ self.old.capacity }
         requires room { most_frames self.old.block (length input.now) ≤ length output.old }
-        ensures given { result ≡ given_count (W.group self.old.block) (length self.old.kept + length input.now) }
+        ensures given { result ≡ given_count (W.group self.old.block)
+            (length self.old.kept + length input.now) }
         ensures within { result ≤ most_frames self.old.block (length input.now) }
-        ensures values { map T.number (take result output.new) ≡ given_groups (W.group self.old.block) (self.old.kept ++ map T.number input.now) }
-        ensures kept { self.new ≡ record self.old { kept = left_open (W.group self.old.block) (self.old.kept ++ map T.number input.now) } }
-        ensures fed { FilterFeeds self.old self.new (map T.number input.now) (map T.number (take result output.new)) steps.old steps.new }
-        ensures multiplies { steps.new.multiplies ≡ steps.old.multiplies + product_count (W.group self.old.block) (length self.old.kept + length input.now) }
+        ensures values { map T.number (take result output.new)
+            ≡ given_groups (W.group self.old.block) (self.old.kept ++ map T.number input.now) }
+        ensures kept { self.new ≡ record self.old {
+          kept = left_open (W.group self.old.block)
+              (self.old.kept ++ map T.number input.now);
+        } }
+        ensures fed { FilterFeeds self.old self.new (map T.number input.now)
+            (map T.number (take result output.new)) steps.old steps.new }
+        ensures multiplies { steps.new.multiplies ≡ steps.old.multiplies + product_count
+            (W.group self.old.block) (length self.old.kept + length input.now) }
         ensures rest { drop result output.new ≡ drop result output.old }
     {
         feed_groups(&self.work, &mut self.begun, input, output, steps)

@@ -36,7 +36,8 @@ pub trait GroupWork<T: Sample> {
         requires work { IsOf (block self.now) }
         requires taken { length samples.now ≡ (group (block self.now)).taken }
         requires given { length out.old ≡ (group (block self.now)).given }
-        ensures out { map T.number out.new ≡ given_group (group (block self.now)) (map T.number samples.now) }
+        ensures out { map T.number out.new ≡ given_group (group (block self.now))
+            (map T.number samples.now) }
         ensures steps { RisesJust steps.old steps.new (group (block self.now)).products };
 
     ghost grouped: { (b : Block) → IsOf b → IsGrouped T.format b (group b) };

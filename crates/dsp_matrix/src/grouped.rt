@@ -89,11 +89,12 @@ impl<T: MatrixSample> GroupFilter<T, MatrixWork<T>> {
     /// A filter that has taken nothing, from its operation, for blocks of at most `block` samples.
     /// `Range` where the rows or the columns are not in 1..64, then `Length` where a list has not as many
     /// numbers as rows times columns, then `Range` where a fraction, a shift or a number of a list is out
-    /// of its range, `Range` where the block is not in 1..1,048,576, then `Memory`. No later call takes
+    /// of its range, `Range` where the block is not in 1..`MAX_SAMPLES`, then `Memory`. No later call takes
     /// memory.
     pub fn new(alloc: Global, op: GroupOp, block: usize) -> Result<Self, MakeFault>
         ensures made { IfOk result (IsNewFilter (block_of_op op) T.format block) }
-        ensures fault { MatchOption (grouped_fault T.format op block) (IfErr result (λ e. e ≡ MakeFault.Memory)) (λ e. result ≡ Err e) }
+        ensures fault { MatchOption (grouped_fault T.format op block)
+            (IfErr result (λ e. e ≡ MakeFault.Memory)) (λ e. result ≡ Err e) }
     {
         check_op::<T>(&op)?;
         check_block(block)?;
@@ -114,7 +115,7 @@ impl GroupFilter<i16, ProductWork> {
     /// A filter that has taken nothing, from the rows and columns of a group and the `given` columns of a
     /// matrix, whose list stands row by row, for blocks of at most `block` samples. `Range` where a side is
     /// not in 1..64, then `Length` where the list has not as many numbers as columns times given, `Range`
-    /// where the block is not in 1..1,048,576, then `Memory`. No later call takes memory.
+    /// where the block is not in 1..`MAX_SAMPLES`, then `Memory`. No later call takes memory.
     pub fn new(
         alloc: Global,
         rows: u8,
@@ -124,7 +125,8 @@ impl GroupFilter<i16, ProductWork> {
         block: usize,
     ) -> Result<Self, MakeFault>
         ensures made { IfOk result (IsNewFilter (MatMult rows columns given list.now) Q15 block) }
-        ensures fault { MatchOption (product_fault rows columns given (length list.now) block) (IfErr result (λ e. e ≡ MakeFault.Memory)) (λ e. result ≡ Err e) }
+        ensures fault { MatchOption (product_fault rows columns given (length list.now) block)
+            (IfErr result (λ e. e ≡ MakeFault.Memory)) (λ e. result ≡ Err e) }
     {
         check_sides(rows, columns)?;
         check_side(given)?;

@@ -75,7 +75,8 @@ fn check_shift<T: MatrixSample>(shift: i32) -> Result<(), MakeFault>
 
 /// Refuses a matrix of other sides, as many numbers or other numbers than a format has.
 fn check_matrix<T: Sample>(rows: u8, columns: u8, list: &[i32]) -> Result<(), MakeFault>
-    ensures { MatchOption (matrix_fault T.format rows columns list.now) (result ≡ Ok tt) (λ e. result ≡ Err e) }
+    ensures { MatchOption (matrix_fault T.format rows columns list.now) (result ≡ Ok tt)
+        (λ e. result ≡ Err e) }
 {
     check_sides(rows, columns)?;
     check_count(list.len(), usize::from(rows) * usize::from(columns))?;

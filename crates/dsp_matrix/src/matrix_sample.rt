@@ -22,13 +22,15 @@ pub trait MatrixSample: WideSample {
     fn add_slices(a: &[Self], b: &[Self], out: &mut [Self])
         requires left { length a.now ≡ length out.old }
         requires right { length b.now ≡ length out.old }
-        ensures { map Self.number out.new ≡ zip2 (add Self.format) (map Self.number a.now) (map Self.number b.now) };
+        ensures { map Self.number out.new ≡ zip2 (add Self.format) (map Self.number a.now)
+            (map Self.number b.now) };
 
     /// The saturating differences of two slices of equal lengths.
     fn sub_slices(a: &[Self], b: &[Self], out: &mut [Self])
         requires left { length a.now ≡ length out.old }
         requires right { length b.now ≡ length out.old }
-        ensures { map Self.number out.new ≡ zip2 (sub Self.format) (map Self.number a.now) (map Self.number b.now) };
+        ensures { map Self.number out.new ≡ zip2 (sub Self.format) (map Self.number a.now)
+            (map Self.number b.now) };
 
     /// Times a fraction and 2^places, for slices of equal lengths.
     fn scale_slices<M: Ledger>(
@@ -40,8 +42,10 @@ pub trait MatrixSample: WideSample {
     )
         requires places { IsMatrixScaleShift Self.format places }
         requires same { length a.now ≡ length out.old }
-        ensures out { map Self.number out.new ≡ map (scale Self.format (Self.number factor) places) (map Self.number a.now) }
-        ensures steps { RisesWithin steps.old steps.new (length out.old) (lane_turns Self.format (length out.old)) };
+        ensures out { map Self.number out.new ≡ map (scale Self.format (Self.number factor) places)
+            (map Self.number a.now) }
+        ensures steps { RisesWithin steps.old steps.new (length out.old)
+            (lane_turns Self.format (length out.old)) };
 
     ghost is_wide: { Self.format ≢ Q7 };
 }

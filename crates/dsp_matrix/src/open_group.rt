@@ -18,7 +18,11 @@ impl<T: Sample> Model for OpenGroup<T> {
 
     ghost Value = { OpenState };
 
-    ghost view = { λ o. record { size = vec_len o.samples; numbers = map T.number (take o.count o.samples.items) } };
+    ghost view = { λ o.
+        record {
+          size = vec_len o.samples;
+          numbers = map T.number (take o.count o.samples.items);
+        } };
 
     ghost invariant = { λ o. o.count ≤ vec_len o.samples };
 }
@@ -68,7 +72,10 @@ impl<T: Sample> OpenGroup<T> {
     /// Takes as many samples of the input as it still wants, and answers their number.
     pub(crate) fn fill(&mut self, input: &[T]) -> usize
         ensures count { result ≡ min (self.old.size - length self.old.numbers) (length input.now) }
-        ensures filled { self.new ≡ record self.old { numbers = self.old.numbers ++ map T.number (take result input.now) } }
+        ensures filled { self.new ≡ record self.old {
+          numbers = self.old.numbers ++ map T.number
+              (take result input.now);
+        } }
     {
         let count = input.len().min(self.samples.len() - self.count);
         write_at(&mut self.samples, self.count, &input[..count]);

@@ -13,7 +13,8 @@ use std::sync::ledger::Ledger;
 /// Whether each column of a matrix that stands column by column is narrow.
 fn are_narrow(turned: &[i16], columns: usize, given: usize) -> bool
     requires { length turned.now ≡ columns * given }
-    ensures { IsTrue result → (l : ℕ) → l < given → IsNarrow (slice_range turned.now (l * columns) (l * columns + columns)) }
+    ensures { IsTrue result → (l : ℕ) → l < given
+        → IsNarrow (slice_range turned.now (l * columns) (l * columns + columns)) }
 {
     for l in 0..given {
         let start = l * columns;
@@ -31,7 +32,8 @@ pub(crate) fn are_paired(rows: usize, columns: usize, given: usize, turned: &[i1
     ensures rows { IsTrue result → rows % 2 ≡ 0 }
     ensures columns { IsTrue result → columns % 2 ≡ 0 }
     ensures fours { IsTrue result → given % 4 ≡ 0 }
-    ensures narrow { IsTrue result → (l : ℕ) → l < given → IsNarrow (slice_range turned.now (l * columns) (l * columns + columns)) }
+    ensures narrow { IsTrue result → (l : ℕ) → l < given
+        → IsNarrow (slice_range turned.now (l * columns) (l * columns + columns)) }
 {
     if rows % 2 != 0 || columns % 2 != 0 || given % 4 != 0 {
         return false;

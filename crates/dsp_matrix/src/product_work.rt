@@ -28,9 +28,13 @@ impl Model for ProductWork {
 
     ghost Value = { ProductState };
 
-    ghost view = { λ p. record { rows = p.rows; columns = p.columns; given = p.given; matrix = p.matrix.items } };
+    ghost view = { λ p.
+        record { rows = p.rows; columns = p.columns; given = p.given; matrix = p.matrix.items } };
 
-    ghost invariant = { λ p. (p.turned.items ≡ values (p.columns * p.given) (transposed p.columns p.given p.matrix.items)) × (IsTrue p.paired → IsPaired p.rows p.columns p.given p.matrix.items) };
+    ghost invariant = { λ p.
+        (p.turned.items ≡ values (p.columns * p.given)
+        (transposed p.columns p.given p.matrix.items))
+        × (IsTrue p.paired → IsPaired p.rows p.columns p.given p.matrix.items) };
 }
 
 impl ProductWork {
@@ -45,7 +49,12 @@ impl ProductWork {
         matrix: Vec<i16>,
     ) -> Result<Self, AllocError>
         requires { length matrix.items ≡ columns * given }
-        ensures { IfOk result (λ p. p ≡ record { rows = rows; columns = columns; given = given; matrix = matrix.items }) }
+        ensures { IfOk result (λ p. p ≡ record {
+          rows = rows;
+          columns = columns;
+          given = given;
+          matrix = matrix.items;
+        }) }
     {
         let mut turned = vec![in alloc; 0; matrix.len()]?;
         mat_trans(

@@ -25,7 +25,9 @@ pub(crate) trait Order<T: Sample> {
     ) -> T::Acc
         requires inside { column < given }
         requires whole { length matrix.now ≡ length row.now * given }
-        ensures sum { T.total result ≡ wrap (accumulator T.format) (row_times place (length row.now) given (map T.number row.now) (map T.number matrix.now) column) }
+        ensures sum { T.total result ≡ wrap (accumulator T.format)
+            (row_times place (length row.now) given (map T.number row.now)
+            (map T.number matrix.now) column) }
         ensures steps { RisesJust steps.old steps.new (length row.now) };
 }
 
@@ -82,7 +84,9 @@ fn multiply_row<T: Sample, O: Order<T>, L: Ledger>(
     steps: &mut Steps<L>,
 )
     requires { length matrix.now ≡ length row.now * length out.old }
-    ensures out { map T.number out.new ≡ values (length out.old) (λ l. close T.format (row_times O.place (length row.now) (length out.old) (map T.number row.now) (map T.number matrix.now) l)) }
+    ensures out { map T.number out.new ≡ values (length out.old) (λ l.
+        close T.format (row_times O.place (length row.now) (length out.old) (map T.number row.now)
+        (map T.number matrix.now) l)) }
     ensures steps { RisesJust steps.old steps.new (length out.old * length row.now) }
 {
     let given = out.len();
@@ -106,7 +110,9 @@ pub(crate) fn multiply<T: Sample, O: Order<T>, L: Ledger>(
     requires a { length a.now ≡ rows * columns }
     requires matrix { length matrix.now ≡ columns * given }
     requires out { length out.old ≡ rows * given }
-    ensures out { map T.number out.new ≡ values (rows * given) (product_element T.format O.place columns given (map T.number a.now) (map T.number matrix.now)) }
+    ensures out { map T.number out.new ≡ values (rows * given)
+        (product_element T.format O.place columns given (map T.number a.now)
+        (map T.number matrix.now)) }
     ensures steps { RisesJust steps.old steps.new (rows * (given * columns)) }
 {
     for row in 0..rows {

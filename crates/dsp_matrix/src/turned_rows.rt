@@ -18,8 +18,10 @@ fn turn_column<T: Sample, const N: usize>(
     requires out { length out.old ≡ rows * columns }
     requires rows { row + N ≤ rows }
     requires inside { column < columns }
-    ensures kept { StaysTurned rows columns (map T.number a.now) (map T.number out.old) (map T.number out.new) }
-    ensures turned { (k : ℕ) → k < N → IsTurned rows columns (map T.number a.now) (map T.number out.new) (row + k) column }
+    ensures kept { StaysTurned rows columns (map T.number a.now) (map T.number out.old)
+        (map T.number out.new) }
+    ensures turned { (k : ℕ) → k < N → IsTurned rows columns (map T.number a.now)
+        (map T.number out.new) (row + k) column }
 {
     let at = column * rows + row;
     for k in 0..N {
@@ -40,8 +42,10 @@ pub(crate) fn turn_rows<T: Sample, const N: usize>(
     requires a { length a.now ≡ rows * columns }
     requires out { length out.old ≡ rows * columns }
     requires rows { row + N ≤ rows }
-    ensures kept { StaysTurned rows columns (map T.number a.now) (map T.number out.old) (map T.number out.new) }
-    ensures turned { (k j : ℕ) → k < N → j < columns → IsTurned rows columns (map T.number a.now) (map T.number out.new) (row + k) j }
+    ensures kept { StaysTurned rows columns (map T.number a.now) (map T.number out.old)
+        (map T.number out.new) }
+    ensures turned { (k j : ℕ) → k < N → j < columns
+        → IsTurned rows columns (map T.number a.now) (map T.number out.new) (row + k) j }
 {
     for column in 0..columns {
         turn_column::<T, N>(a, rows, columns, row, column, out);

@@ -22,7 +22,8 @@ impl<T: MeasureSample + WideSample> Model for CmplxDot<T> {
 
     ghost view = { λ d. (d.re, d.im) };
 
-    ghost invariant = { λ d. FitsSigned (accumulator T.format) d.re × FitsSigned (accumulator T.format) d.im };
+    ghost invariant = { λ d. FitsSigned (accumulator T.format) d.re
+        × FitsSigned (accumulator T.format) d.im };
 }
 
 impl<T: MeasureSample + WideSample> CmplxDot<T> {
@@ -49,7 +50,9 @@ impl<T: MeasureSample + WideSample> CmplxDot<T> {
     pub fn put<L: Ledger>(&mut self, a: &[T], b: &[T], steps: &mut Steps<L>)
         requires same { length a.now ≡ length b.now }
         requires pairs { length a.now % 2 ≡ 0 }
-        ensures sums { (x y : List ℤ) → length x ≡ length y → length x % 2 ≡ 0 → self.old ≡ complex_sums T.format x y → self.new ≡ complex_sums T.format (x ++ map T.number a.now) (y ++ map T.number b.now) }
+        ensures sums { (x y : List ℤ) → length x ≡ length y → length x % 2 ≡ 0
+            → self.old ≡ complex_sums T.format x y
+            → self.new ≡ complex_sums T.format (x ++ map T.number a.now) (y ++ map T.number b.now) }
         ensures steps { Rises steps.old steps.new (4 * (length a.now / 2)) (4 * (length a.now / 2)) }
     {
         (self.re, self.im) = add_complex_slices((self.re, self.im), a, b, steps);

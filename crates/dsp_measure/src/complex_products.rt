@@ -20,8 +20,14 @@ fn add_complex_product<T: MeasureSample, L: Ledger>(
 ) -> (i64, i64)
     requires start_re { FitsSigned (accumulator T.format) sums.0 }
     requires start_im { FitsSigned (accumulator T.format) sums.1 }
-    ensures re { result.0 ≡ wrap (accumulator T.format) (sums.0 +ℤ (measured_product T.format (T.number numbers.0) (T.number numbers.2) -ℤ measured_product T.format (T.number numbers.1) (T.number numbers.3))) }
-    ensures im { result.1 ≡ wrap (accumulator T.format) (sums.1 +ℤ (measured_product T.format (T.number numbers.0) (T.number numbers.3) +ℤ measured_product T.format (T.number numbers.1) (T.number numbers.2))) }
+    ensures re { result.0 ≡ wrap (accumulator T.format)
+        (sums.0 +ℤ (measured_product T.format (T.number numbers.0)
+        (T.number numbers.2) -ℤ measured_product T.format (T.number numbers.1)
+        (T.number numbers.3))) }
+    ensures im { result.1 ≡ wrap (accumulator T.format)
+        (sums.1 +ℤ (measured_product T.format (T.number numbers.0)
+        (T.number numbers.3) +ℤ measured_product T.format (T.number numbers.1)
+        (T.number numbers.2))) }
     ensures steps { Rises steps.old steps.new 4 4 }
 {
     let (a, b, c, d) = numbers;
@@ -43,7 +49,10 @@ fn add_complex<T: MeasureSample, F: Fn(usize) -> (T, T, T, T), L: Ledger>(
     requires places { (n : ℕ) → n < count → F.pre at n }
     requires start_re { FitsSigned (accumulator T.format) start.0 }
     requires start_im { FitsSigned (accumulator T.format) start.1 }
-    ensures sums { (a b c d : List ℤ) → length a ≡ count → ((n : ℕ) (s : _) → n < count → F.post at n s → (T.number s.0 ≡ sample a n) × (T.number s.1 ≡ sample b n) × (T.number s.2 ≡ sample c n) × (T.number s.3 ≡ sample d n)) → result ≡ with_complex T.format start a b c d }
+    ensures sums { (a b c d : List ℤ) → length a ≡ count
+        → ((n : ℕ) (s : _) → n < count → F.post at n s → (T.number s.0 ≡ sample a n)
+        × (T.number s.1 ≡ sample b n) × (T.number s.2 ≡ sample c n) × (T.number s.3 ≡ sample d n))
+        → result ≡ with_complex T.format start a b c d }
     ensures fits_re { FitsSigned (accumulator T.format) result.0 }
     ensures fits_im { FitsSigned (accumulator T.format) result.1 }
     ensures steps { Rises steps.old steps.new (4 * count) (4 * count) }
@@ -95,7 +104,8 @@ pub fn add_complex_channels<T: MeasureSample, L: Ledger>(
     ensures sums { result ≡ with_complex_channels T.format start channels frames.now }
     ensures fits_re { FitsSigned (accumulator T.format) result.0 }
     ensures fits_im { FitsSigned (accumulator T.format) result.1 }
-    ensures steps { Rises steps.old steps.new (4 * (length frames.now / channels)) (4 * (length frames.now / channels)) }
+    ensures steps { Rises steps.old steps.new (4 * (length frames.now / channels))
+        (4 * (length frames.now / channels)) }
 {
     let at = |n: usize| -> (T, T, T, T)
         requires inside { n * channels + 3 < length frames.now }

@@ -44,7 +44,8 @@ impl<T: MeasureSample> Dot<T> {
     /// Takes the next samples of both signals, as many of each.
     pub fn put<L: Ledger>(&mut self, a: &[T], b: &[T], steps: &mut Steps<L>)
         requires { length a.now ≡ length b.now }
-        ensures value { (x y : List ℤ) → length x ≡ length y → self.old ≡ dot T.format x y → self.new ≡ dot T.format (x ++ map T.number a.now) (y ++ map T.number b.now) }
+        ensures value { (x y : List ℤ) → length x ≡ length y → self.old ≡ dot T.format x y
+            → self.new ≡ dot T.format (x ++ map T.number a.now) (y ++ map T.number b.now) }
         ensures steps { Rises steps.old steps.new (length a.now) (length a.now) }
     {
         self.sum = add_slices(self.sum, a, b, steps);

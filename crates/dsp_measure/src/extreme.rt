@@ -25,7 +25,9 @@ fn better<O: Order>(found: Option<(i32, u64)>, value: i32, index: u64) -> (i32, 
 /// Whether one of the samples wins, where `at` gives the sample of each place.
 fn any_wins<T: MeasureSample, O: Order, F: Fn(usize) -> T>(best: i32, more: usize, at: &F) -> bool
     requires { (n : ℕ) → n < more → F.pre at.now n }
-    ensures { (y : List ℤ) → length y ≡ more → ((n : ℕ) (s : _) → n < more → F.post at.now n s → T.number s ≡ sample y n) → IsFalse result → (n : ℕ) → n < more → IsFalse (wins O.least (sample y n) best) }
+    ensures { (y : List ℤ) → length y ≡ more
+        → ((n : ℕ) (s : _) → n < more → F.post at.now n s → T.number s ≡ sample y n)
+        → IsFalse result → (n : ℕ) → n < more → IsFalse (wins O.least (sample y n) best) }
 {
     let mut any = false;
     for n in 0..more {
@@ -44,7 +46,9 @@ fn best_of<T: MeasureSample, O: Order, F: Fn(usize) -> T>(
     requires places { (n : ℕ) → n < more → F.pre at n }
     requires few { IsFew (count + more) }
     requires found { IsFound T.format found count }
-    ensures stands { (x y : List ℤ) → found ≡ extreme O.least x → count ≡ length x → length y ≡ more → ((n : ℕ) (s : _) → n < more → F.post at n s → T.number s ≡ sample y n) → result ≡ extreme O.least (x ++ y) }
+    ensures stands { (x y : List ℤ) → found ≡ extreme O.least x → count ≡ length x → length y ≡ more
+        → ((n : ℕ) (s : _) → n < more → F.post at n s → T.number s ≡ sample y n)
+        → result ≡ extreme O.least (x ++ y) }
     ensures found { IsFound T.format result (count + more) }
 {
     // Few blocks have a sample that wins, and lanes tell which.
@@ -107,7 +111,8 @@ impl<T: MeasureSample, O: Order> Extreme<T, O> {
     /// Takes the next samples of the signal. In all there may be fewer than 2^62.
     pub fn put(&mut self, samples: &[T])
         requires { IsFew (self.old.count + length samples.now) }
-        ensures stands { (x : List ℤ) → self.old ≡ extreme_of O.least x → self.new ≡ extreme_of O.least (x ++ map T.number samples.now) }
+        ensures stands { (x : List ℤ) → self.old ≡ extreme_of O.least x
+            → self.new ≡ extreme_of O.least (x ++ map T.number samples.now) }
         ensures count { self.new.count ≡ self.old.count + length samples.now }
     {
         let at = |n: usize| -> T
@@ -122,7 +127,8 @@ impl<T: MeasureSample, O: Order> Extreme<T, O> {
     fn put_frames(&mut self, frames: &[i32])
         requires in_format { All (FitsSigned (word T.format)) frames.now }
         requires few { IsFew (self.old.count + length frames.now) }
-        ensures stands { (x : List ℤ) → self.old ≡ extreme_of O.least x → self.new ≡ extreme_of O.least (x ++ frames.now) }
+        ensures stands { (x : List ℤ) → self.old ≡ extreme_of O.least x
+            → self.new ≡ extreme_of O.least (x ++ frames.now) }
         ensures count { self.new.count ≡ self.old.count + length frames.now }
     {
         let at = |n: usize| -> T
@@ -139,7 +145,9 @@ impl<T: MeasureSample, O: Order> Extreme<T, O> {
         requires inside { channel < channels }
         requires in_format { All (FitsSigned (word T.format)) frames.now }
         requires few { IsFew (self.old.count + length frames.now / channels) }
-        ensures stands { (x : List ℤ) → self.old ≡ extreme_of O.least x → self.new ≡ extreme_of O.least (x ++ samples_in channels (length frames.now / channels) frames.now channel) }
+        ensures stands { (x : List ℤ) → self.old ≡ extreme_of O.least x
+            → self.new ≡ extreme_of O.least
+            (x ++ samples_in channels (length frames.now / channels) frames.now channel) }
         ensures count { self.new.count ≡ self.old.count + length frames.now / channels }
     {
         if channels == 1 {

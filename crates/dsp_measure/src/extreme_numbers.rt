@@ -21,7 +21,8 @@ fn are_of_none<T: MeasureSample>(numbers: &[i64]) -> bool
 
 /// Whether the index is below the count, and the count not too great.
 fn is_index(index: i64, count: i64) -> bool
-    ensures { IsTrue result ↔ ((n : ℕ) × IsFew (suc n) × IsOfKind (Below (suc n)) index × IsOfKind (Fixed (suc n)) count) }
+    ensures { IsTrue result ↔ ((n : ℕ) × IsFew (suc n) × IsOfKind (Below (suc n)) index
+        × IsOfKind (Fixed (suc n)) count) }
 {
     0 <= index && index < count && count <= MAX_COUNT
 }

@@ -14,13 +14,15 @@ pub trait MeasureSample: Sample {
     /// shifted right by 14 first.
     fn add_measured<L: Ledger>(sum: i64, a: Self, b: Self, steps: &mut Steps<L>) -> i64
         requires { FitsSigned (accumulator Self.format) sum }
-        ensures value { result ≡ wrap (accumulator Self.format) (sum +ℤ measured_product Self.format (Self.number a) (Self.number b)) }
+        ensures value { result ≡ wrap (accumulator Self.format)
+            (sum +ℤ measured_product Self.format (Self.number a) (Self.number b)) }
         ensures steps { Rises steps.old steps.new 1 1 };
 
     /// Takes a product away in the same way.
     fn subtract_measured<L: Ledger>(sum: i64, a: Self, b: Self, steps: &mut Steps<L>) -> i64
         requires { FitsSigned (accumulator Self.format) sum }
-        ensures value { result ≡ wrap (accumulator Self.format) (sum -ℤ measured_product Self.format (Self.number a) (Self.number b)) }
+        ensures value { result ≡ wrap (accumulator Self.format)
+            (sum -ℤ measured_product Self.format (Self.number a) (Self.number b)) }
         ensures steps { Rises steps.old steps.new 1 1 };
 
     /// A sum of complex products as a result: in Q15 it is shifted right by 6 and wrapped to 32 bits.

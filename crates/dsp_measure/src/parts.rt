@@ -29,9 +29,11 @@ fn feed_sum<T: MeasureSample, L: Ledger>(
     requires second { second < channels }
     requires in_format { All (FitsSigned (word T.format)) frames.now }
     requires kept { Each IsOfKind (in_words (accumulator T.format) 1) numbers.old }
-    ensures sum { numbers.new ≡ with_channels T.format (sample numbers.old 0) channels frames.now first second ∷ [] }
+    ensures sum { numbers.new ≡ with_channels T.format
+        (sample numbers.old 0) channels frames.now first second ∷ [] }
     ensures kept { Each IsOfKind (in_words (accumulator T.format) 1) numbers.new }
-    ensures steps { Rises steps.old steps.new (length frames.now / channels) (length frames.now / channels) }
+    ensures steps { Rises steps.old steps.new (length frames.now / channels)
+        (length frames.now / channels) }
 {
     numbers[0] = add_channels::<T, L>(numbers[0], frames, channels, first, second, steps);
 }
@@ -46,10 +48,15 @@ fn feed_complex<T: MeasureSample, L: Ledger>(
     requires channels { 4 ≤ channels }
     requires in_format { All (FitsSigned (word T.format)) frames.now }
     requires kept { Each IsOfKind (in_words (accumulator T.format) 2) numbers.old }
-    ensures re { sample numbers.new 0 ≡ (with_complex_channels T.format (sample numbers.old 0, sample numbers.old 1) channels frames.now).0 }
-    ensures im { sample numbers.new 1 ≡ (with_complex_channels T.format (sample numbers.old 0, sample numbers.old 1) channels frames.now).1 }
+    ensures re { sample numbers.new 0 ≡
+        (with_complex_channels T.format
+        (sample numbers.old 0, sample numbers.old 1) channels frames.now).0 }
+    ensures im { sample numbers.new 1 ≡
+        (with_complex_channels T.format
+        (sample numbers.old 0, sample numbers.old 1) channels frames.now).1 }
     ensures kept { Each IsOfKind (in_words (accumulator T.format) 2) numbers.new }
-    ensures steps { Rises steps.old steps.new (4 * (length frames.now / channels)) (4 * (length frames.now / channels)) }
+    ensures steps { Rises steps.old steps.new (4 * (length frames.now / channels))
+        (4 * (length frames.now / channels)) }
 {
     let sums = (numbers[0], numbers[1]);
     let (re, im) = add_complex_channels::<T, L>(sums, frames, channels, steps);
@@ -66,9 +73,15 @@ fn feed_extreme<T: MeasureSample, O: Order>(
 )
     requires inside { channel < channels }
     requires in_format { All (FitsSigned (word T.format)) frames.now }
-    requires kept { (n : ℕ) × Each IsOfKind (extreme_kinds T.format n) numbers.old × IsFew (n + length frames.now / channels) }
-    ensures stands { (x : List ℤ) → numbers.old ≡ extreme_kept (extreme O.least x) (length x) → numbers.new ≡ extreme_kept (extreme O.least (x ++ samples_in channels (length frames.now / channels) frames.now channel)) (length x + length frames.now / channels) }
-    ensures kept { (n : ℕ) → Each IsOfKind (extreme_kinds T.format n) numbers.old → Each IsOfKind (extreme_kinds T.format (n + length frames.now / channels)) numbers.new }
+    requires kept { (n : ℕ) × Each IsOfKind (extreme_kinds T.format n) numbers.old
+        × IsFew (n + length frames.now / channels) }
+    ensures stands { (x : List ℤ) → numbers.old ≡ extreme_kept (extreme O.least x) (length x)
+        → numbers.new
+        ≡ extreme_kept (extreme O.least
+        (x ++ samples_in channels (length frames.now / channels) frames.now channel))
+        (length x + length frames.now / channels) }
+    ensures kept { (n : ℕ) → Each IsOfKind (extreme_kinds T.format n) numbers.old
+        → Each IsOfKind (extreme_kinds T.format (n + length frames.now / channels)) numbers.new }
 {
     let mut extreme = Extreme::<T, O>::new();
     extreme.restore(numbers);
@@ -90,7 +103,8 @@ fn feed_part<T: MeasureSample, L: Ledger>(
     requires in_format { All (FitsSigned (word T.format)) frames.now }
     requires kept { CanTake T.format measure (length frames.now / channels) numbers.old }
     ensures fed { PartFeeds T.format measure channels part frames.now numbers.old numbers.new }
-    ensures steps { Rises steps.old steps.new (price_of measure * (length frames.now / channels)) (price_of measure * (length frames.now / channels)) }
+    ensures steps { Rises steps.old steps.new (price_of measure * (length frames.now / channels))
+        (price_of measure * (length frames.now / channels)) }
 {
     match measure {
         MeasureBlock::Power => feed_sum::<T, L>(numbers, frames, channels, part, part, steps),
@@ -113,7 +127,8 @@ fn feed_each<T: MeasureSample, L: Ledger>(
     requires in_format { All (FitsSigned (word T.format)) frames.now }
     requires kept { AllCanTake T.format channels measure (length frames.now / channels) kept.old }
     ensures fed { PartsFeed T.format measure channels frames.now kept.old kept.new }
-    ensures steps { RisesFor measure (parts_of measure channels) (length frames.now / channels) steps.old steps.new }
+    ensures steps { RisesFor measure (parts_of measure channels)
+        (length frames.now / channels) steps.old steps.new }
 {
     let size = measure.size();
     for part in 0..measure.parts(channels) {
@@ -136,7 +151,8 @@ pub fn feed_parts<L: Ledger>(
     requires in_format { All (FitsSigned (word format)) frames.now }
     requires kept { AllCanTake format channels measure (length frames.now / channels) kept.old }
     ensures fed { PartsFeed format measure channels frames.now kept.old kept.new }
-    ensures steps { RisesFor measure (parts_of measure channels) (length frames.now / channels) steps.old steps.new }
+    ensures steps { RisesFor measure (parts_of measure channels)
+        (length frames.now / channels) steps.old steps.new }
 {
     match format {
         Fmt::Q7 => feed_each::<i8, L>(measure, kept, frames, channels, steps),

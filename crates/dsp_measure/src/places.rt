@@ -19,7 +19,8 @@ fn are_sums<T: MeasureSample>(numbers: &[i64]) -> bool
 
 /// The least count of frames of which these can be the sums: 0, since sums are those of any count.
 fn place_sums<T: MeasureSample>(size: usize, numbers: &[i64]) -> Option<u64>
-    ensures fits { IfSome result (λ n. (n ≡ 0) × Each IsOfKind (in_words (accumulator T.format) size) numbers.now) }
+    ensures fits { IfSome result (λ n. (n ≡ 0)
+        × Each IsOfKind (in_words (accumulator T.format) size) numbers.now) }
     ensures least { Each IsOfKind (in_words (accumulator T.format) size) numbers.now → result ≡ Some 0 }
 {
     if numbers.len() == size && are_sums::<T>(numbers) {
@@ -32,7 +33,8 @@ fn place_sums<T: MeasureSample>(size: usize, numbers: &[i64]) -> Option<u64>
 /// The least number of frames of which one measure can keep these numbers, if there is one.
 fn place_part<T: MeasureSample>(measure: MeasureBlock, numbers: &[i64]) -> Option<u64>
     ensures fits { IfSome result (λ n. FitsChannel T.format (block_of measure) n numbers.now) }
-    ensures least { (n : ℕ) → FitsChannel T.format (block_of measure) n numbers.now → result ≡ Some (place_of (block_of measure) n) }
+    ensures least { (n : ℕ) → FitsChannel T.format (block_of measure) n numbers.now
+        → result ≡ Some (place_of (block_of measure) n) }
 {
     match measure {
         MeasureBlock::Power | MeasureBlock::Dot => place_sums::<T>(1, numbers),
@@ -54,7 +56,8 @@ fn numbers_of(numbers: &[i64], size: usize, part: usize) -> &[i64]
 fn place_each<T: MeasureSample>(measure: MeasureBlock, channels: u8, numbers: &[i64]) -> Option<u64>
     requires { channels_of measure ≤ channels }
     ensures fits { IfSome result (λ n. FitsAfter T.format channels (block_of measure) n numbers.now) }
-    ensures least { (n : ℕ) → FitsAfter T.format channels (block_of measure) n numbers.now → result ≡ Some (place_of (block_of measure) n) }
+    ensures least { (n : ℕ) → FitsAfter T.format channels (block_of measure) n numbers.now
+        → result ≡ Some (place_of (block_of measure) n) }
 {
     let size = measure.size();
     let parts = measure.parts(usize::from(channels));
@@ -79,7 +82,8 @@ fn place_each<T: MeasureSample>(measure: MeasureBlock, channels: u8, numbers: &[
 pub fn place_parts(measure: MeasureBlock, format: Fmt, channels: u8, numbers: &[i64]) -> Option<u64>
     requires { channels_of measure ≤ channels }
     ensures fits { IfSome result (λ n. FitsAfter format channels (block_of measure) n numbers.now) }
-    ensures least { (n : ℕ) → FitsAfter format channels (block_of measure) n numbers.now → result ≡ Some (place_of (block_of measure) n) }
+    ensures least { (n : ℕ) → FitsAfter format channels (block_of measure) n numbers.now
+        → result ≡ Some (place_of (block_of measure) n) }
 {
     match format {
         Fmt::Q7 => place_each::<i8>(measure, channels, numbers),

@@ -37,7 +37,8 @@ impl<T: MeasureSample> Power<T> {
 
     /// Takes the next samples of the signal, any number of them.
     pub fn put<L: Ledger>(&mut self, samples: &[T], steps: &mut Steps<L>)
-        ensures value { (x : List ℤ) → self.old ≡ power T.format x → self.new ≡ power T.format (x ++ map T.number samples.now) }
+        ensures value { (x : List ℤ) → self.old ≡ power T.format x
+            → self.new ≡ power T.format (x ++ map T.number samples.now) }
         ensures steps { Rises steps.old steps.new (length samples.now) (length samples.now) }
     {
         self.squares.put(samples, samples, steps);

@@ -19,7 +19,9 @@ fn add_products<T: MeasureSample, F: Fn(usize) -> (T, T), L: Ledger>(
 ) -> i64
     requires places { (n : ℕ) → n < count → F.pre at n }
     requires start { FitsSigned (accumulator T.format) start }
-    ensures sum { (x y : List ℤ) → length x ≡ count → ((n : ℕ) (s : _) → n < count → F.post at n s → (T.number s.0 ≡ sample x n) × (T.number s.1 ≡ sample y n)) → result ≡ with_products T.format start x y }
+    ensures sum { (x y : List ℤ) → length x ≡ count
+        → ((n : ℕ) (s : _) → n < count → F.post at n s → (T.number s.0 ≡ sample x n)
+        × (T.number s.1 ≡ sample y n)) → result ≡ with_products T.format start x y }
     ensures fits { FitsSigned (accumulator T.format) result }
     ensures steps { Rises steps.old steps.new count count }
 {
@@ -88,7 +90,8 @@ pub fn add_channels<T: MeasureSample, L: Ledger>(
     requires start { FitsSigned (accumulator T.format) start }
     ensures sum { result ≡ with_channels T.format start channels frames.now first second }
     ensures fits { FitsSigned (accumulator T.format) result }
-    ensures steps { Rises steps.old steps.new (length frames.now / channels) (length frames.now / channels) }
+    ensures steps { Rises steps.old steps.new (length frames.now / channels)
+        (length frames.now / channels) }
 {
     // Samples that stand one behind the other are taken in lanes.
     if channels == 1 {

@@ -45,7 +45,8 @@ pub fn result_of(
 ) -> Measure
     requires inside { index < parts_of measure channels }
     requires kept { (n : ℕ) × FitsAfter format channels (block_of measure) n kept.now }
-    ensures { Some result ≡ slice_get (kept_measures format channels number (block_of measure) kept.now) index }
+    ensures { Some result ≡ slice_get (kept_measures format channels number
+        (block_of measure) kept.now) index }
 {
     let channel = index as u8;
     match measure {

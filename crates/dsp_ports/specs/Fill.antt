@@ -1,5 +1,5 @@
 -- What is taken of an input for one block.
-use Rattle.std.specs.Prelude.{◌≡◌, ℕ, ◌<◌, ◌≤◌, List, length, take}
+use Rattle.std.specs.Prelude.{◌≡◌, ℕ, ◌+◌, ◌-◌, ◌<◌, ◌≤◌, ◌⊎◌, List, length, take}
 use Rattle.std.specs.Io.KnownBytes.{IsAtEnd}
 use Rattle.dsp_ports.specs.Ports.{SourceState, one_more, Gave}
 use Rattle.dsp_ports.specs.declared.filling.FillFault.{FillFault}
@@ -27,3 +27,16 @@ pub record Unfilled (old new : SourceState) (size room : ℕ) (fault : FillFault
   pub short : length bytes < size
   pub in_room : length bytes ≤ room
   pub cause : HasFillCause fault old new (length bytes) room
+
+-- so many bytes came by reads of a port, each of which asked for all that was still missing and gave something
+pub data Asked {S : Type 0} (Reads : S → ℕ → S → Type 0) (taken : S → ℕ) (want : ℕ) (start : S) : ℕ → S → Type 0 where
+  Begun : Asked Reads taken want start 0 start
+  Read : (came count : ℕ) (before after : S) → Asked Reads taken want start came before → Reads before (want - came) after
+      → 0 < count → taken after ≡ taken before + count → Asked Reads taken want start (came + count) after
+
+-- all was asked for at each read, and none came behind a read that gave nothing
+pub record AsksForAll {S : Type 0} (Reads : S → ℕ → S → Type 0) (taken : S → ℕ) (want : ℕ) (old new : S) : Type 0 where
+  pub came : ℕ
+  pub filling : S
+  pub asked : Asked Reads taken want old came filling
+  pub last : (new ≡ filling) ⊎ (Reads filling (want - came) new × (taken new ≡ taken filling))

@@ -24,7 +24,9 @@ impl<T: LaneSample<L> + WideSample, const L: usize> Model for DecimateChannel<T,
 
     ghost view = { λ c. channel_state T.format c.decimate };
 
-    ghost invariant = { λ c. (L ≡ lanes T.format) × (1 ≤ c.decimate.factor) × (c.decimate.factor ≤ 255) × (length c.decimate.past ≡ past_length c.decimate.factor (length c.decimate.taps)) };
+    ghost invariant = { λ c. (L ≡ lanes T.format) × (1 ≤ c.decimate.factor)
+        × (c.decimate.factor ≤ 255) × (length c.decimate.past ≡ past_length c.decimate.factor
+        (length c.decimate.taps)) };
 }
 
 impl<T: LaneSample<L> + WideSample, const L: usize> DecimateChannel<T, L> {
@@ -37,9 +39,13 @@ impl<T: LaneSample<L> + WideSample, const L: usize> DecimateChannel<T, L> {
     /// A decimator that has taken nothing; it is refused as `Decimate::new` refuses it.
     pub fn new(alloc: Global, factor: u8, taps: &[T], block: usize) -> Result<Self, MakeFault>
         requires { L ≡ lanes T.format }
-        ensures made { IfOk result (λ c. c ≡ channel_state T.format (new_decimate factor (map T.number taps.now) block)) }
-        ensures fresh { IfOk result (λ c. IsNewFilter (channel_state T.format (new_decimate factor (map T.number taps.now) block)).block T.format block c) }
-        ensures fault { MatchOption (decimate_fault factor (length taps.now) block) (IfErr result (λ e. e ≡ MakeFault.Memory)) (λ e. result ≡ Err e) }
+        ensures made { IfOk result (λ c.
+            c ≡ channel_state T.format (new_decimate factor (map T.number taps.now) block)) }
+        ensures fresh { IfOk result (λ c.
+            IsNewFilter (channel_state T.format
+            (new_decimate factor (map T.number taps.now) block)).block T.format block c) }
+        ensures fault { MatchOption (decimate_fault factor (length taps.now) block)
+            (IfErr result (λ e. e ≡ MakeFault.Memory)) (λ e. result ≡ Err e) }
     {
         match Decimate::new(alloc, factor, taps, block) {
             Ok(decimate) => Ok(DecimateChannel { decimate }),

@@ -27,9 +27,19 @@ impl<T: LaneSample<L> + WideSample, const L: usize> Model for Decimate<T, L> {
 
     ghost Value = { DecimateState };
 
-    ghost view = { λ d. record { factor = d.factor; taps = map T.number d.taps.items; past = last_samples d.window.past d.window.samples; phase = d.phase; block = d.window.room; ended = d.ended } };
+    ghost view = { λ d.
+        record {
+          factor = d.factor;
+          taps = map T.number d.taps.items;
+          past = last_samples d.window.past d.window.samples;
+          phase = d.phase;
+          block = d.window.room;
+          ended = d.ended;
+        } };
 
-    ghost invariant = { λ d. (d.window.past + 2 ≡ vec_len d.taps + d.factor) × (1 ≤ vec_len d.taps) × (vec_len d.taps ≤ MAX_TAPS) × (d.phase < d.factor) × (d.factor ≤ 255) × (d.window.room ≤ MAX_SAMPLES) × (d.window.past ≤ length d.window.samples) };
+    ghost invariant = { λ d. (d.window.past + 2 ≡ vec_len d.taps + d.factor) × (1 ≤ vec_len d.taps)
+        × (vec_len d.taps ≤ MAX_TAPS) × (d.phase < d.factor) × (d.factor ≤ 255)
+        × (d.window.room ≤ MAX_SAMPLES) × (d.window.past ≤ length d.window.samples) };
 }
 
 impl<T: LaneSample<L> + WideSample, const L: usize> Decimate<T, L> {
@@ -48,7 +58,8 @@ impl<T: LaneSample<L> + WideSample, const L: usize> Decimate<T, L> {
         ensures made { IfOk result (λ d. d ≡ new_decimate factor (map T.number taps.now) block) }
         ensures stands { IfOk result (λ d. StandsFor d []) }
         ensures factor { OnOk result (1 ≤ factor) }
-        ensures fault { MatchOption (decimate_fault factor (length taps.now) block) (IfErr result (λ e. e ≡ MakeFault.Memory)) (λ e. result ≡ Err e) }
+        ensures fault { MatchOption (decimate_fault factor (length taps.now) block)
+            (IfErr result (λ e. e ≡ MakeFault.Memory)) (λ e. result ≡ Err e) }
     {
         check_taps(taps.len())?;
         if factor == 0 {
@@ -94,9 +105,13 @@ impl<T: LaneSample<L> + WideSample, const L: usize> Decimate<T, L> {
         requires room { div_ceil (length input.now) self.old.factor ≤ length output.old }
         ensures given { result ≡ (self.old.phase + length input.now) / self.old.factor }
         ensures within { result ≤ div_ceil (length input.now) self.old.factor }
-        ensures values { (x : List ℤ) → StandsFor self.old x → Continues (decimate T.format self.old.factor self.old.taps) x (map T.number input.now) (map T.number (take result output.new)) }
-        ensures stands { (x : List ℤ) → StandsFor self.old x → StandsFor self.new (x ++ map T.number input.now) }
-        ensures count { (n : ℕ) → CountsFor self.old n → n / self.old.factor + result ≡ (n + length input.now) / self.old.factor }
+        ensures values { (x : List ℤ) → StandsFor self.old x
+            → Continues (decimate T.format self.old.factor self.old.taps) x (map T.number input.now)
+            (map T.number (take result output.new)) }
+        ensures stands { (x : List ℤ) → StandsFor self.old x
+            → StandsFor self.new (x ++ map T.number input.now) }
+        ensures count { (n : ℕ) → CountsFor self.old n
+            → n / self.old.factor + result ≡ (n + length input.now) / self.old.factor }
         ensures counts { (n : ℕ) → CountsFor self.old n → CountsFor self.new (n + length input.now) }
         ensures same { self.new ≡ record self.old { past = self.new.past; phase = self.new.phase } }
         ensures kept { length self.new.past ≡ length self.old.past }
@@ -177,7 +192,8 @@ impl<T: LaneSample<L> + WideSample, const L: usize> Decimate<T, L> {
         requires fits { Fits T.format self.old numbers.now }
         ensures kept { kept self.new ≡ numbers.now }
         ensures count { length self.new.past ≡ length self.old.past }
-        ensures stands { (x : List ℤ) → numbers.now ≡ kept_of T.format self.old.factor self.old.taps x → StandsFor self.new x }
+        ensures stands { (x : List ℤ) → numbers.now
+            ≡ kept_of T.format self.old.factor self.old.taps x → StandsFor self.new x }
         ensures same { self.new ≡ record self.old { past = self.new.past; phase = self.new.phase } }
     {
         let last = numbers.len() - 1;

@@ -26,9 +26,17 @@ impl<T: LaneSample<L> + WideSample, const L: usize> Model for Interpolate<T, L> 
 
     ghost Value = { InterpolateState };
 
-    ghost view = { λ f. record { factor = f.factor; taps = unsorted f.factor (map T.number f.phases.items); past = last_samples f.window.past f.window.samples; block = f.window.room; ended = f.ended } };
+    ghost view = { λ f.
+        record {
+          factor = f.factor;
+          taps = unsorted f.factor (map T.number f.phases.items);
+          past = last_samples f.window.past f.window.samples;
+          block = f.window.room;
+          ended = f.ended;
+        } };
 
-    ghost invariant = { λ f. (vec_len f.row ≡ f.window.room) × IsPhased f.factor (map T.number f.phases.items) f.window };
+    ghost invariant = { λ f. (vec_len f.row ≡ f.window.room)
+        × IsPhased f.factor (map T.number f.phases.items) f.window };
 }
 
 impl<T: LaneSample<L> + WideSample, const L: usize> Interpolate<T, L> {
@@ -47,7 +55,8 @@ impl<T: LaneSample<L> + WideSample, const L: usize> Interpolate<T, L> {
         ensures made { IfOk result (λ f. f ≡ new_interpolate factor (map T.number taps.now) block) }
         ensures stands { IfOk result (λ f. StandsFor f []) }
         ensures factor { OnOk result (1 ≤ factor) }
-        ensures fault { MatchOption (interpolate_fault factor (length taps.now) block) (IfErr result (λ e. e ≡ MakeFault.Memory)) (λ e. result ≡ Err e) }
+        ensures fault { MatchOption (interpolate_fault factor (length taps.now) block)
+            (IfErr result (λ e. e ≡ MakeFault.Memory)) (λ e. result ≡ Err e) }
     {
         check_multiple(taps.len(), usize::from(factor).max(1), MAX_TAPS)?;
         if factor == 0 {
@@ -93,13 +102,18 @@ impl<T: LaneSample<L> + WideSample, const L: usize> Interpolate<T, L> {
         requires block { length input.now ≤ self.old.block }
         requires room { length input.now * self.old.factor ≤ length output.old }
         ensures given { result ≡ length input.now * self.old.factor }
-        ensures values { (x : List ℤ) → StandsFor self.old x → Continues (interpolate T.format self.old.factor self.old.taps) x (map T.number input.now) (map T.number (take result output.new)) }
-        ensures stands { (x : List ℤ) → StandsFor self.old x → StandsFor self.new (x ++ map T.number input.now) }
+        ensures values { (x : List ℤ) → StandsFor self.old x
+            → Continues (interpolate T.format self.old.factor self.old.taps) x
+            (map T.number input.now) (map T.number (take result output.new)) }
+        ensures stands { (x : List ℤ) → StandsFor self.old x
+            → StandsFor self.new (x ++ map T.number input.now) }
         ensures same { self.new ≡ record self.old { past = self.new.past } }
         ensures kept { length self.new.past ≡ length self.old.past }
         ensures rest { drop result output.new ≡ drop result output.old }
-        ensures multiplies { steps.new.multiplies ≡ steps.old.multiplies + length input.now * length self.old.taps }
-        ensures turns { steps.new.turns ≤ steps.old.turns + length self.old.taps * lane_turns L (length input.now) }
+        ensures multiplies { steps.new.multiplies
+            ≡ steps.old.multiplies + length input.now * length self.old.taps }
+        ensures turns { steps.new.turns ≤ steps.old.turns + length self.old.taps * lane_turns L
+            (length input.now) }
     {
         let count = input.len() * self.factor;
         self.window.push_block(input);
@@ -154,7 +168,8 @@ impl<T: LaneSample<L> + WideSample, const L: usize> Interpolate<T, L> {
     /// Whether these can be the kept numbers of an interpolator: as many, and each in the range of the
     /// format.
     pub fn fits(&self, numbers: &[i64]) -> bool
-        ensures { IsTrue result ↔ (length numbers.now ≡ length self.now.past) × All (FitsSigned (word T.format)) numbers.now }
+        ensures { IsTrue result ↔ (length numbers.now ≡ length self.now.past)
+            × All (FitsSigned (word T.format)) numbers.now }
     {
         self.window.fits(numbers)
     }

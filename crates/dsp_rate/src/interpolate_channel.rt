@@ -23,7 +23,9 @@ impl<T: LaneSample<L> + WideSample, const L: usize> Model for InterpolateChannel
 
     ghost view = { λ c. interpolate_channel T.format c.interpolate };
 
-    ghost invariant = { λ c. (L ≡ lanes T.format) × (length c.interpolate.past ≡ past_length c.interpolate.factor (length c.interpolate.taps)) };
+    ghost invariant = { λ c. (L ≡ lanes T.format)
+        × (length c.interpolate.past ≡ past_length c.interpolate.factor
+        (length c.interpolate.taps)) };
 }
 
 impl<T: LaneSample<L> + WideSample, const L: usize> Filter<T> for InterpolateChannel<T, L> {

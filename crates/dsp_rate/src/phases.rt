@@ -32,8 +32,10 @@ pub(crate) fn sort_by_phase<T: Sample>(
 pub(crate) fn write_phase<T: Sample>(row: &[T], factor: usize, phase: usize, out: &mut [T])
     requires phase { phase < factor }
     requires room { length out.old ≡ length row.now * factor }
-    ensures written { (i : ℕ) → i < length row.now → sample (map T.number out.new) (i * factor + phase) ≡ sample (map T.number row.now) i }
-    ensures others { (k : ℕ) → k % factor ≢ phase → sample (map T.number out.new) k ≡ sample (map T.number out.old) k }
+    ensures written { (i : ℕ) → i < length row.now
+        → sample (map T.number out.new) (i * factor + phase) ≡ sample (map T.number row.now) i }
+    ensures others { (k : ℕ) → k % factor ≢ phase
+        → sample (map T.number out.new) k ≡ sample (map T.number out.old) k }
 {
     for (i, value) in row.iter().enumerate() {
         out[i * factor + phase] = *value;
@@ -56,8 +58,10 @@ pub(crate) fn phase_rows<T: LaneSample<L>, const L: usize, M: Ledger>(
     requires window { length window.now + 1 ≡ n + length phases.now / factor }
     requires row { n ≤ length row.old }
     requires room { length out.old ≡ n * factor }
-    ensures out { map T.number out.new ≡ phase_rows T.format factor (map T.number phases.now) (map T.number window.now) (length out.old) }
-    ensures steps { RisesWithin steps.old steps.new (n * length phases.now) (length phases.now * lane_turns L n) }
+    ensures out { map T.number out.new ≡ phase_rows T.format factor (map T.number phases.now)
+        (map T.number window.now) (length out.old) }
+    ensures steps { RisesWithin steps.old steps.new (n * length phases.now)
+        (length phases.now * lane_turns L n) }
 {
     let count = phases.len() / factor;
     let row = &mut row[..n];

@@ -38,7 +38,8 @@ fn decimate_in_format(
     requires channels { 1 ≤ channels }
     requires frames { 1 ≤ frames }
     requires samples { frames * channels ≤ MAX_SAMPLES }
-    ensures { IfOk result (λ u. IsNew block.now format channels frames (⟦<DecimateInFormat as Stage>⟧.unit u)) }
+    ensures { IfOk result (λ u.
+        IsNew block.now format channels frames (⟦<DecimateInFormat as Stage>⟧.unit u)) }
 {
     match format {
         Fmt::Q7 => unreachable!(),
@@ -60,7 +61,8 @@ fn interpolate_in_format(
     requires channels { 1 ≤ channels }
     requires frames { 1 ≤ frames }
     requires samples { frames * channels ≤ MAX_SAMPLES }
-    ensures { IfOk result (λ u. IsNew block.now format channels frames (⟦<InterpolateInFormat as Stage>⟧.unit u)) }
+    ensures { IfOk result (λ u.
+        IsNew block.now format channels frames (⟦<InterpolateInFormat as Stage>⟧.unit u)) }
 {
     match format {
         Fmt::Q7 => unreachable!(),

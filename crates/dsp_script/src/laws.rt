@@ -16,13 +16,15 @@ pub fn one_reading()
 {}
 
 /// The canonical text of a sound script is read back as that script, where it has at most
-/// 1,048,576 bytes.
+/// `MAX_SCRIPT` bytes.
 pub fn canonical_text_is_read_back()
     ensures { (s : Script) → IsSound s → length (canon s) ≤ MAX_SCRIPT → Reads (canon s) s }
 {}
 
 /// A text without its tables, with the numbers of a table in braces wherever a block names it, reads
-/// as the same script, where it has at most 1,048,576 bytes.
+/// as the same script, where it has at most `MAX_SCRIPT` bytes.
 pub fn tables_are_their_numbers()
-    ensures { (text plain : List ℕ) (s : Script) (reads : Reads text s) → tokens (items plain) ≡ plain_tokens reads.tables (items text) s → length plain ≤ MAX_SCRIPT → Reads plain s }
+    ensures { (text plain : List ℕ) (s : Script) (reads : Reads text s)
+        → tokens (items plain) ≡ plain_tokens reads.tables (items text) s
+        → length plain ≤ MAX_SCRIPT → Reads plain s }
 {}

@@ -181,7 +181,8 @@ fn whole_unit(script: &Script) -> Option<u64>
     requires { IsSound script.now }
     ensures found { IfSome result (λ unit. unit ≡ whole_unit script.now.blocks) }
     ensures range { IfSome result (λ unit. (1 ≤ unit) × (unit ≤ MAX_BLOCK_LENGTH)) }
-    ensures none { IfNone result ((length : ℕ) → is_legal script.now.input.channels script.now.blocks length ≡ false) }
+    ensures none { IfNone result ((length : ℕ)
+        → is_legal script.now.input.channels script.now.blocks length ≡ false) }
 {
     let mut pace = Pace::new();
     for block in script.blocks.as_slice() {
@@ -236,7 +237,7 @@ pub fn unit(script: &Script) -> u64
 }
 
 /// A run may take blocks of so many frames: 1 to 65,536, a multiple of the unit, and at most
-/// 1,048,576 samples at each place of the chain.
+/// `MAX_SAMPLES` samples at each place of the chain.
 pub fn legal(script: &Script, block: u64) -> bool
     requires { IsSound script.now }
     ensures { result ≡ is_legal script.now.input.channels script.now.blocks block }

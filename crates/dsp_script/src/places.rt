@@ -175,7 +175,8 @@ fn open<'t>(
     cursor: &mut Cursor<'_>,
     rule: ListRule,
 ) -> Result<Option<&'t [i32]>, ScriptFault>
-    ensures { Gives (λ n. (option_map (λ s. s.now) n, cursor.new)) result (open_at lists.now.tables rule cursor.old) }
+    ensures { Gives (λ n. (option_map (λ s. s.now) n, cursor.new)) result
+        (open_at lists.now.tables rule cursor.old) }
 {
     let item = cursor.token()?;
     match (item.token, &lists.tables) {
@@ -282,7 +283,8 @@ pub fn next_block(
 
 /// The numbers of a list up to its end.
 fn entries(alloc: Global, cursor: &mut Cursor<'_>, rule: ListRule) -> Result<List, ParseFault>
-    ensures { GivesUnlessMemory (λ l. (l, cursor.new)) result (entries_at rule 0 cursor.old.end cursor.old.items) }
+    ensures { GivesUnlessMemory (λ l. (l, cursor.new)) result
+        (entries_at rule 0 cursor.old.end cursor.old.items) }
 {
     let mut numbers = List::new(alloc);
     let mut count = 0;

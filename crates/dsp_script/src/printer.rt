@@ -15,7 +15,8 @@ use std::fmt::Write;
 
 /// Each number, behind a space.
 fn spaced(out: &mut String, numbers: &[i32]) -> Result<(), AllocError>
-    ensures { OnOk result (string_bytes out.new ≡ string_bytes out.old ++ flat_map (λ n. codes " " ++ signed_decimal n) numbers.now) }
+    ensures { OnOk result (string_bytes out.new ≡ string_bytes out.old ++ flat_map
+        (λ n. codes " " ++ signed_decimal n) numbers.now) }
 {
     for number in numbers {
         write!(out, " {number}")?;
@@ -25,7 +26,8 @@ fn spaced(out: &mut String, numbers: &[i32]) -> Result<(), AllocError>
 
 /// Numbers with a space between them.
 fn joined(out: &mut String, numbers: &[i32]) -> Result<(), AllocError>
-    ensures { OnOk result (string_bytes out.new ≡ string_bytes out.old ++ join_by signed_decimal (codes " ") numbers.now) }
+    ensures { OnOk result (string_bytes out.new ≡ string_bytes out.old ++ join_by signed_decimal
+        (codes " ") numbers.now) }
 {
     let Some((first, others)) = numbers.split_first() else {
         return Ok(());
@@ -37,7 +39,8 @@ fn joined(out: &mut String, numbers: &[i32]) -> Result<(), AllocError>
 
 /// Numbers in braces.
 fn braced(out: &mut String, numbers: &[i32]) -> Result<(), AllocError>
-    ensures { OnOk result (string_bytes out.new ≡ string_bytes out.old ++ argument_text (Listed numbers.now)) }
+    ensures { OnOk result (string_bytes out.new ≡ string_bytes out.old ++ argument_text
+        (Listed numbers.now)) }
 {
     out.push_str("{")?;
     joined(out, numbers)?;
@@ -55,7 +58,8 @@ fn number(out: &mut String, n: i64) -> Result<(), AllocError>
 
 /// Two numbers as arguments.
 fn pair(out: &mut String, first: i64, second: i64) -> Result<(), AllocError>
-    ensures { OnOk result (string_bytes out.new ≡ string_bytes out.old ++ arguments_text (Number first ∷ Number second ∷ [])) }
+    ensures { OnOk result (string_bytes out.new ≡ string_bytes out.old ++ arguments_text
+        (Number first ∷ Number second ∷ [])) }
 {
     write!(out, " {first} {second}")?;
     Ok(())
@@ -63,7 +67,8 @@ fn pair(out: &mut String, first: i64, second: i64) -> Result<(), AllocError>
 
 /// Three numbers as arguments.
 fn triple(out: &mut String, first: i64, second: i64, third: i64) -> Result<(), AllocError>
-    ensures { OnOk result (string_bytes out.new ≡ string_bytes out.old ++ arguments_text (Number first ∷ Number second ∷ Number third ∷ [])) }
+    ensures { OnOk result (string_bytes out.new ≡ string_bytes out.old ++ arguments_text
+        (Number first ∷ Number second ∷ Number third ∷ [])) }
 {
     number(out, first)?;
     pair(out, second, third)
@@ -77,7 +82,8 @@ fn quadruple(
     third: i64,
     fourth: i64,
 ) -> Result<(), AllocError>
-    ensures { OnOk result (string_bytes out.new ≡ string_bytes out.old ++ arguments_text (Number first ∷ Number second ∷ Number third ∷ Number fourth ∷ [])) }
+    ensures { OnOk result (string_bytes out.new ≡ string_bytes out.old ++ arguments_text
+        (Number first ∷ Number second ∷ Number third ∷ Number fourth ∷ [])) }
 {
     write!(out, " {first} {second} {third} {fourth}")?;
     Ok(())
@@ -85,7 +91,8 @@ fn quadruple(
 
 /// A format as an argument.
 fn format(out: &mut String, format: Fmt) -> Result<(), AllocError>
-    ensures { OnOk result (string_bytes out.new ≡ string_bytes out.old ++ arguments_text (Format format ∷ [])) }
+    ensures { OnOk result (string_bytes out.new ≡ string_bytes out.old ++ arguments_text
+        (Format format ∷ [])) }
 {
     out.push_str(" ")?;
     out.push_str(table::format_name(format))?;
@@ -94,7 +101,8 @@ fn format(out: &mut String, format: Fmt) -> Result<(), AllocError>
 
 /// A list as an argument.
 fn list(out: &mut String, numbers: &List) -> Result<(), AllocError>
-    ensures { OnOk result (string_bytes out.new ≡ string_bytes out.old ++ arguments_text (Listed numbers.now ∷ [])) }
+    ensures { OnOk result (string_bytes out.new ≡ string_bytes out.old ++ arguments_text
+        (Listed numbers.now ∷ [])) }
 {
     out.push_str(" ")?;
     braced(out, numbers.as_slice())
@@ -102,7 +110,8 @@ fn list(out: &mut String, numbers: &List) -> Result<(), AllocError>
 
 /// Two lists as arguments.
 fn lists(out: &mut String, first: &List, second: &List) -> Result<(), AllocError>
-    ensures { OnOk result (string_bytes out.new ≡ string_bytes out.old ++ arguments_text (Listed first.now ∷ Listed second.now ∷ [])) }
+    ensures { OnOk result (string_bytes out.new ≡ string_bytes out.old ++ arguments_text
+        (Listed first.now ∷ Listed second.now ∷ [])) }
 {
     list(out, first)?;
     list(out, second)
@@ -110,7 +119,8 @@ fn lists(out: &mut String, first: &List, second: &List) -> Result<(), AllocError
 
 /// A number and a list as arguments.
 fn number_and_list(out: &mut String, n: u8, numbers: &List) -> Result<(), AllocError>
-    ensures { OnOk result (string_bytes out.new ≡ string_bytes out.old ++ arguments_text (Number (pos n) ∷ Listed numbers.now ∷ [])) }
+    ensures { OnOk result (string_bytes out.new ≡ string_bytes out.old ++ arguments_text
+        (Number (pos n) ∷ Listed numbers.now ∷ [])) }
 {
     number(out, i64::from(n))?;
     list(out, numbers)
@@ -123,7 +133,8 @@ fn pair_and_list(
     second: i64,
     numbers: &List,
 ) -> Result<(), AllocError>
-    ensures { OnOk result (string_bytes out.new ≡ string_bytes out.old ++ arguments_text (Number first ∷ Number second ∷ Listed numbers.now ∷ [])) }
+    ensures { OnOk result (string_bytes out.new ≡ string_bytes out.old ++ arguments_text
+        (Number first ∷ Number second ∷ Listed numbers.now ∷ [])) }
 {
     pair(out, first, second)?;
     list(out, numbers)
@@ -131,14 +142,16 @@ fn pair_and_list(
 
 /// The sides of a matrix, and the matrix.
 fn matrix(out: &mut String, rows: u8, columns: u8, matrix: &List) -> Result<(), AllocError>
-    ensures { OnOk result (string_bytes out.new ≡ string_bytes out.old ++ arguments_text (Number (pos rows) ∷ Number (pos columns) ∷ Listed matrix.now ∷ [])) }
+    ensures { OnOk result (string_bytes out.new ≡ string_bytes out.old ++ arguments_text
+        (Number (pos rows) ∷ Number (pos columns) ∷ Listed matrix.now ∷ [])) }
 {
     pair_and_list(out, i64::from(rows), i64::from(columns), matrix)
 }
 
 /// The arguments of a block.
 fn arguments(out: &mut String, block: &Block) -> Result<(), AllocError>
-    ensures { OnOk result (string_bytes out.new ≡ string_bytes out.old ++ arguments_text (arguments block.now)) }
+    ensures { OnOk result (string_bytes out.new ≡ string_bytes out.old ++ arguments_text
+        (arguments block.now)) }
 {
     match block {
         Block::Offset { value } => number(out, i64::from(*value)),

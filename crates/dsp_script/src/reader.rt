@@ -28,7 +28,8 @@ fn block(
     word: Word,
     flow: Flow,
 ) -> Result<Block, ParseFault>
-    ensures { GivesUnlessMemory (λ b. (b, cursor.new)) result (block_at lists.now.tables (parameters word flow) cursor.old) }
+    ensures { GivesUnlessMemory (λ b. (b, cursor.new)) result
+        (block_at lists.now.tables (parameters word flow) cursor.old) }
 {
     match word {
         Word::Offset => Ok(rows::offset(cursor, flow)?),
@@ -85,7 +86,8 @@ fn blocks(
     cursor: &mut Cursor<'_>,
     input: Input,
 ) -> Result<Blocks, ParseFault>
-    ensures { GivesUnlessMemory (λ b. (b, cursor.new)) result (blocks_at lists.now.tables MAX_BLOCKS false (input_flow input) cursor.old) }
+    ensures { GivesUnlessMemory (λ b. (b, cursor.new)) result
+        (blocks_at lists.now.tables MAX_BLOCKS false (input_flow input) cursor.old) }
 {
     let mut blocks = Blocks::new(lists.alloc);
     let mut left = MAX_BLOCKS;
@@ -183,7 +185,7 @@ fn read(alloc: Global, text: &[u8]) -> Result<Script, ParseFault>
 
 /// The script that a text of any bytes reads as, in version 1 or 2 of the language, or the text's first
 /// fault: the first token, or the end, that can't stand after the tokens before it, with its
-/// offset in bytes. A text of more than 1,048,576 bytes is too long before all else. Want of memory
+/// offset in bytes. A text of more than `MAX_SCRIPT` bytes is too long before all else. Want of memory
 /// is `ParseFault::Memory`, and no fault of the text.
 pub fn parse(alloc: Global, text: &[u8]) -> Result<Script, ParseFault>
     ensures reads { IfOk result (Reads text.now) }
@@ -191,7 +193,8 @@ pub fn parse(alloc: Global, text: &[u8]) -> Result<Script, ParseFault>
 
     // A text is answered by its script, or by its first fault, unless memory runs out.
     ensures read { (s : Script) → Reads text.now s → GivesUnlessMemory (λ s. s) result (Ok s) }
-    ensures faulty { (f : ScriptFault) → first_fault text.now ≡ Some f → GivesUnlessMemory (λ s. s) result (Err f) }
+    ensures faulty { (f : ScriptFault) → first_fault text.now ≡ Some f
+        → GivesUnlessMemory (λ s. s) result (Err f) }
 {
     read(alloc, text)
 }

@@ -15,7 +15,8 @@ use dsp_defs::{Block, Flow, ScriptFault, Word};
 
 /// `offset VALUE`
 pub fn offset(cursor: &mut Cursor<'_>, flow: Flow) -> Result<Block, ScriptFault>
-    ensures { (tables : Environment) → Gives (λ b. (b, cursor.new)) result (block_at tables (parameters Word.Offset flow) cursor.old) }
+    ensures { (tables : Environment) → Gives (λ b. (b, cursor.new)) result
+        (block_at tables (parameters Word.Offset flow) cursor.old) }
 {
     let value = coefficient(cursor, flow.format)?;
     Ok(Block::Offset { value })
@@ -23,7 +24,8 @@ pub fn offset(cursor: &mut Cursor<'_>, flow: Flow) -> Result<Block, ScriptFault>
 
 /// `scale FRACT SHIFT`
 pub fn scale(cursor: &mut Cursor<'_>, flow: Flow) -> Result<Block, ScriptFault>
-    ensures { (tables : Environment) → Gives (λ b. (b, cursor.new)) result (block_at tables (parameters Word.Scale flow) cursor.old) }
+    ensures { (tables : Environment) → Gives (λ b. (b, cursor.new)) result
+        (block_at tables (parameters Word.Scale flow) cursor.old) }
 {
     let fract = coefficient(cursor, flow.format)?;
     let least = rules::least_scale(flow.format);
@@ -34,7 +36,8 @@ pub fn scale(cursor: &mut Cursor<'_>, flow: Flow) -> Result<Block, ScriptFault>
 
 /// `shift SHIFT`
 pub fn shift(cursor: &mut Cursor<'_>, flow: Flow) -> Result<Block, ScriptFault>
-    ensures { (tables : Environment) → Gives (λ b. (b, cursor.new)) result (block_at tables (parameters Word.Shift flow) cursor.old) }
+    ensures { (tables : Environment) → Gives (λ b. (b, cursor.new)) result
+        (block_at tables (parameters Word.Shift flow) cursor.old) }
 {
     let least = rules::least_shift(flow.format);
     let greatest = rules::greatest_shift(flow.format);
@@ -44,7 +47,8 @@ pub fn shift(cursor: &mut Cursor<'_>, flow: Flow) -> Result<Block, ScriptFault>
 
 /// `clip LOW HIGH`
 pub fn clip(cursor: &mut Cursor<'_>, flow: Flow) -> Result<Block, ScriptFault>
-    ensures { (tables : Environment) → Gives (λ b. (b, cursor.new)) result (block_at tables (parameters Word.Clip flow) cursor.old) }
+    ensures { (tables : Environment) → Gives (λ b. (b, cursor.new)) result
+        (block_at tables (parameters Word.Clip flow) cursor.old) }
 {
     let low = coefficient(cursor, flow.format)?;
     let high = integer(cursor, low, rules::greatest(flow.format))?;
@@ -53,7 +57,8 @@ pub fn clip(cursor: &mut Cursor<'_>, flow: Flow) -> Result<Block, ScriptFault>
 
 /// `to FORMAT`
 pub fn to(cursor: &mut Cursor<'_>, flow: Flow) -> Result<Block, ScriptFault>
-    ensures { (tables : Environment) → Gives (λ b. (b, cursor.new)) result (block_at tables (parameters Word.To flow) cursor.old) }
+    ensures { (tables : Environment) → Gives (λ b. (b, cursor.new)) result
+        (block_at tables (parameters Word.To flow) cursor.old) }
 {
     let format = conversion(cursor, flow.format)?;
     Ok(Block::To { format })
@@ -61,7 +66,8 @@ pub fn to(cursor: &mut Cursor<'_>, flow: Flow) -> Result<Block, ScriptFault>
 
 /// `fir {TAPS}`
 pub fn fir(lists: &ListSource<'_>, cursor: &mut Cursor<'_>, flow: Flow) -> Result<Block, ParseFault>
-    ensures { GivesUnlessMemory (λ b. (b, cursor.new)) result (block_at lists.now.tables (parameters Word.Fir flow) cursor.old) }
+    ensures { GivesUnlessMemory (λ b. (b, cursor.new)) result
+        (block_at lists.now.tables (parameters Word.Fir flow) cursor.old) }
 {
     let taps = list(lists, cursor, rules::taps(flow, 1))?;
     Ok(Block::Fir { taps })
@@ -73,7 +79,8 @@ pub fn sparse(
     cursor: &mut Cursor<'_>,
     flow: Flow,
 ) -> Result<Block, ParseFault>
-    ensures { GivesUnlessMemory (λ b. (b, cursor.new)) result (block_at lists.now.tables (parameters Word.Sparse flow) cursor.old) }
+    ensures { GivesUnlessMemory (λ b. (b, cursor.new)) result
+        (block_at lists.now.tables (parameters Word.Sparse flow) cursor.old) }
 {
     let taps = list(lists, cursor, rules::sparse_taps(flow))?;
     let count = taps.as_slice().len() as u64;
@@ -87,7 +94,8 @@ pub fn decimate(
     cursor: &mut Cursor<'_>,
     flow: Flow,
 ) -> Result<Block, ParseFault>
-    ensures { GivesUnlessMemory (λ b. (b, cursor.new)) result (block_at lists.now.tables (parameters Word.Decimate flow) cursor.old) }
+    ensures { GivesUnlessMemory (λ b. (b, cursor.new)) result
+        (block_at lists.now.tables (parameters Word.Decimate flow) cursor.old) }
 {
     let factor = factor(cursor)?;
     let taps = list(lists, cursor, rules::taps(flow, 1))?;
@@ -100,7 +108,8 @@ pub fn interpolate(
     cursor: &mut Cursor<'_>,
     flow: Flow,
 ) -> Result<Block, ParseFault>
-    ensures { GivesUnlessMemory (λ b. (b, cursor.new)) result (block_at lists.now.tables (parameters Word.Interpolate flow) cursor.old) }
+    ensures { GivesUnlessMemory (λ b. (b, cursor.new)) result
+        (block_at lists.now.tables (parameters Word.Interpolate flow) cursor.old) }
 {
     let factor = factor(cursor)?;
     let taps = list(lists, cursor, rules::taps(flow, u64::from(factor)))?;
@@ -113,7 +122,8 @@ pub fn lattice_fir(
     cursor: &mut Cursor<'_>,
     flow: Flow,
 ) -> Result<Block, ParseFault>
-    ensures { GivesUnlessMemory (λ b. (b, cursor.new)) result (block_at lists.now.tables (parameters Word.LatticeFir flow) cursor.old) }
+    ensures { GivesUnlessMemory (λ b. (b, cursor.new)) result
+        (block_at lists.now.tables (parameters Word.LatticeFir flow) cursor.old) }
 {
     let k = list(lists, cursor, rules::reflections(flow))?;
     Ok(Block::LatticeFir { k })
@@ -125,7 +135,8 @@ pub fn lattice_iir(
     cursor: &mut Cursor<'_>,
     flow: Flow,
 ) -> Result<Block, ParseFault>
-    ensures { GivesUnlessMemory (λ b. (b, cursor.new)) result (block_at lists.now.tables (parameters Word.LatticeIir flow) cursor.old) }
+    ensures { GivesUnlessMemory (λ b. (b, cursor.new)) result
+        (block_at lists.now.tables (parameters Word.LatticeIir flow) cursor.old) }
 {
     let k = list(lists, cursor, rules::reflections(flow))?;
     let count = k.as_slice().len() as u64 + 1;
@@ -139,7 +150,8 @@ pub fn biquad(
     cursor: &mut Cursor<'_>,
     flow: Flow,
 ) -> Result<Block, ParseFault>
-    ensures { GivesUnlessMemory (λ b. (b, cursor.new)) result (block_at lists.now.tables (parameters Word.Biquad flow) cursor.old) }
+    ensures { GivesUnlessMemory (λ b. (b, cursor.new)) result
+        (block_at lists.now.tables (parameters Word.Biquad flow) cursor.old) }
 {
     let post_shift = byte(cursor, 0, rules::greatest_biquad_shift(flow.format))?;
     let coefficients = list(lists, cursor, rules::sections(flow))?;
@@ -155,7 +167,8 @@ pub fn biquad64(
     cursor: &mut Cursor<'_>,
     flow: Flow,
 ) -> Result<Block, ParseFault>
-    ensures { GivesUnlessMemory (λ b. (b, cursor.new)) result (block_at lists.now.tables (parameters Word.Biquad64 flow) cursor.old) }
+    ensures { GivesUnlessMemory (λ b. (b, cursor.new)) result
+        (block_at lists.now.tables (parameters Word.Biquad64 flow) cursor.old) }
 {
     let post_shift = byte(cursor, 0, 30)?;
     let coefficients = list(lists, cursor, rules::sections(flow))?;
@@ -171,7 +184,8 @@ pub fn conv(
     cursor: &mut Cursor<'_>,
     flow: Flow,
 ) -> Result<Block, ParseFault>
-    ensures { GivesUnlessMemory (λ b. (b, cursor.new)) result (block_at lists.now.tables (parameters Word.Conv flow) cursor.old) }
+    ensures { GivesUnlessMemory (λ b. (b, cursor.new)) result
+        (block_at lists.now.tables (parameters Word.Conv flow) cursor.old) }
 {
     let taps = list(lists, cursor, rules::taps(flow, 1))?;
     Ok(Block::Conv { taps })
@@ -183,7 +197,8 @@ pub fn conv_partial(
     cursor: &mut Cursor<'_>,
     flow: Flow,
 ) -> Result<Block, ParseFault>
-    ensures { GivesUnlessMemory (λ b. (b, cursor.new)) result (block_at lists.now.tables (parameters Word.ConvPartial flow) cursor.old) }
+    ensures { GivesUnlessMemory (λ b. (b, cursor.new)) result
+        (block_at lists.now.tables (parameters Word.ConvPartial flow) cursor.old) }
 {
     let first = natural(cursor, 0, u32::MAX)?;
     let count = natural(cursor, 1, u32::MAX)?;
@@ -197,7 +212,8 @@ pub fn correlate(
     cursor: &mut Cursor<'_>,
     flow: Flow,
 ) -> Result<Block, ParseFault>
-    ensures { GivesUnlessMemory (λ b. (b, cursor.new)) result (block_at lists.now.tables (parameters Word.Correlate flow) cursor.old) }
+    ensures { GivesUnlessMemory (λ b. (b, cursor.new)) result
+        (block_at lists.now.tables (parameters Word.Correlate flow) cursor.old) }
 {
     let taps = list(lists, cursor, rules::taps(flow, 1))?;
     Ok(Block::Correlate { taps })
@@ -205,7 +221,8 @@ pub fn correlate(
 
 /// `lms POST_SHIFT MU {TAPS}`
 pub fn lms(lists: &ListSource<'_>, cursor: &mut Cursor<'_>, flow: Flow) -> Result<Block, ParseFault>
-    ensures { GivesUnlessMemory (λ b. (b, cursor.new)) result (block_at lists.now.tables (parameters Word.Lms flow) cursor.old) }
+    ensures { GivesUnlessMemory (λ b. (b, cursor.new)) result
+        (block_at lists.now.tables (parameters Word.Lms flow) cursor.old) }
 {
     let post_shift = byte(cursor, 0, rules::greatest_lms_shift(flow.format))?;
     let mu = coefficient(cursor, flow.format)?;
@@ -219,7 +236,8 @@ pub fn lms(lists: &ListSource<'_>, cursor: &mut Cursor<'_>, flow: Flow) -> Resul
 
 /// `pid KP KI KD`
 pub fn pid(cursor: &mut Cursor<'_>, flow: Flow) -> Result<Block, ScriptFault>
-    ensures { (tables : Environment) → Gives (λ b. (b, cursor.new)) result (block_at tables (parameters Word.Pid flow) cursor.old) }
+    ensures { (tables : Environment) → Gives (λ b. (b, cursor.new)) result
+        (block_at tables (parameters Word.Pid flow) cursor.old) }
 {
     let kp = coefficient(cursor, flow.format)?;
     let ki = coefficient(cursor, flow.format)?;
@@ -233,7 +251,8 @@ pub fn mat_add(
     cursor: &mut Cursor<'_>,
     flow: Flow,
 ) -> Result<Block, ParseFault>
-    ensures { GivesUnlessMemory (λ b. (b, cursor.new)) result (block_at lists.now.tables (parameters Word.MatAdd flow) cursor.old) }
+    ensures { GivesUnlessMemory (λ b. (b, cursor.new)) result
+        (block_at lists.now.tables (parameters Word.MatAdd flow) cursor.old) }
 {
     let rows = side(cursor)?;
     let columns = side(cursor)?;
@@ -252,7 +271,8 @@ pub fn mat_sub(
     cursor: &mut Cursor<'_>,
     flow: Flow,
 ) -> Result<Block, ParseFault>
-    ensures { GivesUnlessMemory (λ b. (b, cursor.new)) result (block_at lists.now.tables (parameters Word.MatSub flow) cursor.old) }
+    ensures { GivesUnlessMemory (λ b. (b, cursor.new)) result
+        (block_at lists.now.tables (parameters Word.MatSub flow) cursor.old) }
 {
     let rows = side(cursor)?;
     let columns = side(cursor)?;
@@ -267,7 +287,8 @@ pub fn mat_sub(
 
 /// `mat_scale ROWS COLUMNS FRACT SHIFT`
 pub fn mat_scale(cursor: &mut Cursor<'_>, flow: Flow) -> Result<Block, ScriptFault>
-    ensures { (tables : Environment) → Gives (λ b. (b, cursor.new)) result (block_at tables (parameters Word.MatScale flow) cursor.old) }
+    ensures { (tables : Environment) → Gives (λ b. (b, cursor.new)) result
+        (block_at tables (parameters Word.MatScale flow) cursor.old) }
 {
     let rows = side(cursor)?;
     let columns = side(cursor)?;
@@ -285,7 +306,8 @@ pub fn mat_scale(cursor: &mut Cursor<'_>, flow: Flow) -> Result<Block, ScriptFau
 
 /// `mat_trans ROWS COLUMNS`
 pub fn mat_trans(cursor: &mut Cursor<'_>, flow: Flow) -> Result<Block, ScriptFault>
-    ensures { (tables : Environment) → Gives (λ b. (b, cursor.new)) result (block_at tables (parameters Word.MatTrans flow) cursor.old) }
+    ensures { (tables : Environment) → Gives (λ b. (b, cursor.new)) result
+        (block_at tables (parameters Word.MatTrans flow) cursor.old) }
 {
     let rows = side(cursor)?;
     let columns = side(cursor)?;
@@ -298,7 +320,8 @@ pub fn mat_mult(
     cursor: &mut Cursor<'_>,
     flow: Flow,
 ) -> Result<Block, ParseFault>
-    ensures { GivesUnlessMemory (λ b. (b, cursor.new)) result (block_at lists.now.tables (parameters Word.MatMult flow) cursor.old) }
+    ensures { GivesUnlessMemory (λ b. (b, cursor.new)) result
+        (block_at lists.now.tables (parameters Word.MatMult flow) cursor.old) }
 {
     let rows = side(cursor)?;
     let columns = side(cursor)?;
@@ -319,7 +342,8 @@ pub fn route(
     cursor: &mut Cursor<'_>,
     flow: Flow,
 ) -> Result<Block, ParseFault>
-    ensures { GivesUnlessMemory (λ b. (b, cursor.new)) result (block_at lists.now.tables (parameters Word.Route flow) cursor.old) }
+    ensures { GivesUnlessMemory (λ b. (b, cursor.new)) result
+        (block_at lists.now.tables (parameters Word.Route flow) cursor.old) }
 {
     let channels = list(lists, cursor, rules::routes(flow))?;
     Ok(Block::Route { channels })

@@ -168,7 +168,8 @@ impl<'a> ListSource<'a> {
         cursor: &mut Cursor<'a>,
         version: u8,
     ) -> Result<ListSource<'a>, ParseFault>
-        ensures { GivesUnlessMemory (λ e. (e.tables, cursor.new)) result (environment_at version cursor.old) }
+        ensures { GivesUnlessMemory (λ e. (e.tables, cursor.new)) result
+            (environment_at version cursor.old) }
     {
         let tables = if version == 1 {
             None

@@ -53,7 +53,8 @@ pub fn is_run_byte(byte: u8) -> bool
 fn comment_end(text: &[u8], from: usize) -> usize
     requires { from ≤ length text.now }
     ensures bounds { (from ≤ result) × (result ≤ length text.now) }
-    ensures same { items_from true from (drop from text.now) ≡ items_from false result (drop result text.now) }
+    ensures same { items_from true from (drop from text.now) ≡ items_from false result
+        (drop result text.now) }
 {
     let mut at = from;
     while at < text.len() && text[at] != b'\n' {
@@ -66,7 +67,8 @@ fn comment_end(text: &[u8], from: usize) -> usize
 fn token_start(text: &[u8], from: usize) -> usize
     requires { from ≤ length text.now }
     ensures bounds { (from ≤ result) × (result ≤ length text.now) }
-    ensures same { items_from false from (drop from text.now) ≡ items_from false result (drop result text.now) }
+    ensures same { items_from false from (drop from text.now) ≡ items_from false result
+        (drop result text.now) }
     ensures white { result < length text.now → is_white (slice_index text.now result) ≡ false }
     ensures comment { result < length text.now → slice_index text.now result ≡ 35 → ⊥ }
 {
@@ -101,7 +103,8 @@ fn run_end(text: &[u8], from: usize) -> usize
 fn token_from(text: &[u8], from: usize) -> Result<(Item<'_>, usize), ScriptFault>
     requires { from ≤ length text.now }
     ensures bounds { IfOk result (λ x. x.1 ≤ length text.now) }
-    ensures token { Gives (λ x. (item_view x.0, rest_of x.1 text.now)) result (token_at (rest_of from text.now)) }
+    ensures token { Gives (λ x. (item_view x.0, rest_of x.1 text.now)) result
+        (token_at (rest_of from text.now)) }
 {
     let at = token_start(text, from);
     let offset = at as u64;

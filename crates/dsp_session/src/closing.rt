@@ -24,11 +24,16 @@ fn write_tail<K: Sink, L: Ledger>(
     output: &mut K,
     steps: &mut Steps<L>,
 ) -> Result<(), Failed>
-    requires { (x : List Frame) → StandsFor worker.old x → length (whole_values worker.old.script x) ≤ frames }
+    requires { (x : List Frame) → StandsFor worker.old x
+        → length (whole_values worker.old.script x) ≤ frames }
     ensures same { SameSession worker.old worker.new }
-    ensures written { (x : List Frame) → StandsFor worker.old x → WritesRest result (live_bytes worker.old.script x) (whole_bytes worker.old.script x) (K.state output.old) (K.state output.new) }
-    ensures costs { (x : List Frame) → StandsFor worker.old x → TailCosts result worker.old.script (length x) steps.old steps.new }
-    ensures measures { (x : List Frame) → StandsFor worker.old x → OnOk result (measured worker.new ≡ measures_of worker.old.script x) }
+    ensures written { (x : List Frame) → StandsFor worker.old x
+        → WritesRest result (live_bytes worker.old.script x) (whole_bytes worker.old.script x)
+        (K.state output.old) (K.state output.new) }
+    ensures costs { (x : List Frame) → StandsFor worker.old x
+        → TailCosts result worker.old.script (length x) steps.old steps.new }
+    ensures measures { (x : List Frame) → StandsFor worker.old x
+        → OnOk result (measured worker.new ≡ measures_of worker.old.script x) }
     ensures faults { CountsFaults result (K.state output.old).faults (K.state output.new).faults }
 {
     // Each piece has at least one of the whole signal's frames.
@@ -65,11 +70,17 @@ fn write_end<K: Sink, L: Ledger>(
     output: &mut K,
     steps: &mut Steps<L>,
 ) -> Result<(), Failed>
-    requires { (x : List Frame) → StandsFor worker.old x → length (whole_values worker.old.script x) ≤ frames }
+    requires { (x : List Frame) → StandsFor worker.old x
+        → length (whole_values worker.old.script x) ≤ frames }
     ensures same { SameSession worker.old worker.new }
-    ensures written { (x : List Frame) → StandsFor worker.old x → WritesRest result (live_bytes worker.old.script x) (whole_bytes worker.old.script x ++ output_pad worker.old.script header) (K.state output.old) (K.state output.new) }
-    ensures costs { (x : List Frame) → StandsFor worker.old x → TailCosts result worker.old.script (length x) steps.old steps.new }
-    ensures measures { (x : List Frame) → StandsFor worker.old x → OnOk result (measured worker.new ≡ measures_of worker.old.script x) }
+    ensures written { (x : List Frame) → StandsFor worker.old x
+        → WritesRest result (live_bytes worker.old.script x)
+        (whole_bytes worker.old.script x ++ output_pad worker.old.script header)
+        (K.state output.old) (K.state output.new) }
+    ensures costs { (x : List Frame) → StandsFor worker.old x
+        → TailCosts result worker.old.script (length x) steps.old steps.new }
+    ensures measures { (x : List Frame) → StandsFor worker.old x
+        → OnOk result (measured worker.new ≡ measures_of worker.old.script x) }
     ensures settled { OnOk result (IsSettled (K.state output.new)) }
     ensures faults { CountsFaults result (K.state output.old).faults (K.state output.new).faults }
 {

@@ -26,7 +26,8 @@ pub fn frame_bytes(script: &Script, coding: Coding) -> u64
 fn read_input_header<S: Source>(script: &Script, input: &mut S) -> Result<Header, StreamFault>
     ensures ok { IfOk result (λ header. Opened script.now header (S.state input.old) (S.state input.new)) }
     ensures coding { IfOk result (λ header. format_in header.coding ≡ script.now.input.format) }
-    ensures err { IfErr result (λ fault. Unopened script.now fault (S.state input.old) (S.state input.new)) }
+    ensures err { IfErr result (λ fault.
+        Unopened script.now fault (S.state input.old) (S.state input.new)) }
 {
     if let InputKind::Raw { rate } = script.input.kind {
         return Ok(Header {
@@ -64,7 +65,8 @@ pub fn known_frames(script: &Script, header: Header) -> Option<u64>
 fn riff_fault(script: &Script, known: Option<u64>) -> Option<LengthFault>
     requires { (block : ℕ) × IsReady script.now block }
     ensures some { IfSome result (λ fault. TooLong fault script.now known) }
-    ensures none { IsNone result → script.now.output ≢ container.Raw → HeaderFits script.now.output (format_of script.now) (channels_of script.now) known }
+    ensures none { IsNone result → script.now.output ≢ container.Raw
+        → HeaderFits script.now.output (format_of script.now) (channels_of script.now) known }
 {
     if script.output == Container::Raw {
         return None;
@@ -89,7 +91,8 @@ fn write_output_header<K: Sink>(
 ) -> Result<(), Failed>
     requires ready { (block : ℕ) × IsReady script.now block }
     requires known { known ≡ known_frames script.now header }
-    requires fits { script.now.output ≢ container.Raw → HeaderFits script.now.output (format_of script.now) (channels_of script.now) known }
+    requires fits { script.now.output ≢ container.Raw
+        → HeaderFits script.now.output (format_of script.now) (channels_of script.now) known }
     ensures took { MatchResult result (λ _. Took (K.state output.old) (K.state output.new) (output_header script.now header))
         (λ _. (count : ℕ) × Took (K.state output.old) (K.state output.new) (take count (output_header script.now header))) }
     ensures faults { CountsFaults result (K.state output.old).faults (K.state output.new).faults }
@@ -110,9 +113,13 @@ pub fn open<S: Source, K: Sink>(
     output: &mut K,
 ) -> Result<Header, StreamFault>
     requires { (block : ℕ) × IsReady script.now block }
-    ensures ok { IfOk result (λ header. Begun script.now header (S.state input.old) (S.state input.new) (K.state output.old) (K.state output.new)) }
+    ensures ok { IfOk result (λ header.
+        Begun script.now header (S.state input.old) (S.state input.new) (K.state output.old)
+        (K.state output.new)) }
     ensures coding { IfOk result (λ header. format_in header.coding ≡ script.now.input.format) }
-    ensures err { (block : ℕ) (counts : Counts) → IsReady script.now block → IfErr result (λ fault. Stopped script.now block fault (S.state input.old) (S.state input.new) (K.state output.old) (K.state output.new) counts counts) }
+    ensures err { (block : ℕ) (counts : Counts) → IsReady script.now block → IfErr result (λ fault.
+        Stopped script.now block fault (S.state input.old) (S.state input.new) (K.state output.old)
+        (K.state output.new) counts counts) }
 {
     let header = read_input_header(script, input)?;
     let known = known_frames(script, header);

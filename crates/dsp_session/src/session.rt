@@ -31,7 +31,9 @@ impl<'s> Model for Session<'s> {
 
     ghost view = { λ s. s.worker };
 
-    ghost invariant = { λ s. vec_len s.block ≡ block_bytes s.worker.script (input_coding s.worker.script) s.worker.block };
+    ghost invariant = { λ s.
+        vec_len s.block ≡ block_bytes s.worker.script
+        (input_coding s.worker.script) s.worker.block };
 }
 
 impl<'s> Session<'s> {
@@ -65,7 +67,7 @@ impl<'s> Session<'s> {
 
     /// Takes the whole frames of some bytes in the coding of the input, at most a block, gives the
     /// bytes of the live values that they add, and answers their number. It refuses where a
-    /// correlation would gather more than 1,048,576 samples of a channel, and then answers the same
+    /// correlation would gather more than `MAX_GATHERED` samples of a channel, and then answers the same
     /// fault from then on.
     pub fn feed<L: Ledger>(
         &mut self,
@@ -73,13 +75,16 @@ impl<'s> Session<'s> {
         steps: &mut Steps<L>,
     ) -> Result<usize, GatherFull>
         requires running { IsFalse self.old.chain.ended }
-        requires whole { length bytes.now ≡ length (signal self.old.script self.old.coding bytes.now) * frame_bytes self.old.script self.old.coding }
+        requires whole { length bytes.now
+            ≡ length (signal self.old.script self.old.coding bytes.now) * frame_bytes self.old.script self.old.coding }
         requires block { length (signal self.old.script self.old.coding bytes.now) ≤ self.old.block }
-        requires count { self.old.chain.frames + length (signal self.old.script self.old.coding bytes.now) ≤ 2 ^ 40 }
+        requires count { self.old.chain.frames + length
+            (signal self.old.script self.old.coding bytes.now) ≤ 2 ^ 40 }
         ensures same { SameSession self.old self.new }
         ensures given { IfOk result (λ given. given ≡ length self.new.out) }
         ensures fed { IfOk result (λ _. Feeds self.old self.new bytes.now steps.old steps.new) }
-        ensures full { IsErr result ↔ IsTooMuch self.old (length (signal self.old.script self.old.coding bytes.now)) }
+        ensures full { IsErr result ↔ IsTooMuch self.old
+            (length (signal self.old.script self.old.coding bytes.now)) }
         ensures numbers { self.old.chain.failed ≡ None → IfErr result (λ (fault : GatherFull). (fault.held ≡ held self.old.script.blocks self.old.chain.frames)
             × (fault.held + fault.more ≡ gathered self.old.script.blocks (self.old.chain.frames + length (signal self.old.script self.old.coding bytes.now)))) }
         ensures refused { IfErr result (λ fault. Fails self.old self.new fault steps.old steps.new) }
@@ -91,7 +96,8 @@ impl<'s> Session<'s> {
     /// far and `more` frames are the whole input.
     pub fn window_fault(&self, more: u64) -> Option<WindowFault>
         requires { self.now.chain.frames + more ≤ 2 ^ 40 }
-        ensures { option_map (λ (fault : WindowFault). (fault.end, fault.length)) result ≡ window_at self.now.script.blocks (self.now.chain.frames + more) }
+        ensures { option_map (λ (fault : WindowFault). (fault.end, fault.length)) result
+            ≡ window_at self.now.script.blocks (self.now.chain.frames + more) }
     {
         self.worker.window_fault(more)
     }

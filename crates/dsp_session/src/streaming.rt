@@ -44,8 +44,11 @@ fn read_block<S: Source>(
     requires limit { header.start + taken ≤ 2 ^ 40 }
     requires frame { 1 ≤ frame_bytes script.now header.coding }
     requires declared { InDeclared (declared_bytes script.now header) taken }
-    ensures ok { IfOk result (λ count. BlockRead script.now header taken block.new count (S.state input.old) (S.state input.new)) }
-    ensures err { IfErr result (λ fault. Unread script.now header taken (length block.old) fault (S.state input.old) (S.state input.new)) }
+    ensures ok { IfOk result (λ count. BlockRead script.now header taken block.new count
+        (S.state input.old) (S.state input.new)) }
+    ensures err { IfErr result (λ fault.
+        Unread script.now header taken (length block.old) fault (S.state input.old)
+        (S.state input.new)) }
 {
     let left = match header.size {
         Some(size) => in_whole_frames(script, header.coding, size) - taken,
@@ -89,12 +92,18 @@ pub fn pass_block<K: Sink, L: Ledger>(
     steps: &mut Steps<L>,
 ) -> Result<(), StreamFault>
     requires running { IsFalse worker.old.chain.ended }
-    requires whole { length bytes.now ≡ length (signal worker.old.script worker.old.coding bytes.now) * frame_bytes worker.old.script worker.old.coding }
+    requires whole { length bytes.now ≡ length
+        (signal worker.old.script worker.old.coding bytes.now) * frame_bytes worker.old.script worker.old.coding }
     requires block { length (signal worker.old.script worker.old.coding bytes.now) ≤ worker.old.block }
-    requires count { worker.old.chain.frames + length (signal worker.old.script worker.old.coding bytes.now) ≤ 2 ^ 40 }
+    requires count { worker.old.chain.frames + length
+        (signal worker.old.script worker.old.coding bytes.now) ≤ 2 ^ 40 }
     ensures same { SameSession worker.old worker.new }
-    ensures ok { (x : List Frame) → StandsFor worker.old x → IfOk result (λ _. Passes worker.old.script worker.old.coding x bytes.now worker.new (K.state output.old) (K.state output.new) steps.old steps.new) }
-    ensures err { (x : List Frame) → StandsFor worker.old x → IfErr result (λ fault. FailsToPass fault worker.old.script worker.old.coding x bytes.now (K.state output.old) (K.state output.new) steps.old steps.new) }
+    ensures ok { (x : List Frame) → StandsFor worker.old x
+        → IfOk result (λ _. Passes worker.old.script worker.old.coding x bytes.now worker.new
+        (K.state output.old) (K.state output.new) steps.old steps.new) }
+    ensures err { (x : List Frame) → StandsFor worker.old x → IfErr result (λ fault.
+        FailsToPass fault worker.old.script worker.old.coding x bytes.now (K.state output.old)
+        (K.state output.new) steps.old steps.new) }
 {
     match worker.feed(bytes, steps) {
         Ok(_) => {}
@@ -156,7 +165,8 @@ fn stream_samples<S: Source, K: Sink, L: Ledger>(
     requires room { block_bytes worker.old.script worker.old.coding worker.old.block ≤ length room.old }
     requires coding { worker.old.coding ≡ header.coding }
     requires start { header.start ≤ 2 ^ 40 }
-    requires begun { (before : SourceState) × (empty : SinkState) × Begun worker.old.script header before (S.state input.old) empty (K.state output.old) }
+    requires begun { (before : SourceState) × (empty : SinkState)
+        × Begun worker.old.script header before (S.state input.old) empty (K.state output.old) }
     ensures same { SameSession worker.old worker.new }
     ensures ok { (before : SourceState) (empty : SinkState) → Begun worker.old.script header before (S.state input.old) empty (K.state output.old)
         → IfOk result (λ frames. Done worker.old.script worker.old.block frames before (S.state input.new) empty (K.state output.new) steps.old steps.new (measured worker.new)) }
@@ -182,10 +192,17 @@ pub fn stream<S: Source, K: Sink, L: Ledger>(
     steps: &mut Steps<L>,
 ) -> Result<Totals, StreamFault>
     requires new { StandsFor session.old [] }
-    ensures ok { IfOk result (λ totals. Done session.old.script session.old.block totals.frames_taken (S.state input.old) (S.state input.new) (K.state output.old) (K.state output.new) steps.old steps.new (measured session.new)) }
-    ensures given { IfOk result (λ totals. totals.frames_given ≡ frames_given session.old.script.blocks totals.frames_taken) }
-    ensures multiplies { IfOk result (λ totals. totals.multiplies ≡ cost_of session.old.script totals.frames_taken) }
-    ensures err { IfErr result (λ fault. Stopped session.old.script session.old.block fault (S.state input.old) (S.state input.new) (K.state output.old) (K.state output.new) steps.old steps.new) }
+    ensures ok { IfOk result (λ totals.
+        Done session.old.script session.old.block totals.frames_taken (S.state input.old)
+        (S.state input.new) (K.state output.old) (K.state output.new) steps.old steps.new
+        (measured session.new)) }
+    ensures given { IfOk result (λ totals.
+        totals.frames_given ≡ frames_given session.old.script.blocks totals.frames_taken) }
+    ensures multiplies { IfOk result (λ totals.
+        totals.multiplies ≡ cost_of session.old.script totals.frames_taken) }
+    ensures err { IfErr result (λ fault.
+        Stopped session.old.script session.old.block fault (S.state input.old) (S.state input.new)
+        (K.state output.old) (K.state output.new) steps.old steps.new) }
     ensures same { SameScript session.old session.new }
 {
     let script = session.worker.script();

@@ -33,7 +33,8 @@ fn decode_front(coding: Coding, bytes: &[u8], samples: &mut [i32]) -> usize
     requires { length bytes.now ≤ length samples.old * width coding }
     ensures count { result ≡ length bytes.now / width coding }
     ensures within { result ≤ length samples.old }
-    ensures values { take result samples.new ≡ values (length bytes.now / width coding) (λ i. sample_of coding (take (width coding) (drop (i * width coding) bytes.now))) }
+    ensures values { take result samples.new ≡ values (length bytes.now / width coding) (λ i.
+        sample_of coding (take (width coding) (drop (i * width coding) bytes.now))) }
     ensures fits { All (IsValue coding) (take result samples.new) }
 {
     let width = width(coding);
@@ -76,7 +77,13 @@ impl<'s> Model for Worker<'s> {
 
     ghost Value = { SessionState };
 
-    ghost view = { λ w. record { script = w.script.now; block = w.block; coding = w.input; chain = w.chain; out = take w.given w.bytes.items } };
+    ghost view = { λ w. record {
+      script = w.script.now;
+      block = w.block;
+      coding = w.input;
+      chain = w.chain;
+      out = take w.given w.bytes.items;
+    } };
 
     ghost invariant = { λ w. IsWorking (record { script = w.script.now; block = w.block; coding = w.input; chain = w.chain; out = take w.given w.bytes.items })
         w.output (vec_len w.samples) (vec_len w.values) (vec_len w.bytes) w.given };
@@ -150,13 +157,16 @@ impl<'s> Worker<'s> {
         steps: &mut Steps<L>,
     ) -> Result<usize, GatherFull>
         requires running { IsFalse self.old.chain.ended }
-        requires whole { length bytes.now ≡ length (signal self.old.script self.old.coding bytes.now) * frame_bytes self.old.script self.old.coding }
+        requires whole { length bytes.now
+            ≡ length (signal self.old.script self.old.coding bytes.now) * frame_bytes self.old.script self.old.coding }
         requires block { length (signal self.old.script self.old.coding bytes.now) ≤ self.old.block }
-        requires count { self.old.chain.frames + length (signal self.old.script self.old.coding bytes.now) ≤ 2 ^ 40 }
+        requires count { self.old.chain.frames + length
+            (signal self.old.script self.old.coding bytes.now) ≤ 2 ^ 40 }
         ensures same { SameSession self.old self.new }
         ensures given { IfOk result (λ given. given ≡ length self.new.out) }
         ensures fed { IfOk result (λ _. Feeds self.old self.new bytes.now steps.old steps.new) }
-        ensures full { IsErr result ↔ IsTooMuch self.old (length (signal self.old.script self.old.coding bytes.now)) }
+        ensures full { IsErr result ↔ IsTooMuch self.old
+            (length (signal self.old.script self.old.coding bytes.now)) }
         ensures numbers { self.old.chain.failed ≡ None → IfErr result (λ (fault : GatherFull). (fault.held ≡ held self.old.script.blocks self.old.chain.frames)
             × (fault.held + fault.more ≡ gathered self.old.script.blocks (self.old.chain.frames + length (signal self.old.script self.old.coding bytes.now)))) }
         ensures refused { IfErr result (λ fault. Fails self.old self.new fault steps.old steps.new) }
@@ -178,7 +188,8 @@ impl<'s> Worker<'s> {
     /// far and `more` frames are the whole input.
     pub fn window_fault(&self, more: u64) -> Option<WindowFault>
         requires { self.now.chain.frames + more ≤ 2 ^ 40 }
-        ensures { option_map (λ (fault : WindowFault). (fault.end, fault.length)) result ≡ window_at self.now.script.blocks (self.now.chain.frames + more) }
+        ensures { option_map (λ (fault : WindowFault). (fault.end, fault.length)) result
+            ≡ window_at self.now.script.blocks (self.now.chain.frames + more) }
     {
         self.chain.window_fault(more)
     }

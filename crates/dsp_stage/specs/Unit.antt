@@ -41,6 +41,10 @@ most_frames block n = most_groups (group_of block) n
 abbrev pub most_kept : ℕ
 most_kept = 2 ^ 40
 
+-- no unit has room for more samples than this
+abbrev pub most_room : ℕ
+most_room = 2 ^ 40
+
 -- what a contract sees of a unit: how it was made, and whether as a bank over all channels; the numbers that it keeps,
 -- the tail that it still has to give, and whether the tail was begun
 pub record UnitState : Type 0 where

@@ -10,5 +10,6 @@ use dsp_defs::Fmt;
 /// What a block keeps of a signal is as many numbers as the number of its frames says, with the
 /// phase, flag, length or count that this number gives.
 pub fn kept_numbers_have_their_place(format: Fmt)
-    ensures { (channels : ℕ) (block : Block) (x : List Frame) → HasPlace format channels block (length x) (kept_numbers format channels block x) }
+    ensures { (channels : ℕ) (block : Block) (x : List Frame)
+        → HasPlace format channels block (length x) (kept_numbers format channels block x) }
 {}

@@ -18,20 +18,29 @@ pub trait Stage {
     fn feed<L: Ledger>(&mut self, frames: &[i32], out: &mut [i32], steps: &mut Steps<L>) -> usize
         requires running { IsFalse (unit self.old).ended }
         requires signal { IsSignal (unit self.old).format (unit self.old).channels frames.now }
-        requires capacity { length (frames_in (unit self.old).channels frames.now) ≤ (unit self.old).capacity }
-        requires accepts { Accepts (unit self.old) (length (frames_in (unit self.old).channels frames.now)) }
+        requires capacity { length (frames_in (unit self.old).channels frames.now) ≤
+            (unit self.old).capacity }
+        requires accepts { Accepts (unit self.old)
+            (length (frames_in (unit self.old).channels frames.now)) }
         requires room { room_of (unit self.old) ≤ length out.old }
         ensures running { IsFalse (unit self.new).ended }
         ensures within { result ≤ length out.old }
-        ensures output { IsOutput (unit self.old) (most_frames (unit self.old).block (unit self.old).capacity) (take result out.new) }
-        ensures fed { Feeds (unit self.old) (unit self.new) (frames_in (unit self.old).channels frames.now) (frames_in (channels_after (unit self.old).channels (unit self.old).block) (take result out.new)) steps.old steps.new };
+        ensures output { IsOutput (unit self.old)
+            (most_frames (unit self.old).block (unit self.old).capacity) (take result out.new) }
+        ensures fed { Feeds (unit self.old) (unit self.new)
+            (frames_in (unit self.old).channels frames.now)
+            (frames_in (channels_after (unit self.old).channels (unit self.old).block)
+            (take result out.new)) steps.old steps.new };
 
     /// Writes the next frames of the tail, and answers the number of their samples: 0 where it is spent.
     fn finish<L: Ledger>(&mut self, out: &mut [i32], steps: &mut Steps<L>) -> usize
         requires room { room_of (unit self.old) ≤ length out.old }
         ensures within { result ≤ length out.old }
-        ensures output { IsOutput (unit self.old) (most_frames (unit self.old).block (unit self.old).capacity) (take result out.new) }
-        ensures finished { Finishes (unit self.old) (unit self.new) (frames_in (channels_after (unit self.old).channels (unit self.old).block) (take result out.new)) steps.old steps.new };
+        ensures output { IsOutput (unit self.old)
+            (most_frames (unit self.old).block (unit self.old).capacity) (take result out.new) }
+        ensures finished { Finishes (unit self.old) (unit self.new)
+            (frames_in (channels_after (unit self.old).channels (unit self.old).block)
+            (take result out.new)) steps.old steps.new };
 
     /// How many numbers it keeps from call to call.
     fn kept_count(&self) -> usize
@@ -46,17 +55,23 @@ pub trait Stage {
 
     /// Whether these can be the numbers that it keeps, of some number of frames.
     fn fits(&self, numbers: &[i64]) -> bool
-        ensures { IsTrue result ↔ Fits (unit self.now).format (unit self.now).channels (unit self.now).block numbers.now };
+        ensures { IsTrue result ↔ Fits (unit self.now).format (unit self.now).channels
+            (unit self.now).block numbers.now };
 
     /// The least number of frames of which these can be the numbers that it keeps, if there is one.
     fn place(&self, numbers: &[i64]) -> Option<u64>
-        ensures fits { IfSome result (λ n. FitsAfter (unit self.now).format (unit self.now).channels (unit self.now).block n numbers.now) }
-        ensures least { (n : ℕ) → FitsAfter (unit self.now).format (unit self.now).channels (unit self.now).block n numbers.now → result ≡ Some (place_of (unit self.now).block n) };
+        ensures fits { IfSome result (λ n.
+            FitsAfter (unit self.now).format (unit self.now).channels
+            (unit self.now).block n numbers.now) }
+        ensures least { (n : ℕ) → FitsAfter (unit self.now).format (unit self.now).channels
+            (unit self.now).block n numbers.now
+            → result ≡ Some (place_of (unit self.now).block n) };
 
     /// Keeps these numbers from now on, and no others.
     fn restore(&mut self, numbers: &[i64])
         requires running { IsFalse (unit self.old).ended }
-        requires fits { Fits (unit self.old).format (unit self.old).channels (unit self.old).block numbers.now }
+        requires fits { Fits (unit self.old).format (unit self.old).channels
+            (unit self.old).block numbers.now }
         ensures { Restores (unit self.old) (unit self.new) numbers.now };
 
     /// How many measures it has of what it took.

@@ -4,36 +4,42 @@ use dsp_defs::Steps;
 use std::process::Abort;
 use std::sync::ledger::Ledger;
 
-/// Calls on slices that count their products.
-pub(crate) fn counted<M: Ledger>(rt: &impl Abort, steps: &mut Steps<M>) {
+/// Complex products.
+fn products<M: Ledger>(rt: &impl Abort, steps: &mut Steps<M>) {
     let mut two = [0i16; 2];
     mult_cmplx(&[16384i16, 0], &[16384, 16384], &mut two, steps);
     assert_eq!(rt; two, [2048, 2048]);
     let mut four = [0i32; 4];
-    mult_cmplx(
-        &[-2147483647, i32::MAX, i32::MIN, -13],
-        &[2147483646, i32::MAX, 1, 12],
-        &mut four,
-        steps,
-    );
+    let a = [-2147483647, i32::MAX, i32::MIN, -13];
+    let b = [2147483646, i32::MAX, 1, 12];
+    mult_cmplx(&a, &b, &mut four, steps);
     assert_eq!(rt; four, [-1073741823, -1, 0, -4]);
+}
+
+/// Products by real numbers.
+fn real_products<M: Ledger>(rt: &impl Abort, steps: &mut Steps<M>) {
     let mut products = [0i16; 4];
-    mult_real(
-        &[-32768, 32767, -32768, -32767],
-        &[-32768, -32768],
-        &mut products,
-        steps,
-    );
+    let a = [-32768, 32767, -32768, -32767];
+    mult_real(&a, &[-32768, -32768], &mut products, steps);
     assert_eq!(rt; products, [32767, -32767, 32767, 32767]);
+}
+
+/// Squares of magnitudes.
+fn squares<M: Ledger>(rt: &impl Abort, steps: &mut Steps<M>) {
+    let mut two = [0i16; 2];
     mag_squared(&[-32768i16, -1, -32768, -32768], &mut two, steps);
     assert_eq!(rt; two, [8192, 16384]);
     let mut magnitudes = [0i32; 2];
-    mag_squared(
-        &[i32::MAX, -1073741824, 803170804, i32::MAX],
-        &mut magnitudes,
-        steps,
-    );
+    let a = [i32::MAX, -1073741824, 803170804, i32::MAX];
+    mag_squared(&a, &mut magnitudes, steps);
     assert_eq!(rt; magnitudes, [671088639, 611968495]);
+}
+
+/// Calls on slices that count their products.
+pub(crate) fn counted<M: Ledger>(rt: &impl Abort, steps: &mut Steps<M>) {
+    products(rt, steps);
+    real_products(rt, steps);
+    squares(rt, steps);
 }
 
 #[test]

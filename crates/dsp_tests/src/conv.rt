@@ -1,5 +1,5 @@
 //! Callers of dsp_conv.
-ghost use Rattle.std.specs.Prelude.{◌≡◌, ◌≤◌, ◌+◌};
+ghost use Rattle.std.specs.Prelude.{◌≡◌, ◌≤◌, ◌+◌, IsFalse, length};
 
 use dsp_conv::{
     Conv, ConvPartial, Correlate, Gather, conv_partial_slices, conv_slices, correlate_slices,
@@ -26,32 +26,60 @@ fn few_turns<M: Ledger>(rt: &impl Abort, alloc: Global, steps: &mut Steps<M>)
     assert_eq!(rt; output, [2, 7, 7]);
 }
 
+/// A convolution of four taps, for blocks of two samples.
+fn of_four_taps(rt: &impl Abort, alloc: Global) -> Conv<i16, 8>
+    ensures running { IsFalse result.ended }
+    ensures block { result.block ≡ 2 }
+    ensures past { length result.past ≡ 3 }
+{
+    Conv::<i16, 8>::new(alloc, &[16384, 0, 16384, 8192], 2).expect(rt, "a convolution")
+}
+
+/// A convolution keeps its last samples, and its place behind them.
+fn keeps<M: Ledger>(rt: &impl Abort, alloc: Global, steps: &mut Steps<M>) {
+    let mut output = [0i16; 2];
+    let mut kept = [0i64; 4];
+    let mut filter = of_four_taps(rt, alloc);
+    assert_eq!(rt; (filter.room(2), filter.kept_count()), (2, 4));
+    filter.keep(&mut kept);
+    assert_eq!(rt; kept, [0, 0, 0, 0]);
+    filter.process(&[2, 4], &mut output, steps);
+    filter.keep(&mut kept);
+    assert_eq!(rt; kept, [0, 2, 4, 1]);
+}
+
+/// Numbers that no such convolution keeps: too few, one that is no sample, and places that it never has.
+fn refuses(rt: &impl Abort, alloc: Global) {
+    let filter = of_four_taps(rt, alloc);
+    assert!(rt; !filter.fits(&[0, 2, 4]) && !filter.fits(&[0, 2, 32768, 1]));
+    assert!(rt; !filter.fits(&[0, 2, 4, 2]) && !filter.fits(&[0, 2, 4, -1]));
+}
+
+/// Gives the next piece of a tail, as much as fits in two samples.
+fn tail_gives<M: Ledger>(
+    rt: &impl Abort,
+    filter: &mut Conv<i16, 8>,
+    count: usize,
+    wanted: [i16; 2],
+    steps: &mut Steps<M>,
+) {
+    let mut piece = [7i16; 2];
+    assert_eq!(rt; filter.finish(&mut piece, steps), count);
+    assert_eq!(rt; piece, wanted);
+}
+
 /// A convolution goes on where another one was kept, and its tail comes as it fits.
 fn goes_on<M: Ledger>(rt: &impl Abort, alloc: Global, steps: &mut Steps<M>) {
-    let taps = [16384i16, 0, 16384, 8192];
-    let mut output = [0i16; 4];
-    let mut kept = [0i64; 4];
-    let mut first = Conv::<i16, 8>::new(alloc, &taps, 2).expect(rt, "a convolution");
-    assert_eq!(rt; (first.room(2), first.kept_count()), (2, 4));
-    first.keep(&mut kept);
-    assert_eq!(rt; kept, [0, 0, 0, 0]);
-    first.process(&[2, 4], &mut output, steps);
-    first.keep(&mut kept);
-    assert_eq!(rt; kept, [0, 2, 4, 1]);
-    let mut second = Conv::<i16, 8>::new(alloc, &taps, 2).expect(rt, "a convolution");
-    assert!(rt; !second.fits(&[0, 2, 4]) && !second.fits(&[0, 2, 32768, 1]));
-    assert!(rt; !second.fits(&[0, 2, 4, 2]) && !second.fits(&[0, 2, 4, -1]));
-    assert!(rt; second.fits(&kept));
-    second.restore(&kept);
-    assert!(rt; !second.is_ended());
-    assert_eq!(rt; second.finish(&mut [], steps), 0);
-    assert!(rt; second.is_ended());
-    let mut piece = [7i16; 2];
-    assert_eq!(rt; second.finish(&mut piece, steps), 2);
-    assert_eq!(rt; piece, [1, 2]);
-    assert_eq!(rt; second.finish(&mut piece, steps), 1);
-    assert_eq!(rt; piece, [1, 2]);
-    assert_eq!(rt; second.finish(&mut piece, steps), 0);
+    let kept = [0i64, 2, 4, 1];
+    let mut filter = of_four_taps(rt, alloc);
+    assert!(rt; filter.fits(&kept));
+    filter.restore(&kept);
+    assert!(rt; !filter.is_ended());
+    assert_eq!(rt; filter.finish(&mut [], steps), 0);
+    assert!(rt; filter.is_ended());
+    tail_gives(rt, &mut filter, 2, [1, 2], steps);
+    tail_gives(rt, &mut filter, 1, [1, 7], steps);
+    tail_gives(rt, &mut filter, 0, [7, 7], steps);
 }
 
 /// A correlation gathers its samples, and gives all its values at the end, as they fit.
@@ -111,6 +139,8 @@ fn other_formats<M: Ledger>(rt: &impl Abort, alloc: Global, steps: &mut Steps<M>
 /// The calls that count their products.
 pub(crate) fn counted<M: Ledger>(rt: &impl Abort, alloc: Global, steps: &mut Steps<M>) {
     few_turns(rt, alloc, steps);
+    keeps(rt, alloc, steps);
+    refuses(rt, alloc);
     goes_on(rt, alloc, steps);
     part(rt, alloc, steps);
     other_formats(rt, alloc, steps);

@@ -1,5 +1,5 @@
 //! Callers of dsp_fir.
-ghost use Rattle.std.specs.Prelude.{◌≤◌, ◌+◌};
+ghost use Rattle.std.specs.Prelude.{◌≡◌, ◌≤◌, ◌+◌, IsFalse, length};
 
 use dsp_defs::{MakeFault, Steps};
 use dsp_fir::{Fir, Sparse};
@@ -67,13 +67,20 @@ fn fir_ends<M: Ledger>(rt: &impl Abort, alloc: Global, steps: &mut Steps<M>) {
     );
 }
 
+/// A sparse filter of two delays, for blocks of two samples.
+fn of_two_delays(rt: &impl Abort, alloc: Global) -> Sparse<i16, 8>
+    ensures running { IsFalse result.ended }
+    ensures block { result.block ≡ 2 }
+    ensures past { length result.past ≡ 1 }
+{
+    Sparse::<i16, 8>::new(alloc, &[19950, -32193], &[0, 1], 2).expect(rt, "a filter")
+}
+
 /// A sparse filter keeps the sample that its greatest delay still wants.
 fn sparse_keeps<M: Ledger>(rt: &impl Abort, alloc: Global, steps: &mut Steps<M>) {
     let mut output = [0i16; 2];
     let mut kept = [0i64; 1];
-    let mut filter = Sparse::<i16, 8>::new(alloc, &[19950, -32193], &[0, 1], 2).expect(
-        rt, "a filter",
-    );
+    let mut filter = of_two_delays(rt, alloc);
     assert_eq!(rt; (filter.kept_count(), filter.room(2)), (1, 2));
     filter.process(&[16384, 16385], &mut output, steps);
     assert_eq!(rt; output, [9975, -6121]);
@@ -85,9 +92,7 @@ fn sparse_keeps<M: Ledger>(rt: &impl Abort, alloc: Global, steps: &mut Steps<M>)
 fn sparse_goes_on<M: Ledger>(rt: &impl Abort, alloc: Global, steps: &mut Steps<M>) {
     let kept = [16385i64];
     let mut output = [0i16; 2];
-    let mut filter = Sparse::<i16, 8>::new(alloc, &[19950, -32193], &[0, 1], 2).expect(
-        rt, "a filter",
-    );
+    let mut filter = of_two_delays(rt, alloc);
     assert!(rt; filter.fits(&kept));
     filter.restore(&kept);
     filter.process(&[32767], &mut output, steps);
@@ -116,14 +121,18 @@ fn other_formats<M: Ledger>(rt: &impl Abort, alloc: Global, steps: &mut Steps<M>
     assert_eq!(rt; bytes, [127, 127]);
 }
 
-/// The sum of a sparse filter has 32 bits, and that of a FIR filter 64.
-fn sums<M: Ledger>(rt: &impl Abort, alloc: Global, steps: &mut Steps<M>) {
+/// The sum of a sparse filter has 32 bits.
+fn sparse_sum<M: Ledger>(rt: &impl Abort, alloc: Global, steps: &mut Steps<M>) {
     let mut output = [0i16; 2];
-    let taps = [-32768i16; 2];
-    let mut sparse = Sparse::<i16, 8>::new(alloc, &taps, &[0, 1], 2).expect(rt, "a filter");
+    let mut sparse = Sparse::<i16, 8>::new(alloc, &[-32768; 2], &[0, 1], 2).expect(rt, "a filter");
     sparse.process(&[-32768; 2], &mut output, steps);
     assert_eq!(rt; output, [32767, -32768]);
-    let mut fir = Fir::<i16, 8>::new(alloc, &taps, 2).expect(rt, "a filter");
+}
+
+/// And that of a FIR filter 64.
+fn fir_sum<M: Ledger>(rt: &impl Abort, alloc: Global, steps: &mut Steps<M>) {
+    let mut output = [0i16; 2];
+    let mut fir = Fir::<i16, 8>::new(alloc, &[-32768; 2], 2).expect(rt, "a filter");
     fir.process(&[-32768; 2], &mut output, steps);
     assert_eq!(rt; output, [32767, 32767]);
 }
@@ -139,7 +148,8 @@ pub(crate) fn counted<M: Ledger>(rt: &impl Abort, alloc: Global, steps: &mut Ste
     sparse_goes_on(rt, alloc, steps);
     sparse_ends(rt, alloc, steps);
     other_formats(rt, alloc, steps);
-    sums(rt, alloc, steps);
+    sparse_sum(rt, alloc, steps);
+    fir_sum(rt, alloc, steps);
 }
 
 #[test]

@@ -24,6 +24,8 @@ mod measure;
 #[cfg(test)]
 mod rate;
 #[cfg(test)]
+mod sat;
+#[cfg(test)]
 mod tests;
 #[cfg(test)]
 mod vector;

@@ -40,23 +40,28 @@ fn turned<M: Ledger>(rt: &impl Abort, alloc: Global, steps: &mut Steps<M>) {
     assert_eq!(rt; output, [1, 3, 2, 4, 0, 0, 0, 0]);
 }
 
-/// Products of groups, where another filter goes on from the open group.
+/// Products of groups of two, of which the open one is kept.
 fn products<M: Ledger>(rt: &impl Abort, alloc: Global, steps: &mut Steps<M>) {
-    let list = [16384, 16384];
     let mut output = [7i16; 2];
     let mut kept = [0i64; 1];
-    let mut first = GroupedMult::new(alloc, 1, 2, 1, &list, 3).expect(rt, "a filter");
-    assert_eq!(rt; first.room(3), 2);
-    assert_eq!(rt; first.process(&[2, 4, 6], &mut output, steps), 1);
-    assert_eq!(rt; (output, first.kept_count()), ([3, 7], 1));
-    first.keep(&mut kept);
+    let mut filter = GroupedMult::new(alloc, 1, 2, 1, &[16384, 16384], 3).expect(rt, "a filter");
+    assert_eq!(rt; filter.room(3), 2);
+    assert_eq!(rt; filter.process(&[2, 4, 6], &mut output, steps), 1);
+    assert_eq!(rt; (output, filter.kept_count()), ([3, 7], 1));
+    filter.keep(&mut kept);
     assert_eq!(rt; kept, [6]);
-    let mut second = GroupedMult::new(alloc, 1, 2, 1, &list, 2).expect(rt, "a filter");
-    assert!(rt; !second.fits(&[0, 0]) && !second.fits(&[32768]));
-    assert!(rt; second.fits(&kept));
-    second.restore(&kept);
-    assert_eq!(rt; second.room(2), 2);
-    assert_eq!(rt; second.process(&[8, 10], &mut output, steps), 1);
+}
+
+/// Another filter goes on from the open group.
+fn products_go_on<M: Ledger>(rt: &impl Abort, alloc: Global, steps: &mut Steps<M>) {
+    let kept = [6i64];
+    let mut output = [3i16, 7];
+    let mut filter = GroupedMult::new(alloc, 1, 2, 1, &[16384, 16384], 2).expect(rt, "a filter");
+    assert!(rt; !filter.fits(&[0, 0]) && !filter.fits(&[32768]));
+    assert!(rt; filter.fits(&kept));
+    filter.restore(&kept);
+    assert_eq!(rt; filter.room(2), 2);
+    assert_eq!(rt; filter.process(&[8, 10], &mut output, steps), 1);
     assert_eq!(rt; output, [7, 7]);
 }
 
@@ -89,6 +94,7 @@ pub(crate) fn counted<M: Ledger>(rt: &impl Abort, alloc: Global, steps: &mut Ste
     sums(rt, alloc, steps);
     turned(rt, alloc, steps);
     products(rt, alloc, steps);
+    products_go_on(rt, alloc, steps);
     slices(rt, steps);
 }
 

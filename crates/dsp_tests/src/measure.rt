@@ -155,15 +155,29 @@ fn extremes_of_signals(rt: HostRuntime) {
     assert_eq!(rt; least.kept_count(), 4);
     least.keep(&mut kept);
     assert!(rt; kept == [1, -128, 0, 2]);
-    let mut again = Min::<i8>::new();
-    assert!(rt; again.fits(&kept) && !again.fits(&[1, -129, 0, 2]) && !again.fits(&[1, 5, 2, 2]));
-    assert!(rt; again.fits(&[0, 0, 0, 0]) && !again.fits(&[0, 0, 0, 1]) && !again.fits(&[0]));
-    again.restore(&kept);
-    again.put(&[-128]);
-    assert!(rt; again.value() == Some((-128, 0)));
     let mut greatest = Max::<i8>::new();
     greatest.put(&[-128, 5, -128]);
     assert!(rt; greatest.value() == Some((5, 1)));
+}
+
+/// Numbers that an extreme keeps, and those that it never does.
+#[test]
+fn kept_extremes(rt: HostRuntime) {
+    let least = Min::<i8>::new();
+    assert!(rt; least.fits(&[1, -128, 0, 2]) && least.fits(&[0, 0, 0, 0]));
+    assert!(rt; !least.fits(&[1, -129, 0, 2]) && !least.fits(&[1, 5, 2, 2]));
+    assert!(rt; !least.fits(&[0, 0, 0, 1]) && !least.fits(&[0]));
+}
+
+/// An extreme goes on where another one was kept, and the first of two that are as good stays.
+#[test]
+fn an_extreme_goes_on(rt: HostRuntime) {
+    let kept = [1i64, -128, 0, 2];
+    let mut least = Min::<i8>::new();
+    assert!(rt; least.fits(&kept));
+    least.restore(&kept);
+    least.put(&[-128]);
+    assert!(rt; least.value() == Some((-128, 0)));
 }
 
 /// The calls that count their products.

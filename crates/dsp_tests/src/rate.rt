@@ -1,5 +1,5 @@
 //! Callers of dsp_rate.
-ghost use Rattle.std.specs.Prelude.{◌≡◌, ◌≤◌, ◌+◌};
+ghost use Rattle.std.specs.Prelude.{◌≡◌, ◌≤◌, ◌+◌, IsFalse, length};
 
 use dsp_defs::{MAX_SAMPLES, MAX_TAPS, MakeFault, Steps};
 use dsp_rate::{Decimate, Interpolate};
@@ -7,27 +7,47 @@ use std::alloc::Global;
 use std::process::Abort;
 use std::sync::ledger::Ledger;
 
-/// The group that is open at the end gives nothing, and goes on in another decimator.
-fn goes_on<M: Ledger>(rt: &impl Abort, alloc: Global, steps: &mut Steps<M>) {
+/// A decimator by two with one tap, for blocks of four samples.
+fn by_two(rt: &impl Abort, alloc: Global) -> Decimate<i16, 8>
+    ensures running { IsFalse result.ended }
+    ensures block { result.block ≡ 4 }
+    ensures factor { result.factor ≡ 2 }
+    ensures past { length result.past ≡ 1 }
+{
+    Decimate::<i16, 8>::new(alloc, 2, &[16384], 4).expect(rt, "a decimator")
+}
+
+/// A decimator keeps its last samples, and how many the open group has.
+fn keeps<M: Ledger>(rt: &impl Abort, alloc: Global, steps: &mut Steps<M>) {
     let mut output = [7i16; 3];
     let mut kept = [0i64; 2];
-    let mut first = Decimate::<i16, 8>::new(alloc, 2, &[16384], 4).expect(rt, "a decimator");
-    assert_eq!(rt; first.room(3), 2);
-    assert_eq!(rt; first.process(&[2, 4, 6], &mut output, steps), 1);
+    let mut filter = by_two(rt, alloc);
+    assert_eq!(rt; (filter.room(3), filter.kept_count()), (2, 2));
+    assert_eq!(rt; filter.process(&[2, 4, 6], &mut output, steps), 1);
     assert_eq!(rt; output, [1, 7, 7]);
-    assert_eq!(rt; first.kept_count(), 2);
-    first.keep(&mut kept);
+    filter.keep(&mut kept);
     assert_eq!(rt; kept, [6, 1]);
-    let mut second = Decimate::<i16, 8>::new(alloc, 2, &[16384], 4).expect(rt, "a decimator");
-    assert!(rt; !second.fits(&[6]) && !second.fits(&[32768, 1]));
-    assert!(rt; !second.fits(&[6, 2]) && !second.fits(&[6, -1]));
-    assert!(rt; second.fits(&kept));
-    second.restore(&kept);
-    assert_eq!(rt; second.process(&[8], &mut output, steps), 1);
+}
+
+/// Numbers that no such decimator keeps: too few, one that is no sample, and groups that are not open.
+fn refuses(rt: &impl Abort, alloc: Global) {
+    let filter = by_two(rt, alloc);
+    assert!(rt; !filter.fits(&[6]) && !filter.fits(&[32768, 1]));
+    assert!(rt; !filter.fits(&[6, 2]) && !filter.fits(&[6, -1]));
+}
+
+/// The open group goes on in another decimator. One that is open at the end gives nothing.
+fn goes_on<M: Ledger>(rt: &impl Abort, alloc: Global, steps: &mut Steps<M>) {
+    let kept = [6i64, 1];
+    let mut output = [7i16; 3];
+    let mut filter = by_two(rt, alloc);
+    assert!(rt; filter.fits(&kept));
+    filter.restore(&kept);
+    assert_eq!(rt; filter.process(&[8], &mut output, steps), 1);
     assert_eq!(rt; output, [3, 7, 7]);
-    assert_eq!(rt; second.process(&[10], &mut output, steps), 0);
+    assert_eq!(rt; filter.process(&[10], &mut output, steps), 0);
     assert_eq!(rt;
-        (second.finish(&mut output, steps), second.is_ended()),
+        (filter.finish(&mut output, steps), filter.is_ended()),
         (0, true)
     );
     assert_eq!(rt; output, [3, 7, 7]);
@@ -83,6 +103,8 @@ fn phases_go_on<M: Ledger>(rt: &impl Abort, alloc: Global, steps: &mut Steps<M>)
 }
 
 pub(crate) fn counted<M: Ledger>(rt: &impl Abort, alloc: Global, steps: &mut Steps<M>) {
+    keeps(rt, alloc, steps);
+    refuses(rt, alloc);
     goes_on(rt, alloc, steps);
     few_turns(rt, alloc, steps);
     phases(rt, alloc, steps);

@@ -1,6 +1,8 @@
 ghost use Rattle.std.specs.Prelude.{◌≡◌};
 
-use crate::{adapt, biquad, complex, conv, fir, lanes, lattice, matrix, measure, rate, vector};
+use crate::{
+    adapt, biquad, complex, conv, fir, lanes, lattice, matrix, measure, rate, sat, vector,
+};
 use dsp_defs::Steps;
 use std::alloc::Global;
 use std::marker::Brand;
@@ -14,6 +16,7 @@ fn counted<M: Ledger>(rt: &impl Abort, alloc: Global, blank: Blank)
     requires two { M.parts ≡ 2 }
 {
     let mut steps = Steps::<M>::new(blank);
+    sat::counted(rt, &mut steps);
     lanes::counted(rt, &mut steps);
     vector::counted(rt, &mut steps);
     complex::counted(rt, &mut steps);

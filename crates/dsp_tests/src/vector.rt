@@ -7,29 +7,41 @@ use dsp_vector::{
 use std::process::Abort;
 use std::sync::ledger::Ledger;
 
-/// Calls on slices that count their products.
-pub(crate) fn counted<M: Ledger>(rt: &impl Abort, steps: &mut Steps<M>) {
+/// Products of samples and by a factor, in Q7.
+fn products_7<M: Ledger>(rt: &impl Abort, steps: &mut Steps<M>) {
     let mut q7 = [0i8; 17];
     vec_mult(&[-128i8; 17], &[-128; 17], &mut q7, steps);
     assert_eq!(rt; q7, [127; 17]);
-    let mut q15 = [0i16; 3];
-    vec_mult(&[-17i16, -16, 18], &[-32768; 3], &mut q15, steps);
-    assert_eq!(rt; q15, [17, 16, -18]);
-    let mut q31 = [0i32; 3];
-    vec_mult(
-        &[2147483647, -1073741824, i32::MIN],
-        &[-207310279, -338202006, i32::MIN],
-        &mut q31,
-        steps,
-    );
-    assert_eq!(rt; q31, [-207310280, 169101002, 2147483646]);
     let mut three = [0i8; 3];
     vec_scale(&[-128i8, 127, 0], -128, 7, &mut three, steps);
     assert_eq!(rt; three, [127, -128, 0]);
+}
+
+/// The same in Q15.
+fn products_15<M: Ledger>(rt: &impl Abort, steps: &mut Steps<M>) {
+    let mut q15 = [0i16; 3];
+    vec_mult(&[-17i16, -16, 18], &[-32768; 3], &mut q15, steps);
+    assert_eq!(rt; q15, [17, 16, -18]);
     vec_scale(&[32766i16, 1, 0], -32768, 15, &mut q15, steps);
     assert_eq!(rt; q15, [-32768, -32768, 0]);
+}
+
+/// And in Q31.
+fn products_31<M: Ledger>(rt: &impl Abort, steps: &mut Steps<M>) {
+    let mut q31 = [0i32; 3];
+    let a = [2147483647, -1073741824, i32::MIN];
+    let b = [-207310279, -338202006, i32::MIN];
+    vec_mult(&a, &b, &mut q31, steps);
+    assert_eq!(rt; q31, [-207310280, 169101002, 2147483646]);
     vec_scale(&[3, 5, 7], 1062776692, 1, &mut q31, steps);
     assert_eq!(rt; q31, [0, 4, 4]);
+}
+
+/// Calls on slices that count their products.
+pub(crate) fn counted<M: Ledger>(rt: &impl Abort, steps: &mut Steps<M>) {
+    products_7(rt, steps);
+    products_15(rt, steps);
+    products_31(rt, steps);
 }
 
 #[test]

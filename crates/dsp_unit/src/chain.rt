@@ -25,7 +25,8 @@ impl<T: Sample, A: Machine<T>, B: Machine<T>> Machine<T> for Pair<A, B> {
 
     ghost price = { A.price + B.price };
 
-    ghost size = { λ p x. then-size (A.acts p.first) (B.acts p.second) _ _ (A.size p.first) (B.size p.second) x };
+    ghost size = { λ p x. then-size (A.acts p.first) (B.acts p.second) _ _ (A.size p.first)
+        (B.size p.second) x };
 
     #[inline(always)]
     fn step<L: Ledger>(&mut self, x: T, steps: &mut Steps<L>) -> T {
@@ -42,8 +43,11 @@ pub fn run_chain<T: Sample, M: Machine<T> + Copy, L: Ledger>(
     steps: &mut Steps<L>,
 )
     ensures acts { chained (map M.acts machines.new) ≡ chained (map M.acts machines.old) }
-    ensures goes { GoesOn (chained (map M.acts machines.old)).gives (chained (map M.acts machines.old)).keeps (flat_map M.kept machines.old) (flat_map M.kept machines.new) (map T.number samples.old) (map T.number samples.new) }
-    ensures steps { Rises steps.old steps.new (length samples.old * (length machines.old * M.price)) (length samples.old * (length machines.old * M.price)) }
+    ensures goes { GoesOn (chained (map M.acts machines.old)).gives
+        (chained (map M.acts machines.old)).keeps (flat_map M.kept machines.old)
+        (flat_map M.kept machines.new) (map T.number samples.old) (map T.number samples.new) }
+    ensures steps { Rises steps.old steps.new (length samples.old * (length machines.old * M.price))
+        (length samples.old * (length machines.old * M.price)) }
 {
     let mut at = 0;
     'pairs: while machines.len() - at >= 2 {

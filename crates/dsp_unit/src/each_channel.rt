@@ -18,7 +18,7 @@ pub struct EachChannel<T: Sample, F: Filter<T> + Drop> {
 
 impl<T: Sample, F: Filter<T> + Drop> Model for EachChannel<T, F> {
     ghost use Rattle.std.specs.Prelude.{◌≡◌, ◌≤◌, ◌*◌, map, vec_len};
-    ghost use Rattle.dsp_stage.specs.Unit.{UnitState};
+    ghost use Rattle.dsp_stage.specs.Unit.{UnitState, most_room};
     ghost use Rattle.dsp_stage.specs.Filter.{filter_at, filter_room, AreFilters};
     ghost use Rattle.dsp_stage.specs.Channels.{unit_of_filters};
 
@@ -26,12 +26,15 @@ impl<T: Sample, F: Filter<T> + Drop> Model for EachChannel<T, F> {
 
     ghost view = { λ u. unit_of_filters T.format u.capacity (map F.filter u.filters.items) };
 
-    ghost invariant = { λ u. (AreFilters T.format u.capacity (map F.filter u.filters.items)) × (vec_len u.input ≡ u.capacity) × (vec_len u.output ≡ filter_room (filter_at (map F.filter u.filters.items) 0)) × (vec_len u.output * vec_len u.filters ≤ 1099511627776) × (vec_len u.filters ≤ 255) };
+    ghost invariant = { λ u. (AreFilters T.format u.capacity (map F.filter u.filters.items))
+        × (vec_len u.input ≡ u.capacity)
+        × (vec_len u.output ≡ filter_room (filter_at (map F.filter u.filters.items) 0))
+        × (vec_len u.output * vec_len u.filters ≤ most_room) × (vec_len u.filters ≤ 255) };
 }
 
 impl<T: Sample, F: Filter<T> + Drop> EachChannel<T, F> {
     ghost use Rattle.std.specs.Prelude.{◌≡◌, ◌≤◌, ◌*◌, map, length, All, IfOk};
-    ghost use Rattle.dsp_stage.specs.Unit.{IsNew, most_frames};
+    ghost use Rattle.dsp_stage.specs.Unit.{IsNew, most_frames, most_room};
     ghost use Rattle.dsp_stage.specs.Filter.{IsNewFilter, filter_at, AreFilters};
 
     /// A unit of filters that have taken nothing, one for each channel, for at most `frames` frames a
@@ -43,11 +46,14 @@ impl<T: Sample, F: Filter<T> + Drop> EachChannel<T, F> {
         room: usize,
     ) -> Result<Self, AllocError>
         requires alike { AreFilters T.format frames (map F.filter filters.items) }
-        requires fresh { All (IsNewFilter (filter_at (map F.filter filters.items) 0).block T.format frames) (map F.filter filters.items) }
+        requires fresh { All (IsNewFilter
+            (filter_at (map F.filter filters.items) 0).block T.format frames)
+            (map F.filter filters.items) }
         requires room { room ≡ most_frames (filter_at (map F.filter filters.items) 0).block frames }
-        requires samples { room * length filters.items ≤ 1099511627776 }
+        requires samples { room * length filters.items ≤ most_room }
         requires channels { length filters.items ≤ 255 }
-        ensures { IfOk result (IsNew (filter_at (map F.filter filters.items) 0).block T.format (length filters.items) frames) }
+        ensures { IfOk result (IsNew (filter_at (map F.filter filters.items) 0).block T.format
+            (length filters.items) frames) }
     {
         let input = vec![in alloc; T::zero(); frames]?;
         let output = vec![in alloc; T::zero(); room]?;
@@ -71,7 +77,7 @@ impl<T: Sample, F: Filter<T> + Drop> EachChannel<T, F> {
         requires channels { 1 ≤ channels }
         requires frames { 1 ≤ frames }
         requires samples { frames * channels ≤ MAX_SAMPLES }
-        requires room { most_frames block.now frames * channels ≤ 1099511627776 }
+        requires room { most_frames block.now frames * channels ≤ most_room }
         ensures { IfOk result (IsNew block.now T.format channels frames) }
     {
         let mut filters = Vec::with_capacity(alloc, usize::from(channels))?;

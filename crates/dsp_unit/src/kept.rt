@@ -44,9 +44,13 @@ fn numbers_of(numbers: &[i64], size: usize, channel: usize) -> &[i64]
 
 /// The least number of samples of which these can be the numbers that the filters keep, if there is one.
 pub fn place_channels<T: Sample, F: Filter<T>>(filters: &[F], numbers: &[i64]) -> Option<u64>
-    requires { AreFilters T.format (filter_at (map F.filter filters.now) 0).capacity (map F.filter filters.now) }
-    ensures fits { IfSome result (λ n. FitsAfter T.format (length filters.now) (filter_at (map F.filter filters.now) 0).block n numbers.now) }
-    ensures least { (n : ℕ) → FitsAfter T.format (length filters.now) (filter_at (map F.filter filters.now) 0).block n numbers.now → result ≡ Some (place_of (filter_at (map F.filter filters.now) 0).block n) }
+    requires { AreFilters T.format (filter_at (map F.filter filters.now) 0).capacity
+        (map F.filter filters.now) }
+    ensures fits { IfSome result (λ n. FitsAfter T.format (length filters.now)
+        (filter_at (map F.filter filters.now) 0).block n numbers.now) }
+    ensures least { (n : ℕ) → FitsAfter T.format (length filters.now)
+        (filter_at (map F.filter filters.now) 0).block n numbers.now
+        → result ≡ Some (place_of (filter_at (map F.filter filters.now) 0).block n) }
 {
     let channels = filters.len();
     if numbers.len() % channels != 0 {
@@ -69,9 +73,11 @@ pub fn place_channels<T: Sample, F: Filter<T>>(filters: &[F], numbers: &[i64]) -
 
 /// Each filter keeps its channel's numbers from now on.
 pub fn restore_channels<T: Sample, F: Filter<T>>(filters: &mut [F], numbers: &[i64])
-    requires alike { AreFilters T.format (filter_at (map F.filter filters.old) 0).capacity (map F.filter filters.old) }
+    requires alike { AreFilters T.format (filter_at (map F.filter filters.old) 0).capacity
+        (map F.filter filters.old) }
     requires running { IsFalse (filter_at (map F.filter filters.old) 0).ended }
-    requires fits { Fits T.format (length filters.old) (filter_at (map F.filter filters.old) 0).block numbers.now }
+    requires fits { Fits T.format (length filters.old)
+        (filter_at (map F.filter filters.old) 0).block numbers.now }
     ensures { AreRestored (map F.filter filters.old) (map F.filter filters.new) numbers.now }
 {
     let channels = filters.len();

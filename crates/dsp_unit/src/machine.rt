@@ -18,7 +18,8 @@ pub trait Machine<T: Sample> {
     /// The value for the next sample.
     fn step<L: Ledger>(&mut self, x: T, steps: &mut Steps<L>) -> T
         ensures acts { acts self.new ≡ acts self.old }
-        ensures goes { GoesOn (acts self.old).gives (acts self.old).keeps (kept self.old) (kept self.new) (T.number x ∷ []) (T.number result ∷ []) }
+        ensures goes { GoesOn (acts self.old).gives (acts self.old).keeps (kept self.old)
+            (kept self.new) (T.number x ∷ []) (T.number result ∷ []) }
         ensures steps { Rises steps.old steps.new price price };
 
     ghost size: { (m : Self) (x : List ℤ) → length (kept m) ≡ length ((acts m).keeps x) };
@@ -32,8 +33,10 @@ pub fn run_machine<T: Sample, M: Machine<T>, L: Ledger>(
     steps: &mut Steps<L>,
 )
     ensures acts { M.acts machine.new ≡ M.acts machine.old }
-    ensures goes { GoesOn (M.acts machine.old).gives (M.acts machine.old).keeps (M.kept machine.old) (M.kept machine.new) (map T.number samples.old) (map T.number samples.new) }
-    ensures steps { Rises steps.old steps.new (length samples.old * M.price) (length samples.old * M.price) }
+    ensures goes { GoesOn (M.acts machine.old).gives (M.acts machine.old).keeps (M.kept machine.old)
+        (M.kept machine.new) (map T.number samples.old) (map T.number samples.new) }
+    ensures steps { Rises steps.old steps.new (length samples.old * M.price)
+        (length samples.old * M.price) }
 {
     for sample in samples.iter_mut() {
         *sample = machine.step(*sample, steps);

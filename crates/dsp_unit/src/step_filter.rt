@@ -57,7 +57,8 @@ impl<T: Sample, W: Stepwise<T> + Drop> StepFilter<T, W> {
         requires room { length input.now ≤ length output.old }
         ensures given { result ≡ length input.now }
         ensures running { IsFalse self.new.ended }
-        ensures fed { FilterFeeds self.old self.new (map T.number input.now) (map T.number (take result output.new)) steps.old steps.new }
+        ensures fed { FilterFeeds self.old self.new (map T.number input.now)
+            (map T.number (take result output.new)) steps.old steps.new }
         ensures multiplies { steps.new.multiplies ≡ steps.old.multiplies + result * W.price self.old.block }
         ensures rest { drop result output.new ≡ drop result output.old }
     {

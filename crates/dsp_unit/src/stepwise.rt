@@ -32,9 +32,12 @@ pub trait Stepwise<T: Sample> {
     /// Writes over each sample the value that the block gives for it.
     fn run<L: Ledger>(&mut self, samples: &mut [T], steps: &mut Steps<L>)
         ensures block { block self.new ≡ block self.old }
-        ensures goes { GoesOn (of_channel T.format (block self.old)) (kept_of_channel T.format (block self.old)) (kept self.old) (kept self.new) (map T.number samples.old) (map T.number samples.new) }
+        ensures goes { GoesOn (of_channel T.format (block self.old))
+            (kept_of_channel T.format (block self.old)) (kept self.old) (kept self.new)
+            (map T.number samples.old) (map T.number samples.new) }
         ensures size { length (kept self.new) ≡ length (kept self.old) }
-        ensures steps { Rises steps.old steps.new (length samples.old * price (block self.old)) (length samples.old * price (block self.old)) };
+        ensures steps { Rises steps.old steps.new (length samples.old * price (block self.old))
+            (length samples.old * price (block self.old)) };
 
     /// How many numbers it keeps from call to call.
     fn kept_count(&self) -> usize

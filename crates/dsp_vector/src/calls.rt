@@ -34,7 +34,8 @@ pub fn vec_mult<T: VectorSample, M: Ledger>(a: &[T], b: &[T], out: &mut [T], ste
     requires left { length a.now ≡ length out.old }
     requires right { length b.now ≡ length out.old }
     ensures out { map T.number out.new ≡ zip2 (mult T.format) (map T.number a.now) (map T.number b.now) }
-    ensures steps { RisesWithin steps.old steps.new (length out.old) (lane_turns T.format (length out.old)) }
+    ensures steps { RisesWithin steps.old steps.new (length out.old)
+        (lane_turns T.format (length out.old)) }
 {
     T::mult_slices(a, b, out, steps)
 }
@@ -78,8 +79,10 @@ pub fn vec_scale<T: VectorSample, M: Ledger>(
 )
     requires places { IsScaleShift T.format places }
     requires same { length a.now ≡ length out.old }
-    ensures out { map T.number out.new ≡ map (scale T.format (T.number factor) places) (map T.number a.now) }
-    ensures steps { RisesWithin steps.old steps.new (length out.old) (lane_turns T.format (length out.old)) }
+    ensures out { map T.number out.new ≡ map (scale T.format (T.number factor) places)
+        (map T.number a.now) }
+    ensures steps { RisesWithin steps.old steps.new (length out.old)
+        (lane_turns T.format (length out.old)) }
 {
     T::scale_slices(a, factor, places, out, steps)
 }

@@ -81,7 +81,8 @@ pub(crate) struct Scale {
 }
 
 impl<T: Sample> Change<T, T> for Scale {
-    ghost CanChange = { λ scaled. FitsSigned (word T.format) scaled.fract × IsScaleShift T.format scaled.shift };
+    ghost CanChange = { λ scaled. FitsSigned (word T.format) scaled.fract
+        × IsScaleShift T.format scaled.shift };
 
     ghost value = { λ scaled. scale T.format scaled.fract scaled.shift };
 
@@ -118,7 +119,8 @@ pub(crate) struct Clip {
 }
 
 impl<T: Sample> Change<T, T> for Clip {
-    ghost CanChange = { λ limits. (FitsSigned (word T.format) limits.low) × (FitsSigned (word T.format) limits.high) × (limits.low ≤ℤ limits.high) };
+    ghost CanChange = { λ limits. (FitsSigned (word T.format) limits.low)
+        × (FitsSigned (word T.format) limits.high) × (limits.low ≤ℤ limits.high) };
 
     ghost value = { λ limits. clip limits.low limits.high };
 
@@ -159,7 +161,8 @@ pub(crate) fn change_each<T: Sample, U: Sample, O: Change<T, U>, L: Ledger>(
     ensures count { result ≡ length samples.now }
     ensures values { take (length samples.now) out.new ≡ map (O.value operation) samples.now }
     ensures fits { All (FitsSigned (word U.format)) (take (length samples.now) out.new) }
-    ensures steps { Rises steps.old steps.new (length samples.now * O.price) (length samples.now * O.price) }
+    ensures steps { Rises steps.old steps.new (length samples.now * O.price)
+        (length samples.now * O.price) }
 {
     for (i, sample) in samples.iter().enumerate() {
         out[i] = operation.change(T::of_number(*sample), steps).number();

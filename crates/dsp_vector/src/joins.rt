@@ -73,9 +73,11 @@ pub(crate) fn join_pairs<T: Sample, O: Join<T>, L: Ledger>(
     requires in_format { All (FitsSigned (word T.format)) samples.now }
     requires room { length samples.now / 2 ≤ length out.old }
     ensures count { result ≡ length samples.now / 2 }
-    ensures values { take (length samples.now / 2) out.new ≡ values (length samples.now / 2) (λ n. O.value (sample samples.now (n * 2)) (sample samples.now (n * 2 + 1))) }
+    ensures values { take (length samples.now / 2) out.new ≡ values (length samples.now / 2) (λ n.
+        O.value (sample samples.now (n * 2)) (sample samples.now (n * 2 + 1))) }
     ensures fits { All (FitsSigned (word T.format)) (take (length samples.now / 2) out.new) }
-    ensures steps { Rises steps.old steps.new (length samples.now / 2 * O.price) (length samples.now / 2 * O.price) }
+    ensures steps { Rises steps.old steps.new (length samples.now / 2 * O.price)
+        (length samples.now / 2 * O.price) }
 {
     let count = samples.len() / 2;
     for n in 0..count {

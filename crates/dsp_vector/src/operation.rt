@@ -54,11 +54,14 @@ impl Operation {
         requires suits { Suits (record { format = T.format; channels = channels }) (block_of self.now) }
         requires some { 1 ≤ channels }
         requires signal { IsSignal T.format channels frames.now }
-        requires room { length (frames_in channels frames.now) * channels_after channels (block_of self.now) ≤ length out.old }
+        requires room { length (frames_in channels frames.now) * channels_after channels
+            (block_of self.now) ≤ length out.old }
         ensures within { result ≤ length out.old }
         ensures given { Gives T.format channels (block_of self.now) frames.now (take result out.new) }
-        ensures multiplies { steps.new.multiplies ≡ steps.old.multiplies + length (frames_in channels frames.now) * price (block_of self.now) channels }
-        ensures turns { steps.new.turns ≤ steps.old.turns + length (frames_in channels frames.now) * price (block_of self.now) channels }
+        ensures multiplies { steps.new.multiplies ≡ steps.old.multiplies + length
+            (frames_in channels frames.now) * price (block_of self.now) channels }
+        ensures turns { steps.new.turns ≤ steps.old.turns + length
+            (frames_in channels frames.now) * price (block_of self.now) channels }
     {
         match self {
             Operation::Offset { value } => {

@@ -15,8 +15,10 @@ fn copy_channel(
     requires to { to < width }
     requires whole { length frames.now ≡ count * channels }
     requires room { count * width ≤ length out.old }
-    ensures here { (n : ℕ) → n < count → sample out.new (n * width + to) ≡ sample frames.now (n * channels + from) }
-    ensures elsewhere { (n c : ℕ) → c < width → c ≢ to → sample out.new (n * width + c) ≡ sample out.old (n * width + c) }
+    ensures here { (n : ℕ) → n < count → sample out.new (n * width + to)
+        ≡ sample frames.now (n * channels + from) }
+    ensures elsewhere { (n c : ℕ) → c < width → c ≢ to
+        → sample out.new (n * width + c) ≡ sample out.old (n * width + c) }
 {
     for n in 0..count {
         out[n * width + to] = frames[n * channels + from];
@@ -34,7 +36,8 @@ pub(crate) fn route_frames(
     requires inside { All (λ c. nat_abs c < channels) list.now }
     requires whole { length frames.now ≡ count * channels }
     requires room { count * length list.now ≤ length out.old }
-    ensures { (n c : ℕ) → n < count → c < length list.now → sample out.new (n * length list.now + c) ≡ sample frames.now (n * channels + nat_abs (sample list.now c)) }
+    ensures { (n c : ℕ) → n < count → c < length list.now → sample out.new (n * length list.now + c)
+        ≡ sample frames.now (n * channels + nat_abs (sample list.now c)) }
 {
     for (to, channel) in list.iter().enumerate() {
         let from = channel.unsigned_abs() as usize;

@@ -15,8 +15,10 @@ pub trait VectorSample: LaneSample<4> {
     fn mult_slices<M: Ledger>(a: &[Self], b: &[Self], out: &mut [Self], steps: &mut Steps<M>)
         requires left { length a.now ≡ length out.old }
         requires right { length b.now ≡ length out.old }
-        ensures out { map Self.number out.new ≡ zip2 (mult Self.format) (map Self.number a.now) (map Self.number b.now) }
-        ensures steps { RisesWithin steps.old steps.new (length out.old) (lane_turns Self.format (length out.old)) };
+        ensures out { map Self.number out.new ≡ zip2 (mult Self.format) (map Self.number a.now)
+            (map Self.number b.now) }
+        ensures steps { RisesWithin steps.old steps.new (length out.old)
+            (lane_turns Self.format (length out.old)) };
 
     /// Times a fraction and 2^places, for slices of equal lengths.
     fn scale_slices<M: Ledger>(
@@ -28,8 +30,10 @@ pub trait VectorSample: LaneSample<4> {
     )
         requires places { IsScaleShift Self.format places }
         requires same { length a.now ≡ length out.old }
-        ensures out { map Self.number out.new ≡ map (scale Self.format (Self.number factor) places) (map Self.number a.now) }
-        ensures steps { RisesWithin steps.old steps.new (length out.old) (lane_turns Self.format (length out.old)) };
+        ensures out { map Self.number out.new ≡ map (scale Self.format (Self.number factor) places)
+            (map Self.number a.now) }
+        ensures steps { RisesWithin steps.old steps.new (length out.old)
+            (lane_turns Self.format (length out.old)) };
 }
 
 impl VectorSample for i8 {

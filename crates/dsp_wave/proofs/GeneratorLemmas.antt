@@ -10,7 +10,7 @@ use Rattle.dsp_ports.specs.Ports.{Gave}
 use Rattle.dsp_defs.specs.Numbers.{wrap}
 use Rattle.dsp_defs.specs.Wave.{HeaderFits, data_size, wave_header, pad}
 use Rattle.dsp_defs.specs.Generator.{generated_bytes}
-use Rattle.dsp_defs.specs.declared.limits.TheConstants.{GENERATED_RATE}
+use Rattle.dsp_defs.specs.declared.limits.TheConstants.{GENERATED_RATE, MAX_CHANNELS, MAX_GENERATED, MAX_INPUT}
 use Rattle.dsp_defs.specs.declared.format.InputKind.{InputKind}
 use Rattle.dsp_defs.specs.declared.format.InputKind.TheVariants as Kinds
 use Rattle.dsp_defs.specs.declared.format.Input.{Input}
@@ -19,6 +19,7 @@ use Rattle.dsp_defs.specs.Bytes.{bytes_of, coded, coding_of, word_bytes}
 use Rattle.dsp_defs.specs.Signal.{values}
 use Rattle.dsp_defs.specs.Generator.{generator_state, state_sample, generated}
 use Rattle.dsp_defs.specs.declared.format.Fmt.{Fmt}
+use Rattle.dsp_defs.specs.declared.format.Fmt.TheVariants.{Q31}
 use Rattle.dsp_defs.specs.declared.format.Container.{Container}
 use Rattle.dsp_defs.specs.declared.format.Container.TheVariants.{Wave, Raw}
 use Rattle.dsp_defs.proofs.CodingLemmas.{length-bytes_of, width-coding_of, word_bytes-small}
@@ -128,10 +129,11 @@ length-made container format s (suc n) =
     ∙ size
 
 -- a generated input is small
-pub data_small : (format : Fmt) (channels frames : ℕ) → channels ≤ 16 → frames ≤ 16777216 → frames * channels * word_bytes format ≤ 1073741824
+pub data_small : (format : Fmt) (channels frames : ℕ) → channels ≤ MAX_CHANNELS → frames ≤ MAX_GENERATED
+    → frames * channels * word_bytes format ≤ MAX_GENERATED * MAX_CHANNELS * word_bytes Q31
 data_small format channels frames few short = mul-le-mul (mul-le-mul short few) (word_bytes-small format)
 
-pub header_fits : (format : Fmt) (channels frames : ℕ) → channels ≤ 16 → frames ≤ 16777216 → HeaderFits Wave format channels (Some frames)
+pub header_fits : (format : Fmt) (channels frames : ℕ) → channels ≤ MAX_CHANNELS → frames ≤ MAX_GENERATED → HeaderFits Wave format channels (Some frames)
 header_fits format channels frames few short = (let small = data_small format channels frames few short in omega (arith, small))
 
 pad_small : (format : Fmt) (channels frames : ℕ) → length (pad format channels (Some frames)) ≤ 1
@@ -141,8 +143,8 @@ pad_small format channels frames = go (nat_eq (data_size format channels (Some f
     go true = omega arith
     go false = omega arith
 
-bytes_small : (kind : InputKind) (format : Fmt) (channels seed frames : ℕ) → channels ≤ 16 → frames ≤ 16777216
-    → length (generated_bytes (record { kind = kind; format = format; channels = channels }) seed frames) ≤ 1099511627776
+bytes_small : (kind : InputKind) (format : Fmt) (channels seed frames : ℕ) → channels ≤ MAX_CHANNELS → frames ≤ MAX_GENERATED
+    → length (generated_bytes (record { kind = kind; format = format; channels = channels }) seed frames) ≤ MAX_INPUT
 bytes_small (Kinds.Raw rate) format channels seed frames few short =
     let small = data_small format channels frames few short in
     let size = ap length (generated-made Raw format channels seed frames) ∙ length-made Raw format seed (frames * channels) in
@@ -157,7 +159,7 @@ bytes_small Kinds.Wave format channels seed frames few short =
     let head : length header ≡ 44 = refl in
     omega (arith, small, size, little, head, length-append (header ++ samples) last, length-append header samples)
 
-pub generated_bytes-small : (input : Input) (seed frames : ℕ) → input.channels ≤ 16 → frames ≤ 16777216 → length (generated_bytes input seed frames) ≤ 1099511627776
+pub generated_bytes-small : (input : Input) (seed frames : ℕ) → input.channels ≤ MAX_CHANNELS → frames ≤ MAX_GENERATED → length (generated_bytes input seed frames) ≤ MAX_INPUT
 generated_bytes-small input seed frames few short = bytes_small input.kind input.format input.channels seed frames few short
 
 swapped : {A : Type 0} (b : Bool) (x y : A) → (if not b then x else y) ≡ (if b then y else x)

@@ -103,8 +103,12 @@ fn take_format<S: Source>(
     requires head { IsFormatHead head.now }
     requires room { length body.old ≡ 40 }
     requires offset { offset + 8 ≤ 2 ^ 40 }
-    ensures ok { IfOk result (λ count. Came (offset + 8) count (S.state source.old) (S.state source.new) (take count body.new) × IsEnough (u32_at head.now 4) (take count body.new)) }
-    ensures err { (wanted : Wanted) → IfErr result (λ error. Stopped (said_behind wanted offset head.now) (offset + 8) (S.state source.old) (S.state source.new) error) }
+    ensures ok { IfOk result (λ count. Came (offset + 8) count (S.state source.old)
+        (S.state source.new) (take count body.new)
+        × IsEnough (u32_at head.now 4) (take count body.new)) }
+    ensures err { (wanted : Wanted) → IfErr result (λ error.
+        Stopped (said_behind wanted offset head.now) (offset + 8) (S.state source.old)
+        (S.state source.new) error) }
 {
     let size = LittleEndian::read_u32(&head[4..]);
     if size < PLAIN_SIZE as u32 {
@@ -130,8 +134,11 @@ pub(crate) fn read_format<S: Source>(
 ) -> Result<Sampling, HeaderOr>
     requires head { IsFormatHead head.now }
     requires offset { offset + 8 ≤ 2 ^ 40 }
-    ensures ok { IfOk result (λ sampling. FormatRead wanted offset head.now (S.state source.old) (S.state source.new) sampling) }
-    ensures err { IfErr result (λ error. Stopped (said_behind wanted offset head.now) (offset + 8) (S.state source.old) (S.state source.new) error) }
+    ensures ok { IfOk result (λ sampling.
+        FormatRead wanted offset head.now (S.state source.old) (S.state source.new) sampling) }
+    ensures err { IfErr result (λ error.
+        Stopped (said_behind wanted offset head.now) (offset + 8) (S.state source.old)
+        (S.state source.new) error) }
 {
     let size = LittleEndian::read_u32(&head[4..]);
     let mut bytes = [0; EXTENSIBLE_SIZE];

@@ -94,7 +94,8 @@ impl Model for GenSource {
 
     ghost view = { λ s. record { rest = to_come s.pieces; taken = s.taken } };
 
-    ghost invariant = { λ s. (s.pieces.given ≤ array_vec_len s.pieces.ready) × (s.taken + length (to_come s.pieces) ≤ 2 ^ 40) };
+    ghost invariant = { λ s. (s.pieces.given ≤ array_vec_len s.pieces.ready)
+        × (s.taken + length (to_come s.pieces) ≤ 2 ^ 40) };
 }
 
 impl GenSource {
@@ -135,13 +136,20 @@ impl GenSource {
 }
 
 impl Source for GenSource {
+    ghost use Rattle.std.specs.Prelude.{⊤};
+
     ghost state = { generation_state };
+
+    // It says no more of a read than its clauses.
+    ghost Reads = { λ _ _ _. ⊤ };
 
     fn read(&mut self, into: &mut [u8]) -> Result<usize, Failed>
         ensures ok { IsOk result }
         ensures within { IfOk result (λ count. count ≤ length into.new) }
-        ensures gave { IfOk result (λ count. Gave (generation_state self.old) (generation_state self.new) (take count into.new)) }
-        ensures end { IfOk result (λ count. count ≡ 0 → 0 < length into.new → IsAtEnd (Some self.new.rest)) }
+        ensures gave { IfOk result (λ count.
+            Gave (generation_state self.old) (generation_state self.new) (take count into.new)) }
+        ensures end { IfOk result (λ count.
+            count ≡ 0 → 0 < length into.new → IsAtEnd (Some self.new.rest)) }
     {
         self.pieces.refill();
         let piece = &self.pieces.ready[self.pieces.given..];

@@ -39,8 +39,10 @@ const PIECE: usize = 4096;
 /// Fills the piece. That the file ends before is a fault of it.
 pub(crate) fn take<S: Source>(source: &mut S, piece: &mut [u8], taken: u64) -> Result<(), HeaderOr>
     requires { taken ≤ 2 ^ 40 }
-    ensures ok { IfOk result (λ _. Came taken (length piece.new) (S.state source.old) (S.state source.new) piece.new) }
-    ensures err { IfErr result (λ error. Missing taken (length piece.new) (S.state source.old) (S.state source.new) error) }
+    ensures ok { IfOk result (λ _. Came taken (length piece.new) (S.state source.old)
+        (S.state source.new) piece.new) }
+    ensures err { IfErr result (λ error.
+        Missing taken (length piece.new) (S.state source.old) (S.state source.new) error) }
 {
     match fill(source, piece, MAX_INPUT - taken) {
         Ok(count) if count < piece.len() => Err(HeaderOr::Fault {
@@ -57,8 +59,10 @@ pub(crate) fn take<S: Source>(source: &mut S, piece: &mut [u8], taken: u64) -> R
 pub(crate) fn skip<S: Source>(source: &mut S, count: u64, taken: u64) -> Result<(), HeaderOr>
     requires limit { taken ≤ 2 ^ 40 }
     requires count { count ≤ 2 ^ 33 }
-    ensures ok { IfOk result (λ _. (bytes : List ℕ) × Came taken count (S.state source.old) (S.state source.new) bytes) }
-    ensures err { IfErr result (λ error. Missing taken count (S.state source.old) (S.state source.new) error) }
+    ensures ok { IfOk result (λ _. (bytes : List ℕ)
+        × Came taken count (S.state source.old) (S.state source.new) bytes) }
+    ensures err { IfErr result (λ error.
+        Missing taken count (S.state source.old) (S.state source.new) error) }
 {
     let mut buffer = [0; PIECE];
     let mut skipped = 0;
@@ -73,7 +77,13 @@ pub(crate) fn skip<S: Source>(source: &mut S, count: u64, taken: u64) -> Result<
 /// What a `data` chunk at the offset heads, where a `fmt ` chunk came before it.
 fn samples_at(known: Option<Sampling>, size: u32, offset: u64) -> Option<Header>
     requires { offset ≤ 2 ^ 40 }
-    ensures { result ≡ option_map (λ known. record { rate = known.rate; start = offset + 8; size = declared_size size; coding = known.coding }) known }
+    ensures { result ≡ option_map (λ known.
+        record {
+          rate = known.rate;
+          start = offset + 8;
+          size = declared_size size;
+          coding = known.coding;
+        }) known }
 {
     let size = if size == u32::MAX { None } else { Some(size) };
     match known {
@@ -109,8 +119,11 @@ fn next_chunk<S: Source>(
     offset: u64,
 ) -> Result<Next, HeaderOr>
     requires { offset ≤ 2 ^ 40 }
-    ensures ok { IfOk result (λ next. Chunked wanted offset known (S.state source.old) (S.state source.new) next) }
-    ensures err { IfErr result (λ error. Stopped (said_from wanted offset known) offset (S.state source.old) (S.state source.new) error) }
+    ensures ok { IfOk result (λ next. Chunked wanted offset known (S.state source.old)
+        (S.state source.new) next) }
+    ensures err { IfErr result (λ error.
+        Stopped (said_from wanted offset known) offset (S.state source.old)
+        (S.state source.new) error) }
 {
     let mut head = [0; 8];
     take(source, &mut head, offset)?;
@@ -135,8 +148,11 @@ fn next_chunk<S: Source>(
 
 /// Reads the `RIFF` and `WAVE` with which the file begins.
 fn read_riff<S: Source>(source: &mut S) -> Result<(), HeaderOr>
-    ensures ok { (wanted : Wanted) → IfOk result (λ _. RiffRead wanted (S.state source.old) (S.state source.new)) }
-    ensures err { (wanted : Wanted) → IfErr result (λ error. Stopped (λ bytes. header_of bytes wanted) 0 (S.state source.old) (S.state source.new) error) }
+    ensures ok { (wanted : Wanted) → IfOk result
+        (λ _. RiffRead wanted (S.state source.old) (S.state source.new)) }
+    ensures err { (wanted : Wanted) → IfErr result (λ error.
+        Stopped (λ bytes. header_of bytes wanted) 0 (S.state source.old)
+        (S.state source.new) error) }
 {
     let mut first = [0; 12];
     let count = match fill(source, &mut first, MAX_INPUT) {
@@ -163,8 +179,12 @@ fn read_riff<S: Source>(source: &mut S) -> Result<(), HeaderOr>
 /// A fault has its offset in bytes from the file's begin. The declared size of the samples is in bytes, and no size
 /// means that they go to the end of the file.
 pub fn read_header<S: Source>(source: &mut S, wanted: Wanted) -> Result<Header, HeaderOr>
-    ensures ok { IfOk result (λ header. Headed (λ bytes. header_of bytes wanted) 0 (S.state source.old) (S.state source.new) header) }
-    ensures err { IfErr result (λ error. Stopped (λ bytes. header_of bytes wanted) 0 (S.state source.old) (S.state source.new) error) }
+    ensures ok { IfOk result (λ header.
+        Headed (λ bytes. header_of bytes wanted) 0 (S.state source.old)
+        (S.state source.new) header) }
+    ensures err { IfErr result (λ error.
+        Stopped (λ bytes. header_of bytes wanted) 0 (S.state source.old)
+        (S.state source.new) error) }
 {
     read_riff(source)?;
     let mut known = None;

@@ -8,7 +8,8 @@ use dsp_defs::Coding;
 #[inline(always)]
 fn decode_by(coding: Coding, bytes: &[u8], samples: &mut [i32])
     requires { length bytes.now ≡ length samples.old * width coding }
-    ensures values { samples.new ≡ values (length samples.old) (λ i. sample_of coding (take (width coding) (drop (i * width coding) bytes.now))) }
+    ensures values { samples.new ≡ values (length samples.old) (λ i.
+        sample_of coding (take (width coding) (drop (i * width coding) bytes.now))) }
     ensures fits { All (IsValue coding) samples.new }
 {
     let width = width(coding);
@@ -35,7 +36,8 @@ fn encode_by(coding: Coding, samples: &[i32], bytes: &mut [u8])
 /// `width(coding)` bytes for each sample of `samples`.
 pub fn decode(coding: Coding, bytes: &[u8], samples: &mut [i32])
     requires { length bytes.now ≡ length samples.old * width coding }
-    ensures values { samples.new ≡ values (length samples.old) (λ i. sample_of coding (take (width coding) (drop (i * width coding) bytes.now))) }
+    ensures values { samples.new ≡ values (length samples.old) (λ i.
+        sample_of coding (take (width coding) (drop (i * width coding) bytes.now))) }
     ensures fits { All (IsValue coding) samples.new }
 {
     match coding {

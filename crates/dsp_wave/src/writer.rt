@@ -111,7 +111,9 @@ pub fn write_header(
     requires channels { channels ≤ MAX_CHANNELS }
     requires size { HeaderFits container format channels frames }
     ensures bytes { result.items ≡ wave_header container format channels rate frames }
-    ensures heads { (rest : List ℕ) → Heads (result.items ++ rest) (record { format = format; channels = channels }) (written_header container format channels rate frames) }
+    ensures heads { (rest : List ℕ) → Heads (result.items ++ rest)
+        (record { format = format; channels = channels })
+        (written_header container format channels rate frames) }
 {
     let (riff, data) = sizes(container, format, channels, frames);
     let (size, tag) = format_of(container);

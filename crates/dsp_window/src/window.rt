@@ -18,7 +18,12 @@ impl<T: Sample> Model for Window<T> {
 
     ghost Value = { Rolling };
 
-    ghost view = { λ w. record { past = w.past; room = vec_len w.samples - w.past; samples = map T.number (take w.filled w.samples.items) } };
+    ghost view = { λ w.
+        record {
+          past = w.past;
+          room = vec_len w.samples - w.past;
+          samples = map T.number (take w.filled w.samples.items);
+        } };
 
     ghost invariant = { λ w. (w.past ≤ w.filled) × (w.filled ≤ vec_len w.samples) };
 }
@@ -32,7 +37,8 @@ impl<T: Sample> Window<T> {
     pub fn new(alloc: Global, past: usize, block: usize) -> Result<Self, AllocError>
         requires past { past ≤ MAX_DELAY }
         requires block { block ≤ MAX_SAMPLES }
-        ensures made { IfOk result (λ w. w ≡ record { past = past; room = block; samples = replicate past (pos 0) }) }
+        ensures made { IfOk result (λ w.
+            w ≡ record { past = past; room = block; samples = replicate past (pos 0) }) }
         ensures shows { IfOk result (λ w. Shows w [] []) }
     {
         let samples = zeros(alloc, past + block)?;
@@ -46,8 +52,13 @@ impl<T: Sample> Window<T> {
     /// The last samples become the past, and the block follows them.
     pub fn push_block(&mut self, block: &[T])
         requires { length block.now ≤ self.old.room }
-        ensures rolls { self.new ≡ record self.old { samples = last_samples self.old.past self.old.samples ++ map T.number block.now } }
-        ensures shows { (before last : List ℤ) → Shows self.old before last → Shows self.new (before ++ last) (map T.number block.now) }
+        ensures rolls { self.new
+            ≡ record self.old {
+              samples = last_samples self.old.past self.old.samples
+                  ++ map T.number block.now;
+            } }
+        ensures shows { (before last : List ℤ) → Shows self.old before last
+            → Shows self.new (before ++ last) (map T.number block.now) }
     {
         let from = self.filled - self.past;
         roll(&mut self.samples, from, self.past, block);
@@ -75,7 +86,8 @@ impl<T: Sample> Window<T> {
 
     /// Whether these can be the numbers of a past.
     pub fn fits(&self, numbers: &[i64]) -> bool
-        ensures { IsTrue result ↔ (length numbers.now ≡ self.now.past) × All (FitsSigned (word T.format)) numbers.now }
+        ensures { IsTrue result ↔ (length numbers.now ≡ self.now.past)
+            × All (FitsSigned (word T.format)) numbers.now }
     {
         numbers.len() == self.past && numbers.iter().all(|n| is_sample::<T>(*n))
     }

@@ -95,7 +95,12 @@ fn read_ahead<R: Files>(
 }
 
 impl<R: Files> Source for FileSource<'_, R> {
+    ghost use Rattle.std.specs.Prelude.{⊤};
+
     ghost state = { λ s. record { left = None; taken = s.taken; faults = s.faults } };
+
+    // A file tells nothing of its reads.
+    ghost Reads = { λ _ _ _. ⊤ };
 
     fn read(&mut self, into: &mut [u8]) -> Result<usize, Failed> {
         if into.len() as u64 <= u64::MAX - self.taken {

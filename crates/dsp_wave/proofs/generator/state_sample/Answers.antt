@@ -1,4 +1,4 @@
-use Rattle.std.proofs.Common.{◌∙◌, sym, ap, ◌/◌, w8, w16, w32, arith}
+use Rattle.std.proofs.Common.{◌∙◌, sym, ap, ◌/◌, ◌^◌, w8, w16, w32, arith}
 use Rattle.std.proofs.lemmas.Int.{to_z-of_z}
 use Rattle.dsp_defs.specs.Generator.{state_sample}
 use Rattle.dsp_defs.specs.declared.format.Fmt.{Fmt}
@@ -11,7 +11,7 @@ returns-in-Q7-clause-value c =
     ∙ c.from.ensures
     ∙ to_z-of_z w8 c.cast_signed.result (record { sfits = omega (arith, c.cast_signed.type_inv) })
     ∙ c.cast_signed.ensures
-    ∙ sym (wrap-cast w8 (c.args.state / 16777216) (omega (arith, c.ranges.state)))
+    ∙ sym (wrap-cast w8 (c.args.state / 2 ^ 24) (omega (arith, c.ranges.state)))
     ∙ ap (λ (format : Fmt). state_sample format c.args.state) (sym c.in-Q7.is)
 
 pub returns-in-Q15-clause-value : goal.returns-in-Q15-clause-value
@@ -20,7 +20,7 @@ returns-in-Q15-clause-value c =
     ∙ c.from-in-Q15.ensures
     ∙ to_z-of_z w16 c.cast_signed-in-Q15.result (record { sfits = omega (arith, c.cast_signed-in-Q15.type_inv) })
     ∙ c.cast_signed-in-Q15.ensures
-    ∙ sym (wrap-cast w16 (c.args.state / 65536) (omega (arith, c.ranges.state)))
+    ∙ sym (wrap-cast w16 (c.args.state / 2 ^ 16) (omega (arith, c.ranges.state)))
     ∙ ap (λ (format : Fmt). state_sample format c.args.state) (sym c.in-Q15.is)
 
 pub returns-in-Q31-clause-value : goal.returns-in-Q31-clause-value

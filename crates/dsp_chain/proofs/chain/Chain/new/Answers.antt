@@ -5,7 +5,8 @@ use Rattle.dsp_defs.specs.declared.limits.TheConstants.{MAX_CHANNELS, MAX_SAMPLE
 use Rattle.dsp_defs.specs.Block.{channels_after}
 use Rattle.dsp_defs.specs.declared.script.Block.{Block}
 use Rattle.dsp_stage.specs.Unit.{UnitState}
-use Rattle.dsp_chain.specs.Chain.{input_place, state_of}
+use Rattle.dsp_blocks.specs.BlockUnit.{state_of}
+use Rattle.dsp_chain.specs.Chain.{input_place}
 use Rattle.dsp_stage.proofs.ChainPlaces.{legal_is_open, has_groups, flow_at}
 use Rattle.dsp_chain.proofs.Making.{Making, making-none, making-more, next-place, making-open, Next, next-first, making-next}
 use Rattle.dsp_chain.proofs.NewChain.{new-whole, new-chain, rules-more}

@@ -1,5 +1,5 @@
 ghost use Rattle.std.specs.Prelude.{◌≡◌};
-ghost use Rattle.dsp_chain.specs.Family.{family_of};
+ghost use Rattle.dsp_blocks.specs.Family.{family_of};
 
 use dsp_defs::Block;
 

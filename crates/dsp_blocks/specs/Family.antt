@@ -1,8 +1,8 @@
 -- Which blocks have the same kind of unit.
 use Rattle.dsp_defs.specs.declared.script.Block.{Block}
 use Rattle.dsp_defs.specs.declared.script.Block.TheVariants.{Offset, Negate, Abs, Scale, Shift, Clip, To, Add, Sub, Mult, Route, Conj, CmplxMult, CmplxMultReal, MagSquared, Fir, Sparse, Decimate, Interpolate, LatticeFir, LatticeIir, Biquad, Biquad64, Conv, ConvPartial, Correlate, Lms, Pid, MatAdd, MatSub, MatScale, MatTrans, MatMult, Power, Dot, CmplxDot, Max, Min}
-use Rattle.dsp_chain.specs.declared.family.Family.{Family}
-use Rattle.dsp_chain.specs.declared.family.Family.TheVariants as family
+use Rattle.dsp_blocks.specs.declared.family.Family.{Family}
+use Rattle.dsp_blocks.specs.declared.family.Family.TheVariants as family
 
 -- the kind of a block's unit
 abbrev pub family_of : Block → Family

@@ -4,7 +4,7 @@ use Rattle.std.proofs.lemmas.List.{get_or-set_other, get_or-set_same}
 use Rattle.std.proofs.lemmas.Nat.{mul-add-lt}
 use Rattle.dsp_defs.proofs.SumLemmas.{sample-map}
 use Rattle.dsp_unit.proofs.Places.{same-frame, same-channel}
-use Rattle.dsp_unit.proofs.channels.put_channel.Goals as goal
+use Rattle.dsp_unit.proofs.channels.put_strided.Goals as goal
 
 pub loop-n-preserved : goal.loop-n-preserved
 loop-n-preserved g c =

@@ -2,7 +2,7 @@ use Rattle.std.proofs.Common.{◌≡◌, ◌≢◌, ◌+◌, ◌*◌, ◌<◌, �
 use Rattle.dsp_defs.specs.Signal.{sample}
 use Rattle.std.specs.Prelude.{FitsSigned}
 use Rattle.dsp_defs.specs.Formats.{word}
-use Rattle.dsp_unit.proofs.channels.put_channel.Given as goal
+use Rattle.dsp_unit.proofs.channels.put_strided.Given as goal
 
 -- the samples so far are written, and no other channel is touched
 abbrev pub invariant-loop-n : goal.invariant-loop-n

@@ -3,7 +3,7 @@ use mir.Syntax.{w32}
 use Rattle.std.proofs.lemmas.List.{take_more_set, map-append}
 use Rattle.std.proofs.lemmas.List.FromFn.{map-range_with_len_more}
 use Rattle.dsp_defs.specs.Signal.{sample, values}
-use Rattle.dsp_unit.proofs.channels.take_channel.Goals as goal
+use Rattle.dsp_unit.proofs.channels.take_strided.Goals as goal
 
 pub loop-n-preserved : goal.loop-n-preserved
 loop-n-preserved g c =

@@ -1,7 +1,7 @@
 ghost use Rattle.std.specs.Prelude.{◌≡◌, ◌≤◌, ◌*◌, IfOk};
 ghost use Rattle.dsp_stage.specs.Unit.{IsNew};
 ghost use Rattle.dsp_defs.specs.Grammar.{Suits};
-ghost use Rattle.dsp_chain.specs.Chain.{state_of};
+ghost use Rattle.dsp_blocks.specs.BlockUnit.{state_of};
 
 use crate::family::{Family, family_of};
 use dsp_adapt::{AdaptUnit, adapt_unit};

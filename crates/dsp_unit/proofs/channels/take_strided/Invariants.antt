@@ -1,6 +1,6 @@
 use Rattle.std.proofs.Common.{◌≡◌, ◌+◌, ◌*◌, map, take}
 use Rattle.dsp_defs.specs.Signal.{sample, values}
-use Rattle.dsp_unit.proofs.channels.take_channel.Given as goal
+use Rattle.dsp_unit.proofs.channels.take_strided.Given as goal
 
 -- the samples so far are read
 abbrev pub invariant-loop-n : goal.invariant-loop-n

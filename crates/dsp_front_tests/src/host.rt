@@ -1,0 +1,186 @@
+//! A host program that has its samples in memory feeds a session by hand, with no ports.
+ghost use Rattle.std.specs.Prelude.{◌≡◌, ◌+◌, ◌*◌, ◌<◌, ◌≤◌, IfSome, IsFalse, length};
+ghost use Rattle.dsp_defs.specs.Grammar.{container_of};
+ghost use Rattle.dsp_session.specs.Session.{IsReady, SameSession, frame_bytes, input_coding};
+
+use dsp_defs::{Container, Fmt, InputKind, Measure, Script, Steps};
+use dsp_script::{legal, parse};
+use dsp_session::Session;
+use dsp_wave::{Coding, coding_of, width};
+use std::alloc::Global;
+use std::marker::Brand;
+use std::process::Abort;
+use std::sync::ledger::{Blank, Ledger};
+use std::test::Fail;
+
+/// The script of a text, where it can run in blocks of two frames.
+fn script_of(alloc: Global, text: &[u8]) -> Option<Script>
+    ensures { IfSome result (λ script. IsReady script 2) }
+{
+    let script = parse(alloc, text).ok()?;
+    if legal(&script, 2) {
+        Some(script)
+    } else {
+        None
+    }
+}
+
+fn container_of(kind: InputKind) -> Container
+    ensures { result ≡ container_of kind }
+{
+    match kind {
+        InputKind::Wave => Container::Wave,
+        InputKind::Raw { .. } => Container::Raw,
+    }
+}
+
+/// The bytes of a frame of the input, where its samples have all bits of their format.
+fn frame_size(script: &Script) -> usize
+    ensures { result ≡ frame_bytes script.now (input_coding script.now) }
+{
+    let coding = coding_of(container_of(script.input.kind), script.input.format);
+    usize::from(script.input.channels) * width(coding)
+}
+
+/// How many frames of so many bytes these are, where they are whole, and two at most.
+fn frames_of(rt: &impl Abort, bytes: &[u8], frame: usize) -> usize
+    ensures some { 0 < frame }
+    ensures whole { length bytes.now ≡ result * frame }
+    ensures few { result ≤ 2 }
+{
+    assert!(rt; frame > 0);
+    let count = bytes.len() / frame;
+    assert!(rt; count <= 2);
+    assert!(rt; count * frame == bytes.len());
+    count
+}
+
+/// Feeds the session one or two frames of so many bytes, and compares what it gives of them.
+fn feed_frames<L: Ledger>(
+    rt: &impl Abort,
+    session: &mut Session<'_>,
+    frame: usize,
+    bytes: &[u8],
+    wanted: &[u8],
+    steps: &mut Steps<L>,
+)
+    requires block { session.old.block ≡ 2 }
+    requires running { IsFalse session.old.chain.ended }
+    requires few { session.old.chain.frames < 100 }
+    requires frame { frame ≡ frame_bytes session.old.script session.old.coding }
+    ensures same { SameSession session.old session.new }
+    ensures running { IsFalse session.new.chain.ended }
+    ensures frames { session.new.chain.frames ≤ session.old.chain.frames + 2 }
+{
+    frames_of(rt, bytes, frame);
+    let Ok(given) = session.feed(bytes, steps) else {
+        panic!(rt; "no block gathers");
+    };
+    assert_eq!(rt; given, wanted.len());
+    assert_eq!(rt; session.out(), wanted);
+}
+
+/// Ends the input, and compares the pieces of the tail.
+fn end_gives<L: Ledger>(
+    rt: &impl Abort,
+    session: &mut Session<'_>,
+    pieces: &[&[u8]],
+    steps: &mut Steps<L>,
+) {
+    for piece in pieces {
+        assert_eq!(rt; session.end(steps), piece.len());
+        assert_eq!(rt; session.out(), *piece);
+    }
+    assert_eq!(rt; session.end(steps), 0);
+}
+
+/// Compares the first measure, of the script's third block, with a sum of squares.
+fn power_is(rt: &impl Abort, session: &Session<'_>, value: i64) {
+    assert_eq!(rt; session.measures(), 1);
+    let power = Measure::Power {
+        number: 3,
+        channel: 0,
+        value,
+    };
+    assert_eq!(rt; session.measure(0), power);
+}
+
+/// The samples 1000, -1000 and 400 are halved to x. Of that come a half of x(n) and of x(n-2), and a
+/// quarter of x(n-3): 250, -250, 350, and behind the last sample -125, -25, 50.
+fn three_samples_and_a_tail<L: Ledger>(
+    rt: &impl Abort,
+    alloc: Global,
+    blank: Blank,
+) -> Result<(), Fail>
+    requires name { blank.name ≡ L.name }
+    requires parts { blank.parts ≡ 2 }
+    requires ledger_parts { L.parts ≡ 2 }
+{
+    let mut steps = Steps::<L>::new(blank);
+    let text =
+        b"dspfx 1 input raw q15 1 8000 fir {16384} conv {16384 0 16384 8192} power output raw";
+    let script = script_of(alloc, text).ok_or("a script")?;
+    let frame = frame_size(&script);
+    let mut session = Session::new(alloc, &script, 2)?;
+    feed_frames(
+        rt,
+        &mut session,
+        frame,
+        b"\xE8\x03\x18\xFC",
+        b"\xFA\x00\x06\xFF",
+        &mut steps,
+    );
+    feed_frames(
+        rt,
+        &mut session,
+        frame,
+        b"\x90\x01",
+        b"\x5E\x01",
+        &mut steps,
+    );
+    power_is(rt, &session, 247_500);
+    end_gives(
+        rt,
+        &mut session,
+        &[b"\x83\xFF\xE7\xFF", b"\x32\x00"],
+        &mut steps,
+    );
+    power_is(rt, &session, 266_250);
+    Ok(())
+}
+
+/// Samples of 24 bits, 512 and -2, and then the ends of their range, are 256 times as much in Q31, and
+/// are halved.
+fn samples_of_24_bits<L: Ledger>(rt: &impl Abort, alloc: Global, blank: Blank) -> Result<(), Fail>
+    requires name { blank.name ≡ L.name }
+    requires parts { blank.parts ≡ 2 }
+    requires ledger_parts { L.parts ≡ 2 }
+{
+    let mut steps = Steps::<L>::new(blank);
+    let text = b"dspfx 1 input wave q31 2 fir {1073741824} output raw";
+    let script = script_of(alloc, text).ok_or("a script")?;
+    assert!(rt; script.input.format == Fmt::Q31);
+    let mut session = Session::new(alloc, &script, 2)?;
+    session.set_coding(Coding::Wave24);
+    let frame = usize::from(script.input.channels) * width(Coding::Wave24);
+    feed_frames(
+        rt,
+        &mut session,
+        frame,
+        b"\x00\x02\x00\xFE\xFF\xFF\xFF\xFF\x7F\x00\x00\x80",
+        b"\x00\x00\x01\x00\x00\xFF\xFF\xFF\x80\xFF\xFF\x3F\x00\x00\x00\xC0",
+        &mut steps,
+    );
+    end_gives(rt, &mut session, &[], &mut steps);
+    Ok(())
+}
+
+#[test]
+fn a_session_is_fed_by_hand(rt: HostRuntime) -> Result<(), Fail> {
+    three_samples_and_a_tail::<Brand>(&rt, rt.alloc(), Blank::new(2))
+}
+
+#[test]
+fn a_session_takes_the_coding_of_a_header(rt: HostRuntime) -> Result<(), Fail> {
+    samples_of_24_bits::<Brand>(&rt, rt.alloc(), Blank::new(2))
+}

@@ -1,45 +1,28 @@
 //! Callers of dsp_biquad.
-ghost use Rattle.std.specs.Prelude.{◌≡◌, IsFalse, length};
-
 use dsp_biquad::{Biquad15, Biquad31, Biquad64};
 use dsp_defs::{MakeFault, Steps};
 use std::alloc::Global;
 use std::process::Abort;
 use std::sync::ledger::Ledger;
 
-/// Two sections, the second fed back by a half, for blocks of one sample.
-fn of_two_sections(rt: &impl Abort, alloc: Global) -> Biquad15
-    ensures running { IsFalse result.filter.ended }
-    ensures block { result.filter.capacity ≡ 1 }
-    ensures kept { length result.filter.kept ≡ 8 }
-{
-    let coefficients = [16384i16, 0, 0, 0, 16384, 0, 16384, 0, 0, 0, 0, 0];
-    Biquad15::new(alloc, 0, &coefficients, 1).expect(rt, "a cascade")
-}
-
-/// A cascade keeps two inputs and two outputs of each section.
-fn keeps<M: Ledger>(rt: &impl Abort, alloc: Global, steps: &mut Steps<M>) {
-    let mut output = [7i16; 2];
-    let mut kept = [0i64; 8];
-    let mut cascade = of_two_sections(rt, alloc);
-    assert_eq!(rt; (cascade.room(1), cascade.kept_count()), (1, 8));
-    assert_eq!(rt; cascade.process(&[1000], &mut output, steps), 1);
-    assert_eq!(rt; output, [250, 7]);
-    cascade.keep(&mut kept);
-    assert_eq!(rt; kept, [1000, 0, 500, 0, 500, 0, 250, 0]);
-}
-
 /// A cascade goes on where another one was kept.
 fn goes_on<M: Ledger>(rt: &impl Abort, alloc: Global, steps: &mut Steps<M>) {
-    let kept = [1000i64, 0, 500, 0, 500, 0, 250, 0];
     let mut output = [7i16; 2];
-    let mut cascade = of_two_sections(rt, alloc);
-    assert!(rt; cascade.fits(&kept));
-    cascade.restore(&kept);
-    assert_eq!(rt; cascade.process(&[0], &mut output, steps), 1);
+    let mut kept = [0i64; 8];
+    let coefficients = [16384i16, 0, 0, 0, 16384, 0, 16384, 0, 0, 0, 0, 0];
+    let mut first = Biquad15::new(alloc, 0, &coefficients, 1).expect(rt, "a cascade");
+    assert_eq!(rt; (first.room(1), first.kept_count()), (1, 8));
+    assert_eq!(rt; first.process(&[1000], &mut output, steps), 1);
+    assert_eq!(rt; output, [250, 7]);
+    first.keep(&mut kept);
+    assert_eq!(rt; kept, [1000, 0, 500, 0, 500, 0, 250, 0]);
+    let mut second = Biquad15::new(alloc, 0, &coefficients, 1).expect(rt, "a cascade");
+    assert!(rt; second.fits(&kept));
+    second.restore(&kept);
+    assert_eq!(rt; second.process(&[0], &mut output, steps), 1);
     assert_eq!(rt; output, [125, 7]);
     assert_eq!(rt;
-        (cascade.finish(&mut output, steps), cascade.is_ended()),
+        (second.finish(&mut output, steps), second.is_ended()),
         (0, true)
     );
 }
@@ -58,7 +41,6 @@ fn feedback<M: Ledger>(rt: &impl Abort, alloc: Global, steps: &mut Steps<M>) {
 
 /// The calls that count their products.
 pub(crate) fn counted<M: Ledger>(rt: &impl Abort, alloc: Global, steps: &mut Steps<M>) {
-    keeps(rt, alloc, steps);
     goes_on(rt, alloc, steps);
     feedback(rt, alloc, steps);
 }
@@ -99,12 +81,6 @@ fn faults(rt: HostRuntime) {
             Err(MakeFault::Range { value: 0 })
         )
     );
-}
-
-/// Numbers that no such cascade keeps, and those that only a wide one does.
-#[test]
-fn numbers_of_cascades(rt: HostRuntime) {
-    let alloc = rt.alloc();
     let cascade = Biquad15::new(alloc, 13, &[0; 6], 1048576).expect(&rt, "a cascade");
     assert!(rt; !cascade.fits(&[0; 3]) && !cascade.fits(&[0, 0, 0, 32768]));
     let cascade = Biquad64::new(alloc, 30, &[0; 5], 4).expect(&rt, "a cascade");

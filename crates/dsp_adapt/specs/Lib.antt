@@ -1,4 +1,3 @@
-pub mod AdaptUnit
 pub mod LmsUnit
 pub mod LmsState
 pub mod PidState

@@ -10,7 +10,6 @@ mod pid;
 mod pid_machine;
 mod pid_sample;
 mod pid_work;
-mod unit;
 mod weights;
 
 pub use lms::{Lms, Lms15, Lms31};
@@ -19,4 +18,3 @@ pub use lms_unit::LmsUnit;
 pub use pid::{Pid, Pid15, Pid31};
 pub use pid_sample::PidSample;
 pub use pid_work::PidWork;
-pub use unit::{AdaptUnit, adapt_unit};

@@ -77,10 +77,6 @@ impl<T: LmsSample + LaneSample<L>, const L: usize> LmsUnit<T, L> {
 impl<T: LmsSample + LaneSample<L>, const L: usize> Stage for LmsUnit<T, L> {
     ghost unit = { λ u. u };
 
-    fn room(&self) -> usize {
-        self.inputs.len() * 2
-    }
-
     fn feed<M: Ledger>(&mut self, frames: &[i32], out: &mut [i32], steps: &mut Steps<M>) -> usize {
         feed_pairs(
             &mut self.lms,
@@ -106,10 +102,6 @@ impl<T: LmsSample + LaneSample<L>, const L: usize> Stage for LmsUnit<T, L> {
 
     fn keep(&self, out: &mut [i64]) {
         self.lms.keep(out);
-    }
-
-    fn fits(&self, numbers: &[i64]) -> bool {
-        self.lms.fits(numbers)
     }
 
     fn place(&self, numbers: &[i64]) -> Option<u64> {

@@ -1,4 +1,3 @@
 pub mod Sections
 pub mod Blocks
 pub mod Making
-pub mod BiquadUnit

@@ -1,5 +1,5 @@
 -- What sections do with a signal, and cascades of them.
-use Rattle.std.specs.Prelude.{⊤, ℕ, ◌-◌, ◌*◌, ◌%◌, ◌≤◌, ◌≡◌, ℤ, List, [], ◌∷◌, ◌++◌, map, length, All, FitsSigned, refl}
+use Rattle.std.specs.Prelude.{ℕ, ◌-◌, ◌*◌, ◌%◌, ◌≤◌, ◌≡◌, ℤ, List, [], ◌∷◌, ◌++◌, map, length, All, FitsSigned, refl}
 use Rattle.std.proofs.Common.{arith}
 use Rattle.dsp_defs.specs.Formats.{word}
 use Rattle.dsp_defs.specs.Signal.{sample, outputs}
@@ -101,9 +101,3 @@ pub record CascadeState : Type 0 where
   pub post_shift : ℕ
   pub coefficients : List ℤ
   pub kept : List ℤ
-
--- the block is one of this crate's
-abbrev pub IsBiquadBlock : Block → Type 0
-IsBiquadBlock (Biquad p numbers) = ⊤
-IsBiquadBlock (Biquad64 p numbers) = ⊤
-IsBiquadBlock block = ⊥

@@ -11,7 +11,6 @@ mod making;
 mod parameters;
 mod section;
 mod section64;
-mod unit;
 
 pub use biquad_sample::BiquadSample;
 pub use biquads::{Biquad15, Biquad31, Biquad64, Biquads};
@@ -19,4 +18,3 @@ pub use cascade::Cascade;
 pub use cascade_section::CascadeSection;
 pub use section::Section;
 pub use section64::Section64;
-pub use unit::{BiquadUnit, biquad_unit};

@@ -1,81 +1,57 @@
-ghost use Rattle.std.specs.Prelude.{◌≡◌, ◌≤◌, ◌*◌, IfOk};
-ghost use Rattle.dsp_stage.specs.Unit.{IsNew};
-ghost use Rattle.dsp_defs.specs.Grammar.{Suits};
 ghost use Rattle.dsp_blocks.specs.BlockUnit.{state_of};
 
-use crate::family::{Family, family_of};
-use dsp_adapt::{AdaptUnit, adapt_unit};
-use dsp_biquad::{BiquadUnit, biquad_unit};
+use dsp_adapt::{LmsUnit, PidWork};
+use dsp_biquad::{Cascade, Section, Section64};
 use dsp_complex::ComplexUnit;
-use dsp_conv::{ConvUnit, conv_unit};
-use dsp_defs::{Block, Fmt, MAX_SAMPLES, Measure, Steps};
-use dsp_fir::{FirUnit, fir_unit};
-use dsp_lattice::{LatticeUnit, lattice_unit};
-use dsp_matrix::{MatrixUnit, matrix_unit};
-use dsp_rate::{RateUnit, rate_unit};
+use dsp_conv::{ConvChannel, CorrelateChannel};
+use dsp_defs::{Measure, Steps};
+use dsp_fir::{FirChannel, SparseChannel};
+use dsp_lattice::{FirLatticeWork, IirLatticeWork};
+use dsp_matrix::{Grouped, GroupedMult};
+use dsp_rate::{DecimateChannel, InterpolateChannel};
 use dsp_stage::Stage;
+use dsp_unit::{EachChannel, StepFilter};
 use dsp_vector::VectorUnit;
-use std::alloc::{AllocError, Global};
 use std::sync::ledger::Ledger;
 
-/// The unit of any block.
+/// A work of one value for each sample, on each channel.
+type EachStep<T, W> = EachChannel<T, StepFilter<T, W>>;
+
+/// The unit of any block, in one of the formats that it has.
 #[derive(Drop)]
 pub enum BlockUnit {
     Vector(VectorUnit),
     Complex(ComplexUnit),
-    Fir(FirUnit),
-    Rate(RateUnit),
-    Lattice(LatticeUnit),
-    Biquad(BiquadUnit),
-    Adapt(AdaptUnit),
-    Matrix(MatrixUnit),
-    Conv(ConvUnit),
+    Fir7(EachChannel<i8, FirChannel<i8, 16>>),
+    Fir15(EachChannel<i16, FirChannel<i16, 8>>),
+    Fir31(EachChannel<i32, FirChannel<i32, 4>>),
+    Sparse7(EachChannel<i8, SparseChannel<i8, 16>>),
+    Sparse15(EachChannel<i16, SparseChannel<i16, 8>>),
+    Sparse31(EachChannel<i32, SparseChannel<i32, 4>>),
+    Decimate15(EachChannel<i16, DecimateChannel<i16, 8>>),
+    Decimate31(EachChannel<i32, DecimateChannel<i32, 4>>),
+    Interpolate15(EachChannel<i16, InterpolateChannel<i16, 8>>),
+    Interpolate31(EachChannel<i32, InterpolateChannel<i32, 4>>),
+    LatticeFir15(EachStep<i16, FirLatticeWork<i16>>),
+    LatticeIir15(EachStep<i16, IirLatticeWork<i16>>),
+    LatticeIir31(EachStep<i32, IirLatticeWork<i32>>),
+    Biquad15(EachStep<i16, Cascade<i16, Section<i16>>>),
+    Biquad31(EachStep<i32, Cascade<i32, Section<i32>>>),
+    Biquad64(EachStep<i32, Cascade<i32, Section64>>),
+    Conv7(EachChannel<i8, ConvChannel<i8, 16>>),
+    Conv15(EachChannel<i16, ConvChannel<i16, 8>>),
+    Conv31(EachChannel<i32, ConvChannel<i32, 4>>),
+    Correlate7(EachChannel<i8, CorrelateChannel<i8>>),
+    Correlate15(EachChannel<i16, CorrelateChannel<i16>>),
+    Correlate31(EachChannel<i32, CorrelateChannel<i32>>),
+    Lms15(LmsUnit<i16, 8>),
+    Lms31(LmsUnit<i32, 4>),
+    Pid15(EachStep<i16, PidWork<i16>>),
+    Pid31(EachStep<i32, PidWork<i32>>),
+    Matrix15(EachChannel<i16, Grouped<i16>>),
+    Matrix31(EachChannel<i32, Grouped<i32>>),
+    MatMult15(EachChannel<i16, GroupedMult>),
     Measure(dsp_measure::Unit),
-}
-
-impl BlockUnit {
-    /// A unit of the block that has taken nothing, for frames of `channels` samples of the format, at most
-    /// `frames` of them a call. All its memory is taken here; it errs only where memory is wanting.
-    pub fn new(
-        alloc: Global,
-        block: &Block,
-        format: Fmt,
-        channels: u8,
-        frames: usize,
-    ) -> Result<BlockUnit, AllocError>
-        requires suits { Suits (record { format = format; channels = channels }) block.now }
-        requires channels { 1 ≤ channels }
-        requires frames { 1 ≤ frames }
-        requires samples { frames * channels ≤ MAX_SAMPLES }
-        ensures { IfOk result (λ u. IsNew block.now format channels frames (state_of u)) }
-    {
-        match family_of(block) {
-            Family::Vector => Ok(BlockUnit::Vector(VectorUnit::new(
-                alloc, block, format, channels, frames,
-            )?)),
-            Family::Complex => Ok(BlockUnit::Complex(ComplexUnit::new(
-                alloc, block, format, channels, frames,
-            )?)),
-            Family::Fir => Ok(BlockUnit::Fir(fir_unit(alloc, block, format, channels, frames)?)),
-            Family::Rate => Ok(BlockUnit::Rate(rate_unit(alloc, block, format, channels, frames)?)),
-            Family::Lattice => Ok(BlockUnit::Lattice(lattice_unit(
-                alloc, block, format, channels, frames,
-            )?)),
-            Family::Biquad => Ok(BlockUnit::Biquad(biquad_unit(
-                alloc, block, format, channels, frames,
-            )?)),
-            Family::Adapt => Ok(BlockUnit::Adapt(adapt_unit(
-                alloc, block, format, channels, frames,
-            )?)),
-            Family::Matrix => Ok(BlockUnit::Matrix(matrix_unit(
-                alloc, block, format, channels, frames,
-            )?)),
-            Family::Conv => Ok(BlockUnit::Conv(conv_unit(alloc, block, format, channels, frames)?)),
-            Family::Measure => Ok(BlockUnit::Measure(dsp_measure::Unit::new(
-                alloc, block, format, channels, frames,
-            )?)),
-        }
-    }
 }
 
 /// Evaluates the same expression for whichever unit is there.
@@ -84,13 +60,35 @@ macro_rules! for_unit {
         match $value {
             BlockUnit::Vector($unit) => $result,
             BlockUnit::Complex($unit) => $result,
-            BlockUnit::Fir($unit) => $result,
-            BlockUnit::Rate($unit) => $result,
-            BlockUnit::Lattice($unit) => $result,
-            BlockUnit::Biquad($unit) => $result,
-            BlockUnit::Adapt($unit) => $result,
-            BlockUnit::Matrix($unit) => $result,
-            BlockUnit::Conv($unit) => $result,
+            BlockUnit::Fir7($unit) => $result,
+            BlockUnit::Fir15($unit) => $result,
+            BlockUnit::Fir31($unit) => $result,
+            BlockUnit::Sparse7($unit) => $result,
+            BlockUnit::Sparse15($unit) => $result,
+            BlockUnit::Sparse31($unit) => $result,
+            BlockUnit::Decimate15($unit) => $result,
+            BlockUnit::Decimate31($unit) => $result,
+            BlockUnit::Interpolate15($unit) => $result,
+            BlockUnit::Interpolate31($unit) => $result,
+            BlockUnit::LatticeFir15($unit) => $result,
+            BlockUnit::LatticeIir15($unit) => $result,
+            BlockUnit::LatticeIir31($unit) => $result,
+            BlockUnit::Biquad15($unit) => $result,
+            BlockUnit::Biquad31($unit) => $result,
+            BlockUnit::Biquad64($unit) => $result,
+            BlockUnit::Conv7($unit) => $result,
+            BlockUnit::Conv15($unit) => $result,
+            BlockUnit::Conv31($unit) => $result,
+            BlockUnit::Correlate7($unit) => $result,
+            BlockUnit::Correlate15($unit) => $result,
+            BlockUnit::Correlate31($unit) => $result,
+            BlockUnit::Lms15($unit) => $result,
+            BlockUnit::Lms31($unit) => $result,
+            BlockUnit::Pid15($unit) => $result,
+            BlockUnit::Pid31($unit) => $result,
+            BlockUnit::Matrix15($unit) => $result,
+            BlockUnit::Matrix31($unit) => $result,
+            BlockUnit::MatMult15($unit) => $result,
             BlockUnit::Measure($unit) => $result,
         }
     };
@@ -98,10 +96,6 @@ macro_rules! for_unit {
 
 impl Stage for BlockUnit {
     ghost unit = { state_of };
-
-    fn room(&self) -> usize {
-        for_unit!(self, unit => unit.room())
-    }
 
     fn feed<L: Ledger>(&mut self, frames: &[i32], out: &mut [i32], steps: &mut Steps<L>) -> usize {
         for_unit!(self, unit => unit.feed(frames, out, steps))
@@ -117,10 +111,6 @@ impl Stage for BlockUnit {
 
     fn keep(&self, out: &mut [i64]) {
         for_unit!(self, unit => unit.keep(out))
-    }
-
-    fn fits(&self, numbers: &[i64]) -> bool {
-        for_unit!(self, unit => unit.fits(numbers))
     }
 
     fn place(&self, numbers: &[i64]) -> Option<u64> {

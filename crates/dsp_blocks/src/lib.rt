@@ -2,6 +2,7 @@
 #![tactic(auto)]
 
 mod block_unit;
-mod family;
+mod makers;
+mod of_block;
 
 pub use block_unit::BlockUnit;

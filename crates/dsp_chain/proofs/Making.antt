@@ -62,6 +62,7 @@ pub record Next (here : Place) (b : Block) : Type 0 where
   pub open_here : IsOpen here
   pub few_channels : channels_after here.channels b ≤ MAX_CHANNELS
   pub few_frames : most_frames b here.capacity ≤ MAX_SAMPLES
+  pub few_samples : most_frames b here.capacity * channels_after here.channels b ≤ MAX_SAMPLES
 
 -- an open place has no more frames than samples
 few-frames : (p : Place) → IsOpen p → p.capacity ≤ MAX_SAMPLES
@@ -74,11 +75,15 @@ making-next p here blocks i j us b first m = record {
   suits = places.1;
   open_here = places.0;
   few_channels = few_channels_after (flow_at here) b places.1 m.few_channels;
-  few_frames = few-frames (place_after here b) (open-here (place_after here b) (drop j blocks) places.2);
+  few_frames = few-frames (place_after here b) behind;
+  few_samples = behind.samples;
 }
   where
     places : AllOpen here (b ∷ drop j blocks)
     places = subst (AllOpen here) first m.places
+
+    behind : IsOpen (place_after here b)
+    behind = open-here (place_after here b) (drop j blocks) places.2
 
 -- the place behind it is what flows there
 pub next-place : (here next : Place) (block : Block) → flow_at next ≡ flow_after block (flow_at here) → next.capacity ≡ most_frames block here.capacity → next ≡ place_after here block

@@ -91,11 +91,11 @@ impl Chain {
         for block in blocks {
             let unit = BlockUnit::new(alloc, block, flow.format, flow.channels, frames)?;
             let numbers = KeptRule::of_block(block, flow.channels, unit.kept_count() as u64);
-            links.push(Link::new(alloc, unit)?)?;
-            rules.push(FrameRule::of(block))?;
-            kept.push(numbers)?;
             flow = flow.after(block);
             frames = most_frames(block, frames);
+            links.push(Link::new(alloc, unit, frames * usize::from(flow.channels))?)?;
+            rules.push(FrameRule::of(block))?;
+            kept.push(numbers)?;
         }
         Ok(Chain {
             links,

@@ -29,13 +29,15 @@ impl<S: Stage + Drop> Model for Link<S> {
 }
 
 impl<S: Stage + Drop> Link<S> {
-    ghost use Rattle.std.specs.Prelude.{◌≡◌, IfOk};
+    ghost use Rattle.std.specs.Prelude.{◌≡◌, ◌≤◌, IfOk};
+    ghost use Rattle.dsp_stage.specs.Unit.{room_of};
 
-    /// A unit with room for what it writes.
-    pub fn new(alloc: Global, stage: S) -> Result<Self, AllocError>
+    /// A unit with room for what it writes, so many samples.
+    pub fn new(alloc: Global, stage: S, room: usize) -> Result<Self, AllocError>
+        requires { room_of (S.unit stage) ≤ room }
         ensures { IfOk result (λ l. l ≡ S.unit stage) }
     {
-        let row = vec![in alloc; 0; stage.room()]?;
+        let row = vec![in alloc; 0; room]?;
         Ok(Link { stage, row })
     }
 }

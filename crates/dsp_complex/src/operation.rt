@@ -80,14 +80,6 @@ impl FrameWork for Operation {
         }
     }
 
-    fn channels_given(&self, channels: usize) -> usize {
-        match self {
-            Operation::Conj => channels,
-            Operation::CmplxMult | Operation::CmplxMultReal => 2,
-            Operation::MagSquared => 1,
-        }
-    }
-
     fn feed<L: Ledger>(
         &self,
         format: Fmt,

@@ -12,7 +12,6 @@ mod gather;
 mod making;
 mod slices;
 mod sums;
-mod unit;
 
 pub use channel::{ConvChannel, OfBlock};
 pub use conv::{Conv, Everything};
@@ -23,4 +22,3 @@ pub use correlate_channel::CorrelateChannel;
 pub use extent::Extent;
 pub use gather::Gather;
 pub use slices::{conv_partial_slices, conv_slices, correlate_slices};
-pub use unit::{ConvUnit, conv_unit};

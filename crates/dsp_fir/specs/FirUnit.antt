@@ -1,5 +1,5 @@
 -- The blocks whose units are FIR and sparse filters.
-use Rattle.std.specs.Prelude.{⊤, ℤ, pos, ◌≡◌, ◌≤◌, ◌≤ℤ◌, ◌-◌, ◌<◌, List, length, All, IfSome, refl}
+use Rattle.std.specs.Prelude.{ℤ, pos, ◌≡◌, ◌≤◌, ◌≤ℤ◌, ◌-◌, ◌<◌, List, length, All, IfSome, refl}
 use Rattle.dsp_defs.specs.declared.limits.TheConstants.{MAX_DELAY}
 use Rattle.dsp_unit.specs.Making.{AreTaps}
 use Rattle.dsp_defs.specs.Cost.{lane_turns}
@@ -10,12 +10,6 @@ use Rattle.dsp_unit.proofs.Units.{scaled}
 use Rattle.dsp_defs.specs.declared.format.Fmt.{Fmt}
 use Rattle.dsp_defs.specs.declared.script.Block.{Block}
 use Rattle.dsp_defs.specs.declared.script.Block.TheVariants.{Fir, Sparse}
-
--- the block is one of this crate's
-abbrev pub IsFirBlock : Block → Type 0
-IsFirBlock (Fir taps) = ⊤
-IsFirBlock (Sparse taps delays) = ⊤
-IsFirBlock block = ⊥
 
 -- ---- FIR
 

@@ -89,10 +89,6 @@ impl<W: FrameWork + Drop> Memoryless<W> {
 impl<W: FrameWork + Drop> Stage for Memoryless<W> {
     ghost unit = { λ u. u };
 
-    fn room(&self) -> usize {
-        self.capacity * self.work.channels_given(self.channels)
-    }
-
     fn feed<L: Ledger>(&mut self, frames: &[i32], out: &mut [i32], steps: &mut Steps<L>) -> usize {
         self.work
             .feed(self.format, self.channels, frames, out, steps)
@@ -112,14 +108,9 @@ impl<W: FrameWork + Drop> Stage for Memoryless<W> {
         self.keeps_nothing();
     }
 
-    fn fits(&self, numbers: &[i64]) -> bool {
-        self.keeps_nothing();
-        numbers.is_empty()
-    }
-
     fn place(&self, numbers: &[i64]) -> Option<u64> {
         self.keeps_nothing();
-        if self.fits(numbers) { Some(0) } else { None }
+        if numbers.is_empty() { Some(0) } else { None }
     }
 
     fn restore(&mut self, _numbers: &[i64]) {

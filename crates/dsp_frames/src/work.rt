@@ -23,10 +23,6 @@ pub trait FrameWork {
         requires { IsOf wanted.now }
         ensures { IfOk result (λ w. block w ≡ wanted.now) };
 
-    /// The channels of a frame that it gives of a frame of so many.
-    fn channels_given(&self, channels: usize) -> usize
-        ensures { result ≡ channels_after channels (block self.now) };
-
     /// Writes what it gives of the frames, one after the other, and answers the number of samples.
     fn feed<L: Ledger>(
         &self,

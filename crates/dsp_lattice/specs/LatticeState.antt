@@ -1,5 +1,5 @@
 -- What a contract sees of a lattice.
-use Rattle.std.specs.Prelude.{⊤, ◌≡◌, ℕ, ◌+◌, ◌-◌, ◌*◌, ◌≤◌, ℤ, List, [], ◌∷◌, map, fold, length, All, FitsSigned, refl}
+use Rattle.std.specs.Prelude.{◌≡◌, ℕ, ◌+◌, ◌-◌, ◌*◌, ◌≤◌, ℤ, List, [], ◌∷◌, map, fold, length, All, FitsSigned, refl}
 use Rattle.std.proofs.Common.{◌∙◌, arith}
 use Rattle.std.proofs.lemmas.List.{length-replicate}
 use Rattle.dsp_defs.specs.Numbers.{◌>>◌, wrap, w32}
@@ -171,9 +171,3 @@ iir-stepwise format (LatticeIir k v) is = record {
   no_group = tt;
 }
 iir-stepwise format block is = absurd is
-
--- the block is one of this crate's
-abbrev pub IsLatticeBlock : Block → Type 0
-IsLatticeBlock (LatticeFir k) = ⊤
-IsLatticeBlock (LatticeIir k v) = ⊤
-IsLatticeBlock block = ⊥

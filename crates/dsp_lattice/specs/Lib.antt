@@ -1,3 +1,2 @@
 pub mod LatticeState
 pub mod Making
-pub mod LatticeUnit

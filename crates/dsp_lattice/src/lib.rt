@@ -10,11 +10,9 @@ mod ladder;
 mod lattice_sample;
 mod making;
 mod numbers;
-mod unit;
 
 pub use fir_lattice::{FirLattice, FirLattice15};
 pub use fir_work::FirLatticeWork;
 pub use iir_lattice::IirLattice;
 pub use iir_work::IirLatticeWork;
 pub use lattice_sample::{LatticeSample, NarrowSample};
-pub use unit::{LatticeUnit, lattice_unit};

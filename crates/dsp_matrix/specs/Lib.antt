@@ -2,5 +2,4 @@ pub mod Groups
 pub mod Matrices
 pub mod Grouping
 pub mod Faults
-pub mod MatrixUnit
 pub mod Turning

@@ -1,5 +1,5 @@
 -- The blocks of matrices: what they do with a group, and which of them are sound in a format.
-use Rattle.std.specs.Prelude.{⊤, ◌≡◌, ℕ, ◌+◌, ◌*◌, ◌/◌, ◌%◌, ◌<◌, ◌≤◌, ℤ, ◌*ℤ◌, List, length, map, All, FitsSigned}
+use Rattle.std.specs.Prelude.{◌≡◌, ℕ, ◌+◌, ◌*◌, ◌/◌, ◌%◌, ◌<◌, ◌≤◌, ℤ, ◌*ℤ◌, List, length, map, All, FitsSigned}
 use Rattle.dsp_defs.specs.Formats.{word, close}
 use Rattle.dsp_defs.specs.Signal.{sample, sum_below}
 use Rattle.dsp_defs.specs.Elementwise.{IsMatrixScaleShift}
@@ -47,15 +47,6 @@ IsElementwiseIn format block = ⊥
 abbrev pub IsProductIn : Fmt → Block → Type 0
 IsProductIn format (MatMult rows columns given matrix) = IsSide rows × IsSide columns × IsSide given × IsMatrix format (columns * given) matrix
 IsProductIn format block = ⊥
-
--- the block is one of this crate's
-abbrev pub IsMatrixBlock : Block → Type 0
-IsMatrixBlock (MatAdd rows columns matrix) = ⊤
-IsMatrixBlock (MatSub rows columns matrix) = ⊤
-IsMatrixBlock (MatScale rows columns fract shift) = ⊤
-IsMatrixBlock (MatTrans rows columns) = ⊤
-IsMatrixBlock (MatMult rows columns given matrix) = ⊤
-IsMatrixBlock block = ⊥
 
 -- ---- the block of a work
 

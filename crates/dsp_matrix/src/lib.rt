@@ -14,7 +14,6 @@ mod paired_products;
 mod product_work;
 mod products;
 mod turned_rows;
-mod unit;
 
 pub use calls::{mat_add, mat_mult, mat_scale, mat_sub, mat_trans};
 pub use group_filter::GroupFilter;
@@ -23,4 +22,3 @@ pub use grouped::{GroupOp, Grouped, GroupedMult};
 pub use matrix_sample::MatrixSample;
 pub use matrix_work::MatrixWork;
 pub use product_work::ProductWork;
-pub use unit::{MatrixUnit, matrix_unit};

@@ -89,10 +89,6 @@ impl Unit {
 impl Stage for Unit {
     ghost unit = { λ u. u };
 
-    fn room(&self) -> usize {
-        self.capacity * usize::from(self.channels)
-    }
-
     fn feed<L: Ledger>(&mut self, frames: &[i32], out: &mut [i32], steps: &mut Steps<L>) -> usize {
         let channels = usize::from(self.channels);
         let kept = self.kept.as_mut_slice();
@@ -112,10 +108,6 @@ impl Stage for Unit {
 
     fn keep(&self, out: &mut [i64]) {
         out.copy_from_slice(&self.kept);
-    }
-
-    fn fits(&self, numbers: &[i64]) -> bool {
-        self.place(numbers).is_some()
     }
 
     fn place(&self, numbers: &[i64]) -> Option<u64> {

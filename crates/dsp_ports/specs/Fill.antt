@@ -34,9 +34,9 @@ pub data Asked {S : Type 0} (Reads : S → ℕ → S → Type 0) (taken : S → 
   Read : (came count : ℕ) (before after : S) → Asked Reads taken want start came before → Reads before (want - came) after
       → 0 < count → taken after ≡ taken before + count → Asked Reads taken want start (came + count) after
 
--- all was asked for at each read, and none came behind a read that gave nothing
+-- all that was missing was asked for at each read, where something was, and none came behind a read that gave nothing
 pub record AsksForAll {S : Type 0} (Reads : S → ℕ → S → Type 0) (taken : S → ℕ) (want : ℕ) (old new : S) : Type 0 where
   pub came : ℕ
   pub filling : S
   pub asked : Asked Reads taken want old came filling
-  pub last : (new ≡ filling) ⊎ (Reads filling (want - came) new × (taken new ≡ taken filling))
+  pub last : (new ≡ filling) ⊎ ((came < want) × Reads filling (want - came) new × (taken new ≡ taken filling))

@@ -1,5 +1,5 @@
 -- The blocks whose units change the rate.
-use Rattle.std.specs.Prelude.{⊤, ◌-◌, ◌*◌, ◌/◌, ◌%◌, ◌<◌, ◌≡◌, ◌≤◌, length, IfSome, refl}
+use Rattle.std.specs.Prelude.{◌-◌, ◌*◌, ◌/◌, ◌%◌, ◌<◌, ◌≡◌, ◌≤◌, length, IfSome, refl}
 use Rattle.dsp_defs.specs.Cost.{lane_turns}
 use Rattle.dsp_defs.specs.Shape.{group_of}
 use Rattle.dsp_stage.specs.Filter.{IsByChannel}
@@ -9,12 +9,6 @@ use Rattle.dsp_unit.proofs.Units.{scaled}
 use Rattle.dsp_defs.specs.declared.format.Fmt.{Fmt}
 use Rattle.dsp_defs.specs.declared.script.Block.{Block}
 use Rattle.dsp_defs.specs.declared.script.Block.TheVariants.{Decimate, Interpolate}
-
--- the block is one of this crate's
-abbrev pub IsRateBlock : Block → Type 0
-IsRateBlock (Decimate factor taps) = ⊤
-IsRateBlock (Interpolate factor taps) = ⊤
-IsRateBlock block = ⊥
 
 -- ---- decimators
 

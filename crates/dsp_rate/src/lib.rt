@@ -6,10 +6,8 @@ mod decimate;
 mod interpolate;
 mod interpolate_channel;
 mod phases;
-mod unit;
 
 pub use channel::DecimateChannel;
 pub use decimate::Decimate;
 pub use interpolate::Interpolate;
 pub use interpolate_channel::InterpolateChannel;
-pub use unit::{RateUnit, rate_unit};

@@ -1,4 +1,4 @@
-ghost use Rattle.std.specs.Prelude.{◌≡◌, ◌≤◌, ◌↔◌, ℕ, Some, length, take, slice_get, IfSome, IsFalse, IsTrue};
+ghost use Rattle.std.specs.Prelude.{◌≡◌, ◌≤◌, ℕ, Some, length, take, slice_get, IfSome, IsFalse};
 ghost use Rattle.dsp_defs.specs.Block.{channels_after};
 ghost use Rattle.dsp_stage.specs.Kept.{Fits, FitsAfter, place_of};
 ghost use Rattle.dsp_stage.specs.Unit.{UnitState, frames_in, room_of, IsSignal, IsOutput, Accepts, Feeds, Finishes, Restores, measures_of, most_frames, most_kept};
@@ -9,10 +9,6 @@ use std::sync::ledger::Ledger;
 /// One block of a chain at its place, on all channels of a frame.
 pub trait Stage {
     ghost unit: { Self → UnitState };
-
-    /// The samples of the output that one call needs at most.
-    fn room(&self) -> usize
-        ensures { result ≡ room_of (unit self.now) };
 
     /// Writes the next live frames, and answers the number of their samples.
     fn feed<L: Ledger>(&mut self, frames: &[i32], out: &mut [i32], steps: &mut Steps<L>) -> usize
@@ -52,11 +48,6 @@ pub trait Stage {
         requires running { IsFalse (unit self.now).ended }
         requires count { length out.old ≡ length (unit self.now).kept }
         ensures { out.new ≡ (unit self.now).kept };
-
-    /// Whether these can be the numbers that it keeps, of some number of frames.
-    fn fits(&self, numbers: &[i64]) -> bool
-        ensures { IsTrue result ↔ Fits (unit self.now).format (unit self.now).channels
-            (unit self.now).block numbers.now };
 
     /// The least number of frames of which these can be the numbers that it keeps, if there is one.
     fn place(&self, numbers: &[i64]) -> Option<u64>

@@ -4,7 +4,7 @@ use Rattle.std.specs.Prelude.{All}
 use Rattle.std.proofs.lemmas.List.{take-append-le, take_all}
 use Rattle.std.proofs.Math.Nat.{mul-sub}
 use Rattle.dsp_defs.specs.Shape.{whole_frames, live_frames}
-use Rattle.dsp_stage.specs.Unit.{most_frames, most_room}
+use Rattle.dsp_stage.specs.Unit.{most_frames}
 use Rattle.dsp_stage.proofs.ChannelLaws.{counts-took}
 use Rattle.dsp_stage.specs.Filter.{FilterState, FilterMadeAs, IsByChannel, IsLike, IsNewFilter, AreFilters, filter_at, filter_room, no_filter}
 use Rattle.dsp_defs.specs.declared.format.Fmt.{Fmt}
@@ -50,9 +50,9 @@ new-filters block format capacity filters some by new = record {
 
 -- what stays of a unit's filters when each was made as before
 pub kept-whole : (format : Fmt) (capacity input output channels : ℕ) (olds news : List FilterState) → AreFilters format capacity news → FilterMadeAs (filter_at olds 0) (filter_at news 0) →
-    AreFilters format capacity olds × (input ≡ capacity) × (output ≡ filter_room (filter_at olds 0)) × (output * channels ≤ most_room) × (channels ≤ 255) →
-    AreFilters format capacity news × (input ≡ capacity) × (output ≡ filter_room (filter_at news 0)) × (output * channels ≤ most_room) × (channels ≤ 255)
-kept-whole format capacity input output channels olds news are made before = (are, before.1, before.2 ∙ sym (room-kept (filter_at olds 0) (filter_at news 0) made), before.3, before.4)
+    AreFilters format capacity olds × (input ≡ capacity) × (output ≡ filter_room (filter_at olds 0)) × (channels ≤ 255) →
+    AreFilters format capacity news × (input ≡ capacity) × (output ≡ filter_room (filter_at news 0)) × (channels ≤ 255)
+kept-whole format capacity input output channels olds news are made before = (are, before.1, before.2 ∙ sym (room-kept (filter_at olds 0) (filter_at news 0) made), before.3)
 
 -- a cost of all channels, from that of one
 pub scaled : (c a b : ℕ) → c * a * b ≡ c * (1 * a * b)

@@ -1,3 +1,1 @@
-pub mod InFormat
-pub mod Either
 pub mod Making

@@ -18,7 +18,7 @@ pub struct EachChannel<T: Sample, F: Filter<T> + Drop> {
 
 impl<T: Sample, F: Filter<T> + Drop> Model for EachChannel<T, F> {
     ghost use Rattle.std.specs.Prelude.{◌≡◌, ◌≤◌, ◌*◌, map, vec_len};
-    ghost use Rattle.dsp_stage.specs.Unit.{UnitState, most_room};
+    ghost use Rattle.dsp_stage.specs.Unit.{UnitState};
     ghost use Rattle.dsp_stage.specs.Filter.{filter_at, filter_room, AreFilters};
     ghost use Rattle.dsp_stage.specs.Channels.{unit_of_filters};
 
@@ -29,7 +29,7 @@ impl<T: Sample, F: Filter<T> + Drop> Model for EachChannel<T, F> {
     ghost invariant = { λ u. (AreFilters T.format u.capacity (map F.filter u.filters.items))
         × (vec_len u.input ≡ u.capacity)
         × (vec_len u.output ≡ filter_room (filter_at (map F.filter u.filters.items) 0))
-        × (vec_len u.output * vec_len u.filters ≤ most_room) × (vec_len u.filters ≤ 255) };
+        × (vec_len u.filters ≤ 255) };
 }
 
 impl<T: Sample, F: Filter<T> + Drop> EachChannel<T, F> {
@@ -50,7 +50,6 @@ impl<T: Sample, F: Filter<T> + Drop> EachChannel<T, F> {
             (filter_at (map F.filter filters.items) 0).block T.format frames)
             (map F.filter filters.items) }
         requires room { room ≡ most_frames (filter_at (map F.filter filters.items) 0).block frames }
-        requires samples { room * length filters.items ≤ most_room }
         requires channels { length filters.items ≤ 255 }
         ensures { IfOk result (IsNew (filter_at (map F.filter filters.items) 0).block T.format
             (length filters.items) frames) }
@@ -91,10 +90,6 @@ impl<T: Sample, F: Filter<T> + Drop> EachChannel<T, F> {
 impl<T: Sample, F: Filter<T> + Drop> Stage for EachChannel<T, F> {
     ghost unit = { λ u. u };
 
-    fn room(&self) -> usize {
-        self.output.len() * self.filters.len()
-    }
-
     fn feed<L: Ledger>(&mut self, frames: &[i32], out: &mut [i32], steps: &mut Steps<L>) -> usize {
         let count = frames.len() / self.filters.len();
         let given = feed_block(
@@ -125,10 +120,6 @@ impl<T: Sample, F: Filter<T> + Drop> Stage for EachChannel<T, F> {
 
     fn keep(&self, out: &mut [i64]) {
         keep_channels(self.filters.as_slice(), out);
-    }
-
-    fn fits(&self, numbers: &[i64]) -> bool {
-        self.place(numbers).is_some()
     }
 
     fn place(&self, numbers: &[i64]) -> Option<u64> {

@@ -140,14 +140,6 @@ impl FrameWork for Operation {
         }
     }
 
-    fn channels_given(&self, channels: usize) -> usize {
-        match self {
-            Operation::Add | Operation::Sub | Operation::Mult => 1,
-            Operation::Route { channels } => channels.as_slice().len(),
-            _ => channels,
-        }
-    }
-
     fn feed<L: Ledger>(
         &self,
         format: Fmt,

@@ -30,11 +30,6 @@ of_filters-requires-clause-room g c =
     let fresh = All-map (IsNewFilter c.args.block.now g.T.Sample.format c.args.frames) filter filters c.loop.invariant.fresh in
     subst (λ b. c.most_frames.result ≡ most_frames b c.args.frames) (sym (fresh 0 no_filter some).block) c.most_frames.ensures
 
-pub of_filters-requires-clause-samples : goal.of_filters-requires-clause-samples
-of_filters-requires-clause-samples g c =
-    let count : length c.loop.filters.items ≡ c.args.channels = omega (arith, c.loop.invariant.count) in
-    rw (c.most_frames.ensures, count) c.requires.room
-
 pub loop-preserved : goal.loop-preserved
 loop-preserved g c =
     let New : g.row.F.Denot → Type 0 = λ f. IsNewFilter c.args.block.now g.T.Sample.format c.args.frames (g.F.Filter.filter f) in

@@ -5,7 +5,7 @@ use Rattle.dsp_defs.specs.Formats.{word}
 use Rattle.dsp_defs.specs.Signal.{sample}
 use Rattle.dsp_stage.specs.Filter.{AreFilters, FilterAccepts, filter_at, filter_room, no_filter}
 use Rattle.dsp_stage.specs.Channels.{unit_of_filters, AreFed}
-use Rattle.dsp_stage.specs.Unit.{Feeds, IsOutput, frames_in, most_frames, most_room}
+use Rattle.dsp_stage.specs.Unit.{Feeds, IsOutput, frames_in, most_frames}
 use Rattle.dsp_defs.specs.Block.{channels_after}
 use Rattle.dsp_defs.proofs.FrameLemmas.{length-frames_in}
 use Rattle.dsp_stage.proofs.ChannelFeeds.{are-fed, accept-filters}
@@ -51,7 +51,7 @@ invariant_of-self g c =
     subst (λ fs. AreFed (map filter fs) (map filter made) (length c.args.frames.now / c.len.result) c.args.frames.now c.feed_block-given.result c.feed_block-given.new.out c.args.steps.now c.feed_block-given.new.steps) c.as_mut_slice.ensures.value c.feed_block-given.ensures.fed in
     let are' : AreFilters g.T.Sample.format c.self.inside.capacity (map filter made) = are-fed g.T.Sample.format c.self.inside.capacity olds (map filter made) c.self.invariant.0 running _ c.feed_block-given.result c.args.frames.now c.feed_block-given.new.out c.args.steps.now c.feed_block-given.new.steps fed in
     let (start, stop, feeds) = fed.each 0 (let some = c.self.invariant.0.some in omega (arith, some)) in
-    subst (λ fs. AreFilters g.T.Sample.format c.self.inside.capacity (map filter fs) × (c.self.inside.input.len ≡ c.self.inside.capacity) × (c.self.inside.output.len ≡ filter_room (filter_at (map filter fs) 0)) × (c.self.inside.output.len * c.self.inside.filters.len ≤ most_room) × (c.self.inside.filters.len ≤ 255)) (sym written)
+    subst (λ fs. AreFilters g.T.Sample.format c.self.inside.capacity (map filter fs) × (c.self.inside.input.len ≡ c.self.inside.capacity) × (c.self.inside.output.len ≡ filter_room (filter_at (map filter fs) 0)) × (c.self.inside.filters.len ≤ 255)) (sym written)
     (kept-whole g.T.Sample.format c.self.inside.capacity c.self.inside.input.len c.self.inside.output.len c.self.inside.filters.len olds (map filter made) are' feeds.made c.self.invariant)
 
 pub returns-clause-running : goal.returns-clause-running

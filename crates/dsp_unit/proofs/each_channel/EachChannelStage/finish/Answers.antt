@@ -5,7 +5,7 @@ use Rattle.dsp_defs.specs.Formats.{word}
 use Rattle.dsp_defs.specs.Signal.{sample}
 use Rattle.dsp_stage.specs.Filter.{AreFilters, filter_at, filter_room}
 use Rattle.dsp_stage.specs.Channels.{unit_of_filters, AreFinished}
-use Rattle.dsp_stage.specs.Unit.{Finishes, IsOutput, frames_in, most_frames, most_room}
+use Rattle.dsp_stage.specs.Unit.{Finishes, IsOutput, frames_in, most_frames}
 use Rattle.dsp_defs.specs.Block.{channels_after}
 use Rattle.dsp_stage.proofs.ChannelTails.{are-finished}
 use Rattle.dsp_stage.proofs.ChannelOutput.{unit-output, unit-finished, room-for}
@@ -25,7 +25,7 @@ invariant_of-self g c =
     subst (λ fs. AreFinished (map filter fs) (map filter made) c.finish_channels-given.result c.finish_channels-given.new.out c.args.steps.now c.finish_channels-given.new.steps) c.as_mut_slice.ensures.value c.finish_channels-given.ensures.finished in
     let are' : AreFilters g.T.Sample.format c.self.inside.capacity (map filter made) = are-finished g.T.Sample.format c.self.inside.capacity olds (map filter made) c.self.invariant.0 c.finish_channels-given.result c.finish_channels-given.new.out c.args.steps.now c.finish_channels-given.new.steps finished in
     let (start, stop, finishes) = finished.each 0 (let some = c.self.invariant.0.some in omega (arith, some)) in
-    subst (λ fs. AreFilters g.T.Sample.format c.self.inside.capacity (map filter fs) × (c.self.inside.input.len ≡ c.self.inside.capacity) × (c.self.inside.output.len ≡ filter_room (filter_at (map filter fs) 0)) × (c.self.inside.output.len * c.self.inside.filters.len ≤ most_room) × (c.self.inside.filters.len ≤ 255)) (sym written)
+    subst (λ fs. AreFilters g.T.Sample.format c.self.inside.capacity (map filter fs) × (c.self.inside.input.len ≡ c.self.inside.capacity) × (c.self.inside.output.len ≡ filter_room (filter_at (map filter fs) 0)) × (c.self.inside.filters.len ≤ 255)) (sym written)
     (kept-whole g.T.Sample.format c.self.inside.capacity c.self.inside.input.len c.self.inside.output.len c.self.inside.filters.len olds (map filter made) are' finishes.made c.self.invariant)
 
 pub returns-clause-output : goal.returns-clause-output

@@ -2,7 +2,7 @@ use Rattle.std.proofs.Common.{◌≡◌, sym, subst, ◌*◌, ◌≤◌, ◌++�
 use Rattle.dsp_stage.specs.Kept.{Fits}
 use Rattle.dsp_stage.specs.Filter.{AreFilters, filter_at, filter_room}
 use Rattle.dsp_stage.specs.Channels.{unit_of_filters, AreRestored}
-use Rattle.dsp_stage.specs.Unit.{Restores, most_room}
+use Rattle.dsp_stage.specs.Unit.{Restores}
 use Rattle.dsp_stage.proofs.ChannelRestores.{are-restored, channels-restore}
 use Rattle.dsp_unit.proofs.Units.{written-whole, kept-whole}
 use Rattle.dsp_unit.proofs.each_channel.EachChannelStage.restore.Goals as goal
@@ -21,7 +21,7 @@ invariant_of-self g c =
     let fits : Fits g.T.Sample.format (length olds) (filter_at olds 0).block c.args.numbers.now = rw (← c.self.view_is) at c.requires.fits in
     let are' : AreFilters g.T.Sample.format c.self.inside.capacity (map filter made) = are-restored g.T.Sample.format c.self.inside.capacity olds (map filter made) c.self.invariant.0 c.args.numbers.now fits restored in
     let first = restored.each 0 (let some = c.self.invariant.0.some in omega (arith, some)) in
-    subst (λ fs. AreFilters g.T.Sample.format c.self.inside.capacity (map filter fs) × (c.self.inside.input.len ≡ c.self.inside.capacity) × (c.self.inside.output.len ≡ filter_room (filter_at (map filter fs) 0)) × (c.self.inside.output.len * c.self.inside.filters.len ≤ most_room) × (c.self.inside.filters.len ≤ 255)) (sym written)
+    subst (λ fs. AreFilters g.T.Sample.format c.self.inside.capacity (map filter fs) × (c.self.inside.input.len ≡ c.self.inside.capacity) × (c.self.inside.output.len ≡ filter_room (filter_at (map filter fs) 0)) × (c.self.inside.filters.len ≤ 255)) (sym written)
     (kept-whole g.T.Sample.format c.self.inside.capacity c.self.inside.input.len c.self.inside.output.len c.self.inside.filters.len olds (map filter made) are' first.made c.self.invariant)
 
 pub returns : goal.returns

@@ -3,7 +3,7 @@ use Rattle.dsp_defs.specs.declared.format.Fmt.TheVariants.{Q15}
 use Rattle.dsp_matrix.specs.Matrices.{group}
 use Rattle.dsp_matrix.specs.Grouping.{product-grouped}
 use Rattle.dsp_matrix.proofs.GroupFilters.{room-few}
-use Rattle.dsp_matrix.proofs.unit.product_unit.Goals as goal
+use Rattle.dsp_blocks.proofs.makers.product.Goals as goal
 
 pub new-requires-clause-room : goal.new-requires-clause-room
 new-requires-clause-room c =

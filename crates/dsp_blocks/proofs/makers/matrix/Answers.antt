@@ -2,7 +2,7 @@ use Rattle.std.proofs.Common.{arith}
 use Rattle.dsp_matrix.specs.Matrices.{group}
 use Rattle.dsp_matrix.specs.Grouping.{elementwise-grouped}
 use Rattle.dsp_matrix.proofs.GroupFilters.{room-few}
-use Rattle.dsp_matrix.proofs.unit.elementwise_unit.Goals as goal
+use Rattle.dsp_blocks.proofs.makers.matrix.Goals as goal
 
 pub new-requires-clause-room : goal.new-requires-clause-room
 new-requires-clause-room c =

@@ -1,6 +1,6 @@
 -- A step of an LMS filter, over the window of its past and a block.
 use Rattle.std.proofs.Common.{◌≡◌, ◌∙◌, ap, ap₂, sym, subst, refl, ℕ, suc, ◌+◌, ◌-◌, ◌*◌, ◌<◌, ◌≤◌, ℤ, pos, ◌*ℤ◌, ◌-ℤ◌, List, [], ◌∷◌, ◌++◌, length, map, reverse, take, drop, set, arith, length-append, length-take-le, append_assoc, take_all}
-use Rattle.std.proofs.lemmas.List.{take_more, take-append-drop, get_or-take, get_or-reverse, length-reverse, length-map, map-append, reverse-append, reverse-reverse, get_or-drop, drop-map, take_more_set, append-nil, length-take, length-drop}
+use Rattle.std.proofs.lemmas.List.{take_more, take-append-drop, get_or-take, get_or-reverse, length-reverse, length-map, map-append, reverse-append, reverse-reverse, get_or-drop, take_more_set, append-nil, length-take, length-drop}
 use Rattle.std.proofs.lemmas.Simd.{map-map}
 use Rattle.std.specs.List.{range_with_len}
 use Rattle.dsp_defs.specs.declared.format.Fmt.{Fmt}

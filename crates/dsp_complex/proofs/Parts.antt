@@ -1,9 +1,9 @@
 -- Products of the parts of complex numbers, and sums of them that fit the word.
 use Rattle.std.proofs.Common.{◌≡◌, ◌≢◌, ◌∙◌, ap, refl, sym, subst, to_z, of_z, ℕ, ◌+◌, ◌-◌, ◌*◌, ◌^◌, ◌<◌, ◌≤◌, ℤ, pos, negsuc, ◌+ℤ◌, ◌-ℤ◌, ◌*ℤ◌, SFits, arith, lit<}
 use Rattle.std.specs.Prelude.{FitsSigned, nat_abs}
-use Rattle.std.specs.Int.{w8, w16, w32, w64}
-use Rattle.std.proofs.lemmas.Int.{unsigned_abs-mul, to_z-of_z, ints}
-use Rattle.std.proofs.Math.Nat.{mul-le-mul, div-le_of_le-mul, div-lt_iff_lt-mul}
+use Rattle.std.specs.Int.{w32, w64}
+use Rattle.std.proofs.lemmas.Int.{to_z-of_z, ints}
+use Rattle.std.proofs.Math.Nat.{div-le_of_le-mul, div-lt_iff_lt-mul}
 use lib.Signed.{shr_z}
 use Rattle.dsp_sat.proofs.Words.{shift_down-is}
 use Rattle.dsp_sat.proofs.WideProducts.{word-in-32}

@@ -1,4 +1,4 @@
-use Rattle.std.proofs.Common.{◌≡◌, ◌∙◌, ap, sym, subst, ℕ, ◌+◌, ◌*◌, ◌<◌, length, arith, rules, SFits, to_z, of_z, to_z-of_z}
+use Rattle.std.proofs.Common.{◌≡◌, ◌∙◌, ap, sym, subst, ◌<◌, length, arith, rules, SFits, to_z, of_z, to_z-of_z}
 use Rattle.std.specs.Prelude.{FitsSigned}
 use mir.Syntax.{w32}
 use Rattle.dsp_defs.specs.Formats.{word}

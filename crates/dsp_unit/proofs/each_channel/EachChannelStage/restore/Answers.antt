@@ -1,4 +1,4 @@
-use Rattle.std.proofs.Common.{◌≡◌, sym, subst, ◌*◌, ◌≤◌, ◌++◌, length, map, take, drop, arith}
+use Rattle.std.proofs.Common.{◌≡◌, sym, subst, ◌≤◌, ◌++◌, length, map, take, drop, arith}
 use Rattle.dsp_stage.specs.Kept.{Fits}
 use Rattle.dsp_stage.specs.Filter.{AreFilters, filter_at, filter_room}
 use Rattle.dsp_stage.specs.Channels.{unit_of_filters, AreRestored}

@@ -71,9 +71,9 @@ invariant_of-result c =
     let so_far = c.loop-block.invariant.0.blocks_so_far in
     let all : take c.loop-block.block-index read ≡ c.args.script.now.blocks = take_all c.loop-block.block-index read (omega arith) ∙ c.as_slice-blocks.ensures in
     let blocks : blocks_of us ≡ c.args.script.now.blocks = so_far ∙ all in
-    let room : c.loop-block.frames * c.from-2.result ≡ place_room (place_behind p (blocks_of us)) = ap (λ n. c.loop-block.frames * n) c.from-2.ensures ∙ sym (ap place_room (ap (place_behind p) so_far ∙ c.loop-block.invariant.0.reached)) in
+    let room : c.loop-block.frames * c.from-3.result ≡ place_room (place_behind p (blocks_of us)) = ap (λ n. c.loop-block.frames * n) c.from-3.ensures ∙ sym (ap place_room (ap (place_behind p) so_far ∙ c.loop-block.invariant.0.reached)) in
     let open_all = legal_is_open p c.args.script.now.blocks c.requires.chain c.requires.channels c.requires.legal in
-    rw c.from.ensures (
+    rw c.from-2.ensures (
       new-whole p us c.args.script.now.blocks blocks c.loop-block.invariant.0.row c.loop-block.invariant.0.fresh c.requires.chain c.requires.channels c.requires.few_channels c.requires.few_blocks c.requires.one_correlate open_all,
       c.loop-block.invariant.1 ∙ ap rules_of (all ∙ sym blocks),
       c.loop-block.invariant.2,
@@ -86,7 +86,7 @@ returns c =
     let us = c.loop-block.links.items in
     let read = c.as_slice-blocks.result.now in
     let blocks : blocks_of us ≡ c.args.script.now.blocks = c.loop-block.invariant.0.blocks_so_far ∙ take_all c.loop-block.block-index read (omega arith) ∙ c.as_slice-blocks.ensures in
-    rw c.from.ensures (new-chain p us c.args.script.now.blocks blocks c.loop-block.invariant.0.row c.loop-block.invariant.0.fresh)
+    rw c.from-2.ensures (new-chain p us c.args.script.now.blocks blocks c.loop-block.invariant.0.row c.loop-block.invariant.0.fresh)
 
 pub most_frames-frames-requires : goal.most_frames-frames-requires
 most_frames-frames-requires c =
@@ -97,8 +97,20 @@ most_frames-frames-requires c =
     let next : Next here b = making-next (input_place c.args.script.now c.args.block) here blocks i (i + 1) c.loop-block.links.items b (next-first blocks i b c.loop-block-test.true c.block-item.is) c.loop-block.invariant.0 in
     record { groups = (has_groups (flow_at here) (b ∷ []) (next.suits, tt)).0; fits = omega (arith, next.few_frames) }
 
+pub overflow_mul-frames : goal.overflow_mul-frames
+overflow_mul-frames c =
+    let blocks = c.as_slice-blocks.result.now in
+    let i = c.loop-block.block-index in
+    let b = c.block-item.result in
+    let here : Place = record { format = c.loop-block.flow.format; channels = c.loop-block.flow.channels; capacity = c.loop-block.frames } in
+    let behind : Place = record { format = c.after-flow.result.format; channels = c.after-flow.result.channels; capacity = c.most_frames-frames.result } in
+    let next : Next here b = making-next (input_place c.args.script.now c.args.block) here blocks i (i + 1) c.loop-block.links.items b (next-first blocks i b c.loop-block-test.true c.block-item.is) c.loop-block.invariant.0 in
+    let step : behind ≡ place_after here b = next-place here behind b c.after-flow.ensures c.most_frames-frames.ensures in
+    let samples : behind.capacity * behind.channels ≤ MAX_SAMPLES = subst (λ (p : Place). p.capacity * p.channels ≤ MAX_SAMPLES) (sym step) next.few_samples in
+    rw c.from.ensures (omega (arith, samples))
+
 pub overflow_mul-result : goal.overflow_mul-result
 overflow_mul-result c =
     let here : Place = record { format = c.loop-block.flow.format; channels = c.loop-block.flow.channels; capacity = c.loop-block.frames } in
     let samples : c.loop-block.frames * c.loop-block.flow.channels ≤ MAX_SAMPLES = (making-open (input_place c.args.script.now c.args.block) here c.as_slice-blocks.result.now c.loop-block.block-index c.loop-block.links.items c.loop-block.invariant.0).samples in
-    rw c.from-2.ensures (omega (arith, samples))
+    rw c.from-3.ensures (omega (arith, samples))

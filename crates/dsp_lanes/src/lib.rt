@@ -6,6 +6,7 @@ mod dots;
 mod doubled;
 mod eights;
 mod fits;
+mod format_lanes;
 mod four_dots;
 mod halves;
 mod high_pairs;
@@ -31,6 +32,7 @@ mod rows;
 mod updates;
 mod weights;
 
+pub use format_lanes::FormatLanes;
 pub use four_dots::Four;
 pub use kernels::{FilterKernels, LaneKernels, LaneSample};
 pub use lanes::Lanes;

@@ -5,10 +5,10 @@ use dsp_biquad::{Cascade, Section, Section64};
 use dsp_complex::ComplexUnit;
 use dsp_conv::{ConvChannel, CorrelateChannel};
 use dsp_defs::{Measure, Steps};
-use dsp_fir::{FirChannel, SparseChannel};
+use dsp_fir::WindowFilter;
 use dsp_lattice::{FirLatticeWork, IirLatticeWork};
 use dsp_matrix::{Grouped, GroupedMult};
-use dsp_rate::{DecimateChannel, InterpolateChannel};
+use dsp_rate::{Decimate, Interpolate};
 use dsp_stage::Stage;
 use dsp_unit::{EachChannel, StepFilter};
 use dsp_vector::VectorUnit;
@@ -22,16 +22,13 @@ type EachStep<T, W> = EachChannel<T, StepFilter<T, W>>;
 pub enum BlockUnit {
     Vector(VectorUnit),
     Complex(ComplexUnit),
-    Fir7(EachChannel<i8, FirChannel<i8, 16>>),
-    Fir15(EachChannel<i16, FirChannel<i16, 8>>),
-    Fir31(EachChannel<i32, FirChannel<i32, 4>>),
-    Sparse7(EachChannel<i8, SparseChannel<i8, 16>>),
-    Sparse15(EachChannel<i16, SparseChannel<i16, 8>>),
-    Sparse31(EachChannel<i32, SparseChannel<i32, 4>>),
-    Decimate15(EachChannel<i16, DecimateChannel<i16, 8>>),
-    Decimate31(EachChannel<i32, DecimateChannel<i32, 4>>),
-    Interpolate15(EachChannel<i16, InterpolateChannel<i16, 8>>),
-    Interpolate31(EachChannel<i32, InterpolateChannel<i32, 4>>),
+    Fir7(EachChannel<i8, WindowFilter<i8, 16, dsp_fir::OfBlock>>),
+    Fir15(EachChannel<i16, WindowFilter<i16, 8, dsp_fir::OfBlock>>),
+    Fir31(EachChannel<i32, WindowFilter<i32, 4, dsp_fir::OfBlock>>),
+    Decimate15(EachChannel<i16, Decimate<i16, 8>>),
+    Decimate31(EachChannel<i32, Decimate<i32, 4>>),
+    Interpolate15(EachChannel<i16, Interpolate<i16, 8>>),
+    Interpolate31(EachChannel<i32, Interpolate<i32, 4>>),
     LatticeFir15(EachStep<i16, FirLatticeWork<i16>>),
     LatticeIir15(EachStep<i16, IirLatticeWork<i16>>),
     LatticeIir31(EachStep<i32, IirLatticeWork<i32>>),
@@ -63,9 +60,6 @@ macro_rules! for_unit {
             BlockUnit::Fir7($unit) => $result,
             BlockUnit::Fir15($unit) => $result,
             BlockUnit::Fir31($unit) => $result,
-            BlockUnit::Sparse7($unit) => $result,
-            BlockUnit::Sparse15($unit) => $result,
-            BlockUnit::Sparse31($unit) => $result,
             BlockUnit::Decimate15($unit) => $result,
             BlockUnit::Decimate31($unit) => $result,
             BlockUnit::Interpolate15($unit) => $result,

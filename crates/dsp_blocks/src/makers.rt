@@ -2,7 +2,7 @@ ghost use Rattle.std.specs.Prelude.{◌≤◌, ◌≢◌, ◌*◌, IfOk};
 ghost use Rattle.dsp_stage.specs.Unit.{IsNew};
 ghost use Rattle.dsp_defs.specs.Grammar.{Suits};
 ghost use Rattle.dsp_defs.specs.declared.format.Fmt.TheVariants.{Q7, Q15, Q31};
-ghost use Rattle.dsp_fir.specs.FirUnit.{IsFirIn, IsSparseIn};
+ghost use Rattle.dsp_fir.specs.FirUnit.{IsWindowIn};
 ghost use Rattle.dsp_rate.specs.RateUnit.{IsDecimateIn, IsInterpolateIn};
 ghost use Rattle.dsp_lattice.specs.LatticeState.{IsFirLatticeIn, IsIirLatticeIn};
 ghost use Rattle.dsp_biquad.specs.Sections.{IsBiquadIn, IsBiquad64};
@@ -18,7 +18,7 @@ use dsp_defs::{Block, Fmt, MAX_SAMPLES};
 use dsp_unit::EachChannel;
 use std::alloc::{AllocError, Global};
 
-/// A FIR filter for each channel.
+/// A FIR or sparse filter for each channel.
 pub fn fir(
     alloc: Global,
     block: &Block,
@@ -26,7 +26,7 @@ pub fn fir(
     channels: u8,
     frames: usize,
 ) -> Result<BlockUnit, AllocError>
-    requires block { IsFirIn format block.now }
+    requires block { IsWindowIn format block.now }
     requires channels { 1 ≤ channels }
     requires frames { 1 ≤ frames }
     requires samples { frames * channels ≤ MAX_SAMPLES }
@@ -36,27 +36,6 @@ pub fn fir(
         Fmt::Q7 => Ok(BlockUnit::Fir7(EachChannel::new(alloc, block, channels, frames)?)),
         Fmt::Q15 => Ok(BlockUnit::Fir15(EachChannel::new(alloc, block, channels, frames)?)),
         Fmt::Q31 => Ok(BlockUnit::Fir31(EachChannel::new(alloc, block, channels, frames)?)),
-    }
-}
-
-/// A sparse filter for each channel.
-pub fn sparse(
-    alloc: Global,
-    block: &Block,
-    format: Fmt,
-    channels: u8,
-    frames: usize,
-) -> Result<BlockUnit, AllocError>
-    requires block { IsSparseIn format block.now }
-    requires channels { 1 ≤ channels }
-    requires frames { 1 ≤ frames }
-    requires samples { frames * channels ≤ MAX_SAMPLES }
-    ensures { IfOk result (λ u. IsNew block.now format channels frames (state_of u)) }
-{
-    match format {
-        Fmt::Q7 => Ok(BlockUnit::Sparse7(EachChannel::new(alloc, block, channels, frames)?)),
-        Fmt::Q15 => Ok(BlockUnit::Sparse15(EachChannel::new(alloc, block, channels, frames)?)),
-        Fmt::Q31 => Ok(BlockUnit::Sparse31(EachChannel::new(alloc, block, channels, frames)?)),
     }
 }
 

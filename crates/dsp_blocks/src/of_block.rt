@@ -42,8 +42,9 @@ impl BlockUnit {
             Block::Conj | Block::CmplxMult | Block::CmplxMultReal | Block::MagSquared => {
                 Ok(BlockUnit::Complex(ComplexUnit::new(alloc, block, format, channels, frames)?))
             }
-            Block::Fir { .. } => makers::fir(alloc, block, format, channels, frames),
-            Block::Sparse { .. } => makers::sparse(alloc, block, format, channels, frames),
+            Block::Fir { .. } | Block::Sparse { .. } => makers::fir(
+                alloc, block, format, channels, frames,
+            ),
             Block::Decimate { .. } => makers::decimate(alloc, block, format, channels, frames),
             Block::Interpolate { .. } => makers::interpolate(
                 alloc, block, format, channels, frames,

@@ -1,29 +1,33 @@
 -- Delays of a sparse filter, and the sums that its taps add to.
-use Rattle.std.proofs.Common.{◌≡◌, ◌∙◌, ap, sym, refl, ℕ, zero, suc, ◌+◌, ◌-◌, ◌*◌, ◌<◌, ◌≤◌, ℤ, pos, ◌+ℤ◌, List, [], ◌∷◌, ◌++◌, length, map, get_or, slice_range, None, Some, true, false, drop, length-take-le, length-drop, arith, ⊎_elim}
-use Rattle.std.specs.Prelude.{◌≤ℤ◌, ◌&&◌, if◌then◌else◌, All, fold, max, find, nat_eq, nat_le, nat_lt, cond, Option, MatchOption, Result, Ok, Err}
-use Rattle.std.specs.Option.{option_map, option_or}
+use Rattle.std.proofs.Common.{◌≡◌, ◌∙◌, ap, sym, subst, refl, ℕ, zero, suc, ◌+◌, ◌-◌, ◌*◌, ◌<◌, ◌≤◌, ℤ, pos, ◌+ℤ◌, List, [], ◌∷◌, ◌++◌, length, map, get_or, slice_range, None, Some, true, false, drop, length-take-le, length-drop, arith, ⊎_elim}
+use Rattle.std.specs.Prelude.{◌≤ℤ◌, All, fold, max, find, nat_abs, nat_lt, cond, Option, MatchOption, Result, Ok, Err}
+use Rattle.std.specs.Option.{option_map}
 use Rattle.std.specs.Simd.Lanes.{zip2}
 use Rattle.std.proofs.lemmas.Bool.{cases_lt}
 use Rattle.std.proofs.lemmas.Int.{ints, int_wrap-add_left, int_wrap-mul_right}
 use Rattle.std.proofs.lemmas.Bool.Decides.{nat_tests}
 use Rattle.std.proofs.lemmas.List.{length-map}
+use Rattle.std.proofs.lemmas.List.Elements.{All-nil, All-cons, All-map}
 use Rattle.std.proofs.lemmas.List.FromFn.{length-map-range_with_len, get_or-map-range_with_len, fill_by_all}
 use Rattle.std.proofs.lemmas.Simd.{length-zip2, get_or-zip2}
-use Rattle.std.proofs.Math.Nat.{le-max_left, le-max_right, max-le}
+use Rattle.std.proofs.Math.Nat.{le-max_left, le-max_right}
 use Rattle.dsp_defs.specs.Numbers.{◌>>◌, saturate, wrap, w32}
 use Rattle.dsp_defs.specs.Signal.{sample, delayed, values, sum_below}
 use Rattle.dsp_defs.specs.Streaming.{Continues, last_of}
 use Rattle.dsp_defs.specs.Sums.{sparse, sparse_term, sparse_close}
-use Rattle.dsp_defs.specs.declared.limits.TheConstants.{MAX_DELAY, MAX_SAMPLES, MAX_TAPS}
+use Rattle.dsp_defs.specs.declared.limits.TheConstants.{MAX_DELAY}
 use Rattle.dsp_defs.proofs.FormatLemmas.{wrap-wrap}
 use Rattle.dsp_defs.proofs.Signal.{values_cong, values-add, sum_below_cong, delayed-append}
 use Rattle.dsp_defs.proofs.Streaming.{window_at}
 use Rattle.std.proofs.lemmas.List.{length-append}
 use Rattle.dsp_lanes.specs.Turns.{RisesWithin}
 use Rattle.dsp_defs.specs.Counts.{Counts}
-use Rattle.dsp_fir.specs.SparseState.{greatest_delay, delays_fault, sparse_fault, delayed_sum, sparse_rows}
+use Rattle.dsp_fir.specs.Delays.{greatest_delay, delays_fault, delayed_sum, sparse_rows}
+use Rattle.dsp_stage.specs.Kept.{greatest}
+use Rattle.dsp_fir.specs.FirUnit.{IsSparseIn, IsWindowIn}
+use Rattle.dsp_defs.specs.declared.script.Block.TheVariants.{Sparse}
 use Rattle.dsp_defs.specs.declared.fault.MakeFault.{MakeFault}
-use Rattle.dsp_defs.specs.declared.fault.MakeFault.TheVariants.{Length, Range}
+use Rattle.dsp_defs.specs.declared.fault.MakeFault.TheVariants.{Range}
 use Rattle.dsp_unit.proofs.Slices.{sample-piece}
 use Rattle.dsp_defs.specs.declared.format.Fmt.{Fmt}
 use Rattle.dsp_defs.specs.declared.format.Fmt.TheVariants.{Q7, Q15, Q31}
@@ -42,51 +46,40 @@ below_greatest a (d ∷ delays) (suc k) e h = below_greatest (max a d) delays k 
 pub delays-within : (delays : List ℕ) → All (λ d. d ≤ greatest_delay delays) delays
 delays-within delays k e h = below_greatest 0 delays k e h
 
--- where none is over n, the greatest is not
-pub greatest-within : (n a : ℕ) (delays : List ℕ) → a ≤ n → find (λ d. nat_lt n d) delays ≡ None → fold max a delays ≤ n
-greatest-within n a [] h none = h
-greatest-within n a (d ∷ delays) h none =
-    ⊎_elim
-    (λ (over : n < d). let test : nat_lt n d ≡ true = grind (arith, nat_tests) in
-    absurd (some_is_some d (ap (λ t. cond t (Some d) (find (λ d. nat_lt n d) delays)) (sym test) ∙ none)))
-    (λ (fits : d ≤ n). let test : nat_lt n d ≡ false = grind (arith, nat_tests) in
-    greatest-within n (max a d) delays (max-le h fits) (ap (λ t. cond t (Some d) (find (λ d. nat_lt n d) delays)) (sym test) ∙ none))
-    (cases_lt n d)
-  where
-    some_is_some : (d : ℕ) → Some d ≡ None → ⊥
-    some_is_some d e = cc e
+-- delays as a block names them
+pub delays-named : (delays : List ℕ) → map nat_abs (map pos delays) ≡ delays
+delays-named [] = refl
+delays-named (d ∷ delays) = ap (λ l. d ∷ l) (delays-named delays)
+
+pub greatest-named : (delays : List ℕ) → greatest (map pos delays) ≡ greatest_delay delays
+greatest-named delays = ap greatest_delay (delays-named delays)
 
 -- delays without a fault are as they may be
-pub delays-fit : (delays : List ℕ) (u : Unit {0}) → MatchOption (delays_fault delays) (◌≡◌ {A = Result (Unit {0}) MakeFault} (Ok u) (Ok tt)) (λ e. ◌≡◌ {A = Result (Unit {0}) MakeFault} (Ok u) (Err e)) → greatest_delay delays ≤ MAX_DELAY
-delays-fit delays u answer = greatest-within MAX_DELAY 0 delays (omega arith) (none (find (λ d. nat_lt MAX_DELAY d) delays) answer)
+pub delays-some : (delays : List ℕ) → All (λ d. pos 0 ≤ℤ d) (map pos delays)
+delays-some delays = All-map (λ d. pos 0 ≤ℤ d) pos delays (λ k e h. omega (arith, ints))
+
+none-over : (delays : List ℕ) → find (λ d. nat_lt MAX_DELAY d) delays ≡ None → All (λ d. d ≤ℤ pos MAX_DELAY) (map pos delays)
+none-over [] none = All-nil (λ d. d ≤ℤ pos MAX_DELAY)
+none-over (d ∷ delays) none =
+    ⊎_elim
+    (λ (over : MAX_DELAY < d). let test : nat_lt MAX_DELAY d ≡ true = grind (arith, nat_tests) in
+    absurd (some_is_some (ap (λ t. cond t (Some d) (find (λ d. nat_lt MAX_DELAY d) delays)) (sym test) ∙ none)))
+    (λ (fits : d ≤ MAX_DELAY). let test : nat_lt MAX_DELAY d ≡ false = grind (arith, nat_tests) in
+    All-cons (λ d. d ≤ℤ pos MAX_DELAY) (pos d) (map pos delays) (omega (arith, ints, fits))
+    (none-over delays (ap (λ t. cond t (Some d) (find (λ d. nat_lt MAX_DELAY d) delays)) (sym test) ∙ none)))
+    (cases_lt MAX_DELAY d)
+  where
+    some_is_some : Some d ≡ None → ⊥
+    some_is_some e = cc e
+
+pub delays-fit :
+    (delays : List ℕ) (u : Unit {0}) → MatchOption (delays_fault delays) (◌≡◌ {A = Result (Unit {0}) MakeFault} (Ok u) (Ok tt)) (λ e. ◌≡◌ {A = Result (Unit {0}) MakeFault} (Ok u) (Err e)) →
+    All (λ d. d ≤ℤ pos MAX_DELAY) (map pos delays)
+delays-fit delays u answer = none-over delays (none (find (λ d. nat_lt MAX_DELAY d) delays) answer)
   where
     none : (found : Option ℕ) → MatchOption (option_map (λ d. Range (pos d)) found) (◌≡◌ {A = Result (Unit {0}) MakeFault} (Ok u) (Ok tt)) (λ e. ◌≡◌ {A = Result (Unit {0}) MakeFault} (Ok u) (Err e)) → found ≡ None
     none None answer = refl
     none (Some d) answer = absurd (cc answer)
-
--- delays that a block may have are not refused
-pub delays-taken : (delays : List ℕ) → All (λ d. d ≤ℤ pos MAX_DELAY) (map pos delays) → find (λ d. nat_lt MAX_DELAY d) delays ≡ None
-delays-taken [] all = refl
-delays-taken (d ∷ delays) all =
-    let first : pos d ≤ℤ pos MAX_DELAY = all 0 (pos 0) (omega arith) in
-    let fits : d ≤ MAX_DELAY = omega (arith, ints, first) in
-    let test : nat_lt MAX_DELAY d ≡ false = grind (arith, nat_tests) in
-    ap (λ t. cond t (Some d) (find (λ d. nat_lt MAX_DELAY d) delays)) test ∙ delays-taken delays (λ k e h. all (suc k) e (omega (arith, h)))
-
--- nor is the sparse filter of such a block
-pub sparse-taken :
-    (taps : ℕ) (delays : List ℕ) (block : ℕ) → 2 ≤ taps → taps ≤ MAX_TAPS → length delays ≡ taps → All (λ d. d ≤ℤ pos MAX_DELAY) (map pos delays) → 1 ≤ block → block ≤ MAX_SAMPLES →
-    sparse_fault taps delays block ≡ None
-sparse-taken taps delays block some few same within begun fits =
-    let more : nat_le 2 taps ≡ true = grind (arith, nat_tests) in
-    let limit : nat_le taps MAX_TAPS ≡ true = grind (arith, nat_tests) in
-    let each : nat_eq (length delays) taps ≡ true = grind (arith, nat_tests) in
-    let first : nat_le 1 block ≡ true = grind (arith, nat_tests) in
-    let last : nat_le block MAX_SAMPLES ≡ true = grind (arith, nat_tests) in
-    let none = delays-taken delays within in
-    λ i. if more i && limit i
-    then (if each i then option_or (option_map (λ d. Range (pos d)) (none i)) (if first i && last i then None else Some (Range (pos block))) else Some (Length (length delays) taps))
-    else Some (Length taps 2)
 
 -- ---- the sums
 
@@ -183,3 +176,18 @@ sparse-values format taps delays past x block window out count within shows same
         (sum_below_cong (length taps) _ _
         (λ k h. let near = within k h in
         ap (sparse_term format (sample taps k)) (sym (window_at x block past i (past - get_or delays k 0) (get_or delays k 0) (omega (arith, near))))))
+
+-- the same of delays as a block names them
+pub within-past : (past : ℕ) (delays : List ℕ) (k e : ℕ) → past ≡ greatest (map pos delays) → k < length delays → get_or delays k e ≤ past
+within-past past delays k e depth h =
+    let near = delays-within delays k e h in
+    let named = greatest-named delays in
+    omega (arith, near, named, depth)
+
+pub named-values :
+    (format : Fmt) (taps : List ℤ) (delays : List ℕ) (past : ℕ) (x block window out : List ℤ) (count : ℕ) → IsWindowIn format (Sparse taps (map pos delays)) → past ≡ greatest (map pos delays) →
+    window ≡ last_of (greatest (map pos delays)) x ++ block → length block ≡ count → out ≡ sparse_rows format taps delays past window count → Continues (sparse format taps (map nat_abs (map pos delays))) x block out
+named-values format taps delays past x block window out count is depth shows size is_rows =
+    let as_many : length delays ≡ length taps = sym (length-map delays pos) ∙ ⊎_elim (λ (a : ⊥). absurd a) (λ (b : IsSparseIn format (Sparse taps (map pos delays))). b.1) is in
+    subst (λ ds. Continues (sparse format taps ds) x block out) (sym (delays-named delays))
+    (sparse-values format taps delays past x block window out count (λ k h. within-past past delays k 0 depth (omega (arith, h, as_many))) (shows ∙ ap (λ n. last_of n x ++ block) (sym depth)) (sym size) is_rows)

@@ -1,3 +1,3 @@
-pub mod FirState
-pub mod SparseState
+pub mod WindowState
+pub mod Delays
 pub mod FirUnit

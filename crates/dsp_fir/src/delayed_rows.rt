@@ -3,7 +3,7 @@ ghost use Rattle.dsp_defs.specs.Numbers.{wrap, w32};
 ghost use Rattle.dsp_defs.specs.Signal.{sample, values};
 ghost use Rattle.dsp_defs.specs.Sums.{sparse_close};
 ghost use Rattle.dsp_lanes.specs.Turns.{RisesWithin, lane_turns};
-ghost use Rattle.dsp_fir.specs.SparseState.{delayed_sum, sparse_rows};
+ghost use Rattle.dsp_fir.specs.Delays.{delayed_sum, sparse_rows};
 
 use dsp_defs::Steps;
 use dsp_lanes::{LaneSample, Lanes};

@@ -1,12 +1,13 @@
 //! Finite impulse response filters.
 #![tactic(auto)]
 
-mod channel;
 mod delayed_rows;
 mod fir;
 mod making;
 mod sparse;
+mod window_filter;
+mod window_rows;
 
-pub use channel::{FirChannel, SparseChannel};
-pub use fir::Fir;
-pub use sparse::Sparse;
+pub use fir::{Dense, Fir};
+pub use sparse::{Delayed, Sparse};
+pub use window_filter::{OfBlock, WindowFilter};

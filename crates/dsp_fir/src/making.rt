@@ -1,5 +1,5 @@
 ghost use Rattle.std.specs.Prelude.{◌≡◌, ◌≤ℤ◌, Err, Ok, All, IfOk, MatchOption, map, pos};
-ghost use Rattle.dsp_fir.specs.SparseState.{delays_fault, greatest_delay};
+ghost use Rattle.dsp_fir.specs.Delays.{delays_fault, greatest_delay};
 
 use dsp_defs::{MAX_DELAY, MakeFault};
 use std::alloc::{AllocError, Global};

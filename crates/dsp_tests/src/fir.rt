@@ -70,7 +70,7 @@ fn fir_ends<M: Ledger>(rt: &impl Abort, alloc: Global, steps: &mut Steps<M>) {
 /// A sparse filter of two delays, for blocks of two samples.
 fn of_two_delays(rt: &impl Abort, alloc: Global) -> Sparse<i16, 8>
     ensures running { IsFalse result.ended }
-    ensures block { result.block ≡ 2 }
+    ensures block { result.capacity ≡ 2 }
     ensures past { length result.past ≡ 1 }
 {
     Sparse::<i16, 8>::new(alloc, &[19950, -32193], &[0, 1], 2).expect(rt, "a filter")

@@ -2,7 +2,7 @@ use Rattle.std.proofs.Common.{◌≡◌, ◌*◌, length, map}
 use Rattle.dsp_defs.specs.Numbers.{wrap, w32}
 use Rattle.dsp_defs.specs.Signal.{values}
 use Rattle.dsp_lanes.specs.Turns.{RisesWithin, lane_turns}
-use Rattle.dsp_fir.specs.SparseState.{delayed_sum}
+use Rattle.dsp_fir.specs.Delays.{delayed_sum}
 use Rattle.dsp_fir.proofs.delayed_rows.add_taps.Given as goal
 
 -- the terms of the taps so far are added and counted

@@ -2,7 +2,7 @@ use Rattle.std.proofs.Common.{◌≡◌, ◌∙◌, ap, sym, length, map, take, 
 use Rattle.std.proofs.lemmas.List.{length-map}
 use Rattle.dsp_defs.specs.Numbers.{wrap, w32}
 use Rattle.dsp_defs.specs.Signal.{values}
-use Rattle.dsp_fir.specs.SparseState.{delayed_sum}
+use Rattle.dsp_fir.specs.Delays.{delayed_sum}
 use Rattle.dsp_fir.proofs.DelayLemmas.{sums-close}
 use Rattle.dsp_fir.proofs.delayed_rows.delayed_rows.Goals as goal
 

@@ -1,5 +1,5 @@
 use Rattle.std.proofs.Common.{◌≡◌, drop}
-use Rattle.dsp_fir.specs.SparseState.{delays_fault}
+use Rattle.dsp_fir.specs.Delays.{delays_fault}
 use Rattle.dsp_fir.proofs.making.check_delays.Given as goal
 
 -- no delay so far is too great

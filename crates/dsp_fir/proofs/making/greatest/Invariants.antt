@@ -1,5 +1,5 @@
 use Rattle.std.proofs.Common.{◌≡◌, take}
-use Rattle.dsp_fir.specs.SparseState.{greatest_delay}
+use Rattle.dsp_fir.specs.Delays.{greatest_delay}
 use Rattle.dsp_fir.proofs.making.greatest.Given as goal
 
 -- the greatest delay so far

@@ -24,7 +24,7 @@ use Rattle.dsp_lanes.specs.Turns.{RisesWithin}
 use Rattle.dsp_defs.specs.Counts.{Counts}
 use Rattle.dsp_fir.specs.Delays.{greatest_delay, delays_fault, delayed_sum, sparse_rows}
 use Rattle.dsp_stage.specs.Kept.{greatest}
-use Rattle.dsp_fir.specs.FirUnit.{IsSparseIn, IsWindowIn}
+use Rattle.dsp_fir.specs.FirUnit.{IsWindowIn}
 use Rattle.dsp_defs.specs.declared.script.Block.TheVariants.{Sparse}
 use Rattle.dsp_defs.specs.declared.fault.MakeFault.{MakeFault}
 use Rattle.dsp_defs.specs.declared.fault.MakeFault.TheVariants.{Range}
@@ -188,6 +188,6 @@ pub named-values :
     (format : Fmt) (taps : List ℤ) (delays : List ℕ) (past : ℕ) (x block window out : List ℤ) (count : ℕ) → IsWindowIn format (Sparse taps (map pos delays)) → past ≡ greatest (map pos delays) →
     window ≡ last_of (greatest (map pos delays)) x ++ block → length block ≡ count → out ≡ sparse_rows format taps delays past window count → Continues (sparse format taps (map nat_abs (map pos delays))) x block out
 named-values format taps delays past x block window out count is depth shows size is_rows =
-    let as_many : length delays ≡ length taps = sym (length-map delays pos) ∙ ⊎_elim (λ (a : ⊥). absurd a) (λ (b : IsSparseIn format (Sparse taps (map pos delays))). b.1) is in
+    let as_many : length delays ≡ length taps = sym (length-map delays pos) ∙ is.1 in
     subst (λ ds. Continues (sparse format taps ds) x block out) (sym (delays-named delays))
     (sparse-values format taps delays past x block window out count (λ k h. within-past past delays k 0 depth (omega (arith, h, as_many))) (shows ∙ ap (λ n. last_of n x ++ block) (sym depth)) (sym size) is_rows)

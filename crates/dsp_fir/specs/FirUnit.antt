@@ -1,6 +1,6 @@
 -- The blocks whose filters are FIR and sparse filters.
-use Rattle.std.specs.Prelude.{◌⊎◌, ℕ, suc, ◌-◌, ◌*◌, ◌≡◌, ◌≤◌, max, ℤ, pos, ◌≤ℤ◌, nat_abs, List, [], ◌∷◌, length, map, fold, All, refl}
-use Rattle.std.proofs.Common.{arith, ⊎_elim}
+use Rattle.std.specs.Prelude.{ℕ, suc, ◌-◌, ◌*◌, ◌≡◌, ◌≤◌, max, ℤ, pos, ◌≤ℤ◌, nat_abs, List, [], ◌∷◌, length, map, fold, All, refl}
+use Rattle.std.proofs.Common.{arith}
 use Rattle.std.proofs.lemmas.Int.{ints}
 use Rattle.std.proofs.Math.Nat.{max-le}
 use Rattle.dsp_stage.specs.Kept.{greatest}
@@ -14,20 +14,12 @@ use Rattle.dsp_defs.specs.declared.format.Fmt.{Fmt}
 use Rattle.dsp_defs.specs.declared.script.Block.{Block}
 use Rattle.dsp_defs.specs.declared.script.Block.TheVariants.{Fir, Sparse}
 
--- the block is a FIR filter that no maker refuses
-abbrev pub IsFirIn : Fmt → Block → Type 0
-IsFirIn format (Fir taps) = AreTaps format taps
-IsFirIn format block = ⊥
-
--- the block is a sparse filter that no maker refuses
-abbrev pub IsSparseIn : Fmt → Block → Type 0
-IsSparseIn format (Sparse taps delays) =
-    (2 ≤ length taps) × (length delays ≡ length taps) × AreTaps format taps × All (λ d. pos 0 ≤ℤ d) delays × All (λ d. d ≤ℤ pos MAX_DELAY) delays
-IsSparseIn format block = ⊥
-
--- the block is one of either kind
+-- the block is a FIR or sparse filter that no maker refuses
 abbrev pub IsWindowIn : Fmt → Block → Type 0
-IsWindowIn format block = IsFirIn format block ⊎ IsSparseIn format block
+IsWindowIn format (Fir taps) = AreTaps format taps
+IsWindowIn format (Sparse taps delays) =
+    (2 ≤ length taps) × (length delays ≡ length taps) × AreTaps format taps × All (λ d. pos 0 ≤ℤ d) delays × All (λ d. d ≤ℤ pos MAX_DELAY) delays
+IsWindowIn format block = ⊥
 
 -- such delays are within the greatest one
 fold-few : (bound most : ℕ) (delays : List ℤ) → most ≤ bound → All (λ d. pos 0 ≤ℤ d) delays → All (λ d. d ≤ℤ pos bound) delays → fold max most (map nat_abs delays) ≤ bound
@@ -45,8 +37,8 @@ once : (a b : ℕ) → 1 * a * b ≡ a * b
 once a b = omega arith
 
 -- they work on each channel by itself, over a window of its last samples
-fir-windowed : (format : Fmt) (block : Block) → IsFirIn format block → IsWindowBlock format block
-fir-windowed format (Fir taps) is = record {
+fir-windowed : (format : Fmt) (taps : List ℤ) → AreTaps format taps → IsWindowBlock format (Fir taps)
+fir-windowed format taps is = record {
   samples = record {
     by_channel = record {
       live_is = refl;
@@ -74,10 +66,9 @@ fir-windowed format (Fir taps) is = record {
   turns = λ m n. once (length taps) (lane_turns format (n - m));
   no_group = tt;
 }
-fir-windowed format block is = absurd is
 
-sparse-windowed : (format : Fmt) (block : Block) → IsSparseIn format block → IsWindowBlock format block
-sparse-windowed format (Sparse taps delays) is = record {
+sparse-windowed : (format : Fmt) (taps delays : List ℤ) → IsWindowIn format (Sparse taps delays) → IsWindowBlock format (Sparse taps delays)
+sparse-windowed format taps delays is = record {
   samples = record {
     by_channel = record {
       live_is = refl;
@@ -105,7 +96,8 @@ sparse-windowed format (Sparse taps delays) is = record {
   turns = λ m n. once (length taps) (lane_turns format (n - m));
   no_group = tt;
 }
-sparse-windowed format block is = absurd is
 
 pub windowed : (format : Fmt) (block : Block) → IsWindowIn format block → IsWindowBlock format block
-windowed format block is = ⊎_elim (fir-windowed format block) (sparse-windowed format block) is
+windowed format (Fir taps) is = fir-windowed format taps is
+windowed format (Sparse taps delays) is = sparse-windowed format taps delays is
+windowed format block is = absurd is

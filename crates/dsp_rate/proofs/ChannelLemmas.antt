@@ -1,11 +1,11 @@
 -- The decimator of one channel, as a unit sees it.
-use Rattle.std.proofs.Common.{◌≡◌, ◌∙◌, ap, ap₂, refl, sym, subst, ℕ, ◌+◌, ◌-◌, ◌*◌, ◌/◌, ◌%◌, ◌<◌, ◌≤◌, ℤ, pos, List, [], ◌∷◌, ◌++◌, length, replicate, true, false, w64, to_z, of_z, arith, ⊎_elim}
+use Rattle.std.proofs.Common.{◌≡◌, ◌∙◌, ap, ap₂, refl, sym, subst, ℕ, ◌+◌, ◌-◌, ◌*◌, ◌/◌, ◌%◌, ◌<◌, ◌≤◌, ℤ, pos, List, [], ◌∷◌, ◌++◌, length, map, replicate, Bool, false, w64, to_z, of_z, arith, ⊎_elim}
 use Rattle.std.specs.Prelude.{◌≤ℤ◌, ◌<ℤ◌, negsuc, nat_abs}
 use Rattle.std.specs.Int.{div_ceil}
 use Rattle.std.proofs.lemmas.Int.{ints, to_z-of_z}
 use Rattle.dsp_defs.specs.Signal.{sample}
 use Rattle.std.proofs.lemmas.Bool.{cases_lt}
-use Rattle.std.proofs.lemmas.List.{append-nil, length-replicate}
+use Rattle.std.proofs.lemmas.List.{append-nil, length-map, length-replicate}
 use Rattle.std.proofs.lemmas.Nat.{div-add-mod'}
 use Rattle.std.proofs.Math.Nat.{zero-mod, mod-eq_of_lt, mod-lt}
 use Rattle.dsp_defs.specs.declared.format.Fmt.{Fmt}
@@ -15,16 +15,35 @@ use Rattle.dsp_defs.specs.Counts.{Counts}
 use Rattle.dsp_defs.specs.Streaming.{Continues}
 use Rattle.dsp_defs.specs.Sums.{decimate}
 use Rattle.dsp_defs.specs.Cost as cost
-use Rattle.dsp_stage.specs.Kept.{Fixed, Each, IsPlace, IsOfKind, in_words, kept_of_channel, kinds_by, FitsChannel}
-use Rattle.dsp_stage.specs.Filter.{FilterStandsFor, FilterCounts, FilterTook, filter_made, FilterFeeds, FilterFinishes, FilterRestores, IsNewFilter}
+use Rattle.dsp_stage.specs.Kept.{Fixed, Each, IsPlace, IsOfKind, in_words, FitsChannel}
+use Rattle.dsp_stage.specs.Filter.{FilterStandsFor, FilterCounts, FilterFeeds, IsNewFilter}
 use Rattle.dsp_stage.proofs.ChannelKept.{words-placed}
 use Rattle.dsp_stage.proofs.KeptLaws.{Each-append}
 use Rattle.dsp_stage.proofs.CostLaws.{quotient_more}
 use Rattle.dsp_lanes.specs.Turns.{lane_turns}
+use Rattle.dsp_window.specs.Rolling.{Rolling, last_samples}
+use Rattle.dsp_window.proofs.Rolls.{length-last_samples}
 use Rattle.dsp_unit.proofs.LastPlace.{each-last, kinds-of, of-kinds}
-use Rattle.dsp_rate.specs.DecimateState.{DecimateState, StandsFor, CountsFor, Fits, kept, new_decimate, past_length}
-use Rattle.dsp_rate.specs.Channels.{channel_state}
+use Rattle.dsp_rate.specs.DecimateState.{DecimateState, StandsFor, CountsFor, Fits, decimate_channel, kept, new_decimate, past_length}
 use Rattle.dsp_rate.proofs.DecimateLemmas.{kept-stands}
+
+-- ---- every decimator
+
+-- its factor is in its range, and it keeps as many samples as it was made for
+pub record IsDecimator (d : DecimateState) : Type 0 where
+  pub some : 0 < d.factor
+  pub few : d.factor ≤ 255
+  pub long : length d.past ≡ past_length d.factor (length d.taps)
+
+pub is-decimator :
+    {X : Type 0} → (number : X → ℤ) (taps : List X) (count factor phase : ℕ) (window : Rolling) (ended : Bool) →
+    count ≡ length taps → window.past + 2 ≡ count + factor → phase < factor → factor ≤ 255 → window.past ≤ length window.samples →
+    IsDecimator (record { factor = factor; taps = map number taps; past = last_samples window.past window.samples; phase = phase; block = window.room; ended = ended })
+is-decimator number taps count factor phase window ended counted past within few shown = record {
+  some = omega (arith, within);
+  few = few;
+  long = length-last_samples window.past window.samples shown ∙ omega (arith, past, counted, length-map taps number);
+}
 
 -- ---- room
 
@@ -45,17 +64,17 @@ room-enough n block factor room within enough = let more : div_ceil n factor ≤
 
 -- ---- what it stands for and counts
 
-pub stood : (format : Fmt) (d : DecimateState) (x : List ℤ) → FilterStandsFor (channel_state format d) x → StandsFor d x
+pub stood : (format : Fmt) (d : DecimateState) (x : List ℤ) → FilterStandsFor (decimate_channel format d) x → StandsFor d x
 stood format d x stands = kept-stands format d (kept d) x refl stands.keeps
 
-pub stands-channel : (format : Fmt) (d : DecimateState) (x : List ℤ) → d.ended ≡ false → StandsFor d x → FilterStandsFor (channel_state format d) x
+pub stands-channel : (format : Fmt) (d : DecimateState) (x : List ℤ) → d.ended ≡ false → StandsFor d x → FilterStandsFor (decimate_channel format d) x
 stands-channel format d x running stands = record {
   running = running;
   keeps = ap₂ (λ past phase. past ++ pos phase ∷ []) stands.past_is stands.phase_is;
   tail_follows = sym (append-nil (decimate format d.factor d.taps x));
 }
 
-pub counted : (format : Fmt) (d : DecimateState) (n : ℕ) → FilterCounts (channel_state format d) n → CountsFor d n
+pub counted : (format : Fmt) (d : DecimateState) (n : ℕ) → FilterCounts (decimate_channel format d) n → CountsFor d n
 counted format d n counts =
     let last : pos d.phase ≡ pos (n % d.factor) = each-last IsPlace (in_words (word format) (length d.taps + d.factor - 2)) (Fixed (n % d.factor)) d.past (pos d.phase) counts.place in
     cc
@@ -63,7 +82,7 @@ counted format d n counts =
 no-tail : (n m : ℕ) → n ≡ m → n ≡ m + 0
 no-tail n m same = omega (arith, same)
 
-pub counts-channel : (format : Fmt) (d : DecimateState) (n : ℕ) → d.ended ≡ false → length d.past ≡ past_length d.factor (length d.taps) → CountsFor d n → FilterCounts (channel_state format d) n
+pub counts-channel : (format : Fmt) (d : DecimateState) (n : ℕ) → d.ended ≡ false → length d.past ≡ past_length d.factor (length d.taps) → CountsFor d n → FilterCounts (decimate_channel format d) n
 counts-channel format d n running long counts = record {
   running = running;
   place = Each-append IsPlace (in_words (word format) (length d.taps + d.factor - 2)) (Fixed (n % d.factor) ∷ []) d.past (pos d.phase ∷ []) (words-placed (word format) _ d.past long) (ap pos counts, tt);
@@ -97,7 +116,7 @@ pub channel-fed :
     ((x : List ℤ) → StandsFor old x → Continues (decimate format old.factor old.taps) x taken given) → ((x : List ℤ) → StandsFor old x → StandsFor new (x ++ taken)) →
     ((n : ℕ) → CountsFor old n → n / old.factor + count ≡ (n + m) / old.factor) → ((n : ℕ) → CountsFor old n → CountsFor new (n + m)) →
     after.multiplies ≡ before.multiplies + count * length old.taps → after.turns ≤ before.turns + count * lane_turns L (length old.taps) →
-    FilterFeeds (channel_state format old) (channel_state format new) taken given before after
+    FilterFeeds (decimate_channel format old) (decimate_channel format new) taken given before after
 channel-fed format L old new taken given m count before after is_lanes running long same kept_long is_taken is_given within values stands count_is counts multiplies turns =
     let factor : new.factor ≡ old.factor = ap (λ (d : DecimateState). d.factor) same in
     let taps : new.taps ≡ old.taps = ap (λ (d : DecimateState). d.taps) same in
@@ -118,36 +137,20 @@ channel-fed format L old new taken given m count before after is_lanes running l
       turns = λ n here. rw is_taken (turns-bound (n / old.factor) ((n + m) / old.factor) count (lane_turns L (length old.taps)) (cost.lane_turns format (length old.taps)) before.turns after.turns (count_is n (counted format old n here)) (ap (λ w. length old.taps / w + length old.taps % w) is_lanes) turns);
     }
 
--- a decimator has no tail
-pub channel-finished :
-    (format : Fmt) (old new : DecimateState) (given : List ℤ) (before after : Counts) → new ≡ record old { ended = true } → given ≡ [] → after ≡ before →
-    FilterFinishes (channel_state format old) (channel_state format new) given before after
-channel-finished format old new given before after is none same = record {
-  made = record {
-    block = ap₂ (λ f t. Block.Decimate f t) (ap (λ (d : DecimateState). d.factor) is) (ap (λ (d : DecimateState). d.taps) is);
-    format = refl;
-    capacity = ap (λ (d : DecimateState). d.block) is;
-  };
-  ended = ap (λ (d : DecimateState). d.ended) is;
-  tail = sym (ap (λ l. l ++ []) none);
-  count = let nothing : length given ≡ 0 = ap length none in omega (arith, nothing);
-  spent = λ _. refl;
-  took = λ n took. subst (λ (d : DecimateState). FilterTook (channel_state format d) n) (sym is) (record { place = took.place; tail_within = took.tail_within });
-  multiplies = λ n _. (let made = made-same n in let counted = ap (λ (c : Counts). c.multiplies) same in omega (arith, made, counted));
-  turns = λ n _. (let made = made-same n in let turned = ap (λ (c : Counts). c.turns) same in omega (arith, made, turned));
-}
-  where
-    made-same : (n : ℕ) → filter_made (channel_state format new) n ≡ filter_made (channel_state format old) n
-    made-same n = ap (λ (d : DecimateState). filter_made (channel_state format d) n) is
-
 -- ---- kept numbers
 
 -- a number of a slice that is from 0 to m-1
-pub number-read : (z : ℤ) (m : ℕ) → m ≤ 256 → pos 0 ≤ℤ z → z <ℤ pos m → pos (nat_abs (to_z w64 (of_z w64 z))) ≡ z
+number-read : (z : ℤ) (m : ℕ) → m ≤ 256 → pos 0 ≤ℤ z → z <ℤ pos m → pos (nat_abs (to_z w64 (of_z w64 z))) ≡ z
 number-read (pos k) m few low high =
     let small : k < m = omega (arith, ints, high) in
     ap (λ w. pos (nat_abs w)) (to_z-of_z w64 (pos k) (omega (arith, small)))
 number-read (negsuc k) m few low high = absurd (omega (arith, ints, low))
+
+-- so the phase, the last of numbers that fit
+pub phase-read : (format : Fmt) (d : DecimateState) (numbers : List ℤ) → d.factor ≤ 255 → Fits format d numbers → pos (nat_abs (to_z w64 (of_z w64 (sample numbers (length numbers - 1))))) ≡ sample numbers (length d.past)
+phase-read format d numbers few fits =
+    let last : length d.past ≡ length numbers - 1 = omega (arith, fits.count) in
+    ap (λ k. pos (nat_abs (to_z w64 (of_z w64 (sample numbers k))))) (sym last) ∙ number-read (sample numbers (length d.past)) d.factor (omega (arith, few)) fits.low fits.high
 
 -- the decimator's test and the unit's
 pub fits-channel : (format : Fmt) (d : DecimateState) (numbers : List ℤ) (n : ℕ) → length d.past ≡ past_length d.factor (length d.taps) → Fits format d numbers → pos n ≡ sample numbers (length d.past) → FitsChannel format (Block.Decimate d.factor d.taps) n numbers
@@ -178,33 +181,9 @@ place-is format d numbers n v long fits is =
     let same : pos v ≡ pos (n % d.factor) = is ∙ kinds.last in
     cc
 
-pub channel-restored :
-    (format : Fmt) (old new : DecimateState) (numbers : List ℤ) → old.ended ≡ false → new ≡ record old { past = new.past; phase = new.phase } → kept new ≡ numbers →
-    FilterRestores (channel_state format old) (channel_state format new) numbers
-channel-restored format old new numbers running same keeps =
-    let factor : new.factor ≡ old.factor = ap (λ (d : DecimateState). d.factor) same in
-    let taps : new.taps ≡ old.taps = ap (λ (d : DecimateState). d.taps) same in
-    let ended : new.ended ≡ false = ap (λ (d : DecimateState). d.ended) same ∙ running in
-    let block : Block.Decimate new.factor new.taps ≡ Block.Decimate old.factor old.taps = ap₂ (λ f t. Block.Decimate f t) factor taps in
-    record {
-      made = record { block = block; format = refl; capacity = ap (λ (d : DecimateState). d.block) same };
-      running = ended;
-      kept = keeps;
-      stands = λ x is. record {
-        running = ended;
-        keeps = keeps ∙ is ∙ ap (λ b. kept_of_channel format b x) (sym block);
-        tail_follows = sym (append-nil (decimate format new.factor new.taps x));
-      };
-      counts = λ n place. record {
-        running = ended;
-        place = subst (λ b. Each IsPlace (kinds_by format b n) (kept new)) (sym block) (subst (λ l. Each IsPlace (kinds_by format (Block.Decimate old.factor old.taps) n) l) (sym keeps) place);
-        tail_values = no-tail _ _ refl;
-      };
-    }
-
 -- ---- a new one
 
-pub new-channel : (format : Fmt) (factor : ℕ) (taps : List ℤ) (block : ℕ) → IsNewFilter (Block.Decimate factor taps) format block (channel_state format (new_decimate factor taps block))
+pub new-channel : (format : Fmt) (factor : ℕ) (taps : List ℤ) (block : ℕ) → IsNewFilter (Block.Decimate factor taps) format block (decimate_channel format (new_decimate factor taps block))
 new-channel format factor taps block =
     let d = new_decimate factor taps block in
     record {

@@ -1,5 +1,5 @@
 -- The interpolator of one channel, as a unit sees it.
-use Rattle.std.proofs.Common.{◌≡◌, ◌∙◌, ap, ap₂, refl, sym, subst, ℕ, ◌+◌, ◌-◌, ◌*◌, ◌≤◌, ℤ, pos, List, [], ◌++◌, length, replicate, true, false, arith}
+use Rattle.std.proofs.Common.{◌≡◌, ◌∙◌, ap, ap₂, refl, sym, ℕ, ◌+◌, ◌-◌, ◌*◌, ◌≤◌, ℤ, pos, List, [], ◌++◌, length, replicate, false, arith}
 use Rattle.std.specs.Prelude.{All, FitsSigned}
 use Rattle.std.proofs.lemmas.List.{append-nil, length-replicate}
 use Rattle.std.proofs.lemmas.Nat.{mul-le}
@@ -11,10 +11,22 @@ use Rattle.dsp_defs.specs.Streaming.{Continues}
 use Rattle.dsp_defs.specs.Sums.{interpolate}
 use Rattle.dsp_defs.specs.Cost as cost
 use Rattle.dsp_stage.specs.Kept.{FitsChannel}
-use Rattle.dsp_stage.specs.Filter.{FilterStandsFor, FilterCounts, FilterTook, filter_made, FilterFeeds, FilterFinishes, FilterRestores, IsNewFilter}
+use Rattle.dsp_stage.specs.Filter.{FilterStandsFor, FilterCounts, FilterFeeds, IsNewFilter}
 use Rattle.dsp_stage.proofs.ChannelKept.{words-placed, words-fit, length-words, fit-words}
 use Rattle.dsp_lanes.specs.Turns.{lane_turns}
-use Rattle.dsp_rate.specs.InterpolateState.{InterpolateState, StandsFor, interpolate_channel, new_interpolate, past_length}
+use Rattle.dsp_window.specs.Rolling.{Rolling, last_samples}
+use Rattle.dsp_window.proofs.Rolls.{length-last_samples}
+use Rattle.dsp_rate.specs.InterpolateState.{InterpolateState, IsPhased, StandsFor, interpolate_channel, new_interpolate, past_length, unsorted}
+use Rattle.dsp_rate.proofs.InterpolateLemmas.{unsorted-long}
+
+-- ---- every interpolator
+
+-- it keeps as many samples as it was made for
+abbrev pub KeepsEnough : InterpolateState → Type 0
+KeepsEnough f = length f.past ≡ past_length f.factor (length f.taps)
+
+pub phased-keeps : (factor : ℕ) (phases : List ℤ) (window : Rolling) → IsPhased factor phases window → length (last_samples window.past window.samples) ≡ past_length factor (length (unsorted factor phases))
+phased-keeps factor phases window is = length-last_samples window.past window.samples is.shown ∙ is.past ∙ ap (past_length factor) (sym (unsorted-long factor phases))
 
 no-tail : (n m : ℕ) → n ≡ m → n ≡ m + 0
 no-tail n m same = omega (arith, same)
@@ -77,39 +89,6 @@ module _ (format : Fmt) (old new : InterpolateState) where
         multiplies = λ n _. rw is_taken (one-channel n m (length old.taps) before.multiplies after.multiplies paid);
         turns = λ n _. rw is_taken (turns-bound format L n m (length old.taps) before.turns after.turns is_lanes within);
       }
-
-  -- an interpolator has no tail
-  pub interpolate-finished :
-      (given : List ℤ) (before after : Counts) → new ≡ record old { ended = true } → given ≡ [] → after ≡ before → FilterFinishes (interpolate_channel format old) (interpolate_channel format new) given before after
-  interpolate-finished given before after is none same = record {
-    made = record {
-      block = ap₂ (λ f t. Block.Interpolate f t) (ap (λ (f : InterpolateState). f.factor) is) (ap (λ (f : InterpolateState). f.taps) is);
-      format = refl;
-      capacity = ap (λ (f : InterpolateState). f.block) is;
-    };
-    ended = ap (λ (f : InterpolateState). f.ended) is;
-    tail = sym (ap (λ l. l ++ []) none);
-    count = let nothing : length given ≡ 0 = ap length none in omega (arith, nothing);
-    spent = λ _. refl;
-    took = λ n took. subst (λ (f : InterpolateState). FilterTook (interpolate_channel format f) n) (sym is) (record { place = took.place; tail_within = took.tail_within });
-    multiplies = λ n _. (let made = made-same n in let counted = ap (λ (c : Counts). c.multiplies) same in omega (arith, made, counted));
-    turns = λ n _. (let made = made-same n in let turned = ap (λ (c : Counts). c.turns) same in omega (arith, made, turned));
-  }
-    where
-      made-same : (n : ℕ) → filter_made (interpolate_channel format new) n ≡ filter_made (interpolate_channel format old) n
-      made-same n = ap (λ (f : InterpolateState). filter_made (interpolate_channel format f) n) is
-
-  -- it keeps other numbers
-  pub interpolate-restored : (numbers : List ℤ) → old.ended ≡ false → length numbers ≡ past_length old.factor (length old.taps) → new ≡ record old { past = numbers } → FilterRestores (interpolate_channel format old) (interpolate_channel format new) numbers
-  interpolate-restored numbers running long made =
-      subst (λ (f : InterpolateState). FilterRestores (interpolate_channel format old) (interpolate_channel format f) numbers) (sym made)
-      (record {
-        made = record { block = refl; format = refl; capacity = refl };
-        running = running;
-        kept = refl;
-        stands = λ x is. stands-channel format (record old { past = numbers }) x running is;
-        counts = λ n _. counts-channel format (record old { past = numbers }) n running long;
-      })
 
 -- ---- kept numbers
 

@@ -4,6 +4,7 @@ use Rattle.std.specs.Option.{option_or}
 use Rattle.dsp_defs.specs.Formats.{word, close}
 use Rattle.dsp_defs.specs.Signal.{sample, values, sum_below}
 use Rattle.dsp_defs.specs.Streaming.{last_of}
+use Rattle.dsp_stage.specs.Filter.{FilterState}
 use Rattle.dsp_stage.specs.Kept.{kept_of_channel}
 use Rattle.dsp_unit.specs.Making.{block_fault, taps_fault}
 use Rattle.dsp_defs.specs.declared.format.Fmt.{Fmt}
@@ -59,6 +60,17 @@ pub record Fits (format : Fmt) (d : DecimateState) (numbers : List ℤ) : Type 0
   pub samples : All (FitsSigned (word format)) (take (length d.past) numbers)
   pub low : pos 0 ≤ℤ sample numbers (length d.past)
   pub high : sample numbers (length d.past) <ℤ pos d.factor
+
+-- what a unit sees of the decimator of one of its channels
+abbrev pub decimate_channel : Fmt → DecimateState → FilterState
+decimate_channel format d = record {
+  block = Block.Decimate d.factor d.taps;
+  format = format;
+  capacity = d.block;
+  kept = kept d;
+  tail = [];
+  ended = d.ended;
+}
 
 -- ---- faults
 

@@ -1,4 +1,3 @@
 pub mod DecimateState
-pub mod Channels
 pub mod RateUnit
 pub mod InterpolateState

@@ -1,9 +1,9 @@
-use dsp_defs::{MAX_TAPS, MakeFault, Steps};
-use dsp_lanes::{LaneSample, Lanes};
+use dsp_defs::{Block, MAX_TAPS, MakeFault, Steps};
+use dsp_lanes::{FormatLanes, LaneSample, Lanes};
 use dsp_sat::WideSample;
-use dsp_unit::{check_block, check_taps};
+use dsp_unit::{Filter, check_block, check_taps, samples_of};
 use dsp_window::Window;
-use std::alloc::Global;
+use std::alloc::{AllocError, Global};
 use std::marker::Model;
 use std::sync::ledger::Ledger;
 
@@ -199,5 +199,62 @@ impl<T: LaneSample<L> + WideSample, const L: usize> Decimate<T, L> {
         let last = numbers.len() - 1;
         self.window.restore(&numbers[..last]);
         self.phase = numbers[last] as usize;
+    }
+}
+
+impl<T: FormatLanes<L> + WideSample, const L: usize> Filter<T> for Decimate<T, L> {
+    ghost use Rattle.dsp_rate.specs.DecimateState.{decimate_channel};
+    ghost use Rattle.dsp_rate.specs.RateUnit.{IsDecimateIn, decimate-by-channel, decimate-groups};
+
+    ghost filter = { decimate_channel T.format };
+
+    ghost IsOf = { IsDecimateIn T.format };
+
+    ghost by_channel = { decimate-by-channel T.format };
+
+    ghost groups = { decimate-groups T.format };
+
+    fn of_block(alloc: Global, block: &Block, capacity: usize) -> Result<Self, AllocError> {
+        let Block::Decimate { factor, taps } = block else {
+            unreachable!();
+        };
+        let taps = samples_of::<T>(alloc, taps.as_slice())?;
+        match Decimate::new(alloc, *factor, &taps, capacity) {
+            Ok(filter) => Ok(filter),
+            Err(MakeFault::Memory) => Err(AllocError),
+            Err(_) => unreachable!(),
+        }
+    }
+
+    fn process<M: Ledger>(&mut self, input: &[T], output: &mut [T], steps: &mut Steps<M>) -> usize {
+        // The proof has the length of the past from the invariant.
+        let _taps = &self.taps;
+        Decimate::process(self, input, output, steps)
+    }
+
+    fn finish<M: Ledger>(&mut self, output: &mut [T], steps: &mut Steps<M>) -> usize {
+        Decimate::finish(self, output, steps)
+    }
+
+    fn kept_count(&self) -> usize {
+        Decimate::kept_count(self)
+    }
+
+    fn keep(&self, out: &mut [i64]) {
+        Decimate::keep(self, out);
+    }
+
+    fn place(&self, numbers: &[i64]) -> Option<u64> {
+        let _taps = &self.taps;
+        if self.fits(numbers) {
+            Some(numbers[numbers.len() - 1] as u64)
+        } else {
+            None
+        }
+    }
+
+    fn restore(&mut self, numbers: &[i64]) {
+        let _taps = &self.taps;
+        Decimate::restore(self, numbers);
     }
 }

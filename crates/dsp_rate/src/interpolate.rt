@@ -1,10 +1,10 @@
 use crate::phases::{phase_rows, sort_by_phase};
-use dsp_defs::{MAX_TAPS, MakeFault, Steps};
-use dsp_lanes::LaneSample;
+use dsp_defs::{Block, MAX_TAPS, MakeFault, Steps};
+use dsp_lanes::{FormatLanes, LaneSample};
 use dsp_sat::WideSample;
-use dsp_unit::{check_block, check_multiple};
+use dsp_unit::{Filter, check_block, check_multiple, samples_of};
 use dsp_window::Window;
-use std::alloc::Global;
+use std::alloc::{AllocError, Global};
 use std::marker::Model;
 use std::sync::ledger::Ledger;
 
@@ -182,5 +182,58 @@ impl<T: LaneSample<L> + WideSample, const L: usize> Interpolate<T, L> {
         ensures { self.new ≡ record self.old { past = numbers.now } }
     {
         self.window.restore(numbers);
+    }
+}
+
+impl<T: FormatLanes<L> + WideSample, const L: usize> Filter<T> for Interpolate<T, L> {
+    ghost use Rattle.dsp_rate.specs.InterpolateState.{interpolate_channel};
+    ghost use Rattle.dsp_rate.specs.RateUnit.{IsInterpolateIn, interpolate-by-channel, interpolate-groups};
+
+    ghost filter = { interpolate_channel T.format };
+
+    ghost IsOf = { IsInterpolateIn T.format };
+
+    ghost by_channel = { interpolate-by-channel T.format };
+
+    ghost groups = { interpolate-groups T.format };
+
+    fn of_block(alloc: Global, block: &Block, capacity: usize) -> Result<Self, AllocError> {
+        let Block::Interpolate { factor, taps } = block else {
+            unreachable!();
+        };
+        let taps = samples_of::<T>(alloc, taps.as_slice())?;
+        match Interpolate::new(alloc, *factor, &taps, capacity) {
+            Ok(filter) => Ok(filter),
+            Err(MakeFault::Memory) => Err(AllocError),
+            Err(_) => unreachable!(),
+        }
+    }
+
+    fn process<M: Ledger>(&mut self, input: &[T], output: &mut [T], steps: &mut Steps<M>) -> usize {
+        // The proof has the length of the past from the invariant.
+        let _phases = &self.phases;
+        Interpolate::process(self, input, output, steps)
+    }
+
+    fn finish<M: Ledger>(&mut self, output: &mut [T], steps: &mut Steps<M>) -> usize {
+        Interpolate::finish(self, output, steps)
+    }
+
+    fn kept_count(&self) -> usize {
+        Interpolate::kept_count(self)
+    }
+
+    fn keep(&self, out: &mut [i64]) {
+        Interpolate::keep(self, out);
+    }
+
+    fn place(&self, numbers: &[i64]) -> Option<u64> {
+        let _phases = &self.phases;
+        if self.fits(numbers) { Some(0) } else { None }
+    }
+
+    fn restore(&mut self, numbers: &[i64]) {
+        let _phases = &self.phases;
+        Interpolate::restore(self, numbers);
     }
 }

@@ -1,4 +1,4 @@
-use Rattle.std.proofs.Common.{◌≡◌, ◌∙◌, ◌≤◌, ap, inr, pos, arith}
+use Rattle.std.proofs.Common.{◌≡◌, ◌∙◌, ◌≤◌, ap, pos, arith}
 use Rattle.std.proofs.lemmas.Grind.{common_steps}
 use Rattle.std.proofs.lemmas.List.{length-map}
 use Rattle.dsp_defs.specs.declared.limits.TheConstants.{MAX_SAMPLES}
@@ -16,14 +16,13 @@ of_taps-requires g c =
     let fits : c.args.block ≤ MAX_SAMPLES = grind (arith, common_steps) in (
       omega arith,
       (
-        rw (named, c.in-Ok.ensures.items)
-            (inr (
-              omega (arith, long),
-              omega (arith, long, as_many),
-              (omega (arith, long), omega (arith, long), c.all_fit.ensures),
-              delays-some ds,
-              delays-fit ds c.in_ok-check_delays.field-0 c.in_ok-check_delays.ensures,
-            )),
+        rw (named, c.in-Ok.ensures.items) (
+          omega (arith, long),
+          omega (arith, long, as_many),
+          (omega (arith, long), omega (arith, long), c.all_fit.ensures),
+          delays-some ds,
+          delays-fit ds c.in_ok-check_delays.field-0 c.in_ok-check_delays.ensures,
+        ),
         (fits, ap (λ (d : DelayState). d.room) c.in-Ok-new.ensures),
       ),
     )

@@ -1,16 +1,16 @@
 -- The clauses of the top call, from what it did and how it was reported.
-use Rattle.std.proofs.Common.{◌≡◌, ℕ, List, sym, ap, subst, Result, Ok, Err, IfOk, IfErr, IfSome}
+use Rattle.std.proofs.Common.{◌≡◌, ℕ, List, subst, Result, Ok, Err, IfOk, IfErr, IfSome}
 use Rattle.dsp_ports.specs.Ports.{SourceState, SinkState}
 use Rattle.dsp_defs.specs.Counts.{Counts}
 use Rattle.dsp_defs.specs.Words.{command_of}
-use Rattle.dsp_cli.specs.Call.{Call, call, Ending, Went, Printed, Stopped, Ended}
-use Rattle.dsp_cli.specs.Causes.{Causes, Completes, NoneFailed, Reports}
+use Rattle.dsp_cli.specs.Call.{Call, call, Went, Printed, Stopped, Ended}
+use Rattle.dsp_cli.specs.Causes.{Causes, Completes, Reports}
 use Rattle.dsp_cli.specs.Perform.{Performed, StopsBy, ReportsText, HasStatus}
 use Rattle.dsp_cli.specs.Run.{MakesFew}
 use Rattle.dsp_cli.specs.declared.fault.Fault.{Fault}
 use Rattle.dsp_cli.specs.declared.top.Outcome.{Outcome}
 use Rattle.dsp_cli.specs.declared.top.Outcome.TheVariants as outcome
-use Rattle.dsp_cli.proofs.CommandLaws.{EndsBy, ends_by, some_end, header, limited, runnable, clean_input, input_read}
+use Rattle.dsp_cli.proofs.CommandLaws.{EndsBy, some_end, header, limited, runnable, clean_input, input_read}
 use Rattle.dsp_cli.proofs.Ends.{Cause, Ends}
 
 module _ (words : List (List ℕ)) (source read port later : SourceState) (sink after report told : SinkState) (before counts : Counts) where

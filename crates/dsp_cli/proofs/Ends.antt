@@ -20,7 +20,7 @@ use Rattle.dsp_defs.specs.declared.format.InputKind.TheVariants as kind
 use Rattle.dsp_defs.specs.declared.limits.TheConstants.{MAX_GATHERED}
 use Rattle.dsp_defs.specs.declared.script.Script.{Script}
 use Rattle.dsp_defs.specs.declared.measure.Measure.{Measure}
-use Rattle.dsp_session.specs.Session.{frame_bytes, least_frame_bytes, cost_of, run_turns, measures_of}
+use Rattle.dsp_session.specs.Session.{least_frame_bytes, cost_of, run_turns, measures_of}
 use Rattle.dsp_session.specs.Stream.{LagsByOne, KeepsLimits, Stopped, Done, IsTakenWhole, declared_bytes, frames_in_bytes}
 use Rattle.dsp_session.specs.declared.fault.StreamFault.{StreamFault}
 use Rattle.dsp_session.proofs.OpeningLaws.{some_frame}

@@ -1,12 +1,11 @@
 -- Where each exit status of the top call comes from, and what its report says.
-use Rattle.std.specs.Prelude.{◌≡◌, ◌↔◌, ◌⊎◌, ◌+◌, ◌^◌, ◌≤◌, ℕ, Option, IsNone, IsSome, IfSome, IsFalse}
+use Rattle.std.specs.Prelude.{◌≡◌, ◌↔◌, ◌⊎◌, ◌+◌, ◌^◌, ℕ, IsNone, IsSome, IfSome, IsFalse}
 use Rattle.dsp_ports.specs.Ports.{Rose, one_more, IsSettled}
 use Rattle.dsp_defs.specs.Canon.{canon}
 use Rattle.dsp_defs.specs.Reading.{first_fault}
 use Rattle.dsp_defs.specs.Report.{block_length_line, script_line}
 use Rattle.dsp_defs.specs.Shape.{unit}
 use Rattle.dsp_defs.specs.Words.{command_of}
-use Rattle.dsp_defs.specs.declared.limits.TheConstants.{MAX_SCRIPT}
 use Rattle.dsp_cli.specs.Call.{Call}
 use Rattle.dsp_cli.specs.Run.{IsStream, IsPrint, IsAnswer, IsRunnable, IsPrintable, MayEndAtLimit, TellsHeader, Wrote, Tells, line_of_status}
 use Rattle.dsp_cli.specs.Script.{IfScript, IfFault, chosen_block, is_legal_for}

@@ -1,5 +1,5 @@
 -- What the top call answers, and what stands behind its answers.
-use Rattle.std.specs.Prelude.{◌≡◌, ◌≢◌, ◌⊎◌, ◌+◌, ◌-◌, ◌*◌, ◌/◌, ◌^◌, ◌<◌, ℕ, ◌≤◌, ◌==◌, nat_lt, if◌then◌else◌, List, length, take, Option, Some, None, IfSome, IsSome, IsTrue, Ok, Err}
+use Rattle.std.specs.Prelude.{◌≡◌, ◌≢◌, ◌⊎◌, ◌+◌, ◌-◌, ◌/◌, ◌^◌, ◌<◌, ℕ, ◌≤◌, ◌==◌, nat_lt, if◌then◌else◌, List, length, take, Option, Some, None, IfSome, IsSome, IsTrue, Ok, Err}
 use Rattle.std.specs.Option.{option_map}
 use Rattle.std.specs.Io.KnownBytes.{append_known}
 use Rattle.dsp_ports.specs.Ports.{SourceState, SinkState, Rose}

@@ -1,5 +1,5 @@
 ghost use Rattle.std.specs.Prelude.{◌≡◌, [], ◌∷◌};
-ghost use Rattle.dsp_defs.specs.Words.{are_gen_names, are_run_names, command_of, count_of, generating, places_of, places_of_command};
+ghost use Rattle.dsp_defs.specs.Words.{are_gen_names, are_run_names, command_of, count_of, generating, places_of};
 ghost use Rattle.std.specs.Char.{is_ascii_digit};
 ghost use Rattle.std.specs.List.{list_all};
 

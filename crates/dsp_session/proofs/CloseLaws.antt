@@ -23,13 +23,14 @@ use Rattle.dsp_defs.proofs.SampleLaws.{samples-whole}
 use Rattle.dsp_session.specs.SessionState.{SessionState}
 use Rattle.dsp_session.specs.Session.{IsReady, StandsFor, SameSession, signal, frame_bytes, whole_values, cost_of, live_cost_of, products_of, turns_of, run_turns, measures_of}
 use Rattle.dsp_session.specs.Opening.{Fits}
-use Rattle.dsp_session.specs.Stream.{IsWhole, IsTakenWhole, Stopped, Done, LagsByOne, BlocksKeepLimits, declared_bytes, frames_in_bytes, in_whole_blocks}
+use Rattle.dsp_session.specs.Stream.{IsWhole, IsTakenWhole, Stopped, Done, LagsByOne, BlocksKeepLimits, IsInDeclared, declared_bytes, frames_in_bytes, in_whole_blocks}
 use Rattle.dsp_session.specs.Passing.{InDeclared, AreAll, PassCosts, Passes, FailsToPass, Passed, WritesRest, TailCosts}
 use Rattle.dsp_session.specs.declared.fault.LengthFault.TheVariants as length_fault
 use Rattle.dsp_session.specs.declared.fault.StreamFault.{StreamFault}
 use Rattle.dsp_session.specs.declared.fault.StreamFault.TheVariants as fault
 use Rattle.dsp_session.specs.declared.streaming.Last.{Last}
 use Rattle.dsp_session.proofs.OpeningLaws.{some_frame, floor_within, frames_of_blocks, length-signal, signal-append, frames-whole, signal_is, frames_are, output_is, part_blocks}
+use Rattle.dsp_session.proofs.OpenLaws.{none_behind}
 use Rattle.dsp_session.proofs.PassingLaws.{in_declared, lags, frames_between, block_some, in_blocks, blocks_keep, whole_blocks_are}
 use Rattle.dsp_session.proofs.TurnLaws.{turns_before, turns_behind, turns_end}
 
@@ -105,6 +106,9 @@ module _ (script : Script) (block : ℕ) (ready : IsReady script block) (session
 
   declared : InDeclared (declared_bytes script header) (length (heard ++ rest))
   declared = in_declared (declared_bytes script header) (last.before + last.count) (length (heard ++ rest)) (sym given_length) passed.declared
+
+  behind : IsInDeclared script given
+  behind = none_behind script header passed.first passed.opens (heard ++ rest) declared
 
   frames_is : frames_in_bytes script given ≡ length (x ++ signal script header.coding fed_bytes)
   frames_is = frames_are script header frame passed.first passed.opens (heard ++ rest) declared ∙ ap length all_signal
@@ -219,6 +223,7 @@ module _ (script : Script) (block : ℕ) (ready : IsReady script block) (session
           clean = passed.no_input_fault;
           kept = passed.no_output_fault;
         };
+        in_declared = λ _. behind;
         lag = λ _. subst (LagsByOne script block given) (append-nil (head ++ live_bytes script x)) (lag []);
         cost = cost_so_far counts.multiplies (length x) (omega (arith, length-append x (signal script header.coding fed_bytes))) passed.cost;
         turns = early_turns;
@@ -244,6 +249,7 @@ module _ (script : Script) (block : ℕ) (ready : IsReady script block) (session
           risen = risen ∙ ap one_more passed.no_output_fault;
           clean = passed.no_input_fault;
         };
+        in_declared = λ _. behind;
         lag = λ _. lag written;
         cost = cost_so_far after.multiplies (length y) (omega arith) (omega (arith, costs.rise, passed.cost));
         turns = turns_behind script block passed.blocks (frames_in_bytes script given) before.turns counts.turns after.turns (block_some script block ready) low high passed.turned (fed_turns after costs);
@@ -276,6 +282,7 @@ module _ (script : Script) (block : ℕ) (ready : IsReady script block) (session
           clean = passed.no_input_fault;
           kept = ap (λ (s : SinkState). s.faults) same ∙ passed.no_output_fault;
         };
+        in_declared = λ _. behind;
         lag = λ _. subst (LagsByOne script block given) (append-nil (head ++ live_bytes script x)) (lag []);
         cost = cost_so_far after.multiplies (length x) (omega (arith, length-append x (signal script header.coding fed_bytes))) (ap (λ (c : Counts). c.multiplies) still ∙ passed.cost);
         turns = subst (λ (c : Counts). c.turns ≤ before.turns + run_turns script block (frames_in_bytes script given)) (sym still) early_turns;
@@ -381,6 +388,7 @@ module _ (script : Script) (block : ℕ) (ready : IsReady script block) (session
               risen = failed ∙ ap one_more (passes.no_fault ∙ passed.no_output_fault);
               clean = passed.no_input_fault;
             };
+            in_declared = λ _. behind;
             lag = λ _. lag (fed.out ++ tail.written);
             cost = rw frames_is (cost_all spent.multiplies limit);
             turns = late_turns spent limit (tail_costs (Err error) final spent writes costs).turned;

@@ -1,5 +1,5 @@
 -- Where a stream stops before the first sample.
-use Rattle.std.proofs.Common.{◌≡◌, ◌≢◌, ℕ, ◌*◌, ◌/◌, ◌<◌, ◌≤◌, List, [], ◌∷◌, ◌++◌, length, take, drop, fold, Option, Some, None, Err, refl, sym, ap, ◌∙◌, subst, arith, append-nil, append_assoc, inl, inr}
+use Rattle.std.proofs.Common.{◌≡◌, ◌≢◌, ℕ, ◌+◌, ◌*◌, ◌/◌, ◌<◌, ◌≤◌, List, [], ◌∷◌, ◌++◌, length, take, drop, fold, Option, Some, None, IfSome, Err, refl, sym, ap, ◌∙◌, subst, arith, append-nil, append_assoc, length-append, inl, inr}
 use Rattle.std.proofs.lemmas.List.{take-append-drop}
 use Rattle.std.specs.Result.{IsOk}
 use Rattle.std.specs.Io.KnownBytes.{append_known}
@@ -31,9 +31,10 @@ use Rattle.dsp_session.specs.declared.fault.LengthFault.{LengthFault}
 use Rattle.dsp_session.specs.declared.fault.LengthFault.TheVariants as length_fault
 use Rattle.dsp_session.specs.declared.fault.StreamFault.{StreamFault}
 use Rattle.dsp_session.specs.declared.fault.StreamFault.TheVariants as fault
+use Rattle.dsp_session.specs.SessionState.{SessionState}
 use Rattle.dsp_session.specs.Session.{IsReady, block_bytes, signal}
-use Rattle.dsp_session.specs.Opening.{Opened, Unopened, IsUnopened, IsTooLong, TooLong, Fits}
-use Rattle.dsp_session.specs.Stream.{StopsAt, Stopped, Nothing, LagsByOne, declared_bytes, in_whole_frames, frames_in_bytes, in_whole_blocks}
+use Rattle.dsp_session.specs.Opening.{Opens, Opened, Unopened, IsUnopened, IsTooLong, TooLong, Fits}
+use Rattle.dsp_session.specs.Stream.{StopsAt, Stopped, StaysRefused, Nothing, LagsByOne, IsInDeclared, declared_bytes, in_whole_frames, frames_in_bytes, in_whole_blocks}
 use Rattle.dsp_session.specs.Passing.{InDeclared}
 use Rattle.dsp_session.proofs.OpeningLaws.{some_frame, part_blocks, frames_are, signal-nil}
 use Rattle.std.proofs.Math.Nat.{mul-le-mul}
@@ -86,6 +87,7 @@ module _ (script : Script) (block : ℕ) (counts : Counts) (input now : SourceSt
         gave = gave;
         put = (Took-nil sink).put;
         stops = stops;
+        in_declared = λ has. absurd (none has);
         lag = λ has. absurd (none has);
         cost = omega arith;
         turns = omega arith;
@@ -105,6 +107,15 @@ module _ (script : Script) (block : ℕ) (counts : Counts) (input now : SourceSt
   pub stops_unopened : (fault : StreamFault) → Unopened script fault input now → Stopped script block fault input now sink sink counts counts
   stops_unopened fault u = by_cause fault u.given u.gave u.cause
 
+-- none of these faults is that of a full correlation
+pub unopened_stays : (f : StreamFault) (script : Script) (given : List ℕ) (input now : SourceState) (s : SessionState) → IsUnopened f script given input now → StaysRefused f s
+unopened_stays (fault.Lengths (length_fault.Gather told more)) script given input now s cause = absurd cause
+unopened_stays _ script given input now s cause = tt
+
+pub too_long_stays : (length : LengthFault) (script : Script) (known : Option ℕ) (s : SessionState) → TooLong length script known → StaysRefused (fault.Lengths length) s
+too_long_stays (length_fault.Gather told more) script known s long = absurd long
+too_long_stays _ script known s long = tt
+
 -- the test of the sizes was passed
 pub fits_known : (script : Script) (header : Header) (known : Option ℕ) → known ≡ known_frames script header
     → (script.output ≢ container.Raw → HeaderFits script.output (format_of script) (channels_of script) known) → Fits script header
@@ -116,6 +127,15 @@ none_whole block =
     let none : 0 / block ≡ 0 = omega arith in
     let nothing : 0 * block ≡ 0 = omega arith in
     ap (λ q. q * block) none ∙ nothing
+
+-- no byte behind the declared samples was taken
+pub none_behind : (script : Script) (header : Header) (first : List ℕ) → Opens script header first → (bytes : List ℕ) → InDeclared (declared_bytes script header) (length bytes) → IsInDeclared script (first ++ bytes)
+none_behind script header first opens bytes within =
+    subst (λ (h : Header). IfSome (declared_bytes script h) (λ size. length (first ++ bytes) ≤ h.start + size)) (sym (opens.said bytes)) (by_size (declared_bytes script header) within)
+  where
+    by_size : (declared : Option ℕ) → InDeclared declared (length bytes) → IfSome declared (λ size. length (first ++ bytes) ≤ header.start + size)
+    by_size None within = tt
+    by_size (Some size) within = omega (arith, within, opens.start, length-append first bytes)
 
 -- the header of the input is there, and no sample was taken
 module _ (script : Script) (block : ℕ) (counts : Counts) (ready : IsReady script block) (header : Header) (input now : SourceState) (sink : SinkState) (opened : Opened script header input now) where
@@ -133,6 +153,13 @@ module _ (script : Script) (block : ℕ) (counts : Counts) (ready : IsReady scri
       let start : (input_header script first).start ≡ length first = ap (λ (h : Header). h.start) header_is ∙ opened.opens.start in
       record { blocks = 0; taken = omega (arith, start); wrote = inl refl; one = omega (arith, start) }
 
+  none_declared : InDeclared (declared_bytes script header) 0
+  none_declared = by_size header.size
+    where
+      by_size : (size : Option ℕ) → InDeclared (elim size [ Some s ↦ Some (in_whole_frames script header.coding s) | None ↦ None ]) 0
+      by_size None = tt
+      by_size (Some size) = omega arith
+
   stops_first : (fault : StreamFault) (after : SinkState) (written : List ℕ) → after.put ≡ append_known sink.put written → StopsAt fault script block first written input now sink after counts counts → Stopped script block fault input now sink after counts counts
   stops_first fault after written put stops =
       record {
@@ -141,6 +168,7 @@ module _ (script : Script) (block : ℕ) (counts : Counts) (ready : IsReady scri
         gave = opened.gave;
         put = put;
         stops = stops;
+        in_declared = λ _. subst (IsInDeclared script) (append-nil first) (none_behind script header first opened.opens [] none_declared);
         lag = λ _. lags_none written;
         cost = omega arith;
         turns = omega arith;
@@ -158,13 +186,6 @@ module _ (script : Script) (block : ℕ) (counts : Counts) (ready : IsReady scri
         clean = opened.no_fault;
       })
   stops_too_long _ known is none = absurd none
-
-  none_declared : InDeclared (declared_bytes script header) 0
-  none_declared = by_size header.size
-    where
-      by_size : (size : Option ℕ) → InDeclared (elim size [ Some s ↦ Some (in_whole_frames script header.coding s) | None ↦ None ]) 0
-      by_size None = tt
-      by_size (Some size) = omega arith
 
   no_frames : frames_in_bytes script first ≡ 0
   no_frames =

@@ -26,15 +26,15 @@ use Rattle.dsp_defs.proofs.SampleLaws.{coded-append}
 use Rattle.dsp_chain.specs.Chain.{made_of}
 use Rattle.dsp_chain.proofs.NewChain.{gathered-nothing}
 use Rattle.dsp_session.specs.SessionState.{SessionState}
-use Rattle.dsp_session.specs.Session.{IsReady, StandsFor, SameSession, Feeds, IsTooMuch, signal, frame_bytes, block_bytes, output_bytes, live_values, cost_of, live_cost_of, turns_of, calls_turns, run_turns}
+use Rattle.dsp_session.specs.Session.{IsReady, StandsFor, SameSession, Feeds, Fails, IsTooMuch, signal, frame_bytes, block_bytes, output_bytes, live_values, cost_of, live_cost_of, turns_of, calls_turns, run_turns}
 use Rattle.dsp_session.specs.Opening.{Fits, Opens, Begun}
-use Rattle.dsp_session.specs.Stream.{StopsAt, Stopped, Part, LagsByOne, BlocksKeepLimits, declared_bytes, in_whole_frames, blocks_end, frames_in_bytes, in_whole_blocks}
+use Rattle.dsp_session.specs.Stream.{StopsAt, Stopped, StaysRefused, Part, LagsByOne, BlocksKeepLimits, IsInDeclared, declared_bytes, in_whole_frames, blocks_end, frames_in_bytes, in_whole_blocks}
 use Rattle.dsp_session.specs.Passing.{InDeclared, BlockRead, IsUnread, Unread, PassCosts, Passes, FailsToPass, Passed}
 use Rattle.dsp_session.specs.declared.fault.LengthFault.TheVariants as length_fault
 use Rattle.dsp_session.specs.declared.fault.StreamFault.{StreamFault}
 use Rattle.dsp_session.specs.declared.fault.StreamFault.TheVariants as fault
 use Rattle.dsp_session.proofs.OpeningLaws.{some_frame, frames_of_blocks, signal-nil, length-signal, signal-append, frames-whole, frames_are, part_blocks}
-use Rattle.dsp_session.proofs.OpenLaws.{some_block}
+use Rattle.dsp_session.proofs.OpenLaws.{some_block, none_behind}
 use Rattle.dsp_script.proofs.Paces.{legal_parts}
 use Rattle.dsp_session.proofs.TurnLaws.{call_more, turns_before, turns_behind}
 
@@ -127,6 +127,17 @@ feed_refused s x bytes full sink last before after stands too_much (held_is, sum
     over : IsTooMuch s (length (signal s.script s.coding bytes)) → MAX_GATHERED < gathered s.script.blocks (s.chain.frames + length (signal s.script s.coding bytes))
     over (inl many) = many
     over (inr failed) = absurd (let e : true ≡ false = sym failed ∙ ap is_some stands.chain.works in cc)
+
+-- and it will be refused again
+pub refused_again : (s next : SessionState) (x : List Frame) (full : GatherFull) (more : ℕ) (before after : Counts) → StandsFor s x → Fails s next full before after
+    → (s.chain.failed ≡ None → (full.held ≡ held s.script.blocks s.chain.frames) × (full.held + full.more ≡ gathered s.script.blocks (s.chain.frames + more))) → StaysRefused (fault.Lengths (length_fault.Gather full.held full.more)) next
+refused_again s next x full more before after stands fails numbers =
+    (ap (λ (t : SessionState). t.chain.failed) fails.same, (numbers stands.chain.works).0 ∙ ap (λ (t : SessionState). held t.script.blocks t.chain.frames) (sym fails.same))
+
+-- where a block did not come, no correlation was full
+pub unread_stays : (f : StreamFault) (script : Script) (header : Header) (taken : ℕ) (input now : SourceState) (s : SessionState) → IsUnread f script header taken input now → StaysRefused f s
+unread_stays (fault.Lengths (length_fault.Gather told more)) script header taken input now s cause = absurd cause
+unread_stays _ script header taken input now s cause = tt
 
 pub block_some : (script : Script) (block : ℕ) → IsReady script block → 0 < block
 block_some script zero ready = absurd (omega (arith, (legal_parts script.input.channels script.blocks zero ready.legal).some))
@@ -435,6 +446,7 @@ module _ (script : Script) (block : ℕ) (ready : IsReady script block) (header 
         gave = all_given later bytes unread.gave;
         put = all_put;
         stops = stops stop unread.cause;
+        in_declared = λ _. none_behind script header first opens (heard ++ bytes) (together bytes unread.declared);
         lag = λ _. subst (LagsByOne script block given) (append-nil wrote) (lags script block ready header first opens going.blocks heard bytes [] heard_declared going.blocks_heard (omega (arith, unread.short)));
         cost = cost_within script block ready header first opens before.multiplies counts.multiplies heard bytes (together bytes unread.declared) going.cost;
         turns = (let (low, high) = frames_between script block ready header first opens going.blocks heard bytes (together bytes unread.declared) going.blocks_heard (omega (arith, unread.short)) in
@@ -513,6 +525,9 @@ module _ (script : Script) (block : ℕ) (ready : IsReady script block) (header 
         whole_all : in_whole_blocks block (frames_in_bytes script taken_bytes) ≡ suc going.blocks * block
         whole_all = in_blocks (suc going.blocks) block (frames_in_bytes script taken_bytes) (block_some script block ready) (omega (arith, frames_all)) (omega (arith, frames_all, block_some script block ready))
 
+        behind : IsInDeclared script taken_bytes
+        behind = none_behind script header first opens (heard ++ piece) (all_declared later count piece long full read)
+
         pub stops_unpassed : (stop : StreamFault) → FailsToPass stop script header.coding (signal script header.coding heard) piece then last counts passed → Stopped script block stop origin later empty last before passed
         stops_unpassed fault.Output (added, written, is, front, put, risen, costs, kept) =
             record {
@@ -527,6 +542,7 @@ module _ (script : Script) (block : ℕ) (ready : IsReady script block) (header 
                 risen = risen ∙ ap fault_more (going.no_output_fault ∙ begun.no_fault);
                 clean = read.no_fault ∙ going.no_input_fault ∙ begun.opened.no_fault;
               };
+              in_declared = λ _. behind;
               lag = λ _. lags script block ready header first opens going.blocks heard piece written heard_declared going.blocks_heard (omega (arith, long));
               cost = all_cost passed.multiplies (more_cost later count piece long full read passed costs);
               turns = turns_behind script block going.blocks (frames_in_bytes script taken_bytes) before.turns counts.turns passed.turns (block_some script block ready) low high going.turned
@@ -559,6 +575,7 @@ module _ (script : Script) (block : ℕ) (ready : IsReady script block) (header 
                 clean = read.no_fault ∙ going.no_input_fault ∙ begun.opened.no_fault;
                 kept = ap (λ (s : SinkState). s.faults) same ∙ going.no_output_fault ∙ begun.no_fault;
               };
+              in_declared = λ _. behind;
               lag = λ _. subst (LagsByOne script block taken_bytes) (append-nil wrote) (lags script block ready header first opens going.blocks heard piece [] heard_declared going.blocks_heard (omega (arith, long)));
               cost = (let fewer = live_cost_within script.input.format script.input.channels script.blocks (length (signal script header.coding heard)) (frames_in_bytes script taken_bytes) (omega (arith, all_frames, length-append (signal script header.coding heard) (signal script header.coding piece))) in
                   let steps : passed.multiplies ≡ counts.multiplies = ap (λ (c : Counts). c.multiplies) still in omega (arith, fewer, going.cost, steps));

@@ -1,5 +1,5 @@
 -- Block after block: what is taken, worked on and written.
-use Rattle.std.specs.Prelude.{◌≡◌, ℕ, ◌+◌, ◌*◌, ◌/◌, ◌^◌, ◌<◌, ◌≤◌, List, ◌++◌, length, take, Option, Some, None, IfSome, Result, OnOk}
+use Rattle.std.specs.Prelude.{◌≡◌, ℕ, ◌+◌, ◌*◌, ◌^◌, ◌<◌, ◌≤◌, List, ◌++◌, length, take, Option, Some, None, IfSome, Result, OnOk}
 use Rattle.std.specs.Io.KnownBytes.{IsAtEnd, append_known}
 use Rattle.dsp_ports.specs.Ports.{SourceState, SinkState, one_more, Gave, Took}
 use Rattle.dsp_defs.specs.Block.{Frame}

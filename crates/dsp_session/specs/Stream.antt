@@ -18,6 +18,7 @@ use Rattle.dsp_defs.specs.declared.wave.HeaderFault.TheVariants.{Short}
 use Rattle.dsp_wave.specs.Reading.{IsSure}
 use Rattle.dsp_session.specs.Opening.{Fits, IsTooLong, IsUnheaded}
 use Rattle.dsp_session.specs.Session.{frame_bytes, block_bytes, cost_of, live_cost_of, run_turns, measures_of}
+use Rattle.dsp_session.specs.SessionState.{SessionState}
 use Rattle.dsp_session.specs.declared.fault.LengthFault.TheVariants as length_fault
 use Rattle.dsp_session.specs.declared.fault.StreamFault.{StreamFault}
 use Rattle.dsp_session.specs.declared.fault.StreamFault.TheVariants as fault
@@ -42,6 +43,12 @@ abbrev pub IsTakenWhole : Script → List ℕ → SourceState → Type 0
 IsTakenWhole script given now =
     let header = input_header script given in
     IsWhole (declared_bytes script header) header given now
+
+-- no byte was taken behind the samples that the header declares
+abbrev pub IsInDeclared : Script → List ℕ → Type 0
+IsInDeclared script given =
+    let header = input_header script given in
+    IfSome (declared_bytes script header) (λ size. length given ≤ header.start + size)
 
 -- the whole frames of samples among the bytes
 abbrev pub frames_in_bytes : Script → List ℕ → ℕ
@@ -184,9 +191,15 @@ pub record Stopped (script : Script) (block : ℕ) (fault : StreamFault) (input 
   pub gave : Gave input now given
   pub put : after.put ≡ append_known sink.put written
   pub stops : StopsAt fault script block given written input now sink after before counts
+  pub in_declared : HasHeader script given → IsInDeclared script given
   pub lag : HasHeader script given → LagsByOne script block given written
   pub cost : counts.multiplies ≤ before.multiplies + cost_of script (frames_in_bytes script given)
   pub turns : counts.turns ≤ before.turns + run_turns script block (frames_in_bytes script given)
+
+-- where a correlation was full, the session answers the same fault from now on, and still holds what it held
+abbrev pub StaysRefused : StreamFault → SessionState → Type 0
+StaysRefused (fault.Lengths (length_fault.Gather told more)) s = (s.chain.failed ≡ Some (record { held = told; more = more })) × (told ≡ held s.script.blocks s.chain.frames)
+StaysRefused fault s = Unit {0}
 
 -- ---- the end
 

@@ -1,10 +1,10 @@
-ghost use Rattle.std.specs.Prelude.{◌≡◌, ◌+◌, ◌++◌, ◌/◌, ◌≤◌, ℕ, List, length, take, IfOk, IfErr, IsFalse, MatchResult, OnOk};
+ghost use Rattle.std.specs.Prelude.{◌≡◌, ◌+◌, ◌++◌, ◌/◌, ◌≤◌, ℕ, List, length, take, IfOk, IfErr, MatchResult, OnOk};
 ghost use Rattle.dsp_ports.specs.Ports.{SourceState, SinkState, CountsFaults, IsSettled, Took};
 ghost use Rattle.dsp_defs.specs.Block.{Frame};
 ghost use Rattle.dsp_defs.specs.Counts.{Counts};
 ghost use Rattle.dsp_defs.specs.Output.{live_bytes, output_pad, whole_bytes};
 ghost use Rattle.dsp_session.specs.Session.{IsReady, StandsFor, SameSession, frame_bytes, measured, measures_of, whole_values};
-ghost use Rattle.dsp_session.specs.Stream.{Stopped, Done};
+ghost use Rattle.dsp_session.specs.Stream.{Stopped, StaysRefused, Done};
 ghost use Rattle.dsp_session.specs.Passing.{HasPassed, Passed, WritesRest, TailCosts};
 
 use crate::fault::{LengthFault, StreamFault};
@@ -105,6 +105,7 @@ pub fn close<K: Sink, L: Ledger>(
         → IfOk result (λ _. Done worker.old.script worker.old.block ((last.before + last.count) / frame_bytes worker.old.script header.coding) before now empty (K.state output.new) start steps.new (measured worker.new)) }
     ensures err { (before now : SourceState) (empty : SinkState) (start : Counts) → Passed worker.old.script worker.old.block worker.old header block.now last before now empty (K.state output.old) start steps.old
         → IfErr result (λ fault. Stopped worker.old.script worker.old.block fault before now empty (K.state output.new) start steps.new) }
+    ensures refused { IfErr result (λ fault. StaysRefused fault worker.new) }
 {
     let frame = frame_bytes(worker.script(), header.coding) as usize;
     let count = last.count / frame;

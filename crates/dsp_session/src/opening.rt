@@ -1,13 +1,14 @@
-ghost use Rattle.std.specs.Prelude.{◌≡◌, ◌≢◌, ◌*◌, ◌/◌, ℕ, length, take, IfOk, IfErr, IfSome, IsNone, IsTrue, IsFalse, MatchResult};
+ghost use Rattle.std.specs.Prelude.{◌≡◌, ◌≢◌, ℕ, take, IfOk, IfErr, IfSome, IsNone, MatchResult};
 ghost use Rattle.dsp_ports.specs.Ports.{CountsFaults, Took};
 ghost use Rattle.dsp_defs.specs.Bytes.{format_in};
 ghost use Rattle.dsp_defs.specs.Counts.{Counts};
-ghost use Rattle.dsp_defs.specs.Output.{channels_of, format_of, known_frames, output_header, rate_of, wanted_of};
+ghost use Rattle.dsp_defs.specs.Output.{channels_of, format_of, known_frames, output_header};
 ghost use Rattle.dsp_defs.specs.Wave.{HeaderFits};
 ghost use Rattle.dsp_defs.specs.declared.format.Container.TheVariants as container;
 ghost use Rattle.dsp_session.specs.Session.{IsReady, frame_bytes};
+ghost use Rattle.dsp_session.specs.SessionState.{SessionState};
 ghost use Rattle.dsp_session.specs.Opening.{Opened, Unopened, TooLong, Begun};
-ghost use Rattle.dsp_session.specs.Stream.{Stopped};
+ghost use Rattle.dsp_session.specs.Stream.{Stopped, StaysRefused};
 
 use crate::fault::{LengthFault, StreamFault};
 use dsp_defs::{Coding, Container, Header, InputKind, MAX_INPUT, MAX_RIFF_SIZE, Script, Wanted};
@@ -120,6 +121,7 @@ pub fn open<S: Source, K: Sink>(
     ensures err { (block : ℕ) (counts : Counts) → IsReady script.now block → IfErr result (λ fault.
         Stopped script.now block fault (S.state input.old) (S.state input.new) (K.state output.old)
         (K.state output.new) counts counts) }
+    ensures unfed { (s : SessionState) → IfErr result (λ fault. StaysRefused fault s) }
 {
     let header = read_input_header(script, input)?;
     let known = known_frames(script, header);

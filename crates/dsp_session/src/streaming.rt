@@ -4,7 +4,7 @@ ghost use Rattle.dsp_defs.specs.Block.{Frame};
 ghost use Rattle.dsp_defs.specs.Shape.{frames_given};
 ghost use Rattle.dsp_session.specs.Session.{StandsFor, SameScript, SameSession, signal, frame_bytes, block_bytes, cost_of, measured};
 ghost use Rattle.dsp_session.specs.Opening.{Begun};
-ghost use Rattle.dsp_session.specs.Stream.{Stopped, Done, declared_bytes, in_whole_frames};
+ghost use Rattle.dsp_session.specs.Stream.{Stopped, StaysRefused, Done, declared_bytes, in_whole_frames};
 ghost use Rattle.dsp_session.specs.Passing.{InDeclared, BlockRead, Unread, Passes, FailsToPass, Passed};
 
 use crate::closing::close;
@@ -104,6 +104,8 @@ pub fn pass_block<K: Sink, L: Ledger>(
     ensures err { (x : List Frame) → StandsFor worker.old x → IfErr result (λ fault.
         FailsToPass fault worker.old.script worker.old.coding x bytes.now (K.state output.old)
         (K.state output.new) steps.old steps.new) }
+    ensures refused { (x : List Frame) → StandsFor worker.old x
+        → IfErr result (λ fault. StaysRefused fault worker.new) }
 {
     match worker.feed(bytes, steps) {
         Ok(_) => {}
@@ -135,6 +137,7 @@ fn pass_blocks<S: Source, K: Sink, L: Ledger>(
         → IfOk result (λ last. Passed worker.old.script worker.old.block worker.new header block.new last before (S.state input.new) empty (K.state output.new) steps.old steps.new) }
     ensures err { (before : SourceState) (empty : SinkState) → Begun worker.old.script header before (S.state input.old) empty (K.state output.old)
         → IfErr result (λ fault. Stopped worker.old.script worker.old.block fault before (S.state input.new) empty (K.state output.new) steps.old steps.new) }
+    ensures refused { IfErr result (λ fault. StaysRefused fault worker.new) }
 {
     let script = worker.script();
     let mut taken = 0;
@@ -172,6 +175,7 @@ fn stream_samples<S: Source, K: Sink, L: Ledger>(
         → IfOk result (λ frames. Done worker.old.script worker.old.block frames before (S.state input.new) empty (K.state output.new) steps.old steps.new (measured worker.new)) }
     ensures err { (before : SourceState) (empty : SinkState) → Begun worker.old.script header before (S.state input.old) empty (K.state output.old)
         → IfErr result (λ fault. Stopped worker.old.script worker.old.block fault before (S.state input.new) empty (K.state output.new) steps.old steps.new) }
+    ensures refused { IfErr result (λ fault. StaysRefused fault worker.new) }
     ensures few { IfOk result (λ frames. frames ≤ 2 ^ 40) }
 {
     let size = worker.block_bytes();
@@ -182,7 +186,8 @@ fn stream_samples<S: Source, K: Sink, L: Ledger>(
 }
 
 /// Goes over a whole input: takes its header, works on block after block of its samples, and writes
-/// the output of the script, which it flushes once at the end. It takes no memory.
+/// the output of the script, which it flushes once at the end. It takes no memory. Where a
+/// correlation was full, the session answers the same fault from then on.
 ///
 /// The output of a block is accepted wholly before a byte of the next block is asked for.
 pub fn stream<S: Source, K: Sink, L: Ledger>(
@@ -203,6 +208,7 @@ pub fn stream<S: Source, K: Sink, L: Ledger>(
     ensures err { IfErr result (λ fault.
         Stopped session.old.script session.old.block fault (S.state input.old) (S.state input.new)
         (K.state output.old) (K.state output.new) steps.old steps.new) }
+    ensures refused { IfErr result (λ fault. StaysRefused fault session.new) }
     ensures same { SameScript session.old session.new }
 {
     let script = session.worker.script();

@@ -1,4 +1,4 @@
-ghost use Rattle.std.specs.Prelude.{◌≡◌, ◌+◌, ◌*◌, ◌/◌, ◌^◌, ◌<◌, ◌≤◌, ◌↔◌, ℕ, length, take, drop, flat_map, All, IfOk, IfErr, IsErr, IsFalse, Some, None, slice_get};
+ghost use Rattle.std.specs.Prelude.{◌≡◌, ◌+◌, ◌*◌, ◌/◌, ◌^◌, ◌<◌, ◌≤◌, ◌↔◌, length, take, drop, flat_map, All, IfOk, IfErr, IsErr, IsFalse, Some, None, slice_get};
 ghost use Rattle.std.specs.Option.{option_map};
 ghost use Rattle.dsp_defs.specs.Bytes.{IsValue, bytes_of, format_in, sample_of, width};
 ghost use Rattle.dsp_defs.specs.Grammar.{container_of};

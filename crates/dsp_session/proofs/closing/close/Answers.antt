@@ -62,3 +62,9 @@ returns-in-Err-clause-err g c before now empty count passed =
     let frame : c.frame_bytes-frame.result ≡ frame_bytes c.args.worker.now.script c.args.header.coding = c.frame_bytes-frame.ensures ∙ ap (λ (s : Script). frame_bytes s c.args.header.coding) c.script.ensures.script in
     let passes = rw (frame, passed.coding_is) at (c.in_ok-pass_block.ensures.ok _ passed.stands) in
     laws.stream_unfinished _ _ c.script.ensures.ready _ _ _ _ _ _ _ _ _ _ passed (rw (c.in_default.is, frame) at c.window_fault.ensures) _ _ _ c.in_ok-pass_block.ensures.same passes _ _ _ (c.in-Err.ensures.written _ passes.stands) (c.in-Err.ensures.costs _ passes.stands) c.in-Err.ensures.faults
+
+pub returns-in_err-pass_block-clause-refused : goal.returns-in_err-pass_block-clause-refused
+returns-in_err-pass_block-clause-refused g c =
+    let (before, now, empty, after, start, counts, passed) = c.requires in
+    let (error, is, same) = err_from_is_err_and c.from_residual.result c.from_residual.ensures.1 in
+    rw (is, same) (c.in_err-pass_block.ensures.refused _ passed.stands)

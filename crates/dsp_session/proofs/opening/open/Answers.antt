@@ -16,3 +16,11 @@ pub returns-in-Err-clause-err : goal.returns-in-Err-clause-err
 returns-in-Err-clause-err g c block counts ready =
     let (count, took) = c.in-Err.ensures.took in
     laws.stops_unwritten c.args.script.now block counts ready _ _ _ _ c.in_ok-header.ensures.ok (laws.fits_known c.args.script.now c.in_ok-header.header _ c.known_frames-known.ensures (c.riff_fault.ensures.none (subst IsNone (sym c.in_default.is) refl))) _ count took c.in-Err.ensures.faults
+
+pub returns-in_err-header-clause-unfed : goal.returns-in_err-header-clause-unfed
+returns-in_err-header-clause-unfed g c s =
+    let (error, is, same) = err_from_is_err_and c.from_residual.result c.from_residual.ensures.1 in
+    rw (is, same) (laws.unopened_stays _ c.args.script.now _ _ _ s c.in_err-header.ensures.err.cause)
+
+pub returns-in-Some-clause-unfed : goal.returns-in-Some-clause-unfed
+returns-in-Some-clause-unfed g c s = laws.too_long_stays _ c.args.script.now _ s c.in-Some.ensures.some

@@ -44,3 +44,13 @@ passing-preserved g c =
     let read = rw c.script-script.ensures.script at c.in_ok-count.ensures.ok in
     let passes = rw (c.passing.invariant.script_is, c.passing.invariant.coding_is) at (c.in_ok-pass_block.ensures.ok _ c.passing.invariant.stands) in
     laws.goes_on _ _ c.script-script.ensures.ready _ _ _ _ _ _ _ _ _ c.passing.invariant _ c.in_ok-count.count _ size c.if-count-block.false read _ _ _ c.in_ok-pass_block.ensures.same passes
+
+pub returns-in_err-count-clause-refused : goal.returns-in_err-count-clause-refused
+returns-in_err-count-clause-refused g c =
+    let (error, is, same) = err_from_is_err_and c.from_residual.result c.from_residual.ensures.1 in
+    rw (is, same) (laws.unread_stays _ _ _ _ _ _ _ c.in_err-count.ensures.err.cause)
+
+pub returns-in_err-pass_block-clause-refused : goal.returns-in_err-pass_block-clause-refused
+returns-in_err-pass_block-clause-refused g c =
+    let (error, is, same) = err_from_is_err_and c.from_residual-in_err-pass_block.result c.from_residual-in_err-pass_block.ensures.1 in
+    rw (is, same) (c.in_err-pass_block.ensures.refused _ c.passing.invariant.stands)

@@ -1,4 +1,4 @@
-use Rattle.std.proofs.Common.{◌≡◌, ◌∙◌, sym, subst, refl}
+use Rattle.std.proofs.Common.{◌∙◌, sym, subst, refl}
 use Rattle.dsp_defs.specs.declared.script.Script.{Script}
 use Rattle.dsp_session.specs.Opening.{Begun}
 use Rattle.dsp_session.proofs.CloseLaws as laws

@@ -1,7 +1,7 @@
 //! The exit status and the one line of a run that isn't done.
 ghost use Rattle.std.specs.Prelude.{◌≡◌, ◌+◌, ◌≤◌, ◌++◌, [], length};
 ghost use Rattle.arrayvec.specs.ArrayVec.{array_vec_len};
-ghost use Rattle.dsp_defs.specs.Report.{block_length_line, header_fields, header_line, header_name, kind_fields, kind_name, lengths_line, located, script_line};
+ghost use Rattle.dsp_defs.specs.Report.{block_length_line, header_line, header_text, kind_text, lengths_line, located, script_line};
 ghost use Rattle.dsp_cli.specs.Fault.{fault_line, length_fault_line, status_of};
 
 use crate::fault::Fault;
@@ -30,7 +30,7 @@ pub fn status_of(fault: &Fault) -> u8
 }
 
 fn kind_name(kind: ScriptKind) -> &'static [u8]
-    ensures name { result.now ≡ kind_name kind }
+    ensures name { result.now ≡ (kind_text kind).0 }
     ensures short { length result.now ≤ 12 }
 {
     match kind {
@@ -51,7 +51,7 @@ fn kind_name(kind: ScriptKind) -> &'static [u8]
 
 fn kind_fields(line: &mut Line, kind: ScriptKind)
     requires { array_vec_len line.old ≤ 65 }
-    ensures items { line.new.items ≡ line.old.items ++ kind_fields kind }
+    ensures items { line.new.items ≡ line.old.items ++ (kind_text kind).1 }
     ensures len { array_vec_len line.new ≤ array_vec_len line.old + 62 }
 {
     match kind {
@@ -77,7 +77,7 @@ fn kind_fields(line: &mut Line, kind: ScriptKind)
 }
 
 fn header_name(fault: HeaderFault) -> &'static [u8]
-    ensures name { result.now ≡ header_name fault }
+    ensures name { result.now ≡ (header_text fault).0 }
     ensures short { length result.now ≤ 12 }
 {
     match fault {
@@ -96,7 +96,7 @@ fn header_name(fault: HeaderFault) -> &'static [u8]
 
 fn header_fields(line: &mut Line, fault: HeaderFault)
     requires { array_vec_len line.old ≤ 65 }
-    ensures items { line.new.items ≡ line.old.items ++ header_fields fault }
+    ensures items { line.new.items ≡ line.old.items ++ (header_text fault).1 }
     ensures len { array_vec_len line.new ≤ array_vec_len line.old + 62 }
 {
     match fault {
@@ -119,7 +119,7 @@ fn header_fields(line: &mut Line, fault: HeaderFault)
 fn located(line: &mut Line, kind: &[u8], offset: u64)
     requires kind { length kind.now ≤ 12 }
     requires room { array_vec_len line.old ≤ 15 }
-    ensures items { line.new.items ≡ line.old.items ++ located kind.now offset [] }
+    ensures items { line.new.items ≡ line.old.items ++ located (kind.now, []) offset }
     ensures len { array_vec_len line.new ≤ array_vec_len line.old + 36 }
 {
     text(line, kind);

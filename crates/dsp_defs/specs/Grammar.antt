@@ -17,7 +17,7 @@ use Rattle.dsp_defs.specs.Token.{Token, Open, Close, Run, Item, items}
 use Rattle.dsp_defs.specs.Numeral.{value_of}
 use Rattle.dsp_defs.specs.Parameters.{Argument, Number, Listed, Format, Fits}
 use Rattle.dsp_defs.specs.Tables.{Named, numbers_of, MayStand}
-use Rattle.dsp_defs.specs.Table.{name_of, format_name, container_name, has_form, channels_wanted, is_correlate, flow_after, parameters}
+use Rattle.dsp_defs.specs.Table.{row_of, name_of, format_name, container_name, has_form, is_correlate, flow_after}
 
 -- ---- what stands in a text
 
@@ -52,103 +52,74 @@ Spells tables items symbols = ⊥
 
 -- ---- blocks
 
+-- a number that is no less than 0
+abbrev pub natural : ℕ → Argument
+natural n = Number (pos n)
+
+-- the word that begins a block, and what follows it
+abbrev pub written : Block → Word × List Argument
+written (block.Offset value) = (words.Offset, Number value ∷ [])
+written block.Negate = (words.Negate, [])
+written block.Abs = (words.Abs, [])
+written (block.Scale fract shift) = (words.Scale, Number fract ∷ Number shift ∷ [])
+written (block.Shift shift) = (words.Shift, Number shift ∷ [])
+written (block.Clip low high) = (words.Clip, Number low ∷ Number high ∷ [])
+written (block.To format) = (words.To, Format format ∷ [])
+written block.Add = (words.Add, [])
+written block.Sub = (words.Sub, [])
+written block.Mult = (words.Mult, [])
+written block.Conj = (words.Conj, [])
+written block.CmplxMult = (words.CmplxMult, [])
+written block.CmplxMultReal = (words.CmplxMultReal, [])
+written block.MagSquared = (words.MagSquared, [])
+written (block.Fir taps) = (words.Fir, Listed taps ∷ [])
+written (block.Sparse taps delays) = (words.Sparse, Listed taps ∷ Listed delays ∷ [])
+written (block.Decimate factor taps) = (words.Decimate, natural factor ∷ Listed taps ∷ [])
+written (block.Interpolate factor taps) = (words.Interpolate, natural factor ∷ Listed taps ∷ [])
+written (block.LatticeFir k) = (words.LatticeFir, Listed k ∷ [])
+written (block.LatticeIir k v) = (words.LatticeIir, Listed k ∷ Listed v ∷ [])
+written (block.Biquad post_shift coefficients) = (words.Biquad, natural post_shift ∷ Listed coefficients ∷ [])
+written (block.Biquad64 post_shift coefficients) = (words.Biquad64, natural post_shift ∷ Listed coefficients ∷ [])
+written (block.Conv taps) = (words.Conv, Listed taps ∷ [])
+written (block.ConvPartial first count taps) = (words.ConvPartial, natural first ∷ natural count ∷ Listed taps ∷ [])
+written (block.Correlate taps) = (words.Correlate, Listed taps ∷ [])
+written (block.Lms post_shift mu taps) = (words.Lms, natural post_shift ∷ Number mu ∷ Listed taps ∷ [])
+written (block.Pid kp ki kd) = (words.Pid, Number kp ∷ Number ki ∷ Number kd ∷ [])
+written (block.MatAdd rows columns matrix) = (words.MatAdd, natural rows ∷ natural columns ∷ Listed matrix ∷ [])
+written (block.MatSub rows columns matrix) = (words.MatSub, natural rows ∷ natural columns ∷ Listed matrix ∷ [])
+written (block.MatScale rows columns fract shift) = (words.MatScale, natural rows ∷ natural columns ∷ Number fract ∷ Number shift ∷ [])
+written (block.MatTrans rows columns) = (words.MatTrans, natural rows ∷ natural columns ∷ [])
+written (block.MatMult rows columns given matrix) = (words.MatMult, natural rows ∷ natural columns ∷ natural given ∷ Listed matrix ∷ [])
+written block.Power = (words.Power, [])
+written block.Dot = (words.Dot, [])
+written block.CmplxDot = (words.CmplxDot, [])
+written block.Max = (words.Max, [])
+written block.Min = (words.Min, [])
+written (block.Route channels) = (words.Route, Listed channels ∷ [])
+
 -- the word that begins a block
 abbrev pub word_of : Block → Word
-word_of (block.Offset value) = words.Offset
-word_of block.Negate = words.Negate
-word_of block.Abs = words.Abs
-word_of (block.Scale fract shift) = words.Scale
-word_of (block.Shift shift) = words.Shift
-word_of (block.Clip low high) = words.Clip
-word_of (block.To format) = words.To
-word_of block.Add = words.Add
-word_of block.Sub = words.Sub
-word_of block.Mult = words.Mult
-word_of block.Conj = words.Conj
-word_of block.CmplxMult = words.CmplxMult
-word_of block.CmplxMultReal = words.CmplxMultReal
-word_of block.MagSquared = words.MagSquared
-word_of (block.Fir taps) = words.Fir
-word_of (block.Sparse taps delays) = words.Sparse
-word_of (block.Decimate factor taps) = words.Decimate
-word_of (block.Interpolate factor taps) = words.Interpolate
-word_of (block.LatticeFir k) = words.LatticeFir
-word_of (block.LatticeIir k v) = words.LatticeIir
-word_of (block.Biquad post_shift coefficients) = words.Biquad
-word_of (block.Biquad64 post_shift coefficients) = words.Biquad64
-word_of (block.Conv taps) = words.Conv
-word_of (block.ConvPartial first count taps) = words.ConvPartial
-word_of (block.Correlate taps) = words.Correlate
-word_of (block.Lms post_shift mu taps) = words.Lms
-word_of (block.Pid kp ki kd) = words.Pid
-word_of (block.MatAdd rows columns matrix) = words.MatAdd
-word_of (block.MatSub rows columns matrix) = words.MatSub
-word_of (block.MatScale rows columns fract shift) = words.MatScale
-word_of (block.MatTrans rows columns) = words.MatTrans
-word_of (block.MatMult rows columns given matrix) = words.MatMult
-word_of block.Power = words.Power
-word_of block.Dot = words.Dot
-word_of block.CmplxDot = words.CmplxDot
-word_of block.Max = words.Max
-word_of block.Min = words.Min
-word_of (block.Route channels) = words.Route
+word_of b = (written b).0
 
 -- what follows it
 abbrev pub arguments : Block → List Argument
-arguments (block.Offset value) = Number value ∷ []
-arguments block.Negate = []
-arguments block.Abs = []
-arguments (block.Scale fract shift) = Number fract ∷ Number shift ∷ []
-arguments (block.Shift shift) = Number shift ∷ []
-arguments (block.Clip low high) = Number low ∷ Number high ∷ []
-arguments (block.To format) = Format format ∷ []
-arguments block.Add = []
-arguments block.Sub = []
-arguments block.Mult = []
-arguments block.Conj = []
-arguments block.CmplxMult = []
-arguments block.CmplxMultReal = []
-arguments block.MagSquared = []
-arguments (block.Fir taps) = Listed taps ∷ []
-arguments (block.Sparse taps delays) = Listed taps ∷ Listed delays ∷ []
-arguments (block.Decimate factor taps) = Number (pos factor) ∷ Listed taps ∷ []
-arguments (block.Interpolate factor taps) = Number (pos factor) ∷ Listed taps ∷ []
-arguments (block.LatticeFir k) = Listed k ∷ []
-arguments (block.LatticeIir k v) = Listed k ∷ Listed v ∷ []
-arguments (block.Biquad post_shift coefficients) = Number (pos post_shift) ∷ Listed coefficients ∷ []
-arguments (block.Biquad64 post_shift coefficients) = Number (pos post_shift) ∷ Listed coefficients ∷ []
-arguments (block.Conv taps) = Listed taps ∷ []
-arguments (block.ConvPartial first count taps) = Number (pos first) ∷ Number (pos count) ∷ Listed taps ∷ []
-arguments (block.Correlate taps) = Listed taps ∷ []
-arguments (block.Lms post_shift mu taps) = Number (pos post_shift) ∷ Number mu ∷ Listed taps ∷ []
-arguments (block.Pid kp ki kd) = Number kp ∷ Number ki ∷ Number kd ∷ []
-arguments (block.MatAdd rows columns matrix) = Number (pos rows) ∷ Number (pos columns) ∷ Listed matrix ∷ []
-arguments (block.MatSub rows columns matrix) = Number (pos rows) ∷ Number (pos columns) ∷ Listed matrix ∷ []
-arguments (block.MatScale rows columns fract shift) = Number (pos rows) ∷ Number (pos columns) ∷ Number fract ∷ Number shift ∷ []
-arguments (block.MatTrans rows columns) = Number (pos rows) ∷ Number (pos columns) ∷ []
-arguments (block.MatMult rows columns given matrix) = Number (pos rows) ∷ Number (pos columns) ∷ Number (pos given) ∷ Listed matrix ∷ []
-arguments block.Power = []
-arguments block.Dot = []
-arguments block.CmplxDot = []
-arguments block.Max = []
-arguments block.Min = []
-arguments (block.Route channels) = Listed channels ∷ []
+arguments b = (written b).1
 
 -- a number, a list, or the name of a format
-abbrev pub argument_symbols : Argument → List Symbol
-argument_symbols (Number n) = Numeral n ∷ []
-argument_symbols (Listed numbers) = Whole numbers ∷ []
-argument_symbols (Format format) = Name (format_name format) ∷ []
+abbrev pub argument_symbol : Argument → Symbol
+argument_symbol (Number n) = Numeral n
+argument_symbol (Listed numbers) = Whole numbers
+argument_symbol (Format format) = Name (format_name format)
 
 -- the word, and what follows it
 abbrev pub block_symbols : Block → List Symbol
-block_symbols b = Name (name_of (word_of b)) ∷ flat_map argument_symbols (arguments b)
+block_symbols b = Name (name_of (word_of b)) ∷ map argument_symbol (arguments b)
 
 -- the block may stand where this flows.
 pub record Suits (flow : Flow) (b : Block) : Type 0 where
   pub form : IsTrue (has_form (word_of b) flow.format)
-  pub channels : IfSome (channels_wanted (word_of b)) (λ wanted. flow.channels ≡ wanted)
-  pub parameters : Fits (parameters (word_of b) flow) (arguments b) b
+  pub channels : IfSome (row_of (word_of b)).channels (λ wanted. flow.channels ≡ wanted)
+  pub parameters : Fits ((row_of (word_of b)).parameters flow) (arguments b) b
 
 -- each block suits what flows to it
 abbrev pub IsChain : Flow → List Block → Type 0
@@ -189,17 +160,15 @@ output_symbols output = Name (codes "output") ∷ Name (container_name output) �
 abbrev pub table_symbols : Named → List Symbol
 table_symbols t = Name (codes "table") ∷ Name t.name ∷ OpenBrace ∷ map Numeral t.numbers ++ CloseBrace ∷ []
 
--- dspfx VERSION, the input, the block length
-abbrev pub front_symbols : Script → List Symbol
-front_symbols s = Name (codes "dspfx") ∷ Numeral (pos s.version) ∷ input_symbols s.input ++ length_symbols s.block
+-- dspfx VERSION
+abbrev pub version_symbols : ℕ → List Symbol
+version_symbols version = Name (codes "dspfx") ∷ Numeral (pos version) ∷ []
 
--- the blocks, the output
-abbrev pub chain_symbols : Script → List Symbol
-chain_symbols s = flat_map block_symbols s.blocks ++ output_symbols s.output
-
--- the front, the tables, the chain
+-- the version, the input, the block length, the tables, the blocks, the output
 abbrev pub symbols : List Named → Script → List Symbol
-symbols tables s = front_symbols s ++ (flat_map table_symbols tables ++ chain_symbols s)
+symbols tables s =
+    (version_symbols s.version ++ (input_symbols s.input ++ length_symbols s.block))
+    ++ (flat_map table_symbols tables ++ (flat_map block_symbols s.blocks ++ output_symbols s.output))
 
 -- what flows to the first block
 abbrev pub input_flow : Input → Flow

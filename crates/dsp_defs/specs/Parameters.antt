@@ -4,6 +4,7 @@ use Rattle.std.specs.List.{AllByRecursion}
 use Rattle.dsp_defs.specs.declared.limits.TheConstants.{MAX_TAPS, MAX_SECTIONS, MAX_STAGES, MAX_DELAY, MAX_FACTOR, MAX_MATRIX_SIDE, MAX_CHANNELS}
 use Rattle.dsp_defs.specs.declared.format.Fmt.{Fmt}
 use Rattle.dsp_defs.specs.declared.format.Fmt.TheVariants.{Q7, Q15, Q31}
+use Rattle.dsp_defs.specs.Formats.{word_bits}
 use Rattle.dsp_defs.specs.declared.script.Block.{Block}
 use Rattle.dsp_defs.specs.declared.flow.Flow.{Flow}
 use Rattle.dsp_defs.specs.declared.list_rule.Count.{Count}
@@ -24,29 +25,15 @@ greatest Q7 = pos 127
 greatest Q15 = pos 32767
 greatest Q31 = pos 2147483647
 
--- the shift of `scale`: -8..7, -16..15, -31..30
-abbrev pub least_scale : Fmt → ℤ
-least_scale Q7 = negsuc 7
-least_scale Q15 = negsuc 15
-least_scale Q31 = negsuc 30
+-- the greatest shift of `scale`, whose shifts are -8..7, -16..15, -31..30
+abbrev pub greatest_scale : Fmt → ℕ
+greatest_scale Q7 = 7
+greatest_scale Q15 = 15
+greatest_scale Q31 = 30
 
--- 7, 15, 30
-abbrev pub greatest_scale : Fmt → ℤ
-greatest_scale Q7 = pos 7
-greatest_scale Q15 = pos 15
-greatest_scale Q31 = pos 30
-
--- the shift of `shift`: -7..7, -15..15, -31..31
-abbrev pub least_shift : Fmt → ℤ
-least_shift Q7 = negsuc 6
-least_shift Q15 = negsuc 14
-least_shift Q31 = negsuc 30
-
--- 7, 15, 31
-abbrev pub greatest_shift : Fmt → ℤ
-greatest_shift Q7 = pos 7
-greatest_shift Q15 = pos 15
-greatest_shift Q31 = pos 31
+-- the greatest shift of `shift`, whose shifts are -7..7, -15..15, -31..31
+abbrev pub greatest_shift : Fmt → ℕ
+greatest_shift format = word_bits format - 1
 
 -- the shift of `mat_scale`: -16..15 in Q15, 0..30 in Q31
 abbrev pub least_matrix_shift : Fmt → ℤ

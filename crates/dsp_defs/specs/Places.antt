@@ -5,14 +5,12 @@ use Rattle.dsp_defs.specs.declared.script_fault.ScriptKind.{ScriptKind}
 use Rattle.dsp_defs.specs.declared.script_fault.ScriptKind.TheVariants.{BadByte, UnknownWord, BadNumber, OutOfRange, Missing, NoSuchForm, Length, TooMany, BadName, NameTaken}
 use Rattle.dsp_defs.specs.declared.script_fault.ScriptFault.{ScriptFault}
 use Rattle.dsp_defs.specs.declared.format.Fmt.{Fmt}
-use Rattle.dsp_defs.specs.declared.format.Fmt.TheVariants.{Q7, Q15, Q31}
-use Rattle.dsp_defs.specs.declared.format.Container.{Container}
 use Rattle.dsp_defs.specs.declared.limits.TheConstants.{MAX_TABLES}
 use Rattle.dsp_defs.specs.declared.list_rule.ListRule.{ListRule}
 use Rattle.dsp_defs.specs.Token.{Token, Open, Close, Run, Bad, Item, Rest}
 use Rattle.dsp_defs.specs.Numeral.{value_of}
 use Rattle.dsp_defs.specs.Parameters.{is_complete, factor_of}
-use Rattle.dsp_defs.specs.Table.{format_by_name, container_by_name}
+use Rattle.dsp_defs.specs.Table.{by_name, every_format, format_name}
 use Rattle.dsp_defs.specs.Tables.{Named, is_name, numbers_of, table_rule}
 
 infixl 10 ◌>>=◌
@@ -31,23 +29,19 @@ or_fault offset kind None = fault offset kind
 
 -- ---- tokens, words, numbers
 
--- the first item, which must be there and no bad byte
-abbrev pub first_of : ℕ → List Item → Result (Item × Rest) ScriptFault
+-- the first item, which must be there and no bad byte, and what is left behind it
+unfoldable pub first_of : ℕ → List Item → Result (Item × Rest) ScriptFault
 first_of end [] = fault end Missing
 first_of end (item ∷ items) = elim item.token [ Bad ↦ fault item.offset BadByte | _ ↦ Ok (item, record { items = items; end = end }) ]
-
--- the next token of what is left
-unfoldable pub token_at : Rest → Result (Item × Rest) ScriptFault
-token_at rest = first_of rest.end rest.items
 
 -- what a token at an offset is, or its fault, where a place wants it.
 abbrev pub Judge : Type 0 → Type 0
 Judge A = ℕ → Token → Result A ScriptFault
 
 -- the next token as what a place wants, and what is left behind it
-abbrev pub next_at : {A : Type 0} → Judge A → Rest → Result (A × Rest) ScriptFault
+unfoldable pub next_at : {A : Type 0} → Judge A → Rest → Result (A × Rest) ScriptFault
 next_at judge rest = do
-  item ← token_at rest
+  item ← first_of rest.end rest.items
   x ← judge item.0.offset item.0.token
   Ok (x, item.1)
 
@@ -64,44 +58,22 @@ choice meaning offset token = or_fault offset UnknownWord (meaning_of meaning to
 abbrev pub named : List ℕ → List ℕ → Option ⊤
 named name run = if bytes_eq run name then Some tt else None
 
--- this word next
-unfoldable pub word_at : List ℕ → Rest → Result (⊤ × Rest) ScriptFault
-word_at name rest = next_at (choice (named name)) rest
-
--- a format next
-unfoldable pub format_at : Rest → Result (Fmt × Rest) ScriptFault
-format_at rest = next_at (choice format_by_name) rest
-
--- one of these containers next
-unfoldable pub container_at : List Container → Rest → Result (Container × Rest) ScriptFault
-container_at containers rest = next_at (choice (container_by_name containers)) rest
-
 -- the first of the items is this word
 abbrev pub begins_with : List ℕ → List Item → Bool
 begins_with name [] = false
 begins_with name (item ∷ items) = is_some (meaning_of (named name) item.token)
 
--- low <= n <= high
-abbrev pub is_between : (low high n : ℤ) → Bool
-is_between low high n = int_le low n && int_le n high
-
 -- n, or a fault where it is not in low..high
 abbrev pub in_range : ℕ → (low high n : ℤ) → Result ℤ ScriptFault
-in_range offset low high n = if is_between low high n then Ok n else fault offset (OutOfRange low high)
+in_range offset low high n = if int_le low n && int_le n high then Ok n else fault offset (OutOfRange low high)
 
 -- a number in a range
 abbrev pub number : (low high : ℤ) → Judge ℤ
 number low high offset token = or_fault offset BadNumber (meaning_of value_of token) >>= λ n. in_range offset low high n
 
--- a number of low..high next
-unfoldable pub number_at : (low high : ℤ) → Rest → Result (ℤ × Rest) ScriptFault
-number_at low high rest = next_at (number low high) rest
-
 -- a natural number of low..high next
 unfoldable pub natural_at : (low high : ℕ) → Rest → Result (ℕ × Rest) ScriptFault
-natural_at low high rest = do
-  n ← number_at (pos low) (pos high) rest
-  Ok (unsigned_abs n.0, n.1)
+natural_at low high rest = next_at (number (pos low) (pos high)) rest >>= λ n. Ok (unsigned_abs n.0, n.1)
 
 -- ---- lists
 
@@ -131,24 +103,16 @@ opening (Some tables) rule offset (Run name) = do
   Ok (Some numbers)
 opening tables rule offset token = fault offset Missing
 
--- that next
-unfoldable pub open_at : Environment → ListRule → Rest → Result (Option (List ℤ) × Rest) ScriptFault
-open_at tables rule rest = next_at (opening tables rule) rest
-
 -- the next number of a list that has count numbers, or its end
 abbrev pub entry : ListRule → ℕ → Judge (Option ℤ)
 entry rule count offset Close = list_end rule count offset >>= λ _. Ok None
 entry rule count offset token = or_fault offset BadNumber (meaning_of value_of token) >>= λ n. next_number rule count offset n >>= λ _. Ok (Some n)
 
--- the next number of a list that has count numbers, or its end, and what is left behind it
-unfoldable pub entry_at : ListRule → ℕ → Rest → Result (Option ℤ × Rest) ScriptFault
-entry_at rule count rest = next_at (entry rule count) rest
-
 -- the numbers of a list up to its end, after count of them
 unfoldable pub entries_at : ListRule → ℕ → ℕ → List Item → Result (List ℤ × Rest) ScriptFault
 entries_at rule count end [] = fault end Missing
 entries_at rule count end (item ∷ items) = do
-  next ← entry_at rule count (record { items = item ∷ items; end = end })
+  next ← next_at (entry rule count) (record { items = item ∷ items; end = end })
   elim next.0 [
     | None ↦ Ok ([], next.1)
     | Some n ↦ (entries_at rule (count + 1) end items >>= λ more. Ok (n ∷ more.0, more.1))
@@ -157,7 +121,7 @@ entries_at rule count end (item ∷ items) = do
 -- a list next: its numbers in braces, or the name of a table
 unfoldable pub list_at : Environment → ListRule → Rest → Result (List ℤ × Rest) ScriptFault
 list_at tables rule rest = do
-  opened ← open_at tables rule rest
+  opened ← next_at (opening tables rule) rest
   elim opened.0 [
     | None ↦ entries_at rule 0 opened.1.end opened.1.items
     | Some numbers ↦ Ok (numbers, opened.1)
@@ -195,17 +159,8 @@ environment_at version rest = if version == 1 then Ok (None, rest) else (tables_
 
 -- ---- conversions
 
--- a format other than the present one
-abbrev pub another : ℕ → Fmt → Fmt → Result Fmt ScriptFault
-another offset Q7 Q7 = fault offset (NoSuchForm Q7)
-another offset Q15 Q15 = fault offset (NoSuchForm Q15)
-another offset Q31 Q31 = fault offset (NoSuchForm Q31)
-another offset from format = Ok format
-
 -- the name of a format other than the present one
 abbrev pub conversion : Fmt → Judge Fmt
-conversion from offset token = choice format_by_name offset token >>= λ format. another offset from format
-
--- such a name next
-unfoldable pub conversion_at : Fmt → Rest → Result (Fmt × Rest) ScriptFault
-conversion_at from rest = next_at (conversion from) rest
+conversion from offset token = do
+  format ← choice (by_name format_name every_format) offset token
+  if bytes_eq (format_name format) (format_name from) then fault offset (NoSuchForm format) else Ok format

@@ -1,7 +1,8 @@
 -- Reading a text from left to right: the script, or the first item, or the end, that can't stand after the items before it.
-use Rattle.std.specs.Prelude.{ℕ, zero, suc, ◌==◌, ◌&&◌, ◌||◌, ⊤, Bool, false, List, [], ◌∷◌, length, Option, Some, None, Result, Ok, Err, nat_lt, if◌then◌else◌, codes}
+use Rattle.std.specs.Prelude.{ℕ, zero, suc, ◌==◌, ◌&&◌, ◌||◌, ⊤, Bool, false, List, [], ◌∷◌, length, Option, Some, None, Result, Ok, nat_lt, if◌then◌else◌, codes}
 use Rattle.std.specs.Str.{bytes_eq}
 use Rattle.std.specs.Option.{option_map}
+use Rattle.std.specs.Result.{result_err}
 use Rattle.dsp_defs.specs.declared.script_fault.ScriptKind.TheVariants.{TooLong, BadByte, UnknownWord, NoSuchForm, ChannelsHere, TooMany}
 use Rattle.dsp_defs.specs.declared.script_fault.ScriptFault.{ScriptFault}
 use Rattle.dsp_defs.specs.declared.format.Container.{Container}
@@ -16,65 +17,55 @@ use Rattle.dsp_defs.specs.declared.word.Word.{Word}
 use Rattle.dsp_defs.specs.declared.limits.TheConstants.{MAX_SCRIPT, MAX_BLOCKS, MAX_CORRELATES, MAX_BLOCK_LENGTH, MAX_CHANNELS, MAX_VERSION}
 use Rattle.dsp_defs.specs.Token.{Bad, Item, Rest, rest_of}
 use Rattle.dsp_defs.specs.Parameters.{Form, Done, Integer, Natural, Numbers, Conversion}
-use Rattle.dsp_defs.specs.Table.{word_by_name, has_form, channels_wanted, is_correlate, flow_after, parameters, input_containers, output_containers}
+use Rattle.dsp_defs.specs.Table.{row_of, by_name, every_word, name_of, every_format, format_name, container_name, has_form, is_correlate, flow_after, input_containers, output_containers}
 use Rattle.dsp_defs.specs.Grammar.{input_flow}
-use Rattle.dsp_defs.specs.Places.{◌>>=◌, fault, Judge, next_at, choice, begins_with, word_at, format_at, container_at, number_at, natural_at, Environment, list_at, environment_at, conversion_at}
+use Rattle.dsp_defs.specs.Places.{◌>>=◌, fault, Judge, next_at, choice, named, begins_with, number, natural_at, Environment, list_at, environment_at, conversion}
 
 -- ---- blocks
 
 -- the parameters of a form, and the block that they make
 unfoldable pub block_at : Environment → Form → Rest → Result (Block × Rest) ScriptFault
 block_at tables (Done made) rest = Ok (made, rest)
-block_at tables (Integer low high next) rest = number_at low high rest >>= λ n. block_at tables (next n.0) n.1
+block_at tables (Integer low high next) rest = next_at (number low high) rest >>= λ n. block_at tables (next n.0) n.1
 block_at tables (Natural low high next) rest = natural_at low high rest >>= λ n. block_at tables (next n.0) n.1
 block_at tables (Numbers rule next) rest = list_at tables rule rest >>= λ numbers. block_at tables (next numbers.0) numbers.1
-block_at tables (Conversion from next) rest = conversion_at from rest >>= λ format. block_at tables (next format.0) format.1
+block_at tables (Conversion from next) rest = next_at (conversion from) rest >>= λ format. block_at tables (next format.0) format.1
 
--- what may stand at a block's place: the output, or a block's word
-pub data Place : Type 0 where
-  Output : Place
-  Begin : Word → Place
-
--- the output or the block that a word begins
-unfoldable pub place_of : List ℕ → Option Place
-place_of run = if bytes_eq run (codes "output") then Some Output else option_map (λ w. Begin w) (word_by_name run)
+-- the word of a block, or none where a text is the output's
+unfoldable pub place_of : List ℕ → Option (Option Word)
+place_of run = if bytes_eq run (codes "output") then Some None else option_map Some (by_name name_of every_word run)
 
 -- the block is given the channels that it wants
 abbrev pub fed : ℕ → ℕ → Option ℕ → Result ⊤ ScriptFault
 fed offset got None = Ok tt
 fed offset got (Some wanted) = if got == wanted then Ok tt else fault offset (ChannelsHere got wanted)
 
--- the block may begin here, where so many more blocks may come
-abbrev pub may_begin : ℕ → Bool → Flow → ℕ → Word → Result ⊤ ScriptFault
-may_begin left correlated flow offset w =
+-- the output may come here, or the block of this word, where so many more blocks may come
+abbrev pub may_come : ℕ → Bool → Flow → ℕ → Option Word → Result ⊤ ScriptFault
+may_come left correlated flow offset None = Ok tt
+may_come left correlated flow offset (Some w) =
     if left == 0 then fault offset (TooMany MAX_BLOCKS)
     else if is_correlate w && correlated then fault offset (TooMany MAX_CORRELATES)
-    else if has_form w flow.format then fed offset flow.channels (channels_wanted w)
+    else if has_form w flow.format then fed offset flow.channels (row_of w).channels
     else fault offset (NoSuchForm flow.format)
 
--- the word of the next block, or none where the output comes
-abbrev pub allowed : ℕ → Bool → Flow → ℕ → Place → Result (Option Word) ScriptFault
-allowed left correlated flow offset Output = Ok None
-allowed left correlated flow offset (Begin w) = may_begin left correlated flow offset w >>= λ _. Ok (Some w)
-
--- the word of the next block, which may begin here, or none where the output comes
+-- the word of the next block, which may come here, or none where the output comes
 abbrev pub next_block : ℕ → Bool → Flow → Judge (Option Word)
-next_block left correlated flow offset token = choice place_of offset token >>= λ place. allowed left correlated flow offset place
-
--- that next
-unfoldable pub next_block_at : ℕ → Bool → Flow → Rest → Result (Option Word × Rest) ScriptFault
-next_block_at left correlated flow rest = next_at (next_block left correlated flow) rest
+next_block left correlated flow offset token = do
+  place ← choice place_of offset token
+  _ ← may_come left correlated flow offset place
+  Ok place
 
 -- the blocks up to the output, of which so many may come
 unfoldable pub blocks_at : Environment → ℕ → Bool → Flow → Rest → Result (List Block × Rest) ScriptFault
 blocks_at tables zero correlated flow rest = do
-  next ← next_block_at 0 correlated flow rest
+  next ← next_at (next_block 0 correlated flow) rest
   Ok ([], next.1)
 blocks_at tables (suc left) correlated flow rest = do
-  next ← next_block_at (suc left) correlated flow rest
+  next ← next_at (next_block (suc left) correlated flow) rest
   elim next.0 [
     | None ↦ Ok ([], next.1)
-    | Some w ↦ (block_at tables (parameters w flow) next.1 >>= λ b. blocks_at tables left (correlated || is_correlate w) (flow_after b.0 flow) b.1 >>= λ more. Ok (b.0 ∷ more.0, more.1))
+    | Some w ↦ (block_at tables ((row_of w).parameters flow) next.1 >>= λ b. blocks_at tables left (correlated || is_correlate w) (flow_after b.0 flow) b.1 >>= λ more. Ok (b.0 ∷ more.0, more.1))
   ]
 
 -- ---- scripts
@@ -82,7 +73,7 @@ blocks_at tables (suc left) correlated flow rest = do
 -- the block length, if there is one
 unfoldable pub length_at : Rest → Result (Option ℕ × Rest) ScriptFault
 length_at rest = if begins_with (codes "block") rest.items
-    then (word_at (codes "block") rest >>= λ name. natural_at 1 MAX_BLOCK_LENGTH name.1 >>= λ frames. Ok (Some frames.0, frames.1))
+    then (next_at (choice (named (codes "block"))) rest >>= λ name. natural_at 1 MAX_BLOCK_LENGTH name.1 >>= λ frames. Ok (Some frames.0, frames.1))
     else Ok (None, rest)
 
 -- the end of the text
@@ -98,9 +89,9 @@ kind_at _ rest = Ok (kind.Wave, rest)
 -- the input next: its container, format, channels, and the rate of raw samples
 unfoldable pub input_at : Rest → Result (Input × Rest) ScriptFault
 input_at rest = do
-  name ← word_at (codes "input") rest
-  container ← container_at input_containers name.1
-  format ← format_at container.1
+  name ← next_at (choice (named (codes "input"))) rest
+  container ← next_at (choice (by_name container_name input_containers)) name.1
+  format ← next_at (choice (by_name format_name every_format)) container.1
   channels ← natural_at 1 MAX_CHANNELS format.1
   kind ← kind_at container.0 channels.1
   Ok (record { kind = kind.0; format = format.0; channels = channels.0 }, kind.1)
@@ -108,13 +99,13 @@ input_at rest = do
 -- a script next, and nothing behind it
 unfoldable pub script_at : Rest → Result Script ScriptFault
 script_at rest = do
-  name ← word_at (codes "dspfx") rest
+  name ← next_at (choice (named (codes "dspfx"))) rest
   version ← natural_at 1 MAX_VERSION name.1
   input ← input_at version.1
   frames ← length_at input.1
   tables ← environment_at version.0 frames.1
   blocks ← blocks_at tables.0 MAX_BLOCKS false (input_flow input.0) tables.1
-  output ← container_at output_containers blocks.1
+  output ← next_at (choice (by_name container_name output_containers)) blocks.1
   _ ← nothing_of output.1.items
   Ok (record { version = version.0; input = input.0; block = frames.0; blocks = blocks.0; output = output.0 })
 
@@ -122,11 +113,6 @@ script_at rest = do
 unfoldable pub reading : List ℕ → Result Script ScriptFault
 reading text = if nat_lt MAX_SCRIPT (length text) then fault MAX_SCRIPT TooLong else script_at (rest_of 0 text)
 
--- the fault of a reading, if it has one
-abbrev pub fault_in : {A : Type 0} → Result A ScriptFault → Option ScriptFault
-fault_in (Ok x) = None
-fault_in (Err f) = Some f
-
 -- the first fault of a text, if it has one
 abbrev pub first_fault : List ℕ → Option ScriptFault
-first_fault text = fault_in (reading text)
+first_fault text = result_err (reading text)

@@ -20,58 +20,43 @@ use Rattle.dsp_defs.specs.Table.{format_name}
 abbrev pub field : List ℕ → List ℕ → List ℕ
 field name value = codes ", " ++ name ++ codes " " ++ value
 
+-- `, NAME VALUE, NAME VALUE`
+abbrev pub fields : List ℕ → ℕ → List ℕ → ℕ → List ℕ
+fields first a second b = field first (decimal a) ++ field second (decimal b)
+
 -- ---- a run that isn't done
 
--- the name of a kind of fault in a script
-abbrev pub kind_name : ScriptKind → List ℕ
-kind_name TooLong = codes "TooLong"
-kind_name BadByte = codes "BadByte"
-kind_name UnknownWord = codes "UnknownWord"
-kind_name BadNumber = codes "BadNumber"
-kind_name (OutOfRange low high) = codes "OutOfRange"
-kind_name Missing = codes "Missing"
-kind_name (NoSuchForm format) = codes "NoSuchForm"
-kind_name (ChannelsHere got wanted) = codes "ChannelsHere"
-kind_name (Length taps factor) = codes "Length"
-kind_name (TooMany limit) = codes "TooMany"
-kind_name BadName = codes "BadName"
-kind_name NameTaken = codes "NameTaken"
+-- a kind of fault in a script: its name, and its fields in their order
+abbrev pub kind_text : ScriptKind → List ℕ × List ℕ
+kind_text TooLong = (codes "TooLong", [])
+kind_text BadByte = (codes "BadByte", [])
+kind_text UnknownWord = (codes "UnknownWord", [])
+kind_text BadNumber = (codes "BadNumber", [])
+kind_text (OutOfRange low high) = (codes "OutOfRange", field (codes "low") (signed_decimal low) ++ field (codes "high") (signed_decimal high))
+kind_text Missing = (codes "Missing", [])
+kind_text (NoSuchForm format) = (codes "NoSuchForm", field (codes "format") (format_name format))
+kind_text (ChannelsHere got wanted) = (codes "ChannelsHere", fields (codes "got") got (codes "wanted") wanted)
+kind_text (Length taps factor) = (codes "Length", fields (codes "taps") taps (codes "factor") factor)
+kind_text (TooMany limit) = (codes "TooMany", field (codes "limit") (decimal limit))
+kind_text BadName = (codes "BadName", [])
+kind_text NameTaken = (codes "NameTaken", [])
 
--- its fields, in their order
-abbrev pub kind_fields : ScriptKind → List ℕ
-kind_fields (OutOfRange low high) = field (codes "low") (signed_decimal low) ++ field (codes "high") (signed_decimal high)
-kind_fields (NoSuchForm format) = field (codes "format") (format_name format)
-kind_fields (ChannelsHere got wanted) = field (codes "got") (decimal got) ++ field (codes "wanted") (decimal wanted)
-kind_fields (Length taps factor) = field (codes "taps") (decimal taps) ++ field (codes "factor") (decimal factor)
-kind_fields (TooMany limit) = field (codes "limit") (decimal limit)
-kind_fields kind = []
+-- a fault of a WAVE input: its name, and its fields in their order
+abbrev pub header_text : HeaderFault → List ℕ × List ℕ
+header_text NotRiff = (codes "NotRiff", [])
+header_text NotWave = (codes "NotWave", [])
+header_text NoFormat = (codes "NoFormat", [])
+header_text (FormatSize got) = (codes "FormatSize", field (codes "got") (decimal got))
+header_text (Tag got) = (codes "Tag", field (codes "got") (decimal got))
+header_text (Bits got wanted) = (codes "Bits", fields (codes "got") got (codes "wanted") wanted)
+header_text (Channels got wanted) = (codes "Channels", fields (codes "got") got (codes "wanted") wanted)
+header_text (Align got wanted) = (codes "Align", fields (codes "got") got (codes "wanted") wanted)
+header_text NoSamples = (codes "NoSamples", [])
+header_text (Short declared got) = (codes "Short", fields (codes "declared") declared (codes "got") got)
 
--- the name of a fault of a WAVE input
-abbrev pub header_name : HeaderFault → List ℕ
-header_name NotRiff = codes "NotRiff"
-header_name NotWave = codes "NotWave"
-header_name NoFormat = codes "NoFormat"
-header_name (FormatSize got) = codes "FormatSize"
-header_name (Tag got) = codes "Tag"
-header_name (Bits got wanted) = codes "Bits"
-header_name (Channels got wanted) = codes "Channels"
-header_name (Align got wanted) = codes "Align"
-header_name NoSamples = codes "NoSamples"
-header_name (Short declared got) = codes "Short"
-
--- its fields, in their order
-abbrev pub header_fields : HeaderFault → List ℕ
-header_fields (FormatSize got) = field (codes "got") (decimal got)
-header_fields (Tag got) = field (codes "got") (decimal got)
-header_fields (Bits got wanted) = field (codes "got") (decimal got) ++ field (codes "wanted") (decimal wanted)
-header_fields (Channels got wanted) = field (codes "got") (decimal got) ++ field (codes "wanted") (decimal wanted)
-header_fields (Align got wanted) = field (codes "got") (decimal got) ++ field (codes "wanted") (decimal wanted)
-header_fields (Short declared got) = field (codes "declared") (decimal declared) ++ field (codes "got") (decimal got)
-header_fields fault = []
-
--- `KIND at OFFSET` and the kind's fields
-abbrev pub located : List ℕ → ℕ → List ℕ → List ℕ
-located kind offset fields = kind ++ codes " at " ++ decimal offset ++ fields
+-- `NAME at OFFSET` and the fields
+abbrev pub located : List ℕ × List ℕ → ℕ → List ℕ
+located text offset = text.0 ++ codes " at " ++ decimal offset ++ text.1
 
 -- the words are no command
 abbrev pub usage_line : List ℕ
@@ -79,7 +64,7 @@ usage_line = line (codes "dspfx: usage: run SCRIPT IN OUT [block N], gen SEED FR
 
 -- `dspfx: script: ` and the fault where it stands
 abbrev pub script_line : ScriptFault → List ℕ
-script_line fault = line (codes "dspfx: script: " ++ located (kind_name fault.kind) fault.offset (kind_fields fault.kind))
+script_line fault = line (codes "dspfx: script: " ++ located (kind_text fault.kind) fault.offset)
 
 -- `dspfx: block length N, unit U`
 abbrev pub block_length_line : ℕ → ℕ → List ℕ
@@ -87,7 +72,7 @@ block_length_line block unit = line (codes "dspfx: block length " ++ decimal blo
 
 -- `dspfx: header: ` and the fault where it stands
 abbrev pub header_line : HeaderFault → ℕ → List ℕ
-header_line fault offset = line (codes "dspfx: header: " ++ located (header_name fault) offset (header_fields fault))
+header_line fault offset = line (codes "dspfx: header: " ++ located (header_text fault) offset)
 
 -- `dspfx: lengths: ` and two numbers with their names
 abbrev pub lengths_line : List ℕ → ℕ → List ℕ → ℕ → List ℕ

@@ -1,6 +1,7 @@
 -- The tables of a script: lists of numbers with names, by which its blocks may speak of them.
 use Rattle.std.specs.Prelude.{◌≡◌, ℕ, ℤ, ◌≤◌, ◌&&◌, nat_le, Bool, IsTrue, List, [], ◌∷◌, ◌++◌, length, slice_index, Option, None, find}
 use Rattle.std.specs.Option.{option_map}
+use Rattle.std.specs.Char.{is_ascii_lowercase}
 use Rattle.std.specs.Str.{bytes_eq}
 use Rattle.dsp_defs.specs.declared.limits.TheConstants.{MAX_NAME, MAX_TABLES, MAX_TAPS}
 use Rattle.dsp_defs.specs.declared.format.Fmt.TheVariants.{Q31}
@@ -13,13 +14,9 @@ pub record Named : Type 0 where
   pub name : List ℕ
   pub numbers : List ℤ
 
--- a to z
-abbrev pub is_letter : ℕ → Bool
-is_letter byte = nat_le 97 byte && nat_le byte 122
-
 -- a run is a name: it begins with a letter, and has at most 32 bytes
 abbrev pub is_name : List ℕ → Bool
-is_name run = is_letter (slice_index run 0) && nat_le (length run) MAX_NAME
+is_name run = is_ascii_lowercase (slice_index run 0) && nat_le (length run) MAX_NAME
 
 -- the numbers of the table of this name, if there is one
 unfoldable pub numbers_of : List Named → List ℕ → Option (List ℤ)

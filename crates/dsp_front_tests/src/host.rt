@@ -1,9 +1,8 @@
 //! A host program that has its samples in memory feeds a session by hand, with no ports.
 ghost use Rattle.std.specs.Prelude.{◌≡◌, ◌+◌, ◌*◌, ◌<◌, ◌≤◌, IfSome, IsFalse, length};
-ghost use Rattle.dsp_defs.specs.Grammar.{container_of};
 ghost use Rattle.dsp_session.specs.Session.{IsReady, SameSession, frame_bytes, input_coding};
 
-use dsp_defs::{Container, Fmt, InputKind, Measure, Script, Steps};
+use dsp_defs::{Fmt, Measure, Script, Steps};
 use dsp_script::{legal, parse};
 use dsp_session::Session;
 use dsp_wave::{Coding, coding_of, width};
@@ -25,20 +24,11 @@ fn script_of(alloc: Global, text: &[u8]) -> Option<Script>
     }
 }
 
-fn container_of(kind: InputKind) -> Container
-    ensures { result ≡ container_of kind }
-{
-    match kind {
-        InputKind::Wave => Container::Wave,
-        InputKind::Raw { .. } => Container::Raw,
-    }
-}
-
 /// The bytes of a frame of the input, where its samples have all bits of their format.
 fn frame_size(script: &Script) -> usize
     ensures { result ≡ frame_bytes script.now (input_coding script.now) }
 {
-    let coding = coding_of(container_of(script.input.kind), script.input.format);
+    let coding = coding_of(script.input.kind.container(), script.input.format);
     usize::from(script.input.channels) * width(coding)
 }
 

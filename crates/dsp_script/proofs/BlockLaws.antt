@@ -1,5 +1,5 @@
 -- Blocks: what is read is written so and fits, and what is written so and fits is read.
-use Rattle.std.proofs.Common.{◌≡◌, ◌≢◌, ℕ, zero, suc, ℤ, pos, negsuc, ◌+◌, ◌<◌, ◌≤◌, Bool, true, false, cond, ◌&&◌, ◌||◌, List, [], ◌∷◌, ◌++◌, length, Option, Some, None, Ok, refl, sym, ap, subst, ◌∙◌, append_assoc, arith, eqb, eq-eqb}
+use Rattle.std.proofs.Common.{◌≡◌, ◌≢◌, ℕ, zero, suc, ℤ, pos, negsuc, ◌+◌, ◌<◌, ◌≤◌, Bool, true, false, cond, ◌&&◌, ◌||◌, List, [], ◌∷◌, ◌++◌, length, map, Option, Some, None, Ok, refl, sym, ap, subst, ◌∙◌, append_assoc, arith, eqb, eq-eqb}
 use Rattle.std.specs.Prelude.{⊤, IfSome, codes}
 use Rattle.std.specs.Str.{bytes_eq}
 use Rattle.std.specs.List.{flat_map}
@@ -16,16 +16,16 @@ use Rattle.dsp_defs.specs.declared.word.Word.TheVariants as words
 use Rattle.dsp_defs.specs.declared.flow.Flow.{Flow}
 use Rattle.dsp_defs.specs.declared.list_rule.ListRule.{ListRule}
 use Rattle.dsp_defs.specs.Token.{Run, Item, Rest}
-use Rattle.dsp_defs.specs.Table.{name_of, word_by_name, has_form, channels_wanted, is_correlate, flow_after, parameters}
+use Rattle.dsp_defs.specs.Table.{row_of, by_name, every_word, name_of, has_form, is_correlate, flow_after}
 use Rattle.dsp_defs.specs.Parameters.{Form, Done, Integer, Natural, Numbers, Conversion, IsBetween, IsWithin, Argument, Number, Listed, Format, Fits, routes}
-use Rattle.dsp_script.specs.Answers.{HasFewChannels}
-use Rattle.dsp_defs.specs.Grammar.{Symbol, Name, word_of, arguments, argument_symbols, block_symbols, IsChain, correlates}
-use Rattle.dsp_defs.specs.Places.{◌>>=◌, choice, number_at, natural_at, Environment, list_at, conversion_at}
+use Rattle.dsp_script.specs.Answers.{HasFewChannels, parameters}
+use Rattle.dsp_defs.specs.Grammar.{Symbol, Name, word_of, arguments, argument_symbol, block_symbols, IsChain, correlates}
+use Rattle.dsp_defs.specs.Places.{◌>>=◌, next_at, choice, number, natural_at, Environment, list_at, conversion}
 use Rattle.dsp_defs.specs.Tables.{Named}
-use Rattle.dsp_defs.specs.Reading.{block_at, Place, Output, Begin, place_of, fed, may_begin, allowed, next_block, next_block_at, blocks_at}
-use Rattle.dsp_script.proofs.Steps.{bind_ok, passed, chosen, written_name, one_taken, ok_is, pair, pair_is, Strips, Strips-split, Takes, Takes-then, next_takes, one_again, choice_run, word_named, number_takes, natural_takes, conversion_takes, number_read, natural_read, conversion_read}
+use Rattle.dsp_defs.specs.Reading.{block_at, place_of, fed, may_come, next_block, blocks_at}
+use Rattle.dsp_script.proofs.Steps.{bind_ok, read_to, passed, refused, chosen, written_name, one_taken, ok_is, pair, pair_is, Strips, Strips-split, Takes, Takes-then, next_takes, one_again, choice_run, by_name_is, number_takes, natural_takes, conversion_takes, number_read, natural_read, conversion_read}
 use Rattle.dsp_script.proofs.Names.{place_again, place_again_output}
-use Rattle.dsp_script.proofs.ListLaws.{refused, tables_in, list_takes, list_read}
+use Rattle.dsp_script.proofs.ListLaws.{tables_in, list_takes, list_read}
 
 -- ---- what a form's arguments are
 
@@ -60,14 +60,14 @@ fits_conversion from next (Format f ∷ args) b h = (f, args, refl, h.0, h.1)
 
 -- ---- forms
 
-took : (environment : Environment) (args : List Argument) (a : Argument) (rest between after : Rest) → Takes (tables_in environment) rest between (argument_symbols a) → Takes (tables_in environment) between after (flat_map argument_symbols args) → Takes (tables_in environment) rest after (flat_map argument_symbols (a ∷ args))
-took environment args a rest between after first then = rw flat_map-cons (Takes-then (tables_in environment) rest between after (argument_symbols a) (flat_map argument_symbols args) first then)
+took : (environment : Environment) (args : List Argument) (a : Argument) (rest between after : Rest) → Takes (tables_in environment) rest between (argument_symbol a ∷ []) → Takes (tables_in environment) between after (map argument_symbol args) → Takes (tables_in environment) rest after (map argument_symbol (a ∷ args))
+took environment args a rest between after first then = Takes-then (tables_in environment) rest between after (argument_symbol a ∷ []) (map argument_symbol args) first then
 
-pub form_takes : (environment : Environment) (form : Form) (rest after : Rest) (b : Block) → block_at environment form rest ≡ Ok (b, after) → (args : List Argument) × Takes (tables_in environment) rest after (flat_map argument_symbols args) × Fits form args b
+pub form_takes : (environment : Environment) (form : Form) (rest after : Rest) (b : Block) → block_at environment form rest ≡ Ok (b, after) → (args : List Argument) × Takes (tables_in environment) rest after (map argument_symbol args) × Fits form args b
 unfolding block_at
 form_takes environment (Done made) rest after b e = let p = pair_is made b rest after e in ([], record { strips = ap (λ (r : Rest). r.items) p.1; end = ap (λ (r : Rest). r.end) p.1 }, p.0)
 form_takes environment (Integer low high next) rest after b e =
-    let a = bind_ok (number_at low high rest) _ (b, after) e in
+    let a = bind_ok (next_at (number low high) rest) _ (b, after) e in
     let t = number_takes (tables_in environment) low high rest a.0.1 a.0.0 a.1 in
     let more = form_takes environment (next a.0.0) a.0.1 after b a.2 in
     (Number a.0.0 ∷ more.0, took environment more.0 (Number a.0.0) rest a.0.1 after t.0 more.1, (t.1, more.2))
@@ -82,15 +82,15 @@ form_takes environment (Numbers rule next) rest after b e =
     let more = form_takes environment (next a.0.0) a.0.1 after b a.2 in
     (Listed a.0.0 ∷ more.0, took environment more.0 (Listed a.0.0) rest a.0.1 after t.0 more.1, (t.1, more.2))
 form_takes environment (Conversion from next) rest after b e =
-    let a = bind_ok (conversion_at from rest) _ (b, after) e in
+    let a = bind_ok (next_at (conversion from) rest) _ (b, after) e in
     let t = conversion_takes (tables_in environment) from rest a.0.1 a.0.0 a.1 in
     let more = form_takes environment (next a.0.0) a.0.1 after b a.2 in
     (Format a.0.0 ∷ more.0, took environment more.0 (Format a.0.0) rest a.0.1 after t.0 more.1, (t.1, more.2))
 
-parts : (environment : Environment) (args more : List Argument) (a : Argument) (items left : List Item) → args ≡ a ∷ more → Strips (tables_in environment) items (flat_map argument_symbols args) left → (between : List Item) × Strips (tables_in environment) items (argument_symbols a) between × Strips (tables_in environment) between (flat_map argument_symbols more) left
-parts environment args more a items left e h = Strips-split (tables_in environment) items (argument_symbols a) (flat_map argument_symbols more) left (rw (e, flat_map-cons) at h)
+parts : (environment : Environment) (args more : List Argument) (a : Argument) (items left : List Item) → args ≡ a ∷ more → Strips (tables_in environment) items (map argument_symbol args) left → (between : List Item) × Strips (tables_in environment) items (argument_symbol a ∷ []) between × Strips (tables_in environment) between (map argument_symbol more) left
+parts environment args more a items left e h = Strips-split (tables_in environment) items (argument_symbol a ∷ []) (map argument_symbol more) left (rw e at h)
 
-pub form_read : (environment : Environment) (form : Form) (args : List Argument) (b : Block) (items left : List Item) (end : ℕ) → Fits form args b → Strips (tables_in environment) items (flat_map argument_symbols args) left → block_at environment form (record { items = items; end = end }) ≡ Ok (b, record { items = left; end = end })
+pub form_read : (environment : Environment) (form : Form) (args : List Argument) (b : Block) (items left : List Item) (end : ℕ) → Fits form args b → Strips (tables_in environment) items (map argument_symbol args) left → block_at environment form (record { items = items; end = end }) ≡ Ok (b, record { items = left; end = end })
 unfolding block_at
 form_read environment (Done made) args b items left end fits h =
     let d = fits_done made args b fits in
@@ -202,7 +202,7 @@ pub record IsAllowed (left : ℕ) (correlated : Bool) (flow : Flow) (w : Word) :
   pub some : 0 < left
   pub once : (is_correlate w && correlated) ≡ false
   pub form : has_form w flow.format ≡ true
-  pub channels : IfSome (channels_wanted w) (λ wanted. flow.channels ≡ wanted)
+  pub channels : IfSome (row_of w).channels (λ wanted. flow.channels ≡ wanted)
 
 fed_is : (offset got : ℕ) (wanted : Option ℕ) (x : ⊤) → fed offset got wanted ≡ Ok x → IfSome wanted (λ n. got ≡ n)
 fed_is offset got None x e = tt
@@ -212,62 +212,58 @@ fed_again : (offset got : ℕ) (wanted : Option ℕ) → IfSome wanted (λ n. go
 fed_again offset got None h = refl
 fed_again offset got (Some n) h = rw (eq-eqb got n h) refl
 
-may_begin_is : (left : ℕ) (correlated : Bool) (flow : Flow) (offset : ℕ) (w : Word) (x : ⊤) → may_begin left correlated flow offset w ≡ Ok x → IsAllowed left correlated flow w
-may_begin_is left correlated flow offset w x e =
+may_come_is : (left : ℕ) (correlated : Bool) (flow : Flow) (offset : ℕ) (w : Word) (x : ⊤) → may_come left correlated flow offset (Some w) ≡ Ok x → IsAllowed left correlated flow w
+may_come_is left correlated flow offset w x e =
     let first = refused (eqb left 0) _ _ x e in
     let second = refused (is_correlate w && correlated) _ _ x first.1 in
     let third = chosen (has_form w flow.format) _ _ x second.1 in
-    record { some = grind (arith, nat_tests); once = second.0; form = third.0; channels = fed_is offset flow.channels (channels_wanted w) x third.1 }
+    record { some = grind (arith, nat_tests); once = second.0; form = third.0; channels = fed_is offset flow.channels (row_of w).channels x third.1 }
 
-may_begin_again : (left : ℕ) (correlated : Bool) (flow : Flow) (offset : ℕ) (w : Word) → IsAllowed left correlated flow w → may_begin left correlated flow offset w ≡ Ok tt
-may_begin_again left correlated flow offset w a =
+may_come_again : (left : ℕ) (correlated : Bool) (flow : Flow) (offset : ℕ) (w : Word) → IsAllowed left correlated flow w → may_come left correlated flow offset (Some w) ≡ Ok tt
+may_come_again left correlated flow offset w a =
     let some : eqb left 0 ≡ false = grind (arith, nat_tests, a.some) in
-    rw (some, a.once, a.form) (fed_again offset flow.channels (channels_wanted w) a.channels)
+    rw (some, a.once, a.form) (fed_again offset flow.channels (row_of w).channels a.channels)
 
-place_output : (run : List ℕ) → place_of run ≡ Some Output → run ≡ codes "output"
+place_output : (run : List ℕ) → place_of run ≡ Some None → run ≡ codes "output"
 unfolding place_of
-place_output run e = tested (bytes_eq run (codes "output")) (word_by_name run) refl e
+place_output run e = tested (bytes_eq run (codes "output")) (by_name name_of every_word run) refl e
   where
-    tested : (b : Bool) (o : Option Word) → bytes_eq run (codes "output") ≡ b → cond b (Some Output) (option_map (λ w. Begin w) o) ≡ Some Output → run ≡ codes "output"
+    tested : (b : Bool) (o : Option Word) → bytes_eq run (codes "output") ≡ b → cond b (Some None) (option_map (λ w. Some w) o) ≡ Some None → run ≡ codes "output"
     tested true o h e = (bytes_eq-Decides run (codes "output")).0 h
     tested false None h e = absurd cc
     tested false (Some w) h e = absurd cc
 
-place_word : (run : List ℕ) (w : Word) → place_of run ≡ Some (Begin w) → run ≡ name_of w
+place_word : (run : List ℕ) (w : Word) → place_of run ≡ Some (Some w) → run ≡ name_of w
 unfolding place_of
-place_word run w e = tested (bytes_eq run (codes "output")) (word_by_name run) refl e
+place_word run w e = tested (bytes_eq run (codes "output")) (by_name name_of every_word run) refl e
   where
-    tested : (b : Bool) (o : Option Word) → word_by_name run ≡ o → cond b (Some Output) (option_map (λ w. Begin w) o) ≡ Some (Begin w) → run ≡ name_of w
+    tested : (b : Bool) (o : Option Word) → by_name name_of every_word run ≡ o → cond b (Some None) (option_map (λ w. Some w) o) ≡ Some (Some w) → run ≡ name_of w
     tested true o h e = absurd cc
     tested false None h e = absurd cc
-    tested false (Some v) h e = let same : v ≡ w = cc in word_named run w (h ∙ ap Some same)
+    tested false (Some v) h e = let same : v ≡ w = cc in by_name_is name_of every_word run w (h ∙ ap Some same)
 
 -- the next block's word, or the output's, was taken
 pub data NextIs (tables : List Named) (left : ℕ) (correlated : Bool) (flow : Flow) (rest after : Rest) : Option Word → Type 0 where
   AtOutput : Takes tables rest after (Name (codes "output") ∷ []) → NextIs tables left correlated flow rest after None
   AtBlock : (w : Word) → Takes tables rest after (Name (name_of w) ∷ []) → IsAllowed left correlated flow w → NextIs tables left correlated flow rest after (Some w)
 
-pub next_block_takes : (tables : List Named) (left : ℕ) (correlated : Bool) (flow : Flow) (rest after : Rest) (next : Option Word) → next_block_at left correlated flow rest ≡ Ok (next, after) → NextIs tables left correlated flow rest after next
-unfolding next_block_at
+pub next_block_takes : (tables : List Named) (left : ℕ) (correlated : Bool) (flow : Flow) (rest after : Rest) (next : Option Word) → next_at (next_block left correlated flow) rest ≡ Ok (next, after) → NextIs tables left correlated flow rest after next
 next_block_takes tables left correlated flow rest after next e =
     let n = next_takes (next_block left correlated flow) rest after next e in
     let b = bind_ok (choice place_of n.0.offset n.0.token) _ next n.3 in
     let run = choice_run place_of n.0.offset n.0.token b.0 b.1 in
-    placed b.0 n.0 n.1 n.2 run.0 run.1 run.2 b.2
+    let m = bind_ok (may_come left correlated flow n.0.offset b.0) _ next b.2 in
+    rw (← ok_is b.0 next m.2) (placed b.0 n.0 n.1 n.2 run.0 run.1 run.2 m.0 m.1)
   where
-    placed : (place : Place) (item : Item) → rest.items ≡ item ∷ after.items → rest.end ≡ after.end → (run : List ℕ) → item.token ≡ Run run → place_of run ≡ Some place → allowed left correlated flow item.offset place ≡ Ok next → NextIs tables left correlated flow rest after next
-    placed Output item e end run is p h = rw (← ok_is None next h) (AtOutput (one_taken tables rest after item (Name (codes "output")) tt e end (rw is (place_output run p))))
-    placed (Begin w) item e end run is p h =
-        let a = bind_ok (may_begin left correlated flow item.offset w) _ next h in
-        rw (← ok_is (Some w) next a.2) (AtBlock w (one_taken tables rest after item (Name (name_of w)) tt e end (rw is (place_word run w p))) (may_begin_is left correlated flow item.offset w a.0 a.1))
+    placed : (place : Option Word) (item : Item) → rest.items ≡ item ∷ after.items → rest.end ≡ after.end → (run : List ℕ) → item.token ≡ Run run → place_of run ≡ Some place → (x : ⊤) → may_come left correlated flow item.offset place ≡ Ok x → NextIs tables left correlated flow rest after place
+    placed None item e end run is p x h = AtOutput (one_taken tables rest after item (Name (codes "output")) tt e end (rw is (place_output run p)))
+    placed (Some w) item e end run is p x h = AtBlock w (one_taken tables rest after item (Name (name_of w)) tt e end (rw is (place_word run w p))) (may_come_is left correlated flow item.offset w x h)
 
-output_read : (tables : List Named) (left : ℕ) (correlated : Bool) (flow : Flow) (items after : List Item) (end : ℕ) → Strips tables items (Name (codes "output") ∷ []) after → next_block_at left correlated flow (record { items = items; end = end }) ≡ Ok (None, record { items = after; end = end })
-unfolding next_block_at
+output_read : (tables : List Named) (left : ℕ) (correlated : Bool) (flow : Flow) (items after : List Item) (end : ℕ) → Strips tables items (Name (codes "output") ∷ []) after → next_at (next_block left correlated flow) (record { items = items; end = end }) ≡ Ok (None, record { items = after; end = end })
 output_read tables left correlated flow items after end h = one_again tables (next_block left correlated flow) None (Name (codes "output")) items after end tt h (λ item w. let e = written_name tables item.token (codes "output") w in (rw e tt, rw (e, place_again_output) refl))
 
-word_of_block_read : (tables : List Named) (left : ℕ) (correlated : Bool) (flow : Flow) (w : Word) (items after : List Item) (end : ℕ) → IsAllowed left correlated flow w → Strips tables items (Name (name_of w) ∷ []) after → next_block_at left correlated flow (record { items = items; end = end }) ≡ Ok (Some w, record { items = after; end = end })
-unfolding next_block_at
-word_of_block_read tables left correlated flow w items after end a h = one_again tables (next_block left correlated flow) (Some w) (Name (name_of w)) items after end tt h (λ item is. let e = written_name tables item.token (name_of w) is in (rw e tt, rw (e, place_again w, may_begin_again left correlated flow item.offset w a) refl))
+word_of_block_read : (tables : List Named) (left : ℕ) (correlated : Bool) (flow : Flow) (w : Word) (items after : List Item) (end : ℕ) → IsAllowed left correlated flow w → Strips tables items (Name (name_of w) ∷ []) after → next_at (next_block left correlated flow) (record { items = items; end = end }) ≡ Ok (Some w, record { items = after; end = end })
+word_of_block_read tables left correlated flow w items after end a h = one_again tables (next_block left correlated flow) (Some w) (Name (name_of w)) items after end tt h (λ item is. let e = written_name tables item.token (name_of w) is in (rw e tt, rw (e, place_again w, may_come_again left correlated flow item.offset w a) refl))
 
 -- ---- blocks
 
@@ -301,12 +297,12 @@ blocks_end : (environment : Environment) (left : ℕ) (correlated : Bool) (flow 
 blocks_end environment left correlated flow rest after t = record { takes = t; few = omega arith; once = once_at_end correlated; chain = tt }
 
 blocks_more : (environment : Environment) (left : ℕ) (correlated : Bool) (flow : Flow) (rest r1 r2 after : Rest) (w : Word) (args : List Argument) (b : Block) (blocks : List Block) → Takes (tables_in environment) rest r1 (Name (name_of w) ∷ []) → IsAllowed (suc left) correlated flow w
-    → Takes (tables_in environment) r1 r2 (flat_map argument_symbols args) → Fits (parameters w flow) args b → IsBlocks environment left (correlated || is_correlate w) (flow_after b flow) r2 after blocks → IsBlocks environment (suc left) correlated flow rest after (b ∷ blocks)
+    → Takes (tables_in environment) r1 r2 (map argument_symbol args) → Fits (parameters w flow) args b → IsBlocks environment left (correlated || is_correlate w) (flow_after b flow) r2 after blocks → IsBlocks environment (suc left) correlated flow rest after (b ∷ blocks)
 blocks_more environment left correlated flow rest r1 r2 after w args b blocks first a then fits more =
     let m = made w flow args b fits in
-    let block-is : block_symbols b ≡ Name (name_of w) ∷ flat_map argument_symbols args = rw (m.0, m.1) refl in
-    let both = Takes-then (tables_in environment) rest r2 after (Name (name_of w) ∷ flat_map argument_symbols args) (flat_map block_symbols blocks ++ Name (codes "output") ∷ []) (Takes-then (tables_in environment) rest r1 r2 (Name (name_of w) ∷ []) (flat_map argument_symbols args) first then) more.takes in
-    let regrouped : flat_map block_symbols (b ∷ blocks) ++ Name (codes "output") ∷ [] ≡ (Name (name_of w) ∷ flat_map argument_symbols args) ++ (flat_map block_symbols blocks ++ Name (codes "output") ∷ []) = ap (λ (x : List Symbol). x ++ Name (codes "output") ∷ []) (flat_map-cons block_symbols b blocks ∙ ap (λ (x : List Symbol). x ++ flat_map block_symbols blocks) block-is) ∙ append_assoc (Name (name_of w) ∷ flat_map argument_symbols args) (flat_map block_symbols blocks) (Name (codes "output") ∷ []) in
+    let block-is : block_symbols b ≡ Name (name_of w) ∷ map argument_symbol args = rw (m.0, m.1) refl in
+    let both = Takes-then (tables_in environment) rest r2 after (Name (name_of w) ∷ map argument_symbol args) (flat_map block_symbols blocks ++ Name (codes "output") ∷ []) (Takes-then (tables_in environment) rest r1 r2 (Name (name_of w) ∷ []) (map argument_symbol args) first then) more.takes in
+    let regrouped : flat_map block_symbols (b ∷ blocks) ++ Name (codes "output") ∷ [] ≡ (Name (name_of w) ∷ map argument_symbol args) ++ (flat_map block_symbols blocks ++ Name (codes "output") ∷ []) = ap (λ (x : List Symbol). x ++ Name (codes "output") ∷ []) (flat_map-cons block_symbols b blocks ∙ ap (λ (x : List Symbol). x ++ flat_map block_symbols blocks) block-is) ∙ append_assoc (Name (name_of w) ∷ map argument_symbol args) (flat_map block_symbols blocks) (Name (codes "output") ∷ []) in
     record {
       takes = subst (Takes (tables_in environment) rest after) (sym regrouped) both;
       few = omega (arith, more.few);
@@ -317,7 +313,7 @@ blocks_more environment left correlated flow rest r1 r2 after w args b blocks fi
 pub blocks_take : (environment : Environment) (left : ℕ) (correlated : Bool) (flow : Flow) (rest after : Rest) (blocks : List Block) → blocks_at environment left correlated flow rest ≡ Ok (blocks, after) → IsBlocks environment left correlated flow rest after blocks
 unfolding blocks_at
 blocks_take environment zero correlated flow rest after blocks e =
-    let n = bind_ok (next_block_at 0 correlated flow rest) _ (blocks, after) e in
+    let n = bind_ok (next_at (next_block 0 correlated flow) rest) _ (blocks, after) e in
     let p = pair_is [] blocks n.0.1 after n.2 in
     rw (← p.0, ← p.1) (last n.0.0 n.0.1 (next_block_takes (tables_in environment) 0 correlated flow rest n.0.1 n.0.0 n.1))
   where
@@ -325,7 +321,7 @@ blocks_take environment zero correlated flow rest after blocks e =
     last None r (AtOutput t) = blocks_end environment 0 correlated flow rest r t
     last (Some v) r (AtBlock w t a) = absurd (omega (arith, a.some))
 blocks_take environment (suc left) correlated flow rest after blocks e =
-    let n = bind_ok (next_block_at (suc left) correlated flow rest) _ (blocks, after) e in
+    let n = bind_ok (next_at (next_block (suc left) correlated flow) rest) _ (blocks, after) e in
     cases n.0.0 n.0.1 (next_block_takes (tables_in environment) (suc left) correlated flow rest n.0.1 n.0.0 n.1) n.2 (blocks_take environment left)
   where
     cases : (next : Option Word) (r : Rest) → NextIs (tables_in environment) (suc left) correlated flow rest r next
@@ -337,7 +333,7 @@ blocks_take environment (suc left) correlated flow rest after blocks e =
         let m = bind_ok (blocks_at environment left (correlated || is_correlate w) (flow_after b.0.0 flow) b.0.1) _ (blocks, after) b.2 in
         let p = pair_is (b.0.0 ∷ m.0.0) blocks m.0.1 after m.2 in
         let f = form_takes environment (parameters w flow) r b.0.1 b.0.0 b.1 in
-        let read : blocks_at environment left (correlated || is_correlate w) (flow_after b.0.0 flow) b.0.1 ≡ pair m.0.0 after = m.1 ∙ ap (pair m.0.0) p.1 in
+        let read : blocks_at environment left (correlated || is_correlate w) (flow_after b.0.0 flow) b.0.1 ≡ pair m.0.0 after = read_to (blocks_at environment left (correlated || is_correlate w) (flow_after b.0.0 flow) b.0.1) m.0 after m.1 p.1 in
         let more = later (correlated || is_correlate w) (flow_after b.0.0 flow) b.0.1 after m.0.0 read in
         rw (← p.0) (blocks_more environment left correlated flow rest r b.0.1 after w f.0 b.0.0 m.0.0 t a f.1 f.2 more)
 
@@ -349,9 +345,9 @@ blocks_read environment (suc left) correlated flow [] items after end h few once
 blocks_read environment zero correlated flow (b ∷ blocks) items after end h few once chain = absurd (omega arith)
 blocks_read environment (suc left) correlated flow (b ∷ blocks) items after end h few once chain =
     let o = once_less (correlates blocks) correlated (is_correlate (word_of b)) once in
-    let regrouped : flat_map block_symbols (b ∷ blocks) ++ Name (codes "output") ∷ [] ≡ (Name (name_of (word_of b)) ∷ []) ++ (flat_map argument_symbols (arguments b) ++ (flat_map block_symbols blocks ++ Name (codes "output") ∷ [])) = ap (λ (x : List Symbol). x ++ Name (codes "output") ∷ []) (flat_map-cons block_symbols b blocks) ∙ append_assoc (block_symbols b) (flat_map block_symbols blocks) (Name (codes "output") ∷ []) in
-    let first = Strips-split (tables_in environment) items (Name (name_of (word_of b)) ∷ []) (flat_map argument_symbols (arguments b) ++ (flat_map block_symbols blocks ++ Name (codes "output") ∷ [])) after (subst (λ (x : List Symbol). Strips (tables_in environment) items x after) regrouped h) in
-    let then = Strips-split (tables_in environment) first.0 (flat_map argument_symbols (arguments b)) (flat_map block_symbols blocks ++ Name (codes "output") ∷ []) after first.2 in
+    let regrouped : flat_map block_symbols (b ∷ blocks) ++ Name (codes "output") ∷ [] ≡ (Name (name_of (word_of b)) ∷ []) ++ (map argument_symbol (arguments b) ++ (flat_map block_symbols blocks ++ Name (codes "output") ∷ [])) = ap (λ (x : List Symbol). x ++ Name (codes "output") ∷ []) (flat_map-cons block_symbols b blocks) ∙ append_assoc (block_symbols b) (flat_map block_symbols blocks) (Name (codes "output") ∷ []) in
+    let first = Strips-split (tables_in environment) items (Name (name_of (word_of b)) ∷ []) (map argument_symbol (arguments b) ++ (flat_map block_symbols blocks ++ Name (codes "output") ∷ [])) after (subst (λ (x : List Symbol). Strips (tables_in environment) items x after) regrouped h) in
+    let then = Strips-split (tables_in environment) first.0 (map argument_symbol (arguments b)) (flat_map block_symbols blocks ++ Name (codes "output") ∷ []) after first.2 in
     let allowed : IsAllowed (suc left) correlated flow (word_of b) = record { some = omega arith; once = o.0; form = chain.0.form; channels = chain.0.channels } in
     rw (
       word_of_block_read (tables_in environment) (suc left) correlated flow (word_of b) items first.0 end allowed first.1,

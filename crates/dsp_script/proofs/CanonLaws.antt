@@ -1,5 +1,5 @@
 -- The canonical text is read back.
-use Rattle.std.proofs.Common.{◌≡◌, ℕ, zero, suc, ℤ, pos, negsuc, ◌+◌, ◌^◌, ◌<◌, ◌≤◌, Bool, true, false, cond, ◌&&◌, eqb, List, [], ◌∷◌, ◌++◌, length, map, get_or, drop, Option, Some, None, refl, sym, ap, subst, ◌∙◌, append_assoc, arith}
+use Rattle.std.proofs.Common.{◌≡◌, ℕ, zero, suc, ℤ, pos, negsuc, ◌+◌, ◌^◌, ◌<◌, ◌≤◌, Bool, true, false, cond, ◌&&◌, eqb, List, [], ◌∷◌, ◌++◌, length, map, get_or, drop, Option, Some, None, refl, sym, ap, subst, ◌∙◌, append_assoc, append-nil, arith}
 use Rattle.std.specs.Prelude.{codes, nat_le, find}
 use Rattle.std.specs.Char.{is_ascii_digit}
 use Rattle.std.specs.Fmt.{decimal, signed_decimal}
@@ -9,26 +9,25 @@ use Rattle.std.specs.Str.Parse.{AllDigits, digits_value}
 use Rattle.std.proofs.Math.IntN.{neg_ℤ}
 use Rattle.std.proofs.lemmas.Bool.Decides.{nat_tests}
 use Rattle.std.proofs.lemmas.Fmt.{decimal_is_IsNumeral_wide, length-decimal-le_wide}
-use Rattle.std.proofs.lemmas.List.Concat.{flat_map-cons}
 use Rattle.std.proofs.lemmas.Str.{digit_value_digit}
 use Rattle.std.proofs.lemmas.Str.Parse.{digit_from_value, digits_value_short, numerals_by_value, tells_digits}
 use Rattle.dsp_defs.specs.declared.limits.TheConstants.{MAX_SCRIPT}
 use Rattle.dsp_defs.specs.declared.script.Block.{Block}
-use Rattle.dsp_defs.specs.declared.format.Container.{Container}
 use Rattle.dsp_defs.specs.declared.format.InputKind.{InputKind}
 use Rattle.dsp_defs.specs.declared.format.InputKind.TheVariants as kind
 use Rattle.dsp_defs.specs.declared.format.Input.{Input}
 use Rattle.dsp_defs.specs.declared.script.Script.{Script}
 use Rattle.dsp_defs.specs.Token.{Token, Open, Close, Run, Bad, Item, items, items_from, is_run_byte}
 use Rattle.dsp_defs.specs.Numeral.{natural_of, value_of}
-use Rattle.dsp_defs.specs.Table.{name_of, format_name, container_name}
 use Rattle.dsp_defs.specs.Parameters.{Argument, Number, Listed, Format, IsBetween, least, greatest}
 use Rattle.dsp_defs.specs.Tables.{Named, numbers_of, AreTables}
 use Rattle.dsp_defs.specs.declared.format.Fmt.TheVariants.{Q31}
 use Rattle.std.proofs.lemmas.Int.{ints}
 use Rattle.std.specs.Str.{bytes_eq}
-use Rattle.dsp_defs.specs.Grammar.{Symbol, Name, Numeral, OpenBrace, CloseBrace, Whole, IsWritten, unwritten, Spells, front_symbols, table_symbols, chain_symbols, word_of, arguments, argument_symbols, block_symbols, input_symbols, length_symbols, symbols, Reads, IsSound, container_of, rate_symbols, output_symbols}
-use Rattle.dsp_defs.specs.Canon.{line, argument_text, arguments_text, block_line, input_line, length_line, canon, rate_text, output_line}
+use Rattle.dsp_defs.specs.Grammar.{Symbol, Name, Numeral, OpenBrace, CloseBrace, Whole, IsWritten, unwritten, Spells, version_symbols, table_symbols, word_of, arguments, argument_symbol, block_symbols, input_symbols, length_symbols, symbols, Reads, IsSound, container_of, rate_symbols, output_symbols}
+use Rattle.dsp_defs.specs.Canon.{symbol_text, line_of, canon}
+use Rattle.dsp_script.specs.Plain.{front_symbols, chain_symbols}
+use Rattle.dsp_script.specs.Printed.{behind_spaces}
 use Rattle.dsp_script.proofs.Tokens.{EndsRun, run_begins}
 use Rattle.dsp_script.proofs.Steps.{both_true}
 use Rattle.dsp_script.proofs.Names.{IsRun, word_run, format_run, container_run}
@@ -127,6 +126,10 @@ after_open : (numbers : List ℤ) (text : List ℕ) (symbols : List Symbol) → 
 unfolding items_from
 after_open numbers text symbols h = record { ends = refl; lexes = λ at. (tt, h (at + 1)) }
 
+after_open_brace : (text : List ℕ) (symbols : List Symbol) → Lexes text symbols → Follows (123 ∷ text) (OpenBrace ∷ symbols)
+unfolding items_from
+after_open_brace text symbols h = record { ends = refl; lexes = λ at. (tt, h (at + 1)) }
+
 after_close : (text : List ℕ) (symbols : List Symbol) → Lexes text symbols → Follows (125 ∷ text) (CloseBrace ∷ symbols)
 unfolding items_from
 after_close text symbols h = record { ends = refl; lexes = λ at. (tt, h (at + 1)) }
@@ -214,7 +217,7 @@ all_writable tables (item ∷ items) (symbol ∷ symbols) are h =
     let parts = writable_parts (unwritten symbol item.token) symbols (all_writable tables items (unwritten symbol item.token ++ symbols) are h.1) in
     (writable tables item.token symbol are h.0 parts.0, parts.1)
 
--- ---- arguments
+-- ---- symbols
 
 after_spaced : (numbers : List ℤ) (text : List ℕ) (symbols : List Symbol) → AreNumerals numbers → Follows text symbols → Follows (flat_map (λ n. codes " " ++ signed_decimal n) numbers ++ text) (map Numeral numbers ++ symbols)
 after_spaced [] text symbols w follows = follows
@@ -230,103 +233,97 @@ after_joined (n ∷ numbers) text symbols w follows =
     let regrouped : signed_decimal n ++ (spaced ++ text) ≡ (signed_decimal n ++ spaced) ++ text = sym (append_assoc (signed_decimal n) spaced text) in
     subst (λ (t : List ℕ). Lexes t (Numeral n ∷ map Numeral numbers ++ symbols)) regrouped (after_number n (spaced ++ text) (map Numeral numbers ++ symbols) w.0 (after_spaced numbers text symbols w.1 follows))
 
-after_argument : (a : Argument) (text : List ℕ) (symbols : List Symbol) → AllWritable (argument_symbols a) → Follows text symbols → Lexes (argument_text a ++ text) (argument_symbols a ++ symbols)
-after_argument (Number n) text symbols w follows = after_number n text symbols w.0 follows
-after_argument (Format f) text symbols w follows = after_run (format_name f) text (Name (format_name f)) symbols (format_run f) refl follows
-after_argument (Listed numbers) text symbols w follows =
+-- a word is a run
+abbrev IsRunName : Symbol → Type 0
+IsRunName (Name name) = IsRun name
+IsRunName symbol = Unit {0}
+
+abbrev AreRunNames : List Symbol → Type 0
+AreRunNames symbols = AllByRecursion IsRunName symbols
+
+after_symbol : (s : Symbol) (text : List ℕ) (symbols : List Symbol) → IsRunName s → IsWritable s → Follows text symbols → Lexes (symbol_text s ++ text) (s ∷ symbols)
+after_symbol (Name name) text symbols is w follows = after_run name text (Name name) symbols is refl follows
+after_symbol (Numeral n) text symbols is w follows = after_number n text symbols w follows
+after_symbol OpenBrace text symbols is w follows = (after_open_brace text symbols follows.lexes).lexes
+after_symbol CloseBrace text symbols is w follows = (after_close text symbols follows.lexes).lexes
+after_symbol (Whole numbers) text symbols is w follows =
     let closed = after_close text symbols follows.lexes in
-    let inner = after_joined numbers (125 ∷ text) (CloseBrace ∷ symbols) w.0 closed in
+    let inner = after_joined numbers (125 ∷ text) (CloseBrace ∷ symbols) w closed in
     let joined = join_by signed_decimal (codes " ") numbers in
     let symbols_is : map Numeral numbers ++ CloseBrace ∷ symbols ≡ (map Numeral numbers ++ CloseBrace ∷ []) ++ symbols = sym (append_assoc (map Numeral numbers) (CloseBrace ∷ []) symbols) in
     let opened = after_open numbers (joined ++ 125 ∷ text) symbols (subst (λ (x : List Symbol). Lexes (joined ++ 125 ∷ text) x) symbols_is inner) in
-    let text_is : 123 ∷ (joined ++ 125 ∷ text) ≡ argument_text (Listed numbers) ++ text = ap (λ (t : List ℕ). 123 ∷ t) (sym (append_assoc joined (125 ∷ []) text)) in
-    subst (λ (t : List ℕ). Lexes t (argument_symbols (Listed numbers) ++ symbols)) text_is opened.lexes
+    let text_is : 123 ∷ (joined ++ 125 ∷ text) ≡ symbol_text (Whole numbers) ++ text = ap (λ (t : List ℕ). 123 ∷ t) (sym (append_assoc joined (125 ∷ []) text)) in
+    subst (λ (t : List ℕ). Lexes t (Whole numbers ∷ symbols)) text_is opened.lexes
 
-after_arguments : (args : List Argument) (text : List ℕ) (symbols : List Symbol) → AllWritable (flat_map argument_symbols args) → Follows text symbols → Follows (arguments_text args ++ text) (flat_map argument_symbols args ++ symbols)
-after_arguments [] text symbols w follows = follows
-after_arguments (a ∷ args) text symbols w follows =
-    let parts = writable_parts (argument_symbols a) (flat_map argument_symbols args) w in
-    let more = after_arguments args text symbols parts.1 follows in
-    let inner = after_argument a (arguments_text args ++ text) (flat_map argument_symbols args ++ symbols) parts.0 more in
-    let text_is : argument_text a ++ (arguments_text args ++ text) ≡ (argument_text a ++ arguments_text args) ++ text = sym (append_assoc (argument_text a) (arguments_text args) text) in
-    let symbols_is : argument_symbols a ++ (flat_map argument_symbols args ++ symbols) ≡ (argument_symbols a ++ flat_map argument_symbols args) ++ symbols = sym (append_assoc (argument_symbols a) (flat_map argument_symbols args) symbols) in
-    let regrouped = subst (λ (t : List ℕ). Lexes t ((argument_symbols a ++ flat_map argument_symbols args) ++ symbols)) text_is (subst (λ (x : List Symbol). Lexes (argument_text a ++ (arguments_text args ++ text)) x) symbols_is inner) in
-    after_space ((argument_text a ++ arguments_text args) ++ text) ((argument_symbols a ++ flat_map argument_symbols args) ++ symbols) regrouped
+after_symbols : (these : List Symbol) (text : List ℕ) (symbols : List Symbol) → AreRunNames these → AllWritable these → Follows text symbols → Follows (behind_spaces these ++ text) (these ++ symbols)
+after_symbols [] text symbols are w follows = follows
+after_symbols (s ∷ these) text symbols are w follows =
+    let inner = after_symbol s (behind_spaces these ++ text) (these ++ symbols) are.0 w.0 (after_symbols these text symbols are.1 w.1 follows) in
+    let text_is = sym (append_assoc (symbol_text s) (behind_spaces these) text) in
+    after_space ((symbol_text s ++ behind_spaces these) ++ text) (s ∷ these ++ symbols) (subst (λ (t : List ℕ). Lexes t (s ∷ these ++ symbols)) text_is inner)
 
 -- ---- lines
 
-after_block : (b : Block) (text : List ℕ) (symbols : List Symbol) → AllWritable (block_symbols b) → Lexes text symbols → Lexes (block_line b ++ text) (block_symbols b ++ symbols)
-after_block b text symbols w h =
-    let args = after_arguments (arguments b) (10 ∷ text) symbols w.1 (after_newline text symbols h) in
-    let whole = after_run (name_of (word_of b)) (arguments_text (arguments b) ++ 10 ∷ text) (Name (name_of (word_of b))) (flat_map argument_symbols (arguments b) ++ symbols) (word_run (word_of b)) refl args in
-    let text_is : name_of (word_of b) ++ (arguments_text (arguments b) ++ 10 ∷ text) ≡ block_line b ++ text =
-    sym (append_assoc (name_of (word_of b) ++ arguments_text (arguments b)) (10 ∷ []) text ∙ append_assoc (name_of (word_of b)) (arguments_text (arguments b)) (10 ∷ text)) in
-    subst (λ (t : List ℕ). Lexes t (block_symbols b ++ symbols)) text_is whole
+after_line : (these : List Symbol) (text : List ℕ) (symbols : List Symbol) → AreRunNames these → AllWritable these → Lexes text symbols → Lexes (line_of these ++ text) (these ++ symbols)
+after_line [] text symbols are w h = h
+after_line (s ∷ these) text symbols are w h =
+    let more = after_symbols these (10 ∷ text) symbols are.1 w.1 (after_newline text symbols h) in
+    let inner = after_symbol s (behind_spaces these ++ 10 ∷ text) (these ++ symbols) are.0 w.0 more in
+    let text_is : symbol_text s ++ (behind_spaces these ++ 10 ∷ text) ≡ line_of (s ∷ these) ++ text = sym (append_assoc (symbol_text s ++ behind_spaces these) (10 ∷ []) text ∙ append_assoc (symbol_text s) (behind_spaces these) (10 ∷ text)) in
+    subst (λ (t : List ℕ). Lexes t (s ∷ these ++ symbols)) text_is inner
 
-after_blocks : (blocks : List Block) (text : List ℕ) (symbols : List Symbol) → AllWritable (flat_map block_symbols blocks) → Lexes text symbols → Lexes (flat_map block_line blocks ++ text) (flat_map block_symbols blocks ++ symbols)
+run_arguments : (args : List Argument) → AreRunNames (map argument_symbol args)
+run_arguments [] = tt
+run_arguments (Number n ∷ args) = (tt, run_arguments args)
+run_arguments (Listed numbers ∷ args) = (tt, run_arguments args)
+run_arguments (Format format ∷ args) = (format_run format, run_arguments args)
+
+after_blocks : (blocks : List Block) (text : List ℕ) (symbols : List Symbol) → AllWritable (flat_map block_symbols blocks) → Lexes text symbols → Lexes (flat_map (λ b. line_of (block_symbols b)) blocks ++ text) (flat_map block_symbols blocks ++ symbols)
 after_blocks [] text symbols w h = h
 after_blocks (b ∷ blocks) text symbols w h =
-    let parts = writable_parts (block_symbols b) (flat_map block_symbols blocks) (subst AllWritable (flat_map-cons block_symbols b blocks) w) in
-    let first = after_block b (flat_map block_line blocks ++ text) (flat_map block_symbols blocks ++ symbols) parts.0 (after_blocks blocks text symbols parts.1 h) in
-    let text_is : block_line b ++ (flat_map block_line blocks ++ text) ≡ flat_map block_line (b ∷ blocks) ++ text = sym (append_assoc (block_line b) (flat_map block_line blocks) text) ∙ ap (λ (t : List ℕ). t ++ text) (sym (flat_map-cons block_line b blocks)) in
-    let symbols_is : block_symbols b ++ (flat_map block_symbols blocks ++ symbols) ≡ flat_map block_symbols (b ∷ blocks) ++ symbols = sym (append_assoc (block_symbols b) (flat_map block_symbols blocks) symbols) ∙ ap (λ (x : List Symbol). x ++ symbols) (sym (flat_map-cons block_symbols b blocks)) in
-    subst (λ (t : List ℕ). Lexes t (flat_map block_symbols (b ∷ blocks) ++ symbols)) text_is (subst (λ (x : List Symbol). Lexes (block_line b ++ (flat_map block_line blocks ++ text)) x) symbols_is first)
+    let parts = writable_parts (block_symbols b) (flat_map block_symbols blocks) w in
+    let lines = flat_map (λ b. line_of (block_symbols b)) blocks in
+    let first = after_line (block_symbols b) (lines ++ text) (flat_map block_symbols blocks ++ symbols) (word_run (word_of b), run_arguments (arguments b)) parts.0 (after_blocks blocks text symbols parts.1 h) in
+    let text_is = sym (append_assoc (line_of (block_symbols b)) lines text) in
+    let symbols_is = sym (append_assoc (block_symbols b) (flat_map block_symbols blocks) symbols) in
+    subst (λ (t : List ℕ). Lexes t (flat_map block_symbols (b ∷ blocks) ++ symbols)) text_is (subst (λ (x : List Symbol). Lexes (line_of (block_symbols b) ++ (lines ++ text)) x) symbols_is first)
 
-after_length : (frames : Option ℕ) (text : List ℕ) (symbols : List Symbol) → AllWritable (length_symbols frames) → Lexes text symbols → Lexes (length_line frames ++ text) (length_symbols frames ++ symbols)
-after_length None text symbols w h = h
-after_length (Some n) text symbols w h =
-    let number = after_number (pos n) (10 ∷ text) symbols w.1.0 (after_newline text symbols h) in
-    let whole = after_run (codes "block") (32 ∷ (decimal n ++ 10 ∷ text)) (Name (codes "block")) (Numeral (pos n) ∷ symbols) (refl, omega arith) refl (after_space (decimal n ++ 10 ∷ text) (Numeral (pos n) ∷ symbols) number) in
-    let text_is : codes "block " ++ (decimal n ++ 10 ∷ text) ≡ length_line (Some n) ++ text = ap (λ (t : List ℕ). codes "block " ++ t) (sym (append_assoc (decimal n) (10 ∷ []) text)) in
-    subst (λ (t : List ℕ). Lexes t (length_symbols (Some n) ++ symbols)) text_is whole
+run_length : (frames : Option ℕ) → AreRunNames (length_symbols frames)
+run_length None = tt
+run_length (Some n) = ((refl, omega arith), (tt, tt))
 
-after_rate : (k : InputKind) (text : List ℕ) (symbols : List Symbol) → AllWritable (rate_symbols k) → Follows text symbols → Follows (rate_text k ++ text) (rate_symbols k ++ symbols)
-after_rate kind.Wave text symbols w follows = follows
-after_rate (kind.Raw rate) text symbols w follows = after_space (decimal rate ++ text) (Numeral (pos rate) ∷ symbols) (after_number (pos rate) text symbols w.0 follows)
+run_rate : (k : InputKind) → AreRunNames (rate_symbols k)
+run_rate kind.Wave = tt
+run_rate (kind.Raw rate) = (tt, tt)
 
-after_input : (input : Input) (text : List ℕ) (symbols : List Symbol) → AllWritable (input_symbols input) → Lexes text symbols → Lexes (input_line input ++ text) (input_symbols input ++ symbols)
-after_input input text symbols w h =
-    let name = container_name (container_of input.kind) in
-    let after_channels = rate_text input.kind ++ 10 ∷ text in
-    let after_format = 32 ∷ (decimal input.channels ++ after_channels) in
-    let rates = rate_symbols input.kind ++ symbols in
-    let numbers = Numeral (pos input.channels) ∷ rates in
-    let channels = after_number (pos input.channels) after_channels rates w.1.1.1.0 (after_rate input.kind (10 ∷ text) symbols w.1.1.1.1 (after_newline text symbols h)) in
-    let format = after_run (format_name input.format) after_format (Name (format_name input.format)) numbers (format_run input.format) refl (after_space (decimal input.channels ++ after_channels) numbers channels) in
-    let container = after_run name (32 ∷ (format_name input.format ++ after_format)) (Name name) (Name (format_name input.format) ∷ numbers) (container_run (container_of input.kind)) refl (after_space (format_name input.format ++ after_format) (Name (format_name input.format) ∷ numbers) format) in
-    let whole = after_run (codes "input") (32 ∷ (name ++ 32 ∷ (format_name input.format ++ after_format))) (Name (codes "input")) (Name name ∷ Name (format_name input.format) ∷ numbers) (refl, omega arith) refl (after_space (name ++ 32 ∷ (format_name input.format ++ after_format)) (Name name ∷ Name (format_name input.format) ∷ numbers) container) in
-    let text_is : codes "input " ++ (name ++ 32 ∷ (format_name input.format ++ after_format)) ≡ input_line input ++ text = simp append_assoc in
-    subst (λ (t : List ℕ). Lexes t (input_symbols input ++ symbols)) text_is whole
-
-after_output : (output : Container) → Lexes (output_line output) (output_symbols output)
-after_output output =
-    let name = container_name output in
-    let last = after_run name (10 ∷ []) (Name name) [] (container_run output) refl (after_newline [] [] nothing.lexes) in
-    after_run (codes "output") (32 ∷ (name ++ 10 ∷ [])) (Name (codes "output")) (Name name ∷ []) (refl, omega arith) refl (after_space (name ++ 10 ∷ []) (Name name ∷ []) last)
+run_input : (input : Input) → AreRunNames (input_symbols input)
+run_input input = ((refl, omega arith), (container_run (container_of input.kind), (format_run input.format, (tt, run_rate input.kind))))
 
 lines_joined : (a b c d e : List ℕ) → a ++ (b ++ (c ++ (d ++ e))) ≡ (((a ++ b) ++ c) ++ d) ++ e
 lines_joined a b c d e = simp append_assoc
 
 canon_lexes : (s : Script) → AllWritable (symbols [] s) → Lexes (canon s) (symbols [] s)
 canon_lexes s w =
+    let version = version_symbols s.version in
+    let input = input_symbols s.input in
+    let frames = length_symbols s.block in
+    let blocks = flat_map block_symbols s.blocks in
     let output = output_symbols s.output in
-    let nested : symbols [] s ≡ Name (codes "dspfx") ∷ Numeral (pos s.version) ∷ (input_symbols s.input ++ (length_symbols s.block ++ (flat_map block_symbols s.blocks ++ output))) = simp append_assoc in
-    let parts = subst AllWritable nested w in
-    let p1 = writable_parts (input_symbols s.input) (length_symbols s.block ++ (flat_map block_symbols s.blocks ++ output)) parts.1.1 in
-    let p2 = writable_parts (length_symbols s.block) (flat_map block_symbols s.blocks ++ output) p1.1 in
-    let p3 = writable_parts (flat_map block_symbols s.blocks) output p2.1 in
-    let blocks = after_blocks s.blocks (output_line s.output) output p3.0 (after_output s.output) in
-    let blocks_text = flat_map block_line s.blocks ++ output_line s.output in
-    let blocks_symbols = flat_map block_symbols s.blocks ++ output in
-    let frames = after_length s.block blocks_text blocks_symbols p2.0 blocks in
-    let input = after_input s.input (length_line s.block ++ blocks_text) (length_symbols s.block ++ blocks_symbols) p1.0 frames in
-    let input_text = input_line s.input ++ (length_line s.block ++ blocks_text) in
-    let input_symbols_all = input_symbols s.input ++ (length_symbols s.block ++ blocks_symbols) in
-    let version = after_number (pos s.version) (10 ∷ input_text) input_symbols_all parts.1.0 (after_newline input_text input_symbols_all input) in
-    let whole = after_run (codes "dspfx") (32 ∷ (decimal s.version ++ 10 ∷ input_text)) (Name (codes "dspfx")) (Numeral (pos s.version) ∷ input_symbols_all) (refl, omega arith) refl (after_space (decimal s.version ++ 10 ∷ input_text) (Numeral (pos s.version) ∷ input_symbols_all) version) in
-    let text_is : codes "dspfx " ++ (decimal s.version ++ 10 ∷ input_text) ≡ canon s =
-    sym (append_assoc (codes "dspfx " ++ decimal s.version) (10 ∷ []) input_text) ∙ lines_joined (line (codes "dspfx " ++ decimal s.version)) (input_line s.input) (length_line s.block) (flat_map block_line s.blocks) (output_line s.output) in
-    subst (λ (t : List ℕ). Lexes t (symbols [] s)) text_is (subst (λ (x : List Symbol). Lexes (codes "dspfx " ++ (decimal s.version ++ 10 ∷ input_text)) x) (sym nested) whole)
+    let nested : symbols [] s ≡ version ++ (input ++ (frames ++ (blocks ++ output))) = simp append_assoc in
+    let p0 = writable_parts version (input ++ (frames ++ (blocks ++ output))) (subst AllWritable nested w) in
+    let p1 = writable_parts input (frames ++ (blocks ++ output)) p0.1 in
+    let p2 = writable_parts frames (blocks ++ output) p1.1 in
+    let p3 = writable_parts blocks output p2.1 in
+    let end = after_line output [] [] ((refl, omega arith), (container_run s.output, tt)) p3.1 nothing.lexes in
+    let end_text : line_of output ++ [] ≡ line_of output = append-nil (line_of output) in
+    let last = subst (λ (t : List ℕ). Lexes t output) end_text end in
+    let block_lines = flat_map (λ b. line_of (block_symbols b)) s.blocks in
+    let l3 = after_blocks s.blocks (line_of output) output p3.0 last in
+    let l2 = after_line frames (block_lines ++ line_of output) (blocks ++ output) (run_length s.block) p2.0 l3 in
+    let l1 = after_line input (line_of frames ++ (block_lines ++ line_of output)) (frames ++ (blocks ++ output)) (run_input s.input) p1.0 l2 in
+    let l0 = after_line version (line_of input ++ (line_of frames ++ (block_lines ++ line_of output))) (input ++ (frames ++ (blocks ++ output))) ((refl, omega arith), (tt, tt)) p0.0 l1 in
+    let text_is = lines_joined (line_of version) (line_of input) (line_of frames) block_lines (line_of output) in
+    subst (λ (t : List ℕ). Lexes t (symbols [] s)) text_is (subst (λ (x : List Symbol). Lexes (line_of version ++ (line_of input ++ (line_of frames ++ (block_lines ++ line_of output)))) x) (sym nested) l0)
 
 pub canon_read : (s : Script) → IsSound s → length (canon s) ≤ MAX_SCRIPT → Reads (canon s) s
 canon_read s (text, reads) short =

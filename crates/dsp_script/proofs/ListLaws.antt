@@ -1,22 +1,16 @@
 -- A list of numbers: what is read is written so, and what is written so is read.
-use Rattle.std.proofs.Common.{◌≡◌, ℕ, suc, ℤ, ◌+◌, ◌<◌, ◌≤◌, Bool, true, false, cond, List, [], ◌∷◌, ◌++◌, length, map, Option, Some, None, Result, Ok, Err, refl, ap, subst, ◌∙◌, append-nil, arith}
+use Rattle.std.proofs.Common.{◌≡◌, ℕ, suc, ℤ, ◌+◌, ◌<◌, ◌≤◌, true, false, List, [], ◌∷◌, ◌++◌, length, map, Option, Some, None, Ok, refl, ap, subst, ◌∙◌, append-nil, arith}
 use Rattle.std.specs.Prelude.{⊤, nat_le}
 use Rattle.std.specs.List.{AllByRecursion}
 use Rattle.std.proofs.lemmas.Bool.Decides.{nat_tests}
-use Rattle.dsp_defs.specs.declared.script_fault.ScriptFault.{ScriptFault}
 use Rattle.dsp_defs.specs.declared.list_rule.ListRule.{ListRule}
 use Rattle.dsp_defs.specs.Token.{Token, Open, Close, Run, Bad, Item, Rest}
 use Rattle.dsp_defs.specs.Numeral.{value_of}
 use Rattle.dsp_defs.specs.Parameters.{IsBetween, IsWithin, is_complete}
 use Rattle.dsp_defs.specs.Tables.{Named, numbers_of}
 use Rattle.dsp_defs.specs.Grammar.{Symbol, Numeral, OpenBrace, CloseBrace, Whole, IsWritten, unwritten}
-use Rattle.dsp_defs.specs.Places.{◌>>=◌, or_fault, is_between, next_number, list_end, judged, Environment, opening, open_at, entry, entry_at, entries_at, list_at}
-use Rattle.dsp_script.proofs.Steps.{bind_ok, or_fault_ok, passed, pair, pair_is, ok_is, between_is, between_again, next_takes, next_again, IsToken, IsOne, numerals_one, written_number, written_close, written_open, Strips, Strips-any, Takes}
-
--- a test that did not refuse
-pub refused : {A : Type 0} (b : Bool) (d : ScriptFault) (r : Result A ScriptFault) (y : A) → cond b (Err d) r ≡ Ok y → (b ≡ false) × (r ≡ Ok y)
-refused true d r y e = absurd cc
-refused false d r y e = (refl, e)
+use Rattle.dsp_defs.specs.Places.{◌>>=◌, or_fault, next_number, list_end, judged, Environment, next_at, opening, entry, entries_at, list_at}
+use Rattle.dsp_script.proofs.Steps.{bind_ok, read_to, or_fault_ok, passed, refused, pair, pair_is, ok_is, is_between, between_is, between_again, next_takes, next_again, IsToken, IsOne, numerals_one, written_number, written_close, written_open, Strips, Strips-any, Takes}
 
 -- ---- one number, and the end
 
@@ -126,10 +120,10 @@ entries_more tables rule count end item items n numbers after next more = record
 }
 
 pub entries_take : (tables : List Named) (rule : ListRule) (count end : ℕ) (items : List Item) (numbers : List ℤ) (after : Rest) → entries_at rule count end items ≡ Ok (numbers, after) → IsEntries tables rule count end items numbers after
-unfolding entries_at entry_at
+unfolding entries_at
 entries_take tables rule count end [] numbers after e = absurd cc
 entries_take tables rule count end (item ∷ items) numbers after e =
-    let a = bind_ok (entry_at rule count (record { items = item ∷ items; end = end })) _ (numbers, after) e in
+    let a = bind_ok (next_at (entry rule count) (record { items = item ∷ items; end = end })) _ (numbers, after) e in
     let t = next_takes (entry rule count) (record { items = item ∷ items; end = end }) a.0.1 a.0.0 a.1 in
     let first : item ≡ t.0 = cc in
     let others : items ≡ a.0.1.items = cc in
@@ -144,7 +138,7 @@ entries_take tables rule count end (item ∷ items) numbers after e =
     cases (Some n) r is same end_same h later =
         let b = bind_ok (entries_at rule (count + 1) end items) _ (numbers, after) h in
         let p = pair_is (n ∷ b.0.0) numbers b.0.1 after b.2 in
-        let read : entries_at rule (count + 1) end items ≡ pair b.0.0 after = b.1 ∙ ap (pair b.0.0) p.1 in
+        let read : entries_at rule (count + 1) end items ≡ pair b.0.0 after = read_to (entries_at rule (count + 1) end items) b.0 after b.1 p.1 in
         rw (← p.0) (entries_more tables rule count end item items n b.0.0 after is (later b.0.0 read))
 
 number_next : (tables : List Named) (rule : ListRule) (count offset : ℕ) (token : Token) (n : ℤ) → IsWritten tables token (Numeral n) → IsBetween rule.low rule.high n → count < rule.limit → IsToken token × (entry rule count offset token ≡ Ok (Some n))
@@ -160,7 +154,7 @@ close_next tables rule count offset token w complete =
 pub entries_read : (tables : List Named) (rule : ListRule) (count end : ℕ) (items : List Item) (numbers : List ℤ) (left : List Item) → Strips tables items (map Numeral numbers ++ CloseBrace ∷ []) left
     → AllByRecursion (IsBetween rule.low rule.high) numbers → is_complete rule.count (count + length numbers) ≡ true → count + length numbers ≤ rule.limit
     → entries_at rule count end items ≡ Ok (numbers, record { items = left; end = end })
-unfolding entries_at entry_at
+unfolding entries_at
 entries_read tables rule count end [] [] left h each complete room = absurd h
 entries_read tables rule count end [] (n ∷ numbers) left h each complete room = absurd h
 entries_read tables rule count end (item ∷ items) [] left h each complete room =
@@ -203,9 +197,9 @@ opened (Some tables) rule offset (Run name) x e =
     subst P (ok_is (Some b.0) x j.2) (name, refl, or_fault_ok offset _ (numbers_of tables name) b.0 b.1, rest_within rule b.0 (judged_is rule 0 offset b.0 j.0 j.1))
 
 pub list_takes : (environment : Environment) (rule : ListRule) (rest after : Rest) (numbers : List ℤ) → list_at environment rule rest ≡ Ok (numbers, after) → Takes (tables_in environment) rest after (Whole numbers ∷ []) × IsWithin rule numbers
-unfolding list_at open_at
+unfolding list_at
 list_takes environment rule rest after numbers e =
-    let b = bind_ok (open_at environment rule rest) _ (numbers, after) e in
+    let b = bind_ok (next_at (opening environment rule) rest) _ (numbers, after) e in
     let t = next_takes (opening environment rule) rest b.0.1 b.0.0 b.1 in
     cases b.0.0 b.0.1 t.0 t.1 t.2 (opened environment rule t.0.offset t.0.token b.0.0 t.3) b.2
   where
@@ -232,7 +226,7 @@ opened_none (Some tables) rule offset = refl
 
 list_at_item : (environment : Environment) (rule : ListRule) (numbers : List ℤ) (offset : ℕ) (token : Token) (items left : List Item) (end : ℕ) → IsWithin rule numbers → IsWritten (tables_in environment) token (Whole numbers) → Strips (tables_in environment) items (unwritten (Whole numbers) token ++ []) left
     → list_at environment rule (record { items = record { offset = offset; token = token } ∷ items; end = end }) ≡ Ok (numbers, record { items = left; end = end })
-unfolding list_at open_at
+unfolding list_at
 list_at_item environment rule numbers offset Close items left end fits written h = absurd written
 list_at_item environment rule numbers offset Bad items left end fits written h = absurd written
 list_at_item environment rule numbers offset (Run name) items left end fits written h =

@@ -9,12 +9,12 @@ use Rattle.dsp_defs.specs.declared.word.Word.{Word}
 use Rattle.dsp_defs.specs.declared.list_rule.ListRule.{ListRule}
 use Rattle.dsp_defs.specs.declared.flow.Flow.{Flow}
 use Rattle.dsp_defs.specs.Token.{Token, Open, Close, Run, Bad, Item, Rest}
-use Rattle.dsp_defs.specs.Places.{◌>>=◌, token_at, begins_with, next_number, judged, entry, entry_at, entries_at, Environment, table_at, tables_at}
+use Rattle.dsp_defs.specs.Places.{◌>>=◌, first_of, begins_with, next_at, next_number, judged, entry, entries_at, Environment, table_at, tables_at}
 use Rattle.dsp_defs.specs.Tables.{Named}
 use Rattle.std.specs.Prelude.{⊤, codes}
-use Rattle.dsp_script.specs.Answers.{Fails}
-use Rattle.dsp_defs.specs.Reading.{next_block_at, block_at, blocks_at}
-use Rattle.dsp_defs.specs.Table.{is_correlate, parameters, flow_after}
+use Rattle.dsp_script.specs.Answers.{Fails, parameters}
+use Rattle.dsp_defs.specs.Reading.{next_block, block_at, blocks_at}
+use Rattle.dsp_defs.specs.Table.{is_correlate, flow_after}
 
 -- ---- what was read before, and what is still read
 
@@ -55,30 +55,30 @@ entry_alone rule count end items (Err f) = refl
 entry_alone rule count end items (Ok None) = refl
 entry_alone rule count end items (Ok (Some n)) = refl
 
-entries_step : (rule : ListRule) (count end : ℕ) (items : List Item) → entries_at rule count end items ≡ (entry_at rule count (record { items = items; end = end }) >>= numbers_after rule count)
-unfolding token_at entry_at entries_at
+entries_step : (rule : ListRule) (count end : ℕ) (items : List Item) → entries_at rule count end items ≡ (next_at (entry rule count) (record { items = items; end = end }) >>= numbers_after rule count)
+unfolding first_of next_at entries_at
 entries_step rule count end [] = refl
 entries_step rule count end (item ∷ items) =
-    elim item.token as (λ (t : Token). entries_at rule count end (record { offset = item.offset; token = t } ∷ items) ≡ (entry_at rule count (record { items = record { offset = item.offset; token = t } ∷ items; end = end }) >>= numbers_after rule count)) [
+    elim item.token as (λ (t : Token). entries_at rule count end (record { offset = item.offset; token = t } ∷ items) ≡ (next_at (entry rule count) (record { items = record { offset = item.offset; token = t } ∷ items; end = end }) >>= numbers_after rule count)) [
       | Bad ↦ refl
       | Open ↦ refl
       | Close ↦ entry_alone rule count end items (entry rule count item.offset Close)
       | Run run ↦ entry_alone rule count end items (entry rule count item.offset (Run run))
     ]
 
-pub numbers_go_on : (front : List ℤ) (rule : ListRule) (count : ℕ) (rest after : Rest) (n : ℤ) (total : Result (List ℤ × Rest) ScriptFault) → entry_at rule count rest ≡ Ok (Some n, after)
+pub numbers_go_on : (front : List ℤ) (rule : ListRule) (count : ℕ) (rest after : Rest) (n : ℤ) (total : Result (List ℤ × Rest) ScriptFault) → next_at (entry rule count) rest ≡ Ok (Some n, after)
     → with_numbers front (entries_at rule count rest.end rest.items) ≡ total → with_numbers (front ++ n ∷ []) (entries_at rule (count + 1) after.end after.items) ≡ total
 numbers_go_on front rule count rest after n total h so_far =
     let step : entries_at rule count rest.end rest.items ≡ (entries_at rule (count + 1) after.end after.items >>= λ more. Ok (n ∷ more.0, more.1)) = entries_step rule count rest.end rest.items ∙ rw h refl in
     sym (regroup front n (entries_at rule (count + 1) after.end after.items)) ∙ sym (ap (with_numbers front) step) ∙ so_far
 
-pub numbers_fail : (front : List ℤ) (rule : ListRule) (count : ℕ) (rest : Rest) (f : ScriptFault) (total : Result (List ℤ × Rest) ScriptFault) → entry_at rule count rest ≡ Err f
+pub numbers_fail : (front : List ℤ) (rule : ListRule) (count : ℕ) (rest : Rest) (f : ScriptFault) (total : Result (List ℤ × Rest) ScriptFault) → next_at (entry rule count) rest ≡ Err f
     → with_numbers front (entries_at rule count rest.end rest.items) ≡ total → total ≡ Err f
 numbers_fail front rule count rest f total h so_far =
     let step : entries_at rule count rest.end rest.items ≡ Err f = entries_step rule count rest.end rest.items ∙ rw h refl in
     sym so_far ∙ ap (with_numbers front) step
 
-pub numbers_done : (front : List ℤ) (rule : ListRule) (count : ℕ) (rest after : Rest) (total : Result (List ℤ × Rest) ScriptFault) → entry_at rule count rest ≡ Ok (None, after)
+pub numbers_done : (front : List ℤ) (rule : ListRule) (count : ℕ) (rest after : Rest) (total : Result (List ℤ × Rest) ScriptFault) → next_at (entry rule count) rest ≡ Ok (None, after)
     → with_numbers front (entries_at rule count rest.end rest.items) ≡ total → total ≡ Ok (front, after)
 numbers_done front rule count rest after total h so_far =
     let step : entries_at rule count rest.end rest.items ≡ Ok ([], after) = entries_step rule count rest.end rest.items ∙ rw h refl in
@@ -125,7 +125,7 @@ tables_done (suc left) tables rest begins = rw begins refl
 -- ---- the blocks of a script
 
 pub blocks_go_on : (tables : Environment) (front : List Block) (left : ℕ) (correlated : Bool) (flow : Flow) (rest r1 r2 : Rest) (w : Word) (b : Block) (total : Result (List Block × Rest) ScriptFault) → 0 < left
-    → next_block_at left correlated flow rest ≡ Ok (Some w, r1) → block_at tables (parameters w flow) r1 ≡ Ok (b, r2)
+    → next_at (next_block left correlated flow) rest ≡ Ok (Some w, r1) → block_at tables (parameters w flow) r1 ≡ Ok (b, r2)
     → with_blocks front (blocks_at tables left correlated flow rest) ≡ total → with_blocks (front ++ b ∷ []) (blocks_at tables (left - 1) (correlated || is_correlate w) (flow_after b flow) r2) ≡ total
 unfolding blocks_at
 blocks_go_on tables front zero correlated flow rest r1 r2 w b total some next read so_far = absurd (omega arith)
@@ -136,13 +136,13 @@ blocks_go_on tables front (suc left) correlated flow rest r1 r2 w b total some n
     rw one (sym (regroup front b more) ∙ sym (ap (with_blocks front) step) ∙ so_far)
 
 pub blocks_fail_at_word : (tables : Environment) (front : List Block) (left : ℕ) (correlated : Bool) (flow : Flow) (rest : Rest) (f : ScriptFault) (total : Result (List Block × Rest) ScriptFault)
-    → next_block_at left correlated flow rest ≡ Err f → with_blocks front (blocks_at tables left correlated flow rest) ≡ total → total ≡ Err f
+    → next_at (next_block left correlated flow) rest ≡ Err f → with_blocks front (blocks_at tables left correlated flow rest) ≡ total → total ≡ Err f
 unfolding blocks_at
 blocks_fail_at_word tables front zero correlated flow rest f total next so_far = let step : blocks_at tables 0 correlated flow rest ≡ Err f = rw next refl in sym so_far ∙ ap (with_blocks front) step
 blocks_fail_at_word tables front (suc left) correlated flow rest f total next so_far = let step : blocks_at tables (suc left) correlated flow rest ≡ Err f = rw next refl in sym so_far ∙ ap (with_blocks front) step
 
 pub blocks_fail_within : (tables : Environment) (e : ParseFault) (front : List Block) (left : ℕ) (correlated : Bool) (flow : Flow) (rest r1 : Rest) (w : Word) (total : Result (List Block × Rest) ScriptFault) → 0 < left
-    → next_block_at left correlated flow rest ≡ Ok (Some w, r1) → Fails e (block_at tables (parameters w flow) r1) → with_blocks front (blocks_at tables left correlated flow rest) ≡ total → Fails e total
+    → next_at (next_block left correlated flow) rest ≡ Ok (Some w, r1) → Fails e (block_at tables (parameters w flow) r1) → with_blocks front (blocks_at tables left correlated flow rest) ≡ total → Fails e total
 unfolding blocks_at
 blocks_fail_within tables errors.Memory front left correlated flow rest r1 w total some next read so_far = tt
 blocks_fail_within tables (errors.Script f) front zero correlated flow rest r1 w total some next read so_far = absurd (omega arith)
@@ -151,7 +151,7 @@ blocks_fail_within tables (errors.Script f) front (suc left) correlated flow res
     sym so_far ∙ ap (with_blocks front) step
 
 pub blocks_done : (tables : Environment) (front : List Block) (left : ℕ) (correlated : Bool) (flow : Flow) (rest after : Rest) (total : Result (List Block × Rest) ScriptFault)
-    → next_block_at left correlated flow rest ≡ Ok (None, after) → with_blocks front (blocks_at tables left correlated flow rest) ≡ total → total ≡ Ok (front, after)
+    → next_at (next_block left correlated flow) rest ≡ Ok (None, after) → with_blocks front (blocks_at tables left correlated flow rest) ≡ total → total ≡ Ok (front, after)
 unfolding blocks_at
 blocks_done tables front zero correlated flow rest after total next so_far =
     let step : blocks_at tables 0 correlated flow rest ≡ Ok ([], after) = rw next refl in

@@ -13,10 +13,10 @@ use Rattle.dsp_defs.specs.declared.format.InputKind.TheVariants as kind
 use Rattle.dsp_defs.specs.declared.word.Word.{Word}
 use Rattle.dsp_defs.specs.declared.word.Word.TheVariants as words
 use Rattle.dsp_defs.specs.Token.{is_run_byte}
-use Rattle.dsp_defs.specs.Table.{name_of, word_by_name, format_name, format_by_name, container_name, container_by_name, input_containers, output_containers}
+use Rattle.dsp_defs.specs.Table.{by_name, every_word, name_of, every_format, format_name, container_name, input_containers, output_containers}
 use Rattle.dsp_defs.specs.Grammar.{container_of}
 use Rattle.dsp_defs.specs.Places.{named}
-use Rattle.dsp_defs.specs.Reading.{Begin, Output, place_of}
+use Rattle.dsp_defs.specs.Reading.{place_of}
 
 abbrev other_than : List ℕ → List ℕ → Bool
 other_than name run = if bytes_eq run name then false else true
@@ -26,10 +26,10 @@ abbrev is_plain : List ℕ → Bool
 is_plain run = list_all is_run_byte run && nat_lt 0 (length run) && other_than (codes "output") run && other_than (codes "block") run && other_than (codes "table") run
 
 abbrev IsWellNamed : Word → Type 0
-IsWellNamed w = (word_by_name (name_of w) ≡ Some w) × (is_plain (name_of w) ≡ true)
+IsWellNamed w = (by_name name_of every_word (name_of w) ≡ Some w) × (is_plain (name_of w) ≡ true)
 
 well_named : (w : Word) → IsWellNamed w
-unfolding word_by_name
+unfolding by_name
 well_named words.Offset = (refl, refl)
 well_named words.Negate = (refl, refl)
 well_named words.Abs = (refl, refl)
@@ -111,16 +111,16 @@ no_length w = rw (name_parts w).no_length refl
 pub no_table : (w : Word) → named (codes "table") (name_of w) ≡ None
 no_table w = rw (name_parts w).no_table refl
 
-pub place_again : (w : Word) → place_of (name_of w) ≡ Some (Begin w)
+pub place_again : (w : Word) → place_of (name_of w) ≡ Some (Some w)
 unfolding place_of
 place_again w = rw ((name_parts w).no_output, (well_named w).0) refl
 
-pub place_again_output : place_of (codes "output") ≡ Some Output
+pub place_again_output : place_of (codes "output") ≡ Some None
 unfolding place_of
 place_again_output = refl
 
-pub format_again : (f : Fmt) → format_by_name (format_name f) ≡ Some f
-unfolding format_by_name
+pub format_again : (f : Fmt) → by_name format_name every_format (format_name f) ≡ Some f
+unfolding by_name
 format_again Q7 = refl
 format_again Q15 = refl
 format_again Q31 = refl
@@ -130,14 +130,14 @@ format_run Q7 = (refl, omega arith)
 format_run Q15 = (refl, omega arith)
 format_run Q31 = (refl, omega arith)
 
-pub container_again : (c : Container) → container_by_name output_containers (container_name c) ≡ Some c
-unfolding container_by_name
+pub container_again : (c : Container) → by_name container_name output_containers (container_name c) ≡ Some c
+unfolding by_name
 container_again Wave = refl
 container_again Wavex = refl
 container_again Raw = refl
 
-pub input_container_again : (k : InputKind) → container_by_name input_containers (container_name (container_of k)) ≡ Some (container_of k)
-unfolding container_by_name
+pub input_container_again : (k : InputKind) → by_name container_name input_containers (container_name (container_of k)) ≡ Some (container_of k)
+unfolding by_name
 input_container_again kind.Wave = refl
 input_container_again (kind.Raw rate) = refl
 

@@ -9,8 +9,8 @@ use Rattle.dsp_defs.specs.declared.limits.TheConstants.{MAX_SCRIPT}
 use Rattle.dsp_defs.specs.declared.script.Script.{Script}
 use Rattle.dsp_defs.specs.Token.{Token, Open, Close, Run, Bad, Item, items}
 use Rattle.dsp_defs.specs.Tables.{Named, AreTables}
-use Rattle.dsp_defs.specs.Grammar.{Symbol, Name, Numeral, OpenBrace, CloseBrace, Whole, IsWritten, unwritten, Spells, rate_symbols, length_symbols, table_symbols, front_symbols, chain_symbols, symbols, Reads}
-use Rattle.dsp_script.specs.Plain.{tokens, in_place, in_full, plain_tokens}
+use Rattle.dsp_defs.specs.Grammar.{Symbol, Name, Numeral, OpenBrace, CloseBrace, Whole, IsWritten, unwritten, Spells, rate_symbols, length_symbols, table_symbols, symbols, Reads}
+use Rattle.dsp_script.specs.Plain.{front_symbols, chain_symbols, tokens, in_place, in_full, plain_tokens}
 use Rattle.dsp_script.proofs.Steps.{IsOne, written_any, unwritten_one, Strips, Strips-append, Strips-split, Strips-from_spells, spells_from_Strips}
 use Rattle.dsp_script.proofs.ListLaws.{braced_one}
 use Rattle.dsp_script.proofs.CanonLaws.{AreNumerals, table_numerals}

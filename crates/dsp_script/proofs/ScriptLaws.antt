@@ -1,7 +1,8 @@
 -- Scripts: what is read is in the grammar, and what is in the grammar is read.
-use Rattle.std.proofs.Common.{◌≡◌, ◌≢◌, ℕ, pos, ◌+◌, ◌≤◌, Bool, true, false, cond, ltb, List, [], ◌∷◌, ◌++◌, length, Option, Some, None, Result, Ok, Err, refl, sym, ap, subst, ◌∙◌, append_assoc, arith}
+use Rattle.std.proofs.Common.{◌≡◌, ◌≢◌, ℕ, pos, ◌+◌, ◌≤◌, Bool, true, false, cond, ltb, List, [], ◌∷◌, ◌++◌, length, map, Option, Some, None, Result, Ok, Err, refl, sym, ap, subst, ◌∙◌, append_assoc, arith}
 use Rattle.std.specs.Prelude.{⊤, IfOk, IfSome, codes, ◌↔◌}
 use Rattle.std.specs.List.{flat_map}
+use Rattle.std.specs.Result.{result_err}
 use Rattle.std.proofs.lemmas.Bool.{ltb-false, le-ltb}
 use Rattle.std.proofs.lemmas.List.Concat.{flat_map-cons}
 use Rattle.dsp_defs.specs.declared.limits.TheConstants.{MAX_BLOCKS, MAX_BLOCK_LENGTH, MAX_CHANNELS, MAX_SCRIPT, MAX_VERSION}
@@ -18,15 +19,15 @@ use Rattle.dsp_defs.specs.declared.script.Script.{Script}
 use Rattle.dsp_defs.specs.declared.word.Word.{Word}
 use Rattle.std.specs.Str.{bytes_eq}
 use Rattle.dsp_defs.specs.Token.{Token, Open, Close, Run, Bad, Item, Rest, items, rest_of}
-use Rattle.dsp_defs.specs.Table.{name_of, format_name, container_name, container_by_name, input_containers, output_containers}
+use Rattle.dsp_defs.specs.Table.{by_name, name_of, every_format, format_name, container_name, input_containers, output_containers}
 use Rattle.dsp_defs.specs.Tables.{Named, MayStand}
-use Rattle.dsp_defs.specs.Grammar.{Symbol, Name, Numeral, word_of, arguments, argument_symbols, block_symbols, input_symbols, length_symbols, symbols, input_flow, IsFit, Reads, container_of, rate_symbols, HasRate, table_symbols, correlates}
-use Rattle.dsp_defs.specs.Places.{◌>>=◌, choice, named, begins_with, word_at, format_at, natural_at, container_at, environment_at}
+use Rattle.dsp_defs.specs.Grammar.{Symbol, Name, Numeral, word_of, arguments, argument_symbol, block_symbols, input_symbols, length_symbols, symbols, input_flow, IsFit, Reads, container_of, rate_symbols, HasRate, table_symbols, correlates}
+use Rattle.dsp_defs.specs.Places.{◌>>=◌, next_at, choice, named, begins_with, natural_at, environment_at}
 use Rattle.dsp_script.specs.Answers.{GivesUnlessMemory}
-use Rattle.dsp_defs.specs.Reading.{fault_in, blocks_at, length_at, nothing_of, input_at, script_at, reading, first_fault, kind_at}
-use Rattle.dsp_script.proofs.Steps.{bind_ok, ok_is, pair, pair_is, choice_run, next_takes, begins_word, begins_other, Strips, Strips-split, Strips-from_spells, spells_from_Strips, Takes, Takes-then, word_takes, format_takes, natural_takes, word_read, format_read, natural_read, container_takes, container_read}
-use Rattle.dsp_script.proofs.Names.{no_length, no_table, container_again, input_container_again}
-use Rattle.dsp_script.proofs.ListLaws.{refused, tables_in, braced}
+use Rattle.dsp_defs.specs.Reading.{blocks_at, length_at, nothing_of, input_at, script_at, reading, first_fault, kind_at}
+use Rattle.dsp_script.proofs.Steps.{bind_ok, read_to, refused, ok_is, pair, pair_is, choice_run, next_takes, begins_word, begins_other, Strips, Strips-split, Strips-from_spells, spells_from_Strips, Takes, Takes-then, word_takes, name_takes, natural_takes, word_read, name_read, natural_read}
+use Rattle.dsp_script.proofs.Names.{no_length, no_table, format_again, container_again, input_container_again}
+use Rattle.dsp_script.proofs.ListLaws.{tables_in, braced}
 use Rattle.dsp_script.proofs.TableLaws.{environment_of, tables_of, environment_takes, environment_read}
 use Rattle.dsp_script.proofs.BlockLaws.{blocks_take, blocks_read}
 
@@ -36,12 +37,12 @@ length_takes : (tables : List Named) (rest after : Rest) (frames : Option ℕ) �
 unfolding length_at
 length_takes tables rest after frames e = tested (begins_with (codes "block") rest.items) e
   where
-    tested : (b : Bool) → cond b (word_at (codes "block") rest >>= λ name. natural_at 1 MAX_BLOCK_LENGTH name.1 >>= λ n. Ok (Some n.0, n.1)) (Ok (None, rest)) ≡ pair frames after → Takes tables rest after (length_symbols frames) × IfSome frames (λ n. (1 ≤ n) × (n ≤ MAX_BLOCK_LENGTH))
+    tested : (b : Bool) → cond b (next_at (choice (named (codes "block"))) rest >>= λ name. natural_at 1 MAX_BLOCK_LENGTH name.1 >>= λ n. Ok (Some n.0, n.1)) (Ok (None, rest)) ≡ pair frames after → Takes tables rest after (length_symbols frames) × IfSome frames (λ n. (1 ≤ n) × (n ≤ MAX_BLOCK_LENGTH))
     tested true e =
-        let a = bind_ok (word_at (codes "block") rest) _ (frames, after) e in
+        let a = bind_ok (next_at (choice (named (codes "block"))) rest) _ (frames, after) e in
         let b = bind_ok (natural_at 1 MAX_BLOCK_LENGTH a.0.1) _ (frames, after) a.2 in
         let p = pair_is (Some b.0.0) frames b.0.1 after b.2 in
-        let read : natural_at 1 MAX_BLOCK_LENGTH a.0.1 ≡ pair b.0.0 after = b.1 ∙ ap (pair b.0.0) p.1 in
+        let read : natural_at 1 MAX_BLOCK_LENGTH a.0.1 ≡ pair b.0.0 after = read_to (natural_at 1 MAX_BLOCK_LENGTH a.0.1) b.0 after b.1 p.1 in
         let t = natural_takes tables 1 MAX_BLOCK_LENGTH a.0.1 after b.0.0 read in
         rw (← p.0) (Takes-then tables rest a.0.1 after (Name (codes "block") ∷ []) (Numeral (pos b.0.0) ∷ []) (word_takes tables (codes "block") rest a.0.1 a.0.0 a.1) t.0, (t.1, t.2))
     tested false e =
@@ -63,7 +64,7 @@ begins_blocks tables name [] items left more output words h = begins_other table
 begins_blocks tables name (b ∷ blocks) items left more output words h =
     let regrouped : flat_map block_symbols (b ∷ blocks) ++ Name (codes "output") ∷ more ≡ block_symbols b ++ (flat_map block_symbols blocks ++ Name (codes "output") ∷ more) = ap (λ (x : List Symbol). x ++ Name (codes "output") ∷ more) (flat_map-cons block_symbols b blocks) ∙ append_assoc (block_symbols b) (flat_map block_symbols blocks) (Name (codes "output") ∷ more) in
     let first = subst (λ (x : List Symbol). Strips tables items x left) regrouped h in
-    begins_other tables name (name_of (word_of b)) items left (flat_map argument_symbols (arguments b) ++ (flat_map block_symbols blocks ++ Name (codes "output") ∷ more)) (words (word_of b)) first
+    begins_other tables name (name_of (word_of b)) items left (map argument_symbol (arguments b) ++ (flat_map block_symbols blocks ++ Name (codes "output") ∷ more)) (words (word_of b)) first
 
 -- nor do tables begin with the word of the block length
 begins_tables : (tables named : List Named) (blocks : List Block) (items between left : List Item) → Strips tables items (flat_map table_symbols named) between → Strips tables between (flat_map block_symbols blocks ++ Name (codes "output") ∷ []) left → begins_with (codes "block") items ≡ false
@@ -74,8 +75,8 @@ begins_tables tables (t ∷ named) blocks items between left first then =
 -- ---- the input
 
 -- no input is a WAVE file of the extensible form
-no_wavex : (run : List ℕ) (c : Container) → container_by_name input_containers run ≡ Some c → c ≢ container.Wavex
-unfolding container_by_name
+no_wavex : (run : List ℕ) (c : Container) → by_name container_name input_containers run ≡ Some c → c ≢ container.Wavex
+unfolding by_name
 no_wavex run c e = tested (bytes_eq run (codes "wave")) (bytes_eq run (codes "raw")) e
   where
     tested : (a b : Bool) → cond a (Some container.Wave) (cond b (Some container.Raw) None) ≡ Some c → c ≢ container.Wavex
@@ -83,11 +84,10 @@ no_wavex run c e = tested (bytes_eq run (codes "wave")) (bytes_eq run (codes "ra
     tested false true e = λ same. absurd cc
     tested false false e = absurd cc
 
-no_wavex_at : (rest after : Rest) (c : Container) → container_at input_containers rest ≡ Ok (c, after) → c ≢ container.Wavex
-unfolding container_at
+no_wavex_at : (rest after : Rest) (c : Container) → next_at (choice (by_name container_name input_containers)) rest ≡ Ok (c, after) → c ≢ container.Wavex
 no_wavex_at rest after c e =
-    let n = next_takes (choice (container_by_name input_containers)) rest after c e in
-    let run = choice_run (container_by_name input_containers) n.0.offset n.0.token c n.3 in
+    let n = next_takes (choice (by_name container_name input_containers)) rest after c e in
+    let run = choice_run (by_name container_name input_containers) n.0.offset n.0.token c n.3 in
     no_wavex run.0 c run.2
 
 kind_takes : (tables : List Named) (wanted : Container) (rest after : Rest) (k : InputKind) → wanted ≢ container.Wavex → kind_at wanted rest ≡ Ok (k, after) → (container_of k ≡ wanted) × Takes tables rest after (rate_symbols k) × HasRate k
@@ -99,7 +99,7 @@ kind_takes tables container.Wave rest after k differs e =
 kind_takes tables container.Raw rest after k differs e =
     let b = bind_ok (natural_at 1 4294967295 rest) _ (k, after) e in
     let p = pair_is (kind.Raw b.0.0) k b.0.1 after b.2 in
-    let read : natural_at 1 4294967295 rest ≡ pair b.0.0 after = b.1 ∙ ap (pair b.0.0) p.1 in
+    let read : natural_at 1 4294967295 rest ≡ pair b.0.0 after = read_to (natural_at 1 4294967295 rest) b.0 after b.1 p.1 in
     let t = natural_takes tables 1 4294967295 rest after b.0.0 read in
     rw (← p.0) (refl, t.0, (t.1, t.2))
 
@@ -115,19 +115,19 @@ record FitsInput (input : Input) : Type 0 where
 input_takes : (tables : List Named) (rest after : Rest) (input : Input) → input_at rest ≡ Ok (input, after) → Takes tables rest after (input_symbols input) × FitsInput input
 unfolding input_at
 input_takes tables rest after input e =
-    let a = bind_ok (word_at (codes "input") rest) _ (input, after) e in
-    let b = bind_ok (container_at input_containers a.0.1) _ (input, after) a.2 in
-    let f = bind_ok (format_at b.0.1) _ (input, after) b.2 in
+    let a = bind_ok (next_at (choice (named (codes "input"))) rest) _ (input, after) e in
+    let b = bind_ok (next_at (choice (by_name container_name input_containers)) a.0.1) _ (input, after) a.2 in
+    let f = bind_ok (next_at (choice (by_name format_name every_format)) b.0.1) _ (input, after) b.2 in
     let c = bind_ok (natural_at 1 MAX_CHANNELS f.0.1) _ (input, after) f.2 in
     let k = bind_ok (kind_at b.0.0 c.0.1) _ (input, after) c.2 in
     let p = pair_is (record { kind = k.0.0; format = f.0.0; channels = c.0.0 }) input k.0.1 after k.2 in
-    let read : kind_at b.0.0 c.0.1 ≡ pair k.0.0 after = k.1 ∙ ap (pair k.0.0) p.1 in
+    let read : kind_at b.0.0 c.0.1 ≡ pair k.0.0 after = read_to (kind_at b.0.0 c.0.1) k.0 after k.1 p.1 in
     let tk = kind_takes tables b.0.0 c.0.1 after k.0.0 (no_wavex_at a.0.1 b.0.1 b.0.0 b.1) read in
     let tc = natural_takes tables 1 MAX_CHANNELS f.0.1 c.0.1 c.0.0 c.1 in
     let rates = rate_symbols k.0.0 in
     let t3 = Takes-then tables f.0.1 c.0.1 after (Numeral (pos c.0.0) ∷ []) rates tc.0 tk.1 in
-    let t2 = Takes-then tables b.0.1 f.0.1 after (Name (format_name f.0.0) ∷ []) (Numeral (pos c.0.0) ∷ rates) (format_takes tables b.0.1 f.0.1 f.0.0 f.1) t3 in
-    let t1 = Takes-then tables a.0.1 b.0.1 after (Name (container_name b.0.0) ∷ []) (Name (format_name f.0.0) ∷ Numeral (pos c.0.0) ∷ rates) (container_takes tables input_containers a.0.1 b.0.1 b.0.0 b.1) t2 in
+    let t2 = Takes-then tables b.0.1 f.0.1 after (Name (format_name f.0.0) ∷ []) (Numeral (pos c.0.0) ∷ rates) (name_takes tables format_name every_format b.0.1 f.0.1 f.0.0 f.1) t3 in
+    let t1 = Takes-then tables a.0.1 b.0.1 after (Name (container_name b.0.0) ∷ []) (Name (format_name f.0.0) ∷ Numeral (pos c.0.0) ∷ rates) (name_takes tables container_name input_containers a.0.1 b.0.1 b.0.0 b.1) t2 in
     let t0 = Takes-then tables rest a.0.1 after (Name (codes "input") ∷ []) (Name (container_name b.0.0) ∷ Name (format_name f.0.0) ∷ Numeral (pos c.0.0) ∷ rates) (word_takes tables (codes "input") rest a.0.1 a.0.0 a.1) t1 in
     let takes = subst (λ (c' : Container). Takes tables rest after (Name (codes "input") ∷ Name (container_name c') ∷ Name (format_name f.0.0) ∷ Numeral (pos c.0.0) ∷ rates)) (sym tk.0) t0 in
     rw (← p.0) (takes, record { channels = (tc.1, tc.2); rate = tk.2 })
@@ -143,8 +143,8 @@ input_read tables input items left end fits h =
     let c = Strips-split tables f.0 (Numeral (pos input.channels) ∷ []) rates left f.2 in
     rw (
       word_read tables (codes "input") items a.0 end a.1,
-      container_read tables input_containers (container_of input.kind) a.0 b.0 end (input_container_again input.kind) b.1,
-      format_read tables input.format b.0 f.0 end f.1,
+      name_read tables container_name input_containers (container_of input.kind) a.0 b.0 end (input_container_again input.kind) b.1,
+      name_read tables format_name every_format input.format b.0 f.0 end (format_again input.format) f.1,
       natural_read tables 1 MAX_CHANNELS input.channels f.0 c.0 end fits.channels.0 fits.channels.1 c.1,
       kind_read tables input.kind c.0 left end fits.rate c.2,
     ) refl
@@ -175,13 +175,13 @@ one_at_most n h = omega arith
 script_takes : (rest : Rest) (s : Script) → script_at rest ≡ Ok s → IsScript rest.items s
 unfolding script_at
 script_takes rest s e =
-    let d = bind_ok (word_at (codes "dspfx") rest) _ s e in
+    let d = bind_ok (next_at (choice (named (codes "dspfx"))) rest) _ s e in
     let v = bind_ok (natural_at 1 MAX_VERSION d.0.1) _ s d.2 in
     let i = bind_ok (input_at v.0.1) _ s v.2 in
     let n = bind_ok (length_at i.0.1) _ s i.2 in
     let g = bind_ok (environment_at v.0.0 n.0.1) _ s n.2 in
     let b = bind_ok (blocks_at g.0.0 MAX_BLOCKS false (input_flow i.0.0) g.0.1) _ s g.2 in
-    let c = bind_ok (container_at output_containers b.0.1) _ s b.2 in
+    let c = bind_ok (next_at (choice (by_name container_name output_containers)) b.0.1) _ s b.2 in
     let z = bind_ok (nothing_of c.0.1.items) _ s c.2 in
     let made : Script = record { version = v.0.0; input = i.0.0; block = n.0.0; blocks = b.0.0; output = c.0.0 } in
     let same : made ≡ s = ok_is made s z.2 in
@@ -191,7 +191,7 @@ script_takes rest s e =
     let tn = length_takes tables i.0.1 n.0.1 n.0.0 n.1 in
     let tg = environment_takes tables v.0.0 n.0.1 g.0.1 g.0.0 g.1 in
     let tb = blocks_take g.0.0 MAX_BLOCKS false (input_flow i.0.0) g.0.1 b.0.1 b.0.0 b.1 in
-    let tc = container_takes tables output_containers b.0.1 c.0.1 c.0.0 c.1 in
+    let tc = name_takes tables container_name output_containers b.0.1 c.0.1 c.0.0 c.1 in
     let named = flat_map table_symbols tables in
     let blocks = flat_map block_symbols b.0.0 ++ Name (codes "output") ∷ [] in
     let chain = blocks ++ Name (container_name c.0.0) ∷ [] in
@@ -235,7 +235,7 @@ script_read tables items end s stand h fit =
       length_read tables s.block i.0 n.0 end fit.block n.1 (begins_tables tables tables s.blocks n.0 g.0 b.0 g.1 b.1),
       environment_read s.version tables n.0 g.0 end stand g.1 (begins_blocks tables (codes "table") s.blocks g.0 b.0 [] refl no_table b.1),
       blocks_read environment MAX_BLOCKS false (input_flow s.input) s.blocks g.0 b.0 end first fit.blocks (omega (arith, fit.one_correlate)) fit.chain,
-      container_read tables output_containers s.output b.0 [] end (container_again s.output) b.2,
+      name_read tables container_name output_containers s.output b.0 [] end (container_again s.output) b.2,
     ) refl
 
 -- ---- texts
@@ -256,12 +256,12 @@ reading_read text s r =
 pub one_script : (text : List ℕ) (s t : Script) → Reads text s → Reads text t → s ≡ t
 one_script text s t p q = ok_is s t (sym (reading_read text s p) ∙ reading_read text t q)
 
-no_fault : (r : Result Script ScriptFault) → fault_in r ≡ None → (s : Script) × (r ≡ Ok s)
+no_fault : (r : Result Script ScriptFault) → result_err r ≡ None → (s : Script) × (r ≡ Ok s)
 no_fault (Ok s) e = (s, refl)
 no_fault (Err f) e = absurd cc
 
 pub reads_or_fails : (text : List ℕ) → ((s : Script) × Reads text s) ↔ (first_fault text ≡ None)
-reads_or_fails text = (λ (s, r). ap fault_in (reading_read text s r), λ e. let n = no_fault (reading text) e in (n.0, reading_takes text n.0 n.1))
+reads_or_fails text = (λ (s, r). ap result_err (reading_read text s r), λ e. let n = no_fault (reading text) e in (n.0, reading_takes text n.0 n.1))
 
 -- ---- what parse answers
 
@@ -270,12 +270,12 @@ answers_read text (Ok s) given = reading_takes text s given
 answers_read text (Err e) given = tt
 
 pub answers_fault : (text : List ℕ) (r : Result Script ParseFault) (f : ScriptFault) → GivesUnlessMemory (λ s. s) r (reading text) → r ≡ Err (errors.Script f) → first_fault text ≡ Some f
-answers_fault text r f given e = let P : Result Script ParseFault → Type 0 = λ x. GivesUnlessMemory (λ s. s) x (reading text) in ap fault_in (subst P e given)
+answers_fault text r f given e = let P : Result Script ParseFault → Type 0 = λ x. GivesUnlessMemory (λ s. s) x (reading text) in ap result_err (subst P e given)
 
 pub answers_script : (text : List ℕ) (r : Result Script ParseFault) (s : Script) → GivesUnlessMemory (λ s. s) r (reading text) → Reads text s → GivesUnlessMemory (λ s. s) r (Ok s)
 answers_script text r s given reads = subst (GivesUnlessMemory (λ s. s) r) (reading_read text s reads) given
 
-fault_is : (r : Result Script ScriptFault) (f : ScriptFault) → fault_in r ≡ Some f → r ≡ Err f
+fault_is : (r : Result Script ScriptFault) (f : ScriptFault) → result_err r ≡ Some f → r ≡ Err f
 fault_is (Ok s) f e = absurd cc
 fault_is (Err g) f e = let same : g ≡ f = cc in ap Err same
 

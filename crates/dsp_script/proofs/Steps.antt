@@ -9,15 +9,13 @@ use Rattle.dsp_defs.specs.declared.script_fault.ScriptFault.{ScriptFault}
 use Rattle.dsp_defs.specs.declared.script_fault.ScriptKind.{ScriptKind}
 use Rattle.dsp_defs.specs.declared.format.Fmt.{Fmt}
 use Rattle.dsp_defs.specs.declared.format.Fmt.TheVariants.{Q7, Q15, Q31}
-use Rattle.dsp_defs.specs.declared.word.Word.{Word}
-use Rattle.dsp_defs.specs.declared.format.Container.{Container}
 use Rattle.dsp_defs.specs.Token.{Token, Open, Close, Run, Bad, Item, Rest}
 use Rattle.dsp_defs.specs.Numeral.{value_of}
 use Rattle.dsp_defs.specs.Tables.{Named}
-use Rattle.dsp_defs.specs.Table.{every_word, name_of, word_by_name, every_format, format_name, format_by_name, container_name, container_by_name}
+use Rattle.dsp_defs.specs.Table.{by_name, every_format, format_name}
 use Rattle.dsp_defs.specs.Parameters.{IsBetween}
 use Rattle.dsp_defs.specs.Grammar.{Symbol, Name, Numeral, OpenBrace, CloseBrace, Whole, IsWritten, unwritten, Spells}
-use Rattle.dsp_defs.specs.Places.{◌>>=◌, or_fault, first_of, token_at, Judge, next_at, meaning_of, choice, named, begins_with, word_at, format_at, is_between, number, number_at, natural_at, another, conversion, conversion_at, container_at}
+use Rattle.dsp_defs.specs.Places.{◌>>=◌, or_fault, first_of, Judge, next_at, meaning_of, choice, named, begins_with, number, natural_at, conversion}
 use Rattle.dsp_script.proofs.Names.{format_again}
 
 -- ---- results
@@ -40,6 +38,11 @@ or_fault_ok offset kind None x e = absurd cc
 pub passed : {A : Type 0} (b : Bool) (d : ScriptFault) (x y : A) → cond b (Ok x) (Err d) ≡ Ok y → (b ≡ true) × (x ≡ y)
 passed true d x y e = (refl, ok_is x y e)
 passed false d x y e = absurd cc
+
+-- a test that did not refuse
+pub refused : {A : Type 0} (b : Bool) (d : ScriptFault) (r : Result A ScriptFault) (y : A) → cond b (Err d) r ≡ Ok y → (b ≡ false) × (r ≡ Ok y)
+refused true d r y e = absurd cc
+refused false d r y e = (refl, e)
 
 -- a test that chose the first
 pub chosen : {A : Type 0} (b : Bool) (r : Result A ScriptFault) (d : ScriptFault) (y : A) → cond b r (Err d) ≡ Ok y → (b ≡ true) × (r ≡ Ok y)
@@ -142,6 +145,10 @@ pair a b = Ok (a, b)
 pub pair_is : {A B : Type 0} (a c : A) (b d : B) → pair a b ≡ pair c d → (a ≡ c) × (b ≡ d)
 pair_is a c b d e = let p = ok_is (a, b) (c, d) e in (ap (λ (x : _ × _). x.0) p, ap (λ (x : _ × _). x.1) p)
 
+-- what was read, where what is left has another name
+pub read_to : {A : Type 0} (read : Result (A × Rest) ScriptFault) (x : A × Rest) (after : Rest) → read ≡ Ok x → x.1 ≡ after → read ≡ Ok (x.0, after)
+read_to read (x, left) after e same = rw same at e
+
 token_parts : (end : ℕ) (i : Item) (items : List Item) (item : Item) (after : Rest) → pair i (record { items = items; end = end }) ≡ pair item after → (i ∷ items ≡ item ∷ after.items) × (end ≡ after.end)
 token_parts end i items item after e =
     let p = pair_is i item (record { items = items; end = end }) after e in
@@ -149,6 +156,7 @@ token_parts end i items item after e =
     (cc, ap (λ (r : Rest). r.end) p.1)
 
 first_takes : (end : ℕ) (items : List Item) (item : Item) (after : Rest) → first_of end items ≡ Ok (item, after) → (items ≡ item ∷ after.items) × (end ≡ after.end)
+unfolding first_of
 first_takes end [] item after e = absurd cc
 first_takes end (i ∷ items) item after e =
     (elim i.token as (λ (t : Token). first_of end (record { offset = i.offset; token = t } ∷ items) ≡ Ok (item, after) → (record { offset = i.offset; token = t } ∷ items ≡ item ∷ after.items) × (end ≡ after.end)) [
@@ -159,7 +167,7 @@ first_takes end (i ∷ items) item after e =
     ]) e
 
 pub next_takes : {A : Type 0} (judge : Judge A) (rest after : Rest) (x : A) → next_at judge rest ≡ Ok (x, after) → (item : Item) × (rest.items ≡ item ∷ after.items) × (rest.end ≡ after.end) × (judge item.offset item.token ≡ Ok x)
-unfolding token_at
+unfolding next_at
 next_takes judge rest after x e =
     let a = bind_ok (first_of rest.end rest.items) _ (x, after) e in
     let b = bind_ok (judge a.0.0.offset a.0.0.token) _ (x, after) a.2 in
@@ -168,6 +176,7 @@ next_takes judge rest after x e =
     (a.0.0, rw p.1 at t.0, rw p.1 at t.1, rw p.0 at b.1)
 
 first_again : (end : ℕ) (item : Item) (items : List Item) → IsToken item.token → first_of end (item ∷ items) ≡ Ok (item, record { items = items; end = end })
+unfolding first_of
 first_again end item items is =
     (elim item.token as (λ (t : Token). IsToken t → first_of end (record { offset = item.offset; token = t } ∷ items) ≡ pair (record { offset = item.offset; token = t }) (record { items = items; end = end })) [
       | Bad ↦ (λ h. absurd h)
@@ -177,7 +186,7 @@ first_again end item items is =
     ]) is
 
 pub next_again : {A : Type 0} (judge : Judge A) (item : Item) (items : List Item) (end : ℕ) (x : A) → IsToken item.token → judge item.offset item.token ≡ Ok x → next_at judge (record { items = item ∷ items; end = end }) ≡ Ok (x, record { items = items; end = end })
-unfolding token_at
+unfolding next_at
 next_again judge item items end x is e = rw (first_again end item items is, e) refl
 
 -- ---- words
@@ -200,17 +209,9 @@ named_is name run x e = tested (bytes_eq run name) refl e
 pub named_again : (name : List ℕ) → named name name ≡ Some tt
 named_again name = rw ((bytes_eq-Decides name name).1 refl) refl
 
-pub format_named : (run : List ℕ) (f : Fmt) → format_by_name run ≡ Some f → run ≡ format_name f
-unfolding format_by_name
-format_named run f e = (bytes_eq-Decides run (format_name f)).0 (find_passes (λ f. bytes_eq run (format_name f)) every_format f e)
-
-pub word_named : (run : List ℕ) (w : Word) → word_by_name run ≡ Some w → run ≡ name_of w
-unfolding word_by_name
-word_named run w e = (bytes_eq-Decides run (name_of w)).0 (find_passes (λ w. bytes_eq run (name_of w)) every_word w e)
-
-pub container_named : (containers : List Container) (run : List ℕ) (c : Container) → container_by_name containers run ≡ Some c → run ≡ container_name c
-unfolding container_by_name
-container_named containers run c e = (bytes_eq-Decides run (container_name c)).0 (find_passes (λ c. bytes_eq run (container_name c)) containers c e)
+pub by_name_is : {A : Type 0} (name : A → List ℕ) (those : List A) (run : List ℕ) (x : A) → by_name name those run ≡ Some x → run ≡ name x
+unfolding by_name
+by_name_is name those run x e = (bytes_eq-Decides run (name x)).0 (find_passes (λ y. bytes_eq run (name y)) those x e)
 
 -- a word that has a meaning is a run
 pub meaning_run : {A : Type 0} (meaning : List ℕ → Option A) (token : Token) (x : A) → meaning_of meaning token ≡ Some x → (run : List ℕ) × (token ≡ Run run) × (meaning run ≡ Some x)
@@ -227,37 +228,31 @@ choice_run meaning offset token x e = meaning_run meaning token x (or_fault_ok o
 pub one_taken : (tables : List Named) (rest after : Rest) (item : Item) (symbol : Symbol) → IsOne symbol → rest.items ≡ item ∷ after.items → rest.end ≡ after.end → IsWritten tables item.token symbol → Takes tables rest after (symbol ∷ [])
 one_taken tables rest after item symbol one e end h = record { strips = rw (e, unwritten_one symbol item.token one) (h, refl); end = end }
 
-pub word_takes : (tables : List Named) (name : List ℕ) (rest after : Rest) (x : ⊤) → word_at name rest ≡ Ok (x, after) → Takes tables rest after (Name name ∷ [])
-unfolding word_at
+pub word_takes : (tables : List Named) (name : List ℕ) (rest after : Rest) (x : ⊤) → next_at (choice (named name)) rest ≡ Ok (x, after) → Takes tables rest after (Name name ∷ [])
 word_takes tables name rest after x e =
     let n = next_takes (choice (named name)) rest after x e in
     let run = choice_run (named name) n.0.offset n.0.token x n.3 in
     one_taken tables rest after n.0 (Name name) tt n.1 n.2 (rw run.1 (named_is name run.0 x run.2))
 
-pub format_takes : (tables : List Named) (rest after : Rest) (f : Fmt) → format_at rest ≡ Ok (f, after) → Takes tables rest after (Name (format_name f) ∷ [])
-unfolding format_at
-format_takes tables rest after f e =
-    let n = next_takes (choice format_by_name) rest after f e in
-    let run = choice_run format_by_name n.0.offset n.0.token f n.3 in
-    one_taken tables rest after n.0 (Name (format_name f)) tt n.1 n.2 (rw run.1 (format_named run.0 f run.2))
-
-pub container_takes : (tables : List Named) (containers : List Container) (rest after : Rest) (c : Container) → container_at containers rest ≡ Ok (c, after) → Takes tables rest after (Name (container_name c) ∷ [])
-unfolding container_at
-container_takes tables containers rest after c e =
-    let n = next_takes (choice (container_by_name containers)) rest after c e in
-    let run = choice_run (container_by_name containers) n.0.offset n.0.token c n.3 in
-    one_taken tables rest after n.0 (Name (container_name c)) tt n.1 n.2 (rw run.1 (container_named containers run.0 c run.2))
+pub name_takes : {A : Type 0} (tables : List Named) (name : A → List ℕ) (those : List A) (rest after : Rest) (x : A) → next_at (choice (by_name name those)) rest ≡ Ok (x, after) → Takes tables rest after (Name (name x) ∷ [])
+name_takes tables name those rest after x e =
+    let n = next_takes (choice (by_name name those)) rest after x e in
+    let run = choice_run (by_name name those) n.0.offset n.0.token x n.3 in
+    one_taken tables rest after n.0 (Name (name x)) tt n.1 n.2 (rw run.1 (by_name_is name those run.0 x run.2))
 
 pub both_true : (a b : Bool) → (a && b) ≡ true → (a ≡ true) × (b ≡ true)
 both_true true true e = (refl, refl)
 both_true true false e = absurd cc
 both_true false b e = absurd cc
 
+-- low <= n <= high
+abbrev pub is_between : (low high n : ℤ) → Bool
+is_between low high n = int_le low n && int_le n high
+
 pub between_is : (low high n : ℤ) → is_between low high n ≡ true → IsBetween low high n
 between_is low high n e = let both = both_true (int_le low n) (int_le n high) e in (grind (arith, ints), grind (arith, ints))
 
-pub number_takes : (tables : List Named) (low high : ℤ) (rest after : Rest) (n : ℤ) → number_at low high rest ≡ Ok (n, after) → Takes tables rest after (Numeral n ∷ []) × IsBetween low high n
-unfolding number_at
+pub number_takes : (tables : List Named) (low high : ℤ) (rest after : Rest) (n : ℤ) → next_at (number low high) rest ≡ Ok (n, after) → Takes tables rest after (Numeral n ∷ []) × IsBetween low high n
 number_takes tables low high rest after n e =
     let t = next_takes (number low high) rest after n e in
     let b = bind_ok (or_fault t.0.offset _ (meaning_of value_of t.0.token)) _ n t.3 in
@@ -271,42 +266,36 @@ between_again low high n h = let first : int_le low n ≡ true = grind (arith, i
 pub natural_takes : (tables : List Named) (low high : ℕ) (rest after : Rest) (n : ℕ) → natural_at low high rest ≡ Ok (n, after) → Takes tables rest after (Numeral (pos n) ∷ []) × (low ≤ n) × (n ≤ high)
 unfolding natural_at
 natural_takes tables low high rest after n e =
-    let b = bind_ok (number_at (pos low) (pos high) rest) _ (n, after) e in
+    let b = bind_ok (next_at (number (pos low) (pos high)) rest) _ (n, after) e in
     let p = pair_is (unsigned_abs b.0.0) n b.0.1 after b.2 in
     let t = number_takes tables (pos low) (pos high) rest b.0.1 b.0.0 b.1 in
     let is : b.0.0 ≡ pos n = omega (arith, ints, p.0, t.1) in
     (rw (is, p.1) at t.0, omega (arith, ints, t.1), omega (arith, ints, t.1))
 
-another_is : (offset : ℕ) (from format f : Fmt) → another offset from format ≡ Ok f → (format ≡ f) × (f ≢ from)
-another_is offset Q7 Q7 f e = absurd cc
-another_is offset Q7 Q15 f e = let same = ok_is Q15 f e in (same, rw (← same) (λ h. absurd cc))
-another_is offset Q7 Q31 f e = let same = ok_is Q31 f e in (same, rw (← same) (λ h. absurd cc))
-another_is offset Q15 Q7 f e = let same = ok_is Q7 f e in (same, rw (← same) (λ h. absurd cc))
-another_is offset Q15 Q15 f e = absurd cc
-another_is offset Q15 Q31 f e = let same = ok_is Q31 f e in (same, rw (← same) (λ h. absurd cc))
-another_is offset Q31 Q7 f e = let same = ok_is Q7 f e in (same, rw (← same) (λ h. absurd cc))
-another_is offset Q31 Q15 f e = let same = ok_is Q15 f e in (same, rw (← same) (λ h. absurd cc))
-another_is offset Q31 Q31 f e = absurd cc
+-- the name tells the format
+other_name : (f g : Fmt) → f ≢ g → bytes_eq (format_name f) (format_name g) ≡ false
+other_name Q7 Q7 ne = absurd (ne refl)
+other_name Q7 Q15 ne = refl
+other_name Q7 Q31 ne = refl
+other_name Q15 Q7 ne = refl
+other_name Q15 Q15 ne = absurd (ne refl)
+other_name Q15 Q31 ne = refl
+other_name Q31 Q7 ne = refl
+other_name Q31 Q15 ne = refl
+other_name Q31 Q31 ne = absurd (ne refl)
 
-another_again : (offset : ℕ) (from format : Fmt) → format ≢ from → another offset from format ≡ Ok format
-another_again offset Q7 Q7 ne = absurd (ne refl)
-another_again offset Q7 Q15 ne = refl
-another_again offset Q7 Q31 ne = refl
-another_again offset Q15 Q7 ne = refl
-another_again offset Q15 Q15 ne = absurd (ne refl)
-another_again offset Q15 Q31 ne = refl
-another_again offset Q31 Q7 ne = refl
-another_again offset Q31 Q15 ne = refl
-another_again offset Q31 Q31 ne = absurd (ne refl)
+own_name : (f : Fmt) → bytes_eq (format_name f) (format_name f) ≡ true
+own_name f = (bytes_eq-Decides (format_name f) (format_name f)).1 refl
 
-pub conversion_takes : (tables : List Named) (from : Fmt) (rest after : Rest) (f : Fmt) → conversion_at from rest ≡ Ok (f, after) → Takes tables rest after (Name (format_name f) ∷ []) × (f ≢ from)
-unfolding conversion_at
+pub conversion_takes : (tables : List Named) (from : Fmt) (rest after : Rest) (f : Fmt) → next_at (conversion from) rest ≡ Ok (f, after) → Takes tables rest after (Name (format_name f) ∷ []) × (f ≢ from)
 conversion_takes tables from rest after f e =
     let n = next_takes (conversion from) rest after f e in
-    let b = bind_ok (choice format_by_name n.0.offset n.0.token) _ f n.3 in
-    let run = choice_run format_by_name n.0.offset n.0.token b.0 b.1 in
-    let other = another_is n.0.offset from b.0 f b.2 in
-    (one_taken tables rest after n.0 (Name (format_name f)) tt n.1 n.2 (rw run.1 (format_named run.0 b.0 run.2 ∙ ap format_name other.0)), other.1)
+    let b = bind_ok (choice (by_name format_name every_format) n.0.offset n.0.token) _ f n.3 in
+    let run = choice_run (by_name format_name every_format) n.0.offset n.0.token b.0 b.1 in
+    let other = refused (bytes_eq (format_name b.0) (format_name from)) _ _ f b.2 in
+    let same = ok_is b.0 f other.1 in
+    let differs : f ≢ from = λ is. let equal : bytes_eq (format_name b.0) (format_name from) ≡ true = rw (same, is) (own_name from) in absurd cc in
+    (one_taken tables rest after n.0 (Name (format_name f)) tt n.1 n.2 (rw run.1 (by_name_is format_name every_format run.0 b.0 run.2 ∙ ap format_name same)), differs)
 
 -- ---- what is written is read again
 
@@ -344,8 +333,7 @@ one_again tables judge x symbol (item ∷ items) left end one h judged =
     let same : items ≡ left = rw (unwritten_one symbol item.token one) at h.1 in
     rw (← same) (next_again judge item items end x j.0 j.1)
 
-pub word_read : (tables : List Named) (name : List ℕ) (items left : List Item) (end : ℕ) → Strips tables items (Name name ∷ []) left → word_at name (record { items = items; end = end }) ≡ Ok (tt, record { items = left; end = end })
-unfolding word_at
+pub word_read : (tables : List Named) (name : List ℕ) (items left : List Item) (end : ℕ) → Strips tables items (Name name ∷ []) left → next_at (choice (named name)) (record { items = items; end = end }) ≡ Ok (tt, record { items = left; end = end })
 word_read tables name items left end h = one_again tables (choice (named name)) tt (Name name) items left end tt h (λ item w. let e = written_name tables item.token name w in (rw e tt, rw (e, named_again name) refl))
 
 pub begins_word : (tables : List Named) (name : List ℕ) (items left : List Item) (symbols : List Symbol) → Strips tables items (Name name ∷ symbols) left → begins_with name items ≡ true
@@ -356,23 +344,16 @@ pub begins_other : (tables : List Named) (name other : List ℕ) (items left : L
 begins_other tables name other [] left symbols differs h = absurd h
 begins_other tables name other (item ∷ items) left symbols differs h = rw (written_name tables item.token other h.0, differs) refl
 
-pub format_read : (tables : List Named) (f : Fmt) (items left : List Item) (end : ℕ) → Strips tables items (Name (format_name f) ∷ []) left → format_at (record { items = items; end = end }) ≡ Ok (f, record { items = left; end = end })
-unfolding format_at
-format_read tables f items left end h = one_again tables (choice format_by_name) f (Name (format_name f)) items left end tt h (λ item w. let e = written_name tables item.token (format_name f) w in (rw e tt, rw (e, format_again f) refl))
+pub name_read : {A : Type 0} (tables : List Named) (name : A → List ℕ) (those : List A) (x : A) (items left : List Item) (end : ℕ) → by_name name those (name x) ≡ Some x → Strips tables items (Name (name x) ∷ []) left
+    → next_at (choice (by_name name those)) (record { items = items; end = end }) ≡ Ok (x, record { items = left; end = end })
+name_read tables name those x items left end is h = one_again tables (choice (by_name name those)) x (Name (name x)) items left end tt h (λ item w. let e = written_name tables item.token (name x) w in (rw e tt, rw (e, is) refl))
 
-pub container_read : (tables : List Named) (containers : List Container) (c : Container) (items left : List Item) (end : ℕ) → container_by_name containers (container_name c) ≡ Some c → Strips tables items (Name (container_name c) ∷ []) left
-    → container_at containers (record { items = items; end = end }) ≡ Ok (c, record { items = left; end = end })
-unfolding container_at
-container_read tables containers c items left end is h = one_again tables (choice (container_by_name containers)) c (Name (container_name c)) items left end tt h (λ item w. let e = written_name tables item.token (container_name c) w in (rw e tt, rw (e, is) refl))
-
-pub number_read : (tables : List Named) (low high n : ℤ) (items left : List Item) (end : ℕ) → IsBetween low high n → Strips tables items (Numeral n ∷ []) left → number_at low high (record { items = items; end = end }) ≡ Ok (n, record { items = left; end = end })
-unfolding number_at
+pub number_read : (tables : List Named) (low high n : ℤ) (items left : List Item) (end : ℕ) → IsBetween low high n → Strips tables items (Numeral n ∷ []) left → next_at (number low high) (record { items = items; end = end }) ≡ Ok (n, record { items = left; end = end })
 number_read tables low high n items left end fits h = one_again tables (number low high) n (Numeral n) items left end tt h (λ item w. let e = written_number tables item.token n w in (rw e.1 tt, rw (e.1, e.2, between_again low high n fits) refl))
 
 pub natural_read : (tables : List Named) (low high n : ℕ) (items left : List Item) (end : ℕ) → low ≤ n → n ≤ high → Strips tables items (Numeral (pos n) ∷ []) left → natural_at low high (record { items = items; end = end }) ≡ Ok (n, record { items = left; end = end })
 unfolding natural_at
 natural_read tables low high n items left end above below h = rw (number_read tables (pos low) (pos high) (pos n) items left end (omega (arith, ints), omega (arith, ints)) h) refl
 
-pub conversion_read : (tables : List Named) (from f : Fmt) (items left : List Item) (end : ℕ) → f ≢ from → Strips tables items (Name (format_name f) ∷ []) left → conversion_at from (record { items = items; end = end }) ≡ Ok (f, record { items = left; end = end })
-unfolding conversion_at
-conversion_read tables from f items left end ne h = one_again tables (conversion from) f (Name (format_name f)) items left end tt h (λ item w. let e = written_name tables item.token (format_name f) w in (rw e tt, rw (e, format_again f) (another_again item.offset from f ne)))
+pub conversion_read : (tables : List Named) (from f : Fmt) (items left : List Item) (end : ℕ) → f ≢ from → Strips tables items (Name (format_name f) ∷ []) left → next_at (conversion from) (record { items = items; end = end }) ≡ Ok (f, record { items = left; end = end })
+conversion_read tables from f items left end ne h = one_again tables (conversion from) f (Name (format_name f)) items left end tt h (λ item w. let e = written_name tables item.token (format_name f) w in (rw e tt, rw (e, format_again f, other_name f from ne) refl))

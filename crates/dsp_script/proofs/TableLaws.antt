@@ -9,9 +9,9 @@ use Rattle.dsp_defs.specs.Token.{Token, Open, Close, Run, Bad, Item, Rest}
 use Rattle.dsp_defs.specs.Tables.{Named, is_name, numbers_of, table_rule, IsTable, AreTables, MayStand}
 use Rattle.dsp_defs.specs.Grammar.{Symbol, Name, table_symbols}
 use Rattle.dsp_defs.specs.Places.{◌>>=◌, named, choice, next_at, begins_with, Environment, list_at, table_word, new_name, table_at, tables_at, environment_at}
-use Rattle.dsp_script.proofs.Steps.{bind_ok, ok_is, chosen, pair, pair_is, named_is, choice_run, written_name, Strips, Strips-split, Takes, Takes-then, one_taken, one_again, next_takes, begins_word}
+use Rattle.dsp_script.proofs.Steps.{bind_ok, ok_is, refused, chosen, pair, pair_is, named_is, choice_run, written_name, Strips, Strips-split, Takes, Takes-then, one_taken, one_again, next_takes, begins_word}
 use Rattle.dsp_script.proofs.Loops.{tables_done}
-use Rattle.dsp_script.proofs.ListLaws.{refused, tables_in, braced, braced_takes, braced_read}
+use Rattle.dsp_script.proofs.ListLaws.{tables_in, braced, braced_takes, braced_read}
 
 -- ---- one table
 

@@ -7,7 +7,7 @@ use Rattle.std.proofs.lemmas.List.{drop_all, length-take, length-drop, take-appe
 use Rattle.std.proofs.Math.Seq.{drop-drop}
 use Rattle.dsp_defs.specs.Token.{Token, Open, Close, Run, Bad, Item, is_white, is_run_byte, join_run, items_from, rest_of}
 use Rattle.dsp_defs.specs.declared.script_fault.ScriptKind.TheVariants.{Missing, BadByte}
-use Rattle.dsp_defs.specs.Places.{first_of, token_at}
+use Rattle.dsp_defs.specs.Places.{first_of}
 
 -- ---- where no token begins
 
@@ -179,15 +179,15 @@ abbrev IsToken : Token → Type 0
 IsToken Bad = ⊥
 IsToken token = Unit {0}
 
-pub token_first : (text : List ℕ) (from at next : ℕ) (token : Token) → items_from false from (drop from text) ≡ items_from false at (drop at text) → items_from false at (drop at text) ≡ record { offset = at; token = token } ∷ items_from false next (drop next text) → IsToken token → token_at (rest_of from text) ≡ Ok (record { offset = at; token = token }, rest_of next text)
-unfolding token_at
+pub token_first : (text : List ℕ) (from at next : ℕ) (token : Token) → items_from false from (drop from text) ≡ items_from false at (drop at text) → items_from false at (drop at text) ≡ record { offset = at; token = token } ∷ items_from false next (drop next text) → IsToken token → first_of (length text) (items_from false from (drop from text)) ≡ Ok (record { offset = at; token = token }, rest_of next text)
+unfolding first_of
 token_first text from at next token same e is =
     ap (first_of (length text)) (same ∙ e) ∙ (elim token as (λ (t : Token). IsToken t → first_of (length text) (record { offset = at; token = t } ∷ items_from false next (drop next text)) ≡ Ok (record { offset = at; token = t }, rest_of next text)) [ Bad ↦ (λ h. absurd h) | Open ↦ (λ _. refl) | Close ↦ (λ _. refl) | Run run ↦ (λ _. refl) ]) is
 
-pub token_bad : (text : List ℕ) (from at next : ℕ) → items_from false from (drop from text) ≡ items_from false at (drop at text) → items_from false at (drop at text) ≡ record { offset = at; token = Bad } ∷ items_from false next (drop next text) → token_at (rest_of from text) ≡ Err (record { offset = at; kind = BadByte })
-unfolding token_at
+pub token_bad : (text : List ℕ) (from at next : ℕ) → items_from false from (drop from text) ≡ items_from false at (drop at text) → items_from false at (drop at text) ≡ record { offset = at; token = Bad } ∷ items_from false next (drop next text) → first_of (length text) (items_from false from (drop from text)) ≡ Err (record { offset = at; kind = BadByte })
+unfolding first_of
 token_bad text from at next same e = ap (first_of (length text)) (same ∙ e)
 
-pub token_missing : (text : List ℕ) (from at : ℕ) → items_from false from (drop from text) ≡ items_from false at (drop at text) → length text ≡ at → token_at (rest_of from text) ≡ Err (record { offset = at; kind = Missing })
-unfolding token_at
+pub token_missing : (text : List ℕ) (from at : ℕ) → items_from false from (drop from text) ≡ items_from false at (drop at text) → length text ≡ at → first_of (length text) (items_from false from (drop from text)) ≡ Err (record { offset = at; kind = Missing })
+unfolding first_of
 token_missing text from at same e = ap (first_of (length text)) (same ∙ nothing_left text at (omega arith)) ∙ rw e refl

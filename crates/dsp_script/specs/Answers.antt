@@ -2,9 +2,17 @@
 use Rattle.std.specs.Prelude.{◌≡◌, ◌≤◌, length, Result, Ok, Err}
 use Rattle.dsp_defs.specs.declared.script.Block.{Block}
 use Rattle.dsp_defs.specs.declared.script.Block.TheVariants.{Route}
+use Rattle.dsp_defs.specs.declared.flow.Flow.{Flow}
+use Rattle.dsp_defs.specs.declared.word.Word.{Word}
+use Rattle.dsp_defs.specs.Parameters.{Form}
+use Rattle.dsp_defs.specs.Table.{row_of}
 use Rattle.dsp_defs.specs.declared.script_fault.ScriptFault.{ScriptFault}
 use Rattle.dsp_script.specs.declared.fault.ParseFault.{ParseFault}
 use Rattle.dsp_script.specs.declared.fault.ParseFault.TheVariants as faults
+
+-- the parameters of a block where this flows
+abbrev pub parameters : Word → Flow → Form
+parameters w flow = (row_of w).parameters flow
 
 -- the answer, seen by view, is what reading gives
 abbrev pub Gives : {X Y : Type 0} → (X → Y) → Result X ScriptFault → Result Y ScriptFault → Type 0

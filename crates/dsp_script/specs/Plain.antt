@@ -5,7 +5,15 @@ use Rattle.std.specs.List.{flat_map}
 use Rattle.dsp_defs.specs.declared.script.Script.{Script}
 use Rattle.dsp_defs.specs.Token.{Token, Open, Close, Run, Item}
 use Rattle.dsp_defs.specs.Tables.{Named}
-use Rattle.dsp_defs.specs.Grammar.{Symbol, Whole, unwritten, table_symbols, front_symbols, chain_symbols}
+use Rattle.dsp_defs.specs.Grammar.{Symbol, Whole, unwritten, version_symbols, input_symbols, length_symbols, table_symbols, block_symbols, output_symbols}
+
+-- what stands before the tables of a script: the version, the input, the block length
+abbrev pub front_symbols : Script → List Symbol
+front_symbols s = version_symbols s.version ++ (input_symbols s.input ++ length_symbols s.block)
+
+-- what stands behind them: the blocks, the output
+abbrev pub chain_symbols : Script → List Symbol
+chain_symbols s = flat_map block_symbols s.blocks ++ output_symbols s.output
 
 -- the tokens of items
 abbrev pub tokens : List Item → List Token

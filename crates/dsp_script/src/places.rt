@@ -3,8 +3,9 @@
 ghost use Rattle.std.specs.Prelude.{◌≡◌, ◌≤◌, ◌≤ℤ◌, ◌<◌, IfOk, IfSome};
 ghost use Rattle.std.specs.Option.{option_map};
 ghost use Rattle.dsp_defs.specs.Parameters.{least, greatest};
-ghost use Rattle.dsp_defs.specs.Places.{format_at, container_at, word_at, number_at, natural_at, next_number, list_end, judged, open_at, entry_at, entries_at, list_at, conversion_at};
-ghost use Rattle.dsp_defs.specs.Reading.{next_block_at};
+ghost use Rattle.dsp_defs.specs.Places.{next_at, choice, named, number, natural_at, next_number, list_end, judged, opening, entry, entries_at, list_at, conversion};
+ghost use Rattle.dsp_defs.specs.Reading.{next_block};
+ghost use Rattle.dsp_defs.specs.Table.{by_name, every_format, format_name, container_name};
 ghost use Rattle.dsp_script.specs.Answers.{Gives, GivesUnlessMemory};
 
 use crate::fault::ParseFault;
@@ -18,9 +19,9 @@ use dsp_defs::{
 use std::alloc::{AllocError, Global};
 
 /// This word.
-#[tactic(auto, unfolding(dsp_defs::specs::Places::word_at))]
+#[tactic(auto, unfolding(dsp_defs::specs::Places::next_at))]
 pub fn word(cursor: &mut Cursor<'_>, name: &[u8]) -> Result<(), ScriptFault>
-    ensures { Gives (λ _. (tt, cursor.new)) result (word_at name.now cursor.old) }
+    ensures { Gives (λ _. (tt, cursor.new)) result (next_at (choice (named name.now)) cursor.old) }
 {
     let item = cursor.token()?;
     match item.token {
@@ -30,9 +31,9 @@ pub fn word(cursor: &mut Cursor<'_>, name: &[u8]) -> Result<(), ScriptFault>
 }
 
 /// A format's word.
-#[tactic(auto, unfolding(dsp_defs::specs::Places::format_at))]
+#[tactic(auto, unfolding(dsp_defs::specs::Places::next_at))]
 pub fn format(cursor: &mut Cursor<'_>) -> Result<Fmt, ScriptFault>
-    ensures { Gives (λ f. (f, cursor.new)) result (format_at cursor.old) }
+    ensures { Gives (λ f. (f, cursor.new)) result (next_at (choice (by_name format_name every_format)) cursor.old) }
 {
     let item = cursor.token()?;
     if let Token::Run(run) = item.token {
@@ -44,12 +45,13 @@ pub fn format(cursor: &mut Cursor<'_>) -> Result<Fmt, ScriptFault>
 }
 
 /// The word of one of these containers.
-#[tactic(auto, unfolding(dsp_defs::specs::Places::container_at))]
+#[tactic(auto, unfolding(dsp_defs::specs::Places::next_at))]
 pub fn container(
     cursor: &mut Cursor<'_>,
     containers: &[Container],
 ) -> Result<Container, ScriptFault>
-    ensures { Gives (λ c. (c, cursor.new)) result (container_at containers.now cursor.old) }
+    ensures { Gives (λ c. (c, cursor.new)) result
+        (next_at (choice (by_name container_name containers.now)) cursor.old) }
 {
     let item = cursor.token()?;
     if let Token::Run(run) = item.token {
@@ -61,9 +63,9 @@ pub fn container(
 }
 
 /// A number in a range.
-#[tactic(auto, unfolding(dsp_defs::specs::Places::number_at))]
+#[tactic(auto, unfolding(dsp_defs::specs::Places::next_at))]
 pub fn number(cursor: &mut Cursor<'_>, low: i64, high: i64) -> Result<i64, ScriptFault>
-    ensures value { Gives (λ n. (n, cursor.new)) result (number_at low high cursor.old) }
+    ensures value { Gives (λ n. (n, cursor.new)) result (next_at (number low high) cursor.old) }
     ensures range { IfOk result (λ n. (low ≤ℤ n) × (n ≤ℤ high)) }
 {
     let item = cursor.token()?;
@@ -97,9 +99,9 @@ pub fn byte(cursor: &mut Cursor<'_>, low: u8, high: u8) -> Result<u8, ScriptFaul
 }
 
 /// A number in a range within that of `i32`.
-#[tactic(auto, unfolding(dsp_defs::specs::Places::number_at))]
+#[tactic(auto, unfolding(dsp_defs::specs::Places::next_at))]
 pub fn integer(cursor: &mut Cursor<'_>, low: i32, high: i32) -> Result<i32, ScriptFault>
-    ensures { Gives (λ n. (n, cursor.new)) result (number_at low high cursor.old) }
+    ensures { Gives (λ n. (n, cursor.new)) result (next_at (number low high) cursor.old) }
 {
     let value = number(cursor, i64::from(low), i64::from(high))?;
     Ok(value as i32)
@@ -107,7 +109,8 @@ pub fn integer(cursor: &mut Cursor<'_>, low: i32, high: i32) -> Result<i32, Scri
 
 /// A number of the format's word.
 pub fn coefficient(cursor: &mut Cursor<'_>, format: Fmt) -> Result<i32, ScriptFault>
-    ensures { Gives (λ n. (n, cursor.new)) result (number_at (least format) (greatest format) cursor.old) }
+    ensures { Gives (λ n. (n, cursor.new)) result
+        (next_at (number (least format) (greatest format)) cursor.old) }
 {
     integer(cursor, rules::least(format), rules::greatest(format))
 }
@@ -169,14 +172,14 @@ fn judged(item: &Item<'_>, rule: ListRule, numbers: &[i32]) -> Result<(), Script
 }
 
 /// The brace that opens a list, or the numbers of the table that is named in its place.
-#[tactic(auto, unfolding(dsp_defs::specs::Places::open_at))]
+#[tactic(auto, unfolding(dsp_defs::specs::Places::next_at))]
 fn open<'t>(
     lists: &'t ListSource<'_>,
     cursor: &mut Cursor<'_>,
     rule: ListRule,
 ) -> Result<Option<&'t [i32]>, ScriptFault>
     ensures { Gives (λ n. (option_map (λ s. s.now) n, cursor.new)) result
-        (open_at lists.now.tables rule cursor.old) }
+        (next_at (opening lists.now.tables rule) cursor.old) }
 {
     let item = cursor.token()?;
     match (item.token, &lists.tables) {
@@ -193,13 +196,13 @@ fn open<'t>(
 }
 
 /// The next number of a list that has `count` numbers, or its end.
-#[tactic(auto, unfolding(dsp_defs::specs::Places::entry_at))]
+#[tactic(auto, unfolding(dsp_defs::specs::Places::next_at))]
 pub fn entry(
     cursor: &mut Cursor<'_>,
     rule: ListRule,
     count: u64,
 ) -> Result<Option<i32>, ScriptFault>
-    ensures value { Gives (λ n. (n, cursor.new)) result (entry_at rule count cursor.old) }
+    ensures value { Gives (λ n. (n, cursor.new)) result (next_at (entry rule count) cursor.old) }
     ensures room { IfOk result (λ n. IfSome n (λ _. count < rule.limit)) }
 {
     let item = cursor.token()?;
@@ -220,9 +223,9 @@ pub fn entry(
 }
 
 /// The format after a conversion, which is another than the present one.
-#[tactic(auto, unfolding(dsp_defs::specs::Places::conversion_at))]
+#[tactic(auto, unfolding(dsp_defs::specs::Places::next_at))]
 pub fn conversion(cursor: &mut Cursor<'_>, from: Fmt) -> Result<Fmt, ScriptFault>
-    ensures { Gives (λ f. (f, cursor.new)) result (conversion_at from cursor.old) }
+    ensures { Gives (λ f. (f, cursor.new)) result (next_at (conversion from) cursor.old) }
 {
     let item = cursor.token()?;
     if let Token::Run(run) = item.token {
@@ -237,14 +240,15 @@ pub fn conversion(cursor: &mut Cursor<'_>, from: Fmt) -> Result<Fmt, ScriptFault
 }
 
 /// The word of the next block, or none where the output comes; so many more blocks may come.
-#[tactic(auto, unfolding(dsp_defs::specs::Reading::next_block_at, dsp_defs::specs::Reading::place_of))]
+#[tactic(auto, unfolding(dsp_defs::specs::Places::next_at, dsp_defs::specs::Reading::place_of))]
 pub fn next_block(
     cursor: &mut Cursor<'_>,
     left: usize,
     correlated: bool,
     flow: Flow,
 ) -> Result<Option<Word>, ScriptFault>
-    ensures value { Gives (λ w. (w, cursor.new)) result (next_block_at left correlated flow cursor.old) }
+    ensures value { Gives (λ w. (w, cursor.new)) result
+        (next_at (next_block left correlated flow) cursor.old) }
     ensures room { IfOk result (λ w. IfSome w (λ _. 0 < left)) }
 {
     let item = cursor.token()?;

@@ -1,12 +1,13 @@
 //! Printing a script.
 
-ghost use Rattle.std.specs.Prelude.{◌≡◌, ◌++◌, OnOk, IfOk, codes, [], ◌∷◌, pos};
+ghost use Rattle.std.specs.Prelude.{◌≡◌, ◌++◌, OnOk, IfOk, codes, [], ◌∷◌, pos, map};
 ghost use Rattle.std.specs.String.{string_bytes};
 ghost use Rattle.std.specs.Fmt.{signed_decimal};
 ghost use Rattle.std.specs.List.{flat_map, join_by};
-ghost use Rattle.dsp_defs.specs.Parameters.{Number, Listed, Format};
-ghost use Rattle.dsp_defs.specs.Grammar.{arguments};
-ghost use Rattle.dsp_defs.specs.Canon.{argument_text, arguments_text, block_line, rate_text, input_line, length_line, output_line, canon};
+ghost use Rattle.dsp_defs.specs.Table.{format_name};
+ghost use Rattle.dsp_defs.specs.Grammar.{Name, Numeral, Whole, argument_symbol, arguments, block_symbols, rate_symbols, input_symbols, length_symbols, output_symbols};
+ghost use Rattle.dsp_defs.specs.Canon.{symbol_text, line_of, canon};
+ghost use Rattle.dsp_script.specs.Printed.{behind_spaces};
 
 use crate::table;
 use dsp_defs::{Block, Container, Fmt, Input, InputKind, List, Script};
@@ -39,8 +40,8 @@ fn joined(out: &mut String, numbers: &[i32]) -> Result<(), AllocError>
 
 /// Numbers in braces.
 fn braced(out: &mut String, numbers: &[i32]) -> Result<(), AllocError>
-    ensures { OnOk result (string_bytes out.new ≡ string_bytes out.old ++ argument_text
-        (Listed numbers.now)) }
+    ensures { OnOk result (string_bytes out.new ≡ string_bytes out.old ++ symbol_text
+        (Whole numbers.now)) }
 {
     out.push_str("{")?;
     joined(out, numbers)?;
@@ -50,7 +51,7 @@ fn braced(out: &mut String, numbers: &[i32]) -> Result<(), AllocError>
 
 /// A number as an argument.
 fn number(out: &mut String, n: i64) -> Result<(), AllocError>
-    ensures { OnOk result (string_bytes out.new ≡ string_bytes out.old ++ arguments_text (Number n ∷ [])) }
+    ensures { OnOk result (string_bytes out.new ≡ string_bytes out.old ++ behind_spaces (Numeral n ∷ [])) }
 {
     write!(out, " {n}")?;
     Ok(())
@@ -58,8 +59,8 @@ fn number(out: &mut String, n: i64) -> Result<(), AllocError>
 
 /// Two numbers as arguments.
 fn pair(out: &mut String, first: i64, second: i64) -> Result<(), AllocError>
-    ensures { OnOk result (string_bytes out.new ≡ string_bytes out.old ++ arguments_text
-        (Number first ∷ Number second ∷ [])) }
+    ensures { OnOk result (string_bytes out.new ≡ string_bytes out.old ++ behind_spaces
+        (Numeral first ∷ Numeral second ∷ [])) }
 {
     write!(out, " {first} {second}")?;
     Ok(())
@@ -67,8 +68,8 @@ fn pair(out: &mut String, first: i64, second: i64) -> Result<(), AllocError>
 
 /// Three numbers as arguments.
 fn triple(out: &mut String, first: i64, second: i64, third: i64) -> Result<(), AllocError>
-    ensures { OnOk result (string_bytes out.new ≡ string_bytes out.old ++ arguments_text
-        (Number first ∷ Number second ∷ Number third ∷ [])) }
+    ensures { OnOk result (string_bytes out.new ≡ string_bytes out.old ++ behind_spaces
+        (Numeral first ∷ Numeral second ∷ Numeral third ∷ [])) }
 {
     number(out, first)?;
     pair(out, second, third)
@@ -82,8 +83,8 @@ fn quadruple(
     third: i64,
     fourth: i64,
 ) -> Result<(), AllocError>
-    ensures { OnOk result (string_bytes out.new ≡ string_bytes out.old ++ arguments_text
-        (Number first ∷ Number second ∷ Number third ∷ Number fourth ∷ [])) }
+    ensures { OnOk result (string_bytes out.new ≡ string_bytes out.old ++ behind_spaces
+        (Numeral first ∷ Numeral second ∷ Numeral third ∷ Numeral fourth ∷ [])) }
 {
     write!(out, " {first} {second} {third} {fourth}")?;
     Ok(())
@@ -91,8 +92,8 @@ fn quadruple(
 
 /// A format as an argument.
 fn format(out: &mut String, format: Fmt) -> Result<(), AllocError>
-    ensures { OnOk result (string_bytes out.new ≡ string_bytes out.old ++ arguments_text
-        (Format format ∷ [])) }
+    ensures { OnOk result (string_bytes out.new ≡ string_bytes out.old ++ behind_spaces
+        (Name (format_name format) ∷ [])) }
 {
     out.push_str(" ")?;
     out.push_str(table::format_name(format))?;
@@ -101,8 +102,8 @@ fn format(out: &mut String, format: Fmt) -> Result<(), AllocError>
 
 /// A list as an argument.
 fn list(out: &mut String, numbers: &List) -> Result<(), AllocError>
-    ensures { OnOk result (string_bytes out.new ≡ string_bytes out.old ++ arguments_text
-        (Listed numbers.now ∷ [])) }
+    ensures { OnOk result (string_bytes out.new ≡ string_bytes out.old ++ behind_spaces
+        (Whole numbers.now ∷ [])) }
 {
     out.push_str(" ")?;
     braced(out, numbers.as_slice())
@@ -110,8 +111,8 @@ fn list(out: &mut String, numbers: &List) -> Result<(), AllocError>
 
 /// Two lists as arguments.
 fn lists(out: &mut String, first: &List, second: &List) -> Result<(), AllocError>
-    ensures { OnOk result (string_bytes out.new ≡ string_bytes out.old ++ arguments_text
-        (Listed first.now ∷ Listed second.now ∷ [])) }
+    ensures { OnOk result (string_bytes out.new ≡ string_bytes out.old ++ behind_spaces
+        (Whole first.now ∷ Whole second.now ∷ [])) }
 {
     list(out, first)?;
     list(out, second)
@@ -119,8 +120,8 @@ fn lists(out: &mut String, first: &List, second: &List) -> Result<(), AllocError
 
 /// A number and a list as arguments.
 fn number_and_list(out: &mut String, n: u8, numbers: &List) -> Result<(), AllocError>
-    ensures { OnOk result (string_bytes out.new ≡ string_bytes out.old ++ arguments_text
-        (Number (pos n) ∷ Listed numbers.now ∷ [])) }
+    ensures { OnOk result (string_bytes out.new ≡ string_bytes out.old ++ behind_spaces
+        (Numeral (pos n) ∷ Whole numbers.now ∷ [])) }
 {
     number(out, i64::from(n))?;
     list(out, numbers)
@@ -133,8 +134,8 @@ fn pair_and_list(
     second: i64,
     numbers: &List,
 ) -> Result<(), AllocError>
-    ensures { OnOk result (string_bytes out.new ≡ string_bytes out.old ++ arguments_text
-        (Number first ∷ Number second ∷ Listed numbers.now ∷ [])) }
+    ensures { OnOk result (string_bytes out.new ≡ string_bytes out.old ++ behind_spaces
+        (Numeral first ∷ Numeral second ∷ Whole numbers.now ∷ [])) }
 {
     pair(out, first, second)?;
     list(out, numbers)
@@ -142,16 +143,16 @@ fn pair_and_list(
 
 /// The sides of a matrix, and the matrix.
 fn matrix(out: &mut String, rows: u8, columns: u8, matrix: &List) -> Result<(), AllocError>
-    ensures { OnOk result (string_bytes out.new ≡ string_bytes out.old ++ arguments_text
-        (Number (pos rows) ∷ Number (pos columns) ∷ Listed matrix.now ∷ [])) }
+    ensures { OnOk result (string_bytes out.new ≡ string_bytes out.old ++ behind_spaces
+        (Numeral (pos rows) ∷ Numeral (pos columns) ∷ Whole matrix.now ∷ [])) }
 {
     pair_and_list(out, i64::from(rows), i64::from(columns), matrix)
 }
 
 /// The arguments of a block.
 fn arguments(out: &mut String, block: &Block) -> Result<(), AllocError>
-    ensures { OnOk result (string_bytes out.new ≡ string_bytes out.old ++ arguments_text
-        (arguments block.now)) }
+    ensures { OnOk result (string_bytes out.new ≡ string_bytes out.old ++ behind_spaces
+        (map argument_symbol (arguments block.now))) }
 {
     match block {
         Block::Offset { value } => number(out, i64::from(*value)),
@@ -222,7 +223,7 @@ fn arguments(out: &mut String, block: &Block) -> Result<(), AllocError>
 
 /// The line of a block.
 fn block(out: &mut String, block: &Block) -> Result<(), AllocError>
-    ensures { OnOk result (string_bytes out.new ≡ string_bytes out.old ++ block_line block.now) }
+    ensures { OnOk result (string_bytes out.new ≡ string_bytes out.old ++ line_of (block_symbols block.now)) }
 {
     out.push_str(table::row_of(table::word_of(block)).name)?;
     arguments(out, block)?;
@@ -232,7 +233,8 @@ fn block(out: &mut String, block: &Block) -> Result<(), AllocError>
 
 /// The lines of the blocks.
 fn blocks(out: &mut String, blocks: &[Block]) -> Result<(), AllocError>
-    ensures { OnOk result (string_bytes out.new ≡ string_bytes out.old ++ flat_map block_line blocks.now) }
+    ensures { OnOk result (string_bytes out.new ≡ string_bytes out.old ++ flat_map
+        (λ b. line_of (block_symbols b)) blocks.now) }
 {
     for each in blocks {
         block(out, each)?;
@@ -242,7 +244,7 @@ fn blocks(out: &mut String, blocks: &[Block]) -> Result<(), AllocError>
 
 /// The rate of raw samples, as it ends the line of the input.
 fn rate(out: &mut String, kind: InputKind) -> Result<(), AllocError>
-    ensures { OnOk result (string_bytes out.new ≡ string_bytes out.old ++ rate_text kind) }
+    ensures { OnOk result (string_bytes out.new ≡ string_bytes out.old ++ behind_spaces (rate_symbols kind)) }
 {
     if let InputKind::Raw { rate } = kind {
         write!(out, " {rate}")?;
@@ -252,9 +254,9 @@ fn rate(out: &mut String, kind: InputKind) -> Result<(), AllocError>
 
 /// The line of the input.
 fn input(out: &mut String, input: &Input) -> Result<(), AllocError>
-    ensures { OnOk result (string_bytes out.new ≡ string_bytes out.old ++ input_line input.now) }
+    ensures { OnOk result (string_bytes out.new ≡ string_bytes out.old ++ line_of (input_symbols input.now)) }
 {
-    let container = table::container_name(table::container_of(input.kind));
+    let container = table::container_name(input.kind.container());
     let format = table::format_name(input.format);
     let channels = input.channels;
     write!(out, "input {container} {format} {channels}")?;
@@ -265,7 +267,7 @@ fn input(out: &mut String, input: &Input) -> Result<(), AllocError>
 
 /// The line of the block length, where there is one.
 fn length(out: &mut String, block: Option<u32>) -> Result<(), AllocError>
-    ensures { OnOk result (string_bytes out.new ≡ string_bytes out.old ++ length_line block) }
+    ensures { OnOk result (string_bytes out.new ≡ string_bytes out.old ++ line_of (length_symbols block)) }
 {
     if let Some(frames) = block {
         write!(out, "block {frames}\n")?;
@@ -275,7 +277,7 @@ fn length(out: &mut String, block: Option<u32>) -> Result<(), AllocError>
 
 /// The line of the output.
 fn output(out: &mut String, output: Container) -> Result<(), AllocError>
-    ensures { OnOk result (string_bytes out.new ≡ string_bytes out.old ++ output_line output) }
+    ensures { OnOk result (string_bytes out.new ≡ string_bytes out.old ++ line_of (output_symbols output)) }
 {
     let container = table::container_name(output);
     write!(out, "output {container}\n")?;

@@ -3,8 +3,7 @@
 
 ghost use Rattle.dsp_defs.specs.Places.{Environment};
 ghost use Rattle.dsp_defs.specs.Reading.{block_at};
-ghost use Rattle.dsp_defs.specs.Table.{parameters};
-ghost use Rattle.dsp_script.specs.Answers.{Gives, GivesUnlessMemory};
+ghost use Rattle.dsp_script.specs.Answers.{Gives, GivesUnlessMemory, parameters};
 
 use crate::fault::ParseFault;
 use crate::places::{byte, coefficient, conversion, factor, integer, list, natural, side};

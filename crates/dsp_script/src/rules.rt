@@ -1,7 +1,8 @@
 //! The ranges of a block's numbers, and the rules of its lists.
 
-ghost use Rattle.std.specs.Prelude.{◌≡◌};
-ghost use Rattle.dsp_defs.specs.Parameters.{least, greatest, least_scale, greatest_scale, least_shift, greatest_shift, least_matrix_shift, greatest_matrix_shift, greatest_biquad_shift, greatest_lms_shift, is_complete, factor_of, coefficients, taps, sparse_taps, delays, sections, reflections, exactly, routes};
+ghost use Rattle.std.specs.Prelude.{◌≡◌, pos, negsuc};
+ghost use Rattle.dsp_defs.specs.Numbers.{neg};
+ghost use Rattle.dsp_defs.specs.Parameters.{least, greatest, greatest_scale, greatest_shift, least_matrix_shift, greatest_matrix_shift, greatest_biquad_shift, greatest_lms_shift, is_complete, factor_of, coefficients, taps, sparse_taps, delays, sections, reflections, exactly, routes};
 ghost use Rattle.dsp_defs.specs.Tables.{table_rule};
 
 use dsp_defs::{
@@ -34,7 +35,7 @@ pub fn greatest(format: Fmt) -> i32
 
 /// The least shift of `scale`.
 pub fn least_scale(format: Fmt) -> i32
-    ensures { result ≡ least_scale format }
+    ensures { result ≡ negsuc (greatest_scale format) }
 {
     match format {
         Fmt::Q7 => -8,
@@ -45,7 +46,7 @@ pub fn least_scale(format: Fmt) -> i32
 
 /// The greatest shift of `scale`.
 pub fn greatest_scale(format: Fmt) -> i32
-    ensures { result ≡ greatest_scale format }
+    ensures { result ≡ pos (greatest_scale format) }
 {
     match format {
         Fmt::Q7 => 7,
@@ -56,7 +57,7 @@ pub fn greatest_scale(format: Fmt) -> i32
 
 /// The least shift of `shift`.
 pub fn least_shift(format: Fmt) -> i32
-    ensures { result ≡ least_shift format }
+    ensures { result ≡ neg (greatest_shift format) }
 {
     match format {
         Fmt::Q7 => -7,
@@ -67,7 +68,7 @@ pub fn least_shift(format: Fmt) -> i32
 
 /// The greatest shift of `shift`.
 pub fn greatest_shift(format: Fmt) -> i32
-    ensures { result ≡ greatest_shift format }
+    ensures { result ≡ pos (greatest_shift format) }
 {
     match format {
         Fmt::Q7 => 7,

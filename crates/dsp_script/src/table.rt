@@ -1,11 +1,11 @@
 //! The table of blocks: their words, and where they may stand.
 
 ghost use Rattle.std.specs.Prelude.{◌≡◌};
-ghost use Rattle.dsp_defs.specs.Table.{row_of, word_by_name, format_name, format_by_name, container_name, container_by_name, admits, is_correlate, flow_after};
-ghost use Rattle.dsp_defs.specs.Grammar.{word_of, container_of, input_flow};
+ghost use Rattle.dsp_defs.specs.Table.{row_of, by_name, every_word, name_of, every_format, format_name, container_name, admits, is_correlate, flow_after};
+ghost use Rattle.dsp_defs.specs.Grammar.{word_of, input_flow};
 ghost use Rattle.dsp_script.specs.Answers.{HasFewChannels};
 
-use dsp_defs::{Block, Container, Flow, Fmt, Formats, Input, InputKind, Word};
+use dsp_defs::{Block, Container, Flow, Fmt, Formats, Input, Word};
 
 /// Where a block may stand: its name, its formats, and the channels that it wants, where it wants
 /// a number of them.
@@ -16,29 +16,18 @@ pub struct Row {
     pub channels: Option<u8>,
 }
 
-/// A block that works on each channel, or that takes any number of them.
-fn each(name: &'static str, formats: Formats) -> Row
-    ensures name { result.name.now ≡ name.now }
-    ensures formats { result.formats ≡ formats }
-    ensures channels { result.channels ≡ None }
-{
-    Row {
-        name,
-        formats,
-        channels: None,
-    }
-}
-
-/// A block that wants so many channels.
-fn of_channels(wanted: u8, name: &'static str, formats: Formats) -> Row
-    ensures name { result.name.now ≡ name.now }
-    ensures formats { result.formats ≡ formats }
-    ensures channels { result.channels ≡ Some wanted }
-{
-    Row {
-        name,
-        formats,
-        channels: Some(wanted),
+impl Row {
+    /// A block that works on each channel, or that takes any number of them, wants none.
+    fn new(name: &'static str, formats: Formats, channels: Option<u8>) -> Row
+        ensures name { result.name.now ≡ name.now }
+        ensures formats { result.formats ≡ formats }
+        ensures channels { result.channels ≡ channels }
+    {
+        Row {
+            name,
+            formats,
+            channels,
+        }
     }
 }
 
@@ -49,44 +38,44 @@ pub fn row_of(word: Word) -> Row
     ensures channels { result.channels ≡ (row_of word).channels }
 {
     match word {
-        Word::Offset => each("offset", Formats::All),
-        Word::Negate => each("negate", Formats::All),
-        Word::Abs => each("abs", Formats::All),
-        Word::Scale => each("scale", Formats::All),
-        Word::Shift => each("shift", Formats::All),
-        Word::Clip => each("clip", Formats::All),
-        Word::To => each("to", Formats::All),
-        Word::Add => of_channels(2, "add", Formats::All),
-        Word::Sub => of_channels(2, "sub", Formats::All),
-        Word::Mult => of_channels(2, "mult", Formats::All),
-        Word::Conj => of_channels(2, "cmplx_conj", Formats::NotQ7),
-        Word::CmplxMult => of_channels(4, "cmplx_mult", Formats::NotQ7),
-        Word::CmplxMultReal => of_channels(3, "cmplx_mult_real", Formats::OnlyQ15),
-        Word::MagSquared => of_channels(2, "cmplx_mag_squared", Formats::NotQ7),
-        Word::Fir => each("fir", Formats::All),
-        Word::Sparse => each("sparse", Formats::All),
-        Word::Decimate => each("decimate", Formats::NotQ7),
-        Word::Interpolate => each("interpolate", Formats::NotQ7),
-        Word::LatticeFir => each("lattice_fir", Formats::OnlyQ15),
-        Word::LatticeIir => each("lattice_iir", Formats::NotQ7),
-        Word::Biquad => each("biquad", Formats::NotQ7),
-        Word::Biquad64 => each("biquad64", Formats::OnlyQ31),
-        Word::Conv => each("conv", Formats::All),
-        Word::ConvPartial => each("conv_partial", Formats::All),
-        Word::Correlate => each("correlate", Formats::All),
-        Word::Lms => of_channels(2, "lms", Formats::NotQ7),
-        Word::Pid => each("pid", Formats::NotQ7),
-        Word::MatAdd => each("mat_add", Formats::NotQ7),
-        Word::MatSub => each("mat_sub", Formats::NotQ7),
-        Word::MatScale => each("mat_scale", Formats::NotQ7),
-        Word::MatTrans => each("mat_trans", Formats::NotQ7),
-        Word::MatMult => each("mat_mult", Formats::OnlyQ15),
-        Word::Power => each("power", Formats::All),
-        Word::Dot => of_channels(2, "dot", Formats::All),
-        Word::CmplxDot => of_channels(4, "cmplx_dot", Formats::NotQ7),
-        Word::Max => each("max", Formats::All),
-        Word::Min => each("min", Formats::All),
-        Word::Route => each("route", Formats::All),
+        Word::Offset => Row::new("offset", Formats::All, None),
+        Word::Negate => Row::new("negate", Formats::All, None),
+        Word::Abs => Row::new("abs", Formats::All, None),
+        Word::Scale => Row::new("scale", Formats::All, None),
+        Word::Shift => Row::new("shift", Formats::All, None),
+        Word::Clip => Row::new("clip", Formats::All, None),
+        Word::To => Row::new("to", Formats::All, None),
+        Word::Add => Row::new("add", Formats::All, Some(2)),
+        Word::Sub => Row::new("sub", Formats::All, Some(2)),
+        Word::Mult => Row::new("mult", Formats::All, Some(2)),
+        Word::Conj => Row::new("cmplx_conj", Formats::NotQ7, Some(2)),
+        Word::CmplxMult => Row::new("cmplx_mult", Formats::NotQ7, Some(4)),
+        Word::CmplxMultReal => Row::new("cmplx_mult_real", Formats::OnlyQ15, Some(3)),
+        Word::MagSquared => Row::new("cmplx_mag_squared", Formats::NotQ7, Some(2)),
+        Word::Fir => Row::new("fir", Formats::All, None),
+        Word::Sparse => Row::new("sparse", Formats::All, None),
+        Word::Decimate => Row::new("decimate", Formats::NotQ7, None),
+        Word::Interpolate => Row::new("interpolate", Formats::NotQ7, None),
+        Word::LatticeFir => Row::new("lattice_fir", Formats::OnlyQ15, None),
+        Word::LatticeIir => Row::new("lattice_iir", Formats::NotQ7, None),
+        Word::Biquad => Row::new("biquad", Formats::NotQ7, None),
+        Word::Biquad64 => Row::new("biquad64", Formats::OnlyQ31, None),
+        Word::Conv => Row::new("conv", Formats::All, None),
+        Word::ConvPartial => Row::new("conv_partial", Formats::All, None),
+        Word::Correlate => Row::new("correlate", Formats::All, None),
+        Word::Lms => Row::new("lms", Formats::NotQ7, Some(2)),
+        Word::Pid => Row::new("pid", Formats::NotQ7, None),
+        Word::MatAdd => Row::new("mat_add", Formats::NotQ7, None),
+        Word::MatSub => Row::new("mat_sub", Formats::NotQ7, None),
+        Word::MatScale => Row::new("mat_scale", Formats::NotQ7, None),
+        Word::MatTrans => Row::new("mat_trans", Formats::NotQ7, None),
+        Word::MatMult => Row::new("mat_mult", Formats::OnlyQ15, None),
+        Word::Power => Row::new("power", Formats::All, None),
+        Word::Dot => Row::new("dot", Formats::All, Some(2)),
+        Word::CmplxDot => Row::new("cmplx_dot", Formats::NotQ7, Some(4)),
+        Word::Max => Row::new("max", Formats::All, None),
+        Word::Min => Row::new("min", Formats::All, None),
+        Word::Route => Row::new("route", Formats::All, None),
     }
 }
 
@@ -134,9 +123,9 @@ const WORDS: [Word; 38] = [
 ];
 
 /// The block's word that a run is.
-#[tactic(auto, unfolding(dsp_defs::specs::Table::word_by_name))]
+#[tactic(auto, unfolding(dsp_defs::specs::Table::by_name))]
 pub fn word_by_name(run: &[u8]) -> Option<Word>
-    ensures { result ≡ word_by_name run.now }
+    ensures { result ≡ by_name name_of every_word run.now }
 {
     WORDS
         .iter()
@@ -209,9 +198,9 @@ pub fn format_name(format: Fmt) -> &'static str
 }
 
 /// The format that a run names.
-#[tactic(auto, unfolding(dsp_defs::specs::Table::format_by_name))]
+#[tactic(auto, unfolding(dsp_defs::specs::Table::by_name))]
 pub fn format_by_name(run: &[u8]) -> Option<Fmt>
-    ensures { result ≡ format_by_name run.now }
+    ensures { result ≡ by_name format_name every_format run.now }
 {
     FORMATS
         .iter()
@@ -235,20 +224,10 @@ pub fn container_name(container: Container) -> &'static str
     }
 }
 
-/// The container of an input.
-pub fn container_of(kind: InputKind) -> Container
-    ensures { result ≡ container_of kind }
-{
-    match kind {
-        InputKind::Wave => Container::Wave,
-        InputKind::Raw { .. } => Container::Raw,
-    }
-}
-
 /// The container that a run names, among those that may stand there.
-#[tactic(auto, unfolding(dsp_defs::specs::Table::container_by_name))]
+#[tactic(auto, unfolding(dsp_defs::specs::Table::by_name))]
 pub fn container_by_name(containers: &[Container], run: &[u8]) -> Option<Container>
-    ensures { result ≡ container_by_name containers.now run.now }
+    ensures { result ≡ by_name container_name containers.now run.now }
 {
     containers
         .iter()

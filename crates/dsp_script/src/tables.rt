@@ -88,6 +88,7 @@ fn is_name(run: &[u8]) -> bool
 }
 
 /// The word `table`, where so many more may come.
+#[tactic(auto, unfolding(dsp_defs::specs::Places::next_at))]
 fn table_word(cursor: &mut Cursor<'_>, left: usize) -> Result<(), ScriptFault>
     ensures value { Gives (λ _. (tt, cursor.new)) result (next_at (table_word left) cursor.old) }
     ensures room { IfOk result (λ _. 0 < left) }
@@ -107,6 +108,7 @@ fn table_word(cursor: &mut Cursor<'_>, left: usize) -> Result<(), ScriptFault>
 }
 
 /// A name that none of these tables has.
+#[tactic(auto, unfolding(dsp_defs::specs::Places::next_at))]
 fn new_name<'a>(cursor: &mut Cursor<'a>, tables: &Tables<'_>) -> Result<&'a [u8], ScriptFault>
     ensures { Gives (λ n. (n.now, cursor.new)) result (next_at (new_name tables.now) cursor.old) }
 {

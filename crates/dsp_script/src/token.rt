@@ -4,7 +4,7 @@ ghost use Rattle.std.specs.Prelude.{◌≡◌, ◌<◌, ◌≤◌, ◌+◌, ℕ,
 ghost use Rattle.dsp_defs.specs.Token.{items_from, is_white, is_run_byte, rest_of, Rest};
 ghost use Rattle.dsp_script.specs.View.{item_view};
 ghost use Rattle.dsp_script.specs.Answers.{Gives};
-ghost use Rattle.dsp_defs.specs.Places.{begins_with, token_at};
+ghost use Rattle.dsp_defs.specs.Places.{begins_with, first_of};
 ghost use Rattle.dsp_defs.specs.Reading.{nothing_of};
 
 use dsp_defs::{ScriptFault, ScriptKind};
@@ -104,7 +104,7 @@ fn token_from(text: &[u8], from: usize) -> Result<(Item<'_>, usize), ScriptFault
     requires { from ≤ length text.now }
     ensures bounds { IfOk result (λ x. x.1 ≤ length text.now) }
     ensures token { Gives (λ x. (item_view x.0, rest_of x.1 text.now)) result
-        (token_at (rest_of from text.now)) }
+        (first_of (length text.now) (items_from false from (drop from text.now))) }
 {
     let at = token_start(text, from);
     let offset = at as u64;
@@ -176,7 +176,8 @@ impl<'a> Cursor<'a> {
 
     /// The next token.
     pub fn token(&mut self) -> Result<Item<'a>, ScriptFault>
-        ensures { Gives (λ item. (item_view item, self.new)) result (token_at self.old) }
+        ensures { Gives (λ item. (item_view item, self.new)) result
+            (first_of self.old.end self.old.items) }
     {
         let (item, at) = token_from(self.text, self.at)?;
         self.at = at;
@@ -184,7 +185,7 @@ impl<'a> Cursor<'a> {
     }
 
     /// The next token is this word.
-    #[tactic(auto, unfolding(dsp_defs::specs::Places::token_at))]
+    #[tactic(auto, unfolding(dsp_defs::specs::Places::first_of))]
     pub fn begins_with(&self, name: &[u8]) -> bool
         ensures { result ≡ begins_with name.now self.now.items }
     {
@@ -195,7 +196,7 @@ impl<'a> Cursor<'a> {
     }
 
     /// Nothing is left, but for bytes that begin no token.
-    #[tactic(auto, unfolding(dsp_defs::specs::Places::token_at))]
+    #[tactic(auto, unfolding(dsp_defs::specs::Places::first_of))]
     pub fn end(&self) -> Result<(), ScriptFault>
         ensures { Gives (λ _. tt) result (nothing_of self.now.items) }
     {

@@ -1,7 +1,6 @@
 ghost use Rattle.std.specs.Prelude.{◌≡◌, ◌+◌, ◌*◌, ◌/◌, ◌^◌, ◌<◌, ◌≤◌, ◌↔◌, length, take, drop, flat_map, All, IfOk, IfErr, IsErr, IsFalse, Some, None, slice_get};
 ghost use Rattle.std.specs.Option.{option_map};
 ghost use Rattle.dsp_defs.specs.Bytes.{IsValue, bytes_of, format_in, sample_of, width};
-ghost use Rattle.dsp_defs.specs.Grammar.{container_of};
 ghost use Rattle.dsp_defs.specs.Shape.{gathered, held, window_at};
 ghost use Rattle.dsp_defs.specs.Signal.{values};
 ghost use Rattle.dsp_defs.specs.declared.fault.GatherFull.{GatherFull};
@@ -11,22 +10,12 @@ ghost use Rattle.dsp_session.specs.Session.{IsReady, IsNew, SameScript, SameSess
 
 use crate::opening::frame_bytes;
 use dsp_chain::Chain;
-use dsp_defs::{Container, GatherFull, InputKind, Measure, Script, Steps, WindowFault};
+use dsp_defs::{GatherFull, Measure, Script, Steps, WindowFault};
 use dsp_script::output_flow;
 use dsp_wave::{Coding, coding_of, decode, encode, width};
 use std::alloc::{AllocError, Global};
 use std::marker::Model;
 use std::sync::ledger::Ledger;
-
-/// The form of an input.
-fn container_of(kind: InputKind) -> Container
-    ensures { result ≡ container_of kind }
-{
-    match kind {
-        InputKind::Wave => Container::Wave,
-        InputKind::Raw { .. } => Container::Raw,
-    }
-}
 
 /// Reads the samples of some bytes to the front, and answers their number.
 fn decode_front(coding: Coding, bytes: &[u8], samples: &mut [i32]) -> usize
@@ -98,7 +87,7 @@ impl<'s> Worker<'s> {
     {
         let chain = Chain::new(alloc, script, block)?;
         let flow = output_flow(script);
-        let input = coding_of(container_of(script.input.kind), script.input.format);
+        let input = coding_of(script.input.kind.container(), script.input.format);
         let output = coding_of(script.output, flow.format);
         let block = block as usize;
         let room = chain.room();

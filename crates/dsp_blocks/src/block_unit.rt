@@ -3,7 +3,7 @@ ghost use Rattle.dsp_blocks.specs.BlockUnit.{state_of};
 use dsp_adapt::{LmsUnit, PidWork};
 use dsp_biquad::{Cascade, Section, Section64};
 use dsp_complex::ComplexUnit;
-use dsp_conv::{ConvChannel, CorrelateChannel};
+use dsp_conv::{Convolution, Correlate};
 use dsp_defs::{Measure, Steps};
 use dsp_fir::WindowFilter;
 use dsp_lattice::{FirLatticeWork, IirLatticeWork};
@@ -17,14 +17,21 @@ use std::sync::ledger::Ledger;
 /// A work of one value for each sample, on each channel.
 type EachStep<T, W> = EachChannel<T, StepFilter<T, W>>;
 
+/// A FIR or sparse filter on each channel.
+type EachWindow<T, const L: usize> = EachChannel<T, WindowFilter<T, L, ()>>;
+
+/// A convolution on each channel.
+type EachConvolution<T, const L: usize> = EachChannel<T, Convolution<T, L, ()>>;
+
 /// The unit of any block, in one of the formats that it has.
 #[derive(Drop)]
 pub enum BlockUnit {
     Vector(VectorUnit),
     Complex(ComplexUnit),
-    Fir7(EachChannel<i8, WindowFilter<i8, 16, dsp_fir::OfBlock>>),
-    Fir15(EachChannel<i16, WindowFilter<i16, 8, dsp_fir::OfBlock>>),
-    Fir31(EachChannel<i32, WindowFilter<i32, 4, dsp_fir::OfBlock>>),
+    // These three hold sparse filters too.
+    Fir7(EachWindow<i8, 16>),
+    Fir15(EachWindow<i16, 8>),
+    Fir31(EachWindow<i32, 4>),
     Decimate15(EachChannel<i16, Decimate<i16, 8>>),
     Decimate31(EachChannel<i32, Decimate<i32, 4>>),
     Interpolate15(EachChannel<i16, Interpolate<i16, 8>>),
@@ -35,12 +42,12 @@ pub enum BlockUnit {
     Biquad15(EachStep<i16, Cascade<i16, Section<i16>>>),
     Biquad31(EachStep<i32, Cascade<i32, Section<i32>>>),
     Biquad64(EachStep<i32, Cascade<i32, Section64>>),
-    Conv7(EachChannel<i8, ConvChannel<i8, 16>>),
-    Conv15(EachChannel<i16, ConvChannel<i16, 8>>),
-    Conv31(EachChannel<i32, ConvChannel<i32, 4>>),
-    Correlate7(EachChannel<i8, CorrelateChannel<i8>>),
-    Correlate15(EachChannel<i16, CorrelateChannel<i16>>),
-    Correlate31(EachChannel<i32, CorrelateChannel<i32>>),
+    Conv7(EachConvolution<i8, 16>),
+    Conv15(EachConvolution<i16, 8>),
+    Conv31(EachConvolution<i32, 4>),
+    Correlate7(EachChannel<i8, Correlate<i8>>),
+    Correlate15(EachChannel<i16, Correlate<i16>>),
+    Correlate31(EachChannel<i32, Correlate<i32>>),
     Lms15(LmsUnit<i16, 8>),
     Lms31(LmsUnit<i32, 4>),
     Pid15(EachStep<i16, PidWork<i16>>),

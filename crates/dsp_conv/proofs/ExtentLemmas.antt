@@ -1,8 +1,5 @@
 -- The places of a stream, and the values that come with a call and behind it.
 use Rattle.std.proofs.Common.{◌≡◌, ◌∙◌, ap, sym, refl, ℕ, zero, suc, ◌+◌, ◌-◌, ◌*◌, ◌<◌, ◌≤◌, List, [], ◌∷◌, ◌++◌, ℤ, pos, length, arith}
-use Rattle.std.specs.Prelude.{Bool, true, nat_lt, ◌||◌}
-use Rattle.std.specs.Int.{from_bool}
-use Rattle.std.proofs.lemmas.Bool.Decides.{nat_tests}
 use Rattle.std.proofs.lemmas.Grind.{common_steps}
 use Rattle.dsp_defs.specs.declared.format.Fmt.{Fmt}
 use Rattle.dsp_defs.specs.Formats.{word}
@@ -25,25 +22,13 @@ pub full-is : (n t : ℕ) → 0 < t → full_length n t ≡ n + flag n * (t - 1)
 full-is zero t some = grind (arith, common_steps)
 full-is (suc n) t some = omega (arith, full-some (suc n) t (omega arith))
 
-pub flag-some : (n : ℕ) → 0 < n → flag n ≡ 1
+flag-some : (n : ℕ) → 0 < n → flag n ≡ 1
 flag-some zero begun = absurd (omega arith)
 flag-some (suc n) begun = refl
 
 flag-more : (n m : ℕ) → flag (flag n + m) ≡ flag (n + m)
 flag-more zero m = refl
 flag-more (suc n) m = flag-some (1 + m) (omega arith) ∙ sym (flag-some (suc n + m) (omega arith))
-
--- a signal has begun where it had before, or where a sample comes
-pub flag-written : (place more : ℕ) → from_bool (nat_lt 0 place || nat_lt 0 more) ≡ flag (place + more)
-flag-written zero zero = refl
-flag-written zero (suc m) = ap from_bool (some-test (suc m) (omega arith)) ∙ sym (flag-some (zero + suc m) (omega arith))
-  where
-    some-test : (m : ℕ) → 0 < m → nat_lt 0 m ≡ true
-    some-test m some = grind (arith, nat_tests)
-flag-written (suc n) m = ap (λ (b : Bool). from_bool (b || nat_lt 0 m)) (some-test (suc n) (omega arith)) ∙ sym (flag-some (suc n + m) (omega arith))
-  where
-    some-test : (m : ℕ) → 0 < m → nat_lt 0 m ≡ true
-    some-test m some = grind (arith, nat_tests)
 
 -- ---- places
 

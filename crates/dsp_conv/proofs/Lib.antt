@@ -5,4 +5,4 @@ pub mod ChannelLemmas
 pub mod SliceSums
 pub mod Stretches
 pub mod Correlations
-pub mod CorrelateChannels
+pub mod CorrelateFilters

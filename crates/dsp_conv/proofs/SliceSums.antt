@@ -1,5 +1,5 @@
 -- Sums of products over the samples that are there.
-use Rattle.std.proofs.Common.{◌≡◌, ◌∙◌, ap, ap₂, sym, refl, ℕ, zero, suc, ◌+◌, ◌-◌, ◌<◌, ◌≤◌, min, max, ℤ, pos, ◌+ℤ◌, ◌*ℤ◌, List, [], ◌∷◌, ◌++◌, length, map, take, drop, set, reverse, take_all, arith, length-take-le, ⊎_elim}
+use Rattle.std.proofs.Common.{◌≡◌, ◌∙◌, ap, ap₂, sym, refl, ℕ, zero, suc, ◌+◌, ◌-◌, ◌<◌, ◌≤◌, min, max, ℤ, pos, ◌+ℤ◌, ◌*ℤ◌, List, [], ◌∷◌, ◌++◌, length, map, take, drop, set, reverse, arith, length-take-le, ⊎_elim}
 use Rattle.std.proofs.Math.IntN.{+ℤ_assoc, +ℤ_idl, +ℤ_idr}
 use Rattle.std.proofs.lemmas.Int.{ints}
 use Rattle.std.proofs.lemmas.Bool.{cases_lt}
@@ -111,6 +111,3 @@ written-more number out i v f inside so_far is =
 -- and its products counted
 pub correlation-more : (n t first i : ℕ) → correlation_products n t (first + (i + 1)) ≡ correlation_products n t (first + i) + correlation_terms n t (first + i)
 correlation-more n t first i = (let next : first + (i + 1) ≡ suc (first + i) = omega arith in ap (correlation_products n t) next)
-
-pub all-written : {X : Type 0} (number : X → ℤ) (out : List X) (i n : ℕ) (f : ℕ → ℤ) → i ≡ n → length out ≡ n → map number (take i out) ≡ values i f → map number out ≡ values n f
-all-written number out i n f all long so_far = ap (map number) (sym (take_all i out (omega (arith, all, long)))) ∙ so_far ∙ ap (λ k. values k f) all

@@ -1,15 +1,15 @@
 -- Stretches of values: pieces behind one another, and those that are sums over all of the shorter list.
-use Rattle.std.proofs.Common.{◌≡◌, ◌∙◌, ap, ap₂, sym, ℕ, zero, suc, ◌+◌, ◌-◌, ◌*◌, ◌≤◌, ℤ, ◌*ℤ◌, List, ◌++◌, length, map, reverse, pos, take, drop, slice_range, arith}
+use Rattle.std.proofs.Common.{◌≡◌, ◌∙◌, ap, ap₂, sym, ℕ, zero, suc, ◌+◌, ◌-◌, ◌*◌, ◌/◌, ◌≤◌, ℤ, ◌*ℤ◌, List, ◌++◌, length, map, reverse, pos, take, drop, slice_range, arith}
 use Rattle.std.proofs.Math.IntN.{*ℤ_comm}
-use Rattle.std.proofs.Math.Nat.{mul-le-mul_left}
+use Rattle.std.proofs.Math.Nat.{mul-suc, mul-le-mul_left}
+use Rattle.std.proofs.lemmas.Nat.{div-add-mod'}
 use Rattle.std.proofs.lemmas.List.{length-map, length-reverse, map-append, get_or-reverse, get_or_past}
-use Rattle.dsp_defs.specs.Formats.{close, lanes}
+use Rattle.dsp_defs.specs.Formats.{close}
 use Rattle.dsp_defs.specs.Signal.{sample, delayed, values, sum_below}
 use Rattle.dsp_defs.specs.Streaming.{rows}
 use Rattle.dsp_defs.specs.Sums.{convolution_at}
 use Rattle.dsp_defs.specs.Cost.{correlation_products}
 use Rattle.dsp_defs.specs.declared.format.Fmt.{Fmt}
-use Rattle.dsp_defs.specs.declared.format.Fmt.TheVariants.{Q7, Q15, Q31}
 use Rattle.dsp_defs.proofs.Signal.{values_cong, values-add, sum_below_cong, sum_below_reversed, delayed_before, delayed_after}
 use Rattle.dsp_lanes.specs.Turns.{lane_turns}
 use Rattle.dsp_unit.proofs.Slices.{sample-piece}
@@ -116,13 +116,12 @@ convolution-middle format number xs b first count start end taps from is_start i
     ∙ sym (convolution-value (map number xs) b (first + i) taps (omega (arith, from)))))
 
 -- lanes take no more turns than there are products
-pub lanes-within : (format : Fmt) (n : ℕ) → lane_turns (lanes format) n ≤ n
-lanes-within Q7 n = omega arith
-lanes-within Q15 n = omega arith
-lanes-within Q31 n = omega arith
+pub lanes-within : (L n : ℕ) → lane_turns L n ≤ n
+lanes-within zero n = omega (arith, div-add-mod' n zero)
+lanes-within (suc k) n = omega (arith, div-add-mod' n (suc k), mul-suc (n / suc k) k)
 
-pub turns-within : (format : Fmt) (t n : ℕ) → t * lane_turns (lanes format) n ≤ t * n
-turns-within format t n = mul-le-mul_left t (lanes-within format n)
+pub turns-within : (L t n : ℕ) → t * lane_turns L n ≤ t * n
+turns-within L t n = mul-le-mul_left t (lanes-within L n)
 
 -- ---- the other way round
 

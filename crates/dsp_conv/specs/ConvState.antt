@@ -5,7 +5,7 @@ use Rattle.dsp_defs.specs.Signal.{sample}
 use Rattle.dsp_defs.specs.Streaming.{last_of, rows}
 use Rattle.dsp_defs.specs.Shape.{whole_frames, live_frames}
 use Rattle.dsp_stage.specs.Kept.{kept_of_channel}
-use Rattle.dsp_stage.specs.Filter.{of_channel, of_whole_channel}
+use Rattle.dsp_stage.specs.Filter.{FilterState, of_channel, of_whole_channel}
 use Rattle.dsp_window.specs.Rolling.{Rolling}
 use Rattle.dsp_defs.specs.declared.limits.TheConstants.{MAX_TAPS}
 use Rattle.dsp_defs.specs.declared.format.Fmt.{Fmt}
@@ -77,6 +77,17 @@ pub record Fits (format : Fmt) (c : ConvState) (numbers : List ℤ) : Type 0 whe
   pub samples : All (FitsSigned (word format)) (take (length c.past) numbers)
   pub low : pos 0 ≤ℤ sample numbers (length c.past)
   pub high : sample numbers (length c.past) ≤ℤ pos (greatest_place c.extent)
+
+-- what a unit sees of the convolution of one of its channels
+abbrev pub conv_channel : Fmt → ConvState → FilterState
+conv_channel format c = record {
+  block = block_of c.extent c.taps;
+  format = format;
+  capacity = c.block;
+  kept = kept c;
+  tail = c.tail;
+  ended = c.ended;
+}
 
 -- what stands between calls, for so many taps and such blocks: the window's past, the zeros that can be pushed, what is left of the tail, and the place
 pub record IsSound (taps block : ℕ) (window : Rolling) (zeros : List ℤ) (skip left place greatest : ℕ) : Type 0 where

@@ -1,7 +1,6 @@
 pub mod Extent
 pub mod ConvState
-pub mod Channels
-pub mod ConvUnit
+pub mod ByChannel
 pub mod Making
 pub mod Sums
 pub mod CorrelateState

@@ -1,7 +1,8 @@
 use crate::extent::Extent;
-use crate::making::{reversed, zeros};
-use dsp_defs::Steps;
-use dsp_lanes::{LaneSample, Lanes};
+use crate::making::{reversed, taps_of, zeros};
+use dsp_defs::{Block, Steps};
+use dsp_lanes::{FormatLanes, LaneSample, Lanes};
+use dsp_unit::{Filter, samples_of};
 use dsp_window::Window;
 use std::alloc::{AllocError, Global};
 use std::marker::{Model, PhantomData};
@@ -9,7 +10,7 @@ use std::sync::ledger::Ledger;
 
 /// The convolution of one channel with a list of taps as a stream: of the values that are wanted each
 /// comes with its sample, and the others in a tail. `L` is the number of lanes; `K` only tells apart
-/// how it was made.
+/// how it was made: `()` where it was of a block.
 #[derive(Drop)]
 pub struct Convolution<T: LaneSample<L>, const L: usize, K: Copy> {
     extent: Extent,
@@ -242,5 +243,56 @@ impl<T: LaneSample<L>, const L: usize, K: Copy> Convolution<T, L, K> {
         self.window.restore(&numbers[..last]);
         self.place = numbers[last] as u64;
         self.owe();
+    }
+}
+
+impl<T: FormatLanes<L>, const L: usize, K: Copy> Filter<T> for Convolution<T, L, K> {
+    ghost use Rattle.dsp_conv.specs.ConvState.{conv_channel};
+    ghost use Rattle.dsp_conv.specs.ByChannel.{IsConvIn, conv-by-channel, conv-groups};
+
+    ghost filter = { conv_channel T.format };
+
+    ghost IsOf = { IsConvIn T.format };
+
+    ghost by_channel = { conv-by-channel T.format };
+
+    ghost groups = { conv-groups T.format };
+
+    fn of_block(alloc: Global, block: &Block, capacity: usize) -> Result<Self, AllocError> {
+        let taps = samples_of::<T>(alloc, taps_of(block))?;
+        Convolution::of_taps(alloc, Extent::of_block(block), &taps, capacity)
+    }
+
+    fn process<M: Ledger>(&mut self, input: &[T], output: &mut [T], steps: &mut Steps<M>) -> usize {
+        // The proof has the length of the past from the invariant.
+        let _ = &self.block;
+        Convolution::process(self, input, output, steps)
+    }
+
+    fn finish<M: Ledger>(&mut self, output: &mut [T], steps: &mut Steps<M>) -> usize {
+        let block = self.block;
+        Convolution::finish(self, &mut output[..block], steps)
+    }
+
+    fn kept_count(&self) -> usize {
+        Convolution::kept_count(self)
+    }
+
+    fn keep(&self, out: &mut [i64]) {
+        Convolution::keep(self, out);
+    }
+
+    fn place(&self, numbers: &[i64]) -> Option<u64> {
+        let _ = &self.block;
+        if self.fits(numbers) {
+            Some(numbers[numbers.len() - 1] as u64)
+        } else {
+            None
+        }
+    }
+
+    fn restore(&mut self, numbers: &[i64]) {
+        let _ = &self.block;
+        Convolution::restore(self, numbers);
     }
 }

@@ -1,20 +1,23 @@
 use crate::Gather;
+use crate::making::taps_of;
 use crate::sums::correlation_values;
-use dsp_defs::{GatherFull, MAX_GATHERED, MakeFault, Steps};
+use dsp_defs::{Block, GatherFull, MAX_GATHERED, MAX_SAMPLES, MakeFault, Steps};
 use dsp_lanes::OwnLanes;
-use dsp_unit::{are_samples, check_taps};
+use dsp_unit::{Filter, are_samples, check_taps, samples_of};
 use std::alloc::{AllocError, Global};
 use std::marker::Model;
 use std::sync::ledger::Ledger;
 
 /// The correlation of one channel with a list of taps (`arm_correlate_q7`, `arm_correlate_q15`,
 /// `arm_correlate_q31`): it gathers the samples, and gives all values once they have ended. Of N
-/// samples and T taps there are `2 * max(N, T) - 1` values, and none without a sample.
+/// samples and T taps there are `2 * max(N, T) - 1` values, and none without a sample. As the filter of
+/// a channel it gives at most `block` of them in a call.
 #[derive(Drop)]
 pub struct Correlate<T: OwnLanes> {
     taps: Vec<T>,
     gather: Gather<T>,
     given: usize,
+    block: usize,
     ended: bool,
 }
 
@@ -28,10 +31,11 @@ impl<T: OwnLanes> Model for Correlate<T> {
       taps = map T.number c.taps.items;
       samples = c.gather;
       given = c.given;
+      block = c.block;
       ended = c.ended;
     } };
 
-    ghost invariant = { λ c. IsGathered (vec_len c.taps) (length c.gather) c.given c.ended };
+    ghost invariant = { λ c. IsGathered (vec_len c.taps) (length c.gather) c.given c.block c.ended };
 }
 
 impl<T: OwnLanes> Correlate<T> {
@@ -51,17 +55,19 @@ impl<T: OwnLanes> Correlate<T> {
             (IfErr result (λ e. e ≡ MakeFault.Memory)) (λ e. result ≡ Err e) }
     {
         check_taps(taps.len())?;
-        let Ok(correlate) = Correlate::of_taps(alloc, taps) else {
+        let Ok(correlate) = Correlate::of_taps(alloc, taps, MAX_SAMPLES) else {
             return Err(MakeFault::Memory);
         };
         Ok(correlate)
     }
 
     /// A correlation that has taken nothing, with 1 to `MAX_TAPS` taps. All its memory is taken here.
-    pub(crate) fn of_taps(alloc: Global, taps: &[T]) -> Result<Self, AllocError>
+    fn of_taps(alloc: Global, taps: &[T], block: usize) -> Result<Self, AllocError>
         requires some { 1 ≤ length taps.now }
         requires few { length taps.now ≤ MAX_TAPS }
-        ensures { IfOk result (λ c. c ≡ new_correlate (map T.number taps.now)) }
+        requires block { 1 ≤ block }
+        ensures { IfOk result (λ c.
+            c ≡ record (new_correlate (map T.number taps.now)) { block = block }) }
     {
         let gather = Gather::new(alloc)?;
         let taps = Vec::from_slice(alloc, taps)?;
@@ -69,6 +75,7 @@ impl<T: OwnLanes> Correlate<T> {
             taps,
             gather,
             given: 0,
+            block,
             ended: false,
         })
     }
@@ -152,5 +159,63 @@ impl<T: OwnLanes> Correlate<T> {
         ensures { self.new ≡ record self.old { samples = numbers.now } }
     {
         self.gather.restore(numbers);
+    }
+}
+
+impl<T: OwnLanes> Filter<T> for Correlate<T> {
+    ghost use Rattle.dsp_conv.specs.CorrelateState.{correlate_channel};
+    ghost use Rattle.dsp_conv.specs.ByChannel.{IsCorrelateIn, correlate-by-channel, correlate-groups};
+
+    ghost filter = { correlate_channel T.format };
+
+    ghost IsOf = { IsCorrelateIn T.format };
+
+    ghost by_channel = { correlate-by-channel T.format };
+
+    ghost groups = { correlate-groups T.format };
+
+    fn of_block(alloc: Global, block: &Block, capacity: usize) -> Result<Self, AllocError> {
+        let taps = samples_of::<T>(alloc, taps_of(block))?;
+        Correlate::of_taps(alloc, &taps, capacity)
+    }
+
+    fn process<M: Ledger>(
+        &mut self,
+        input: &[T],
+        _output: &mut [T],
+        _steps: &mut Steps<M>,
+    ) -> usize {
+        // The proof has that no value was given from the invariant.
+        let _ = &self.given;
+        match self.put(input) {
+            Ok(()) => 0,
+            Err(_) => unreachable!(),
+        }
+    }
+
+    fn finish<M: Ledger>(&mut self, output: &mut [T], steps: &mut Steps<M>) -> usize {
+        let block = self.block;
+        Correlate::finish(self, &mut output[..block], steps)
+    }
+
+    fn kept_count(&self) -> usize {
+        Correlate::kept_count(self)
+    }
+
+    fn keep(&self, out: &mut [i64]) {
+        Correlate::keep(self, out);
+    }
+
+    fn place(&self, numbers: &[i64]) -> Option<u64> {
+        if self.fits(numbers) {
+            Some(numbers.len() as u64)
+        } else {
+            None
+        }
+    }
+
+    fn restore(&mut self, numbers: &[i64]) {
+        let _ = &self.given;
+        Correlate::restore(self, numbers);
     }
 }

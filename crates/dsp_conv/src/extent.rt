@@ -1,5 +1,5 @@
 ghost use Rattle.std.specs.Prelude.{◌≡◌, ◌≤◌, ◌+◌, ◌*◌};
-ghost use Rattle.dsp_conv.specs.ConvUnit.{HasExtent, taps_of};
+ghost use Rattle.dsp_conv.specs.ByChannel.{HasExtent, taps_of};
 
 use dsp_defs::Block;
 use std::ops::Range;

@@ -1,24 +1,20 @@
 //! Convolutions.
 #![tactic(auto)]
 
-mod channel;
 mod conv;
 mod conv_partial;
 mod convolution;
 mod correlate;
-mod correlate_channel;
 mod extent;
 mod gather;
 mod making;
 mod slices;
 mod sums;
 
-pub use channel::{ConvChannel, OfBlock};
 pub use conv::{Conv, Everything};
 pub use conv_partial::{ConvPartial, Stretch};
 pub use convolution::Convolution;
 pub use correlate::Correlate;
-pub use correlate_channel::CorrelateChannel;
 pub use extent::Extent;
 pub use gather::Gather;
 pub use slices::{conv_partial_slices, conv_slices, correlate_slices};

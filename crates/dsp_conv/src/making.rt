@@ -1,6 +1,6 @@
 ghost use Rattle.std.specs.Prelude.{◌≡◌, Err, Ok, IfOk, MatchOption, length, map, pos, replicate, reverse};
 ghost use Rattle.dsp_defs.specs.declared.script.Block.{Block};
-ghost use Rattle.dsp_conv.specs.ConvUnit.{IsConvBlock, taps_of};
+ghost use Rattle.dsp_conv.specs.ByChannel.{IsConvBlock, taps_of};
 ghost use Rattle.dsp_conv.specs.Making.{first_fault, count_fault};
 
 use dsp_defs::{Block, MakeFault};

@@ -5,7 +5,7 @@ use Rattle.dsp_defs.specs.declared.script.Block.TheVariants.{Fir}
 use Rattle.dsp_defs.specs.Streaming.{Continues, last_of, rows}
 use Rattle.dsp_defs.specs.Sums.{fir}
 use Rattle.dsp_defs.proofs.Streaming.{fir-append, fir_later-rows}
-use Rattle.dsp_fir.specs.FirUnit.{IsWindowIn}
+use Rattle.dsp_fir.specs.ByChannel.{IsWindowIn}
 
 -- the rows of the window go on where the filter's values for x end
 pub block-values :

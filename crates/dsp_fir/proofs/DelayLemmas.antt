@@ -24,7 +24,7 @@ use Rattle.dsp_lanes.specs.Turns.{RisesWithin}
 use Rattle.dsp_defs.specs.Counts.{Counts}
 use Rattle.dsp_fir.specs.Delays.{greatest_delay, delays_fault, delayed_sum, sparse_rows}
 use Rattle.dsp_stage.specs.Kept.{greatest}
-use Rattle.dsp_fir.specs.FirUnit.{IsWindowIn}
+use Rattle.dsp_fir.specs.ByChannel.{IsWindowIn}
 use Rattle.dsp_defs.specs.declared.script.Block.TheVariants.{Sparse}
 use Rattle.dsp_defs.specs.declared.fault.MakeFault.{MakeFault}
 use Rattle.dsp_defs.specs.declared.fault.MakeFault.TheVariants.{Range}

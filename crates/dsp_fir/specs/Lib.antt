@@ -1,3 +1,3 @@
 pub mod WindowState
 pub mod Delays
-pub mod FirUnit
+pub mod ByChannel

@@ -10,4 +10,4 @@ mod window_rows;
 
 pub use fir::{Dense, Fir};
 pub use sparse::{Delayed, Sparse};
-pub use window_filter::{OfBlock, WindowFilter};
+pub use window_filter::WindowFilter;

@@ -8,13 +8,9 @@ use std::alloc::{AllocError, Global};
 use std::marker::{Model, PhantomData};
 use std::sync::ledger::Ledger;
 
-/// Says that a filter was made from a block.
-#[derive(Clone, Copy, Debug)]
-pub struct OfBlock;
-
 /// A filter on one channel that gives one value for each sample, by taps on that and on the last samples
 /// before it: a sparse filter where it has delays, else a FIR filter. `L` is the number of lanes; `K`
-/// only tells apart how it was made.
+/// only tells apart how it was made: `()` where it was of a block.
 #[derive(Drop)]
 pub struct WindowFilter<T: LaneSample<L>, const L: usize, K: Copy> {
     taps: Vec<T>,
@@ -28,7 +24,7 @@ pub struct WindowFilter<T: LaneSample<L>, const L: usize, K: Copy> {
 impl<T: LaneSample<L>, const L: usize, K: Copy> Model for WindowFilter<T, L, K> {
     ghost use Rattle.std.specs.Prelude.{◌≡◌, ◌≤◌, length, map, IfSome};
     ghost use Rattle.dsp_window.specs.Rolling.{last_samples};
-    ghost use Rattle.dsp_fir.specs.FirUnit.{IsWindowIn};
+    ghost use Rattle.dsp_fir.specs.ByChannel.{IsWindowIn};
     ghost use Rattle.dsp_fir.specs.WindowState.{WindowState, block_of, past_count};
 
     ghost Value = { WindowState };
@@ -52,7 +48,7 @@ impl<T: LaneSample<L>, const L: usize, K: Copy> WindowFilter<T, L, K> {
     ghost use Rattle.dsp_defs.specs.Streaming.{Continues};
     ghost use Rattle.dsp_lanes.specs.Turns.{lane_turns};
     ghost use Rattle.dsp_stage.specs.Filter.{IsNewFilter, of_channel};
-    ghost use Rattle.dsp_fir.specs.FirUnit.{IsWindowIn};
+    ghost use Rattle.dsp_fir.specs.ByChannel.{IsWindowIn};
     ghost use Rattle.dsp_fir.specs.WindowState.{StandsFor, block_of, channel_state, new_filter, past_count, tap_count};
 
     /// A filter that has taken nothing, of taps, and of their delays if it has any. All its memory is
@@ -182,7 +178,7 @@ impl<T: LaneSample<L>, const L: usize, K: Copy> WindowFilter<T, L, K> {
 }
 
 impl<T: FormatLanes<L>, const L: usize, K: Copy> Filter<T> for WindowFilter<T, L, K> {
-    ghost use Rattle.dsp_fir.specs.FirUnit.{IsWindowIn, windowed};
+    ghost use Rattle.dsp_fir.specs.ByChannel.{IsWindowIn, windowed};
     ghost use Rattle.dsp_fir.specs.WindowState.{channel_state};
 
     ghost filter = { channel_state T.format };

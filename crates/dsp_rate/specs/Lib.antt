@@ -1,3 +1,3 @@
 pub mod DecimateState
-pub mod RateUnit
+pub mod ByChannel
 pub mod InterpolateState

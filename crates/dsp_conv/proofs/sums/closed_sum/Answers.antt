@@ -1,5 +1,5 @@
 use Rattle.std.proofs.Common.{◌∙◌, ap, ℕ, ℤ, ◌*ℤ◌, length, map, arith}
-use Rattle.dsp_defs.specs.Formats.{close}
+use Rattle.dsp_defs.specs.Formats.{close, lanes}
 use Rattle.dsp_defs.specs.Signal.{sample, sum_below}
 use Rattle.dsp_defs.proofs.FormatLemmas.{close-wrap}
 use Rattle.dsp_conv.proofs.Stretches.{lanes-within}
@@ -13,7 +13,7 @@ returns-clause-value g c =
 
 pub returns-clause-steps : goal.returns-clause-steps
 returns-clause-steps g c =
-    let within = lanes-within g.T.Sample.format (length c.args.a.now) in
+    let within = lanes-within (lanes g.T.Sample.format) (length c.args.a.now) in
     record {
       multiplies_rise = omega (arith, c.dot.ensures.steps);
       turns_within = omega (arith, c.dot.ensures.steps, within);

@@ -32,7 +32,7 @@ returns-clause-steps g c =
     let long : length c.reverse.new.self ≡ length b = ap length (c.reverse.ensures.after ∙ ap reverse c.copy_from_slice.ensures.after) ∙ length-reverse b in
     let products = ap (λ (t : ℕ). t * count) long in
     let rounds = ap (λ (t : ℕ). t * lane_turns (lanes format) count) long in
-    let turns = turns-within format (length b) count in
+    let turns = turns-within (lanes format) (length b) count in
     let rise = c.rows.ensures.steps in
     record {
       multiplies_rise = omega (arith, rise);

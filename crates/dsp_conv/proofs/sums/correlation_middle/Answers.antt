@@ -1,5 +1,6 @@
 use Rattle.std.proofs.Common.{◌≡◌, ◌∙◌, ◌≤◌, length, map, refl, rules, arith}
 use Rattle.std.proofs.lemmas.List.{length-map}
+use Rattle.dsp_defs.specs.Formats.{lanes}
 use Rattle.dsp_conv.proofs.Stretches.{middle-stretch, middle-products, turns-within}
 use Rattle.dsp_conv.proofs.sums.correlation_middle.Goals as goal
 
@@ -23,7 +24,7 @@ returns-clause-steps g c =
     let count = length c.args.out.now in
     let some : 1 ≤ count = search rules in
     let products = middle-products n t c.args.first count c.requires.some c.requires.taps (c.requires.from some) (c.requires.whole some) in
-    let turns = turns-within T.format t count in
+    let turns = turns-within (lanes T.format) t count in
     let rise = c.rows.ensures.steps in
     record {
       multiplies = omega (arith, rise, products);

@@ -3,7 +3,7 @@ use Rattle.std.specs.Prelude.{IfOk}
 use Rattle.dsp_defs.specs.declared.script.Block.{Block}
 use Rattle.dsp_defs.specs.declared.script.Block.TheVariants.{Fir, Sparse}
 use Rattle.dsp_stage.specs.Filter.{IsNewFilter}
-use Rattle.dsp_fir.specs.FirUnit.{IsWindowIn}
+use Rattle.dsp_fir.specs.ByChannel.{IsWindowIn}
 use Rattle.dsp_fir.specs.WindowState.{DelayState, channel_state}
 use Rattle.dsp_fir.proofs.window_filter.WindowFilterFilter.of_block.Goals as goal
 

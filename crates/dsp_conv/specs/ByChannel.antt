@@ -1,4 +1,4 @@
--- The blocks whose units are convolutions and correlations.
+-- The blocks whose filters are convolutions and correlations.
 use Rattle.std.specs.Prelude.{⊤, ℕ, ◌-◌, ◌<◌, min, ℤ, List, [], length, IfSome, refl}
 use Rattle.dsp_defs.specs.Sums.{full_length}
 use Rattle.dsp_defs.specs.Cost.{lane_turns, correlation_products}
@@ -38,8 +38,8 @@ IsConvIn format (ConvPartial first count taps) = AreTaps format taps
 IsConvIn format block = ⊥
 
 -- it works on each channel by itself
-pub by-channel : (format : Fmt) (block : Block) → IsConvIn format block → IsByChannel format block
-by-channel format (Conv taps) is = record {
+pub conv-by-channel : (format : Fmt) (block : Block) → IsConvIn format block → IsByChannel format block
+conv-by-channel format (Conv taps) is = record {
   live_is = refl;
   whole_is = refl;
   channels_same = λ c. refl;
@@ -52,7 +52,7 @@ by-channel format (Conv taps) is = record {
   so_far = λ c n taken given. scaled c given (length taps);
   turns = λ c m n. scaled c (length taps) (lane_turns format (min n (full_length n (length taps)) - min m (full_length m (length taps))));
 }
-by-channel format (ConvPartial first count taps) is =
+conv-by-channel format (ConvPartial first count taps) is =
     let live = λ (n : ℕ). min (n - first) (min count (full_length n (length taps) - first)) in
     record {
       live_is = refl;
@@ -67,13 +67,13 @@ by-channel format (ConvPartial first count taps) is =
       so_far = λ c n taken given. scaled c given (length taps);
       turns = λ c m n. less-scaled c (live m) (live n) (length taps);
     }
-by-channel format block is = absurd is
+conv-by-channel format block is = absurd is
 
 -- and not on groups
-pub has-groups : (format : Fmt) (block : Block) → IsConvIn format block → IfSome (group_of block) (λ g. 0 < g.0)
-has-groups format (Conv taps) is = tt
-has-groups format (ConvPartial first count taps) is = tt
-has-groups format block is = absurd is
+pub conv-groups : (format : Fmt) (block : Block) → IsConvIn format block → IfSome (group_of block) (λ g. 0 < g.0)
+conv-groups format (Conv taps) is = tt
+conv-groups format (ConvPartial first count taps) is = tt
+conv-groups format block is = absurd is
 
 -- ---- correlations
 

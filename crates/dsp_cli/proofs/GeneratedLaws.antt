@@ -24,8 +24,8 @@ use Rattle.dsp_defs.proofs.CodingLemmas.{width-coding_of}
 use Rattle.dsp_defs.proofs.WaveLaws.{header_of-wave_header}
 use Rattle.dsp_wave.proofs.GeneratorLemmas.{data_small, header_fits, generated-made, generated_bytes-small, length-made}
 use Rattle.dsp_session.specs.Session.{frame_bytes}
-use Rattle.dsp_session.specs.Stream.{declared_bytes, frames_in_bytes, in_whole_frames}
-use Rattle.dsp_cli.specs.Run.{EndsWithin, InLimit, input_fault, short_fault, wave_fault}
+use Rattle.dsp_session.specs.Stream.{declared_bytes, frames_in_bytes, in_whole_frames, input_fault, short_fault, wave_fault}
+use Rattle.dsp_cli.specs.Run.{InLimit}
 use Rattle.dsp_cli.proofs.InputLaws.{frame_in, frames_of_bytes, good_header}
 
 some_product : (a b : ℕ) → 1 ≤ a → 1 ≤ b → 1 ≤ a * b
@@ -115,19 +115,19 @@ module _ (script : Script) (seed frames : ℕ) (few : (1 ≤ script.input.channe
   all_bytes : length bytes ≤ MAX_INPUT
   all_bytes = generated_bytes-small script.input seed frames few.1 short
 
+  abbrev EndsWithin : Header → Type 0
+  EndsWithin h = elim (declared_bytes script h) [ Some size ↦ HasHeader script (take (2 ^ 40) bytes) × (h.start + size ≤ 2 ^ 40) | None ↦ length bytes < 2 ^ 40 ]
+
   pub generated_in_limit : InLimit script bytes
   generated_in_limit = by script.input.kind refl
     where
       has : HasHeader script (take (2 ^ 40) bytes)
       has = subst (HasHeader script) (sym (take_all (2 ^ 40) bytes (omega (arith, all_bytes)))) generated_has
 
-      by : (k : InputKind) → script.input.kind ≡ k → EndsWithin (declared_bytes script (input_header script bytes)) script bytes
-      by (kind.Raw rate) is =
-          subst (λ h. EndsWithin (declared_bytes script h) script bytes) (sym (raw_header_is rate is)) (omega (arith, raw_length rate is, small))
+      by : (k : InputKind) → script.input.kind ≡ k → EndsWithin (input_header script bytes)
+      by (kind.Raw rate) is = subst EndsWithin (sym (raw_header_is rate is)) (omega (arith, raw_length rate is, small))
       by kind.Wave is =
-          let start : (input_header script bytes).start ≡ 44 = ap (λ (h : Header). h.start) (wave_header_is is) in
-          subst (λ h. EndsWithin (declared_bytes script h) script bytes) (sym (wave_header_is is))
-          (has, omega (arith, start, small, floor_within size (frame_bytes script (coding_of container.Wave script.input.format))))
+          subst EndsWithin (sym (wave_header_is is)) (has, omega (arith, small, floor_within size (frame_bytes script (coding_of container.Wave script.input.format))))
 
   -- as many frames as were asked for
   some : 0 < script.input.channels * word_bytes script.input.format

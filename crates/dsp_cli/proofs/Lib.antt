@@ -1,13 +1,10 @@
-pub mod CostGrows
+pub mod GatherLaws
 pub mod InputLaws
 pub mod WordLaws
 pub mod PerformLaws
 pub mod GeneratedLaws
-pub mod EarlyEnds
 pub mod Told
-pub mod Ends
-pub mod AnswerLaws
-pub mod RunLaws
-pub mod CommandLaws
+pub mod StatusLaws
+pub mod StopLaws
+pub mod EndedLaws
 pub mod ReportLaws
-pub mod CallLaws

@@ -1,24 +1,25 @@
--- What a run over a generated input comes to for the words that ask for it.
-use Rattle.std.proofs.Common.{◌≡◌, ℕ, ◌≤◌, List, ◌++◌, Some, None, IfSome, refl, sym, ap, subst, flat_map, codes}
+-- What a run comes to for the words that ask for it.
+use Rattle.std.proofs.Common.{◌≡◌, ℕ, List, ◌++◌, Option, Some, IsSome, IsTrue, IsFalse, refl, sym, ap, ◌∙◌, subst, flat_map, codes, inl, inr}
 use Rattle.dsp_ports.specs.Ports.{SourceState, SinkState}
 use Rattle.dsp_defs.specs.Counts.{Counts}
 use Rattle.dsp_defs.specs.Output.{format_of, channels_of}
 use Rattle.dsp_defs.specs.Report.{done_line, frames_line, multiplies_line, measure_line, report_text}
 use Rattle.dsp_defs.specs.Shape.{frames_given}
 use Rattle.dsp_defs.specs.Words.{command_of}
+use Rattle.dsp_defs.specs.declared.command.Command.{Command}
+use Rattle.dsp_defs.specs.declared.command.Command.TheVariants.{Run, Gen}
 use Rattle.dsp_defs.specs.declared.measure.Measure.{Measure}
-use Rattle.dsp_session.specs.Session.{cost_of}
-use Rattle.dsp_session.specs.Stream.{Done}
-use Rattle.dsp_cli.specs.Fault.{summary_text}
-use Rattle.dsp_defs.specs.declared.command.Command.TheVariants.{Gen}
-use Rattle.dsp_defs.specs.declared.limits.TheConstants.{MAX_GENERATED}
 use Rattle.dsp_defs.specs.declared.script.Script.{Script}
-use Rattle.dsp_cli.specs.Script.{stream_of}
-use Rattle.dsp_cli.specs.Perform.{ReadsAs, IsReading, RunsScript, RanGenerated, RanWhole, FailsToGenerate, StopsAtRun}
-use Rattle.dsp_cli.specs.Run.{MakesFew, generated_source}
+use Rattle.dsp_session.specs.Session.{cost_of}
+use Rattle.dsp_session.specs.Stream.{Done, Stopped as StreamStopped}
+use Rattle.dsp_cli.specs.Fault.{summary_text}
+use Rattle.dsp_cli.specs.Call.{Call, call, Untouched, Streams, Stopped, Happened}
+use Rattle.dsp_cli.specs.Perform.{ReadsAs, Ran, RanGenerated, RanWhole, FailsToLoad, FailsToRun, FailsToGenerate}
+use Rattle.dsp_cli.specs.Run.{IsStream, IsReading, read_from}
+use Rattle.dsp_cli.specs.Script.{named_by, chosen, chosen_block, is_legal_for}
 use Rattle.dsp_cli.specs.declared.fault.Fault.{Fault}
+use Rattle.dsp_cli.specs.declared.fault.Fault.TheVariants.{ScriptRead, Script as BadText, BlockLength, Memory, Stream}
 use Rattle.dsp_cli.specs.declared.report.Summary.{Summary}
-use Rattle.dsp_cli.proofs.WordLaws.{commands_within}
 
 -- the stream of a session of the script, in blocks of the chosen length, has done this
 pub done_by : (script same : Script) (block same_block frames : ℕ) (input now : SourceState) (sink after : SinkState) (before counts : Counts) (found measured : List Measure)
@@ -37,36 +38,71 @@ text_by script summary came went given made =
     ++ frames_line (codes "out") (given i) (went i).channels (went i).format
     ++ multiplies_line (made i) ++ flat_map measure_line summary.measures.items
 
-module _ (words : List (List ℕ)) (source read port : SourceState) (sink after : SinkState) (before counts : Counts) (seed frames : ℕ) (script : Script) (is : command_of words ≡ Some (Gen seed frames)) (reads : ReadsAs source read script) where
-  runs : RunsScript words source read None script
-  runs = record { command = ap stream_of is; reads = reads }
+-- ---- what a command comes to
 
-  reading : (now : SourceState) → now.faults ≡ 0 → IsReading (command_of words) script.input port port (generated_source script.input seed frames) now
-  reading now clean =
-      let few : frames ≤ MAX_GENERATED = subst (λ command. IfSome command MakesFew) is (commands_within words) in
-      subst (λ command. IsReading command script.input port port (generated_source script.input seed frames) now) (sym is)
-      (record { port_same = refl; few = few; input_is = refl; clean = clean })
+module _ (words : List (List ℕ)) (source read port later : SourceState) (sink after : SinkState) (before counts : Counts) (script : Script) (loaded : ReadsAs source read script) where
+  abbrev called : Call
+  called = call words source read port later sink after before counts
 
-  pub ran_whole : (summary : Summary) → RanGenerated seed frames script summary sink after before counts → RanWhole summary words source read port port sink after before counts
-  ran_whole summary made =
-      record {
-        named = None;
-        script = script;
-        runs = runs;
-        input = generated_source script.input seed frames;
-        now = made.now;
-        reading = reading made.now made.clean;
-        ran = made.ran;
-      }
+  -- the words are a run or a gen, and its stream was begun
+  module _ (command : Command) (is : command_of words ≡ Some command) (stream : IsStream words) (now : SourceState) (reading : IsReading (Some command) port later now) where
+    streams : (Did : ℕ → SourceState → SourceState → Type 0) → IsTrue (is_legal_for script (chosen (named_by (Some command)) script)) → Did (chosen (named_by (Some command)) script) (read_from (Some command) script.input port) now → Streams script Did called
+    streams Did legal did =
+        record {
+          stream = stream;
+          read = loaded;
+          legal = subst (λ command. IsTrue (is_legal_for script (chosen (named_by command) script))) (sym is) legal;
+          now = now;
+          reading = subst (λ command. IsReading command port later now) (sym is) reading;
+          did = subst (λ command. Did (chosen (named_by command) script) (read_from command script.input port) now) (sym is) did;
+        }
 
-  pub stops_at_run : (fault : Fault) → FailsToGenerate fault seed frames script sink after before counts → StopsAtRun fault words source read port port sink after before counts
-  stops_at_run fault made =
-      record {
-        named = None;
-        script = script;
-        runs = runs;
-        input = generated_source script.input seed frames;
-        now = made.now;
-        reading = reading made.now made.clean;
-        stops = made.fails;
-      }
+    went : (summary : Summary) → Ran (named_by (Some command)) script summary (read_from (Some command) script.input port) now sink after before counts → RanWhole summary called
+    went summary ran =
+        record {
+          script = script;
+          went = streams (λ block input now. Done script block summary.totals.frames_taken input now sink after before counts summary.measures.items) ran.legal ran.done;
+          text = ran.text;
+        }
+
+    is_some : IsSome (command_of words)
+    is_some = subst IsSome (sym is) refl
+
+    module _ (left : (now ≡ read_from (Some command) script.input port) → later ≡ port) where
+      left_alone : Untouched (read_from (Some command) script.input port) now sink after before counts → Untouched port later sink after before counts
+      left_alone untouched = record { input_same = left untouched.input_same; output_same = untouched.output_same; counts_same = untouched.counts_same }
+
+      stops : (fault : Fault) → FailsToRun fault (named_by (Some command)) script (read_from (Some command) script.input port) now sink after before counts → Happened (Stopped fault) called
+      stops (BlockLength block divisor) (length, untouched) =
+          let chosen_is : chosen (named_by (Some command)) script ≡ chosen_block words script = ap (λ command. chosen (named_by command) script) (sym is) in
+          let illegal : IsFalse (is_legal_for script block) = subst (λ n. IsFalse (is_legal_for script n)) (sym length.block_is) length.illegal in
+          ((stream, record { text = loaded.text; read = loaded.read; holds = (script, loaded.holds, illegal, length.block_is ∙ chosen_is, length.divisor_is) }), left_alone untouched)
+      stops Memory untouched = (is_some, left_alone untouched)
+      stops (Stream fault) stop =
+          (script, streams (λ block input now. StreamStopped script block fault input now sink after before counts) stop.legal stop.stopped)
+      stops fault none = absurd none
+
+  -- a run
+  module _ (named : Option ℕ) (is : command_of words ≡ Some (Run named)) where
+    pub run_went : (summary : Summary) → Ran named script summary port later sink after before counts → RanWhole summary called
+    run_went summary ran = went (Run named) is (inl (named, is)) later refl summary ran
+
+    pub run_stops : (fault : Fault) → FailsToRun fault named script port later sink after before counts → Happened (Stopped fault) called
+    run_stops fault fails = stops (Run named) is (inl (named, is)) later refl (λ same. same) fault fails
+
+-- a gen leaves the port of the input alone
+module _ (words : List (List ℕ)) (source read port : SourceState) (sink after : SinkState) (before counts : Counts) (script : Script) (loaded : ReadsAs source read script) (seed frames : ℕ) (is : command_of words ≡ Some (Gen seed frames)) where
+  pub gen_went : (summary : Summary) → RanGenerated seed frames script summary sink after before counts → RanWhole summary (call words source read port port sink after before counts)
+  gen_went summary made =
+      went words source read port port sink after before counts script loaded (Gen seed frames) is (inr (seed, frames, is)) made.now (refl, made.clean) summary made.ran
+
+  pub gen_stops : (fault : Fault) → FailsToGenerate fault seed frames script sink after before counts → Happened (Stopped fault) (call words source read port port sink after before counts)
+  gen_stops fault made =
+      stops words source read port port sink after before counts script loaded (Gen seed frames) is (inr (seed, frames, is)) made.now (refl, made.clean) (λ _. refl) fault made.fails
+
+-- a script isn't loaded
+pub load_stops : (words : List (List ℕ)) (source read port : SourceState) (sink : SinkState) (counts : Counts) → IsSome (command_of words) → (fault : Fault) → FailsToLoad fault source read → Happened (Stopped fault) (call words source read port port sink sink counts counts)
+load_stops words source read port sink counts some ScriptRead fails = ((some, fails), record { input_same = refl; output_same = refl; counts_same = refl })
+load_stops words source read port sink counts some (BadText fault) fails = ((some, fails), record { input_same = refl; output_same = refl; counts_same = refl })
+load_stops words source read port sink counts some Memory fails = (some, record { input_same = refl; output_same = refl; counts_same = refl })
+load_stops words source read port sink counts some fault none = absurd none

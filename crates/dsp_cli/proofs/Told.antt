@@ -1,10 +1,8 @@
 -- What is so of the bytes that a source tells, from what was taken of it.
-use Rattle.std.proofs.Common.{◌≡◌, ◌⊎◌, ℕ, ◌-◌, ◌<◌, ◌≤◌, List, ◌++◌, length, take, refl, sym, ap, ◌∙◌, subst, arith, append-nil, length-append, inl, inr, Option, None, Some, IsSome, IfSome, nat_lt, true}
+use Rattle.std.proofs.Common.{◌≡◌, ◌⊎◌, ℕ, ◌<◌, ◌≤◌, List, ◌++◌, length, refl, sym, ap, ◌∙◌, subst, arith, append-nil, length-append, inl, inr, Option, None, Some, IsSome, IfSome, nat_lt, true}
 use Rattle.std.proofs.lemmas.Bool.Decides.{nat_tests}
-use Rattle.std.proofs.lemmas.List.{take_at}
-use Rattle.std.specs.Option.{option_map}
 use Rattle.std.specs.Io.KnownBytes.{prepend_known, IsAtEnd}
-use Rattle.dsp_ports.specs.Ports.{SourceState, Gave}
+use Rattle.dsp_ports.specs.Ports.{SourceState}
 use Rattle.dsp_defs.specs.Grammar.{Reads}
 use Rattle.dsp_defs.specs.Reading.{reading, first_fault}
 use Rattle.dsp_defs.specs.declared.script.Script.{Script}
@@ -12,9 +10,8 @@ use Rattle.dsp_defs.specs.declared.script_fault.ScriptFault.{ScriptFault}
 use Rattle.dsp_defs.specs.declared.limits.TheConstants.{MAX_SCRIPT}
 use Rattle.dsp_defs.specs.declared.script_fault.ScriptKind.TheVariants.{TooLong}
 use Rattle.dsp_script.proofs.ScriptLaws.{one_script, reads_or_fails}
-use Rattle.dsp_cli.specs.Script.{IsReadWhole, IfScript, IfFault}
-use Rattle.dsp_cli.specs.Perform.{ReadsAs, HasFault}
-use Rattle.dsp_cli.specs.Run.{bytes_taken}
+use Rattle.dsp_cli.specs.Script.{IsReadWhole, ReadsText, IfScript}
+use Rattle.dsp_cli.specs.Perform.{ReadsAs}
 
 pub IfSome-map : {A : Type 0} (o : Option A) (P Q : A → Type 0) → ((x : A) → P x → Q x) → IfSome o P → IfSome o Q
 IfSome-map None P Q f p = tt
@@ -23,6 +20,10 @@ IfSome-map (Some x) P Q f p = f x p
 pub IfSome-always : {A : Type 0} (o : Option A) (P : A → Type 0) → ((x : A) → P x) → IfSome o P
 IfSome-always None P always = tt
 IfSome-always (Some x) P always = always x
+
+pub IfSome-each : {A : Type 0} (o : Option A) (P : A → Type 0) → ((x : A) → o ≡ Some x → P x) → IfSome o P
+IfSome-each None P each = tt
+IfSome-each (Some x) P each = each x refl
 
 -- what was given to its end is all that was told
 pub told_whole : (left rest : Option (List ℕ)) (given : List ℕ) → left ≡ prepend_known given rest → IsAtEnd rest → IfSome left (λ all. all ≡ given)
@@ -40,16 +41,10 @@ told_more (Some all) (Some more) given P front holds =
     let split : all ≡ given ++ more = cc in
     subst P (sym split) (holds more refl)
 
--- what was given is the front of what was told
-told_front : (left rest : Option (List ℕ)) (given : List ℕ) (count : ℕ) → left ≡ prepend_known given rest → count ≡ length given → IfSome (option_map (take count) left) (λ bytes. bytes ≡ given)
-told_front None rest given count front is = tt
-told_front (Some all) None given count front is = absurd (cc)
-told_front (Some all) (Some rest) given count front is =
-    let split : all ≡ given ++ rest = cc in
-    ap (take count) split ∙ take_at given rest count (sym is)
-
-pub told_taken : (old new : SourceState) (given : List ℕ) → Gave old new given → IfSome (bytes_taken old new) (λ bytes. bytes ≡ given)
-told_taken old new given gave = told_front old.left new.left given (new.taken - old.taken) gave.front (omega (arith, gave.count))
+-- what was told is what was given and what is left
+pub told_split : (left rest : Option (List ℕ)) (given all : List ℕ) → left ≡ prepend_known given rest → left ≡ Some all → (more : List ℕ) × (rest ≡ Some more) × (all ≡ given ++ more)
+told_split left None given all front is = absurd (cc)
+told_split left (Some more) given all front is = (more, refl, cc)
 
 -- no more was given than was told
 pub told_length : (left rest : Option (List ℕ)) (given all : List ℕ) → left ≡ prepend_known given rest → left ≡ Some all → length given ≤ length all
@@ -90,43 +85,35 @@ pub told_script : (source now : SourceState) (script : Script) (P : Script → T
 told_script source now script P loaded holds =
     IfSome-map source.left (Same loaded.text) _
     (λ all same other reads. elim same [
-      | inl is ↦ subst P (one_script loaded.text script other loaded.reads (subst (λ text. Reads text other) is reads)) holds
-      | inr long ↦ absurd (omega (arith, long.0, loaded.reads.short))
+      | inl is ↦ subst P (one_script loaded.text script other loaded.holds (subst (λ text. Reads text other) is reads)) holds
+      | inr long ↦ absurd (omega (arith, long.0, loaded.holds.short))
     ])
     (told_text source now loaded.text loaded.read)
 
 -- a script that was read has no fault
-pub told_sound : (source now : SourceState) (script : Script) (P : ScriptFault → Type 0) → ReadsAs source now script → IfFault source.left P
+pub told_sound : (source now : SourceState) (script : Script) (P : Type 0) → ReadsAs source now script → IfSome source.left (λ text. IsSome (first_fault text) → P)
 told_sound source now script P loaded =
     IfSome-map source.left (Same loaded.text) _
-    (λ all same fault first. elim same [
-      | inl is ↦ let none : first_fault all ≡ None = ap first_fault is ∙ no_fault loaded.text script loaded.reads in absurd (cc)
-      | inr long ↦ absurd (omega (arith, long.0, loaded.reads.short))
+    (λ all same some. elim same [
+      | inl is ↦ let none : first_fault all ≡ None = ap first_fault is ∙ no_fault loaded.text script loaded.holds in absurd (none_not_some none some)
+      | inr long ↦ absurd (omega (arith, long.0, loaded.holds.short))
     ])
     (told_text source now loaded.text loaded.read)
+  where
+    none_not_some : {found : Option ScriptFault} → found ≡ None → IsSome found → ⊥
+    none_not_some none some = absurd (let same = subst IsSome none some in cc)
 
 -- what holds of the fault that was read holds of that which is told
-told_first : (source now : SourceState) (fault : ScriptFault) → HasFault fault source now → IfSome source.left (λ all. first_fault all ≡ Some fault)
+told_first : (source now : SourceState) (fault : ScriptFault) → ReadsText source now (λ text. first_fault text ≡ Some fault) → IfSome source.left (λ all. first_fault all ≡ Some fault)
 told_first source now fault has =
     IfSome-map source.left (Same has.text) _
     (λ all same. elim same [
-      | inl is ↦ ap first_fault is ∙ has.first
-      | inr long ↦ first_fault_long all long.1 ∙ sym (first_fault_long has.text long.0) ∙ has.first
+      | inl is ↦ ap first_fault is ∙ has.holds
+      | inr long ↦ first_fault_long all long.1 ∙ sym (first_fault_long has.text long.0) ∙ has.holds
     ])
     (told_text source now has.text has.read)
 
-pub told_some : (source now : SourceState) (fault : ScriptFault) → HasFault fault source now → IfSome source.left (λ text. IsSome (first_fault text))
-told_some source now fault has = IfSome-map source.left _ _ (λ all first. subst IsSome (sym first) refl) (told_first source now fault has)
-
-pub told_fault : (source now : SourceState) (fault : ScriptFault) (P : ScriptFault → Type 0) → HasFault fault source now → P fault → IfFault source.left P
-told_fault source now fault P has holds =
-    IfSome-map source.left _ _ (λ all first other is. let same : fault ≡ other = cc in subst P same holds) (told_first source now fault has)
-
 -- a text with a fault is no script
-pub told_faulty : (source now : SourceState) (fault : ScriptFault) (P : Script → Type 0) → HasFault fault source now → IfScript source.left P
+pub told_faulty : (source now : SourceState) (fault : ScriptFault) (P : Script → Type 0) → ReadsText source now (λ text. first_fault text ≡ Some fault) → IfScript source.left P
 told_faulty source now fault P has =
     IfSome-map source.left _ _ (λ all first script reads. let none : first_fault all ≡ None = no_fault all script reads in absurd (cc)) (told_first source now fault has)
-
--- what holds of each script that is told
-pub use_script : (left : Option (List ℕ)) (text : List ℕ) (script : Script) (P : Script → Type 0) → left ≡ Some text → Reads text script → IfScript left P → P script
-use_script left text script P is reads holds = subst (λ left. IfScript left P) is holds script reads

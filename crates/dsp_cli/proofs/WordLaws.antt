@@ -1,5 +1,5 @@
 -- The words of a command, and what a command keeps to.
-use Rattle.std.proofs.Common.{◌≡◌, ℕ, List, [], ◌∷◌, length, Option, Some, None, IfSome, Bool, true, false, if◌then◌else◌, nat_le, ◌&&◌, slice_get, refl, arith}
+use Rattle.std.proofs.Common.{◌≡◌, ℕ, ◌≤◌, List, [], ◌∷◌, length, Option, Some, None, IfSome, Bool, true, false, if◌then◌else◌, nat_le, ◌&&◌, slice_get, refl, subst, arith}
 use Rattle.std.specs.Prelude.{codes}
 use Rattle.std.specs.Option.{option_map}
 use Rattle.std.specs.Str.{bytes_eq}
@@ -41,7 +41,7 @@ named_within : (count : Option ℕ) → IfSome (option_map (λ n. Run (Some n)) 
 named_within None = tt
 named_within (Some n) = tt
 
-pub commands_within : (words : List (List ℕ)) → IfSome (command_of words) MakesFew
+commands_within : (words : List (List ℕ)) → IfSome (command_of words) MakesFew
 commands_within [] = tt
 commands_within (a ∷ []) = tt
 commands_within (a ∷ b ∷ []) = by_test (bytes_eq a (codes "print") && is_name b) (Some Print) tt
@@ -51,3 +51,6 @@ commands_within (a ∷ b ∷ c ∷ d ∷ e ∷ []) = by_test (bytes_eq a (codes 
 commands_within (a ∷ b ∷ c ∷ d ∷ e ∷ f ∷ []) =
     by_test (bytes_eq a (codes "run") && are_run_names b c d && bytes_eq e (codes "block")) (option_map (λ n. Run (Some n)) (count_of f)) (named_within (count_of f))
 commands_within (a ∷ b ∷ c ∷ d ∷ e ∷ f ∷ g ∷ words) = tt
+
+pub gen_makes_few : (words : List (List ℕ)) (seed frames : ℕ) → command_of words ≡ Some (Gen seed frames) → frames ≤ MAX_GENERATED
+gen_makes_few words seed frames is = subst (λ command. IfSome command MakesFew) is (commands_within words)

@@ -8,6 +8,8 @@ use Rattle.dsp_session.specs.declared.fault.LengthFault.{LengthFault}
 use Rattle.dsp_session.specs.declared.fault.LengthFault.TheVariants as length_fault
 use Rattle.dsp_session.specs.declared.fault.StreamFault.TheVariants.{Header, Lengths, Input, Output}
 
+-- ---- faults
+
 -- the status of each fault
 abbrev pub status_of : Fault → ℕ
 status_of Usage = 1

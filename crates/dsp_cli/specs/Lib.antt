@@ -1,7 +1,6 @@
 pub mod Fault
 pub mod Script
 pub mod Run
-pub mod Stands
-pub mod Perform
 pub mod Call
+pub mod Perform
 pub mod Causes

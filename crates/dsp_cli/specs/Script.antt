@@ -3,14 +3,14 @@ use Rattle.std.specs.Prelude.{◌≡◌, ◌⊎◌, ◌+◌, ℕ, Bool, List, le
 use Rattle.std.specs.Io.KnownBytes.{IsAtEnd}
 use Rattle.dsp_ports.specs.Ports.{SourceState, Gave}
 use Rattle.dsp_defs.specs.Grammar.{Reads}
-use Rattle.dsp_defs.specs.Reading.{first_fault}
 use Rattle.dsp_defs.specs.Shape.{is_legal, default_block}
 use Rattle.dsp_defs.specs.Words.{command_of}
 use Rattle.dsp_defs.specs.declared.command.Command.{Command}
-use Rattle.dsp_defs.specs.declared.command.Command.TheVariants.{Run, Gen}
+use Rattle.dsp_defs.specs.declared.command.Command.TheVariants.{Run}
 use Rattle.dsp_defs.specs.declared.limits.TheConstants.{MAX_SCRIPT}
 use Rattle.dsp_defs.specs.declared.script.Script.{Script}
-use Rattle.dsp_defs.specs.declared.script_fault.ScriptFault.{ScriptFault}
+
+-- ---- its bytes
 
 -- all the bytes were taken, or one more than a script may have
 pub record IsReadWhole (script now : SourceState) (text : List ℕ) : Type 0 where
@@ -18,24 +18,22 @@ pub record IsReadWhole (script now : SourceState) (text : List ℕ) : Type 0 whe
   pub end : IsAtEnd now.left ⊎ (length text ≡ MAX_SCRIPT + 1)
   pub no_fault : now.faults ≡ script.faults
 
+-- they were read, and P holds of them
+pub record ReadsText (source now : SourceState) (P : List ℕ → Type 0) : Type 0 where
+  pub text : List ℕ
+  pub read : IsReadWhole source now text
+  pub holds : P text
+
 -- where the source tells its bytes and they read as a script, P holds of it
 abbrev pub IfScript : Option (List ℕ) → (Script → Type 0) → Type 0
 IfScript left P = IfSome left (λ text. (script : Script) → Reads text script → P script)
 
--- where the source tells its bytes and they have a first fault, P holds of it
-abbrev pub IfFault : Option (List ℕ) → (ScriptFault → Type 0) → Type 0
-IfFault left P = IfSome left (λ text. (fault : ScriptFault) → first_fault text ≡ Some fault → P fault)
+-- ---- its block length
 
 -- the block length that a command names
 abbrev pub named_by : Option Command → Option ℕ
 named_by (Some (Run block)) = block
 named_by command = None
-
--- what a run or a gen names as its block length; a gen names none
-abbrev pub stream_of : Option Command → Option (Option ℕ)
-stream_of (Some (Run block)) = Some block
-stream_of (Some (Gen seed frames)) = Some None
-stream_of command = None
 
 -- the block length that is named, else that of the script, else the default
 abbrev pub chosen : Option ℕ → Script → ℕ

@@ -8,13 +8,12 @@ ghost use Rattle.dsp_defs.specs.Words.{command_of};
 ghost use Rattle.dsp_defs.specs.declared.command.Command.TheVariants.{Gen};
 ghost use Rattle.dsp_defs.specs.declared.limits.TheConstants.{MAX_GENERATED, MAX_SCRIPT};
 ghost use Rattle.dsp_session.specs.Session.{cost_of, measures_of};
-ghost use Rattle.dsp_cli.specs.Call.{Ended, call};
-ghost use Rattle.dsp_cli.specs.Causes.{Causes, Completes, Reports};
+ghost use Rattle.dsp_cli.specs.Call.{Ended, Happened, Stopped, Untouched, call};
+ghost use Rattle.dsp_cli.specs.Causes.{Causes, Completes};
 ghost use Rattle.dsp_cli.specs.Fault.{summary_text};
 ghost use Rattle.dsp_cli.specs.Script.{chosen, IfScript};
-ghost use Rattle.dsp_cli.specs.Perform.{ReadsAs, Ran, RanGenerated, Performed, FailsToLoad, FailsToRun, FailsToGenerate, StopsBy, ReportsText, HasStatus};
-ghost use Rattle.dsp_cli.specs.Run.{Wrote, Tells, IfWhole, IsStream, IsGen, IsPrint, IsDone, IsStopped, IsRefused};
-ghost use Rattle.dsp_cli.specs.Stands.{Stands};
+ghost use Rattle.dsp_cli.specs.Perform.{ReadsAs, Ran, RanGenerated, Performed, FailsToLoad, FailsToRun, FailsToGenerate, HasStatus};
+ghost use Rattle.dsp_cli.specs.Run.{Wrote, Tells, ReportsText, IfWhole, IsStream, IsGen, IsPrint, IsDone, IsRefused};
 
 use crate::command::command;
 use crate::fault::Fault;
@@ -145,10 +144,10 @@ fn perform<P: Source, S: Source, K: Sink, L: Ledger>(
     output: &mut K,
     steps: &mut Steps<L>,
 ) -> Result<Outcome, Fault>
-    ensures ok { IfOk result (λ outcome. Performed outcome words.now (P.state script.old) (P.state script.new) (S.state input.old) (S.state input.new)
-        (K.state output.old) (K.state output.new) steps.old steps.new) }
-    ensures err { IfErr result (λ fault. StopsBy fault words.now (P.state script.old) (P.state script.new) (S.state input.old) (S.state input.new)
-        (K.state output.old) (K.state output.new) steps.old steps.new) }
+    ensures ok { IfOk result (λ outcome. Performed outcome (call words.now (P.state script.old) (P.state script.new) (S.state input.old) (S.state input.new)
+        (K.state output.old) (K.state output.new) steps.old steps.new)) }
+    ensures err { IfErr result (λ fault. Happened (Stopped fault) (call words.now (P.state script.old) (P.state script.new) (S.state input.old) (S.state input.new)
+        (K.state output.old) (K.state output.new) steps.old steps.new)) }
     ensures taken { (P.state script.new).taken ≤ (P.state script.old).taken + MAX_SCRIPT + 1 }
 {
     let Some(command) = command(words) else {
@@ -264,31 +263,27 @@ pub fn run<P: Source, S: Source, K: Sink, R: Sink, L: Ledger>(
 ) -> u8
     // How it ended: a script, the frames of its input and what its stream did, or the fault; and the report of just that.
     ensures ended { Ended (call words.now (P.state script.old) (P.state script.new) (S.state input.old) (S.state input.new)
-        (K.state output.old) (K.state output.new) (R.state report.old) (R.state report.new) steps.old steps.new result) }
+        (K.state output.old) (K.state output.new) steps.old steps.new) result (R.state report.old) (R.state report.new) }
 
     // A run or a gen that is done has written exactly the output of the script for all the input.
     ensures done { IsStream words.now → IsDone result → IfWhole (command_of words.now) (P.state script.old).left (S.state input.old)
         (λ s bytes. Wrote (output_of s bytes) (K.state output.old) (K.state output.new)) }
     ensures settled { IsStream words.now → IsDone result → IsSettled (K.state output.new) }
 
-    // What stands at each end: what was taken and written, the multiplies and turns, and the report.
-    ensures stands { IsStream words.now → IsDone result ⊎ IsStopped result → Stands words.now (P.state script.old).left
-        (S.state input.old) (S.state input.new) (K.state output.old) (K.state output.new) (R.state report.old) (R.state report.new) steps.old steps.new result }
+    // What is left alone, and what a gen goes over.
     ensures untouched { IsRefused result ⊎ IsPrint words.now
-        → (S.state input.new ≡ S.state input.old) × (K.state output.new ≡ K.state output.old) × (steps.new ≡ steps.old) }
+        → Untouched (S.state input.old) (S.state input.new) (K.state output.old) (K.state output.new) steps.old steps.new }
     ensures input_same { IsGen words.now → S.state input.new ≡ S.state input.old }
     ensures counted { (seed frames : ℕ) → command_of words.now ≡ Some (Gen seed frames) → IsDone result → IfScript (P.state script.old).left (λ s.
         (steps.new.multiplies ≡ steps.old.multiplies + cost_of s frames)
         × Tells (report_text s frames (measures_of s (input_signal s (generated_bytes s.input seed frames)))) (R.state report.old) (R.state report.new)) }
     ensures script_taken { (P.state script.new).taken ≤ (P.state script.old).taken + MAX_SCRIPT + 1 }
 
-    // Where each status comes from; that nothing else stands in the way of 0; and what the report says.
+    // Which statuses may come, which must, and that nothing else stands in the way of 0.
     ensures causes { Causes (call words.now (P.state script.old) (P.state script.new) (S.state input.old) (S.state input.new)
-        (K.state output.old) (K.state output.new) (R.state report.old) (R.state report.new) steps.old steps.new result) }
+        (K.state output.old) (K.state output.new) steps.old steps.new) result }
     ensures completes { Completes (call words.now (P.state script.old) (P.state script.new) (S.state input.old) (S.state input.new)
-        (K.state output.old) (K.state output.new) (R.state report.old) (R.state report.new) steps.old steps.new result) }
-    ensures reports { Reports (call words.now (P.state script.old) (P.state script.new) (S.state input.old) (S.state input.new)
-        (K.state output.old) (K.state output.new) (R.state report.old) (R.state report.new) steps.old steps.new result) }
+        (K.state output.old) (K.state output.new) steps.old steps.new) result (R.state report.old) (R.state report.new) }
 {
     let outcome = perform(alloc, words, script, input, output, steps);
     settle(outcome, report)

@@ -2,13 +2,13 @@
 use Rattle.std.proofs.Common.{◌≡◌, ℕ, suc, ◌+◌, ◌-◌, ◌*◌, ◌/◌, ◌^◌, ◌<◌, ◌≤◌, List, [], ◌++◌, length, take, Option, Some, None, Result, Ok, Err, sym, ap, ◌∙◌, subst, arith, append_assoc, append-nil, length-append, inl, inr}
 use Rattle.std.proofs.lemmas.Bool.{cases_lt}
 use Rattle.std.proofs.lemmas.List.{length-take-le, take-take}
-use Rattle.std.specs.Io.KnownBytes.{append_known}
+use Rattle.std.specs.Io.KnownBytes.{IsAtEnd, append_known}
 use Rattle.dsp_ports.specs.Ports.{SourceState, SinkState, one_more, IsSettled}
 use Rattle.dsp_ports.proofs.Moved.{append_known-append}
 use Rattle.dsp_defs.specs.Block.{Frame}
 use Rattle.dsp_defs.specs.Counts.{Counts}
-use Rattle.dsp_defs.specs.Output.{HasHeader, input_signal, output_header, output_pad, output_coding, live_bytes, whole_bytes, output, part}
-use Rattle.dsp_defs.specs.Shape.{frames_given, gathered, window_at}
+use Rattle.dsp_defs.specs.Output.{HasHeader, input_header, input_signal, output_header, output_pad, output_coding, live_bytes, whole_bytes, output, part}
+use Rattle.dsp_defs.specs.Shape.{frames_given, gathered, held, window_at}
 use Rattle.dsp_defs.specs.Streaming.{Begins}
 use Rattle.dsp_defs.specs.declared.limits.TheConstants.{MAX_GATHERED}
 use Rattle.dsp_defs.specs.declared.measure.Measure.{Measure}
@@ -23,7 +23,7 @@ use Rattle.dsp_defs.proofs.SampleLaws.{samples-whole}
 use Rattle.dsp_session.specs.SessionState.{SessionState}
 use Rattle.dsp_session.specs.Session.{IsReady, StandsFor, SameSession, signal, frame_bytes, whole_values, cost_of, live_cost_of, products_of, turns_of, run_turns, measures_of}
 use Rattle.dsp_session.specs.Opening.{Fits}
-use Rattle.dsp_session.specs.Stream.{IsWhole, IsTakenWhole, Stopped, Done, LagsByOne, BlocksKeepLimits, IsInDeclared, declared_bytes, frames_in_bytes, in_whole_blocks}
+use Rattle.dsp_session.specs.Stream.{IsTakenWhole, Stopped, Done, Part, KeepsLimits, LagsByOne, IsInDeclared, declared_bytes, frames_in_bytes, in_whole_blocks}
 use Rattle.dsp_session.specs.Passing.{InDeclared, AreAll, PassCosts, Passes, FailsToPass, Passed, WritesRest, TailCosts}
 use Rattle.dsp_session.specs.declared.fault.LengthFault.TheVariants as length_fault
 use Rattle.dsp_session.specs.declared.fault.StreamFault.{StreamFault}
@@ -141,10 +141,13 @@ module _ (script : Script) (block : ℕ) (ready : IsReady script block) (session
   given_all : length given ≡ header.start + (last.before + last.count)
   given_all = omega (arith, passed.opens.start, given_length, length-append passed.first (heard ++ rest))
 
+  abbrev IsWhole : Option ℕ → Header → Type 0
+  IsWhole declared header = elim declared [ Some size ↦ length given ≡ header.start + size | None ↦ IsAtEnd now.left ]
+
   is_whole : IsTakenWhole script given now
-  is_whole = subst (λ (h : Header). IsWhole (declared_bytes script h) h given now) (sym (passed.opens.said (heard ++ rest))) (by_declared (declared_bytes script header) passed.ended)
+  is_whole = subst (λ (h : Header). IsWhole (declared_bytes script h) h) (sym (passed.opens.said (heard ++ rest))) (by_declared (declared_bytes script header) passed.ended)
     where
-      by_declared : (size : Option ℕ) → AreAll size (last.before + last.count) now → IsWhole size header given now
+      by_declared : (size : Option ℕ) → AreAll size (last.before + last.count) now → IsWhole size header
       by_declared None end = end
       by_declared (Some size) all = omega (arith, given_all, all)
 
@@ -186,7 +189,7 @@ module _ (script : Script) (block : ℕ) (ready : IsReady script block) (session
   whole_blocks : in_whole_blocks block (frames_in_bytes script given) ≡ passed.blocks * block
   whole_blocks = whole_blocks_are script block ready header passed.first passed.opens passed.blocks heard rest declared passed.blocks_heard (omega (arith, rest_length, passed.short, passed.size))
 
-  limits : BlocksKeepLimits script block given
+  limits : KeepsLimits script (input_header script given) (in_whole_blocks block (frames_in_bytes script given))
   limits = blocks_keep script block header given (passed.opens.said (heard ++ rest)) passed.fits whole_blocks passed.not_full
 
   early_turns : counts.turns ≤ before.turns + run_turns script block (frames_in_bytes script given)
@@ -214,15 +217,9 @@ module _ (script : Script) (block : ℕ) (ready : IsReady script block) (session
         written = head ++ live_bytes script x;
         gave = passed.gave;
         put = passed.took.put;
-        stops = record {
-          has = has;
-          whole = is_whole;
-          window = ap (window_at script.blocks) (sym frames) ∙ window;
-          limits = limits;
-          wrote = parted;
-          clean = passed.no_input_fault;
-          kept = passed.no_output_fault;
-        };
+        cause = (has, is_whole, ap (window_at script.blocks) (sym frames) ∙ window);
+        wrote = Part has parted limits (passed.cost ∙ ap (λ n. before.multiplies + live_cost_of script n) (frames_heard ∙ sym whole_blocks));
+        faults = (passed.no_input_fault, passed.no_output_fault);
         in_declared = λ _. behind;
         lag = λ _. subst (LagsByOne script block given) (append-nil (head ++ live_bytes script x)) (lag []);
         cost = cost_so_far counts.multiplies (length x) (omega (arith, length-append x (signal script header.coding fed_bytes))) passed.cost;
@@ -242,13 +239,9 @@ module _ (script : Script) (block : ℕ) (ready : IsReady script block) (session
         written = head ++ live_bytes script x ++ written;
         gave = passed.gave;
         put = put ∙ ap (λ known. append_known known written) passed.took.put ∙ sym (append_known-append sink.put (head ++ live_bytes script x) written);
-        stops = record {
-          has = has;
-          wrote = inr ((back ++ (tail ++ output_pad script header), begins), is_whole);
-          limits = limits;
-          risen = risen ∙ ap one_more passed.no_output_fault;
-          clean = passed.no_input_fault;
-        };
+        cause = has;
+        wrote = (limits, inr ((back ++ (tail ++ output_pad script header), begins), is_whole));
+        faults = (passed.no_input_fault, risen ∙ ap one_more passed.no_output_fault);
         in_declared = λ _. behind;
         lag = λ _. lag written;
         cost = cost_so_far after.multiplies (length y) (omega arith) (omega (arith, costs.rise, passed.cost));
@@ -260,28 +253,30 @@ module _ (script : Script) (block : ℕ) (ready : IsReady script block) (session
           ap (λ xs. a ++ xs) (ap (λ xs. (xs ++ e) ++ f) (sym (append_assoc b c d)) ∙ append_assoc ((b ++ c) ++ d) e f ∙ append_assoc (b ++ c) d (e ++ f))
           ∙ sym (append_assoc a (b ++ c) (d ++ (e ++ f))) ∙ ap (λ xs. xs ++ (d ++ (e ++ f))) (sym (append_assoc a b c))
   stops_unpassed window (fault.Lengths (length_fault.Gather told more)) final after (over, held_is, more_is, same, still) =
+      let blocks_before : in_whole_blocks block (frames_in_bytes script given - 1) ≡ passed.blocks * block =
+      in_blocks passed.blocks block (frames_in_bytes script given - 1) (block_some script block ready) (omega (arith, frames_between_strictly over)) (omega (arith, high, block_some script block ready)) in
+      let worked : length x ≡ in_whole_blocks block (frames_in_bytes script given - 1) = frames_heard ∙ sym blocks_before in
       record {
         given = given;
         written = head ++ live_bytes script x;
         gave = passed.gave;
         put = ap (λ (s : SinkState). s.put) same ∙ passed.took.put;
-        stops = record {
-          has = has;
-          over = subst (λ n. MAX_GATHERED < gathered script.blocks n) (sym frames_is) over;
-          before = length x;
-          before_is = frames_heard ∙ sym (in_blocks passed.blocks block (frames_in_bytes script given - 1) (block_some script block ready) (omega (arith, frames_between_strictly over)) (omega (arith, high, block_some script block ready)));
-          limits = record {
-            fits = subst (Fits script) (sym (passed.opens.said (heard ++ rest))) passed.fits;
-            not_full = subst (λ n. gathered script.blocks n ≤ MAX_GATHERED) (sym frames_heard) passed.not_full;
-          };
-          made = ap (λ (c : Counts). c.multiplies) still ∙ passed.cost;
-          no_window = λ _. (is_whole, ap (window_at script.blocks) (frames_is ∙ sym fed_all) ∙ sym window);
-          held_is = held_is;
-          more_is = more_is ∙ ap (gathered script.blocks) (sym frames_is);
-          wrote = parted;
-          clean = passed.no_input_fault;
-          kept = ap (λ (s : SinkState). s.faults) same ∙ passed.no_output_fault;
-        };
+        cause = (
+          has,
+          record {
+            over = subst (λ n. MAX_GATHERED < gathered script.blocks n) (sym frames_is) over;
+            has_is = held_is ∙ ap (held script.blocks) worked;
+            more_is = more_is ∙ ap (gathered script.blocks) (sym frames_is);
+            no_window = λ _. (is_whole, ap (window_at script.blocks) (frames_is ∙ sym fed_all) ∙ sym window);
+          },
+        );
+        wrote = Part has parted
+            (record {
+              fits = subst (Fits script) (sym (passed.opens.said (heard ++ rest))) passed.fits;
+              not_full = subst (λ n. gathered script.blocks n ≤ MAX_GATHERED) (sym blocks_before) passed.not_full;
+            })
+            (ap (λ (c : Counts). c.multiplies) still ∙ passed.cost ∙ ap (λ n. before.multiplies + live_cost_of script n) worked);
+        faults = (passed.no_input_fault, ap (λ (s : SinkState). s.faults) same ∙ passed.no_output_fault);
         in_declared = λ _. behind;
         lag = λ _. subst (LagsByOne script block given) (append-nil (head ++ live_bytes script x)) (lag []);
         cost = cost_so_far after.multiplies (length x) (omega (arith, length-append x (signal script header.coding fed_bytes))) (ap (λ (c : Counts). c.multiplies) still ∙ passed.cost);
@@ -381,13 +376,9 @@ module _ (script : Script) (block : ℕ) (ready : IsReady script block) (session
             written = head ++ live_bytes script x ++ (fed.out ++ tail.written);
             gave = passed.gave;
             put = put_all final tail.written tail.put;
-            stops = record {
-              has = has;
-              wrote = inr ((back, begins), is_whole);
-              limits = limits;
-              risen = failed ∙ ap one_more (passes.no_fault ∙ passed.no_output_fault);
-              clean = passed.no_input_fault;
-            };
+            cause = has;
+            wrote = (limits, inr ((back, begins), is_whole));
+            faults = (passed.no_input_fault, failed ∙ ap one_more (passes.no_fault ∙ passed.no_output_fault));
             in_declared = λ _. behind;
             lag = λ _. lag (fed.out ++ tail.written);
             cost = rw frames_is (cost_all spent.multiplies limit);

@@ -17,7 +17,7 @@ use Rattle.dsp_chain.specs.Chain.{IsSpent, live_of, whole_of, made_of}
 use Rattle.dsp_session.specs.SessionState.{SessionState}
 use Rattle.dsp_session.specs.Session.{Holds, StandsFor, HasGiven, SameSession, Ends, measured, measures_of, output_bytes, live_values, whole_values, live_cost_of, products_of}
 use Rattle.dsp_session.specs.Passing.{WritesRest, TailCosts}
-use Rattle.dsp_session.proofs.PassingLaws.{made_live}
+use Rattle.dsp_session.proofs.FeedLaws.{made_live}
 
 -- so much of the tail was written
 pub record Tailing (script : Script) (x : List Frame) (frames pieces : ℕ) (session : SessionState) (sink after : SinkState) (before counts : Counts) : Type 0 where

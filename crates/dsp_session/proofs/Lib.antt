@@ -1,6 +1,8 @@
 pub mod OpeningLaws
+pub mod FaultLaws
 pub mod OpenLaws
 pub mod Pieces
+pub mod FeedLaws
 pub mod CloseLaws
 pub mod EndLaws
 pub mod WorkerLaws

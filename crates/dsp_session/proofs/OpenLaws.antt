@@ -21,6 +21,7 @@ use Rattle.dsp_defs.specs.declared.script.Block.{Block}
 use Rattle.dsp_defs.specs.declared.script.Script.{Script}
 use Rattle.dsp_defs.specs.declared.wave.Header.{Header}
 use Rattle.dsp_defs.specs.declared.wave.HeaderFault.{HeaderFault}
+use Rattle.dsp_defs.specs.declared.wave.HeaderFault.TheVariants.{NoSamples}
 use Rattle.dsp_stage.proofs.ChainPlaces.{few_channels_after}
 use Rattle.dsp_wave.specs.Reading.{IsSure}
 use Rattle.dsp_script.proofs.Paces.{legal_parts}
@@ -34,8 +35,9 @@ use Rattle.dsp_session.specs.declared.fault.StreamFault.TheVariants as fault
 use Rattle.dsp_session.specs.SessionState.{SessionState}
 use Rattle.dsp_session.specs.Session.{IsReady, block_bytes, signal}
 use Rattle.dsp_session.specs.Opening.{Opens, Opened, Unopened, IsUnopened, IsTooLong, TooLong, Fits}
-use Rattle.dsp_session.specs.Stream.{StopsAt, Stopped, StaysRefused, Nothing, LagsByOne, IsInDeclared, declared_bytes, in_whole_frames, frames_in_bytes, in_whole_blocks}
+use Rattle.dsp_session.specs.Stream.{HasFault, WantsMore, IsCause, HasWritten, CountsFault, Stopped, StaysRefused, Nothing, KeepsLimits, LagsByOne, IsInDeclared, declared_bytes, in_whole_frames, frames_in_bytes, in_whole_blocks}
 use Rattle.dsp_session.specs.Passing.{InDeclared}
+use Rattle.dsp_session.proofs.FaultLaws.{fault_by_header}
 use Rattle.dsp_session.proofs.OpeningLaws.{some_frame, part_blocks, frames_are, signal-nil}
 use Rattle.std.proofs.Math.Nat.{mul-le-mul}
 
@@ -77,16 +79,24 @@ no_header script fault offset given now wave sure has =
     said (inl all) = ap (λ bytes. header_of bytes (wanted_of script)) (sym (append-nil given)) ∙ all []
     said (inr (end, here)) = here
 
+-- what the header says is a fault of the input
+header_fault : (script : Script) (fault : HeaderFault) (offset : ℕ) (given : List ℕ) (now : SourceState) → script.input.kind ≡ kind.Wave → IsSure (λ bytes. header_of bytes (wanted_of script)) now given (Err (fault, offset)) → HasFault script given now (fault, offset)
+header_fault script fault offset given now wave (inl all) = inl (λ more. fault_by_header script (given ++ more) fault offset wave (all more))
+header_fault script fault offset given now wave (inr (end, here)) = inr (end, fault_by_header script given fault offset wave here)
+
 -- nothing was written before the header of the input was there
 module _ (script : Script) (block : ℕ) (counts : Counts) (input now : SourceState) (sink : SinkState) where
-  unwritten : (fault : StreamFault) (given : List ℕ) → Gave input now given → (HasHeader script given → ⊥) → StopsAt fault script block given [] input now sink sink counts counts → Stopped script block fault input now sink sink counts counts
-  unwritten fault given gave none stops =
+  unwritten : (fault : StreamFault) (given : List ℕ) → Gave input now given → (HasHeader script given → ⊥) → IsCause fault script block given now → HasWritten fault script block given [] now sink sink counts counts → CountsFault fault input now sink sink
+      → Stopped script block fault input now sink sink counts counts
+  unwritten fault given gave none cause wrote faults =
       record {
         given = given;
         written = [];
         gave = gave;
         put = (Took-nil sink).put;
-        stops = stops;
+        cause = cause;
+        wrote = wrote;
+        faults = faults;
         in_declared = λ has. absurd (none has);
         lag = λ has. absurd (none has);
         cost = omega arith;
@@ -94,14 +104,14 @@ module _ (script : Script) (block : ℕ) (counts : Counts) (input now : SourceSt
       }
 
   by_cause : (fault : StreamFault) (given : List ℕ) → Gave input now given → IsUnopened fault script given input now → Stopped script block fault input now sink sink counts counts
-  by_cause fault.Input given gave cause =
-      unwritten fault.Input given gave cause.2 (record { wrote = Nothing cause.2 refl; risen = cause.0; in_limit = cause.1 })
+  by_cause fault.Input given gave cause = unwritten fault.Input given gave cause.2 cause.1 (Nothing cause.2 refl) (cause.0, refl)
   by_cause (fault.Header f offset) given gave cause =
-      unwritten (fault.Header f offset) given gave (no_header script f offset given now cause.0 cause.1)
-      (inl (record { wave = cause.0; sure = cause.1; untouched = refl; clean = cause.2 }))
+      let none = no_header script f offset given now cause.0 cause.1 in
+      unwritten (fault.Header f offset) given gave none (header_fault script f offset given now cause.0 cause.1) (Nothing none refl) (cause.2, refl)
   by_cause (fault.Lengths (length_fault.Input taken limit)) given gave cause =
-      unwritten (fault.Lengths (length_fault.Input taken limit)) given gave cause.3.none
-      (record { wrote = Nothing cause.3.none refl; all = cause.0; unheaded = λ _. cause.3; wanted = λ has. absurd (cause.3.none has); at_limit = cause.1; limit = cause.2; clean = cause.4 })
+      let unheaded = cause.3 in
+      let more : WantsMore script given = record { cut = λ _. fault_by_header script given NoSamples (length given) unheaded.wave unheaded.cut; declared = λ has. absurd (unheaded.none has) } in
+      unwritten (fault.Lengths (length_fault.Input taken limit)) given gave unheaded.none (cause.0, cause.1, cause.2, more) (Nothing unheaded.none refl) (cause.4, refl)
   by_cause _ given gave cause = absurd cause
 
   pub stops_unopened : (fault : StreamFault) → Unopened script fault input now → Stopped script block fault input now sink sink counts counts
@@ -160,14 +170,17 @@ module _ (script : Script) (block : ℕ) (counts : Counts) (ready : IsReady scri
       by_size None = tt
       by_size (Some size) = omega arith
 
-  stops_first : (fault : StreamFault) (after : SinkState) (written : List ℕ) → after.put ≡ append_known sink.put written → StopsAt fault script block first written input now sink after counts counts → Stopped script block fault input now sink after counts counts
-  stops_first fault after written put stops =
+  stops_first : (fault : StreamFault) (after : SinkState) (written : List ℕ) → after.put ≡ append_known sink.put written → IsCause fault script block first now → HasWritten fault script block first written now sink after counts counts → CountsFault fault input now sink after
+      → Stopped script block fault input now sink after counts counts
+  stops_first fault after written put cause wrote faults =
       record {
         given = first;
         written = written;
         gave = opened.gave;
         put = put;
-        stops = stops;
+        cause = cause;
+        wrote = wrote;
+        faults = faults;
         in_declared = λ _. subst (IsInDeclared script) (append-nil first) (none_behind script header first opened.opens [] none_declared);
         lag = λ _. lags_none written;
         cost = omega arith;
@@ -176,15 +189,9 @@ module _ (script : Script) (block : ℕ) (counts : Counts) (ready : IsReady scri
 
   pub stops_too_long : (length : LengthFault) (known : Option ℕ) → known ≡ known_frames script header → TooLong length script known → Stopped script block (fault.Lengths length) input now sink sink counts counts
   stops_too_long (length_fault.Riff size limit) known is (long, most) =
-      stops_first (fault.Lengths (length_fault.Riff size limit)) sink [] (Took-nil sink).put
-      (record {
-        has = has;
-        alone = sym (ap (λ (h : Header). h.start) header_is ∙ opened.opens.start);
-        long = subst (λ count. IsTooLong script count size) (is ∙ sym (ap (known_frames script) header_is)) long;
-        limit = most;
-        untouched = refl;
-        clean = opened.no_fault;
-      })
+      let alone = sym (ap (λ (h : Header). h.start) header_is ∙ opened.opens.start) in
+      let over = subst (λ count. IsTooLong script count size) (is ∙ sym (ap (known_frames script) header_is)) long in
+      stops_first (fault.Lengths (length_fault.Riff size limit)) sink [] (Took-nil sink).put (has, alone, over, most) refl (opened.no_fault, refl)
   stops_too_long _ known is none = absurd none
 
   no_frames : frames_in_bytes script first ≡ 0
@@ -199,14 +206,9 @@ module _ (script : Script) (block : ℕ) (counts : Counts) (ready : IsReady scri
       ap (part script block) (sym (append-nil first)) ∙ part_blocks script header (some_frame script header.coding block ready) first opened.opens block 0 [] [] (omega arith) (some_block script header.coding block ready) none_declared in
       let split : part script block first ≡ take count all ++ (drop count all ++ live_bytes script (signal script header.coding [])) =
       parted ∙ ap (λ xs. xs ++ live_bytes script (signal script header.coding [])) (sym (take-append-drop count all)) ∙ append_assoc (take count all) (drop count all) (live_bytes script (signal script header.coding [])) in
-      stops_first fault.Output after (take count all) took.put
-      (record {
-        has = has;
-        wrote = inl (drop count all ++ live_bytes script (signal script header.coding []), split);
-        limits = record {
-          fits = subst (Fits script) (sym header_is) fits;
-          not_full = subst (λ n. gathered script.blocks n ≤ MAX_GATHERED) (sym (ap (in_whole_blocks block) no_frames ∙ none_whole block)) (omega (arith, gathered-nothing script.blocks));
-        };
-        risen = risen;
-        clean = opened.no_fault;
-      })
+      let limits : KeepsLimits script (input_header script first) (in_whole_blocks block (frames_in_bytes script first)) =
+      record {
+        fits = subst (Fits script) (sym header_is) fits;
+        not_full = subst (λ n. gathered script.blocks n ≤ MAX_GATHERED) (sym (ap (in_whole_blocks block) no_frames ∙ none_whole block)) (omega (arith, gathered-nothing script.blocks));
+      } in
+      stops_first fault.Output after (take count all) took.put has (limits, inl (drop count all ++ live_bytes script (signal script header.coding []), split)) (opened.no_fault, risen)

@@ -1,40 +1,32 @@
 -- A stream goes on block by block.
-use Rattle.std.proofs.Common.{◌≡◌, ℕ, zero, suc, ◌+◌, ◌-◌, ◌*◌, ◌/◌, ◌^◌, ◌<◌, ◌≤◌, true, false, List, [], ◌∷◌, ◌++◌, length, take, Option, Some, None, IfSome, refl, sym, ap, ◌∙◌, subst, arith, append_assoc, append-nil, length-append, inl, inr}
-use Rattle.std.specs.Prelude.{is_some}
-use Rattle.std.proofs.lemmas.Bool.{cases_lt}
+use Rattle.std.proofs.Common.{◌≡◌, ℕ, zero, suc, ◌+◌, ◌-◌, ◌*◌, ◌/◌, ◌^◌, ◌<◌, ◌≤◌, List, [], ◌++◌, length, take, Option, Some, None, IfSome, refl, sym, ap, ◌∙◌, subst, arith, append_assoc, append-nil, length-append, inl, inr}
 use Rattle.std.proofs.lemmas.List.{take_at, take_all}
 use Rattle.std.specs.Io.KnownBytes.{append_known}
 use Rattle.dsp_ports.specs.Ports.{SourceState, SinkState, Gave, Took, one_more as fault_more}
 use Rattle.dsp_ports.proofs.Moved.{Gave-nil, Took-nil, Gave-append, Took-append, append_known-append}
-use Rattle.dsp_defs.specs.Block.{Frame, live, live_chain, format_after, channels_after}
+use Rattle.dsp_defs.specs.Block.{Frame}
 use Rattle.dsp_defs.specs.Counts.{Counts}
-use Rattle.dsp_defs.specs.Cost.{live_cost}
-use Rattle.dsp_defs.specs.Output.{HasHeader, input_header, output_header, output_coding, live_bytes, part}
+use Rattle.dsp_defs.specs.Output.{HasHeader, input_header, output_header, live_bytes, part}
 use Rattle.dsp_defs.specs.Streaming.{Begins}
-use Rattle.dsp_defs.specs.Shape.{gathered, held, whole_frames, HasChannels}
-use Rattle.dsp_defs.specs.declared.fault.GatherFull.{GatherFull}
-use Rattle.dsp_defs.specs.declared.format.Fmt.{Fmt}
+use Rattle.dsp_defs.specs.Shape.{gathered, held}
 use Rattle.dsp_defs.specs.declared.limits.TheConstants.{MAX_GATHERED}
-use Rattle.dsp_defs.specs.declared.script.Block.{Block}
-use Rattle.dsp_defs.specs.declared.script.Block.TheVariants.{Correlate}
 use Rattle.dsp_defs.specs.declared.script.Script.{Script}
 use Rattle.dsp_defs.specs.declared.wave.Header.{Header}
-use Rattle.dsp_stage.proofs.ChainPlaces.{live_chain-nil, has_channels}
+use Rattle.dsp_stage.proofs.ChainPlaces.{live_chain-nil}
 use Rattle.dsp_stage.proofs.CostLaws.{live_cost_within, live_cost-zero}
-use Rattle.dsp_defs.proofs.FrameLaws.{length-live}
-use Rattle.dsp_defs.proofs.SampleLaws.{coded-append}
-use Rattle.dsp_chain.specs.Chain.{made_of}
 use Rattle.dsp_chain.proofs.NewChain.{gathered-nothing}
 use Rattle.dsp_session.specs.SessionState.{SessionState}
-use Rattle.dsp_session.specs.Session.{IsReady, StandsFor, SameSession, Feeds, Fails, IsTooMuch, signal, frame_bytes, block_bytes, output_bytes, live_values, cost_of, live_cost_of, turns_of, calls_turns, run_turns}
+use Rattle.dsp_session.specs.Session.{IsReady, StandsFor, SameSession, signal, frame_bytes, block_bytes, cost_of, live_cost_of, turns_of, calls_turns, run_turns}
 use Rattle.dsp_session.specs.Opening.{Fits, Opens, Begun}
-use Rattle.dsp_session.specs.Stream.{StopsAt, Stopped, StaysRefused, Part, LagsByOne, BlocksKeepLimits, IsInDeclared, declared_bytes, in_whole_frames, blocks_end, frames_in_bytes, in_whole_blocks}
+use Rattle.dsp_session.specs.Stream.{HasFault, IsCause, HasWritten, WrotePart, CountsFault, Stopped, StaysRefused, Part, KeepsLimits, LagsByOne, IsInDeclared, declared_bytes, in_whole_frames, blocks_end, frames_in_bytes, in_whole_blocks}
 use Rattle.dsp_session.specs.Passing.{InDeclared, BlockRead, IsUnread, Unread, PassCosts, Passes, FailsToPass, Passed}
 use Rattle.dsp_session.specs.declared.fault.LengthFault.TheVariants as length_fault
 use Rattle.dsp_session.specs.declared.fault.StreamFault.{StreamFault}
 use Rattle.dsp_session.specs.declared.fault.StreamFault.TheVariants as fault
 use Rattle.dsp_session.proofs.OpeningLaws.{some_frame, frames_of_blocks, signal-nil, length-signal, signal-append, frames-whole, frames_are, part_blocks}
 use Rattle.dsp_session.proofs.OpenLaws.{some_block, none_behind}
+use Rattle.dsp_session.proofs.FaultLaws.{ends_short}
+use Rattle.dsp_session.proofs.FeedLaws.{quiet_script}
 use Rattle.dsp_script.proofs.Paces.{legal_parts}
 use Rattle.dsp_session.proofs.TurnLaws.{call_more, turns_before, turns_behind}
 
@@ -57,82 +49,6 @@ pub record Going (script : Script) (block : ℕ) (header : Header) (taken : ℕ)
   pub no_output_fault : after.faults ≡ sink.faults
   pub cost : counts.multiplies ≡ before.multiplies + live_cost_of script (length (signal script header.coding heard))
   pub turned : counts.turns ≤ before.turns + calls_turns script block (blocks * block) blocks
-
--- ---- one call
-
--- a script that gathers gives nothing of a signal that goes on
-no_frames : (y : List Frame) → length y ≡ 0 → y ≡ []
-no_frames [] none = refl
-no_frames (f ∷ y) none = absurd (omega (arith, none))
-
-quiet_chain : (format : Fmt) (channels : ℕ) (blocks : List Block) (n : ℕ) → HasChannels channels blocks → 0 < gathered blocks n → (x : List Frame) → live_chain format channels blocks x ≡ []
-quiet_chain format channels [] n has some x = absurd (omega (arith, some))
-quiet_chain format zero (block ∷ blocks) n has some x = absurd (omega (arith, has.0))
-quiet_chain format (suc channels) (Correlate taps ∷ blocks) n has some x =
-    ap (live_chain (format_after format (Correlate taps)) (channels_after (suc channels) (Correlate taps)) blocks) (no_frames _ (length-live format channels (Correlate taps) x))
-    ∙ live_chain-nil (format_after format (Correlate taps)) (channels_after (suc channels) (Correlate taps)) blocks
-quiet_chain format (suc channels) (block ∷ blocks) n has some x = quiet_chain (format_after format block) (channels_after (suc channels) block) blocks (whole_frames block n) has.1 some (live format (suc channels) block x)
-
-pub quiet_script : (script : Script) (block : ℕ) → IsReady script block → (n : ℕ) → 0 < gathered script.blocks n → (x : List Frame) → live_bytes script x ≡ []
-quiet_script script block ready n some x =
-    let fit = ready.sound.1.fit in
-    ap (output_bytes script) (quiet_chain script.input.format script.input.channels script.blocks n (has_channels (record { format = script.input.format; channels = script.input.channels }) script.blocks fit.chain fit.channels.0) some x)
-
--- what a session that stands for x has made
-pub made_live : (s : SessionState) (x : List Frame) → StandsFor s x → made_of s.chain ≡ live_cost_of s.script (length x)
-made_live s x stands = stands.live.made ∙ (λ i. live_cost (stands.holds.input i).format (stands.holds.input i).channels (stands.holds.blocks i) (stands.chain.counted i))
-
-module _ (s next : SessionState) (bytes : List ℕ) (before after : Counts) (same : SameSession s next) (fed : Feeds s next bytes before after) (x : List Frame) (stands : StandsFor s x) where
-  pub feed_out : live_bytes s.script (x ++ signal s.script s.coding bytes) ≡ live_bytes s.script x ++ next.out
-  feed_out =
-      ap (output_bytes s.script) (fed.values x stands) ∙ coded-append (output_coding s.script) (live_values s.script x) fed.given ∙ ap (λ z. live_bytes s.script x ++ z) (sym fed.frames.out)
-
-  pub feed_costs : PassCosts s.script s.coding x bytes before after
-  feed_costs =
-      let old = made_live s x stands in
-      let after_is = fed.stands x stands in
-      let new : made_of next.chain ≡ live_cost_of s.script (length (x ++ signal s.script s.coding bytes)) = made_live next (x ++ signal s.script s.coding bytes) after_is ∙ ap (λ (t : Script). live_cost_of t (length (x ++ signal s.script s.coding bytes))) same.script in
-      record {
-        rise = omega (arith, fed.multiplies, old, new);
-        turned = subst (λ m. after.turns ≤ before.turns + turns_of s.script m (length (x ++ signal s.script s.coding bytes))) stands.chain.counted
-            (subst (λ n. after.turns ≤ before.turns + turns_of s.script s.chain.frames n) after_is.chain.counted fed.turns);
-      }
-
-  -- it was not refused, so it has gathered no more than it may
-  pub feed_fits : (IsTooMuch s (length (signal s.script s.coding bytes)) → ⊥) → gathered s.script.blocks (length (x ++ signal s.script s.coding bytes)) ≤ MAX_GATHERED
-  feed_fits taken =
-      let all = ap (λ n. n + length (signal s.script s.coding bytes)) stands.chain.counted ∙ sym (length-append x (signal s.script s.coding bytes)) in
-      elim (cases_lt MAX_GATHERED (gathered s.script.blocks (s.chain.frames + length (signal s.script s.coding bytes)))) [
-        | inl over ↦ absurd (taken (inl over))
-        | inr within ↦ subst (λ n. gathered s.script.blocks n ≤ MAX_GATHERED) all within
-      ]
-
-  pub feed_passes : (sink last : SinkState) → Took sink last next.out → last.faults ≡ sink.faults → (IsTooMuch s (length (signal s.script s.coding bytes)) → ⊥) → Passes s.script s.coding x bytes next sink last before after
-  feed_passes sink last took faults taken = record { stands = fed.stands x stands; out = feed_out; costs = feed_costs; not_full = feed_fits taken; took = took; no_fault = faults }
-
--- the call was refused
-pub feed_refused : (s : SessionState) (x : List Frame) (bytes : List ℕ) (full : GatherFull) (sink last : SinkState) (before after : Counts) → StandsFor s x → IsTooMuch s (length (signal s.script s.coding bytes))
-    → (full.held ≡ held s.script.blocks s.chain.frames) × (full.held + full.more ≡ gathered s.script.blocks (s.chain.frames + length (signal s.script s.coding bytes))) → last ≡ sink → after ≡ before
-    → FailsToPass (fault.Lengths (length_fault.Gather full.held full.more)) s.script s.coding x bytes sink last before after
-feed_refused s x bytes full sink last before after stands too_much (held_is, sum_is) same steps =
-    let all : s.chain.frames + length (signal s.script s.coding bytes) ≡ length (x ++ signal s.script s.coding bytes) = ap (λ n. n + length (signal s.script s.coding bytes)) stands.chain.counted ∙ sym (length-append x (signal s.script s.coding bytes)) in
-    let sum : full.more + full.held ≡ full.held + full.more = omega arith in (
-      subst (λ n. MAX_GATHERED < gathered s.script.blocks n) all (over too_much),
-      held_is ∙ ap (held s.script.blocks) stands.chain.counted,
-      sum ∙ sum_is ∙ ap (gathered s.script.blocks) all,
-      same,
-      steps,
-    )
-  where
-    over : IsTooMuch s (length (signal s.script s.coding bytes)) → MAX_GATHERED < gathered s.script.blocks (s.chain.frames + length (signal s.script s.coding bytes))
-    over (inl many) = many
-    over (inr failed) = absurd (let e : true ≡ false = sym failed ∙ ap is_some stands.chain.works in cc)
-
--- and it will be refused again
-pub refused_again : (s next : SessionState) (x : List Frame) (full : GatherFull) (more : ℕ) (before after : Counts) → StandsFor s x → Fails s next full before after
-    → (s.chain.failed ≡ None → (full.held ≡ held s.script.blocks s.chain.frames) × (full.held + full.more ≡ gathered s.script.blocks (s.chain.frames + more))) → StaysRefused (fault.Lengths (length_fault.Gather full.held full.more)) next
-refused_again s next x full more before after stands fails numbers =
-    (ap (λ (t : SessionState). t.chain.failed) fails.same, (numbers stands.chain.works).0 ∙ ap (λ (t : SessionState). held t.script.blocks t.chain.frames) (sym fails.same))
 
 -- where a block did not come, no correlation was full
 pub unread_stays : (f : StreamFault) (script : Script) (header : Header) (taken : ℕ) (input now : SourceState) (s : SessionState) → IsUnread f script header taken input now → StaysRefused f s
@@ -159,7 +75,7 @@ in_blocks blocks block n some low high = ap (λ q. q * block) (floor blocks bloc
 
 -- they have kept the limits
 pub blocks_keep : (script : Script) (block : ℕ) (header : Header) (given : List ℕ) → input_header script given ≡ header → Fits script header → {frames : ℕ} → in_whole_blocks block (frames_in_bytes script given) ≡ frames → gathered script.blocks frames ≤ MAX_GATHERED
-    → BlocksKeepLimits script block given
+    → KeepsLimits script (input_header script given) (in_whole_blocks block (frames_in_bytes script given))
 blocks_keep script block header given said fits whole kept =
     record { fits = subst (Fits script) (sym said) fits; not_full = subst (λ n. gathered script.blocks n ≤ MAX_GATHERED) (sym whole) kept }
 
@@ -399,45 +315,41 @@ module _ (script : Script) (block : ℕ) (ready : IsReady script block) (header 
       count : length given ≡ header.start + (taken + length bytes)
       count = omega (arith, opens.start, going.taken_is, length-append first (heard ++ bytes), length-append heard bytes)
 
-      limits : BlocksKeepLimits script block given
-      limits =
-          let whole = whole_blocks_are script block ready header first opens going.blocks heard bytes (together bytes unread.declared) going.blocks_heard unread.short in
-          blocks_keep script block header given (opens.said (heard ++ bytes)) begun.fits whole going.not_full
+      whole_blocks : in_whole_blocks block (frames_in_bytes script given) ≡ going.blocks * block
+      whole_blocks = whole_blocks_are script block ready header first opens going.blocks heard bytes (together bytes unread.declared) going.blocks_heard unread.short
 
       clean : later.faults ≡ now.faults → later.faults ≡ origin.faults
       clean same = same ∙ going.no_input_fault ∙ no_fault_read
 
-      stops : (f : StreamFault) → IsUnread f script header (taken + length bytes) now later → StopsAt f script block given wrote origin later empty then before counts
-      stops fault.Input cause = record {
-        wrote = Part has parted no_fault_written limits;
-        risen = cause.0 ∙ ap fault_more (going.no_input_fault ∙ no_fault_read);
-        in_limit = omega (arith, cause.1, count);
-      }
-      stops (fault.Lengths (length_fault.Input told most)) cause = record {
-        wrote = Part has parted no_fault_written limits;
-        all = omega (arith, cause.0, count);
-        unheaded = λ none. absurd (none has);
-        wanted = λ _. subst (λ (h : Header). IfSome (declared_bytes script h) (λ size. length given < h.start + size)) (sym (opens.said (heard ++ bytes))) (further header.start (length given) (taken + length bytes) count (declared_bytes script header) cause.4);
-        at_limit = cause.1;
-        limit = cause.2;
-        clean = clean cause.3;
-      }
-      stops (fault.Header f offset) (declared, size_is, f_is, place, end, same, fewer) = inr (record {
-        has = has;
-        declared = declared;
-        got = taken + length bytes;
-        fault_is = f_is;
-        size = ap (λ (h : Header). h.size) (opens.said (heard ++ bytes)) ∙ size_is;
-        place = place ∙ sym count;
-        got_is = place ∙ ap (λ n. n + (taken + length bytes)) (sym (ap (λ (h : Header). h.start) (opens.said (heard ++ bytes))));
-        fewer = subst (λ (h : Header). taken + length bytes < in_whole_frames script h.coding declared) (sym (opens.said (heard ++ bytes))) fewer;
-        ended = end;
-        wrote = parted;
-        limits = limits;
-        clean = clean same;
-        kept = no_fault_written;
-      })
-      stops f cause = absurd cause
+      cause_of : (f : StreamFault) → IsUnread f script header (taken + length bytes) now later → IsCause f script block given later
+      cause_of fault.Input unread = omega (arith, unread.1, count)
+      cause_of (fault.Lengths (length_fault.Input told most)) unread =
+          let wanted = subst (λ (h : Header). IfSome (declared_bytes script h) (λ size. length given < h.start + size)) (sym (opens.said (heard ++ bytes))) (further header.start (length given) (taken + length bytes) count (declared_bytes script header) unread.4) in
+          (omega (arith, unread.0, count), unread.1, unread.2, record { cut = λ none. absurd (none has); declared = λ _. wanted })
+      cause_of (fault.Header f offset) (declared, size_is, f_is, place, end, same, fewer) =
+          let header_is = opens.said (heard ++ bytes) in
+          let short = ends_short script given later declared (taken + length bytes) has (ap (λ (h : Header). h.size) header_is ∙ size_is)
+          (count ∙ ap (λ (h : Header). h.start + (taken + length bytes)) (sym header_is))
+          (subst (λ (h : Header). taken + length bytes < in_whole_frames script h.coding declared) (sym header_is) fewer) end in
+          subst (λ o. HasFault script given later (f, o)) (count ∙ sym place) (subst (λ k. HasFault script given later (k, length given)) (sym f_is) short)
+      cause_of f unread = absurd unread
+
+      part_written : WrotePart script block (in_whole_blocks block (frames_in_bytes script given)) given wrote empty then before counts
+      part_written =
+          Part has parted (blocks_keep script block header given (opens.said (heard ++ bytes)) begun.fits whole_blocks going.not_full)
+          (going.cost ∙ ap (λ n. before.multiplies + live_cost_of script n) (frames_taken ∙ sym whole_blocks))
+
+      written : (f : StreamFault) → IsUnread f script header (taken + length bytes) now later → HasWritten f script block given wrote later empty then before counts
+      written fault.Input unread = part_written
+      written (fault.Lengths (length_fault.Input told most)) unread = part_written
+      written (fault.Header f offset) unread = part_written
+      written f unread = absurd unread
+
+      faults : (f : StreamFault) → IsUnread f script header (taken + length bytes) now later → CountsFault f origin later empty then
+      faults fault.Input unread = (unread.0 ∙ ap fault_more (going.no_input_fault ∙ no_fault_read), no_fault_written)
+      faults (fault.Lengths (length_fault.Input told most)) unread = (clean unread.3, no_fault_written)
+      faults (fault.Header f offset) (declared, size_is, f_is, place, end, same, fewer) = (clean same, no_fault_written)
+      faults f unread = absurd unread
 
       pub stops_unread : Stopped script block stop origin later empty then before counts
       stops_unread = record {
@@ -445,7 +357,9 @@ module _ (script : Script) (block : ℕ) (ready : IsReady script block) (header 
         written = wrote;
         gave = all_given later bytes unread.gave;
         put = all_put;
-        stops = stops stop unread.cause;
+        cause = cause_of stop unread.cause;
+        wrote = written stop unread.cause;
+        faults = faults stop unread.cause;
         in_declared = λ _. none_behind script header first opens (heard ++ bytes) (together bytes unread.declared);
         lag = λ _. subst (LagsByOne script block given) (append-nil wrote) (lags script block ready header first opens going.blocks heard bytes [] heard_declared going.blocks_heard (omega (arith, unread.short)));
         cost = cost_within script block ready header first opens before.multiplies counts.multiplies heard bytes (together bytes unread.declared) going.cost;
@@ -535,13 +449,12 @@ module _ (script : Script) (block : ℕ) (ready : IsReady script block) (header 
               written = wrote ++ written;
               gave = all_given later piece (gave_piece later count piece long full read);
               put = all_put-more written put;
-              stops = record {
-                has = opens.has (heard ++ piece);
-                wrote = inl (written_front added written is front);
-                limits = blocks_keep script block header taken_bytes (opens.said (heard ++ piece)) begun.fits whole_all (subst (λ n. gathered script.blocks n ≤ MAX_GATHERED) (all_frames ∙ frames_all) kept);
-                risen = risen ∙ ap fault_more (going.no_output_fault ∙ begun.no_fault);
-                clean = read.no_fault ∙ going.no_input_fault ∙ begun.opened.no_fault;
-              };
+              cause = opens.has (heard ++ piece);
+              wrote = (
+                blocks_keep script block header taken_bytes (opens.said (heard ++ piece)) begun.fits whole_all (subst (λ n. gathered script.blocks n ≤ MAX_GATHERED) (all_frames ∙ frames_all) kept),
+                inl (written_front added written is front),
+              );
+              faults = (read.no_fault ∙ going.no_input_fault ∙ begun.opened.no_fault, risen ∙ ap fault_more (going.no_output_fault ∙ begun.no_fault));
               in_declared = λ _. behind;
               lag = λ _. lags script block ready header first opens going.blocks heard piece written heard_declared going.blocks_heard (omega (arith, long));
               cost = all_cost passed.multiplies (more_cost later count piece long full read passed costs);
@@ -549,6 +462,9 @@ module _ (script : Script) (block : ℕ) (ready : IsReady script block) (header 
                   (subst (λ n. passed.turns ≤ counts.turns + turns_of script (going.blocks * block) n) (sym (more_frames later count piece long full read) ∙ all_frames) (passed_turns later count piece long full read passed costs));
             }
         stops_unpassed (fault.Lengths (length_fault.Gather told more)) (over, held_is, more_is, same, still) =
+            let blocks_before : in_whole_blocks block (frames_in_bytes script taken_bytes - 1) ≡ going.blocks * block =
+            in_blocks going.blocks block (frames_in_bytes script taken_bytes - 1) (block_some script block ready) (omega (arith, frames_all, block_some script block ready)) (omega (arith, frames_all, block_some script block ready)) in
+            let worked : length (signal script header.coding heard) ≡ in_whole_blocks block (frames_in_bytes script taken_bytes - 1) = frames_taken ∙ sym blocks_before in
             let quiet = quiet_script script block ready (length (signal script header.coding heard ++ signal script header.coding piece)) (omega (arith, over)) in
             let parted : part script block taken_bytes ≡ wrote =
             ap (λ xs. part script block (first ++ xs)) (sym (append-nil (heard ++ piece))) ∙ part_blocks script header (some_frame script header.coding block ready) first opens block (going.blocks + 1) (heard ++ piece) [] (more_heard later count piece long full read) some none_declared
@@ -558,23 +474,22 @@ module _ (script : Script) (block : ℕ) (ready : IsReady script block) (header 
               written = wrote;
               gave = all_given later piece (gave_piece later count piece long full read);
               put = ap (λ (s : SinkState). s.put) same ∙ all_put;
-              stops = record {
-                has = opens.has (heard ++ piece);
-                over = subst (λ n. MAX_GATHERED < gathered script.blocks n) all_frames over;
-                before = length (signal script header.coding heard);
-                before_is = frames_taken ∙ sym (in_blocks going.blocks block (frames_in_bytes script taken_bytes - 1) (block_some script block ready) (omega (arith, frames_all, block_some script block ready)) (omega (arith, frames_all, block_some script block ready)));
-                limits = record {
-                  fits = subst (Fits script) (sym (opens.said (heard ++ piece))) begun.fits;
-                  not_full = subst (λ n. gathered script.blocks n ≤ MAX_GATHERED) (sym frames_taken) going.not_full;
-                };
-                made = ap (λ (c : Counts). c.multiplies) still ∙ going.cost;
-                no_window = λ fewer. absurd (omega (arith, fewer, frames_taken, frames_all));
-                held_is = held_is;
-                more_is = more_is ∙ ap (gathered script.blocks) all_frames;
-                wrote = sym parted;
-                clean = read.no_fault ∙ going.no_input_fault ∙ begun.opened.no_fault;
-                kept = ap (λ (s : SinkState). s.faults) same ∙ going.no_output_fault ∙ begun.no_fault;
-              };
+              cause = (
+                opens.has (heard ++ piece),
+                record {
+                  over = subst (λ n. MAX_GATHERED < gathered script.blocks n) all_frames over;
+                  has_is = held_is ∙ ap (held script.blocks) worked;
+                  more_is = more_is ∙ ap (gathered script.blocks) all_frames;
+                  no_window = λ fewer. absurd (omega (arith, fewer, blocks_before, frames_all));
+                },
+              );
+              wrote = Part (opens.has (heard ++ piece)) (sym parted)
+                  (record {
+                    fits = subst (Fits script) (sym (opens.said (heard ++ piece))) begun.fits;
+                    not_full = subst (λ n. gathered script.blocks n ≤ MAX_GATHERED) (sym blocks_before) going.not_full;
+                  })
+                  (ap (λ (c : Counts). c.multiplies) still ∙ going.cost ∙ ap (λ n. before.multiplies + live_cost_of script n) worked);
+              faults = (read.no_fault ∙ going.no_input_fault ∙ begun.opened.no_fault, ap (λ (s : SinkState). s.faults) same ∙ going.no_output_fault ∙ begun.no_fault);
               in_declared = λ _. behind;
               lag = λ _. subst (LagsByOne script block taken_bytes) (append-nil wrote) (lags script block ready header first opens going.blocks heard piece [] heard_declared going.blocks_heard (omega (arith, long)));
               cost = (let fewer = live_cost_within script.input.format script.input.channels script.blocks (length (signal script header.coding heard)) (frames_in_bytes script taken_bytes) (omega (arith, all_frames, length-append (signal script header.coding heard) (signal script header.coding piece))) in

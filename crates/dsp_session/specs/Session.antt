@@ -11,11 +11,7 @@ use Rattle.dsp_stage.specs.Row as row
 use Rattle.dsp_stage.specs.Row.{blocks_of, chain_products, row_turns}
 use Rattle.dsp_defs.specs.Shape.{is_legal, gathered}
 use Rattle.dsp_defs.specs.declared.fault.GatherFull.{GatherFull}
-use Rattle.dsp_defs.specs.Wave.{file_coding}
 use Rattle.dsp_defs.specs.declared.format.Coding.{Coding}
-use Rattle.dsp_defs.specs.declared.format.Container.TheVariants as container
-use Rattle.dsp_defs.specs.declared.format.Input.{Input}
-use Rattle.dsp_defs.specs.declared.format.InputKind.TheVariants.{Raw, Wave}
 use Rattle.dsp_defs.specs.declared.limits.TheConstants.{MAX_GATHERED}
 use Rattle.dsp_defs.specs.declared.measure.Measure.{Measure}
 use Rattle.dsp_defs.specs.declared.script.Script.{Script}
@@ -31,14 +27,6 @@ input_coding script = coding_of (container_of script.input.kind) script.input.fo
 -- the bytes of a frame of the input in a coding
 abbrev pub frame_bytes : Script → Coding → ℕ
 frame_bytes script coding = script.input.channels * width coding
-
--- the narrowest coding that the samples of an input may have: Q31 may have 24 bits in a WAVE file
-abbrev pub narrowest_coding : Input → Coding
-narrowest_coding input = elim input.kind [ Raw rate ↦ coding_of container.Raw input.format | Wave ↦ file_coding input.format 24 ]
-
--- the bytes that a frame of the input has at least
-abbrev pub least_frame_bytes : Script → ℕ
-least_frame_bytes script = frame_bytes script (narrowest_coding script.input)
 
 -- block * frame_bytes
 abbrev pub block_bytes : Script → Coding → ℕ → ℕ

@@ -1,5 +1,5 @@
 -- How the bytes that a stream took and the bytes that it wrote stand to each other at each of its ends.
-use Rattle.std.specs.Prelude.{◌≡◌, ◌⊎◌, ℕ, ◌+◌, ◌-◌, ◌*◌, ◌/◌, ◌^◌, ◌<◌, ◌≤◌, List, length, take, Option, Some, None, Err, IfSome}
+use Rattle.std.specs.Prelude.{◌≡◌, ◌⊎◌, ℕ, ◌+◌, ◌-◌, ◌*◌, ◌/◌, ◌^◌, ◌<◌, ◌≤◌, nat_lt, if◌then◌else◌, List, ◌++◌, length, take, Option, Some, None, Ok, Err, IfSome}
 use Rattle.std.specs.Io.KnownBytes.{IsAtEnd, append_known}
 use Rattle.dsp_defs.specs.Counts.{Counts}
 use Rattle.dsp_ports.specs.Ports.{SourceState, SinkState, one_more, Gave, IsSettled}
@@ -14,9 +14,8 @@ use Rattle.dsp_defs.specs.declared.measure.Measure.{Measure}
 use Rattle.dsp_defs.specs.declared.script.Script.{Script}
 use Rattle.dsp_defs.specs.declared.wave.Header.{Header}
 use Rattle.dsp_defs.specs.declared.wave.HeaderFault.{HeaderFault}
-use Rattle.dsp_defs.specs.declared.wave.HeaderFault.TheVariants.{Short}
-use Rattle.dsp_wave.specs.Reading.{IsSure}
-use Rattle.dsp_session.specs.Opening.{Fits, IsTooLong, IsUnheaded}
+use Rattle.dsp_defs.specs.declared.wave.HeaderFault.TheVariants.{NoSamples, Short}
+use Rattle.dsp_session.specs.Opening.{Fits, IsTooLong}
 use Rattle.dsp_session.specs.Session.{frame_bytes, block_bytes, cost_of, live_cost_of, run_turns, measures_of}
 use Rattle.dsp_session.specs.SessionState.{SessionState}
 use Rattle.dsp_session.specs.declared.fault.LengthFault.TheVariants as length_fault
@@ -33,16 +32,11 @@ in_whole_frames script coding size = size / frame_bytes script coding * frame_by
 abbrev pub declared_bytes : Script → Header → Option ℕ
 declared_bytes script header = elim header.size [ Some size ↦ Some (in_whole_frames script header.coding size) | None ↦ None ]
 
--- all samples were taken: those declared, or all to the end of the input
-abbrev pub IsWhole : Option ℕ → Header → List ℕ → SourceState → Type 0
-IsWhole (Some size) header given now = length given ≡ header.start + size
-IsWhole None header given now = IsAtEnd now.left
-
--- all samples that the header declares were taken, or all to the end
+-- all samples were taken: those that the header declares, or all to the end of the input
 abbrev pub IsTakenWhole : Script → List ℕ → SourceState → Type 0
 IsTakenWhole script given now =
     let header = input_header script given in
-    IsWhole (declared_bytes script header) header given now
+    elim (declared_bytes script header) [ Some size ↦ length given ≡ header.start + size | None ↦ IsAtEnd now.left ]
 
 -- no byte was taken behind the samples that the header declares
 abbrev pub IsInDeclared : Script → List ℕ → Type 0
@@ -76,113 +70,83 @@ pub record KeepsLimits (script : Script) (header : Header) (frames : ℕ) : Type
   pub fits : Fits script header
   pub not_full : gathered script.blocks frames ≤ MAX_GATHERED
 
--- all whole blocks that were taken have kept the limits
-abbrev pub BlocksKeepLimits : Script → ℕ → List ℕ → Type 0
-BlocksKeepLimits script block given =
-    KeepsLimits script (input_header script given) (in_whole_blocks block (frames_in_bytes script given))
+-- ---- faults of the input
+
+-- the input ends before all declared whole frames came: what is declared, the bytes behind the header, and all bytes
+abbrev pub short_fault : Script → Header → ℕ → Option (HeaderFault × ℕ)
+short_fault script header count =
+    elim header.size [
+      | Some declared ↦ if nat_lt count (header.start + in_whole_frames script header.coding declared)
+          then Some (Short declared (count - header.start), count) else None
+      | None ↦ None
+    ]
+
+-- what is at fault in a WAVE input of these bytes, and where: its header, or its end
+abbrev pub wave_fault : Script → List ℕ → Option (HeaderFault × ℕ)
+wave_fault script bytes = elim (header_of bytes (wanted_of script)) [ Err fault ↦ Some fault | Ok header ↦ short_fault script header (length bytes) ]
+
+-- in the input of a script; raw samples have no fault
+abbrev pub input_fault : Script → List ℕ → Option (HeaderFault × ℕ)
+input_fault script bytes = elim script.input.kind [ kind.Raw rate ↦ None | kind.Wave ↦ wave_fault script bytes ]
+
+-- the bytes that were taken have this fault whatever comes behind them, or have it and are all there is
+abbrev pub HasFault : Script → List ℕ → SourceState → HeaderFault × ℕ → Type 0
+HasFault script given now fault =
+    ((more : List ℕ) → input_fault script (given ++ more) ≡ Some fault) ⊎ (IsAtEnd now.left × (input_fault script given ≡ Some fault))
 
 -- ---- ends before the end
 
--- nothing was written since the header of the input isn't there; or exactly the part output of what was taken was
-pub data WrotePart (script : Script) (block : ℕ) (given written : List ℕ) (sink after : SinkState) : Type 0 where
-  Nothing : (HasHeader script given → ⊥) → after ≡ sink → WrotePart script block given written sink after
-  Part : HasHeader script given → written ≡ part script block given → after.faults ≡ sink.faults → BlocksKeepLimits script block given
-      → WrotePart script block given written sink after
+-- a further byte is wanted: the header is cut there and has no other fault, or declared samples are still to come
+pub record WantsMore (script : Script) (given : List ℕ) : Type 0 where
+  pub cut : (HasHeader script given → ⊥) → input_fault script given ≡ Some (NoSamples, length given)
+  pub declared : HasHeader script given → IfSome (declared_bytes script (input_header script given)) (λ size. length given < (input_header script given).start + size)
 
--- the input has failed
-pub record StopsAtInput (script : Script) (block : ℕ) (given written : List ℕ) (input now : SourceState) (sink after : SinkState) : Type 0 where
-  pub wrote : WrotePart script block given written sink after
-  pub risen : now.faults ≡ one_more input.faults
-  pub in_limit : length given < 2 ^ 40
+-- a correlation would gather too many samples of so many frames, and holds so many of the whole blocks before the last one;
+-- where less than a block stands behind these, the input has ended and no window is at fault
+pub record IsOverfull (script : Script) (block frames before has more : ℕ) (given : List ℕ) (now : SourceState) : Type 0 where
+  pub over : MAX_GATHERED < gathered script.blocks frames
+  pub has_is : has ≡ held script.blocks before
+  pub more_is : more + has ≡ gathered script.blocks frames
+  pub no_window : frames < before + block → IsTakenWhole script given now × (window_at script.blocks frames ≡ None)
 
--- as many bytes were taken as may be, and a further one is wanted
-pub record StopsAtLimit (script : Script) (block told most : ℕ) (given written : List ℕ) (input now : SourceState) (sink after : SinkState) : Type 0 where
-  pub wrote : WrotePart script block given written sink after
-  pub all : length given ≡ 2 ^ 40
-  pub unheaded : (HasHeader script given → ⊥) → IsUnheaded script given
-  pub wanted : HasHeader script given → IfSome (declared_bytes script (input_header script given)) (λ size. length given < (input_header script given).start + size)
-  pub at_limit : told ≡ 2 ^ 40
-  pub limit : most ≡ 2 ^ 40
-  pub clean : now.faults ≡ input.faults
+-- why it stopped, from the bytes that were taken
+abbrev pub IsCause : StreamFault → Script → ℕ → List ℕ → SourceState → Type 0
+IsCause fault.Input script block given now = length given < 2 ^ 40
+IsCause fault.Output script block given now = HasHeader script given
+IsCause (fault.Header fault offset) script block given now = HasFault script given now (fault, offset)
+IsCause (fault.Lengths (length_fault.Input taken limit)) script block given now = (length given ≡ 2 ^ 40) × (taken ≡ 2 ^ 40) × (limit ≡ 2 ^ 40) × WantsMore script given
+IsCause (fault.Lengths (length_fault.Gather held more)) script block given now =
+    let frames = frames_in_bytes script given in
+    HasHeader script given × IsOverfull script block frames (in_whole_blocks block (frames - 1)) held more given now
+IsCause (fault.Lengths (length_fault.Window end full)) script block given now =
+    HasHeader script given × IsTakenWhole script given now × (window_at script.blocks (frames_in_bytes script given) ≡ Some (end, full))
+IsCause (fault.Lengths (length_fault.Riff size limit)) script block given now =
+    let header = input_header script given in
+    HasHeader script given × (length given ≡ header.start) × IsTooLong script (known_frames script header) size × (limit ≡ MAX_RIFF_SIZE)
 
--- the bytes of a WAVE input have a fault in their header, whatever comes behind them or since they are all
-pub record StopsAtHeader (script : Script) (fault : HeaderFault) (offset : ℕ) (given : List ℕ) (input now : SourceState) (sink after : SinkState) : Type 0 where
-  pub wave : script.input.kind ≡ kind.Wave
-  pub sure : IsSure (λ bytes. header_of bytes (wanted_of script)) now given (Err (fault, offset))
-  pub untouched : after ≡ sink
-  pub clean : now.faults ≡ input.faults
+-- nothing was written since the header of the input isn't there; or so many frames were worked on, which kept the limits, and exactly the part output was written
+pub data WrotePart (script : Script) (block worked : ℕ) (given written : List ℕ) (sink after : SinkState) (before counts : Counts) : Type 0 where
+  Nothing : (HasHeader script given → ⊥) → after ≡ sink → WrotePart script block worked given written sink after before counts
+  Part : HasHeader script given → written ≡ part script block given → KeepsLimits script (input_header script given) worked
+      → counts.multiplies ≡ before.multiplies + live_cost_of script worked → WrotePart script block worked given written sink after before counts
 
--- the input ended before all declared whole frames came
-pub record StopsShort (script : Script) (block : ℕ) (fault : HeaderFault) (offset : ℕ) (given written : List ℕ) (input now : SourceState) (sink after : SinkState) : Type 0 where
-  pub has : HasHeader script given
-  pub declared : ℕ
-  pub got : ℕ
-  pub fault_is : fault ≡ Short declared got
-  pub size : (input_header script given).size ≡ Some declared
-  pub place : offset ≡ length given
-  pub got_is : offset ≡ (input_header script given).start + got
-  pub fewer : got < in_whole_frames script (input_header script given).coding declared
-  pub ended : IsAtEnd now.left
-  pub wrote : written ≡ part script block given
-  pub limits : BlocksKeepLimits script block given
-  pub clean : now.faults ≡ input.faults
-  pub kept : after.faults ≡ sink.faults
+-- what was written: a front, where the output has failed; nothing, where it would be too long; and else the output of the whole blocks, without a last one
+-- that was too much for a correlation
+abbrev pub HasWritten : StreamFault → Script → ℕ → List ℕ → List ℕ → SourceState → SinkState → SinkState → Counts → Counts → Type 0
+HasWritten fault.Output script block given written now sink after before counts =
+    KeepsLimits script (input_header script given) (in_whole_blocks block (frames_in_bytes script given))
+    × (Begins written (part script block given) ⊎ (Begins written (output script given) × IsTakenWhole script given now))
+HasWritten (fault.Lengths (length_fault.Riff size limit)) script block given written now sink after before counts = after ≡ sink
+HasWritten (fault.Lengths (length_fault.Gather held more)) script block given written now sink after before counts =
+    WrotePart script block (in_whole_blocks block (frames_in_bytes script given - 1)) given written sink after before counts
+HasWritten fault script block given written now sink after before counts =
+    WrotePart script block (in_whole_blocks block (frames_in_bytes script given)) given written sink after before counts
 
--- a correlation would gather more samples than it can hold: `before` frames were worked on, those of the whole blocks before
--- the last one, and nothing of those that came now; where these are less than a block, no window is at fault
-pub record StopsFull (script : Script) (block told more : ℕ) (given written : List ℕ) (input now : SourceState) (sink after : SinkState) (start counts : Counts) : Type 0 where
-  pub has : HasHeader script given
-  pub over : MAX_GATHERED < gathered script.blocks (frames_in_bytes script given)
-  pub before : ℕ
-  pub before_is : before ≡ in_whole_blocks block (frames_in_bytes script given - 1)
-  pub limits : KeepsLimits script (input_header script given) before
-  pub made : counts.multiplies ≡ start.multiplies + live_cost_of script before
-  pub no_window : frames_in_bytes script given < before + block
-      → IsTakenWhole script given now × (window_at script.blocks (frames_in_bytes script given) ≡ None)
-  pub held_is : told ≡ held script.blocks before
-  pub more_is : more + told ≡ gathered script.blocks (frames_in_bytes script given)
-  pub wrote : written ≡ part script block given
-  pub clean : now.faults ≡ input.faults
-  pub kept : after.faults ≡ sink.faults
-
--- the input has ended, and a window of the script ends past the full convolution
-pub record StopsAtWindow (script : Script) (block end full : ℕ) (given written : List ℕ) (input now : SourceState) (sink after : SinkState) : Type 0 where
-  pub has : HasHeader script given
-  pub whole : IsTakenWhole script given now
-  pub window : window_at script.blocks (frames_in_bytes script given) ≡ Some (end, full)
-  pub limits : BlocksKeepLimits script block given
-  pub wrote : written ≡ part script block given
-  pub clean : now.faults ≡ input.faults
-  pub kept : after.faults ≡ sink.faults
-
--- the header was taken, and the output would be too long for the sizes in its header
-pub record StopsAtRiff (script : Script) (size most : ℕ) (given : List ℕ) (input now : SourceState) (sink after : SinkState) : Type 0 where
-  pub has : HasHeader script given
-  pub alone : length given ≡ (input_header script given).start
-  pub long : IsTooLong script (known_frames script (input_header script given)) size
-  pub limit : most ≡ MAX_RIFF_SIZE
-  pub untouched : after ≡ sink
-  pub clean : now.faults ≡ input.faults
-
--- the output has failed: a front of what was to be written was written
-pub record StopsAtOutput (script : Script) (block : ℕ) (given written : List ℕ) (input now : SourceState) (sink after : SinkState) : Type 0 where
-  pub has : HasHeader script given
-  pub wrote : Begins written (part script block given) ⊎ (Begins written (output script given) × IsTakenWhole script given now)
-  pub limits : BlocksKeepLimits script block given
-  pub risen : after.faults ≡ one_more sink.faults
-  pub clean : now.faults ≡ input.faults
-
--- what each fault says of what was taken and written
-abbrev pub StopsAt : StreamFault → Script → ℕ → List ℕ → List ℕ → SourceState → SourceState → SinkState → SinkState → Counts → Counts → Type 0
-StopsAt fault.Input script block given written input now sink after start counts = StopsAtInput script block given written input now sink after
-StopsAt fault.Output script block given written input now sink after start counts = StopsAtOutput script block given written input now sink after
-StopsAt (fault.Header fault offset) script block given written input now sink after start counts =
-    StopsAtHeader script fault offset given input now sink after ⊎ StopsShort script block fault offset given written input now sink after
-StopsAt (fault.Lengths (length_fault.Input taken limit)) script block given written input now sink after start counts = StopsAtLimit script block taken limit given written input now sink after
-StopsAt (fault.Lengths (length_fault.Gather held more)) script block given written input now sink after start counts =
-    StopsFull script block held more given written input now sink after start counts
-StopsAt (fault.Lengths (length_fault.Window end full)) script block given written input now sink after start counts = StopsAtWindow script block end full given written input now sink after
-StopsAt (fault.Lengths (length_fault.Riff size limit)) script block given written input now sink after start counts = StopsAtRiff script size limit given input now sink after
+-- the port that has failed has counted one fault, and no other port has
+abbrev pub CountsFault : StreamFault → SourceState → SourceState → SinkState → SinkState → Type 0
+CountsFault fault.Input input now sink after = (now.faults ≡ one_more input.faults) × (after.faults ≡ sink.faults)
+CountsFault fault.Output input now sink after = (now.faults ≡ input.faults) × (after.faults ≡ one_more sink.faults)
+CountsFault fault input now sink after = (now.faults ≡ input.faults) × (after.faults ≡ sink.faults)
 
 -- the stream stopped before its end; `given` and `written` are all bytes that were taken and that were written
 pub record Stopped (script : Script) (block : ℕ) (fault : StreamFault) (input now : SourceState) (sink after : SinkState) (before counts : Counts) : Type 0 where
@@ -190,7 +154,9 @@ pub record Stopped (script : Script) (block : ℕ) (fault : StreamFault) (input 
   pub written : List ℕ
   pub gave : Gave input now given
   pub put : after.put ≡ append_known sink.put written
-  pub stops : StopsAt fault script block given written input now sink after before counts
+  pub cause : IsCause fault script block given now
+  pub wrote : HasWritten fault script block given written now sink after before counts
+  pub faults : CountsFault fault input now sink after
   pub in_declared : HasHeader script given → IsInDeclared script given
   pub lag : HasHeader script given → LagsByOne script block given written
   pub cost : counts.multiplies ≤ before.multiplies + cost_of script (frames_in_bytes script given)

@@ -1,6 +1,6 @@
 use Rattle.std.proofs.Common.{◌∙◌, sym, subst, take, drop, IsErr}
 use Rattle.std.proofs.lemmas.List.{take-append-drop}
-use Rattle.dsp_session.proofs.PassingLaws as laws
+use Rattle.dsp_session.proofs.FeedLaws as laws
 use Rattle.dsp_session.proofs.streaming.pass_block.Goals as goal
 
 pub returns-in-Err-write_all-clause-err : goal.returns-in-Err-write_all-clause-err

@@ -25,6 +25,8 @@ class Module:
             used = IMPORT.match(line)
             if used:
                 self.note(used)
+            if line.startswith(('use ', 'pub use', 'unfoldable use', 'unfoldable pub use')):
+                comment = None
             begins = line and not line[0].isspace() and not line.startswith(('use ', 'pub use', 'unfoldable use', 'unfoldable pub use', 'module', '}'))
             if not begins:
                 continue

@@ -5,25 +5,30 @@ use std::alloc::Global;
 use std::process::Abort;
 use std::sync::ledger::Ledger;
 
-/// A controller goes on where another one was kept.
-fn pid_goes_on<M: Ledger>(rt: &impl Abort, steps: &mut Steps<M>) {
+/// A controller keeps its last two inputs, and its last output.
+fn pid_keeps<M: Ledger>(rt: &impl Abort, steps: &mut Steps<M>) {
     let mut output = [7i16; 3];
     let mut kept = [0i64; 3];
-    let mut first = Pid15::new(-27827, -1468, -1, 2).expect(rt, "a controller");
-    assert_eq!(rt; (first.room(2), first.kept_count()), (2, 3));
-    assert_eq!(rt; first.process(&[32767, 16384], &mut output, steps), 2);
+    let mut pid = Pid15::new(-27827, -1468, -1, 2).expect(rt, "a controller");
+    assert_eq!(rt; pid.room(2), 2);
+    assert_eq!(rt; pid.process(&[32767, 16384], &mut output, steps), 2);
     assert_eq!(rt; output, [-29296, -16116, 7]);
-    first.keep(&mut kept);
+    assert_eq!(rt; pid.kept_count(), 3);
+    pid.keep(&mut kept);
     assert_eq!(rt; kept, [16384, 32767, -16116]);
-    let mut second = Pid15::new(-27827, -1468, -1, 2).expect(rt, "a controller");
-    assert!(rt; second.fits(&kept));
-    second.restore(&kept);
-    assert_eq!(rt; second.process(&[-32767, -32768], &mut output, steps), 2);
+}
+
+/// Another controller goes on from what that one kept.
+fn pid_goes_on<M: Ledger>(rt: &impl Abort, steps: &mut Steps<M>) {
+    let kept = [16384i64, 32767, -16116];
+    let mut output = [7i16; 3];
+    let mut pid = Pid15::new(-27827, -1468, -1, 2).expect(rt, "a controller");
+    assert!(rt; pid.fits(&kept));
+    pid.restore(&kept);
+    assert_eq!(rt; pid.process(&[-32767, -32768], &mut output, steps), 2);
     assert_eq!(rt; output, [27092, 28559, 7]);
-    assert_eq!(rt;
-        (second.finish(&mut output, steps), second.is_ended()),
-        (0, true)
-    );
+    assert_eq!(rt; pid.finish(&mut output, steps), 0);
+    assert!(rt; pid.is_ended());
 }
 
 /// A controller in Q31 wraps.
@@ -34,23 +39,30 @@ fn pid_wraps<M: Ledger>(rt: &impl Abort, steps: &mut Steps<M>) {
     assert_eq!(rt; output, [-2147483645, -2147483643, 8, -2147483637]);
 }
 
-/// An adaptive filter goes on where another one was kept. Its taps stand from the last weight to the
+/// An adaptive filter keeps its last input and its weights. Its taps stand from the last weight to the
 /// first.
-fn lms_goes_on<M: Ledger>(rt: &impl Abort, alloc: Global, steps: &mut Steps<M>) {
+fn lms_keeps<M: Ledger>(rt: &impl Abort, alloc: Global, steps: &mut Steps<M>) {
     let mut output = [0i16; 2];
     let mut error = [0i16; 2];
     let mut kept = [0i64; 3];
-    let mut first = Lms15::new(alloc, 0, 16384, &[8192, 16384], 2).expect(rt, "a filter");
-    first.process(&[16384, 0], &[8192, 12288], &mut output, &mut error, steps);
+    let mut lms = Lms15::new(alloc, 0, 16384, &[8192, 16384], 2).expect(rt, "a filter");
+    lms.process(&[16384, 0], &[8192, 12288], &mut output, &mut error, steps);
     assert_eq!(rt; (output, error), ([8192, 4096], [0, 8192]));
-    assert_eq!(rt; first.kept_count(), 3);
-    first.keep(&mut kept);
+    assert_eq!(rt; lms.kept_count(), 3);
+    lms.keep(&mut kept);
     assert_eq!(rt; kept, [0, 16384, 10240]);
-    let mut second = Lms15::new(alloc, 0, 16384, &[0, 0], 1).expect(rt, "a filter");
-    assert!(rt; second.fits(&kept));
-    second.restore(&kept);
-    second.process(&[16384], &[8192], &mut output[..1], &mut error[..1], steps);
-    assert_eq!(rt; (output, error), ([8192, 4096], [0, 8192]));
+}
+
+/// Another adaptive filter goes on from what that one kept.
+fn lms_goes_on<M: Ledger>(rt: &impl Abort, alloc: Global, steps: &mut Steps<M>) {
+    let kept = [0i64, 16384, 10240];
+    let mut output = [0i16];
+    let mut error = [7i16];
+    let mut lms = Lms15::new(alloc, 0, 16384, &[0, 0], 1).expect(rt, "a filter");
+    assert!(rt; lms.fits(&kept));
+    lms.restore(&kept);
+    lms.process(&[16384], &[8192], &mut output, &mut error, steps);
+    assert_eq!(rt; (output, error), ([8192], [0]));
 }
 
 /// An adaptive filter comes nearer to its reference, and its error wraps.
@@ -69,8 +81,10 @@ fn lms_adapts<M: Ledger>(rt: &impl Abort, alloc: Global, steps: &mut Steps<M>) {
 
 /// The calls that count their products.
 pub(crate) fn counted<M: Ledger>(rt: &impl Abort, alloc: Global, steps: &mut Steps<M>) {
+    pid_keeps(rt, steps);
     pid_goes_on(rt, steps);
     pid_wraps(rt, steps);
+    lms_keeps(rt, alloc, steps);
     lms_goes_on(rt, alloc, steps);
     lms_adapts(rt, alloc, steps);
 }

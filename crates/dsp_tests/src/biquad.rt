@@ -5,26 +5,33 @@ use std::alloc::Global;
 use std::process::Abort;
 use std::sync::ledger::Ledger;
 
-/// A cascade goes on where another one was kept.
-fn goes_on<M: Ledger>(rt: &impl Abort, alloc: Global, steps: &mut Steps<M>) {
+/// Two sections, the first of which feeds back.
+const TWO_SECTIONS: [i16; 12] = [16384, 0, 0, 0, 16384, 0, 16384, 0, 0, 0, 0, 0];
+
+/// A cascade keeps the last two inputs and outputs of each section.
+fn keeps<M: Ledger>(rt: &impl Abort, alloc: Global, steps: &mut Steps<M>) {
     let mut output = [7i16; 2];
     let mut kept = [0i64; 8];
-    let coefficients = [16384i16, 0, 0, 0, 16384, 0, 16384, 0, 0, 0, 0, 0];
-    let mut first = Biquad15::new(alloc, 0, &coefficients, 1).expect(rt, "a cascade");
-    assert_eq!(rt; (first.room(1), first.kept_count()), (1, 8));
-    assert_eq!(rt; first.process(&[1000], &mut output, steps), 1);
+    let mut cascade = Biquad15::new(alloc, 0, &TWO_SECTIONS, 1).expect(rt, "a cascade");
+    assert_eq!(rt; cascade.room(1), 1);
+    assert_eq!(rt; cascade.process(&[1000], &mut output, steps), 1);
     assert_eq!(rt; output, [250, 7]);
-    first.keep(&mut kept);
+    assert_eq!(rt; cascade.kept_count(), 8);
+    cascade.keep(&mut kept);
     assert_eq!(rt; kept, [1000, 0, 500, 0, 500, 0, 250, 0]);
-    let mut second = Biquad15::new(alloc, 0, &coefficients, 1).expect(rt, "a cascade");
-    assert!(rt; second.fits(&kept));
-    second.restore(&kept);
-    assert_eq!(rt; second.process(&[0], &mut output, steps), 1);
+}
+
+/// Another cascade goes on from what that one kept.
+fn goes_on<M: Ledger>(rt: &impl Abort, alloc: Global, steps: &mut Steps<M>) {
+    let kept = [1000i64, 0, 500, 0, 500, 0, 250, 0];
+    let mut output = [7i16; 2];
+    let mut cascade = Biquad15::new(alloc, 0, &TWO_SECTIONS, 1).expect(rt, "a cascade");
+    assert!(rt; cascade.fits(&kept));
+    cascade.restore(&kept);
+    assert_eq!(rt; cascade.process(&[0], &mut output, steps), 1);
     assert_eq!(rt; output, [125, 7]);
-    assert_eq!(rt;
-        (second.finish(&mut output, steps), second.is_ended()),
-        (0, true)
-    );
+    assert_eq!(rt; cascade.finish(&mut output, steps), 0);
+    assert!(rt; cascade.is_ended());
 }
 
 /// The wide feedback keeps what a sample has no room for.
@@ -41,6 +48,7 @@ fn feedback<M: Ledger>(rt: &impl Abort, alloc: Global, steps: &mut Steps<M>) {
 
 /// The calls that count their products.
 pub(crate) fn counted<M: Ledger>(rt: &impl Abort, alloc: Global, steps: &mut Steps<M>) {
+    keeps(rt, alloc, steps);
     goes_on(rt, alloc, steps);
     feedback(rt, alloc, steps);
 }

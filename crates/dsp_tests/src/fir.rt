@@ -42,18 +42,26 @@ fn few_turns<M: Ledger>(rt: &impl Abort, alloc: Global, steps: &mut Steps<M>)
     assert_eq!(rt; output, [1, 7]);
 }
 
-/// A FIR filter goes on where another one was kept.
-fn fir_goes_on<M: Ledger>(rt: &impl Abort, alloc: Global, steps: &mut Steps<M>) {
+/// A FIR filter keeps the last samples.
+fn fir_keeps<M: Ledger>(rt: &impl Abort, alloc: Global, steps: &mut Steps<M>) {
     let mut output = [0i16; 2];
     let mut kept = [0i64; 1];
-    let mut first = Fir::<i16, 8>::new(alloc, &[8192, 16384], 2).expect(rt, "a filter");
-    first.process(&[4, 8], &mut output, steps);
-    first.keep(&mut kept);
-    let mut second = Fir::<i16, 8>::new(alloc, &[8192, 16384], 2).expect(rt, "a filter");
-    assert!(rt; second.fits(&kept));
-    second.restore(&kept);
-    second.process(&[0], &mut output, steps);
-    assert_eq!(rt; (kept, output), ([8], [2, 5]));
+    let mut filter = Fir::<i16, 8>::new(alloc, &[8192, 16384], 2).expect(rt, "a filter");
+    filter.process(&[4, 8], &mut output, steps);
+    assert_eq!(rt; output, [2, 5]);
+    assert_eq!(rt; filter.kept_count(), 1);
+    filter.keep(&mut kept);
+    assert_eq!(rt; kept, [8]);
+}
+
+/// Another FIR filter goes on from what that one kept.
+fn fir_goes_on<M: Ledger>(rt: &impl Abort, alloc: Global, steps: &mut Steps<M>) {
+    let mut output = [0i16; 1];
+    let mut filter = Fir::<i16, 8>::new(alloc, &[8192, 16384], 2).expect(rt, "a filter");
+    assert!(rt; filter.fits(&[8]));
+    filter.restore(&[8]);
+    filter.process(&[0], &mut output, steps);
+    assert_eq!(rt; output, [2]);
 }
 
 /// A FIR filter keeps as many numbers as its past has samples, each of its format, and has no tail.
@@ -142,6 +150,7 @@ pub(crate) fn counted<M: Ledger>(rt: &impl Abort, alloc: Global, steps: &mut Ste
     long_block(rt, alloc, steps);
     long_sparse_block(rt, alloc, steps);
     few_turns(rt, alloc, steps);
+    fir_keeps(rt, alloc, steps);
     fir_goes_on(rt, alloc, steps);
     fir_ends(rt, alloc, steps);
     sparse_keeps(rt, alloc, steps);

@@ -14,49 +14,62 @@ fn long_block<M: Ledger>(rt: &impl Abort, alloc: Global, steps: &mut Steps<M>) {
     assert_eq!(rt; (output[0], output[599], output[600]), (1, 0, 0));
 }
 
-/// A lattice goes on where another one was kept.
-fn fir_goes_on<M: Ledger>(rt: &impl Abort, alloc: Global, steps: &mut Steps<M>) {
+/// A lattice keeps a number a section.
+fn fir_keeps<M: Ledger>(rt: &impl Abort, alloc: Global, steps: &mut Steps<M>) {
     let mut output = [7i16; 2];
     let mut kept = [0i64; 1];
-    let mut first = FirLattice15::new(alloc, &[16384], 2).expect(rt, "a lattice");
-    assert_eq!(rt; (first.room(1), first.kept_count()), (1, 1));
-    assert_eq!(rt; first.process(&[1000], &mut output, steps), 1);
+    let mut lattice = FirLattice15::new(alloc, &[16384], 2).expect(rt, "a lattice");
+    assert_eq!(rt; lattice.room(1), 1);
+    assert_eq!(rt; lattice.process(&[1000], &mut output, steps), 1);
     assert_eq!(rt; output, [1000, 7]);
-    first.keep(&mut kept);
+    assert_eq!(rt; lattice.kept_count(), 1);
+    lattice.keep(&mut kept);
     assert_eq!(rt; kept, [1000]);
-    let mut second = FirLattice15::new(alloc, &[16384], 2).expect(rt, "a lattice");
-    assert!(rt; !second.fits(&[]) && !second.fits(&[-32769]));
-    assert!(rt; second.fits(&kept));
-    second.restore(&kept);
-    assert_eq!(rt; second.process(&[0], &mut output, steps), 1);
-    assert_eq!(rt; output, [500, 7]);
-    assert_eq!(rt;
-        (second.finish(&mut output, steps), second.is_ended()),
-        (0, true)
-    );
 }
 
-/// The same of a lattice that feeds back.
-fn iir_goes_on<M: Ledger>(rt: &impl Abort, alloc: Global, steps: &mut Steps<M>) {
+/// Another lattice goes on from what that one kept.
+fn fir_goes_on<M: Ledger>(rt: &impl Abort, alloc: Global, steps: &mut Steps<M>) {
+    let mut output = [7i16; 2];
+    let mut lattice = FirLattice15::new(alloc, &[16384], 2).expect(rt, "a lattice");
+    assert!(rt; !lattice.fits(&[]) && !lattice.fits(&[-32769]));
+    assert!(rt; lattice.fits(&[1000]));
+    lattice.restore(&[1000]);
+    assert_eq!(rt; lattice.process(&[0], &mut output, steps), 1);
+    assert_eq!(rt; output, [500, 7]);
+    assert_eq!(rt; lattice.finish(&mut output, steps), 0);
+    assert!(rt; lattice.is_ended());
+}
+
+/// A lattice that feeds back keeps a number a section.
+fn iir_keeps<M: Ledger>(rt: &impl Abort, alloc: Global, steps: &mut Steps<M>) {
     let mut output = [7i16; 2];
     let mut kept = [0i64; 1];
-    let (k, v) = ([16384i16], [0i16, 16384]);
-    let mut first = IirLattice::<i16>::new(alloc, &k, &v, 2).expect(rt, "a lattice");
-    assert_eq!(rt; (first.room(1), first.kept_count()), (1, 1));
-    assert_eq!(rt; first.process(&[1000], &mut output, steps), 1);
-    assert_eq!(rt; output, [500, 7]);
-    first.keep(&mut kept);
-    assert_eq!(rt; kept, [1000]);
-    let mut second = IirLattice::<i16>::new(alloc, &k, &v, 2).expect(rt, "a lattice");
-    assert!(rt; !second.fits(&[0, 0]));
-    assert!(rt; second.fits(&kept));
-    second.restore(&kept);
-    assert_eq!(rt; second.process(&[0], &mut output, steps), 1);
-    assert_eq!(rt; output, [-250, 7]);
-    assert_eq!(rt;
-        (second.finish(&mut output, steps), second.is_ended()),
-        (0, true)
+    let mut lattice = IirLattice::<i16>::new(alloc, &[16384], &[0, 16384], 2).expect(
+        rt,
+        "a lattice",
     );
+    assert_eq!(rt; lattice.room(1), 1);
+    assert_eq!(rt; lattice.process(&[1000], &mut output, steps), 1);
+    assert_eq!(rt; output, [500, 7]);
+    assert_eq!(rt; lattice.kept_count(), 1);
+    lattice.keep(&mut kept);
+    assert_eq!(rt; kept, [1000]);
+}
+
+/// And another one goes on from that.
+fn iir_goes_on<M: Ledger>(rt: &impl Abort, alloc: Global, steps: &mut Steps<M>) {
+    let mut output = [7i16; 2];
+    let mut lattice = IirLattice::<i16>::new(alloc, &[16384], &[0, 16384], 2).expect(
+        rt,
+        "a lattice",
+    );
+    assert!(rt; !lattice.fits(&[0, 0]));
+    assert!(rt; lattice.fits(&[1000]));
+    lattice.restore(&[1000]);
+    assert_eq!(rt; lattice.process(&[0], &mut output, steps), 1);
+    assert_eq!(rt; output, [-250, 7]);
+    assert_eq!(rt; lattice.finish(&mut output, steps), 0);
+    assert!(rt; lattice.is_ended());
 }
 
 /// The ladder alone in Q31, halved and rounded down.
@@ -73,7 +86,9 @@ fn ladder<M: Ledger>(rt: &impl Abort, alloc: Global, steps: &mut Steps<M>) {
 /// The calls that count their products.
 pub(crate) fn counted<M: Ledger>(rt: &impl Abort, alloc: Global, steps: &mut Steps<M>) {
     long_block(rt, alloc, steps);
+    fir_keeps(rt, alloc, steps);
     fir_goes_on(rt, alloc, steps);
+    iir_keeps(rt, alloc, steps);
     iir_goes_on(rt, alloc, steps);
     ladder(rt, alloc, steps);
 }

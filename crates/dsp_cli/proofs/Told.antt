@@ -104,7 +104,7 @@ told_sound source now script P loaded =
     none_not_some none some = absurd (let same = subst IsSome none some in cc)
 
 -- what holds of the fault that was read holds of that which is told
-told_first : (source now : SourceState) (fault : ScriptFault) → ReadsText source now (λ text. first_fault text ≡ Some fault) → IfSome source.left (λ all. first_fault all ≡ Some fault)
+pub told_first : (source now : SourceState) (fault : ScriptFault) → ReadsText source now (λ text. first_fault text ≡ Some fault) → IfSome source.left (λ all. first_fault all ≡ Some fault)
 told_first source now fault has =
     IfSome-map source.left (Same has.text) _
     (λ all same. elim same [

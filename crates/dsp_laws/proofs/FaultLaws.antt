@@ -1,0 +1,106 @@
+-- Which fault has a status, and what is so of the script where one of its faults has it.
+use Rattle.std.proofs.Common.{◌≡◌, ℕ, refl, subst, arith, inl, inr, IsFalse}
+use Rattle.dsp_ports.specs.Ports.{SinkState}
+use Rattle.dsp_defs.specs.Report.{block_length_line, header_line, script_line}
+use Rattle.dsp_defs.specs.Shape.{unit}
+use Rattle.dsp_defs.specs.declared.script.Script.{Script}
+use Rattle.dsp_defs.specs.declared.script_fault.ScriptFault.{ScriptFault}
+use Rattle.dsp_defs.specs.declared.wave.HeaderFault.{HeaderFault}
+use Rattle.dsp_session.specs.declared.fault.StreamFault.{StreamFault}
+use Rattle.dsp_session.specs.declared.fault.StreamFault.TheVariants.{Header, Input, Output, Lengths}
+use Rattle.dsp_cli.specs.Call.{Call, Ending, Went, Printed, Stopped, Refuses, Happened, Reported, Ended}
+use Rattle.dsp_cli.specs.Fault.{status_of, fault_line}
+use Rattle.dsp_cli.specs.Run.{IsDone, Tells}
+use Rattle.dsp_cli.specs.Script.{IfScript, chosen_block, is_legal_for}
+use Rattle.dsp_cli.specs.declared.fault.Fault.{Fault}
+use Rattle.dsp_cli.specs.declared.fault.Fault.TheVariants.{Usage, ScriptRead, Script as BadText, BlockLength, Stream}
+use Rattle.dsp_cli.proofs.StatusLaws.{reports_done}
+use Rattle.dsp_cli.proofs.Told.{told_script}
+use Rattle.dsp_laws.specs.Stands.{IsStopped}
+
+-- a fault of a stream has one of its statuses
+pub stream_status : (fault : StreamFault) → IsStopped (status_of (Stream fault))
+stream_status (Header fault offset) = inl (inl refl)
+stream_status (Lengths fault) = inl (inr (inl refl))
+stream_status Input = inl (inr (inr refl))
+stream_status Output = inr refl
+
+-- a stream stopped by this fault
+abbrev pub StreamStops : Call → StreamFault → Type 0
+StreamStops c fault = Happened (Stopped (Stream fault)) c
+
+module _ (c : Call) (report told : SinkState) where
+  -- a fault with this status stopped it, and its line was told
+  abbrev pub StoppedBy : ℕ → Type 0
+  StoppedBy status = (fault : Fault) × Happened (Stopped fault) c × (status ≡ status_of fault) × Tells (fault_line fault) report told
+
+  pub stopped : (status n : ℕ) → Ended c status report told → status ≡ n → (IsDone n → ⊥) → StoppedBy n
+  stopped status n end at undone = subst StoppedBy at (by end.ending end.happened end.reported)
+    where
+      by : (ending : Ending) → Happened ending c → Reported ending status report told → StoppedBy status
+      by (Went script frames found) happened reported = absurd (undone (subst IsDone at (reports_done reported)))
+      by (Printed script) happened reported = absurd (undone (subst IsDone at (reports_done reported)))
+      by (Stopped fault) happened (is, tells) = (fault, happened, is, tells)
+
+  -- ---- which fault it was
+
+  pub of_usage : StoppedBy 1 → Refuses Usage c
+  of_usage (Usage, happened, is, tells) = happened.0
+  of_usage (Stream fault, happened, is, tells) = absurd (omega (arith, is, stream_status fault))
+  of_usage (fault, happened, is, tells) = absurd (omega (arith, is))
+
+  pub of_script_read : StoppedBy 6 → Refuses ScriptRead c
+  of_script_read (ScriptRead, happened, is, tells) = happened.0
+  of_script_read (Stream fault, happened, is, tells) = absurd (omega (arith, is, stream_status fault))
+  of_script_read (fault, happened, is, tells) = absurd (omega (arith, is))
+
+  -- the text has this fault, and its line was told
+  abbrev BadTextTold : Type 0
+  BadTextTold = (fault : ScriptFault) × Refuses (BadText fault) c × Tells (script_line fault) report told
+
+  pub of_text : StoppedBy 2 → BadTextTold
+  of_text (BadText fault, happened, is, tells) = (fault, happened.0, tells)
+  of_text (Stream fault, happened, is, tells) = absurd (omega (arith, is, stream_status fault))
+  of_text (fault, happened, is, tells) = absurd (omega (arith, is))
+
+  -- the chosen block length isn't legal, and its line was told
+  abbrev BadLengthTold : Script → Type 0
+  BadLengthTold s =
+      IsFalse (is_legal_for s (chosen_block c.words s))
+      × Tells (block_length_line (chosen_block c.words s) (unit s.input.channels s.blocks)) report told
+
+  pub of_length : StoppedBy 3 → IfScript c.source.left BadLengthTold
+  of_length (BlockLength block divisor, happened, is, tells) =
+      let has = happened.0.1 in
+      let (script, reads, illegal, block_is, divisor_is) = has.holds in
+      told_script c.source c.read script BadLengthTold (record { text = has.text; read = has.read; holds = reads }) (
+        subst (λ block. IsFalse (is_legal_for script block)) block_is illegal,
+        subst (λ line. Tells line report told) (λ i. block_length_line (block_is i) (divisor_is i)) tells,
+      )
+  of_length (Stream fault, happened, is, tells) = absurd (omega (arith, is, stream_status fault))
+  of_length (fault, happened, is, tells) = absurd (omega (arith, is))
+
+  -- the header has this fault, and its line was told
+  abbrev BadHeaderTold : Type 0
+  BadHeaderTold = (fault : HeaderFault) × (offset : ℕ) × StreamStops c (Header fault offset) × Tells (header_line fault offset) report told
+
+  pub of_header : StoppedBy 4 → BadHeaderTold
+  of_header (Stream (Header fault offset), happened, is, tells) = (fault, offset, happened, tells)
+  of_header (Stream (Lengths fault), happened, is, tells) = absurd (omega (arith, is))
+  of_header (Stream Input, happened, is, tells) = absurd (omega (arith, is))
+  of_header (Stream Output, happened, is, tells) = absurd (omega (arith, is))
+  of_header (fault, happened, is, tells) = absurd (omega (arith, is))
+
+  pub of_input : StoppedBy 7 → StreamStops c Input
+  of_input (Stream Input, happened, is, tells) = happened
+  of_input (Stream (Header fault offset), happened, is, tells) = absurd (omega (arith, is))
+  of_input (Stream (Lengths fault), happened, is, tells) = absurd (omega (arith, is))
+  of_input (Stream Output, happened, is, tells) = absurd (omega (arith, is))
+  of_input (fault, happened, is, tells) = absurd (omega (arith, is))
+
+  pub of_output : StoppedBy 8 → StreamStops c Output
+  of_output (Stream Output, happened, is, tells) = happened
+  of_output (Stream (Header fault offset), happened, is, tells) = absurd (omega (arith, is))
+  of_output (Stream (Lengths fault), happened, is, tells) = absurd (omega (arith, is))
+  of_output (Stream Input, happened, is, tells) = absurd (omega (arith, is))
+  of_output (fault, happened, is, tells) = absurd (omega (arith, is))

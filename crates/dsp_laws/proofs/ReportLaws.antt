@@ -1,0 +1,111 @@
+-- What the report says, from how the call ended.
+use Rattle.std.proofs.Common.{◌≡◌, ℕ, List, refl, sym, ap, ◌∙◌, subst, arith, inl, inr, Some, IfSome}
+use Rattle.dsp_ports.specs.Ports.{SourceState, SinkState, IsSettled}
+use Rattle.dsp_defs.specs.Canon.{canon}
+use Rattle.dsp_defs.specs.Reading.{first_fault}
+use Rattle.dsp_defs.specs.Report.{script_line}
+use Rattle.dsp_defs.specs.Words.{command_of}
+use Rattle.dsp_defs.specs.declared.script.Script.{Script}
+use Rattle.dsp_defs.specs.declared.script_fault.ScriptFault.{ScriptFault}
+use Rattle.dsp_session.specs.declared.fault.StreamFault.TheVariants.{Header, Input, Output, Lengths}
+use Rattle.dsp_cli.specs.Call.{Call, Ending, Went, Printed, Stopped, Streams, Happened, Reported, Ended}
+use Rattle.dsp_cli.specs.Fault.{status_of, fault_line}
+use Rattle.dsp_cli.specs.Run.{IsPrint, IsDone, Wrote, Tells, read_from}
+use Rattle.dsp_cli.specs.Script.{ReadsText, IfScript}
+use Rattle.dsp_cli.specs.declared.fault.Fault.{Fault}
+use Rattle.dsp_cli.specs.declared.fault.Fault.TheVariants.{Usage, ScriptRead, Script as BadText, BlockLength, Memory, Stream}
+use Rattle.dsp_cli.proofs.StatusLaws.{reports_done, fault_not_done, stream_or_print}
+use Rattle.dsp_cli.proofs.Told.{IfSome-map, told_first, told_script}
+use Rattle.dsp_laws.specs.Reports.{IfFault, IsClean, Reports, line_of_status}
+use Rattle.dsp_laws.proofs.FaultLaws.{stopped, of_text, of_length}
+use Rattle.dsp_laws.proofs.TakenLaws.{leaves_port, reads_port}
+use Rattle.dsp_laws.proofs.TextLaws.{text_told, text_wrote, text_kept, text_settled}
+
+-- ---- the port of the input
+
+-- a stream that kept the faults of what it has read kept those of the port
+port_kept : {c : Call} {script : Script} {Did : ℕ → SourceState → SourceState → Type 0} (streams : Streams script Did c)
+    → streams.now.faults ≡ (read_from (command_of c.words) script.input c.port).faults → c.later.faults ≡ c.port.faults
+port_kept streams same =
+    elim streams.stream [
+      | inl run ↦
+          let (from, to) = reads_port streams run in
+          sym (ap (λ (s : SourceState). s.faults) to) ∙ same ∙ ap (λ (s : SourceState). s.faults) from
+      | inr gen ↦ ap (λ (s : SourceState). s.faults) (leaves_port streams gen)
+    ]
+
+module _ (c : Call) (status : ℕ) (report told : SinkState) where
+  -- ---- the texts
+
+  clean : (ending : Ending) → Happened ending c → Reported ending status report told → status ≡ 0 → IsClean c report told
+  clean (Went script frames found) went reported zero = record {
+    script_kept = went.read.read.no_fault;
+    input_kept = port_kept went went.did.no_input_fault;
+    output_kept = went.did.no_output_fault;
+    report_kept = text_kept reported zero;
+  }
+  clean (Printed script) printed reported zero = record {
+    script_kept = printed.1.read.no_fault;
+    input_kept = ap (λ (s : SourceState). s.faults) printed.2.input_same;
+    output_kept = ap (λ (s : SinkState). s.faults) printed.2.output_same;
+    report_kept = text_kept reported zero;
+  }
+  clean (Stopped fault) happened reported zero = absurd (fault_not_done fault (subst IsDone reported.0 (inl zero)))
+
+  settled : (ending : Ending) → Happened ending c → Reported ending status report told → status ≡ 0 → IsSettled told
+  settled (Went script frames found) went reported zero = text_settled reported zero
+  settled (Printed script) printed reported zero = text_settled reported zero
+  settled (Stopped fault) happened reported zero = absurd (fault_not_done fault (subst IsDone reported.0 (inl zero)))
+
+  -- what a print has done with its text, and whether it is all
+  print_told : (ending : Ending) → Happened ending c → Reported ending status report told → IsPrint c.words → IsDone status
+      → IfScript c.source.left (λ s. Tells (canon s) report told × (status ≡ 0 → Wrote (canon s) report told))
+  print_told (Went script frames found) went reported print done = absurd (stream_or_print c.words went.stream print)
+  print_told (Printed script) printed reported print done =
+      told_script c.source c.read script (λ s. Tells (canon s) report told × (status ≡ 0 → Wrote (canon s) report told)) printed.1
+      (text_told reported, text_wrote reported)
+  print_told (Stopped fault) happened reported print done = absurd (fault_not_done fault (subst IsDone reported.0 done))
+
+  -- ---- the lines
+
+  abbrev LineTold : ℕ → Type 0
+  LineTold n = IfSome (line_of_status n) (λ line. Tells line report told)
+
+  done_line : IsDone status → LineTold status
+  done_line (inl zero) = subst LineTold (sym zero) tt
+  done_line (inr nine) = subst LineTold (sym nine) tt
+
+  fault_told : (fault : Fault) → Tells (fault_line fault) report told → LineTold (status_of fault)
+  fault_told Usage tells = tells
+  fault_told ScriptRead tells = tells
+  fault_told (BadText fault) tells = tt
+  fault_told (BlockLength block divisor) tells = tt
+  fault_told Memory tells = tells
+  fault_told (Stream (Header fault offset)) tells = tt
+  fault_told (Stream (Lengths fault)) tells = tt
+  fault_told (Stream Input) tells = tells
+  fault_told (Stream Output) tells = tells
+
+  line_told : (ending : Ending) → Reported ending status report told → LineTold status
+  line_told (Went script frames found) reported = done_line (reports_done reported)
+  line_told (Printed script) reported = done_line (reports_done reported)
+  line_told (Stopped fault) (is, tells) = subst LineTold (sym is) (fault_told fault tells)
+
+  text_fault : Ended c status report told → status ≡ 2 → IfFault c.source.left (λ fault. Tells (script_line fault) report told)
+  text_fault end is =
+      let (fault, refuses, tells) = of_text c report told (stopped c report told status 2 end is (λ done. omega (arith, done))) in
+      IfSome-map c.source.left (λ all. first_fault all ≡ Some fault) _
+      (λ all first other found. let same : fault ≡ other = cc in subst (λ fault. Tells (script_line fault) report told) same tells)
+      (told_first c.source c.read fault refuses.1)
+
+  pub reports : Ended c status report told → Reports c status report told
+  reports end = record {
+    clean = clean end.ending end.happened end.reported;
+    settled = settled end.ending end.happened end.reported;
+    printed = λ print zero. IfSome-map c.source.left _ _ (λ text all s reads. (all s reads).1 zero) (print_told end.ending end.happened end.reported print (inl zero));
+    unprinted = λ print nine. IfSome-map c.source.left _ _ (λ text all s reads. (all s reads).0) (print_told end.ending end.happened end.reported print (inr nine));
+    tells = line_told end.ending end.reported;
+    tells_fault = text_fault end;
+    tells_length = λ is.
+        IfSome-map c.source.left _ _ (λ text all s reads. (all s reads).1) (of_length c report told (stopped c report told status 3 end is (λ done. omega (arith, done))));
+  }

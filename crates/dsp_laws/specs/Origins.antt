@@ -1,0 +1,49 @@
+-- Where each exit status of the top call comes from.
+use Rattle.std.specs.Prelude.{◌≡◌, ◌⊎◌, ◌↔◌, ◌+◌, ◌^◌, ℕ, Some, IfSome, IsNone, IsSome, IsFalse}
+use Rattle.dsp_ports.specs.Ports.{SinkState, one_more}
+use Rattle.dsp_defs.specs.Output.{input_header}
+use Rattle.dsp_defs.specs.Reading.{first_fault}
+use Rattle.dsp_defs.specs.Report.{header_line}
+use Rattle.dsp_defs.specs.Words.{command_of}
+use Rattle.dsp_defs.specs.declared.format.InputKind.TheVariants.{Wave}
+use Rattle.dsp_defs.specs.declared.wave.HeaderFault.{HeaderFault}
+use Rattle.dsp_session.specs.Stream.{declared_bytes, input_fault}
+use Rattle.dsp_cli.specs.Call.{Call}
+use Rattle.dsp_cli.specs.Run.{IsDone, Tells}
+use Rattle.dsp_cli.specs.Script.{IfScript, chosen_block, is_legal_for}
+use Rattle.dsp_laws.specs.Taken.{bytes_taken}
+
+-- the input is WAVE and has this fault, and the line says it
+pub record TellsHeader (c : Call) (report told : SinkState) : Type 0 where
+  pub fault : HeaderFault
+  pub offset : ℕ
+  pub cause : IfScript c.source.left (λ s.
+      (s.input.kind ≡ Wave) × IfSome c.port.left (λ bytes. input_fault s bytes ≡ Some (fault, offset)))
+  pub line : Tells (header_line fault offset) report told
+
+-- where as many bytes were taken as may be: a fault of a WAVE input was found there, or its declared samples end there
+abbrev pub MayEndAtLimit : Call → ℕ → Type 0
+MayEndAtLimit c status =
+    ((status ≡ 4) ⊎ IsDone status)
+    × IfScript c.source.left (λ s. (s.input.kind ≡ Wave)
+    × (IsDone status → IfSome (bytes_taken c.port c.later) (λ given. IsSome (declared_bytes s (input_header s given)))))
+
+-- of a call, its status and its report: what is so where it is this one
+pub record Origins (c : Call) (status : ℕ) (report told : SinkState) : Type 0 where
+  -- 1: exactly where the words are no command; the script's source is then as before
+  pub usage : (status ≡ 1) ↔ IsNone (command_of c.words)
+  pub script_same : status ≡ 1 → c.read ≡ c.source
+  -- 2: the script has a first fault
+  pub bad_script : status ≡ 2 → IfSome c.source.left (λ text. IsSome (first_fault text))
+  -- 3: the chosen block length isn't legal
+  pub bad_length : status ≡ 3 → IfScript c.source.left (λ s. IsFalse (is_legal_for s (chosen_block c.words s)))
+  -- 4: a fault of the input's header, or its end before all declared frames
+  pub header : status ≡ 4 → TellsHeader c report told
+  -- 5: also where as many bytes were taken as may be, unless a fault was found there or the declared samples end there
+  pub limited : c.later.taken ≡ c.port.taken + 2 ^ 40
+      → (status ≡ 5) ⊎ (status ≡ 8) ⊎ MayEndAtLimit c status
+  -- 6 to 9: a port has failed, once
+  pub script_read : status ≡ 6 → c.read.faults ≡ one_more c.source.faults
+  pub input_read : status ≡ 7 → c.later.faults ≡ one_more c.port.faults
+  pub output_written : status ≡ 8 → c.after.faults ≡ one_more c.sink.faults
+  pub report_written : status ≡ 9 → told.faults ≡ one_more report.faults

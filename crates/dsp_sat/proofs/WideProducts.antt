@@ -1,8 +1,8 @@
 -- The product of two samples is small enough for 64 bits.
-use Rattle.std.proofs.Common.{◌≡◌, ℕ, ◌-◌, ◌*◌, ◌^◌, ◌≤◌, ℤ, ◌*ℤ◌, SFits, arith, lit<}
+use Rattle.std.proofs.Common.{◌-◌, ◌*◌, ◌^◌, ◌≤◌, ℤ, ◌*ℤ◌, SFits, arith, lit<}
 use Rattle.std.specs.Prelude.{FitsSigned, nat_abs}
 use Rattle.std.specs.Int.{w8, w16, w32, w64}
-use Rattle.std.proofs.lemmas.Int.{unsigned_abs-mul, ints}
+use Rattle.std.proofs.lemmas.Int.{unsigned_abs-mul}
 use Rattle.std.proofs.Math.Nat.{mul-le-mul}
 use Rattle.dsp_sat.proofs.Words.{abs_within, product_fits}
 use Rattle.dsp_defs.specs.Formats.{word, word_bits}

@@ -16,9 +16,11 @@ pub fn saturating_shift(value: i32, places: i32) -> i32
     requires high { places ≤ℤ pos 31 }
     ensures { result ≡ shift_in 32 value places }
 {
-    if places >= 0 {
-        crate::saturation::narrow32(i64::from(value) << places)
-    } else {
+    if places < 0 {
         value >> -places
+    } else if value > i32::MAX >> places {
+        i32::MAX
+    } else {
+        value.max(i32::MIN >> places) << places
     }
 }

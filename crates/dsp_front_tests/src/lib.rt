@@ -1,15 +1,27 @@
-//! Callers of the crates in front of the blocks: script, ports, files, chain and session.
+//! Callers of the crates in front of the blocks: script, ports, files, chain and session; and whole runs of
+//! the program over ports in memory: worked by hand, of an independent implementation, and over ports that
+//! fail at each place.
 #![tactic(auto)]
 
 #[cfg(test)]
+mod block_runs;
+#[cfg(test)]
 mod chain;
+#[cfg(test)]
+mod chain_runs;
+#[cfg(test)]
+mod gen_runs;
 #[cfg(test)]
 mod host;
 #[cfg(test)]
 mod ports;
+#[cfg(test)]
+mod runs;
 #[cfg(test)]
 mod script;
 #[cfg(test)]
 mod session;
 #[cfg(test)]
 mod wave;
+#[cfg(test)]
+mod wave_runs;

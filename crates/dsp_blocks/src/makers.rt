@@ -1,5 +1,5 @@
 ghost use Rattle.std.specs.Prelude.{◌≤◌, ◌≢◌, ◌*◌, IfOk};
-ghost use Rattle.dsp_stage.specs.Unit.{IsNew};
+ghost use Rattle.dsp_stage.specs.Unit.{IsNew, most_frames, most_room};
 ghost use Rattle.dsp_defs.specs.Grammar.{Suits};
 ghost use Rattle.dsp_defs.specs.declared.format.Fmt.TheVariants.{Q7, Q15, Q31};
 ghost use Rattle.dsp_fir.specs.ByChannel.{IsWindowIn};
@@ -30,6 +30,7 @@ pub fn fir(
     requires channels { 1 ≤ channels }
     requires frames { 1 ≤ frames }
     requires samples { frames * channels ≤ MAX_SAMPLES }
+    requires room { most_frames block.now frames * channels ≤ most_room }
     ensures { IfOk result (λ u. IsNew block.now format channels frames (state_of u)) }
 {
     match format {
@@ -52,6 +53,7 @@ pub fn decimate(
     requires channels { 1 ≤ channels }
     requires frames { 1 ≤ frames }
     requires samples { frames * channels ≤ MAX_SAMPLES }
+    requires room { most_frames block.now frames * channels ≤ most_room }
     ensures { IfOk result (λ u. IsNew block.now format channels frames (state_of u)) }
 {
     match format {
@@ -74,6 +76,7 @@ pub fn interpolate(
     requires channels { 1 ≤ channels }
     requires frames { 1 ≤ frames }
     requires samples { frames * channels ≤ MAX_SAMPLES }
+    requires room { most_frames block.now frames * channels ≤ most_room }
     ensures { IfOk result (λ u. IsNew block.now format channels frames (state_of u)) }
 {
     match format {
@@ -94,6 +97,7 @@ pub fn lattice_fir(
     requires channels { 1 ≤ channels }
     requires frames { 1 ≤ frames }
     requires samples { frames * channels ≤ MAX_SAMPLES }
+    requires room { most_frames block.now frames * channels ≤ most_room }
     ensures { IfOk result (λ u. IsNew block.now Q15 channels frames (state_of u)) }
 {
     Ok(BlockUnit::LatticeFir15(EachChannel::new(alloc, block, channels, frames)?))
@@ -112,6 +116,7 @@ pub fn lattice_iir(
     requires channels { 1 ≤ channels }
     requires frames { 1 ≤ frames }
     requires samples { frames * channels ≤ MAX_SAMPLES }
+    requires room { most_frames block.now frames * channels ≤ most_room }
     ensures { IfOk result (λ u. IsNew block.now format channels frames (state_of u)) }
 {
     match format {
@@ -134,6 +139,7 @@ pub fn biquad(
     requires channels { 1 ≤ channels }
     requires frames { 1 ≤ frames }
     requires samples { frames * channels ≤ MAX_SAMPLES }
+    requires room { most_frames block.now frames * channels ≤ most_room }
     ensures { IfOk result (λ u. IsNew block.now format channels frames (state_of u)) }
 {
     match format {
@@ -154,6 +160,7 @@ pub fn biquad64(
     requires channels { 1 ≤ channels }
     requires frames { 1 ≤ frames }
     requires samples { frames * channels ≤ MAX_SAMPLES }
+    requires room { most_frames block.now frames * channels ≤ most_room }
     ensures { IfOk result (λ u. IsNew block.now Q31 channels frames (state_of u)) }
 {
     Ok(BlockUnit::Biquad64(EachChannel::new(alloc, block, channels, frames)?))
@@ -171,6 +178,7 @@ pub fn conv(
     requires channels { 1 ≤ channels }
     requires frames { 1 ≤ frames }
     requires samples { frames * channels ≤ MAX_SAMPLES }
+    requires room { most_frames block.now frames * channels ≤ most_room }
     ensures { IfOk result (λ u. IsNew block.now format channels frames (state_of u)) }
 {
     match format {
@@ -192,6 +200,7 @@ pub fn correlate(
     requires channels { 1 ≤ channels }
     requires frames { 1 ≤ frames }
     requires samples { frames * channels ≤ MAX_SAMPLES }
+    requires room { most_frames block.now frames * channels ≤ most_room }
     ensures { IfOk result (λ u. IsNew block.now format channels frames (state_of u)) }
 {
     match format {
@@ -234,6 +243,7 @@ pub fn pid(
     requires channels { 1 ≤ channels }
     requires frames { 1 ≤ frames }
     requires samples { frames * channels ≤ MAX_SAMPLES }
+    requires room { most_frames block.now frames * channels ≤ most_room }
     ensures { IfOk result (λ u. IsNew block.now format channels frames (state_of u)) }
 {
     match format {
@@ -256,6 +266,7 @@ pub fn matrix(
     requires channels { 1 ≤ channels }
     requires frames { 1 ≤ frames }
     requires samples { frames * channels ≤ MAX_SAMPLES }
+    requires room { most_frames block.now frames * channels ≤ most_room }
     ensures { IfOk result (λ u. IsNew block.now format channels frames (state_of u)) }
 {
     match format {
@@ -276,6 +287,7 @@ pub fn product(
     requires channels { 1 ≤ channels }
     requires frames { 1 ≤ frames }
     requires samples { frames * channels ≤ MAX_SAMPLES }
+    requires room { most_frames block.now frames * channels ≤ most_room }
     ensures { IfOk result (λ u. IsNew block.now Q15 channels frames (state_of u)) }
 {
     Ok(BlockUnit::MatMult15(EachChannel::new(alloc, block, channels, frames)?))

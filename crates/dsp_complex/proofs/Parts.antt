@@ -116,12 +116,21 @@ module _ (format : Fmt) (x y : ℤ) (places : ℕ) (narrow : word_bits format �
   both : to_z w64 (of_z w64 x) +ℤ to_z w64 (of_z w64 y) ≡ x +ℤ y
   both = λ i. to_z-of_z w64 x (one-in-64 format x narrow x_small) i +ℤ to_z-of_z w64 y (one-in-64 format y narrow y_small) i
 
+  pub magnitude-in-64 : SFits w64 (to_z w64 (of_z w64 x) +ℤ to_z w64 (of_z w64 y))
+  magnitude-in-64 = subst (SFits w64) (sym both) (sum-in-64 format x y narrow x_small y_small)
+
   shifted : to_z w64 (of_z w64 (shr_z (to_z w64 (of_z w64 (to_z w64 (of_z w64 x) +ℤ to_z w64 (of_z w64 y)))) (2 ^ places))) ≡ (x +ℤ y >> product_shift format)
-  shifted = shift_down-is w64 _ (x +ℤ y) places (product_shift format) (subst (SFits w64) (sym both) (sum-in-64 format x y narrow x_small y_small)) both amount
+  shifted = shift_down-is w64 _ (x +ℤ y) places (product_shift format) magnitude-in-64 both amount
+
+  shifted-in-32 : SFits w32 (x +ℤ y >> product_shift format)
+  shifted-in-32 = word-in-32 format (x +ℤ y >> product_shift format) (shifted-sum-fits format x y x_small y_small)
+
+  pub magnitude-in-32 : SFits w32 (to_z w64 (of_z w64 (shr_z (to_z w64 (of_z w64 (to_z w64 (of_z w64 x) +ℤ to_z w64 (of_z w64 y)))) (2 ^ places))))
+  magnitude-in-32 = subst (SFits w32) (sym shifted) shifted-in-32
 
   pub magnitude-is : to_z w32 (of_z w32 (to_z w64 (of_z w64 (shr_z (to_z w64 (of_z w64 (to_z w64 (of_z w64 x) +ℤ to_z w64 (of_z w64 y)))) (2 ^ places))))) ≡ (x +ℤ y >> product_shift format)
   magnitude-is =
-      ap (λ z. to_z w32 (of_z w32 z)) shifted ∙ to_z-of_z w32 (x +ℤ y >> product_shift format) (word-in-32 format (x +ℤ y >> product_shift format) (shifted-sum-fits format x y x_small y_small))
+      ap (λ z. to_z w32 (of_z w32 z)) shifted ∙ to_z-of_z w32 (x +ℤ y >> product_shift format) shifted-in-32
 
   pub magnitude-in-word : FitsSigned (word format) (to_z w32 (of_z w32 (to_z w64 (of_z w64 (shr_z (to_z w64 (of_z w64 (to_z w64 (of_z w64 x) +ℤ to_z w64 (of_z w64 y)))) (2 ^ places))))))
   magnitude-in-word = subst (FitsSigned (word format)) (sym magnitude-is) (shifted-sum-fits format x y x_small y_small)

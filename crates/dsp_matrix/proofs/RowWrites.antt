@@ -31,6 +31,13 @@ values-suc n f =
 pub sample-values : (n : ℕ) (f : ℕ → ℤ) (i : ℕ) → i < n → sample (values n f) i ≡ f i
 sample-values n f i h = get_or-map-range_with_len f 0 n i i (pos 0) h (omega arith)
 
+-- what is written in front of the rest, and the rest
+pub front-written : {X : Type 0} (n : ℕ) (new rest : List X) → length new ≡ n → take n (new ++ rest) ≡ new
+front-written n new rest size = take-append-le n new rest (omega (arith, size)) ∙ take_all n new (omega (arith, size))
+
+pub rest-stays : {X : Type 0} (n : ℕ) (new rest : List X) → length new ≡ n → drop n (new ++ rest) ≡ rest
+rest-stays n new rest size = drop-append-le n new rest (omega (arith, size)) ∙ ap (λ l. l ++ rest) (drop_all n new (omega (arith, size)))
+
 -- what f makes of each number
 pub mapped-values : (f : ℤ → ℤ) (n : ℕ) (xs : List ℤ) → length xs ≡ n → map f xs ≡ values n (λ i. f (sample xs i))
 mapped-values f zero [] e = refl

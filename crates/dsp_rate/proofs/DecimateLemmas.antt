@@ -1,7 +1,9 @@
 -- The values of a decimator, over the window of its past and a block.
-use Rattle.std.proofs.Common.{◌≡◌, ◌∙◌, ap, ap₂, sym, ℕ, suc, ◌+◌, ◌-◌, ◌*◌, ◌/◌, ◌%◌, ◌<◌, ◌≤◌, ℤ, pos, ◌*ℤ◌, List, ◌++◌, length, reverse, arith, length-append, ⊎_elim}
+use Rattle.std.proofs.Common.{◌≡◌, ◌∙◌, ap, ap₂, sym, ℕ, suc, ◌+◌, ◌-◌, ◌*◌, ◌/◌, ◌%◌, ◌<◌, ◌≤◌, ℤ, pos, ◌*ℤ◌, List, [], ◌∷◌, ◌++◌, length, take, drop, reverse, arith, length-append, take_all, ⊎_elim}
+use Rattle.std.specs.Prelude.{◌≤ℤ◌, negsuc, nat_abs}
+use Rattle.std.proofs.lemmas.Int.{ints}
 use Rattle.std.proofs.lemmas.Bool.{cases_lt}
-use Rattle.std.proofs.lemmas.List.{get_or-reverse, length-reverse, same_from_push}
+use Rattle.std.proofs.lemmas.List.{get_or-reverse, length-reverse, same_from_push, take_more}
 use Rattle.std.proofs.lemmas.Grind.{div_ceil_times}
 use Rattle.std.specs.Int.{div_ceil}
 use Rattle.std.proofs.lemmas.Nat.{div-mul-add, mod-mul-add, div-add-mod', div_below, mod_below, mul-le}
@@ -14,6 +16,8 @@ use Rattle.dsp_defs.specs.Sums.{convolution_at, decimate}
 use Rattle.dsp_defs.proofs.Signal.{values_cong, values-add, sum_below_cong, sum_below_reversed, delayed-append, delayed_before, delayed_after}
 use Rattle.dsp_defs.proofs.Streaming.{window_at}
 use Rattle.dsp_lanes.specs.Turns.{RisesWithin}
+use Rattle.dsp_window.specs.Rolling.{Rolling, last_samples}
+use Rattle.dsp_window.proofs.Rolls.{length-last_samples}
 use Rattle.dsp_rate.specs.DecimateState.{DecimateState, StandsFor, kept, kept_of, past_length, strided_rows}
 
 -- ---- groups
@@ -143,3 +147,29 @@ value-counted a b c i m p q next first second =
       multiplies_rise = omega (arith, products);
       turns_within = omega (arith, turns);
     }
+
+-- ---- the window
+
+-- it is filled as far as it was, and by the block
+pub pushed-filled : (old new : Rolling) (block : List ℤ) → new ≡ record old { samples = last_samples old.past old.samples ++ block } → old.past ≤ length old.samples → length new.samples ≡ old.past + length block
+pushed-filled old new block rolls filled =
+    ap (λ (w : Rolling). length w.samples) rolls
+    ∙ length-append (last_samples old.past old.samples) block
+    ∙ ap (λ k. k + length block) (length-last_samples old.past old.samples filled)
+
+-- what it keeps once it was restored
+pub restored-past : (old new : Rolling) (numbers : List ℤ) → new ≡ record old { samples = numbers } → length numbers ≡ old.past → last_samples new.past new.samples ≡ numbers
+restored-past old new numbers is long =
+    let none : length numbers - old.past ≡ 0 = omega (arith, long) in
+    ap (λ (w : Rolling). last_samples w.past w.samples) is ∙ ap (λ k. drop k numbers) none
+
+-- ---- the phase behind the kept samples
+
+-- as it is read
+pub phase-read : (read z : ℤ) → read ≡ z → pos 0 ≤ℤ z → pos (nat_abs read) ≡ z
+phase-read read (pos k) is low = ap (λ t. pos (nat_abs t)) is
+phase-read read (negsuc k) is low = absurd (omega (arith, ints, low))
+
+-- and behind the others
+pub with-last : (numbers : List ℤ) (last : ℕ) → length numbers ≡ last + 1 → take last numbers ++ sample numbers last ∷ [] ≡ numbers
+with-last numbers last whole = sym (take_more numbers last (pos 0) (omega (arith, whole))) ∙ take_all (last + 1) numbers (omega (arith, whole))

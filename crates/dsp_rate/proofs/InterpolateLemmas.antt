@@ -46,6 +46,21 @@ phase-apart factor i k phase small other same = other (ap (λ n. n % factor) sam
 pub whole-taps : (factor taps : ℕ) → taps % factor ≡ 0 → taps ≡ taps / factor * factor
 whole-taps factor taps whole = omega (arith, div-add-mod' taps factor, whole)
 
+-- there are taps for each phase, and no fewer taps than phases
+pub phase-some : (factor taps : ℕ) → taps % factor ≡ 0 → 1 ≤ taps → 1 ≤ taps / factor
+phase-some factor taps whole some = times (taps / factor) factor taps (whole-taps factor taps whole) some
+  where
+    times : (q f t : ℕ) → t ≡ q * f → 1 ≤ t → 1 ≤ q
+    times zero f t is some = absurd (omega (arith, is, some))
+    times (suc q) f t is some = omega arith
+
+pub phases-within : (factor taps : ℕ) → taps % factor ≡ 0 → 1 ≤ taps → factor ≤ taps
+phases-within factor taps whole some = times (taps / factor) factor taps (whole-taps factor taps whole) some
+  where
+    times : (q f t : ℕ) → t ≡ q * f → 1 ≤ t → f ≤ t
+    times zero f t is some = absurd (omega (arith, is, some))
+    times (suc q) f t is some = omega (arith, is)
+
 -- the taps of a phase lie within
 pub place-row : (factor count phase : ℕ) → phase < factor → phase * count + count ≤ count * factor
 place-row factor count phase small =

@@ -1,10 +1,10 @@
 -- The product of two samples is small enough for 64 bits.
-use Rattle.std.proofs.Common.{◌-◌, ◌*◌, ◌^◌, ◌≤◌, ℤ, ◌*ℤ◌, SFits, arith, lit<}
+use Rattle.std.proofs.Common.{◌-◌, ◌*◌, ◌^◌, ◌≤◌, ℤ, ◌*ℤ◌, SFits, arith}
 use Rattle.std.specs.Prelude.{FitsSigned, nat_abs}
-use Rattle.std.specs.Int.{w8, w16, w32, w64}
+use Rattle.std.specs.Int.{w8, w16, w32}
 use Rattle.std.proofs.lemmas.Int.{unsigned_abs-mul}
 use Rattle.std.proofs.Math.Nat.{mul-le-mul}
-use Rattle.dsp_sat.proofs.Words.{abs_within, product_fits}
+use Rattle.dsp_sat.proofs.Words.{abs_within}
 use Rattle.dsp_defs.specs.Formats.{word, word_bits}
 use Rattle.dsp_defs.specs.declared.format.Fmt.{Fmt}
 use Rattle.dsp_defs.specs.declared.format.Fmt.TheVariants.{Q7, Q15, Q31}
@@ -19,7 +19,3 @@ pub word-in-32 : (format : Fmt) (z : ℤ) → FitsSigned (word format) z → SFi
 word-in-32 Q7 z f = record { sfits = omega (arith, f.sfits) }
 word-in-32 Q15 z f = record { sfits = omega (arith, f.sfits) }
 word-in-32 Q31 z f = f
-
--- the product of two numbers of the word, as one of 64 bits
-pub product-in-64 : (format : Fmt) (a b : ℤ) → FitsSigned (word format) a → FitsSigned (word format) b → SFits w64 (a *ℤ b)
-product-in-64 format a b f g = product_fits w64 w32 w32 a b (word-in-32 format a f) (word-in-32 format b g) (lit< tt)

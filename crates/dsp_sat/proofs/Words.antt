@@ -1,7 +1,7 @@
 -- Numbers of a width: their products and shifts, and wrapping by a Euclidean remainder.
-use Rattle.std.proofs.Common.{◌≡◌, pow_mono, ◌∙◌, ap, ℕ, ◌%◌, ◌≤ℤ◌, ◌+◌, ◌*◌, ◌≤◌, ◌<◌, ℤ, pos, negsuc, ◌^◌, ◌*ℤ◌, to_z, of_z, SFits, unsigned_abs, arith}
-use Rattle.std.specs.Int.{Width, int_wrap, int_rem_euclid}
-use Rattle.std.proofs.lemmas.Int.{to_z-of_z, fits_signed_mul, unsigned_abs-mul, wrapping_mul_is, int_wrap_fits, ints}
+use Rattle.std.proofs.Common.{◌≡◌, pow_mono, ◌∙◌, ap, refl, sym, subst, ℕ, ◌%◌, ◌≤ℤ◌, ◌+◌, ◌*◌, ◌≤◌, ◌<◌, ℤ, pos, negsuc, ◌^◌, ◌*ℤ◌, to_z, of_z, SFits, unsigned_abs, arith}
+use Rattle.std.specs.Int.{Width, int_wrap, int_rem_euclid, int_min, int_max}
+use Rattle.std.proofs.lemmas.Int.{to_z-of_z, fits_signed_mul, unsigned_abs-mul, wrapping_mul_is, int_wrap_fits, ints, clamps}
 use Rattle.std.proofs.Math.Pow.{shr_lt}
 use Rattle.std.proofs.Math.Nat.{mul-le-mul}
 use mir.Val.{bits as bits_of, hbits}
@@ -78,3 +78,56 @@ shift_down-is w z value amount places fits is_value is_places =
     ∙ to_z-of_z w (shr_z z (2 ^ amount)) (shift_down_fits w z (2 ^ amount) fits)
     ∙ ap (λ t. t >> amount) is_value
     ∙ ap (λ t. value >> t) is_places
+
+-- a number of one width, read at a wider one
+pub widened : (w u : Width) (n z : ℤ) → SFits u z → SFits w n → n ≡ to_z u (of_z u z) → to_z w (of_z w n) ≡ z
+widened w u n z fits_z fits_n is = to_z-of_z w n fits_n ∙ is ∙ to_z-of_z u z fits_z
+
+-- the product of two numbers, each read at a wider width
+pub wide_fits :
+    (w u v : Width) (m n a b : ℤ) → to_z w (of_z w m) ≡ a → to_z w (of_z w n) ≡ b → SFits u a → SFits v b → 2 ^ hbits u * 2 ^ hbits v < 2 ^ hbits w →
+    SFits w (to_z w (of_z w m) *ℤ to_z w (of_z w n))
+wide_fits w u v m n a b is_a is_b fits_a fits_b room =
+    subst (SFits w) (λ i. sym is_a i *ℤ sym is_b i) (product_fits w u v a b fits_a fits_b room)
+
+pub wide-is :
+    (w u v : Width) (m n a b : ℤ) → to_z w (of_z w m) ≡ a → to_z w (of_z w n) ≡ b → SFits u a → SFits v b → 2 ^ hbits u * 2 ^ hbits v < 2 ^ hbits w →
+    to_z w (of_z w (to_z w (of_z w m) *ℤ to_z w (of_z w n))) ≡ a *ℤ b
+wide-is w u v m n a b is_a is_b fits_a fits_b room =
+    ap (λ z. to_z w (of_z w z)) (λ i. is_a i *ℤ is_b i) ∙ to_z-of_z w (a *ℤ b) (product_fits w u v a b fits_a fits_b room)
+
+-- a sum of a width, shifted down to be closed
+pub sum_shift-is :
+    (w : Width) (sum : ℤ) (k : ℕ) → SFits w sum → to_z w (of_z w (shr_z (to_z w (of_z w sum)) (2 ^ k))) ≡ (wrap w sum >> k)
+sum_shift-is w sum k fits = shift_down-is w sum (wrap w sum) k k fits (sym (int_wrap_fits w sum fits)) refl
+
+-- the high word of a product of two words of 32 bits is at least -2^30
+pub high_low : (z : ℤ) → unsigned_abs z ≤ 4611686018427387904 → negsuc 1073741823 ≤ℤ shr_z z 4294967296
+high_low (pos n) small = omega (arith, ints)
+high_low (negsuc n) small = omega (arith, ints)
+
+-- the lesser and the greater of two numbers, whichever comes first
+int_min-comm : (x y : ℤ) → int_min x y ≡ int_min y x
+int_min-comm x y = omega (arith, ints, clamps)
+
+int_max-comm : (x y : ℤ) → int_max x y ≡ int_max y x
+int_max-comm x y = omega (arith, ints, clamps)
+
+-- `x.max(low).min(high)` at a width
+pub clip-is :
+    (w : Width) (x low high most least : ℤ) → SFits w x → SFits w low → SFits w high → SFits w most → SFits w least →
+    most ≡ int_max (to_z w (of_z w x)) (to_z w (of_z w low)) → least ≡ int_min (to_z w (of_z w most)) (to_z w (of_z w high)) →
+    to_z w (of_z w least) ≡ int_min high (int_max low x)
+clip-is w x low high most least fits_x fits_low fits_high fits_most fits_least is_most is_least =
+    to_z-of_z w least fits_least
+    ∙ is_least
+    ∙ (λ i. int_min (to_z-of_z w most fits_most i) (to_z-of_z w high fits_high i))
+    ∙ int_min-comm most high
+    ∙ ap (int_min high) (is_most ∙ (λ i. int_max (to_z-of_z w x fits_x i) (to_z-of_z w low fits_low i)) ∙ int_max-comm x low)
+
+-- the product of two numbers of a width, shifted down at a wider one
+pub product_shift-is :
+    (w u : Width) (a b p : ℤ) (k : ℕ) → SFits u a → SFits u b → SFits w p → p ≡ to_z u (of_z u a) *ℤ to_z u (of_z u b) →
+    to_z w (of_z w (shr_z (to_z w (of_z w p)) (2 ^ k))) ≡ (a *ℤ b >> k)
+product_shift-is w u a b p k fits_a fits_b fits_p is =
+    shift_down-is w p (a *ℤ b) k k fits_p (is ∙ (λ i. to_z-of_z u a fits_a i *ℤ to_z-of_z u b fits_b i)) refl

@@ -16,18 +16,51 @@ pub struct Row {
     pub channels: Option<u8>,
 }
 
-impl Row {
-    /// A block that works on each channel, or that takes any number of them, wants none.
-    fn new(name: &'static str, formats: Formats, channels: Option<u8>) -> Row
-        ensures name { result.name.now ≡ name.now }
-        ensures formats { result.formats ≡ formats }
-        ensures channels { result.channels ≡ channels }
-    {
-        Row {
-            name,
-            formats,
-            channels,
-        }
+/// What the row of a block has, in the order of its fields. A block that works on each channel, or
+/// that takes any number of them, wants none.
+fn fields_of(word: Word) -> (&'static str, Formats, Option<u8>)
+    ensures { (result.0.now ≡ (row_of word).name) × (result.1 ≡ (row_of word).formats)
+        × (result.2 ≡ (row_of word).channels) }
+{
+    match word {
+        Word::Offset => ("offset", Formats::All, None),
+        Word::Negate => ("negate", Formats::All, None),
+        Word::Abs => ("abs", Formats::All, None),
+        Word::Scale => ("scale", Formats::All, None),
+        Word::Shift => ("shift", Formats::All, None),
+        Word::Clip => ("clip", Formats::All, None),
+        Word::To => ("to", Formats::All, None),
+        Word::Add => ("add", Formats::All, Some(2)),
+        Word::Sub => ("sub", Formats::All, Some(2)),
+        Word::Mult => ("mult", Formats::All, Some(2)),
+        Word::Conj => ("cmplx_conj", Formats::NotQ7, Some(2)),
+        Word::CmplxMult => ("cmplx_mult", Formats::NotQ7, Some(4)),
+        Word::CmplxMultReal => ("cmplx_mult_real", Formats::OnlyQ15, Some(3)),
+        Word::MagSquared => ("cmplx_mag_squared", Formats::NotQ7, Some(2)),
+        Word::Fir => ("fir", Formats::All, None),
+        Word::Sparse => ("sparse", Formats::All, None),
+        Word::Decimate => ("decimate", Formats::NotQ7, None),
+        Word::Interpolate => ("interpolate", Formats::NotQ7, None),
+        Word::LatticeFir => ("lattice_fir", Formats::OnlyQ15, None),
+        Word::LatticeIir => ("lattice_iir", Formats::NotQ7, None),
+        Word::Biquad => ("biquad", Formats::NotQ7, None),
+        Word::Biquad64 => ("biquad64", Formats::OnlyQ31, None),
+        Word::Conv => ("conv", Formats::All, None),
+        Word::ConvPartial => ("conv_partial", Formats::All, None),
+        Word::Correlate => ("correlate", Formats::All, None),
+        Word::Lms => ("lms", Formats::NotQ7, Some(2)),
+        Word::Pid => ("pid", Formats::NotQ7, None),
+        Word::MatAdd => ("mat_add", Formats::NotQ7, None),
+        Word::MatSub => ("mat_sub", Formats::NotQ7, None),
+        Word::MatScale => ("mat_scale", Formats::NotQ7, None),
+        Word::MatTrans => ("mat_trans", Formats::NotQ7, None),
+        Word::MatMult => ("mat_mult", Formats::OnlyQ15, None),
+        Word::Power => ("power", Formats::All, None),
+        Word::Dot => ("dot", Formats::All, Some(2)),
+        Word::CmplxDot => ("cmplx_dot", Formats::NotQ7, Some(4)),
+        Word::Max => ("max", Formats::All, None),
+        Word::Min => ("min", Formats::All, None),
+        Word::Route => ("route", Formats::All, None),
     }
 }
 
@@ -37,45 +70,11 @@ pub fn row_of(word: Word) -> Row
     ensures formats { result.formats ≡ (row_of word).formats }
     ensures channels { result.channels ≡ (row_of word).channels }
 {
-    match word {
-        Word::Offset => Row::new("offset", Formats::All, None),
-        Word::Negate => Row::new("negate", Formats::All, None),
-        Word::Abs => Row::new("abs", Formats::All, None),
-        Word::Scale => Row::new("scale", Formats::All, None),
-        Word::Shift => Row::new("shift", Formats::All, None),
-        Word::Clip => Row::new("clip", Formats::All, None),
-        Word::To => Row::new("to", Formats::All, None),
-        Word::Add => Row::new("add", Formats::All, Some(2)),
-        Word::Sub => Row::new("sub", Formats::All, Some(2)),
-        Word::Mult => Row::new("mult", Formats::All, Some(2)),
-        Word::Conj => Row::new("cmplx_conj", Formats::NotQ7, Some(2)),
-        Word::CmplxMult => Row::new("cmplx_mult", Formats::NotQ7, Some(4)),
-        Word::CmplxMultReal => Row::new("cmplx_mult_real", Formats::OnlyQ15, Some(3)),
-        Word::MagSquared => Row::new("cmplx_mag_squared", Formats::NotQ7, Some(2)),
-        Word::Fir => Row::new("fir", Formats::All, None),
-        Word::Sparse => Row::new("sparse", Formats::All, None),
-        Word::Decimate => Row::new("decimate", Formats::NotQ7, None),
-        Word::Interpolate => Row::new("interpolate", Formats::NotQ7, None),
-        Word::LatticeFir => Row::new("lattice_fir", Formats::OnlyQ15, None),
-        Word::LatticeIir => Row::new("lattice_iir", Formats::NotQ7, None),
-        Word::Biquad => Row::new("biquad", Formats::NotQ7, None),
-        Word::Biquad64 => Row::new("biquad64", Formats::OnlyQ31, None),
-        Word::Conv => Row::new("conv", Formats::All, None),
-        Word::ConvPartial => Row::new("conv_partial", Formats::All, None),
-        Word::Correlate => Row::new("correlate", Formats::All, None),
-        Word::Lms => Row::new("lms", Formats::NotQ7, Some(2)),
-        Word::Pid => Row::new("pid", Formats::NotQ7, None),
-        Word::MatAdd => Row::new("mat_add", Formats::NotQ7, None),
-        Word::MatSub => Row::new("mat_sub", Formats::NotQ7, None),
-        Word::MatScale => Row::new("mat_scale", Formats::NotQ7, None),
-        Word::MatTrans => Row::new("mat_trans", Formats::NotQ7, None),
-        Word::MatMult => Row::new("mat_mult", Formats::OnlyQ15, None),
-        Word::Power => Row::new("power", Formats::All, None),
-        Word::Dot => Row::new("dot", Formats::All, Some(2)),
-        Word::CmplxDot => Row::new("cmplx_dot", Formats::NotQ7, Some(4)),
-        Word::Max => Row::new("max", Formats::All, None),
-        Word::Min => Row::new("min", Formats::All, None),
-        Word::Route => Row::new("route", Formats::All, None),
+    let (name, formats, channels) = fields_of(word);
+    Row {
+        name,
+        formats,
+        channels,
     }
 }
 

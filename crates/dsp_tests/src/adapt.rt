@@ -10,12 +10,12 @@ fn pid_keeps<M: Ledger>(rt: &impl Abort, steps: &mut Steps<M>) {
     let mut output = [7i16; 3];
     let mut kept = [0i64; 3];
     let mut pid = Pid15::new(-27827, -1468, -1, 2).expect(rt, "a controller");
-    assert_eq!(rt; pid.room(2), 2);
-    assert_eq!(rt; pid.process(&[32767, 16384], &mut output, steps), 2);
-    assert_eq!(rt; output, [-29296, -16116, 7]);
-    assert_eq!(rt; pid.kept_count(), 3);
+    assert_same!(rt; pid.room(2), 2);
+    assert_same!(rt; pid.process(&[32767, 16384], &mut output, steps), 2);
+    assert_same!(rt; output, [-29296, -16116, 7]);
+    assert_same!(rt; pid.kept_count(), 3);
     pid.keep(&mut kept);
-    assert_eq!(rt; kept, [16384, 32767, -16116]);
+    assert_same!(rt; kept, [16384, 32767, -16116]);
 }
 
 /// Another controller goes on from what that one kept.
@@ -25,9 +25,9 @@ fn pid_goes_on<M: Ledger>(rt: &impl Abort, steps: &mut Steps<M>) {
     let mut pid = Pid15::new(-27827, -1468, -1, 2).expect(rt, "a controller");
     assert!(rt; pid.fits(&kept));
     pid.restore(&kept);
-    assert_eq!(rt; pid.process(&[-32767, -32768], &mut output, steps), 2);
-    assert_eq!(rt; output, [27092, 28559, 7]);
-    assert_eq!(rt; pid.finish(&mut output, steps), 0);
+    assert_same!(rt; pid.process(&[-32767, -32768], &mut output, steps), 2);
+    assert_same!(rt; output, [27092, 28559, 7]);
+    assert_same!(rt; pid.finish(&mut output, steps), 0);
     assert!(rt; pid.is_ended());
 }
 
@@ -35,8 +35,8 @@ fn pid_goes_on<M: Ledger>(rt: &impl Abort, steps: &mut Steps<M>) {
 fn pid_wraps<M: Ledger>(rt: &impl Abort, steps: &mut Steps<M>) {
     let mut output = [0i32; 4];
     let mut pid = Pid31::new(i32::MAX - 1, i32::MIN, i32::MAX, 4).expect(rt, "a controller");
-    assert_eq!(rt; pid.process(&[i32::MIN; 4], &mut output, steps), 4);
-    assert_eq!(rt; output, [-2147483645, -2147483643, 8, -2147483637]);
+    assert_same!(rt; pid.process(&[i32::MIN; 4], &mut output, steps), 4);
+    assert_same!(rt; output, [-2147483645, -2147483643, 8, -2147483637]);
 }
 
 /// An adaptive filter keeps its last input and its weights. Its taps stand from the last weight to the
@@ -47,10 +47,10 @@ fn lms_keeps<M: Ledger>(rt: &impl Abort, alloc: Global, steps: &mut Steps<M>) {
     let mut kept = [0i64; 3];
     let mut lms = Lms15::new(alloc, 0, 16384, &[8192, 16384], 2).expect(rt, "a filter");
     lms.process(&[16384, 0], &[8192, 12288], &mut output, &mut error, steps);
-    assert_eq!(rt; (output, error), ([8192, 4096], [0, 8192]));
-    assert_eq!(rt; lms.kept_count(), 3);
+    assert_same!(rt; (output, error), ([8192, 4096], [0, 8192]));
+    assert_same!(rt; lms.kept_count(), 3);
     lms.keep(&mut kept);
-    assert_eq!(rt; kept, [0, 16384, 10240]);
+    assert_same!(rt; kept, [0, 16384, 10240]);
 }
 
 /// Another adaptive filter goes on from what that one kept.
@@ -62,7 +62,7 @@ fn lms_goes_on<M: Ledger>(rt: &impl Abort, alloc: Global, steps: &mut Steps<M>) 
     assert!(rt; lms.fits(&kept));
     lms.restore(&kept);
     lms.process(&[16384], &[8192], &mut output, &mut error, steps);
-    assert_eq!(rt; (output, error), ([8192], [0]));
+    assert_same!(rt; (output, error), ([8192], [0]));
 }
 
 /// An adaptive filter comes nearer to its reference, and its error wraps.
@@ -71,12 +71,12 @@ fn lms_adapts<M: Ledger>(rt: &impl Abort, alloc: Global, steps: &mut Steps<M>) {
     let mut error = [7i16; 2];
     let mut lms = Lms15::new(alloc, 0, 16384, &[0], 2).expect(rt, "a filter");
     lms.process(&[16384; 2], &[8192; 2], &mut output, &mut error, steps);
-    assert_eq!(rt; (output, error), ([0, 1024], [8192, 7168]));
+    assert_same!(rt; (output, error), ([0, 1024], [8192, 7168]));
     let mut output = [7i32];
     let mut error = [7i32];
     let mut lms = Lms31::new(alloc, 0, 1073741824, &[0], 1).expect(rt, "a filter");
     lms.process(&[i32::MAX], &[i32::MIN], &mut output, &mut error, steps);
-    assert_eq!(rt; (output, error), ([0], [i32::MIN]));
+    assert_same!(rt; (output, error), ([0], [i32::MIN]));
 }
 
 /// The calls that count their products.
@@ -92,10 +92,10 @@ pub(crate) fn counted<M: Ledger>(rt: &impl Abort, alloc: Global, steps: &mut Ste
 #[test]
 fn gains_and_faults(rt: HostRuntime) {
     let pid = Pid15::new(16384, 0, 32767, 4).expect(&rt, "a controller");
-    assert_eq!(rt; pid.gains(), (32767, -32768, 32767));
+    assert_same!(rt; pid.gains(), (32767, -32768, 32767));
     assert!(rt; !pid.fits(&[0, 0, 32768]) && !pid.fits(&[0, 0]));
     let pid = Pid31::new(-2147483648, 2147483647, -2147483648, 4).expect(&rt, "a controller");
-    assert_eq!(rt; pid.gains(), (-2147483648, -2147483648, -2147483648));
+    assert_same!(rt; pid.gains(), (-2147483648, -2147483648, -2147483648));
     assert!(rt; matches!(Pid15::new(1, 2, 3, 0), Err(MakeFault::Range { value: 0 })));
     assert!(rt;
         matches!(

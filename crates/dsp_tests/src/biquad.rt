@@ -13,12 +13,12 @@ fn keeps<M: Ledger>(rt: &impl Abort, alloc: Global, steps: &mut Steps<M>) {
     let mut output = [7i16; 2];
     let mut kept = [0i64; 8];
     let mut cascade = Biquad15::new(alloc, 0, &TWO_SECTIONS, 1).expect(rt, "a cascade");
-    assert_eq!(rt; cascade.room(1), 1);
-    assert_eq!(rt; cascade.process(&[1000], &mut output, steps), 1);
-    assert_eq!(rt; output, [250, 7]);
-    assert_eq!(rt; cascade.kept_count(), 8);
+    assert_same!(rt; cascade.room(1), 1);
+    assert_same!(rt; cascade.process(&[1000], &mut output, steps), 1);
+    assert_same!(rt; output, [250, 7]);
+    assert_same!(rt; cascade.kept_count(), 8);
     cascade.keep(&mut kept);
-    assert_eq!(rt; kept, [1000, 0, 500, 0, 500, 0, 250, 0]);
+    assert_same!(rt; kept, [1000, 0, 500, 0, 500, 0, 250, 0]);
 }
 
 /// Another cascade goes on from what that one kept.
@@ -28,9 +28,9 @@ fn goes_on<M: Ledger>(rt: &impl Abort, alloc: Global, steps: &mut Steps<M>) {
     let mut cascade = Biquad15::new(alloc, 0, &TWO_SECTIONS, 1).expect(rt, "a cascade");
     assert!(rt; cascade.fits(&kept));
     cascade.restore(&kept);
-    assert_eq!(rt; cascade.process(&[0], &mut output, steps), 1);
-    assert_eq!(rt; output, [125, 7]);
-    assert_eq!(rt; cascade.finish(&mut output, steps), 0);
+    assert_same!(rt; cascade.process(&[0], &mut output, steps), 1);
+    assert_same!(rt; output, [125, 7]);
+    assert_same!(rt; cascade.finish(&mut output, steps), 0);
     assert!(rt; cascade.is_ended());
 }
 
@@ -39,11 +39,11 @@ fn feedback<M: Ledger>(rt: &impl Abort, alloc: Global, steps: &mut Steps<M>) {
     let mut output = [7i32; 4];
     let coefficients = [268435456, 0, 0, 1073741824, 0];
     let mut narrow = Biquad31::new(alloc, 1, &coefficients, 4).expect(rt, "a cascade");
-    assert_eq!(rt; narrow.process(&[1; 4], &mut output, steps), 4);
-    assert_eq!(rt; output, [0; 4]);
+    assert_same!(rt; narrow.process(&[1; 4], &mut output, steps), 4);
+    assert_same!(rt; output, [0; 4]);
     let mut wide = Biquad64::new(alloc, 1, &coefficients, 4).expect(rt, "a cascade");
-    assert_eq!(rt; wide.process(&[1; 4], &mut output, steps), 4);
-    assert_eq!(rt; output, [0, 0, 0, 1]);
+    assert_same!(rt; wide.process(&[1; 4], &mut output, steps), 4);
+    assert_same!(rt; output, [0, 0, 0, 1]);
 }
 
 /// The calls that count their products.

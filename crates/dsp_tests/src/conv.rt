@@ -16,14 +16,14 @@ fn few_turns<M: Ledger>(rt: &impl Abort, alloc: Global, steps: &mut Steps<M>)
 {
     let mut filter = Conv::<i16, 8>::new(alloc, &[16384, 16384], 1).expect(rt, "a convolution");
     let mut output = [7i16; 3];
-    assert_eq!(rt; filter.process(&[2], &mut output, steps), 1);
-    assert_eq!(rt; output, [1, 7, 7]);
-    assert_eq!(rt; filter.process(&[4], &mut output, steps), 1);
-    assert_eq!(rt; output, [3, 7, 7]);
-    assert_eq!(rt; filter.finish(&mut output, steps), 1);
-    assert_eq!(rt; output, [2, 7, 7]);
-    assert_eq!(rt; filter.finish(&mut output, steps), 0);
-    assert_eq!(rt; output, [2, 7, 7]);
+    assert_same!(rt; filter.process(&[2], &mut output, steps), 1);
+    assert_same!(rt; output, [1, 7, 7]);
+    assert_same!(rt; filter.process(&[4], &mut output, steps), 1);
+    assert_same!(rt; output, [3, 7, 7]);
+    assert_same!(rt; filter.finish(&mut output, steps), 1);
+    assert_same!(rt; output, [2, 7, 7]);
+    assert_same!(rt; filter.finish(&mut output, steps), 0);
+    assert_same!(rt; output, [2, 7, 7]);
 }
 
 /// A convolution of four taps, for blocks of two samples.
@@ -40,12 +40,12 @@ fn keeps<M: Ledger>(rt: &impl Abort, alloc: Global, steps: &mut Steps<M>) {
     let mut output = [0i16; 2];
     let mut kept = [0i64; 4];
     let mut filter = of_four_taps(rt, alloc);
-    assert_eq!(rt; (filter.room(2), filter.kept_count()), (2, 4));
+    assert_same!(rt; (filter.room(2), filter.kept_count()), (2, 4));
     filter.keep(&mut kept);
-    assert_eq!(rt; kept, [0, 0, 0, 0]);
+    assert_same!(rt; kept, [0, 0, 0, 0]);
     filter.process(&[2, 4], &mut output, steps);
     filter.keep(&mut kept);
-    assert_eq!(rt; kept, [0, 2, 4, 1]);
+    assert_same!(rt; kept, [0, 2, 4, 1]);
 }
 
 /// Numbers that no such convolution keeps: too few, one that is no sample, and places that it never has.
@@ -64,8 +64,8 @@ fn tail_gives<M: Ledger>(
     steps: &mut Steps<M>,
 ) {
     let mut piece = [7i16; 2];
-    assert_eq!(rt; filter.finish(&mut piece, steps), count);
-    assert_eq!(rt; piece, wanted);
+    assert_same!(rt; filter.finish(&mut piece, steps), count);
+    assert_same!(rt; piece, wanted);
 }
 
 /// A convolution goes on where another one was kept, and its tail comes as it fits.
@@ -75,7 +75,7 @@ fn goes_on<M: Ledger>(rt: &impl Abort, alloc: Global, steps: &mut Steps<M>) {
     assert!(rt; filter.fits(&kept));
     filter.restore(&kept);
     assert!(rt; !filter.is_ended());
-    assert_eq!(rt; filter.finish(&mut [], steps), 0);
+    assert_same!(rt; filter.finish(&mut [], steps), 0);
     assert!(rt; filter.is_ended());
     tail_gives(rt, &mut filter, 2, [1, 2], steps);
     tail_gives(rt, &mut filter, 1, [1, 7], steps);
@@ -88,11 +88,11 @@ fn gathered<M: Ledger>(rt: &impl Abort, alloc: Global, steps: &mut Steps<M>) {
     let mut output = [7i16; 3];
     assert!(rt; correlate.put(&[2, 4]).is_ok() && correlate.put(&[6]).is_ok());
     assert!(rt; !correlate.is_ended());
-    assert_eq!(rt; correlate.finish(&mut output, steps), 3);
-    assert_eq!(rt; output, [0, 0, 1]);
-    assert_eq!(rt; correlate.finish(&mut output, steps), 2);
-    assert_eq!(rt; output, [2, 3, 1]);
-    assert_eq!(rt; correlate.finish(&mut output, steps), 0);
+    assert_same!(rt; correlate.finish(&mut output, steps), 3);
+    assert_same!(rt; output, [0, 0, 1]);
+    assert_same!(rt; correlate.finish(&mut output, steps), 2);
+    assert_same!(rt; output, [2, 3, 1]);
+    assert_same!(rt; correlate.finish(&mut output, steps), 0);
     assert!(rt; correlate.is_ended());
 }
 
@@ -100,15 +100,15 @@ fn gathered<M: Ledger>(rt: &impl Abort, alloc: Global, steps: &mut Steps<M>) {
 fn sliced<M: Ledger>(rt: &impl Abort, steps: &mut Steps<M>) {
     let mut full = [7i16; 3];
     conv_slices(&[2, 4], &[16384, 16384], &mut full, steps);
-    assert_eq!(rt; full, [1, 3, 2]);
+    assert_same!(rt; full, [1, 3, 2]);
     let mut part = [7i16; 2];
     assert!(rt; conv_partial_slices(&[2, 4], &[16384, 16384], 1, &mut part, steps).is_ok());
-    assert_eq!(rt; part, [3, 2]);
+    assert_same!(rt; part, [3, 2]);
     let fault = conv_partial_slices(&[2, 4], &[16384, 16384], 2, &mut part, steps);
-    assert_eq!(rt; fault, Err(WindowFault { end: 4, length: 3 }));
+    assert_same!(rt; fault, Err(WindowFault { end: 4, length: 3 }));
     let mut values = [7i16; 5];
     correlate_slices(&[2, 4, 6], &[16384], &mut values, steps);
-    assert_eq!(rt; values, [0, 0, 1, 2, 3]);
+    assert_same!(rt; values, [0, 0, 1, 2, 3]);
 }
 
 /// A part of a convolution gives its window alone, here the values behind the first.
@@ -117,23 +117,23 @@ fn part<M: Ledger>(rt: &impl Abort, alloc: Global, steps: &mut Steps<M>) {
     let mut filter = ConvPartial::<i16, 8>::new(alloc, 1, 2, &[16384, 16384], 2).expect(
         rt, "a part",
     );
-    assert_eq!(rt; filter.process(&[2, 4], &mut output, steps), 1);
-    assert_eq!(rt; output, [3, 7]);
-    assert_eq!(rt; filter.finish(&mut output, steps), 1);
-    assert_eq!(rt; output, [2, 7]);
-    assert_eq!(rt; filter.finish(&mut output, steps), 0);
+    assert_same!(rt; filter.process(&[2, 4], &mut output, steps), 1);
+    assert_same!(rt; output, [3, 7]);
+    assert_same!(rt; filter.finish(&mut output, steps), 1);
+    assert_same!(rt; output, [2, 7]);
+    assert_same!(rt; filter.finish(&mut output, steps), 0);
 }
 
 /// Convolutions in the other formats.
 fn other_formats<M: Ledger>(rt: &impl Abort, alloc: Global, steps: &mut Steps<M>) {
     let mut bytes = [0i8; 1];
     let mut narrow = Conv::<i8, 16>::new(alloc, &[127], 1).expect(rt, "a convolution");
-    assert_eq!(rt; narrow.process(&[126], &mut bytes, steps), 1);
-    assert_eq!(rt; bytes, [125]);
+    assert_same!(rt; narrow.process(&[126], &mut bytes, steps), 1);
+    assert_same!(rt; bytes, [125]);
     let mut words = [0i32; 3];
     let mut wide = Conv::<i32, 4>::new(alloc, &[i32::MIN, i32::MIN], 3).expect(rt, "a convolution");
-    assert_eq!(rt; wide.process(&[i32::MIN, i32::MIN], &mut words, steps), 2);
-    assert_eq!(rt; words, [i32::MIN, 0, 0]);
+    assert_same!(rt; wide.process(&[i32::MIN, i32::MIN], &mut words, steps), 2);
+    assert_same!(rt; words, [i32::MIN, 0, 0]);
 }
 
 /// The calls that count their products.
@@ -195,11 +195,11 @@ fn full_gather(rt: HostRuntime) {
     for _ in 0..MAX_GATHERED / 4096 {
         assert!(rt; gather.put(&[5; 4096]).is_ok());
     }
-    assert_eq!(rt; gather.slice().len(), MAX_GATHERED);
+    assert_same!(rt; gather.slice().len(), MAX_GATHERED);
     let fault = GatherFull {
         held: 1048576,
         more: 1,
     };
-    assert_eq!(rt; gather.put(&[5]), Err(fault));
+    assert_same!(rt; gather.put(&[5]), Err(fault));
     assert!(rt; gather.put(&[]).is_ok());
 }

@@ -16,8 +16,8 @@ const THREE_QUARTERS: [i16; 37] = [
 fn long_block<M: Ledger>(rt: &impl Abort, alloc: Global, steps: &mut Steps<M>) {
     let mut output = [0i16; 37];
     let mut fir = Fir::<i16, 8>::new(alloc, &[8192; 3], 37).expect(rt, "a filter");
-    assert_eq!(rt; fir.process(&[1024; 37], &mut output, steps), 37);
-    assert_eq!(rt; output, THREE_QUARTERS);
+    assert_same!(rt; fir.process(&[1024; 37], &mut output, steps), 37);
+    assert_same!(rt; output, THREE_QUARTERS);
 }
 
 fn long_sparse_block<M: Ledger>(rt: &impl Abort, alloc: Global, steps: &mut Steps<M>) {
@@ -25,8 +25,8 @@ fn long_sparse_block<M: Ledger>(rt: &impl Abort, alloc: Global, steps: &mut Step
     let mut sparse = Sparse::<i16, 8>::new(alloc, &[8192; 3], &[2, 0, 1], 37).expect(
         rt, "a filter",
     );
-    assert_eq!(rt; sparse.process(&[1024; 37], &mut output, steps), 37);
-    assert_eq!(rt; output, THREE_QUARTERS);
+    assert_same!(rt; sparse.process(&[1024; 37], &mut output, steps), 37);
+    assert_same!(rt; output, THREE_QUARTERS);
 }
 
 /// A sample by three taps takes three turns, and no samples take none.
@@ -35,11 +35,11 @@ fn few_turns<M: Ledger>(rt: &impl Abort, alloc: Global, steps: &mut Steps<M>)
 {
     let mut filter = Fir::<i16, 8>::new(alloc, &[16384, 0, 8192], 1).expect(rt, "a filter");
     let mut output = [7, 7];
-    assert_eq!(rt; filter.room(1), 1);
-    assert_eq!(rt; filter.process(&[4], &mut output, steps), 1);
-    assert_eq!(rt; output, [1, 7]);
-    assert_eq!(rt; filter.process(&[], &mut output, steps), 0);
-    assert_eq!(rt; output, [1, 7]);
+    assert_same!(rt; filter.room(1), 1);
+    assert_same!(rt; filter.process(&[4], &mut output, steps), 1);
+    assert_same!(rt; output, [1, 7]);
+    assert_same!(rt; filter.process(&[], &mut output, steps), 0);
+    assert_same!(rt; output, [1, 7]);
 }
 
 /// A FIR filter keeps the last samples.
@@ -48,10 +48,10 @@ fn fir_keeps<M: Ledger>(rt: &impl Abort, alloc: Global, steps: &mut Steps<M>) {
     let mut kept = [0i64; 1];
     let mut filter = Fir::<i16, 8>::new(alloc, &[8192, 16384], 2).expect(rt, "a filter");
     filter.process(&[4, 8], &mut output, steps);
-    assert_eq!(rt; output, [2, 5]);
-    assert_eq!(rt; filter.kept_count(), 1);
+    assert_same!(rt; output, [2, 5]);
+    assert_same!(rt; filter.kept_count(), 1);
     filter.keep(&mut kept);
-    assert_eq!(rt; kept, [8]);
+    assert_same!(rt; kept, [8]);
 }
 
 /// Another FIR filter goes on from what that one kept.
@@ -61,15 +61,15 @@ fn fir_goes_on<M: Ledger>(rt: &impl Abort, alloc: Global, steps: &mut Steps<M>) 
     assert!(rt; filter.fits(&[8]));
     filter.restore(&[8]);
     filter.process(&[0], &mut output, steps);
-    assert_eq!(rt; output, [2]);
+    assert_same!(rt; output, [2]);
 }
 
 /// A FIR filter keeps as many numbers as its past has samples, each of its format, and has no tail.
 fn fir_ends<M: Ledger>(rt: &impl Abort, alloc: Global, steps: &mut Steps<M>) {
     let mut filter = Fir::<i16, 8>::new(alloc, &[8192, 16384], 2).expect(rt, "a filter");
-    assert_eq!(rt; filter.kept_count(), 1);
+    assert_same!(rt; filter.kept_count(), 1);
     assert!(rt; !filter.fits(&[32768]) && !filter.fits(&[]));
-    assert_eq!(rt;
+    assert_same!(rt;
         (filter.finish(&mut [], steps), filter.is_ended()),
         (0, true)
     );
@@ -89,11 +89,11 @@ fn sparse_keeps<M: Ledger>(rt: &impl Abort, alloc: Global, steps: &mut Steps<M>)
     let mut output = [0i16; 2];
     let mut kept = [0i64; 1];
     let mut filter = of_two_delays(rt, alloc);
-    assert_eq!(rt; (filter.kept_count(), filter.room(2)), (1, 2));
+    assert_same!(rt; (filter.kept_count(), filter.room(2)), (1, 2));
     filter.process(&[16384, 16385], &mut output, steps);
-    assert_eq!(rt; output, [9975, -6121]);
+    assert_same!(rt; output, [9975, -6121]);
     filter.keep(&mut kept);
-    assert_eq!(rt; kept, [16385]);
+    assert_same!(rt; kept, [16385]);
 }
 
 /// Another sparse filter goes on from what that one kept.
@@ -104,14 +104,14 @@ fn sparse_goes_on<M: Ledger>(rt: &impl Abort, alloc: Global, steps: &mut Steps<M
     assert!(rt; filter.fits(&kept));
     filter.restore(&kept);
     filter.process(&[32767], &mut output, steps);
-    assert_eq!(rt; output, [3851, 0]);
+    assert_same!(rt; output, [3851, 0]);
 }
 
 /// A sparse filter takes no number of another format, and has no tail.
 fn sparse_ends<M: Ledger>(rt: &impl Abort, alloc: Global, steps: &mut Steps<M>) {
     let mut filter = Sparse::<i16, 8>::new(alloc, &[1, 2], &[0, 1], 2).expect(rt, "a filter");
     assert!(rt; !filter.fits(&[-32769]) && !filter.is_ended());
-    assert_eq!(rt;
+    assert_same!(rt;
         (filter.finish(&mut [], steps), filter.is_ended()),
         (0, true)
     );
@@ -121,12 +121,12 @@ fn sparse_ends<M: Ledger>(rt: &impl Abort, alloc: Global, steps: &mut Steps<M>) 
 fn other_formats<M: Ledger>(rt: &impl Abort, alloc: Global, steps: &mut Steps<M>) {
     let mut words = [0i32; 2];
     let mut wide = Fir::<i32, 4>::new(alloc, &[i32::MIN; 2], 2).expect(rt, "a filter");
-    assert_eq!(rt; wide.process(&[i32::MIN; 2], &mut words, steps), 2);
-    assert_eq!(rt; words, [i32::MIN, 0]);
+    assert_same!(rt; wide.process(&[i32::MIN; 2], &mut words, steps), 2);
+    assert_same!(rt; words, [i32::MIN, 0]);
     let mut bytes = [0i8; 2];
     let mut narrow = Fir::<i8, 16>::new(alloc, &[-128; 2], 2).expect(rt, "a filter");
-    assert_eq!(rt; narrow.process(&[-128; 2], &mut bytes, steps), 2);
-    assert_eq!(rt; bytes, [127, 127]);
+    assert_same!(rt; narrow.process(&[-128; 2], &mut bytes, steps), 2);
+    assert_same!(rt; bytes, [127, 127]);
 }
 
 /// The sum of a sparse filter has 32 bits.
@@ -134,7 +134,7 @@ fn sparse_sum<M: Ledger>(rt: &impl Abort, alloc: Global, steps: &mut Steps<M>) {
     let mut output = [0i16; 2];
     let mut sparse = Sparse::<i16, 8>::new(alloc, &[-32768; 2], &[0, 1], 2).expect(rt, "a filter");
     sparse.process(&[-32768; 2], &mut output, steps);
-    assert_eq!(rt; output, [32767, -32768]);
+    assert_same!(rt; output, [32767, -32768]);
 }
 
 /// And that of a FIR filter 64.
@@ -142,7 +142,7 @@ fn fir_sum<M: Ledger>(rt: &impl Abort, alloc: Global, steps: &mut Steps<M>) {
     let mut output = [0i16; 2];
     let mut fir = Fir::<i16, 8>::new(alloc, &[-32768; 2], 2).expect(rt, "a filter");
     fir.process(&[-32768; 2], &mut output, steps);
-    assert_eq!(rt; output, [32767, 32767]);
+    assert_same!(rt; output, [32767, 32767]);
 }
 
 /// The calls that count their products.

@@ -11,16 +11,16 @@ use std::sync::ledger::Ledger;
 fn q7_row(rt: HostRuntime) {
     let mut out = [0i8; 5];
     Lanes::<i8, 16>::negate(&[1, 0, 127, -128, 126], &mut out);
-    assert_eq!(rt; out, [-1, 0, -127, 127, -126]);
+    assert_same!(rt; out, [-1, 0, -127, 127, -126]);
     Lanes::<i8, 16>::abs(&[127, 63, -128, 127, 1], &mut out);
-    assert_eq!(rt; out, [127, 63, 127, 127, 1]);
+    assert_same!(rt; out, [127, 63, 127, 127, 1]);
     Lanes::<i8, 16>::clip(&[-128, 127, 0, 126, 126], 126, 127, &mut out);
-    assert_eq!(rt; out, [126, 127, 126, 126, 126]);
+    assert_same!(rt; out, [126, 127, 126, 126, 126]);
     let mut three = [0i8; 3];
     Lanes::<i8, 16>::shift(&[104, 11, -92], 1, &mut three);
-    assert_eq!(rt; three, [127, 22, -128]);
+    assert_same!(rt; three, [127, 22, -128]);
     Lanes::<i8, 16>::add(&[-4, -28, -52], &[-128, 51, -17], &mut three);
-    assert_eq!(rt; three, [-128, 23, -69]);
+    assert_same!(rt; three, [-128, 23, -69]);
 }
 
 #[test]
@@ -29,22 +29,22 @@ fn q15_row(rt: HostRuntime) {
     let a = [-32767, 32767, 32767, -32768, -32767, 32767];
     let b = [-32768, -32768, 0, 32767, -32767, -32767];
     Lanes::<i16, 8>::add(&a, &b, &mut out);
-    assert_eq!(rt; out, [-32768, -1, 32767, -1, -32768, 0]);
+    assert_same!(rt; out, [-32768, -1, 32767, -1, -32768, 0]);
     let mut five = [0i16; 5];
     Lanes::<i16, 8>::offset(&[32767, 1, -32768, -32767, 16384], 24909, &mut five);
-    assert_eq!(rt; five, [32767, 24910, -7859, -7858, 32767]);
+    assert_same!(rt; five, [32767, 24910, -7859, -7858, 32767]);
     let mut three = [0i16; 3];
     Lanes::<i16, 8>::sub(&[32767, 32767, 32767], &[-32768, 16384, -32768], &mut three);
-    assert_eq!(rt; three, [32767, 16383, 32767]);
+    assert_same!(rt; three, [32767, 16383, 32767]);
 }
 
 #[test]
 fn q31_row(rt: HostRuntime) {
     let mut out = [0i32; 4];
     Lanes::<i32, 4>::sub(&[0, 0, 0, 0], &[i32::MAX, i32::MIN, -1, i32::MAX], &mut out);
-    assert_eq!(rt; out, [-2147483647, i32::MAX, 1, -2147483647]);
+    assert_same!(rt; out, [-2147483647, i32::MAX, 1, -2147483647]);
     Lanes::<i32, 4>::shift(&[-1, i32::MIN, i32::MIN, i32::MIN], 31, &mut out);
-    assert_eq!(rt; out, [i32::MIN, i32::MIN, i32::MIN, i32::MIN]);
+    assert_same!(rt; out, [i32::MIN, i32::MIN, i32::MIN, i32::MIN]);
 }
 
 /// Worked products in Q7.
@@ -54,7 +54,7 @@ fn q7_products<M: Ledger>(rt: &impl Abort, steps: &mut Steps<M>)
     let least = [-128i8; 17];
     let mut out = [0i8; 17];
     Lanes::<i8, 16>::mult(&least, &least, &mut out, steps);
-    assert_eq!(rt; out, [127i8; 17]);
+    assert_same!(rt; out, [127i8; 17]);
 }
 
 /// A worked dot product in Q31.
@@ -63,7 +63,7 @@ fn q31_dot<M: Ledger>(rt: &impl Abort, steps: &mut Steps<M>)
 {
     let least = [i32::MIN; 5];
     let sum = Lanes::<i32, 4>::dot(&least, &least, steps);
-    assert_eq!(rt; sum, 4611686018427387904);
+    assert_same!(rt; sum, 4611686018427387904);
 }
 
 /// Worked outputs in Q15.
@@ -72,7 +72,7 @@ fn q15_rows<M: Ledger>(rt: &impl Abort, steps: &mut Steps<M>)
 {
     let mut out = [0i16; 5];
     Lanes::<i16, 4>::rows(&[16384, 16384], &[2, 4, 6, 8, 10, 12], &mut out, steps);
-    assert_eq!(rt; out, [3, 5, 7, 9, 11]);
+    assert_same!(rt; out, [3, 5, 7, 9, 11]);
 }
 
 /// Worked outputs in Q15 of a whole group and a rest, by three taps.
@@ -80,28 +80,28 @@ fn q15_group<M: Ledger>(rt: &impl Abort, steps: &mut Steps<M>) {
     let mut out = [0i16; 9];
     let window = [2, 4, 6, 8, 10, 12, 14, 16, 18, 20, 22];
     Lanes::<i16, 8>::rows(&[16384, 16384, 0], &window, &mut out, steps);
-    assert_eq!(rt; out, [3, 5, 7, 9, 11, 13, 15, 17, 19]);
+    assert_same!(rt; out, [3, 5, 7, 9, 11, 13, 15, 17, 19]);
 }
 
 /// Worked products by a factor, and terms of a sparse filter.
 fn q15_factors<M: Ledger>(rt: &impl Abort, steps: &mut Steps<M>) {
     let mut out = [0i16; 2];
     Lanes::<i16, 8>::scale(&[32766, 32766], -32768, 15, &mut out, steps);
-    assert_eq!(rt; out, [-32768, -32768]);
+    assert_same!(rt; out, [-32768, -32768]);
     let mut sums = [2147418113i64, 0];
     Lanes::<i16, 8>::delayed(32767, &[32767, 1], &mut sums, steps);
-    assert_eq!(rt; sums, [-1073872894, 32767]);
+    assert_same!(rt; sums, [-1073872894, 32767]);
 }
 
 /// Worked outputs by a form of each format: whole groups, two at a time, and one output more.
 fn halves_of_sums<M: Ledger>(rt: &impl Abort, steps: &mut Steps<M>) {
     let mut seventh = [0i8; 33];
     Lanes::<i8, 16>::rows(&[64, 64], &[2i8; 34], &mut seventh, steps);
-    assert_eq!(rt; seventh, [2i8; 33]);
+    assert_same!(rt; seventh, [2i8; 33]);
     let mut last = [0i32; 9];
     let window = [2, 4, 6, 8, 10, 12, 14, 16, 18, 20];
     Lanes::<i32, 4>::rows(&[1 << 30, 1 << 30], &window, &mut last, steps);
-    assert_eq!(rt; last, [3, 5, 7, 9, 11, 13, 15, 17, 19]);
+    assert_same!(rt; last, [3, 5, 7, 9, 11, 13, 15, 17, 19]);
 }
 
 /// Two products of the least number come to 2^31, which 32 bits do not hold.
@@ -109,9 +109,9 @@ fn q15_least<M: Ledger>(rt: &impl Abort, steps: &mut Steps<M>) {
     let least = [i16::MIN; 18];
     let mut out = [0i16; 17];
     Lanes::<i16, 8>::rows(&[i16::MIN, i16::MIN], &least, &mut out, steps);
-    assert_eq!(rt; out, [i16::MAX; 17]);
+    assert_same!(rt; out, [i16::MAX; 17]);
     let sum = Lanes::<i16, 8>::dot(&[i16::MIN; 9], &[i16::MIN; 9], steps);
-    assert_eq!(rt; sum, 9663676416);
+    assert_same!(rt; sum, 9663676416);
 }
 
 /// Weights that grow, a group and a rest of them, some to the ends.
@@ -119,10 +119,10 @@ fn grown_weights<M: Ledger>(rt: &impl Abort, steps: &mut Steps<M>) {
     let mut weights = [32767i16, -32768, 0, 100, 0, 0, 0, 0, 5];
     let window = [-32768i16, 32767, 2, -3, 32767, 1, 0, 4, -32768];
     update_weights(-32768, &window, &mut weights, steps);
-    assert_eq!(rt; weights, [32767, -32768, -2, 103, -32767, -1, 0, -4, 32767]);
+    assert_same!(rt; weights, [32767, -32768, -2, 103, -32767, -1, 0, -4, 32767]);
     let mut longer = [0, i32::MAX, i32::MIN, 7, 1];
     update_weights(1 << 30, &[8, i32::MAX, i32::MIN, -1, 4], &mut longer, steps);
-    assert_eq!(rt; longer, [4, i32::MAX, i32::MIN, 5, 3]);
+    assert_same!(rt; longer, [4, i32::MAX, i32::MIN, 5, 3]);
 }
 
 /// Every second output, four at a time and one more, by narrow taps, and by the least ones.
@@ -130,13 +130,13 @@ fn every_second<M: Ledger>(rt: &impl Abort, steps: &mut Steps<M>) {
     let mut out = [0i16; 5];
     let window = [2i16, 4, 6, 8, 10, 12, 14, 16, 18, 20];
     Lanes::<i16, 8>::strided_rows(&[16384, 16384], &window, 0, 2, &mut out, steps);
-    assert_eq!(rt; out, [3, 7, 11, 15, 19]);
+    assert_same!(rt; out, [3, 7, 11, 15, 19]);
     Lanes::<i16, 8>::strided_rows(&[i16::MIN; 9], &[i16::MIN; 17], 0, 2, &mut out, steps);
-    assert_eq!(rt; out, [i16::MAX; 5]);
+    assert_same!(rt; out, [i16::MAX; 5]);
     let mut last = [0i32; 5];
     let longer = [2, 4, 6, 8, 10, 12, 14, 16, 18, 20];
     Lanes::<i32, 4>::strided_rows(&[1 << 30, 1 << 30], &longer, 0, 2, &mut last, steps);
-    assert_eq!(rt; last, [3, 7, 11, 15, 19]);
+    assert_same!(rt; last, [3, 7, 11, 15, 19]);
 }
 
 /// Nothing is counted for no samples.

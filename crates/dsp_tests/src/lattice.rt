@@ -10,8 +10,8 @@ fn long_block<M: Ledger>(rt: &impl Abort, alloc: Global, steps: &mut Steps<M>) {
     let mut lattice = FirLattice15::new(alloc, &[0, -32768], 600).expect(rt, "a lattice");
     let mut output = [0i16; 601];
     let count = lattice.process(&[1; 600], &mut output, steps);
-    assert_eq!(rt; (count, output[1], output[2], output[257]), (600, 1, 0, 0));
-    assert_eq!(rt; (output[0], output[599], output[600]), (1, 0, 0));
+    assert_same!(rt; (count, output[1], output[2], output[257]), (600, 1, 0, 0));
+    assert_same!(rt; (output[0], output[599], output[600]), (1, 0, 0));
 }
 
 /// A lattice keeps a number a section.
@@ -19,12 +19,12 @@ fn fir_keeps<M: Ledger>(rt: &impl Abort, alloc: Global, steps: &mut Steps<M>) {
     let mut output = [7i16; 2];
     let mut kept = [0i64; 1];
     let mut lattice = FirLattice15::new(alloc, &[16384], 2).expect(rt, "a lattice");
-    assert_eq!(rt; lattice.room(1), 1);
-    assert_eq!(rt; lattice.process(&[1000], &mut output, steps), 1);
-    assert_eq!(rt; output, [1000, 7]);
-    assert_eq!(rt; lattice.kept_count(), 1);
+    assert_same!(rt; lattice.room(1), 1);
+    assert_same!(rt; lattice.process(&[1000], &mut output, steps), 1);
+    assert_same!(rt; output, [1000, 7]);
+    assert_same!(rt; lattice.kept_count(), 1);
     lattice.keep(&mut kept);
-    assert_eq!(rt; kept, [1000]);
+    assert_same!(rt; kept, [1000]);
 }
 
 /// Another lattice goes on from what that one kept.
@@ -34,9 +34,9 @@ fn fir_goes_on<M: Ledger>(rt: &impl Abort, alloc: Global, steps: &mut Steps<M>) 
     assert!(rt; !lattice.fits(&[]) && !lattice.fits(&[-32769]));
     assert!(rt; lattice.fits(&[1000]));
     lattice.restore(&[1000]);
-    assert_eq!(rt; lattice.process(&[0], &mut output, steps), 1);
-    assert_eq!(rt; output, [500, 7]);
-    assert_eq!(rt; lattice.finish(&mut output, steps), 0);
+    assert_same!(rt; lattice.process(&[0], &mut output, steps), 1);
+    assert_same!(rt; output, [500, 7]);
+    assert_same!(rt; lattice.finish(&mut output, steps), 0);
     assert!(rt; lattice.is_ended());
 }
 
@@ -48,12 +48,12 @@ fn iir_keeps<M: Ledger>(rt: &impl Abort, alloc: Global, steps: &mut Steps<M>) {
         rt,
         "a lattice",
     );
-    assert_eq!(rt; lattice.room(1), 1);
-    assert_eq!(rt; lattice.process(&[1000], &mut output, steps), 1);
-    assert_eq!(rt; output, [500, 7]);
-    assert_eq!(rt; lattice.kept_count(), 1);
+    assert_same!(rt; lattice.room(1), 1);
+    assert_same!(rt; lattice.process(&[1000], &mut output, steps), 1);
+    assert_same!(rt; output, [500, 7]);
+    assert_same!(rt; lattice.kept_count(), 1);
     lattice.keep(&mut kept);
-    assert_eq!(rt; kept, [1000]);
+    assert_same!(rt; kept, [1000]);
 }
 
 /// And another one goes on from that.
@@ -66,9 +66,9 @@ fn iir_goes_on<M: Ledger>(rt: &impl Abort, alloc: Global, steps: &mut Steps<M>) 
     assert!(rt; !lattice.fits(&[0, 0]));
     assert!(rt; lattice.fits(&[1000]));
     lattice.restore(&[1000]);
-    assert_eq!(rt; lattice.process(&[0], &mut output, steps), 1);
-    assert_eq!(rt; output, [-250, 7]);
-    assert_eq!(rt; lattice.finish(&mut output, steps), 0);
+    assert_same!(rt; lattice.process(&[0], &mut output, steps), 1);
+    assert_same!(rt; output, [-250, 7]);
+    assert_same!(rt; lattice.finish(&mut output, steps), 0);
     assert!(rt; lattice.is_ended());
 }
 
@@ -79,8 +79,8 @@ fn ladder<M: Ledger>(rt: &impl Abort, alloc: Global, steps: &mut Steps<M>) {
         rt,
         "a lattice",
     );
-    assert_eq!(rt; lattice.process(&[2, -1], &mut output, steps), 2);
-    assert_eq!(rt; output, [1, -1]);
+    assert_same!(rt; lattice.process(&[2, -1], &mut output, steps), 2);
+    assert_same!(rt; output, [1, -1]);
 }
 
 /// The calls that count their products.

@@ -1,6 +1,15 @@
 //! Callers of the blocks' crates: what to write to use them, and tests.
 #![tactic(auto)]
 
+/// Ends the test where what was found is not what is wanted, and shows both. It is a call, since all that
+/// `assert_eq!` writes would be proved again at each place.
+#[cfg(test)]
+macro_rules! assert_same {
+    ($rt:expr; $found:expr, $wanted:expr) => {
+        crate::same::same(&$rt, &$found, &$wanted)
+    };
+}
+
 #[cfg(test)]
 mod adapt;
 #[cfg(test)]
@@ -23,6 +32,8 @@ mod matrix;
 mod measure;
 #[cfg(test)]
 mod rate;
+#[cfg(test)]
+mod same;
 #[cfg(test)]
 mod sat;
 #[cfg(test)]

@@ -9,14 +9,14 @@ fn a_line_of_all_pieces(rt: HostRuntime) {
     natural(&mut line, 18446744073709551615);
     text(&mut line, b" ");
     integer(&mut line, -7);
-    assert_eq!(rt; line.as_slice(), b"a 18446744073709551615 -7".as_slice());
+    assert_same!(rt; line.as_slice(), b"a 18446744073709551615 -7".as_slice());
 }
 
 #[test]
 fn a_wide_number_fills_its_line(rt: HostRuntime) {
     let mut line = ArrayVec::<u8, 39>::new();
     wide_natural(&mut line, 340282366920938463463374607431768211455);
-    assert_eq!(rt;
+    assert_same!(rt;
         line.as_slice(),
         b"340282366920938463463374607431768211455".as_slice()
     );

@@ -18,12 +18,12 @@ fn sums<M: Ledger>(rt: &impl Abort, alloc: Global, steps: &mut Steps<M>) {
     };
     let mut filter = Grouped::<i16>::new(alloc, op, 3).expect(rt, "a filter");
     let mut output = [7i16; 4];
-    assert_eq!(rt; filter.room(3), 4);
-    assert_eq!(rt; filter.process(&[1, 2, 3], &mut output, steps), 2);
-    assert_eq!(rt; output, [2, 32767, 7, 7]);
-    assert_eq!(rt; filter.process(&[4, 5], &mut output, steps), 2);
-    assert_eq!(rt; output, [4, 32767, 7, 7]);
-    assert_eq!(rt;
+    assert_same!(rt; filter.room(3), 4);
+    assert_same!(rt; filter.process(&[1, 2, 3], &mut output, steps), 2);
+    assert_same!(rt; output, [2, 32767, 7, 7]);
+    assert_same!(rt; filter.process(&[4, 5], &mut output, steps), 2);
+    assert_same!(rt; output, [4, 32767, 7, 7]);
+    assert_same!(rt;
         (filter.finish(&mut output, steps), filter.is_ended()),
         (0, true)
     );
@@ -35,9 +35,9 @@ fn turned<M: Ledger>(rt: &impl Abort, alloc: Global, steps: &mut Steps<M>) {
     let op = GroupOp::Trans { rows, columns };
     let mut filter = Grouped::<i32>::new(alloc, op, 4).expect(rt, "a filter");
     let mut output = [0i32; 8];
-    assert_eq!(rt; filter.room(4), 8);
-    assert_eq!(rt; filter.process(&[1, 2, 3, 4], &mut output, steps), 4);
-    assert_eq!(rt; output, [1, 3, 2, 4, 0, 0, 0, 0]);
+    assert_same!(rt; filter.room(4), 8);
+    assert_same!(rt; filter.process(&[1, 2, 3, 4], &mut output, steps), 4);
+    assert_same!(rt; output, [1, 3, 2, 4, 0, 0, 0, 0]);
 }
 
 /// Products of groups of two, of which the open one is kept.
@@ -45,11 +45,11 @@ fn products<M: Ledger>(rt: &impl Abort, alloc: Global, steps: &mut Steps<M>) {
     let mut output = [7i16; 2];
     let mut kept = [0i64; 1];
     let mut filter = GroupedMult::new(alloc, 1, 2, 1, &[16384, 16384], 3).expect(rt, "a filter");
-    assert_eq!(rt; filter.room(3), 2);
-    assert_eq!(rt; filter.process(&[2, 4, 6], &mut output, steps), 1);
-    assert_eq!(rt; (output, filter.kept_count()), ([3, 7], 1));
+    assert_same!(rt; filter.room(3), 2);
+    assert_same!(rt; filter.process(&[2, 4, 6], &mut output, steps), 1);
+    assert_same!(rt; (output, filter.kept_count()), ([3, 7], 1));
     filter.keep(&mut kept);
-    assert_eq!(rt; kept, [6]);
+    assert_same!(rt; kept, [6]);
 }
 
 /// Another filter goes on from the open group.
@@ -60,20 +60,20 @@ fn products_go_on<M: Ledger>(rt: &impl Abort, alloc: Global, steps: &mut Steps<M
     assert!(rt; !filter.fits(&[0, 0]) && !filter.fits(&[32768]));
     assert!(rt; filter.fits(&kept));
     filter.restore(&kept);
-    assert_eq!(rt; filter.room(2), 2);
-    assert_eq!(rt; filter.process(&[8, 10], &mut output, steps), 1);
-    assert_eq!(rt; output, [7, 7]);
+    assert_same!(rt; filter.room(2), 2);
+    assert_same!(rt; filter.process(&[8, 10], &mut output, steps), 1);
+    assert_same!(rt; output, [7, 7]);
 }
 
 /// The slice calls.
 fn slices<M: Ledger>(rt: &impl Abort, steps: &mut Steps<M>) {
     let mut out = [0i16; 4];
     mat_add(&[1, 2, 3, 32767], &[4, 3, 2, 1], &mut out);
-    assert_eq!(rt; out, [5, 5, 5, 32767]);
+    assert_same!(rt; out, [5, 5, 5, 32767]);
     mat_sub(&[1, 2, 3, -32768], &[4, 3, 2, 1], &mut out);
-    assert_eq!(rt; out, [-3, -1, 1, -32768]);
+    assert_same!(rt; out, [-3, -1, 1, -32768]);
     mat_scale(&[4, 6, 8, -10], 16384, 1, &mut out, steps);
-    assert_eq!(rt; out, [4, 6, 8, -10]);
+    assert_same!(rt; out, [4, 6, 8, -10]);
     mat_mult(
         &[1, 2, 3, 4],
         &[16384, 0, 0, 32767],
@@ -83,10 +83,10 @@ fn slices<M: Ledger>(rt: &impl Abort, steps: &mut Steps<M>) {
         &mut out,
         steps,
     );
-    assert_eq!(rt; out, [0, 1, 1, 3]);
+    assert_same!(rt; out, [0, 1, 1, 3]);
     let mut turned = [0i32; 6];
     mat_trans(&[1, 2, 3, 4, 5, 6], 2, 3, &mut turned);
-    assert_eq!(rt; turned, [1, 4, 2, 5, 3, 6]);
+    assert_same!(rt; turned, [1, 4, 2, 5, 3, 6]);
 }
 
 /// The calls that count their products.

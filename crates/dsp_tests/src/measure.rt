@@ -13,7 +13,7 @@ fn lines_of_measures(rt: HostRuntime) {
         channel: 0,
         value: 25,
     };
-    assert_eq!(rt;
+    assert_same!(rt;
         line(&power).as_slice(),
         b"power 1 channel 0 = 25\n".as_slice()
     );
@@ -22,7 +22,7 @@ fn lines_of_measures(rt: HostRuntime) {
         channel: 0,
         found: Some((3, 0)),
     };
-    assert_eq!(rt;
+    assert_same!(rt;
         line(&found).as_slice(),
         b"max 2 channel 0 = 3 at 0\n".as_slice()
     );
@@ -31,7 +31,7 @@ fn lines_of_measures(rt: HostRuntime) {
         channel: 15,
         found: None,
     };
-    assert_eq!(rt;
+    assert_same!(rt;
         line(&none).as_slice(),
         b"min 12 channel 15 = none\n".as_slice()
     );
@@ -39,13 +39,13 @@ fn lines_of_measures(rt: HostRuntime) {
         number: 3,
         value: -4,
     };
-    assert_eq!(rt; line(&dot).as_slice(), b"dot 3 = -4\n".as_slice());
+    assert_same!(rt; line(&dot).as_slice(), b"dot 3 = -4\n".as_slice());
     let sums = Measure::CmplxDot {
         number: 4,
         re: -1,
         im: 7,
     };
-    assert_eq!(rt; line(&sums).as_slice(), b"cmplx_dot 4 = -1 7\n".as_slice());
+    assert_same!(rt; line(&sums).as_slice(), b"cmplx_dot 4 = -1 7\n".as_slice());
 }
 
 /// Takes a signal in two pieces, the second after the sum was kept and restored, and compares its power.
@@ -59,14 +59,14 @@ fn power_is<T: MeasureSample, L: Ledger>(
     let mut first = Power::<T>::new();
     first.put(front, steps);
     let mut kept = [0i64; 1];
-    assert_eq!(rt; first.kept_count(), 1);
+    assert_same!(rt; first.kept_count(), 1);
     first.keep(&mut kept);
     let mut second = Power::<T>::new();
     assert!(rt; !second.fits(&[]));
     assert!(rt; second.fits(&kept));
     second.restore(&kept);
     second.put(rest, steps);
-    assert_eq!(rt; second.value(), wanted);
+    assert_same!(rt; second.value(), wanted);
 }
 
 fn powers<L: Ledger>(rt: &impl Abort, steps: &mut Steps<L>) {
@@ -97,13 +97,13 @@ fn dot_is<T: MeasureSample, L: Ledger>(
     let mut first = Dot::<T>::new();
     first.put(front.0, front.1, steps);
     let mut kept = [0i64; 1];
-    assert_eq!(rt; first.kept_count(), 1);
+    assert_same!(rt; first.kept_count(), 1);
     first.keep(&mut kept);
     let mut second = Dot::<T>::new();
     assert!(rt; !second.fits(&[]) && second.fits(&kept));
     second.restore(&kept);
     second.put(rest.0, rest.1, steps);
-    assert_eq!(rt; second.value(), wanted);
+    assert_same!(rt; second.value(), wanted);
 }
 
 fn dots<L: Ledger>(rt: &impl Abort, steps: &mut Steps<L>) {
@@ -135,7 +135,7 @@ fn complex_dots<L: Ledger>(rt: &impl Abort, steps: &mut Steps<L>) {
     first.put(&[16384, 0], &[16384, 0], steps);
     assert!(rt; first.value() == (4194304, 0));
     let mut kept = [0i64; 2];
-    assert_eq!(rt; first.kept_count(), 2);
+    assert_same!(rt; first.kept_count(), 2);
     first.keep(&mut kept);
     let mut second = CmplxDot::<i16>::new();
     assert!(rt; second.fits(&kept) && !second.fits(&[0]));
@@ -152,7 +152,7 @@ fn extremes_of_signals(rt: HostRuntime) {
     assert!(rt; least.value().is_none());
     least.put(&[-128, 5]);
     let mut kept = [0i64; 4];
-    assert_eq!(rt; least.kept_count(), 4);
+    assert_same!(rt; least.kept_count(), 4);
     least.keep(&mut kept);
     assert!(rt; kept == [1, -128, 0, 2]);
     let mut greatest = Max::<i8>::new();

@@ -22,11 +22,11 @@ fn keeps<M: Ledger>(rt: &impl Abort, alloc: Global, steps: &mut Steps<M>) {
     let mut output = [7i16; 3];
     let mut kept = [0i64; 2];
     let mut filter = by_two(rt, alloc);
-    assert_eq!(rt; (filter.room(3), filter.kept_count()), (2, 2));
-    assert_eq!(rt; filter.process(&[2, 4, 6], &mut output, steps), 1);
-    assert_eq!(rt; output, [1, 7, 7]);
+    assert_same!(rt; (filter.room(3), filter.kept_count()), (2, 2));
+    assert_same!(rt; filter.process(&[2, 4, 6], &mut output, steps), 1);
+    assert_same!(rt; output, [1, 7, 7]);
     filter.keep(&mut kept);
-    assert_eq!(rt; kept, [6, 1]);
+    assert_same!(rt; kept, [6, 1]);
 }
 
 /// Numbers that no such decimator keeps: too few, one that is no sample, and groups that are not open.
@@ -43,14 +43,14 @@ fn goes_on<M: Ledger>(rt: &impl Abort, alloc: Global, steps: &mut Steps<M>) {
     let mut filter = by_two(rt, alloc);
     assert!(rt; filter.fits(&kept));
     filter.restore(&kept);
-    assert_eq!(rt; filter.process(&[8], &mut output, steps), 1);
-    assert_eq!(rt; output, [3, 7, 7]);
-    assert_eq!(rt; filter.process(&[10], &mut output, steps), 0);
-    assert_eq!(rt;
+    assert_same!(rt; filter.process(&[8], &mut output, steps), 1);
+    assert_same!(rt; output, [3, 7, 7]);
+    assert_same!(rt; filter.process(&[10], &mut output, steps), 0);
+    assert_same!(rt;
         (filter.finish(&mut output, steps), filter.is_ended()),
         (0, true)
     );
-    assert_eq!(rt; output, [3, 7, 7]);
+    assert_same!(rt; output, [3, 7, 7]);
 }
 
 /// A value by three taps takes three turns at eight lanes, and an open group takes none.
@@ -66,7 +66,7 @@ fn few_turns<M: Ledger>(rt: &impl Abort, alloc: Global, steps: &mut Steps<M>)
     filter.process(&[4], &mut output, steps);
     filter.process(&[5], &mut output, steps);
     filter.process(&[6], &mut output, steps);
-    assert_eq!(rt; output, [1, 7]);
+    assert_same!(rt; output, [1, 7]);
 }
 
 /// Two values for each sample: the last tap, then the one before it.
@@ -75,13 +75,13 @@ fn phases<M: Ledger>(rt: &impl Abort, alloc: Global, steps: &mut Steps<M>) {
     let mut output = [7i16; 5];
     let mut kept = [0i64; 1];
     let mut first = Interpolate::<i16, 8>::new(alloc, 2, &taps, 2).expect(rt, "an interpolator");
-    assert_eq!(rt; first.room(2), 4);
-    assert_eq!(rt; first.process(&[4, 8], &mut output, steps), 4);
-    assert_eq!(rt; output, [2, 1, 6, 2, 7]);
-    assert_eq!(rt; first.kept_count(), 1);
+    assert_same!(rt; first.room(2), 4);
+    assert_same!(rt; first.process(&[4, 8], &mut output, steps), 4);
+    assert_same!(rt; output, [2, 1, 6, 2, 7]);
+    assert_same!(rt; first.kept_count(), 1);
     first.keep(&mut kept);
-    assert_eq!(rt; kept, [8]);
-    assert_eq!(rt;
+    assert_same!(rt; kept, [8]);
+    assert_same!(rt;
         (first.finish(&mut output, steps), first.is_ended()),
         (0, true)
     );
@@ -98,8 +98,8 @@ fn phases_go_on<M: Ledger>(rt: &impl Abort, alloc: Global, steps: &mut Steps<M>)
     assert!(rt; !second.fits(&[]) && !second.fits(&[32768]));
     assert!(rt; second.fits(&kept));
     second.restore(&kept);
-    assert_eq!(rt; second.process(&[0], &mut output, steps), 2);
-    assert_eq!(rt; output, [4, 0, 7]);
+    assert_same!(rt; second.process(&[0], &mut output, steps), 2);
+    assert_same!(rt; output, [4, 0, 7]);
 }
 
 pub(crate) fn counted<M: Ledger>(rt: &impl Abort, alloc: Global, steps: &mut Steps<M>) {

@@ -45,7 +45,7 @@ fn pairs<T: Sample, M: Ledger>(rt: &impl Abort, rows: &[(T, T, [i32; 3])], steps
         let sum = T::add(*a, *b).number();
         let difference = T::sub(*a, *b).number();
         let product = T::mult(*a, *b, steps).number();
-        assert_eq!(rt; [sum, difference, product], *wanted);
+        assert_same!(rt; [sum, difference, product], *wanted);
     }
 }
 
@@ -77,7 +77,7 @@ const ALONE_31: [(i32, [i32; 2]); 5] = [
 fn alone<T: Sample>(rt: &impl Abort, rows: &[(T, [i32; 2])]) {
     for (x, wanted) in rows {
         let made = [T::negate(*x).number(), T::abs(*x).number()];
-        assert_eq!(rt; made, *wanted);
+        assert_same!(rt; made, *wanted);
     }
 }
 
@@ -90,7 +90,7 @@ fn clipped<T: Sample>(rt: &impl Abort, xs: [T; 3], low: T, high: T, wanted: [i32
         T::clip(xs[1], low, high).number(),
         T::clip(xs[2], low, high).number(),
     ];
-    assert_eq!(rt; made, wanted);
+    assert_same!(rt; made, wanted);
 }
 
 #[test]
@@ -123,7 +123,7 @@ fn shifted_samples(rt: HostRuntime) {
         (9, 0, 9),
     ] {
         assert!(rt; -7 <= places && places <= 7);
-        assert_eq!(rt; i8::shift(x, places), wanted);
+        assert_same!(rt; i8::shift(x, places), wanted);
     }
     for (x, places, wanted) in [
         (1000, 5, 32000),
@@ -137,7 +137,7 @@ fn shifted_samples(rt: HostRuntime) {
         (7, 0, 7),
     ] {
         assert!(rt; -15 <= places && places <= 15);
-        assert_eq!(rt; i16::shift(x, places), wanted);
+        assert_same!(rt; i16::shift(x, places), wanted);
     }
     for (x, places, wanted) in [
         (1, 30, 1073741824),
@@ -151,7 +151,7 @@ fn shifted_samples(rt: HostRuntime) {
         (5, 0, 5),
     ] {
         assert!(rt; -31 <= places && places <= 31);
-        assert_eq!(rt; i32::shift(x, places), wanted);
+        assert_same!(rt; i32::shift(x, places), wanted);
     }
 }
 
@@ -168,7 +168,7 @@ fn scaled<M: Ledger>(rt: &impl Abort, steps: &mut Steps<M>) {
         (127, 127, -8, 0),
     ] {
         assert!(rt; -8 <= places && places <= 7);
-        assert_eq!(rt; i8::scale(x, fract, places, steps), wanted);
+        assert_same!(rt; i8::scale(x, fract, places, steps), wanted);
     }
     for (x, fract, places, wanted) in [
         (20000, 16384, 0, 10000),
@@ -181,7 +181,7 @@ fn scaled<M: Ledger>(rt: &impl Abort, steps: &mut Steps<M>) {
         (32767, 32767, -16, 0),
     ] {
         assert!(rt; -16 <= places && places <= 15);
-        assert_eq!(rt; i16::scale(x, fract, places, steps), wanted);
+        assert_same!(rt; i16::scale(x, fract, places, steps), wanted);
     }
 }
 
@@ -202,7 +202,7 @@ fn scaled_words<M: Ledger>(rt: &impl Abort, steps: &mut Steps<M>) {
         (65536, -65536, 30, i32::MIN),
     ] {
         assert!(rt; -31 <= places && places <= 30);
-        assert_eq!(rt; i32::scale(x, fract, places, steps), wanted);
+        assert_same!(rt; i32::scale(x, fract, places, steps), wanted);
     }
 }
 
@@ -214,7 +214,7 @@ fn wide_products<M: Ledger>(rt: &impl Abort, steps: &mut Steps<M>) {
         (-1, 1, -1),
         (i64::MIN, i32::MIN, 4611686018427387904),
     ] {
-        assert_eq!(rt; mult32x64(y, a, steps), wanted);
+        assert_same!(rt; mult32x64(y, a, steps), wanted);
     }
 }
 
@@ -238,7 +238,7 @@ fn saturated_numbers(rt: HostRuntime) {
         (i32::MAX, 127),
         (i32::MIN, -128),
     ] {
-        assert_eq!(rt; sat8(value), wanted);
+        assert_same!(rt; sat8(value), wanted);
     }
     for (value, wanted) in [
         (32767, 32767),
@@ -248,7 +248,7 @@ fn saturated_numbers(rt: HostRuntime) {
         (i64::MAX, 32767),
         (i64::MIN, -32768),
     ] {
-        assert_eq!(rt; sat16(value), wanted);
+        assert_same!(rt; sat16(value), wanted);
     }
     for (value, wanted) in [
         (1073741823, 1073741823),
@@ -258,7 +258,7 @@ fn saturated_numbers(rt: HostRuntime) {
         (i64::MAX, 1073741823),
         (i64::MIN, -1073741824),
     ] {
-        assert_eq!(rt; sat31(value), wanted);
+        assert_same!(rt; sat31(value), wanted);
     }
     for (value, wanted) in [
         (2147483647, i32::MAX),
@@ -268,7 +268,7 @@ fn saturated_numbers(rt: HostRuntime) {
         (i128::MAX, i32::MAX),
         (i128::MIN, i32::MIN),
     ] {
-        assert_eq!(rt; sat32(value), wanted);
+        assert_same!(rt; sat32(value), wanted);
     }
 }
 
@@ -284,7 +284,7 @@ fn wrapped_numbers(rt: HostRuntime) {
         (-32769, 32767),
         (i64::MIN, 0),
     ] {
-        assert_eq!(rt; wrap16(value), wanted);
+        assert_same!(rt; wrap16(value), wanted);
     }
     for (value, wanted) in [
         (2147483647, i32::MAX),
@@ -294,8 +294,8 @@ fn wrapped_numbers(rt: HostRuntime) {
         (-2147483648, i32::MIN),
         (-2147483649, i32::MAX),
     ] {
-        assert_eq!(rt; wrap32(i128::from(value)), wanted);
-        assert_eq!(rt; low_word(value), wanted);
+        assert_same!(rt; wrap32(i128::from(value)), wanted);
+        assert_same!(rt; low_word(value), wanted);
     }
     for (value, wanted) in [
         (9223372036854775807, i64::MAX),
@@ -305,7 +305,7 @@ fn wrapped_numbers(rt: HostRuntime) {
         (-9223372036854775808, i64::MIN),
         (-9223372036854775809, i64::MAX),
     ] {
-        assert_eq!(rt; wrap64(value), wanted);
+        assert_same!(rt; wrap64(value), wanted);
     }
 }
 
@@ -319,6 +319,6 @@ fn numbers_shifted_down(rt: HostRuntime) {
         (-1, 126, -1),
     ] {
         assert!(rt; places <= 126);
-        assert_eq!(rt; floor_shift(value, places), wanted);
+        assert_same!(rt; floor_shift(value, places), wanted);
     }
 }

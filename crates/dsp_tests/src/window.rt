@@ -7,10 +7,10 @@ fn lends_the_past_and_the_block(rt: HostRuntime) -> Result<(), Fail> {
     let mut window = Window::<i16>::new(rt.alloc(), 2, 4)?;
     window.push_block(&[5, 6, 7]);
     window.push_block(&[8]);
-    assert_eq!(rt; window.slice(), [6, 7, 8].as_slice());
+    assert_same!(rt; window.slice(), [6, 7, 8].as_slice());
     let mut kept = [0; 2];
     window.keep(&mut kept);
-    assert_eq!(rt; kept, [7, 8]);
+    assert_same!(rt; kept, [7, 8]);
     Ok(())
 }
 
@@ -21,7 +21,7 @@ fn goes_on_from_kept_samples(rt: HostRuntime) -> Result<(), Fail> {
     assert!(rt; window.fits(&[7, 8]));
     window.restore(&[7, 8]);
     window.push_block(&[9]);
-    assert_eq!(rt; window.slice(), [7, 8, 9].as_slice());
+    assert_same!(rt; window.slice(), [7, 8, 9].as_slice());
     Ok(())
 }
 
@@ -29,6 +29,6 @@ fn goes_on_from_kept_samples(rt: HostRuntime) -> Result<(), Fail> {
 fn has_no_past_and_no_samples(rt: HostRuntime) -> Result<(), Fail> {
     let mut window = Window::<i16>::new(rt.alloc(), 0, 1)?;
     window.push_block(&[]);
-    assert_eq!(rt; window.slice(), [].as_slice());
+    assert_same!(rt; window.slice(), [].as_slice());
     Ok(())
 }

@@ -3,12 +3,19 @@ use Rattle.std.proofs.Common.{◌≡◌, ◌∙◌, ap, sym, subst, ℕ, ◌+◌
 use Rattle.std.specs.Prelude.{Option}
 use Rattle.std.proofs.lemmas.List.{append-nil, take_more, length-map, get_or-map}
 use Rattle.std.proofs.lemmas.Grind.{flat_map-append}
+use Rattle.std.proofs.lemmas.Nat.{mul-le}
 use Rattle.std.proofs.lemmas.List.Folds.{flat_map-map, length-flat_map-take}
 use Rattle.dsp_stage.specs.Kept.{Fits, FitsAfter, FitsChannel, place_of}
 use Rattle.dsp_stage.specs.Filter.{FilterState, AreFilters, filter_at, no_filter, kept_of_all}
 use Rattle.dsp_stage.specs.Channels.{numbers_in}
 use Rattle.dsp_stage.proofs.ChannelRestores.{fits-channels, channels-fit}
 use Rattle.dsp_defs.specs.declared.format.Fmt.{Fmt}
+
+-- the numbers of a channel lie within those of all channels
+pub piece-room : (n channels c : ℕ) → c < channels → (c + 1) * (n / channels) ≤ n
+piece-room n channels c inside =
+    let most : (c + 1) * (n / channels) ≤ channels * (n / channels) = mul-le (c + 1) (n / channels) channels (n / channels) (omega arith) (omega arith) in
+    omega (arith, most)
 
 module _ {F : Type 0} (filter : F → FilterState) (filters : List F) (i : ℕ) (x : F) (inside : i < length filters) (read : x ≡ get_or filters i x) where
   -- the numbers of one filter stand within those of all

@@ -1,12 +1,13 @@
 -- A unit of filters, one for each channel.
-use Rattle.std.proofs.Common.{◌≡◌, ◌∙◌, sym, subst, ℕ, ◌+◌, ◌-◌, ◌*◌, ◌<◌, ◌≤◌, List, ◌++◌, get_or, length, take, drop, arith}
+use Rattle.std.proofs.Common.{◌≡◌, ◌∙◌, ap, refl, sym, subst, ℕ, ℤ, true, [], ◌+◌, ◌-◌, ◌*◌, ◌<◌, ◌≤◌, List, ◌++◌, get_or, length, take, drop, arith}
 use Rattle.std.specs.Prelude.{All}
 use Rattle.std.proofs.lemmas.List.{take-append-le, take_all}
 use Rattle.std.proofs.Math.Nat.{mul-sub}
 use Rattle.dsp_defs.specs.Shape.{whole_frames, live_frames}
 use Rattle.dsp_stage.specs.Unit.{most_frames}
 use Rattle.dsp_stage.proofs.ChannelLaws.{counts-took}
-use Rattle.dsp_stage.specs.Filter.{FilterState, FilterMadeAs, IsByChannel, IsLike, IsNewFilter, AreFilters, filter_at, filter_room, no_filter}
+use Rattle.dsp_defs.specs.Counts.{Counts}
+use Rattle.dsp_stage.specs.Filter.{FilterState, FilterFinishes, FilterMadeAs, IsByChannel, IsLike, IsNewFilter, AreFilters, filter_at, filter_room, no_filter}
 use Rattle.dsp_defs.specs.declared.format.Fmt.{Fmt}
 use Rattle.dsp_defs.specs.declared.script.Block.{Block}
 
@@ -71,3 +72,25 @@ less-none c = omega arith
 -- and a difference of costs
 pub less-scaled : (c m n a : ℕ) → c * n * a - c * m * a ≡ c * (1 * n * a - 1 * m * a)
 less-scaled c m n a = (λ i. scaled c n a i - scaled c m a i) ∙ sym (mul-sub c (1 * n * a) (1 * m * a))
+
+-- the filters, by the capacity of the first one
+pub are-first : (format : Fmt) (capacity : ℕ) (filters : List FilterState) → AreFilters format capacity filters → AreFilters format (filter_at filters 0).capacity filters
+are-first format capacity filters are =
+    subst (λ k. AreFilters format k filters) (sym (are.alike 0 no_filter (let some = are.some in omega (arith, some))).capacity) are
+
+-- the end of a filter without a tail
+pub finish-nothing : (old new : FilterState) (given : List ℤ) (before after : Counts) → new ≡ record old { ended = true } → old.tail ≡ [] → given ≡ [] → after ≡ before → FilterFinishes old new given before after
+finish-nothing old new given before after is none nothing same =
+    subst (λ (n : FilterState). FilterFinishes old n given before after) (sym is)
+    (subst (λ g. FilterFinishes old (record old { ended = true }) g before after) (sym nothing)
+    (subst (λ (a : Counts). FilterFinishes old (record old { ended = true }) [] before a) (sym same)
+    (record {
+      made = record { block = refl; format = refl; capacity = refl };
+      ended = refl;
+      tail = refl;
+      count = (let long : length old.tail ≡ 0 = ap length none in omega (arith, long));
+      spent = λ _. none;
+      took = λ n t. record { place = t.place; tail_within = t.tail_within };
+      multiplies = λ n t. refl;
+      turns = λ n t. omega arith;
+    })))

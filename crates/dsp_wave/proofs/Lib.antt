@@ -1,3 +1,4 @@
 pub mod SampleBytes
 pub mod GeneratorLemmas
+pub mod FormatLaws
 pub mod ReaderLaws

@@ -1,6 +1,7 @@
 -- A window before and after a block is pushed, over plain lists.
-use Rattle.std.proofs.Common.{◌≡◌, ◌∙◌, ap, sym, ℕ, ◌+◌, ◌-◌, ◌≤◌, ℤ, pos, List, ◌++◌, length, map, take, drop, replicate, arith, length-append, length-drop, length-take-le, take_at}
-use Rattle.std.proofs.lemmas.List.{length-map, length-replicate, drop-take, drop-map, take-map, map-append, take-replicate}
+use Rattle.std.proofs.Common.{◌≡◌, ◌∙◌, ap, sym, ℕ, ◌+◌, ◌-◌, ◌<◌, ◌≤◌, ℤ, pos, List, ◌++◌, length, map, take, drop, replicate, arith, length-append, length-drop, length-take-le, take_at}
+use Rattle.std.proofs.lemmas.List.{length-map, length-replicate, drop-take, drop-map, take-map, map-append, take-replicate, get_or-drop, get_or-take}
+use Rattle.dsp_defs.specs.Signal.{sample}
 use Rattle.dsp_defs.specs.Streaming.{last_of}
 use Rattle.dsp_defs.proofs.Streaming.{last_of-append}
 use Rattle.dsp_window.specs.Rolling.{last_samples}
@@ -19,6 +20,19 @@ last_is number past filled samples within fits =
     ap (map number) (sym (drop-take (filled - past) past samples) ∙ ap (λ m. drop (filled - past) (take m samples)) parts)
     ∙ sym (drop-map number (filled - past) (take filled samples))
     ∙ ap (λ m. drop m (map number (take filled samples))) same
+
+-- and one of them
+pub last_sample_is :
+    {X : Type 0} → (number : X → ℤ) (past filled k : ℕ) (samples : List X) → past ≤ filled → filled ≤ length samples → k < past →
+    sample (map number samples) (filled - past + k) ≡ sample (last_samples past (map number (take filled samples))) k
+last_sample_is number past filled k samples within fits below =
+    let shown = map number (take filled samples) in
+    let long : length shown ≡ filled = length-map (take filled samples) number ∙ length-take-le filled samples fits in
+    let same : length shown - past ≡ filled - past = omega arith in
+    sym (get_or-take filled (map number samples) (filled - past + k) (pos 0) (omega arith))
+    ∙ ap (λ l. sample l (filled - past + k)) (take-map number filled samples)
+    ∙ sym (get_or-drop (filled - past) shown k (pos 0))
+    ∙ ap (λ n. sample (drop n shown) k) (sym same)
 
 -- the last numbers of a window are the last of all that was pushed
 pub last_shows :

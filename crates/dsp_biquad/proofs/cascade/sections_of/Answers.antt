@@ -1,5 +1,6 @@
-use Rattle.std.proofs.Common.{◌≡◌, ◌∙◌, ap, sym, subst, refl, ◌++◌, ◌+◌, ◌*◌, ◌≤◌, ◌<◌, ◌/◌, ◌%◌, ℕ, ℤ, List, [], ◌∷◌, length, length-append, map, take, drop, arith}
+use Rattle.std.proofs.Common.{◌≡◌, ◌∙◌, ap, sym, subst, refl, ◌++◌, ◌+◌, ◌-◌, ◌*◌, ◌≤◌, ◌<◌, ◌/◌, ◌%◌, ℕ, ℤ, List, [], ◌∷◌, length, length-append, map, take, drop, arith, rules}
 use Rattle.std.proofs.lemmas.List.{length-map}
+use Rattle.std.proofs.lemmas.Grind.{common_steps}
 use Rattle.dsp_defs.specs.Streaming.{Behaviour, then, chained}
 use Rattle.dsp_biquad.specs.Sections.{block_acts}
 use Rattle.dsp_biquad.proofs.Cascades.{push-acts, push-kept, push-quiet, next-section, all-sections, piece-numbers}
@@ -11,12 +12,55 @@ section-inside k n size all long below is same = grind arith
 finished : (k size all long : ℕ) → all % size ≡ 0 → all / size ≤ k → long ≡ all → long ≤ k * size
 finished k size all long whole done same = grind arith
 
+piece-size : {X : Type 0} → (at size : ℕ) (xs : List X) → at + size ≤ length xs → length (take (at + size - at) (drop at xs)) ≡ size
+piece-size at size xs h = grind (arith, common_steps)
+
+pub nonzero_div-count : goal.nonzero_div-count
+nonzero_div-count g c = omega (arith, c.SIZE-size.ensures, g.met.S.CascadeSection.some)
+
 pub loop-k-init : goal.loop-k-init
 loop-k-init g c =
     let T = g.T.Sample in
     let none : 0 * g.S.CascadeSection.SIZE ≡ 0 = omega arith in
     let block = λ (n : ℕ). block_acts T.format (g.S.CascadeSection.block c.args.post_shift (drop n (map T.number c.args.coefficients.now))) in
     rw c.in_ok-sections.ensures.items (record { count = refl; acts = ap block none; kept = refl; quiet = refl })
+
+pub overflow_mul-at : goal.overflow_mul-at
+overflow_mul-at g c =
+    let all = length c.args.coefficients.now in
+    let inside : c.loop-k.k * c.SIZE-size.result + c.SIZE-size.result ≤ all = section-inside c.loop-k.k (all / c.SIZE-size.result) c.SIZE-size.result all all c.loop-k-test.true refl refl in
+    search rules
+
+pub overflow_add-at : goal.overflow_add-at
+overflow_add-at g c =
+    let all = length c.args.coefficients.now in
+    let inside : c.loop-k.k * c.SIZE-size.result + c.SIZE-size.result ≤ all = section-inside c.loop-k.k (all / c.SIZE-size.result) c.SIZE-size.result all all c.loop-k-test.true refl refl in
+    search rules
+
+pub slice_bounds-new-end : goal.slice_bounds-new-end
+slice_bounds-new-end g c =
+    let all = length c.args.coefficients.now in
+    let inside : c.loop-k.k * c.SIZE-size.result + c.SIZE-size.result ≤ all = section-inside c.loop-k.k (all / c.SIZE-size.result) c.SIZE-size.result all all c.loop-k-test.true refl refl in
+    search rules
+
+pub slice_bounds-new-count : goal.slice_bounds-new-count
+slice_bounds-new-count g c =
+    let all = length c.args.coefficients.now in
+    let inside : c.loop-k.k * c.SIZE-size.result + c.SIZE-size.result ≤ all = section-inside c.loop-k.k (all / c.SIZE-size.result) c.SIZE-size.result all all c.loop-k-test.true refl refl in
+    search rules
+
+pub slice_bounds-new-start : goal.slice_bounds-new-start
+slice_bounds-new-start g c =
+    let all = length c.args.coefficients.now in
+    let inside : c.loop-k.k * c.SIZE-size.result + c.SIZE-size.result ≤ all = section-inside c.loop-k.k (all / c.SIZE-size.result) c.SIZE-size.result all all c.loop-k-test.true refl refl in
+    search rules
+
+pub new-requires : goal.new-requires
+new-requires g c =
+    let size = c.SIZE-size.result in
+    let all = length c.args.coefficients.now in
+    let inside : c.loop-k.k * size + size ≤ all = section-inside c.loop-k.k (all / size) size all all c.loop-k-test.true refl refl in
+    record { shift = c.requires.shift; size = piece-size (c.loop-k.k * size) size c.args.coefficients.now inside ∙ c.SIZE-size.ensures }
 
 pub loop-k-preserved : goal.loop-k-preserved
 loop-k-preserved g c =
@@ -64,3 +108,13 @@ returns-clause-acts g c =
     let all = length c.args.coefficients.now in
     let done = finished c.loop-k.k S.SIZE all (length numbers) c.requires.whole (subst (λ (n : ℕ). all / n ≤ c.loop-k.k) is c.loop-k-test.false) (length-map c.args.coefficients.now T.number) in
     all-sections (λ l. block_acts T.format (S.block p l)) (S.section p) S.SIZE (g.met.S.CascadeSection.cascade p) numbers (c.loop-k.k * S.SIZE) (chained (map g.S.Machine.acts c.loop-k.sections.items)) (g.met.S.CascadeSection.empty p) done c.loop-k.invariant.acts
+
+pub returns-clause-kept : goal.returns-clause-kept
+returns-clause-kept g c = c.loop-k.invariant.kept
+
+pub returns-clause-count : goal.returns-clause-count
+returns-clause-count g c =
+    let all = length c.args.coefficients.now in
+    let is = c.SIZE-size.ensures in
+    let end : c.loop-k.k ≡ all / c.SIZE-size.result = omega arith in
+    c.loop-k.invariant.count ∙ end ∙ ap (λ n. all / n) is

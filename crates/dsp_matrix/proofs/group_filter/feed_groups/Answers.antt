@@ -1,11 +1,49 @@
-use Rattle.std.proofs.Common.{◌≡◌, ◌∙◌, ◌+◌, ◌-◌, ◌*◌, ◌/◌, ◌<◌, ◌≤◌, ◌++◌, length, map, take, drop, false, true, ap, sym, refl, arith, length-append, length-take-le, take_all, rules}
+use Rattle.std.proofs.Common.{ℕ, ℤ, List, [], ◌∷◌, subst, ◌≡◌, ◌∙◌, ◌+◌, ◌-◌, ◌*◌, ◌/◌, ◌<◌, ◌≤◌, ◌++◌, length, map, take, drop, false, true, ap, sym, refl, arith, length-append, length-take-le, take_all, rules}
 use Rattle.std.proofs.lemmas.List.{length-map}
-use Rattle.dsp_matrix.specs.Groups.{OpenState, given_group, given_groups}
+use Rattle.dsp_lanes.specs.Turns.{RisesWithin}
+use Rattle.dsp_matrix.specs.Groups.{OpenState, given_count, given_group, given_groups, left_open, product_count}
 use Rattle.dsp_matrix.proofs.Filling.{filled-full, completes, rises-then}
 use Rattle.dsp_matrix.proofs.GroupLaws.{fill-short, still-gives, still-open, still-none}
 use Rattle.dsp_matrix.proofs.RowWrites.{rest-further}
 use Rattle.dsp_matrix.proofs.group_filter.feed_groups.Goals as goal
 use Rattle.dsp_matrix.proofs.group_filter.feed_groups.Goals.{Then-not-is_whole}
+
+-- an open group of no samples
+no-samples : (numbers : List ℤ) (count : ℕ) → count ≡ length numbers → count ≡ 0 → numbers ≡ []
+no-samples [] count is none = refl
+no-samples (x ∷ xs) count is none = absurd (omega (arith, is, none))
+
+as-long : (numbers : List ℤ) (count n : ℕ) → count ≡ length numbers → count ≡ 0 → n ≡ length numbers + n
+as-long numbers count n is none = omega arith
+
+pub feed_whole-requires-clause-room : goal.feed_whole-requires-clause-room
+feed_whole-requires-clause-room g c =
+    let of = g.W.GroupWork.group (g.W.GroupWork.block c.args.work.now) in
+    subst (λ n. given_count of n ≤ length c.args.output.now) (sym (as-long c.args.begun.now.numbers c.len.result (length c.args.input.now) c.len.ensures.count c.if-len-eq0.true)) c.requires.room
+
+pub returns-then-len-eq0-clause-given : goal.returns-then-len-eq0-clause-given
+returns-then-len-eq0-clause-given g c =
+    let of = g.W.GroupWork.group (g.W.GroupWork.block c.args.work.now) in
+    c.feed_whole.ensures.given ∙ ap (given_count of) (as-long c.args.begun.now.numbers c.len.result (length c.args.input.now) c.len.ensures.count c.if-len-eq0.true)
+
+pub returns-then-len-eq0-clause-out : goal.returns-then-len-eq0-clause-out
+returns-then-len-eq0-clause-out g c =
+    let of = g.W.GroupWork.group (g.W.GroupWork.block c.args.work.now) in
+    c.feed_whole.ensures.out ∙ ap (λ l. given_groups of (l ++ map g.T.Sample.number c.args.input.now)) (sym (no-samples c.args.begun.now.numbers c.len.result c.len.ensures.count c.if-len-eq0.true))
+
+pub returns-then-len-eq0-clause-begun : goal.returns-then-len-eq0-clause-begun
+returns-then-len-eq0-clause-begun g c =
+    let of = g.W.GroupWork.group (g.W.GroupWork.block c.args.work.now) in
+    let empty = sym (no-samples c.args.begun.now.numbers c.len.result c.len.ensures.count c.if-len-eq0.true) in
+    c.feed_whole.ensures.begun ∙ (λ i. record { size = c.args.begun.now.size; numbers = left_open of (empty i ++ map g.T.Sample.number c.args.input.now) })
+
+pub returns-then-len-eq0-clause-rest : goal.returns-then-len-eq0-clause-rest
+returns-then-len-eq0-clause-rest g c = c.feed_whole.ensures.rest
+
+pub returns-then-len-eq0-clause-steps : goal.returns-then-len-eq0-clause-steps
+returns-then-len-eq0-clause-steps g c =
+    let of = g.W.GroupWork.group (g.W.GroupWork.block c.args.work.now) in
+    subst (λ n. RisesWithin c.args.steps.now c.feed_whole.new.steps (product_count of n) (product_count of n)) (as-long c.args.begun.now.numbers c.len.result (length c.args.input.now) c.len.ensures.count c.if-len-eq0.true) c.feed_whole.ensures.steps
 
 -- the open group has taken all samples, and is not whole
 short-is : (g : _) (c : Then-not-is_whole g) → (c.fill-start.result ≡ length c.args.input.now) × (length c.args.begun.now.numbers + length c.args.input.now < c.args.begun.now.size)

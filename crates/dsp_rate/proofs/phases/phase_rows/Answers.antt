@@ -10,7 +10,7 @@ use Rattle.dsp_defs.proofs.SumLemmas.{same_numbers}
 use Rattle.dsp_stage.proofs.ChannelFrames.{sample-values}
 use Rattle.dsp_lanes.specs.Turns.{RisesWithin, lane_turns}
 use Rattle.dsp_rate.proofs.DecimateLemmas.{value-counted}
-use Rattle.dsp_rate.proofs.InterpolateLemmas.{phase-value, piece-long, place-is, place-row, whole-taps}
+use Rattle.dsp_rate.proofs.InterpolateLemmas.{phase-some, phase-value, piece-long, place-is, place-row, whole-taps}
 use Rattle.dsp_rate.proofs.phases.phase_rows.Goals as goal
 
 pub loop-phase-preserved : goal.loop-phase-preserved
@@ -76,3 +76,58 @@ returns-clause-steps g c =
       multiplies_rise = omega (arith, products, c.loop-phase.invariant.counted.multiplies_rise);
       turns_within = omega (arith, rounds, c.loop-phase.invariant.counted.turns_within);
     }
+
+pub slice_bounds-taps-end : goal.slice_bounds-taps-end
+slice_bounds-taps-end g c =
+    let count = length c.args.phases.now / c.args.factor in
+    let all = whole-taps c.args.factor (length c.args.phases.now) c.requires.whole in
+    let before = place-row c.args.factor count c.loop-phase.phase c.loop-phase-test.true in
+    omega (arith, before, all)
+
+pub overflow_mul-taps : goal.overflow_mul-taps
+overflow_mul-taps g c =
+    let count = length c.args.phases.now / c.args.factor in
+    let all = whole-taps c.args.factor (length c.args.phases.now) c.requires.whole in
+    let before = place-row c.args.factor count c.loop-phase.phase c.loop-phase-test.true in
+    omega (arith, before, all)
+
+pub overflow_mul-taps-in-loop-phase : goal.overflow_mul-taps-in-loop-phase
+overflow_mul-taps-in-loop-phase g c =
+    let count = length c.args.phases.now / c.args.factor in
+    let all = whole-taps c.args.factor (length c.args.phases.now) c.requires.whole in
+    let before = place-row c.args.factor count c.loop-phase.phase c.loop-phase-test.true in
+    omega (arith, before, all)
+
+pub overflow_add-taps : goal.overflow_add-taps
+overflow_add-taps g c =
+    let count = length c.args.phases.now / c.args.factor in
+    let all = whole-taps c.args.factor (length c.args.phases.now) c.requires.whole in
+    let before = place-row c.args.factor count c.loop-phase.phase c.loop-phase-test.true in
+    omega (arith, before, all)
+
+pub rows-requires-clause-taps : goal.rows-requires-clause-taps
+rows-requires-clause-taps g c =
+    let phases = c.args.phases.now in
+    let count = length phases / c.args.factor in
+    let start = c.loop-phase.phase * count in
+    let all = whole-taps c.args.factor (length phases) c.requires.whole in
+    let before = place-row c.args.factor count c.loop-phase.phase c.loop-phase-test.true in
+    let size : length (slice_range phases start (start + count)) ≡ count = piece-long phases start count (omega (arith, before, all)) in
+    let some : 1 ≤ count = phase-some c.args.factor (length phases) c.requires.whole (omega (arith, c.requires.factor, c.requires.taps)) in
+    omega (arith, size, some)
+
+pub rows-requires-clause-window : goal.rows-requires-clause-window
+rows-requires-clause-window g c =
+    let phases = c.args.phases.now in
+    let count = length phases / c.args.factor in
+    let start = c.loop-phase.phase * count in
+    let all = whole-taps c.args.factor (length phases) c.requires.whole in
+    let before = place-row c.args.factor count c.loop-phase.phase c.loop-phase-test.true in
+    let size : length (slice_range phases start (start + count)) ≡ count = piece-long phases start count (omega (arith, before, all)) in
+    let kept : length c.loop-phase.row ≡ c.args.n = c.loop-phase.auto.row ∙ length-take-le c.args.n c.args.row.now c.requires.row in
+    omega (arith, c.requires.window, size, kept)
+
+pub write_phase-requires-clause-room : goal.write_phase-requires-clause-room
+write_phase-requires-clause-room g c =
+    let kept : length c.loop-phase.row ≡ c.args.n = c.loop-phase.auto.row ∙ length-take-le c.args.n c.args.row.now c.requires.row in
+    c.loop-phase.auto.out ∙ c.requires.room ∙ ap (λ m. m * c.args.factor) (sym (c.rows.auto.out ∙ kept))

@@ -1,10 +1,10 @@
-use Rattle.std.proofs.Common.{◌≡◌, ◌∙◌, sym, subst, Some, ◌/◌, length, map, arith, below_more}
+use Rattle.std.proofs.Common.{◌≡◌, ◌∙◌, sym, subst, Some, ◌/◌, ◌<◌, length, map, arith, below_more}
 use Rattle.std.proofs.lemmas.List.{length-map}
 use Rattle.dsp_stage.specs.Kept.{Fits, FitsChannel}
 use Rattle.dsp_stage.specs.Filter.{filter_at}
 use Rattle.dsp_stage.specs.Channels.{numbers_in}
 use Rattle.dsp_stage.proofs.ChannelRestores.{fits-whole}
-use Rattle.dsp_unit.proofs.KeptLists.{place-at, fits-here, fits-all}
+use Rattle.dsp_unit.proofs.KeptLists.{place-at, fits-here, fits-all, piece-room}
 use Rattle.dsp_unit.proofs.kept.place_channels.Goals as goal
 
 pub returns-then-numbers-channels-ne0-clause-least : goal.returns-then-numbers-channels-ne0-clause-least
@@ -50,3 +50,12 @@ returns-clause-least g c = λ n here.
     sym c.in-Some.is
     ∙ place-at _ _ g.F.Filter.filter c.args.filters.now c.requires c.args.numbers.now (n, here) 0 c.index-filters-0.result c.numbers_of.result.now c.place.result
     (omega (arith, c.requires.some, length-map c.args.filters.now g.F.Filter.filter)) c.index-filters-0.is c.numbers_of.ensures c.place.ensures.least
+
+pub numbers_of-requires : goal.numbers_of-requires
+numbers_of-requires g c =
+    let some : 0 < length c.args.filters.now = omega (arith, c.requires.some, length-map c.args.filters.now g.F.Filter.filter) in
+    piece-room (length c.args.numbers.now) (length c.args.filters.now) 0 some
+
+pub numbers_of-requires-in-loop-channel : goal.numbers_of-requires-in-loop-channel
+numbers_of-requires-in-loop-channel g c =
+    piece-room (length c.args.numbers.now) (length c.args.filters.now) c.loop-channel.channel c.loop-channel-test.true

@@ -3,7 +3,7 @@ use Rattle.std.proofs.lemmas.List.{length-map, map-set}
 use Rattle.dsp_stage.specs.Kept.{FitsChannel}
 use Rattle.dsp_stage.specs.Filter.{FilterState, FilterRestores, filter_at, no_filter}
 use Rattle.dsp_stage.specs.Channels.{numbers_in}
-use Rattle.dsp_unit.proofs.KeptLists.{fits-each}
+use Rattle.dsp_unit.proofs.KeptLists.{fits-each, piece-room}
 use Rattle.dsp_unit.proofs.Rounds.{RestoredSoFar, restored-more, called-at}
 use Rattle.dsp_unit.proofs.kept.restore_channels.Goals as goal
 
@@ -42,3 +42,19 @@ loop-channel-preserved g c =
     (subst (λ f. FilterRestores f (filter c.restore.new.self) c.numbers_of.result.now) at_channel c.restore.ensures) in
     subst (λ fs. RestoredSoFar olds fs (channel + 1) each c.args.numbers.now) (sym (map-set filter c.loop-channel.filters channel c.restore.new.self))
     (restored-more _ _ olds c.requires.alike news channel each c.args.numbers.now (filter c.restore.new.self) inside c.loop-channel.invariant restored)
+
+pub numbers_of-requires : goal.numbers_of-requires
+numbers_of-requires g c = piece-room (length c.args.numbers.now) (length c.args.filters.now) c.loop-channel.channel c.loop-channel-test.true
+
+pub returns : goal.returns
+returns g c =
+    let filter = g.F.Filter.filter in
+    let numbers = c.args.numbers.now in
+    let olds = map filter c.args.filters.now in
+    let news = map filter c.loop-channel.filters in
+    let size : length olds ≡ length c.args.filters.now = length-map c.args.filters.now filter in
+    record {
+      size = c.loop-channel.invariant.size;
+      each = λ k h. subst (λ n. FilterRestores (filter_at olds k) (filter_at news k) (numbers_in (length numbers / n) numbers k)) (sym size)
+          (c.loop-channel.invariant.each k (omega (arith, h, size, c.loop-channel-test.false)));
+    }

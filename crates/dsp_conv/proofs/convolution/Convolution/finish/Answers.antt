@@ -1,11 +1,11 @@
-use Rattle.std.proofs.Common.{◌≡◌, ◌∙◌, ap, ap₂, sym, subst, ◌+◌, ◌*◌, ◌≤◌, ℕ, min, length, map, take, drop, vec_len, rules, arith, length-take-le}
-use Rattle.std.proofs.lemmas.List.{length-map, length-reverse}
+use Rattle.std.proofs.Common.{◌≡◌, ◌∙◌, ap, ap₂, sym, subst, ◌+◌, ◌-◌, ◌*◌, ◌≤◌, ℕ, pos, min, length, map, take, drop, replicate, vec_len, rules, true, arith, length-take, length-take-le}
+use Rattle.std.proofs.lemmas.List.{drop_at, length-map, length-reverse}
 use Rattle.std.proofs.Math.Nat.{mul_comm}
 use Rattle.dsp_defs.specs.Streaming.{rows}
 use Rattle.dsp_lanes.specs.Turns.{lane_turns}
 use Rattle.dsp_window.specs.Rolling.{Rolling, last_samples}
 use Rattle.dsp_window.proofs.Pushed.{past-after, window-long}
-use Rattle.dsp_window.proofs.Rolls.{zeros_long}
+use Rattle.dsp_window.proofs.Rolls.{length-last_samples, zeros_long}
 use Rattle.dsp_unit.proofs.Slices.{front-written}
 use Rattle.dsp_conv.specs.ConvState.{ConvState}
 use Rattle.dsp_conv.proofs.ConvLemmas.{rows-long, finish-tail, empty}
@@ -105,3 +105,79 @@ returns-clause-turns g c =
     let made : length c.deref-3.result.now * lane_turns g.row.L (length (take count output)) ≡ length c.args.self.now.taps * lane_turns g.row.L count =
     ap₂ (λ m n. m * lane_turns g.row.L n) lent written in
     subst (λ (k : ℕ). c.rows.new.steps.turns ≤ c.args.steps.now.turns + k) made c.rows.ensures.steps.turns_within
+
+pub push_block-requires : goal.push_block-requires
+push_block-requires g c =
+    let d = c.self.inside in
+    let inv = c.self.invariant in
+    omega (arith, length-take d.skip c.deref.result.now, inv.past, inv.room_behind, inv.left_within)
+
+pub push_block-requires-2 : goal.push_block-requires-2
+push_block-requires-2 g c =
+    let d = c.self.inside in
+    let inv = c.self.invariant in
+    let room_same : c.push_block.new.self.room ≡ d.window.room = ap (λ (w : Rolling). w.room) c.push_block.ensures.rolls in
+    omega (arith, length-take c.min-count.result c.deref-2.result.now, c.min-count.ensures, room_same, inv.past, inv.room_behind, inv.left_within)
+
+pub invariant_of-self : goal.invariant_of-self
+invariant_of-self g c =
+    let number = g.T.Sample.number in
+    let d = c.self.inside in
+    let inv = c.self.invariant in
+    let one = c.push_block.new.self in
+    let two = c.push_block-2.new.self in
+    let first = pushed-filled d.window one (map number (take d.skip c.deref.result.now)) c.push_block.ensures.rolls inv.filled in
+    let past_one : one.past ≡ d.window.past = first.0 in
+    let long_one = first.1 in
+    let second = pushed-filled one two (map number (take c.min-count.result c.deref-2.result.now)) c.push_block-2.ensures.rolls (omega (arith, past_one, long_one)) in
+    let past_two : two.past ≡ one.past = second.0 in
+    let long_two = second.1 in
+    let past_same : two.past ≡ d.window.past = past_two ∙ past_one in
+    let room_same : two.room ≡ d.window.room = ap (λ (w : Rolling). w.room) c.push_block-2.ensures.rolls ∙ ap (λ (w : Rolling). w.room) c.push_block.ensures.rolls in
+    record {
+      past = ap (λ p. p + 1) past_same ∙ inv.past;
+      few = inv.few;
+      some = inv.some;
+      room = subst (λ (r : ℕ). d.block ≤ r) (sym room_same) inv.room;
+      room_behind = subst (λ (r : ℕ). vec_len d.reversed ≤ r + 1) (sym room_same) inv.room_behind;
+      filled = omega (arith, long_two, past_two);
+      zeros_are = inv.zeros_are ∙ ap (λ n. replicate n (pos 0)) (sym past_same);
+      left_within = omega (arith, inv.left_within, past_same);
+      place_within = inv.place_within;
+      place_fits = inv.place_fits;
+    }
+
+pub returns-clause-kept : goal.returns-clause-kept
+returns-clause-kept g c =
+    let number = g.T.Sample.number in
+    let d = c.self.inside in
+    let inv = c.self.invariant in
+    let one = c.push_block.new.self in
+    let two = c.push_block-2.new.self in
+    let first = pushed-filled d.window one (map number (take d.skip c.deref.result.now)) c.push_block.ensures.rolls inv.filled in
+    let past_one : one.past ≡ d.window.past = first.0 in
+    let long_one = first.1 in
+    let second = pushed-filled one two (map number (take c.min-count.result c.deref-2.result.now)) c.push_block-2.ensures.rolls (omega (arith, past_one, long_one)) in
+    let past_two : two.past ≡ one.past = second.0 in
+    let long_two = second.1 in
+    length-last_samples two.past two.samples (omega (arith, long_two, past_two))
+    ∙ past_two
+    ∙ past_one
+    ∙ sym (length-last_samples d.window.past d.window.samples inv.filled)
+    ∙ ap (λ (s : ConvState). length s.past) c.self.view_is
+
+pub returns-clause-same : goal.returns-clause-same
+returns-clause-same g c =
+    let T = g.T.Sample in
+    let d = c.self.inside in
+    let two = c.push_block-2.new.self in
+    let past = last_samples two.past two.samples in
+    let tail = rows T.format (map T.number d.reversed.items) past (d.left - c.min-count.result) in
+    ap (λ (s : ConvState). record s { past = past; tail = tail; ended = true }) c.self.view_is
+
+pub returns-clause-rest : goal.returns-clause-rest
+returns-clause-rest g c =
+    let count = c.min-count.result in
+    let output = c.args.output.now in
+    let written : length (take count output) ≡ count = length-take-le count output (omega (arith, c.min-count.ensures)) in
+    drop_at c.rows.new.out (drop count output) count (c.rows.auto.out ∙ written)

@@ -1,15 +1,18 @@
-use Rattle.std.proofs.Common.{◌≡◌, ◌∙◌, ap, ap₂, sym, subst, ◌+◌, ◌-◌, ◌≤◌, ◌++◌, ℕ, length, map, take, drop, replicate, pos, reverse, arith, vec_len, rules, length-append, length-drop, length-take-le}
-use Rattle.std.proofs.lemmas.List.{length-map, length-reverse}
+use Rattle.std.proofs.Common.{◌≡◌, ◌∙◌, ap, ap₂, sym, subst, ◌+◌, ◌-◌, ◌*◌, ◌≤◌, ◌++◌, ℕ, length, map, take, drop, replicate, pos, reverse, arith, vec_len, rules, length-append, length-drop, length-take-le}
+use Rattle.std.proofs.lemmas.List.{drop_at, length-map, length-reverse}
+use Rattle.std.proofs.Math.Nat.{mul_comm}
 use Rattle.dsp_defs.specs.Streaming.{last_of, rows}
 use Rattle.dsp_defs.specs.Shape.{live_frames}
+use Rattle.dsp_lanes.specs.Turns.{lane_turns}
 use Rattle.dsp_unit.proofs.Slices.{front-written}
 use Rattle.dsp_window.specs.Rolling.{Rolling, last_samples}
 use Rattle.dsp_window.proofs.Pushed.{shows-after, keeps-after, window-long}
-use Rattle.dsp_window.proofs.Rolls.{zeros_long}
+use Rattle.dsp_window.proofs.Rolls.{length-last_samples, zeros_long}
+use Rattle.dsp_conv.specs.ConvState.{ConvState}
 use Rattle.dsp_conv.specs.Extent.{block_of, place_in}
 use Rattle.dsp_conv.proofs.ExtentLemmas.{place-more, place-within}
 use Rattle.dsp_conv.proofs.ConvLemmas.{count-more}
-use Rattle.dsp_conv.proofs.CallLemmas.{call-values, stands-behind, counts-behind}
+use Rattle.dsp_conv.proofs.CallLemmas.{call-values, pushed-filled, stands-behind, counts-behind}
 use Rattle.dsp_conv.proofs.convolution.Convolution.process.Goals as goal
 
 pub offset_bounds-slice-given : goal.offset_bounds-slice-given
@@ -156,3 +159,60 @@ returns-clause-counts g c = λ n counts.
     let counted = rw (← c.self.view_is) at counts in
     let place = c.place_after-self-inside.ensures.place ∙ place-more e d.place n (length c.args.input.now) counted.place_is in
     counts-behind T.format e taps _ (n + length c.args.input.now) c.place_after-self-inside.result d.block d.ended c.owe.new.self c.owe.ensures (omega (arith, long, view_len, c.self.invariant.past)) place counted.running
+
+pub returns-clause-same : goal.returns-clause-same
+returns-clause-same g c =
+    c.owe.ensures
+    ∙ ap₂ (λ (s n : ConvState). record { extent = s.extent; taps = s.taps; past = n.past; place = n.place; tail = n.tail; block = s.block; ended = s.ended })
+    c.self.view_is (sym c.owe.ensures)
+
+pub returns-clause-kept : goal.returns-clause-kept
+returns-clause-kept g c =
+    let d = c.self.inside in
+    let inv = c.self.invariant in
+    let one = c.push_block.new.self in
+    let filled = pushed-filled d.window one (map g.T.Sample.number c.args.input.now) c.push_block.ensures.rolls inv.filled in
+    let past_same : one.past ≡ d.window.past = filled.0 in
+    let long = filled.1 in
+    ap (λ (s : ConvState). length s.past) c.owe.ensures
+    ∙ length-last_samples one.past one.samples (omega (arith, past_same, long))
+    ∙ past_same
+    ∙ sym (length-last_samples d.window.past d.window.samples inv.filled)
+    ∙ ap (λ (s : ConvState). length s.past) c.self.view_is
+
+pub returns-clause-rest : goal.returns-clause-rest
+returns-clause-rest g c =
+    let count = c.given-given.result.end - c.given-given.result.start in
+    let output = c.args.output.now in
+    let written : length (take count output) ≡ count = length-take-le count output (omega (arith, c.requires.room, c.given-given.ensures.within)) in
+    drop_at c.rows.new.out (drop count output) count (c.rows.auto.out ∙ written)
+
+pub returns-clause-multiplies : goal.returns-clause-multiplies
+returns-clause-multiplies g c =
+    let d = c.self.inside in
+    let number = g.T.Sample.number in
+    let count = c.given-given.result.end - c.given-given.result.start in
+    let output = c.args.output.now in
+    let view_len : vec_len d.reversed ≡ length d.reversed.items = search rules in
+    let written : length (take count output) ≡ count = length-take-le count output (omega (arith, c.requires.room, c.given-given.ensures.within)) in
+    let taps : length c.args.self.now.taps ≡ length d.reversed.items =
+    ap (λ (s : ConvState). length s.taps) (sym c.self.view_is) ∙ length-reverse (map number d.reversed.items) ∙ length-map d.reversed.items number in
+    let lent : length c.deref.result.now ≡ length c.args.self.now.taps = omega (arith, c.deref.ensures.len, view_len, taps) in
+    let made : length c.deref.result.now * length (take count output) ≡ count * length c.args.self.now.taps =
+    ap₂ (λ m n. m * n) lent written ∙ mul_comm (length c.args.self.now.taps) count in
+    c.rows.ensures.steps.multiplies_rise ∙ ap (λ k. c.args.steps.now.multiplies + k) made
+
+pub returns-clause-turns : goal.returns-clause-turns
+returns-clause-turns g c =
+    let d = c.self.inside in
+    let number = g.T.Sample.number in
+    let count = c.given-given.result.end - c.given-given.result.start in
+    let output = c.args.output.now in
+    let view_len : vec_len d.reversed ≡ length d.reversed.items = search rules in
+    let written : length (take count output) ≡ count = length-take-le count output (omega (arith, c.requires.room, c.given-given.ensures.within)) in
+    let taps : length c.args.self.now.taps ≡ length d.reversed.items =
+    ap (λ (s : ConvState). length s.taps) (sym c.self.view_is) ∙ length-reverse (map number d.reversed.items) ∙ length-map d.reversed.items number in
+    let lent : length c.deref.result.now ≡ length c.args.self.now.taps = omega (arith, c.deref.ensures.len, view_len, taps) in
+    let made : length c.deref.result.now * lane_turns g.row.L (length (take count output)) ≡ length c.args.self.now.taps * lane_turns g.row.L count =
+    ap₂ (λ m n. m * lane_turns g.row.L n) lent written in
+    subst (λ (k : ℕ). c.rows.new.steps.turns ≤ c.args.steps.now.turns + k) made c.rows.ensures.steps.turns_within

@@ -7,7 +7,7 @@ use Rattle.dsp_defs.specs.Streaming.{last_of}
 use Rattle.dsp_window.specs.Rolling.{Rolling}
 use Rattle.dsp_window.proofs.Rolls.{length-last_samples}
 use Rattle.dsp_conv.specs.Extent.{place_in, greatest_place}
-use Rattle.dsp_conv.specs.ConvState.{ConvState, kept}
+use Rattle.dsp_conv.specs.ConvState.{ConvState, kept, tail_behind}
 use Rattle.dsp_unit.proofs.LastPlace.{same-number}
 use Rattle.dsp_conv.proofs.ExtentLemmas.{kept-are}
 use Rattle.dsp_conv.proofs.CallLemmas.{place-read, with-last, restored-past, stands-behind, counts-behind}
@@ -82,3 +82,28 @@ returns-clause-counts g c = λ n is.
     let long : length taps ≡ length d.reversed.items = length-reverse (map number d.reversed.items) ∙ length-map d.reversed.items number in
     let place = sym (ap (λ (s : ConvState). s.place) c.owe.ensures) ∙ (rw (← c.self.view_is) at is) in
     counts-behind T.format e taps _ n _ d.block d.ended c.owe.new.self c.owe.ensures (omega (arith, long, view_len, c.self.invariant.past)) place (rw (← c.self.view_is) at c.requires.running)
+
+pub returns-clause-same : goal.returns-clause-same
+returns-clause-same g c =
+    c.owe.ensures
+    ∙ ap₂ (λ (s n : ConvState). record { extent = s.extent; taps = s.taps; past = n.past; place = n.place; tail = n.tail; block = s.block; ended = s.ended })
+    c.self.view_is (sym c.owe.ensures)
+
+pub returns-clause-tail : goal.returns-clause-tail
+returns-clause-tail g c =
+    ap (λ (s : ConvState). s.tail) c.owe.ensures
+    ∙ ap₂ (λ (s n : ConvState). tail_behind g.T.Sample.format s.extent s.taps n.past n.place) c.self.view_is (sym c.owe.ensures)
+
+pub returns-clause-count : goal.returns-clause-count
+returns-clause-count g c =
+    let inv = c.self.invariant in
+    let old = c.self.inside.window in
+    let numbers = c.args.numbers.now in
+    let last = length numbers - 1 in
+    let kept_long : length c.args.self.now.past ≡ old.past = ap (λ (s : ConvState). length s.past) (sym c.self.view_is) ∙ length-last_samples old.past old.samples inv.filled in
+    let whole : length numbers ≡ last + 1 = omega (arith, c.requires.fits.count) in
+    let long : length (take last numbers) ≡ old.past = length-take-le last numbers (omega (arith, whole)) ∙ omega (arith, c.requires.fits.count, kept_long) in
+    ap (λ (s : ConvState). length s.past) c.owe.ensures
+    ∙ ap length (restored-past old c.restore.new.self (take last numbers) c.restore.ensures long)
+    ∙ long
+    ∙ sym kept_long

@@ -1,5 +1,6 @@
 use Rattle.std.proofs.Common.{◌+◌, ◌*◌, ◌∙◌, sym, rules, SFits, w32, w64}
 use Rattle.std.specs.Int.{int_wrap}
+use Rattle.std.proofs.lemmas.Int.{int_wrap_fits}
 use Rattle.dsp_lanes.specs.Rows.{row_at}
 use Rattle.dsp_lanes.proofs.DotSums.{low_read, wrap-wrap}
 use Rattle.dsp_lanes.proofs.LaneClosings.{wrap-narrow}
@@ -67,3 +68,43 @@ returns-then-small-clause-fourth g c =
     (c.four_sums-sums.ensures.fourth ∙ (λ i. int_wrap w32 (row_at (map-self taps i) (map-self window i) (c.args.first + 3 * c.args.step))))
     (narrow_wraps taps window (c.args.first + 3 * c.args.step) (c.requires.small c.if-small.true) c.q15_fit.ensures)
     ∙ (λ i. int_wrap w64 (row_at (sym (map-self taps) i) (sym (map-self window) i) (c.args.first + 3 * c.args.step)))
+
+pub returns-then-this-ne8-clause-first : goal.returns-then-this-ne8-clause-first
+returns-then-this-ne8-clause-first g c =
+    let fits : SFits w64 c.four_sums.result.first = search rules in
+    sym (int_wrap_fits w64 c.four_sums.result.first fits) ∙ c.four_sums.ensures.first
+
+pub returns-else-small-clause-first : goal.returns-else-small-clause-first
+returns-else-small-clause-first g c =
+    let fits : SFits w64 c.four_sums-else-small.result.first = search rules in
+    sym (int_wrap_fits w64 c.four_sums-else-small.result.first fits) ∙ c.four_sums-else-small.ensures.first
+
+pub returns-then-this-ne8-clause-second : goal.returns-then-this-ne8-clause-second
+returns-then-this-ne8-clause-second g c =
+    let fits : SFits w64 c.four_sums.result.second = search rules in
+    sym (int_wrap_fits w64 c.four_sums.result.second fits) ∙ c.four_sums.ensures.second
+
+pub returns-else-small-clause-second : goal.returns-else-small-clause-second
+returns-else-small-clause-second g c =
+    let fits : SFits w64 c.four_sums-else-small.result.second = search rules in
+    sym (int_wrap_fits w64 c.four_sums-else-small.result.second fits) ∙ c.four_sums-else-small.ensures.second
+
+pub returns-then-this-ne8-clause-third : goal.returns-then-this-ne8-clause-third
+returns-then-this-ne8-clause-third g c =
+    let fits : SFits w64 c.four_sums.result.third = search rules in
+    sym (int_wrap_fits w64 c.four_sums.result.third fits) ∙ c.four_sums.ensures.third
+
+pub returns-else-small-clause-third : goal.returns-else-small-clause-third
+returns-else-small-clause-third g c =
+    let fits : SFits w64 c.four_sums-else-small.result.third = search rules in
+    sym (int_wrap_fits w64 c.four_sums-else-small.result.third fits) ∙ c.four_sums-else-small.ensures.third
+
+pub returns-then-this-ne8-clause-fourth : goal.returns-then-this-ne8-clause-fourth
+returns-then-this-ne8-clause-fourth g c =
+    let fits : SFits w64 c.four_sums.result.fourth = search rules in
+    sym (int_wrap_fits w64 c.four_sums.result.fourth fits) ∙ c.four_sums.ensures.fourth
+
+pub returns-else-small-clause-fourth : goal.returns-else-small-clause-fourth
+returns-else-small-clause-fourth g c =
+    let fits : SFits w64 c.four_sums-else-small.result.fourth = search rules in
+    sym (int_wrap_fits w64 c.four_sums-else-small.result.fourth fits) ∙ c.four_sums-else-small.ensures.fourth

@@ -1,11 +1,13 @@
-use Rattle.std.proofs.Common.{◌≡◌, ◌∙◌, ap, ap₂, sym, subst, ℕ, ◌+◌, ◌-◌, ◌*◌, ◌/◌, ◌%◌, ◌<◌, ◌≤◌, ◌++◌, length, map, take, arith, vec_len, rules, length-append, length-take-le}
-use Rattle.std.proofs.lemmas.List.{length-map}
+use Rattle.std.proofs.Common.{◌≡◌, ◌∙◌, ap, ap₂, sym, subst, ℕ, ◌+◌, ◌-◌, ◌*◌, ◌/◌, ◌%◌, ◌<◌, ◌≤◌, ◌++◌, length, map, take, drop, arith, vec_len, rules, length-append, length-take-le}
+use Rattle.std.proofs.lemmas.List.{drop_at, length-map}
 use Rattle.dsp_defs.specs.Streaming.{last_of}
 use Rattle.dsp_lanes.specs.Turns.{lane_turns}
 use Rattle.dsp_rate.specs.DecimateState.{DecimateState, past_length, strided_rows}
 use Rattle.dsp_unit.proofs.Slices.{front-written}
+use Rattle.dsp_window.specs.Rolling.{Rolling, last_samples}
 use Rattle.dsp_window.proofs.Pushed.{window-long, shows-after, keeps-after}
-use Rattle.dsp_rate.proofs.DecimateLemmas.{groups-more, phase-more, groups-within, groups-room, group-fits, decimate-values}
+use Rattle.dsp_window.proofs.Rolls.{length-last_samples}
+use Rattle.dsp_rate.proofs.DecimateLemmas.{groups-more, phase-more, groups-within, groups-room, group-fits, decimate-values, pushed-filled}
 use Rattle.dsp_rate.proofs.decimate.Decimate.process.Goals as goal
 
 pub slice_bounds-output-end : goal.slice_bounds-output-end
@@ -99,3 +101,48 @@ returns-clause-turns g c =
     let taken : length (take count c.args.output.now) ≡ count = length-take-le count c.args.output.now enough in
     let taps_long : length c.deref.result.now ≡ length c.args.self.now.taps = ap length c.deref.ensures.value ∙ sym (length-map d.taps.items g.T.Sample.number) ∙ ap (λ (s : DecimateState). length s.taps) c.self.view_is in
     subst (λ (n : ℕ). c.strided_rows.new.steps.turns ≤ n) (ap₂ (λ a b. c.args.steps.now.turns + a * lane_turns g.row.L b) taken taps_long) c.strided_rows.ensures.steps.turns_within
+
+pub invariant_of-self : goal.invariant_of-self
+invariant_of-self g c =
+    let d = c.self.inside in
+    let inv = c.self.invariant in
+    let new = c.push_block.new.self in
+    let past_same : new.past ≡ d.window.past = ap (λ (w : Rolling). w.past) c.push_block.ensures.rolls in
+    let room_same : new.room ≡ d.window.room = ap (λ (w : Rolling). w.room) c.push_block.ensures.rolls in
+    let long = pushed-filled d.window new (map g.T.Sample.number c.args.input.now) c.push_block.ensures.rolls inv.6 in (
+      ap (λ p. p + 2) past_same ∙ inv.0,
+      inv.1,
+      inv.2,
+      omega (arith, inv.3),
+      inv.4,
+      omega (arith, room_same, inv.5),
+      omega (arith, long, past_same),
+    )
+
+pub returns-clause-same : goal.returns-clause-same
+returns-clause-same g c =
+    let d = c.self.inside in
+    let new = c.push_block.new.self in
+    let past = last_samples new.past new.samples in
+    let phase = (d.phase + length c.args.input.now) % d.factor in
+    let room_same : new.room ≡ d.window.room = ap (λ (w : Rolling). w.room) c.push_block.ensures.rolls in
+    ap (λ (r : ℕ). record { factor = d.factor; taps = map g.T.Sample.number d.taps.items; past = past; phase = phase; block = r; ended = d.ended }) room_same
+    ∙ ap (λ (s : DecimateState). record s { past = past; phase = phase }) c.self.view_is
+
+pub returns-clause-kept : goal.returns-clause-kept
+returns-clause-kept g c =
+    let d = c.self.inside in
+    let inv = c.self.invariant in
+    let new = c.push_block.new.self in
+    let past_same : new.past ≡ d.window.past = ap (λ (w : Rolling). w.past) c.push_block.ensures.rolls in
+    let long = pushed-filled d.window new (map g.T.Sample.number c.args.input.now) c.push_block.ensures.rolls inv.6 in
+    length-last_samples new.past new.samples (omega (arith, long, past_same))
+    ∙ past_same
+    ∙ sym (length-last_samples d.window.past d.window.samples inv.6)
+    ∙ ap (λ (s : DecimateState). length s.past) c.self.view_is
+
+pub returns-clause-rest : goal.returns-clause-rest
+returns-clause-rest g c =
+    let count = (c.self.inside.phase + length c.args.input.now) / c.self.inside.factor in
+    let enough = groups-room (length c.args.input.now) c.self.inside.phase c.self.inside.factor c.args.self.now.factor (length c.args.output.now) (omega arith) (ap (λ (d : DecimateState). d.factor) c.self.view_is) c.requires.room in
+    drop_at c.strided_rows.new.out (drop count c.args.output.now) count (c.strided_rows.auto.out ∙ length-take-le count c.args.output.now enough)

@@ -1,11 +1,11 @@
 use Rattle.std.proofs.Common.{◌≡◌, ◌∙◌, ap, sym, subst, ℕ, false, ◌+◌, ◌*◌, ◌/◌, ◌<◌, ◌≤◌, ◌++◌, length, map, take, drop, arith}
-use Rattle.std.specs.Prelude.{All, FitsSigned}
+use Rattle.std.specs.Prelude.{All, FitsSigned, IsFalse}
 use Rattle.std.proofs.lemmas.List.{length-map}
 use Rattle.dsp_defs.specs.Formats.{word}
 use Rattle.dsp_defs.specs.Signal.{sample}
 use Rattle.dsp_stage.specs.Filter.{AreFilters, FilterAccepts, filter_at, filter_room, no_filter}
 use Rattle.dsp_stage.specs.Channels.{unit_of_filters, AreFed}
-use Rattle.dsp_stage.specs.Unit.{Feeds, IsOutput, frames_in, most_frames}
+use Rattle.dsp_stage.specs.Unit.{Feeds, IsOutput, IsSignal, UnitState, frames_in, most_frames}
 use Rattle.dsp_defs.specs.Block.{channels_after}
 use Rattle.dsp_defs.proofs.FrameLemmas.{length-frames_in}
 use Rattle.dsp_stage.proofs.ChannelFeeds.{are-fed, accept-filters}
@@ -115,3 +115,67 @@ returns-clause-fed g c =
     (subst (λ fs. Feeds (unit_of_filters g.T.Sample.format c.self.inside.capacity olds) (unit_of_filters g.T.Sample.format c.self.inside.capacity (map filter fs)) (frames_in (length olds) c.args.frames.now) (frames_in (channels_after (length olds) (filter_at olds 0).block) (take (c.feed_block-given.result * c.len-2.result) c.feed_block-given.new.out)) c.args.steps.now c.feed_block-given.new.steps) (sym written)
     (subst (λ k. Feeds (unit_of_filters g.T.Sample.format c.self.inside.capacity olds) (unit_of_filters g.T.Sample.format c.self.inside.capacity (map filter made)) (frames_in (length olds) c.args.frames.now) (frames_in (channels_after (length olds) (filter_at olds 0).block) (take (c.feed_block-given.result * k) c.feed_block-given.new.out)) c.args.steps.now c.feed_block-given.new.steps) channels
     (unit-fed g.T.Sample.format c.self.inside.capacity olds c.self.invariant.0 c.feed_block-given.result c.feed_block-given.new.out within (map filter made) c.args.frames.now c.args.steps.now c.feed_block-given.new.steps running fed')))
+
+pub nonzero_div-count : goal.nonzero_div-count
+nonzero_div-count g c =
+    let some = c.self.invariant.0.some in
+    omega (arith, some, length-map c.self.inside.filters.items g.F.Filter.filter, c.len.ensures, c.self.inside.filters.ok.0)
+
+pub feed_block-given-requires-clause-alike : goal.feed_block-given-requires-clause-alike
+feed_block-given-requires-clause-alike g c =
+    let format = g.T.Sample.format in
+    let filter = g.F.Filter.filter in
+    let room = length c.as_mut_slice-2.result.now in
+    let long : room ≡ c.self.inside.capacity = c.as_mut_slice-2.ensures.len ∙ c.self.invariant.1 in
+    subst (λ fs. AreFilters format room (map filter fs)) (sym c.as_mut_slice.ensures.value)
+    (subst (λ k. AreFilters format k (map filter c.self.inside.filters.items)) (sym long) c.self.invariant.0)
+
+pub feed_block-given-requires-clause-running : goal.feed_block-given-requires-clause-running
+feed_block-given-requires-clause-running g c =
+    subst (λ fs. IsFalse (filter_at (map g.F.Filter.filter fs) 0).ended) (sym c.as_mut_slice.ensures.value)
+    (subst (λ (u : UnitState). IsFalse u.ended) (sym c.self.view_is) c.requires.running)
+
+pub feed_block-given-requires-clause-in_format : goal.feed_block-given-requires-clause-in_format
+feed_block-given-requires-clause-in_format g c =
+    (subst (λ (u : UnitState). IsSignal u.format u.channels c.args.frames.now) (sym c.self.view_is) c.requires.signal).in_format
+
+pub feed_block-given-requires-clause-output : goal.feed_block-given-requires-clause-output
+feed_block-given-requires-clause-output g c =
+    c.as_mut_slice-3.ensures.len ∙ c.self.invariant.2 ∙ ap (λ fs. filter_room (filter_at (map g.F.Filter.filter fs) 0)) (sym c.as_mut_slice.ensures.value)
+
+pub feed_block-given-requires-clause-room : goal.feed_block-given-requires-clause-room
+feed_block-given-requires-clause-room g c =
+    let filter = g.F.Filter.filter in
+    let items = c.self.inside.filters.items in
+    let olds = map filter items in
+    let values = length c.as_mut_slice-3.result.now in
+    let long : values ≡ filter_room (filter_at olds 0) = c.as_mut_slice-3.ensures.len ∙ c.self.invariant.2 in
+    let room = rw (← c.self.view_is) at c.requires.room in
+    let bound = room-for g.T.Sample.format c.self.inside.capacity olds c.self.invariant.0 values (length c.args.out.now) (omega (arith, long)) room in
+    subst (λ k. values * k ≤ length c.args.out.now) (length-map items filter ∙ ap length (sym c.as_mut_slice.ensures.value)) bound
+
+pub returns-clause-within : goal.returns-clause-within
+returns-clause-within g c =
+    let filter = g.F.Filter.filter in
+    let items = c.self.inside.filters.items in
+    let olds = map filter items in
+    let channels : length olds ≡ c.len-2.result = omega (arith, length-map items filter, c.len-2.ensures, c.self.inside.filters.ok.0) in
+    let fits : c.feed_block-given.result ≤ filter_room (filter_at olds 0) = omega (arith, c.feed_block-given.ensures.within, c.as_mut_slice-3.ensures.len, c.self.invariant.2) in
+    let room = rw (← c.self.view_is) at c.requires.room in
+    let bound = room-for g.T.Sample.format c.self.inside.capacity olds c.self.invariant.0 c.feed_block-given.result (length c.args.out.now) fits room in
+    subst (λ k. c.feed_block-given.result * k ≤ length c.args.out.now) channels bound
+
+pub overflow_mul-result : goal.overflow_mul-result
+overflow_mul-result g c =
+    let within : c.feed_block-given.result * c.len-2.result ≤ length c.args.out.now = returns-clause-within g c in
+    omega (arith, within)
+
+pub feed_block-given-requires-clause-input : goal.feed_block-given-requires-clause-input
+feed_block-given-requires-clause-input g c =
+    let items = c.self.inside.filters.items in
+    let olds = map g.F.Filter.filter items in
+    let frames = c.args.frames.now in
+    let size : length olds ≡ c.len.result = omega (arith, length-map items g.F.Filter.filter, c.len.ensures, c.self.inside.filters.ok.0) in
+    let count : length (frames_in (length olds) frames) ≡ length frames / c.len.result = length-frames_in (length olds) frames ∙ ap (λ n. length frames / n) size in
+    let few = rw (← c.self.view_is) at c.requires.capacity in
+    omega (arith, few, count, c.as_mut_slice-2.ensures.len, c.self.invariant.1)

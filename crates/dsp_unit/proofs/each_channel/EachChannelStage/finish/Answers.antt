@@ -1,4 +1,4 @@
-use Rattle.std.proofs.Common.{◌≡◌, sym, subst, ℕ, ◌+◌, ◌*◌, ◌<◌, ◌≤◌, ◌++◌, length, map, take, drop, arith}
+use Rattle.std.proofs.Common.{◌≡◌, ◌∙◌, ap, sym, subst, ℕ, ◌+◌, ◌*◌, ◌<◌, ◌≤◌, ◌++◌, length, map, take, drop, arith}
 use Rattle.std.specs.Prelude.{FitsSigned}
 use Rattle.std.proofs.lemmas.List.{length-map}
 use Rattle.dsp_defs.specs.Formats.{word}
@@ -9,7 +9,7 @@ use Rattle.dsp_stage.specs.Unit.{Finishes, IsOutput, frames_in, most_frames}
 use Rattle.dsp_defs.specs.Block.{channels_after}
 use Rattle.dsp_stage.proofs.ChannelTails.{are-finished}
 use Rattle.dsp_stage.proofs.ChannelOutput.{unit-output, unit-finished, room-for}
-use Rattle.dsp_unit.proofs.Units.{written-whole, kept-whole}
+use Rattle.dsp_unit.proofs.Units.{are-first, written-whole, kept-whole}
 use Rattle.dsp_unit.proofs.each_channel.EachChannelStage.finish.Goals as goal
 
 pub invariant_of-self : goal.invariant_of-self
@@ -68,3 +68,41 @@ returns-clause-finished g c =
     (subst (λ fs. Finishes (unit_of_filters g.T.Sample.format c.self.inside.capacity olds) (unit_of_filters g.T.Sample.format c.self.inside.capacity (map filter fs)) (frames_in (channels_after (length olds) (filter_at olds 0).block) (take (c.finish_channels-given.result * c.len.result) c.finish_channels-given.new.out)) c.args.steps.now c.finish_channels-given.new.steps) (sym written)
     (subst (λ k. Finishes (unit_of_filters g.T.Sample.format c.self.inside.capacity olds) (unit_of_filters g.T.Sample.format c.self.inside.capacity (map filter made)) (frames_in (channels_after (length olds) (filter_at olds 0).block) (take (c.finish_channels-given.result * k) c.finish_channels-given.new.out)) c.args.steps.now c.finish_channels-given.new.steps) channels
     (unit-finished g.T.Sample.format c.self.inside.capacity olds c.self.invariant.0 c.finish_channels-given.result c.finish_channels-given.new.out within (map filter made) c.args.steps.now c.finish_channels-given.new.steps finished)))
+
+pub finish_channels-given-requires-clause-alike : goal.finish_channels-given-requires-clause-alike
+finish_channels-given-requires-clause-alike g c =
+    let format = g.T.Sample.format in
+    let filter = g.F.Filter.filter in
+    subst (λ fs. AreFilters format (filter_at (map filter fs) 0).capacity (map filter fs)) (sym c.as_mut_slice.ensures.value)
+    (are-first format c.self.inside.capacity (map filter c.self.inside.filters.items) c.self.invariant.0)
+
+pub finish_channels-given-requires-clause-output : goal.finish_channels-given-requires-clause-output
+finish_channels-given-requires-clause-output g c =
+    c.as_mut_slice-2.ensures.len ∙ c.self.invariant.2 ∙ ap (λ fs. filter_room (filter_at (map g.F.Filter.filter fs) 0)) (sym c.as_mut_slice.ensures.value)
+
+pub finish_channels-given-requires-clause-room : goal.finish_channels-given-requires-clause-room
+finish_channels-given-requires-clause-room g c =
+    let filter = g.F.Filter.filter in
+    let items = c.self.inside.filters.items in
+    let olds = map filter items in
+    let values = length c.as_mut_slice-2.result.now in
+    let long : values ≡ filter_room (filter_at olds 0) = c.as_mut_slice-2.ensures.len ∙ c.self.invariant.2 in
+    let room = rw (← c.self.view_is) at c.requires.room in
+    let bound = room-for g.T.Sample.format c.self.inside.capacity olds c.self.invariant.0 values (length c.args.out.now) (omega (arith, long)) room in
+    subst (λ k. values * k ≤ length c.args.out.now) (length-map items filter ∙ ap length (sym c.as_mut_slice.ensures.value)) bound
+
+pub returns-clause-within : goal.returns-clause-within
+returns-clause-within g c =
+    let filter = g.F.Filter.filter in
+    let items = c.self.inside.filters.items in
+    let olds = map filter items in
+    let channels : length olds ≡ c.len.result = omega (arith, length-map items filter, c.len.ensures, c.self.inside.filters.ok.0) in
+    let fits : c.finish_channels-given.result ≤ filter_room (filter_at olds 0) = omega (arith, c.finish_channels-given.ensures.within, c.as_mut_slice-2.ensures.len, c.self.invariant.2) in
+    let room = rw (← c.self.view_is) at c.requires.room in
+    let bound = room-for g.T.Sample.format c.self.inside.capacity olds c.self.invariant.0 c.finish_channels-given.result (length c.args.out.now) fits room in
+    subst (λ k. c.finish_channels-given.result * k ≤ length c.args.out.now) channels bound
+
+pub overflow_mul-result : goal.overflow_mul-result
+overflow_mul-result g c =
+    let within : c.finish_channels-given.result * c.len.result ≤ length c.args.out.now = returns-clause-within g c in
+    omega (arith, within)

@@ -16,13 +16,13 @@ fn few_turns<M: Ledger>(rt: &impl Abort, alloc: Global, steps: &mut Steps<M>)
 {
     let mut filter = Conv::<i16, 8>::new(alloc, &[16384, 16384], 1).expect(rt, "a convolution");
     let mut output = [7i16; 3];
-    assert_same!(rt; filter.process(&[2], &mut output, steps), 1);
+    assert_eq!(rt; filter.process(&[2], &mut output, steps), 1);
     assert_same!(rt; output, [1, 7, 7]);
-    assert_same!(rt; filter.process(&[4], &mut output, steps), 1);
+    assert_eq!(rt; filter.process(&[4], &mut output, steps), 1);
     assert_same!(rt; output, [3, 7, 7]);
-    assert_same!(rt; filter.finish(&mut output, steps), 1);
+    assert_eq!(rt; filter.finish(&mut output, steps), 1);
     assert_same!(rt; output, [2, 7, 7]);
-    assert_same!(rt; filter.finish(&mut output, steps), 0);
+    assert_eq!(rt; filter.finish(&mut output, steps), 0);
     assert_same!(rt; output, [2, 7, 7]);
 }
 

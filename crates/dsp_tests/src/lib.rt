@@ -2,7 +2,8 @@
 #![tactic(auto)]
 
 /// Ends the test where what was found is not what is wanted, and shows both. It is a call, since all that
-/// `assert_eq!` writes would be proved again at each place.
+/// `assert_eq!` writes would be proved again at each place; that one stands where a clause of the test
+/// follows from what was found.
 #[cfg(test)]
 macro_rules! assert_same {
     ($rt:expr; $found:expr, $wanted:expr) => {

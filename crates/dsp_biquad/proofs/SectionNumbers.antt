@@ -1,7 +1,9 @@
 -- The numbers that sections keep, four of each.
-use Rattle.std.proofs.Common.{◌≡◌, ◌∙◌, ap, refl, sym, subst, ℕ, ◌+◌, ◌-◌, ◌*◌, ◌<◌, ℤ, List, [], ◌∷◌, ◌++◌, length, flat_map, take, drop, set, slice_range, arith, length-append}
+use Rattle.std.proofs.Common.{◌≡◌, ◌∙◌, ap, refl, sym, subst, ℕ, ◌+◌, ◌-◌, ◌*◌, ◌<◌, ◌≤◌, ℤ, List, [], ◌∷◌, ◌++◌, length, flat_map, take, drop, get_or, set, slice_range, arith, length-append}
 use Rattle.std.specs.List.{range_with_len}
-use Rattle.std.proofs.lemmas.List.{append-nil, take_more_set}
+use Rattle.std.proofs.lemmas.List.{append-nil, take_more, take_more_set}
+use Rattle.std.proofs.lemmas.Slice.{take-put_mid}
+use borrow.Rule.Slice.PartMut.{put_mid}
 use Rattle.std.proofs.lemmas.Grind.{flat_map-append}
 use Rattle.std.proofs.Math.Seq.{take-add}
 use Rattle.dsp_stage.specs.Channels.{numbers_in}
@@ -45,3 +47,14 @@ restored-more kept sections s k numbers inside here so_far =
 pub kept-count : {X : Type 0} (kept : X → List ℤ) → ((s : X) → length (kept s) ≡ 4) → (sections : List X) → length (flat_map kept sections) ≡ length sections * 4
 kept-count kept four [] = refl
 kept-count kept four (s ∷ sections) = omega (arith, length-append (kept s) (flat_map kept sections), four s, kept-count kept four sections)
+
+-- one section more has its numbers written
+pub kept-more :
+    {X : Type 0} (kept : X → List ℤ) (sections : List X) (s : X) (k : ℕ) (out piece : List ℤ) → k < length sections → s ≡ get_or sections k s → k * 4 ≤ length out → piece ≡ kept s → length (kept s) ≡ 4 →
+    take (k * 4) out ≡ flat_map kept (take k sections) → take ((k + 1) * 4) (put_mid (k * 4) (k * 4 + 4 - k * 4) out piece) ≡ flat_map kept (take (k + 1) sections)
+kept-more kept sections s k out piece inside read within is four so_far =
+    let long : length piece ≡ 4 = ap length is ∙ four in
+    let next = take_more sections k s inside ∙ ap (λ x. take k sections ++ x ∷ []) (sym read) in
+    take-put_mid (k * 4) (k * 4 + 4 - k * 4) out piece ((k + 1) * 4) (omega (arith, long)) within
+    ∙ (λ i. so_far i ++ (is ∙ sym (append-nil (kept s))) i)
+    ∙ sym (ap (flat_map kept) next ∙ flat_map-append kept (take k sections) (s ∷ []))

@@ -110,7 +110,8 @@ impl<T: Sample, S: CascadeSection<T>> Stepwise<T> for Cascade<T, S> {
     }
 
     fn run<L: Ledger>(&mut self, samples: &mut [T], steps: &mut Steps<L>) {
-        run_chain(self.sections.as_mut_slice(), samples, steps);
+        let sections = self.sections.as_mut_slice();
+        run_chain(sections, samples, steps);
     }
 
     fn kept_count(&self) -> usize {

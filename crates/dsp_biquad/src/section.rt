@@ -1,3 +1,8 @@
+ghost use Rattle.std.specs.Prelude.{◌≡◌, ◌<◌};
+ghost use Rattle.dsp_defs.specs.Formats.{word};
+ghost use Rattle.dsp_defs.specs.Signal.{sample};
+ghost use Rattle.dsp_stage.specs.Kept.{Each, IsOfKind, in_words};
+
 use crate::{BiquadSample, CascadeSection};
 use dsp_defs::Steps;
 use dsp_sat::{Sample, product};
@@ -17,6 +22,15 @@ pub struct Section<T> {
     y1: T,
     y2: T,
     post_shift: u8,
+}
+
+/// One of the four kept numbers, as a sample.
+fn kept_sample<T: Sample>(numbers: &[i64], place: usize) -> T
+    requires numbers { Each IsOfKind (in_words (word T.format) 4) numbers.now }
+    requires inside { place < 4 }
+    ensures { T.number result ≡ sample numbers.now place }
+{
+    T::of_number(numbers[place] as i32)
 }
 
 impl<T: BiquadSample> Machine<T> for Section<T> {
@@ -142,9 +156,9 @@ impl<T: BiquadSample> CascadeSection<T> for Section<T> {
     }
 
     fn restore(&mut self, numbers: &[i64]) {
-        self.x1 = T::of_number(numbers[0] as i32);
-        self.x2 = T::of_number(numbers[1] as i32);
-        self.y1 = T::of_number(numbers[2] as i32);
-        self.y2 = T::of_number(numbers[3] as i32);
+        self.x1 = kept_sample(numbers, 0);
+        self.x2 = kept_sample(numbers, 1);
+        self.y1 = kept_sample(numbers, 2);
+        self.y2 = kept_sample(numbers, 3);
     }
 }

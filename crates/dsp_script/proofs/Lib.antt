@@ -1,4 +1,5 @@
 pub mod Numerals
+pub mod Casts
 pub mod Tokens
 pub mod Loops
 pub mod Names

@@ -33,7 +33,8 @@ pub fn word(cursor: &mut Cursor<'_>, name: &[u8]) -> Result<(), ScriptFault>
 /// A format's word.
 #[tactic(auto, unfolding(dsp_defs::specs::Places::next_at))]
 pub fn format(cursor: &mut Cursor<'_>) -> Result<Fmt, ScriptFault>
-    ensures { Gives (λ f. (f, cursor.new)) result (next_at (choice (by_name format_name every_format)) cursor.old) }
+    ensures { Gives (λ f. (f, cursor.new)) result
+        (next_at (choice (by_name format_name every_format)) cursor.old) }
 {
     let item = cursor.token()?;
     if let Token::Run(run) = item.token {

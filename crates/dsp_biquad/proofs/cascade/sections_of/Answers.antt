@@ -1,6 +1,7 @@
 use Rattle.std.proofs.Common.{◌≡◌, ◌∙◌, ap, sym, subst, refl, ◌++◌, ◌+◌, ◌-◌, ◌*◌, ◌≤◌, ◌<◌, ◌/◌, ◌%◌, ℕ, ℤ, List, [], ◌∷◌, length, length-append, map, take, drop, arith, rules}
 use Rattle.std.proofs.lemmas.List.{length-map}
 use Rattle.std.proofs.lemmas.Grind.{common_steps}
+use borrow.Author.Count.{falls}
 use Rattle.dsp_defs.specs.Streaming.{Behaviour, then, chained}
 use Rattle.dsp_biquad.specs.Sections.{block_acts}
 use Rattle.dsp_biquad.proofs.Cascades.{push-acts, push-kept, push-quiet, next-section, all-sections, piece-numbers}
@@ -37,6 +38,11 @@ overflow_add-at g c =
     let inside : c.loop-k.k * c.SIZE-size.result + c.SIZE-size.result ≤ all = section-inside c.loop-k.k (all / c.SIZE-size.result) c.SIZE-size.result all all c.loop-k-test.true refl refl in
     search rules
 
+pub offset_bounds-coefficients-at : goal.offset_bounds-coefficients-at
+offset_bounds-coefficients-at g c =
+    let all = length c.args.coefficients.now in
+    omega (arith, section-inside c.loop-k.k (all / c.SIZE-size.result) c.SIZE-size.result all all c.loop-k-test.true refl refl)
+
 pub slice_bounds-new-end : goal.slice_bounds-new-end
 slice_bounds-new-end g c =
     let all = length c.args.coefficients.now in
@@ -61,6 +67,9 @@ new-requires g c =
     let all = length c.args.coefficients.now in
     let inside : c.loop-k.k * size + size ≤ all = section-inside c.loop-k.k (all / size) size all all c.loop-k-test.true refl refl in
     record { shift = c.requires.shift; size = piece-size (c.loop-k.k * size) size c.args.coefficients.now inside ∙ c.SIZE-size.ensures }
+
+pub loop-k-smaller : goal.loop-k-smaller
+loop-k-smaller g c = falls (length c.args.coefficients.now / c.SIZE-size.result) c.loop-k.k c.loop-k-test.true
 
 pub loop-k-preserved : goal.loop-k-preserved
 loop-k-preserved g c =

@@ -10,6 +10,49 @@ offset_bounds-out-at g c =
     let room : c.args.column * c.args.rows + c.args.row + c.loop-k.k < length c.loop-k.out = omega (arith, inside, c.requires.out, c.loop-k.auto.out) in
     search (rules, room)
 
+pub bounds-a-row : goal.bounds-a-row
+bounds-a-row g c =
+    let row = c.args.row + c.loop-k.k in
+    let within = turned-room c.args.rows c.args.columns row c.args.column (omega arith) c.requires.inside in
+    omega (arith, within, c.requires.a)
+
+pub offset_bounds-a-row : goal.offset_bounds-a-row
+offset_bounds-a-row g c =
+    let row = c.args.row + c.loop-k.k in
+    let within = turned-room c.args.rows c.args.columns row c.args.column (omega arith) c.requires.inside in
+    omega (arith, within, c.requires.a)
+
+pub overflow_mul-out : goal.overflow_mul-out
+overflow_mul-out g c =
+    let row = c.args.row + c.loop-k.k in
+    let within = turned-room c.args.rows c.args.columns row c.args.column (omega arith) c.requires.inside in
+    let room : row * c.args.columns + c.args.column < length c.args.a.now = omega (arith, within, c.requires.a) in
+    search (rules, room)
+
+pub overflow_add-out-in-loop-k : goal.overflow_add-out-in-loop-k
+overflow_add-out-in-loop-k g c =
+    let row = c.args.row + c.loop-k.k in
+    let within = turned-room c.args.rows c.args.columns row c.args.column (omega arith) c.requires.inside in
+    let room : row * c.args.columns + c.args.column < length c.args.a.now = omega (arith, within, c.requires.a) in
+    search (rules, room)
+
+pub bounds-out-at : goal.bounds-out-at
+bounds-out-at g c =
+    let inside = mul-add-lt c.args.column c.args.rows (c.args.row + c.loop-k.k) c.args.columns c.requires.inside (omega arith) in
+    omega (arith, inside, c.requires.out, c.loop-k.auto.out)
+
+pub overflow_add-at-in-loop-k : goal.overflow_add-at-in-loop-k
+overflow_add-at-in-loop-k g c =
+    let inside = mul-add-lt c.args.column c.args.rows (c.args.row + c.loop-k.k) c.args.columns c.requires.inside (omega arith) in
+    let room : c.args.column * c.args.rows + c.args.row + c.loop-k.k < length c.loop-k.out = omega (arith, inside, c.requires.out, c.loop-k.auto.out) in
+    search (rules, room)
+
+pub loop-k-init : goal.loop-k-init
+loop-k-init g c = record { kept = λ i j inner stood. stood; turned = λ k h. absurd (omega (arith, h)) }
+
+pub returns-clause-turned : goal.returns-clause-turned
+returns-clause-turned g c = λ k h. c.loop-k.invariant.turned k (omega arith)
+
 pub loop-k-preserved : goal.loop-k-preserved
 loop-k-preserved g c =
     let number = g.T.Sample.number in

@@ -1,4 +1,5 @@
 use Rattle.std.proofs.Common.{◌∙◌, ap, arith, [], ◌∷◌, ◌++◌, ℕ, List, ◌-◌, if◌then◌else◌}
+use Rattle.std.proofs.lemmas.Grind.{common_steps}
 use Rattle.std.specs.Int.{w32}
 use Rattle.std.proofs.lemmas.Int.{to_z-of_z}
 use Rattle.dsp_defs.specs.Bytes.{bytes_of}
@@ -20,3 +21,6 @@ returns-then-self-gt0-clause-same c =
     let bytes = c.append.ensures.items ∙ ap (λ l. l ++ c.bytes_of.new.out) c.clear.ensures ∙ c.bytes_of.ensures ∙ (λ i. bytes_of (c.coding_of-coding.ensures i) (sample i)) in
     (λ i. bytes i ++ (made C F (state i) (old.samples - 1) ++ last))
     ∙ refilled C F old.state old.samples old.given old.ready.items last (omega arith) (omega arith)
+
+pub returns-then-self-clause-same : goal.returns-then-self-clause-same
+returns-then-self-clause-same c = grind (arith, common_steps)

@@ -1,30 +1,18 @@
-ghost use Rattle.std.specs.Prelude.{◌≤◌, ◌*◌, IfOk};
-ghost use Rattle.dsp_stage.specs.Unit.{IsNew};
-ghost use Rattle.dsp_defs.specs.Grammar.{Suits};
-ghost use Rattle.dsp_blocks.specs.BlockUnit.{state_of};
-
 use crate::{BlockUnit, makers};
 use dsp_complex::ComplexUnit;
-use dsp_defs::{Block, Fmt, MAX_SAMPLES};
+use dsp_defs::{Block, Fmt};
+use dsp_stage::AnyUnit;
 use dsp_vector::VectorUnit;
 use std::alloc::{AllocError, Global};
 
-impl BlockUnit {
-    /// A unit of the block that has taken nothing, for frames of `channels` samples of the format, at most
-    /// `frames` of them a call. All its memory is taken here; it errs only where memory is wanting.
-    pub fn new(
+impl AnyUnit for BlockUnit {
+    fn of_block(
         alloc: Global,
         block: &Block,
         format: Fmt,
         channels: u8,
         frames: usize,
-    ) -> Result<BlockUnit, AllocError>
-        requires suits { Suits (record { format = format; channels = channels }) block.now }
-        requires channels { 1 ≤ channels }
-        requires frames { 1 ≤ frames }
-        requires samples { frames * channels ≤ MAX_SAMPLES }
-        ensures { IfOk result (λ u. IsNew block.now format channels frames (state_of u)) }
-    {
+    ) -> Result<BlockUnit, AllocError> {
         match block {
             Block::Offset { .. }
             | Block::Negate

@@ -1,5 +1,5 @@
 -- A row keeps the numbers of its units, one after another.
-use Rattle.std.proofs.Common.{◌≡◌, ◌∙◌, ap, sym, subst, ℕ, ◌^◌, ◌<◌, ◌≤◌, ℤ, List, [], ◌∷◌, ◌++◌, length, take, drop, Option, Some, IfSome, arith, length-append}
+use Rattle.std.proofs.Common.{◌≡◌, ◌∙◌, ap, refl, sym, subst, ℕ, ◌+◌, ◌^◌, ◌<◌, ◌≤◌, ℤ, List, [], ◌∷◌, ◌++◌, length, take, drop, Bool, true, false, ◌==◌, IsTrue, Option, Some, IfSome, arith, rules, tests, length-append}
 use Rattle.std.proofs.lemmas.List.{map-append, take-append-drop, length-take-le}
 use Rattle.dsp_defs.specs.Shape.{live_frames}
 use Rattle.dsp_stage.specs.Kept.{IsOfKind, IsPlace, FitsAfter, kept_count, kept_kinds, place_of}
@@ -8,7 +8,7 @@ use Rattle.dsp_stage.specs.Row.{blocks_of}
 use Rattle.dsp_stage.proofs.ChannelKept.{append-apart, each-length}
 use Rattle.dsp_chain.specs.FrameRule.{rule_of, rules_of, whole_by, live_by, AreFew}
 use Rattle.dsp_chain.specs.KeptRule.{kept_rule, unit_rule, unit_rules, count_by, place_by, HaveGroups}
-use Rattle.dsp_chain.specs.Restored.{FitsUnits, HasRules}
+use Rattle.dsp_chain.specs.Restored.{FitsUnits, HasRules, kept_by}
 use Rattle.dsp_defs.specs.declared.format.Fmt.{Fmt}
 use Rattle.dsp_defs.specs.declared.script.Block.{Block}
 use Rattle.dsp_chain.specs.declared.frame_rule.FrameRule.{FrameRule}
@@ -101,3 +101,21 @@ told u link us n count numbers here later found same is here_is later_is fits le
       behind = λ all. subst (FitsUnits us (live_frames link.block n)) (sym later_is) (cut link us n count numbers is all).behind;
       both = λ place rest. join link us n count numbers (found-fits link.format link.channels link.block n (take count numbers) found fits' place) (subst (FitsUnits us (live_frames link.block n)) later_is rest);
     }
+
+-- the numbers of the first unit, and of the row behind it
+pub kept-apart : (links : List UnitState) (link u : UnitState) (behind : List UnitState) → links ≡ link ∷ behind → u ≡ link → kept_by links ≡ u.kept ++ kept_by behind
+kept-apart links link u behind links_are same = ap kept_by (row-is links behind link u links_are same)
+
+module _ (links : List UnitState) (link u : UnitState) (behind : List UnitState) (count : ℕ) (links_are : links ≡ link ∷ behind) (same : u ≡ link) (here : count ≡ length u.kept) where
+  pub kept-length : count + length (kept_by behind) ≡ length (kept_by links)
+  kept-length = ap (λ n. n + length (kept_by behind)) here ∙ sym (length-append u.kept (kept_by behind)) ∙ ap length (sym (kept-apart links link u behind links_are same))
+
+-- no numbers are an empty list
+pub no-numbers : (numbers : List ℤ) (empty : Bool) → empty ≡ (length numbers == 0) → (IsTrue empty → numbers ≡ []) × (numbers ≡ [] → IsTrue empty)
+no-numbers [] empty is = (λ _. refl, λ _. is)
+no-numbers (n ∷ numbers) empty is =
+    let some : (length (n ∷ numbers) == 0) ≡ false = search (rules, tests) in
+    (λ yes. absurd (true-false (sym yes ∙ is ∙ some)), λ none. cc none)
+  where
+    true-false : true ≡ false → ⊥
+    true-false e = cc

@@ -1,6 +1,6 @@
 -- How many measures a row has.
-use Rattle.std.proofs.Common.{◌≡◌, ◌∙◌, ap, ap₂, refl, sym, subst, ℕ, zero, suc, ◌+◌, ◌*◌, ◌<◌, ◌≤◌, ℤ, List, [], ◌∷◌, length, get_or, arith, length-append}
-use Rattle.std.specs.Prelude.{All}
+use Rattle.std.proofs.Common.{◌≡◌, ◌∙◌, ap, ap₂, refl, sym, subst, ℕ, zero, suc, ◌+◌, ◌*◌, ◌<◌, ◌≤◌, ℤ, List, [], ◌∷◌, ◌++◌, length, get_or, arith, None, length-append}
+use Rattle.std.specs.Prelude.{All, slice_get}
 use Rattle.std.proofs.lemmas.List.FromFn.{length-map-range_with_len}
 use Rattle.dsp_stage.specs.Kept.{kept_measures}
 use Rattle.dsp_defs.specs.Signal.{values}
@@ -58,6 +58,9 @@ module _ (links : List UnitState) (link u : UnitState) (behind : List UnitState)
       ap₂ (λ (a b : ℕ). a + b) (here ∙ ap (λ v. length (measures_of 0 v)) same ∙ length-measures_of 0 1 link) (rest ∙ length-measured 1 2 behind)
       ∙ sym (length-append (measures_of 1 link) (measured_by 2 behind)) ∙ ap (λ us. length (measured_by 1 us)) (sym is_first)
 
+  pub each-behind : All (λ v. length (measures_of 0 v) ≤ MAX_CHANNELS) links → All (λ v. length (measures_of 0 v) ≤ MAX_CHANNELS) behind
+  each-behind each = λ k d h. subst (All (λ v. length (measures_of 0 v) ≤ MAX_CHANNELS)) is_first each (suc k) d (omega (arith, h))
+
   pub few-row : All (λ v. length (measures_of 0 v) ≤ MAX_CHANNELS) links → later ≤ MAX_CHANNELS * length behind → first + later ≤ MAX_CHANNELS * length links
   few-row each rest =
       let one : length (measures_of 0 link) ≤ MAX_CHANNELS = subst (All (λ v. length (measures_of 0 v) ≤ MAX_CHANNELS)) is_first each 0 link (omega arith) in
@@ -77,3 +80,34 @@ row-measures number p [] row = refl
 row-measures number p (u ∷ us) row =
     length-append (measures_of number u) (measured_by (number + 1) us)
     ∙ ap₂ (λ (a b : ℕ). a + b) (unit-measures number u.format u.channels u.block u.kept ∙ ap (λ c. measure_count c u.block) row.0.channels) (row-measures (number + 1) (place_after p u.block) us row.1)
+
+-- ---- the measure at an index
+
+measure-front : (xs ys : List Measure) (i : ℕ) → i < length xs → slice_get (xs ++ ys) i ≡ slice_get xs i
+measure-front [] ys i h = absurd (omega (arith, h))
+measure-front (x ∷ xs) ys zero h = refl
+measure-front (x ∷ xs) ys (suc i) h = measure-front xs ys i (omega (arith, h))
+
+measure-later : (xs ys : List Measure) (i j : ℕ) → i ≡ length xs + j → slice_get (xs ++ ys) i ≡ slice_get ys j
+measure-later [] ys i j e = ap (slice_get ys) (let same : i ≡ j = omega (arith, e) in same)
+measure-later (x ∷ xs) ys zero j e = absurd (omega (arith, e))
+measure-later (x ∷ xs) ys (suc i) j e = measure-later xs ys i j (omega (arith, e))
+
+pub no-measure : (ms : List Measure) (i : ℕ) → i < length ms → None ≡ slice_get ms i → ⊥
+no-measure [] i h e = omega (arith, h)
+no-measure (m ∷ ms) zero h e = cc
+no-measure (m ∷ ms) (suc i) h e = no-measure ms i (omega (arith, h)) e
+
+-- it is of the first unit, or of the row behind it
+module _ (number index first : ℕ) (links : List UnitState) (link u : UnitState) (behind : List UnitState) (is_first : links ≡ link ∷ behind) (same : u ≡ link) (here : first ≡ length (measures_of 0 u)) where
+  both : measured_by number links ≡ measures_of number u ++ measured_by (number + 1) behind
+  both = ap (measured_by number) is_first ∙ ap (λ v. measures_of number v ++ measured_by (number + 1) behind) (sym same)
+
+  size : first ≡ length (measures_of number u)
+  size = here ∙ length-measures_of 0 number u
+
+  pub measure-of-first : index < first → slice_get (measured_by number links) index ≡ slice_get (measures_of number u) index
+  measure-of-first within = ap (λ ms. slice_get ms index) both ∙ measure-front (measures_of number u) (measured_by (number + 1) behind) index (omega (arith, size, within))
+
+  pub measure-of-others : (later : ℕ) → index ≡ first + later → slice_get (measured_by number links) index ≡ slice_get (measured_by (number + 1) behind) later
+  measure-of-others later e = ap (λ ms. slice_get ms index) both ∙ measure-later (measures_of number u) (measured_by (number + 1) behind) index later (omega (arith, size, e))

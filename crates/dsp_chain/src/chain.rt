@@ -2,20 +2,18 @@ use crate::frame_rule::{FrameRule, gather_fault, gathered, window_fault};
 use crate::keeping::{count_kept, fits_row, keep_row, restore_row};
 use crate::kept_rule::KeptRule;
 use crate::row::{Link, count_measures, feed_row, find_measure, finish_row};
-use dsp_blocks::BlockUnit;
 use dsp_defs::{
     Flow, Fmt, GatherFull, Input, MAX_GATHERED, MAX_INPUT, Measure, Script, Steps, WindowFault,
 };
-use dsp_stage::Stage;
-use dsp_unit::most_frames;
+use dsp_stage::{AnyUnit, Stage, most_frames};
 use std::alloc::{AllocError, Global};
 use std::marker::Model;
 use std::sync::ledger::Ledger;
 
 /// The units of a script.
 #[derive(Drop)]
-pub struct Chain {
-    links: Vec<Link<BlockUnit>>,
+pub struct Chain<U: Stage + Drop> {
+    links: Vec<Link<U>>,
     rules: Vec<FrameRule>,
     kept: Vec<KeptRule>,
     format: Fmt,
@@ -27,7 +25,7 @@ pub struct Chain {
     failed: Option<GatherFull>,
 }
 
-impl Model for Chain {
+impl<U: Stage + Drop> Model for Chain<U> {
     ghost use Rattle.std.specs.Prelude.{◌≡◌};
     ghost use Rattle.dsp_stage.specs.Row.{blocks_of, place_room};
     ghost use Rattle.dsp_chain.specs.Chain.{ChainState, IsWhole, output_of};
@@ -45,13 +43,35 @@ impl Model for Chain {
           failed = c.failed;
         } };
 
-    ghost invariant = { λ c. (IsWhole (record { input = record { format = c.format; channels = c.channels; capacity = c.capacity }; units = c.links.items; frames = c.frames; ended = c.ended; failed = c.failed }))
+    ghost invariant = { λ c. (IsWhole
+        (record {
+          input = record {
+            format = c.format;
+            channels = c.channels;
+            capacity = c.capacity;
+          };
+          units = c.links.items;
+          frames = c.frames;
+          ended = c.ended;
+          failed = c.failed;
+        }))
         × (c.rules.items ≡ rules_of (blocks_of c.links.items))
         × (c.kept.items ≡ unit_rules c.links.items)
-        × (c.room ≡ place_room (output_of (record { input = record { format = c.format; channels = c.channels; capacity = c.capacity }; units = c.links.items; frames = c.frames; ended = c.ended; failed = c.failed }))) };
+        × (c.room ≡ place_room (output_of
+        (record {
+          input = record {
+            format = c.format;
+            channels = c.channels;
+            capacity = c.capacity;
+          };
+          units = c.links.items;
+          frames = c.frames;
+          ended = c.ended;
+          failed = c.failed;
+        }))) };
 }
 
-impl Chain {
+impl<U: AnyUnit + Drop> Chain<U> {
     ghost use Rattle.std.specs.Prelude.{◌≡◌, ◌≤◌, ◌<◌, ◌+◌, ◌^◌, ◌↔◌, IsTrue, IsFalse, IfOk, IfErr, IsErr, None, Some, length, take, slice_get};
     ghost use Rattle.std.specs.Option.{option_map};
     ghost use Rattle.dsp_defs.specs.Shape.{gathered, held, window_at, is_legal};
@@ -67,7 +87,7 @@ impl Chain {
 
     /// The chain of a script, for a legal block length, the most frames of a call. All memory of the
     /// chain is taken here, and it errs only where memory is wanting.
-    pub fn new(alloc: Global, script: &Script, block: u64) -> Result<Chain, AllocError>
+    pub fn new(alloc: Global, script: &Script, block: u64) -> Result<Self, AllocError>
         requires chain { IsChain (input_flow script.now.input) script.now.blocks }
         requires channels { 1 ≤ script.now.input.channels }
         requires few_channels { script.now.input.channels ≤ MAX_CHANNELS }
@@ -89,7 +109,7 @@ impl Chain {
         let mut rules = Vec::with_capacity(alloc, blocks.len())?;
         let mut kept = Vec::with_capacity(alloc, blocks.len())?;
         for block in blocks {
-            let unit = BlockUnit::new(alloc, block, flow.format, flow.channels, frames)?;
+            let unit = U::of_block(alloc, block, flow.format, flow.channels, frames)?;
             let numbers = KeptRule::of_block(block, flow.channels, unit.kept_count() as u64);
             flow = flow.after(block);
             frames = most_frames(block, frames);
@@ -129,8 +149,10 @@ impl Chain {
             FeedsChain self.old self.new frames.now (take given out.new) steps.old steps.new) }
         ensures full { IsErr result ↔ IsTooMuch self.old
             (length (frames_in self.old.input.channels frames.now)) }
-        ensures numbers { self.old.failed ≡ None → IfErr result (λ fault. (fault.held ≡ held (blocks_of self.old.units) self.old.frames)
-            × (fault.held + fault.more ≡ gathered (blocks_of self.old.units) (self.old.frames + length (frames_in self.old.input.channels frames.now)))) }
+        ensures numbers { self.old.failed ≡ None
+            → IfErr result (λ fault. (fault.held ≡ held (blocks_of self.old.units) self.old.frames)
+            × (fault.held + fault.more ≡ gathered (blocks_of self.old.units)
+            (self.old.frames + length (frames_in self.old.input.channels frames.now)))) }
         ensures refused { IfErr result (λ fault. FailsChain self.old self.new fault steps.old steps.new) }
         ensures untouched { IfErr result (λ _. out.new ≡ out.old) }
     {

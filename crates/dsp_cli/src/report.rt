@@ -11,6 +11,7 @@ use arrayvec::ArrayVec;
 use dsp_defs::{Flow, Measure};
 use dsp_line::{natural, text, wide_natural};
 use dsp_session::{Session, Totals};
+use dsp_stage::AnyUnit;
 
 /// The bytes of a report at most.
 const REPORT: usize = 512;
@@ -27,9 +28,10 @@ pub struct Summary {
 }
 
 /// The measures of a session, into a list that was made with room for them.
-pub fn find_measures(session: &Session<'_>, measures: &mut Vec<Measure>)
+pub fn find_measures<U: AnyUnit + Drop>(session: &Session<'_, U>, measures: &mut Vec<Measure>)
     requires empty { measures.old.items ≡ [] }
-    requires room { measure_counts session.now.script.input.channels session.now.script.blocks ≤ vec_capacity measures.old }
+    requires room { measure_counts session.now.script.input.channels session.now.script.blocks
+        ≤ vec_capacity measures.old }
     ensures { measures.new.items ≡ measured session.now }
 {
     for index in 0..session.measures() {

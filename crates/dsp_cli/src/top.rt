@@ -22,10 +22,11 @@ use crate::report::{Summary, find_measures, head_of};
 use crate::script::{ReadFault, read_script};
 use crate::words::Words;
 use dsp_defs::{Command, Flow, Measure, Script, Steps};
-use dsp_measure::line;
+use dsp_line::measure_line;
 use dsp_ports::{Failed, Sink, Source, write_all};
 use dsp_script::{ParseFault, default_block, legal, output_flow, parse, print, unit};
 use dsp_session::{Session, stream};
+use dsp_stage::AnyUnit;
 use dsp_wave::GenSource;
 use std::alloc::Global;
 use std::sync::ledger::Ledger;
@@ -69,7 +70,7 @@ fn chosen(named: Option<u32>, script: &Script) -> u64
 }
 
 /// Runs a script over the input.
-fn run_script<S: Source, K: Sink, L: Ledger>(
+fn run_script<U: AnyUnit + Drop, S: Source, K: Sink, L: Ledger>(
     alloc: Global,
     named: Option<u32>,
     script: &Script,
@@ -90,7 +91,7 @@ fn run_script<S: Source, K: Sink, L: Ledger>(
         let unit = unit(script);
         return Err(Fault::BlockLength { block, unit });
     }
-    let Ok(mut session) = Session::new(alloc, script, block) else {
+    let Ok(mut session) = Session::<U>::new(alloc, script, block) else {
         return Err(Fault::Memory);
     };
     // The list has all the room that it will need, so that no memory is wanted behind the stream.
@@ -114,7 +115,7 @@ fn run_script<S: Source, K: Sink, L: Ledger>(
 }
 
 /// Runs a script over so many frames that are made from a seed, in blocks of the script's length.
-fn generate<K: Sink, L: Ledger>(
+fn generate<U: AnyUnit + Drop, K: Sink, L: Ledger>(
     alloc: Global,
     seed: u32,
     frames: u32,
@@ -132,11 +133,11 @@ fn generate<K: Sink, L: Ledger>(
         (K.state output.new) steps.old steps.new) }
 {
     let mut input = GenSource::new(&script.input, seed, frames);
-    run_script(alloc, None, script, &mut input, output, steps)
+    run_script::<U, _, _, _>(alloc, None, script, &mut input, output, steps)
 }
 
 /// Does what the words say, but for the report.
-fn perform<P: Source, S: Source, K: Sink, L: Ledger>(
+fn perform<U: AnyUnit + Drop, P: Source, S: Source, K: Sink, L: Ledger>(
     alloc: Global,
     words: &Words,
     script: &mut P,
@@ -144,10 +145,12 @@ fn perform<P: Source, S: Source, K: Sink, L: Ledger>(
     output: &mut K,
     steps: &mut Steps<L>,
 ) -> Result<Outcome, Fault>
-    ensures ok { IfOk result (λ outcome. Performed outcome (call words.now (P.state script.old) (P.state script.new) (S.state input.old) (S.state input.new)
-        (K.state output.old) (K.state output.new) steps.old steps.new)) }
-    ensures err { IfErr result (λ fault. Happened (Stopped fault) (call words.now (P.state script.old) (P.state script.new) (S.state input.old) (S.state input.new)
-        (K.state output.old) (K.state output.new) steps.old steps.new)) }
+    ensures ok { IfOk result (λ outcome. Performed outcome
+        (call words.now (P.state script.old) (P.state script.new) (S.state input.old)
+        (S.state input.new) (K.state output.old) (K.state output.new) steps.old steps.new)) }
+    ensures err { IfErr result (λ fault. Happened (Stopped fault)
+        (call words.now (P.state script.old) (P.state script.new) (S.state input.old)
+        (S.state input.new) (K.state output.old) (K.state output.new) steps.old steps.new)) }
     ensures taken { (P.state script.new).taken ≤ (P.state script.old).taken + MAX_SCRIPT + 1 }
 {
     let Some(command) = command(words) else {
@@ -162,12 +165,14 @@ fn perform<P: Source, S: Source, K: Sink, L: Ledger>(
             Ok(text) => Ok(Outcome::Printed(text)),
             Err(_) => Err(Fault::Memory),
         },
-        Command::Run { block } => match run_script(alloc, block, &script, input, output, steps) {
+        Command::Run { block } => match run_script::<U, _, _, _>(
+            alloc, block, &script, input, output, steps,
+        ) {
             Ok(summary) => Ok(Outcome::Ran(summary)),
             Err(fault) => Err(fault),
         },
         Command::Gen { seed, frames } => {
-            match generate(alloc, seed, frames, &script, output, steps) {
+            match generate::<U, _, _>(alloc, seed, frames, &script, output, steps) {
                 Ok(summary) => Ok(Outcome::Ran(summary)),
                 Err(fault) => Err(fault),
             }
@@ -195,7 +200,7 @@ fn tell_measures<R: Sink>(report: &mut R, measures: &[Measure]) -> Result<(), Fa
     ensures faults { CountsFaults result (R.state report.old).faults (R.state report.new).faults }
 {
     for measure in measures {
-        write_all(report, &line(measure))?;
+        write_all(report, &measure_line(measure))?;
     }
     Ok(())
 }
@@ -252,7 +257,7 @@ fn settle<R: Sink>(outcome: Result<Outcome, Fault>, report: &mut R) -> u8
 /// came in, what went out and the multiplies; after a fault one line is tried on the report. A run takes its blocks in
 /// the length that the words name, else the script, else the default; a gen names none. A gen takes its
 /// input from the generator, and leaves the port `input` alone.
-pub fn run<P: Source, S: Source, K: Sink, R: Sink, L: Ledger>(
+pub fn run<U: AnyUnit + Drop, P: Source, S: Source, K: Sink, R: Sink, L: Ledger>(
     alloc: Global,
     words: &Words,
     script: &mut P,
@@ -262,29 +267,37 @@ pub fn run<P: Source, S: Source, K: Sink, R: Sink, L: Ledger>(
     steps: &mut Steps<L>,
 ) -> u8
     // How it ended: a script, the frames of its input and what its stream did, or the fault; and the report of just that.
-    ensures ended { Ended (call words.now (P.state script.old) (P.state script.new) (S.state input.old) (S.state input.new)
-        (K.state output.old) (K.state output.new) steps.old steps.new) result (R.state report.old) (R.state report.new) }
+    ensures ended { Ended (call words.now (P.state script.old) (P.state script.new)
+        (S.state input.old) (S.state input.new) (K.state output.old) (K.state output.new)
+        steps.old steps.new) result (R.state report.old) (R.state report.new) }
 
     // A run or a gen that is done has written exactly the output of the script for all the input.
-    ensures done { IsStream words.now → IsDone result → IfWhole (command_of words.now) (P.state script.old).left (S.state input.old)
+    ensures done { IsStream words.now → IsDone result
+        → IfWhole (command_of words.now) (P.state script.old).left (S.state input.old)
         (λ s bytes. Wrote (output_of s bytes) (K.state output.old) (K.state output.new)) }
     ensures settled { IsStream words.now → IsDone result → IsSettled (K.state output.new) }
 
     // What is left alone, and what a gen goes over.
     ensures untouched { IsRefused result ⊎ IsPrint words.now
-        → Untouched (S.state input.old) (S.state input.new) (K.state output.old) (K.state output.new) steps.old steps.new }
+        → Untouched (S.state input.old) (S.state input.new) (K.state output.old)
+        (K.state output.new) steps.old steps.new }
     ensures input_same { IsGen words.now → S.state input.new ≡ S.state input.old }
-    ensures counted { (seed frames : ℕ) → command_of words.now ≡ Some (Gen seed frames) → IsDone result → IfScript (P.state script.old).left (λ s.
+    ensures counted { (seed frames : ℕ) → command_of words.now ≡ Some (Gen seed frames)
+        → IsDone result → IfScript (P.state script.old).left (λ s.
         (steps.new.multiplies ≡ steps.old.multiplies + cost_of s frames)
-        × Tells (report_text s frames (measures_of s (input_signal s (generated_bytes s.input seed frames)))) (R.state report.old) (R.state report.new)) }
+        × Tells (report_text s frames (measures_of s
+        (input_signal s (generated_bytes s.input seed frames)))) (R.state report.old)
+        (R.state report.new)) }
     ensures script_taken { (P.state script.new).taken ≤ (P.state script.old).taken + MAX_SCRIPT + 1 }
 
     // Which statuses may come, which must, and that nothing else stands in the way of 0.
-    ensures causes { Causes (call words.now (P.state script.old) (P.state script.new) (S.state input.old) (S.state input.new)
-        (K.state output.old) (K.state output.new) steps.old steps.new) result }
-    ensures completes { Completes (call words.now (P.state script.old) (P.state script.new) (S.state input.old) (S.state input.new)
-        (K.state output.old) (K.state output.new) steps.old steps.new) result (R.state report.old) (R.state report.new) }
+    ensures causes { Causes (call words.now (P.state script.old) (P.state script.new)
+        (S.state input.old) (S.state input.new) (K.state output.old) (K.state output.new)
+        steps.old steps.new) result }
+    ensures completes { Completes (call words.now (P.state script.old) (P.state script.new)
+        (S.state input.old) (S.state input.new) (K.state output.old) (K.state output.new)
+        steps.old steps.new) result (R.state report.old) (R.state report.new) }
 {
-    let outcome = perform(alloc, words, script, input, output, steps);
+    let outcome = perform::<U, _, _, _, _>(alloc, words, script, input, output, steps);
     settle(outcome, report)
 }

@@ -39,7 +39,8 @@ impl<T: LaneSample<L>, const L: usize, K: Copy> Model for Convolution<T, L, K> {
       taps = reverse (map T.number c.reversed.items);
       past = last_samples c.window.past c.window.samples;
       place = c.place;
-      tail = rows T.format (map T.number c.reversed.items) (drop c.skip (last_samples c.window.past c.window.samples)) c.left;
+      tail = rows T.format (map T.number c.reversed.items)
+          (drop c.skip (last_samples c.window.past c.window.samples)) c.left;
       block = c.block;
       ended = c.ended;
     } };
@@ -140,7 +141,10 @@ impl<T: LaneSample<L>, const L: usize, K: Copy> Convolution<T, L, K> {
     /// The tail becomes what the last samples leave to be given.
     fn owe(&mut self)
         ensures { self.new
-            ≡ record self.old { tail = tail_behind T.format self.old.extent self.old.taps self.old.past self.old.place } }
+            ≡ record self.old {
+              tail = tail_behind T.format self.old.extent self.old.taps
+                  self.old.past self.old.place;
+            } }
     {
         let zeros = match self.place {
             0 => 0,

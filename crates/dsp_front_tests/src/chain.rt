@@ -8,12 +8,15 @@ ghost use Rattle.dsp_defs.specs.declared.limits.TheConstants.{MAX_BLOCKS, MAX_CO
 ghost use Rattle.dsp_defs.specs.declared.format.Fmt.TheVariants.{Q31};
 ghost use Rattle.dsp_defs.specs.declared.script.Block.TheVariants.{Fir};
 
-use dsp_chain::Chain;
+use dsp_blocks::BlockUnit;
 use dsp_defs::{Block, Blocks, Container, Fmt, Input, InputKind, List, Script, Steps};
 use std::alloc::Global;
 use std::marker::Brand;
 use std::process::Abort;
 use std::sync::ledger::{Blank, Ledger};
+
+/// A chain of the blocks of a script.
+type Chain = dsp_chain::Chain<BlockUnit>;
 
 const HALF: i32 = 1 << 30;
 
@@ -124,9 +127,9 @@ fn gives<L: Ledger>(
         assert!(rt; taken < 100);
         given.extend_from_slice(&out[..count]).expect(rt, "memory");
     }
-    assert_eq!(rt; given.as_slice(), wanted);
+    assert_same!(rt; given.as_slice(), wanted);
     assert!(rt; chain.window_fault(0).is_none());
-    assert_eq!(rt; chain.finish(&mut out, &mut steps), 0);
+    assert_same!(rt; chain.finish(&mut out, &mut steps), 0);
 }
 
 /// Feeds a chain of the script two frames, gives the numbers that it keeps of them to a new one, and feeds
@@ -147,7 +150,7 @@ fn resumes<L: Ledger>(rt: &impl Abort, alloc: Global, blank: Blank, script: &Scr
     let mut out = vec![in alloc; 0; chain.room()].expect(rt, "memory");
     let piece = [1000, 8, -1000, 3];
     let count = feed_piece(rt, alloc, &mut chain, &piece, &mut out, &mut steps);
-    assert_eq!(rt; &out[..count], [250, 2, -125, 1].as_slice());
+    assert_same!(rt; &out[..count], [250, 2, -125, 1].as_slice());
     let mut kept = vec![in alloc; 0; chain.kept_count()].expect(rt, "memory");
     chain.keep(&mut kept);
     // Each filter keeps the last frame that came to it, the left channel before the right one.
@@ -157,7 +160,7 @@ fn resumes<L: Ledger>(rt: &impl Abort, alloc: Global, blank: Blank, script: &Scr
     assert!(rt; next.fits(2, &kept));
     next.restore(2, &kept);
     let count = feed_piece(rt, alloc, &mut next, &[400, -16], &mut out, &mut steps);
-    assert_eq!(rt; &out[..count], [-25, -4].as_slice());
+    assert_same!(rt; &out[..count], [-25, -4].as_slice());
 }
 
 #[test]

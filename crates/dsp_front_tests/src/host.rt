@@ -2,6 +2,7 @@
 ghost use Rattle.std.specs.Prelude.{◌≡◌, ◌+◌, ◌*◌, ◌<◌, ◌≤◌, IfSome, IsFalse, length};
 ghost use Rattle.dsp_session.specs.Session.{IsReady, SameSession, frame_bytes, input_coding};
 
+use dsp_blocks::BlockUnit;
 use dsp_defs::{Fmt, Measure, Script, Steps};
 use dsp_script::{legal, parse};
 use dsp_session::Session;
@@ -48,7 +49,7 @@ fn frames_of(rt: &impl Abort, bytes: &[u8], frame: usize) -> usize
 /// Feeds the session one or two frames of so many bytes, and compares what it gives of them.
 fn feed_frames<L: Ledger>(
     rt: &impl Abort,
-    session: &mut Session<'_>,
+    session: &mut Session<'_, BlockUnit>,
     frame: usize,
     bytes: &[u8],
     wanted: &[u8],
@@ -66,33 +67,33 @@ fn feed_frames<L: Ledger>(
     let Ok(given) = session.feed(bytes, steps) else {
         panic!(rt; "no block gathers");
     };
-    assert_eq!(rt; given, wanted.len());
-    assert_eq!(rt; session.out(), wanted);
+    assert_same!(rt; given, wanted.len());
+    assert_same!(rt; session.out(), wanted);
 }
 
 /// Ends the input, and compares the pieces of the tail.
 fn end_gives<L: Ledger>(
     rt: &impl Abort,
-    session: &mut Session<'_>,
+    session: &mut Session<'_, BlockUnit>,
     pieces: &[&[u8]],
     steps: &mut Steps<L>,
 ) {
     for piece in pieces {
-        assert_eq!(rt; session.end(steps), piece.len());
-        assert_eq!(rt; session.out(), *piece);
+        assert_same!(rt; session.end(steps), piece.len());
+        assert_same!(rt; session.out(), *piece);
     }
-    assert_eq!(rt; session.end(steps), 0);
+    assert_same!(rt; session.end(steps), 0);
 }
 
 /// Compares the first measure, of the script's third block, with a sum of squares.
-fn power_is(rt: &impl Abort, session: &Session<'_>, value: i64) {
+fn power_is(rt: &impl Abort, session: &Session<'_, BlockUnit>, value: i64) {
     assert_eq!(rt; session.measures(), 1);
     let power = Measure::Power {
         number: 3,
         channel: 0,
         value,
     };
-    assert_eq!(rt; session.measure(0), power);
+    assert_same!(rt; session.measure(0), power);
 }
 
 /// The samples 1000, -1000 and 400 are halved to x. Of that come a half of x(n) and of x(n-2), and a

@@ -3,6 +3,16 @@
 //! fail at each place.
 #![tactic(auto)]
 
+/// Ends the test where what was found is not what is wanted, and shows both. It is a call, since all that
+/// `assert_eq!` writes would be proved again at each place; that one stands where a fact that is used later
+/// follows from what was found.
+#[cfg(test)]
+macro_rules! assert_same {
+    ($rt:expr; $found:expr, $wanted:expr) => {
+        crate::same::same(&$rt, &$found, &$wanted)
+    };
+}
+
 #[cfg(test)]
 mod block_runs;
 #[cfg(test)]
@@ -17,6 +27,8 @@ mod host;
 mod ports;
 #[cfg(test)]
 mod runs;
+#[cfg(test)]
+mod same;
 #[cfg(test)]
 mod script;
 #[cfg(test)]

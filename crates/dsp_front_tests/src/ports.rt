@@ -7,13 +7,13 @@ use std::test::Fail;
 fn a_read_that_is_listed_fails_and_the_others_go_on(rt: HostRuntime) -> Result<(), Fail> {
     let mut source = MemSource::new(rt.alloc(), b"abcdefg", 3, &[2])?;
     let mut block = [0; 4];
-    assert_eq!(rt; source.read(&mut block).ok(), Some(3));
-    assert_eq!(rt; block.as_slice(), b"abc\0".as_slice());
+    assert_same!(rt; source.read(&mut block).ok(), Some(3));
+    assert_same!(rt; block.as_slice(), b"abc\0".as_slice());
     assert!(rt; source.read(&mut block).is_err());
-    assert_eq!(rt; source.read(&mut block).ok(), Some(3));
-    assert_eq!(rt; block.as_slice(), b"def\0".as_slice());
-    assert_eq!(rt; source.read(&mut block).ok(), Some(1));
-    assert_eq!(rt; source.read(&mut block).ok(), Some(0));
+    assert_same!(rt; source.read(&mut block).ok(), Some(3));
+    assert_same!(rt; block.as_slice(), b"def\0".as_slice());
+    assert_same!(rt; source.read(&mut block).ok(), Some(1));
+    assert_same!(rt; source.read(&mut block).ok(), Some(0));
     Ok(())
 }
 
@@ -24,7 +24,7 @@ fn a_sink_fails_where_it_is_full_or_listed(rt: HostRuntime) -> Result<(), Fail> 
     assert!(rt; sink.flush().is_err());
     assert!(rt; sink.flush().is_ok());
     assert!(rt; write_all(&mut sink, b"ef").is_err());
-    assert_eq!(rt; sink.bytes(), b"abcde".as_slice());
+    assert_same!(rt; sink.bytes(), b"abcde".as_slice());
     Ok(())
 }
 
@@ -36,10 +36,10 @@ fn read_once<S: Source>(source: &mut S, block: &mut [u8]) -> Option<usize> {
 fn clean_ports_never_fail(rt: HostRuntime) -> Result<(), Fail> {
     let mut source = CleanSource::new(rt.alloc(), b"abc", 2)?;
     let mut block = [0; 4];
-    assert_eq!(rt; read_once(&mut source, &mut block), Some(2));
+    assert_same!(rt; read_once(&mut source, &mut block), Some(2));
     let mut sink = CleanSink::new();
     assert!(rt; write_all(&mut sink, b"abcd").is_ok());
-    assert_eq!(rt; sink.count(), 4);
+    assert_same!(rt; sink.count(), 4);
     Ok(())
 }
 
@@ -47,14 +47,14 @@ fn clean_ports_never_fail(rt: HostRuntime) -> Result<(), Fail> {
 fn a_block_is_filled_in_pieces_up_to_the_room(rt: HostRuntime) -> Result<(), Fail> {
     let mut source = MemSource::new(rt.alloc(), b"abcdefg", 3, &[])?;
     let mut block = [0; 5];
-    assert_eq!(rt; fill(&mut source, &mut block, 7).ok(), Some(5));
-    assert_eq!(rt; block.as_slice(), b"abcde".as_slice());
-    assert_eq!(rt;
+    assert_same!(rt; fill(&mut source, &mut block, 7).ok(), Some(5));
+    assert_same!(rt; block.as_slice(), b"abcde".as_slice());
+    assert_same!(rt;
         fill(&mut source, &mut block, 2).err(),
         Some(FillFault::LimitReached)
     );
     let mut short = MemSource::new(rt.alloc(), b"ab", 3, &[2])?;
-    assert_eq!(rt;
+    assert_same!(rt;
         fill(&mut short, &mut block, 9).err(),
         Some(FillFault::Failed)
     );

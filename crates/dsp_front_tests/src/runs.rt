@@ -1,5 +1,6 @@
 ghost use Rattle.std.specs.Prelude.{◌≡◌};
 
+use dsp_blocks::BlockUnit;
 use dsp_cli::{Words, places, run};
 use dsp_defs::Steps;
 use dsp_ports::{CleanSource, MemSink, MemSource, Source};
@@ -24,7 +25,7 @@ fn counted<S: Source, L: Ledger>(
     requires ledger_parts { L.parts ≡ 2 }
 {
     let mut steps: Steps<L> = Steps::new(blank);
-    run(alloc, words, script, input, output, report, &mut steps)
+    run::<BlockUnit, _, _, _, _, _>(alloc, words, script, input, output, report, &mut steps)
 }
 
 fn words_of(alloc: Global, texts: &[&str]) -> Result<Words, AllocError> {
@@ -304,9 +305,9 @@ pub fn play(alloc: Global, rt: &impl Abort, case: &Case<'_>) -> Result<(), Alloc
         &mut report,
         Blank::new(2),
     );
-    assert_eq!(rt; status, case.status);
-    assert_eq!(rt; output.bytes(), case.output);
-    assert_eq!(rt; report.bytes(), case.report);
+    assert_same!(rt; status, case.status);
+    assert_same!(rt; output.bytes(), case.output);
+    assert_same!(rt; report.bytes(), case.report);
     Ok(())
 }
 
@@ -400,7 +401,7 @@ fn long_run(
         Blank::new(2),
     );
     for pair in output.bytes().chunks(2) {
-        assert_eq!(rt; pair, [0xF4, 0x01].as_slice());
+        assert_same!(rt; pair, [0xF4, 0x01].as_slice());
     }
     let mut rest = [0; 512];
     let first = input.read(&mut rest).ok();
@@ -411,11 +412,11 @@ fn long_run(
 #[test]
 fn a_long_run_stops_where_a_port_fails(rt: HostRuntime) -> Result<(), Fail> {
     let whole = long_run(rt.alloc(), &rt, &[], &[])?;
-    assert_eq!(rt; whole, (0, 600, Some(0), Some(0)));
+    assert_same!(rt; whole, (0, 600, Some(0), Some(0)));
     let unread = long_run(rt.alloc(), &rt, &[3], &[])?;
-    assert_eq!(rt; unread, (7, 512, Some(176), Some(0)));
+    assert_same!(rt; unread, (7, 512, Some(176), Some(0)));
     let unwritten = long_run(rt.alloc(), &rt, &[], &[1])?;
-    assert_eq!(rt; unwritten, (8, 0, Some(512), Some(176)));
+    assert_same!(rt; unwritten, (8, 0, Some(512), Some(176)));
     Ok(())
 }
 
@@ -436,8 +437,8 @@ fn an_input_that_never_fails_is_run(rt: HostRuntime) -> Result<(), Fail> {
         &mut report,
         Blank::new(2),
     );
-    assert_eq!(rt; status, 0);
-    assert_eq!(rt;
+    assert_same!(rt; status, 0);
+    assert_same!(rt;
         output.bytes(),
         [0xF4, 0x01, 0x0C, 0xFE, 0xFF, 0xFF].as_slice()
     );
@@ -464,7 +465,7 @@ fn long_gen(
         &mut report,
         Blank::new(2),
     );
-    assert_eq!(rt; status, 0);
+    assert_same!(rt; status, 0);
     Ok((output, report))
 }
 
@@ -481,11 +482,11 @@ const LONG_SCRIPTS: &[&[u8]] = &[
 #[test]
 fn a_long_gen_is_the_same_in_any_blocks(rt: HostRuntime) -> Result<(), Fail> {
     let (first, _report) = long_gen(rt.alloc(), &rt, LONG_SCRIPTS[0])?;
-    assert_eq!(rt; first.bytes().len(), 200_000);
+    assert_same!(rt; first.bytes().len(), 200_000);
     for script in LONG_SCRIPTS {
         let (output, report) = long_gen(rt.alloc(), &rt, script)?;
         assert!(rt; output.bytes() == first.bytes());
-        assert_eq!(rt; report.bytes(), LONG_REPORT);
+        assert_same!(rt; report.bytes(), LONG_REPORT);
     }
     Ok(())
 }
@@ -494,7 +495,7 @@ fn a_long_gen_is_the_same_in_any_blocks(rt: HostRuntime) -> Result<(), Fail> {
 fn words_are_kept_in_order(rt: HostRuntime) -> Result<(), Fail> {
     let words = words_of(rt.alloc(), RUN)?;
     assert_eq!(rt; words.len(), 4);
-    assert_eq!(rt; words.word(3), "o");
-    assert_eq!(rt; places(&words).and_then(|places| places.output), Some(3));
+    assert_same!(rt; words.word(3), "o");
+    assert_same!(rt; places(&words).and_then(|places| places.output), Some(3));
     Ok(())
 }

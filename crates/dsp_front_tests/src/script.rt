@@ -127,7 +127,7 @@ const ROWS: [(&str, &str); 13] = [
 fn worked_texts(rt: HostRuntime) -> Result<(), Fail> {
     for (text, wanted) in &ROWS {
         let given = outcome(rt.alloc(), text.as_bytes())?;
-        assert_eq!(rt; given.as_str(), *wanted);
+        assert_same!(rt; given.as_str(), *wanted);
     }
     Ok(())
 }
@@ -137,15 +137,15 @@ fn texts_at_their_limits(rt: HostRuntime) -> Result<(), Fail> {
     let head = "dspfx 1 input raw q15 1 8000 ";
     let alloc = rt.alloc();
     let missing = repeated(alloc, "", " ", 1_048_576)?;
-    assert_eq!(rt; missing.as_str(), "Missing at 1048576");
+    assert_same!(rt; missing.as_str(), "Missing at 1048576");
     let long = repeated(alloc, "", " ", 1_048_577)?;
-    assert_eq!(rt; long.as_str(), "TooLong at 1048576");
+    assert_same!(rt; long.as_str(), "TooLong at 1048576");
     let blocks = repeated(alloc, head, "abs ", 65)?;
-    assert_eq!(rt; blocks.as_str(), "TooMany at 285, limit 64");
+    assert_same!(rt; blocks.as_str(), "TooMany at 285, limit 64");
     let taps = repeated(alloc, "dspfx 1 input raw q15 1 8000 fir{", "1 ", 16_385)?;
-    assert_eq!(rt; taps.as_str(), "TooMany at 32801, limit 16384");
+    assert_same!(rt; taps.as_str(), "TooMany at 32801, limit 16384");
     let correlations = repeated(alloc, head, "correlate {1} ", 2)?;
-    assert_eq!(rt; correlations.as_str(), "TooMany at 43, limit 1");
+    assert_same!(rt; correlations.as_str(), "TooMany at 43, limit 1");
     Ok(())
 }
 
@@ -167,7 +167,7 @@ fn texts_that_hold(alloc: Global, cases: &[u8]) -> Result<u32, Fail> {
 
 #[test]
 fn texts_of_the_vectors(rt: HostRuntime) -> Result<(), Fail> {
-    assert_eq!(rt; texts_that_hold(rt.alloc(), vectors::TEXTS)?, 232);
+    assert_same!(rt; texts_that_hold(rt.alloc(), vectors::TEXTS)?, 232);
     Ok(())
 }
 
@@ -214,8 +214,8 @@ fn runs_that_hold(alloc: Global, cases: &[u8]) -> Result<u32, Fail> {
 
 #[test]
 fn lengths_of_the_vectors(rt: HostRuntime) -> Result<(), Fail> {
-    assert_eq!(rt; units_that_hold(rt.alloc(), vectors::UNITS)?, 17);
-    assert_eq!(rt; runs_that_hold(rt.alloc(), vectors::RUNS)?, 38);
+    assert_same!(rt; units_that_hold(rt.alloc(), vectors::UNITS)?, 17);
+    assert_same!(rt; runs_that_hold(rt.alloc(), vectors::RUNS)?, 38);
     Ok(())
 }
 
@@ -223,10 +223,10 @@ fn lengths_of_the_vectors(rt: HostRuntime) -> Result<(), Fail> {
 fn worked_lengths(rt: HostRuntime) -> Result<(), Fail> {
     let halved = b"dspfx 1 input raw q15 1 8000 decimate 2 {16384} output raw";
     let halved = script(rt.alloc(), halved)?;
-    assert_eq!(rt; unit(&halved), 2);
+    assert_same!(rt; unit(&halved), 2);
     assert!(rt; !legal(&halved, 5));
     let third = b"dspfx 1 input raw q15 1 8000 decimate 3 {16384} output raw";
     let third = script(rt.alloc(), third)?;
-    assert_eq!(rt; default_block(&third), 258);
+    assert_same!(rt; default_block(&third), 258);
     Ok(())
 }

@@ -1,5 +1,6 @@
 ghost use Rattle.std.specs.Prelude.{◌≡◌};
 
+use dsp_blocks::BlockUnit;
 use dsp_defs::{HeaderFault, Steps, WindowFault};
 use dsp_ports::{MemSink, MemSource};
 use dsp_script::{legal, parse};
@@ -26,7 +27,7 @@ fn streamed<L: Ledger>(
     if !legal(&script, 2) {
         return None;
     }
-    let mut session = Session::new(alloc, &script, 2).ok()?;
+    let mut session = Session::<BlockUnit>::new(alloc, &script, 2).ok()?;
     Some(stream(&mut session, input, output, &mut steps))
 }
 
@@ -114,8 +115,8 @@ fn each_stream_answers_and_writes(rt: HostRuntime) -> Result<(), Fail> {
             &mut output,
             Blank::new(2),
         );
-        assert_eq!(rt; answer, Some(case.answer));
-        assert_eq!(rt; output.bytes(), case.output);
+        assert_same!(rt; answer, Some(case.answer));
+        assert_same!(rt; output.bytes(), case.output);
     }
     Ok(())
 }
@@ -130,7 +131,7 @@ fn first_windows(
     if !legal(&script, 2) {
         return None;
     }
-    let session = Session::new(alloc, &script, 2).ok()?;
+    let session = Session::<BlockUnit>::new(alloc, &script, 2).ok()?;
     Some((
         session.out().len(),
         session.window_fault(0),
@@ -140,7 +141,7 @@ fn first_windows(
 
 #[test]
 fn a_window_of_one_value_wants_one_frame(rt: HostRuntime) {
-    assert_eq!(rt;
+    assert_same!(rt;
         first_windows(
             rt.alloc(),
             b"dspfx 1 input raw q15 1 8000 conv_partial 0 1 {1} output raw"

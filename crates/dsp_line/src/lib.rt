@@ -1,12 +1,15 @@
-//! The pieces of a line of text. A line is built in place and takes no memory.
+//! The pieces of a line of text, and the line of a measure. A line is built in place and takes no memory.
 #![tactic(auto)]
 
 ghost use Rattle.std.specs.Prelude.{◌≡◌, ◌+◌, ◌≤◌, ◌++◌, length, decimal};
 ghost use Rattle.std.specs.Fmt.{signed_decimal};
 ghost use Rattle.arrayvec.specs.ArrayVec.{array_vec_len};
 
+mod measure_lines;
+
 use arrayvec::ArrayVec;
 use itoa::Buffer;
+pub use measure_lines::{MeasureLine, measure_line};
 
 /// Adds a text to a line.
 pub fn text<const N: usize>(line: &mut ArrayVec<u8, N>, text: &[u8])

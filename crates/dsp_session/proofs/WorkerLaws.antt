@@ -1,5 +1,5 @@
 -- What the calls of a chain make of bytes.
-use Rattle.std.proofs.Common.{◌≡◌, ℕ, ◌+◌, ◌*◌, ◌/◌, ◌<◌, ◌≤◌, ℤ, List, [], ◌∷◌, ◌++◌, length, take, drop, fold, flat_map, All, FitsSigned, refl, sym, ap, ◌∙◌, subst, arith, inl, inr}
+use Rattle.std.proofs.Common.{◌≡◌, ℕ, ◌+◌, ◌*◌, ◌/◌, ◌^◌, ◌<◌, ◌≤◌, ℤ, List, [], ◌∷◌, ◌++◌, length, take, drop, fold, flat_map, All, FitsSigned, refl, sym, ap, ◌∙◌, subst, arith, inl, inr}
 use Rattle.dsp_defs.specs.Block.{Frame, format_after}
 use Rattle.dsp_defs.specs.Bytes.{IsValue, format_in, width, bytes_of, sample_of}
 use Rattle.dsp_defs.specs.Counts.{Counts}
@@ -10,6 +10,8 @@ use Rattle.dsp_defs.specs.Signal.{values}
 use Rattle.dsp_stage.specs.Unit.{frames_in}
 use Rattle.dsp_defs.specs.declared.limits.TheConstants.{MAX_SAMPLES, MAX_GATHERED}
 use Rattle.dsp_defs.specs.declared.format.Coding.{Coding}
+use Rattle.dsp_defs.specs.declared.format.Coding.TheVariants.{Raw7, Raw15, Raw31, Wave7, Wave15, Wave24, Wave31}
+use Rattle.std.proofs.lemmas.Nat.{mul-le}
 use Rattle.dsp_defs.specs.declared.script.Block.{Block}
 use Rattle.dsp_defs.specs.declared.script.Script.{Script}
 use Rattle.dsp_defs.proofs.BlockLaws.{length-values}
@@ -22,6 +24,7 @@ use Rattle.dsp_defs.specs.declared.fault.GatherFull.{GatherFull}
 use Rattle.dsp_chain.proofs.Room.{written-row}
 use Rattle.dsp_chain.specs.Chain.{ChainState, ChainStandsFor, SameChain, FeedsChain, FailsChain, FinishesChain, IsNewChain, IsTooMuch as chain_too_much, live_of, output_of, input_place, made_of}
 use Rattle.dsp_session.specs.SessionState.{SessionState}
+use Rattle.dsp_session.specs.Working.{IsWorking}
 use Rattle.dsp_session.specs.Session.{IsReady, Holds, IsNew, Feeds, Fails, IsTooMuch, Ends, input_coding, signal, frame_bytes, live_values, products_of, turns_of}
 
 -- the format behind the blocks
@@ -32,6 +35,15 @@ format_behind p (block ∷ blocks) = format_behind (place_after p block) blocks
 -- rows have room
 pub row_room : (n b c w : ℕ) → n ≤ b → n * (c * w) ≤ b * c * w
 row_room n b c w h = grind arith
+
+few_width : (coding : Coding) → width coding ≤ 4
+few_width Raw7 = omega arith
+few_width Raw15 = omega arith
+few_width Raw31 = omega arith
+few_width Wave7 = omega arith
+few_width Wave15 = omega arith
+few_width Wave24 = omega arith
+few_width Wave31 = omega arith
 
 -- samples without bytes are none
 pub none_written : (ys : List ℤ) (w answer : ℕ) → 0 < w → answer ≡ length ys * w → answer ≡ 0 → ys ≡ []
@@ -47,6 +59,15 @@ module _ (script : Script) (block : ℕ) (ready : IsReady script block) where
   few_samples =
       let fit = ready.sound.1.fit in
       (open_behind (input_place script block) script.blocks (legal_is_open (input_place script block) script.blocks fit.chain fit.channels.0 ready.legal)).samples
+
+  -- and their bytes
+  pub few_bytes :
+      (chain : ChainState) → IsNewChain (input_place script block) script.blocks chain →
+      (coding : Coding) (room w : ℕ) → room ≡ place_room (output_of chain) → w ≡ width coding → room * w < 2 ^ 64
+  few_bytes chain new coding room w room_is w_is =
+      let same : place_room (output_of chain) ≡ place_room (place_behind (input_place script block) script.blocks) = (λ i. place_room (place_behind (new.input i) (new.blocks_are i))) in
+      let bytes = mul-le room w MAX_SAMPLES 4 (omega (arith, room_is, same, few_samples)) (omega (arith, w_is, few_width coding)) in
+      omega (arith, bytes)
 
   -- ---- the samples of bytes
 
@@ -208,3 +229,26 @@ module _ (script : Script) (block : ℕ) (ready : IsReady script block) where
     stands = record { holds = record { ready = ready; input = is.input; blocks = is.blocks_are; turns = is.turns }; chain = is.stands; live = is.live };
     empty = refl;
   }
+
+-- what holds of a worker holds of it with another state of its chain, and other bytes within its room
+pub still_works :
+    (s : SessionState) (chain : ChainState) (out : List ℕ) (coding : Coding) (samples_room values_room bytes_room given later : ℕ) →
+    IsWorking s coding samples_room values_room bytes_room given → SameChain s.chain chain → later ≤ bytes_room →
+    IsWorking (record { script = s.script; block = s.block; coding = s.coding; chain = chain; out = out }) coding samples_room values_room bytes_room later
+still_works s chain out coding samples_room values_room bytes_room given later is same within = record {
+  holds = record {
+    ready = is.holds.ready;
+    input = same.input ∙ is.holds.input;
+    blocks = same.blocks ∙ is.holds.blocks;
+    turns = λ m n. same.turns m n ∙ is.holds.turns m n;
+  };
+  input = is.input;
+  output = is.output;
+  samples = is.samples;
+  values = is.values ∙ room;
+  bytes = is.bytes ∙ ap (λ r. r * width coding) room;
+  given = within;
+}
+  where
+    room : place_room (output_of s.chain) ≡ place_room (output_of chain)
+    room = (λ i. place_room (place_behind (sym same.input i) (sym same.blocks i)))

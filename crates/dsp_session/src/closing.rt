@@ -14,12 +14,13 @@ use crate::worker::Worker;
 use dsp_defs::{Container, Header, Script, Steps, WindowFault};
 use dsp_ports::{Failed, Sink, write_all};
 use dsp_script::{frames_given, output_flow};
+use dsp_stage::AnyUnit;
 use dsp_wave::pad;
 use std::sync::ledger::Ledger;
 
 /// Writes the tail piece by piece. The whole signal has at most `frames` frames.
-fn write_tail<K: Sink, L: Ledger>(
-    worker: &mut Worker<'_>,
+fn write_tail<U: AnyUnit + Drop, K: Sink, L: Ledger>(
+    worker: &mut Worker<'_, U>,
     frames: u64,
     output: &mut K,
     steps: &mut Steps<L>,
@@ -50,8 +51,10 @@ fn write_tail<K: Sink, L: Ledger>(
 /// Writes the pad byte behind the samples, where the output has one.
 fn write_pad<K: Sink>(script: &Script, header: Header, output: &mut K) -> Result<(), Failed>
     requires { (block : ℕ) × IsReady script.now block }
-    ensures took { MatchResult result (λ _. Took (K.state output.old) (K.state output.new) (output_pad script.now header))
-        (λ _. (count : ℕ) × Took (K.state output.old) (K.state output.new) (take count (output_pad script.now header))) }
+    ensures took { MatchResult result
+        (λ _. Took (K.state output.old) (K.state output.new) (output_pad script.now header))
+        (λ _. (count : ℕ) × Took (K.state output.old) (K.state output.new)
+        (take count (output_pad script.now header))) }
     ensures faults { CountsFaults result (K.state output.old).faults (K.state output.new).faults }
 {
     if script.output == Container::Raw {
@@ -63,8 +66,8 @@ fn write_pad<K: Sink>(script: &Script, header: Header, output: &mut K) -> Result
 }
 
 /// Writes the tail and the pad byte, and makes sure of the output.
-fn write_end<K: Sink, L: Ledger>(
-    worker: &mut Worker<'_>,
+fn write_end<U: AnyUnit + Drop, K: Sink, L: Ledger>(
+    worker: &mut Worker<'_, U>,
     frames: u64,
     header: Header,
     output: &mut K,
@@ -91,8 +94,8 @@ fn write_end<K: Sink, L: Ledger>(
 }
 
 /// Works on the last bytes of the input, gives the tail, and makes sure of the output.
-pub fn close<K: Sink, L: Ledger>(
-    worker: &mut Worker<'_>,
+pub fn close<U: AnyUnit + Drop, K: Sink, L: Ledger>(
+    worker: &mut Worker<'_, U>,
     block: &[u8],
     last: Last,
     header: Header,
@@ -101,10 +104,17 @@ pub fn close<K: Sink, L: Ledger>(
 ) -> Result<(), StreamFault>
     requires { HasPassed worker.old header block.now last }
     ensures same { SameSession worker.old worker.new }
-    ensures ok { (before now : SourceState) (empty : SinkState) (start : Counts) → Passed worker.old.script worker.old.block worker.old header block.now last before now empty (K.state output.old) start steps.old
-        → IfOk result (λ _. Done worker.old.script worker.old.block ((last.before + last.count) / frame_bytes worker.old.script header.coding) before now empty (K.state output.new) start steps.new (measured worker.new)) }
-    ensures err { (before now : SourceState) (empty : SinkState) (start : Counts) → Passed worker.old.script worker.old.block worker.old header block.now last before now empty (K.state output.old) start steps.old
-        → IfErr result (λ fault. Stopped worker.old.script worker.old.block fault before now empty (K.state output.new) start steps.new) }
+    ensures ok { (before now : SourceState) (empty : SinkState) (start : Counts)
+        → Passed worker.old.script worker.old.block worker.old header block.now last before now
+        empty (K.state output.old) start steps.old
+        → IfOk result (λ _. Done worker.old.script worker.old.block
+        ((last.before + last.count) / frame_bytes worker.old.script header.coding) before now empty
+        (K.state output.new) start steps.new (measured worker.new)) }
+    ensures err { (before now : SourceState) (empty : SinkState) (start : Counts)
+        → Passed worker.old.script worker.old.block worker.old header block.now last before now
+        empty (K.state output.old) start steps.old
+        → IfErr result (λ fault. Stopped worker.old.script worker.old.block fault before now empty
+        (K.state output.new) start steps.new) }
     ensures refused { IfErr result (λ fault. StaysRefused fault worker.new) }
 {
     let frame = frame_bytes(worker.script(), header.coding) as usize;

@@ -94,8 +94,10 @@ fn write_output_header<K: Sink>(
     requires known { known ≡ known_frames script.now header }
     requires fits { script.now.output ≢ container.Raw
         → HeaderFits script.now.output (format_of script.now) (channels_of script.now) known }
-    ensures took { MatchResult result (λ _. Took (K.state output.old) (K.state output.new) (output_header script.now header))
-        (λ _. (count : ℕ) × Took (K.state output.old) (K.state output.new) (take count (output_header script.now header))) }
+    ensures took { MatchResult result
+        (λ _. Took (K.state output.old) (K.state output.new) (output_header script.now header))
+        (λ _. (count : ℕ) × Took (K.state output.old) (K.state output.new)
+        (take count (output_header script.now header))) }
     ensures faults { CountsFaults result (K.state output.old).faults (K.state output.new).faults }
 {
     if script.output == Container::Raw {

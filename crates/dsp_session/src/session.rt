@@ -9,6 +9,7 @@ ghost use Rattle.dsp_session.specs.Session.{IsReady, IsNew, SameSession, StandsF
 
 use crate::worker::Worker;
 use dsp_defs::{Coding, GatherFull, Measure, Script, Steps, WindowFault};
+use dsp_stage::{AnyUnit, Stage};
 use std::alloc::{AllocError, Global};
 use std::marker::Model;
 use std::sync::ledger::Ledger;
@@ -16,13 +17,13 @@ use std::sync::ledger::Ledger;
 /// A script at work: it takes bytes of the input's samples and gives bytes of the output's samples.
 /// A stream also reads the headers of files and writes them.
 #[derive(Drop)]
-pub struct Session<'s> {
-    pub(crate) worker: Worker<'s>,
+pub struct Session<'s, U: Stage + Drop> {
+    pub(crate) worker: Worker<'s, U>,
     /// The block that a stream reads into.
     pub(crate) block: Vec<u8>,
 }
 
-impl<'s> Model for Session<'s> {
+impl<'s, U: Stage + Drop> Model for Session<'s, U> {
     ghost use Rattle.std.specs.Prelude.{◌≡◌, vec_len};
     ghost use Rattle.dsp_session.specs.Session.{block_bytes, input_coding};
     ghost use Rattle.dsp_session.specs.SessionState.{SessionState};
@@ -36,10 +37,10 @@ impl<'s> Model for Session<'s> {
         (input_coding s.worker.script) s.worker.block };
 }
 
-impl<'s> Session<'s> {
+impl<'s, U: AnyUnit + Drop> Session<'s, U> {
     /// A session of the script, for blocks of at most `block` frames, that has taken nothing. All
     /// memory of a run is taken here.
-    pub fn new(alloc: Global, script: &'s Script, block: u64) -> Result<Session<'s>, AllocError>
+    pub fn new(alloc: Global, script: &'s Script, block: u64) -> Result<Self, AllocError>
         requires { IsReady script.now block }
         ensures { IfOk result (IsNew script.now block) }
     {
@@ -76,7 +77,8 @@ impl<'s> Session<'s> {
     ) -> Result<usize, GatherFull>
         requires running { IsFalse self.old.chain.ended }
         requires whole { length bytes.now
-            ≡ length (signal self.old.script self.old.coding bytes.now) * frame_bytes self.old.script self.old.coding }
+            ≡ length (signal self.old.script self.old.coding bytes.now) * frame_bytes
+            self.old.script self.old.coding }
         requires block { length (signal self.old.script self.old.coding bytes.now) ≤ self.old.block }
         requires count { self.old.chain.frames + length
             (signal self.old.script self.old.coding bytes.now) ≤ 2 ^ 40 }
@@ -85,8 +87,11 @@ impl<'s> Session<'s> {
         ensures fed { IfOk result (λ _. Feeds self.old self.new bytes.now steps.old steps.new) }
         ensures full { IsErr result ↔ IsTooMuch self.old
             (length (signal self.old.script self.old.coding bytes.now)) }
-        ensures numbers { self.old.chain.failed ≡ None → IfErr result (λ (fault : GatherFull). (fault.held ≡ held self.old.script.blocks self.old.chain.frames)
-            × (fault.held + fault.more ≡ gathered self.old.script.blocks (self.old.chain.frames + length (signal self.old.script self.old.coding bytes.now)))) }
+        ensures numbers { self.old.chain.failed ≡ None
+            → IfErr result (λ (fault : GatherFull).
+            (fault.held ≡ held self.old.script.blocks self.old.chain.frames)
+            × (fault.held + fault.more ≡ gathered self.old.script.blocks
+            (self.old.chain.frames + length (signal self.old.script self.old.coding bytes.now)))) }
         ensures refused { IfErr result (λ fault. Fails self.old self.new fault steps.old steps.new) }
     {
         self.worker.feed(bytes, steps)

@@ -15,6 +15,7 @@ use crate::worker::Worker;
 use dsp_defs::{Coding, GatherFull, Header, HeaderFault, MAX_INPUT, Script, Steps};
 use dsp_ports::{FillFault, Sink, Source, fill, write_all};
 use dsp_script::{cost, frames_given};
+use dsp_stage::AnyUnit;
 use std::sync::ledger::Ledger;
 
 /// What a stream did: the frames of the input that it took, those of the output that it gave, and
@@ -85,15 +86,16 @@ fn in_whole_frames(script: &Script, coding: Coding, size: u32) -> u64
 }
 
 /// Works on the frames of some bytes, and writes the live values that they add.
-pub fn pass_block<K: Sink, L: Ledger>(
-    worker: &mut Worker<'_>,
+pub fn pass_block<U: AnyUnit + Drop, K: Sink, L: Ledger>(
+    worker: &mut Worker<'_, U>,
     bytes: &[u8],
     output: &mut K,
     steps: &mut Steps<L>,
 ) -> Result<(), StreamFault>
     requires running { IsFalse worker.old.chain.ended }
     requires whole { length bytes.now ≡ length
-        (signal worker.old.script worker.old.coding bytes.now) * frame_bytes worker.old.script worker.old.coding }
+        (signal worker.old.script worker.old.coding bytes.now) * frame_bytes worker.old.script
+        worker.old.coding }
     requires block { length (signal worker.old.script worker.old.coding bytes.now) ≤ worker.old.block }
     requires count { worker.old.chain.frames + length
         (signal worker.old.script worker.old.coding bytes.now) ≤ 2 ^ 40 }
@@ -120,8 +122,8 @@ pub fn pass_block<K: Sink, L: Ledger>(
 }
 
 /// Works on block after block until the samples end.
-fn pass_blocks<S: Source, K: Sink, L: Ledger>(
-    worker: &mut Worker<'_>,
+fn pass_blocks<U: AnyUnit + Drop, S: Source, K: Sink, L: Ledger>(
+    worker: &mut Worker<'_, U>,
     block: &mut [u8],
     header: Header,
     input: &mut S,
@@ -133,10 +135,14 @@ fn pass_blocks<S: Source, K: Sink, L: Ledger>(
     requires coding { worker.old.coding ≡ header.coding }
     requires start { header.start ≤ 2 ^ 40 }
     ensures same { SameSession worker.old worker.new }
-    ensures ok { (before : SourceState) (empty : SinkState) → Begun worker.old.script header before (S.state input.old) empty (K.state output.old)
-        → IfOk result (λ last. Passed worker.old.script worker.old.block worker.new header block.new last before (S.state input.new) empty (K.state output.new) steps.old steps.new) }
-    ensures err { (before : SourceState) (empty : SinkState) → Begun worker.old.script header before (S.state input.old) empty (K.state output.old)
-        → IfErr result (λ fault. Stopped worker.old.script worker.old.block fault before (S.state input.new) empty (K.state output.new) steps.old steps.new) }
+    ensures ok { (before : SourceState) (empty : SinkState)
+        → Begun worker.old.script header before (S.state input.old) empty (K.state output.old)
+        → IfOk result (λ last. Passed worker.old.script worker.old.block worker.new header block.new
+        last before (S.state input.new) empty (K.state output.new) steps.old steps.new) }
+    ensures err { (before : SourceState) (empty : SinkState)
+        → Begun worker.old.script header before (S.state input.old) empty (K.state output.old)
+        → IfErr result (λ fault. Stopped worker.old.script worker.old.block fault before
+        (S.state input.new) empty (K.state output.new) steps.old steps.new) }
     ensures refused { IfErr result (λ fault. StaysRefused fault worker.new) }
 {
     let script = worker.script();
@@ -156,8 +162,8 @@ fn pass_blocks<S: Source, K: Sink, L: Ledger>(
 
 /// Works on the samples behind the header, gives the tail, and makes sure of the output; it answers
 /// the frames that it took. The room holds a block of the input.
-fn stream_samples<S: Source, K: Sink, L: Ledger>(
-    worker: &mut Worker<'_>,
+fn stream_samples<U: AnyUnit + Drop, S: Source, K: Sink, L: Ledger>(
+    worker: &mut Worker<'_, U>,
     room: &mut [u8],
     header: Header,
     input: &mut S,
@@ -171,10 +177,14 @@ fn stream_samples<S: Source, K: Sink, L: Ledger>(
     requires begun { (before : SourceState) × (empty : SinkState)
         × Begun worker.old.script header before (S.state input.old) empty (K.state output.old) }
     ensures same { SameSession worker.old worker.new }
-    ensures ok { (before : SourceState) (empty : SinkState) → Begun worker.old.script header before (S.state input.old) empty (K.state output.old)
-        → IfOk result (λ frames. Done worker.old.script worker.old.block frames before (S.state input.new) empty (K.state output.new) steps.old steps.new (measured worker.new)) }
-    ensures err { (before : SourceState) (empty : SinkState) → Begun worker.old.script header before (S.state input.old) empty (K.state output.old)
-        → IfErr result (λ fault. Stopped worker.old.script worker.old.block fault before (S.state input.new) empty (K.state output.new) steps.old steps.new) }
+    ensures ok { (before : SourceState) (empty : SinkState)
+        → Begun worker.old.script header before (S.state input.old) empty (K.state output.old)
+        → IfOk result (λ frames. Done worker.old.script worker.old.block frames before
+        (S.state input.new) empty (K.state output.new) steps.old steps.new (measured worker.new)) }
+    ensures err { (before : SourceState) (empty : SinkState)
+        → Begun worker.old.script header before (S.state input.old) empty (K.state output.old)
+        → IfErr result (λ fault. Stopped worker.old.script worker.old.block fault before
+        (S.state input.new) empty (K.state output.new) steps.old steps.new) }
     ensures refused { IfErr result (λ fault. StaysRefused fault worker.new) }
     ensures few { IfOk result (λ frames. frames ≤ 2 ^ 40) }
 {
@@ -190,8 +200,8 @@ fn stream_samples<S: Source, K: Sink, L: Ledger>(
 /// correlation was full, the session answers the same fault from then on.
 ///
 /// The output of a block is accepted wholly before a byte of the next block is asked for.
-pub fn stream<S: Source, K: Sink, L: Ledger>(
-    session: &mut Session<'_>,
+pub fn stream<U: AnyUnit + Drop, S: Source, K: Sink, L: Ledger>(
+    session: &mut Session<'_, U>,
     input: &mut S,
     output: &mut K,
     steps: &mut Steps<L>,

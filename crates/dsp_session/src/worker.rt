@@ -12,6 +12,7 @@ use crate::opening::frame_bytes;
 use dsp_chain::Chain;
 use dsp_defs::{GatherFull, Measure, Script, Steps, WindowFault};
 use dsp_script::output_flow;
+use dsp_stage::{AnyUnit, Stage};
 use dsp_wave::{Coding, coding_of, decode, encode, width};
 use std::alloc::{AllocError, Global};
 use std::marker::Model;
@@ -47,9 +48,9 @@ fn encode_front(coding: Coding, samples: &[i32], bytes: &mut [u8]) -> usize
 
 /// The blocks of a script at work on bytes.
 #[derive(Drop)]
-pub struct Worker<'s> {
+pub struct Worker<'s, U: Stage + Drop> {
     script: &'s Script,
-    chain: Chain,
+    chain: Chain<U>,
     input: Coding,
     output: Coding,
     block: usize,
@@ -59,7 +60,7 @@ pub struct Worker<'s> {
     given: usize,
 }
 
-impl<'s> Model for Worker<'s> {
+impl<'s, U: Stage + Drop> Model for Worker<'s, U> {
     ghost use Rattle.std.specs.Prelude.{take, vec_len};
     ghost use Rattle.dsp_session.specs.SessionState.{SessionState};
     ghost use Rattle.dsp_session.specs.Working.{IsWorking};
@@ -74,14 +75,21 @@ impl<'s> Model for Worker<'s> {
       out = take w.given w.bytes.items;
     } };
 
-    ghost invariant = { λ w. IsWorking (record { script = w.script.now; block = w.block; coding = w.input; chain = w.chain; out = take w.given w.bytes.items })
+    ghost invariant = { λ w. IsWorking
+        (record {
+          script = w.script.now;
+          block = w.block;
+          coding = w.input;
+          chain = w.chain;
+          out = take w.given w.bytes.items;
+        })
         w.output (vec_len w.samples) (vec_len w.values) (vec_len w.bytes) w.given };
 }
 
-impl<'s> Worker<'s> {
+impl<'s, U: AnyUnit + Drop> Worker<'s, U> {
     /// A worker for blocks of at most `block` frames, that has taken nothing. All memory of a run is
     /// taken here.
-    pub fn new(alloc: Global, script: &'s Script, block: u64) -> Result<Worker<'s>, AllocError>
+    pub fn new(alloc: Global, script: &'s Script, block: u64) -> Result<Self, AllocError>
         requires { IsReady script.now block }
         ensures { IfOk result (IsNew script.now block) }
     {
@@ -147,7 +155,8 @@ impl<'s> Worker<'s> {
     ) -> Result<usize, GatherFull>
         requires running { IsFalse self.old.chain.ended }
         requires whole { length bytes.now
-            ≡ length (signal self.old.script self.old.coding bytes.now) * frame_bytes self.old.script self.old.coding }
+            ≡ length (signal self.old.script self.old.coding bytes.now) * frame_bytes
+            self.old.script self.old.coding }
         requires block { length (signal self.old.script self.old.coding bytes.now) ≤ self.old.block }
         requires count { self.old.chain.frames + length
             (signal self.old.script self.old.coding bytes.now) ≤ 2 ^ 40 }
@@ -156,8 +165,11 @@ impl<'s> Worker<'s> {
         ensures fed { IfOk result (λ _. Feeds self.old self.new bytes.now steps.old steps.new) }
         ensures full { IsErr result ↔ IsTooMuch self.old
             (length (signal self.old.script self.old.coding bytes.now)) }
-        ensures numbers { self.old.chain.failed ≡ None → IfErr result (λ (fault : GatherFull). (fault.held ≡ held self.old.script.blocks self.old.chain.frames)
-            × (fault.held + fault.more ≡ gathered self.old.script.blocks (self.old.chain.frames + length (signal self.old.script self.old.coding bytes.now)))) }
+        ensures numbers { self.old.chain.failed ≡ None
+            → IfErr result (λ (fault : GatherFull).
+            (fault.held ≡ held self.old.script.blocks self.old.chain.frames)
+            × (fault.held + fault.more ≡ gathered self.old.script.blocks
+            (self.old.chain.frames + length (signal self.old.script self.old.coding bytes.now)))) }
         ensures refused { IfErr result (λ fault. Fails self.old self.new fault steps.old steps.new) }
     {
         self.given = 0;

@@ -1,52 +1,10 @@
 //! Callers of dsp_measure.
 ghost use Rattle.std.specs.Prelude.{◌≡◌, length};
 
-use dsp_defs::{Measure, Steps};
-use dsp_measure::{CmplxDot, Dot, Max, MeasureSample, Min, Power, line};
+use dsp_defs::Steps;
+use dsp_measure::{CmplxDot, Dot, Max, MeasureSample, Min, Power};
 use std::process::Abort;
 use std::sync::ledger::Ledger;
-
-#[test]
-fn lines_of_measures(rt: HostRuntime) {
-    let power = Measure::Power {
-        number: 1,
-        channel: 0,
-        value: 25,
-    };
-    assert_same!(rt;
-        line(&power).as_slice(),
-        b"power 1 channel 0 = 25\n".as_slice()
-    );
-    let found = Measure::Max {
-        number: 2,
-        channel: 0,
-        found: Some((3, 0)),
-    };
-    assert_same!(rt;
-        line(&found).as_slice(),
-        b"max 2 channel 0 = 3 at 0\n".as_slice()
-    );
-    let none = Measure::Min {
-        number: 12,
-        channel: 15,
-        found: None,
-    };
-    assert_same!(rt;
-        line(&none).as_slice(),
-        b"min 12 channel 15 = none\n".as_slice()
-    );
-    let dot = Measure::Dot {
-        number: 3,
-        value: -4,
-    };
-    assert_same!(rt; line(&dot).as_slice(), b"dot 3 = -4\n".as_slice());
-    let sums = Measure::CmplxDot {
-        number: 4,
-        re: -1,
-        im: 7,
-    };
-    assert_same!(rt; line(&sums).as_slice(), b"cmplx_dot 4 = -1 7\n".as_slice());
-}
 
 /// Takes a signal in two pieces, the second after the sum was kept and restored, and compares its power.
 fn power_is<T: MeasureSample, L: Ledger>(

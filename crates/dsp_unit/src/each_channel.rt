@@ -1,8 +1,8 @@
 use crate::kept::{count_kept, keep_channels, place_channels, restore_channels};
-use crate::{Filter, feed_block, finish_channels, most_frames};
+use crate::{Filter, feed_block, finish_channels};
 use dsp_defs::{Block, MAX_SAMPLES, Measure, Steps};
 use dsp_sat::Sample;
-use dsp_stage::Stage;
+use dsp_stage::{Stage, most_frames};
 use std::alloc::{AllocError, Global};
 use std::marker::Model;
 use std::sync::ledger::Ledger;

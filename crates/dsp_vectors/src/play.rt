@@ -1,6 +1,7 @@
 ghost use Rattle.std.specs.Prelude.{◌≡◌};
 
 use crate::case::Case;
+use dsp_blocks::BlockUnit;
 use dsp_cli::{Words, run};
 use dsp_defs::Steps;
 use dsp_ports::{MemSink, MemSource, Source};
@@ -26,7 +27,7 @@ fn counted<L: Ledger>(
     requires ledger_parts { L.parts ≡ 2 }
 {
     let mut steps: Steps<L> = Steps::new(blank);
-    run(alloc, words, script, input, output, report, &mut steps)
+    run::<BlockUnit, _, _, _, _, _>(alloc, words, script, input, output, report, &mut steps)
 }
 
 /// How many of so many bytes were taken of a source: all but those that it still gives.

@@ -6,9 +6,10 @@ ghost use Rattle.std.specs.Prelude.{◌≡◌};
 mod ports;
 
 use crate::ports::{FileSink, FileSource, OutSink};
+use dsp_blocks::BlockUnit;
 use dsp_cli::{Places, Words, places, run};
 use dsp_defs::Steps;
-use std::alloc::Global;
+use std::alloc::{AllocError, Global};
 use std::env;
 use std::fs::Files;
 use std::io::{ErrorKind, Print};
@@ -33,8 +34,14 @@ fn named(words: &Words, place: Option<usize>) -> &str {
     }
 }
 
-/// Runs over the files that the words name, and reports to standard output.
-fn run_files<R: Files + Print, L: Ledger>(alloc: Global, rt: &R, words: &Words, blank: Blank) -> u8
+/// Runs over the files that the words name, and reports to standard output. It errs where memory is
+/// wanting before the run begins.
+fn run_files<R: Files + Print, L: Ledger>(
+    alloc: Global,
+    rt: &R,
+    words: &Words,
+    blank: Blank,
+) -> Result<u8, AllocError>
     requires name { blank.name ≡ L.name }
     requires parts { blank.parts ≡ 2 }
     requires ledger_parts { L.parts ≡ 2 }
@@ -51,9 +58,9 @@ fn run_files<R: Files + Print, L: Ledger>(alloc: Global, rt: &R, words: &Words, 
     });
     let mut script = FileSource::new(rt, named(words, script));
     let mut input = FileSource::new(rt, named(words, input));
-    let mut output = FileSink::new(rt, named(words, output));
+    let mut output = FileSink::new(alloc, rt, named(words, output))?;
     let mut report = OutSink::new(rt);
-    let status = run(
+    let status = run::<BlockUnit, _, _, _, _, _>(
         alloc,
         words,
         &mut script,
@@ -63,24 +70,33 @@ fn run_files<R: Files + Print, L: Ledger>(alloc: Global, rt: &R, words: &Words, 
         &mut steps,
     );
     match output.spill() {
-        Ok(()) => status,
-        Err(_) => NOT_WRITTEN,
+        Ok(()) => Ok(status),
+        Err(_) => Ok(NOT_WRITTEN),
     }
+}
+
+/// The answer where memory is wanting before a run has begun, with its line.
+fn out_of_memory(rt: &impl Print) -> ExitCode {
+    let _ = println!(rt; "dspfx: want of memory");
+    ExitCode::from(NO_MEMORY)
 }
 
 fn main(rt: HostRuntime) -> ExitCode {
     let arguments = match env::args(&rt) {
         Ok(arguments) => arguments,
-        Err(error) if error.kind() == ErrorKind::OutOfMemory => return ExitCode::from(NO_MEMORY),
+        Err(error) if error.kind() == ErrorKind::OutOfMemory => return out_of_memory(&rt),
         Err(_) => return ExitCode::from(USAGE),
     };
     let mut words = Words::new(rt.alloc());
     for word in arguments.skip(1) {
         if words.push(&word).is_err() {
-            return ExitCode::from(NO_MEMORY);
+            return out_of_memory(&rt);
         }
     }
-    ExitCode::from(run_files::<HostRuntime, Brand>(rt.alloc(), &rt, &words, Blank::new(2)))
+    match run_files::<HostRuntime, Brand>(rt.alloc(), &rt, &words, Blank::new(2)) {
+        Ok(status) => ExitCode::from(status),
+        Err(AllocError) => out_of_memory(&rt),
+    }
 }
 
 #[cfg(test)]

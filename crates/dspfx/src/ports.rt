@@ -1,9 +1,10 @@
 //! The real ports. They tell no bytes: what a file or a terminal holds is not proved. Each counts its faults up to the
 //! greatest `u64`.
-ghost use Rattle.std.specs.Prelude.{None, IfOk, ◌≤◌, length};
+ghost use Rattle.std.specs.Prelude.{None, IfOk, ◌≤◌, length, vec_len, vec_capacity};
 ghost use Rattle.dspfx.specs.declared.ports.TheConstants.{AHEAD, GATHERED};
 
 use dsp_ports::{Failed, Sink, Source};
+use std::alloc::{AllocError, Global};
 use std::fs::Files;
 use std::io::{Print, Read, Write};
 use std::{fs, io};
@@ -121,14 +122,14 @@ impl<R: Files> Source for FileSource<'_, R> {
 }
 
 /// How many bytes a sink gathers.
-const GATHERED: usize = 16_384;
+const GATHERED: usize = 65_536;
 
 /// The bytes that were accepted, and not written to the file yet.
 #[derive(Drop)]
 struct Gathered {
-    bytes: [u8; GATHERED],
-    count: usize,
-    ghost within: { count ≤ GATHERED },
+    bytes: Vec<u8>,
+    ghost within: { vec_len bytes ≤ GATHERED },
+    ghost room: { GATHERED ≤ vec_capacity bytes },
 }
 
 /// A file that is made, or emptied, at the first write or flush. What it accepts is gathered, and
@@ -143,18 +144,16 @@ pub struct FileSink<'a, R: Files> {
 }
 
 impl<'a, R: Files> FileSink<'a, R> {
-    /// The file of this name, which isn't made yet.
-    pub fn new(files: &'a R, path: &'a str) -> FileSink<'a, R> {
-        FileSink {
+    /// The file of this name, which isn't made yet. The room for what is gathered is taken here.
+    pub fn new(alloc: Global, files: &'a R, path: &'a str) -> Result<FileSink<'a, R>, AllocError> {
+        let bytes = Vec::with_capacity(alloc, GATHERED)?;
+        Ok(FileSink {
             files,
             path,
             file: None,
-            gathered: Gathered {
-                bytes: [0; GATHERED],
-                count: 0,
-            },
+            gathered: Gathered { bytes },
             faults: 0,
-        }
+        })
     }
 
     /// Writes all that was accepted to the file. After a failure it is given up.
@@ -171,12 +170,12 @@ impl<'a, R: Files> FileSink<'a, R> {
 
 /// Writes what was gathered. After a failure it is given up, since a part of it may have been written.
 fn spill_to<F: Write>(file: &mut F, gathered: &mut Gathered) -> io::Result<()> {
-    let count = gathered.count;
-    gathered.count = 0;
-    if count > 0 {
-        file.write_all(&gathered.bytes[..count])?;
-    }
-    Ok(())
+    let written = match gathered.bytes.as_slice() {
+        [] => Ok(()),
+        bytes => file.write_all(bytes),
+    };
+    gathered.bytes.clear();
+    written
 }
 
 /// Makes the file where it isn't made yet.
@@ -198,16 +197,16 @@ fn gather<R: Files>(
     ensures { IfOk result (λ count. count ≤ length piece.now) }
 {
     make_file(files, path, file)?;
-    if gathered.count == GATHERED {
+    if gathered.bytes.len() == GATHERED {
         if let Some(file) = file {
             spill_to(file, gathered)?;
         }
     }
-    let room = &mut gathered.bytes[gathered.count..];
-    let count = piece.len().min(room.len());
-    room[..count].copy_from_slice(&piece[..count]);
-    gathered.count += count;
-    Ok(count)
+    let count = piece.len().min(GATHERED - gathered.bytes.len());
+    match gathered.bytes.extend_from_slice(&piece[..count]) {
+        Ok(()) => Ok(count),
+        Err(_) => unreachable!(),
+    }
 }
 
 /// Writes what was gathered, and makes sure of it.

@@ -38,7 +38,7 @@ fn a_run_over_real_files_writes_its_output(rt: HostRuntime) -> Result<(), Fail> 
         [0xE8, 0x03, 0x18, 0xFC, 0xFF, 0xFF].as_slice(),
     )?;
     let words = words_of(rt.alloc(), &["run", "first.txt", "first.raw", "halved.raw"])?;
-    let status = run_files::<HostRuntime, Brand>(rt.alloc(), &rt, &words, Blank::new(2));
+    let status = run_files::<HostRuntime, Brand>(rt.alloc(), &rt, &words, Blank::new(2))?;
     assert_eq!(rt; status, 0);
     let written = fs::read(&rt, "halved.raw")?;
     assert_eq!(rt;
@@ -57,7 +57,7 @@ fn a_generated_input_needs_no_file(rt: HostRuntime) -> Result<(), Fail> {
         b"dspfx 1 input raw q15 1 8000 output raw\n",
     )?;
     let words = words_of(rt.alloc(), &["gen", "0", "3", "generated.txt", "made.raw"])?;
-    let status = run_files::<HostRuntime, Brand>(rt.alloc(), &rt, &words, Blank::new(2));
+    let status = run_files::<HostRuntime, Brand>(rt.alloc(), &rt, &words, Blank::new(2))?;
     assert_eq!(rt; status, 0);
     let written = fs::read(&rt, "made.raw")?;
     assert_eq!(rt;
@@ -76,16 +76,17 @@ fn a_long_file_is_copied_whole(rt: HostRuntime) -> Result<(), Fail> {
         "copy.txt",
         b"dspfx 1 input raw q15 1 8000 block 300 output raw\n",
     )?;
-    let words = words_of(rt.alloc(), &["gen", "7", "20000", "copy.txt", "long.raw"])?;
-    let status = run_files::<HostRuntime, Brand>(rt.alloc(), &rt, &words, Blank::new(2));
+    let words = words_of(rt.alloc(), &["gen", "7", "50000", "copy.txt", "long.raw"])?;
+    let status = run_files::<HostRuntime, Brand>(rt.alloc(), &rt, &words, Blank::new(2))?;
     assert_eq!(rt; status, 0);
     let made = fs::read(&rt, "long.raw")?;
-    assert_eq!(rt; made.len(), 40000);
+    assert_eq!(rt; made.len(), 100000);
     assert_eq!(rt; &made[16384..16388], [0x42, 0x57, 0x4F, 0x43].as_slice());
     assert_eq!(rt; &made[32768..32772], [0x63, 0x41, 0xC4, 0x2C].as_slice());
-    assert_eq!(rt; &made[39996..], [0x22, 0xDF, 0x27, 0x60].as_slice());
+    assert_eq!(rt; &made[65536..65540], [0xA7, 0x85, 0xAF, 0xAF].as_slice());
+    assert_eq!(rt; &made[99996..], [0x2E, 0xDA, 0x49, 0xF6].as_slice());
     let words = words_of(rt.alloc(), &["run", "copy.txt", "long.raw", "copied.raw"])?;
-    let status = run_files::<HostRuntime, Brand>(rt.alloc(), &rt, &words, Blank::new(2));
+    let status = run_files::<HostRuntime, Brand>(rt.alloc(), &rt, &words, Blank::new(2))?;
     assert_eq!(rt; status, 0);
     let copied = fs::read(&rt, "copied.raw")?;
     assert_eq!(rt; copied.as_slice(), made.as_slice());
@@ -103,7 +104,7 @@ fn a_short_input_leaves_its_blocks(rt: HostRuntime) -> Result<(), Fail> {
     )?;
     fs::write(&rt, "short.wav", SHORT)?;
     let words = words_of(rt.alloc(), &["run", "short.txt", "short.wav", "short.raw"])?;
-    let status = run_files::<HostRuntime, Brand>(rt.alloc(), &rt, &words, Blank::new(2));
+    let status = run_files::<HostRuntime, Brand>(rt.alloc(), &rt, &words, Blank::new(2))?;
     assert_eq!(rt; status, 4);
     let written = fs::read(&rt, "short.raw")?;
     assert_eq!(rt; written.as_slice(), [0x01, 0x02].as_slice());
@@ -118,7 +119,7 @@ fn a_missing_input_leaves_no_output(rt: HostRuntime) -> Result<(), Fail> {
         rt.alloc(),
         &["run", "second.txt", "missing.raw", "none.raw"],
     )?;
-    let status = run_files::<HostRuntime, Brand>(rt.alloc(), &rt, &words, Blank::new(2));
+    let status = run_files::<HostRuntime, Brand>(rt.alloc(), &rt, &words, Blank::new(2))?;
     assert_eq!(rt; status, 7);
     assert!(rt; fs::read(&rt, "none.raw").is_err());
     remove(&rt, &["second.txt"])?;
@@ -131,7 +132,7 @@ fn an_empty_input_makes_an_empty_output(rt: HostRuntime) -> Result<(), Fail> {
     fs::write(&rt, "empty.raw", b"")?;
     fs::write(&rt, "old.raw", b"old")?;
     let words = words_of(rt.alloc(), &["run", "third.txt", "empty.raw", "old.raw"])?;
-    let status = run_files::<HostRuntime, Brand>(rt.alloc(), &rt, &words, Blank::new(2));
+    let status = run_files::<HostRuntime, Brand>(rt.alloc(), &rt, &words, Blank::new(2))?;
     assert_eq!(rt; status, 0);
     let written = fs::read(&rt, "old.raw")?;
     assert_eq!(rt; written.len(), 0);
@@ -155,7 +156,7 @@ fn a_short_input_on_a_full_disk_is_not_written(rt: HostRuntime) -> Result<(), Fa
         &disk,
         &words,
         Blank::new(2),
-    );
+    )?;
     assert_eq!(rt; status, 8);
     let written = fs::read(&rt, "full.raw")?;
     assert_eq!(rt; written.len(), 0);

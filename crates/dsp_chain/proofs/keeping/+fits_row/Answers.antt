@@ -1,7 +1,8 @@
 use Rattle.std.proofs.Common.{◌≡◌, ◌∙◌, ap, refl, sym, subst, true, false, length, arith, Some}
 use Rattle.dsp_stage.specs.Kept.{place_of}
 use Rattle.dsp_chain.specs.Restored.{FitsUnits}
-use Rattle.dsp_chain.proofs.KeptRows.{front, cut, told}
+use Rattle.dsp_chain.proofs.KeptRows.{front, cut, told, no-numbers}
+use Rattle.dsp_chain.proofs.Room.{no-units}
 use Rattle.dsp_chain.proofs.keeping.+fits_row.Goals as goal
 
 never : false ≡ true → ⊥
@@ -59,4 +60,20 @@ returns g t c =
     let place = c.in-Some-place.is ∙ ap Some (c.if-place.false ∙ c.place-2.ensures ∙ sym first.place) in (
       λ yes. subst (λ us. FitsUnits us c.args.frames c.args.numbers.now) (sym c.in-Some.ensures.cases.0) (tells.both place (subst (λ n. FitsUnits c.in-Some.links_behind.now n c.split_at.result.1.now) live (c.fits_row.ensures.0 yes))),
       λ fits. c.fits_row.ensures.1 (subst (λ n. FitsUnits c.in-Some.links_behind.now n c.split_at.result.1.now) (sym live) (tells.behind (subst (λ us. FitsUnits us c.args.frames c.args.numbers.now) c.in-Some.ensures.cases.0 fits))),
+    )
+
+pub live-requires-clause-taken : goal.live-requires-clause-taken
+live-requires-clause-taken g t c =
+    (front c.in-Some.ensures.cases.0 refl c.in-Some-Some.ensures.cases.0 c.in-Some-Some.ensures'.cases.0 c.requires).taken
+
+pub place-requires-2 : goal.place-requires-2
+place-requires-2 g t c =
+    (front c.in-Some.ensures.cases.0 refl c.in-Some-Some.ensures.cases.0 c.in-Some-Some.ensures'.cases.0 c.requires).group
+
+pub returns-in_default : goal.returns-in_default
+returns-in_default g t c =
+    let none = no-units c.args.links.now c.in_default.ensures.cases in
+    let empty = no-numbers c.args.numbers.now c.is_empty.result c.is_empty.ensures in (
+      λ yes. subst (λ us. FitsUnits us c.args.frames c.args.numbers.now) (sym none) (empty.0 yes),
+      λ fits. empty.1 (subst (λ us. FitsUnits us c.args.frames c.args.numbers.now) none fits),
     )

@@ -5,6 +5,7 @@ use Rattle.dsp_stage.specs.Row.{AllRun}
 use Rattle.dsp_stage.specs.Kept.{FitsAfter}
 use Rattle.dsp_chain.specs.Restored.{FitsUnits, AllRestores}
 use Rattle.dsp_chain.proofs.KeptRows.{front, cut}
+use Rattle.dsp_chain.proofs.Room.{no-units}
 use Rattle.dsp_chain.proofs.keeping.+restore_row.Goals as goal
 
 pub count-count-requires : goal.count-count-requires
@@ -45,3 +46,12 @@ returns g t c =
     let behind : AllRestores c.in-Some.links_behind.now c.restore_row.new.links _ c.split_at.result.1.now = subst (λ n. AllRestores c.in-Some.links_behind.now c.restore_row.new.links n c.split_at.result.1.now) (c.live.ensures ∙ first.live) c.restore_row.ensures in
     let split = sym (take-append-drop c.count-count.result c.args.numbers.now) ∙ (λ i. sym c.split_at.ensures.front i ++ sym c.split_at.ensures.back i) in
     rw c.in-Some.ensures.cases.0 (c.split_at.result.0.now, c.split_at.result.1.now, split, here, one, behind)
+
+pub live-requires-clause-taken : goal.live-requires-clause-taken
+live-requires-clause-taken g t c =
+    (front c.in-Some.ensures.cases.0 refl c.in-Some-Some.ensures.cases.0 c.in-Some-Some.ensures'.cases.0 c.requires.rules).taken
+
+pub returns-in_default : goal.returns-in_default
+returns-in_default g t c =
+    let none = no-units c.args.links.now c.in_default.ensures.cases in
+    subst (λ us. AllRestores us us c.args.frames c.args.numbers.now) (sym none) (subst (λ us. FitsUnits us c.args.frames c.args.numbers.now) none c.requires.fits)

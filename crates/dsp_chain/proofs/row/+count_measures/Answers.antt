@@ -1,4 +1,7 @@
-use Rattle.dsp_chain.proofs.Measured.{counts-row, few-row}
+use Rattle.std.proofs.Common.{ap, sym, length, arith}
+use Rattle.dsp_stage.specs.Row.{measured_by}
+use Rattle.dsp_chain.proofs.Measured.{counts-row, each-behind, few-row}
+use Rattle.dsp_chain.proofs.Room.{no-units}
 use Rattle.dsp_chain.proofs.row.+count_measures.Goals as goal
 
 pub returns-clause-count : goal.returns-clause-count
@@ -8,3 +11,17 @@ returns-clause-count g t c =
 pub returns-clause-few : goal.returns-clause-few
 returns-clause-few g t c =
     few-row c.args.links.now c.in-Some.link.now (g.S.Stage.unit c.link.inside.stage) c.in-Some.behind.now c.measures.result c.count_measures.result c.in-Some.ensures.cases.0 c.link.view_is c.measures.ensures c.requires.each c.count_measures.ensures.few
+
+pub returns-in_default-clause-count : goal.returns-in_default-clause-count
+returns-in_default-clause-count g t c = ap (λ us. length (measured_by 1 us)) (sym (no-units c.args.links.now c.in_default.ensures.cases))
+
+pub count_measures-requires : goal.count_measures-requires
+count_measures-requires g t c κs within =
+    let longer = ap length c.in-Some.ensures.cases.0 in
+    let each = each-behind c.args.links.now c.in-Some.link.now (g.S.Stage.unit c.link.inside.stage) c.in-Some.behind.now c.measures.result 0 c.in-Some.ensures.cases.0 c.link.view_is c.measures.ensures c.requires.each in
+    (omega (arith, longer, c.decreases), (within, (omega (arith, longer, c.requires.few), each)))
+
+pub overflow_add-result : goal.overflow_add-result
+overflow_add-result g t c =
+    let few = few-row c.args.links.now c.in-Some.link.now (g.S.Stage.unit c.link.inside.stage) c.in-Some.behind.now c.measures.result c.count_measures.result c.in-Some.ensures.cases.0 c.link.view_is c.measures.ensures c.requires.each c.count_measures.ensures.few in
+    omega (arith, few, c.requires.few)

@@ -1,5 +1,6 @@
-use Rattle.std.proofs.Common.{◌≡◌, ◌≤◌, length, take, arith, length-take, ap, ◌∙◌}
-use Rattle.dsp_chain.proofs.Room.{last-room, first-fed, first-accepts, behind-takes, behind-runs, written-row}
+use Rattle.std.proofs.Common.{◌≡◌, ◌≤◌, ◌++◌, length, take, drop, arith, length-take, ap, refl, sym, subst, ◌∙◌}
+use Rattle.dsp_chain.proofs.Room.{last-room, last-fed, first-fed, first-accepts, behind-takes, behind-runs, written-row}
+use Rattle.dsp_stage.specs.Row.{IsFed}
 use Rattle.dsp_chain.specs.Row.{MayTake}
 use Rattle.dsp_chain.proofs.row.+feed_row.Goals as goal
 
@@ -45,3 +46,15 @@ feed_row-requires g t c κs within =
     behind-takes c.args.links.now c.in-Some.link.now (g.S.Stage.unit c.link.inside.stage) (g.S.Stage.unit c.feed-count.new.self) c.in-Some.behind.now c.args.frames.now (take c.feed-count.result c.feed-count.new.out) (length c.args.out.now)
     c.args.steps.now c.feed-count.new.steps c.in-Some.ensures.cases.0 c.link.view_is c.feed-count.ensures.output c.feed-count.ensures.fed c.requires.passes in
     (omega (arith, ap length c.in-Some.ensures.cases.0, c.decreases), (within.0, (within.1, (behind-runs c.args.links.now c.in-Some.link.now (g.S.Stage.unit c.link.inside.stage) c.in-Some.behind.now c.in-Some.ensures.cases.0 c.link.view_is c.requires.running, rw piece_is may))))
+
+pub returns-in_default-clause-within : goal.returns-in_default-clause-within
+returns-in_default-clause-within g t c =
+    let h = c.requires.passes in
+    last-room c.args.links.now h.place c.args.frames.now (length c.args.out.now) c.in_default.ensures.cases h.passes h.room
+
+pub returns-in_default-clause-fed : goal.returns-in_default-clause-fed
+returns-in_default-clause-fed g t c = λ p row passes.
+    let us = c.args.links.now in
+    let frames = c.args.frames.now in
+    let copied = ap (λ l. take (length frames) (l ++ drop (length frames) c.args.out.now)) c.copy_from_slice.ensures.after ∙ written-row (length frames) frames c.args.out.now refl in
+    subst (λ given. IsFed p us us frames given c.args.steps.now c.args.steps.now) (sym copied) (last-fed us p frames c.args.steps.now c.in_default.ensures.cases passes)

@@ -1,4 +1,5 @@
-use Rattle.std.proofs.Common.{take, length, arith, ap}
+use Rattle.std.proofs.Common.{take, length, arith, ap, subst}
+use Rattle.dsp_stage.specs.Row.{IsFinished}
 use Rattle.dsp_chain.proofs.Tails.{behind-gave, behind-may, nil-take}
 use Rattle.dsp_chain.proofs.row.+finish_row.Goals as goal
 
@@ -16,3 +17,8 @@ returns-clause-finished g t c = λ p row.
     c.args.steps.now c.finish_first-given.new.steps c.finish_row.new.steps
     (nil-take c.finish_first-given.result c.finish_first-given.new.out (omega (arith, c.if-given-gt0.false)))
     c.in-Some.ensures.cases.0 row (c.finish_first-given.ensures.finished p row) (c.finish_first-given.ensures.spent (omega (arith, c.if-given-gt0.false))) c.finish_row.ensures.finished
+
+pub returns-in_default-clause-finished : goal.returns-in_default-clause-finished
+returns-in_default-clause-finished g t c = λ p row.
+    subst (λ given. IsFinished p c.args.links.now c.finish_first-given.new.links given c.args.steps.now c.finish_first-given.new.steps)
+    (nil-take c.finish_first-given.result c.finish_first-given.new.out (omega (arith, c.if-given-gt0.false))) (c.finish_first-given.ensures.finished p row)

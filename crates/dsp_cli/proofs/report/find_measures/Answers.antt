@@ -5,7 +5,7 @@ use Rattle.dsp_cli.proofs.ReportLaws.{found-more}
 use Rattle.dsp_cli.proofs.report.find_measures.Goals as goal
 
 pub unreachable-requires : goal.unreachable-requires
-unreachable-requires c =
+unreachable-requires g c =
     let i = c.loop-index.index in
     let all = measured c.args.session.now in
     let within : i < length all = omega (arith, c.loop-index-test.true, c.measures-index-end.ensures.count) in
@@ -14,7 +14,7 @@ unreachable-requires c =
     omega (arith, full, c.loop-index.invariant.1, size, within)
 
 pub loop-index-preserved : goal.loop-index-preserved
-loop-index-preserved c =
+loop-index-preserved g c =
     let i = c.loop-index.index in
     let all = measured c.args.session.now in (
       c.in-Ok.ensures.items ∙ ap (λ l. l ++ c.measure.result ∷ []) c.loop-index.invariant.0 ∙ found-more all i (i + 1) c.measure.result (omega arith) c.measure.ensures,

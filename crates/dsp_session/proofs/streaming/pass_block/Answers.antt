@@ -1,7 +1,11 @@
-use Rattle.std.proofs.Common.{◌∙◌, sym, subst, take, drop, IsErr}
+use Rattle.std.proofs.Common.{◌≡◌, ◌∙◌, sym, subst, take, drop, Result, Ok, IsErr}
 use Rattle.std.proofs.lemmas.List.{take-append-drop}
+use Rattle.dsp_ports.specs.Ports.{Took}
 use Rattle.dsp_session.proofs.FeedLaws as laws
 use Rattle.dsp_session.proofs.streaming.pass_block.Goals as goal
+
+ok-err : {T E : Type 0} (r : Result T E) (a : T) → r ≡ Ok a → IsErr r → ⊥
+ok-err r a is bad = (let e = subst IsErr is bad in absurd cc)
 
 pub returns-in-Err-write_all-clause-err : goal.returns-in-Err-write_all-clause-err
 returns-in-Err-write_all-clause-err g c x stands =
@@ -14,5 +18,15 @@ returns-in-Err-write_all-clause-err g c x stands =
       took.put,
       c.in-Err-write_all.ensures.faults,
       laws.feed_costs _ _ _ _ _ c.in-Ok.ensures.same c.in-Ok.ensures.fed x stands,
-      laws.feed_fits _ _ _ _ _ c.in-Ok.ensures.same c.in-Ok.ensures.fed x stands (λ over. let bad = subst IsErr c.in-Ok.is (c.feed.ensures.full.1 over) in absurd cc),
+      laws.feed_fits _ _ _ _ _ c.in-Ok.ensures.same c.in-Ok.ensures.fed x stands (λ over. ok-err c.feed.result _ c.in-Ok.is (c.feed.ensures.full.1 over)),
     )
+
+pub returns-in-Ok-write_all-clause-ok : goal.returns-in-Ok-write_all-clause-ok
+returns-in-Ok-write_all-clause-ok g c x stands = record {
+  stands = c.in-Ok.ensures.fed.stands x stands;
+  out = laws.feed_out _ _ _ _ _ c.in-Ok.ensures.same c.in-Ok.ensures.fed x stands;
+  costs = laws.feed_costs _ _ _ _ _ c.in-Ok.ensures.same c.in-Ok.ensures.fed x stands;
+  not_full = laws.feed_fits _ _ _ _ _ c.in-Ok.ensures.same c.in-Ok.ensures.fed x stands (λ over. ok-err c.feed.result _ c.in-Ok.is (c.feed.ensures.full.1 over));
+  took = subst (Took (g.K.Sink.state c.args.output.now) (g.K.Sink.state c.write_all.new.sink)) c.out.ensures c.in-Ok-write_all.ensures.took;
+  no_fault = c.in-Ok-write_all.ensures.faults;
+}

@@ -1,4 +1,5 @@
 use Rattle.std.proofs.Common.{◌≡◌, ◌∙◌, ap, sym, refl, arith}
+use Rattle.std.proofs.lemmas.List.{length-take-le}
 use Rattle.dsp_defs.specs.declared.script.Script.{Script}
 use Rattle.dsp_session.specs.Session.{frame_bytes}
 use Rattle.dsp_session.proofs.CloseLaws as laws
@@ -36,3 +37,7 @@ returns-clause-few g c =
     let (before, empty, begun) = c.requires.begun in
     let passed = c.in_ok-last.ensures.ok _ _ begun in
     laws.few_taken _ c.in_ok-last.last.before c.in_ok-last.last.count c.frame_bytes.result passed.in_limit
+
+pub pass_blocks-requires-clause-block : goal.pass_blocks-requires-clause-block
+pass_blocks-requires-clause-block g c =
+    length-take-le c.block_bytes-size.result c.args.room.now (rw c.block_bytes-size.ensures c.requires.room) ∙ c.block_bytes-size.ensures

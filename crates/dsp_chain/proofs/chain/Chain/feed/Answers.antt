@@ -1,4 +1,4 @@
-use Rattle.std.proofs.Common.{◌≡◌, ◌∙◌, ap, inl, inr, refl, sym, subst, take, length, arith, true, false, ◌+◌, ◌/◌, ◌<◌, ◌≤◌, ◌^◌}
+use Rattle.std.proofs.Common.{◌≡◌, ◌∙◌, ap, inl, inr, refl, sym, subst, take, length, arith, true, false, Option, Some, None, ◌+◌, ◌/◌, ◌<◌, ◌≤◌, ◌^◌}
 use Rattle.std.specs.Prelude.{is_some}
 use Rattle.dsp_stage.specs.Row.{Place, InRow, AllCount, AllTaken, blocks_of, place_behind, place_room}
 use Rattle.dsp_defs.specs.Shape.{gathered}
@@ -13,6 +13,47 @@ use Rattle.dsp_chain.proofs.FrameRules.{rules-few, rules-gathered, rules-held}
 use Rattle.dsp_chain.proofs.ChainCalls.{whole-again, chain-fed}
 use Rattle.dsp_chain.proofs.Restored.{same-rules}
 use Rattle.dsp_chain.proofs.chain.Chain.feed.Goals as goal
+
+some-none : {A : Type 0} (o : Option A) (a : A) → o ≡ None → o ≡ Some a → ⊥
+some-none o a none some = (let e : None ≡ Some a = sym none ∙ some in cc)
+
+same-fault : {A : Type 0} (o : Option A) (a b : A) → o ≡ Some a → o ≡ Some b → a ≡ b
+same-fault o a b here there = (let e : Some a ≡ Some b = sym here ∙ there in cc)
+
+-- a chain that has failed answers its fault again
+pub returns-in-Some-clause-full : goal.returns-in-Some-clause-full
+returns-in-Some-clause-full g c = rw (← c.self.view_is) (λ _. inr (ap is_some c.in-Some.is), λ _. refl)
+
+pub returns-in-Some-clause-numbers : goal.returns-in-Some-clause-numbers
+returns-in-Some-clause-numbers g c = rw (← c.self.view_is) (λ none. absurd (some-none c.self.inside.failed c.in-Some.fault none c.in-Some.is))
+
+pub returns-in-Some-clause-refused : goal.returns-in-Some-clause-refused
+returns-in-Some-clause-refused g c =
+    rw (← c.self.view_is) (record {
+      same = λ i. record {
+        input = record { format = c.self.inside.format; channels = c.self.inside.channels; capacity = c.self.inside.capacity };
+        units = c.self.inside.links.items;
+        frames = c.self.inside.frames;
+        ended = c.self.inside.ended;
+        failed = c.in-Some.is i;
+      };
+      again = λ earlier was. same-fault c.self.inside.failed c.in-Some.fault earlier c.in-Some.is was;
+      no_steps = refl;
+    })
+
+-- and where it fails for the first time, only that it has is new
+pub invariant_of-self : goal.invariant_of-self
+invariant_of-self g c =
+    let is = c.self.invariant.0 in
+    (whole-again _ _ is refl refl is.row is.took is.counts is.taken, c.self.invariant.1, c.self.invariant.2, c.self.invariant.3)
+
+pub returns-in-Some-gather_fault-clause-refused : goal.returns-in-Some-gather_fault-clause-refused
+returns-in-Some-gather_fault-clause-refused g c =
+    rw (← c.self.view_is) (record {
+      same = refl;
+      again = λ earlier was. absurd (some-none c.self.inside.failed earlier c.in_default.is was);
+      no_steps = refl;
+    })
 
 pub gather_fault-requires-clause-few : goal.gather_fault-requires-clause-few
 gather_fault-requires-clause-few g c =

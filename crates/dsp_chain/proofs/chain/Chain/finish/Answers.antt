@@ -1,7 +1,8 @@
-use Rattle.std.proofs.Common.{◌≡◌, ◌∙◌, ap, refl, sym, subst, take, length, arith, false, Option, Some, None, length-take}
+use Rattle.std.proofs.Common.{◌≡◌, ◌∙◌, ap, refl, sym, subst, take, length, arith, true, false, Option, Some, None, length-take}
 use Rattle.std.specs.Prelude.{is_some}
 use Rattle.dsp_stage.specs.Row.{Place, InRow, AllTook, AllTaken, blocks_of, place_behind, place_room}
 use Rattle.dsp_chain.specs.FrameRule.{rules_of}
+use Rattle.dsp_chain.specs.Row.{MayFinish}
 use Rattle.dsp_chain.proofs.Restored.{same-rules}
 use Rattle.dsp_chain.proofs.Room.{written-row}
 use Rattle.dsp_chain.proofs.ChainCalls.{whole-again, chain-finished, chain-refused}
@@ -10,6 +11,9 @@ use Rattle.dsp_chain.proofs.chain.Chain.finish.Goals as goal
 is-none : {A : Type 0} (o : Option A) → is_some o ≡ false → o ≡ None
 is-none None e = refl
 is-none (Some a) e = cc
+
+true-false : true ≡ false → ⊥
+true-false e = cc
 
 pub returns-then-is_some-clause-finished : goal.returns-then-is_some-clause-finished
 returns-then-is_some-clause-finished g c =
@@ -41,8 +45,21 @@ invariant_of-self-2 g c =
     let blocks : blocks_of news ≡ blocks_of links = finished.blocks ∙ ap blocks_of c.as_mut_slice.ensures.value in
     let took : AllTook news n = finished.took n (subst (λ us. AllTook us n) (sym c.as_mut_slice.ensures.value) is.took) in
     rw whole (
-      whole-again _ _ is refl blocks finished.in_row took (λ e. absurd (cc)) (subst (λ bs. AllTaken bs n) (sym blocks) is.taken),
+      whole-again _ _ is refl blocks finished.in_row took (λ running. absurd (true-false running)) (subst (λ bs. AllTaken bs n) (sym blocks) is.taken),
       c.self.invariant.1 ∙ ap rules_of (sym blocks),
       c.self.invariant.2 ∙ sym (same-rules p links news is.row finished.in_row blocks),
       c.self.invariant.3 ∙ ap (λ bs. place_room (place_behind p bs)) (sym blocks),
     )
+
+pub finish_row-requires : goal.finish_row-requires
+finish_row-requires g c =
+    let is = c.self.invariant.0 in
+    let may : MayFinish c.self.inside.links.items (length c.args.out.now) = record {
+      place = record { format = c.self.inside.format; channels = c.self.inside.channels; capacity = c.self.inside.capacity };
+      row = is.row;
+      room = (rw (← c.self.view_is) at c.requires).room;
+      frames = c.self.inside.frames;
+      took = is.took;
+      taken = is.taken;
+    } in
+    rw c.as_mut_slice.ensures.value may

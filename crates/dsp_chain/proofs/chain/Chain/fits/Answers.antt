@@ -13,21 +13,21 @@ never : false ≡ true → ⊥
 never e = cc
 
 pub gathered-requires : goal.gathered-requires
-gathered-requires c =
+gathered-requires g c =
     let is = c.self.invariant.0 in
     rw (c.deref.ensures.value, c.self.invariant.1) (rules-few _ (blocks_of c.self.inside.links.items) c.args.frames is.chain (is.few_frames c.args.frames (omega (arith, c.if-frames-gt-MAX_INPUT.false))))
 
 pub returns-then-frames-gt-MAX_INPUT : goal.returns-then-frames-gt-MAX_INPUT
-returns-then-frames-gt-MAX_INPUT c = (λ e. absurd (never e), λ fits. absurd (omega (arith, c.if-frames-gt-MAX_INPUT.true, fits.limit)))
+returns-then-frames-gt-MAX_INPUT g c = (λ e. absurd (never e), λ fits. absurd (omega (arith, c.if-frames-gt-MAX_INPUT.true, fits.limit)))
 
 pub returns-then-gathered : goal.returns-then-gathered
-returns-then-gathered c =
+returns-then-gathered g c =
     let blocks = blocks_of c.self.inside.links.items in
     let same : frames_gathered whole_by c.deref.result.now c.args.frames ≡ gathered blocks c.args.frames = ap (λ rs. frames_gathered whole_by rs c.args.frames) (c.deref.ensures.value ∙ c.self.invariant.1) ∙ rules-gathered blocks c.args.frames in
     rw (← c.self.view_is) (λ e. absurd (never e), λ fits. absurd (omega (arith, c.if-gathered.true, c.gathered.ensures, same, fits.gathers)))
 
 pub fits_row-requires : goal.fits_row-requires
-fits_row-requires c =
+fits_row-requires g c =
     let is = c.self.invariant.0 in
     let links = c.self.inside.links.items in
     let has : HasRules links c.self.inside.rules.items c.self.inside.kept.items c.args.frames = record {
@@ -39,7 +39,7 @@ fits_row-requires c =
     rw (c.deref-2.ensures.value, c.deref-3.ensures.value, c.deref-4.ensures.value) has
 
 pub returns : goal.returns
-returns c =
+returns g c =
     let is = c.self.invariant.0 in
     let links = c.self.inside.links.items in
     let p : Place = record { format = c.self.inside.format; channels = c.self.inside.channels; capacity = c.self.inside.capacity } in

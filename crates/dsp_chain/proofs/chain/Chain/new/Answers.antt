@@ -1,11 +1,11 @@
-use Rattle.std.proofs.Common.{◌≡◌, ◌∙◌, ap, sym, subst, ◌+◌, ◌*◌, ◌<◌, ◌≤◌, [], ◌∷◌, ◌++◌, length, take, drop, get_or, arith, List}
+use Rattle.std.proofs.Common.{◌≡◌, ◌∙◌, ap, sym, subst, ℕ, ◌+◌, ◌*◌, ◌<◌, ◌≤◌, [], ◌∷◌, ◌++◌, length, take, drop, get_or, arith, List}
 use Rattle.std.proofs.lemmas.List.{take_more, take_all}
 use Rattle.dsp_stage.specs.Row.{Place, place_after, blocks_of, place_behind, place_room}
 use Rattle.dsp_defs.specs.declared.limits.TheConstants.{MAX_CHANNELS, MAX_SAMPLES}
 use Rattle.dsp_defs.specs.Block.{channels_after}
 use Rattle.dsp_defs.specs.declared.script.Block.{Block}
-use Rattle.dsp_stage.specs.Unit.{UnitState}
-use Rattle.dsp_blocks.specs.BlockUnit.{state_of}
+use Rattle.dsp_defs.specs.declared.flow.Flow.{Flow}
+use Rattle.dsp_stage.specs.Unit.{UnitState, most_frames, room_of}
 use Rattle.dsp_chain.specs.Chain.{input_place}
 use Rattle.dsp_stage.proofs.ChainPlaces.{legal_is_open, has_groups, flow_at}
 use Rattle.dsp_chain.proofs.Making.{Making, making-none, making-more, next-place, making-open, Next, next-first, making-next}
@@ -15,8 +15,11 @@ use Rattle.dsp_chain.specs.KeptRule.{unit_rules}
 use Rattle.dsp_chain.proofs.KeptRows.{keeps-more}
 use Rattle.dsp_chain.proofs.chain.Chain.new.Goals as goal
 
+same-fits : (a b : ℕ) → a ≡ b → a ≤ b
+same-fits a b e = omega arith
+
 pub loop-block-init : goal.loop-block-init
-loop-block-init c =
+loop-block-init g c =
     let p = input_place c.args.script.now c.args.block in (
       subst (λ (us : List UnitState). Making p p c.as_slice-blocks.result.now 0 us) (sym (c.in_ok-links.ensures.items))
           (subst (λ (blocks : List Block). Making p p blocks 0 []) (sym c.as_slice-blocks.ensures)
@@ -25,8 +28,8 @@ loop-block-init c =
       c.in_ok-kept.ensures.items ∙ sym (ap unit_rules c.in_ok-links.ensures.items),
     )
 
-pub new-requires : goal.new-requires
-new-requires c =
+pub of_block-requires : goal.of_block-requires
+of_block-requires g c =
     let blocks = c.as_slice-blocks.result.now in
     let i = c.loop-block.block-index in
     let b = c.block-item.result in
@@ -35,7 +38,7 @@ new-requires c =
     record { suits = next.suits; channels = next.open_here.channels; frames = next.open_here.capacity; samples = next.open_here.samples }
 
 pub after-flow-requires : goal.after-flow-requires
-after-flow-requires c =
+after-flow-requires g c =
     let blocks = c.as_slice-blocks.result.now in
     let i = c.loop-block.block-index in
     let b = c.block-item.result in
@@ -45,7 +48,7 @@ after-flow-requires c =
     omega (arith, few)
 
 pub loop-block-preserved : goal.loop-block-preserved
-loop-block-preserved c =
+loop-block-preserved g c =
     let blocks = c.as_slice-blocks.result.now in
     let i = c.loop-block.block-index in
     let b = c.block-item.result in
@@ -56,15 +59,15 @@ loop-block-preserved c =
     let read : b ≡ get_or blocks i b = c.block-item.is in
     let first : drop i blocks ≡ b ∷ drop (i + 1) blocks = next-first blocks i b within read in
     let more : take (i + 1) blocks ≡ take i blocks ++ b ∷ [] = take_more blocks i b within ∙ ap (λ (e : Block). take i blocks ++ e ∷ []) (sym read) in
-    let pushed : c.push.new.self.items ≡ c.loop-block.links.items ++ state_of c.in_ok-unit.unit ∷ [] = c.in_ok-push.ensures.items ∙ ap (λ (u : UnitState). c.loop-block.links.items ++ u ∷ []) c.in_ok-new.ensures in
+    let pushed : c.push.new.self.items ≡ c.loop-block.links.items ++ g.U.Stage.unit c.in_ok-unit.unit ∷ [] = c.in_ok-push.ensures.items ∙ ap (λ (u : UnitState). c.loop-block.links.items ++ u ∷ []) c.in_ok-new.ensures in
     let step : next ≡ place_after here b = next-place here next b c.after-flow.ensures c.most_frames-frames.ensures in (
-      rw pushed (making-more p here next blocks i (i + 1) c.loop-block.links.items (state_of c.in_ok-unit.unit) b first more step c.in_ok-unit.ensures c.loop-block.invariant.0),
+      rw pushed (making-more p here next blocks i (i + 1) c.loop-block.links.items (g.U.Stage.unit c.in_ok-unit.unit) b first more step c.in_ok-unit.ensures c.loop-block.invariant.0),
       rw c.in_ok-push-2.ensures.items (rules-more c.loop-block.rules.items c.of.result b blocks i (i + 1) more c.of.ensures c.loop-block.invariant.1),
-      rw (pushed, c.in_ok-push-3.ensures.items) (keeps-more c.loop-block.links.items (state_of c.in_ok-unit.unit) b here.format here.channels here.capacity _ c.loop-block.kept.items c.of_block-numbers.result c.in_ok-unit.ensures c.kept_count.ensures.count c.of_block-numbers.ensures c.loop-block.invariant.2),
+      rw (pushed, c.in_ok-push-3.ensures.items) (keeps-more c.loop-block.links.items (g.U.Stage.unit c.in_ok-unit.unit) b here.format here.channels here.capacity _ c.loop-block.kept.items c.of_block-numbers.result c.in_ok-unit.ensures c.kept_count.ensures.count c.of_block-numbers.ensures c.loop-block.invariant.2),
     )
 
 pub invariant_of-result : goal.invariant_of-result
-invariant_of-result c =
+invariant_of-result g c =
     let p = input_place c.args.script.now c.args.block in
     let us = c.loop-block.links.items in
     let read = c.as_slice-blocks.result.now in
@@ -81,7 +84,7 @@ invariant_of-result c =
     )
 
 pub returns : goal.returns
-returns c =
+returns g c =
     let p = input_place c.args.script.now c.args.block in
     let us = c.loop-block.links.items in
     let read = c.as_slice-blocks.result.now in
@@ -89,7 +92,7 @@ returns c =
     rw c.from-2.ensures (new-chain p us c.args.script.now.blocks blocks c.loop-block.invariant.0.row c.loop-block.invariant.0.fresh)
 
 pub most_frames-frames-requires : goal.most_frames-frames-requires
-most_frames-frames-requires c =
+most_frames-frames-requires g c =
     let blocks = c.as_slice-blocks.result.now in
     let i = c.loop-block.block-index in
     let b = c.block-item.result in
@@ -98,7 +101,7 @@ most_frames-frames-requires c =
     record { groups = (has_groups (flow_at here) (b ∷ []) (next.suits, tt)).0; fits = omega (arith, next.few_frames) }
 
 pub overflow_mul-frames : goal.overflow_mul-frames
-overflow_mul-frames c =
+overflow_mul-frames g c =
     let blocks = c.as_slice-blocks.result.now in
     let i = c.loop-block.block-index in
     let b = c.block-item.result in
@@ -110,7 +113,15 @@ overflow_mul-frames c =
     rw c.from.ensures (omega (arith, samples))
 
 pub overflow_mul-result : goal.overflow_mul-result
-overflow_mul-result c =
+overflow_mul-result g c =
     let here : Place = record { format = c.loop-block.flow.format; channels = c.loop-block.flow.channels; capacity = c.loop-block.frames } in
     let samples : c.loop-block.frames * c.loop-block.flow.channels ≤ MAX_SAMPLES = (making-open (input_place c.args.script.now c.args.block) here c.as_slice-blocks.result.now c.loop-block.block-index c.loop-block.links.items c.loop-block.invariant.0).samples in
     rw c.from-3.ensures (omega (arith, samples))
+
+-- the row of a unit has just the room that the unit needs
+pub new-requires : goal.new-requires
+new-requires g c =
+    let is = c.in_ok-unit.ensures in
+    let needs : room_of (g.U.Stage.unit c.in_ok-unit.unit) ≡ most_frames c.block-item.result c.loop-block.frames * channels_after c.loop-block.flow.channels c.block-item.result = (λ i. most_frames (is.block i) (is.capacity i) * channels_after (is.channels i) (is.block i)) in
+    let has : c.most_frames-frames.result * c.from.result ≡ most_frames c.block-item.result c.loop-block.frames * channels_after c.loop-block.flow.channels c.block-item.result = (λ i. c.most_frames-frames.ensures i * (c.from.ensures ∙ ap (λ (f : Flow). f.channels) c.after-flow.ensures) i) in
+    same-fits _ _ (needs ∙ sym has)

@@ -6,7 +6,7 @@ use Rattle.dsp_chain.specs.KeptRule.{unit_rules}
 use Rattle.dsp_chain.proofs.chain.Chain.new.Given as goal
 
 abbrev pub invariant-loop-block : goal.invariant-loop-block
-invariant-loop-block l =
+invariant-loop-block g l =
     Making (input_place l.fn.script l.fn.block) (record { format = l.flow.format; channels = l.flow.channels; capacity = l.frames }) l.blocks l.block-index l.links.items
     × (l.rules.items ≡ rules_of (take l.block-index l.blocks))
     × (l.kept.items ≡ unit_rules l.links.items)

@@ -13,12 +13,12 @@ use Rattle.dsp_chain.proofs.Room.{written-row}
 use Rattle.dsp_chain.proofs.chain.Chain.restore.Goals as goal
 
 pub restore_row-requires-clause-running : goal.restore_row-requires-clause-running
-restore_row-requires-clause-running c =
+restore_row-requires-clause-running g c =
     let running = rw (← c.self.view_is) at c.requires.running in
     rw c.as_mut_slice.ensures.value (count-runs c.self.inside.links.items c.self.inside.frames (c.self.invariant.0.counts running))
 
 pub restore_row-requires-clause-rules : goal.restore_row-requires-clause-rules
-restore_row-requires-clause-rules c =
+restore_row-requires-clause-rules g c =
     let is = c.self.invariant.0 in
     let links = c.self.inside.links.items in
     let fits = rw (← c.self.view_is) at c.requires.fits in
@@ -31,13 +31,13 @@ restore_row-requires-clause-rules c =
     rw (c.as_mut_slice.ensures.value, c.deref.ensures.value, c.deref-2.ensures.value) has
 
 pub restore_row-requires-clause-fits : goal.restore_row-requires-clause-fits
-restore_row-requires-clause-fits c =
+restore_row-requires-clause-fits g c =
     let p : Place = record { format = c.self.inside.format; channels = c.self.inside.channels; capacity = c.self.inside.capacity } in
     let fits = rw (← c.self.view_is) at c.requires.fits in
     rw c.as_mut_slice.ensures.value (fits-units p c.self.inside.links.items c.args.frames c.args.numbers.now c.self.invariant.0.row fits.fits)
 
 pub invariant_of-self : goal.invariant_of-self
-invariant_of-self c =
+invariant_of-self g c =
     let is = c.self.invariant.0 in
     let p : Place = record { format = c.self.inside.format; channels = c.self.inside.channels; capacity = c.self.inside.capacity } in
     let links = c.self.inside.links.items in
@@ -57,7 +57,7 @@ invariant_of-self c =
     )
 
 pub returns : goal.returns
-returns c =
+returns g c =
     let is = c.self.invariant.0 in
     let p : Place = record { format = c.self.inside.format; channels = c.self.inside.channels; capacity = c.self.inside.capacity } in
     let links = c.self.inside.links.items in

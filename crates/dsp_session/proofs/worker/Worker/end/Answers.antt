@@ -1,4 +1,5 @@
-use Rattle.std.proofs.Common.{◌≡◌, ◌*◌, ◌∙◌, length, take}
+use Rattle.std.proofs.Common.{◌≡◌, ◌*◌, ◌∙◌, sym, length, take, arith}
+use Rattle.std.proofs.lemmas.List.{length-take-le}
 use Rattle.dsp_defs.specs.Bytes.{width}
 use Rattle.dsp_defs.proofs.CodingLemmas.{width-some}
 use Rattle.dsp_chain.proofs.Room.{written-row}
@@ -23,3 +24,12 @@ returns-clause-ends g c =
     rw (← c.self.view_is)
     (laws.ends script c.self.inside.block holds.ready c.self.inside.chain c.finish-count.new.self holds.input holds.blocks holds.turns _ _ _ ys out c.encode_front-self-inside.result
     (width c.self.inside.output) (width-some c.self.inside.output) answer _ _ c.finish-count.ensures.finished)
+
+pub returns-clause-given : goal.returns-clause-given
+returns-clause-given g c =
+    let front = c.encode_front-self-inside.new.bytes in
+    let long : length front ≡ c.self.inside.bytes.len = c.encode_front-self-inside.auto.bytes ∙ c.as_mut_slice-2.ensures.len in
+    rw (written-row c.self.inside.bytes.len front c.self.inside.bytes.items long) (sym (length-take-le c.encode_front-self-inside.result front (omega (arith, c.encode_front-self-inside.ensures.within, c.encode_front-self-inside.auto.bytes))))
+
+pub invariant_of-self : goal.invariant_of-self
+invariant_of-self g c = laws.still_works _ _ _ _ _ _ _ _ _ c.self.invariant c.finish-count.ensures.finished.same (omega (arith, c.encode_front-self-inside.ensures.within, c.as_mut_slice-2.ensures.len))

@@ -1,7 +1,8 @@
 use Rattle.std.proofs.Common.{◌≡◌, ◌∙◌, ap, [], length, take, All, FitsSigned, refl, sym, arith}
 use Rattle.std.proofs.lemmas.List.{length-take-le}
 use Rattle.std.proofs.lemmas.Result.{err_from_is_err_and}
-use Rattle.dsp_stage.specs.Row.{Place}
+use Rattle.dsp_stage.specs.Row.{Place, blocks_of, row_turns}
+use Rattle.dsp_chain.specs.Chain.{ChainState}
 use Rattle.dsp_stage.specs.Unit.{frames_in}
 use Rattle.dsp_defs.specs.Bytes.{width}
 use Rattle.dsp_defs.specs.Formats.{word}
@@ -108,3 +109,11 @@ returns-clause-fed g c =
     c.self.invariant.output (c.encode_front-self-inside.auto.bytes ∙ c.as_mut_slice-3.ensures.len) (rw same at c.encode_front-self-inside.ensures.bytes) in
     rw (← c.self.view_is)
     (laws.feeds script c.self.inside.block ready c.self.inside.chain c.feed.new.self holds.input holds.blocks holds.turns _ _ _ (take c.decode_front-count.result c.deref.result.now) (take c.in_ok-count.count c.feed.new.out) c.args.bytes.now frames out _ _ c.in_ok-count.ensures.fed)
+
+pub invariant_of-self : goal.invariant_of-self
+invariant_of-self g c =
+    let failed = c.in_err-count.ensures.refused.same in
+    laws.still_works _ _ _ _ _ _ _ _ _ c.self.invariant (record { input = ap (λ (s : ChainState). s.input) failed; blocks = ap (λ (s : ChainState). blocks_of s.units) failed; turns = λ m n. ap (λ (s : ChainState). row_turns s.units m n) failed }) (omega arith)
+
+pub invariant_of-self-2 : goal.invariant_of-self-2
+invariant_of-self-2 g c = laws.still_works _ _ _ _ _ _ _ _ _ c.self.invariant c.in_ok-count.ensures.fed.same (omega (arith, c.encode_front-self-inside.ensures.within, c.as_mut_slice-3.ensures.len))

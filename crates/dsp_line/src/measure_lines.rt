@@ -3,9 +3,9 @@ ghost use Rattle.std.specs.Prelude.{◌≡◌, ◌+◌, ◌≤◌, ◌++◌, len
 ghost use Rattle.arrayvec.specs.ArrayVec.{array_vec_len};
 ghost use Rattle.dsp_defs.specs.Report.{channel_text, extreme_line, found_text, measure_line, sums_line};
 
+use crate::{integer, natural, text};
 use arrayvec::ArrayVec;
 use dsp_defs::Measure;
-use dsp_line::{integer, natural, text};
 
 /// The bytes of a measure's line at most.
 const LINE: usize = 160;
@@ -76,7 +76,7 @@ fn extreme_line(word: &[u8], number: u8, channel: u8, found: Option<(i32, u64)>)
 }
 
 /// The line of a measure in a report, as `power 1 channel 0 = 25`.
-pub fn line(measure: &Measure) -> MeasureLine
+pub fn measure_line(measure: &Measure) -> MeasureLine
     ensures { result.items ≡ measure_line measure.now }
 {
     match *measure {

@@ -1,6 +1,5 @@
 -- What the operations of this crate give.
-use Rattle.std.proofs.Common.{◌≡◌, ◌∙◌, ap, refl, sym, ℕ, ◌+◌, ◌*◌, ◌/◌, ◌<◌, ◌≤◌, ℤ, List, take, length}
-use Rattle.std.specs.Prelude.{FitsSigned}
+use Rattle.std.proofs.Common.{◌≡◌, ◌∙◌, ap, refl, sym, ℕ, ◌+◌, ◌*◌, ◌/◌, ◌<◌, ◌≤◌, ℤ, List, take, length, FitsSigned}
 use Rattle.dsp_defs.specs.Signal.{sample, values}
 use Rattle.dsp_defs.specs.Formats.{word}
 use Rattle.dsp_defs.proofs.FrameLemmas.{length-frames_in}

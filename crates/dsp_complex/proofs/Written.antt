@@ -1,6 +1,5 @@
 -- What an operation writes of one frame.
-use Rattle.std.proofs.Common.{◌≡◌, ap, zero, suc, ℤ, List, [], ◌∷◌, set, length, arith}
-use Rattle.std.specs.Prelude.{All, FitsSigned}
+use Rattle.std.proofs.Common.{◌≡◌, ap, zero, suc, ℤ, List, [], ◌∷◌, set, length, arith, All, FitsSigned}
 use Rattle.std.specs.Int.{Width}
 
 module _ (w : Width) (u : ℤ) (u_fits : FitsSigned w u) where

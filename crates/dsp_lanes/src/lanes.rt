@@ -166,8 +166,7 @@ impl<T: LaneSample<L>, const L: usize> Lanes<T, L> {
             at += L;
         }
         'rest: while at < out.len() {
-            let sum = row_sum(taps, window, at, steps);
-            out[at] = T::close(sum);
+            out[at] = T::close(row_sum(taps, window, at, steps));
             at += 1;
         }
     }

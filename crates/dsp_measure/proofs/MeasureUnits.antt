@@ -1,5 +1,5 @@
 -- Units of measures: they give the frames as they take them, and keep numbers for each measure.
-use Rattle.std.proofs.Common.{◌≡◌, ◌∙◌, ap, refl, sym, subst, ℕ, zero, suc, ◌+◌, ◌-◌, ◌*◌, ◌/◌, ◌<◌, ◌≤◌, ℤ, pos, List, [], ◌∷◌, ◌++◌, length, take, drop, replicate, flat_map, Bool, false, IfSome, arith, rules}
+use Rattle.std.proofs.Common.{◌≡◌, ◌∙◌, ap, refl, sym, subst, ℕ, zero, suc, ◌+◌, ◌-◌, ◌*◌, ◌/◌, ◌<◌, ◌≤◌, ℤ, pos, List, [], ◌∷◌, ◌++◌, length, take, drop, replicate, flat_map, Bool, false, IfSome, mul-le-mul_right, arith, rules}
 use Rattle.std.specs.Prelude.{FitsSigned}
 use Rattle.std.specs.List.{range_with_len}
 use Rattle.std.proofs.lemmas.List.{append-nil, take-append-le, take_all}
@@ -16,7 +16,7 @@ use Rattle.dsp_defs.specs.declared.format.Fmt.TheVariants.{Q7, Q15, Q31}
 use Rattle.dsp_defs.specs.declared.script.Block.{Block}
 use Rattle.dsp_stage.specs.Channels.{numbers_in}
 use Rattle.dsp_stage.specs.Kept.{Each, IsPlace, IsOfKind, IsTaken, Fits, FitsAfter, HasPlace, kinds_by, kept_kinds, kept_numbers, extreme_kinds, limit_of}
-use Rattle.dsp_stage.specs.Unit.{UnitState, MadeAs, StandsFor, CountsFrames, Feeds, Restores, Accepts, IsNew, IsSignal, IsOutput, frames_in, most_frames, most_kept}
+use Rattle.dsp_stage.specs.Unit.{UnitState, MadeAs, StandsFor, CountsFrames, Feeds, Restores, Accepts, IsNew, IsSignal, IsOutput, frames_in, room_of, most_frames, most_kept}
 use Rattle.dsp_defs.proofs.FrameLemmas.{length-frames_in}
 use Rattle.dsp_stage.proofs.ChannelKept.{kinds-place, each-length, pieces-same, pieces-each}
 use Rattle.dsp_measure.specs.Measures.{block_of, channels_of, parts_of, size_of, price_of, part_kept, AllCanTake, PartsFeed}
@@ -218,6 +218,14 @@ measure-feeds m u v frames before after is is' made fits fed rises = record {
 -- what it gives is what it took
 pub measure-output : (m : MeasureBlock) (u : UnitState) (frames : List ℤ) → IsMeasuring m u → IsSignal u.format u.channels frames → length (frames_in u.channels frames) ≤ u.capacity → IsOutput u (most_frames u.block u.capacity) frames
 measure-output m u frames is signal few = record { signal = rw (is.block, format-stays u.format u.channels m, channels-stay u.format u.channels m) signal; at_most = rw (is.block, channels-stay u.format u.channels m, most-stay m u.capacity) few }
+
+-- and the frames have room
+pub measure-room :
+    (m : MeasureBlock) (u : UnitState) (frames : List ℤ) (n : ℕ) → u.block ≡ block_of m → IsSignal u.format u.channels frames →
+    length (frames_in u.channels frames) ≤ u.capacity → room_of u ≤ n → length frames ≤ n
+measure-room m u frames n is signal few room =
+    let most : u.capacity * u.channels ≤ n = rw (is, channels-stay u.format u.channels m, most-stay m u.capacity) at room in
+    omega (arith, signal.whole_frames, mul-le-mul_right u.channels few, most)
 
 pub measure-restores : (m : MeasureBlock) (u v : UnitState) (numbers : List ℤ) → IsMeasuring m u → IsMeasuring m v → MadeAs u v → v.kept ≡ numbers → Restores u v numbers
 measure-restores m u v numbers is is' made kept = record {

@@ -1,5 +1,4 @@
-use Rattle.std.proofs.Common.{◌≡◌, ◌∙◌, ap, sym, ◌+◌, ◌*◌, ◌*ℤ◌, length, arith, rules, SFits, to_z-of_z}
-use mir.Syntax.{w16}
+use Rattle.std.proofs.Common.{◌≡◌, ◌∙◌, ap, sym, ◌+◌, ◌*◌, ◌*ℤ◌, length, arith, rules, SFits, to_z-of_z, w16}
 use Rattle.std.proofs.lemmas.List.{take_all}
 use Rattle.dsp_defs.specs.Numbers.{saturate, ◌>>◌}
 use Rattle.dsp_defs.specs.Signal.{sample}

@@ -1,6 +1,4 @@
-use Rattle.std.proofs.Common.{◌≡◌, ◌∙◌, ◌≤◌, ◌+◌, ◌*◌, ◌-◌, ◌^◌, ◌*ℤ◌, ap, sym, subst, SFits, to_z, of_z, rules}
-use Rattle.std.specs.Prelude.{nat_abs}
-use Rattle.std.specs.Int.{w32, w64}
+use Rattle.std.proofs.Common.{◌≡◌, ◌∙◌, ◌≤◌, ◌+◌, ◌*◌, ◌-◌, ◌^◌, ◌*ℤ◌, ap, sym, subst, SFits, to_z, of_z, rules, nat_abs, w32, w64}
 use Rattle.std.proofs.lemmas.Int.{to_z-of_z}
 use lib.Signed.{shr_z}
 use Rattle.dsp_sat.proofs.Words.{shift_down-is}

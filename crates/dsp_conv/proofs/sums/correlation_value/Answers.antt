@@ -1,7 +1,9 @@
-use Rattle.std.proofs.Common.{◌≡◌, ◌∙◌, ap, ap₂, sym, ◌+◌, ◌-◌, ◌*ℤ◌, min, max, length, map, take, drop, arith}
+use Rattle.std.proofs.Common.{◌≡◌, ◌∙◌, ap, ap₂, sym, subst, ℕ, ◌+◌, ◌-◌, ◌*ℤ◌, min, max, length, map, take, drop, arith}
 use Rattle.std.proofs.lemmas.List.{length-map}
 use Rattle.dsp_defs.specs.Formats.{close}
 use Rattle.dsp_defs.specs.Signal.{sample, sum_below}
+use Rattle.dsp_lanes.specs.Turns.{RisesWithin}
+use Rattle.dsp_conv.specs.Sums.{correlation_terms}
 use Rattle.dsp_conv.proofs.SliceSums.{correlation-part, mapped-piece, piece-long}
 use Rattle.dsp_conv.proofs.sums.correlation_value.Goals as goal
 
@@ -32,3 +34,16 @@ returns-clause-value g c =
     (ap (λ m. map number (take m (drop from b))) from_size ∙ mapped-piece number b from size)
     ∙ ap (λ m. sum_below m (λ k. sample (take size (drop start (map number a))) k *ℤ sample (take size (drop from (map number b))) k)) long
     ∙ sym whole)
+
+pub returns-clause-steps : goal.returns-clause-steps
+returns-clause-steps g c =
+    let a = c.args.a.now in
+    let b = c.args.b.now in
+    let n = c.args.n in
+    let start = c.min-start.result in
+    let end = c.min-end.result in
+    let size = end - start in
+    let is_end : end ≡ min (length a) (n + 1 + length b - max (length a) (length b)) = omega (arith, c.max-longest.ensures, c.min-end.ensures, c.saturating_sub.ensures) in
+    let is_start : start ≡ min (n + 1 - max (length a) (length b)) end = omega (arith, c.max-longest.ensures, c.min-start.ensures, c.saturating_sub-2.ensures) in
+    let terms : size ≡ correlation_terms (length a) (length b) n = omega (arith, is_end, is_start) in
+    subst (λ (m : ℕ). RisesWithin c.args.steps.now c.closed_sum.new.steps m m) (piece-long a start size (omega (arith, is_end, is_start)) ∙ terms) c.closed_sum.ensures.steps

@@ -1,7 +1,9 @@
-use Rattle.std.proofs.Common.{ℕ, ◌≡◌, ◌∙◌, List, ℤ, ap, sym, subst, map, w32, ◌+◌, ◌*◌, ◌<◌, ◌≤◌, arith}
+use Rattle.std.proofs.Common.{ℕ, ◌≡◌, ◌∙◌, List, ℤ, ap, sym, subst, map, length, take, take_all, w32, ◌+◌, ◌*◌, ◌<◌, ◌≤◌, ◌++◌, arith}
+use Rattle.std.proofs.lemmas.List.{drop-append-le, drop_all, take-append-le}
 use lib.Lanes.{put_chunk, Each1}
 use mir.Val.{SFits}
 use Rattle.dsp_defs.specs.Formats.{close}
+use Rattle.dsp_defs.specs.Signal.{values}
 use Rattle.dsp_defs.specs.declared.format.Fmt.TheVariants.{Q15}
 use Rattle.dsp_lanes.specs.Narrow.{IsNarrow}
 use Rattle.dsp_lanes.specs.MatrixRows.{column_of, column_sum, shut}
@@ -37,3 +39,37 @@ fours-preserved g c =
         turns_within = omega (arith, h.counted, is.steps, made);
       };
     }
+
+pub close_four-requires-clause-fit : goal.close_four-requires-clause-fit
+close_four-requires-clause-fit g c =
+    let sums = c.four_columns-sums.result.upper in
+    let fit = subst (λ (l : List ℤ). Each1 (SFits w32) l) (sym c.four_columns-sums.ensures.upper) (four-fit c.args.rows.now c.args.matrix.now c.args.given 0 c.args.columns c.fours.column) in
+    subst (λ (l : List ℤ). Each1 (SFits w32) l) (sym (ints_of_bits w32 sums fit)) fit
+
+pub close_four-requires-in-fours-clause-fit : goal.close_four-requires-in-fours-clause-fit
+close_four-requires-in-fours-clause-fit g c =
+    let sums = c.four_columns-sums.result.lower in
+    let fit = subst (λ (l : List ℤ). Each1 (SFits w32) l) (sym c.four_columns-sums.ensures.lower) (four-fit c.args.rows.now c.args.matrix.now c.args.given c.args.columns c.args.columns c.fours.column) in
+    subst (λ (l : List ℤ). Each1 (SFits w32) l) (sym (ints_of_bits w32 sums fit)) fit
+
+pub returns-clause-upper : goal.returns-clause-upper
+returns-clause-upper g c =
+    let a = c.args in
+    let all : a.given ≡ c.fours.column = omega (arith, c.fours-test.false, c.fours.invariant.within) in
+    let long : length c.fours.upper ≡ a.given = c.fours.auto.upper ∙ c.split_at_mut-upper.ensures.front_len in
+    take-append-le a.given c.fours.upper c.fours.lower (omega (arith, long))
+    ∙ ap (λ n. take n c.fours.upper) all
+    ∙ c.fours.invariant.upper
+    ∙ ap (λ n. values n (λ l. close Q15 (column_sum a.rows.now a.matrix.now a.columns a.given 0 l))) (sym all)
+
+pub returns-clause-lower : goal.returns-clause-lower
+returns-clause-lower g c =
+    let a = c.args in
+    let all : a.given ≡ c.fours.column = omega (arith, c.fours-test.false, c.fours.invariant.within) in
+    let front : length c.fours.upper ≡ a.given = c.fours.auto.upper ∙ c.split_at_mut-upper.ensures.front_len in
+    let long : length c.fours.lower ≤ c.fours.column = omega (arith, c.fours.auto.lower, c.split_at_mut-upper.ensures.back_len, c.requires.out, all) in
+    drop-append-le a.given c.fours.upper c.fours.lower (omega (arith, front))
+    ∙ ap (λ l. l ++ c.fours.lower) (drop_all a.given c.fours.upper (omega (arith, front)))
+    ∙ sym (take_all c.fours.column c.fours.lower long)
+    ∙ c.fours.invariant.lower
+    ∙ ap (λ n. values n (λ l. close Q15 (column_sum a.rows.now a.matrix.now a.columns a.given a.columns l))) (sym all)

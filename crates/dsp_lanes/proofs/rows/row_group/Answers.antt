@@ -1,4 +1,4 @@
-use Rattle.std.proofs.Common.{ℕ, subst, ℤ, ◌≡◌, ◌+◌, ◌∙◌, ap, refl, arith, length, map, ◌+ℤ◌, ◌*ℤ◌}
+use Rattle.std.proofs.Common.{ℕ, subst, ℤ, ◌≡◌, ◌+◌, ◌*◌, ◌∙◌, ap, refl, arith, length, map, ◌+ℤ◌, ◌*ℤ◌}
 use Rattle.std.proofs.lemmas.List.{length-map}
 use Rattle.std.proofs.lemmas.Simd.{map-map}
 use Rattle.std.specs.Int.{int_wrap}
@@ -92,3 +92,21 @@ returns-clause-out g c =
     (ap (map F.shut) whole
     ∙ map-map F.shut (λ i. int_wrap w (row taps window n (at + i))) (range_with_len 0 F.size)
     ∙ values_cong F.size (λ i. F.shut (int_wrap w (row taps window n (at + i)))) (λ i. close T.format (row taps window n (at + i))) (λ i lt. c.closes.ensures (at + i)))
+
+pub returns-clause-steps : goal.returns-clause-steps
+returns-clause-steps g c =
+    let F = g.F.RowForm in
+    let n = length c.args.taps.now in
+    let j = c.pairs.j in
+    let h = c.pairs.invariant in
+    let before = h.counted.2 in
+    elim c.if-j-taps.branch [
+      | then-j-taps b ↦
+          let last : n ≡ j + 1 = omega (arith, b.if-j-taps, c.pairs-test.false) in
+          let products = ap (λ m. m * F.size) last in
+          rw b.steps-is (record { multiplies_rise = omega (arith, before, products, b.count-then-j-taps.ensures); turns_within = omega (arith, before, last, h.counted.1, b.count-then-j-taps.ensures) })
+      | else-j-taps b ↦
+          let all : n ≡ j = omega (arith, b.if-j-taps, h.within) in
+          let products = ap (λ m. m * F.size) all in
+          rw b.steps-is (record { multiplies_rise = omega (arith, before, products); turns_within = omega (arith, before, all, h.counted.1) })
+    ]

@@ -3,7 +3,7 @@ use Rattle.dsp_defs.specs.Numbers.{wrap}
 use Rattle.dsp_defs.specs.Formats.{accumulator}
 use Rattle.dsp_defs.proofs.SumLemmas.{sample-map}
 use Rattle.dsp_defs.proofs.CountLemmas.{Rises-more}
-use Rattle.dsp_lanes.proofs.LaneRows.{row-more}
+use Rattle.dsp_lanes.proofs.LaneRows.{row-more, wrap-zero}
 use Rattle.dsp_lanes.proofs.rows.row_sum.Goals as goal
 
 pub loop-j-preserved : goal.loop-j-preserved
@@ -19,3 +19,9 @@ loop-j-preserved g c =
           (c.accumulate-sum.ensures ∙ ap (λ p. wrap (accumulator T.format) (T.total c.loop-j.sum +ℤ p)) c.product-product.ensures.value);
       counted = Rises-more _ _ _ _ _ _ _ c.loop-j.invariant.counted c.product-product.ensures.steps;
     }
+
+pub loop-j-init : goal.loop-j-init
+loop-j-init g c = record {
+  summed = c.empty-sum.ensures ∙ wrap-zero (accumulator g.T.Sample.format);
+  counted = record { multiplies_rise = omega arith; turns_rise = omega arith };
+}

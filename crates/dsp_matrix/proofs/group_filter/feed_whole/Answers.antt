@@ -1,4 +1,4 @@
-use Rattle.std.proofs.Common.{◌≡◌, ◌∙◌, ◌*◌, ◌/◌, ◌≤◌, length, map, drop, ap, ap₂, refl, arith, rules, length-take-le}
+use Rattle.std.proofs.Common.{◌≡◌, ◌∙◌, ℕ, ◌+◌, ◌-◌, ◌*◌, ◌/◌, ◌%◌, ◌<◌, ◌≤◌, length, length-drop, take_all, map, drop, ap, ap₂, sym, subst, refl, div-mul-le_self, arith, rules, length-take-le}
 use Rattle.dsp_matrix.specs.Groups.{given_count}
 use Rattle.dsp_matrix.proofs.GroupLaws.{left-behind}
 use Rattle.dsp_matrix.proofs.RowWrites.{front-written, rest-stays}
@@ -51,3 +51,38 @@ returns-clause-rest g c =
 
 pub returns-clause-steps : goal.returns-clause-steps
 returns-clause-steps g c = c.transform_groups.ensures.steps
+
+pub offset_bounds-input-groups : goal.offset_bounds-input-groups
+offset_bounds-input-groups g c =
+    let all = length c.args.input.now in
+    subst (λ n. all / c.taken.result * n ≤ all) (c.taken.ensures ∙ sym c.taken-2.ensures) (div-mul-le_self all c.taken.result)
+
+pub slice_bounds-start-count : goal.slice_bounds-start-count
+slice_bounds-start-count g c =
+    let all = length c.args.input.now in
+    subst (λ n. all / c.taken.result * n ≤ all) (c.taken.ensures ∙ sym c.taken-2.ensures) (div-mul-le_self all c.taken.result)
+
+pub slice_bounds-start-start : goal.slice_bounds-start-start
+slice_bounds-start-start g c =
+    let all = length c.args.input.now in
+    let inside : all / c.taken.result * c.taken-2.result ≤ all = subst (λ n. all / c.taken.result * n ≤ all) (c.taken.ensures ∙ sym c.taken-2.ensures) (div-mul-le_self all c.taken.result) in
+    search rules
+
+-- what is left behind whole groups is less than one
+rest-few : (all size place : ℕ) → 0 < size → place ≡ all / size * size → all - place ≤ size
+rest-few all size place some is =
+    let split : size * (all / size) + all % size ≡ all = omega (arith, some) in
+    let below : all % size < size = omega (arith, some) in
+    omega arith
+
+pub start-requires : goal.start-requires
+start-requires g c =
+    let of = g.W.GroupWork.group (g.W.GroupWork.block c.args.work.now) in
+    let input = c.args.input.now in
+    let all = length input in
+    let place = all / c.taken.result * c.taken-2.result in
+    let is : place ≡ all / of.taken * of.taken = ap₂ (λ n m. all / n * m) c.taken.ensures c.taken-2.ensures in
+    let some = (g.met.W.GroupWork.grouped (g.W.GroupWork.block c.args.work.now) c.requires.work).some in
+    let behind : length (drop place input) ≡ all - place = length-drop place input in
+    let cut = ap length (take_all (all - place) (drop place input) (omega (arith, behind))) ∙ behind in
+    omega (arith, cut, rest-few all of.taken place some is, c.requires.size)

@@ -1,4 +1,4 @@
-use Rattle.std.proofs.Common.{◌≡◌, ◌∙◌, ◌+◌, ◌*◌, ◌/◌, ◌%◌, ◌<◌, ◌≤◌, ℕ, length, map, take, drop, ap, sym, subst, refl, arith, rules, take_all}
+use Rattle.std.proofs.Common.{◌≡◌, ◌∙◌, ◌+◌, ◌*◌, ◌/◌, ◌%◌, ◌<◌, ◌≤◌, ℕ, length, map, take, drop, ap, sym, subst, refl, mul-le-mul_right, div-mul-le_self, arith, rules, take_all}
 use Rattle.std.proofs.lemmas.List.{length-map}
 use Rattle.std.proofs.lemmas.Nat.{mul-le}
 use Rattle.dsp_defs.specs.Signal.{values}
@@ -9,7 +9,10 @@ use Rattle.dsp_matrix.proofs.group_filter.transform_groups.Goals as goal
 
 -- a group of the input stands in it, and what it becomes in the output
 taken-inside : (k n size all : ℕ) → k < n → n ≡ all / size → k * size + size ≤ all
-taken-inside k n size all below is = grind arith
+taken-inside k n size all below is =
+    let rows : (k + 1) * size ≤ n * size = mul-le-mul_right size (omega (arith, below)) in
+    let whole : n * size ≤ all = subst (λ m. m * size ≤ all) (sym is) (div-mul-le_self all size) in
+    omega (arith, rows, whole)
 
 given-inside : (of : Group) (j all taken given room out : ℕ) → taken ≡ of.taken → given ≡ of.given → j < all / taken → room ≡ all / of.taken * of.given → out ≡ room → j * given + given ≤ out
 given-inside of j all taken given room out size gives below is same =

@@ -1,4 +1,4 @@
-use Rattle.std.proofs.Common.{◌≡◌, ◌∙◌, sym, subst, take, drop, Result, Ok, IsErr}
+use Rattle.std.proofs.Common.{◌≡◌, ◌∙◌, refl, sym, subst, take, drop, Result, Ok, IsErr}
 use Rattle.std.proofs.lemmas.List.{take-append-drop}
 use Rattle.dsp_ports.specs.Ports.{Took}
 use Rattle.dsp_session.proofs.FeedLaws as laws
@@ -6,6 +6,19 @@ use Rattle.dsp_session.proofs.streaming.pass_block.Goals as goal
 
 ok-err : {T E : Type 0} (r : Result T E) (a : T) → r ≡ Ok a → IsErr r → ⊥
 ok-err r a is bad = (let e = subst IsErr is bad in absurd cc)
+
+pub returns-in-Err-clause-err : goal.returns-in-Err-clause-err
+returns-in-Err-clause-err g c x stands =
+    let sink = g.K.Sink.state c.args.output.now in
+    let full = c.in-Err.ensures.full.0 refl in
+    let numbers = c.in-Err.ensures.numbers stands.chain.works in
+    let steps = c.in-Err.ensures.refused.no_steps in
+    rw c.in-Err.field-0-is at (laws.feed_refused _ x c.args.bytes.now c.in-Err.field-0 sink sink _ _ stands full numbers refl steps)
+
+pub returns-in-Err-clause-refused : goal.returns-in-Err-clause-refused
+returns-in-Err-clause-refused g c x stands =
+    let refused = c.in-Err.ensures.refused in
+    rw c.in-Err.field-0-is at (laws.refused_again _ _ x c.in-Err.field-0 _ _ _ stands refused c.in-Err.ensures.numbers)
 
 pub returns-in-Err-write_all-clause-err : goal.returns-in-Err-write_all-clause-err
 returns-in-Err-write_all-clause-err g c x stands =

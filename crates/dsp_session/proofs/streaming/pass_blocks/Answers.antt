@@ -1,6 +1,7 @@
 use Rattle.std.proofs.Common.{◌≡◌, ◌∙◌, length, refl, arith}
 use Rattle.std.proofs.lemmas.Result.{err_from_is_err_and}
 use Rattle.dsp_session.specs.Session.{block_bytes}
+use Rattle.dsp_session.proofs.OpenLaws.{some_block}
 use Rattle.dsp_session.proofs.PassingLaws as laws
 use Rattle.dsp_session.proofs.streaming.pass_blocks.Goals as goal
 
@@ -54,3 +55,11 @@ pub returns-in_err-pass_block-clause-refused : goal.returns-in_err-pass_block-cl
 returns-in_err-pass_block-clause-refused g c =
     let (error, is, same) = err_from_is_err_and c.from_residual-in_err-pass_block.result c.from_residual-in_err-pass_block.ensures.1 in
     rw (is, same) (c.in_err-pass_block.ensures.refused _ c.passing.invariant.stands)
+
+pub passing-smaller : goal.passing-smaller
+passing-smaller g c =
+    let script = c.args.worker.now.script in
+    let bytes : length c.read_block.new.block ≡ block_bytes script c.args.header.coding c.args.worker.now.block =
+    c.read_block.auto.block ∙ c.passing.auto.block ∙ (rw c.requires.coding at c.requires.block) in
+    let some = some_block script c.args.header.coding c.args.worker.now.block c.script-script.ensures.ready in
+    omega (arith, bytes, some, c.if-count-block.false, c.in_ok-count.ensures.ok.in_limit)

@@ -1,7 +1,8 @@
-use Rattle.std.proofs.Common.{◌≡◌, ◌/◌, ◌≤◌, ◌∙◌, length, take}
-use Rattle.dsp_defs.specs.Bytes.{sample_of, width}
+use Rattle.std.proofs.Common.{◌≡◌, ◌*◌, ◌/◌, ◌≤◌, ◌∙◌, All, length, take, subst, sym}
+use Rattle.dsp_defs.specs.Bytes.{IsValue, sample_of, width}
 use Rattle.std.proofs.lemmas.List.{length-take-le}
 use Rattle.dsp_defs.proofs.CodingLemmas.{width-some}
+use Rattle.dsp_session.proofs.OpeningLaws.{floor_within}
 use Rattle.dsp_session.proofs.Pieces.{whole_pieces, at_front, div_within}
 use Rattle.dsp_session.proofs.worker.decode_front.Goals as goal
 
@@ -14,3 +15,27 @@ returns-clause-values c =
     at_front count c.decode.new.samples c.args.samples.now (c.decode.auto.samples ∙ cut)
     ∙ rw (cut, c.width-width.ensures) at c.decode.ensures.values
     ∙ whole_pieces (sample_of c.args.coding) w (length c.args.bytes.now / w) c.args.bytes.now
+
+pub returns-clause-within : goal.returns-clause-within
+returns-clause-within c =
+    rw c.width-width.ensures
+    (div_within (length c.args.bytes.now) (length c.args.samples.now) (width c.args.coding) (width-some c.args.coding) c.requires)
+
+pub decode-requires : goal.decode-requires
+decode-requires c =
+    let w = c.width-width.result in
+    let count = length c.args.bytes.now / w in
+    let cut : length (take count c.args.samples.now) ≡ count = length-take-le count c.args.samples.now (returns-within c) in
+    length-take-le (count * w) c.args.bytes.now (floor_within (length c.args.bytes.now) w) ∙ (λ i. sym cut i * c.width-width.ensures i)
+  where
+    returns-within : (c : goal.After-decode-arg-1) → length c.args.bytes.now / c.width-width.result ≤ length c.args.samples.now
+    returns-within c =
+        rw c.width-width.ensures
+        (div_within (length c.args.bytes.now) (length c.args.samples.now) (width c.args.coding) (width-some c.args.coding) c.requires)
+
+pub returns-clause-fits : goal.returns-clause-fits
+returns-clause-fits c =
+    let count = length c.args.bytes.now / c.width-width.result in
+    let cut : length (take count c.args.samples.now) ≡ count = length-take-le count c.args.samples.now (returns-clause-within c) in
+    subst (All (IsValue c.args.coding)) (sym (at_front count c.decode.new.samples c.args.samples.now (c.decode.auto.samples ∙ cut)))
+    c.decode.ensures.fits

@@ -1,5 +1,4 @@
-use Rattle.std.proofs.Common.{◌≡◌, ◌*◌, map, take}
-use Rattle.std.specs.Prelude.{All, FitsSigned}
+use Rattle.std.proofs.Common.{◌≡◌, ◌*◌, map, take, All, FitsSigned}
 use Rattle.dsp_defs.specs.Counts.{Rises}
 use Rattle.dsp_defs.specs.Formats.{word}
 use Rattle.dsp_vector.proofs.changes.change_each.Given as goal

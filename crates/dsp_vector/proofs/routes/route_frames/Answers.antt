@@ -1,6 +1,4 @@
-use Rattle.std.proofs.Common.{◌≡◌, ◌≢◌, ◌∙◌, ap, ◌+◌, ◌*◌, length, arith, rules, below_more, SFits, to_z-of_z}
-use Rattle.std.specs.Prelude.{nat_abs}
-use mir.Syntax.{w32}
+use Rattle.std.proofs.Common.{◌≡◌, ◌≢◌, ◌∙◌, ap, ◌+◌, ◌*◌, length, arith, rules, below_more, SFits, to_z-of_z, nat_abs, w32}
 use Rattle.dsp_defs.specs.Signal.{sample}
 use Rattle.dsp_vector.proofs.routes.route_frames.Goals as goal
 

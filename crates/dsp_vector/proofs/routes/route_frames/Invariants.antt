@@ -1,5 +1,4 @@
-use Rattle.std.proofs.Common.{◌≡◌, ◌+◌, ◌*◌, ◌<◌, ℕ, length}
-use Rattle.std.specs.Prelude.{nat_abs}
+use Rattle.std.proofs.Common.{◌≡◌, ◌+◌, ◌*◌, ◌<◌, ℕ, length, nat_abs}
 use Rattle.dsp_defs.specs.Signal.{sample}
 use Rattle.dsp_vector.proofs.routes.route_frames.Given as goal
 

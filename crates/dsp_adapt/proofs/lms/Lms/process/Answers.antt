@@ -132,3 +132,12 @@ returns-clause-multiplies g c = c.adapt_block.ensures.steps.multiplies_rise ∙ 
 pub returns-clause-turns : goal.returns-clause-turns
 returns-clause-turns g c =
     subst (λ (n : ℕ). c.adapt_block.new.steps.turns ≤ c.args.steps.now.turns + n) (λ i. c.requires.reference i * (2 * many g c i + 1)) c.adapt_block.ensures.steps.turns_within
+
+pub adapt_block-requires-clause-some : goal.adapt_block-requires-clause-some
+adapt_block-requires-clause-some g c = omega (arith, c.as_mut_slice.ensures.len, c.self.invariant.0, c.self.invariant.1)
+
+pub adapt_block-requires-clause-outputs : goal.adapt_block-requires-clause-outputs
+adapt_block-requires-clause-outputs g c = c.requires.output ∙ sym c.requires.reference
+
+pub adapt_block-requires-clause-errors : goal.adapt_block-requires-clause-errors
+adapt_block-requires-clause-errors g c = c.requires.error ∙ sym c.requires.reference

@@ -1,6 +1,4 @@
-use Rattle.std.proofs.Common.{◌∙◌, sym, subst, rules, SFits, to_z-of_z}
-use Rattle.std.specs.Prelude.{FitsSigned}
-use mir.Syntax.{w32}
+use Rattle.std.proofs.Common.{◌∙◌, sym, subst, rules, SFits, to_z-of_z, FitsSigned, w32}
 use Rattle.dsp_defs.specs.Formats.{word}
 use Rattle.dsp_defs.specs.Signal.{sample}
 use Rattle.dsp_defs.specs.Elementwise.{mult}

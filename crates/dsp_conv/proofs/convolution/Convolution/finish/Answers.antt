@@ -181,3 +181,27 @@ returns-clause-rest g c =
     let output = c.args.output.now in
     let written : length (take count output) ≡ count = length-take-le count output (omega (arith, c.min-count.ensures)) in
     drop_at c.rows.new.out (drop count output) count (c.rows.auto.out ∙ written)
+
+pub slice_bounds-push_block-end : goal.slice_bounds-push_block-end
+slice_bounds-push_block-end g c =
+    let d = c.self.inside in
+    let zeros = ap length c.deref.ensures.value ∙ zeros_long g.T.Sample.number d.window.past d.zeros.items c.self.invariant.zeros_are in
+    sym (length-take-le d.skip c.deref.result.now (omega (arith, zeros, c.self.invariant.left_within)))
+
+pub slice_bounds-push_block-end-2 : goal.slice_bounds-push_block-end-2
+slice_bounds-push_block-end-2 g c =
+    let d = c.self.inside in
+    let zeros = ap length c.deref-2.ensures.value ∙ zeros_long g.T.Sample.number d.window.past d.zeros.items c.self.invariant.zeros_are in
+    sym (length-take-le c.min-count.result c.deref-2.result.now (omega (arith, zeros, c.min-count.ensures, c.self.invariant.left_within)))
+
+pub slice_bounds-output-end : goal.slice_bounds-output-end
+slice_bounds-output-end g c = omega (arith, c.min-count.ensures)
+
+pub slice_bounds-output-end-2 : goal.slice_bounds-output-end-2
+slice_bounds-output-end-2 g c = sym (length-take-le c.min-count.result c.args.output.now (omega (arith, c.min-count.ensures)))
+
+pub rows-requires-clause-taps : goal.rows-requires-clause-taps
+rows-requires-clause-taps g c = omega (arith, c.deref-3.ensures.len, c.self.invariant.past)
+
+pub overflow_sub-self : goal.overflow_sub-self
+overflow_sub-self g c = omega (arith, c.min-count.ensures)

@@ -1,7 +1,8 @@
 use Rattle.std.proofs.Common.{◌≡◌, ◌∙◌, ap, ap₂, sym, subst, ℕ, ◌+◌, ◌-◌, ◌≤◌, ◌++◌, [], ◌∷◌, length, map, take, reverse, replicate, pos, w64, to_z, of_z, arith, vec_len, rules, length-take-le}
-use Rattle.std.specs.Prelude.{◌≤ℤ◌, nat_abs}
+use Rattle.std.specs.Prelude.{◌≤ℤ◌, nat_abs, All, FitsSigned}
 use Rattle.std.proofs.lemmas.Int.{ints}
 use Rattle.std.proofs.lemmas.List.{length-map, length-reverse, same_from_push}
+use Rattle.dsp_defs.specs.Formats.{word}
 use Rattle.dsp_defs.specs.Signal.{sample}
 use Rattle.dsp_defs.specs.Streaming.{last_of}
 use Rattle.dsp_window.specs.Rolling.{Rolling}
@@ -107,3 +108,26 @@ returns-clause-count g c =
     ∙ ap length (restored-past old c.restore.new.self (take last numbers) c.restore.ensures long)
     ∙ long
     ∙ sym kept_long
+
+pub overflow_sub-last : goal.overflow_sub-last
+overflow_sub-last g c = omega (arith, c.requires.fits.count)
+
+pub slice_bounds-restore-end : goal.slice_bounds-restore-end
+slice_bounds-restore-end g c = sym (length-take-le (length c.args.numbers.now - 1) c.args.numbers.now (omega (arith, c.requires.fits.count)))
+
+pub restore-requires-clause-length : goal.restore-requires-clause-length
+restore-requires-clause-length g c =
+    let old = c.self.inside.window in
+    let numbers = c.args.numbers.now in
+    let last = length numbers - 1 in
+    let kept_long : length c.args.self.now.past ≡ old.past = ap (λ (s : ConvState). length s.past) (sym c.self.view_is) ∙ length-last_samples old.past old.samples c.self.invariant.filled in
+    length-take-le last numbers (omega (arith, c.requires.fits.count)) ∙ omega (arith, c.requires.fits.count, kept_long)
+
+pub restore-requires-clause-samples : goal.restore-requires-clause-samples
+restore-requires-clause-samples g c =
+    let numbers = c.args.numbers.now in
+    let at : length c.args.self.now.past ≡ length numbers - 1 = omega (arith, c.requires.fits.count) in
+    subst (λ n. All (FitsSigned (word g.T.Sample.format)) (take n numbers)) at c.requires.fits.samples
+
+pub bounds-numbers-last : goal.bounds-numbers-last
+bounds-numbers-last g c = omega (arith, c.requires.fits.count)

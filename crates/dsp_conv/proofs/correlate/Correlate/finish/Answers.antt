@@ -1,5 +1,5 @@
-use Rattle.std.proofs.Common.{◌≡◌, ◌∙◌, ap, ap₂, sym, ◌+◌, ◌-◌, ◌*◌, ◌≤◌, ◌++◌, ℕ, min, max, length, map, take, drop, vec_len, rules, arith, length-take-le}
-use Rattle.std.proofs.lemmas.List.{length-map}
+use Rattle.std.proofs.Common.{◌≡◌, ◌∙◌, ap, ap₂, sym, ◌+◌, ◌-◌, ◌*◌, ◌≤◌, ◌++◌, ℕ, min, max, length, map, take, drop, vec_len, rules, true, arith, length-take-le}
+use Rattle.std.proofs.lemmas.List.{drop_at, length-map}
 use Rattle.dsp_defs.specs.Formats.{close}
 use Rattle.dsp_defs.specs.Signal.{values}
 use Rattle.dsp_unit.proofs.Slices.{front-written}
@@ -63,3 +63,19 @@ returns-clause-tail g c =
     (ap (drop d.given) whole
     ∙ piece-given (2 * max (length x) (length b) - 1) d.given count value within
     ∙ ap₂ (λ front l. front ++ drop (d.given + count) l) (sym given) (sym whole)))
+
+pub slice_bounds-output-end : goal.slice_bounds-output-end
+slice_bounds-output-end g c = omega (arith, c.min-count.ensures)
+
+pub slice_bounds-output-end-2 : goal.slice_bounds-output-end-2
+slice_bounds-output-end-2 g c = sym (length-take-le c.min-count.result c.args.output.now (omega (arith, c.min-count.ensures)))
+
+pub returns-clause-same : goal.returns-clause-same
+returns-clause-same g c = ap (λ (s : CorrelateState). record s { given = s.given + c.min-count.result; ended = true }) c.self.view_is
+
+pub returns-clause-rest : goal.returns-clause-rest
+returns-clause-rest g c =
+    let count = c.min-count.result in
+    let output = c.args.output.now in
+    let written : length (take count output) ≡ count = length-take-le count output (omega (arith, c.min-count.ensures)) in
+    drop_at c.correlation_values.new.out (drop count output) count (c.correlation_values.auto.out ∙ written)

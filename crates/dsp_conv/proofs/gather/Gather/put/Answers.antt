@@ -1,4 +1,4 @@
-use Rattle.std.proofs.Common.{◌≡◌, ◌∙◌, ap, sym, ◌+◌, ◌++◌, length, map, take, drop, vec_len, rules, arith, take_at}
+use Rattle.std.proofs.Common.{◌≡◌, ◌∙◌, ap, sym, ◌+◌, ◌++◌, refl, length, map, take, drop, vec_len, rules, arith, take_at}
 use Rattle.std.proofs.lemmas.List.{map-append}
 use Rattle.dsp_conv.proofs.gather.Gather.put.Goals as goal
 
@@ -14,3 +14,6 @@ returns-clause-taken g c =
     ∙ ap (map number) (c.put_behind.ensures ∙ ap (λ l. take d.held l ++ input) c.deref_mut.ensures.value)
     ∙ map-append number (take d.held d.samples.items) input
     ∙ ap (λ l. l ++ map number input) c.self.view_is
+
+pub returns-then-input-held-clause-refused : goal.returns-then-input-held-clause-refused
+returns-then-input-held-clause-refused g c = refl

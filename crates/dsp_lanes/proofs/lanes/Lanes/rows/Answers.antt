@@ -50,8 +50,8 @@ rest-preserved g c =
       done =
           ap (take _) (map-set T.number c.rest.out at c.close.result)
           ∙ rows-one (λ i. close T.format (row taps window (length c.args.taps.now) i)) at _ (map T.number c.rest.out) (T.number c.close.result) refl (omega arith) c.rest.invariant.done
-          (c.close.ensures ∙ ap (close T.format) c.row_sum-sum.ensures.sum ∙ close-wrap T.format sum);
-      counted = counted_one _ _ _ (length c.args.taps.now) c.groups.at at _ (omega arith) refl c.rest.invariant.counted c.row_sum-sum.ensures.steps;
+          (c.close.ensures ∙ ap (close T.format) c.row_sum.ensures.sum ∙ close-wrap T.format sum);
+      counted = counted_one _ _ _ (length c.args.taps.now) c.groups.at at _ (omega arith) refl c.rest.invariant.counted c.row_sum.ensures.steps;
     }
 
 pub returns-clause-out : goal.returns-clause-out

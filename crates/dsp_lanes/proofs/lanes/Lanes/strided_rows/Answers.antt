@@ -1,5 +1,7 @@
-use Rattle.std.proofs.Common.{◌≡◌, ◌∙◌, ◌+◌, ◌*◌, ap, refl, ℕ, ℤ, length, map, set, arith, length-set}
+use Rattle.std.proofs.Common.{◌≡◌, ◌∙◌, ◌+◌, ◌*◌, ap, refl, sym, ℕ, ℤ, length, map, set, take_all, arith, length-set}
+use Rattle.std.proofs.lemmas.List.{length-map}
 use Rattle.dsp_defs.specs.Formats.{close}
+use Rattle.dsp_defs.specs.Signal.{values}
 use Rattle.dsp_defs.proofs.FormatLemmas.{close-wrap}
 use Rattle.dsp_lanes.specs.Rows.{row_at}
 use Rattle.dsp_lanes.proofs.DotSums.{write-one, counted-more, one-row, piece-row}
@@ -68,3 +70,14 @@ rest-preserved g c =
       written = write-one T.number f at _ c.rest.out v refl (omega arith) c.rest.invariant.written value;
       counted = counted-more _ _ _ at 1 _ _ _ refl c.rest.invariant.counted (one-row _ _ _ _ summed.steps);
     }
+
+pub returns-clause-out : goal.returns-clause-out
+returns-clause-out g c =
+    let T = g.T.Sample in
+    let taps = map T.number c.args.taps.now in
+    let window = map T.number c.args.window.now in
+    let long = length-map c.rest.out T.number in
+    let all : c.rest.at ≡ length c.args.out.now = omega arith in
+    sym (take_all c.rest.at (map T.number c.rest.out) (omega arith))
+    ∙ c.rest.invariant.written
+    ∙ ap (λ n. values n (λ i. close T.format (row_at taps window (c.args.first + i * c.args.step)))) all

@@ -1,5 +1,6 @@
-use Rattle.std.proofs.Common.{◌∙◌, sym, w32}
-use lib.Lanes.{chunk, zip2}
+use Rattle.std.proofs.Common.{◌∙◌, ap, sym, subst, ℤ, List, length, SFits, w32}
+use Rattle.std.proofs.lemmas.Simd.{length-chunk}
+use lib.Lanes.{Each1, chunk, zip2}
 use Rattle.dsp_defs.specs.Adaptive.{weight_after}
 use Rattle.dsp_defs.specs.declared.format.Fmt.TheVariants.{Q31}
 use Rattle.dsp_lanes.proofs.LaneClosings.{stored}
@@ -20,3 +21,23 @@ returns c =
     ∙ grown_31_is (chunk at 4 weights) (chunk at 4 window) high.result sums.result c.args.alpha c.ranges.alpha (group_fits w32 at 4 weights c.q31_fit-2.ensures c.requires.room) (group_fits w32 at 4 window c.q31_fit.ensures c.requires.window)
     high.ensures.fit high.ensures.words sums.ensures.sums
     ∙ (λ i. zip2 (weight_after Q31 c.args.alpha) (chunk at 4 (sym (map-self weights) i)) (chunk at 4 (sym (map-self window) i))))
+
+pub high_words-high-requires-clause-fit : goal.high_words-high-requires-clause-fit
+high_words-high-requires-clause-fit c =
+    let fit = group_fits w32 c.args.at 4 c.args.window.now c.q31_fit.ensures c.requires.window in
+    subst (λ (l : List ℤ). Each1 (SFits w32) l) (sym (ints_of_bits w32 (chunk c.args.at 4 c.args.window.now) fit)) fit
+
+pub high_words-high-requires-clause-long : goal.high_words-high-requires-clause-long
+high_words-high-requires-clause-long c =
+    let fit = group_fits w32 c.args.at 4 c.args.window.now c.q31_fit.ensures c.requires.window in
+    ap length (ints_of_bits w32 (chunk c.args.at 4 c.args.window.now) fit) ∙ length-chunk c.args.at 4 c.args.window.now c.requires.window
+
+pub saturating_sum-requires-clause-values : goal.saturating_sum-requires-clause-values
+saturating_sum-requires-clause-values c =
+    let fit = group_fits w32 c.args.at 4 c.args.weights.now c.q31_fit-2.ensures c.requires.room in
+    subst (λ (l : List ℤ). Each1 (SFits w32) l) (sym (ints_of_bits w32 (chunk c.args.at 4 c.args.weights.now) fit)) fit
+
+pub saturating_sum-requires-clause-long : goal.saturating_sum-requires-clause-long
+saturating_sum-requires-clause-long c =
+    let fit = group_fits w32 c.args.at 4 c.args.weights.now c.q31_fit-2.ensures c.requires.room in
+    ap length (ints_of_bits w32 (chunk c.args.at 4 c.args.weights.now) fit) ∙ length-chunk c.args.at 4 c.args.weights.now c.requires.room

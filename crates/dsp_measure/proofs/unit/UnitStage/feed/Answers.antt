@@ -1,8 +1,10 @@
-use Rattle.std.proofs.Common.{◌∙◌, ap, refl, subst, ℕ, ℤ, List, ◌+◌, ◌*◌, ◌/◌, length, drop}
+use Rattle.std.proofs.Common.{◌∙◌, ap, refl, sym, subst, ℕ, ℤ, List, ◌+◌, ◌*◌, ◌/◌, ◌≤◌, length, length-take-le, drop}
+use Rattle.std.specs.Prelude.{IsFalse}
 use Rattle.dsp_defs.specs.Counts.{Rises}
 use Rattle.dsp_defs.proofs.FrameLemmas.{length-frames_in}
-use Rattle.dsp_measure.specs.Measures.{AllCanTake, PartsFeed, parts_of, price_of}
-use Rattle.dsp_measure.proofs.MeasureUnits.{is-measuring, state, can-take, channels-stay, measure-feeds, whole-row, front-row}
+use Rattle.dsp_stage.specs.Unit.{IsSignal, UnitState}
+use Rattle.dsp_measure.specs.Measures.{AllCanTake, PartsFeed, channels_of, parts_of, price_of}
+use Rattle.dsp_measure.proofs.MeasureUnits.{is-measuring, state, can-take, channels-stay, measure-feeds, measure-output, measure-room, whole-row, front-row}
 use Rattle.dsp_measure.proofs.unit.UnitStage.feed.Goals as goal
 
 pub feed_parts-requires-clause-kept : goal.feed_parts-requires-clause-kept
@@ -42,3 +44,58 @@ returns-clause-fed g c =
     (is-measuring u.measure u.format u.channels u.capacity new u.ended running)
     (record { block = refl; format = refl; channels = refl; capacity = refl; banked = refl })
     c.self.invariant.fits fed rises)
+
+pub feed_parts-requires-clause-channels : goal.feed_parts-requires-clause-channels
+feed_parts-requires-clause-channels g c = subst (λ k. channels_of c.self.inside.measure ≤ k) (sym c.from-channels.ensures) c.self.invariant.enough
+
+pub feed_parts-requires-clause-in_format : goal.feed_parts-requires-clause-in_format
+feed_parts-requires-clause-in_format g c =
+    (subst (λ (u : UnitState). IsSignal u.format u.channels c.args.frames.now) (sym c.self.view_is) c.requires.signal).in_format
+
+pub slice_bounds-copy_from_slice-end : goal.slice_bounds-copy_from_slice-end
+slice_bounds-copy_from_slice-end g c =
+    let u = c.self.inside in
+    let s = state u.measure u.format u.channels u.capacity u.kept.items u.ended in
+    let fit = measure-room u.measure s c.args.frames.now (length c.args.out.now) refl (rw (← c.self.view_is) at c.requires.signal)
+    (rw (← c.self.view_is) at c.requires.capacity) (rw (← c.self.view_is) at c.requires.room) in
+    fit
+
+pub slice_bounds-copy_from_slice-end-2 : goal.slice_bounds-copy_from_slice-end-2
+slice_bounds-copy_from_slice-end-2 g c =
+    let u = c.self.inside in
+    let s = state u.measure u.format u.channels u.capacity u.kept.items u.ended in
+    let fit = measure-room u.measure s c.args.frames.now (length c.args.out.now) refl (rw (← c.self.view_is) at c.requires.signal)
+    (rw (← c.self.view_is) at c.requires.capacity) (rw (← c.self.view_is) at c.requires.room) in
+    sym (length-take-le (length c.args.frames.now) c.args.out.now fit)
+
+pub copy_from_slice-requires : goal.copy_from_slice-requires
+copy_from_slice-requires g c =
+    let u = c.self.inside in
+    let s = state u.measure u.format u.channels u.capacity u.kept.items u.ended in
+    let fit = measure-room u.measure s c.args.frames.now (length c.args.out.now) refl (rw (← c.self.view_is) at c.requires.signal)
+    (rw (← c.self.view_is) at c.requires.capacity) (rw (← c.self.view_is) at c.requires.room) in
+    length-take-le (length c.args.frames.now) c.args.out.now fit
+
+pub returns-clause-running : goal.returns-clause-running
+returns-clause-running g c = subst (λ (u : UnitState). IsFalse u.ended) (sym c.self.view_is) c.requires.running
+
+pub returns-clause-within : goal.returns-clause-within
+returns-clause-within g c =
+    let u = c.self.inside in
+    let s = state u.measure u.format u.channels u.capacity u.kept.items u.ended in
+    let fit = measure-room u.measure s c.args.frames.now (length c.args.out.now) refl (rw (← c.self.view_is) at c.requires.signal)
+    (rw (← c.self.view_is) at c.requires.capacity) (rw (← c.self.view_is) at c.requires.room) in
+    fit
+
+pub returns-clause-output : goal.returns-clause-output
+returns-clause-output g c =
+    let u = c.self.inside in
+    let frames = c.args.frames.now in
+    let running = rw (← c.self.view_is) at c.requires.running in
+    let new = c.copy_from_slice.new.self in
+    let after = c.copy_from_slice.ensures.after in
+    let given = front-row (length frames) new (drop (length frames) c.args.out.now) (ap length after) ∙ after in
+    rw (← c.self.view_is, given)
+    (measure-output u.measure (state u.measure u.format u.channels u.capacity u.kept.items u.ended) frames
+    (is-measuring u.measure u.format u.channels u.capacity u.kept.items u.ended running)
+    (rw (← c.self.view_is) at c.requires.signal) (rw (← c.self.view_is) at c.requires.capacity))

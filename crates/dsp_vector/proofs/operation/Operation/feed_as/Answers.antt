@@ -1,11 +1,10 @@
-use Rattle.std.proofs.Common.{◌≡◌, ◌∙◌, ap, refl, ◌*◌, ◌/◌, ◌≤◌, map, length, arith, rules, SFits, to_z-of_z}
-use mir.Syntax.{w32}
+use Rattle.std.proofs.Common.{◌∙◌, ap, refl, ◌*◌, ◌/◌, ◌≤◌, map, length, arith, rules, SFits, to_z-of_z, w32}
 use Rattle.dsp_defs.specs.Elementwise.{add, negate, abs, scale, shift, clip, convert, sub, mult}
 use Rattle.dsp_defs.specs.declared.format.Fmt.TheVariants.{Q7, Q15, Q31}
 use Rattle.dsp_defs.specs.declared.script.Block.TheVariants.{Offset, Negate, Abs, Scale, Shift, Clip, To, Add, Sub, Mult}
 use Rattle.dsp_defs.proofs.FrameLemmas.{length-frames_in}
 use Rattle.dsp_frames.proofs.MemorylessUnits.{map-gives, pairs-give}
-use Rattle.dsp_vector.proofs.ListedChannels.{route-gives}
+use Rattle.dsp_vector.proofs.ListedChannels.{route-gives, route-inside}
 use Rattle.dsp_vector.proofs.operation.Operation.feed_as.Goals as goal
 
 pub returns-in-Offset-clause-given : goal.returns-in-Offset-clause-given
@@ -70,24 +69,18 @@ returns-in-Q31-clause-given g c =
 
 pub returns-in-Add-clause-given : goal.returns-in-Add-clause-given
 returns-in-Add-clause-given g c =
-    let two : c.args.channels ≡ 2 = rw c.in-Add.is at c.requires.suits.channels in
     rw (c.in-Add.is, c.join_pairs.ensures.count)
-    (pairs-give g.T.Sample.format c.args.channels Add c.args.frames.now _ (add g.T.Sample.format) two refl (λ x. refl) c.join_pairs.ensures.values c.join_pairs.ensures.fits)
+    (pairs-give g.T.Sample.format c.args.channels Add c.args.frames.now _ (add g.T.Sample.format) (rw c.in-Add.is at c.requires.suits.channels) refl (λ x. refl) c.join_pairs.ensures.values c.join_pairs.ensures.fits)
 
 pub returns-in-Sub-clause-given : goal.returns-in-Sub-clause-given
 returns-in-Sub-clause-given g c =
-    let two : c.args.channels ≡ 2 = rw c.in-Sub.is at c.requires.suits.channels in
     rw (c.in-Sub.is, c.join_pairs-in-Sub.ensures.count)
-    (pairs-give g.T.Sample.format c.args.channels Sub c.args.frames.now _ (sub g.T.Sample.format) two refl (λ x. refl) c.join_pairs-in-Sub.ensures.values c.join_pairs-in-Sub.ensures.fits)
+    (pairs-give g.T.Sample.format c.args.channels Sub c.args.frames.now _ (sub g.T.Sample.format) (rw c.in-Sub.is at c.requires.suits.channels) refl (λ x. refl) c.join_pairs-in-Sub.ensures.values c.join_pairs-in-Sub.ensures.fits)
 
 pub returns-in-Mult-clause-given : goal.returns-in-Mult-clause-given
 returns-in-Mult-clause-given g c =
-    let two : c.args.channels ≡ 2 = rw c.in-Mult.is at c.requires.suits.channels in
     rw (c.in-Mult.is, c.join_pairs-in-Mult.ensures.count)
-    (pairs-give g.T.Sample.format c.args.channels Mult c.args.frames.now _ (mult g.T.Sample.format) two refl (λ x. refl) c.join_pairs-in-Mult.ensures.values c.join_pairs-in-Mult.ensures.fits)
-
-pub route_frames-requires-clause-whole : goal.route_frames-requires-clause-whole
-route_frames-requires-clause-whole g c = c.requires.signal.whole_frames ∙ ap (λ n. n * c.args.channels) (length-frames_in c.args.channels c.args.frames.now)
+    (pairs-give g.T.Sample.format c.args.channels Mult c.args.frames.now _ (mult g.T.Sample.format) (rw c.in-Mult.is at c.requires.suits.channels) refl (λ x. refl) c.join_pairs-in-Mult.ensures.values c.join_pairs-in-Mult.ensures.fits)
 
 pub returns-in-Route-clause-given : goal.returns-in-Route-clause-given
 returns-in-Route-clause-given g c =
@@ -99,3 +92,18 @@ returns-in-Route-clause-given g c =
     let room' : length frames / channels * length list ≤ length c.route_frames.new.out = omega (arith, room, c.route_frames.auto.out) in
     rw (c.in-Route.is, c.as_slice-list.ensures)
     (route-gives g.T.Sample.format channels list frames c.route_frames.new.out c.requires.signal c.requires.some suits room' (rw c.as_slice-list.ensures at c.route_frames.ensures))
+
+pub route_frames-requires : goal.route_frames-requires
+route_frames-requires g c = record {
+  inside = rw c.as_slice-list.ensures (route-inside g.T.Sample.format c.args.channels c.in-Route.list c.requires.some (rw c.in-Route.is at c.requires.suits));
+  whole = c.requires.signal.whole_frames ∙ ap (λ n. n * c.args.channels) (length-frames_in c.args.channels c.args.frames.now);
+  room = rw c.as_slice-list.ensures (rw (c.in-Route.is, length-frames_in) at c.requires.room);
+}
+
+pub overflow_mul-result : goal.overflow_mul-result
+overflow_mul-result g c =
+    let room = rw (← c.as_slice-list.ensures) at (rw (c.in-Route.is, length-frames_in) at c.requires.room) in
+    search (rules, room)
+
+pub returns-in-Route-clause-within : goal.returns-in-Route-clause-within
+returns-in-Route-clause-within g c = rw c.as_slice-list.ensures (rw (c.in-Route.is, length-frames_in) at c.requires.room)

@@ -1,6 +1,7 @@
 //! Callers of dsp_adapt.
+use crate::refusals::{is_length, is_range};
 use dsp_adapt::{Lms15, Lms31, Pid15, Pid31};
-use dsp_defs::{MakeFault, Steps};
+use dsp_defs::Steps;
 use std::alloc::Global;
 use std::process::Abort;
 use std::sync::ledger::Ledger;
@@ -96,34 +97,14 @@ fn gains_and_faults(rt: HostRuntime) {
     assert!(rt; !pid.fits(&[0, 0, 32768]) && !pid.fits(&[0, 0]));
     let pid = Pid31::new(-2147483648, 2147483647, -2147483648, 4).expect(&rt, "a controller");
     assert_same!(rt; pid.gains(), (-2147483648, -2147483648, -2147483648));
-    assert!(rt; matches!(Pid15::new(1, 2, 3, 0), Err(MakeFault::Range { value: 0 })));
-    assert!(rt;
-        matches!(
-            Pid31::new(1, 2, 3, 1048577),
-            Err(MakeFault::Range { value: 1048577 })
-        )
-    );
+    assert!(rt; is_range(Pid15::new(1, 2, 3, 0), 0));
+    assert!(rt; is_range(Pid31::new(1, 2, 3, 1048577), 1048577));
 }
 
 #[test]
 fn faults_of_adaptive_filters(rt: HostRuntime) {
     let none: [i16; 0] = [];
-    assert!(rt;
-        matches!(
-            Lms15::new(rt.alloc(), 15, 1, &none, 1),
-            Err(MakeFault::Length { taps: 0, factor: 1 })
-        )
-    );
-    assert!(rt;
-        matches!(
-            Lms15::new(rt.alloc(), 15, 1, &[1], 0),
-            Err(MakeFault::Range { value: 15 })
-        )
-    );
-    assert!(rt;
-        matches!(
-            Lms31::new(rt.alloc(), 30, 1, &[1], 0),
-            Err(MakeFault::Range { value: 0 })
-        )
-    );
+    assert!(rt; is_length(Lms15::new(rt.alloc(), 15, 1, &none, 1), 0, 1));
+    assert!(rt; is_range(Lms15::new(rt.alloc(), 15, 1, &[1], 0), 15));
+    assert!(rt; is_range(Lms31::new(rt.alloc(), 30, 1, &[1], 0), 0));
 }

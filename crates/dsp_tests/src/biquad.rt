@@ -1,6 +1,7 @@
 //! Callers of dsp_biquad.
+use crate::refusals::{is_length, is_range};
 use dsp_biquad::{Biquad15, Biquad31, Biquad64};
-use dsp_defs::{MakeFault, Steps};
+use dsp_defs::Steps;
 use std::alloc::Global;
 use std::process::Abort;
 use std::sync::ledger::Ledger;
@@ -56,39 +57,11 @@ pub(crate) fn counted<M: Ledger>(rt: &impl Abort, alloc: Global, steps: &mut Ste
 #[test]
 fn faults(rt: HostRuntime) {
     let alloc = rt.alloc();
-    assert!(rt;
-        matches!(
-            Biquad15::new(alloc, 14, &[0; 6], 4),
-            Err(MakeFault::Range { value: 14 })
-        )
-    );
-    assert!(rt;
-        matches!(
-            Biquad15::new(alloc, 14, &[0; 5], 0),
-            Err(MakeFault::Length { taps: 5, factor: 6 })
-        )
-    );
-    assert!(rt;
-        matches!(
-            Biquad31::new(alloc, 0, &[0; 325], 4),
-            Err(MakeFault::Length {
-                taps: 325,
-                factor: 5
-            })
-        )
-    );
-    assert!(rt;
-        matches!(
-            Biquad64::new(alloc, 31, &[0; 5], 0),
-            Err(MakeFault::Range { value: 31 })
-        )
-    );
-    assert!(rt;
-        matches!(
-            Biquad64::new(alloc, 30, &[0; 5], 0),
-            Err(MakeFault::Range { value: 0 })
-        )
-    );
+    assert!(rt; is_range(Biquad15::new(alloc, 14, &[0; 6], 4), 14));
+    assert!(rt; is_length(Biquad15::new(alloc, 14, &[0; 5], 0), 5, 6));
+    assert!(rt; is_length(Biquad31::new(alloc, 0, &[0; 325], 4), 325, 5));
+    assert!(rt; is_range(Biquad64::new(alloc, 31, &[0; 5], 0), 31));
+    assert!(rt; is_range(Biquad64::new(alloc, 30, &[0; 5], 0), 0));
     let cascade = Biquad15::new(alloc, 13, &[0; 6], 1048576).expect(&rt, "a cascade");
     assert!(rt; !cascade.fits(&[0; 3]) && !cascade.fits(&[0, 0, 0, 32768]));
     let cascade = Biquad64::new(alloc, 30, &[0; 5], 4).expect(&rt, "a cascade");

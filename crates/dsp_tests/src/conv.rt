@@ -1,10 +1,11 @@
 //! Callers of dsp_conv.
 ghost use Rattle.std.specs.Prelude.{◌≡◌, ◌≤◌, ◌+◌, IsFalse, length};
 
+use crate::refusals::{is_length, is_range};
 use dsp_conv::{
     Conv, ConvPartial, Correlate, Gather, conv_partial_slices, conv_slices, correlate_slices,
 };
-use dsp_defs::{GatherFull, MAX_GATHERED, MAX_SAMPLES, MAX_TAPS, MakeFault, Steps, WindowFault};
+use dsp_defs::{GatherFull, MAX_GATHERED, MAX_SAMPLES, MAX_TAPS, Steps, WindowFault};
 use std::alloc::Global;
 use std::process::Abort;
 use std::sync::ledger::Ledger;
@@ -151,39 +152,16 @@ pub(crate) fn counted<M: Ledger>(rt: &impl Abort, alloc: Global, steps: &mut Ste
 #[test]
 fn faults(rt: HostRuntime) {
     let alloc = rt.alloc();
+    assert!(rt; is_length(Conv::<i16, 8>::new(alloc, &[], 0), 0, 1));
+    assert!(rt; is_length(Conv::<i8, 16>::new(alloc, &[1; MAX_TAPS + 1], 1), 16_385, 1));
+    assert!(rt; is_range(Conv::<i32, 4>::new(alloc, &[1], 1048577), 1048577));
     assert!(rt;
-        matches!(
-            Conv::<i16, 8>::new(alloc, &[], 0),
-            Err(MakeFault::Length { taps: 0, factor: 1 })
-        )
-    );
-    assert!(rt;
-        matches!(
-            Conv::<i8, 16>::new(alloc, &[1; MAX_TAPS + 1], 1),
-            Err(MakeFault::Length {
-                taps: 16_385,
-                factor: 1
-            })
-        )
-    );
-    assert!(rt;
-        matches!(
-            Conv::<i32, 4>::new(alloc, &[1], 1048577),
-            Err(MakeFault::Range { value: 1048577 })
-        )
-    );
-    assert!(rt;
-        matches!(
+        is_range(
             ConvPartial::<i16, 8>::new(alloc, 4294967296, 0, &[1], 0),
-            Err(MakeFault::Range { value: 4294967296 })
+            4294967296
         )
     );
-    assert!(rt;
-        matches!(
-            ConvPartial::<i16, 8>::new(alloc, 4294967295, 0, &[1], 0),
-            Err(MakeFault::Range { value: 0 })
-        )
-    );
+    assert!(rt; is_range(ConvPartial::<i16, 8>::new(alloc, 4294967295, 0, &[1], 0), 0));
     assert!(rt; Correlate::<i8>::new(alloc, &[]).is_err());
     assert!(rt; Conv::<i16, 8>::new(alloc, &[1; MAX_TAPS], MAX_SAMPLES).is_ok());
 }

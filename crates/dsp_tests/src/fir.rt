@@ -1,7 +1,8 @@
 //! Callers of dsp_fir.
 ghost use Rattle.std.specs.Prelude.{◌≡◌, ◌≤◌, ◌+◌, IsFalse, length};
 
-use dsp_defs::{MakeFault, Steps};
+use crate::refusals::{is_length, is_range};
+use dsp_defs::Steps;
 use dsp_fir::{Fir, Sparse};
 use std::alloc::Global;
 use std::process::Abort;
@@ -164,34 +165,14 @@ pub(crate) fn counted<M: Ledger>(rt: &impl Abort, alloc: Global, steps: &mut Ste
 #[test]
 fn faults(rt: HostRuntime) {
     let alloc = rt.alloc();
+    assert!(rt; is_length(Fir::<i16, 8>::new(alloc, &[], 4), 0, 1));
+    assert!(rt; is_range(Fir::<i16, 8>::new(alloc, &[1], 0), 0));
+    assert!(rt; is_length(Sparse::<i8, 16>::new(alloc, &[1], &[0], 4), 1, 2));
+    assert!(rt; is_length(Sparse::<i16, 8>::new(alloc, &[1, 2], &[0, 1, 2], 4), 3, 2));
     assert!(rt;
-        matches!(
-            Fir::<i16, 8>::new(alloc, &[], 4),
-            Err(MakeFault::Length { taps: 0, factor: 1 })
-        )
-    );
-    assert!(rt;
-        matches!(
-            Fir::<i16, 8>::new(alloc, &[1], 0),
-            Err(MakeFault::Range { value: 0 })
-        )
-    );
-    assert!(rt;
-        matches!(
-            Sparse::<i8, 16>::new(alloc, &[1], &[0], 4),
-            Err(MakeFault::Length { taps: 1, factor: 2 })
-        )
-    );
-    assert!(rt;
-        matches!(
-            Sparse::<i16, 8>::new(alloc, &[1, 2], &[0, 1, 2], 4),
-            Err(MakeFault::Length { taps: 3, factor: 2 })
-        )
-    );
-    assert!(rt;
-        matches!(
+        is_range(
             Sparse::<i32, 4>::new(alloc, &[1, 2], &[65535, 65537], 0),
-            Err(MakeFault::Range { value: 65537 })
+            65537
         )
     );
 }

@@ -1,5 +1,6 @@
 //! Callers of dsp_lattice.
-use dsp_defs::{MakeFault, Steps};
+use crate::refusals::{is_length, is_range};
+use dsp_defs::Steps;
 use dsp_lattice::{FirLattice15, IirLattice};
 use std::alloc::Global;
 use std::process::Abort;
@@ -96,43 +97,15 @@ pub(crate) fn counted<M: Ledger>(rt: &impl Abort, alloc: Global, steps: &mut Ste
 #[test]
 fn faults(rt: HostRuntime) {
     let alloc = rt.alloc();
+    assert!(rt; is_length(FirLattice15::new(alloc, &[], 0), 0, 1));
+    assert!(rt; is_length(FirLattice15::new(alloc, &[0; 256], 4), 256, 1));
+    assert!(rt; is_range(FirLattice15::new(alloc, &[0], 0), 0));
+    assert!(rt; is_length(IirLattice::<i32>::new(alloc, &[], &[], 0), 0, 1));
+    assert!(rt; is_length(IirLattice::<i16>::new(alloc, &[1, 2], &[0, 1], 0), 2, 3));
     assert!(rt;
-        matches!(
-            FirLattice15::new(alloc, &[], 0),
-            Err(MakeFault::Length { taps: 0, factor: 1 })
-        )
-    );
-    assert!(rt;
-        matches!(
-            FirLattice15::new(alloc, &[0; 256], 4),
-            Err(MakeFault::Length {
-                taps: 256,
-                factor: 1
-            })
-        )
-    );
-    assert!(rt;
-        matches!(
-            FirLattice15::new(alloc, &[0], 0),
-            Err(MakeFault::Range { value: 0 })
-        )
-    );
-    assert!(rt;
-        matches!(
-            IirLattice::<i32>::new(alloc, &[], &[], 0),
-            Err(MakeFault::Length { taps: 0, factor: 1 })
-        )
-    );
-    assert!(rt;
-        matches!(
-            IirLattice::<i16>::new(alloc, &[1, 2], &[0, 1], 0),
-            Err(MakeFault::Length { taps: 2, factor: 3 })
-        )
-    );
-    assert!(rt;
-        matches!(
+        is_range(
             IirLattice::<i16>::new(alloc, &[1; 255], &[1; 256], 1048577),
-            Err(MakeFault::Range { value: 1048577 })
+            1048577
         )
     );
 }

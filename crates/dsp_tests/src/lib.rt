@@ -34,6 +34,8 @@ mod measure;
 #[cfg(test)]
 mod rate;
 #[cfg(test)]
+mod refusals;
+#[cfg(test)]
 mod same;
 #[cfg(test)]
 mod sat;

@@ -1,5 +1,6 @@
 //! Callers of dsp_matrix.
-use dsp_defs::{List, MakeFault, Steps};
+use crate::refusals::{is_length, is_range};
+use dsp_defs::{List, Steps};
 use dsp_matrix::{GroupOp, Grouped, GroupedMult, mat_add, mat_mult, mat_scale, mat_sub, mat_trans};
 use std::alloc::Global;
 use std::process::Abort;
@@ -102,30 +103,10 @@ pub(crate) fn counted<M: Ledger>(rt: &impl Abort, alloc: Global, steps: &mut Ste
 #[test]
 fn faults_of_products(rt: HostRuntime) {
     let alloc = rt.alloc();
-    assert!(rt;
-        matches!(
-            GroupedMult::new(alloc, 0, 65, 1, &[], 0),
-            Err(MakeFault::Range { value: 0 })
-        )
-    );
-    assert!(rt;
-        matches!(
-            GroupedMult::new(alloc, 1, 65, 0, &[], 0),
-            Err(MakeFault::Range { value: 65 })
-        )
-    );
-    assert!(rt;
-        matches!(
-            GroupedMult::new(alloc, 1, 2, 3, &[], 0),
-            Err(MakeFault::Length { taps: 0, factor: 6 })
-        )
-    );
-    assert!(rt;
-        matches!(
-            GroupedMult::new(alloc, 1, 1, 1, &[7], 0),
-            Err(MakeFault::Range { value: 0 })
-        )
-    );
+    assert!(rt; is_range(GroupedMult::new(alloc, 0, 65, 1, &[], 0), 0));
+    assert!(rt; is_range(GroupedMult::new(alloc, 1, 65, 0, &[], 0), 65));
+    assert!(rt; is_length(GroupedMult::new(alloc, 1, 2, 3, &[], 0), 0, 6));
+    assert!(rt; is_range(GroupedMult::new(alloc, 1, 1, 1, &[7], 0), 0));
 }
 
 #[test]
@@ -137,22 +118,12 @@ fn faults_of_scales(rt: HostRuntime) {
         fract: 32768,
         shift: 16,
     };
-    assert!(rt;
-        matches!(
-            Grouped::<i16>::new(alloc, scale, 0),
-            Err(MakeFault::Range { value: 32768 })
-        )
-    );
+    assert!(rt; is_range(Grouped::<i16>::new(alloc, scale, 0), 32768));
     let scale = GroupOp::Scale {
         rows: 1,
         columns: 1,
         fract: 1,
         shift: -1,
     };
-    assert!(rt;
-        matches!(
-            Grouped::<i32>::new(alloc, scale, 0),
-            Err(MakeFault::Range { value: -1 })
-        )
-    );
+    assert!(rt; is_range(Grouped::<i32>::new(alloc, scale, 0), -1));
 }

@@ -1,7 +1,8 @@
 //! Callers of dsp_rate.
 ghost use Rattle.std.specs.Prelude.{◌≡◌, ◌≤◌, ◌+◌, IsFalse, length};
 
-use dsp_defs::{MAX_SAMPLES, MAX_TAPS, MakeFault, Steps};
+use crate::refusals::{is_length, is_range};
+use dsp_defs::{MAX_SAMPLES, MAX_TAPS, Steps};
 use dsp_rate::{Decimate, Interpolate};
 use std::alloc::Global;
 use std::process::Abort;
@@ -114,42 +115,12 @@ pub(crate) fn counted<M: Ledger>(rt: &impl Abort, alloc: Global, steps: &mut Ste
 #[test]
 fn faults(rt: HostRuntime) {
     let alloc = rt.alloc();
-    assert!(rt;
-        matches!(
-            Decimate::<i16, 8>::new(alloc, 0, &[], 0),
-            Err(MakeFault::Length { taps: 0, factor: 1 })
-        )
-    );
-    assert!(rt;
-        matches!(
-            Decimate::<i16, 8>::new(alloc, 0, &[1], 1048577),
-            Err(MakeFault::Range { value: 0 })
-        )
-    );
-    assert!(rt;
-        matches!(
-            Decimate::<i32, 4>::new(alloc, 255, &[1], 1048577),
-            Err(MakeFault::Range { value: 1048577 })
-        )
-    );
+    assert!(rt; is_length(Decimate::<i16, 8>::new(alloc, 0, &[], 0), 0, 1));
+    assert!(rt; is_range(Decimate::<i16, 8>::new(alloc, 0, &[1], 1048577), 0));
+    assert!(rt; is_range(Decimate::<i32, 4>::new(alloc, 255, &[1], 1048577), 1048577));
     assert!(rt; Decimate::<i16, 8>::new(alloc, 255, &[1; MAX_TAPS], MAX_SAMPLES).is_ok());
-    assert!(rt;
-        matches!(
-            Interpolate::<i16, 8>::new(alloc, 2, &[1, 2, 3], 0),
-            Err(MakeFault::Length { taps: 3, factor: 2 })
-        )
-    );
-    assert!(rt;
-        matches!(
-            Interpolate::<i32, 4>::new(alloc, 0, &[], 4),
-            Err(MakeFault::Length { taps: 0, factor: 1 })
-        )
-    );
-    assert!(rt;
-        matches!(
-            Interpolate::<i32, 4>::new(alloc, 0, &[1], 0),
-            Err(MakeFault::Range { value: 0 })
-        )
-    );
+    assert!(rt; is_length(Interpolate::<i16, 8>::new(alloc, 2, &[1, 2, 3], 0), 3, 2));
+    assert!(rt; is_length(Interpolate::<i32, 4>::new(alloc, 0, &[], 4), 0, 1));
+    assert!(rt; is_range(Interpolate::<i32, 4>::new(alloc, 0, &[1], 0), 0));
     assert!(rt; Interpolate::<i16, 8>::new(alloc, 255, &[1; MAX_TAPS / 255 * 255], 1).is_ok());
 }

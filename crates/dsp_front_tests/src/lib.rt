@@ -1,6 +1,6 @@
 //! Callers of the crates in front of the blocks: script, ports, files, chain and session; and whole runs of
-//! the program over ports in memory: worked by hand, of an independent implementation, and over ports that
-//! fail at each place.
+//! the program over ports in memory, worked by hand, of an independent implementation, and over ports that
+//! fail at each place, and over real files.
 #![tactic(auto)]
 
 /// Ends the test where what was found is not what is wanted, and shows both. It is a call, since all that
@@ -19,6 +19,10 @@ mod block_runs;
 mod chain;
 #[cfg(test)]
 mod chain_runs;
+#[cfg(test)]
+mod files;
+#[cfg(test)]
+mod full_disk;
 #[cfg(test)]
 mod gen_runs;
 #[cfg(test)]

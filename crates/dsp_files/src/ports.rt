@@ -1,7 +1,7 @@
-//! The real ports. They tell no bytes: what a file or a terminal holds is not proved. Each counts its faults up to the
+//! Files and standard output as ports. They tell no bytes: what a file or a terminal holds is not proved. Each counts its faults up to the
 //! greatest `u64`.
 ghost use Rattle.std.specs.Prelude.{None, IfOk, ◌≤◌, length, vec_len, vec_capacity};
-ghost use Rattle.dspfx.specs.declared.ports.TheConstants.{AHEAD, GATHERED};
+ghost use Rattle.dsp_files.specs.declared.ports.TheConstants.{AHEAD, GATHERED};
 
 use dsp_ports::{Failed, Sink, Source};
 use std::alloc::{AllocError, Global};

@@ -1,15 +1,23 @@
-use super::*;
+//! Whole runs over real files, and over a disk that is full.
 use crate::full_disk::FullDisk;
-use std::alloc::AllocError;
+use dsp_blocks::BlockUnit;
+use dsp_cli::Words;
+use dsp_files::{FileSink, FileSource, run_files};
+use dsp_ports::{Sink, Source};
+use std::alloc::{AllocError, Global};
+use std::fs::{self, Files};
+use std::io::{self, Print};
+use std::marker::Brand;
+use std::sync::ledger::Blank;
 use std::test::Fail;
-use std::{fs, io};
 
-fn words_of(alloc: Global, texts: &[&str]) -> Result<Words, AllocError> {
+/// What the program answers to these words, with a counter of its own.
+fn answer(alloc: Global, rt: &(impl Files + Print), texts: &[&str]) -> Result<u8, AllocError> {
     let mut words = Words::new(alloc);
     for text in texts {
         words.push(text)?;
     }
-    Ok(words)
+    run_files::<BlockUnit, _, Brand>(alloc, rt, &words, Blank::new(2))
 }
 
 /// Removes what a test wrote.
@@ -37,11 +45,14 @@ fn a_run_over_real_files_writes_its_output(rt: HostRuntime) -> Result<(), Fail> 
         "first.raw",
         [0xE8, 0x03, 0x18, 0xFC, 0xFF, 0xFF].as_slice(),
     )?;
-    let words = words_of(rt.alloc(), &["run", "first.txt", "first.raw", "halved.raw"])?;
-    let status = run_files::<HostRuntime, Brand>(rt.alloc(), &rt, &words, Blank::new(2))?;
-    assert_eq!(rt; status, 0);
+    let status = answer(
+        rt.alloc(),
+        &rt,
+        &["run", "first.txt", "first.raw", "halved.raw"],
+    )?;
+    assert_same!(rt; status, 0);
     let written = fs::read(&rt, "halved.raw")?;
-    assert_eq!(rt;
+    assert_same!(rt;
         written.as_slice(),
         [0xF4, 0x01, 0x0C, 0xFE, 0xFF, 0xFF].as_slice()
     );
@@ -56,15 +67,33 @@ fn a_generated_input_needs_no_file(rt: HostRuntime) -> Result<(), Fail> {
         "generated.txt",
         b"dspfx 1 input raw q15 1 8000 output raw\n",
     )?;
-    let words = words_of(rt.alloc(), &["gen", "0", "3", "generated.txt", "made.raw"])?;
-    let status = run_files::<HostRuntime, Brand>(rt.alloc(), &rt, &words, Blank::new(2))?;
-    assert_eq!(rt; status, 0);
+    let status = answer(
+        rt.alloc(),
+        &rt,
+        &["gen", "0", "3", "generated.txt", "made.raw"],
+    )?;
+    assert_same!(rt; status, 0);
     let written = fs::read(&rt, "made.raw")?;
-    assert_eq!(rt;
+    assert_same!(rt;
         written.as_slice(),
         [0x6E, 0x3C, 0x50, 0x47, 0xCC, 0xD1].as_slice()
     );
     remove(&rt, &["generated.txt", "made.raw"])?;
+    Ok(())
+}
+
+#[test]
+fn a_file_is_copied_by_its_ports(rt: HostRuntime) -> Result<(), Fail> {
+    fs::write(&rt, "from.raw", [1, 2, 3].as_slice())?;
+    let mut source = FileSource::new(&rt, "from.raw");
+    let mut sink = FileSink::new(rt.alloc(), &rt, "to.raw")?;
+    let mut bytes = [0; 4];
+    assert_same!(rt; source.read(&mut bytes).ok(), Some(3));
+    assert_same!(rt; sink.write(&bytes[..3]).ok(), Some(3));
+    assert!(rt; sink.flush().is_ok());
+    let written = fs::read(&rt, "to.raw")?;
+    assert_same!(rt; written.as_slice(), [1, 2, 3].as_slice());
+    remove(&rt, &["from.raw", "to.raw"])?;
     Ok(())
 }
 
@@ -76,20 +105,26 @@ fn a_long_file_is_copied_whole(rt: HostRuntime) -> Result<(), Fail> {
         "copy.txt",
         b"dspfx 1 input raw q15 1 8000 block 300 output raw\n",
     )?;
-    let words = words_of(rt.alloc(), &["gen", "7", "50000", "copy.txt", "long.raw"])?;
-    let status = run_files::<HostRuntime, Brand>(rt.alloc(), &rt, &words, Blank::new(2))?;
-    assert_eq!(rt; status, 0);
+    let status = answer(
+        rt.alloc(),
+        &rt,
+        &["gen", "7", "50000", "copy.txt", "long.raw"],
+    )?;
+    assert_same!(rt; status, 0);
     let made = fs::read(&rt, "long.raw")?;
-    assert_eq!(rt; made.len(), 100000);
-    assert_eq!(rt; &made[16384..16388], [0x42, 0x57, 0x4F, 0x43].as_slice());
-    assert_eq!(rt; &made[32768..32772], [0x63, 0x41, 0xC4, 0x2C].as_slice());
-    assert_eq!(rt; &made[65536..65540], [0xA7, 0x85, 0xAF, 0xAF].as_slice());
-    assert_eq!(rt; &made[99996..], [0x2E, 0xDA, 0x49, 0xF6].as_slice());
-    let words = words_of(rt.alloc(), &["run", "copy.txt", "long.raw", "copied.raw"])?;
-    let status = run_files::<HostRuntime, Brand>(rt.alloc(), &rt, &words, Blank::new(2))?;
-    assert_eq!(rt; status, 0);
+    assert_same!(rt; made.len(), 100000);
+    assert_same!(rt; &made[16384..16388], [0x42, 0x57, 0x4F, 0x43].as_slice());
+    assert_same!(rt; &made[32768..32772], [0x63, 0x41, 0xC4, 0x2C].as_slice());
+    assert_same!(rt; &made[65536..65540], [0xA7, 0x85, 0xAF, 0xAF].as_slice());
+    assert_same!(rt; &made[99996..], [0x2E, 0xDA, 0x49, 0xF6].as_slice());
+    let status = answer(
+        rt.alloc(),
+        &rt,
+        &["run", "copy.txt", "long.raw", "copied.raw"],
+    )?;
+    assert_same!(rt; status, 0);
     let copied = fs::read(&rt, "copied.raw")?;
-    assert_eq!(rt; copied.as_slice(), made.as_slice());
+    assert_same!(rt; copied.as_slice(), made.as_slice());
     remove(&rt, &["copy.txt", "long.raw", "copied.raw"])?;
     Ok(())
 }
@@ -103,11 +138,14 @@ fn a_short_input_leaves_its_blocks(rt: HostRuntime) -> Result<(), Fail> {
         b"dspfx 1 input wave q7 1 block 2 output raw\n",
     )?;
     fs::write(&rt, "short.wav", SHORT)?;
-    let words = words_of(rt.alloc(), &["run", "short.txt", "short.wav", "short.raw"])?;
-    let status = run_files::<HostRuntime, Brand>(rt.alloc(), &rt, &words, Blank::new(2))?;
-    assert_eq!(rt; status, 4);
+    let status = answer(
+        rt.alloc(),
+        &rt,
+        &["run", "short.txt", "short.wav", "short.raw"],
+    )?;
+    assert_same!(rt; status, 4);
     let written = fs::read(&rt, "short.raw")?;
-    assert_eq!(rt; written.as_slice(), [0x01, 0x02].as_slice());
+    assert_same!(rt; written.as_slice(), [0x01, 0x02].as_slice());
     remove(&rt, &["short.txt", "short.wav", "short.raw"])?;
     Ok(())
 }
@@ -115,12 +153,12 @@ fn a_short_input_leaves_its_blocks(rt: HostRuntime) -> Result<(), Fail> {
 #[test]
 fn a_missing_input_leaves_no_output(rt: HostRuntime) -> Result<(), Fail> {
     fs::write(&rt, "second.txt", SCRIPT)?;
-    let words = words_of(
+    let status = answer(
         rt.alloc(),
+        &rt,
         &["run", "second.txt", "missing.raw", "none.raw"],
     )?;
-    let status = run_files::<HostRuntime, Brand>(rt.alloc(), &rt, &words, Blank::new(2))?;
-    assert_eq!(rt; status, 7);
+    assert_same!(rt; status, 7);
     assert!(rt; fs::read(&rt, "none.raw").is_err());
     remove(&rt, &["second.txt"])?;
     Ok(())
@@ -131,11 +169,14 @@ fn an_empty_input_makes_an_empty_output(rt: HostRuntime) -> Result<(), Fail> {
     fs::write(&rt, "third.txt", SCRIPT)?;
     fs::write(&rt, "empty.raw", b"")?;
     fs::write(&rt, "old.raw", b"old")?;
-    let words = words_of(rt.alloc(), &["run", "third.txt", "empty.raw", "old.raw"])?;
-    let status = run_files::<HostRuntime, Brand>(rt.alloc(), &rt, &words, Blank::new(2))?;
-    assert_eq!(rt; status, 0);
+    let status = answer(
+        rt.alloc(),
+        &rt,
+        &["run", "third.txt", "empty.raw", "old.raw"],
+    )?;
+    assert_same!(rt; status, 0);
     let written = fs::read(&rt, "old.raw")?;
-    assert_eq!(rt; written.len(), 0);
+    assert_same!(rt; written.len(), 0);
     remove(&rt, &["third.txt", "empty.raw", "old.raw"])?;
     Ok(())
 }
@@ -149,17 +190,15 @@ fn a_short_input_on_a_full_disk_is_not_written(rt: HostRuntime) -> Result<(), Fa
         b"dspfx 1 input wave q7 1 block 2 output raw\n",
     )?;
     fs::write(&rt, "full.wav", SHORT)?;
-    let words = words_of(rt.alloc(), &["run", "full.txt", "full.wav", "full.raw"])?;
     let disk = FullDisk(&rt);
-    let status = run_files::<FullDisk<'_, HostRuntime>, Brand>(
+    let status = answer(
         rt.alloc(),
         &disk,
-        &words,
-        Blank::new(2),
+        &["run", "full.txt", "full.wav", "full.raw"],
     )?;
-    assert_eq!(rt; status, 8);
+    assert_same!(rt; status, 8);
     let written = fs::read(&rt, "full.raw")?;
-    assert_eq!(rt; written.len(), 0);
+    assert_same!(rt; written.len(), 0);
     remove(&rt, &["full.txt", "full.wav", "full.raw"])?;
     Ok(())
 }

@@ -1,12 +1,14 @@
 //! Files and standard output as ports. They tell no bytes: what a file or a terminal holds is not proved. Each counts its faults up to the
 //! greatest `u64`.
-ghost use Rattle.std.specs.Prelude.{None, IfOk, ◌≤◌, length, vec_len, vec_capacity};
+ghost use Rattle.std.specs.Prelude.{◌≡◌, IfOk, ◌≤◌, length, vec_len, vec_capacity};
+ghost use Rattle.dsp_files.specs.OverFiles.{new_sink, new_source};
 ghost use Rattle.dsp_files.specs.declared.ports.TheConstants.{AHEAD, GATHERED};
 
 use dsp_ports::{Failed, Sink, Source};
 use std::alloc::{AllocError, Global};
 use std::fs::Files;
 use std::io::{Print, Read, Write};
+use std::marker::Model;
 use std::{fs, io};
 
 /// How many bytes a source reads ahead.
@@ -33,9 +35,20 @@ pub struct FileSource<'a, R: Files> {
     faults: u64,
 }
 
+impl<'a, R: Files> Model for FileSource<'a, R> {
+    ghost use Rattle.std.specs.Prelude.{None};
+    ghost use Rattle.dsp_ports.specs.Ports.{SourceState};
+
+    ghost Value = { SourceState };
+
+    ghost view = { λ s. record { left = None; taken = s.taken; faults = s.faults } };
+}
+
 impl<'a, R: Files> FileSource<'a, R> {
     /// The file of this name, which isn't opened yet.
-    pub fn new(files: &'a R, path: &'a str) -> FileSource<'a, R> {
+    pub fn new(files: &'a R, path: &'a str) -> FileSource<'a, R>
+        ensures { result ≡ new_source }
+    {
         FileSource {
             files,
             path,
@@ -98,7 +111,7 @@ fn read_ahead<R: Files>(
 impl<R: Files> Source for FileSource<'_, R> {
     ghost use Rattle.std.specs.Prelude.{⊤};
 
-    ghost state = { λ s. record { left = None; taken = s.taken; faults = s.faults } };
+    ghost state = { λ s. s };
 
     // A file tells nothing of its reads.
     ghost Reads = { λ _ _ _. ⊤ };
@@ -143,9 +156,20 @@ pub struct FileSink<'a, R: Files> {
     faults: u64,
 }
 
+impl<'a, R: Files> Model for FileSink<'a, R> {
+    ghost use Rattle.std.specs.Prelude.{None};
+    ghost use Rattle.dsp_ports.specs.Ports.{SinkState};
+
+    ghost Value = { SinkState };
+
+    ghost view = { λ s. record { put = None; settled = None; faults = s.faults } };
+}
+
 impl<'a, R: Files> FileSink<'a, R> {
     /// The file of this name, which isn't made yet. The room for what is gathered is taken here.
-    pub fn new(alloc: Global, files: &'a R, path: &'a str) -> Result<FileSink<'a, R>, AllocError> {
+    pub fn new(alloc: Global, files: &'a R, path: &'a str) -> Result<FileSink<'a, R>, AllocError>
+        ensures { IfOk result (λ sink. sink ≡ new_sink) }
+    {
         let bytes = Vec::with_capacity(alloc, GATHERED)?;
         Ok(FileSink {
             files,
@@ -156,8 +180,10 @@ impl<'a, R: Files> FileSink<'a, R> {
         })
     }
 
-    /// Writes all that was accepted to the file. After a failure it is given up.
-    pub fn spill(&mut self) -> Result<(), Failed> {
+    /// Writes all that was accepted to the file. After a failure it is given up; no fault is counted.
+    pub fn spill(&mut self) -> Result<(), Failed>
+        ensures { self.new ≡ self.old }
+    {
         match &mut self.file {
             Some(file) => match spill_to(file, &mut self.gathered) {
                 Ok(()) => Ok(()),
@@ -225,7 +251,7 @@ fn flush_file<R: Files>(
 }
 
 impl<R: Files> Sink for FileSink<'_, R> {
-    ghost state = { λ s. record { put = None; settled = None; faults = s.faults } };
+    ghost state = { λ s. s };
 
     fn write(&mut self, piece: &[u8]) -> Result<usize, Failed> {
         if piece.is_empty() {
@@ -264,15 +290,26 @@ pub struct OutSink<'a, R: Print> {
     faults: u64,
 }
 
+impl<'a, R: Print> Model for OutSink<'a, R> {
+    ghost use Rattle.std.specs.Prelude.{None};
+    ghost use Rattle.dsp_ports.specs.Ports.{SinkState};
+
+    ghost Value = { SinkState };
+
+    ghost view = { λ s. record { put = None; settled = None; faults = s.faults } };
+}
+
 impl<'a, R: Print> OutSink<'a, R> {
     /// The standard output of the process.
-    pub fn new(rt: &'a R) -> OutSink<'a, R> {
+    pub fn new(rt: &'a R) -> OutSink<'a, R>
+        ensures { result ≡ new_sink }
+    {
         OutSink { rt, faults: 0 }
     }
 }
 
 impl<R: Print> Sink for OutSink<'_, R> {
-    ghost state = { λ s. record { put = None; settled = None; faults = s.faults } };
+    ghost state = { λ s. s };
 
     fn write(&mut self, piece: &[u8]) -> Result<usize, Failed> {
         if piece.is_empty() {

@@ -112,7 +112,7 @@ fn a_long_file_is_copied_whole(rt: HostRuntime) -> Result<(), Fail> {
     )?;
     assert_same!(rt; status, 0);
     let made = fs::read(&rt, "long.raw")?;
-    assert_same!(rt; made.len(), 100000);
+    assert_eq!(rt; made.len(), 100000);
     assert_same!(rt; &made[16384..16388], [0x42, 0x57, 0x4F, 0x43].as_slice());
     assert_same!(rt; &made[32768..32772], [0x63, 0x41, 0xC4, 0x2C].as_slice());
     assert_same!(rt; &made[65536..65540], [0xA7, 0x85, 0xAF, 0xAF].as_slice());

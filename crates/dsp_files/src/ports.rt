@@ -1,7 +1,7 @@
 //! Files and standard output as ports. They tell no bytes: what a file or a terminal holds is not proved. Each counts its faults up to the
 //! greatest `u64`.
 ghost use Rattle.std.specs.Prelude.{◌≡◌, IfOk, ◌≤◌, length, vec_len, vec_capacity};
-ghost use Rattle.dsp_files.specs.OverFiles.{new_sink, new_source};
+ghost use Rattle.dsp_files.specs.OverFiles.{new_sink};
 ghost use Rattle.dsp_files.specs.declared.ports.TheConstants.{AHEAD, GATHERED};
 
 use dsp_ports::{Failed, Sink, Source};
@@ -36,18 +36,17 @@ pub struct FileSource<'a, R: Files> {
 }
 
 impl<'a, R: Files> Model for FileSource<'a, R> {
-    ghost use Rattle.std.specs.Prelude.{None};
-    ghost use Rattle.dsp_ports.specs.Ports.{SourceState};
+    ghost use Rattle.dsp_files.specs.Files.{FileInput};
 
-    ghost Value = { SourceState };
+    ghost Value = { FileInput };
 
-    ghost view = { λ s. record { left = None; taken = s.taken; faults = s.faults } };
+    ghost view = { λ s. record { path = s.path.now; taken = s.taken; faults = s.faults } };
 }
 
 impl<'a, R: Files> FileSource<'a, R> {
     /// The file of this name, which isn't opened yet.
     pub fn new(files: &'a R, path: &'a str) -> FileSource<'a, R>
-        ensures { result ≡ new_source }
+        ensures { result ≡ record { path = path.now; taken = 0; faults = 0 } }
     {
         FileSource {
             files,
@@ -110,8 +109,9 @@ fn read_ahead<R: Files>(
 
 impl<R: Files> Source for FileSource<'_, R> {
     ghost use Rattle.std.specs.Prelude.{⊤};
+    ghost use Rattle.dsp_files.specs.Files.{input_state};
 
-    ghost state = { λ s. s };
+    ghost state = { input_state };
 
     // A file tells nothing of its reads.
     ghost Reads = { λ _ _ _. ⊤ };
@@ -157,18 +157,17 @@ pub struct FileSink<'a, R: Files> {
 }
 
 impl<'a, R: Files> Model for FileSink<'a, R> {
-    ghost use Rattle.std.specs.Prelude.{None};
-    ghost use Rattle.dsp_ports.specs.Ports.{SinkState};
+    ghost use Rattle.dsp_files.specs.Files.{FileOutput};
 
-    ghost Value = { SinkState };
+    ghost Value = { FileOutput };
 
-    ghost view = { λ s. record { put = None; settled = None; faults = s.faults } };
+    ghost view = { λ s. record { path = s.path.now; faults = s.faults } };
 }
 
 impl<'a, R: Files> FileSink<'a, R> {
     /// The file of this name, which isn't made yet. The room for what is gathered is taken here.
     pub fn new(alloc: Global, files: &'a R, path: &'a str) -> Result<FileSink<'a, R>, AllocError>
-        ensures { IfOk result (λ sink. sink ≡ new_sink) }
+        ensures { IfOk result (λ sink. sink ≡ record { path = path.now; faults = 0 }) }
     {
         let bytes = Vec::with_capacity(alloc, GATHERED)?;
         Ok(FileSink {
@@ -251,7 +250,9 @@ fn flush_file<R: Files>(
 }
 
 impl<R: Files> Sink for FileSink<'_, R> {
-    ghost state = { λ s. s };
+    ghost use Rattle.dsp_files.specs.Files.{output_state};
+
+    ghost state = { output_state };
 
     fn write(&mut self, piece: &[u8]) -> Result<usize, Failed> {
         if piece.is_empty() {

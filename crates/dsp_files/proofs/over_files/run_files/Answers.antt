@@ -1,6 +1,7 @@
-use Rattle.std.proofs.Common.{◌≡◌, ℕ, refl, subst, inl, inr}
+use Rattle.std.proofs.Common.{◌≡◌, ℕ, ap, refl, subst, inl, inr}
 use Rattle.dsp_ports.specs.Ports.{SinkState}
 use Rattle.dsp_cli.specs.Call.{Call, Ended}
+use Rattle.dsp_files.specs.Files.{input_state, output_state}
 use Rattle.dsp_files.specs.OverFiles.{HasEnded, new_sink, new_source}
 use Rattle.dsp_files.proofs.over_files.run_files.Goals as goal
 
@@ -23,13 +24,13 @@ over-new {c} {status} {report} {told} ended source port sink reporting multiplie
 pub returns-in-Ok : goal.returns-in-Ok
 returns-in-Ok g c =
     let counts = c.new-steps.ensures in
-    let ended = over-new c.run-status.ensures.ended c.new-script.ensures c.new-input.ensures c.in_ok-output.ensures
-    c.new-report.ensures counts.multiplies counts.turns in
+    let ended = over-new c.run-status.ensures.ended (ap input_state c.new-script.ensures) (ap input_state c.new-input.ensures)
+    (ap output_state c.in_ok-output.ensures) c.new-report.ensures counts.multiplies counts.turns in
     (c.run-status.result, ended, inl refl)
 
 pub returns : goal.returns
 returns g c =
     let counts = c.new-steps.ensures in
-    let ended = over-new c.run-status.ensures.ended c.new-script.ensures c.new-input.ensures c.in_ok-output.ensures
-    c.new-report.ensures counts.multiplies counts.turns in
+    let ended = over-new c.run-status.ensures.ended (ap input_state c.new-script.ensures) (ap input_state c.new-input.ensures)
+    (ap output_state c.in_ok-output.ensures) c.new-report.ensures counts.multiplies counts.turns in
     (c.run-status.result, ended, inr refl)

@@ -1,18 +1,11 @@
-use Rattle.std.proofs.Common.{ap, refl, subst, None, Result, Ok, Err, IfOk, IfErr}
+use Rattle.std.proofs.Common.{ap, refl, subst, None}
+use Rattle.std.proofs.lemmas.Result.{IfOk-weaker, IfErr-weaker}
 use Rattle.dsp_ports.specs.Ports.{SourceState}
 use Rattle.dsp_wave.specs.Generated.{generation_state}
 use Rattle.dsp_cli.specs.Perform.{Ran, FailsToRun}
 use Rattle.dsp_cli.specs.declared.fault.Fault.{Fault}
 use Rattle.dsp_cli.specs.declared.report.Summary.{Summary}
 use Rattle.dsp_cli.proofs.top.generate.Goals as goal
-
-if-ok : {T E : Type 0} (P Q : T → Type 0) (r : Result T E) → ((x : T) → P x → Q x) → IfOk r P → IfOk r Q
-if-ok P Q (Ok x) f h = f x h
-if-ok P Q (Err e) f h = tt
-
-if-err : {T E : Type 0} (P Q : E → Type 0) (r : Result T E) → ((e : E) → P e → Q e) → IfErr r P → IfErr r Q
-if-err P Q (Ok x) f h = tt
-if-err P Q (Err e) f h = f e h
 
 pub returns-clause-ok : goal.returns-clause-ok
 returns-clause-ok g c =
@@ -22,7 +15,7 @@ returns-clause-ok g c =
     let did = λ (summary : Summary) (s : SourceState).
     Ran None c.args.script.now summary s now sink after c.args.steps.now c.run_script.new.steps in
     let made = ap generation_state c.new-input.ensures in
-    if-ok _ _ c.run_script.result (λ summary ran. record { now = now; clean = refl; ran = subst (did summary) made ran })
+    IfOk-weaker c.run_script.result _ _ (λ summary ran. record { now = now; clean = refl; ran = subst (did summary) made ran })
     c.run_script.ensures.ok
 
 pub returns-clause-err : goal.returns-clause-err
@@ -33,5 +26,5 @@ returns-clause-err g c =
     let did = λ (fault : Fault) (s : SourceState).
     FailsToRun fault None c.args.script.now s now sink after c.args.steps.now c.run_script.new.steps in
     let made = ap generation_state c.new-input.ensures in
-    if-err _ _ c.run_script.result (λ fault fails. record { now = now; clean = refl; fails = subst (did fault) made fails })
+    IfErr-weaker c.run_script.result _ _ (λ fault fails. record { now = now; clean = refl; fails = subst (did fault) made fails })
     c.run_script.ensures.err

@@ -33,6 +33,9 @@ impl<T: PidSample> Pid<T> {
         ensures made { IfOk result (λ p.
             IsNewFilter (PidBlock (T.number kp) (T.number ki)
             (T.number kd)) T.format block p.filter) }
+        ensures kp { IfOk result (λ p. p.kp ≡ kp) }
+        ensures ki { IfOk result (λ p. p.ki ≡ ki) }
+        ensures kd { IfOk result (λ p. p.kd ≡ kd) }
         ensures fault { MatchOption (block_fault block) (IsOk result) (λ e. result ≡ Err e) }
     {
         check_block(block)?;

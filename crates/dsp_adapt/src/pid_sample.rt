@@ -55,13 +55,13 @@ pub trait PidSample: WideSample {
 impl PidSample for i16 {
     fn gains(kp: i16, ki: i16, kd: i16) -> (i16, i16, i16) {
         let (p, i, d) = (i64::from(kp), i64::from(ki), i64::from(kd));
-        (sat16(p + i + d), sat16(-(2 * d + p)), kd)
+        (sat16(p + i + d), sat16(-(d + d + p)), kd)
     }
 
     #[inline(always)]
     fn controlled(newest: i32, second: i32, third: i32, before: i16) -> i16 {
         let sum = exact_sum(newest, second, third);
-        sat16((sum + i64::from(before) * 0x8000) >> 15)
+        sat16((sum + (i64::from(before) << 15)) >> 15)
     }
 }
 

@@ -16,5 +16,6 @@ pub use biquad_sample::BiquadSample;
 pub use biquads::{Biquad15, Biquad31, Biquad64, Biquads};
 pub use cascade::Cascade;
 pub use cascade_section::CascadeSection;
+pub use making::{check_coefficients, check_shift};
 pub use section::Section;
 pub use section64::Section64;

@@ -5,7 +5,7 @@ use dsp_defs::{MAX_SECTIONS, MakeFault};
 use dsp_unit::check_multiple;
 
 /// Refuses a count of numbers that is not that of 1..64 sections of `size`.
-pub(crate) fn check_coefficients(count: usize, size: usize) -> Result<(), MakeFault>
+pub fn check_coefficients(count: usize, size: usize) -> Result<(), MakeFault>
     requires some { 1 ≤ size }
     requires few { size ≤ 6 }
     ensures { MatchOption (coefficients_fault size count) (result ≡ Ok tt) (λ e. result ≡ Err e) }
@@ -14,7 +14,7 @@ pub(crate) fn check_coefficients(count: usize, size: usize) -> Result<(), MakeFa
 }
 
 /// Refuses a post shift that is too great.
-pub(crate) fn check_shift(post_shift: u8, greatest: u8) -> Result<(), MakeFault>
+pub fn check_shift(post_shift: u8, greatest: u8) -> Result<(), MakeFault>
     ensures { MatchOption (shift_fault greatest post_shift) (result ≡ Ok tt) (λ e. result ≡ Err e) }
 {
     if post_shift > greatest {

@@ -8,3 +8,4 @@ pub mod NewChain
 pub mod Restored
 pub mod KeptRules
 pub mod KeptRows
+pub mod KeptCounts

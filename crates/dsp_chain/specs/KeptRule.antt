@@ -4,6 +4,8 @@ use Rattle.dsp_stage.specs.Kept.{kept_count}
 use Rattle.dsp_stage.specs.Unit.{UnitState}
 use Rattle.dsp_defs.specs.declared.script.Block.{Block}
 use Rattle.dsp_defs.specs.declared.script.Block.TheVariants.{Decimate, Conv, ConvPartial, Correlate, MatAdd, MatSub, MatScale, MatTrans, MatMult, Max, Min}
+use Rattle.dsp_chain.specs.FrameRule.{live_by}
+use Rattle.dsp_chain.specs.declared.frame_rule.FrameRule.{FrameRule}
 use Rattle.dsp_chain.specs.declared.kept_rule.KeptRule.{KeptRule}
 
 -- more frames than any place may have
@@ -39,6 +41,11 @@ unit_rule u = kept_rule (kept_count u.format u.channels u.block 0) u.channels u.
 
 abbrev pub unit_rules : List UnitState → List KeptRule
 unit_rules us = map unit_rule us
+
+-- the numbers that a row keeps where n frames come to it, each block of the live frames at its place
+abbrev pub counts_by : List FrameRule → List KeptRule → ℕ → ℕ
+counts_by (rule ∷ rules) (kept ∷ kepts) n = count_by kept n + counts_by rules kepts (live_by rule n)
+counts_by rules kepts n = 0
 
 -- each group has a frame
 abbrev pub HaveGroups : List KeptRule → Type 0

@@ -1,7 +1,7 @@
 -- Save and resume of a chain: the numbers that it keeps, which numbers it can keep, and what it is with them.
-use Rattle.std.specs.Prelude.{◌≡◌, ℕ, ◌≤◌, ◌^◌, ℤ, false, List, [], ◌∷◌, ◌++◌, length, flat_map, None}
+use Rattle.std.specs.Prelude.{◌≡◌, ℕ, ◌+◌, ◌≤◌, ◌^◌, ℤ, false, List, [], ◌∷◌, ◌++◌, length, flat_map, None}
 use Rattle.dsp_defs.specs.Block.{Frame, format_after, channels_after}
-use Rattle.dsp_stage.specs.Kept.{FitsAfter, kept_of_chain}
+use Rattle.dsp_stage.specs.Kept.{FitsAfter, kept_count, kept_of_chain}
 use Rattle.dsp_defs.specs.Shape.{live_frames, gathered}
 use Rattle.dsp_stage.specs.Unit.{UnitState, Restores}
 use Rattle.dsp_stage.specs.Row.{blocks_of}
@@ -20,6 +20,12 @@ kept_by us = flat_map (λ (u : UnitState). u.kept) us
 
 abbrev pub kept_of : ChainState → List ℤ
 kept_of c = kept_by c.units
+
+-- how many numbers the blocks keep of n frames, each of the live frames at its place
+abbrev pub kept_count_of_chain : Fmt → ℕ → List Block → ℕ → ℕ
+kept_count_of_chain format channels [] n = 0
+kept_count_of_chain format channels (block ∷ blocks) n =
+    kept_count format channels block n + kept_count_of_chain (format_after format block) (channels_after channels block) blocks (live_frames block n)
 
 -- the numbers are such that the blocks can keep them of n frames, each of the live frames at its place
 abbrev pub FitsBlocks : Fmt → ℕ → List Block → ℕ → List ℤ → Type 0

@@ -1,5 +1,5 @@
 use crate::frame_rule::{FrameRule, gather_fault, gathered, window_fault};
-use crate::keeping::{count_kept, fits_row, keep_row, restore_row};
+use crate::keeping::{count_kept, count_row, fits_row, keep_row, restore_row};
 use crate::kept_rule::KeptRule;
 use crate::row::{Link, count_measures, feed_row, find_measure, finish_row};
 use dsp_defs::{
@@ -72,7 +72,7 @@ impl<U: Stage + Drop> Model for Chain<U> {
 }
 
 impl<U: AnyUnit + Drop> Chain<U> {
-    ghost use Rattle.std.specs.Prelude.{◌≡◌, ◌≤◌, ◌<◌, ◌+◌, ◌^◌, ◌↔◌, IsTrue, IsFalse, IfOk, IfErr, IsErr, None, Some, length, take, slice_get};
+    ghost use Rattle.std.specs.Prelude.{◌≡◌, ◌≤◌, ◌<◌, ◌+◌, ◌^◌, ◌↔◌, List, IsTrue, IsFalse, IfOk, IfErr, IsErr, None, Some, length, take, slice_get};
     ghost use Rattle.std.specs.Option.{option_map};
     ghost use Rattle.dsp_defs.specs.Shape.{gathered, held, window_at, is_legal};
     ghost use Rattle.dsp_defs.specs.Grammar.{IsChain, correlates, input_flow};
@@ -80,9 +80,11 @@ impl<U: AnyUnit + Drop> Chain<U> {
     ghost use Rattle.dsp_defs.specs.declared.fault.WindowFault.{WindowFault};
     ghost use Rattle.dsp_stage.specs.Row.{Passes, place_room, blocks_of, measured_by};
     ghost use Rattle.dsp_stage.specs.Unit.{frames_in};
-    ghost use Rattle.dsp_chain.specs.Restored.{kept_of, FitsChain, RestoresChain};
+    ghost use Rattle.dsp_chain.specs.Restored.{kept_of, kept_count_of_chain, FitsChain, RestoresChain};
     ghost use Rattle.dsp_chain.specs.Row.{measure_counts};
-    ghost use Rattle.dsp_chain.specs.Chain.{ChainState, output_of, IsTooMuch, FeedsChain, FailsChain, FinishesChain, input_place, IsNewChain};
+    ghost use Rattle.dsp_defs.specs.Block.{Frame};
+    ghost use Rattle.dsp_stage.specs.Kept.{kept_of_chain};
+    ghost use Rattle.dsp_chain.specs.Chain.{ChainState, ChainStandsFor, output_of, IsTooMuch, FeedsChain, FailsChain, FinishesChain, input_place, IsNewChain};
     ghost use Rattle.dsp_defs.specs.declared.limits.TheConstants.{MAX_BLOCKS, MAX_CHANNELS, MAX_CORRELATES};
 
     /// The chain of a script, for a legal block length, the most frames of a call. All memory of the
@@ -220,7 +222,9 @@ impl<U: AnyUnit + Drop> Chain<U> {
     /// How many numbers the chain keeps: those of its blocks, one after another, and in a block those of
     /// its channels or measures.
     pub fn kept_count(&self) -> usize
-        ensures { result ≡ length (kept_of self.now) }
+        ensures count { result ≡ length (kept_of self.now) }
+        ensures frames { IsFalse self.now.ended → result ≡ kept_count_of_chain self.now.input.format
+            self.now.input.channels (blocks_of self.now.units) self.now.frames }
     {
         count_kept(&self.links)
     }
@@ -230,9 +234,29 @@ impl<U: AnyUnit + Drop> Chain<U> {
         requires running { IsFalse self.now.ended }
         requires works { self.now.failed ≡ None }
         requires length { length out.old ≡ length (kept_of self.now) }
-        ensures { out.new ≡ kept_of self.now }
+        ensures kept { out.new ≡ kept_of self.now }
+        ensures stands { (x : List Frame) → ChainStandsFor self.now x → out.new ≡ kept_of_chain
+            self.now.input.format self.now.input.channels (blocks_of self.now.units) x }
     {
         keep_row(&self.links, out);
+    }
+
+    /// How many numbers a chain of these blocks keeps of so many frames.
+    pub fn kept_count_of(&self, frames: u64) -> u128
+        requires { frames ≤ 2 ^ 40 }
+        ensures { result ≡ kept_count_of_chain self.now.input.format self.now.input.channels
+            (blocks_of self.now.units) frames }
+    {
+        count_row(&self.rules, &self.kept, frames)
+    }
+
+    /// The samples of a channel that the correlation would gather where so many frames are the whole
+    /// input, or 0 without one.
+    pub fn gathered(&self, frames: u64) -> u64
+        requires { frames ≤ 2 ^ 40 }
+        ensures { result ≡ gathered (blocks_of self.now.units) frames }
+    {
+        gathered(&self.rules, frames)
     }
 
     /// Whether a chain of these blocks can keep these numbers of so many frames: at most 2^40, whose

@@ -1,7 +1,9 @@
-ghost use Rattle.std.specs.Prelude.{◌≡◌, ◌≤◌, ◌*◌, ◌↔◌, IsTrue, length};
+ghost use Rattle.std.specs.Prelude.{◌≡◌, ◌≤◌, ◌*◌, ◌^◌, ◌↔◌, IsTrue, length};
 ghost use Rattle.dsp_defs.specs.declared.limits.TheConstants.{MAX_BLOCKS};
 ghost use Rattle.dsp_stage.specs.Unit.{most_kept};
 ghost use Rattle.dsp_stage.specs.Row.{AllRun};
+ghost use Rattle.dsp_chain.specs.FrameRule.{AreFew};
+ghost use Rattle.dsp_chain.specs.KeptRule.{HaveGroups, counts_by};
 ghost use Rattle.dsp_chain.specs.Restored.{kept_by, FitsUnits, AllRestores, HasRules};
 
 use crate::frame_rule::FrameRule;
@@ -19,6 +21,23 @@ pub fn count_kept<S: Stage + Drop>(links: &[Link<S>]) -> usize
         return 0;
     };
     link.stage.kept_count() + count_kept(behind)
+}
+
+/// How many numbers the units of a row keep of so many frames that come to it.
+pub fn count_row(rules: &[FrameRule], kept: &[KeptRule], frames: u64) -> u128
+    requires rules { AreFew rules.now frames }
+    requires groups { HaveGroups kept.now }
+    requires few { length kept.now ≤ MAX_BLOCKS }
+    ensures count { result ≡ counts_by rules.now kept.now frames }
+    ensures few { result ≤ 2 ^ 73 * length kept.now }
+{
+    let (Some((rule, rules_behind)), Some((kept_here, kept_behind))) = (
+        rules.split_first(),
+        kept.split_first(),
+    ) else {
+        return 0;
+    };
+    kept_here.count(frames) + count_row(rules_behind, kept_behind, rule.live(frames))
 }
 
 /// Writes the numbers that the units of a row keep, one after another.

@@ -1,4 +1,4 @@
-ghost use Rattle.std.specs.Prelude.{◌≡◌, ◌<◌};
+ghost use Rattle.std.specs.Prelude.{◌≡◌, ◌<◌, ◌≤◌, ◌^◌};
 ghost use Rattle.dsp_chain.specs.KeptRule.{kept_rule, count_by, place_by};
 
 use dsp_defs::Block;
@@ -13,7 +13,7 @@ pub struct KeptRule {
     /// The numbers of a new unit.
     fixed: u64,
     /// And for each frame of the open group.
-    each: u64,
+    each: u8,
     /// The frames of a group; a block without groups has an endless one.
     period: u64,
     /// The most frames of a group that can be told from more.
@@ -25,7 +25,6 @@ impl KeptRule {
     pub fn of_block(block: &Block, channels: u8, fixed: u64) -> KeptRule
         ensures { result ≡ kept_rule fixed channels block.now }
     {
-        let channels = u64::from(channels);
         let (each, period, limit) = match block {
             Block::Decimate { factor, .. } => (0, u64::from(*factor), ENDLESS),
             Block::Conv { .. } => (0, ENDLESS, 1),
@@ -54,7 +53,8 @@ impl KeptRule {
     /// How many numbers a unit keeps of so many frames.
     pub fn count(self, frames: u64) -> u128
         requires { 0 < self.period }
-        ensures { result ≡ count_by self frames }
+        ensures count { result ≡ count_by self frames }
+        ensures few { result ≤ 2 ^ 73 }
     {
         u128::from(self.fixed) + u128::from(self.each) * u128::from(frames % self.period)
     }

@@ -1,13 +1,16 @@
 -- The clauses of the top call, from how it ended.
-use Rattle.std.proofs.Common.{◌≡◌, ◌⊎◌, ℕ, ◌+◌, ◌<◌, List, length, refl, sym, ap, ◌∙◌, subst, arith, inl, inr, Some, IsSome, IfSome, IsTrue, IsFalse, Bool, true, false, Result, Ok, Err, IfOk, IfErr}
+use Rattle.std.proofs.Common.{◌≡◌, ◌⊎◌, ℕ, ◌+◌, ◌<◌, List, length, refl, sym, ap, ◌∙◌, subst, arith, inl, inr, Option, None, Some, IsSome, IfSome, IsTrue, IsFalse, Bool, true, false, Result, Ok, Err, IfOk, IfErr}
 use Rattle.std.specs.Io.KnownBytes.{append_known}
 use Rattle.dsp_ports.specs.Ports.{SourceState, SinkState, Rose, IsSettled}
 use Rattle.dsp_defs.specs.Generator.{generated_bytes}
 use Rattle.dsp_defs.specs.Output.{input_header, input_signal, output}
+use Rattle.dsp_defs.specs.Grammar.{Reads}
 use Rattle.dsp_defs.specs.Reading.{first_fault}
 use Rattle.dsp_defs.specs.Report.{report_text}
 use Rattle.dsp_defs.specs.Words.{command_of}
-use Rattle.dsp_defs.specs.declared.command.Command.TheVariants.{Gen}
+use Rattle.dsp_defs.specs.declared.au.Direction.{Direction}
+use Rattle.dsp_defs.specs.declared.command.Command.{Command}
+use Rattle.dsp_defs.specs.declared.command.Command.TheVariants.{Gen, Print, Convert}
 use Rattle.dsp_defs.specs.declared.measure.Measure.{Measure}
 use Rattle.dsp_defs.specs.declared.script.Script.{Script}
 use Rattle.dsp_session.specs.Session.{IsReady, cost_of, measures_of}
@@ -15,22 +18,26 @@ use Rattle.dsp_session.specs.Stream.{Stopped as StreamStopped}
 use Rattle.dsp_session.specs.declared.fault.StreamFault.{StreamFault}
 use Rattle.dsp_session.specs.declared.fault.StreamFault.TheVariants.{Header, Input, Output, Lengths}
 use Rattle.dsp_session.proofs.OpeningLaws.{some_frame}
-use Rattle.dsp_cli.specs.Call.{Call, Untouched, Ending, Went, Printed, Stopped, Streams, Refuses, Happened, Reported, Ended}
+use Rattle.dsp_cli.specs.Call.{Call, Untouched, HasDone, Spares, Ending, Went, Printed, Turned, Stopped, Streams, Refuses, Happened, Reported, Ended, text_of}
 use Rattle.dsp_cli.specs.Causes.{EndsEarly, Causes, NoneFailed, Completes}
-use Rattle.dsp_cli.specs.Fault.{status_of}
-use Rattle.dsp_cli.specs.Perform.{Performed, HasStatus}
-use Rattle.dsp_cli.specs.Run.{IsStream, IsGen, IsPrint, IsDone, IsRefused, IsAnswer, IsFree, IfWhole, IsReading, Wrote, Tells, ReportsText, read_from}
-use Rattle.dsp_cli.specs.Script.{IfScript, chosen_block, is_legal_for}
+use Rattle.dsp_cli.specs.Fault.{status_of, summary_text}
+use Rattle.dsp_cli.specs.Perform.{IsWhole, Made, Performed, HasStatus}
+use Rattle.dsp_cli.specs.Run.{HasText, HasBlocks, HasOutput, IsStream, IsGen, IsPrint, IsDone, IsRefusal, IsRefused, IsAnswer, IsFree, IfWhole, IsReading, Wrote, Tells, ReportsText, read_from}
+use Rattle.dsp_cli.specs.Script.{ReadsText, IfScript, chosen_block, is_legal_for}
 use Rattle.dsp_cli.specs.declared.fault.Fault.{Fault}
-use Rattle.dsp_cli.specs.declared.fault.Fault.TheVariants.{Usage, ScriptRead, Script as BadText, BlockLength, Memory, Stream}
+use Rattle.dsp_cli.specs.declared.fault.Fault.TheVariants.{Usage, ScriptRead, Script as BadText, BlockLength, Memory, Stream, Conversion}
+use Rattle.dsp_defs.specs.Au.{target}
+use Rattle.dsp_au.specs.Convert.{IsPortFault, CountsFault, IsFree as IsConvertible}
+use Rattle.dsp_au.specs.declared.fault.ConvertFault.{ConvertFault}
+use Rattle.dsp_au.specs.declared.fault.ConvertFault.TheVariants as convert_fault
 use Rattle.dsp_cli.specs.declared.top.Outcome.{Outcome}
 use Rattle.dsp_cli.specs.declared.top.Outcome.TheVariants as outcome
 use Rattle.dsp_cli.proofs.GeneratedLaws.{generated_frames}
 use Rattle.dsp_cli.proofs.InputLaws.{frame_in, signal_stays, output_stays}
 use Rattle.dsp_cli.proofs.ReportLaws.{rose, tells-all}
-use Rattle.dsp_cli.proofs.StatusLaws.{command_not_none, stream_some, stream_or_print, reports_done, fault_not_done, refused_not_done, stream_not_refused, any_answers, stream_answers}
+use Rattle.dsp_cli.proofs.StatusLaws.{command_not_none, of_stream, text_some, blocks_text, stream_text, stream_output, conversion_status, length_answers, stream_some, stream_or_print, reports_done, fault_not_done, refused_not_done, stream_refused, stream_not_refused, any_answers, stream_answers}
 use Rattle.dsp_cli.proofs.StopLaws.{gen_reads, gen_faulty, stop_blocks}
-use Rattle.dsp_cli.proofs.Told.{IfSome-always, IfSome-each, told_split, told_script, told_sound, told_faulty}
+use Rattle.dsp_cli.proofs.Told.{IfSome-always, IfSome-each, IfSome-map, told_whole, told_split, told_script, told_sound, told_faulty}
 use Rattle.dsp_cli.proofs.WordLaws.{gen_makes_few}
 
 legal_not : {test : Bool} → IsTrue test → IsFalse test → ⊥
@@ -46,61 +53,74 @@ ready_of c script Did streams = record { sound = (streams.read.text, streams.rea
 module _ (c : Call) (status : ℕ) (report told : SinkState) where
   -- ---- how it ended
 
-  pub ended : (result : Result Outcome Fault) → IfOk result (λ done. Performed done c) → IfErr result (λ fault. Happened (Stopped fault) c) → HasStatus result status report told → Ended c status report told
-  ended (Ok (outcome.Ran summary)) whole none has =
+  reported_by : (ending : Ending) → IsWhole ending → ReportsText (text_of ending) status report told → Reported ending status report told
+  reported_by (Stopped fault) whole has = absurd whole
+  reported_by ending whole has = has
+
+  made_ended : (text : List ℕ) → Made text c → ReportsText text status report told → Ended c status report told
+  made_ended text made has =
       record {
-        ending = Went whole.script summary.totals.frames_taken summary.measures.items;
-        happened = whole.went;
-        reported = subst (λ text. ReportsText text status report told) whole.text has;
+        ending = made.ending;
+        happened = made.happened;
+        reported = reported_by made.ending made.whole (subst (λ text. ReportsText text status report told) made.text_is has);
       }
-  ended (Ok (outcome.Printed text)) made none has =
-      record { ending = Printed made.script; happened = made.printed; reported = subst (λ text. ReportsText text status report told) made.canonical has }
+
+  pub ended : (result : Result Outcome Fault) → IfOk result (λ done. Performed done c) → IfErr result (λ fault. Happened (Stopped fault) c) → HasStatus result status report told → Ended c status report told
+  ended (Ok (outcome.Ran summary)) made none has = made_ended (summary_text summary) made has
+  ended (Ok (outcome.Printed text)) made none has = made_ended text.items made has
+  ended (Ok (outcome.Noted text)) made none has = made_ended text.items made has
   ended (Err fault) none happened has = record { ending = Stopped fault; happened = happened; reported = has }
 
   -- a stream stopped, or none was begun
   abbrev StreamStops : StreamFault → Script → Type 0
   StreamStops fault script = Streams script (λ block input now. StreamStopped script block fault input now c.sink c.after c.before c.counts) c
 
-  abbrev Stops : Fault → Type 0
-  Stops fault =
-      (Refuses fault c × Untouched c.port c.later c.sink c.after c.before c.counts) ⊎ ((stop : StreamFault) × (fault ≡ Stream stop) × (script : Script) × StreamStops stop script)
-
-  stops_of : (fault : Fault) → Happened (Stopped fault) c → Stops fault
-  stops_of Usage happened = inl happened
-  stops_of ScriptRead happened = inl happened
-  stops_of (BadText fault) happened = inl happened
-  stops_of (BlockLength block divisor) happened = inl happened
-  stops_of Memory happened = inl happened
-  stops_of (Stream fault) (script, streams) = inr (fault, refl, script, streams)
-
   -- ---- what is left alone
 
-  settled_by : (ending : Ending) → Happened ending c → Reported ending status report told → IsStream c.words → IsDone status → IsSettled c.after
-  settled_by (Went script frames found) went reported stream done = went.did.settled
-  settled_by (Printed script) printed reported stream done = absurd (stream_or_print c.words stream printed.0)
-  settled_by (Stopped fault) happened reported stream done = absurd (fault_not_done fault (subst IsDone reported.0 done))
+  settled_by : (ending : Ending) → Happened ending c → Reported ending status report told → HasOutput (command_of c.words) → IsDone status → IsSettled c.after
+  settled_by (Went script frames found) went reported output done = went.did.settled
+  settled_by (Printed script) printed reported output done = absurd (subst HasOutput printed.0 output)
+  settled_by (Turned totals) turned reported output done = turned.did.settled
+  settled_by (Stopped fault) happened reported output done = absurd (fault_not_done fault (subst IsDone reported.0 done))
 
-  untouched_by : (ending : Ending) → Happened ending c → Reported ending status report told → IsRefused status ⊎ IsPrint c.words → Untouched c.port c.later c.sink c.after c.before c.counts
-  untouched_by (Went script frames found) went reported (inl refused) = absurd (refused_not_done status refused (reports_done reported))
-  untouched_by (Went script frames found) went reported (inr print) = absurd (stream_or_print c.words went.stream print)
-  untouched_by (Printed script) printed reported which = printed.2
-  untouched_by (Stopped fault) happened reported which =
-      elim (stops_of fault happened) [
-        | inl refusal ↦ refusal.1
-        | inr stop ↦ absurd (elim which [
-          | inl refused ↦ stream_not_refused stop.0 (subst (λ fault. IsRefused (status_of fault)) stop.1 (subst IsRefused reported.0 refused))
-          | inr print ↦ stream_or_print c.words stop.3.stream print
-        ])
-      ]
+  untouched_by : (ending : Ending) → Happened ending c → Reported ending status report told → IsRefused (command_of c.words) status → Untouched c
+  untouched_by (Went script frames found) went reported refused = absurd (refused_not_done status (stream_refused c.words status went.stream refused) (reports_done reported))
+  untouched_by (Printed script) printed reported refused = printed.2
+  untouched_by (Turned totals) turned reported refused =
+      let refusal : IsRefusal status = subst (λ command. IsRefused command status) turned.asked refused in
+      absurd (refused_not_done status refusal (reports_done reported))
+  untouched_by (Stopped (Stream fault)) (script, stop) reported refused =
+      absurd (stream_not_refused fault (subst IsRefusal reported.0 (stream_refused c.words status stop.stream refused)))
+  untouched_by (Stopped (Conversion fault)) stop reported refused =
+      let refusal : IsRefusal status = subst (λ command. IsRefused command status) stop.asked refused in
+      absurd (omega (arith, reported.0, conversion_status fault, refusal))
+  untouched_by (Stopped fault) happened reported refused = happened.1
 
   gen_leaves : IsGen c.words → (now : SourceState) → IsReading (command_of c.words) c.port c.later now → c.later ≡ c.port
   gen_leaves (seed, frames, is) now reading = (subst (λ command. IsReading command c.port c.later now) is reading).0
 
-  input_same_by : (ending : Ending) → Happened ending c → IsGen c.words → c.later ≡ c.port
-  input_same_by (Went script frames found) went gen = gen_leaves gen went.now went.reading
-  input_same_by (Printed script) printed gen = printed.2.input_same
-  input_same_by (Stopped fault) happened gen =
-      elim (stops_of fault happened) [ inl refusal ↦ refusal.1.input_same | inr stop ↦ gen_leaves gen stop.3.now stop.3.reading ]
+  text_spares : (command : Option Command) → HasText command → Untouched c → Spares command c
+  text_spares None text untouched = absurd text
+  text_spares (Some (Gen seed frames)) text untouched = (untouched.input_same, untouched.other_same)
+  text_spares (Some (Convert direction)) text untouched = absurd text
+  text_spares command text untouched = untouched.other_same
+
+  stream_spares : {script : Script} {Did : ℕ → SourceState → SourceState → Type 0} → Streams script Did c → Spares (command_of c.words) c
+  stream_spares streams =
+      of_stream c.words (λ command. Spares command c) streams.stream
+      (λ named banked is. streams.other_same) (λ seed frames is. (gen_leaves (seed, frames, is) streams.now streams.reading, streams.other_same))
+
+  spared_by : (ending : Ending) → Happened ending c → Spares (command_of c.words) c
+  spared_by (Went script frames found) went = stream_spares went
+  spared_by (Printed script) printed = subst (λ command. Spares command c) (sym printed.0) printed.2.other_same
+  spared_by (Turned totals) turned = subst (λ command. Spares command c) (sym turned.asked) turned.spared
+  spared_by (Stopped (Stream fault)) (script, stop) = stream_spares stop
+  spared_by (Stopped (Conversion fault)) stop = subst (λ command. Spares command c) (sym stop.asked) stop.spared
+  spared_by (Stopped Usage) happened = subst (λ command. Spares command c) (sym happened.0.0) happened.1.other_same
+  spared_by (Stopped ScriptRead) happened = text_spares (command_of c.words) happened.0.0 happened.1
+  spared_by (Stopped (BadText fault)) happened = text_spares (command_of c.words) happened.0.0 happened.1
+  spared_by (Stopped (BlockLength block divisor)) happened = text_spares (command_of c.words) (blocks_text (command_of c.words) happened.0.0) happened.1
+  spared_by (Stopped Memory) happened = text_spares (command_of c.words) happened.0 happened.1
 
   -- ---- what was done
 
@@ -136,10 +156,20 @@ module _ (c : Call) (status : ℕ) (report told : SinkState) where
   report_tells text (inl way) = tells-all report told text way.2
   report_tells text (inr way) = way.2
 
-  done_by : (ending : Ending) → Happened ending c → Reported ending status report told → IsStream c.words → IsDone status → IfWhole (command_of c.words) c.source.left c.port (λ s bytes. Wrote (output s bytes) c.sink c.after)
-  done_by (Went script frames found) went reported stream done = went_writes script frames found went
-  done_by (Printed script) printed reported stream done = absurd (stream_or_print c.words stream printed.0)
-  done_by (Stopped fault) happened reported stream done = absurd (fault_not_done fault (subst IsDone reported.0 done))
+  abbrev Writes : Option Command → Type 0
+  Writes command = IfWhole command c.source.left c.port (λ s bytes. Wrote (output s bytes) c.sink c.after)
+
+  done_by : (ending : Ending) → Happened ending c → Reported ending status report told → IsDone status → HasDone (command_of c.words) c
+  done_by (Went script frames found) went reported done =
+      of_stream c.words (λ command. HasDone command c) went.stream
+      (λ named banked is. subst Writes is (went_writes script frames found went)) (λ seed count is. subst Writes is (went_writes script frames found went))
+  done_by (Printed script) printed reported done = subst (λ command. HasDone command c) (sym printed.0) tt
+  done_by (Turned totals) turned reported done =
+      let did = turned.did in
+      let put : (bytes : List ℕ) → target turned.direction bytes ≡ target turned.direction did.given → Wrote (target turned.direction bytes) c.sink c.after =
+      λ bytes same. did.put ∙ ap (append_known c.sink.put) (sym same) in
+      subst (λ command. HasDone command c) (sym turned.asked) (IfSome-map c.port.left _ (λ bytes. Wrote (target turned.direction bytes) c.sink c.after) put did.told)
+  done_by (Stopped fault) happened reported done = absurd (fault_not_done fault (subst IsDone reported.0 done))
 
   abbrev GenCounted : ℕ → ℕ → Type 0
   GenCounted seed frames = IfScript c.source.left (λ s.
@@ -148,6 +178,7 @@ module _ (c : Call) (status : ℕ) (report told : SinkState) where
   counted_by : (ending : Ending) → Happened ending c → Reported ending status report told → (seed frames : ℕ) → command_of c.words ≡ Some (Gen seed frames) → IsDone status → GenCounted seed frames
   counted_by (Went script count found) went reported seed frames is done = went_counts script count found went seed frames is (report_tells (report_text script count found) reported)
   counted_by (Printed script) printed reported seed frames is done = absurd (stream_or_print c.words (inr (seed, frames, is)) printed.0)
+  counted_by (Turned totals) turned reported seed frames is done = absurd (subst HasText (sym is ∙ turned.asked) tt)
   counted_by (Stopped fault) happened reported seed frames is done = absurd (fault_not_done fault (subst IsDone reported.0 done))
 
   -- ---- which statuses come
@@ -160,8 +191,9 @@ module _ (c : Call) (status : ℕ) (report told : SinkState) where
   stop_answers Usage happened = subst (λ command. IsAnswer command 1) (sym happened.0.0) refl
   stop_answers ScriptRead happened = any_answers (command_of c.words) 6 happened.0.0 (inr (inl refl))
   stop_answers (BadText fault) happened = any_answers (command_of c.words) 2 happened.0.0 (inl refl)
-  stop_answers (BlockLength block divisor) happened = stream_answers c.words 3 happened.0.0 (omega arith) (λ e. omega (arith, e)) (λ _. (λ e. omega (arith, e), λ e. omega (arith, e)))
+  stop_answers (BlockLength block divisor) happened = length_answers (command_of c.words) happened.0.0
   stop_answers Memory happened = any_answers (command_of c.words) 10 happened.0 (inr (inr refl))
+  stop_answers (Conversion fault) stop = subst (λ command. IsAnswer command (status_of (Conversion fault))) (sym stop.asked) (inr (conversion_status fault))
   stop_answers (Stream (Header fault offset)) (script, stop) =
       stream_answers c.words 4 stop.stream (omega arith) (λ e. omega (arith, e))
       (λ gen. absurd (gen_faulty c script stop.read.holds.fit.channels gen stop.now stop.did.given (fault, offset) stop.did.gave stop.did.cause))
@@ -173,6 +205,7 @@ module _ (c : Call) (status : ℕ) (report told : SinkState) where
   answer_by : (ending : Ending) → Happened ending c → Reported ending status report told → IsAnswer (command_of c.words) status
   answer_by (Went script frames found) went reported = done_answers went.stream (reports_done reported)
   answer_by (Printed script) printed reported = subst (λ command. IsAnswer command status) (sym printed.0) (inl (reports_done reported))
+  answer_by (Turned totals) turned reported = subst (λ command. IsAnswer command status) (sym turned.asked) (inl (reports_done reported))
   answer_by (Stopped fault) happened reported = subst (IsAnswer (command_of c.words)) (sym reported.0) (stop_answers fault happened)
 
   -- ---- where they must come
@@ -180,21 +213,23 @@ module _ (c : Call) (status : ℕ) (report told : SinkState) where
   abbrev Faulty : Type 0
   Faulty = IfSome c.source.left (λ text. IsSome (first_fault text) → EndsEarly 2 status)
 
-  refused_faulty : (fault : Fault) → Refuses fault c → status ≡ status_of fault → IsSome (command_of c.words) → Faulty
-  refused_faulty Usage refuses is some = absurd (command_not_none c.words some refuses.0)
-  refused_faulty ScriptRead refuses is some = IfSome-always c.source.left _ (λ _ _. inr (inl is))
-  refused_faulty (BadText fault) refuses is some = IfSome-always c.source.left _ (λ _ _. inl is)
-  refused_faulty (BlockLength block divisor) refuses is some =
+  refused_faulty : (fault : Fault) → Refuses fault c → status ≡ status_of fault → HasText (command_of c.words) → Faulty
+  refused_faulty Usage refuses is text = absurd (subst HasText refuses.0 text)
+  refused_faulty ScriptRead refuses is text = IfSome-always c.source.left _ (λ _ _. inr (inl is))
+  refused_faulty (BadText fault) refuses is text = IfSome-always c.source.left _ (λ _ _. inl is)
+  refused_faulty (BlockLength block divisor) refuses is text =
       let read = refuses.1 in
       told_sound c.source c.read read.holds.0 (EndsEarly 2 status) (record { text = read.text; read = read.read; holds = read.holds.1 })
-  refused_faulty Memory refuses is some = IfSome-always c.source.left _ (λ _ _. inr (inr is))
-  refused_faulty (Stream fault) refuses is some = absurd refuses
+  refused_faulty Memory refuses is text = IfSome-always c.source.left _ (λ _ _. inr (inr is))
+  refused_faulty fault refuses is text = absurd refuses
 
-  faulty_by : (ending : Ending) → Happened ending c → Reported ending status report told → IsSome (command_of c.words) → Faulty
-  faulty_by (Went script frames found) went reported some = told_sound c.source c.read script (EndsEarly 2 status) went.read
-  faulty_by (Printed script) printed reported some = told_sound c.source c.read script (EndsEarly 2 status) printed.1
-  faulty_by (Stopped fault) happened reported some =
-      elim (stops_of fault happened) [ inl refusal ↦ refused_faulty fault refusal.0 reported.0 some | inr stop ↦ told_sound c.source c.read stop.2 (EndsEarly 2 status) stop.3.read ]
+  faulty_by : (ending : Ending) → Happened ending c → Reported ending status report told → HasText (command_of c.words) → Faulty
+  faulty_by (Went script frames found) went reported text = told_sound c.source c.read script (EndsEarly 2 status) went.read
+  faulty_by (Printed script) printed reported text = told_sound c.source c.read script (EndsEarly 2 status) printed.1
+  faulty_by (Turned totals) turned reported text = absurd (subst HasText turned.asked text)
+  faulty_by (Stopped (Stream fault)) (script, stop) reported text = told_sound c.source c.read script (EndsEarly 2 status) stop.read
+  faulty_by (Stopped (Conversion fault)) stop reported text = absurd (subst HasText stop.asked text)
+  faulty_by (Stopped fault) happened reported text = refused_faulty fault happened.0 reported.0 text
 
   abbrev IllegalEnds : Script → Type 0
   IllegalEnds s = IsFalse (is_legal_for s (chosen_block c.words s)) → EndsEarly 3 status
@@ -202,22 +237,24 @@ module _ (c : Call) (status : ℕ) (report told : SinkState) where
   script_always : (P : Script → Type 0) → ((s : Script) → P s) → IfScript c.source.left P
   script_always P always = IfSome-always c.source.left _ (λ _ s _. always s)
 
-  refused_illegal : (fault : Fault) → Refuses fault c → status ≡ status_of fault → IsStream c.words → IfScript c.source.left IllegalEnds
-  refused_illegal Usage refuses is stream = absurd (command_not_none c.words (stream_some c.words stream) refuses.0)
-  refused_illegal ScriptRead refuses is stream = script_always IllegalEnds (λ _ _. inr (inl is))
-  refused_illegal (BadText fault) refuses is stream = told_faulty c.source c.read fault IllegalEnds refuses.1
-  refused_illegal (BlockLength block divisor) refuses is stream = script_always IllegalEnds (λ _ _. inl is)
-  refused_illegal Memory refuses is stream = script_always IllegalEnds (λ _ _. inr (inr is))
-  refused_illegal (Stream fault) refuses is stream = absurd refuses
+  refused_illegal : (fault : Fault) → Refuses fault c → status ≡ status_of fault → HasBlocks (command_of c.words) → IfScript c.source.left IllegalEnds
+  refused_illegal Usage refuses is blocks = absurd (subst HasBlocks refuses.0 blocks)
+  refused_illegal ScriptRead refuses is blocks = script_always IllegalEnds (λ _ _. inr (inl is))
+  refused_illegal (BadText fault) refuses is blocks = told_faulty c.source c.read fault IllegalEnds refuses.1
+  refused_illegal (BlockLength block divisor) refuses is blocks = script_always IllegalEnds (λ _ _. inl is)
+  refused_illegal Memory refuses is blocks = script_always IllegalEnds (λ _ _. inr (inr is))
+  refused_illegal fault refuses is blocks = absurd refuses
 
-  illegal_by : (ending : Ending) → Happened ending c → Reported ending status report told → IsStream c.words → IfScript c.source.left IllegalEnds
-  illegal_by (Went script frames found) went reported stream = told_script c.source c.read script IllegalEnds went.read (λ illegal. absurd (legal_not went.legal illegal))
-  illegal_by (Printed script) printed reported stream = absurd (stream_or_print c.words stream printed.0)
-  illegal_by (Stopped fault) happened reported stream =
-      elim (stops_of fault happened) [
-        | inl refusal ↦ refused_illegal fault refusal.0 reported.0 stream
-        | inr stop ↦ told_script c.source c.read stop.2 IllegalEnds stop.3.read (λ illegal. absurd (legal_not stop.3.legal illegal))
-      ]
+  legal_ends : (script : Script) → ReadsText c.source c.read (λ text. Reads text script) → IsTrue (is_legal_for script (chosen_block c.words script)) → IfScript c.source.left IllegalEnds
+  legal_ends script read legal = told_script c.source c.read script IllegalEnds read (λ illegal. absurd (legal_not legal illegal))
+
+  illegal_by : (ending : Ending) → Happened ending c → Reported ending status report told → HasBlocks (command_of c.words) → IfScript c.source.left IllegalEnds
+  illegal_by (Went script frames found) went reported blocks = legal_ends script went.read went.legal
+  illegal_by (Printed script) printed reported blocks = absurd (subst HasBlocks printed.0 blocks)
+  illegal_by (Turned totals) turned reported blocks = absurd (subst HasBlocks turned.asked blocks)
+  illegal_by (Stopped (Stream fault)) (script, stop) reported blocks = legal_ends script stop.read stop.legal
+  illegal_by (Stopped (Conversion fault)) stop reported blocks = absurd (subst HasBlocks stop.asked blocks)
+  illegal_by (Stopped fault) happened reported blocks = refused_illegal fault happened.0 reported.0 blocks
 
   -- ---- what must not come
 
@@ -247,20 +284,18 @@ module _ (c : Call) (status : ℕ) (report told : SinkState) where
       told_script c.source c.read script RunsOver (record { text = read.text; read = read.read; holds = reads })
       (IfSome-always (read_from (command_of c.words) script.input c.port).left (Runs script) (λ _ free _. absurd (legal_not free.legal (subst (λ n. IsFalse (is_legal_for script n)) block_is illegal))))
   refused_runs Memory refuses is stream = runs_always (λ _ _ _ _. inr is)
-  refused_runs (Stream fault) refuses is stream = absurd refuses
+  refused_runs fault refuses is stream = absurd refuses
 
   runs_by : (ending : Ending) → Happened ending c → Reported ending status report told → IsStream c.words → IfScript c.source.left RunsOver
   runs_by (Went script frames found) went reported stream = reported_runs (report_text script frames found) reported
   runs_by (Printed script) printed reported stream = absurd (stream_or_print c.words stream printed.0)
-  runs_by (Stopped fault) happened reported stream =
-      elim (stops_of fault happened) [
-        | inl refusal ↦ refused_runs fault refusal.0 reported.0 stream
-        | inr stop ↦
-            let streams = stop.3 in
-            told_script c.source c.read stop.2 RunsOver streams.read
-            (IfSome-each (read_from (command_of c.words) stop.2.input c.port).left (Runs stop.2) (λ bytes is_told free none.
-            absurd (stop_blocks c stop.2 streams.read.holds.fit.channels report told stream (ready_of c stop.2 _ streams) streams.now streams.reading bytes is_told free none stop.0 streams.did)))
-      ]
+  runs_by (Turned totals) turned reported stream = absurd (subst HasText turned.asked (stream_text c.words stream))
+  runs_by (Stopped (Stream fault)) (script, streams) reported stream =
+      told_script c.source c.read script RunsOver streams.read
+      (IfSome-each (read_from (command_of c.words) script.input c.port).left (Runs script) (λ bytes is_told free none.
+      absurd (stop_blocks c script streams.read.holds.fit.channels report told stream (ready_of c script _ streams) streams.now streams.reading bytes is_told free none fault streams.did)))
+  runs_by (Stopped (Conversion fault)) stop reported stream = absurd (subst HasText stop.asked (stream_text c.words stream))
+  runs_by (Stopped fault) happened reported stream = refused_runs fault happened.0 reported.0 stream
 
   abbrev Prints : Type 0
   Prints = (Rose c.source.faults c.read.faults → ⊥) → (Rose report.faults told.faults → ⊥) → Done0
@@ -273,29 +308,62 @@ module _ (c : Call) (status : ℕ) (report told : SinkState) where
   refused_prints Usage refuses is print = absurd (command_not_none c.words (print_some c.words print) refuses.0)
   refused_prints ScriptRead refuses is print = script_always (λ _. Prints) (λ _ kept _. absurd (kept (rose _ _ refuses.1)))
   refused_prints (BadText fault) refuses is print = told_faulty c.source c.read fault (λ _. Prints) refuses.1
-  refused_prints (BlockLength block divisor) refuses is print = absurd (stream_or_print c.words refuses.0 print)
+  refused_prints (BlockLength block divisor) refuses is print = absurd (subst HasBlocks print refuses.0)
   refused_prints Memory refuses is print = script_always (λ _. Prints) (λ _ _ _. inr is)
-  refused_prints (Stream fault) refuses is print = absurd refuses
+  refused_prints fault refuses is print = absurd refuses
 
   prints_by : (ending : Ending) → Happened ending c → Reported ending status report told → IsPrint c.words → IfScript c.source.left (λ _. Prints)
   prints_by (Went script frames found) went reported print = absurd (stream_or_print c.words went.stream print)
   prints_by (Printed script) printed reported print = script_always (λ _. Prints) (λ _. reported_prints _ reported)
-  prints_by (Stopped fault) happened reported print =
-      elim (stops_of fault happened) [ inl refusal ↦ refused_prints fault refusal.0 reported.0 print | inr stop ↦ absurd (stream_or_print c.words stop.3.stream print) ]
+  prints_by (Turned totals) turned reported print = absurd (subst HasText (sym print ∙ turned.asked) tt)
+  prints_by (Stopped (Stream fault)) (script, stop) reported print = absurd (stream_or_print c.words stop.stream print)
+  prints_by (Stopped (Conversion fault)) stop reported print = absurd (subst HasText (sym print ∙ stop.asked) tt)
+  prints_by (Stopped fault) happened reported print = refused_prints fault happened.0 reported.0 print
+
+  -- a conversion
+  abbrev Turns : Direction → Type 0
+  Turns direction = IfSome c.port.left (λ bytes. IsConvertible direction bytes → NoneFailed c report told → status ≡ 0)
+
+  conversion_kept : (fault : ConvertFault) → IsPortFault fault → CountsFault fault c.port c.later c.sink c.after → NoneFailed c report told → ⊥
+  conversion_kept convert_fault.Read fails faults none = none.input_kept (rose _ _ faults.0)
+  conversion_kept convert_fault.Write fails faults none = none.output_kept (rose _ _ faults.1)
+  conversion_kept fault fails faults none = fails
+
+  reported_turns : (text : List ℕ) → ReportsText text status report told → NoneFailed c report told → status ≡ 0
+  reported_turns text (inl way) none = way.0
+  reported_turns text (inr way) none = absurd (none.report_kept (rose _ _ way.1))
+
+  no_text : (direction : Direction) → command_of c.words ≡ Some (Convert direction) → HasText (command_of c.words) → ⊥
+  no_text direction is text = subst HasText is text
+
+  turns_by : (ending : Ending) → Happened ending c → Reported ending status report told → (direction : Direction) → command_of c.words ≡ Some (Convert direction) → Turns direction
+  turns_by (Went script frames found) went reported direction is = absurd (no_text direction is (stream_text c.words went.stream))
+  turns_by (Printed script) printed reported direction is = absurd (subst HasText (sym printed.0 ∙ is) tt)
+  turns_by (Turned totals) turned reported direction is = IfSome-always c.port.left _ (λ bytes free none. reported_turns _ reported none)
+  turns_by (Stopped (Stream fault)) (script, stop) reported direction is = absurd (no_text direction is (stream_text c.words stop.stream))
+  turns_by (Stopped (Conversion fault)) stop reported direction is =
+      let same : stop.direction ≡ direction = (let found : Some (Convert stop.direction) ≡ Some (Convert direction) = sym stop.asked ∙ is in cc) in
+      IfSome-map c.port.left _ _
+      (λ bytes hinders free none. absurd (conversion_kept fault (hinders (subst (λ d. IsConvertible d bytes) (sym same) free)) stop.did.faults none)) stop.did.hinders
+  turns_by (Stopped Usage) happened reported direction is = absurd (let found : None ≡ Some (Convert direction) = sym happened.0.0 ∙ is in cc)
+  turns_by (Stopped ScriptRead) happened reported direction is = absurd (no_text direction is happened.0.0)
+  turns_by (Stopped (BadText fault)) happened reported direction is = absurd (no_text direction is happened.0.0)
+  turns_by (Stopped (BlockLength block divisor)) happened reported direction is = absurd (no_text direction is (blocks_text (command_of c.words) happened.0.0))
+  turns_by (Stopped Memory) happened reported direction is = absurd (no_text direction is happened.0)
 
   -- ---- the clauses
 
   module _ (end : Ended c status report told) where
-    pub settled : IsStream c.words → IsDone status → IsSettled c.after
+    pub settled : HasOutput (command_of c.words) → IsDone status → IsSettled c.after
     settled = settled_by end.ending end.happened end.reported
 
-    pub untouched : IsRefused status ⊎ IsPrint c.words → Untouched c.port c.later c.sink c.after c.before c.counts
+    pub untouched : IsRefused (command_of c.words) status → Untouched c
     untouched = untouched_by end.ending end.happened end.reported
 
-    pub input_same : IsGen c.words → c.later ≡ c.port
-    input_same = input_same_by end.ending end.happened
+    pub spared : Spares (command_of c.words) c
+    spared = spared_by end.ending end.happened
 
-    pub done : IsStream c.words → IsDone status → IfWhole (command_of c.words) c.source.left c.port (λ s bytes. Wrote (output s bytes) c.sink c.after)
+    pub done : IsDone status → HasDone (command_of c.words) c
     done = done_by end.ending end.happened end.reported
 
     pub counted : (seed frames : ℕ) → command_of c.words ≡ Some (Gen seed frames) → IsDone status → GenCounted seed frames
@@ -309,4 +377,8 @@ module _ (c : Call) (status : ℕ) (report told : SinkState) where
     }
 
     pub completes : Completes c status report told
-    completes = record { runs = runs_by end.ending end.happened end.reported; prints = prints_by end.ending end.happened end.reported }
+    completes = record {
+      runs = runs_by end.ending end.happened end.reported;
+      prints = prints_by end.ending end.happened end.reported;
+      converts = turns_by end.ending end.happened end.reported;
+    }

@@ -1,5 +1,5 @@
 -- What a run comes to for the words that ask for it.
-use Rattle.std.proofs.Common.{◌≡◌, ℕ, List, ◌++◌, Option, Some, IsSome, IsTrue, IsFalse, refl, sym, ap, ◌∙◌, subst, flat_map, codes, inl, inr}
+use Rattle.std.proofs.Common.{◌≡◌, ℕ, Bool, List, ◌++◌, Option, None, Some, IsSome, IsTrue, IsFalse, refl, sym, ap, ◌∙◌, subst, flat_map, codes, inl, inr}
 use Rattle.dsp_ports.specs.Ports.{SourceState, SinkState}
 use Rattle.dsp_defs.specs.Counts.{Counts}
 use Rattle.dsp_defs.specs.Output.{format_of, channels_of}
@@ -13,12 +13,13 @@ use Rattle.dsp_defs.specs.declared.script.Script.{Script}
 use Rattle.dsp_session.specs.Session.{cost_of}
 use Rattle.dsp_session.specs.Stream.{Done, Stopped as StreamStopped}
 use Rattle.dsp_cli.specs.Fault.{summary_text}
-use Rattle.dsp_cli.specs.Call.{Call, call, Untouched, Streams, Stopped, Happened}
-use Rattle.dsp_cli.specs.Perform.{ReadsAs, Ran, RanGenerated, RanWhole, FailsToLoad, FailsToRun, FailsToGenerate}
-use Rattle.dsp_cli.specs.Run.{IsStream, IsReading, read_from}
+use Rattle.dsp_cli.specs.Call.{Call, call, Untouched, Streams, Went, Stopped, Happened}
+use Rattle.dsp_cli.specs.Perform.{NotBegun, ReadsAs, Ran, RanGenerated, Made, FailsToLoad, FailsToRun, FailsToGenerate}
+use Rattle.dsp_cli.specs.Run.{HasText, HasBlocks, IsStream, IsReading, read_from}
 use Rattle.dsp_cli.specs.Script.{named_by, chosen, chosen_block, is_legal_for}
 use Rattle.dsp_cli.specs.declared.fault.Fault.{Fault}
 use Rattle.dsp_cli.specs.declared.fault.Fault.TheVariants.{ScriptRead, Script as BadText, BlockLength, Memory, Stream}
+use Rattle.dsp_cli.proofs.StatusLaws.{stream_blocks, stream_text}
 use Rattle.dsp_cli.specs.declared.report.Summary.{Summary}
 
 -- the stream of a session of the script, in blocks of the chosen length, has done this
@@ -40,9 +41,9 @@ text_by script summary came went given made =
 
 -- ---- what a command comes to
 
-module _ (words : List (List ℕ)) (source read port later : SourceState) (sink after : SinkState) (before counts : Counts) (script : Script) (loaded : ReadsAs source read script) where
+module _ (words : List (List ℕ)) (source read port later : SourceState) (sink after : SinkState) (other : SourceState) (before counts : Counts) (script : Script) (loaded : ReadsAs source read script) where
   abbrev called : Call
-  called = call words source read port later sink after before counts
+  called = call words source read port later sink after other other before counts
 
   -- the words are a run or a gen, and its stream was begun
   module _ (command : Command) (is : command_of words ≡ Some command) (stream : IsStream words) (now : SourceState) (reading : IsReading (Some command) port later now) where
@@ -55,54 +56,54 @@ module _ (words : List (List ℕ)) (source read port later : SourceState) (sink 
           now = now;
           reading = subst (λ command. IsReading command port later now) (sym is) reading;
           did = subst (λ command. Did (chosen (named_by command) script) (read_from command script.input port) now) (sym is) did;
+          other_same = refl;
         }
 
-    went : (summary : Summary) → Ran (named_by (Some command)) script summary (read_from (Some command) script.input port) now sink after before counts → RanWhole summary called
+    went : (summary : Summary) → Ran (named_by (Some command)) script summary (read_from (Some command) script.input port) now sink after before counts → Made (summary_text summary) called
     went summary ran =
         record {
-          script = script;
-          went = streams (λ block input now. Done script block summary.totals.frames_taken input now sink after before counts summary.measures.items) ran.legal ran.done;
-          text = ran.text;
+          ending = Went script summary.totals.frames_taken summary.measures.items;
+          happened = streams (λ block input now. Done script block summary.totals.frames_taken input now sink after before counts summary.measures.items) ran.legal ran.done;
+          whole = tt;
+          text_is = ran.text;
         }
 
-    is_some : IsSome (command_of words)
-    is_some = subst IsSome (sym is) refl
-
     module _ (left : (now ≡ read_from (Some command) script.input port) → later ≡ port) where
-      left_alone : Untouched (read_from (Some command) script.input port) now sink after before counts → Untouched port later sink after before counts
-      left_alone untouched = record { input_same = left untouched.input_same; output_same = untouched.output_same; counts_same = untouched.counts_same }
+      left_alone : NotBegun (read_from (Some command) script.input port) now sink after before counts → Untouched called
+      left_alone not_begun = record { input_same = left not_begun.input_same; output_same = not_begun.output_same; other_same = refl; counts_same = not_begun.counts_same }
 
       stops : (fault : Fault) → FailsToRun fault (named_by (Some command)) script (read_from (Some command) script.input port) now sink after before counts → Happened (Stopped fault) called
       stops (BlockLength block divisor) (length, untouched) =
           let chosen_is : chosen (named_by (Some command)) script ≡ chosen_block words script = ap (λ command. chosen (named_by command) script) (sym is) in
           let illegal : IsFalse (is_legal_for script block) = subst (λ n. IsFalse (is_legal_for script n)) (sym length.block_is) length.illegal in
-          ((stream, record { text = loaded.text; read = loaded.read; holds = (script, loaded.holds, illegal, length.block_is ∙ chosen_is, length.divisor_is) }), left_alone untouched)
-      stops Memory untouched = (is_some, left_alone untouched)
+          ((stream_blocks words stream, record { text = loaded.text; read = loaded.read; holds = (script, loaded.holds, illegal, length.block_is ∙ chosen_is, length.divisor_is) }), left_alone untouched)
+      stops Memory untouched = (stream_text words stream, left_alone untouched)
       stops (Stream fault) stop =
           (script, streams (λ block input now. StreamStopped script block fault input now sink after before counts) stop.legal stop.stopped)
       stops fault none = absurd none
 
   -- a run
-  module _ (named : Option ℕ) (is : command_of words ≡ Some (Run named)) where
-    pub run_went : (summary : Summary) → Ran named script summary port later sink after before counts → RanWhole summary called
-    run_went summary ran = went (Run named) is (inl (named, is)) later refl summary ran
+  module _ (named : Option ℕ) (banked : Bool) (is : command_of words ≡ Some (Run named banked)) where
+    pub run_went : (summary : Summary) → Ran named script summary port later sink after before counts → Made (summary_text summary) called
+    run_went summary ran = went (Run named banked) is (inl (named, banked, is)) later refl summary ran
 
     pub run_stops : (fault : Fault) → FailsToRun fault named script port later sink after before counts → Happened (Stopped fault) called
-    run_stops fault fails = stops (Run named) is (inl (named, is)) later refl (λ same. same) fault fails
+    run_stops fault fails = stops (Run named banked) is (inl (named, banked, is)) later refl (λ same. same) fault fails
 
 -- a gen leaves the port of the input alone
-module _ (words : List (List ℕ)) (source read port : SourceState) (sink after : SinkState) (before counts : Counts) (script : Script) (loaded : ReadsAs source read script) (seed frames : ℕ) (is : command_of words ≡ Some (Gen seed frames)) where
-  pub gen_went : (summary : Summary) → RanGenerated seed frames script summary sink after before counts → RanWhole summary (call words source read port port sink after before counts)
+module _ (words : List (List ℕ)) (source read port : SourceState) (sink after : SinkState) (other : SourceState) (before counts : Counts) (script : Script) (loaded : ReadsAs source read script) (seed frames : ℕ) (is : command_of words ≡ Some (Gen seed frames)) where
+  pub gen_went : (summary : Summary) → RanGenerated seed frames script summary sink after before counts → Made (summary_text summary) (call words source read port port sink after other other before counts)
   gen_went summary made =
-      went words source read port port sink after before counts script loaded (Gen seed frames) is (inr (seed, frames, is)) made.now (refl, made.clean) summary made.ran
+      went words source read port port sink after other before counts script loaded (Gen seed frames) is (inr (seed, frames, is)) made.now (refl, made.clean) summary made.ran
 
-  pub gen_stops : (fault : Fault) → FailsToGenerate fault seed frames script sink after before counts → Happened (Stopped fault) (call words source read port port sink after before counts)
+  pub gen_stops : (fault : Fault) → FailsToGenerate fault seed frames script sink after before counts → Happened (Stopped fault) (call words source read port port sink after other other before counts)
   gen_stops fault made =
-      stops words source read port port sink after before counts script loaded (Gen seed frames) is (inr (seed, frames, is)) made.now (refl, made.clean) (λ _. refl) fault made.fails
+      stops words source read port port sink after other before counts script loaded (Gen seed frames) is (inr (seed, frames, is)) made.now (refl, made.clean) (λ _. refl) fault made.fails
 
 -- a script isn't loaded
-pub load_stops : (words : List (List ℕ)) (source read port : SourceState) (sink : SinkState) (counts : Counts) → IsSome (command_of words) → (fault : Fault) → FailsToLoad fault source read → Happened (Stopped fault) (call words source read port port sink sink counts counts)
-load_stops words source read port sink counts some ScriptRead fails = ((some, fails), record { input_same = refl; output_same = refl; counts_same = refl })
-load_stops words source read port sink counts some (BadText fault) fails = ((some, fails), record { input_same = refl; output_same = refl; counts_same = refl })
-load_stops words source read port sink counts some Memory fails = (some, record { input_same = refl; output_same = refl; counts_same = refl })
-load_stops words source read port sink counts some fault none = absurd none
+pub load_stops : (words : List (List ℕ)) (source read port : SourceState) (sink : SinkState) (other : SourceState) (counts : Counts) → HasText (command_of words) → (fault : Fault) → FailsToLoad fault source read
+    → Happened (Stopped fault) (call words source read port port sink sink other other counts counts)
+load_stops words source read port sink other counts some ScriptRead fails = ((some, fails), record { input_same = refl; output_same = refl; other_same = refl; counts_same = refl })
+load_stops words source read port sink other counts some (BadText fault) fails = ((some, fails), record { input_same = refl; output_same = refl; other_same = refl; counts_same = refl })
+load_stops words source read port sink other counts some Memory fails = (some, record { input_same = refl; output_same = refl; other_same = refl; counts_same = refl })
+load_stops words source read port sink other counts some fault none = absurd none

@@ -1,15 +1,17 @@
 -- The commands, and the statuses that they may end with.
-use Rattle.std.proofs.Common.{◌≡◌, ◌≢◌, ◌⊎◌, ℕ, ◌≤◌, List, refl, sym, ◌∙◌, subst, arith, inl, inr, None, Some, Option, IsSome}
+use Rattle.std.proofs.Common.{◌≡◌, ◌≢◌, ◌⊎◌, ℕ, ◌≤◌, Bool, List, refl, sym, ◌∙◌, subst, arith, inl, inr, None, Some, Option, IsSome}
 use Rattle.dsp_ports.specs.Ports.{SinkState}
 use Rattle.dsp_defs.specs.Words.{command_of}
 use Rattle.dsp_defs.specs.declared.command.Command.{Command}
-use Rattle.dsp_defs.specs.declared.command.Command.TheVariants.{Run, Gen, Print}
+use Rattle.dsp_defs.specs.declared.command.Command.TheVariants.{Run, Gen, Print, Convert}
 use Rattle.dsp_session.specs.declared.fault.StreamFault.{StreamFault}
 use Rattle.dsp_session.specs.declared.fault.StreamFault.TheVariants.{Header, Input, Output, Lengths}
 use Rattle.dsp_cli.specs.Fault.{status_of}
-use Rattle.dsp_cli.specs.Run.{IsStream, IsGen, IsPrint, IsDone, IsRefused, IsAnswer, ReportsText}
+use Rattle.dsp_cli.specs.Run.{HasText, HasBlocks, HasOutput, IsStream, IsGen, IsPrint, IsDone, IsRefusal, IsRefused, IsAnswer, ReportsText}
 use Rattle.dsp_cli.specs.declared.fault.Fault.{Fault}
-use Rattle.dsp_cli.specs.declared.fault.Fault.TheVariants.{Usage, ScriptRead, Script as BadText, BlockLength, Memory, Stream}
+use Rattle.dsp_cli.specs.declared.fault.Fault.TheVariants.{Usage, ScriptRead, Script as BadText, BlockLength, Memory, Stream, Conversion}
+use Rattle.dsp_au.specs.declared.fault.ConvertFault.{ConvertFault}
+use Rattle.dsp_au.specs.declared.fault.ConvertFault.TheVariants as convert_fault
 
 -- ---- commands
 
@@ -17,14 +19,51 @@ pub command_not_none : (words : List (List ℕ)) → IsSome (command_of words) �
 command_not_none words some none = absurd (let same = subst IsSome none some in cc)
 
 pub stream_some : (words : List (List ℕ)) → IsStream words → IsSome (command_of words)
-stream_some words (inl (named, is)) = subst IsSome (sym is) refl
+stream_some words (inl (named, banked, is)) = subst IsSome (sym is) refl
 stream_some words (inr (seed, frames, is)) = subst IsSome (sym is) refl
 
 pub stream_or_print : (words : List (List ℕ)) → IsStream words → IsPrint words → ⊥
-stream_or_print words (inl (named, is)) print = let same : Some (Run named) ≡ Some Print = sym is ∙ print in cc
+stream_or_print words (inl (named, banked, is)) print = let same : Some (Run named banked) ≡ Some Print = sym is ∙ print in cc
 stream_or_print words (inr (seed, frames, is)) print = let same : Some (Gen seed frames) ≡ Some Print = sym is ∙ print in cc
 
+-- what holds of a run and of a gen holds of the words of a stream
+pub of_stream : (words : List (List ℕ)) (P : Option Command → Type 0) → IsStream words
+    → ((named : Option ℕ) (banked : Bool) → command_of words ≡ Some (Run named banked) → P (Some (Run named banked)))
+    → ((seed frames : ℕ) → command_of words ≡ Some (Gen seed frames) → P (Some (Gen seed frames))) → P (command_of words)
+of_stream words P (inl (named, banked, is)) run gen = subst P (sym is) (run named banked is)
+of_stream words P (inr (seed, frames, is)) run gen = subst P (sym is) (gen seed frames is)
+
+-- a command that reads a text is one
+pub text_some : (command : Option Command) → HasText command → IsSome command
+text_some None text = absurd text
+text_some (Some command) text = refl
+
+pub blocks_text : (command : Option Command) → HasBlocks command → HasText command
+blocks_text None blocks = absurd blocks
+blocks_text (Some Print) blocks = absurd blocks
+blocks_text (Some (Convert direction)) blocks = absurd blocks
+blocks_text command blocks = tt
+
+-- a stream works by a script, in blocks, and writes
+pub stream_blocks : (words : List (List ℕ)) → IsStream words → HasBlocks (command_of words)
+stream_blocks words stream = of_stream words HasBlocks stream (λ named banked is. tt) (λ seed frames is. tt)
+
+pub stream_text : (words : List (List ℕ)) → IsStream words → HasText (command_of words)
+stream_text words stream = of_stream words HasText stream (λ named banked is. tt) (λ seed frames is. tt)
+
+pub stream_output : (words : List (List ℕ)) → IsStream words → HasOutput (command_of words)
+stream_output words stream = of_stream words HasOutput stream (λ named banked is. tt) (λ seed frames is. tt)
+
 -- ---- statuses
+
+-- those of a conversion that stops
+pub conversion_status : (fault : ConvertFault) → (status_of (Conversion fault) ≡ 4) ⊎ (status_of (Conversion fault) ≡ 5) ⊎ (status_of (Conversion fault) ≡ 7) ⊎ (status_of (Conversion fault) ≡ 8)
+conversion_status (convert_fault.Wave fault offset) = inl refl
+conversion_status (convert_fault.Au fault offset) = inl refl
+conversion_status (convert_fault.Input taken limit) = inr (inl refl)
+conversion_status (convert_fault.Riff size limit) = inr (inl refl)
+conversion_status convert_fault.Read = inr (inr (inl refl))
+conversion_status convert_fault.Write = inr (inr (inr refl))
 
 pub reports_done : {text : List ℕ} {status : ℕ} {report told : SinkState} → ReportsText text status report told → IsDone status
 reports_done (inl way) = inl way.0
@@ -45,42 +84,57 @@ fault_not_done (Stream (Header fault offset)) done = neither 4 (λ is. omega (ar
 fault_not_done (Stream (Lengths fault)) done = neither 5 (λ is. omega (arith, is), λ is. omega (arith, is)) done
 fault_not_done (Stream Input) done = neither 7 (λ is. omega (arith, is), λ is. omega (arith, is)) done
 fault_not_done (Stream Output) done = neither 8 (λ is. omega (arith, is), λ is. omega (arith, is)) done
+fault_not_done (Conversion fault) done = omega (arith, conversion_status fault, done)
 
 -- that of a refusal is another than those of what is begun
-refused_is : (n : ℕ) (P : Type 0) → IsRefused n → (n ≡ 1 → P) × (n ≡ 2 → P) × (n ≡ 3 → P) × (n ≡ 6 → P) × (n ≡ 10 → P) → P
+refused_is : (n : ℕ) (P : Type 0) → IsRefusal n → (n ≡ 1 → P) × (n ≡ 2 → P) × (n ≡ 3 → P) × (n ≡ 6 → P) × (n ≡ 10 → P) → P
 refused_is n P (inl is) by = by.0 is
 refused_is n P (inr (inl is)) by = by.1 is
 refused_is n P (inr (inr (inl is))) by = by.2 is
 refused_is n P (inr (inr (inr (inl is)))) by = by.3 is
 refused_is n P (inr (inr (inr (inr is)))) by = by.4 is
 
-begun : (n : ℕ) → (n ≡ 1 → ⊥) × (n ≡ 2 → ⊥) × (n ≡ 3 → ⊥) × (n ≡ 6 → ⊥) × (n ≡ 10 → ⊥) → IsRefused n → ⊥
+begun : (n : ℕ) → (n ≡ 1 → ⊥) × (n ≡ 2 → ⊥) × (n ≡ 3 → ⊥) × (n ≡ 6 → ⊥) × (n ≡ 10 → ⊥) → IsRefusal n → ⊥
 begun n not refused = refused_is n ⊥ refused not
 
-pub refused_not_done : (status : ℕ) → IsRefused status → IsDone status → ⊥
-refused_not_done status refused (inl is) = begun 0 (λ e. omega (arith, e), λ e. omega (arith, e), λ e. omega (arith, e), λ e. omega (arith, e), λ e. omega (arith, e)) (subst IsRefused is refused)
-refused_not_done status refused (inr is) = begun 9 (λ e. omega (arith, e), λ e. omega (arith, e), λ e. omega (arith, e), λ e. omega (arith, e), λ e. omega (arith, e)) (subst IsRefused is refused)
+pub refused_not_done : (status : ℕ) → IsRefusal status → IsDone status → ⊥
+refused_not_done status refused (inl is) = begun 0 (λ e. omega (arith, e), λ e. omega (arith, e), λ e. omega (arith, e), λ e. omega (arith, e), λ e. omega (arith, e)) (subst IsRefusal is refused)
+refused_not_done status refused (inr is) = begun 9 (λ e. omega (arith, e), λ e. omega (arith, e), λ e. omega (arith, e), λ e. omega (arith, e), λ e. omega (arith, e)) (subst IsRefusal is refused)
 
-pub stream_not_refused : (fault : StreamFault) → IsRefused (status_of (Stream fault)) → ⊥
+pub stream_not_refused : (fault : StreamFault) → IsRefusal (status_of (Stream fault)) → ⊥
 stream_not_refused (Header fault offset) refused = begun 4 (λ e. omega (arith, e), λ e. omega (arith, e), λ e. omega (arith, e), λ e. omega (arith, e), λ e. omega (arith, e)) refused
 stream_not_refused (Lengths fault) refused = begun 5 (λ e. omega (arith, e), λ e. omega (arith, e), λ e. omega (arith, e), λ e. omega (arith, e), λ e. omega (arith, e)) refused
 stream_not_refused Input refused = begun 7 (λ e. omega (arith, e), λ e. omega (arith, e), λ e. omega (arith, e), λ e. omega (arith, e), λ e. omega (arith, e)) refused
 stream_not_refused Output refused = begun 8 (λ e. omega (arith, e), λ e. omega (arith, e), λ e. omega (arith, e), λ e. omega (arith, e), λ e. omega (arith, e)) refused
 
+-- a stream that was not begun was refused
+pub stream_refused : (words : List (List ℕ)) (status : ℕ) → IsStream words → IsRefused (command_of words) status → IsRefusal status
+stream_refused words status (inl (named, banked, is)) refused = subst (λ command. IsRefused command status) is refused
+stream_refused words status (inr (seed, frames, is)) refused = subst (λ command. IsRefused command status) is refused
+
 -- ---- which may come
 
 -- what any command may end with
-pub any_answers : (command : Option Command) (status : ℕ) → IsSome command → (status ≡ 2) ⊎ (status ≡ 6) ⊎ (status ≡ 10) → IsAnswer command status
-any_answers None status some is = absurd (cc)
-any_answers (Some (Run named)) status some (inl two) = (omega (arith, two), λ e. omega (arith, two, e))
-any_answers (Some (Run named)) status some (inr (inl six)) = (omega (arith, six), λ e. omega (arith, six, e))
-any_answers (Some (Run named)) status some (inr (inr ten)) = (omega (arith, ten), λ e. omega (arith, ten, e))
+pub any_answers : (command : Option Command) (status : ℕ) → HasText command → (status ≡ 2) ⊎ (status ≡ 6) ⊎ (status ≡ 10) → IsAnswer command status
+any_answers None status some is = absurd some
+any_answers (Some (Run named banked)) status some (inl two) = (omega (arith, two), λ e. omega (arith, two, e))
+any_answers (Some (Run named banked)) status some (inr (inl six)) = (omega (arith, six), λ e. omega (arith, six, e))
+any_answers (Some (Run named banked)) status some (inr (inr ten)) = (omega (arith, ten), λ e. omega (arith, ten, e))
 any_answers (Some (Gen seed frames)) status some (inl two) = (omega (arith, two), λ e. omega (arith, two, e), λ e. omega (arith, two, e), λ e. omega (arith, two, e))
 any_answers (Some (Gen seed frames)) status some (inr (inl six)) = (omega (arith, six), λ e. omega (arith, six, e), λ e. omega (arith, six, e), λ e. omega (arith, six, e))
 any_answers (Some (Gen seed frames)) status some (inr (inr ten)) = (omega (arith, ten), λ e. omega (arith, ten, e), λ e. omega (arith, ten, e), λ e. omega (arith, ten, e))
 any_answers (Some Print) status some is = inr is
+any_answers (Some (Convert direction)) status some is = absurd some
+
+-- what a command that works in blocks may end with
+pub length_answers : (command : Option Command) → HasBlocks command → IsAnswer command 3
+length_answers None blocks = absurd blocks
+length_answers (Some Print) blocks = absurd blocks
+length_answers (Some (Convert direction)) blocks = absurd blocks
+length_answers (Some (Run named banked)) blocks = (omega arith, λ e. omega (arith, e))
+length_answers (Some (Gen seed frames)) blocks = (omega arith, λ e. omega (arith, e), λ e. omega (arith, e), λ e. omega (arith, e))
 
 -- what a run and a gen may end with
 pub stream_answers : (words : List (List ℕ)) (status : ℕ) → IsStream words → status ≤ 10 → status ≢ 1 → (IsGen words → (status ≢ 4) × (status ≢ 7)) → IsAnswer (command_of words) status
-stream_answers words status (inl (named, is)) few other never = subst (λ command. IsAnswer command status) (sym is) (few, other)
+stream_answers words status (inl (named, banked, is)) few other never = subst (λ command. IsAnswer command status) (sym is) (few, other)
 stream_answers words status (inr gen) few other never = subst (λ command. IsAnswer command status) (sym gen.2) (few, other, (never gen).0, (never gen).1)

@@ -81,13 +81,13 @@ module _ (c : Call) (script : Script) (channels : (1 ≤ script.input.channels) 
       some_not_none (input_fault script made) fault found (gen_good seed frames is made told).0
 
   whole_input : IsStream c.words → (bytes : List ℕ) → input.left ≡ Some bytes → IsGood (command_of c.words) script bytes → (input_fault script bytes ≡ None) × InLimit script bytes
-  whole_input (inl (named, is)) bytes told good = subst (λ command. IsGood command script bytes) is good
+  whole_input (inl (named, banked, is)) bytes told good = subst (λ command. IsGood command script bytes) is good
   whole_input (inr (seed, frames, is)) bytes told good = gen_good seed frames is bytes told
 
   -- ---- where nothing stands in the way and no port has failed
 
   input_kept : IsStream c.words → (now : SourceState) → IsReading (command_of c.words) c.port c.later now → now.faults ≡ one_more input.faults → (Rose c.port.faults c.later.faults → ⊥) → ⊥
-  input_kept (inl (named, is)) now reading risen kept =
+  input_kept (inl (named, banked, is)) now reading risen kept =
       let same : now ≡ c.later = subst (λ command. IsReading command c.port c.later now) is reading in
       let from : input ≡ c.port = ap (λ command. read_from command script.input c.port) is in
       let port : c.later.faults ≡ one_more c.port.faults = sym (ap (λ (s : SourceState). s.faults) same) ∙ risen ∙ ap (λ (s : SourceState). one_more s.faults) from in

@@ -1,12 +1,13 @@
 -- The words of a command, and what a command keeps to.
 use Rattle.std.proofs.Common.{◌≡◌, ℕ, ◌≤◌, List, [], ◌∷◌, length, Option, Some, None, IfSome, Bool, true, false, if◌then◌else◌, nat_le, ◌&&◌, slice_get, refl, subst, arith}
 use Rattle.std.specs.Prelude.{codes}
-use Rattle.std.specs.Option.{option_map}
+use Rattle.std.specs.Option.{option_map, option_and_then}
 use Rattle.std.specs.Str.{bytes_eq}
 use Rattle.std.proofs.lemmas.Bool.Decides.{nat_tests}
-use Rattle.dsp_defs.specs.Words.{count_of, is_name, are_run_names, are_gen_names, generating, command_of}
+use Rattle.dsp_defs.specs.Words.{count_of, is_name, are_run_names, are_gen_names, generating, running, direction_of, command_of}
+use Rattle.dsp_defs.specs.declared.au.Direction.{Direction}
 use Rattle.dsp_defs.specs.declared.command.Command.{Command}
-use Rattle.dsp_defs.specs.declared.command.Command.TheVariants.{Run, Gen, Print}
+use Rattle.dsp_defs.specs.declared.command.Command.TheVariants.{Run, Gen, Print, Convert}
 use Rattle.dsp_defs.specs.declared.limits.TheConstants.{MAX_GENERATED}
 use Rattle.dsp_cli.specs.Run.{MakesFew}
 
@@ -21,6 +22,17 @@ six_words (v ∷ w ∷ x ∷ y ∷ []) a b c d e f size p q r s t u = absurd (om
 six_words (v ∷ w ∷ x ∷ y ∷ z ∷ []) a b c d e f size p q r s t u = absurd (omega (arith, size))
 six_words (v ∷ w ∷ x ∷ y ∷ z ∷ last ∷ []) a b c d e f size p q r s t u = cc
 six_words (v ∷ w ∷ x ∷ y ∷ z ∷ last ∷ more ∷ words) a b c d e f size p q r s t u = absurd (omega (arith, size))
+
+-- five words are these
+pub five_words : (words : List (List ℕ)) (a b c d e : List ℕ) → length words ≡ 5 → slice_get words 0 ≡ Some a → slice_get words 1 ≡ Some b → slice_get words 2 ≡ Some c → slice_get words 3 ≡ Some d
+    → slice_get words 4 ≡ Some e → words ≡ a ∷ b ∷ c ∷ d ∷ e ∷ []
+five_words [] a b c d e size p q r s t = absurd (omega (arith, size))
+five_words (v ∷ []) a b c d e size p q r s t = absurd (omega (arith, size))
+five_words (v ∷ w ∷ []) a b c d e size p q r s t = absurd (omega (arith, size))
+five_words (v ∷ w ∷ x ∷ []) a b c d e size p q r s t = absurd (omega (arith, size))
+five_words (v ∷ w ∷ x ∷ y ∷ []) a b c d e size p q r s t = absurd (omega (arith, size))
+five_words (v ∷ w ∷ x ∷ y ∷ z ∷ []) a b c d e size p q r s t = cc
+five_words (v ∷ w ∷ x ∷ y ∷ z ∷ last ∷ words) a b c d e size p q r s t = absurd (omega (arith, size))
 
 -- ---- a gen makes no more frames than may be generated
 
@@ -37,19 +49,34 @@ generating_within None frames = tt
 generating_within (Some seed) None = tt
 generating_within (Some seed) (Some frames) = made_within seed frames (nat_le frames MAX_GENERATED) refl
 
-named_within : (count : Option ℕ) → IfSome (option_map (λ n. Run (Some n)) count) MakesFew
-named_within None = tt
-named_within (Some n) = tt
+running_within : (verb : List ℕ) (named : Option ℕ) → IfSome (running verb named) MakesFew
+running_within verb named = by_test (bytes_eq verb (codes "run")) (Some (Run named false)) tt
+
+named_within : (verb : List ℕ) (count : Option ℕ) → IfSome (option_and_then (λ n. running verb (Some n)) count) MakesFew
+named_within verb None = tt
+named_within verb (Some n) = running_within verb (Some n)
+
+by_either : (test : Bool) (first second : Option Command) → IfSome first MakesFew → IfSome second MakesFew → IfSome (if test then first else second) MakesFew
+by_either true first second within later = within
+by_either false first second within later = later
+
+direction_within : (direction : Option Direction) → IfSome (option_map (λ d. Convert d) direction) MakesFew
+direction_within None = tt
+direction_within (Some direction) = tt
 
 commands_within : (words : List (List ℕ)) → IfSome (command_of words) MakesFew
 commands_within [] = tt
 commands_within (a ∷ []) = tt
 commands_within (a ∷ b ∷ []) = by_test (bytes_eq a (codes "print") && is_name b) (Some Print) tt
 commands_within (a ∷ b ∷ c ∷ []) = tt
-commands_within (a ∷ b ∷ c ∷ d ∷ []) = by_test (bytes_eq a (codes "run") && are_run_names b c d) (Some (Run None)) tt
-commands_within (a ∷ b ∷ c ∷ d ∷ e ∷ []) = by_test (bytes_eq a (codes "gen") && are_gen_names d e) (generating (count_of b) (count_of c)) (generating_within (count_of b) (count_of c))
+commands_within (a ∷ b ∷ c ∷ d ∷ []) = by_test (are_run_names b c d) (running a None) (running_within a None)
+commands_within (a ∷ b ∷ c ∷ d ∷ e ∷ []) =
+    by_either (bytes_eq a (codes "gen") && are_gen_names d e) (generating (count_of b) (count_of c))
+    (if bytes_eq a (codes "convert") && are_gen_names d e then option_map (λ d. Convert d) (direction_of b c) else None)
+    (generating_within (count_of b) (count_of c))
+    (by_test (bytes_eq a (codes "convert") && are_gen_names d e) (option_map (λ d. Convert d) (direction_of b c)) (direction_within (direction_of b c)))
 commands_within (a ∷ b ∷ c ∷ d ∷ e ∷ f ∷ []) =
-    by_test (bytes_eq a (codes "run") && are_run_names b c d && bytes_eq e (codes "block")) (option_map (λ n. Run (Some n)) (count_of f)) (named_within (count_of f))
+    by_test (are_run_names b c d && bytes_eq e (codes "block")) (option_and_then (λ n. running a (Some n)) (count_of f)) (named_within a (count_of f))
 commands_within (a ∷ b ∷ c ∷ d ∷ e ∷ f ∷ g ∷ words) = tt
 
 pub gen_makes_few : (words : List (List ℕ)) (seed frames : ℕ) → command_of words ≡ Some (Gen seed frames) → frames ≤ MAX_GENERATED

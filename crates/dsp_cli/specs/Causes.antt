@@ -1,10 +1,13 @@
 -- Which exit statuses the top call may answer, and where each must come.
-use Rattle.std.specs.Prelude.{◌≡◌, ◌⊎◌, ℕ, IsSome, IfSome, IsFalse}
+use Rattle.std.specs.Prelude.{◌≡◌, ◌⊎◌, ℕ, Some, IsSome, IfSome, IsFalse}
 use Rattle.dsp_ports.specs.Ports.{SinkState, Rose}
 use Rattle.dsp_defs.specs.Reading.{first_fault}
 use Rattle.dsp_defs.specs.Words.{command_of}
+use Rattle.dsp_defs.specs.declared.au.Direction.{Direction}
+use Rattle.dsp_defs.specs.declared.command.Command.TheVariants.{Convert}
+use Rattle.dsp_au.specs.Convert.{IsFree as IsConvertible}
 use Rattle.dsp_cli.specs.Call.{Call}
-use Rattle.dsp_cli.specs.Run.{IsStream, IsPrint, IsAnswer, IsFree, IfWhole}
+use Rattle.dsp_cli.specs.Run.{HasText, HasBlocks, IsStream, IsPrint, IsAnswer, IsFree, IfWhole}
 use Rattle.dsp_cli.specs.Script.{IfScript, chosen_block, is_legal_for}
 
 -- ---- what must come
@@ -18,9 +21,9 @@ pub record Causes (c : Call) (status : ℕ) : Type 0 where
   -- the command may end so; 1 comes where the words are no command, and only there
   pub answer : IsAnswer (command_of c.words) status
   -- 2 must come where the script has a fault
-  pub faulty : IsSome (command_of c.words) → IfSome c.source.left (λ text. IsSome (first_fault text) → EndsEarly 2 status)
+  pub faulty : HasText (command_of c.words) → IfSome c.source.left (λ text. IsSome (first_fault text) → EndsEarly 2 status)
   -- 3 must come where the chosen block length isn't legal
-  pub illegal : IsStream c.words → IfScript c.source.left (λ s. IsFalse (is_legal_for s (chosen_block c.words s)) → EndsEarly 3 status)
+  pub illegal : HasBlocks (command_of c.words) → IfScript c.source.left (λ s. IsFalse (is_legal_for s (chosen_block c.words s)) → EndsEarly 3 status)
 
 -- ---- what must not
 
@@ -29,6 +32,7 @@ pub record NoneFailed (c : Call) (report told : SinkState) : Type 0 where
   pub script_kept : Rose c.source.faults c.read.faults → ⊥
   pub input_kept : Rose c.port.faults c.later.faults → ⊥
   pub output_kept : Rose c.sink.faults c.after.faults → ⊥
+  pub other_kept : Rose c.other.faults c.seen.faults → ⊥
   pub report_kept : Rose report.faults told.faults → ⊥
 
 -- where nothing stands in the way and no port fails, all is done, or memory is wanted
@@ -37,3 +41,5 @@ pub record Completes (c : Call) (status : ℕ) (report told : SinkState) : Type 
       IsFree (command_of c.words) s (chosen_block c.words s) bytes → NoneFailed c report told → (status ≡ 0) ⊎ (status ≡ 10))
   pub prints : IsPrint c.words → IfScript c.source.left (λ _.
       (Rose c.source.faults c.read.faults → ⊥) → (Rose report.faults told.faults → ⊥) → (status ≡ 0) ⊎ (status ≡ 10))
+  pub converts : (direction : Direction) → command_of c.words ≡ Some (Convert direction) → IfSome c.port.left (λ bytes.
+      IsConvertible direction bytes → NoneFailed c report told → status ≡ 0)

@@ -1,8 +1,9 @@
 -- What a run answers: a status, and the lines of its report.
 use Rattle.std.specs.Prelude.{ℕ, List, ◌++◌, codes, flat_map}
-use Rattle.dsp_defs.specs.Report.{usage_line, script_line, block_length_line, header_line, input_limit_line, gather_line, window_line, riff_line, script_read_line, input_read_line, output_line, memory_line, done_line, frames_line, multiplies_line, measure_line}
+use Rattle.dsp_defs.specs.Report.{usage_line, script_line, block_length_line, header_line, input_limit_line, gather_line, window_line, riff_line, au_line, script_read_line, input_read_line, output_line, memory_line, done_line, frames_line, multiplies_line, measure_line}
 use Rattle.dsp_cli.specs.declared.fault.Fault.{Fault}
-use Rattle.dsp_cli.specs.declared.fault.Fault.TheVariants.{Usage, ScriptRead, Script, BlockLength, Memory, Stream}
+use Rattle.dsp_cli.specs.declared.fault.Fault.TheVariants.{Usage, ScriptRead, Script, BlockLength, Memory, Stream, Conversion}
+use Rattle.dsp_au.specs.declared.fault.ConvertFault.TheVariants as convert_fault
 use Rattle.dsp_cli.specs.declared.report.Summary.{Summary}
 use Rattle.dsp_session.specs.declared.fault.LengthFault.{LengthFault}
 use Rattle.dsp_session.specs.declared.fault.LengthFault.TheVariants as length_fault
@@ -21,6 +22,12 @@ status_of ScriptRead = 6
 status_of (Stream Input) = 7
 status_of (Stream Output) = 8
 status_of Memory = 10
+status_of (Conversion (convert_fault.Wave fault offset)) = 4
+status_of (Conversion (convert_fault.Au fault offset)) = 4
+status_of (Conversion (convert_fault.Input taken limit)) = 5
+status_of (Conversion (convert_fault.Riff size limit)) = 5
+status_of (Conversion convert_fault.Read) = 7
+status_of (Conversion convert_fault.Write) = 8
 
 -- the line of a length past its limit
 abbrev pub length_fault_line : LengthFault → List ℕ
@@ -40,6 +47,12 @@ fault_line ScriptRead = script_read_line
 fault_line (Stream Input) = input_read_line
 fault_line (Stream Output) = output_line
 fault_line Memory = memory_line
+fault_line (Conversion (convert_fault.Wave fault offset)) = header_line fault offset
+fault_line (Conversion (convert_fault.Au fault offset)) = au_line fault offset
+fault_line (Conversion (convert_fault.Input taken limit)) = input_limit_line taken limit
+fault_line (Conversion (convert_fault.Riff size limit)) = riff_line size limit
+fault_line (Conversion convert_fault.Read) = input_read_line
+fault_line (Conversion convert_fault.Write) = output_line
 
 -- the report of a run that is done: its head, and a line for each measure
 abbrev pub head_text : Summary → List ℕ

@@ -1,5 +1,5 @@
 -- What the words ask for, what is read for them, and what is written.
-use Rattle.std.specs.Prelude.{◌≡◌, ◌≢◌, ◌⊎◌, ◌+◌, ◌^◌, ◌<◌, ℕ, ◌≤◌, List, length, take, Option, Some, None, IfSome, IsTrue}
+use Rattle.std.specs.Prelude.{◌≡◌, ◌≢◌, ◌⊎◌, ◌+◌, ◌^◌, ◌<◌, ℕ, ◌≤◌, Bool, List, length, take, Option, Some, None, IfSome, IsTrue}
 use Rattle.std.specs.Io.KnownBytes.{append_known}
 use Rattle.dsp_ports.specs.Ports.{SourceState, SinkState, Rose, one_more, IsSettled}
 use Rattle.dsp_defs.specs.Generator.{generated_bytes}
@@ -7,7 +7,7 @@ use Rattle.dsp_defs.specs.Output.{HasHeader, input_header}
 use Rattle.dsp_defs.specs.Shape.{window_at}
 use Rattle.dsp_defs.specs.Words.{command_of}
 use Rattle.dsp_defs.specs.declared.command.Command.{Command}
-use Rattle.dsp_defs.specs.declared.command.Command.TheVariants.{Run, Gen, Print}
+use Rattle.dsp_defs.specs.declared.command.Command.TheVariants.{Run, Gen, Print, Convert}
 use Rattle.dsp_defs.specs.declared.format.Input.{Input}
 use Rattle.dsp_defs.specs.declared.limits.TheConstants.{MAX_GENERATED}
 use Rattle.dsp_defs.specs.declared.script.Script.{Script}
@@ -16,9 +16,9 @@ use Rattle.dsp_cli.specs.Script.{IfScript, is_legal_for}
 
 -- ---- commands
 
--- the words are a run, in blocks of the length that is named, if one is
+-- the words are a run, in blocks of the length that is named, if one is, and banked or not
 abbrev pub IsRun : List (List ℕ) → Type 0
-IsRun words = (named : Option ℕ) × (command_of words ≡ Some (Run named))
+IsRun words = (named : Option ℕ) × (banked : Bool) × (command_of words ≡ Some (Run named banked))
 
 -- the words are a gen
 abbrev pub IsGen : List (List ℕ) → Type 0
@@ -32,6 +32,26 @@ IsStream words = IsRun words ⊎ IsGen words
 abbrev pub IsPrint : List (List ℕ) → Type 0
 IsPrint words = command_of words ≡ Some Print
 
+-- the command reads the text of a script
+abbrev pub HasText : Option Command → Type 0
+HasText None = ⊥
+HasText (Some (Convert direction)) = ⊥
+HasText command = Unit {0}
+
+-- and works by it, in blocks of a legal length
+abbrev pub HasBlocks : Option Command → Type 0
+HasBlocks None = ⊥
+HasBlocks (Some Print) = ⊥
+HasBlocks (Some (Convert direction)) = ⊥
+HasBlocks command = Unit {0}
+
+-- the command writes to the output
+abbrev pub HasOutput : Option Command → Type 0
+HasOutput (Some (Run named banked)) = Unit {0}
+HasOutput (Some (Gen seed frames)) = Unit {0}
+HasOutput (Some (Convert direction)) = Unit {0}
+HasOutput command = ⊥
+
 -- a gen makes no more frames than may be generated
 abbrev pub MakesFew : Command → Type 0
 MakesFew (Gen seed frames) = frames ≤ MAX_GENERATED
@@ -43,16 +63,22 @@ MakesFew command = Unit {0}
 abbrev pub IsDone : ℕ → Type 0
 IsDone status = (status ≡ 0) ⊎ (status ≡ 9)
 
--- nothing was begun
-abbrev pub IsRefused : ℕ → Type 0
-IsRefused status = (status ≡ 1) ⊎ (status ≡ 2) ⊎ (status ≡ 3) ⊎ (status ≡ 6) ⊎ (status ≡ 10)
+-- the words, the script, its block length or want of memory stood in the way
+abbrev pub IsRefusal : ℕ → Type 0
+IsRefusal status = (status ≡ 1) ⊎ (status ≡ 2) ⊎ (status ≡ 3) ⊎ (status ≡ 6) ⊎ (status ≡ 10)
+
+-- the input and the output were not begun: a print never does
+abbrev pub IsRefused : Option Command → ℕ → Type 0
+IsRefused (Some Print) status = Unit {0}
+IsRefused command status = IsRefusal status
 
 -- the statuses that a command may end with: 1 alone where there is none; a gen has no fault of its input
 abbrev pub IsAnswer : Option Command → ℕ → Type 0
 IsAnswer None status = status ≡ 1
-IsAnswer (Some (Run named)) status = (status ≤ 10) × (status ≢ 1)
+IsAnswer (Some (Run named banked)) status = (status ≤ 10) × (status ≢ 1)
 IsAnswer (Some (Gen seed frames)) status = (status ≤ 10) × (status ≢ 1) × (status ≢ 4) × (status ≢ 7)
 IsAnswer (Some Print) status = IsDone status ⊎ (status ≡ 2) ⊎ (status ≡ 6) ⊎ (status ≡ 10)
+IsAnswer (Some (Convert direction)) status = IsDone status ⊎ (status ≡ 4) ⊎ (status ≡ 5) ⊎ (status ≡ 7) ⊎ (status ≡ 8)
 
 -- ---- what is read
 

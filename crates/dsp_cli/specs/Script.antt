@@ -32,7 +32,7 @@ IfScript left P = IfSome left (λ text. (script : Script) → Reads text script 
 
 -- the block length that a command names
 abbrev pub named_by : Option Command → Option ℕ
-named_by (Some (Run block)) = block
+named_by (Some (Run block banked)) = block
 named_by command = None
 
 -- the block length that is named, else that of the script, else the default

@@ -1,10 +1,10 @@
 ghost use Rattle.std.specs.Prelude.{◌≡◌, [], ◌∷◌};
-ghost use Rattle.dsp_defs.specs.Words.{are_gen_names, are_run_names, command_of, count_of, generating, places_of};
+ghost use Rattle.dsp_defs.specs.Words.{are_gen_names, are_run_names, command_of, count_of, direction_of, generating, places_of, running};
 ghost use Rattle.std.specs.Char.{is_ascii_digit};
 ghost use Rattle.std.specs.List.{list_all};
 
 use crate::words::Words;
-use dsp_defs::{Command, MAX_GENERATED, Places};
+use dsp_defs::{Command, Direction, MAX_GENERATED, Places};
 
 fn all_digits(word: &str) -> bool
     ensures { result ≡ list_all is_ascii_digit word.now }
@@ -50,6 +50,32 @@ fn generating(seed: Option<u32>, frames: Option<u32>) -> Option<Command>
     }
 }
 
+/// The run that a verb asks for, in blocks of the length that is named.
+fn running(verb: &str, block: Option<u32>) -> Option<Command>
+    ensures { result ≡ running verb.now block }
+{
+    if verb == "run" {
+        return Some(Command::Run {
+            block,
+            banked: false,
+        });
+    }
+    None
+}
+
+/// The way from one named form of file to the other.
+fn direction(from: &str, to: &str) -> Option<Direction>
+    ensures { result ≡ direction_of from.now to.now }
+{
+    if from == "wave" && to == "au" {
+        Some(Direction::WaveToAu)
+    } else if from == "au" && to == "wave" {
+        Some(Direction::AuToWave)
+    } else {
+        None
+    }
+}
+
 /// What two words ask for.
 fn command_of_two(verb: &str, script: &str) -> Option<Command>
     ensures { result ≡ command_of (verb.now ∷ script.now ∷ []) }
@@ -64,8 +90,8 @@ fn command_of_two(verb: &str, script: &str) -> Option<Command>
 fn command_of_four(verb: &str, script: &str, input: &str, output: &str) -> Option<Command>
     ensures { result ≡ command_of (verb.now ∷ script.now ∷ input.now ∷ output.now ∷ []) }
 {
-    if verb == "run" && are_run_names(script, input, output) {
-        return Some(Command::Run { block: None });
+    if are_run_names(script, input, output) {
+        return running(verb, None);
     }
     None
 }
@@ -73,15 +99,19 @@ fn command_of_four(verb: &str, script: &str, input: &str, output: &str) -> Optio
 /// What five words ask for.
 fn command_of_five(
     verb: &str,
-    seed: &str,
-    frames: &str,
-    script: &str,
+    second: &str,
+    third: &str,
+    fourth: &str,
     output: &str,
 ) -> Option<Command>
-    ensures { result ≡ command_of (verb.now ∷ seed.now ∷ frames.now ∷ script.now ∷ output.now ∷ []) }
+    ensures { result ≡ command_of (verb.now ∷ second.now ∷ third.now ∷ fourth.now ∷ output.now ∷ []) }
 {
-    if verb == "gen" && are_gen_names(script, output) {
-        return generating(count(seed), count(frames));
+    if verb == "gen" && are_gen_names(fourth, output) {
+        return generating(count(second), count(third));
+    }
+    if verb == "convert" && are_gen_names(fourth, output) {
+        let direction = direction(second, third)?;
+        return Some(Command::Convert { direction });
     }
     None
 }
@@ -99,11 +129,9 @@ fn command_of_six(
         ≡ command_of
         (verb.now ∷ script.now ∷ input.now ∷ output.now ∷ option.now ∷ frames.now ∷ []) }
 {
-    if verb == "run" && are_run_names(script, input, output) && option == "block" {
+    if are_run_names(script, input, output) && option == "block" {
         let frames = count(frames)?;
-        return Some(Command::Run {
-            block: Some(frames),
-        });
+        return running(verb, Some(frames));
     }
     None
 }
@@ -143,16 +171,25 @@ pub fn places(words: &Words) -> Option<Places>
             script: Some(1),
             input: Some(2),
             output: Some(3),
+            other: None,
         }),
         Command::Gen { .. } => Some(Places {
             script: Some(3),
             input: None,
             output: Some(4),
+            other: None,
         }),
         Command::Print => Some(Places {
             script: Some(1),
             input: None,
             output: None,
+            other: None,
+        }),
+        Command::Convert { .. } => Some(Places {
+            script: None,
+            input: Some(3),
+            output: Some(4),
+            other: None,
         }),
     }
 }

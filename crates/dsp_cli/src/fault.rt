@@ -1,3 +1,4 @@
+use dsp_au::ConvertFault;
 use dsp_script::ScriptFault;
 use dsp_session::StreamFault;
 
@@ -16,4 +17,6 @@ pub enum Fault {
     Memory,
     /// The stream stopped.
     Stream(StreamFault),
+    /// The conversion stopped.
+    Conversion(ConvertFault),
 }

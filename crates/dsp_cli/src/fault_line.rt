@@ -1,13 +1,14 @@
 //! The exit status and the one line of a run that isn't done.
 ghost use Rattle.std.specs.Prelude.{◌≡◌, ◌+◌, ◌≤◌, ◌++◌, [], length};
 ghost use Rattle.arrayvec.specs.ArrayVec.{array_vec_len};
-ghost use Rattle.dsp_defs.specs.Report.{block_length_line, header_line, header_text, kind_text, lengths_line, located, script_line};
+ghost use Rattle.dsp_defs.specs.Report.{output_line, au_line, au_text, block_length_line, header_line, header_text, kind_text, lengths_line, located, script_line};
 ghost use Rattle.dsp_cli.specs.Fault.{fault_line, length_fault_line, status_of};
 
 use crate::fault::Fault;
 use crate::line::{Line, field_name, format_name, integer_field, natural_field};
 use arrayvec::ArrayVec;
-use dsp_defs::HeaderFault;
+use dsp_au::ConvertFault;
+use dsp_defs::{AuFault, HeaderFault};
 use dsp_line::{natural, text, wide_natural};
 use dsp_script::{ScriptFault, ScriptKind};
 use dsp_session::{LengthFault, StreamFault};
@@ -26,6 +27,18 @@ pub fn status_of(fault: &Fault) -> u8
         Fault::Stream(StreamFault::Input) => 7,
         Fault::Stream(StreamFault::Output) => 8,
         Fault::Memory => 10,
+        Fault::Conversion(fault) => conversion_status(fault),
+    }
+}
+
+fn conversion_status(fault: &ConvertFault) -> u8
+    ensures { result ≡ status_of (Fault.Conversion fault.now) }
+{
+    match fault {
+        ConvertFault::Wave { .. } | ConvertFault::Au { .. } => 4,
+        ConvertFault::Input { .. } | ConvertFault::Riff { .. } => 5,
+        ConvertFault::Read => 7,
+        ConvertFault::Write => 8,
     }
 }
 
@@ -116,6 +129,37 @@ fn header_fields(line: &mut Line, fault: HeaderFault)
     }
 }
 
+fn au_name(fault: AuFault) -> &'static [u8]
+    ensures name { result.now ≡ (au_text fault).0 }
+    ensures short { length result.now ≤ 12 }
+{
+    match fault {
+        AuFault::NotAu => b"NotAu",
+        AuFault::Offset { .. } => b"Offset",
+        AuFault::Encoding { .. } => b"Encoding",
+        AuFault::Channels { .. } => b"Channels",
+        AuFault::Ended => b"Ended",
+        AuFault::Short { .. } => b"Short",
+    }
+}
+
+fn au_fields(line: &mut Line, fault: AuFault)
+    requires { array_vec_len line.old ≤ 65 }
+    ensures items { line.new.items ≡ line.old.items ++ (au_text fault).1 }
+    ensures len { array_vec_len line.new ≤ array_vec_len line.old + 62 }
+{
+    match fault {
+        AuFault::Offset { got } | AuFault::Encoding { got } | AuFault::Channels { got } => {
+            natural_field(line, b"got", u64::from(got));
+        }
+        AuFault::Short { declared, got } => {
+            natural_field(line, b"declared", u64::from(declared));
+            natural_field(line, b"got", got);
+        }
+        AuFault::NotAu | AuFault::Ended => {}
+    }
+}
+
 fn located(line: &mut Line, kind: &[u8], offset: u64)
     requires kind { length kind.now ≤ 12 }
     requires room { array_vec_len line.old ≤ 15 }
@@ -144,6 +188,16 @@ fn header_line(line: &mut Line, fault: HeaderFault, offset: u64)
     text(line, b"dspfx: header: ");
     located(line, header_name(fault), offset);
     header_fields(line, fault);
+    text(line, b"\n");
+}
+
+fn au_line(line: &mut Line, fault: AuFault, offset: u64)
+    requires { array_vec_len line.old ≡ 0 }
+    ensures { line.new.items ≡ line.old.items ++ au_line fault offset }
+{
+    text(line, b"dspfx: header: ");
+    located(line, au_name(fault), offset);
+    au_fields(line, fault);
     text(line, b"\n");
 }
 
@@ -192,6 +246,32 @@ fn length_fault_line(line: &mut Line, fault: LengthFault)
     }
 }
 
+fn conversion_line(line: &mut Line, fault: ConvertFault)
+    requires { array_vec_len line.old ≡ 0 }
+    ensures { line.new.items ≡ line.old.items ++ fault_line (Fault.Conversion fault) }
+{
+    match fault {
+        ConvertFault::Wave { fault, offset } => header_line(line, fault, offset),
+        ConvertFault::Au { fault, offset } => au_line(line, fault, offset),
+        ConvertFault::Input { taken, limit } => {
+            length_fault_line(line, LengthFault::Input { taken, limit });
+        }
+        ConvertFault::Riff { size, limit } => {
+            length_fault_line(line, LengthFault::Riff { size, limit });
+        }
+        ConvertFault::Read => text(line, b"dspfx: input not read\n"),
+        ConvertFault::Write => text(line, output_line()),
+    }
+}
+
+/// The line of an output that is not written.
+pub fn output_line() -> &'static [u8]
+    ensures line { result.now ≡ output_line }
+    ensures short { length result.now ≤ 26 }
+{
+    b"dspfx: output not written\n"
+}
+
 /// The line that a run which ends so reports.
 pub fn line_of(fault: &Fault) -> Line
     ensures { result.items ≡ fault_line fault.now }
@@ -200,7 +280,7 @@ pub fn line_of(fault: &Fault) -> Line
     match fault {
         Fault::Usage => text(
             &mut line,
-            b"dspfx: usage: run SCRIPT IN OUT [block N], gen SEED FRAMES SCRIPT OUT, print SCRIPT\n",
+            b"dspfx: usage: run SCRIPT IN OUT [block N], gen SEED FRAMES SCRIPT OUT, print SCRIPT, convert wave au IN OUT, convert au wave IN OUT\n",
         ),
         Fault::ScriptRead => text(&mut line, b"dspfx: script not read\n"),
         Fault::Script(fault) => script_line(&mut line, *fault),
@@ -211,7 +291,8 @@ pub fn line_of(fault: &Fault) -> Line
         }
         Fault::Stream(StreamFault::Lengths(fault)) => length_fault_line(&mut line, *fault),
         Fault::Stream(StreamFault::Input) => text(&mut line, b"dspfx: input not read\n"),
-        Fault::Stream(StreamFault::Output) => text(&mut line, b"dspfx: output not written\n"),
+        Fault::Stream(StreamFault::Output) => text(&mut line, output_line()),
+        Fault::Conversion(fault) => conversion_line(&mut line, *fault),
     }
     line
 }

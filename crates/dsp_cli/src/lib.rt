@@ -12,5 +12,6 @@ mod words;
 
 pub use command::places;
 pub use dsp_defs::Places;
+pub use fault_line::output_line;
 pub use top::run;
 pub use words::Words;

@@ -10,7 +10,7 @@ use dsp_defs::Fmt;
 use dsp_line::{integer, natural, text};
 
 /// The bytes of a line at most.
-const LINE: usize = 128;
+const LINE: usize = 256;
 
 pub type Line = ArrayVec<u8, LINE>;
 

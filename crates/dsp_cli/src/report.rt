@@ -1,20 +1,21 @@
 //! The report of a run that is done. It is built in place and takes no memory.
 ghost use Rattle.std.specs.Prelude.{◌≡◌, ◌+◌, ◌≤◌, ◌++◌, [], length, vec_capacity};
 ghost use Rattle.arrayvec.specs.ArrayVec.{array_vec_len};
-ghost use Rattle.dsp_defs.specs.Report.{frames_line, multiplies_line};
+ghost use Rattle.dsp_defs.specs.Report.{converted_line, converted_text, frames_line, multiplies_line};
 ghost use Rattle.dsp_chain.specs.Row.{measure_counts};
 ghost use Rattle.dsp_session.specs.Session.{measured};
 ghost use Rattle.dsp_cli.specs.Fault.{head_text};
 
 use crate::line::{Line, format_name};
 use arrayvec::ArrayVec;
+use dsp_au::Converted;
 use dsp_defs::{Flow, Measure};
 use dsp_line::{natural, text, wide_natural};
 use dsp_session::{Session, Totals};
 use dsp_stage::AnyUnit;
 
 /// The bytes of a report at most.
-const REPORT: usize = 512;
+const REPORT: usize = 1024;
 
 pub type Report = ArrayVec<u8, REPORT>;
 
@@ -68,12 +69,36 @@ fn multiplies_line(multiplies: u128) -> Line
 }
 
 fn push(report: &mut Report, line: &[u8])
-    requires room { array_vec_len report.old ≤ 384 }
-    requires line { length line.now ≤ 128 }
+    requires room { array_vec_len report.old ≤ 768 }
+    requires line { length line.now ≤ 256 }
     ensures items { report.new.items ≡ report.old.items ++ line.now }
     ensures len { array_vec_len report.new ≡ array_vec_len report.old + length line.now }
 {
     report.try_extend_from_slice(line).unwrap();
+}
+
+/// `N frames of C channels, W bits`
+fn converted_line(totals: Converted) -> Line
+    ensures { result.items ≡ converted_line totals.frames totals.channels totals.bits }
+{
+    let mut line = ArrayVec::new();
+    natural(&mut line, totals.frames);
+    text(&mut line, b" frames of ");
+    natural(&mut line, u64::from(totals.channels));
+    text(&mut line, b" channels, ");
+    natural(&mut line, u64::from(totals.bits));
+    text(&mut line, b" bits\n");
+    line
+}
+
+/// The report of a conversion.
+pub fn converted_report(totals: Converted) -> Report
+    ensures { result.items ≡ converted_text totals.frames totals.channels totals.bits }
+{
+    let mut report = ArrayVec::new();
+    push(&mut report, b"dspfx: done\n");
+    push(&mut report, &converted_line(totals));
+    report
 }
 
 /// The head of the report of a run: what came in, what went out, and the multiplies, a line each.

@@ -1,26 +1,27 @@
-ghost use Rattle.std.specs.Prelude.{◌≡◌, ◌⊎◌, ◌+◌, ◌≤◌, ℕ, Some, IfOk, IfErr, OnOk, flat_map};
+ghost use Rattle.std.specs.Prelude.{◌≡◌, ◌+◌, ◌≤◌, ℕ, Some, IfOk, IfErr, OnOk, flat_map};
 ghost use Rattle.dsp_ports.specs.Ports.{CountsFaults, IsSettled};
 ghost use Rattle.dsp_defs.specs.Grammar.{IsSound};
 ghost use Rattle.dsp_defs.specs.Generator.{generated_bytes};
-ghost use Rattle.dsp_defs.specs.Output.{input_signal, output as output_of};
+ghost use Rattle.dsp_defs.specs.Output.{input_signal};
 ghost use Rattle.dsp_defs.specs.Report.{measure_line, report_text};
 ghost use Rattle.dsp_defs.specs.Words.{command_of};
 ghost use Rattle.dsp_defs.specs.declared.command.Command.TheVariants.{Gen};
 ghost use Rattle.dsp_defs.specs.declared.limits.TheConstants.{MAX_GENERATED, MAX_SCRIPT};
 ghost use Rattle.dsp_session.specs.Session.{cost_of, measures_of};
-ghost use Rattle.dsp_cli.specs.Call.{Ended, Happened, Stopped, Untouched, call};
+ghost use Rattle.dsp_cli.specs.Call.{Ended, Happened, HasDone, Spares, Stopped, Untouched, call};
 ghost use Rattle.dsp_cli.specs.Causes.{Causes, Completes};
 ghost use Rattle.dsp_cli.specs.Fault.{summary_text};
 ghost use Rattle.dsp_cli.specs.Script.{chosen, IfScript};
 ghost use Rattle.dsp_cli.specs.Perform.{ReadsAs, Ran, RanGenerated, Performed, FailsToLoad, FailsToRun, FailsToGenerate, HasStatus};
-ghost use Rattle.dsp_cli.specs.Run.{Wrote, Tells, ReportsText, IfWhole, IsStream, IsGen, IsPrint, IsDone, IsRefused};
+ghost use Rattle.dsp_cli.specs.Run.{HasOutput, Wrote, Tells, ReportsText, IsDone, IsRefused};
 
 use crate::command::command;
 use crate::fault::Fault;
 use crate::fault_line::{line_of, status_of};
-use crate::report::{Summary, find_measures, head_of};
+use crate::report::{Report, Summary, converted_report, find_measures, head_of};
 use crate::script::{ReadFault, read_script};
 use crate::words::Words;
+use dsp_au::convert;
 use dsp_defs::{Command, Flow, Measure, Script, Steps};
 use dsp_line::measure_line;
 use dsp_ports::{Failed, Sink, Source, write_all};
@@ -38,6 +39,8 @@ enum Outcome {
     Ran(Summary),
     /// The text of the script is to be reported.
     Printed(Vec<u8>),
+    /// A text that needs no memory is to be reported.
+    Noted(Report),
 }
 
 /// Reads and parses the script.
@@ -137,45 +140,49 @@ fn generate<U: AnyUnit + Drop, K: Sink, L: Ledger>(
 }
 
 /// Does what the words say, but for the report.
-fn perform<U: AnyUnit + Drop, P: Source, S: Source, K: Sink, L: Ledger>(
+fn perform<U: AnyUnit + Drop, P: Source, S: Source, K: Sink, O: Source, L: Ledger>(
     alloc: Global,
     words: &Words,
     script: &mut P,
     input: &mut S,
     output: &mut K,
+    other: &mut O,
     steps: &mut Steps<L>,
 ) -> Result<Outcome, Fault>
     ensures ok { IfOk result (λ outcome. Performed outcome
         (call words.now (P.state script.old) (P.state script.new) (S.state input.old)
-        (S.state input.new) (K.state output.old) (K.state output.new) steps.old steps.new)) }
+        (S.state input.new) (K.state output.old) (K.state output.new) (O.state other.old)
+        (O.state other.new) steps.old steps.new)) }
     ensures err { IfErr result (λ fault. Happened (Stopped fault)
         (call words.now (P.state script.old) (P.state script.new) (S.state input.old)
-        (S.state input.new) (K.state output.old) (K.state output.new) steps.old steps.new)) }
+        (S.state input.new) (K.state output.old) (K.state output.new) (O.state other.old)
+        (O.state other.new) steps.old steps.new)) }
     ensures taken { (P.state script.new).taken ≤ (P.state script.old).taken + MAX_SCRIPT + 1 }
 {
     let Some(command) = command(words) else {
         return Err(Fault::Usage);
     };
-    let script = match load_script(alloc, script) {
-        Ok(script) => script,
-        Err(fault) => return Err(fault),
-    };
     match command {
-        Command::Print => match print(alloc, &script) {
-            Ok(text) => Ok(Outcome::Printed(text)),
-            Err(_) => Err(Fault::Memory),
+        Command::Convert { direction } => match convert(direction, input, output) {
+            Ok(totals) => Ok(Outcome::Noted(converted_report(totals))),
+            Err(fault) => Err(Fault::Conversion(fault)),
         },
-        Command::Run { block } => match run_script::<U, _, _, _>(
-            alloc, block, &script, input, output, steps,
-        ) {
-            Ok(summary) => Ok(Outcome::Ran(summary)),
-            Err(fault) => Err(fault),
-        },
-        Command::Gen { seed, frames } => {
-            match generate::<U, _, _>(alloc, seed, frames, &script, output, steps) {
-                Ok(summary) => Ok(Outcome::Ran(summary)),
-                Err(fault) => Err(fault),
+        Command::Print => {
+            let script = load_script(alloc, script)?;
+            match print(alloc, &script) {
+                Ok(text) => Ok(Outcome::Printed(text)),
+                Err(_) => Err(Fault::Memory),
             }
+        }
+        Command::Run { block, .. } => {
+            let script = load_script(alloc, script)?;
+            let summary = run_script::<U, _, _, _>(alloc, block, &script, input, output, steps)?;
+            Ok(Outcome::Ran(summary))
+        }
+        Command::Gen { seed, frames } => {
+            let script = load_script(alloc, script)?;
+            let summary = generate::<U, _, _>(alloc, seed, frames, &script, output, steps)?;
+            Ok(Outcome::Ran(summary))
         }
     }
 }
@@ -246,6 +253,7 @@ fn settle<R: Sink>(outcome: Result<Outcome, Fault>, report: &mut R) -> u8
     match outcome {
         Ok(Outcome::Ran(summary)) => finish_run(report, &summary),
         Ok(Outcome::Printed(text)) => finish(report, &text),
+        Ok(Outcome::Noted(text)) => finish(report, &text),
         Err(fault) => {
             let _ = tell(report, &line_of(&fault));
             status_of(&fault)
@@ -253,35 +261,42 @@ fn settle<R: Sink>(outcome: Result<Outcome, Fault>, report: &mut R) -> u8
     }
 }
 
-/// The top call: does what the words say over four ports, and answers the exit status. A run that is done reports what
+/// The top call: does what the words say over five ports, and answers the exit status. A run that is done reports what
 /// came in, what went out and the multiplies; after a fault one line is tried on the report. A run takes its blocks in
 /// the length that the words name, else the script, else the default; a gen names none. A gen takes its
 /// input from the generator, and leaves the port `input` alone.
-pub fn run<U: AnyUnit + Drop, P: Source, S: Source, K: Sink, R: Sink, L: Ledger>(
+pub fn run<U: AnyUnit + Drop, P: Source, S: Source, K: Sink, R: Sink, O: Source, L: Ledger>(
     alloc: Global,
     words: &Words,
     script: &mut P,
     input: &mut S,
     output: &mut K,
     report: &mut R,
+    other: &mut O,
     steps: &mut Steps<L>,
 ) -> u8
     // How it ended: a script, the frames of its input and what its stream did, or the fault; and the report of just that.
     ensures ended { Ended (call words.now (P.state script.old) (P.state script.new)
         (S.state input.old) (S.state input.new) (K.state output.old) (K.state output.new)
-        steps.old steps.new) result (R.state report.old) (R.state report.new) }
+        (O.state other.old) (O.state other.new) steps.old steps.new) result
+        (R.state report.old) (R.state report.new) }
 
-    // A run or a gen that is done has written exactly the output of the script for all the input.
-    ensures done { IsStream words.now → IsDone result
-        → IfWhole (command_of words.now) (P.state script.old).left (S.state input.old)
-        (λ s bytes. Wrote (output_of s bytes) (K.state output.old) (K.state output.new)) }
-    ensures settled { IsStream words.now → IsDone result → IsSettled (K.state output.new) }
+    // A command that is done has written exactly what it is to write for all the input.
+    ensures done { IsDone result → HasDone (command_of words.now)
+        (call words.now (P.state script.old) (P.state script.new) (S.state input.old)
+        (S.state input.new) (K.state output.old) (K.state output.new) (O.state other.old)
+        (O.state other.new) steps.old steps.new) }
+    ensures settled { HasOutput (command_of words.now) → IsDone result → IsSettled (K.state output.new) }
 
     // What is left alone, and what a gen goes over.
-    ensures untouched { IsRefused result ⊎ IsPrint words.now
-        → Untouched (S.state input.old) (S.state input.new) (K.state output.old)
-        (K.state output.new) steps.old steps.new }
-    ensures input_same { IsGen words.now → S.state input.new ≡ S.state input.old }
+    ensures untouched { IsRefused (command_of words.now) result
+        → Untouched (call words.now (P.state script.old) (P.state script.new)
+        (S.state input.old) (S.state input.new) (K.state output.old) (K.state output.new)
+        (O.state other.old) (O.state other.new) steps.old steps.new) }
+    ensures spared { Spares (command_of words.now)
+        (call words.now (P.state script.old) (P.state script.new) (S.state input.old)
+        (S.state input.new) (K.state output.old) (K.state output.new) (O.state other.old)
+        (O.state other.new) steps.old steps.new) }
     ensures counted { (seed frames : ℕ) → command_of words.now ≡ Some (Gen seed frames)
         → IsDone result → IfScript (P.state script.old).left (λ s.
         (steps.new.multiplies ≡ steps.old.multiplies + cost_of s frames)
@@ -293,11 +308,12 @@ pub fn run<U: AnyUnit + Drop, P: Source, S: Source, K: Sink, R: Sink, L: Ledger>
     // Which statuses may come, which must, and that nothing else stands in the way of 0.
     ensures causes { Causes (call words.now (P.state script.old) (P.state script.new)
         (S.state input.old) (S.state input.new) (K.state output.old) (K.state output.new)
-        steps.old steps.new) result }
+        (O.state other.old) (O.state other.new) steps.old steps.new) result }
     ensures completes { Completes (call words.now (P.state script.old) (P.state script.new)
         (S.state input.old) (S.state input.new) (K.state output.old) (K.state output.new)
-        steps.old steps.new) result (R.state report.old) (R.state report.new) }
+        (O.state other.old) (O.state other.new) steps.old steps.new) result
+        (R.state report.old) (R.state report.new) }
 {
-    let outcome = perform::<U, _, _, _, _>(alloc, words, script, input, output, steps);
+    let outcome = perform::<U, _, _, _, _, _>(alloc, words, script, input, output, other, steps);
     settle(outcome, report)
 }

@@ -17,7 +17,7 @@ shr-small (pos n) k m some h = div-le_of_le-mul (2 ^ k) (omega (arith, h))
 shr-small (negsuc n) k m some h = let below : n < m * 2 ^ k = omega (arith, h) in let q = (div-lt_iff_lt-mul some).1 below in omega (arith, q)
 
 pub shifted-small : (format : Fmt) (z : ℤ) → nat_abs z ≤ 2 ^ (2 * word_bits format - 2) → nat_abs (z >> product_shift format) ≤ 2 ^ (word_bits format - 3)
-shifted-small Q7 z h = shr-small z 9 32 (lit< tt) h
+shifted-small Q7 z h = shr-small z 17 32 (lit< tt) (omega (arith, h))
 shifted-small Q15 z h = shr-small z 17 8192 (lit< tt) h
 shifted-small Q31 z h = shr-small z 33 536870912 (lit< tt) h
 
@@ -41,11 +41,6 @@ sum-fits format x y h k = small-fits format (x +ℤ y) (sum-small x y (2 ^ (word
 
 pub difference-fits : (format : Fmt) (x y : ℤ) → nat_abs x ≤ 2 ^ (word_bits format - 3) → nat_abs y ≤ 2 ^ (word_bits format - 3) → FitsSigned (word format) (x -ℤ y)
 difference-fits format x y h k = small-fits format (x -ℤ y) (difference-small x y (2 ^ (word_bits format - 3)) h k)
-
-pub shift-is : (format : Fmt) → word_bits format + 1 ≡ product_shift format
-shift-is Q7 = refl
-shift-is Q15 = refl
-shift-is Q31 = refl
 
 -- a small number is one of 32 bits
 pub small-in-32 : (format : Fmt) (z : ℤ) → nat_abs z ≤ 2 ^ (word_bits format - 3) → SFits w32 z
@@ -100,7 +95,7 @@ sum-in-64 Q15 x y e h k = within (x +ℤ y) 1073741824 (sum-small x y 1073741824
 sum-in-64 Q31 x y e h k = absurd (e refl)
 
 pub shifted-sum-fits : (format : Fmt) (x y : ℤ) → nat_abs x ≤ 2 ^ (2 * word_bits format - 2) → nat_abs y ≤ 2 ^ (2 * word_bits format - 2) → FitsSigned (word format) (x +ℤ y >> product_shift format)
-shifted-sum-fits Q7 x y h k = small-fits Q7 (x +ℤ y >> 9) (shr-small (x +ℤ y) 9 64 (lit< tt) (sum-small x y 16384 h k))
+shifted-sum-fits Q7 x y h k = small-fits Q7 (x +ℤ y >> 17) (shr-small (x +ℤ y) 17 64 (lit< tt) (omega (arith, sum-small x y 16384 h k)))
 shifted-sum-fits Q15 x y h k = small-fits Q15 (x +ℤ y >> 17) (shr-small (x +ℤ y) 17 16384 (lit< tt) (sum-small x y 1073741824 h k))
 shifted-sum-fits Q31 x y h k = small-fits Q31 (x +ℤ y >> 33) (shr-small (x +ℤ y) 33 1073741824 (lit< tt) (sum-small x y 4611686018427387904 h k))
 

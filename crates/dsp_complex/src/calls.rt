@@ -4,14 +4,14 @@ ghost use Rattle.dsp_defs.specs.Signal.{sample, values};
 ghost use Rattle.dsp_lanes.specs.Turns.{RisesWithin};
 ghost use Rattle.dsp_complex.specs.Pairs.{re, im, interleaved};
 
-use crate::scalars::{Complex, conjugate, product, squared};
+use crate::scalars::{Complex, ComplexSample, conjugate, product, squared};
 use dsp_defs::Steps;
-use dsp_sat::{Sample, WideSample};
+use dsp_sat::Sample;
 use std::sync::ledger::Ledger;
 
 /// The conjugates of complex numbers, each its real part and then its imaginary part:
 /// `arm_cmplx_conj_q15`, `arm_cmplx_conj_q31`. Lengths are equal and even.
-pub fn conj<T: WideSample>(a: &[T], out: &mut [T])
+pub fn conj<T: ComplexSample>(a: &[T], out: &mut [T])
     requires same { length a.now ≡ length out.old }
     requires pairs { length out.old % 2 ≡ 0 }
     ensures { map T.number out.new ≡ interleaved (length out.old / 2) (λ n.
@@ -30,7 +30,12 @@ pub fn conj<T: WideSample>(a: &[T], out: &mut [T])
 /// The products of complex numbers, each its real part and then its imaginary part, and four
 /// products counted for each: `arm_cmplx_mult_cmplx_q15`, `arm_cmplx_mult_cmplx_q31`. Lengths are
 /// equal and even.
-pub fn mult_cmplx<T: WideSample, M: Ledger>(a: &[T], b: &[T], out: &mut [T], steps: &mut Steps<M>)
+pub fn mult_cmplx<T: ComplexSample, M: Ledger>(
+    a: &[T],
+    b: &[T],
+    out: &mut [T],
+    steps: &mut Steps<M>,
+)
     requires left { length a.now ≡ length out.old }
     requires right { length b.now ≡ length out.old }
     requires pairs { length out.old % 2 ≡ 0 }
@@ -73,7 +78,7 @@ pub fn mult_real<M: Ledger>(a: &[i16], r: &[i16], out: &mut [i16], steps: &mut S
 /// The squared magnitudes of complex numbers, each its real part and then its imaginary part, and
 /// two products counted for each: `arm_cmplx_mag_squared_q15`, `arm_cmplx_mag_squared_q31`. There
 /// are twice as many parts as magnitudes.
-pub fn mag_squared<T: WideSample, M: Ledger>(a: &[T], out: &mut [T], steps: &mut Steps<M>)
+pub fn mag_squared<T: ComplexSample, M: Ledger>(a: &[T], out: &mut [T], steps: &mut Steps<M>)
     requires { length a.now ≡ 2 * length out.old }
     ensures out { map T.number out.new ≡ values (length out.old) (λ n.
         cmplx_mag_squared T.format (re (map T.number a.now) n) (im (map T.number a.now) n)) }

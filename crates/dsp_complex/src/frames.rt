@@ -8,13 +8,12 @@ ghost use Rattle.dsp_defs.specs.declared.format.Fmt.TheVariants.{Q15};
 ghost use Rattle.dsp_lanes.specs.Turns.{RisesWithin};
 ghost use Rattle.std.proofs.Common.{lit<};
 
-use crate::scalars::{Complex, conjugate, product, squared};
+use crate::scalars::{Complex, ComplexSample, conjugate, product, squared};
 use dsp_defs::Steps;
-use dsp_sat::WideSample;
 use std::sync::ledger::Ledger;
 
 /// An operation on one frame of TAKEN numbers, which gives GIVEN numbers.
-pub(crate) trait FrameOperation<T: WideSample>: Copy {
+pub(crate) trait FrameOperation<T: ComplexSample>: Copy {
     const TAKEN: usize;
 
     const GIVEN: usize;
@@ -47,7 +46,7 @@ pub(crate) trait FrameOperation<T: WideSample>: Copy {
 #[derive(Clone, Copy)]
 pub(crate) struct Conjugate;
 
-impl<T: WideSample> FrameOperation<T> for Conjugate {
+impl<T: ComplexSample> FrameOperation<T> for Conjugate {
     const TAKEN: usize = 2;
 
     const GIVEN: usize = 2;
@@ -81,7 +80,7 @@ impl<T: WideSample> FrameOperation<T> for Conjugate {
 #[derive(Clone, Copy)]
 pub(crate) struct Product;
 
-impl<T: WideSample> FrameOperation<T> for Product {
+impl<T: ComplexSample> FrameOperation<T> for Product {
     const TAKEN: usize = 4;
 
     const GIVEN: usize = 2;
@@ -121,7 +120,7 @@ impl<T: WideSample> FrameOperation<T> for Product {
 #[derive(Clone, Copy)]
 pub(crate) struct RealProduct;
 
-impl<T: WideSample> FrameOperation<T> for RealProduct {
+impl<T: ComplexSample> FrameOperation<T> for RealProduct {
     const TAKEN: usize = 3;
 
     const GIVEN: usize = 2;
@@ -152,7 +151,7 @@ impl<T: WideSample> FrameOperation<T> for RealProduct {
 #[derive(Clone, Copy)]
 pub(crate) struct SquaredMagnitude;
 
-impl<T: WideSample> FrameOperation<T> for SquaredMagnitude {
+impl<T: ComplexSample> FrameOperation<T> for SquaredMagnitude {
     const TAKEN: usize = 2;
 
     const GIVEN: usize = 1;
@@ -183,7 +182,7 @@ impl<T: WideSample> FrameOperation<T> for SquaredMagnitude {
 
 /// Writes what the operation gives of each of `count` frames, and answers the number of samples.
 #[inline(always)]
-pub(crate) fn give_frames<T: WideSample, O: FrameOperation<T>, L: Ledger>(
+pub(crate) fn give_frames<T: ComplexSample, O: FrameOperation<T>, L: Ledger>(
     operation: O,
     frames: &[i32],
     count: usize,

@@ -9,4 +9,5 @@ mod unit;
 
 pub use calls::{conj, mag_squared, mult_cmplx, mult_real};
 pub use operation::Operation;
+pub use scalars::ComplexSample;
 pub use unit::ComplexUnit;

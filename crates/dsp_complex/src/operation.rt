@@ -5,9 +5,9 @@ ghost use Rattle.dsp_stage.specs.Unit.{IsSignal};
 ghost use Rattle.dsp_frames.specs.Memoryless.{Gives, price};
 
 use crate::frames::{Conjugate, Product, RealProduct, SquaredMagnitude, give_frames};
+use crate::scalars::ComplexSample;
 use dsp_defs::{Block, Fmt, Steps};
 use dsp_frames::FrameWork;
-use dsp_sat::WideSample;
 use std::alloc::{AllocError, Global};
 use std::sync::ledger::Ledger;
 
@@ -24,7 +24,7 @@ impl Operation {
     ghost use Rattle.dsp_complex.specs.ComplexUnit.{block_of};
 
     /// Writes what it gives of samples of the format of T, frame by frame, and answers their number.
-    fn feed_as<T: WideSample, L: Ledger>(
+    fn feed_as<T: ComplexSample, L: Ledger>(
         self,
         channels: usize,
         frames: &[i32],
@@ -76,7 +76,7 @@ impl FrameWork for Operation {
             Block::CmplxMult => Ok(Operation::CmplxMult),
             Block::CmplxMultReal => Ok(Operation::CmplxMultReal),
             Block::MagSquared => Ok(Operation::MagSquared),
-            _ => Err(AllocError),
+            _ => unreachable!(),
         }
     }
 

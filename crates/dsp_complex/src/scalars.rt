@@ -1,4 +1,4 @@
-ghost use Rattle.std.specs.Prelude.{◌≡◌, ◌≤◌, ◌-◌, ◌^◌, ◌*ℤ◌, nat_abs};
+ghost use Rattle.std.specs.Prelude.{◌≡◌, ◌≤◌, ◌+◌, ◌-◌, ◌^◌, ◌*ℤ◌, nat_abs, refl};
 ghost use Rattle.dsp_defs.specs.Complex.{cmplx_conj, cmplx_mag_squared, cmplx_mult, product_shift};
 ghost use Rattle.dsp_defs.specs.Counts.{Rises};
 ghost use Rattle.dsp_defs.specs.Formats.{word_bits};
@@ -7,6 +7,19 @@ ghost use Rattle.dsp_defs.specs.Numbers.{floor_shift};
 use dsp_defs::Steps;
 use dsp_sat::{WideSample, wide_product};
 use std::sync::ledger::Ledger;
+
+/// The samples of complex numbers: those of Q15 and Q31.
+pub trait ComplexSample: WideSample {
+    ghost has_shift: { word_bits Self.format + 1 ≡ product_shift Self.format };
+}
+
+impl ComplexSample for i16 {
+    ghost has_shift = { refl };
+}
+
+impl ComplexSample for i32 {
+    ghost has_shift = { refl };
+}
 
 /// A complex number.
 #[derive(Clone, Copy)]
@@ -17,7 +30,7 @@ pub(crate) struct Complex<T> {
 
 /// The conjugate.
 #[inline(always)]
-pub(crate) fn conjugate<T: WideSample>(a: Complex<T>) -> Complex<T>
+pub(crate) fn conjugate<T: ComplexSample>(a: Complex<T>) -> Complex<T>
     ensures re { T.number result.re ≡ (cmplx_conj T.format (T.number a.re) (T.number a.im)).0 }
     ensures im { T.number result.im ≡ (cmplx_conj T.format (T.number a.re) (T.number a.im)).1 }
 {
@@ -29,7 +42,7 @@ pub(crate) fn conjugate<T: WideSample>(a: Complex<T>) -> Complex<T>
 
 /// A product of two parts, shifted so that the sum of two of them fits the word.
 #[inline(always)]
-fn shifted_product<T: WideSample, L: Ledger>(a: T, b: T, steps: &mut Steps<L>) -> i32
+fn shifted_product<T: ComplexSample, L: Ledger>(a: T, b: T, steps: &mut Steps<L>) -> i32
     ensures value { result ≡ floor_shift (T.number a *ℤ T.number b) (product_shift T.format) }
     ensures small { nat_abs result ≤ 2 ^ (word_bits T.format - 3) }
     ensures steps { Rises steps.old steps.new 1 1 }
@@ -39,7 +52,7 @@ fn shifted_product<T: WideSample, L: Ledger>(a: T, b: T, steps: &mut Steps<L>) -
 
 /// The product.
 #[inline(always)]
-pub(crate) fn product<T: WideSample, L: Ledger>(
+pub(crate) fn product<T: ComplexSample, L: Ledger>(
     a: Complex<T>,
     b: Complex<T>,
     steps: &mut Steps<L>,
@@ -60,7 +73,7 @@ pub(crate) fn product<T: WideSample, L: Ledger>(
 
 /// The squared magnitude.
 #[inline(always)]
-pub(crate) fn squared<T: WideSample, L: Ledger>(a: Complex<T>, steps: &mut Steps<L>) -> T
+pub(crate) fn squared<T: ComplexSample, L: Ledger>(a: Complex<T>, steps: &mut Steps<L>) -> T
     ensures value { T.number result ≡ cmplx_mag_squared T.format (T.number a.re) (T.number a.im) }
     ensures steps { Rises steps.old steps.new 2 2 }
 {

@@ -1,18 +1,17 @@
 -- What a chain has given of a signal stays when the signal goes on, and is the beginning of what it gives of the whole.
-use Rattle.std.proofs.Common.{◌≡◌, ℕ, ◌*◌, ◌/◌, ℤ, List, [], ◌∷◌, ◌++◌, map, Option, Some, None, refl, sym, ap, ◌∙◌, nat_abs}
+use Rattle.std.proofs.Common.{ℕ, ◌*◌, ◌/◌, ℤ, List, [], ◌∷◌, ◌++◌, map, Option, Some, None, refl, ap, ◌∙◌, nat_abs}
 use Rattle.dsp_defs.specs.Sums.{conv, conv_partial, correlate}
 use Rattle.dsp_defs.specs.Lattice.{lattice_fir, lattice_iir}
 use Rattle.dsp_defs.specs.Biquad.{biquad, biquad64}
 use Rattle.dsp_defs.specs.Adaptive.{Adapted, pid, lms}
 use Rattle.dsp_defs.specs.Matrix.{each_group, added, subtracted, scaled, transposed, multiplied}
-use Rattle.dsp_defs.specs.Streaming.{Begins, Continues, IsCausal}
-use Rattle.dsp_defs.specs.Block.{Frame, input_pairs, given_frame, by_frames, applied, live_channel, whole, live, live_conv, live_conv_partial, FeedsThrough, EndsWith, whole_chain, live_chain, format_after, channels_after}
+use Rattle.dsp_defs.specs.Streaming.{Begins, IsCausal}
+use Rattle.dsp_defs.specs.Block.{Frame, input_pairs, given_frame, by_frames, applied, live_channel, whole, live, live_conv, live_conv_partial, whole_chain, live_chain, format_after, channels_after}
 use Rattle.dsp_defs.specs.declared.format.Fmt.{Fmt}
 use Rattle.dsp_defs.specs.declared.script.Block.{Block}
 use Rattle.dsp_defs.specs.declared.script.Block.TheVariants.{Fir, Sparse, Decimate, Interpolate, LatticeFir, LatticeIir, Biquad, Biquad64, Conv, ConvPartial, Correlate, Lms, Pid, MatAdd, MatSub, MatScale, MatTrans, MatMult, Power, Dot, CmplxDot, Max, Min}
 use Rattle.dsp_defs.proofs.Causal.{GivesByLength, each_channel_begins, map_causal}
-use Rattle.dsp_defs.proofs.Streaming.{causal_chain, continues_chain}
-use Rattle.std.proofs.lemmas.List.{append-nil, append_assoc}
+use Rattle.dsp_defs.proofs.Streaming.{causal_chain}
 use Rattle.dsp_defs.proofs.BlockLaws.{fir_causal, sparse_causal, decimate_causal, interpolate_causal, each_group_causal, biquad_causal, biquad64_causal, pid_causal, lattice_fir_causal, lattice_iir_causal, lms_causal, live_conv_causal, live_conv_begins, live_conv_partial_causal, live_conv_partial_begins, values_by_length, by_length, length-biquad, length-biquad64, length-pid, length-lattice_fir, length-lattice_iir, live_conv_by_length, live_conv_partial_by_length}
 
 -- ---- blocks that work on each channel
@@ -93,26 +92,3 @@ whole_chain_begins format channels (block ∷ blocks) x more =
     let (ys, e) = whole_begins format channels block x more in
     let (zs, e') = whole_chain_begins (format_after format block) (channels_after channels block) blocks (live format channels block x) ys in
     (zs, ap (whole_chain (format_after format block) (channels_after channels block) blocks) e ∙ e')
-
--- pieces that go through the blocks are what the chain gives
-pub feeds_through : (format : Fmt) (channels : ℕ) (blocks : List Block) (x more ys : List Frame) → FeedsThrough format channels blocks x more ys → Continues (live_chain format channels blocks) x more ys
-feeds_through format channels [] x more ys e = ap (λ r. x ++ r) (sym e)
-feeds_through format channels (block ∷ blocks) x more ys h =
-    continues_chain (live format channels block) (live_chain (format_after format block) (channels_after channels block) blocks) x more h.0 ys
-    h.1 (feeds_through (format_after format block) (channels_after channels block) blocks (live format channels block x) h.0 ys h.2)
-
--- tails that go through the blocks are what the chain still has to give
-pub ends_with : (format : Fmt) (channels : ℕ) (blocks : List Block) (x ys : List Frame) → EndsWith format channels blocks x ys → whole_chain format channels blocks x ≡ live_chain format channels blocks x ++ ys
-ends_with format channels [] x ys e = sym (append-nil x) ∙ ap (λ r. x ++ r) (sym e)
-ends_with format channels (block ∷ blocks) x ys h =
-    let tail = h.0 in
-    let fed = h.1 in
-    let later = h.2 in
-    let f = format_after format block in
-    let c = channels_after channels block in
-    let given = live format channels block x in
-    ap (whole_chain f c blocks) h.3
-    ∙ ends_with f c blocks (given ++ tail) later h.5
-    ∙ ap (λ r. r ++ later) (feeds_through f c blocks given tail fed h.4)
-    ∙ append_assoc (live_chain f c blocks given) fed later
-    ∙ ap (λ r. live_chain f c blocks given ++ r) (sym h.6)

@@ -18,3 +18,4 @@ pub mod WaveCuts
 pub mod FrameLemmas
 pub mod SampleLaws
 pub mod HeaderCoding
+pub mod AuLaws

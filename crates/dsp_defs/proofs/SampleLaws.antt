@@ -8,7 +8,7 @@ use Rattle.std.proofs.lemmas.Nat.{div-mul-add, mul-add-lt}
 use Rattle.std.proofs.Math.Nat.{add-mul-div_right, mul-div_cancel}
 use Rattle.std.proofs.Math.Seq.{drop-append-add}
 use Rattle.dsp_defs.specs.Block.{Frame}
-use Rattle.dsp_defs.specs.Bytes.{width, bytes_of, sample_of, coded, samples}
+use Rattle.dsp_defs.specs.Bytes.{width, bytes_of, sample_of, coded, samples, samples_by}
 use Rattle.dsp_defs.specs.Signal.{sample, values}
 use Rattle.dsp_defs.specs.Block.{frames_in}
 use Rattle.dsp_defs.specs.declared.format.Coding.{Coding}
@@ -26,79 +26,98 @@ sample_inside i n channels c w below inside = grind arith
 sample_behind : (i n channels c w : ℕ) → ((n + i) * channels + c) * w ≡ n * (channels * w) + (i * channels + c) * w
 sample_behind i n channels c w = grind arith
 
-pub length-samples : (coding : Coding) (channels : ℕ) (bytes : List ℕ) → length (samples coding channels bytes) ≡ length bytes / (channels * width coding)
-length-samples coding channels bytes = length-values (length bytes / (channels * width coding)) _
-
-no_frames : (coding : Coding) (channels : ℕ) (bytes : List ℕ) → length bytes / (channels * width coding) ≡ 0 → samples coding channels bytes ≡ []
-no_frames coding channels bytes none =
-    ap (λ (n : ℕ). values n (λ i. values channels (λ c. sample_of coding (take (width coding) (drop ((i * channels + c) * width coding) bytes))))) none
-
-pub samples-nil : (coding : Coding) (channels : ℕ) → samples coding channels [] ≡ []
-samples-nil coding channels = no_frames coding channels [] (nothing (channels * width coding))
-  where
-    nothing : (k : ℕ) → 0 / k ≡ 0
-    nothing k = omega arith
-
--- bytes that are n whole frames, and more bytes behind them
-module _ (coding : Coding) (channels n : ℕ) (bytes more : List ℕ) (some : zero < channels * width coding) (whole : length bytes ≡ n * (channels * width coding)) where
-  abbrev frame_of : List ℕ → ℕ → Frame
-  frame_of bytes i = values channels (λ c. sample_of coding (take (width coding) (drop ((i * channels + c) * width coding) bytes)))
-
-  frames : length (bytes ++ more) / (channels * width coding) ≡ n + length more / (channels * width coding)
-  frames =
-      let total : length (bytes ++ more) ≡ length more + n * (channels * width coding) = omega (arith, length-append bytes more) in
-      let split = add-mul-div_right (length more) n some in
-      ap (λ k. k / (channels * width coding)) total ∙ split ∙ add_comm (length more / (channels * width coding)) n
-
-  pub count-whole : length bytes / (channels * width coding) ≡ n
-  count-whole =
-      let exact : length bytes ≡ n * (channels * width coding) + 0 = omega (arith, whole) in
-      ap (λ k. k / (channels * width coding)) exact ∙ div-mul-add n (channels * width coding) 0 some
-
-  front : (i c : ℕ) → i < n → c < channels → take (width coding) (drop ((i * channels + c) * width coding) (bytes ++ more)) ≡ take (width coding) (drop ((i * channels + c) * width coding) bytes)
-  front i c below inside =
-      let start = (i * channels + c) * width coding in
-      let fits : start + width coding ≤ length bytes = rw whole (sample_inside i n channels c (width coding) below inside) in
-      let room : width coding ≤ length (drop start bytes) = omega (arith, length-drop start bytes) in
-      ap (take (width coding)) (drop-append-le start bytes more (omega arith)) ∙ take-append-le (width coding) (drop start bytes) more room
-
-  back : (i c : ℕ) → take (width coding) (drop (((n + i) * channels + c) * width coding) (bytes ++ more)) ≡ take (width coding) (drop ((i * channels + c) * width coding) more)
-  back i c =
-      let start = (i * channels + c) * width coding in
-      let place : ((n + i) * channels + c) * width coding ≡ length bytes + start = sample_behind i n channels c (width coding) ∙ ap (λ k. k + start) (sym whole) in
-      ap (λ k. take (width coding) (drop k (bytes ++ more))) place ∙ ap (take (width coding)) (drop-append-add bytes more start)
-
-  -- the signal of both is the signal of the one and then of the other
-  pub samples-append : samples coding channels (bytes ++ more) ≡ samples coding channels bytes ++ samples coding channels more
-  samples-append =
-      let later = length more / (channels * width coding) in
-      ap (λ k. values k (frame_of (bytes ++ more))) frames
-      ∙ values-add n later (frame_of (bytes ++ more))
-      ∙ ap₂ (λ xs ys. xs ++ ys)
-      (values_cong n _ (frame_of bytes) (λ i below. values_cong channels _ _ (λ c inside. ap (sample_of coding) (front i c below inside)))
-      ∙ ap (λ k. values k (frame_of bytes)) (sym count-whole))
-      (values_cong later _ (frame_of more) (λ i _. values_cong channels _ _ (λ c _. ap (sample_of coding) (back i c))))
-
 rest_below : (n size k : ℕ) → 0 < k → n ≡ size / k → (n * k ≤ size) × (size - n * k < k)
 rest_below n size k some is = grind arith
 
 small_quotient : (size k : ℕ) → size < k → size / k ≡ 0
 small_quotient size k h = grind arith
 
--- a rest that is no whole frame changes nothing
+module _ (read : List ℕ → ℤ) (w channels : ℕ) where
+  abbrev frame_of : List ℕ → ℕ → Frame
+  frame_of bytes i = values channels (λ c. read (take w (drop ((i * channels + c) * w) bytes)))
+
+  pub length-samples_by : (bytes : List ℕ) → length (samples_by read w channels bytes) ≡ length bytes / (channels * w)
+  length-samples_by bytes = length-values (length bytes / (channels * w)) (frame_of bytes)
+
+  no_frames : (bytes : List ℕ) → length bytes / (channels * w) ≡ 0 → samples_by read w channels bytes ≡ []
+  no_frames bytes none = ap (λ (n : ℕ). values n (frame_of bytes)) none
+
+  pub samples_by-nil : samples_by read w channels [] ≡ []
+  samples_by-nil = no_frames [] (nothing (channels * w))
+    where
+      nothing : (k : ℕ) → 0 / k ≡ 0
+      nothing k = omega arith
+
+  -- bytes that are n whole frames, and more bytes behind them
+  module _ (n : ℕ) (bytes more : List ℕ) (some : zero < channels * w) (whole : length bytes ≡ n * (channels * w)) where
+    frames : length (bytes ++ more) / (channels * w) ≡ n + length more / (channels * w)
+    frames =
+        let total : length (bytes ++ more) ≡ length more + n * (channels * w) = omega (arith, length-append bytes more) in
+        let split = add-mul-div_right (length more) n some in
+        ap (λ k. k / (channels * w)) total ∙ split ∙ add_comm (length more / (channels * w)) n
+
+    pub count-whole_by : length bytes / (channels * w) ≡ n
+    count-whole_by =
+        let exact : length bytes ≡ n * (channels * w) + 0 = omega (arith, whole) in
+        ap (λ k. k / (channels * w)) exact ∙ div-mul-add n (channels * w) 0 some
+
+    front : (i c : ℕ) → i < n → c < channels → take w (drop ((i * channels + c) * w) (bytes ++ more)) ≡ take w (drop ((i * channels + c) * w) bytes)
+    front i c below inside =
+        let start = (i * channels + c) * w in
+        let fits : start + w ≤ length bytes = rw whole (sample_inside i n channels c w below inside) in
+        let room : w ≤ length (drop start bytes) = omega (arith, length-drop start bytes) in
+        ap (take w) (drop-append-le start bytes more (omega arith)) ∙ take-append-le w (drop start bytes) more room
+
+    back : (i c : ℕ) → take w (drop (((n + i) * channels + c) * w) (bytes ++ more)) ≡ take w (drop ((i * channels + c) * w) more)
+    back i c =
+        let start = (i * channels + c) * w in
+        let place : ((n + i) * channels + c) * w ≡ length bytes + start = sample_behind i n channels c w ∙ ap (λ k. k + start) (sym whole) in
+        ap (λ k. take w (drop k (bytes ++ more))) place ∙ ap (take w) (drop-append-add bytes more start)
+
+    -- the signal of both is the signal of the one and then of the other
+    pub samples_by-append : samples_by read w channels (bytes ++ more) ≡ samples_by read w channels bytes ++ samples_by read w channels more
+    samples_by-append =
+        let later = length more / (channels * w) in
+        ap (λ k. values k (frame_of (bytes ++ more))) frames
+        ∙ values-add n later (frame_of (bytes ++ more))
+        ∙ ap₂ (λ xs ys. xs ++ ys)
+        (values_cong n _ (frame_of bytes) (λ i below. values_cong channels _ _ (λ c inside. ap read (front i c below inside)))
+        ∙ ap (λ k. values k (frame_of bytes)) (sym count-whole_by))
+        (values_cong later _ (frame_of more) (λ i _. values_cong channels _ _ (λ c _. ap read (back i c))))
+
+  -- a rest that is no whole frame changes nothing
+  pub samples_by-whole : (n : ℕ) (bytes : List ℕ) → 0 < channels * w → n ≡ length bytes / (channels * w)
+      → samples_by read w channels (take (n * (channels * w)) bytes) ≡ samples_by read w channels bytes
+  samples_by-whole n bytes some is =
+      let size = channels * w in
+      let bounds = rest_below n (length bytes) size some is in
+      let front = take (n * size) bytes in
+      let rest = drop (n * size) bytes in
+      let long : length front ≡ n * size = length-take-le (n * size) bytes bounds.0 in
+      let short : length rest < size = omega (arith, length-drop (n * size) bytes, bounds.1) in
+      sym (ap (samples_by read w channels) (sym (take-append-drop (n * size) bytes))
+      ∙ samples_by-append n front rest some long
+      ∙ ap (λ (later : List Frame). samples_by read w channels front ++ later) (no_frames rest (small_quotient (length rest) size short))
+      ∙ append-nil (samples_by read w channels front))
+
+-- in a coding
+
+pub length-samples : (coding : Coding) (channels : ℕ) (bytes : List ℕ) → length (samples coding channels bytes) ≡ length bytes / (channels * width coding)
+length-samples coding channels bytes = length-samples_by (sample_of coding) (width coding) channels bytes
+
+pub samples-nil : (coding : Coding) (channels : ℕ) → samples coding channels [] ≡ []
+samples-nil coding channels = samples_by-nil (sample_of coding) (width coding) channels
+
+pub count-whole : (coding : Coding) (channels n : ℕ) (bytes more : List ℕ) → zero < channels * width coding → length bytes ≡ n * (channels * width coding) → length bytes / (channels * width coding) ≡ n
+count-whole coding channels n bytes more some whole = count-whole_by (sample_of coding) (width coding) channels n bytes more some whole
+
+pub samples-append : (coding : Coding) (channels n : ℕ) (bytes more : List ℕ) → zero < channels * width coding → length bytes ≡ n * (channels * width coding)
+    → samples coding channels (bytes ++ more) ≡ samples coding channels bytes ++ samples coding channels more
+samples-append coding channels n bytes more some whole = samples_by-append (sample_of coding) (width coding) channels n bytes more some whole
+
 pub samples-whole : (coding : Coding) (channels n : ℕ) (bytes : List ℕ) → 0 < channels * width coding → n ≡ length bytes / (channels * width coding)
     → samples coding channels (take (n * (channels * width coding)) bytes) ≡ samples coding channels bytes
-samples-whole coding channels n bytes some is =
-    let size = channels * width coding in
-    let bounds = rest_below n (length bytes) size some is in
-    let front = take (n * size) bytes in
-    let rest = drop (n * size) bytes in
-    let long : length front ≡ n * size = length-take-le (n * size) bytes bounds.0 in
-    let short : length rest < size = omega (arith, length-drop (n * size) bytes, bounds.1) in
-    sym (ap (samples coding channels) (sym (take-append-drop (n * size) bytes))
-    ∙ samples-append coding channels n front rest some long
-    ∙ ap (λ (later : List Frame). samples coding channels front ++ later) (no_frames coding channels rest (small_quotient (length rest) size short))
-    ∙ append-nil (samples coding channels front))
+samples-whole coding channels n bytes some is = samples_by-whole (sample_of coding) (width coding) channels n bytes some is
 
 -- ---- samples of a slice
 
@@ -126,7 +145,7 @@ decoded coding channels n count bytes some long is =
     product-some a b h k = grind arith
 
 -- rows of values, one after another
-flat_rows : {B : Type 0} (g : ℤ → List B) (h : ℕ → ℤ) (channels n : ℕ) → flat_map (flat_map g) (values n (λ i. values channels (λ c. h (i * channels + c)))) ≡ flat_map g (values (n * channels) h)
+pub flat_rows : {B : Type 0} (g : ℤ → List B) (h : ℕ → ℤ) (channels n : ℕ) → flat_map (flat_map g) (values n (λ i. values channels (λ c. h (i * channels + c)))) ≡ flat_map g (values (n * channels) h)
 flat_rows g h channels zero = ap (λ (k : ℕ). flat_map g (values k h)) (none channels)
   where
     none : (k : ℕ) → 0 ≡ 0 * k

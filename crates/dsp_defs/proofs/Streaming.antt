@@ -6,7 +6,7 @@ use Rattle.std.proofs.lemmas.Bool.{cases_lt}
 use Rattle.dsp_defs.specs.Formats.{close}
 use Rattle.dsp_defs.specs.Signal.{sample, delayed, values, sum_below, outputs_of_history, outputs}
 use Rattle.dsp_defs.specs.Sums.{convolution_at, fir}
-use Rattle.dsp_defs.specs.Streaming.{Continues, IsCausal, last_of, rows, outputs_after}
+use Rattle.dsp_defs.specs.Streaming.{Continues, IsCausal, last_of, rows}
 use Rattle.dsp_defs.proofs.Signal.{values_cong, values-add, sum_below_cong, sum_below_reversed, delayed-append, delayed_before, delayed_after}
 use Rattle.dsp_defs.specs.declared.format.Fmt.{Fmt}
 
@@ -94,6 +94,13 @@ last_of-append count x more =
     rw (moved, drop-drop, length-append x more, append_assoc zeros x more) refl
 
 -- ---- recurrences
+
+-- the outputs of a recurrence for further inputs, after a history of inputs and one of outputs, the newest first
+abbrev pub outputs_after : {A B : Type 0} → (List A → List B → B) → List A → List B → List A → List B
+outputs_after next past earlier [] = []
+outputs_after next past earlier (x ∷ more) =
+    let y = next (x ∷ past) earlier in
+    y ∷ outputs_after next (x ∷ past) (y ∷ earlier) more
 
 history-append : {A B : Type 0} (next : List A → List B → B) (more past : List A) (earlier : List B) → outputs_of_history next past ≡ earlier → outputs_of_history next (reverse_aux more past) ≡ reverse_aux (outputs_after next past earlier more) earlier
 history-append next [] past earlier e = e

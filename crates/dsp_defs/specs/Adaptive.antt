@@ -1,10 +1,10 @@
 -- The LMS filters and the PID controllers.
 use Rattle.std.specs.Prelude.{ℕ, ◌-◌, ℤ, pos, ◌+ℤ◌, ◌-ℤ◌, ◌*ℤ◌, neg_ℤ, List, [], ◌∷◌, map, length, reverse, get_or}
-use Rattle.dsp_defs.specs.Numbers.{◌>>◌, saturate, wrap, w8, w16, w32, w64}
+use Rattle.dsp_defs.specs.Numbers.{◌>>◌, saturate, wrap, w16, w32, w64}
 use Rattle.dsp_defs.specs.Formats.{word, word_bits}
 use Rattle.dsp_defs.specs.Signal.{sample, values, sum_below, outputs}
 use Rattle.dsp_defs.specs.declared.format.Fmt.{Fmt}
-use Rattle.dsp_defs.specs.declared.format.Fmt.TheVariants.{Q7, Q15, Q31}
+use Rattle.dsp_defs.specs.declared.format.Fmt.TheVariants.{Q31}
 
 -- what LMS gives of one sample, and the weights after it
 pub record Adapted : Type 0 where
@@ -14,21 +14,18 @@ pub record Adapted : Type 0 where
 
 -- y = sat_16(wrap_32(s >> (15-p))), and wrap_32(wrap_64(s) >> (31-p)) in Q31
 abbrev pub lms_close : Fmt → ℕ → ℤ → ℤ
-lms_close Q7 p s = saturate 8 (s >> (7 - p))
-lms_close Q15 p s = saturate 16 (wrap w32 (s >> (15 - p)))
 lms_close Q31 p s = wrap w32 (wrap w64 s >> (31 - p))
+lms_close format p s = saturate 16 (wrap w32 (s >> (15 - p)))
 
 -- alpha = wrap_16(e*mu >> 15), wrap_32(e*mu >> 31)
 abbrev pub step_size : Fmt → ℤ → ℤ → ℤ
-step_size Q7 mu e = wrap w8 (e *ℤ mu >> 7)
-step_size Q15 mu e = wrap w16 (e *ℤ mu >> 15)
 step_size Q31 mu e = wrap w32 (e *ℤ mu >> 31)
+step_size format mu e = wrap w16 (e *ℤ mu >> 15)
 
 -- w(n+1) = sat_16(w + (alpha*x >> 15)), sat_32(w + wrap_32(2*(alpha*x >> 32)))
 abbrev pub weight_after : Fmt → ℤ → ℤ → ℤ → ℤ
-weight_after Q7 alpha w x = saturate 8 (w +ℤ (alpha *ℤ x >> 7))
-weight_after Q15 alpha w x = saturate 16 (w +ℤ (alpha *ℤ x >> 15))
 weight_after Q31 alpha w x = saturate 32 (w +ℤ wrap w32 (pos 2 *ℤ (alpha *ℤ x >> 32)))
+weight_after format alpha w x = saturate 16 (w +ℤ (alpha *ℤ x >> 15))
 
 -- from the weights w before sample n and the inputs x(n), x(n-1), ..: y = the sum of w_k*x(n-k), e = wrap_n(reference - y)
 abbrev pub adapted : Fmt → ℕ → ℤ → List ℤ → List ℤ → ℤ → Adapted
@@ -84,9 +81,8 @@ pid_gains format kp ki kd = record {
 
 -- sat_16((s + y1*2^15) >> 15), and wrap_32((wrap_64(s) >> 31) + y1) in Q31
 abbrev pub pid_close : Fmt → ℤ → ℤ → ℤ
-pid_close Q7 s y1 = saturate 8 (s +ℤ y1 *ℤ pos 128 >> 7)
-pid_close Q15 s y1 = saturate 16 (s +ℤ y1 *ℤ pos 32768 >> 15)
 pid_close Q31 s y1 = wrap w32 ((wrap w64 s >> 31) +ℤ y1)
+pid_close format s y1 = saturate 16 (s +ℤ y1 *ℤ pos 32768 >> 15)
 
 -- y from A0*x + A1*x1 + A2*x2 and y1
 abbrev pub pid_output : Fmt → Gains → List ℤ → List ℤ → ℤ

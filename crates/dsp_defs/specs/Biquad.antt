@@ -3,7 +3,7 @@ use Rattle.std.specs.Prelude.{ℕ, ◌-◌, ◌+◌, ◌^◌, ℤ, pos, ◌+ℤ�
 use Rattle.dsp_defs.specs.Numbers.{◌>>◌, saturate, wrap, w32, w64}
 use Rattle.dsp_defs.specs.Signal.{sample, outputs}
 use Rattle.dsp_defs.specs.declared.format.Fmt.{Fmt}
-use Rattle.dsp_defs.specs.declared.format.Fmt.TheVariants.{Q7, Q15, Q31}
+use Rattle.dsp_defs.specs.declared.format.Fmt.TheVariants.{Q15, Q31}
 
 -- the coefficients of a section
 pub record Section : Type 0 where
@@ -26,9 +26,8 @@ forward_sum c xs = c.b0 *ℤ sample xs 0 +ℤ c.b1 *ℤ sample xs 1 +ℤ c.b2 *�
 
 -- sat_16(s >> (15-p)), wrap_32(wrap_64(s) >> (31-p))
 abbrev pub section_close : Fmt → ℕ → ℤ → ℤ
-section_close Q7 p s = saturate 8 (s >> (7 - p))
-section_close Q15 p s = saturate 16 (s >> (15 - p))
 section_close Q31 p s = wrap w32 (wrap w64 s >> (31 - p))
+section_close format p s = saturate 16 (s >> (15 - p))
 
 -- y = close(b0*x + b1*x1 + b2*x2 + a1*y1 + a2*y2)
 abbrev pub section_output : Fmt → ℕ → Section → List ℤ → List ℤ → ℤ

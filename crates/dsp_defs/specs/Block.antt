@@ -1,7 +1,6 @@
 -- What a block and a chain give of a signal: of the whole one, and while it goes on.
-use Rattle.std.specs.Prelude.{◌≡◌, ℕ, ◌+◌, ◌-◌, ◌*◌, ◌/◌, ℤ, List, [], ◌∷◌, ◌++◌, map, length, take, get_or, nat_abs, Option, Some, None}
+use Rattle.std.specs.Prelude.{ℕ, ◌+◌, ◌-◌, ◌*◌, ◌/◌, ℤ, List, [], ◌∷◌, map, length, take, get_or, nat_abs, Option, Some, None}
 use Rattle.dsp_defs.specs.Signal.{sample, values}
-use Rattle.dsp_defs.specs.Streaming.{Continues}
 use Rattle.dsp_defs.specs.Elementwise
 use Rattle.dsp_defs.specs.Complex.{cmplx_conj, cmplx_mult, cmplx_mult_real, cmplx_mag_squared}
 use Rattle.dsp_defs.specs.Sums.{fir, sparse, decimate, interpolate, conv, conv_partial, correlate}
@@ -156,20 +155,3 @@ whole_chain = chain_by whole
 -- and of one that may go on
 abbrev pub live_chain : Fmt → ℕ → List Block → List Frame → List Frame
 live_chain = chain_by live
-
--- ---- words of contracts and proofs
-
--- ys is what a chain gives of more frames after x: each block gives its piece of the piece before it
-abbrev pub FeedsThrough : Fmt → ℕ → List Block → List Frame → List Frame → List Frame → Type 0
-FeedsThrough format channels [] x more ys = ys ≡ more
-FeedsThrough format channels (block ∷ blocks) x more ys =
-    (piece : List Frame) × Continues (live format channels block) x more piece × FeedsThrough (format_after format block) (channels_after channels block) blocks (live format channels block x) piece ys
-
--- ys is what a chain still has to give when x is the whole signal: each block's tail goes through the blocks behind it, before their own
-abbrev pub EndsWith : Fmt → ℕ → List Block → List Frame → List Frame → Type 0
-EndsWith format channels [] x ys = ys ≡ []
-EndsWith format channels (block ∷ blocks) x ys =
-    (tail fed later : List Frame) × (whole format channels block x ≡ live format channels block x ++ tail)
-    × FeedsThrough (format_after format block) (channels_after channels block) blocks (live format channels block x) tail fed
-    × EndsWith (format_after format block) (channels_after channels block) blocks (live format channels block x ++ tail) later
-    × (ys ≡ fed ++ later)

@@ -69,12 +69,20 @@ AreBytes n bytes = (length bytes ≡ n) × ((i : ℕ) → get_or bytes i 0 < 256
 
 -- ---- signals
 
--- the bytes of a signal, frame by frame
-abbrev pub coded : Coding → List Frame → List ℕ
-coded coding frames = flat_map (λ frame. flat_map (bytes_of coding) frame) frames
+-- the bytes of a signal, frame by frame, where each sample has these bytes
+abbrev pub coded_by : (ℤ → List ℕ) → List Frame → List ℕ
+coded_by write frames = flat_map (λ frame. flat_map write frame) frames
 
--- the signal of all whole frames of the bytes; a rest that is no whole frame is dropped
+-- the signal of all whole frames of the bytes, where each sample is read of so many bytes; a rest that is no whole frame is dropped
+abbrev pub samples_by : (List ℕ → ℤ) → ℕ → ℕ → List ℕ → List Frame
+samples_by read width channels bytes =
+    values (length bytes / (channels * width))
+    (λ n. values channels (λ c. read (take width (drop ((n * channels + c) * width) bytes))))
+
+-- the bytes of a signal in a coding
+abbrev pub coded : Coding → List Frame → List ℕ
+coded coding frames = coded_by (bytes_of coding) frames
+
+-- and the signal of bytes
 abbrev pub samples : Coding → ℕ → List ℕ → List Frame
-samples coding channels bytes =
-    values (length bytes / (channels * width coding))
-    (λ n. values channels (λ c. sample_of coding (take (width coding) (drop ((n * channels + c) * width coding) bytes))))
+samples coding channels bytes = samples_by (sample_of coding) (width coding) channels bytes

@@ -4,7 +4,7 @@ use Rattle.dsp_defs.specs.Numbers.{◌>>◌, saturate, wrap, w32, w64}
 use Rattle.dsp_defs.specs.Formats.{word_bits}
 use Rattle.dsp_defs.specs.Signal.{sample, sum_below, outputs}
 use Rattle.dsp_defs.specs.declared.format.Fmt.{Fmt}
-use Rattle.dsp_defs.specs.declared.format.Fmt.TheVariants.{Q7, Q15, Q31}
+use Rattle.dsp_defs.specs.declared.format.Fmt.TheVariants.{Q31}
 
 -- f_m(n) = sat_16((k_m*g_{m-1}(n-1) >> 15) + f_{m-1}(n)) and g_m(n) = sat_16((k_m*f_{m-1}(n) >> 15) + g_{m-1}(n-1)), as a pair
 abbrev pub lattice_output : ℤ → List (ℤ × ℤ) → List (ℤ × ℤ) → ℤ × ℤ
@@ -23,9 +23,8 @@ lattice_fir ks x = map (λ (w : ℤ × ℤ). w.0) (fold lattice_stage (map (λ a
 
 -- k*g >> 15, and wrap_32(k*g >> 31) in Q31
 abbrev pub reflected : Fmt → ℤ → ℤ → ℤ
-reflected Q7 k g = k *ℤ g >> 7
-reflected Q15 k g = k *ℤ g >> 15
 reflected Q31 k g = wrap w32 (k *ℤ g >> 31)
+reflected format k g = k *ℤ g >> 15
 
 -- g_S(n), .., g_0(n) from f_S(n), k_S .. k_1 and g_{S-1}(n-1), .., g_0(n-1): f_{m-1} = sat(f_m - k_m*g_{m-1}(n-1)), g_m = sat(k_m*f_{m-1} + g_{m-1}(n-1)), g_0 = f_0
 abbrev pub backward_values : Fmt → ℤ → List ℤ → List ℤ → List ℤ
@@ -37,9 +36,8 @@ backward_values format f (k ∷ ks) before =
 
 -- sat_16(s >> 15), and wrap_32(wrap_64(s) >> 31) in Q31
 abbrev pub ladder_close : Fmt → ℤ → ℤ
-ladder_close Q7 s = saturate 8 (s >> 7)
-ladder_close Q15 s = saturate 16 (s >> 15)
 ladder_close Q31 s = wrap w32 (wrap w64 s >> 31)
+ladder_close format s = saturate 16 (s >> 15)
 
 -- the sum of v_m * g_m, m from S to 0
 abbrev pub ladder_sum : List ℤ → List ℤ → ℤ

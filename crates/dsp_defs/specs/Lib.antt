@@ -14,7 +14,9 @@ pub mod Block
 pub mod Shape
 pub mod Bytes
 pub mod Wave
+pub mod Open
 pub mod Output
+pub mod Au
 pub mod Cost
 pub mod Generator
 pub mod Counts

@@ -40,9 +40,13 @@ HeaderIsThere Wave wanted bytes = IsOk (header_of bytes wanted)
 abbrev pub HasHeader : Script → List ℕ → Type 0
 HasHeader script bytes = HeaderIsThere script.input.kind (wanted_of script) bytes
 
--- the bytes at which a header says that there are samples: those declared, or all to the end
+-- the bytes of samples that begin at a place: so many, or all to the end
+abbrev pub sample_bytes_at : ℕ → Option ℕ → List ℕ → List ℕ
+sample_bytes_at start size bytes = elim size [ Some size ↦ take size (drop start bytes) | None ↦ drop start bytes ]
+
+-- the bytes at which a header says that there are samples
 abbrev pub sample_bytes : Header → List ℕ → List ℕ
-sample_bytes header bytes = elim header.size [ Some size ↦ take size (drop header.start bytes) | None ↦ drop header.start bytes ]
+sample_bytes header bytes = sample_bytes_at header.start header.size bytes
 
 -- the signal of all whole frames of the input, in the coding that its header says
 abbrev pub input_signal : Script → List ℕ → List Frame

@@ -4,7 +4,6 @@ use Rattle.std.specs.List.{AllByRecursion}
 use Rattle.dsp_defs.specs.declared.limits.TheConstants.{MAX_TAPS, MAX_SECTIONS, MAX_STAGES, MAX_DELAY, MAX_FACTOR, MAX_MATRIX_SIDE, MAX_CHANNELS}
 use Rattle.dsp_defs.specs.declared.format.Fmt.{Fmt}
 use Rattle.dsp_defs.specs.declared.format.Fmt.TheVariants.{Q7, Q15, Q31}
-use Rattle.dsp_defs.specs.Formats.{word_bits}
 use Rattle.dsp_defs.specs.declared.script.Block.{Block}
 use Rattle.dsp_defs.specs.declared.flow.Flow.{Flow}
 use Rattle.dsp_defs.specs.declared.list_rule.Count.{Count}
@@ -24,26 +23,6 @@ abbrev pub greatest : Fmt → ℤ
 greatest Q7 = pos 127
 greatest Q15 = pos 32767
 greatest Q31 = pos 2147483647
-
--- the greatest shift of `scale`, whose shifts are -8..7, -16..15, -31..30
-abbrev pub greatest_scale : Fmt → ℕ
-greatest_scale Q7 = 7
-greatest_scale Q15 = 15
-greatest_scale Q31 = 30
-
--- the greatest shift of `shift`, whose shifts are -7..7, -15..15, -31..31
-abbrev pub greatest_shift : Fmt → ℕ
-greatest_shift format = word_bits format - 1
-
--- the shift of `mat_scale`: -16..15 in Q15, 0..30 in Q31
-abbrev pub least_matrix_shift : Fmt → ℤ
-least_matrix_shift Q31 = pos 0
-least_matrix_shift f = negsuc 15
-
--- 15, and 30 in Q31
-abbrev pub greatest_matrix_shift : Fmt → ℤ
-greatest_matrix_shift Q31 = pos 30
-greatest_matrix_shift f = pos 15
 
 -- the post shift of `biquad`: 0..13 in Q15, 0..30 in Q31
 abbrev pub greatest_biquad_shift : Fmt → ℕ
@@ -99,8 +78,8 @@ section_length Q31 = 5
 section_length f = 6
 
 -- some sections, up to 64
-abbrev pub sections : Flow → ListRule
-sections flow = coefficients flow (MAX_SECTIONS * section_length flow.format) (MultipleOf (section_length flow.format))
+abbrev pub section_numbers : Flow → ListRule
+section_numbers flow = coefficients flow (MAX_SECTIONS * section_length flow.format) (MultipleOf (section_length flow.format))
 
 -- some reflection coefficients, up to 255
 abbrev pub reflections : Flow → ListRule

@@ -11,7 +11,7 @@ use Rattle.dsp_defs.specs.Token.{Token, Open, Close, Run, Bad, Item, Rest}
 use Rattle.dsp_defs.specs.Numeral.{value_of}
 use Rattle.dsp_defs.specs.Parameters.{is_complete, factor_of}
 use Rattle.dsp_defs.specs.Table.{by_name, every_format, format_name}
-use Rattle.dsp_defs.specs.Tables.{Named, is_name, numbers_of, table_rule}
+use Rattle.dsp_defs.specs.Tables.{Named, is_table_name, numbers_of, table_rule}
 
 infixl 10 ◌>>=◌
 abbrev pub ◌>>=◌ : {A B : Type 0} → Result A ScriptFault → (A → Result B ScriptFault) → Result B ScriptFault
@@ -135,7 +135,7 @@ table_word left offset token = choice (named (codes "table")) offset token >>= �
 
 -- a name that none of these tables has
 abbrev pub new_name : List Named → Judge (List ℕ)
-new_name tables offset (Run run) = if is_name run then (if is_some (numbers_of tables run) then fault offset NameTaken else Ok run) else fault offset BadName
+new_name tables offset (Run run) = if is_table_name run then (if is_some (numbers_of tables run) then fault offset NameTaken else Ok run) else fault offset BadName
 new_name tables offset token = fault offset BadName
 
 -- a table next, behind these, where so many more may come: its word, its name, its numbers in braces

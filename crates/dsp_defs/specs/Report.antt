@@ -10,6 +10,8 @@ use Rattle.dsp_defs.specs.declared.script_fault.ScriptKind.{ScriptKind}
 use Rattle.dsp_defs.specs.declared.script_fault.ScriptKind.TheVariants.{TooLong, BadByte, UnknownWord, BadNumber, OutOfRange, Missing, NoSuchForm, ChannelsHere, Length, TooMany, BadName, NameTaken}
 use Rattle.dsp_defs.specs.declared.wave.HeaderFault.{HeaderFault}
 use Rattle.dsp_defs.specs.declared.wave.HeaderFault.TheVariants.{NotRiff, NotWave, NoFormat, FormatSize, Tag, Bits, Channels, Align, NoSamples, Short}
+use Rattle.dsp_defs.specs.declared.au.AuFault.{AuFault}
+use Rattle.dsp_defs.specs.declared.au.AuFault.TheVariants as au
 use Rattle.dsp_defs.specs.Canon.{line}
 use Rattle.dsp_defs.specs.Cost.{cost}
 use Rattle.dsp_defs.specs.Output.{format_of, channels_of}
@@ -54,13 +56,22 @@ header_text (Align got wanted) = (codes "Align", fields (codes "got") got (codes
 header_text NoSamples = (codes "NoSamples", [])
 header_text (Short declared got) = (codes "Short", fields (codes "declared") declared (codes "got") got)
 
+-- a fault of an AU input
+abbrev pub au_text : AuFault → List ℕ × List ℕ
+au_text au.NotAu = (codes "NotAu", [])
+au_text (au.Offset got) = (codes "Offset", field (codes "got") (decimal got))
+au_text (au.Encoding got) = (codes "Encoding", field (codes "got") (decimal got))
+au_text (au.Channels got) = (codes "Channels", field (codes "got") (decimal got))
+au_text au.Ended = (codes "Ended", [])
+au_text (au.Short declared got) = (codes "Short", fields (codes "declared") declared (codes "got") got)
+
 -- `NAME at OFFSET` and the fields
 abbrev pub located : List ℕ × List ℕ → ℕ → List ℕ
 located text offset = text.0 ++ codes " at " ++ decimal offset ++ text.1
 
 -- the words are no command
 abbrev pub usage_line : List ℕ
-usage_line = line (codes "dspfx: usage: run SCRIPT IN OUT [block N], gen SEED FRAMES SCRIPT OUT, print SCRIPT")
+usage_line = line (codes "dspfx: usage: run SCRIPT IN OUT [block N], gen SEED FRAMES SCRIPT OUT, print SCRIPT, convert wave au IN OUT, convert au wave IN OUT")
 
 -- `dspfx: script: ` and the fault where it stands
 abbrev pub script_line : ScriptFault → List ℕ
@@ -73,6 +84,10 @@ block_length_line block unit = line (codes "dspfx: block length " ++ decimal blo
 -- `dspfx: header: ` and the fault where it stands
 abbrev pub header_line : HeaderFault → ℕ → List ℕ
 header_line fault offset = line (codes "dspfx: header: " ++ located (header_text fault) offset)
+
+-- the same of an AU file
+abbrev pub au_line : AuFault → ℕ → List ℕ
+au_line fault offset = line (codes "dspfx: header: " ++ located (au_text fault) offset)
 
 -- `dspfx: lengths: ` and two numbers with their names
 abbrev pub lengths_line : List ℕ → ℕ → List ℕ → ℕ → List ℕ
@@ -154,6 +169,15 @@ measure_line (Dot number value) = sums_line (codes "dot") number value None
 measure_line (CmplxDot number re im) = sums_line (codes "cmplx_dot") number re (Some im)
 measure_line (Max number channel found) = extreme_line (codes "max") number channel found
 measure_line (Min number channel found) = extreme_line (codes "min") number channel found
+
+-- `N frames of C channels, W bits`
+abbrev pub converted_line : ℕ → ℕ → ℕ → List ℕ
+converted_line frames channels bits =
+    line (decimal frames ++ codes " frames of " ++ decimal channels ++ codes " channels, " ++ decimal bits ++ codes " bits")
+
+-- what a conversion reports
+abbrev pub converted_text : ℕ → ℕ → ℕ → List ℕ
+converted_text frames channels bits = done_line ++ converted_line frames channels bits
 
 -- what a run over n frames of input reports: what came in, what went out, the multiplies, and the measures
 abbrev pub report_text : Script → ℕ → List Measure → List ℕ

@@ -28,13 +28,6 @@ last_of count x = drop (length x) (replicate count (pos 0) ++ x)
 abbrev pub rows : Fmt → List ℤ → List ℤ → ℕ → List ℤ
 rows format taps window n = values n (λ i. close format (sum_below (length taps) (λ j. sample taps j *ℤ sample window (i + j))))
 
--- the outputs of a recurrence for further inputs, after a history of inputs and one of outputs, the newest first
-abbrev pub outputs_after : {A B : Type 0} → (List A → List B → B) → List A → List B → List A → List B
-outputs_after next past earlier [] = []
-outputs_after next past earlier (x ∷ more) =
-    let y = next (x ∷ past) earlier in
-    y ∷ outputs_after next (x ∷ past) (y ∷ earlier) more
-
 -- ---- what is kept between calls
 
 -- Where `old` is kept of a signal, a call takes `taken`, gives what f gives of it next, and keeps `new`, what is kept of the longer signal.

@@ -3,7 +3,8 @@ use Rattle.std.specs.Prelude.{ℕ, pos, negsuc, ◌+◌, ◌*◌, Bool, true, fa
 use Rattle.std.specs.Str.{bytes_eq}
 use Rattle.dsp_defs.specs.Numbers.{neg}
 use Rattle.dsp_defs.specs.Block.{format_after, channels_after}
-use Rattle.dsp_defs.specs.Parameters.{Form, Done, Integer, Natural, Numbers, Conversion, coefficient, side, factor, greatest_scale, greatest_shift, least_matrix_shift, greatest_matrix_shift, greatest_biquad_shift, greatest_lms_shift, greatest, taps, sparse_taps, delays, sections, reflections, exactly, routes}
+use Rattle.dsp_defs.specs.Elementwise.{greatest_scale, greatest_shift, least_matrix_shift, greatest_matrix_shift}
+use Rattle.dsp_defs.specs.Parameters.{Form, Done, Integer, Natural, Numbers, Conversion, coefficient, side, factor, greatest_biquad_shift, greatest_lms_shift, greatest, taps, sparse_taps, delays, section_numbers, reflections, exactly, routes}
 use Rattle.dsp_defs.specs.declared.format.Fmt.{Fmt}
 use Rattle.dsp_defs.specs.declared.format.Fmt.TheVariants.{Q7, Q15, Q31}
 use Rattle.dsp_defs.specs.declared.format.Container.{Container}
@@ -49,8 +50,8 @@ row_of Decimate = row (codes "decimate") NotQ7 None (λ flow. factor (λ m. Numb
 row_of Interpolate = row (codes "interpolate") NotQ7 None (λ flow. factor (λ l. Numbers (taps flow l) (λ taps. Done (block.Interpolate l taps))))
 row_of LatticeFir = row (codes "lattice_fir") OnlyQ15 None (λ flow. Numbers (reflections flow) (λ k. Done (block.LatticeFir k)))
 row_of LatticeIir = row (codes "lattice_iir") NotQ7 None (λ flow. Numbers (reflections flow) (λ k. Numbers (exactly flow (length k + 1)) (λ v. Done (block.LatticeIir k v))))
-row_of Biquad = row (codes "biquad") NotQ7 None (λ flow. Natural 0 (greatest_biquad_shift flow.format) (λ post_shift. Numbers (sections flow) (λ coefficients. Done (block.Biquad post_shift coefficients))))
-row_of Biquad64 = row (codes "biquad64") OnlyQ31 None (λ flow. Natural 0 30 (λ post_shift. Numbers (sections flow) (λ coefficients. Done (block.Biquad64 post_shift coefficients))))
+row_of Biquad = row (codes "biquad") NotQ7 None (λ flow. Natural 0 (greatest_biquad_shift flow.format) (λ post_shift. Numbers (section_numbers flow) (λ coefficients. Done (block.Biquad post_shift coefficients))))
+row_of Biquad64 = row (codes "biquad64") OnlyQ31 None (λ flow. Natural 0 30 (λ post_shift. Numbers (section_numbers flow) (λ coefficients. Done (block.Biquad64 post_shift coefficients))))
 row_of Conv = row (codes "conv") All None (λ flow. Numbers (taps flow 1) (λ taps. Done (block.Conv taps)))
 row_of ConvPartial = row (codes "conv_partial") All None (λ flow. Natural 0 4294967295 (λ first. Natural 1 4294967295 (λ count. Numbers (taps flow 1) (λ taps. Done (block.ConvPartial first count taps)))))
 row_of Correlate = row (codes "correlate") All None (λ flow. Numbers (taps flow 1) (λ taps. Done (block.Correlate taps)))

@@ -15,8 +15,8 @@ pub record Named : Type 0 where
   pub numbers : List ℤ
 
 -- a run is a name: it begins with a letter, and has at most 32 bytes
-abbrev pub is_name : List ℕ → Bool
-is_name run = is_ascii_lowercase (slice_index run 0) && nat_le (length run) MAX_NAME
+abbrev pub is_table_name : List ℕ → Bool
+is_table_name run = is_ascii_lowercase (slice_index run 0) && nat_le (length run) MAX_NAME
 
 -- the numbers of the table of this name, if there is one
 unfoldable pub numbers_of : List Named → List ℕ → Option (List ℤ)
@@ -28,7 +28,7 @@ table_rule = record { low = least Q31; high = greatest Q31; limit = MAX_TAPS; co
 
 -- the table may stand behind these: its name is a name, and none of theirs
 pub record IsTable (before : List Named) (t : Named) : Type 0 where
-  pub name : IsTrue (is_name t.name)
+  pub name : IsTrue (is_table_name t.name)
   pub new : numbers_of before t.name ≡ None
   pub numbers : IsWithin table_rule t.numbers
 

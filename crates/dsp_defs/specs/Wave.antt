@@ -168,10 +168,15 @@ cut_fault n = if nat_lt n 4 then (NotRiff, 0) else (if nat_lt n 12 then (NotWave
 
 -- ---- writing
 
--- the bytes of the samples of a file of so many frames, and 2^32 - 1 where the number is not known
+-- the bytes of the samples of a file of so many frames, whose samples have so many bytes each, and 2^32 - 1 where the number of
+-- frames is not known
+abbrev pub data_bytes : ℕ → ℕ → Option ℕ → ℕ
+data_bytes width channels None = 2 ^ 32 - 1
+data_bytes width channels (Some frames) = frames * channels * width
+
+-- of samples of a format
 abbrev pub data_size : Fmt → ℕ → Option ℕ → ℕ
-data_size format channels None = 2 ^ 32 - 1
-data_size format channels (Some frames) = frames * channels * word_bytes format
+data_size format channels frames = data_bytes (word_bytes format) channels frames
 
 -- the bytes in the `fmt ` chunk, with the extension or without
 abbrev pub format_size : Container → ℕ
@@ -183,13 +188,21 @@ abbrev pub header_size : Container → ℕ
 header_size container = 28 + format_size container
 
 -- all behind the first eight bytes: the rest of the header, the sample bytes and the pad byte
+abbrev pub riff_bytes : Container → ℕ → ℕ → Option ℕ → ℕ
+riff_bytes container width channels None = 2 ^ 32 - 1
+riff_bytes container width channels (Some frames) = 20 + format_size container + padded (data_bytes width channels (Some frames))
+
+-- of samples of a format
 abbrev pub riff_size : Container → Fmt → ℕ → Option ℕ → ℕ
-riff_size container format channels None = 2 ^ 32 - 1
-riff_size container format channels (Some frames) = 20 + format_size container + padded (data_size format channels (Some frames))
+riff_size container format channels frames = riff_bytes container (word_bytes format) channels frames
 
 -- the sizes of a known length stand in 32 bits, below the number that stands for none
+abbrev pub WidthFits : Container → ℕ → ℕ → Option ℕ → Type 0
+WidthFits container width channels frames = IfSome frames (λ n. riff_bytes container width channels (Some n) ≤ MAX_RIFF_SIZE)
+
+-- of samples of a format
 abbrev pub HeaderFits : Container → Fmt → ℕ → Option ℕ → Type 0
-HeaderFits container format channels frames = IfSome frames (λ n. riff_size container format channels (Some n) ≤ MAX_RIFF_SIZE)
+HeaderFits container format channels frames = WidthFits container (word_bytes format) channels frames
 
 -- 1, with the extension 0xFFFE
 abbrev pub format_tag : Container → ℕ
@@ -201,15 +214,19 @@ abbrev pub extension : Container → ℕ → List ℕ
 extension Wavex bits = to_le_bytes w16 22 ++ to_le_bytes w16 bits ++ to_le_bytes w32 0 ++ pcm_subformat
 extension _ bits = []
 
--- the bytes before the samples of a file; the byte rate is rate * align modulo 2^32
-abbrev pub wave_header : Container → Fmt → ℕ → ℕ → Option ℕ → List ℕ
-wave_header container format channels rate frames =
-    let align = channels * word_bytes format in
-    let bits = 8 * word_bytes format in
-    codes "RIFF" ++ to_le_bytes w32 (riff_size container format channels frames) ++ codes "WAVE"
+-- the bytes before the samples of a file whose samples have so many bytes each; the byte rate is rate * align modulo 2^32
+abbrev pub header_of_width : Container → ℕ → ℕ → ℕ → Option ℕ → List ℕ
+header_of_width container width channels rate frames =
+    let align = channels * width in
+    let bits = 8 * width in
+    codes "RIFF" ++ to_le_bytes w32 (riff_bytes container width channels frames) ++ codes "WAVE"
     ++ codes "fmt " ++ to_le_bytes w32 (format_size container) ++ to_le_bytes w16 (format_tag container) ++ to_le_bytes w16 channels
     ++ to_le_bytes w32 rate ++ to_le_bytes w32 (rate * align % 2 ^ 32) ++ to_le_bytes w16 align ++ to_le_bytes w16 bits
-    ++ extension container bits ++ codes "data" ++ to_le_bytes w32 (data_size format channels frames)
+    ++ extension container bits ++ codes "data" ++ to_le_bytes w32 (data_bytes width channels frames)
+
+-- of samples of a format
+abbrev pub wave_header : Container → Fmt → ℕ → ℕ → Option ℕ → List ℕ
+wave_header container format channels rate frames = header_of_width container (word_bytes format) channels rate frames
 
 -- what that header says
 abbrev pub written_header : Container → Fmt → ℕ → ℕ → Option ℕ → Header
@@ -221,6 +238,10 @@ written_header container format channels rate frames = record {
 }
 
 -- the byte 0 behind samples of an odd number of bytes, where their number is known
+abbrev pub pad_of_width : ℕ → ℕ → Option ℕ → List ℕ
+pad_of_width width channels None = []
+pad_of_width width channels (Some frames) = if nat_eq (data_bytes width channels (Some frames) % 2) 0 then [] else (0 ∷ [])
+
+-- of samples of a format
 abbrev pub pad : Fmt → ℕ → Option ℕ → List ℕ
-pad format channels None = []
-pad format channels (Some frames) = if nat_eq (data_size format channels (Some frames) % 2) 0 then [] else (0 ∷ [])
+pad format channels frames = pad_of_width (word_bytes format) channels frames

@@ -1,12 +1,14 @@
--- Which words are a command, and where they name its script, its input and its output.
-use Rattle.std.specs.Prelude.{ℕ, ◌-◌, ◌^◌, Bool, not, ◌&&◌, nat_eq, nat_le, List, [], ◌∷◌, length, Option, Some, None, codes, if◌then◌else◌}
-use Rattle.std.specs.Option.{option_map}
+-- Which words are a command, and where they name its script, its input, its output and another file that it reads.
+use Rattle.std.specs.Prelude.{ℕ, ◌-◌, ◌^◌, Bool, false, not, ◌&&◌, nat_eq, nat_le, List, [], ◌∷◌, length, Option, Some, None, codes, if◌then◌else◌}
+use Rattle.std.specs.Option.{option_map, option_and_then}
 use Rattle.std.specs.Char.{is_ascii_digit}
 use Rattle.std.specs.List.{list_all}
 use Rattle.std.specs.Str.{bytes_eq}
 use Rattle.std.specs.Str.Parse.{digits_value}
+use Rattle.dsp_defs.specs.declared.au.Direction.{Direction}
+use Rattle.dsp_defs.specs.declared.au.Direction.TheVariants.{WaveToAu, AuToWave}
 use Rattle.dsp_defs.specs.declared.command.Command.{Command}
-use Rattle.dsp_defs.specs.declared.command.Command.TheVariants.{Run, Gen, Print}
+use Rattle.dsp_defs.specs.declared.command.Command.TheVariants.{Run, Gen, Print, Convert}
 use Rattle.dsp_defs.specs.declared.command.Places.{Places}
 use Rattle.dsp_defs.specs.declared.limits.TheConstants.{MAX_GENERATED}
 
@@ -34,23 +36,41 @@ abbrev pub generating : Option ℕ → Option ℕ → Option Command
 generating (Some seed) (Some frames) = if nat_le frames MAX_GENERATED then Some (Gen seed frames) else None
 generating seed frames = None
 
--- `print SCRIPT`, `run SCRIPT IN OUT`, `gen SEED FRAMES SCRIPT OUT` and `run SCRIPT IN OUT block N`
+-- the verb of a run, in blocks of the length that is named, if one is
+abbrev pub running : List ℕ → Option ℕ → Option Command
+running verb named = if bytes_eq verb (codes "run") then Some (Run named false) else None
+
+-- the way from one named form of file to the other
+abbrev pub direction_of : List ℕ → List ℕ → Option Direction
+direction_of from to =
+    if bytes_eq from (codes "wave") && bytes_eq to (codes "au") then Some WaveToAu
+    else (if bytes_eq from (codes "au") && bytes_eq to (codes "wave") then Some AuToWave else None)
+
+-- five words: a gen, and a conversion
+abbrev pub of_five : List ℕ → List ℕ → List ℕ → List ℕ → List ℕ → Option Command
+of_five verb second third fourth output =
+    if bytes_eq verb (codes "gen") && are_gen_names fourth output then generating (count_of second) (count_of third)
+    else (if bytes_eq verb (codes "convert") && are_gen_names fourth output then option_map (λ d. Convert d) (direction_of second third)
+    else None)
+
+-- `print SCRIPT`, `run SCRIPT IN OUT`, `gen SEED FRAMES SCRIPT OUT`, `convert FROM TO IN OUT` and `run SCRIPT IN OUT block N`
 abbrev pub command_of : List (List ℕ) → Option Command
 command_of (verb ∷ script ∷ []) = if bytes_eq verb (codes "print") && is_name script then Some Print else None
 command_of (verb ∷ script ∷ input ∷ output ∷ []) =
-    if bytes_eq verb (codes "run") && are_run_names script input output then Some (Run None) else None
+    if are_run_names script input output then running verb None else None
 command_of (verb ∷ seed ∷ frames ∷ script ∷ output ∷ []) =
-    if bytes_eq verb (codes "gen") && are_gen_names script output then generating (count_of seed) (count_of frames) else None
+    of_five verb seed frames script output
 command_of (verb ∷ script ∷ input ∷ output ∷ option ∷ count ∷ []) =
-    if bytes_eq verb (codes "run") && are_run_names script input output && bytes_eq option (codes "block")
-    then option_map (λ n. Run (Some n)) (count_of count) else None
+    if are_run_names script input output && bytes_eq option (codes "block")
+    then option_and_then (λ n. running verb (Some n)) (count_of count) else None
 command_of words = None
 
 -- the verb is word 0, and the names follow it
 abbrev pub places_of_command : Command → Places
-places_of_command (Run block) = record { script = Some 1; input = Some 2; output = Some 3 }
-places_of_command (Gen seed frames) = record { script = Some 3; input = None; output = Some 4 }
-places_of_command Print = record { script = Some 1; input = None; output = None }
+places_of_command (Run block banked) = record { script = Some 1; input = Some 2; output = Some 3; other = None }
+places_of_command (Gen seed frames) = record { script = Some 3; input = None; output = Some 4; other = None }
+places_of_command Print = record { script = Some 1; input = None; output = None; other = None }
+places_of_command (Convert direction) = record { script = None; input = Some 3; output = Some 4; other = None }
 
 abbrev pub places_of : List (List ℕ) → Option Places
 places_of words = option_map places_of_command (command_of words)

@@ -1,6 +1,7 @@
 //! The definitions that every crate of the library speaks of.
 #![tactic(auto)]
 
+mod au;
 mod command;
 mod fault;
 mod flow;
@@ -16,6 +17,7 @@ mod steps;
 mod wave;
 mod word;
 
+pub use au::{AuFault, Direction};
 pub use command::{Command, Places};
 pub use fault::{GatherFull, MakeFault, WindowFault};
 pub use flow::Flow;
@@ -37,5 +39,5 @@ pub use measure::Measure;
 pub use script::{Block, Blocks, Script};
 pub use script_fault::{ScriptFault, ScriptKind};
 pub use steps::Steps;
-pub use wave::{Header, HeaderFault, Sampling, Wanted};
+pub use wave::{Header, HeaderFault, OpenHeader, Sampling, Wanted};
 pub use word::{Formats, Word};

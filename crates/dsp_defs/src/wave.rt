@@ -27,6 +27,16 @@ pub struct Header {
     pub coding: Coding,
 }
 
+/// What the header of a file says of which nothing is wanted: what `Header` says, and the channels.
+#[derive(Clone, Copy, Debug, PartialEq, Eq)]
+pub struct OpenHeader {
+    pub rate: u32,
+    pub start: u64,
+    pub size: Option<u32>,
+    pub coding: Coding,
+    pub channels: u8,
+}
+
 /// Why a WAVE file's samples are not read.
 #[derive(Clone, Copy, Debug, PartialEq, Eq, Error)]
 pub enum HeaderFault {

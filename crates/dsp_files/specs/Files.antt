@@ -11,10 +11,16 @@ pub record FileInput : Type 0 where
 abbrev pub input_state : FileInput → SourceState
 input_state file = record { left = None; taken = file.taken; faults = file.faults }
 
--- a file that is written: its name, and how often it has failed
+-- a file that is written: its name, those of the script and of the input beside it, and how often it has failed
 pub record FileOutput : Type 0 where
   pub path : List ℕ
+  pub script : List ℕ
+  pub input : List ℕ
   pub faults : ℕ
 
 abbrev pub output_state : FileOutput → SinkState
 output_state file = record { put = None; settled = None; faults = file.faults }
+
+-- a port that tells no bytes, and of which nothing was asked yet
+abbrev pub new_sink : SinkState
+new_sink = record { put = None; settled = None; faults = 0 }

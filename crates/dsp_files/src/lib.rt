@@ -3,6 +3,8 @@
 
 mod over_files;
 mod ports;
+mod report;
 
-pub use over_files::run_files;
+pub use over_files::{FilePorts, run_files};
 pub use ports::{FileSink, FileSource};
+pub use report::OutSink;

@@ -1,14 +1,14 @@
-//! Files and standard output as ports. They tell no bytes: what a file or a terminal holds is not proved. Each counts its faults up to the
+//! Files as ports. They tell no bytes: what a file holds is not proved. Each counts its faults up to the
 //! greatest `u64`.
 ghost use Rattle.std.specs.Prelude.{◌≡◌, IfOk, ◌≤◌, length, vec_len, vec_capacity};
-ghost use Rattle.dsp_files.specs.OverFiles.{new_sink};
 ghost use Rattle.dsp_files.specs.declared.ports.TheConstants.{AHEAD, GATHERED};
 
 use dsp_ports::{Failed, Sink, Source};
 use std::alloc::{AllocError, Global};
-use std::fs::Files;
-use std::io::{Print, Read, Write};
+use std::fs::{Files, Metadata, OpenFile, OpenOptions};
+use std::io::{ErrorKind, Read, Write};
 use std::marker::Model;
+use std::os::unix::fs::{FileTypeExt, MetadataExt};
 use std::{fs, io};
 
 /// How many bytes a source reads ahead.
@@ -145,14 +145,17 @@ struct Gathered {
     ghost room: { GATHERED ≤ vec_capacity bytes },
 }
 
-/// A file that is made, or emptied, at the first write or flush. What it accepts is gathered, and
-/// written to the file where there is no more room, at a flush, and by `spill`.
+/// A file that is opened and emptied, or made, at the first write or flush. A file that the run reads, by this name
+/// or by another, is not opened: the write fails and the file stays as it is. The first piece goes to the file at
+/// once. What is accepted after it is gathered, and written where there is no more room, at a flush, and by `spill`.
 #[derive(Drop)]
 pub struct FileSink<'a, R: Files> {
     files: &'a R,
     path: &'a str,
+    script: &'a str,
+    input: &'a str,
     file: Option<R::File>,
-    gathered: Gathered,
+    gathered: Option<Gathered>,
     faults: u64,
 }
 
@@ -161,20 +164,39 @@ impl<'a, R: Files> Model for FileSink<'a, R> {
 
     ghost Value = { FileOutput };
 
-    ghost view = { λ s. record { path = s.path.now; faults = s.faults } };
+    ghost view = { λ s. record { path = s.path.now; script = s.script.now; input = s.input.now; faults = s.faults } };
 }
 
 impl<'a, R: Files> FileSink<'a, R> {
-    /// The file of this name, which isn't made yet. The room for what is gathered is taken here.
-    pub fn new(alloc: Global, files: &'a R, path: &'a str) -> Result<FileSink<'a, R>, AllocError>
-        ensures { IfOk result (λ sink. sink ≡ record { path = path.now; faults = 0 }) }
+    /// The file of this name, which is not opened yet, beside the files that are read: the names of a script and of
+    /// an input, empty where there is none. The room for what is gathered is taken here; a sink with an empty name
+    /// takes none, and accepts nothing. It errs where memory is wanting.
+    pub fn new(
+        alloc: Global,
+        files: &'a R,
+        path: &'a str,
+        script: &'a str,
+        input: &'a str,
+    ) -> Result<FileSink<'a, R>, AllocError>
+        ensures { IfOk result (λ sink. sink ≡ record {
+          path = path.now;
+          script = script.now;
+          input = input.now;
+          faults = 0;
+        }) }
     {
-        let bytes = Vec::with_capacity(alloc, GATHERED)?;
+        let mut gathered = None;
+        if !path.is_empty() {
+            let bytes = Vec::with_capacity(alloc, GATHERED)?;
+            gathered = Some(Gathered { bytes });
+        }
         Ok(FileSink {
             files,
             path,
+            script,
+            input,
             file: None,
-            gathered: Gathered { bytes },
+            gathered,
             faults: 0,
         })
     }
@@ -183,14 +205,44 @@ impl<'a, R: Files> FileSink<'a, R> {
     pub fn spill(&mut self) -> Result<(), Failed>
         ensures { self.new ≡ self.old }
     {
-        match &mut self.file {
-            Some(file) => match spill_to(file, &mut self.gathered) {
+        match (&mut self.file, &mut self.gathered) {
+            (Some(file), Some(gathered)) => match spill_to(file, gathered) {
                 Ok(()) => Ok(()),
                 Err(_) => Err(Failed),
             },
-            None => Ok(()),
+            _ => Ok(()),
         }
     }
+}
+
+/// Whether a file keeps what is written to it, as no terminal, pipe or null device does.
+fn is_storage(file: &Metadata) -> bool {
+    file.is_file() || file.file_type().is_block_device()
+}
+
+/// Whether the file of this name is that one.
+fn is_named<R: Files>(files: &R, file: &Metadata, name: &str) -> bool {
+    match fs::metadata(files, name) {
+        Ok(named) => named.dev() == file.dev() && named.ino() == file.ino(),
+        Err(_) => false,
+    }
+}
+
+/// Opens a file for writing and empties it, or makes it where it is not there. A file that has one of these other
+/// names too is left as it is.
+fn open_output<R: Files>(files: &R, path: &str, script: &str, input: &str) -> io::Result<R::File> {
+    let file = OpenOptions::new()
+        .write(true)
+        .create(true)
+        .open(files, path)?;
+    let opened = file.metadata()?;
+    if is_storage(&opened) {
+        if is_named(files, &opened, script) || is_named(files, &opened, input) {
+            return Err(io::Error::from(ErrorKind::InvalidInput));
+        }
+        file.set_len(0)?;
+    }
+    Ok(file)
 }
 
 /// Writes what was gathered. After a failure it is given up, since a part of it may have been written.
@@ -203,29 +255,12 @@ fn spill_to<F: Write>(file: &mut F, gathered: &mut Gathered) -> io::Result<()> {
     written
 }
 
-/// Makes the file where it isn't made yet.
-fn make_file<R: Files>(files: &R, path: &str, file: &mut Option<R::File>) -> io::Result<()> {
-    if file.is_none() {
-        *file = Some(fs::create(files, path)?);
-    }
-    Ok(())
-}
-
 /// Gathers as much of the piece as there is room for, of which it makes some first where there is none.
-fn gather<R: Files>(
-    files: &R,
-    path: &str,
-    file: &mut Option<R::File>,
-    gathered: &mut Gathered,
-    piece: &[u8],
-) -> io::Result<usize>
+fn gather<F: Write>(file: &mut F, gathered: &mut Gathered, piece: &[u8]) -> io::Result<usize>
     ensures { IfOk result (λ count. count ≤ length piece.now) }
 {
-    make_file(files, path, file)?;
     if gathered.bytes.len() == GATHERED {
-        if let Some(file) = file {
-            spill_to(file, gathered)?;
-        }
+        spill_to(file, gathered)?;
     }
     let count = piece.len().min(GATHERED - gathered.bytes.len());
     match gathered.bytes.extend_from_slice(&piece[..count]) {
@@ -234,37 +269,56 @@ fn gather<R: Files>(
     }
 }
 
-/// Writes what was gathered, and makes sure of it.
-fn flush_file<R: Files>(
-    files: &R,
-    path: &str,
-    file: &mut Option<R::File>,
-    gathered: &mut Gathered,
-) -> io::Result<()> {
-    make_file(files, path, file)?;
-    if let Some(file) = file {
-        spill_to(file, gathered)?;
-        file.flush()?;
+impl<R: Files> FileSink<'_, R> {
+    /// Writes the piece to the file where that was not open yet, and else gathers it.
+    fn accept(&mut self, piece: &[u8]) -> io::Result<usize>
+        ensures count { IfOk result (λ count. count ≤ length piece.now) }
+        ensures same { self.new ≡ self.old }
+    {
+        let Some(gathered) = &mut self.gathered else {
+            return Err(io::Error::from(ErrorKind::InvalidInput));
+        };
+        if let Some(file) = &mut self.file {
+            return gather(file, gathered, piece);
+        }
+        let mut file = open_output(self.files, self.path, self.script, self.input)?;
+        let count = file.write(piece)?;
+        self.file = Some(file);
+        Ok(count)
     }
-    Ok(())
+
+    /// Writes what was gathered, and makes sure of it.
+    fn settle(&mut self) -> io::Result<()>
+        ensures same { self.new ≡ self.old }
+    {
+        let Some(gathered) = &mut self.gathered else {
+            return Err(io::Error::from(ErrorKind::InvalidInput));
+        };
+        if self.file.is_none() {
+            self.file = Some(open_output(self.files, self.path, self.script, self.input)?);
+        }
+        if let Some(file) = &mut self.file {
+            spill_to(file, gathered)?;
+            file.flush()?;
+        }
+        Ok(())
+    }
 }
 
 impl<R: Files> Sink for FileSink<'_, R> {
+    ghost use Rattle.std.specs.Prelude.{⊤};
     ghost use Rattle.dsp_files.specs.Files.{output_state};
 
     ghost state = { output_state };
 
+    // A file tells nothing of its writes.
+    ghost Writes = { λ _ _ _. ⊤ };
+
     fn write(&mut self, piece: &[u8]) -> Result<usize, Failed> {
         if piece.is_empty() {
             return Ok(0);
         }
-        match gather(
-            self.files,
-            self.path,
-            &mut self.file,
-            &mut self.gathered,
-            piece,
-        ) {
+        match self.accept(piece) {
             Ok(count) if count > 0 => Ok(count),
             _ => {
                 self.faults = self.faults.saturating_add(1);
@@ -274,59 +328,7 @@ impl<R: Files> Sink for FileSink<'_, R> {
     }
 
     fn flush(&mut self) -> Result<(), Failed> {
-        match flush_file(self.files, self.path, &mut self.file, &mut self.gathered) {
-            Ok(()) => Ok(()),
-            Err(_) => {
-                self.faults = self.faults.saturating_add(1);
-                Err(Failed)
-            }
-        }
-    }
-}
-
-/// Standard output.
-#[derive(Drop)]
-pub struct OutSink<'a, R: Print> {
-    rt: &'a R,
-    faults: u64,
-}
-
-impl<'a, R: Print> Model for OutSink<'a, R> {
-    ghost use Rattle.std.specs.Prelude.{None};
-    ghost use Rattle.dsp_ports.specs.Ports.{SinkState};
-
-    ghost Value = { SinkState };
-
-    ghost view = { λ s. record { put = None; settled = None; faults = s.faults } };
-}
-
-impl<'a, R: Print> OutSink<'a, R> {
-    /// The standard output of the process.
-    pub fn new(rt: &'a R) -> OutSink<'a, R>
-        ensures { result ≡ new_sink }
-    {
-        OutSink { rt, faults: 0 }
-    }
-}
-
-impl<R: Print> Sink for OutSink<'_, R> {
-    ghost state = { λ s. s };
-
-    fn write(&mut self, piece: &[u8]) -> Result<usize, Failed> {
-        if piece.is_empty() {
-            return Ok(0);
-        }
-        match self.rt.write_some(piece) {
-            Ok(count) if count > 0 => Ok(count),
-            _ => {
-                self.faults = self.faults.saturating_add(1);
-                Err(Failed)
-            }
-        }
-    }
-
-    fn flush(&mut self) -> Result<(), Failed> {
-        match io::writer(self.rt).flush() {
+        match self.settle() {
             Ok(()) => Ok(()),
             Err(_) => {
                 self.faults = self.faults.saturating_add(1);

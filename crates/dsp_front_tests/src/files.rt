@@ -2,12 +2,13 @@
 use crate::full_disk::FullDisk;
 use dsp_blocks::BlockUnit;
 use dsp_cli::Words;
-use dsp_files::{FileSink, FileSource, run_files};
+use dsp_files::{FilePorts, FileSink, FileSource, run_files};
 use dsp_ports::{Sink, Source};
 use std::alloc::{AllocError, Global};
 use std::fs::{self, Files};
 use std::io::{self, Print};
 use std::marker::Brand;
+use std::os::unix::fs::symlink;
 use std::sync::ledger::Blank;
 use std::test::Fail;
 
@@ -17,7 +18,8 @@ fn answer(alloc: Global, rt: &(impl Files + Print), texts: &[&str]) -> Result<u8
     for text in texts {
         words.push(text)?;
     }
-    run_files::<BlockUnit, _, Brand>(alloc, rt, &words, Blank::new(2))
+    let mut ports = FilePorts::new(alloc, rt, &words)?;
+    Ok(run_files::<BlockUnit, _, Brand>(alloc, &words, &mut ports, Blank::new(2)))
 }
 
 /// Removes what a test wrote.
@@ -86,7 +88,7 @@ fn a_generated_input_needs_no_file(rt: HostRuntime) -> Result<(), Fail> {
 fn a_file_is_copied_by_its_ports(rt: HostRuntime) -> Result<(), Fail> {
     fs::write(&rt, "from.raw", [1, 2, 3].as_slice())?;
     let mut source = FileSource::new(&rt, "from.raw");
-    let mut sink = FileSink::new(rt.alloc(), &rt, "to.raw")?;
+    let mut sink = FileSink::new(rt.alloc(), &rt, "to.raw", "", "from.raw")?;
     let mut bytes = [0; 4];
     assert_same!(rt; source.read(&mut bytes).ok(), Some(3));
     assert_same!(rt; sink.write(&bytes[..3]).ok(), Some(3));
@@ -181,24 +183,83 @@ fn an_empty_input_makes_an_empty_output(rt: HostRuntime) -> Result<(), Fail> {
     Ok(())
 }
 
-/// What a stopped run has accepted cannot be written behind it, and main says so in place of the run's status.
+/// A disk that is full from the first byte on: the output cannot be written, and no sample is asked for.
+#[test]
+fn a_full_disk_ends_a_run_at_its_first_write(rt: HostRuntime) -> Result<(), Fail> {
+    let (status, written) = short_run_on_a_disk(&rt, 0)?;
+    assert_same!(rt; status, 8);
+    assert_same!(rt; written, 0);
+    Ok(())
+}
+
+/// What a stopped run has accepted cannot be written after it, and that is answered in place of the run's status.
 #[test]
 fn a_short_input_on_a_full_disk_is_not_written(rt: HostRuntime) -> Result<(), Fail> {
+    let (status, written) = short_run_on_a_disk(&rt, 1)?;
+    assert_same!(rt; status, 8);
+    assert_same!(rt; written, 1);
+    let (status, written) = short_run_on_a_disk(&rt, 3)?;
+    assert_same!(rt; status, 4);
+    assert_same!(rt; written, 3);
+    Ok(())
+}
+
+/// Writes three blocks of one byte each, of an input that is short, to a disk with so many bytes of room: the status, and the
+/// bytes that stand.
+fn short_run_on_a_disk(rt: &HostRuntime, room: u64) -> Result<(u8, usize), Fail> {
     fs::write(
-        &rt,
+        rt,
         "full.txt",
-        b"dspfx 1 input wave q7 1 block 2 output raw\n",
+        b"dspfx 1 input wave q7 1 block 1 output raw\n",
     )?;
-    fs::write(&rt, "full.wav", SHORT)?;
-    let disk = FullDisk(&rt);
+    fs::write(rt, "full.wav", SHORT)?;
+    let disk = FullDisk { files: rt, room };
     let status = answer(
         rt.alloc(),
         &disk,
         &["run", "full.txt", "full.wav", "full.raw"],
     )?;
-    assert_same!(rt; status, 8);
-    let written = fs::read(&rt, "full.raw")?;
-    assert_same!(rt; written.len(), 0);
-    remove(&rt, &["full.txt", "full.wav", "full.raw"])?;
+    let written = fs::read(rt, "full.raw")?;
+    remove(rt, &["full.txt", "full.wav", "full.raw"])?;
+    Ok((status, written.len()))
+}
+
+/// Each name of a file that is read as well is refused as an output, and the file stays as it is.
+#[test]
+fn an_output_that_is_read_stays_as_it_is(rt: HostRuntime) -> Result<(), Fail> {
+    let commands: &[&[&str]] = &[
+        &["run", "kept.txt", "kept.raw", "./kept.raw"],
+        &["run", "kept.txt", "kept.raw", "hard.raw"],
+        &["run", "kept.txt", "hard.raw", "kept.raw"],
+        &["run", "kept.txt", "kept.raw", "soft.raw"],
+        &["run", "kept.txt", "soft.raw", "kept.raw"],
+        &["run", "kept.txt", "kept.raw", "folder/kept.raw"],
+        &["run", "kept.txt", "kept.raw", ".//kept.txt"],
+        &["gen", "1", "9", "kept.txt", "./kept.txt"],
+        &["gen", "1", "9", "kept.txt", "folder/kept.txt"],
+        &["convert", "wave", "au", "kept.wav", "./kept.wav"],
+        &["convert", "wave", "au", "kept.wav", "folder/kept.wav"],
+    ];
+    fs::write(&rt, "kept.txt", SCRIPT)?;
+    fs::write(&rt, "kept.raw", [1, 2, 3, 4].as_slice())?;
+    fs::write(&rt, "kept.wav", &SHORT[..46])?;
+    fs::hard_link(&rt, "kept.raw", "hard.raw")?;
+    symlink(&rt, "kept.raw", "soft.raw")?;
+    symlink(&rt, ".", "folder")?;
+    for words in commands {
+        assert_same!(rt; answer(rt.alloc(), &rt, words)?, 8);
+    }
+    let script = fs::read(&rt, "kept.txt")?;
+    assert_same!(rt; script.as_slice(), SCRIPT);
+    let input = fs::read(&rt, "kept.raw")?;
+    assert_same!(rt; input.as_slice(), [1, 2, 3, 4].as_slice());
+    let wave = fs::read(&rt, "kept.wav")?;
+    assert_same!(rt; wave.len(), 46);
+    remove(
+        &rt,
+        &[
+            "kept.txt", "kept.raw", "kept.wav", "hard.raw", "soft.raw", "folder",
+        ],
+    )?;
     Ok(())
 }

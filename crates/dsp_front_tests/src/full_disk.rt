@@ -1,26 +1,37 @@
-//! Files on a disk that has no room: they are made and read, and no byte is written to them.
+//! Files on a disk that has little room: each is made and read, and takes so many bytes and no more.
 use std::alloc::Allocator;
 use std::fmt::Display;
 use std::fs::{Files, Metadata, OpenFile, OpenOptions};
 use std::io::{self, ErrorKind, Print, Read, Seek, SeekFrom, Write};
 
-/// A runtime whose disk is full.
+/// A runtime whose disk has room for so many bytes of each file.
 #[derive(Drop)]
-pub struct FullDisk<'a, R>(pub &'a R);
+pub struct FullDisk<'a, R> {
+    pub files: &'a R,
+    pub room: u64,
+}
 
-/// A file on a full disk.
+/// A file on such a disk, with the room that is left.
 #[derive(Drop)]
-pub struct FullFile<F>(F);
+pub struct FullFile<F> {
+    file: F,
+    room: u64,
+}
 
 impl<F: Read> Read for FullFile<F> {
     fn read(&mut self, into: &mut [u8]) -> io::Result<usize> {
-        self.0.read(into)
+        self.file.read(into)
     }
 }
 
-impl<F> Write for FullFile<F> {
-    fn write(&mut self, _piece: &[u8]) -> io::Result<usize> {
-        Err(io::Error::from(ErrorKind::StorageFull))
+impl<F: Write> Write for FullFile<F> {
+    fn write(&mut self, piece: &[u8]) -> io::Result<usize> {
+        if piece.len() as u64 > self.room {
+            return Err(io::Error::from(ErrorKind::StorageFull));
+        }
+        let count = self.file.write(piece)?;
+        self.room = self.room.saturating_sub(count as u64);
+        Ok(count)
     }
 
     fn flush(&mut self) -> io::Result<()> {
@@ -30,25 +41,25 @@ impl<F> Write for FullFile<F> {
 
 impl<F: Seek> Seek for FullFile<F> {
     fn seek(&mut self, to: SeekFrom) -> io::Result<u64> {
-        self.0.seek(to)
+        self.file.seek(to)
     }
 }
 
 impl<F: OpenFile> OpenFile for FullFile<F> {
     fn metadata(&self) -> io::Result<Metadata> {
-        self.0.metadata()
+        self.file.metadata()
     }
 
     fn set_len(&self, size: u64) -> io::Result<()> {
-        self.0.set_len(size)
+        self.file.set_len(size)
     }
 
     fn sync_all(&self) -> io::Result<()> {
-        self.0.sync_all()
+        self.file.sync_all()
     }
 
     fn sync_data(&self) -> io::Result<()> {
-        self.0.sync_data()
+        self.file.sync_data()
     }
 }
 
@@ -58,56 +69,59 @@ impl<R: Files> Files for FullDisk<'_, R> {
     type Dir = R::Dir;
 
     fn open_file(&self, how: &OpenOptions, path: &str) -> io::Result<FullFile<R::File>> {
-        Ok(FullFile(self.0.open_file(how, path)?))
+        Ok(FullFile {
+            file: self.files.open_file(how, path)?,
+            room: self.room,
+        })
     }
 
     fn open_dir(&self, path: &str) -> io::Result<R::Dir> {
-        self.0.open_dir(path)
+        self.files.open_dir(path)
     }
 
     fn metadata(&self, path: &str) -> io::Result<Metadata> {
-        self.0.metadata(path)
+        self.files.metadata(path)
     }
 
     fn symlink_metadata(&self, path: &str) -> io::Result<Metadata> {
-        self.0.symlink_metadata(path)
+        self.files.symlink_metadata(path)
     }
 
     fn copy(&self, from: &str, to: &str) -> io::Result<u64> {
-        self.0.copy(from, to)
+        self.files.copy(from, to)
     }
 
     fn rename(&self, from: &str, to: &str) -> io::Result<()> {
-        self.0.rename(from, to)
+        self.files.rename(from, to)
     }
 
     fn remove_file(&self, path: &str) -> io::Result<()> {
-        self.0.remove_file(path)
+        self.files.remove_file(path)
     }
 
     fn create_dir(&self, path: &str) -> io::Result<()> {
-        self.0.create_dir(path)
+        self.files.create_dir(path)
     }
 
     fn remove_dir(&self, path: &str) -> io::Result<()> {
-        self.0.remove_dir(path)
+        self.files.remove_dir(path)
     }
 
     fn remove_dir_all<A: Allocator>(&self, alloc: A, path: &str) -> io::Result<()> {
-        self.0.remove_dir_all(alloc, path)
+        self.files.remove_dir_all(alloc, path)
     }
 }
 
 impl<R: Print> Print for FullDisk<'_, R> {
     fn print<D: Display + Drop>(&self, value: D) -> io::Result<()> {
-        self.0.print(value)
+        self.files.print(value)
     }
 
     fn println<D: Display + Drop>(&self, value: D) -> io::Result<()> {
-        self.0.println(value)
+        self.files.println(value)
     }
 
     fn write_all(&self, bytes: &[u8]) -> io::Result<()> {
-        self.0.write_all(bytes)
+        self.files.write_all(bytes)
     }
 }

@@ -14,6 +14,8 @@ macro_rules! assert_same {
 }
 
 #[cfg(test)]
+mod au;
+#[cfg(test)]
 mod block_runs;
 #[cfg(test)]
 mod chain;

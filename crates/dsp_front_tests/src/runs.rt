@@ -18,6 +18,7 @@ fn counted<S: Source, L: Ledger>(
     input: &mut S,
     output: &mut MemSink,
     report: &mut MemSink,
+    other: &mut MemSource,
     blank: Blank,
 ) -> u8
     requires name { blank.name ≡ L.name }
@@ -25,7 +26,9 @@ fn counted<S: Source, L: Ledger>(
     requires ledger_parts { L.parts ≡ 2 }
 {
     let mut steps: Steps<L> = Steps::new(blank);
-    run::<BlockUnit, _, _, _, _, _>(alloc, words, script, input, output, report, &mut steps)
+    run::<BlockUnit, _, _, _, _, _, _>(
+        alloc, words, script, input, output, report, other, &mut steps,
+    )
 }
 
 fn words_of(alloc: Global, texts: &[&str]) -> Result<Words, AllocError> {
@@ -61,7 +64,7 @@ pub struct Case<'a> {
 const EXAMPLE: &[u8] = &[0xE8, 0x03, 0x18, 0xFC, 0xFF, 0xFF];
 
 const USAGE: &[u8] =
-    b"dspfx: usage: run SCRIPT IN OUT [block N], gen SEED FRAMES SCRIPT OUT, print SCRIPT\n";
+    b"dspfx: usage: run SCRIPT IN OUT [block N], gen SEED FRAMES SCRIPT OUT, print SCRIPT, convert wave au IN OUT, convert au wave IN OUT\n";
 
 const CASES: &[Case<'static>] = &[
     // 1000, -1000 and -1 are halved.
@@ -76,6 +79,31 @@ const CASES: &[Case<'static>] = &[
         status: 0,
         output: &[0xF4, 0x01, 0x0C, 0xFE, 0xFF, 0xFF],
         report: b"dspfx: done\nin 3 frames of 1 channels q15\nout 3 frames of 1 channels q15\nmultiplies 3\n",
+    },
+    // A WAVE file in the form of AU, and back; the script is not read.
+    Case {
+        words: &["convert", "wave", "au", "i", "o"],
+        script: b"",
+        input: b"RIFF\x26\x00\x00\x00WAVEfmt \x10\x00\x00\x00\x01\x00\x01\x00\x40\x1F\x00\x00\x80\x3E\x00\x00\x02\x00\x10\x00data\x02\x00\x00\x00\xE8\x03",
+        failing_reads: &[],
+        room: 64,
+        failing_writes: &[],
+        failing_reports: &[],
+        status: 0,
+        output: b".snd\x00\x00\x00\x18\x00\x00\x00\x02\x00\x00\x00\x03\x00\x00\x1F\x40\x00\x00\x00\x01\x03\xE8",
+        report: b"dspfx: done\n1 frames of 1 channels, 16 bits\n",
+    },
+    Case {
+        words: &["convert", "au", "wave", "i", "o"],
+        script: b"",
+        input: EXAMPLE,
+        failing_reads: &[],
+        room: 64,
+        failing_writes: &[],
+        failing_reports: &[],
+        status: 4,
+        output: b"",
+        report: b"dspfx: header: NotAu at 0\n",
     },
     // All output stands where the report fails.
     Case {
@@ -296,6 +324,7 @@ pub fn play(alloc: Global, rt: &impl Abort, case: &Case<'_>) -> Result<(), Alloc
     let mut input = MemSource::new(alloc, case.input, 3, case.failing_reads)?;
     let mut output = MemSink::new(alloc, case.room, 5, case.failing_writes)?;
     let mut report = MemSink::new(alloc, 512, 500, case.failing_reports)?;
+    let mut other = MemSource::new(alloc, &[], 1, &[])?;
     let status = counted::<MemSource, Brand>(
         alloc,
         &words,
@@ -303,6 +332,7 @@ pub fn play(alloc: Global, rt: &impl Abort, case: &Case<'_>) -> Result<(), Alloc
         &mut input,
         &mut output,
         &mut report,
+        &mut other,
         Blank::new(2),
     );
     assert_same!(rt; status, case.status);
@@ -391,6 +421,7 @@ fn long_run(
     let mut input = MemSource::new(alloc, &bytes, 512, failing_reads)?;
     let mut output = MemSink::new(alloc, 4096, 4096, failing_writes)?;
     let mut report = MemSink::new(alloc, 512, 500, &[])?;
+    let mut other = MemSource::new(alloc, &[], 1, &[])?;
     let status = counted::<MemSource, Brand>(
         alloc,
         &words,
@@ -398,6 +429,7 @@ fn long_run(
         &mut input,
         &mut output,
         &mut report,
+        &mut other,
         Blank::new(2),
     );
     for pair in output.bytes().chunks(2) {
@@ -428,6 +460,7 @@ fn an_input_that_never_fails_is_run(rt: HostRuntime) -> Result<(), Fail> {
     let mut input = CleanSource::new(alloc, EXAMPLE, 3)?;
     let mut output = MemSink::new(alloc, 64, 64, &[])?;
     let mut report = MemSink::new(alloc, 512, 500, &[])?;
+    let mut other = MemSource::new(alloc, &[], 1, &[])?;
     let status = counted::<CleanSource, Brand>(
         alloc,
         &words,
@@ -435,6 +468,7 @@ fn an_input_that_never_fails_is_run(rt: HostRuntime) -> Result<(), Fail> {
         &mut input,
         &mut output,
         &mut report,
+        &mut other,
         Blank::new(2),
     );
     assert_same!(rt; status, 0);
@@ -456,6 +490,7 @@ fn long_gen(
     let mut input = CleanSource::new(alloc, &[], 1)?;
     let mut output = MemSink::new(alloc, 200_000, 4096, &[])?;
     let mut report = MemSink::new(alloc, 512, 500, &[])?;
+    let mut other = MemSource::new(alloc, &[], 1, &[])?;
     let status = counted::<CleanSource, Brand>(
         alloc,
         &words,
@@ -463,6 +498,7 @@ fn long_gen(
         &mut input,
         &mut output,
         &mut report,
+        &mut other,
         Blank::new(2),
     );
     assert_same!(rt; status, 0);

@@ -1,10 +1,11 @@
-use dsp_defs::{Container, Fmt, Input, InputKind};
-use dsp_ports::{Source, fill};
+use dsp_defs::{Container, Fmt, Input, InputKind, Wanted};
+use dsp_ports::{MemSource, Source, fill};
 use dsp_wave::{
     Coding, GenSource, HeaderOr, bytes_of, decode, encode, read_header, riff_size, sample_of,
     width, write_header,
 };
 use std::process::Abort;
+use std::test::Fail;
 
 mod headers;
 
@@ -79,9 +80,17 @@ const EXTENSIBLE: [u8; 68] =
     *b"RIFF\x3E\x00\x00\x00WAVEfmt \x28\x00\x00\x00\xFE\xFF\x01\x00\x40\x1F\x00\x00\x80\x3E\x00\x00\x02\x00\x10\x00\x16\x00\x10\x00\x00\x00\x00\x00\x01\x00\x00\x00\x00\x00\x10\x00\x80\x00\x00\xAA\x00\x38\x9B\x71data\x02\x00\x00\x00";
 
 #[test]
-fn an_extensible_header_names_linear_pcm(rt: HostRuntime) {
+fn an_extensible_header_names_linear_pcm(rt: HostRuntime) -> Result<(), Fail> {
     let header = write_header(Container::Wavex, Fmt::Q15, 1, 8000, Some(1));
     assert_same!(rt; header.as_slice(), EXTENSIBLE.as_slice());
+    let wanted = Wanted {
+        format: Fmt::Q15,
+        channels: 1,
+    };
+    let mut source = MemSource::new(rt.alloc(), &EXTENSIBLE, 7, &[])?;
+    let read = read_header(&mut source, wanted).ok();
+    assert_same!(rt; read.map(|header| header.start), Some(68));
+    Ok(())
 }
 
 /// 4,000,000,000 frames of 64 bytes are 59 * 2^32 + 2,596,929,536 bytes a second.

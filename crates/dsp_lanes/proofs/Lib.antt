@@ -19,3 +19,8 @@ pub mod HighSums
 pub mod HighRows
 pub mod DotSums
 pub mod NarrowSums
+pub mod SectionChannels
+mod LaneValues
+mod FloorShifts
+mod SectionHalves
+pub mod SectionLanes

@@ -6,3 +6,4 @@ pub mod MatrixRows
 pub mod Reflected
 pub mod HighSums
 pub mod Rows
+pub mod Sections

@@ -84,6 +84,14 @@ pub trait LaneKernels<const L: usize>: Sample {
         ensures { map Self.total sums.new ≡ put_chunk at (map Self.total sums.old)
             (zip2 (λ s x. wrap w32 (s +ℤ sparse_term Self.format (Self.number tap) x))
             (chunk at L (map Self.total sums.old)) (chunk at L (map Self.number window.now))) };
+
+    /// Adds the products of one tap with a group of a row to a group of sums.
+    fn mac_group(tap: Self, row: &[Self], sums: &mut [Self::Acc], at: usize)
+        requires row { at + L ≤ length row.now }
+        requires room { at + L ≤ length sums.old }
+        ensures { map Self.total sums.new ≡ put_chunk at (map Self.total sums.old)
+            (zip2 (λ s x. wrap (accumulator Self.format) (s +ℤ (Self.number tap *ℤ x)))
+            (chunk at L (map Self.total sums.old)) (chunk at L (map Self.number row.now))) };
 }
 
 /// How a type of samples makes outputs of a filter, L and 2L at a time, and sums of products.

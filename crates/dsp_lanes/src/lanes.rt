@@ -14,7 +14,7 @@ use crate::operations::{
     Abs, Clip, Difference, Negate, Offset, Shift, Sum, change_each, join_each,
 };
 use crate::rows::row_sum;
-use crate::updates::{SparseTerms, update_each};
+use crate::updates::{Products, SparseTerms, update_each};
 use dsp_defs::Steps;
 use std::marker::PhantomData;
 use std::sync::ledger::Ledger;
@@ -215,5 +215,16 @@ impl<T: LaneSample<L>, const L: usize> Lanes<T, L> {
         ensures steps { RisesWithin steps.old steps.new (length sums.old) (lane_turns L (length sums.old)) }
     {
         update_each::<T, SparseTerms<L>, M>(tap, window, sums, steps)
+    }
+
+    /// Adds one tap's products to each sum, wrapped to the accumulator. Lengths are equal.
+    pub fn mac<M: Ledger>(tap: T, row: &[T], sums: &mut [T::Acc], steps: &mut Steps<M>)
+        requires { length row.now ≡ length sums.old }
+        ensures sums { map T.total sums.new ≡ zip2 (λ s x.
+            wrap (accumulator T.format) (s +ℤ (T.number tap *ℤ x))) (map T.total sums.old)
+            (map T.number row.now) }
+        ensures steps { RisesWithin steps.old steps.new (length sums.old) (lane_turns L (length sums.old)) }
+    {
+        update_each::<T, Products<L>, M>(tap, row, sums, steps)
     }
 }

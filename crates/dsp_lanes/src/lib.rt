@@ -29,6 +29,7 @@ mod reflections;
 mod regroup;
 mod row_form;
 mod rows;
+mod sections;
 mod updates;
 mod weights;
 
@@ -40,4 +41,5 @@ pub use matrix_rows::multiply_two_rows;
 pub use own_lanes::OwnLanes;
 pub use reflections::reflect;
 pub use regroup::sums_regroup;
+pub use sections::{SectionKernels, SectionSample};
 pub use weights::{WeightSample, update_weights};

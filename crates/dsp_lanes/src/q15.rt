@@ -100,6 +100,16 @@ impl<const L: usize> LaneKernels<L> for i16 {
         let s = Simd::<i64, L>::from_slice(&sums[at..]) + t * x;
         ((s << Simd::splat(32)) >> Simd::splat(32)).copy_to_slice(&mut sums[at..]);
     }
+
+    #[inline(always)]
+    fn mac_group(tap: i16, row: &[i16], sums: &mut [i64], at: usize) {
+        q15_fit(row);
+        sums_64_fit(sums);
+        let t = Simd::<i16, L>::splat(tap).cast::<i64>();
+        let x = Simd::<i16, L>::from_slice(&row[at..]).cast::<i64>();
+        let s = Simd::<i64, L>::from_slice(&sums[at..]);
+        (s + t * x).copy_to_slice(&mut sums[at..]);
+    }
 }
 
 impl<const L: usize> FilterKernels<L> for i16 {

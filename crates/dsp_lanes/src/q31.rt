@@ -99,6 +99,16 @@ impl<const L: usize> LaneKernels<L> for i32 {
         let s = Simd::<i64, L>::from_slice(&sums[at..]) + ((t * x) >> Simd::splat(32));
         ((s << Simd::splat(32)) >> Simd::splat(32)).copy_to_slice(&mut sums[at..]);
     }
+
+    #[inline(always)]
+    fn mac_group(tap: i32, row: &[i32], sums: &mut [i64], at: usize) {
+        q31_fit(row);
+        sums_64_fit(sums);
+        let t = Simd::<i32, L>::splat(tap).cast::<i64>();
+        let x = Simd::<i32, L>::from_slice(&row[at..]).cast::<i64>();
+        let s = Simd::<i64, L>::from_slice(&sums[at..]);
+        (s + t * x).copy_to_slice(&mut sums[at..]);
+    }
 }
 
 impl<const L: usize> FilterKernels<L> for i32 {

@@ -91,6 +91,16 @@ impl<const L: usize> LaneKernels<L> for i8 {
         let s = Simd::<i32, L>::from_slice(&sums[at..]);
         (s + t * x).copy_to_slice(&mut sums[at..]);
     }
+
+    #[inline(always)]
+    fn mac_group(tap: i8, row: &[i8], sums: &mut [i32], at: usize) {
+        q7_fit(row);
+        q31_fit(sums);
+        let t = Simd::<i8, L>::splat(tap).cast::<i32>();
+        let x = Simd::<i8, L>::from_slice(&row[at..]).cast::<i32>();
+        let s = Simd::<i32, L>::from_slice(&sums[at..]);
+        (s + t * x).copy_to_slice(&mut sums[at..]);
+    }
 }
 
 impl<const L: usize> FilterKernels<L> for i8 {

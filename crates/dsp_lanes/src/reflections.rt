@@ -13,7 +13,7 @@ use dsp_sat::{product, sat16};
 use std::simd::prelude::*;
 use std::sync::ledger::Ledger;
 
-/// Twice a coefficient, as a factor of 16 bits and a multiple of 2^16.
+/// Twice a coefficient, as a factor of 16 bits and a multiple of 2^16, which is 1, 0 or -1 of it.
 #[inline(always)]
 fn folded(k: i16) -> (i16, i16)
     ensures double { result.0 +ℤ result.1 *ℤ pos 65536 ≡ pos 2 *ℤ k }
@@ -28,9 +28,21 @@ fn folded(k: i16) -> (i16, i16)
     }
 }
 
-/// The products of the samples and a coefficient as fractions, by the high words of products: a shift by
-/// 15 is one by 16 of twice the product. The part of twice the coefficient that its 16 bits do not hold
-/// only adds or takes off each sample once, and is counted with the product.
+/// The high words of the products of samples and a factor.
+#[inline(always)]
+fn high_words(samples: i16x8, factor: i16) -> i16x8
+    requires long { length samples ≡ 8 }
+    requires fit { Each1 (FitsSigned w16) samples }
+    ensures value { result ≡ map (λ x. floor_shift (x *ℤ factor) 16) samples }
+    ensures fit { Each1 (FitsSigned w16) result }
+{
+    let products = samples.cast::<i32>() * i16x8::splat(factor).cast::<i32>();
+    (products >> i32x8::splat(16)).cast::<i16>()
+}
+
+/// The products of samples and a coefficient as fractions, by the high words of products: a shift by 15
+/// is one by 16 of twice the product. The multiple of 2^16 in twice the coefficient makes no product: it
+/// adds or takes off each sample once.
 #[inline(always)]
 fn fractions(k: i16, samples: i16x8) -> i16x8
     requires apart { k ≢ negsuc 32767 }
@@ -40,8 +52,14 @@ fn fractions(k: i16, samples: i16x8) -> i16x8
     ensures fit { Each1 (FitsSigned w16) result }
 {
     let (factor, whole) = folded(k);
-    let products = samples.cast::<i32>() * i16x8::splat(factor).cast::<i32>();
-    (products >> i32x8::splat(16)).cast::<i16>() + samples * i16x8::splat(whole)
+    let high = high_words(samples, factor);
+    if whole > 0 {
+        high + samples
+    } else if whole < 0 {
+        high - samples
+    } else {
+        high
+    }
 }
 
 /// The saturated sums.
@@ -93,8 +111,8 @@ fn reflect_group(k: i16, before: i16, forward: &mut [i16], backward: &mut [i16],
 
 /// Writes over the values f and g of each sample those that a section of a lattice without feedback
 /// gives for them, and answers the last g that it was given: the inner step of `arm_fir_lattice_q15`,
-/// over a block. `before` is the value g of the sample before. Lengths are equal. It counts each
-/// product, and as many turns.
+/// over a block. `before` is the value g of the sample before. Lengths are equal. It counts two
+/// products for each sample, and as many turns.
 pub fn reflect<L: Ledger>(
     k: i16,
     before: i16,

@@ -100,6 +100,39 @@ impl<T: LaneSample<L>, const L: usize> Update<T> for SparseTerms<L> {
     }
 }
 
+/// Adds the products of a tap to sums, in groups of L.
+pub(crate) struct Products<const L: usize>;
+
+impl<T: LaneSample<L>, const L: usize> Update<T> for Products<L> {
+    type Slot = T::Acc;
+
+    ghost use Rattle.std.specs.Prelude.{◌+ℤ◌, ◌*ℤ◌};
+    ghost use Rattle.dsp_defs.specs.Formats.{accumulator};
+    ghost use Rattle.dsp_defs.specs.Numbers.{wrap};
+
+    ghost size = { L };
+
+    ghost number = { T.total };
+
+    ghost next = { λ tap s x. wrap (accumulator T.format) (s +ℤ (T.number tap *ℤ x)) };
+
+    #[inline(always)]
+    fn size() -> usize {
+        L
+    }
+
+    #[inline(always)]
+    fn group(tap: T, row: &[T], sums: &mut [T::Acc], at: usize) {
+        T::mac_group(tap, row, sums, at)
+    }
+
+    #[inline(always)]
+    fn one<M: Ledger>(tap: T, sum: T::Acc, x: T, steps: &mut Steps<M>) -> T::Acc {
+        let product = T::product(tap, x, steps);
+        T::accumulate(sum, product)
+    }
+}
+
 /// Changes the weights of an adaptive filter by a step size.
 pub(crate) struct Weights;
 

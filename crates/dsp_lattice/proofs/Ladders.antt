@@ -17,7 +17,7 @@ use Rattle.dsp_stage.proofs.GoingOn.{outputs-next, reverse-more}
 use Rattle.dsp_sat.proofs.Words.{abs_within}
 use Rattle.dsp_defs.specs.declared.format.Fmt.{Fmt}
 use Rattle.dsp_defs.specs.declared.format.Fmt.TheVariants.{Q7, Q15, Q31}
-use Rattle.dsp_lattice.specs.LatticeState.{reflection}
+use Rattle.dsp_lattice.specs.LatticeState.{HasLattice, reflection}
 
 -- ---- one section
 
@@ -120,17 +120,14 @@ wrapped-twice : (w : Width) (z : ℤ) → wrap w (wrap w z) ≡ wrap w z
 wrapped-twice w z = int_wrap_fits w (wrap w z) (SFits-int_wrap w z)
 
 -- a sum that was wrapped is closed as the exact one, since at most 256 products are summed
-pub ladder-closes : (format : Fmt) (v g : List ℤ) (n : ℕ) → n ≤ 256 → n ≤ length v → n ≤ length g → All (FitsSigned (word format)) v → All (FitsSigned (word format)) g →
+pub ladder-closes : (format : Fmt) → HasLattice format → (v g : List ℤ) (n : ℕ) → n ≤ 256 → n ≤ length v → n ≤ length g → All (FitsSigned (word format)) v → All (FitsSigned (word format)) g →
     close format (wrap (accumulator format) (ladder format v g n)) ≡ ladder_close format (ladder format v g n)
-ladder-closes Q7 v g n few long_v long_g fits_v fits_g =
-    let bound = ladder-bound Q7 v g n few long_v long_g fits_v fits_g in
-    let fits : SFits w32 (ladder Q7 v g n) = fits_signed_from_abs w32 (ladder Q7 v g n) (omega (arith, bound, few)) in
-    ap (λ s. saturate 8 (s >> 7)) (wrapped-twice w32 (ladder Q7 v g n) ∙ int_wrap_fits w32 (ladder Q7 v g n) fits)
-ladder-closes Q15 v g n few long_v long_g fits_v fits_g =
+ladder-closes Q7 has v g n few long_v long_g fits_v fits_g = absurd has
+ladder-closes Q15 has v g n few long_v long_g fits_v fits_g =
     let bound = ladder-bound Q15 v g n few long_v long_g fits_v fits_g in
     let fits : SFits w64 (ladder Q15 v g n) = fits_signed_from_abs w64 (ladder Q15 v g n) (omega (arith, bound, few)) in
     ap (λ s. saturate 16 (s >> 15)) (wrapped-twice w64 (ladder Q15 v g n) ∙ int_wrap_fits w64 (ladder Q15 v g n) fits)
-ladder-closes Q31 v g n few long_v long_g fits_v fits_g = ap (λ s. wrap w32 (s >> 31)) (wrapped-twice w64 (ladder Q31 v g n))
+ladder-closes Q31 has v g n few long_v long_g fits_v fits_g = ap (λ s. wrap w32 (s >> 31)) (wrapped-twice w64 (ladder Q31 v g n))
 
 -- ---- a sample
 

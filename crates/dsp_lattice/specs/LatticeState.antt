@@ -1,5 +1,5 @@
 -- What a contract sees of a lattice.
-use Rattle.std.specs.Prelude.{◌≡◌, ℕ, ◌+◌, ◌-◌, ◌*◌, ◌≤◌, ℤ, List, [], ◌∷◌, map, fold, length, All, FitsSigned, refl}
+use Rattle.std.specs.Prelude.{⊤, ◌≡◌, ℕ, ◌+◌, ◌-◌, ◌*◌, ◌≤◌, ℤ, List, [], ◌∷◌, map, fold, length, All, FitsSigned, refl}
 use Rattle.std.proofs.Common.{◌∙◌, arith}
 use Rattle.std.proofs.lemmas.List.{length-replicate}
 use Rattle.dsp_defs.specs.Numbers.{◌>>◌, wrap, w32}
@@ -12,15 +12,19 @@ use Rattle.dsp_stage.proofs.ChannelKept.{words-placed}
 use Rattle.dsp_unit.proofs.Units.{scaled, less-scaled}
 use Rattle.dsp_defs.specs.declared.limits.TheConstants.{MAX_STAGES}
 use Rattle.dsp_defs.specs.declared.format.Fmt.{Fmt}
-use Rattle.dsp_defs.specs.declared.format.Fmt.TheVariants.{Q7, Q15, Q31}
+use Rattle.dsp_defs.specs.declared.format.Fmt.TheVariants.{Q7, Q31}
 use Rattle.dsp_defs.specs.declared.script.Block.{Block}
 use Rattle.dsp_defs.specs.declared.script.Block.TheVariants.{LatticeFir, LatticeIir}
 
 -- a product of a reflection coefficient as a fraction: p >> 15, and wrap_32(p >> 31) in Q31
 abbrev pub reflection : Fmt → ℤ → ℤ
-reflection Q7 p = p >> 7
-reflection Q15 p = p >> 15
 reflection Q31 p = wrap w32 (p >> 31)
+reflection format p = p >> 15
+
+-- there is no lattice in Q7
+abbrev pub HasLattice : Fmt → Type 0
+HasLattice Q7 = ⊥
+HasLattice format = ⊤
 
 -- ---- without feedback
 

@@ -6,7 +6,7 @@ ghost use Rattle.dsp_defs.specs.Numbers.{saturate};
 ghost use Rattle.dsp_defs.specs.Streaming.{GoesOn};
 ghost use Rattle.dsp_defs.specs.Formats.{word_bits};
 ghost use Rattle.dsp_defs.specs.declared.format.Fmt.TheVariants.{Q15};
-ghost use Rattle.dsp_lattice.specs.LatticeState.{reflection, section_kept};
+ghost use Rattle.dsp_lattice.specs.LatticeState.{HasLattice, reflection, section_kept};
 
 use dsp_defs::Steps;
 use dsp_lanes::reflect;
@@ -24,6 +24,8 @@ pub trait LatticeSample: WideSample {
     fn raised(reflected: Self::Wide, g: Self) -> Self
         ensures { Self.number result ≡ saturate (word_bits Self.format)
             (reflection Self.format (Self.wide reflected) +ℤ Self.number g) };
+
+    ghost has_lattice: { HasLattice Self.format };
 }
 
 /// The samples of a lattice without feedback.
@@ -73,6 +75,8 @@ impl LatticeSample for i16 {
     fn raised(reflected: i32, g: i16) -> i16 {
         nearest15((reflected >> 15) + i32::from(g))
     }
+
+    ghost has_lattice = { tt };
 }
 
 impl NarrowSample for i16 {
@@ -99,4 +103,6 @@ impl LatticeSample for i32 {
     fn raised(reflected: i64, g: i32) -> i32 {
         nearest31(i64::from(low_word(reflected >> 31)) + i64::from(g))
     }
+
+    ghost has_lattice = { tt };
 }

@@ -1,6 +1,6 @@
 -- Which fault has a status, and what is so of the script where one of its faults has it.
-use Rattle.std.proofs.Common.{◌≡◌, ℕ, refl, subst, arith, inl, inr, IsFalse}
-use Rattle.dsp_ports.specs.Ports.{SinkState}
+use Rattle.std.proofs.Common.{◌≡◌, ◌⊎◌, ℕ, refl, subst, arith, inl, inr, Some, IsFalse}
+use Rattle.dsp_ports.specs.Ports.{SinkState, one_more}
 use Rattle.dsp_defs.specs.Report.{block_length_line, header_line, script_line}
 use Rattle.dsp_defs.specs.Shape.{unit}
 use Rattle.dsp_defs.specs.declared.script.Script.{Script}
@@ -8,13 +8,17 @@ use Rattle.dsp_defs.specs.declared.script_fault.ScriptFault.{ScriptFault}
 use Rattle.dsp_defs.specs.declared.wave.HeaderFault.{HeaderFault}
 use Rattle.dsp_session.specs.declared.fault.StreamFault.{StreamFault}
 use Rattle.dsp_session.specs.declared.fault.StreamFault.TheVariants.{Header, Input, Output, Lengths}
-use Rattle.dsp_cli.specs.Call.{Call, Ending, Went, Printed, Stopped, Refuses, Happened, Reported, Ended}
+use Rattle.dsp_cli.specs.Call.{Call, Ending, Went, Printed, Turned, Stopped, Refuses, Happened, Reported, Ended}
 use Rattle.dsp_cli.specs.Fault.{status_of, fault_line}
-use Rattle.dsp_cli.specs.Run.{IsDone, Tells}
+use Rattle.dsp_cli.specs.Run.{HasText, HasOutput, IsStream, IsDone, Tells}
 use Rattle.dsp_cli.specs.Script.{IfScript, chosen_block, is_legal_for}
 use Rattle.dsp_cli.specs.declared.fault.Fault.{Fault}
-use Rattle.dsp_cli.specs.declared.fault.Fault.TheVariants.{Usage, ScriptRead, Script as BadText, BlockLength, Stream}
-use Rattle.dsp_cli.proofs.StatusLaws.{reports_done}
+use Rattle.dsp_cli.specs.declared.fault.Fault.TheVariants.{Usage, ScriptRead, Script as BadText, BlockLength, Stream, Conversion}
+use Rattle.dsp_au.specs.declared.fault.ConvertFault.TheVariants as convert_fault
+use Rattle.dsp_defs.specs.declared.au.Direction.{Direction}
+use Rattle.dsp_defs.specs.declared.command.Command.TheVariants.{Convert}
+use Rattle.dsp_defs.specs.Words.{command_of}
+use Rattle.dsp_cli.proofs.StatusLaws.{reports_done, stream_text, stream_output, conversion_status}
 use Rattle.dsp_cli.proofs.Told.{told_script}
 use Rattle.dsp_laws.specs.Stands.{IsStopped}
 
@@ -40,6 +44,7 @@ module _ (c : Call) (report told : SinkState) where
       by : (ending : Ending) → Happened ending c → Reported ending status report told → StoppedBy status
       by (Went script frames found) happened reported = absurd (undone (subst IsDone at (reports_done reported)))
       by (Printed script) happened reported = absurd (undone (subst IsDone at (reports_done reported)))
+      by (Turned totals) happened reported = absurd (undone (subst IsDone at (reports_done reported)))
       by (Stopped fault) happened (is, tells) = (fault, happened, is, tells)
 
   -- ---- which fault it was
@@ -47,11 +52,13 @@ module _ (c : Call) (report told : SinkState) where
   pub of_usage : StoppedBy 1 → Refuses Usage c
   of_usage (Usage, happened, is, tells) = happened.0
   of_usage (Stream fault, happened, is, tells) = absurd (omega (arith, is, stream_status fault))
+  of_usage (Conversion fault, happened, is, tells) = absurd (omega (arith, is, conversion_status fault))
   of_usage (fault, happened, is, tells) = absurd (omega (arith, is))
 
   pub of_script_read : StoppedBy 6 → Refuses ScriptRead c
   of_script_read (ScriptRead, happened, is, tells) = happened.0
   of_script_read (Stream fault, happened, is, tells) = absurd (omega (arith, is, stream_status fault))
+  of_script_read (Conversion fault, happened, is, tells) = absurd (omega (arith, is, conversion_status fault))
   of_script_read (fault, happened, is, tells) = absurd (omega (arith, is))
 
   -- the text has this fault, and its line was told
@@ -61,6 +68,7 @@ module _ (c : Call) (report told : SinkState) where
   pub of_text : StoppedBy 2 → BadTextTold
   of_text (BadText fault, happened, is, tells) = (fault, happened.0, tells)
   of_text (Stream fault, happened, is, tells) = absurd (omega (arith, is, stream_status fault))
+  of_text (Conversion fault, happened, is, tells) = absurd (omega (arith, is, conversion_status fault))
   of_text (fault, happened, is, tells) = absurd (omega (arith, is))
 
   -- the chosen block length isn't legal, and its line was told
@@ -78,29 +86,39 @@ module _ (c : Call) (report told : SinkState) where
         subst (λ line. Tells line report told) (λ i. block_length_line (block_is i) (divisor_is i)) tells,
       )
   of_length (Stream fault, happened, is, tells) = absurd (omega (arith, is, stream_status fault))
+  of_length (Conversion fault, happened, is, tells) = absurd (omega (arith, is, conversion_status fault))
   of_length (fault, happened, is, tells) = absurd (omega (arith, is))
 
   -- the header has this fault, and its line was told
   abbrev BadHeaderTold : Type 0
   BadHeaderTold = (fault : HeaderFault) × (offset : ℕ) × StreamStops c (Header fault offset) × Tells (header_line fault offset) report told
 
-  pub of_header : StoppedBy 4 → BadHeaderTold
-  of_header (Stream (Header fault offset), happened, is, tells) = (fault, offset, happened, tells)
-  of_header (Stream (Lengths fault), happened, is, tells) = absurd (omega (arith, is))
-  of_header (Stream Input, happened, is, tells) = absurd (omega (arith, is))
-  of_header (Stream Output, happened, is, tells) = absurd (omega (arith, is))
-  of_header (fault, happened, is, tells) = absurd (omega (arith, is))
+  -- a stream is no conversion
+  no_conversion : IsStream c.words → {direction : Direction} → command_of c.words ≡ Some (Convert direction) → ⊥
+  no_conversion stream asked = subst HasText asked (stream_text c.words stream)
 
-  pub of_input : StoppedBy 7 → StreamStops c Input
-  of_input (Stream Input, happened, is, tells) = happened
+  pub of_header : IsStream c.words → StoppedBy 4 → BadHeaderTold
+  of_header stream (Stream (Header fault offset), happened, is, tells) = (fault, offset, happened, tells)
+  of_header stream (Stream (Lengths fault), happened, is, tells) = absurd (omega (arith, is))
+  of_header stream (Stream Input, happened, is, tells) = absurd (omega (arith, is))
+  of_header stream (Stream Output, happened, is, tells) = absurd (omega (arith, is))
+  of_header stream (Conversion fault, stop, is, tells) = absurd (no_conversion stream stop.asked)
+  of_header stream (fault, happened, is, tells) = absurd (omega (arith, is))
+
+  -- a read of the input has failed, in a stream or a conversion
+  pub of_input : StoppedBy 7 → StreamStops c Input ⊎ (c.later.faults ≡ one_more c.port.faults)
+  of_input (Stream Input, happened, is, tells) = inl happened
   of_input (Stream (Header fault offset), happened, is, tells) = absurd (omega (arith, is))
   of_input (Stream (Lengths fault), happened, is, tells) = absurd (omega (arith, is))
   of_input (Stream Output, happened, is, tells) = absurd (omega (arith, is))
+  of_input (Conversion convert_fault.Read, stop, is, tells) = inr stop.did.faults.0
   of_input (fault, happened, is, tells) = absurd (omega (arith, is))
 
-  pub of_output : StoppedBy 8 → StreamStops c Output
-  of_output (Stream Output, happened, is, tells) = happened
+  -- a write of the output has, in a stream or a conversion
+  pub of_output : StoppedBy 8 → c.after.faults ≡ one_more c.sink.faults
+  of_output (Stream Output, (script, stop), is, tells) = stop.did.faults.1
   of_output (Stream (Header fault offset), happened, is, tells) = absurd (omega (arith, is))
   of_output (Stream (Lengths fault), happened, is, tells) = absurd (omega (arith, is))
   of_output (Stream Input, happened, is, tells) = absurd (omega (arith, is))
+  of_output (Conversion convert_fault.Write, stop, is, tells) = stop.did.faults.1
   of_output (fault, happened, is, tells) = absurd (omega (arith, is))

@@ -14,11 +14,11 @@ use Rattle.dsp_defs.specs.declared.wave.Header.{Header as FileHeader}
 use Rattle.dsp_defs.specs.declared.wave.HeaderFault.{HeaderFault}
 use Rattle.dsp_session.specs.Stream.{HasFault, declared_bytes, in_whole_frames, input_fault, wave_fault}
 use Rattle.dsp_session.specs.declared.fault.StreamFault.TheVariants.{Header, Input, Output, Lengths}
-use Rattle.dsp_cli.specs.Call.{Call, Ending, Went, Printed, Stopped, Streams, Refuses, Happened, Reported, Ended}
-use Rattle.dsp_cli.specs.Run.{IsStream, IsRun, IsDone, Tells, read_from}
-use Rattle.dsp_cli.specs.declared.fault.Fault.TheVariants.{Usage, ScriptRead, Script as BadText, BlockLength, Memory, Stream}
+use Rattle.dsp_cli.specs.Call.{Call, Ending, Went, Printed, Turned, Stopped, Streams, Refuses, Happened, Reported, Ended}
+use Rattle.dsp_cli.specs.Run.{HasText, HasOutput, IsStream, IsRun, IsDone, Tells, read_from}
+use Rattle.dsp_cli.specs.declared.fault.Fault.TheVariants.{Usage, ScriptRead, Script as BadText, BlockLength, Memory, Stream, Conversion}
 use Rattle.dsp_cli.proofs.InputLaws.{fault_told, some_not_none}
-use Rattle.dsp_cli.proofs.StatusLaws.{command_not_none, fault_not_done, reports_done, stream_some}
+use Rattle.dsp_cli.proofs.StatusLaws.{text_some, blocks_text, stream_text, stream_output, command_not_none, fault_not_done, reports_done, stream_some}
 use Rattle.dsp_cli.proofs.StopLaws.{gen_faulty, gen_reads}
 use Rattle.dsp_cli.proofs.Told.{IfSome-map, told_first, told_more, told_script}
 use Rattle.dsp_laws.specs.Origins.{MayEndAtLimit, Origins, TellsHeader}
@@ -94,12 +94,14 @@ module _ (c : Call) (status : ℕ) (report told : SinkState) where
   some_command : (ending : Ending) → Happened ending c → Reported ending status report told → (status ≡ 1) ⊎ IsSome (command_of c.words)
   some_command (Went script frames found) went reported = inr (stream_some c.words went.stream)
   some_command (Printed script) printed reported = inr (subst IsSome (sym printed.0) refl)
+  some_command (Turned totals) turned reported = inr (subst IsSome (sym turned.asked) refl)
+  some_command (Stopped (Conversion fault)) stop reported = inr (subst IsSome (sym stop.asked) refl)
   some_command (Stopped (Stream fault)) (script, stop) reported = inr (stream_some c.words stop.stream)
   some_command (Stopped Usage) happened reported = inl reported.0
-  some_command (Stopped ScriptRead) happened reported = inr happened.0.0
-  some_command (Stopped (BadText fault)) happened reported = inr happened.0.0
-  some_command (Stopped (BlockLength block divisor)) happened reported = inr (stream_some c.words happened.0.0)
-  some_command (Stopped Memory) happened reported = inr happened.0
+  some_command (Stopped ScriptRead) happened reported = inr (text_some (command_of c.words) happened.0.0)
+  some_command (Stopped (BadText fault)) happened reported = inr (text_some (command_of c.words) happened.0.0)
+  some_command (Stopped (BlockLength block divisor)) happened reported = inr (text_some (command_of c.words) (blocks_text (command_of c.words) happened.0.0))
+  some_command (Stopped Memory) happened reported = inr (text_some (command_of c.words) happened.0)
 
   usage_where : Ended c status report told → IsNone (command_of c.words) → status ≡ 1
   usage_where end none =
@@ -159,15 +161,17 @@ module _ (c : Call) (status : ℕ) (report told : SinkState) where
         (fault_is_wave script stop.did.given stop.now (fault, offset) stop.did.cause, λ done. absurd (omega (arith, is, done))),
   )
 
-  limited : (ending : Ending) → Happened ending c → Reported ending status report told → Full → AtLimit
-  limited (Went script frames found) went reported full = inr (inr (full_went script frames found went (reports_done reported) full))
-  limited (Printed script) printed reported full = absurd (not_full printed.2.input_same full)
-  limited (Stopped (Stream Input)) (script, stop) reported full =
-      absurd (omega (arith, taken_all stop (2 ^ 40) (omega arith) full stop.did.gave, stop.did.cause))
-  limited (Stopped (Stream Output)) stops reported full = inr (inl reported.0)
-  limited (Stopped (Stream (Lengths fault))) stops reported full = inl reported.0
-  limited (Stopped (Stream (Header fault offset))) stops reported full = inr (inr (full_header fault offset stops reported.0))
-  limited (Stopped fault) happened reported full = absurd (not_full happened.1.input_same full)
+  limited : IsStream c.words → (ending : Ending) → Happened ending c → Reported ending status report told → Full → AtLimit
+  limited stream (Went script frames found) went reported full = inr (inr (full_went script frames found went (reports_done reported) full))
+  limited stream (Turned totals) turned reported full = absurd (subst HasText turned.asked (stream_text c.words stream))
+  limited stream (Stopped (Conversion fault)) stop reported full = absurd (subst HasText stop.asked (stream_text c.words stream))
+  limited stream (Printed script) printed reported full = absurd (not_full printed.2.input_same full)
+  limited stream (Stopped (Stream Input)) (script, stop) reported full =
+      absurd (omega (arith, taken_all stop (2 ^ 40) (omega arith) full stop.did.gave, stop.did.cause.0))
+  limited stream (Stopped (Stream Output)) stops reported full = inr (inl reported.0)
+  limited stream (Stopped (Stream (Lengths fault))) stops reported full = inl reported.0
+  limited stream (Stopped (Stream (Header fault offset))) stops reported full = inr (inr (full_header fault offset stops reported.0))
+  limited stream (Stopped fault) happened reported full = absurd (not_full happened.1.input_same full)
 
   -- ---- a port has failed
 
@@ -185,6 +189,8 @@ module _ (c : Call) (status : ℕ) (report told : SinkState) where
   report_failed (Went script frames found) (inr way) nine = way.1
   report_failed (Printed script) (inl way) nine = absurd (omega (arith, nine, way.0))
   report_failed (Printed script) (inr way) nine = way.1
+  report_failed (Turned totals) (inl way) nine = absurd (omega (arith, nine, way.0))
+  report_failed (Turned totals) (inr way) nine = way.1
   report_failed (Stopped fault) reported nine = absurd (fault_not_done fault (subst IsDone reported.0 (inr nine)))
 
   -- ---- all
@@ -197,13 +203,13 @@ module _ (c : Call) (status : ℕ) (report told : SinkState) where
         let (fault, refuses, tells) = of_text c report told (stopped_by 2 is (λ done. omega (arith, done))) in
         IfSome-map c.source.left (λ all. first_fault all ≡ Some fault) _ (λ all first. subst IsSome (sym first) refl) (told_first c.source c.read fault refuses.1);
     bad_length = λ is. IfSome-map c.source.left _ _ (λ text all s reads. (all s reads).0) (of_length c report told (stopped_by 3 is (λ done. omega (arith, done))));
-    header = λ is.
-        let (fault, offset, stops, tells) = of_header c report told (stopped_by 4 is (λ done. omega (arith, done))) in
+    header = λ stream is.
+        let (fault, offset, stops, tells) = of_header c report told stream (stopped_by 4 is (λ done. omega (arith, done))) in
         header_told fault offset stops tells;
-    limited = limited end.ending end.happened end.reported;
+    limited = λ stream. limited stream end.ending end.happened end.reported;
     script_read = λ is. (of_script_read c report told (stopped_by 6 is (λ done. omega (arith, done)))).1;
-    input_read = λ is. input_failed (of_input c report told (stopped_by 7 is (λ done. omega (arith, done))));
-    output_written = λ is. (of_output c report told (stopped_by 8 is (λ done. omega (arith, done)))).1.did.faults.1;
+    input_read = λ is. elim (of_input c report told (stopped_by 7 is (λ done. omega (arith, done)))) [ inl stop ↦ input_failed stop | inr counted ↦ counted ];
+    output_written = λ is. of_output c report told (stopped_by 8 is (λ done. omega (arith, done)));
     report_written = report_failed end.ending end.reported;
   }
     where

@@ -8,12 +8,13 @@ use Rattle.dsp_defs.specs.Words.{command_of}
 use Rattle.dsp_defs.specs.declared.script.Script.{Script}
 use Rattle.dsp_defs.specs.declared.script_fault.ScriptFault.{ScriptFault}
 use Rattle.dsp_session.specs.declared.fault.StreamFault.TheVariants.{Header, Input, Output, Lengths}
-use Rattle.dsp_cli.specs.Call.{Call, Ending, Went, Printed, Stopped, Streams, Happened, Reported, Ended}
+use Rattle.dsp_cli.specs.Call.{Call, Ending, Went, Printed, Turned, Stopped, Streams, Happened, Reported, Ended}
 use Rattle.dsp_cli.specs.Fault.{status_of, fault_line}
-use Rattle.dsp_cli.specs.Run.{IsPrint, IsDone, Wrote, Tells, read_from}
+use Rattle.dsp_cli.specs.Run.{HasText, HasBlocks, IsPrint, IsDone, Wrote, Tells, read_from}
 use Rattle.dsp_cli.specs.Script.{ReadsText, IfScript}
 use Rattle.dsp_cli.specs.declared.fault.Fault.{Fault}
-use Rattle.dsp_cli.specs.declared.fault.Fault.TheVariants.{Usage, ScriptRead, Script as BadText, BlockLength, Memory, Stream}
+use Rattle.dsp_cli.specs.declared.fault.Fault.TheVariants.{Usage, ScriptRead, Script as BadText, BlockLength, Memory, Stream, Conversion}
+use Rattle.dsp_au.specs.declared.fault.ConvertFault.TheVariants as convert_fault
 use Rattle.dsp_cli.proofs.StatusLaws.{reports_done, fault_not_done, stream_or_print}
 use Rattle.dsp_cli.proofs.Told.{IfSome-map, told_first, told_script}
 use Rattle.dsp_laws.specs.Reports.{IfFault, IsClean, Reports, line_of_status}
@@ -42,12 +43,21 @@ module _ (c : Call) (status : ℕ) (report told : SinkState) where
     script_kept = went.read.read.no_fault;
     input_kept = port_kept went went.did.no_input_fault;
     output_kept = went.did.no_output_fault;
+    other_kept = ap (λ (s : SourceState). s.faults) went.other_same;
     report_kept = text_kept reported zero;
   }
   clean (Printed script) printed reported zero = record {
     script_kept = printed.1.read.no_fault;
     input_kept = ap (λ (s : SourceState). s.faults) printed.2.input_same;
     output_kept = ap (λ (s : SinkState). s.faults) printed.2.output_same;
+    other_kept = ap (λ (s : SourceState). s.faults) printed.2.other_same;
+    report_kept = text_kept reported zero;
+  }
+  clean (Turned totals) turned reported zero = record {
+    script_kept = ap (λ (s : SourceState). s.faults) turned.spared.script_same;
+    input_kept = turned.did.no_input_fault;
+    output_kept = turned.did.no_output_fault;
+    other_kept = ap (λ (s : SourceState). s.faults) turned.spared.other_same;
     report_kept = text_kept reported zero;
   }
   clean (Stopped fault) happened reported zero = absurd (fault_not_done fault (subst IsDone reported.0 (inl zero)))
@@ -55,6 +65,7 @@ module _ (c : Call) (status : ℕ) (report told : SinkState) where
   settled : (ending : Ending) → Happened ending c → Reported ending status report told → status ≡ 0 → IsSettled told
   settled (Went script frames found) went reported zero = text_settled reported zero
   settled (Printed script) printed reported zero = text_settled reported zero
+  settled (Turned totals) turned reported zero = text_settled reported zero
   settled (Stopped fault) happened reported zero = absurd (fault_not_done fault (subst IsDone reported.0 (inl zero)))
 
   -- what a print has done with its text, and whether it is all
@@ -64,6 +75,7 @@ module _ (c : Call) (status : ℕ) (report told : SinkState) where
   print_told (Printed script) printed reported print done =
       told_script c.source c.read script (λ s. Tells (canon s) report told × (status ≡ 0 → Wrote (canon s) report told)) printed.1
       (text_told reported, text_wrote reported)
+  print_told (Turned totals) turned reported print done = absurd (subst HasText (sym print ∙ turned.asked) tt)
   print_told (Stopped fault) happened reported print done = absurd (fault_not_done fault (subst IsDone reported.0 done))
 
   -- ---- the lines
@@ -85,10 +97,14 @@ module _ (c : Call) (status : ℕ) (report told : SinkState) where
   fault_told (Stream (Lengths fault)) tells = tt
   fault_told (Stream Input) tells = tells
   fault_told (Stream Output) tells = tells
+  fault_told (Conversion convert_fault.Read) tells = tells
+  fault_told (Conversion convert_fault.Write) tells = tells
+  fault_told (Conversion fault) tells = tt
 
   line_told : (ending : Ending) → Reported ending status report told → LineTold status
   line_told (Went script frames found) reported = done_line (reports_done reported)
   line_told (Printed script) reported = done_line (reports_done reported)
+  line_told (Turned totals) reported = done_line (reports_done reported)
   line_told (Stopped fault) (is, tells) = subst LineTold (sym is) (fault_told fault tells)
 
   text_fault : Ended c status report told → status ≡ 2 → IfFault c.source.left (λ fault. Tells (script_line fault) report told)

@@ -34,7 +34,7 @@ module _ {c : Call} {script : Script} {Did : ℕ → SourceState → SourceState
 
   -- a run has read the port
   pub reads_port : IsRun c.words → (input ≡ c.port) × (now ≡ c.later)
-  reads_port (named, is) =
+  reads_port (named, banked, is) =
       (ap (λ command. read_from command script.input c.port) is, subst (λ command. IsReading command c.port c.later now) is streams.reading)
 
   -- a gen has left it alone
@@ -45,7 +45,7 @@ module _ {c : Call} {script : Script} {Did : ℕ → SourceState → SourceState
   reader = by streams.stream
     where
       by : IsStream c.words → IsReader (command_of c.words) c.source.left c.port c.later input now
-      by (inl (named, is)) = subst (λ command. IsReader command c.source.left c.port c.later (read_from command script.input c.port) now) (sym is) (refl, (reads_port (named, is)).1)
+      by (inl (named, banked, is)) = subst (λ command. IsReader command c.source.left c.port c.later (read_from command script.input c.port) now) (sym is) (refl, (reads_port (named, banked, is)).1)
       by (inr (seed, frames, is)) =
           subst (λ command. IsReader command c.source.left c.port c.later (read_from command script.input c.port) now) (sym is)
           (leaves_port (seed, frames, is), told_script c.source c.read script _ streams.read refl)

@@ -9,7 +9,7 @@ use Rattle.dsp_defs.specs.declared.format.InputKind.TheVariants.{Wave}
 use Rattle.dsp_defs.specs.declared.wave.HeaderFault.{HeaderFault}
 use Rattle.dsp_session.specs.Stream.{declared_bytes, input_fault}
 use Rattle.dsp_cli.specs.Call.{Call}
-use Rattle.dsp_cli.specs.Run.{IsDone, Tells}
+use Rattle.dsp_cli.specs.Run.{IsStream, IsDone, Tells}
 use Rattle.dsp_cli.specs.Script.{IfScript, chosen_block, is_legal_for}
 use Rattle.dsp_laws.specs.Taken.{bytes_taken}
 
@@ -37,10 +37,10 @@ pub record Origins (c : Call) (status : ℕ) (report told : SinkState) : Type 0 
   pub bad_script : status ≡ 2 → IfSome c.source.left (λ text. IsSome (first_fault text))
   -- 3: the chosen block length isn't legal
   pub bad_length : status ≡ 3 → IfScript c.source.left (λ s. IsFalse (is_legal_for s (chosen_block c.words s)))
-  -- 4: a fault of the input's header, or its end before all declared frames
-  pub header : status ≡ 4 → TellsHeader c report told
-  -- 5: also where as many bytes were taken as may be, unless a fault was found there or the declared samples end there
-  pub limited : c.later.taken ≡ c.port.taken + 2 ^ 40
+  -- 4 of a run or a gen: a fault of the input's header, or its end before all declared frames
+  pub header : IsStream c.words → status ≡ 4 → TellsHeader c report told
+  -- 5 of a run or a gen: also where as many bytes were taken as may be, unless a fault was found there or the declared samples end there
+  pub limited : IsStream c.words → c.later.taken ≡ c.port.taken + 2 ^ 40
       → (status ≡ 5) ⊎ (status ≡ 8) ⊎ MayEndAtLimit c status
   -- 6 to 9: a port has failed, once
   pub script_read : status ≡ 6 → c.read.faults ≡ one_more c.source.faults

@@ -29,6 +29,7 @@ pub record IsClean (c : Call) (report told : SinkState) : Type 0 where
   pub script_kept : c.read.faults ≡ c.source.faults
   pub input_kept : c.later.faults ≡ c.port.faults
   pub output_kept : c.after.faults ≡ c.sink.faults
+  pub other_kept : c.seen.faults ≡ c.other.faults
   pub report_kept : told.faults ≡ report.faults
 
 -- of a call, its status and its report: what was said, and that no port failed where it is 0

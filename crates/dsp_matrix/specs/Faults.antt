@@ -1,7 +1,8 @@
 -- The faults of what a matrix block is made of.
 use Rattle.std.specs.Prelude.{◌≢◌, ℕ, ◌*◌, ℤ, pos, Bool, ◌&&◌, int_le, nat_eq, nat_le, List, [], ◌∷◌, length, Option, Some, None, if◌then◌else◌}
 use Rattle.std.specs.Option.{option_or}
-use Rattle.dsp_defs.specs.Parameters.{least, greatest, least_matrix_shift, greatest_matrix_shift}
+use Rattle.dsp_defs.specs.Elementwise.{least_matrix_shift, greatest_matrix_shift}
+use Rattle.dsp_defs.specs.Parameters.{least, greatest}
 use Rattle.dsp_unit.specs.Making.{block_fault}
 use Rattle.dsp_defs.specs.declared.limits.TheConstants.{MAX_MATRIX_SIDE}
 use Rattle.dsp_defs.specs.declared.format.Fmt.{Fmt}

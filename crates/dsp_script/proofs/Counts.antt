@@ -1,10 +1,11 @@
 -- How many frames a chain gives, and how many products it takes.
-use Rattle.std.proofs.Common.{◌≡◌, ℕ, zero, suc, ℤ, ◌+◌, ◌-◌, ◌*◌, ◌/◌, ◌<◌, ◌≤◌, ◌^◌, Bool, true, false, cond, List, [], ◌∷◌, length, Option, Some, None, refl, sym, ap, ◌∙◌, arith, eqb}
-use Rattle.std.specs.Prelude.{max, nat_le}
+use Rattle.std.proofs.Common.{◌≡◌, ℕ, zero, suc, ℤ, ◌+◌, ◌-◌, ◌*◌, ◌/◌, ◌%◌, ◌<◌, ◌≤◌, ◌^◌, Bool, true, false, cond, if◌then◌else◌, List, [], ◌∷◌, length, Option, Some, None, refl, sym, ap, ◌∙◌, arith, eqb}
+use Rattle.std.specs.Prelude.{max, nat_le, nat_eq}
+use Rattle.dsp_script.proofs.Steps.{both_true}
 use Rattle.std.proofs.lemmas.Bool.Decides.{nat_tests}
-use Rattle.std.proofs.lemmas.Nat.{mul-le, le-div}
+use Rattle.std.proofs.lemmas.Nat.{mod_below, div-add-mod', mul-le, le-div}
 use Rattle.std.proofs.Math.Nat.{mul-div_cancel, mul_assoc, div-le_self, div-mul-le_self, le-mul_of_pos_right}
-use Rattle.dsp_defs.specs.declared.limits.TheConstants.{MAX_TAPS, MAX_SECTIONS, MAX_FACTOR, MAX_MATRIX_SIDE, MAX_CHANNELS, MAX_SAMPLES, MAX_INPUT}
+use Rattle.dsp_defs.specs.declared.limits.TheConstants.{MAX_BLOCK_LENGTH, MAX_TAPS, MAX_SECTIONS, MAX_FACTOR, MAX_MATRIX_SIDE, MAX_CHANNELS, MAX_SAMPLES, MAX_INPUT}
 use Rattle.dsp_defs.specs.declared.format.Fmt.{Fmt}
 use Rattle.dsp_defs.specs.declared.format.Fmt.TheVariants.{Q7, Q15, Q31}
 use Rattle.dsp_defs.specs.declared.flow.Flow.{Flow}
@@ -17,10 +18,10 @@ use Rattle.dsp_defs.specs.Block.{format_after, channels_after}
 use Rattle.dsp_defs.specs.Parameters.{section_length}
 use Rattle.dsp_defs.specs.Cost.{section_count, block_cost, cost}
 use Rattle.dsp_defs.specs.Sums.{full_length}
-use Rattle.dsp_defs.specs.Shape.{group_of, groups_after, steady_frames, correlation_length, given_frames, frames_given, fits_everywhere}
+use Rattle.dsp_defs.specs.Shape.{group_of, groups_after, steady_frames, correlation_length, given_frames, frames_given, fits_everywhere, whole_unit, is_legal, unit}
 use Rattle.dsp_script.specs.Lengths.{IsGroup, HasLegalBlock}
 use Rattle.dsp_script.proofs.Placed.{IsPlaced, GivesSome, group_here, group_few, placed_after, placed_sound}
-use Rattle.dsp_script.proofs.Paces.{HasWholeGroups, IsWhole, legal_parts, whole_legal, fits_frames, fits_behind}
+use Rattle.dsp_script.proofs.Paces.{start, unit_total, HasWholeGroups, IsWhole, legal_parts, whole_legal, fits_frames, fits_behind}
 
 -- ---- one block
 
@@ -229,3 +230,56 @@ pub cost_goes_on : (f : Fmt) (c n total : ℕ) (b : Block) (items blocks : List 
 cost_goes_on f c n total b items blocks whole e same =
     let now : cost f c items n ≡ block_cost f c b n (given_frames b n) + cost (format_after f b) (channels_after c b) blocks (given_frames b n) = rw e refl in
     omega arith
+
+-- ---- the unit
+
+-- fewer frames fit where more do
+fits_fewer : (flow : Flow) (blocks : List Block) (m n : ℕ) → IsPlaced flow blocks → m ≤ n → fits_everywhere flow.channels blocks n ≡ true → fits_everywhere flow.channels blocks m ≡ true
+fits_fewer flow [] m n p order h =
+    let most : n * flow.channels ≤ MAX_SAMPLES = grind (arith, nat_tests, h) in
+    let less : m * flow.channels ≤ n * flow.channels = mul-le m flow.channels n flow.channels order (omega arith) in
+    grind (arith, nat_tests, most, less)
+fits_fewer flow (b ∷ blocks) m n p order h =
+    let both = both_true (nat_le (n * flow.channels) MAX_SAMPLES) (fits_everywhere (channels_after flow.channels b) blocks (steady_frames b n)) h in
+    let most : n * flow.channels ≤ MAX_SAMPLES = grind (arith, nat_tests, both.0) in
+    let less : m * flow.channels ≤ n * flow.channels = mul-le m flow.channels n flow.channels order (omega arith) in
+    let here : nat_le (m * flow.channels) MAX_SAMPLES ≡ true = grind (arith, nat_tests, most, less) in
+    let later : fits_everywhere (channels_after flow.channels b) blocks (steady_frames b m) ≡ true =
+    fits_fewer (flow_after b flow) blocks (steady_frames b m) (steady_frames b n) (placed_after flow b blocks p) (steady_le b m n (group_here flow b p.chain.0) order) both.1 in
+    rw (here, later) refl
+
+self_mod : (q w r : ℕ) → q * w + r ≡ w → r < w → r ≡ 0
+self_mod zero w r is less = absurd (omega (arith, is, less))
+self_mod (suc q) w r is less = omega (arith, is)
+
+factor_le : (q w n : ℕ) → n ≡ q * w → 1 ≤ n → w ≤ n
+factor_le zero w n is some = absurd (omega (arith, is, some))
+factor_le (suc q) w n is some = omega (arith, is)
+
+-- the unit divides each legal block length
+pub unit_divides : (s : Script) → IsSound s → (n : ℕ) → is_legal s.input.channels s.blocks n ≡ true → (1 ≤ unit s.input.channels s.blocks) × (n % unit s.input.channels s.blocks ≡ 0)
+unit_divides s sound n h =
+    let flow = input_flow s.input in
+    let placed = placed_sound s sound in
+    let l = legal_parts s.input.channels s.blocks n h in
+    let w = whole_unit s.blocks in
+    let total = unit_total flow s.blocks start placed (omega arith) in
+    let some : 1 ≤ w = omega (arith, total.1, total.2) in
+    let fewer : w ≤ n = factor_le (n / w) w n (omega (arith, div-add-mod' n w, l.whole)) l.some in
+    let self : w % w ≡ 0 = self_mod (w / w) w (w % w) (div-add-mod' w w) (mod_below w w some) in
+    let one : nat_le 1 w ≡ true = grind (arith, nat_tests, some) in
+    let two : nat_le w MAX_BLOCK_LENGTH ≡ true = grind (arith, nat_tests, fewer, l.few) in
+    let three : nat_eq (w % w) 0 ≡ true = grind (arith, nat_tests, self) in
+    let four : fits_everywhere s.input.channels s.blocks w ≡ true = fits_fewer flow s.blocks w n placed fewer l.fits in
+    let legal : is_legal s.input.channels s.blocks w ≡ true = rw (one, two, three, four) refl in
+    let is : unit s.input.channels s.blocks ≡ w = rw legal refl in
+    rw is (some, l.whole)
+
+-- a unit that is not 0 is legal itself
+unit_legal_by : (channels : ℕ) (blocks : List Block) (w : ℕ) (legal : Bool) → is_legal channels blocks w ≡ legal
+    → 1 ≤ (if legal then w else 0) → is_legal channels blocks (if legal then w else 0) ≡ true
+unit_legal_by channels blocks w true is some = is
+unit_legal_by channels blocks w false is some = absurd (omega (arith, some))
+
+pub unit_legal : (s : Script) → 1 ≤ unit s.input.channels s.blocks → is_legal s.input.channels s.blocks (unit s.input.channels s.blocks) ≡ true
+unit_legal s some = unit_legal_by s.input.channels s.blocks (whole_unit s.blocks) (is_legal s.input.channels s.blocks (whole_unit s.blocks)) refl some

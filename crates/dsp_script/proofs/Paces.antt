@@ -149,7 +149,7 @@ pub fits_behind : (channels : ℕ) (b : Block) (blocks : List Block) (n : ℕ) �
 fits_behind channels b blocks n h = (both_true (nat_le (n * channels) MAX_SAMPLES) (fits_everywhere (channels_after channels b) blocks (steady_frames b n)) h).1
 
 -- the unit of the whole chain is a multiple of the one here
-unit_total : (flow : Flow) (blocks : List Block) (pace : Pace) → IsPlaced flow blocks → 0 < pace.frames → (t : ℕ) × ((fold pace_after pace blocks).unit ≡ pace.unit * t) × (0 < t)
+pub unit_total : (flow : Flow) (blocks : List Block) (pace : Pace) → IsPlaced flow blocks → 0 < pace.frames → (t : ℕ) × ((fold pace_after pace blocks).unit ≡ pace.unit * t) × (0 < t)
 unit_total flow [] pace p some = (1, omega arith, omega arith)
 unit_total flow (b ∷ blocks) pace p some =
     let a = after_block flow pace b p.chain.0 some in

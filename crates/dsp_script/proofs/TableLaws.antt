@@ -6,7 +6,7 @@ use Rattle.std.proofs.lemmas.Bool.Decides.{nat_tests}
 use Rattle.std.proofs.lemmas.List.Concat.{flat_map-cons}
 use Rattle.dsp_defs.specs.declared.limits.TheConstants.{MAX_TABLES}
 use Rattle.dsp_defs.specs.Token.{Token, Open, Close, Run, Bad, Item, Rest}
-use Rattle.dsp_defs.specs.Tables.{Named, is_name, numbers_of, table_rule, IsTable, AreTables, MayStand}
+use Rattle.dsp_defs.specs.Tables.{Named, is_table_name, numbers_of, table_rule, IsTable, AreTables, MayStand}
 use Rattle.dsp_defs.specs.Grammar.{Symbol, Name, table_symbols}
 use Rattle.dsp_defs.specs.Places.{◌>>=◌, named, choice, next_at, begins_with, Environment, list_at, table_word, new_name, table_at, tables_at, environment_at}
 use Rattle.dsp_script.proofs.Steps.{bind_ok, ok_is, refused, chosen, pair, pair_is, named_is, choice_run, written_name, Strips, Strips-split, Takes, Takes-then, one_taken, one_again, next_takes, begins_word}
@@ -38,7 +38,7 @@ word_again tables left items after end some h =
 
 -- a name is good, and none of these tables has it
 record IsNew (before : List Named) (name : List ℕ) : Type 0 where
-  good : is_name name ≡ true
+  good : is_table_name name ≡ true
   new : numbers_of before name ≡ None
 
 none_of : {A : Type 0} (o : Option A) → is_some o ≡ false → o ≡ None
@@ -50,7 +50,7 @@ name_is before offset Open name e = absurd cc
 name_is before offset Close name e = absurd cc
 name_is before offset Bad name e = absurd cc
 name_is before offset (Run run) name e =
-    let good = chosen (is_name run) _ _ name e in
+    let good = chosen (is_table_name run) _ _ name e in
     let free = refused (is_some (numbers_of before run)) _ _ name good.1 in
     let same : run ≡ name = ok_is run name free.1 in
     let fact : IsNew before run = record { good = good.0; new = none_of (numbers_of before run) free.0 } in

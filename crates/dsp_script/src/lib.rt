@@ -18,7 +18,9 @@ mod token;
 
 pub use dsp_defs::{ScriptFault, ScriptKind};
 pub use fault::ParseFault;
-pub use laws::{canonical_text_is_read_back, one_reading, tables_are_their_numbers};
+pub use laws::{
+    canonical_text_is_read_back, one_reading, tables_are_their_numbers, unit_divides_legal_lengths,
+};
 pub use lengths::{cost, default_block, frames_given, legal, unit};
 pub use output::{output_flow, output_rate};
 pub use printer::print;

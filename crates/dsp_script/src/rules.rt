@@ -2,7 +2,8 @@
 
 ghost use Rattle.std.specs.Prelude.{◌≡◌, pos, negsuc};
 ghost use Rattle.dsp_defs.specs.Numbers.{neg};
-ghost use Rattle.dsp_defs.specs.Parameters.{least, greatest, greatest_scale, greatest_shift, least_matrix_shift, greatest_matrix_shift, greatest_biquad_shift, greatest_lms_shift, is_complete, factor_of, coefficients, taps, sparse_taps, delays, sections, reflections, exactly, routes};
+ghost use Rattle.dsp_defs.specs.Elementwise.{greatest_scale, greatest_shift, least_matrix_shift, greatest_matrix_shift};
+ghost use Rattle.dsp_defs.specs.Parameters.{least, greatest, greatest_biquad_shift, greatest_lms_shift, is_complete, factor_of, coefficients, taps, sparse_taps, delays, section_numbers, reflections, exactly, routes};
 ghost use Rattle.dsp_defs.specs.Tables.{table_rule};
 
 use dsp_defs::{
@@ -191,7 +192,7 @@ pub fn delays(count: u64) -> ListRule
 
 /// The coefficients of some sections of a biquad, up to 64.
 pub fn sections(flow: Flow) -> ListRule
-    ensures { result ≡ sections flow }
+    ensures { result ≡ section_numbers flow }
 {
     let length = match flow.format {
         Fmt::Q31 => 5,

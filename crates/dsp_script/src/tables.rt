@@ -2,7 +2,7 @@
 
 ghost use Rattle.std.specs.Prelude.{◌≡◌, [], ◌∷◌, ◌++◌, OnOk, OnErr, IfOk, ◌<◌};
 ghost use Rattle.std.specs.Option.{option_map};
-ghost use Rattle.dsp_defs.specs.Tables.{numbers_of, is_name, table_rule};
+ghost use Rattle.dsp_defs.specs.Tables.{numbers_of, is_table_name, table_rule};
 ghost use Rattle.dsp_defs.specs.Places.{table_word, new_name, next_at, table_at, tables_at, environment_at};
 ghost use Rattle.dsp_script.specs.Answers.{Gives, GivesUnlessMemory};
 
@@ -81,8 +81,8 @@ pub struct ListSource<'a> {
 }
 
 /// A run is a name.
-fn is_name(run: &[u8]) -> bool
-    ensures { result ≡ is_name run.now }
+fn is_table_name(run: &[u8]) -> bool
+    ensures { result ≡ is_table_name run.now }
 {
     matches!(run, [b'a'..=b'z', ..]) && run.len() <= MAX_NAME
 }
@@ -116,7 +116,7 @@ fn new_name<'a>(cursor: &mut Cursor<'a>, tables: &Tables<'_>) -> Result<&'a [u8]
     let Token::Run(run) = item.token else {
         return Err(item.fault(ScriptKind::BadName));
     };
-    if !is_name(run) {
+    if !is_table_name(run) {
         return Err(item.fault(ScriptKind::BadName));
     }
     if tables.numbers_of(run).is_some() {

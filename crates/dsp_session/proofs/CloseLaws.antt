@@ -1,7 +1,7 @@
 -- The samples have ended: the last of them, the tail, and what that makes of the whole stream.
 use Rattle.std.proofs.Common.{◌≡◌, ℕ, suc, ◌+◌, ◌-◌, ◌*◌, ◌/◌, ◌^◌, ◌<◌, ◌≤◌, List, [], ◌++◌, length, take, Option, Some, None, Result, Ok, Err, sym, ap, ◌∙◌, subst, arith, append_assoc, append-nil, length-append, inl, inr}
 use Rattle.std.proofs.lemmas.Bool.{cases_lt}
-use Rattle.std.proofs.lemmas.List.{length-take-le, take-take}
+use Rattle.std.proofs.lemmas.List.{length-take-le}
 use Rattle.std.specs.Io.KnownBytes.{IsAtEnd, append_known}
 use Rattle.dsp_ports.specs.Ports.{SourceState, SinkState, one_more, IsSettled}
 use Rattle.dsp_ports.proofs.Moved.{append_known-append}
@@ -19,17 +19,16 @@ use Rattle.dsp_stage.proofs.ChainPlaces.{has_channels}
 use Rattle.dsp_stage.proofs.CostLaws.{live_cost_within, products_are_cost}
 use Rattle.dsp_defs.proofs.FrameLaws.{length-whole_chain, frames_are_given}
 use Rattle.dsp_defs.proofs.OutputLaws.{coded_begins}
-use Rattle.dsp_defs.proofs.SampleLaws.{samples-whole}
+use Rattle.dsp_input.specs.Taking.{AreAll, Fits, InDeclared, IsTakenWhole, declared_bytes, frame_bytes, frames_in_bytes}
 use Rattle.dsp_session.specs.SessionState.{SessionState}
-use Rattle.dsp_session.specs.Session.{IsReady, StandsFor, SameSession, signal, frame_bytes, whole_values, cost_of, live_cost_of, products_of, turns_of, run_turns, measures_of}
-use Rattle.dsp_session.specs.Opening.{Fits}
-use Rattle.dsp_session.specs.Stream.{IsTakenWhole, Stopped, Done, Part, KeepsLimits, LagsByOne, IsInDeclared, declared_bytes, frames_in_bytes, in_whole_blocks}
-use Rattle.dsp_session.specs.Passing.{InDeclared, AreAll, PassCosts, Passes, FailsToPass, Passed, WritesRest, TailCosts}
+use Rattle.dsp_session.specs.Session.{IsReady, StandsFor, SameSession, signal, whole_values, cost_of, live_cost_of, products_of, turns_of, run_turns, measures_of}
+use Rattle.dsp_session.specs.Stream.{Stopped, Done, Part, KeepsLimits, LagsByOne, IsInDeclared, in_whole_blocks}
+use Rattle.dsp_session.specs.Passing.{PassCosts, Passes, FailsToPass, Passed, WritesRest, TailCosts}
 use Rattle.dsp_session.specs.declared.fault.LengthFault.TheVariants as length_fault
 use Rattle.dsp_session.specs.declared.fault.StreamFault.{StreamFault}
 use Rattle.dsp_session.specs.declared.fault.StreamFault.TheVariants as fault
 use Rattle.dsp_session.specs.declared.streaming.Last.{Last}
-use Rattle.dsp_session.proofs.OpeningLaws.{some_frame, floor_within, frames_of_blocks, length-signal, signal-append, frames-whole, signal_is, frames_are, output_is, part_blocks}
+use Rattle.dsp_session.proofs.OpeningLaws.{some_frame, floor_within, front_signal, frames_of_blocks, length-signal, signal-append, frames-whole, signal_is, frames_are, output_is, part_blocks}
 use Rattle.dsp_session.proofs.OpenLaws.{none_behind}
 use Rattle.dsp_session.proofs.PassingLaws.{in_declared, lags, frames_between, block_some, in_blocks, blocks_keep, whole_blocks_are}
 use Rattle.dsp_session.proofs.TurnLaws.{turns_before, turns_behind, turns_end}
@@ -92,10 +91,7 @@ module _ (script : Script) (block : ℕ) (ready : IsReady script block) (session
   fed_frames = frames-whole script header.coding frame fed_bytes count fed_length
 
   fed_signal : signal script header.coding rest ≡ signal script header.coding fed_bytes
-  fed_signal =
-      let same : take (count * frame_bytes script header.coding) rest ≡ fed_bytes = take-take (count * frame_bytes script header.coding) last.count piece some_left in
-      let whole = samples-whole header.coding script.input.channels count rest frame (ap (λ n. n / frame_bytes script header.coding) (sym rest_length)) in
-      sym whole ∙ ap (signal script header.coding) same
+  fed_signal = sym (front_signal script header.coding frame last.count piece (omega (arith, passed.short)))
 
   all_signal : signal script header.coding (heard ++ rest) ≡ x ++ signal script header.coding fed_bytes
   all_signal =
@@ -216,7 +212,9 @@ module _ (script : Script) (block : ℕ) (ready : IsReady script block) (session
         given = given;
         written = head ++ live_bytes script x;
         gave = passed.gave;
+        in_limit = omega (arith, given_all, passed.in_limit);
         put = passed.took.put;
+        unflushed = passed.took.settled;
         cause = (has, is_whole, ap (window_at script.blocks) (sym frames) ∙ window);
         wrote = Part has parted limits (passed.cost ∙ ap (λ n. before.multiplies + live_cost_of script n) (frames_heard ∙ sym whole_blocks));
         faults = (passed.no_input_fault, passed.no_output_fault);
@@ -238,7 +236,9 @@ module _ (script : Script) (block : ℕ) (ready : IsReady script block) (session
         given = given;
         written = head ++ live_bytes script x ++ written;
         gave = passed.gave;
+        in_limit = omega (arith, given_all, passed.in_limit);
         put = put ∙ ap (λ known. append_known known written) passed.took.put ∙ sym (append_known-append sink.put (head ++ live_bytes script x) written);
+        unflushed = tt;
         cause = has;
         wrote = (limits, inr ((back ++ (tail ++ output_pad script header), begins), is_whole));
         faults = (passed.no_input_fault, risen ∙ ap one_more passed.no_output_fault);
@@ -260,7 +260,9 @@ module _ (script : Script) (block : ℕ) (ready : IsReady script block) (session
         given = given;
         written = head ++ live_bytes script x;
         gave = passed.gave;
+        in_limit = omega (arith, given_all, passed.in_limit);
         put = ap (λ (s : SinkState). s.put) same ∙ passed.took.put;
+        unflushed = ap (λ (s : SinkState). s.settled) same ∙ passed.took.settled;
         cause = (
           has,
           record {
@@ -375,7 +377,9 @@ module _ (script : Script) (block : ℕ) (ready : IsReady script block) (session
             given = given;
             written = head ++ live_bytes script x ++ (fed.out ++ tail.written);
             gave = passed.gave;
+            in_limit = omega (arith, given_all, passed.in_limit);
             put = put_all final tail.written tail.put;
+            unflushed = tt;
             cause = has;
             wrote = (limits, inr ((back, begins), is_whole));
             faults = (passed.no_input_fault, failed ∙ ap one_more (passes.no_fault ∙ passed.no_output_fault));

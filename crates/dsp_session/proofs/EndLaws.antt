@@ -1,9 +1,9 @@
 -- The tail of a session, piece by piece.
-use Rattle.std.proofs.Common.{◌≡◌, ℕ, ◌+◌, ◌≤◌, List, [], ◌∷◌, ◌++◌, length, take, drop, refl, sym, ap, ◌∙◌, subst, arith, append_assoc, append-nil, length-append, Ok, Err}
+use Rattle.std.proofs.Common.{◌≡◌, ℕ, ◌+◌, ◌≤◌, List, [], ◌∷◌, ◌++◌, length, take, drop, refl, sym, ap, ◌∙◌, subst, arith, append_assoc, append-nil, length-append, Result, Ok, Err}
 use Rattle.std.proofs.lemmas.List.{take-append-drop}
 use Rattle.std.specs.Io.KnownBytes.{append_known}
 use Rattle.dsp_ports.specs.Ports.{SinkState, Took}
-use Rattle.dsp_ports.proofs.Moved.{Took-nil, append_known-append}
+use Rattle.dsp_ports.proofs.Moved.{append_known-append}
 use Rattle.dsp_defs.specs.Block.{Frame, live_chain, whole_chain}
 use Rattle.dsp_defs.specs.Counts.{Counts}
 use Rattle.dsp_defs.specs.Measure.{measures}
@@ -16,20 +16,17 @@ use Rattle.dsp_defs.proofs.SampleLaws.{coded-append}
 use Rattle.dsp_chain.specs.Chain.{IsSpent, live_of, whole_of, made_of}
 use Rattle.dsp_session.specs.SessionState.{SessionState}
 use Rattle.dsp_session.specs.Session.{Holds, StandsFor, HasGiven, SameSession, Ends, measured, measures_of, output_bytes, live_values, whole_values, live_cost_of, products_of}
-use Rattle.dsp_session.specs.Passing.{WritesRest, TailCosts}
+use Rattle.dsp_session.specs.Passing.{WritesRest, WritesTail, TailCosts}
 use Rattle.dsp_session.proofs.FeedLaws.{made_live}
 
--- so much of the tail was written
-pub record Tailing (script : Script) (x : List Frame) (frames pieces : ℕ) (session : SessionState) (sink after : SinkState) (before counts : Counts) : Type 0 where
+-- so much of the tail was given, of which these are the bytes
+pub record Tailing (script : Script) (x : List Frame) (frames pieces : ℕ) (session : SessionState) (written : List ℕ) (before counts : Counts) : Type 0 where
   pub script_is : session.script ≡ script
   pub ys : List Frame
   pub gave : HasGiven session x ys
   pub many : pieces ≤ length ys
   pub few : length (whole_values script x) ≤ frames
-  pub written : List ℕ
-  pub put : after.put ≡ append_known sink.put written
   pub so_far : output_bytes script ys ≡ live_bytes script x ++ written
-  pub no_fault : after.faults ≡ sink.faults
   pub made : counts.multiplies + live_cost_of script (length x) ≡ before.multiplies + made_of session.chain
   pub turned : counts.turns + before.multiplies ≤ before.turns + counts.multiplies
 
@@ -40,8 +37,8 @@ whole_is s x holds = λ i. whole_chain (holds.input i).format (holds.input i).ch
 live_is : (s : SessionState) (x : List Frame) → Holds s → live_of s.chain x ≡ live_values s.script x
 live_is s x holds = λ i. live_chain (holds.input i).format (holds.input i).channels (holds.blocks i) x
 
-pub tail_starts : (script : Script) (x : List Frame) (frames : ℕ) (session : SessionState) (sink : SinkState) (before : Counts) → session.script ≡ script → StandsFor session x → length (whole_values script x) ≤ frames → Tailing script x frames 0 session sink sink before before
-tail_starts script x frames session sink before script_is stands few =
+pub tail_starts : (script : Script) (x : List Frame) (frames : ℕ) (session : SessionState) (before : Counts) → session.script ≡ script → StandsFor session x → length (whole_values script x) ≤ frames → Tailing script x frames 0 session [] before before
+tail_starts script x frames session before script_is stands few =
     let live : live_of session.chain x ≡ live_values script x = live_is session x stands.holds ∙ ap (λ (s : Script). live_values s x) script_is in
     let made : made_of session.chain ≡ live_cost_of script (length x) = made_live session x stands ∙ ap (λ (s : Script). live_cost_of s (length x)) script_is in
     record {
@@ -50,15 +47,12 @@ tail_starts script x frames session sink before script_is stands few =
       gave = record { holds = stands.holds; chain = stands.live.gave x stands.chain };
       many = omega arith;
       few = few;
-      written = [];
-      put = (Took-nil sink).put;
       so_far = ap (output_bytes script) live ∙ sym (append-nil (live_bytes script x));
-      no_fault = refl;
       made = omega (arith, made);
       turned = omega arith;
     }
 
-module _ (script : Script) (x : List Frame) (frames pieces : ℕ) (session : SessionState) (sink then : SinkState) (before counts : Counts) (tailing : Tailing script x frames pieces session sink then before counts)
+module _ (script : Script) (x : List Frame) (frames pieces : ℕ) (session : SessionState) (written : List ℕ) (before counts : Counts) (tailing : Tailing script x frames pieces session written before counts)
     (next : SessionState) (answer : ℕ) (counted : Counts) (ends : Ends session next answer counts counted) where
   abbrev zs : List Frame
   zs = tailing.ys ++ ends.given
@@ -76,9 +70,9 @@ module _ (script : Script) (x : List Frame) (frames pieces : ℕ) (session : Ses
     whole_next : whole_of next.chain x ≡ whole_values script x
     whole_next = whole_is next x gave.holds ∙ ap (λ (s : Script). whole_values s x) script_next
 
-    so_far_next : output_bytes script zs ≡ live_bytes script x ++ (tailing.written ++ next.out)
+    so_far_next : output_bytes script zs ≡ live_bytes script x ++ (written ++ next.out)
     so_far_next =
-        coded-append (output_coding script) tailing.ys ends.given ∙ ap (λ bytes. bytes ++ output_bytes script ends.given) tailing.so_far ∙ ap (λ bytes. (live_bytes script x ++ tailing.written) ++ bytes) (sym out_is) ∙ append_assoc (live_bytes script x) tailing.written next.out
+        coded-append (output_coding script) tailing.ys ends.given ∙ ap (λ bytes. bytes ++ output_bytes script ends.given) tailing.so_far ∙ ap (λ bytes. (live_bytes script x ++ written) ++ bytes) (sym out_is) ∙ append_assoc (live_bytes script x) written next.out
 
     made_next : counted.multiplies + live_cost_of script (length x) ≡ before.multiplies + made_of next.chain
     made_next = omega (arith, ends.multiplies, tailing.made)
@@ -102,41 +96,32 @@ module _ (script : Script) (x : List Frame) (frames pieces : ℕ) (session : Ses
         by [] out = absurd (some (is ∙ ap length out))
         by (frame ∷ given) out = omega arith
 
-    -- another piece was written
-    pub tail_goes_on : (last : SinkState) → (answer ≡ 0 → ⊥) → answer ≡ length next.out → Took then last next.out → last.faults ≡ then.faults → Tailing script x frames (pieces + 1) next sink last before counted
-    tail_goes_on last some is took faults =
+    -- another piece was given
+    pub tail_goes_on : (answer ≡ 0 → ⊥) → answer ≡ length next.out → Tailing script x frames (pieces + 1) next (written ++ next.out) before counted
+    tail_goes_on some is =
         record {
           script_is = script_next;
           ys = zs;
           gave = gave;
           many = omega (arith, tailing.many, some_given some is, length-append tailing.ys ends.given);
           few = tailing.few;
-          written = tailing.written ++ next.out;
-          put = took.put ∙ ap (λ known. append_known known next.out) tailing.put ∙ sym (append_known-append sink.put tailing.written next.out);
           so_far = so_far_next;
-          no_fault = faults ∙ tailing.no_fault;
           made = made_next;
           turned = turned_next;
         }
 
     -- the sink failed within it
-    pub tail_fails : {E : Type 0} (error : E) (last : SinkState) (count : ℕ) → Took then last (take count next.out) → WritesRest {T = Unit {0}} (Err error) (live_bytes script x) (whole_bytes script x) sink last
-    tail_fails error last count took =
-        let (rest, split) = begins_next in
-        record {
-          written = tailing.written ++ take count next.out;
-          put = took.put ∙ ap (λ known. append_known known (take count next.out)) tailing.put ∙ sym (append_known-append sink.put tailing.written (take count next.out));
-          begins = (
-            drop count next.out ++ rest,
-            split
-                ∙ ap (λ xs. xs ++ rest) so_far_next
-                ∙ ap (λ xs. (live_bytes script x ++ (tailing.written ++ xs)) ++ rest) (sym (take-append-drop count next.out))
-                ∙ ap (λ xs. (live_bytes script x ++ xs) ++ rest) (sym (append_assoc tailing.written (take count next.out) (drop count next.out)))
-                ∙ ap (λ xs. xs ++ rest) (sym (append_assoc (live_bytes script x) (tailing.written ++ take count next.out) (drop count next.out)))
-                ∙ append_assoc (live_bytes script x ++ (tailing.written ++ take count next.out)) (drop count next.out) rest,
-          );
-          whole = tt;
-        }
+    pub tail_fails : (count : ℕ) → Begins (live_bytes script x ++ (written ++ take count next.out)) (whole_bytes script x ++ [])
+    tail_fails count =
+        let (rest, split) = begins_next in (
+          drop count next.out ++ rest,
+          append-nil (whole_bytes script x) ∙ split
+              ∙ ap (λ xs. xs ++ rest) so_far_next
+              ∙ ap (λ xs. (live_bytes script x ++ (written ++ xs)) ++ rest) (sym (take-append-drop count next.out))
+              ∙ ap (λ xs. (live_bytes script x ++ xs) ++ rest) (sym (append_assoc written (take count next.out) (drop count next.out)))
+              ∙ ap (λ xs. xs ++ rest) (sym (append_assoc (live_bytes script x) (written ++ take count next.out) (drop count next.out)))
+              ∙ append_assoc (live_bytes script x ++ (written ++ take count next.out)) (drop count next.out) rest,
+        )
 
     pub tail_fails_costs : {E : Type 0} (error : E) → TailCosts {T = Unit {0}} (Err error) script (length x) before counted
     tail_fails_costs error = record { limit = limit_next; exact = tt; turned = turned_next }
@@ -145,18 +130,11 @@ module _ (script : Script) (x : List Frame) (frames pieces : ℕ) (session : Ses
     spent : answer ≡ 0 → IsSpent next.chain
     spent zero = ends.spent zero tailing.gave.chain.works
 
-    pub tail_ends : {E : Type 0} → answer ≡ 0 → answer ≡ length next.out → WritesRest {T = Unit {0}} {E = E} (Ok tt) (live_bytes script x) (whole_bytes script x) sink then
+    pub tail_ends : answer ≡ 0 → answer ≡ length next.out → live_bytes script x ++ written ≡ whole_bytes script x ++ []
     tail_ends zero is =
         let nothing : next.out ≡ [] = empty next.out (sym is ∙ zero) in
-        let all : whole_bytes script x ≡ live_bytes script x ++ tailing.written =
-        ap (output_bytes script) (sym whole_next ∙ sym ((spent zero).gave x zs gave.chain)) ∙ so_far_next
-        ∙ ap (λ xs. live_bytes script x ++ (tailing.written ++ xs)) nothing ∙ ap (λ xs. live_bytes script x ++ xs) (append-nil tailing.written) in
-        record {
-          written = tailing.written;
-          put = tailing.put;
-          begins = ([], all ∙ sym (append-nil (live_bytes script x ++ tailing.written)));
-          whole = sym all;
-        }
+        sym (append-nil (whole_bytes script x) ∙ ap (output_bytes script) (sym whole_next ∙ sym ((spent zero).gave x zs gave.chain)) ∙ so_far_next
+        ∙ ap (λ xs. live_bytes script x ++ (written ++ xs)) nothing ∙ ap (λ xs. live_bytes script x ++ xs) (append-nil written))
       where
         empty : (xs : List ℕ) → length xs ≡ 0 → xs ≡ []
         empty [] e = refl
@@ -183,44 +161,64 @@ module _ (script : Script) (x : List Frame) (frames pieces : ℕ) (session : Ses
     tail_measured zero =
         (spent zero).measured x zs gave.chain ∙ (λ i. measures (gave.holds.input i).format (gave.holds.input i).channels 1 (gave.holds.blocks i) x) ∙ ap (λ (s : Script). measures_of s x) script_next
 
+-- the multiplies of a tail are at most those of the whole signal, whatever numbers are kept
+pub tail_within : (first session next : SessionState) (answer : ℕ) {counts counted : Counts} → Ends session next answer counts counted → next.script ≡ first.script → session.chain.frames ≡ first.chain.frames
+    → (start before : ℕ) → counts.multiplies + start ≡ before + made_of session.chain → counted.multiplies + start ≤ before + products_of first.script first.chain.frames
+tail_within first session next answer {counts} {counted} ends script frames start before so_far =
+    let within : made_of next.chain ≤ products_of first.script first.chain.frames = subst (λ n. made_of next.chain ≤ n) (λ i. products_of (script i) ((ends.counted ∙ frames) i)) ends.within in
+    omega (arith, within, ends.multiplies, so_far)
+
+-- ---- what was written
+
+pub put_more : (sink mid then : SinkState) (written more : List ℕ) → mid.put ≡ append_known sink.put written → then.put ≡ append_known mid.put more → then.put ≡ append_known sink.put (written ++ more)
+put_more sink mid then written more first put = put ∙ ap (λ known. append_known known more) first ∙ sym (append_known-append sink.put written more)
+
+-- of one signal
+pub writes_rest : {T E : Type 0} (result : Result T E) (session : SessionState) (behind : List ℕ) (sink after : SinkState) → WritesTail result session behind sink after
+    → (x : List Frame) → StandsFor session x → WritesRest result (live_bytes session.script x) (whole_bytes session.script x ++ behind) sink after
+writes_rest result session behind sink after writes x stands =
+    record { written = writes.written; put = writes.put; begins = writes.begins x stands; whole = writes.whole x stands }
+
 -- ---- behind the tail
 
-module _ (front whole pad : List ℕ) (sink mid then : SinkState) {E : Type 0} (tail : WritesRest {T = Unit {0}} {E = E} (Ok tt) front whole sink mid) where
-  more_put : (more : List ℕ) → then.put ≡ append_known mid.put more → then.put ≡ append_known sink.put (tail.written ++ more)
-  more_put more put = put ∙ ap (λ known. append_known known more) tail.put ∙ sym (append_known-append sink.put tail.written more)
+-- the sink failed before the pad byte
+pub tail_cut : {E : Type 0} (error : E) (session : SessionState) (pad : List ℕ) (sink then : SinkState) → WritesTail {T = Unit {0}} (Err error) session [] sink then → WritesTail {T = Unit {0}} (Err error) session pad sink then
+tail_cut error session pad sink then writes = record {
+  written = writes.written;
+  put = writes.put;
+  begins = λ x stands. (let (rest, split) = writes.begins x stands in
+      (rest ++ pad, ap (λ xs. xs ++ pad) (sym (append-nil (whole_bytes session.script x)) ∙ split) ∙ append_assoc (live_bytes session.script x ++ writes.written) rest pad));
+  whole = λ x stands. tt;
+}
 
-  all_is : whole ++ pad ≡ front ++ (tail.written ++ pad)
-  all_is = ap (λ xs. xs ++ pad) (sym tail.whole) ∙ append_assoc front tail.written pad
+module _ (session : SessionState) (pad : List ℕ) (sink mid then : SinkState) {E : Type 0} (tail : WritesTail {T = Unit {0}} {E = E} (Ok tt) session [] sink mid) where
+  all_is : (x : List Frame) → StandsFor session x → whole_bytes session.script x ++ pad ≡ live_bytes session.script x ++ (tail.written ++ pad)
+  all_is x stands =
+      ap (λ xs. xs ++ pad) (sym (append-nil (whole_bytes session.script x)) ∙ sym (tail.whole x stands)) ∙ append_assoc (live_bytes session.script x) tail.written pad
 
   -- the sink failed within the pad byte
-  pub pad_fails : (error : E) (count : ℕ) → Took mid then (take count pad) → WritesRest {T = Unit {0}} (Err error) front (whole ++ pad) sink then
+  pub pad_fails : (error : E) (count : ℕ) → Took mid then (take count pad) → WritesTail {T = Unit {0}} (Err error) session pad sink then
   pad_fails error count took =
       record {
         written = tail.written ++ take count pad;
-        put = more_put (take count pad) took.put;
-        begins = (
+        put = put_more sink mid then tail.written (take count pad) tail.put took.put;
+        begins = λ x stands. (
           drop count pad,
-          all_is ∙ ap (λ xs. front ++ (tail.written ++ xs)) (sym (take-append-drop count pad))
-              ∙ ap (λ xs. front ++ xs) (sym (append_assoc tail.written (take count pad) (drop count pad))) ∙ sym (append_assoc front (tail.written ++ take count pad) (drop count pad)),
+          all_is x stands ∙ ap (λ xs. live_bytes session.script x ++ (tail.written ++ xs)) (sym (take-append-drop count pad))
+              ∙ ap (λ xs. live_bytes session.script x ++ xs) (sym (append_assoc tail.written (take count pad) (drop count pad)))
+              ∙ sym (append_assoc (live_bytes session.script x) (tail.written ++ take count pad) (drop count pad)),
         );
-        whole = tt;
+        whole = λ x stands. tt;
       }
+
+  all_begins : (x : List Frame) → StandsFor session x → Begins (live_bytes session.script x ++ (tail.written ++ pad)) (whole_bytes session.script x ++ pad)
+  all_begins x stands = ([], all_is x stands ∙ sym (append-nil (live_bytes session.script x ++ (tail.written ++ pad))))
 
   -- all was written, but the sink is not sure of it
-  pub flush_fails : (error : E) (last : SinkState) → Took mid last pad → then.put ≡ last.put → WritesRest {T = Unit {0}} (Err error) front (whole ++ pad) sink then
+  pub flush_fails : (error : E) (last : SinkState) → Took mid last pad → then.put ≡ last.put → WritesTail {T = Unit {0}} (Err error) session pad sink then
   flush_fails error last took same =
-      record {
-        written = tail.written ++ pad;
-        put = more_put pad (same ∙ took.put);
-        begins = ([], all_is ∙ sym (append-nil (front ++ (tail.written ++ pad))));
-        whole = tt;
-      }
+      record { written = tail.written ++ pad; put = put_more sink mid then tail.written pad tail.put (same ∙ took.put); begins = all_begins; whole = λ x stands. tt }
 
-  pub all_written : (last : SinkState) → Took mid last pad → then.put ≡ last.put → WritesRest {T = Unit {0}} {E = E} (Ok tt) front (whole ++ pad) sink then
+  pub all_written : (last : SinkState) → Took mid last pad → then.put ≡ last.put → WritesTail {T = Unit {0}} {E = E} (Ok tt) session pad sink then
   all_written last took same =
-      record {
-        written = tail.written ++ pad;
-        put = more_put pad (same ∙ took.put);
-        begins = ([], all_is ∙ sym (append-nil (front ++ (tail.written ++ pad))));
-        whole = sym all_is;
-      }
+      record { written = tail.written ++ pad; put = put_more sink mid then tail.written pad tail.put (same ∙ took.put); begins = all_begins; whole = λ x stands. sym (all_is x stands) }

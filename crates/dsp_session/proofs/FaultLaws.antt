@@ -15,7 +15,7 @@ use Rattle.dsp_defs.specs.declared.wave.Header.{Header}
 use Rattle.dsp_defs.specs.declared.wave.HeaderFault.{HeaderFault}
 use Rattle.dsp_defs.specs.declared.wave.HeaderFault.TheVariants.{Short}
 use Rattle.dsp_defs.specs.declared.wave.Wanted.{Wanted}
-use Rattle.dsp_session.specs.Stream.{HasFault, in_whole_frames, short_fault, wave_fault, input_fault}
+use Rattle.dsp_input.specs.Taking.{HasFault, in_whole_frames, input_fault, short_fault, wave_fault}
 
 -- a header that is there
 pub ok_header : (wanted : Wanted) (bytes : List ℕ) → IsOk (header_of bytes wanted) → (header : Header) × (header_of bytes wanted ≡ Ok header)

@@ -22,6 +22,7 @@ use Rattle.dsp_session.specs.SessionState.{SessionState}
 use Rattle.dsp_session.specs.Session.{IsReady, StandsFor, SameSession, Feeds, Fails, IsTooMuch, signal, output_bytes, live_values, live_cost_of, turns_of}
 use Rattle.dsp_session.specs.Stream.{StaysRefused}
 use Rattle.dsp_session.specs.Passing.{PassCosts, Passes, FailsToPass}
+use Rattle.dsp_session.specs.Advancing.{FailsToPassOn}
 use Rattle.dsp_session.specs.declared.fault.LengthFault.TheVariants as length_fault
 use Rattle.dsp_session.specs.declared.fault.StreamFault.TheVariants as fault
 
@@ -98,3 +99,24 @@ pub refused_again : (s next : SessionState) (x : List Frame) (full : GatherFull)
     → (s.chain.failed ≡ None → (full.held ≡ held s.script.blocks s.chain.frames) × (full.held + full.more ≡ gathered s.script.blocks (s.chain.frames + more))) → StaysRefused (fault.Lengths (length_fault.Gather full.held full.more)) next
 refused_again s next x full more before after stands fails numbers =
     (ap (λ (t : SessionState). t.chain.failed) fails.same, (numbers stands.chain.works).0 ∙ ap (λ (t : SessionState). held t.script.blocks t.chain.frames) (sym fails.same))
+
+-- ---- from any state
+
+-- a call that was not refused has gathered no more than it may
+pub fits_on : (s next : SessionState) (bytes : List ℕ) (before after : Counts) → Feeds s next bytes before after → (IsTooMuch s (length (signal s.script s.coding bytes)) → ⊥) → gathered s.script.blocks next.chain.frames ≤ MAX_GATHERED
+fits_on s next bytes before after fed taken =
+    elim (cases_lt MAX_GATHERED (gathered s.script.blocks (s.chain.frames + length (signal s.script s.coding bytes)))) [
+      | inl over ↦ absurd (taken (inl over))
+      | inr within ↦ subst (λ n. gathered s.script.blocks n ≤ MAX_GATHERED) (sym fed.counted) within
+    ]
+
+-- one that was, of a session whose calls were not refused before
+pub refused_now : (s next : SessionState) (bytes : List ℕ) (full : GatherFull) (sink last : SinkState) (before after : Counts) → s.chain.failed ≡ None → Fails s next full before after → IsTooMuch s (length (signal s.script s.coding bytes))
+    → (full.held ≡ held s.script.blocks s.chain.frames) × (full.held + full.more ≡ gathered s.script.blocks (s.chain.frames + length (signal s.script s.coding bytes))) → last ≡ sink
+    → FailsToPassOn (fault.Lengths (length_fault.Gather full.held full.more)) s next bytes sink last before after
+refused_now s next bytes full sink last before after works fails too_much (held_is, sum_is) same =
+    (fails, over too_much, held_is, sum_is, same)
+  where
+    over : IsTooMuch s (length (signal s.script s.coding bytes)) → MAX_GATHERED < gathered s.script.blocks (s.chain.frames + length (signal s.script s.coding bytes))
+    over (inl many) = many
+    over (inr failed) = absurd (let e : true ≡ false = sym failed ∙ ap is_some works in cc)

@@ -8,3 +8,16 @@ pub mod EndLaws
 pub mod WorkerLaws
 pub mod PassingLaws
 pub mod TurnLaws
+pub mod AdvanceLaws
+pub mod PlainLaws
+pub mod PlainEnds
+pub mod PartLaws
+pub mod FirstLaws
+pub mod ClosingLaws
+pub mod RestLaws
+pub mod SkipLaws
+pub mod FirstEnds
+pub mod FirstClose
+pub mod RestBefore
+pub mod CodedLaws
+pub mod RestEnds

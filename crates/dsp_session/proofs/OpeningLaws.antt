@@ -1,6 +1,6 @@
 -- Behind the header of the input stand its samples, block after block.
 use Rattle.std.proofs.Common.{◌≡◌, ℕ, ◌+◌, ◌*◌, ◌/◌, ◌<◌, ◌≤◌, List, [], ◌++◌, length, take, drop, Option, Some, None, refl, sym, ap, ◌∙◌, arith, length-append}
-use Rattle.std.proofs.lemmas.List.{drop_at, take_all, take_at}
+use Rattle.std.proofs.lemmas.List.{drop_at, length-take-le, take_all, take_at, take-take}
 use Rattle.std.proofs.lemmas.Nat.{div-mul-add}
 use Rattle.std.proofs.Math.Nat.{mul_assoc}
 use Rattle.dsp_defs.specs.Block.{Frame}
@@ -10,11 +10,9 @@ use Rattle.dsp_defs.specs.declared.format.Coding.{Coding}
 use Rattle.dsp_defs.specs.declared.script.Script.{Script}
 use Rattle.dsp_defs.specs.declared.wave.Header.{Header}
 use Rattle.dsp_defs.proofs.CodingLemmas.{width-some}
-use Rattle.dsp_defs.proofs.SampleLaws.{length-samples, samples-nil, samples-append, count-whole}
-use Rattle.dsp_session.specs.Session.{IsReady, frame_bytes, block_bytes, signal}
-use Rattle.dsp_session.specs.Opening.{Opens}
-use Rattle.dsp_session.specs.Stream.{declared_bytes, in_whole_frames, frames_in_bytes}
-use Rattle.dsp_session.specs.Passing.{InDeclared}
+use Rattle.dsp_defs.proofs.SampleLaws.{length-samples, samples-nil, samples-append, samples-whole, count-whole}
+use Rattle.dsp_input.specs.Taking.{InDeclared, Opens, declared_bytes, frame_bytes, frames_in_bytes, in_whole_frames}
+use Rattle.dsp_session.specs.Session.{IsReady, block_bytes, signal}
 use Rattle.std.proofs.Math.Nat.{mul-le-mul}
 
 -- ---- frames and blocks
@@ -54,6 +52,14 @@ module _ (script : Script) (coding : Coding) (some : 0 < frame_bytes script codi
 
   pub frames-whole : (bytes : List ℕ) (n : ℕ) → length bytes ≡ n * frame_bytes script coding → length (signal script coding bytes) ≡ n
   frames-whole bytes n whole = length-signal bytes ∙ count-whole coding script.input.channels n bytes [] some whole
+
+  -- the whole frames of a front are its signal
+  pub front_signal : (count : ℕ) (block : List ℕ) → count ≤ length block → signal script coding (take (count / frame_bytes script coding * frame_bytes script coding) block) ≡ signal script coding (take count block)
+  front_signal count block within =
+      let front : take (count / frame_bytes script coding * frame_bytes script coding) (take count block) ≡ take (count / frame_bytes script coding * frame_bytes script coding) block =
+      take-take (count / frame_bytes script coding * frame_bytes script coding) count block (floor_within count (frame_bytes script coding)) in
+      ap (signal script coding) (sym front)
+      ∙ samples-whole coding script.input.channels (count / frame_bytes script coding) (take count block) some (ap (λ n. n / frame_bytes script coding) (sym (length-take-le count block within)))
 
 -- ---- behind the header
 

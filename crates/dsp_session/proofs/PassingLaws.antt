@@ -15,16 +15,19 @@ use Rattle.dsp_defs.specs.declared.wave.Header.{Header}
 use Rattle.dsp_stage.proofs.ChainPlaces.{live_chain-nil}
 use Rattle.dsp_stage.proofs.CostLaws.{live_cost_within, live_cost-zero}
 use Rattle.dsp_chain.proofs.NewChain.{gathered-nothing}
+use Rattle.dsp_input.specs.declared.fault.InputFault.{InputFault}
+use Rattle.dsp_input.specs.declared.fault.InputFault.TheVariants as input_fault
+use Rattle.dsp_input.specs.Taking.{BlockRead, Fits, HasFault, InDeclared, IsUnread, Opens, Unread, declared_bytes, frame_bytes, frames_in_bytes, in_whole_frames}
 use Rattle.dsp_session.specs.SessionState.{SessionState}
-use Rattle.dsp_session.specs.Session.{IsReady, StandsFor, SameSession, signal, frame_bytes, block_bytes, cost_of, live_cost_of, turns_of, calls_turns, run_turns}
-use Rattle.dsp_session.specs.Opening.{Fits, Opens, Begun}
-use Rattle.dsp_session.specs.Stream.{HasFault, IsCause, HasWritten, WrotePart, CountsFault, Stopped, StaysRefused, Part, KeepsLimits, LagsByOne, IsInDeclared, declared_bytes, in_whole_frames, blocks_end, frames_in_bytes, in_whole_blocks}
-use Rattle.dsp_session.specs.Passing.{InDeclared, BlockRead, IsUnread, Unread, PassCosts, Passes, FailsToPass, Passed}
+use Rattle.dsp_session.specs.Session.{IsReady, StandsFor, SameSession, signal, block_bytes, cost_of, live_cost_of, turns_of, calls_turns, run_turns}
+use Rattle.dsp_session.specs.Opening.{Begun, of_input}
+use Rattle.dsp_session.specs.Stream.{IsCause, HasWritten, WrotePart, CountsFault, Stopped, Part, KeepsLimits, LagsByOne, IsInDeclared, blocks_end, in_whole_blocks}
+use Rattle.dsp_session.specs.Passing.{PassCosts, Passes, FailsToPass, Passed}
 use Rattle.dsp_session.specs.declared.fault.LengthFault.TheVariants as length_fault
 use Rattle.dsp_session.specs.declared.fault.StreamFault.{StreamFault}
 use Rattle.dsp_session.specs.declared.fault.StreamFault.TheVariants as fault
 use Rattle.dsp_session.proofs.OpeningLaws.{some_frame, frames_of_blocks, signal-nil, length-signal, signal-append, frames-whole, frames_are, part_blocks}
-use Rattle.dsp_session.proofs.OpenLaws.{some_block, none_behind}
+use Rattle.dsp_session.proofs.OpenLaws.{some_block, none_behind, unflushed_by}
 use Rattle.dsp_session.proofs.FaultLaws.{ends_short}
 use Rattle.dsp_session.proofs.FeedLaws.{quiet_script}
 use Rattle.dsp_script.proofs.Paces.{legal_parts}
@@ -50,11 +53,6 @@ pub record Going (script : Script) (block : ℕ) (header : Header) (taken : ℕ)
   pub cost : counts.multiplies ≡ before.multiplies + live_cost_of script (length (signal script header.coding heard))
   pub turned : counts.turns ≤ before.turns + calls_turns script block (blocks * block) blocks
 
--- where a block did not come, no correlation was full
-pub unread_stays : (f : StreamFault) (script : Script) (header : Header) (taken : ℕ) (input now : SourceState) (s : SessionState) → IsUnread f script header taken input now → StaysRefused f s
-unread_stays (fault.Lengths (length_fault.Gather told more)) script header taken input now s cause = absurd cause
-unread_stays _ script header taken input now s cause = tt
-
 pub block_some : (script : Script) (block : ℕ) → IsReady script block → 0 < block
 block_some script zero ready = absurd (omega (arith, (legal_parts script.input.channels script.blocks zero ready.legal).some))
 block_some script (suc n) ready = omega arith
@@ -62,7 +60,7 @@ block_some script (suc n) ready = omega arith
 pub in_declared : (declared : Option ℕ) (n m : ℕ) → n ≡ m → InDeclared declared n → InDeclared declared m
 in_declared declared n m same within = subst (InDeclared declared) same within
 
-further : (start given taken : ℕ) → given ≡ start + taken → (declared : Option ℕ) → IfSome declared (λ size. taken < size) → IfSome declared (λ size. given < start + size)
+pub further : (start given taken : ℕ) → given ≡ start + taken → (declared : Option ℕ) → IfSome declared (λ size. taken < size) → IfSome declared (λ size. given < start + size)
 further start given taken is None less = tt
 further start given taken is (Some size) less = omega (arith, is, less)
 
@@ -286,14 +284,17 @@ module _ (script : Script) (block : ℕ) (ready : IsReady script block) (header 
     all_given : (later : SourceState) (bytes : List ℕ) → Gave now later bytes → Gave origin later (first ++ (heard ++ bytes))
     all_given later bytes gave = Gave-append origin input later first (heard ++ bytes) begun.opened.gave (Gave-append input now later heard bytes going.gave gave)
 
+    all_took : Took empty then wrote
+    all_took = Took-append empty sink then (output_header script header) live_heard begun.took going.took
+
     all_put : then.put ≡ append_known empty.put wrote
-    all_put = (Took-append empty sink then (output_header script header) live_heard begun.took going.took).put
+    all_put = all_took.put
 
     together : (bytes : List ℕ) → InDeclared (declared_bytes script header) (taken + length bytes) → InDeclared (declared_bytes script header) (length (heard ++ bytes))
     together bytes declared = in_declared (declared_bytes script header) (taken + length bytes) (length (heard ++ bytes)) (omega (arith, going.taken_is, length-append heard bytes)) declared
 
     -- less than a block came
-    module _ (later : SourceState) (stop : StreamFault) (unread : Unread script header taken size stop now later) where
+    module _ (later : SourceState) (error : InputFault) (unread : Unread script header taken size error now later) where
       abbrev bytes : List ℕ
       bytes = unread.bytes
 
@@ -321,45 +322,46 @@ module _ (script : Script) (block : ℕ) (ready : IsReady script block) (header 
       clean : later.faults ≡ now.faults → later.faults ≡ origin.faults
       clean same = same ∙ going.no_input_fault ∙ no_fault_read
 
-      cause_of : (f : StreamFault) → IsUnread f script header (taken + length bytes) now later → IsCause f script block given later
-      cause_of fault.Input unread = omega (arith, unread.1, count)
-      cause_of (fault.Lengths (length_fault.Input told most)) unread =
+      cause_of : (f : InputFault) → IsUnread f script header (taken + length bytes) now later → IsCause (of_input f) script block given later
+      cause_of input_fault.Failed unread =
+          let wanted = subst (λ (h : Header). IfSome (declared_bytes script h) (λ size. length given < h.start + size)) (sym (opens.said (heard ++ bytes))) (further header.start (length given) (taken + length bytes) count (declared_bytes script header) unread.2) in
+          (omega (arith, unread.1, count), λ _. wanted)
+      cause_of (input_fault.Limit told most) unread =
           let wanted = subst (λ (h : Header). IfSome (declared_bytes script h) (λ size. length given < h.start + size)) (sym (opens.said (heard ++ bytes))) (further header.start (length given) (taken + length bytes) count (declared_bytes script header) unread.4) in
           (omega (arith, unread.0, count), unread.1, unread.2, record { cut = λ none. absurd (none has); declared = λ _. wanted })
-      cause_of (fault.Header f offset) (declared, size_is, f_is, place, end, same, fewer) =
+      cause_of (input_fault.Header f offset) (declared, size_is, f_is, place, end, same, fewer) =
           let header_is = opens.said (heard ++ bytes) in
           let short = ends_short script given later declared (taken + length bytes) has (ap (λ (h : Header). h.size) header_is ∙ size_is)
           (count ∙ ap (λ (h : Header). h.start + (taken + length bytes)) (sym header_is))
           (subst (λ (h : Header). taken + length bytes < in_whole_frames script h.coding declared) (sym header_is) fewer) end in
           subst (λ o. HasFault script given later (f, o)) (count ∙ sym place) (subst (λ k. HasFault script given later (k, length given)) (sym f_is) short)
-      cause_of f unread = absurd unread
 
       part_written : WrotePart script block (in_whole_blocks block (frames_in_bytes script given)) given wrote empty then before counts
       part_written =
           Part has parted (blocks_keep script block header given (opens.said (heard ++ bytes)) begun.fits whole_blocks going.not_full)
           (going.cost ∙ ap (λ n. before.multiplies + live_cost_of script n) (frames_taken ∙ sym whole_blocks))
 
-      written : (f : StreamFault) → IsUnread f script header (taken + length bytes) now later → HasWritten f script block given wrote later empty then before counts
-      written fault.Input unread = part_written
-      written (fault.Lengths (length_fault.Input told most)) unread = part_written
-      written (fault.Header f offset) unread = part_written
-      written f unread = absurd unread
+      written : (f : InputFault) → HasWritten (of_input f) script block given wrote later empty then before counts
+      written input_fault.Failed = part_written
+      written (input_fault.Limit told most) = part_written
+      written (input_fault.Header f offset) = part_written
 
-      faults : (f : StreamFault) → IsUnread f script header (taken + length bytes) now later → CountsFault f origin later empty then
-      faults fault.Input unread = (unread.0 ∙ ap fault_more (going.no_input_fault ∙ no_fault_read), no_fault_written)
-      faults (fault.Lengths (length_fault.Input told most)) unread = (clean unread.3, no_fault_written)
-      faults (fault.Header f offset) (declared, size_is, f_is, place, end, same, fewer) = (clean same, no_fault_written)
-      faults f unread = absurd unread
+      faults : (f : InputFault) → IsUnread f script header (taken + length bytes) now later → CountsFault (of_input f) origin later empty then
+      faults input_fault.Failed unread = (unread.0 ∙ ap fault_more (going.no_input_fault ∙ no_fault_read), no_fault_written)
+      faults (input_fault.Limit told most) unread = (clean unread.3, no_fault_written)
+      faults (input_fault.Header f offset) (declared, size_is, f_is, place, end, same, fewer) = (clean same, no_fault_written)
 
-      pub stops_unread : Stopped script block stop origin later empty then before counts
+      pub stops_unread : Stopped script block (of_input error) origin later empty then before counts
       stops_unread = record {
         given = given;
         written = wrote;
         gave = all_given later bytes unread.gave;
+        in_limit = omega (arith, count, unread.in_limit);
         put = all_put;
-        cause = cause_of stop unread.cause;
-        wrote = written stop unread.cause;
-        faults = faults stop unread.cause;
+        unflushed = unflushed_by (of_input error) empty then wrote all_took.settled;
+        cause = cause_of error unread.cause;
+        wrote = written error;
+        faults = faults error unread.cause;
         in_declared = λ _. none_behind script header first opens (heard ++ bytes) (together bytes unread.declared);
         lag = λ _. subst (LagsByOne script block given) (append-nil wrote) (lags script block ready header first opens going.blocks heard bytes [] heard_declared going.blocks_heard (omega (arith, unread.short)));
         cost = cost_within script block ready header first opens before.multiplies counts.multiplies heard bytes (together bytes unread.declared) going.cost;
@@ -448,7 +450,9 @@ module _ (script : Script) (block : ℕ) (ready : IsReady script block) (header 
               given = taken_bytes;
               written = wrote ++ written;
               gave = all_given later piece (gave_piece later count piece long full read);
+              in_limit = omega (arith, opens.start, going.taken_is, length-append first (heard ++ piece), length-append heard piece, read.in_limit, read.within, full);
               put = all_put-more written put;
+              unflushed = tt;
               cause = opens.has (heard ++ piece);
               wrote = (
                 blocks_keep script block header taken_bytes (opens.said (heard ++ piece)) begun.fits whole_all (subst (λ n. gathered script.blocks n ≤ MAX_GATHERED) (all_frames ∙ frames_all) kept),
@@ -473,7 +477,9 @@ module _ (script : Script) (block : ℕ) (ready : IsReady script block) (header 
               given = taken_bytes;
               written = wrote;
               gave = all_given later piece (gave_piece later count piece long full read);
+              in_limit = omega (arith, opens.start, going.taken_is, length-append first (heard ++ piece), length-append heard piece, read.in_limit, read.within, full);
               put = ap (λ (s : SinkState). s.put) same ∙ all_put;
+              unflushed = ap (λ (s : SinkState). s.settled) same ∙ all_took.settled;
               cause = (
                 opens.has (heard ++ piece),
                 record {

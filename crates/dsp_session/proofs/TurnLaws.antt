@@ -12,7 +12,7 @@ use Rattle.dsp_stage.proofs.TurnLaws.{block_turns_within, live_frames_more}
 use Rattle.dsp_session.specs.Session.{cost_of, live_cost_of, turns_of, calls_turns, run_turns}
 
 -- the turns of a chain are no more than its products
-chain_turns_within : (format : Fmt) (channels : ℕ) (blocks : List Block) (m n : ℕ) → m ≤ n → chain_turns format channels blocks m n + live_cost format channels blocks m ≤ live_cost format channels blocks n
+pub chain_turns_within : (format : Fmt) (channels : ℕ) (blocks : List Block) (m n : ℕ) → m ≤ n → chain_turns format channels blocks m n + live_cost format channels blocks m ≤ live_cost format channels blocks n
 chain_turns_within format channels [] m n h = omega arith
 chain_turns_within format channels (block ∷ blocks) m n h =
     let here = block_turns_within format channels block m n h in

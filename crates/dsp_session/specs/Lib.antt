@@ -1,6 +1,9 @@
 pub mod SessionState
 pub mod Session
+pub mod Keeping
 pub mod Opening
 pub mod Stream
 pub mod Passing
 pub mod Working
+pub mod Advancing
+pub mod Resuming

@@ -1,64 +1,23 @@
 -- Block after block: what is taken, worked on and written.
-use Rattle.std.specs.Prelude.{◌≡◌, ℕ, ◌+◌, ◌*◌, ◌^◌, ◌<◌, ◌≤◌, List, ◌++◌, length, take, Option, Some, None, IfSome, Result, OnOk}
-use Rattle.std.specs.Io.KnownBytes.{IsAtEnd, append_known}
+use Rattle.std.specs.Prelude.{◌≡◌, ℕ, ◌+◌, ◌*◌, ◌^◌, ◌<◌, ◌≤◌, List, ◌++◌, length, take, None, Result, OnOk}
+use Rattle.std.specs.Io.KnownBytes.{append_known}
 use Rattle.dsp_ports.specs.Ports.{SourceState, SinkState, one_more, Gave, Took}
 use Rattle.dsp_defs.specs.Block.{Frame}
 use Rattle.dsp_defs.specs.Counts.{Counts}
-use Rattle.dsp_defs.specs.Output.{live_bytes, output_header}
+use Rattle.dsp_defs.specs.Output.{live_bytes, output_header, whole_bytes}
 use Rattle.dsp_defs.specs.Shape.{gathered, held}
 use Rattle.dsp_defs.specs.Streaming.{Begins}
 use Rattle.dsp_defs.specs.declared.format.Coding.{Coding}
 use Rattle.dsp_defs.specs.declared.limits.TheConstants.{MAX_GATHERED}
 use Rattle.dsp_defs.specs.declared.script.Script.{Script}
 use Rattle.dsp_defs.specs.declared.wave.Header.{Header}
-use Rattle.dsp_defs.specs.declared.wave.HeaderFault.TheVariants.{Short}
+use Rattle.dsp_input.specs.Taking.{AreAll, Fits, InDeclared, Opens, declared_bytes}
 use Rattle.dsp_session.specs.SessionState.{SessionState}
 use Rattle.dsp_session.specs.Session.{StandsFor, signal, block_bytes, live_cost_of, products_of, turns_of, calls_turns}
-use Rattle.dsp_session.specs.Opening.{Fits, Opens}
-use Rattle.dsp_session.specs.Stream.{declared_bytes, in_whole_frames}
 use Rattle.dsp_session.specs.declared.fault.LengthFault.TheVariants as length_fault
 use Rattle.dsp_session.specs.declared.fault.StreamFault.{StreamFault}
 use Rattle.dsp_session.specs.declared.fault.StreamFault.TheVariants as fault
 use Rattle.dsp_session.specs.declared.streaming.Last.{Last}
-
--- ---- reading
-
--- so many bytes of samples are not more than those declared
-abbrev pub InDeclared : Option ℕ → ℕ → Type 0
-InDeclared declared count = IfSome declared (λ size. count ≤ size)
-
--- the samples have ended behind so many bytes of them
-abbrev pub AreAll : Option ℕ → ℕ → SourceState → Type 0
-AreAll (Some size) count now = count ≡ size
-AreAll None count now = IsAtEnd now.left
-
--- behind `taken` bytes of samples the front of the block came, and all of it unless the samples have ended
-pub record BlockRead (script : Script) (header : Header) (taken : ℕ) (block : List ℕ) (count : ℕ) (input now : SourceState) : Type 0 where
-  pub within : count ≤ length block
-  pub gave : Gave input now (take count block)
-  pub declared : InDeclared (declared_bytes script header) (taken + count)
-  pub in_limit : header.start + taken + count ≤ 2 ^ 40
-  pub room_left : count < length block → header.size ≡ None → header.start + taken + count < 2 ^ 40
-  pub end : count < length block → AreAll (declared_bytes script header) (taken + count) now
-  pub no_fault : now.faults ≡ input.faults
-
--- why it did not come
-abbrev pub IsUnread : StreamFault → Script → Header → ℕ → SourceState → SourceState → Type 0
-IsUnread fault.Input script header taken input now = (now.faults ≡ one_more input.faults) × (header.start + taken < 2 ^ 40)
-IsUnread (fault.Lengths (length_fault.Input told most)) script header taken input now =
-    (header.start + taken ≡ 2 ^ 40) × (told ≡ 2 ^ 40) × (most ≡ 2 ^ 40) × (now.faults ≡ input.faults) × IfSome (declared_bytes script header) (λ size. taken < size)
-IsUnread (fault.Header fault offset) script header taken input now =
-    (declared : ℕ) × (header.size ≡ Some declared) × (fault ≡ Short declared taken) × (offset ≡ header.start + taken) × IsAtEnd now.left × (now.faults ≡ input.faults)
-    × (taken < in_whole_frames script header.coding declared)
-IsUnread fault script header taken input now = ⊥
-
--- less than a block came
-pub record Unread (script : Script) (header : Header) (taken size : ℕ) (fault : StreamFault) (input now : SourceState) : Type 0 where
-  pub bytes : List ℕ
-  pub gave : Gave input now bytes
-  pub short : length bytes < size
-  pub declared : InDeclared (declared_bytes script header) (taken + length bytes)
-  pub cause : IsUnread fault script header (taken + length bytes) input now
 
 -- ---- working and writing
 
@@ -129,6 +88,13 @@ pub record WritesRest {T E : Type 0} (result : Result T E) (front all : List ℕ
   pub put : after.put ≡ append_known sink.put written
   pub begins : Begins (front ++ written) all
   pub whole : OnOk result (front ++ written ≡ all)
+
+-- the same of each signal that the session stands for, by the same bytes: they are what is to come of it as a whole signal, and what stands behind that
+pub record WritesTail {T E : Type 0} (result : Result T E) (session : SessionState) (behind : List ℕ) (sink after : SinkState) : Type 0 where
+  pub written : List ℕ
+  pub put : after.put ≡ append_known sink.put written
+  pub begins : (x : List Frame) → StandsFor session x → Begins (live_bytes session.script x ++ written) (whole_bytes session.script x ++ behind)
+  pub whole : (x : List Frame) → StandsFor session x → OnOk result (live_bytes session.script x ++ written ≡ whole_bytes session.script x ++ behind)
 
 -- the multiplies are at most those of a whole signal of n frames, and exactly those where all was written; a turn of a loop makes one at least
 pub record TailCosts {T E : Type 0} (result : Result T E) (script : Script) (n : ℕ) (before counts : Counts) : Type 0 where

@@ -1,7 +1,7 @@
 -- What the calls of a session give, for every signal that it has taken.
 use Rattle.std.specs.Prelude.{◌≡◌, ◌⊎◌, ℕ, ◌+◌, ◌*◌, ◌<◌, ◌≤◌, true, false, List, [], ◌++◌, length, Some, None, is_some, IsTrue}
 use Rattle.dsp_defs.specs.Block.{Frame, live_chain, whole_chain}
-use Rattle.dsp_defs.specs.Bytes.{coding_of, width, coded, samples}
+use Rattle.dsp_defs.specs.Bytes.{coding_of, coded, samples}
 use Rattle.dsp_defs.specs.Cost.{cost, live_cost, chain_turns, turns_of_calls, turns}
 use Rattle.dsp_defs.specs.Counts.{Counts}
 use Rattle.dsp_defs.specs.Measure as measure
@@ -16,6 +16,7 @@ use Rattle.dsp_defs.specs.declared.limits.TheConstants.{MAX_GATHERED}
 use Rattle.dsp_defs.specs.declared.measure.Measure.{Measure}
 use Rattle.dsp_defs.specs.declared.script.Script.{Script}
 use Rattle.dsp_chain.specs.Chain.{ChainStandsFor, ChainGave, IsLive, IsSpent, input_place, given_of, made_of}
+pub use Rattle.dsp_input.specs.Taking.{frame_bytes}
 use Rattle.dsp_session.specs.SessionState.{SessionState}
 
 -- ---- bytes and signals
@@ -23,10 +24,6 @@ use Rattle.dsp_session.specs.SessionState.{SessionState}
 -- the coding of an input whose header says no other
 abbrev pub input_coding : Script → Coding
 input_coding script = coding_of (container_of script.input.kind) script.input.format
-
--- the bytes of a frame of the input in a coding
-abbrev pub frame_bytes : Script → Coding → ℕ
-frame_bytes script coding = script.input.channels * width coding
 
 -- block * frame_bytes
 abbrev pub block_bytes : Script → Coding → ℕ → ℕ

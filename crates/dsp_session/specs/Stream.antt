@@ -1,22 +1,18 @@
 -- How the bytes that a stream took and the bytes that it wrote stand to each other at each of its ends.
-use Rattle.std.specs.Prelude.{◌≡◌, ◌⊎◌, ℕ, ◌+◌, ◌-◌, ◌*◌, ◌/◌, ◌^◌, ◌<◌, ◌≤◌, nat_lt, if◌then◌else◌, List, ◌++◌, length, take, Option, Some, None, Ok, Err, IfSome}
-use Rattle.std.specs.Io.KnownBytes.{IsAtEnd, append_known}
+use Rattle.std.specs.Prelude.{◌≡◌, ◌⊎◌, ℕ, ◌+◌, ◌-◌, ◌*◌, ◌/◌, ◌^◌, ◌<◌, ◌≤◌, List, length, take, Some, None, IfSome}
+use Rattle.std.specs.Io.KnownBytes.{append_known}
 use Rattle.dsp_defs.specs.Counts.{Counts}
-use Rattle.dsp_ports.specs.Ports.{SourceState, SinkState, one_more, Gave, IsSettled}
-use Rattle.dsp_defs.specs.Output.{HasHeader, input_header, input_signal, wanted_of, known_frames, output, part}
+use Rattle.dsp_ports.specs.Ports.{SourceState, SinkState, one_more, Gave, IsSettled, settled_after}
+use Rattle.dsp_defs.specs.Output.{HasHeader, input_header, input_signal, known_frames, output, part}
 use Rattle.dsp_defs.specs.Shape.{gathered, held, window_at}
 use Rattle.dsp_defs.specs.Streaming.{Begins}
-use Rattle.dsp_defs.specs.Wave.{header_of}
-use Rattle.dsp_defs.specs.declared.format.Coding.{Coding}
-use Rattle.dsp_defs.specs.declared.format.InputKind.TheVariants as kind
 use Rattle.dsp_defs.specs.declared.limits.TheConstants.{MAX_GATHERED, MAX_RIFF_SIZE}
 use Rattle.dsp_defs.specs.declared.measure.Measure.{Measure}
 use Rattle.dsp_defs.specs.declared.script.Script.{Script}
 use Rattle.dsp_defs.specs.declared.wave.Header.{Header}
-use Rattle.dsp_defs.specs.declared.wave.HeaderFault.{HeaderFault}
-use Rattle.dsp_defs.specs.declared.wave.HeaderFault.TheVariants.{NoSamples, Short}
-use Rattle.dsp_session.specs.Opening.{Fits, IsTooLong}
-use Rattle.dsp_session.specs.Session.{frame_bytes, block_bytes, cost_of, live_cost_of, run_turns, measures_of}
+pub use Rattle.dsp_input.specs.Taking.{AwaitsDeclared, HasFault, IsTakenWhole, WantsMore, declared_bytes, frames_in_bytes, in_whole_frames, input_fault, short_fault, wave_fault}
+use Rattle.dsp_input.specs.Taking.{Fits, IsTooLong}
+use Rattle.dsp_session.specs.Session.{block_bytes, cost_of, live_cost_of, run_turns, measures_of}
 use Rattle.dsp_session.specs.SessionState.{SessionState}
 use Rattle.dsp_session.specs.declared.fault.LengthFault.TheVariants as length_fault
 use Rattle.dsp_session.specs.declared.fault.StreamFault.{StreamFault}
@@ -24,29 +20,11 @@ use Rattle.dsp_session.specs.declared.fault.StreamFault.TheVariants as fault
 
 -- ---- the input
 
--- the bytes of the whole frames among so many bytes
-abbrev pub in_whole_frames : Script → Coding → ℕ → ℕ
-in_whole_frames script coding size = size / frame_bytes script coding * frame_bytes script coding
-
--- the bytes at which a header says that there are whole frames of samples, where it declares its samples
-abbrev pub declared_bytes : Script → Header → Option ℕ
-declared_bytes script header = elim header.size [ Some size ↦ Some (in_whole_frames script header.coding size) | None ↦ None ]
-
--- all samples were taken: those that the header declares, or all to the end of the input
-abbrev pub IsTakenWhole : Script → List ℕ → SourceState → Type 0
-IsTakenWhole script given now =
-    let header = input_header script given in
-    elim (declared_bytes script header) [ Some size ↦ length given ≡ header.start + size | None ↦ IsAtEnd now.left ]
-
 -- no byte was taken behind the samples that the header declares
 abbrev pub IsInDeclared : Script → List ℕ → Type 0
 IsInDeclared script given =
     let header = input_header script given in
     IfSome (declared_bytes script header) (λ size. length given ≤ header.start + size)
-
--- the whole frames of samples among the bytes
-abbrev pub frames_in_bytes : Script → List ℕ → ℕ
-frames_in_bytes script given = length (input_signal script given)
 
 -- where the first blocks of samples behind a header end
 abbrev pub blocks_end : Script → ℕ → Header → ℕ → ℕ
@@ -70,36 +48,7 @@ pub record KeepsLimits (script : Script) (header : Header) (frames : ℕ) : Type
   pub fits : Fits script header
   pub not_full : gathered script.blocks frames ≤ MAX_GATHERED
 
--- ---- faults of the input
-
--- the input ends before all declared whole frames came: what is declared, the bytes behind the header, and all bytes
-abbrev pub short_fault : Script → Header → ℕ → Option (HeaderFault × ℕ)
-short_fault script header count =
-    elim header.size [
-      | Some declared ↦ if nat_lt count (header.start + in_whole_frames script header.coding declared)
-          then Some (Short declared (count - header.start), count) else None
-      | None ↦ None
-    ]
-
--- what is at fault in a WAVE input of these bytes, and where: its header, or its end
-abbrev pub wave_fault : Script → List ℕ → Option (HeaderFault × ℕ)
-wave_fault script bytes = elim (header_of bytes (wanted_of script)) [ Err fault ↦ Some fault | Ok header ↦ short_fault script header (length bytes) ]
-
--- in the input of a script; raw samples have no fault
-abbrev pub input_fault : Script → List ℕ → Option (HeaderFault × ℕ)
-input_fault script bytes = elim script.input.kind [ kind.Raw rate ↦ None | kind.Wave ↦ wave_fault script bytes ]
-
--- the bytes that were taken have this fault whatever comes behind them, or have it and are all there is
-abbrev pub HasFault : Script → List ℕ → SourceState → HeaderFault × ℕ → Type 0
-HasFault script given now fault =
-    ((more : List ℕ) → input_fault script (given ++ more) ≡ Some fault) ⊎ (IsAtEnd now.left × (input_fault script given ≡ Some fault))
-
 -- ---- ends before the end
-
--- a further byte is wanted: the header is cut there and has no other fault, or declared samples are still to come
-pub record WantsMore (script : Script) (given : List ℕ) : Type 0 where
-  pub cut : (HasHeader script given → ⊥) → input_fault script given ≡ Some (NoSamples, length given)
-  pub declared : HasHeader script given → IfSome (declared_bytes script (input_header script given)) (λ size. length given < (input_header script given).start + size)
 
 -- a correlation would gather too many samples of so many frames, and holds so many of the whole blocks before the last one;
 -- where less than a block stands behind these, the input has ended and no window is at fault
@@ -111,7 +60,7 @@ pub record IsOverfull (script : Script) (block frames before has more : ℕ) (gi
 
 -- why it stopped, from the bytes that were taken
 abbrev pub IsCause : StreamFault → Script → ℕ → List ℕ → SourceState → Type 0
-IsCause fault.Input script block given now = length given < 2 ^ 40
+IsCause fault.Input script block given now = (length given < 2 ^ 40) × AwaitsDeclared script given
 IsCause fault.Output script block given now = HasHeader script given
 IsCause (fault.Header fault offset) script block given now = HasFault script given now (fault, offset)
 IsCause (fault.Lengths (length_fault.Input taken limit)) script block given now = (length given ≡ 2 ^ 40) × (taken ≡ 2 ^ 40) × (limit ≡ 2 ^ 40) × WantsMore script given
@@ -148,12 +97,19 @@ CountsFault fault.Input input now sink after = (now.faults ≡ one_more input.fa
 CountsFault fault.Output input now sink after = (now.faults ≡ input.faults) × (after.faults ≡ one_more sink.faults)
 CountsFault fault input now sink after = (now.faults ≡ input.faults) × (after.faults ≡ sink.faults)
 
+-- nobody has flushed the output behind its last byte, unless it is what failed
+abbrev pub IsUnflushed : StreamFault → SinkState → SinkState → List ℕ → Type 0
+IsUnflushed fault.Output sink after written = Unit {0}
+IsUnflushed fault sink after written = after.settled ≡ settled_after sink.settled (length written)
+
 -- the stream stopped before its end; `given` and `written` are all bytes that were taken and that were written
 pub record Stopped (script : Script) (block : ℕ) (fault : StreamFault) (input now : SourceState) (sink after : SinkState) (before counts : Counts) : Type 0 where
   pub given : List ℕ
   pub written : List ℕ
   pub gave : Gave input now given
+  pub in_limit : length given ≤ 2 ^ 40
   pub put : after.put ≡ append_known sink.put written
+  pub unflushed : IsUnflushed fault sink after written
   pub cause : IsCause fault script block given now
   pub wrote : HasWritten fault script block given written now sink after before counts
   pub faults : CountsFault fault input now sink after

@@ -1,17 +1,18 @@
-ghost use Rattle.std.specs.Prelude.{◌≡◌, ◌+◌, ◌++◌, ◌/◌, ◌≤◌, ℕ, List, length, take, IfOk, IfErr, MatchResult, OnOk};
-ghost use Rattle.dsp_ports.specs.Ports.{SourceState, SinkState, CountsFaults, IsSettled, Took};
+ghost use Rattle.std.specs.Prelude.{◌≡◌, ◌+◌, ◌*◌, ◌/◌, ◌^◌, ◌<◌, ◌≤◌, ℕ, List, [], length, take, IfOk, IfErr, MatchResult, OnOk};
+ghost use Rattle.dsp_ports.specs.Ports.{CountsFaults, IsSettled, Took};
 ghost use Rattle.dsp_defs.specs.Block.{Frame};
-ghost use Rattle.dsp_defs.specs.Counts.{Counts};
-ghost use Rattle.dsp_defs.specs.Output.{live_bytes, output_pad, whole_bytes};
-ghost use Rattle.dsp_session.specs.Session.{IsReady, StandsFor, SameSession, frame_bytes, measured, measures_of, whole_values};
-ghost use Rattle.dsp_session.specs.Stream.{Stopped, StaysRefused, Done};
-ghost use Rattle.dsp_session.specs.Passing.{HasPassed, Passed, WritesRest, TailCosts};
+ghost use Rattle.dsp_defs.specs.Output.{output_pad};
+ghost use Rattle.dsp_input.specs.Taking.{frame_bytes};
+ghost use Rattle.dsp_session.specs.Session.{IsReady, StandsFor, SameSession, block_bytes, measured, measures_of, products_of, whole_values};
+ghost use Rattle.dsp_chain.specs.Chain.{made_of};
+ghost use Rattle.dsp_session.specs.Passing.{WritesTail, TailCosts};
+ghost use Rattle.dsp_session.specs.Advancing.{Runs, Closed, FailsToClose, whole_front};
 
 use crate::fault::{LengthFault, StreamFault};
-use crate::opening::{frame_bytes, known_frames};
 use crate::streaming::{Last, pass_block};
 use crate::worker::Worker;
 use dsp_defs::{Container, Header, Script, Steps, WindowFault};
+use dsp_input::{frame_bytes, known_frames};
 use dsp_ports::{Failed, Sink, write_all};
 use dsp_script::{frames_given, output_flow};
 use dsp_stage::AnyUnit;
@@ -28,11 +29,11 @@ fn write_tail<U: AnyUnit + Drop, K: Sink, L: Ledger>(
     requires { (x : List Frame) → StandsFor worker.old x
         → length (whole_values worker.old.script x) ≤ frames }
     ensures same { SameSession worker.old worker.new }
-    ensures written { (x : List Frame) → StandsFor worker.old x
-        → WritesRest result (live_bytes worker.old.script x) (whole_bytes worker.old.script x)
-        (K.state output.old) (K.state output.new) }
+    ensures written { WritesTail result worker.old [] (K.state output.old) (K.state output.new) }
     ensures costs { (x : List Frame) → StandsFor worker.old x
         → TailCosts result worker.old.script (length x) steps.old steps.new }
+    ensures limit { steps.new.multiplies + made_of worker.old.chain
+        ≤ steps.old.multiplies + products_of worker.old.script worker.old.chain.frames }
     ensures measures { (x : List Frame) → StandsFor worker.old x
         → OnOk result (measured worker.new ≡ measures_of worker.old.script x) }
     ensures faults { CountsFaults result (K.state output.old).faults (K.state output.new).faults }
@@ -76,12 +77,12 @@ fn write_end<U: AnyUnit + Drop, K: Sink, L: Ledger>(
     requires { (x : List Frame) → StandsFor worker.old x
         → length (whole_values worker.old.script x) ≤ frames }
     ensures same { SameSession worker.old worker.new }
-    ensures written { (x : List Frame) → StandsFor worker.old x
-        → WritesRest result (live_bytes worker.old.script x)
-        (whole_bytes worker.old.script x ++ output_pad worker.old.script header)
+    ensures written { WritesTail result worker.old (output_pad worker.old.script header)
         (K.state output.old) (K.state output.new) }
     ensures costs { (x : List Frame) → StandsFor worker.old x
         → TailCosts result worker.old.script (length x) steps.old steps.new }
+    ensures limit { steps.new.multiplies + made_of worker.old.chain
+        ≤ steps.old.multiplies + products_of worker.old.script worker.old.chain.frames }
     ensures measures { (x : List Frame) → StandsFor worker.old x
         → OnOk result (measured worker.new ≡ measures_of worker.old.script x) }
     ensures settled { OnOk result (IsSettled (K.state output.new)) }
@@ -102,20 +103,19 @@ pub fn close<U: AnyUnit + Drop, K: Sink, L: Ledger>(
     output: &mut K,
     steps: &mut Steps<L>,
 ) -> Result<(), StreamFault>
-    requires { HasPassed worker.old header block.now last }
+    requires runs { Runs worker.old }
+    requires coding { worker.old.coding ≡ header.coding }
+    requires block { length block.now ≡ block_bytes worker.old.script header.coding worker.old.block }
+    requires short { last.count < length block.now }
+    requires frames { worker.old.chain.frames * frame_bytes worker.old.script header.coding ≡ last.before }
+    requires limit { last.before + last.count ≤ 2 ^ 40 }
     ensures same { SameSession worker.old worker.new }
-    ensures ok { (before now : SourceState) (empty : SinkState) (start : Counts)
-        → Passed worker.old.script worker.old.block worker.old header block.now last before now
-        empty (K.state output.old) start steps.old
-        → IfOk result (λ _. Done worker.old.script worker.old.block
-        ((last.before + last.count) / frame_bytes worker.old.script header.coding) before now empty
-        (K.state output.new) start steps.new (measured worker.new)) }
-    ensures err { (before now : SourceState) (empty : SinkState) (start : Counts)
-        → Passed worker.old.script worker.old.block worker.old header block.now last before now
-        empty (K.state output.old) start steps.old
-        → IfErr result (λ fault. Stopped worker.old.script worker.old.block fault before now empty
-        (K.state output.new) start steps.new) }
-    ensures refused { IfErr result (λ fault. StaysRefused fault worker.new) }
+    ensures ok { IfOk result (λ _. Closed worker.old worker.new header
+        (whole_front worker.old.script header last.count block.now) (K.state output.old)
+        (K.state output.new) steps.old steps.new) }
+    ensures err { IfErr result (λ fault. FailsToClose worker.old worker.new header
+        (whole_front worker.old.script header last.count block.now) fault (K.state output.old)
+        (K.state output.new) steps.old steps.new) }
 {
     let frame = frame_bytes(worker.script(), header.coding) as usize;
     let count = last.count / frame;

@@ -1,4 +1,9 @@
+ghost use Rattle.std.specs.Prelude.{◌≡◌};
+ghost use Rattle.dsp_session.specs.declared.fault.PartFault.TheVariants.{Stream};
+ghost use Rattle.dsp_session.specs.Opening.{of_input};
+
 use dsp_defs::HeaderFault;
+use dsp_input::InputFault;
 use thiserror::Error;
 
 /// Which length is past its limit.
@@ -33,4 +38,44 @@ pub enum StreamFault {
     /// The output failed.
     #[error("the output failed")]
     Output,
+}
+
+impl From<InputFault> for StreamFault {
+    ghost from_gives = { λ error e. e ≡ of_input error };
+
+    fn from(error: InputFault) -> StreamFault {
+        match error {
+            InputFault::Header { fault, offset } => StreamFault::Header { fault, offset },
+            InputFault::Limit { taken, limit } => {
+                StreamFault::Lengths(LengthFault::Input { taken, limit })
+            }
+            InputFault::Failed => StreamFault::Input,
+        }
+    }
+}
+
+/// Why a stream over a part of the input stopped before its end.
+#[derive(Clone, Copy, Debug, PartialEq, Eq, Error)]
+pub enum PartFault {
+    /// The input has so many frames, fewer than the part ends or begins at.
+    #[error("{got} frames, of which {at} are taken or passed over")]
+    Behind { at: u32, got: u64 },
+    #[error("{0}")]
+    Stream(StreamFault),
+}
+
+impl From<StreamFault> for PartFault {
+    ghost from_gives = { λ fault e. e ≡ Stream fault };
+
+    fn from(fault: StreamFault) -> PartFault {
+        PartFault::Stream(fault)
+    }
+}
+
+impl From<InputFault> for PartFault {
+    ghost from_gives = { λ error e. e ≡ Stream (of_input error) };
+
+    fn from(error: InputFault) -> PartFault {
+        PartFault::Stream(StreamFault::from(error))
+    }
 }

@@ -5,10 +5,12 @@
 mod closing;
 mod fault;
 mod opening;
+mod resuming;
 mod session;
 mod streaming;
 mod worker;
 
-pub use fault::{LengthFault, StreamFault};
+pub use fault::{LengthFault, PartFault, StreamFault};
+pub use resuming::{stream_first, stream_rest};
 pub use session::Session;
 pub use streaming::{Totals, stream};

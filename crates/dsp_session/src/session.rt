@@ -1,11 +1,17 @@
-ghost use Rattle.std.specs.Prelude.{◌≡◌, ◌+◌, ◌*◌, ◌^◌, ◌<◌, ◌≤◌, ◌↔◌, [], Some, None, length, slice_get, IfOk, IfErr, IsErr, IsFalse};
+ghost use Rattle.std.specs.Prelude.{◌≡◌, ◌+◌, ◌*◌, ◌^◌, ◌<◌, ◌≤◌, ◌↔◌, List, [], Some, None, length, slice_get, IfOk, IfErr, IsErr, IsFalse};
 ghost use Rattle.std.specs.Option.{option_map};
 ghost use Rattle.dsp_defs.specs.Bytes.{format_in};
 ghost use Rattle.dsp_defs.specs.Shape.{gathered, held, window_at};
 ghost use Rattle.dsp_defs.specs.declared.fault.GatherFull.{GatherFull};
 ghost use Rattle.dsp_defs.specs.declared.fault.WindowFault.{WindowFault};
 ghost use Rattle.dsp_chain.specs.Row.{measure_counts};
-ghost use Rattle.dsp_session.specs.Session.{IsReady, IsNew, SameSession, StandsFor, Feeds, Fails, IsTooMuch, Ends, measured, signal, frame_bytes};
+ghost use Rattle.dsp_chain.specs.Keeping.{Fits, kept, kept_count};
+ghost use Rattle.dsp_input.specs.Taking.{frame_bytes};
+ghost use Rattle.dsp_session.specs.Keeping.{Restores};
+ghost use Rattle.dsp_session.specs.Advancing.{Runs};
+ghost use Rattle.dsp_chain.specs.Restored.{kept_of};
+ghost use Rattle.dsp_defs.specs.Block.{Frame};
+ghost use Rattle.dsp_session.specs.Session.{IsReady, IsNew, SameSession, StandsFor, Feeds, Fails, IsTooMuch, Ends, measured, signal};
 
 use crate::worker::Worker;
 use dsp_defs::{Coding, GatherFull, Measure, Script, Steps, WindowFault};
@@ -115,6 +121,50 @@ impl<'s, U: AnyUnit + Drop> Session<'s, U> {
         ensures ends { Ends self.old self.new result steps.old steps.new }
     {
         self.worker.end(steps)
+    }
+
+    /// How many numbers the script's blocks keep of so many frames.
+    pub fn kept_count_of(&self, frames: u64) -> u128
+        requires { frames ≤ 2 ^ 40 }
+        ensures { result ≡ kept_count self.now.script frames }
+    {
+        self.worker.kept_count_of(frames)
+    }
+
+    /// The samples of a channel that the correlation would gather of so many frames, or 0 without one.
+    pub fn gathered(&self, frames: u64) -> u64
+        requires { frames ≤ 2 ^ 40 }
+        ensures { result ≡ gathered self.now.script.blocks frames }
+    {
+        self.worker.gathered(frames)
+    }
+
+    /// How many numbers the script's blocks keep of what they have taken.
+    pub fn kept_count(&self) -> usize
+        ensures count { result ≡ length (kept_of self.now.chain) }
+        ensures frames { IsFalse self.now.chain.ended
+            → result ≡ kept_count self.now.script self.now.chain.frames }
+    {
+        self.worker.kept_count()
+    }
+
+    /// Writes these numbers, block after block.
+    pub fn keep(&self, out: &mut [i64])
+        requires runs { Runs self.now }
+        requires length { length out.old ≡ length (kept_of self.now.chain) }
+        ensures { (x : List Frame) → StandsFor self.now x → out.new ≡ kept self.now.script x }
+    {
+        self.worker.keep(out);
+    }
+
+    /// Gives a new session the numbers that the blocks keep of so many frames, which count as taken.
+    pub fn restore(&mut self, frames: u64, numbers: &[i64])
+        requires new { StandsFor self.old [] }
+        requires few { frames ≤ 2 ^ 40 }
+        requires fits { Fits self.old.script frames numbers.now }
+        ensures { Restores self.old self.new frames numbers.now }
+    {
+        self.worker.restore(frames, numbers);
     }
 
     /// How many measures the script has: in the order of its blocks, then by channel.

@@ -1,19 +1,20 @@
-ghost use Rattle.std.specs.Prelude.{◌≡◌, ◌+◌, ◌*◌, ◌/◌, ◌^◌, ◌≤◌, [], List, length, IfOk, IfErr, IsFalse};
+ghost use Rattle.std.specs.Prelude.{◌≡◌, ◌+◌, ◌*◌, ◌/◌, ◌^◌, ◌≤◌, [], length, IfOk, IfErr};
 ghost use Rattle.dsp_ports.specs.Ports.{SourceState, SinkState};
-ghost use Rattle.dsp_defs.specs.Block.{Frame};
 ghost use Rattle.dsp_defs.specs.Shape.{frames_given};
-ghost use Rattle.dsp_session.specs.Session.{StandsFor, SameScript, SameSession, signal, frame_bytes, block_bytes, cost_of, measured};
+ghost use Rattle.dsp_input.specs.Taking.{InDeclared, declared_bytes, frame_bytes};
+ghost use Rattle.dsp_session.specs.Session.{StandsFor, SameScript, SameSession, signal, block_bytes, cost_of, measured};
 ghost use Rattle.dsp_session.specs.Opening.{Begun};
-ghost use Rattle.dsp_session.specs.Stream.{Stopped, StaysRefused, Done, declared_bytes, in_whole_frames};
-ghost use Rattle.dsp_session.specs.Passing.{InDeclared, BlockRead, Unread, Passes, FailsToPass, Passed};
+ghost use Rattle.dsp_session.specs.Stream.{Stopped, StaysRefused, Done};
+ghost use Rattle.dsp_session.specs.Advancing.{Runs, PassesOn, FailsToPassOn, Reached, Broke};
 
 use crate::closing::close;
 use crate::fault::{LengthFault, StreamFault};
-use crate::opening::{frame_bytes, open};
+use crate::opening::open;
 use crate::session::Session;
 use crate::worker::Worker;
-use dsp_defs::{Coding, GatherFull, Header, HeaderFault, MAX_INPUT, Script, Steps};
-use dsp_ports::{FillFault, Sink, Source, fill, write_all};
+use dsp_defs::{GatherFull, Header, Steps};
+use dsp_input::{frame_bytes, read_block};
+use dsp_ports::{Sink, Source, write_all};
 use dsp_script::{cost, frames_given};
 use dsp_stage::AnyUnit;
 use std::sync::ledger::Ledger;
@@ -34,56 +35,18 @@ pub struct Last {
     pub count: usize,
 }
 
-/// Takes the next block of samples: less than a block where the samples end.
-fn read_block<S: Source>(
-    script: &Script,
-    header: Header,
-    taken: u64,
-    block: &mut [u8],
-    input: &mut S,
-) -> Result<usize, StreamFault>
-    requires limit { header.start + taken ≤ 2 ^ 40 }
-    requires frame { 1 ≤ frame_bytes script.now header.coding }
-    requires declared { InDeclared (declared_bytes script.now header) taken }
-    ensures ok { IfOk result (λ count. BlockRead script.now header taken block.new count
-        (S.state input.old) (S.state input.new)) }
-    ensures err { IfErr result (λ fault.
-        Unread script.now header taken (length block.old) fault (S.state input.old)
-        (S.state input.new)) }
-{
-    let left = match header.size {
-        Some(size) => in_whole_frames(script, header.coding, size) - taken,
-        None => u64::MAX,
-    };
-    let want = left.min(block.len() as u64) as usize;
-    match fill(input, &mut block[..want], MAX_INPUT - header.start - taken) {
-        Ok(count) => match header.size {
-            Some(declared) if count < want => {
-                let got = taken + count as u64;
-                Err(StreamFault::Header {
-                    fault: HeaderFault::Short { declared, got },
-                    offset: header.start + got,
-                })
-            }
-            _ => Ok(count),
-        },
-        Err(FillFault::Failed) => Err(StreamFault::Input),
-        Err(FillFault::LimitReached) => Err(StreamFault::Lengths(LengthFault::Input {
-            taken: MAX_INPUT,
-            limit: MAX_INPUT,
-        })),
-    }
+/// A part of the samples: so many of their bytes lie before it, and it ends behind so many.
+#[derive(Clone, Copy)]
+pub struct Span {
+    pub from: u64,
+    pub end: u64,
 }
 
-/// The bytes of the whole frames among so many bytes.
-fn in_whole_frames(script: &Script, coding: Coding, size: u32) -> u64
-    requires { 1 ≤ frame_bytes script.now coding }
-    ensures value { result ≡ in_whole_frames script.now coding size }
-    ensures few { result ≤ size }
-{
-    let frame = frame_bytes(script, coding);
-    u64::from(size) / frame * frame
-}
+/// All samples.
+pub const WHOLE: Span = Span {
+    from: 0,
+    end: u64::MAX,
+};
 
 /// Works on the frames of some bytes, and writes the live values that they add.
 pub fn pass_block<U: AnyUnit + Drop, K: Sink, L: Ledger>(
@@ -92,7 +55,7 @@ pub fn pass_block<U: AnyUnit + Drop, K: Sink, L: Ledger>(
     output: &mut K,
     steps: &mut Steps<L>,
 ) -> Result<(), StreamFault>
-    requires running { IsFalse worker.old.chain.ended }
+    requires runs { Runs worker.old }
     requires whole { length bytes.now ≡ length
         (signal worker.old.script worker.old.coding bytes.now) * frame_bytes worker.old.script
         worker.old.coding }
@@ -100,14 +63,10 @@ pub fn pass_block<U: AnyUnit + Drop, K: Sink, L: Ledger>(
     requires count { worker.old.chain.frames + length
         (signal worker.old.script worker.old.coding bytes.now) ≤ 2 ^ 40 }
     ensures same { SameSession worker.old worker.new }
-    ensures ok { (x : List Frame) → StandsFor worker.old x
-        → IfOk result (λ _. Passes worker.old.script worker.old.coding x bytes.now worker.new
-        (K.state output.old) (K.state output.new) steps.old steps.new) }
-    ensures err { (x : List Frame) → StandsFor worker.old x → IfErr result (λ fault.
-        FailsToPass fault worker.old.script worker.old.coding x bytes.now (K.state output.old)
+    ensures ok { IfOk result (λ _. PassesOn worker.old worker.new bytes.now (K.state output.old)
         (K.state output.new) steps.old steps.new) }
-    ensures refused { (x : List Frame) → StandsFor worker.old x
-        → IfErr result (λ fault. StaysRefused fault worker.new) }
+    ensures err { IfErr result (λ fault. FailsToPassOn fault worker.old worker.new bytes.now
+        (K.state output.old) (K.state output.new) steps.old steps.new) }
 {
     match worker.feed(bytes, steps) {
         Ok(_) => {}
@@ -121,34 +80,35 @@ pub fn pass_block<U: AnyUnit + Drop, K: Sink, L: Ledger>(
     }
 }
 
-/// Works on block after block until the samples end.
-fn pass_blocks<U: AnyUnit + Drop, S: Source, K: Sink, L: Ledger>(
+/// Works on block after block until the samples end, or the part of them.
+pub fn pass_blocks<U: AnyUnit + Drop, S: Source, K: Sink, L: Ledger>(
     worker: &mut Worker<'_, U>,
     block: &mut [u8],
     header: Header,
+    span: Span,
     input: &mut S,
     output: &mut K,
     steps: &mut Steps<L>,
 ) -> Result<Last, StreamFault>
-    requires new { StandsFor worker.old [] }
+    requires runs { Runs worker.old }
     requires block { length block.old ≡ block_bytes worker.old.script worker.old.coding worker.old.block }
     requires coding { worker.old.coding ≡ header.coding }
-    requires start { header.start ≤ 2 ^ 40 }
+    requires start { header.start + span.from ≤ 2 ^ 40 }
+    requires declared { InDeclared (declared_bytes worker.old.script header) span.from }
+    requires frames { worker.old.chain.frames * frame_bytes worker.old.script header.coding ≤ span.from }
+    requires part { span.from ≤ span.end }
     ensures same { SameSession worker.old worker.new }
-    ensures ok { (before : SourceState) (empty : SinkState)
-        → Begun worker.old.script header before (S.state input.old) empty (K.state output.old)
-        → IfOk result (λ last. Passed worker.old.script worker.old.block worker.new header block.new
-        last before (S.state input.new) empty (K.state output.new) steps.old steps.new) }
-    ensures err { (before : SourceState) (empty : SinkState)
-        → Begun worker.old.script header before (S.state input.old) empty (K.state output.old)
-        → IfErr result (λ fault. Stopped worker.old.script worker.old.block fault before
-        (S.state input.new) empty (K.state output.new) steps.old steps.new) }
-    ensures refused { IfErr result (λ fault. StaysRefused fault worker.new) }
+    ensures ok { IfOk result (λ last. Reached worker.old worker.new header span block.new last
+        (S.state input.old) (S.state input.new) (K.state output.old) (K.state output.new) steps.old
+        steps.new) }
+    ensures err { IfErr result (λ fault. Broke worker.old worker.new header span fault
+        (S.state input.old) (S.state input.new) (K.state output.old) (K.state output.new) steps.old
+        steps.new) }
 {
     let script = worker.script();
-    let mut taken = 0;
+    let mut taken = span.from;
     'passing: loop {
-        let count = read_block(script, header, taken, block, input)?;
+        let count = read_block(script, header, span.end, taken, block, input)?;
         if count < block.len() {
             return Ok(Last {
                 before: taken,
@@ -190,7 +150,7 @@ fn stream_samples<U: AnyUnit + Drop, S: Source, K: Sink, L: Ledger>(
 {
     let size = worker.block_bytes();
     let block = &mut room[..size];
-    let last = pass_blocks(worker, block, header, input, output, steps)?;
+    let last = pass_blocks(worker, block, header, WHOLE, input, output, steps)?;
     close(worker, block, last, header, output, steps)?;
     Ok((last.before + last.count as u64) / frame_bytes(worker.script(), header.coding))
 }

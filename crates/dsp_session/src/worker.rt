@@ -1,4 +1,4 @@
-ghost use Rattle.std.specs.Prelude.{◌≡◌, ◌+◌, ◌*◌, ◌/◌, ◌^◌, ◌<◌, ◌≤◌, ◌↔◌, length, take, drop, flat_map, All, IfOk, IfErr, IsErr, IsFalse, Some, None, slice_get};
+ghost use Rattle.std.specs.Prelude.{◌≡◌, ◌+◌, ◌*◌, ◌/◌, ◌^◌, ◌<◌, ◌≤◌, ◌↔◌, List, [], length, take, drop, flat_map, All, IfOk, IfErr, IsErr, IsFalse, Some, None, slice_get};
 ghost use Rattle.std.specs.Option.{option_map};
 ghost use Rattle.dsp_defs.specs.Bytes.{IsValue, bytes_of, format_in, sample_of, width};
 ghost use Rattle.dsp_defs.specs.Shape.{gathered, held, window_at};
@@ -6,11 +6,17 @@ ghost use Rattle.dsp_defs.specs.Signal.{values};
 ghost use Rattle.dsp_defs.specs.declared.fault.GatherFull.{GatherFull};
 ghost use Rattle.dsp_defs.specs.declared.fault.WindowFault.{WindowFault};
 ghost use Rattle.dsp_chain.specs.Row.{measure_counts};
-ghost use Rattle.dsp_session.specs.Session.{IsReady, IsNew, SameScript, SameSession, Feeds, Fails, IsTooMuch, Ends, block_bytes, measured, signal, frame_bytes};
+ghost use Rattle.dsp_chain.specs.Keeping.{Fits, kept, kept_count};
+ghost use Rattle.dsp_input.specs.Taking.{frame_bytes};
+ghost use Rattle.dsp_session.specs.Keeping.{Restores};
+ghost use Rattle.dsp_session.specs.Advancing.{Runs};
+ghost use Rattle.dsp_chain.specs.Restored.{kept_of};
+ghost use Rattle.dsp_defs.specs.Block.{Frame};
+ghost use Rattle.dsp_session.specs.Session.{IsReady, IsNew, StandsFor, SameScript, SameSession, Feeds, Fails, IsTooMuch, Ends, block_bytes, measured, signal};
 
-use crate::opening::frame_bytes;
 use dsp_chain::Chain;
 use dsp_defs::{GatherFull, Measure, Script, Steps, WindowFault};
+use dsp_input::frame_bytes;
 use dsp_script::output_flow;
 use dsp_stage::{AnyUnit, Stage};
 use dsp_wave::{Coding, coding_of, decode, encode, width};
@@ -209,6 +215,50 @@ impl<'s, U: AnyUnit + Drop> Worker<'s, U> {
             self.bytes.as_mut_slice(),
         );
         self.given
+    }
+
+    /// How many numbers the blocks keep of so many frames.
+    pub fn kept_count_of(&self, frames: u64) -> u128
+        requires { frames ≤ 2 ^ 40 }
+        ensures { result ≡ kept_count self.now.script frames }
+    {
+        self.chain.kept_count_of(frames)
+    }
+
+    /// The samples of a channel that the correlation would gather of so many frames.
+    pub fn gathered(&self, frames: u64) -> u64
+        requires { frames ≤ 2 ^ 40 }
+        ensures { result ≡ gathered self.now.script.blocks frames }
+    {
+        self.chain.gathered(frames)
+    }
+
+    /// Writes the numbers that the blocks keep.
+    pub fn keep(&self, out: &mut [i64])
+        requires runs { Runs self.now }
+        requires length { length out.old ≡ length (kept_of self.now.chain) }
+        ensures { (x : List Frame) → StandsFor self.now x → out.new ≡ kept self.now.script x }
+    {
+        self.chain.keep(out);
+    }
+
+    /// How many numbers the blocks keep.
+    pub fn kept_count(&self) -> usize
+        ensures count { result ≡ length (kept_of self.now.chain) }
+        ensures frames { IsFalse self.now.chain.ended
+            → result ≡ kept_count self.now.script self.now.chain.frames }
+    {
+        self.chain.kept_count()
+    }
+
+    /// Gives a new worker the numbers that the blocks keep of so many frames, which count as taken.
+    pub fn restore(&mut self, frames: u64, numbers: &[i64])
+        requires new { StandsFor self.old [] }
+        requires few { frames ≤ 2 ^ 40 }
+        requires fits { Fits self.old.script frames numbers.now }
+        ensures { Restores self.old self.new frames numbers.now }
+    {
+        self.chain.restore(frames, numbers);
     }
 
     /// How many measures the blocks have.

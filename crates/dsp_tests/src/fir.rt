@@ -65,6 +65,21 @@ fn fir_goes_on<M: Ledger>(rt: &impl Abort, alloc: Global, steps: &mut Steps<M>) 
     assert_same!(rt; output, [2]);
 }
 
+/// Another FIR filter of the same taps gives what the first would have given.
+fn fir_goes_on_in_another<M: Ledger>(rt: &impl Abort, alloc: Global, steps: &mut Steps<M>) {
+    let mut output = [0i16; 2];
+    let mut kept = [0i64; 1];
+    let mut first = Fir::<i16, 8>::new(alloc, &[8192, 16384], 2).expect(rt, "a filter");
+    first.process(&[4, 8], &mut output, steps);
+    first.keep(&mut kept);
+    let mut second = Fir::<i16, 8>::new(alloc, &[8192, 16384], 2).expect(rt, "a filter");
+    assert!(rt; second.fits(&kept));
+    second.restore(&kept);
+    second.process(&[0], &mut output, steps);
+    assert_same!(rt; kept, [8]);
+    assert_same!(rt; output, [2, 5]);
+}
+
 /// A FIR filter keeps as many numbers as its past has samples, each of its format, and has no tail.
 fn fir_ends<M: Ledger>(rt: &impl Abort, alloc: Global, steps: &mut Steps<M>) {
     let mut filter = Fir::<i16, 8>::new(alloc, &[8192, 16384], 2).expect(rt, "a filter");
@@ -153,6 +168,7 @@ pub(crate) fn counted<M: Ledger>(rt: &impl Abort, alloc: Global, steps: &mut Ste
     few_turns(rt, alloc, steps);
     fir_keeps(rt, alloc, steps);
     fir_goes_on(rt, alloc, steps);
+    fir_goes_on_in_another(rt, alloc, steps);
     fir_ends(rt, alloc, steps);
     sparse_keeps(rt, alloc, steps);
     sparse_goes_on(rt, alloc, steps);

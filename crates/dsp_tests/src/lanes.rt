@@ -148,6 +148,24 @@ fn no_samples<M: Ledger>(steps: &mut Steps<M>)
     let _sum = Lanes::<i16, 8>::dot(&[], &[], steps);
     Lanes::<i16, 8>::rows(&[1], &[], &mut [], steps);
     Lanes::<i16, 8>::delayed(1, &[], &mut [], steps);
+    Lanes::<i16, 8>::mac(1, &[], &mut [], steps);
+    Lanes::<i16, 8>::add(&[], &[], &mut []);
+    Lanes::<i16, 8>::sub(&[], &[], &mut []);
+    Lanes::<i16, 8>::offset(&[], 1, &mut []);
+    Lanes::<i16, 8>::negate(&[], &mut []);
+    Lanes::<i16, 8>::abs(&[], &mut []);
+    Lanes::<i16, 8>::shift(&[], 1, &mut []);
+    Lanes::<i16, 8>::clip(&[], 0, 1, &mut []);
+}
+
+/// Nine sums grow by their products, which wrap.
+fn grown_sums<M: Ledger>(rt: &impl Abort, steps: &mut Steps<M>) {
+    let mut sums = [i64::MAX; 9];
+    Lanes::<i16, 8>::mac(2, &[1, -1, 0, 3, 4, 5, 6, 7, -32768], &mut sums, steps);
+    assert_same!(rt; sums[0], i64::MIN + 1);
+    assert_same!(rt; sums[1], i64::MAX - 2);
+    assert_same!(rt; sums[2], i64::MAX);
+    assert_same!(rt; sums[8], i64::MAX - 65536);
 }
 
 /// The calls that count their products.
@@ -161,5 +179,6 @@ pub(crate) fn counted<M: Ledger>(rt: &impl Abort, steps: &mut Steps<M>) {
     q15_least(rt, steps);
     grown_weights(rt, steps);
     every_second(rt, steps);
+    grown_sums(rt, steps);
     no_samples(steps);
 }

@@ -136,7 +136,7 @@ impl FrameWork for Operation {
             Block::Route { channels } => Ok(Operation::Route {
                 channels: list_of(alloc, channels.as_slice())?,
             }),
-            _ => Err(AllocError),
+            _ => unreachable!(),
         }
     }
 

@@ -20,6 +20,7 @@ fn counted<L: Ledger>(
     input: &mut MemSource,
     output: &mut MemSink,
     report: &mut MemSink,
+    other: &mut MemSource,
     blank: Blank,
 ) -> u8
     requires name { blank.name ≡ L.name }
@@ -27,7 +28,9 @@ fn counted<L: Ledger>(
     requires ledger_parts { L.parts ≡ 2 }
 {
     let mut steps: Steps<L> = Steps::new(blank);
-    run::<BlockUnit, _, _, _, _, _>(alloc, words, script, input, output, report, &mut steps)
+    run::<BlockUnit, _, _, _, _, _, _>(
+        alloc, words, script, input, output, report, other, &mut steps,
+    )
 }
 
 /// How many of so many bytes were taken of a source: all but those that it still gives.
@@ -55,6 +58,7 @@ pub fn agrees(alloc: Global, case: &Case, command: &str) -> Result<bool, AllocEr
     let mut input = MemSource::new(alloc, &case.input, piece, &[ports.input])?;
     let mut output = MemSink::new(alloc, ports.room, piece, &[ports.output])?;
     let mut report = MemSink::new(alloc, REPORT, 500, &[ports.report])?;
+    let mut other = MemSource::new(alloc, &[], 1, &[])?;
     let status = counted::<Brand>(
         alloc,
         &words,
@@ -62,6 +66,7 @@ pub fn agrees(alloc: Global, case: &Case, command: &str) -> Result<bool, AllocEr
         &mut input,
         &mut output,
         &mut report,
+        &mut other,
         Blank::new(2),
     );
     let is_taken = match ports.taken {

@@ -2,3 +2,4 @@ pub mod SampleBytes
 pub mod GeneratorLemmas
 pub mod FormatLaws
 pub mod ReaderLaws
+pub mod OpenLaws

@@ -11,7 +11,8 @@ use Rattle.std.specs.Option.{is_none}
 use Rattle.std.specs.Str.{bytes_eq}
 use Rattle.dsp_ports.specs.Ports.{SourceState, one_more}
 use Rattle.dsp_ports.specs.Fill.{Filled, Unfilled}
-use Rattle.dsp_ports.specs.declared.filling.FillFault.TheVariants.{Failed}
+use Rattle.dsp_ports.specs.declared.filling.FillFault.{FillFault}
+use Rattle.dsp_ports.specs.declared.filling.FillFault.TheVariants.{Failed, LimitReached}
 use Rattle.std.specs.Result.{IsErr}
 use Rattle.dsp_ports.proofs.Moved.{Gave-append, Gave-nil}
 use Rattle.dsp_defs.specs.Wave.{Chunk, Test, first_failed, pcm_tests, sample_tests, extensible_tag, sampling, chunks_behind, padded, u16_at, u32_at, format_fault, unless, header_in, header_of, declared_size}
@@ -23,7 +24,7 @@ use Rattle.dsp_defs.specs.declared.wave.HeaderFault.{HeaderFault}
 use Rattle.dsp_defs.specs.declared.wave.HeaderFault.TheVariants.{NotRiff, NotWave, NoFormat, FormatSize, NoSamples}
 use Rattle.dsp_wave.specs.declared.reader.HeaderOr.{HeaderOr}
 use Rattle.dsp_wave.specs.declared.reader.HeaderOr.TheVariants.{Fault, Read, Long}
-use Rattle.dsp_wave.specs.Reading.{Says, said_from, HasCause, Stopped, Headed}
+use Rattle.dsp_wave.specs.Reading.{Says, IsHeaderOf, said_from, HasCause, Stopped, Headed, IsCut}
 use Rattle.dsp_wave.specs.Taking.{Came, IsMissed, Missing, FormatRead, IsEnough, format_chunk, said_behind}
 
 -- ---- pieces, one after another
@@ -66,7 +67,7 @@ module _ (says : Says) (place : ℕ) (old now : SourceState) where
   caused : (error : HeaderOr) (bytes : List ℕ) → says bytes ≡ Err (NoSamples, place + length bytes) → IsMissed error place old now bytes → HasCause error says place old now bytes
   caused (Fault fault offset) bytes said missed =
       (inr (missed.2, said ∙ ap₂ {C = Result Header (HeaderFault × ℕ)} (λ (f : HeaderFault) (o : ℕ). Err (f, o)) (sym missed.0) (sym missed.1)), missed.3)
-  caused Read bytes said missed = (missed.0, missed.1, subst IsErr (sym said) refl)
+  caused Read bytes said missed = (missed.0, missed.1, subst IsErr (sym said) refl, inr said)
   caused Long bytes said missed = (missed.0, said ∙ ap {B = Result Header (HeaderFault × ℕ)} (λ (o : ℕ). Err (NoSamples, o)) missed.0, missed.1)
 
   -- fewer bytes came than any header needs
@@ -100,7 +101,7 @@ bytes_eq-same xs ys e = grind (arith, common_steps, bytes_eq-Decides xs ys, e)
 -- ---- as much of a `fmt ` chunk as is judged
 
 -- of a body that goes on, as much as a chunk has begins with it
-longer_piece : (size : ℕ) (body more : List ℕ) → length body ≤ size → (rest : List ℕ) × (take size (body ++ more) ≡ body ++ rest)
+pub longer_piece : (size : ℕ) (body more : List ℕ) → length body ≤ size → (rest : List ℕ) × (take size (body ++ more) ≡ body ++ rest)
 longer_piece size body more within =
     let parts : size ≡ length body + (size - length body) = omega (arith, within) in
     (take (size - length body) more, ap (λ n. take n (body ++ more)) parts ∙ take-append-add body more (size - length body))
@@ -325,19 +326,23 @@ module _ (wanted : Wanted) (place : ℕ) (head : List ℕ) (long : length head �
               passes_short None (Some (sampling wanted (format_chunk place size body))) (body ++ more) (good_passes more) (omega (arith, short, counted, length-append body more))
               ∙ ap (λ (end : ℕ). Err (NoSamples, end)) (total (body ++ more))
 
+          pub rest_all : (old mid now : SourceState) (rest : List ℕ) → Came (place + 8) count old mid body → Came (place + 8 + count) (padded size - count) mid now rest → Came (place + 8) (padded size) old now (body ++ rest)
+          rest_all old mid now rest first second =
+              let within : count ≤ size = omega (arith, counted, enough.within) in
+              let all : count + (padded size - count) ≡ padded size = omega (arith, within) in
+              rw all at (both_came (place + 8) count (padded size - count) old mid now body rest first second)
+
+          pub rest_said : (rest more : List ℕ) → length (body ++ rest) ≡ padded size
+              → said_behind wanted place head ((body ++ rest) ++ more) ≡ said_from wanted (place + 8 + padded size) (Some (sampling wanted (format_chunk place size body))) more
+          rest_said rest more whole =
+              passes_whole None (Some (sampling wanted (format_chunk place size body))) (body ++ rest) more whole
+              (λ total cs. ap (λ b. header_in wanted total None (chunk b ∷ cs)) (append_assoc body rest more) ∙ good_passes (rest ++ more) total cs)
+
           pub rest_came : (old mid now : SourceState) (rest : List ℕ) → Came (place + 8) count old mid body → Came (place + 8 + count) (padded size - count) mid now rest
               → FormatRead wanted place head old now (sampling wanted (format_chunk place size body))
           rest_came old mid now rest first second =
-              let within : count ≤ size = omega (arith, counted, enough.within) in
-              let all : count + (padded size - count) ≡ padded size = omega (arith, within) in
-              let came = rw all at (both_came (place + 8) count (padded size - count) old mid now body rest first second) in
-              record {
-                body = body ++ rest;
-                came = came;
-                said =
-                    λ more. passes_whole None (Some (sampling wanted (format_chunk place size body))) (body ++ rest) more came.long
-                    (λ total cs. ap (λ b. header_in wanted total None (chunk b ∷ cs)) (append_assoc body rest more) ∙ good_passes (rest ++ more) total cs);
-              }
+              let came = rest_all old mid now rest first second in
+              record { body = body ++ rest; came = came; said = λ more. rest_said rest more came.long }
 
 -- ---- the first twelve bytes
 
@@ -375,16 +380,20 @@ short_file wanted bytes short = by_riff (bytes_eq (take 4 bytes) (codes "RIFF"))
     by_riff true is = subst IsErr (sym (not_wave wanted bytes is (differs (take 4 (drop 8 bytes)) (codes "WAVE") few))) refl
 
 -- the source has failed within them
-pub fails_riff : (wanted : Wanted) (old now : SourceState) → Unfilled old now 12 (2 ^ 40) Failed → Stopped (λ bytes. header_of bytes wanted) 0 old now Read
-fails_riff wanted old now u =
+pub fails_riff : (says : Says) → IsHeaderOf says → (old now : SourceState) → Unfilled old now 12 (2 ^ 40) Failed → Stopped says 0 old now Read
+fails_riff says by_header old now u =
     record {
       bytes = u.bytes;
       gave = u.gave;
       in_limit = omega (arith, u.in_room);
-      cause = (u.cause.0, omega (arith, u.cause.1), short_file wanted u.bytes u.short);
+      cause = (u.cause.0, omega (arith, u.cause.1), (let (wanted, is) = by_header u.bytes in subst IsErr (sym is) (short_file wanted u.bytes u.short)), inl (omega (arith, u.short)));
     }
 
-module _ (wanted : Wanted) (old now : SourceState) (block : List ℕ) (count : ℕ) (twelve : length block ≡ 12) (filled : Filled old now block (2 ^ 40) count) where
+pub fails_any : (says : Says) → IsHeaderOf says → (old now : SourceState) (size room : ℕ) (fault : FillFault) → size ≡ 12 → room ≡ 2 ^ 40 → Unfilled old now size room fault → Stopped says 0 old now Read
+fails_any says by_header old now size room Failed twelve all u = fails_riff says by_header old now (rw (twelve, all) at u)
+fails_any says by_header old now size room LimitReached twelve all u = absurd (omega (arith, twelve, all, u.short, u.cause.1))
+
+module _ (says : Says) (by_header : IsHeaderOf says) (old now : SourceState) (block : List ℕ) (count : ℕ) (twelve : length block ≡ 12) (filled : Filled old now block (2 ^ 40) count) where
   abbrev first : List ℕ
   first = take count block
 
@@ -392,14 +401,14 @@ module _ (wanted : Wanted) (old now : SourceState) (block : List ℕ) (count : �
   first_long = length-take-le count block filled.within
 
   -- a fault that the first bytes have, where nothing comes behind them or there are twelve
-  stops_with : (fault : HeaderFault) (offset : ℕ) → ((more : List ℕ) → (count ≡ 12) ⊎ (more ≡ []) → header_of (first ++ more) wanted ≡ Err (fault, offset)) → Stopped (λ bytes. header_of bytes wanted) 0 old now (Fault fault offset)
+  stops_with : (fault : HeaderFault) (offset : ℕ) → ((more : List ℕ) → (count ≡ 12) ⊎ (more ≡ []) → says (first ++ more) ≡ Err (fault, offset)) → Stopped says 0 old now (Fault fault offset)
   stops_with fault offset said =
       record {
         bytes = first;
         gave = filled.gave;
         in_limit = omega (arith, first_long, filled.in_room);
         cause = (
-          ⊎_elim (λ less. inr (filled.end (omega (arith, less, twelve)), ap (λ bytes. header_of bytes wanted) (sym (append-nil first)) ∙ said [] (inr refl)))
+          ⊎_elim (λ less. inr (filled.end (omega (arith, less, twelve)), ap says (sym (append-nil first)) ∙ said [] (inr refl)))
               (λ all. inl (λ more. said more (inl (omega (arith, all, filled.within, twelve))))) (cases_lt count 12),
           filled.no_fault,
         );
@@ -412,20 +421,20 @@ module _ (wanted : Wanted) (old now : SourceState) (block : List ℕ) (count : �
   same_begin : 4 ≤ count → (more : List ℕ) → take 4 (first ++ more) ≡ take 4 block
   same_begin enough more = take-append-le 4 first more (omega (arith, enough, first_long)) ∙ take-take 4 count block enough
 
-  pub short_riff : count < 4 → Stopped (λ bytes. header_of bytes wanted) 0 old now (Fault NotRiff 0)
-  short_riff less = stops_with NotRiff 0 (λ more h. ap (λ bytes. header_of bytes wanted) (alone (omega (arith, less)) more h) ∙ not_riff wanted first (differs (take 4 first) (codes "RIFF") (omega (arith, take-no_longer 4 first, first_long, less))))
+  pub short_riff : count < 4 → Stopped says 0 old now (Fault NotRiff 0)
+  short_riff less = stops_with NotRiff 0 (λ more h. let (wanted, is) = by_header first in ap says (alone (omega (arith, less)) more h) ∙ is ∙ not_riff wanted first (differs (take 4 first) (codes "RIFF") (omega (arith, take-no_longer 4 first, first_long, less))))
 
-  pub other_riff : 4 ≤ count → bytes_eq (take 4 block) (codes "RIFF") ≡ false → Stopped (λ bytes. header_of bytes wanted) 0 old now (Fault NotRiff 0)
-  other_riff enough other = stops_with NotRiff 0 (λ more h. not_riff wanted (first ++ more) (ap (λ xs. bytes_eq xs (codes "RIFF")) (same_begin enough more) ∙ other))
+  pub other_riff : 4 ≤ count → bytes_eq (take 4 block) (codes "RIFF") ≡ false → Stopped says 0 old now (Fault NotRiff 0)
+  other_riff enough other = stops_with NotRiff 0 (λ more h. let (wanted, is) = by_header (first ++ more) in is ∙ not_riff wanted (first ++ more) (ap (λ xs. bytes_eq xs (codes "RIFF")) (same_begin enough more) ∙ other))
 
   module _ (enough : 4 ≤ count) (riff : bytes_eq (take 4 block) (codes "RIFF") ≡ true) where
     is_riff : (more : List ℕ) → bytes_eq (take 4 (first ++ more)) (codes "RIFF") ≡ true
     is_riff more = ap (λ xs. bytes_eq xs (codes "RIFF")) (same_begin enough more) ∙ riff
 
-    pub short_wave : count < 12 → Stopped (λ bytes. header_of bytes wanted) 0 old now (Fault NotWave 8)
+    pub short_wave : count < 12 → Stopped says 0 old now (Fault NotWave 8)
     short_wave less =
         let few : length (take 4 (drop 8 first)) < 4 = omega (arith, take-no_longer 4 (drop 8 first), length-drop 8 first, first_long, less, enough) in
-        stops_with NotWave 8 (λ more h. ap (λ bytes. header_of bytes wanted) (alone less more h) ∙ not_wave wanted first (ap (λ xs. bytes_eq (take 4 xs) (codes "RIFF")) (sym (append-nil first)) ∙ is_riff []) (differs (take 4 (drop 8 first)) (codes "WAVE") few))
+        stops_with NotWave 8 (λ more h. let (wanted, is) = by_header first in ap says (alone less more h) ∙ is ∙ not_wave wanted first (ap (λ xs. bytes_eq (take 4 xs) (codes "RIFF")) (sym (append-nil first)) ∙ is_riff []) (differs (take 4 (drop 8 first)) (codes "WAVE") few))
 
     module _ (all : 12 ≤ count) where
       whole_first : first ≡ block
@@ -437,8 +446,8 @@ module _ (wanted : Wanted) (old now : SourceState) (block : List ℕ) (count : �
           ∙ ap (take 4) (drop-append-le 8 block more (omega (arith, twelve)))
           ∙ take-append-le 4 (drop 8 block) more (omega (arith, length-drop 8 block, twelve))
 
-      pub other_wave : bytes_eq (take 4 (drop 8 block)) (codes "WAVE") ≡ false → Stopped (λ bytes. header_of bytes wanted) 0 old now (Fault NotWave 8)
-      other_wave other = stops_with NotWave 8 (λ more h. not_wave wanted (first ++ more) (is_riff more) (ap (λ xs. bytes_eq xs (codes "WAVE")) (behind_riff more) ∙ other))
+      pub other_wave : bytes_eq (take 4 (drop 8 block)) (codes "WAVE") ≡ false → Stopped says 0 old now (Fault NotWave 8)
+      other_wave other = stops_with NotWave 8 (λ more h. let (wanted, is) = by_header (first ++ more) in is ∙ not_wave wanted (first ++ more) (is_riff more) (ap (λ xs. bytes_eq xs (codes "WAVE")) (behind_riff more) ∙ other))
 
 -- ---- from a sooner place
 
@@ -453,7 +462,12 @@ module _ (says later : Says) (begin count place : ℕ) (here : place ≡ begin +
   cause_sooner : (error : HeaderOr) (bytes : List ℕ) → HasCause error later place mid now bytes → HasCause error says begin old now (front ++ bytes)
   cause_sooner (Fault fault offset) bytes (inl sure, clean) = (inl (λ more. said_sooner bytes more ∙ sure more), clean ∙ came.no_fault)
   cause_sooner (Fault fault offset) bytes (inr (end, sure), clean) = (inr (end, said bytes ∙ sure), clean ∙ came.no_fault)
-  cause_sooner Read bytes cause = (cause.0 ∙ ap one_more came.no_fault, omega (arith, cause.1, end bytes), subst IsErr (sym (said bytes)) cause.2)
+  cause_sooner Read bytes (rose, few, bad, cut) =
+      (rose ∙ ap one_more came.no_fault, omega (arith, few, end bytes), subst IsErr (sym (said bytes)) bad, cut_sooner cut)
+    where
+      cut_sooner : IsCut later place bytes → IsCut says begin (front ++ bytes)
+      cut_sooner (inl less) = inl (omega (arith, less, end bytes))
+      cut_sooner (inr is) = inr (said bytes ∙ is ∙ ap {B = Result Header (HeaderFault × ℕ)} (λ (o : ℕ). Err (NoSamples, o)) (sym (end bytes)))
   cause_sooner Long bytes cause = (omega (arith, cause.0, end bytes), said bytes ∙ cause.1, cause.2 ∙ came.no_fault)
 
   pub stopped_sooner : (error : HeaderOr) → Stopped later place mid now error → Stopped says begin old now error

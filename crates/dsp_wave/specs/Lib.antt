@@ -1,3 +1,4 @@
 pub mod Generated
 pub mod Reading
 pub mod Taking
+pub mod Opening

@@ -2,7 +2,7 @@
 use Rattle.std.specs.Prelude.{◌≡◌, ℕ, ◌+◌, ◌^◌, ◌<◌, ◌≤◌, ◌⊎◌, IsErr, List, ◌++◌, length, Option, Result, Ok, Err}
 use Rattle.std.specs.Io.KnownBytes.{IsAtEnd}
 use Rattle.dsp_ports.specs.Ports.{SourceState, one_more, Gave}
-use Rattle.dsp_defs.specs.Wave.{chunks_behind, header_in}
+use Rattle.dsp_defs.specs.Wave.{chunks_behind, header_in, header_of}
 use Rattle.dsp_defs.specs.declared.wave.Sampling.{Sampling}
 use Rattle.dsp_defs.specs.declared.wave.Wanted.{Wanted}
 use Rattle.dsp_defs.specs.declared.wave.Header.{Header}
@@ -19,15 +19,23 @@ Says = List ℕ → Result Header (HeaderFault × ℕ)
 abbrev pub said_from : Wanted → ℕ → Option Sampling → Says
 said_from wanted place known bytes = header_in wanted (place + length bytes) known (chunks_behind 0 place bytes)
 
+-- of all bytes this is what their header says, for something that is wanted, which may depend on the bytes
+abbrev pub IsHeaderOf : Says → Type 0
+IsHeaderOf says = (bytes : List ℕ) → (wanted : Wanted) × (says bytes ≡ header_of bytes wanted)
+
 -- the bytes say so whatever comes behind them, or they say so and are all there is
 abbrev pub IsSure : Says → SourceState → List ℕ → Result Header (HeaderFault × ℕ) → Type 0
 IsSure says now bytes answer = ((more : List ℕ) → says (bytes ++ more) ≡ answer) ⊎ (IsAtEnd now.left × (says bytes ≡ answer))
+
+-- the bytes are the begin of a header and have no fault but that they end; fewer than twelve have none for certain
+abbrev pub IsCut : Says → ℕ → List ℕ → Type 0
+IsCut says place bytes = (place + length bytes < 12) ⊎ (says bytes ≡ Err (NoSamples, place + length bytes))
 
 -- the cause of an end without a header: a fault that the bytes have, a source that has failed behind bytes that head no
 -- file, or 2^40 such bytes from the file's begin
 abbrev pub HasCause : HeaderOr → Says → ℕ → SourceState → SourceState → List ℕ → Type 0
 HasCause (Fault fault offset) says place old now bytes = IsSure says now bytes (Err (fault, offset)) × (now.faults ≡ old.faults)
-HasCause Read says place old now bytes = (now.faults ≡ one_more old.faults) × (place + length bytes < 2 ^ 40) × IsErr (says bytes)
+HasCause Read says place old now bytes = (now.faults ≡ one_more old.faults) × (place + length bytes < 2 ^ 40) × IsErr (says bytes) × IsCut says place bytes
 HasCause Long says place old now bytes = (place + length bytes ≡ 2 ^ 40) × (says bytes ≡ Err (NoSamples, 2 ^ 40)) × (now.faults ≡ old.faults)
 
 -- no header came: what was taken, and why

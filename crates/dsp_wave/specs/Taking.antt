@@ -1,9 +1,9 @@
 -- What is taken of a source for a piece of a header.
-use Rattle.std.specs.Prelude.{◌≡◌, ℕ, ◌+◌, ◌^◌, ◌<◌, ◌≤◌, List, [], ◌++◌, length, take, codes, true, Option, Some, None}
+use Rattle.std.specs.Prelude.{◌≡◌, ℕ, ◌+◌, ◌-◌, ◌^◌, ◌<◌, ◌≤◌, List, [], ◌++◌, length, take, codes, true, Option, Some, None}
 use Rattle.std.specs.Str.{bytes_eq}
 use Rattle.std.specs.Io.KnownBytes.{IsAtEnd}
 use Rattle.dsp_ports.specs.Ports.{SourceState, one_more, Gave}
-use Rattle.dsp_defs.specs.Wave.{Chunk, extensible_tag, header_of, padded, u16_at, u32_at}
+use Rattle.dsp_defs.specs.Wave.{Chunk, extensible_tag, format_fault, header_of, padded, sampling, u16_at, u32_at}
 use Rattle.dsp_defs.specs.declared.wave.Sampling.{Sampling}
 use Rattle.dsp_defs.specs.declared.wave.Wanted.{Wanted}
 use Rattle.dsp_defs.specs.declared.wave.HeaderFault.TheVariants.{NoSamples}
@@ -54,19 +54,30 @@ pub record IsEnough (size : ℕ) (body : List ℕ) : Type 0 where
 abbrev pub said_behind : Wanted → ℕ → List ℕ → Says
 said_behind wanted place head bytes = said_from wanted place None (head ++ bytes)
 
+-- of all bytes this is what they say behind them, for something that is wanted, which may depend on the bytes
+abbrev pub IsSaidBehind : ℕ → List ℕ → Says → Type 0
+IsSaidBehind place head says = (bytes : List ℕ) → (wanted : Wanted) × (says bytes ≡ said_behind wanted place head bytes)
+
 -- the rest of the chunk came, and says this of the samples
 pub record FormatRead (wanted : Wanted) (place : ℕ) (head : List ℕ) (old now : SourceState) (known : Sampling) : Type 0 where
   pub body : List ℕ
   pub came : Came (place + 8) (padded (u32_at head 4)) old now body
   pub said : (more : List ℕ) → said_behind wanted place head (body ++ more) ≡ said_from wanted (place + 8 + padded (u32_at head 4)) (Some known) more
 
+-- the chunk is good by what was taken of it, and its rest came
+pub record FormatRest (wanted : Wanted) (place : ℕ) (head body : List ℕ) (old now : SourceState) (known : Sampling) : Type 0 where
+  pub rest : List ℕ
+  pub came : Came (place + 8 + length body) (padded (u32_at head 4) - length body) old now rest
+  pub good : format_fault wanted 0 (format_chunk place (u32_at head 4) body) ≡ None
+  pub known_is : known ≡ sampling wanted (format_chunk place (u32_at head 4) body)
+
 -- ---- chunk after chunk
 
 -- the first 12 bytes came, and the file's chunks begin behind them
-pub record RiffRead (wanted : Wanted) (old now : SourceState) : Type 0 where
+pub record RiffRead (old now : SourceState) : Type 0 where
   pub bytes : List ℕ
   pub came : Came 0 12 old now bytes
-  pub said : (more : List ℕ) → header_of (bytes ++ more) wanted ≡ said_from wanted 12 None more
+  pub said : (wanted : Wanted) (more : List ℕ) → header_of (bytes ++ more) wanted ≡ said_from wanted 12 None more
 
 -- the chunk that came, up to the samples or to the chunk behind it
 abbrev pub Chunked : Wanted → ℕ → Option Sampling → SourceState → SourceState → Next → Type 0

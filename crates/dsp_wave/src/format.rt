@@ -1,10 +1,9 @@
 //! The `fmt ` chunk of a file.
 
-ghost use Rattle.std.specs.Prelude.{◌≡◌, ℕ, ◌+◌, ◌≤◌, ◌^◌, List, length, take, IfOk, IfErr};
+ghost use Rattle.std.specs.Prelude.{◌≡◌, ℕ, ◌+◌, ◌≤◌, ◌^◌, ◌++◌, List, length, take, IfOk, IfErr};
 ghost use Rattle.dsp_defs.specs.Wave.{first_failed, format_fault, padded, pcm_tests, sample_tests, sampling, u32_at};
-ghost use Rattle.dsp_defs.specs.declared.wave.Wanted.{Wanted};
-ghost use Rattle.dsp_wave.specs.Reading.{Stopped};
-ghost use Rattle.dsp_wave.specs.Taking.{Came, FormatRead, IsEnough, IsFormatHead, format_chunk, said_behind};
+ghost use Rattle.dsp_wave.specs.Reading.{Says, Stopped};
+ghost use Rattle.dsp_wave.specs.Taking.{Came, FormatRead, FormatRest, IsEnough, IsFormatHead, IsSaidBehind, format_chunk, said_behind};
 
 use crate::coding::{coding_of, width};
 use crate::extension::{EXTENSIBLE_SIZE, EXTENSIBLE_TAG, PCM_SUBFORMAT, PCM_TAG, PLAIN_SIZE};
@@ -94,7 +93,7 @@ fn format_fault(wanted: Wanted, offset: u64, size: u32, body: &[u8]) -> Option<(
 
 /// Takes as much of a `fmt ` chunk at the offset as is judged, behind its id and size: 16 bytes, and
 /// of one with an extension 40. It answers how many.
-fn take_format<S: Source>(
+pub(crate) fn take_format<S: Source>(
     source: &mut S,
     head: &[u8],
     offset: u64,
@@ -106,9 +105,8 @@ fn take_format<S: Source>(
     ensures ok { IfOk result (λ count. Came (offset + 8) count (S.state source.old)
         (S.state source.new) (take count body.new)
         × IsEnough (u32_at head.now 4) (take count body.new)) }
-    ensures err { (wanted : Wanted) → IfErr result (λ error.
-        Stopped (said_behind wanted offset head.now) (offset + 8) (S.state source.old)
-        (S.state source.new) error) }
+    ensures err { (says : Says) → IsSaidBehind offset head.now says → IfErr result (λ error.
+        Stopped says (offset + 8) (S.state source.old) (S.state source.new) error) }
 {
     let size = LittleEndian::read_u32(&head[4..]);
     if size < PLAIN_SIZE as u32 {
@@ -123,6 +121,32 @@ fn take_format<S: Source>(
     }
     take(source, &mut body[PLAIN_SIZE..], offset + 24)?;
     Ok(EXTENSIBLE_SIZE)
+}
+
+/// Judges what was taken of the first `fmt ` chunk, at the offset, and skips the rest of it.
+pub(crate) fn rest_of_format<S: Source>(
+    source: &mut S,
+    wanted: Wanted,
+    head: &[u8],
+    offset: u64,
+    body: &[u8],
+) -> Result<Sampling, HeaderOr>
+    requires head { IsFormatHead head.now }
+    requires enough { IsEnough (u32_at head.now 4) body.now }
+    requires offset { offset + 8 + length body.now ≤ 2 ^ 40 }
+    ensures ok { IfOk result (λ sampling. FormatRest wanted offset head.now body.now
+        (S.state source.old) (S.state source.new) sampling) }
+    ensures err { IfErr result (λ error.
+        Stopped (λ more. said_behind wanted offset head.now (body.now ++ more))
+        (offset + 8 + length body.now) (S.state source.old) (S.state source.new) error) }
+{
+    let size = LittleEndian::read_u32(&head[4..]);
+    if let Some((fault, offset)) = format_fault(wanted, offset, size, body) {
+        return Err(HeaderOr::Fault { fault, offset });
+    }
+    let count = body.len() as u64;
+    skip(source, padded(size) - count, offset + 8 + count)?;
+    Ok(sampling(wanted, body))
 }
 
 /// Reads the first `fmt ` chunk, at the offset, behind its id and size, to its end.
@@ -140,14 +164,8 @@ pub(crate) fn read_format<S: Source>(
         Stopped (said_behind wanted offset head.now) (offset + 8) (S.state source.old)
         (S.state source.new) error) }
 {
-    let size = LittleEndian::read_u32(&head[4..]);
     let mut bytes = [0; EXTENSIBLE_SIZE];
     let count = take_format(source, head, offset, &mut bytes)?;
-    let body = &bytes[..count];
-    if let Some((fault, offset)) = format_fault(wanted, offset, size, body) {
-        return Err(HeaderOr::Fault { fault, offset });
-    }
-    let rest = padded(size) - count as u64;
-    skip(source, rest, offset + 8 + count as u64)?;
-    Ok(sampling(wanted, body))
+    let known = rest_of_format(source, wanted, head, offset, &bytes[..count])?;
+    Ok(known)
 }

@@ -5,13 +5,17 @@ mod coding;
 mod extension;
 mod format;
 mod generator;
+mod open;
 mod reader;
 mod slices;
 mod writer;
 
 pub use coding::{bytes_of, coding_of, format_in, sample_of, width};
-pub use dsp_defs::Coding;
+pub use dsp_defs::{Coding, OpenHeader};
 pub use generator::GenSource;
+pub use open::read_open_header;
 pub use reader::{HeaderOr, read_header};
 pub use slices::{decode, encode};
-pub use writer::{HEADER_ROOM, pad, riff_size, write_header};
+pub use writer::{
+    HEADER_ROOM, open_pad, open_riff_size, pad, riff_size, write_header, write_open_header,
+};

@@ -2,8 +2,7 @@ ghost use Rattle.std.specs.Prelude.{◌≡◌, ℕ, ◌+◌, ◌<◌, ◌≤◌,
 ghost use Rattle.std.specs.Option.{option_map, is_none};
 ghost use Rattle.std.specs.Str.{bytes_eq};
 ghost use Rattle.dsp_defs.specs.Wave.{header_of, declared_size, padded};
-ghost use Rattle.dsp_defs.specs.declared.wave.Wanted.{Wanted};
-ghost use Rattle.dsp_wave.specs.Reading.{Headed, Stopped, said_from};
+ghost use Rattle.dsp_wave.specs.Reading.{Headed, IsHeaderOf, Says, Stopped, said_from};
 ghost use Rattle.dsp_wave.specs.Taking.{Came, Missing, Chunked, RiffRead};
 
 use crate::format::read_format;
@@ -147,12 +146,10 @@ fn next_chunk<S: Source>(
 }
 
 /// Reads the `RIFF` and `WAVE` with which the file begins.
-fn read_riff<S: Source>(source: &mut S) -> Result<(), HeaderOr>
-    ensures ok { (wanted : Wanted) → IfOk result
-        (λ _. RiffRead wanted (S.state source.old) (S.state source.new)) }
-    ensures err { (wanted : Wanted) → IfErr result (λ error.
-        Stopped (λ bytes. header_of bytes wanted) 0 (S.state source.old)
-        (S.state source.new) error) }
+pub(crate) fn read_riff<S: Source>(source: &mut S) -> Result<(), HeaderOr>
+    ensures ok { IfOk result (λ _. RiffRead (S.state source.old) (S.state source.new)) }
+    ensures err { (says : Says) → IsHeaderOf says → IfErr result (λ error.
+        Stopped says 0 (S.state source.old) (S.state source.new) error) }
 {
     let mut first = [0; 12];
     let count = match fill(source, &mut first, MAX_INPUT) {
@@ -174,6 +171,35 @@ fn read_riff<S: Source>(source: &mut S) -> Result<(), HeaderOr>
     Ok(())
 }
 
+/// Reads chunk after chunk, from the offset on, up to the samples. The chunks before have said this
+/// of the samples.
+pub(crate) fn read_chunks<S: Source>(
+    source: &mut S,
+    wanted: Wanted,
+    known: Option<Sampling>,
+    offset: u64,
+) -> Result<Header, HeaderOr>
+    requires { offset ≤ 2 ^ 40 }
+    ensures ok { IfOk result (λ header.
+        Headed (said_from wanted offset known) offset (S.state source.old)
+        (S.state source.new) header) }
+    ensures err { IfErr result (λ error.
+        Stopped (said_from wanted offset known) offset (S.state source.old)
+        (S.state source.new) error) }
+{
+    let mut known = known;
+    let mut offset = offset;
+    loop {
+        match next_chunk(source, wanted, known, offset)? {
+            Next::Samples(header) => return Ok(header),
+            Next::Other { known: next, taken } => {
+                known = next;
+                offset = taken;
+            }
+        }
+    }
+}
+
 /// Reads the header of a WAVE file from its begin, and takes the bytes up to the first sample and no more. It takes no memory.
 ///
 /// A fault has its offset in bytes from the file's begin. The declared size of the samples is in bytes, and no size
@@ -187,15 +213,6 @@ pub fn read_header<S: Source>(source: &mut S, wanted: Wanted) -> Result<Header, 
         (S.state source.new) error) }
 {
     read_riff(source)?;
-    let mut known = None;
-    let mut offset = 12;
-    loop {
-        match next_chunk(source, wanted, known, offset)? {
-            Next::Samples(header) => return Ok(header),
-            Next::Other { known: next, taken } => {
-                known = next;
-                offset = taken;
-            }
-        }
-    }
+    let header = read_chunks(source, wanted, None, 12)?;
+    Ok(header)
 }

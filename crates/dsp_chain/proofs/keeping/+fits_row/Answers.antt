@@ -17,7 +17,7 @@ returns-then-count-numbers g t c =
     let first = front c.in-Some.ensures.cases.0 refl c.in-Some-Some.ensures.cases.0 c.in-Some-Some.ensures'.cases.0 c.requires in
     let short : FitsUnits c.args.links.now c.args.frames c.args.numbers.now → ⊥ =
     λ fits.
-    let cuts = cut c.in-Some.link.now c.in-Some.links_behind.now c.args.frames c.count-count.result c.args.numbers.now (c.count-count.ensures ∙ first.count) (subst (λ us. FitsUnits us c.args.frames c.args.numbers.now) c.in-Some.ensures.cases.0 fits) in
+    let cuts = cut c.in-Some.link.now c.in-Some.links_behind.now c.args.frames c.count-count.result c.args.numbers.now (c.count-count.ensures.count ∙ first.count) (subst (λ us. FitsUnits us c.args.frames c.args.numbers.now) c.in-Some.ensures.cases.0 fits) in
     omega (arith, c.if-count-numbers.true, cuts.within) in
     (λ e. absurd (never e), λ fits. absurd (short fits))
 
@@ -25,7 +25,7 @@ pub returns-in_default-place : goal.returns-in_default-place
 returns-in_default-place g t c =
     let first = front c.in-Some.ensures.cases.0 refl c.in-Some-Some.ensures.cases.0 c.in-Some-Some.ensures'.cases.0 c.requires in
     let tells = told _ c.in-Some.link.now c.in-Some.links_behind.now c.args.frames c.count-count.result c.args.numbers.now c.split_at.result.0.now c.split_at.result.1.now c.place.result
-    c.link.view_is (c.count-count.ensures ∙ first.count) c.split_at.ensures.front c.split_at.ensures.back c.place.ensures.fits c.place.ensures.least in
+    c.link.view_is (c.count-count.ensures.count ∙ first.count) c.split_at.ensures.front c.split_at.ensures.back c.place.ensures.fits c.place.ensures.least in
     let none : FitsUnits c.args.links.now c.args.frames c.args.numbers.now → ⊥ =
     λ fits. c.in_default-place.not-Some _ (tells.finds (subst (λ us. FitsUnits us c.args.frames c.args.numbers.now) c.in-Some.ensures.cases.0 fits)) in
     (λ e. absurd (never e), λ fits. absurd (none fits))
@@ -34,7 +34,7 @@ pub returns-then-place : goal.returns-then-place
 returns-then-place g t c =
     let first = front c.in-Some.ensures.cases.0 refl c.in-Some-Some.ensures.cases.0 c.in-Some-Some.ensures'.cases.0 c.requires in
     let tells = told _ c.in-Some.link.now c.in-Some.links_behind.now c.args.frames c.count-count.result c.args.numbers.now c.split_at.result.0.now c.split_at.result.1.now c.place.result
-    c.link.view_is (c.count-count.ensures ∙ first.count) c.split_at.ensures.front c.split_at.ensures.back c.place.ensures.fits c.place.ensures.least in
+    c.link.view_is (c.count-count.ensures.count ∙ first.count) c.split_at.ensures.front c.split_at.ensures.back c.place.ensures.fits c.place.ensures.least in
     let other : FitsUnits c.args.links.now c.args.frames c.args.numbers.now → ⊥ =
     λ fits.
     let found : Some c.in-Some-place.place ≡ Some (place_of c.in-Some.link.now.block c.args.frames) = sym c.in-Some-place.is ∙ tells.finds (subst (λ us. FitsUnits us c.args.frames c.args.numbers.now) c.in-Some.ensures.cases.0 fits) in
@@ -55,7 +55,7 @@ pub returns : goal.returns
 returns g t c =
     let first = front c.in-Some.ensures.cases.0 refl c.in-Some-Some.ensures.cases.0 c.in-Some-Some.ensures'.cases.0 c.requires in
     let tells = told _ c.in-Some.link.now c.in-Some.links_behind.now c.args.frames c.count-count.result c.args.numbers.now c.split_at.result.0.now c.split_at.result.1.now c.place.result
-    c.link.view_is (c.count-count.ensures ∙ first.count) c.split_at.ensures.front c.split_at.ensures.back c.place.ensures.fits c.place.ensures.least in
+    c.link.view_is (c.count-count.ensures.count ∙ first.count) c.split_at.ensures.front c.split_at.ensures.back c.place.ensures.fits c.place.ensures.least in
     let live = c.live.ensures ∙ first.live in
     let place = c.in-Some-place.is ∙ ap Some (c.if-place.false ∙ c.place-2.ensures ∙ sym first.place) in (
       λ yes. subst (λ us. FitsUnits us c.args.frames c.args.numbers.now) (sym c.in-Some.ensures.cases.0) (tells.both place (subst (λ n. FitsUnits c.in-Some.links_behind.now n c.split_at.result.1.now) live (c.fits_row.ensures.0 yes))),

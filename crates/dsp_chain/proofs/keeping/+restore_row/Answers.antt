@@ -15,13 +15,13 @@ count-count-requires g t c =
 pub unreachable-requires-then-count-numbers : goal.unreachable-requires-then-count-numbers
 unreachable-requires-then-count-numbers g t c =
     let first = front c.in-Some.ensures.cases.0 refl c.in-Some-Some.ensures.cases.0 c.in-Some-Some.ensures'.cases.0 c.requires.rules in
-    let cuts = cut c.in-Some.link.now c.in-Some.links_behind.now c.args.frames c.count-count.result c.args.numbers.now (c.count-count.ensures ∙ first.count) (subst (λ us. FitsUnits us c.args.frames c.args.numbers.now) c.in-Some.ensures.cases.0 c.requires.fits) in
+    let cuts = cut c.in-Some.link.now c.in-Some.links_behind.now c.args.frames c.count-count.result c.args.numbers.now (c.count-count.ensures.count ∙ first.count) (subst (λ us. FitsUnits us c.args.frames c.args.numbers.now) c.in-Some.ensures.cases.0 c.requires.fits) in
     omega (arith, c.if-count-numbers.true, cuts.within)
 
 pub restore-requires-clause-fits : goal.restore-requires-clause-fits
 restore-requires-clause-fits g t c =
     let first = front c.in-Some.ensures.cases.0 refl c.in-Some-Some.ensures.cases.0 c.in-Some-Some.ensures'.cases.0 c.requires.rules in
-    let cuts = cut c.in-Some.link.now c.in-Some.links_behind.now c.args.frames c.count-count.result c.args.numbers.now (c.count-count.ensures ∙ first.count) (subst (λ us. FitsUnits us c.args.frames c.args.numbers.now) c.in-Some.ensures.cases.0 c.requires.fits) in
+    let cuts = cut c.in-Some.link.now c.in-Some.links_behind.now c.args.frames c.count-count.result c.args.numbers.now (c.count-count.ensures.count ∙ first.count) (subst (λ us. FitsUnits us c.args.frames c.args.numbers.now) c.in-Some.ensures.cases.0 c.requires.fits) in
     let here = subst (FitsAfter c.in-Some.link.now.format c.in-Some.link.now.channels c.in-Some.link.now.block c.args.frames) (sym c.split_at.ensures.front) cuts.here in
     (c.args.frames, subst (λ (u : UnitState). FitsAfter u.format u.channels u.block c.args.frames c.split_at.result.0.now) (sym c.link.view_is) here)
 
@@ -32,7 +32,7 @@ live-requires-clause-given g t c =
 pub restore_row-requires : goal.restore_row-requires
 restore_row-requires g t c κs within =
     let first = front c.in-Some.ensures.cases.0 refl c.in-Some-Some.ensures.cases.0 c.in-Some-Some.ensures'.cases.0 c.requires.rules in
-    let cuts = cut c.in-Some.link.now c.in-Some.links_behind.now c.args.frames c.count-count.result c.args.numbers.now (c.count-count.ensures ∙ first.count) (subst (λ us. FitsUnits us c.args.frames c.args.numbers.now) c.in-Some.ensures.cases.0 c.requires.fits) in
+    let cuts = cut c.in-Some.link.now c.in-Some.links_behind.now c.args.frames c.count-count.result c.args.numbers.now (c.count-count.ensures.count ∙ first.count) (subst (λ us. FitsUnits us c.args.frames c.args.numbers.now) c.in-Some.ensures.cases.0 c.requires.fits) in
     let behind = subst (FitsUnits c.in-Some.links_behind.now _) (sym c.split_at.ensures.back) cuts.behind in
     let runs : AllRun c.in-Some.links_behind.now = (subst AllRun c.in-Some.ensures.cases.0 c.requires.running).1 in
     (omega (arith, ap length c.in-Some.ensures.cases.0, c.decreases), (within, (runs, (rw c.live.ensures first.behind, rw (c.live.ensures ∙ first.live) behind))))
@@ -40,7 +40,7 @@ restore_row-requires g t c κs within =
 pub returns : goal.returns
 returns g t c =
     let first = front c.in-Some.ensures.cases.0 refl c.in-Some-Some.ensures.cases.0 c.in-Some-Some.ensures'.cases.0 c.requires.rules in
-    let cuts = cut c.in-Some.link.now c.in-Some.links_behind.now c.args.frames c.count-count.result c.args.numbers.now (c.count-count.ensures ∙ first.count) (subst (λ us. FitsUnits us c.args.frames c.args.numbers.now) c.in-Some.ensures.cases.0 c.requires.fits) in
+    let cuts = cut c.in-Some.link.now c.in-Some.links_behind.now c.args.frames c.count-count.result c.args.numbers.now (c.count-count.ensures.count ∙ first.count) (subst (λ us. FitsUnits us c.args.frames c.args.numbers.now) c.in-Some.ensures.cases.0 c.requires.fits) in
     let here = subst (FitsAfter c.in-Some.link.now.format c.in-Some.link.now.channels c.in-Some.link.now.block c.args.frames) (sym c.split_at.ensures.front) cuts.here in
     let one : Restores c.in-Some.link.now (g.S.Stage.unit c.restore.new.self) c.split_at.result.0.now = subst (λ (u : UnitState). Restores u (g.S.Stage.unit c.restore.new.self) c.split_at.result.0.now) c.link.view_is c.restore.ensures in
     let behind : AllRestores c.in-Some.links_behind.now c.restore_row.new.links _ c.split_at.result.1.now = subst (λ n. AllRestores c.in-Some.links_behind.now c.restore_row.new.links n c.split_at.result.1.now) (c.live.ensures ∙ first.live) c.restore_row.ensures in

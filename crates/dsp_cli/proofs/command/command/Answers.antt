@@ -1,7 +1,12 @@
 use Rattle.std.proofs.Common.{ap, sym, ◌∙◌}
 use Rattle.dsp_defs.specs.Words.{command_of}
-use Rattle.dsp_cli.proofs.WordLaws.{six_words}
+use Rattle.dsp_cli.proofs.WordLaws.{five_words, six_words}
 use Rattle.dsp_cli.proofs.command.command.Goals as goal
+
+pub returns-in-5 : goal.returns-in-5
+returns-in-5 c =
+    c.command_of_five.ensures
+    ∙ ap command_of (sym (five_words c.args.words.now _ _ _ _ _ (sym c.len.ensures ∙ c.in-5.is) c.word-in-5.ensures c.word-in-5-2.ensures c.word-in-5-3.ensures c.word-in-5-4.ensures c.word-in-5-5.ensures))
 
 pub returns-in-6 : goal.returns-in-6
 returns-in-6 c =

@@ -1,63 +1,65 @@
-use Rattle.std.proofs.Common.{ap, sym, refl, ◌∙◌, subst, Some, IsSome}
+use Rattle.std.proofs.Common.{ap, sym, refl, ◌∙◌, subst, Some}
+use Rattle.std.proofs.lemmas.Result.{err_from_is_err_and}
+use Rattle.dsp_cli.specs.Call.{Printed, Turned}
+use Rattle.dsp_cli.specs.Run.{HasText}
+use Rattle.dsp_cli.proofs.WordLaws.{gen_makes_few}
 use Rattle.dsp_cli.proofs.PerformLaws.{run_went, run_stops, gen_went, gen_stops, load_stops}
 use Rattle.dsp_cli.proofs.top.perform.Goals as goal
 
-pub returns-in-Err-clause-err : goal.returns-in-Err-clause-err
-returns-in-Err-clause-err g c = load_stops _ _ _ _ _ _ (subst IsSome c.in-Some.ensures refl) _ c.in-Err.ensures.err
-
-pub returns-in-Ok-run_script-clause-ok : goal.returns-in-Ok-run_script-clause-ok
-returns-in-Ok-run_script-clause-ok g c =
-    run_went _ _ _ _ _ _ _ _ _ _ c.in-Ok.ensures.ok _ (sym c.in-Some.ensures ∙ ap Some c.in-Run.is) _ c.in-Ok-run_script.ensures.ok
-
-pub returns-in-Run-clause-err : goal.returns-in-Run-clause-err
-returns-in-Run-clause-err g c =
-    run_stops _ _ _ _ _ _ _ _ _ _ c.in-Ok.ensures.ok _ (sym c.in-Some.ensures ∙ ap Some c.in-Run.is) _ c.in-Err-run_script.ensures.err
-
-pub returns-in-Ok-generate-clause-ok : goal.returns-in-Ok-generate-clause-ok
-returns-in-Ok-generate-clause-ok g c =
-    gen_went _ _ _ _ _ _ _ _ _ c.in-Ok.ensures.ok _ _ (sym c.in-Some.ensures ∙ ap Some c.in-Gen.is) _ c.in-Ok-generate.ensures.ok
-
-pub returns-clause-err : goal.returns-clause-err
-returns-clause-err g c =
-    gen_stops _ _ _ _ _ _ _ _ _ c.in-Ok.ensures.ok _ _ (sym c.in-Some.ensures ∙ ap Some c.in-Gen.is) _ c.in-Err-generate.ensures.err
-
-pub returns-in-Err-clause-taken : goal.returns-in-Err-clause-taken
-returns-in-Err-clause-taken g c = c.load_script.ensures.taken
-
 pub returns-in_default-clause-err : goal.returns-in_default-clause-err
 returns-in_default-clause-err g c =
-    ((sym c.command.ensures ∙ c.in_default.is, refl), record { input_same = refl; output_same = refl; counts_same = refl })
+    ((sym c.command.ensures ∙ c.in_default.is, refl), record { input_same = refl; output_same = refl; other_same = refl; counts_same = refl })
+
+pub generate-requires-clause-few : goal.generate-requires-clause-few
+generate-requires-clause-few g c = gen_makes_few c.args.words.now _ _ (sym c.in-Some.ensures ∙ ap Some c.in-Gen.is)
+
+pub returns-in-Ok-clause-ok : goal.returns-in-Ok-clause-ok
+returns-in-Ok-clause-ok g c =
+    record {
+      ending = Turned c.in-Ok.totals;
+      happened = record {
+        direction = c.in-Convert.direction;
+        asked = sym c.in-Some.ensures ∙ ap Some c.in-Convert.is;
+        did = c.in-Ok.ensures.ok;
+        spared = record { script_same = refl; other_same = refl; counts_same = refl };
+      };
+      whole = tt;
+      text_is = c.converted_report.ensures;
+    }
 
 pub returns-in-Ok-print-clause-ok : goal.returns-in-Ok-print-clause-ok
 returns-in-Ok-print-clause-ok g c =
     record {
-      script = c.in-Ok.script;
-      printed = (
+      ending = Printed c.in_ok-script-in-Print.script;
+      happened = (
         sym c.in-Some.ensures ∙ ap Some c.in-Print.is,
-        c.in-Ok.ensures.ok,
-        record { input_same = refl; output_same = refl; counts_same = refl },
+        c.in_ok-script-in-Print.ensures.ok,
+        record { input_same = refl; output_same = refl; other_same = refl; counts_same = refl },
       );
-      canonical = c.in-Ok-print.ensures;
+      whole = tt;
+      text_is = c.in-Ok-print.ensures;
     }
 
 pub returns-in-Print-clause-err : goal.returns-in-Print-clause-err
 returns-in-Print-clause-err g c =
-    (subst IsSome c.in-Some.ensures refl, record { input_same = refl; output_same = refl; counts_same = refl })
+    (subst HasText (sym (sym c.in-Some.ensures ∙ ap Some c.in-Print.is)) tt, record { input_same = refl; output_same = refl; other_same = refl; counts_same = refl })
 
-pub returns-in-Ok-print-clause-taken : goal.returns-in-Ok-print-clause-taken
-returns-in-Ok-print-clause-taken g c = c.load_script.ensures.taken
+pub returns-in-Run-clause-ok : goal.returns-in-Run-clause-ok
+returns-in-Run-clause-ok g c =
+    run_went _ _ _ _ _ _ _ _ _ _ _ c.in_ok-script-in-Run.ensures.ok _ _ (sym c.in-Some.ensures ∙ ap Some c.in-Run.is) _ c.in_ok-summary-in-Run.ensures.ok
 
-pub returns-in-Print-clause-taken : goal.returns-in-Print-clause-taken
-returns-in-Print-clause-taken g c = c.load_script.ensures.taken
+pub returns-in_err-summary-in-Run-clause-err : goal.returns-in_err-summary-in-Run-clause-err
+returns-in_err-summary-in-Run-clause-err g c =
+    let p = err_from_is_err_and c.from_residual-in_err-summary-in-Run.result c.from_residual-in_err-summary-in-Run.ensures.1 in
+    rw (p.1, p.2)
+    (run_stops _ _ _ _ _ _ _ _ _ _ _ c.in_ok-script-in-Run.ensures.ok _ _ (sym c.in-Some.ensures ∙ ap Some c.in-Run.is) _ c.in_err-summary-in-Run.ensures.err)
 
-pub returns-in-Ok-run_script-clause-taken : goal.returns-in-Ok-run_script-clause-taken
-returns-in-Ok-run_script-clause-taken g c = c.load_script.ensures.taken
+pub returns-clause-ok : goal.returns-clause-ok
+returns-clause-ok g c =
+    gen_went _ _ _ _ _ _ _ _ _ _ c.in_ok-script-in-Gen.ensures.ok _ _ (sym c.in-Some.ensures ∙ ap Some c.in-Gen.is) _ c.in_ok-summary-in-Gen.ensures.ok
 
-pub returns-in-Run-clause-taken : goal.returns-in-Run-clause-taken
-returns-in-Run-clause-taken g c = c.load_script.ensures.taken
-
-pub returns-in-Ok-generate-clause-taken : goal.returns-in-Ok-generate-clause-taken
-returns-in-Ok-generate-clause-taken g c = c.load_script.ensures.taken
-
-pub returns-clause-taken : goal.returns-clause-taken
-returns-clause-taken g c = c.load_script.ensures.taken
+pub returns-in_err-summary-in-Gen-clause-err : goal.returns-in_err-summary-in-Gen-clause-err
+returns-in_err-summary-in-Gen-clause-err g c =
+    let p = err_from_is_err_and c.from_residual-in_err-summary-in-Gen.result c.from_residual-in_err-summary-in-Gen.ensures.1 in
+    rw (p.1, p.2)
+    (gen_stops _ _ _ _ _ _ _ _ _ _ c.in_ok-script-in-Gen.ensures.ok _ _ (sym c.in-Some.ensures ∙ ap Some c.in-Gen.is) _ c.in_err-summary-in-Gen.ensures.err)

@@ -13,8 +13,8 @@ returns-clause-settled g c = laws.settled _ _ _ _ (laws.ended _ _ _ _ c.perform-
 pub returns-clause-untouched : goal.returns-clause-untouched
 returns-clause-untouched g c = laws.untouched _ _ _ _ (laws.ended _ _ _ _ c.perform-outcome.result c.perform-outcome.ensures.ok c.perform-outcome.ensures.err c.settle.ensures)
 
-pub returns-clause-input_same : goal.returns-clause-input_same
-returns-clause-input_same g c = laws.input_same _ _ _ _ (laws.ended _ _ _ _ c.perform-outcome.result c.perform-outcome.ensures.ok c.perform-outcome.ensures.err c.settle.ensures)
+pub returns-clause-spared : goal.returns-clause-spared
+returns-clause-spared g c = laws.spared _ _ _ _ (laws.ended _ _ _ _ c.perform-outcome.result c.perform-outcome.ensures.ok c.perform-outcome.ensures.err c.settle.ensures)
 
 pub returns-clause-counted : goal.returns-clause-counted
 returns-clause-counted g c = laws.counted _ _ _ _ (laws.ended _ _ _ _ c.perform-outcome.result c.perform-outcome.ensures.ok c.perform-outcome.ensures.err c.settle.ensures)

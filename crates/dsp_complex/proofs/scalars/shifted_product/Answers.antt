@@ -5,7 +5,7 @@ use Rattle.dsp_sat.proofs.Words.{shift_down-is}
 use Rattle.dsp_defs.specs.Numbers.{◌>>◌}
 use Rattle.dsp_defs.specs.Formats.{word_bits}
 use Rattle.dsp_defs.specs.Complex.{product_shift}
-use Rattle.dsp_complex.proofs.Parts.{shifted-small, small-in-32, shift-is}
+use Rattle.dsp_complex.proofs.Parts.{shifted-small, small-in-32}
 use Rattle.dsp_complex.proofs.scalars.shifted_product.Goals as goal
 
 shifted : (g : _) (c : goal.After-WORD_BITS g) →
@@ -13,7 +13,7 @@ shifted : (g : _) (c : goal.After-WORD_BITS g) →
 shifted g c =
     let wide : SFits w64 c.wide_product.result = search rules in
     shift_down-is w64 c.wide_product.result (g.T.Sample.number c.args.a *ℤ g.T.Sample.number c.args.b) _ _ wide c.wide_product.ensures.value
-    (ap (λ n. n + 1) (c.WORD_BITS.ensures ∙ g.met.T.Sample.has_word_bits) ∙ shift-is g.T.Sample.format)
+    (ap (λ n. n + 1) (c.WORD_BITS.ensures ∙ g.met.T.Sample.has_word_bits) ∙ g.met.T.ComplexSample.has_shift)
 
 small : (g : _) (c : goal.After-WORD_BITS g) → nat_abs (g.T.Sample.number c.args.a *ℤ g.T.Sample.number c.args.b >> product_shift g.T.Sample.format) ≤ 2 ^ (word_bits g.T.Sample.format - 3)
 small g c = shifted-small g.T.Sample.format _ (subst (λ z. nat_abs z ≤ 2 ^ (2 * word_bits g.T.Sample.format - 2)) c.wide_product.ensures.value c.wide_product.ensures.small)

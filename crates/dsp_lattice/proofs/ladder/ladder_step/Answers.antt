@@ -87,4 +87,4 @@ returns-clause-value g c =
     wrapped_sum-more (accumulator T.format) last (length vs) vs all (number v) (number f) (T.total c.loop-m.sum) (T.total c.accumulate.result) long
     (sample-map number c.args.ladder.now last v (omega arith) c.index-ladder-last.is) (sym (sample-map-set_same number news last f inside)) before
     (c.accumulate.ensures ∙ ap (λ p. wrap (accumulator T.format) (T.total c.loop-m.sum +ℤ p)) c.product-term-2.ensures.value) in
-    c.close.ensures ∙ ap (close T.format) total ∙ ladder-closes T.format vs all (length vs) (omega (arith, long)) (omega arith) (omega (arith, long, long_all)) c.requires.in_format fits
+    c.close.ensures ∙ ap (close T.format) total ∙ ladder-closes T.format g.met.T.LatticeSample.has_lattice vs all (length vs) (omega (arith, long)) (omega arith) (omega (arith, long, long_all)) c.requires.in_format fits

@@ -1,10 +1,10 @@
 use Rattle.std.proofs.Common.{◌-◌, ◌^◌}
-use Rattle.dsp_session.proofs.PassingLaws.{Going}
+use Rattle.dsp_session.specs.Advancing.{Going}
 use Rattle.dsp_session.proofs.streaming.pass_blocks.Given as goal
 
 abbrev pub invariant-passing : goal.invariant-passing
 invariant-passing g l =
-    Going l.fn.worker.script l.fn.worker.block l.header l.taken l.worker (g.S.Source.state l.fn.input) (g.S.Source.state l.input) (g.K.Sink.state l.fn.output) (g.K.Sink.state l.output) l.fn.steps l.steps
+    Going l.fn.worker l.worker l.header l.span l.taken (g.S.Source.state l.fn.input) (g.S.Source.state l.input) (g.K.Sink.state l.fn.output) (g.K.Sink.state l.output) l.fn.steps l.steps
 
 abbrev pub decreases-passing : goal.decreases-passing
 decreases-passing g l = 2 ^ 40 - l.taken

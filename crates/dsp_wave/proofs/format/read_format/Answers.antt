@@ -1,46 +1,28 @@
-use Rattle.std.proofs.Common.{◌≡◌, ◌+◌, ◌-◌, ◌∙◌, Some, None, take, sym, ap, arith}
-use Rattle.std.proofs.lemmas.Grind.{common_steps}
+use Rattle.std.proofs.Common.{◌≡◌, ◌+◌, ◌++◌, ◌∙◌, take, length, refl, sym, ap, subst, arith}
 use Rattle.std.proofs.lemmas.Result.{err_from_is_err_and}
-use Rattle.dsp_defs.specs.Wave.{format_fault, padded, u32_at}
-use Rattle.dsp_wave.specs.Taking.{format_chunk, said_behind}
+use Rattle.dsp_wave.specs.Taking.{FormatRead, said_behind}
 use Rattle.dsp_wave.proofs.ReaderLaws as laws
 use Rattle.dsp_wave.proofs.format.read_format.Goals as goal
 
-pub returns-in-Some-clause-err : goal.returns-in-Some-clause-err
-returns-in-Some-clause-err g c =
+pub returns-in_err-count-clause-err : goal.returns-in_err-count-clause-err
+returns-in_err-count-clause-err g c =
+    let (error, is, same) = err_from_is_err_and c.from_residual.result c.from_residual.ensures.1 in
+    rw (is, same) (c.in_err-count.ensures.err (said_behind c.args.wanted c.args.offset c.args.head.now) (λ bytes. (c.args.wanted, refl)))
+
+pub returns-in_err-known-clause-err : goal.returns-in_err-known-clause-err
+returns-in_err-known-clause-err g c =
+    let (error, is, same) = err_from_is_err_and c.from_residual-in_err-known.result c.from_residual-in_err-known.ensures.1 in
     let head = c.args.head.now in
     let body = take c.in_ok-count.count c.take_format.new.body in
     let (came, enough) = c.in_ok-count.ensures.ok in
-    let size : c.read_u32-size.result ≡ u32_at head 4 = grind (arith, common_steps, c.read_u32-size.ensures, c.requires.head.long) in
-    let fault : format_fault c.args.wanted 0 (format_chunk c.args.offset (u32_at head 4) body) ≡ Some (c.in-Some.fault, c.in-Some.offset) =
-    ap (λ n. format_fault c.args.wanted 0 (format_chunk c.args.offset n body)) (sym size) ∙ sym c.format_fault.ensures ∙ c.in-Some.is in
-    laws.stops_sure (said_behind c.args.wanted c.args.offset head) (c.args.offset + 8) _ _ c.in_ok-count.count body _ _ came
-    (laws.faulty_ends c.args.wanted c.args.offset head c.requires.head.long c.requires.head.id body enough _ _ fault)
-
-pub returns-in_err-skip-clause-err : goal.returns-in_err-skip-clause-err
-returns-in_err-skip-clause-err g c =
-    let (error, is, same) = err_from_is_err_and c.from_residual-in_err-skip.result c.from_residual-in_err-skip.ensures.1 in
-    let head = c.args.head.now in
-    let count = c.in_ok-count.count in
-    let body = take count c.take_format.new.body in
-    let (came, enough) = c.in_ok-count.ensures.ok in
-    let size : c.read_u32-size.result ≡ u32_at head 4 = grind (arith, common_steps, c.read_u32-size.ensures, c.requires.head.long) in
-    let good : format_fault c.args.wanted 0 (format_chunk c.args.offset (u32_at head 4) body) ≡ None =
-    ap (λ n. format_fault c.args.wanted 0 (format_chunk c.args.offset n body)) (sym size) ∙ sym c.format_fault.ensures ∙ c.in_default.is in
-    let whole : c.padded.result ≡ padded (u32_at head 4) = c.padded.ensures ∙ ap padded size in
-    rw (is, same) (laws.stops_later (said_behind c.args.wanted c.args.offset head) (c.args.offset + 8) _ _ count (padded (u32_at head 4) - count) _ body _
-    (laws.rest_short c.args.wanted c.args.offset head c.requires.head.long c.requires.head.id body enough good count came.long)
-    came (rw whole at c.in_err-skip.ensures.err))
+    let here : c.args.offset + 8 + length body ≡ c.args.offset + 8 + c.in_ok-count.count = omega (arith, came.long) in
+    rw (is, same) (laws.stopped_sooner (said_behind c.args.wanted c.args.offset head) (λ more. said_behind c.args.wanted c.args.offset head (body ++ more)) (c.args.offset + 8) c.in_ok-count.count (c.args.offset + 8 + length body) here _ _ _ body came (λ more. refl) _ c.in_err-known.ensures.err)
 
 pub returns-clause-ok : goal.returns-clause-ok
 returns-clause-ok g c =
     let head = c.args.head.now in
-    let count = c.in_ok-count.count in
-    let body = take count c.take_format.new.body in
+    let body = take c.in_ok-count.count c.take_format.new.body in
     let (came, enough) = c.in_ok-count.ensures.ok in
-    let size : c.read_u32-size.result ≡ u32_at head 4 = grind (arith, common_steps, c.read_u32-size.ensures, c.requires.head.long) in
-    let good : format_fault c.args.wanted 0 (format_chunk c.args.offset (u32_at head 4) body) ≡ None =
-    ap (λ n. format_fault c.args.wanted 0 (format_chunk c.args.offset n body)) (sym size) ∙ sym c.format_fault.ensures ∙ c.in_default.is in
-    let whole : c.padded.result ≡ padded (u32_at head 4) = c.padded.ensures ∙ ap padded size in
-    let (rest, second) = c.in_ok-skip.ensures.ok in
-    rw c.sampling.ensures (laws.rest_came c.args.wanted c.args.offset head c.requires.head.long c.requires.head.id body enough good count came.long _ _ _ rest came (rw whole at second))
+    let read = c.in_ok-known.ensures.ok in
+    let second = rw came.long at read.came in
+    rw read.known_is (laws.rest_came c.args.wanted c.args.offset head c.requires.head.long c.requires.head.id body enough read.good c.in_ok-count.count came.long _ _ _ read.rest came second)

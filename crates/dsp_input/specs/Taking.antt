@@ -1,0 +1,181 @@
+-- What is taken of an input: its header, its samples, and why it stopped.
+use Rattle.std.specs.Prelude.{◌≡◌, ◌≢◌, ◌⊎◌, ℕ, ◌+◌, ◌-◌, ◌*◌, ◌/◌, ◌^◌, ◌<◌, ◌≤◌, nat_lt, if◌then◌else◌, List, ◌++◌, length, take, Option, Some, None, Ok, Err, IfSome}
+use Rattle.std.specs.Io.KnownBytes.{IsAtEnd}
+use Rattle.dsp_ports.specs.Ports.{SourceState, one_more, Gave}
+use Rattle.dsp_defs.specs.Bytes.{width}
+use Rattle.dsp_defs.specs.Output.{HasHeader, input_header, input_signal, wanted_of, known_frames, format_of, channels_of}
+use Rattle.dsp_defs.specs.Wave.{header_of, riff_size, HeaderFits}
+use Rattle.dsp_defs.specs.declared.format.Coding.{Coding}
+use Rattle.dsp_defs.specs.declared.format.Container.TheVariants as container
+use Rattle.dsp_defs.specs.declared.format.InputKind.TheVariants as kind
+use Rattle.dsp_defs.specs.declared.limits.TheConstants.{MAX_RIFF_SIZE}
+use Rattle.dsp_defs.specs.declared.script.Script.{Script}
+use Rattle.dsp_defs.specs.declared.wave.Header.{Header}
+use Rattle.dsp_defs.specs.declared.wave.HeaderFault.{HeaderFault}
+use Rattle.dsp_defs.specs.declared.wave.HeaderFault.TheVariants.{NoSamples, Short}
+use Rattle.dsp_wave.specs.Reading.{IsSure}
+use Rattle.dsp_input.specs.declared.fault.InputFault.{InputFault}
+use Rattle.dsp_input.specs.declared.fault.InputFault.TheVariants as fault
+
+-- ---- frames
+
+-- the bytes of a frame of the input in a coding
+abbrev pub frame_bytes : Script → Coding → ℕ
+frame_bytes script coding = script.input.channels * width coding
+
+-- the bytes of the whole frames among so many bytes
+abbrev pub in_whole_frames : Script → Coding → ℕ → ℕ
+in_whole_frames script coding size = size / frame_bytes script coding * frame_bytes script coding
+
+-- the bytes at which a header says that there are whole frames of samples, where it declares its samples
+abbrev pub declared_bytes : Script → Header → Option ℕ
+declared_bytes script header = elim header.size [ Some size ↦ Some (in_whole_frames script header.coding size) | None ↦ None ]
+
+-- all samples were taken: those that the header declares, or all to the end of the input
+abbrev pub IsTakenWhole : Script → List ℕ → SourceState → Type 0
+IsTakenWhole script given now =
+    let header = input_header script given in
+    elim (declared_bytes script header) [ Some size ↦ length given ≡ header.start + size | None ↦ IsAtEnd now.left ]
+
+-- the whole frames of samples among the bytes
+abbrev pub frames_in_bytes : Script → List ℕ → ℕ
+frames_in_bytes script given = length (input_signal script given)
+
+-- ---- the header
+
+-- these bytes are all that stands before the samples, and they say the header whatever comes behind them
+pub record Opens (script : Script) (header : Header) (first : List ℕ) : Type 0 where
+  pub said : (more : List ℕ) → input_header script (first ++ more) ≡ header
+  pub has : (more : List ℕ) → HasHeader script (first ++ more)
+  pub start : header.start ≡ length first
+  pub in_limit : length first ≤ 2 ^ 40
+
+-- exactly these bytes were taken
+pub record Opened (script : Script) (header : Header) (input now : SourceState) : Type 0 where
+  pub first : List ℕ
+  pub opens : Opens script header first
+  pub gave : Gave input now first
+  pub no_fault : now.faults ≡ input.faults
+
+-- the bytes are the begin of a header and have no fault but that they end
+pub record IsUnheaded (script : Script) (given : List ℕ) : Type 0 where
+  pub wave : script.input.kind ≡ kind.Wave
+  pub cut : header_of given (wanted_of script) ≡ Err (NoSamples, length given)
+  pub none : HasHeader script given → ⊥
+
+-- the cause of an end without a header, where these bytes were taken
+abbrev pub IsUnopened : InputFault → Script → List ℕ → SourceState → SourceState → Type 0
+IsUnopened fault.Failed script given input now = (now.faults ≡ one_more input.faults) × (length given < 2 ^ 40) × (HasHeader script given → ⊥)
+IsUnopened (fault.Header fault offset) script given input now =
+    (script.input.kind ≡ kind.Wave) × IsSure (λ bytes. header_of bytes (wanted_of script)) now given (Err (fault, offset)) × (now.faults ≡ input.faults)
+IsUnopened (fault.Limit taken limit) script given input now =
+    (length given ≡ 2 ^ 40) × (taken ≡ 2 ^ 40) × (limit ≡ 2 ^ 40) × IsUnheaded script given × (now.faults ≡ input.faults)
+
+pub record Unopened (script : Script) (fault : InputFault) (input now : SourceState) : Type 0 where
+  pub given : List ℕ
+  pub gave : Gave input now given
+  pub in_limit : length given ≤ 2 ^ 40
+  pub cause : IsUnopened fault script given input now
+
+-- the output has a header, and where it is to have so many frames its size would be past the limit of that
+pub record IsTooLong (script : Script) (count : Option ℕ) (size : ℕ) : Type 0 where
+  pub headed : script.output ≢ container.Raw
+  pub frames : ℕ
+  pub known : count ≡ Some frames
+  pub size_is : size ≡ riff_size script.output (format_of script) (channels_of script) (Some frames)
+  pub over : MAX_RIFF_SIZE < size
+
+-- the sizes in the output's header are within its limit
+abbrev pub Fits : Script → Header → Type 0
+Fits script header =
+    script.output ≢ container.Raw → HeaderFits script.output (format_of script) (channels_of script) (known_frames script header)
+
+-- ---- the samples
+
+-- so many bytes of samples are not more than those declared
+abbrev pub InDeclared : Option ℕ → ℕ → Type 0
+InDeclared declared count = IfSome declared (λ size. count ≤ size)
+
+-- the samples have ended behind so many bytes of them
+abbrev pub AreAll : Option ℕ → ℕ → SourceState → Type 0
+AreAll (Some size) count now = count ≡ size
+AreAll None count now = IsAtEnd now.left
+
+-- behind `taken` bytes of samples the front of the block came, and all of it unless the samples have ended, or the part of them that ends at `end`
+pub record PartRead (script : Script) (header : Header) (end taken : ℕ) (block : List ℕ) (count : ℕ) (input now : SourceState) : Type 0 where
+  pub within : count ≤ length block
+  pub gave : Gave input now (take count block)
+  pub declared : InDeclared (declared_bytes script header) (taken + count)
+  pub in_limit : header.start + taken + count ≤ 2 ^ 40
+  pub in_part : taken + count ≤ end
+  pub room_left : count < length block → header.size ≡ None → taken + count < end → header.start + taken + count < 2 ^ 40
+  pub ended : count < length block → (taken + count ≡ end) ⊎ AreAll (declared_bytes script header) (taken + count) now
+  pub no_fault : now.faults ≡ input.faults
+
+-- the same of all samples, which no part ends
+pub record BlockRead (script : Script) (header : Header) (taken : ℕ) (block : List ℕ) (count : ℕ) (input now : SourceState) : Type 0 where
+  pub within : count ≤ length block
+  pub gave : Gave input now (take count block)
+  pub declared : InDeclared (declared_bytes script header) (taken + count)
+  pub in_limit : header.start + taken + count ≤ 2 ^ 40
+  pub room_left : count < length block → header.size ≡ None → header.start + taken + count < 2 ^ 40
+  pub end : count < length block → AreAll (declared_bytes script header) (taken + count) now
+  pub no_fault : now.faults ≡ input.faults
+
+-- why it did not come
+abbrev pub IsUnread : InputFault → Script → Header → ℕ → SourceState → SourceState → Type 0
+IsUnread fault.Failed script header taken input now =
+    (now.faults ≡ one_more input.faults) × (header.start + taken < 2 ^ 40) × IfSome (declared_bytes script header) (λ size. taken < size)
+IsUnread (fault.Limit told most) script header taken input now =
+    (header.start + taken ≡ 2 ^ 40) × (told ≡ 2 ^ 40) × (most ≡ 2 ^ 40) × (now.faults ≡ input.faults) × IfSome (declared_bytes script header) (λ size. taken < size)
+IsUnread (fault.Header fault offset) script header taken input now =
+    (declared : ℕ) × (header.size ≡ Some declared) × (fault ≡ Short declared taken) × (offset ≡ header.start + taken) × IsAtEnd now.left × (now.faults ≡ input.faults)
+    × (taken < in_whole_frames script header.coding declared)
+
+-- less than a block came
+pub record Unread (script : Script) (header : Header) (taken size : ℕ) (fault : InputFault) (input now : SourceState) : Type 0 where
+  pub bytes : List ℕ
+  pub gave : Gave input now bytes
+  pub short : length bytes < size
+  pub in_limit : header.start + taken + length bytes ≤ 2 ^ 40
+  pub declared : InDeclared (declared_bytes script header) (taken + length bytes)
+  pub cause : IsUnread fault script header (taken + length bytes) input now
+
+-- and no byte of them behind the part
+pub record PartUnread (script : Script) (header : Header) (end taken size : ℕ) (fault : InputFault) (input now : SourceState) : Type 0 where
+  pub unread : Unread script header taken size fault input now
+  pub in_part : taken + length unread.bytes ≤ end
+
+-- ---- faults of the input
+
+-- the input ends before all declared whole frames came: what is declared, the bytes behind the header, and all bytes
+abbrev pub short_fault : Script → Header → ℕ → Option (HeaderFault × ℕ)
+short_fault script header count =
+    elim header.size [
+      | Some declared ↦ if nat_lt count (header.start + in_whole_frames script header.coding declared)
+          then Some (Short declared (count - header.start), count) else None
+      | None ↦ None
+    ]
+
+-- what is at fault in a WAVE input of these bytes, and where: its header, or its end
+abbrev pub wave_fault : Script → List ℕ → Option (HeaderFault × ℕ)
+wave_fault script bytes = elim (header_of bytes (wanted_of script)) [ Err fault ↦ Some fault | Ok header ↦ short_fault script header (length bytes) ]
+
+-- in the input of a script; raw samples have no fault
+abbrev pub input_fault : Script → List ℕ → Option (HeaderFault × ℕ)
+input_fault script bytes = elim script.input.kind [ kind.Raw rate ↦ None | kind.Wave ↦ wave_fault script bytes ]
+
+-- the bytes that were taken have this fault whatever comes behind them, or have it and are all there is
+abbrev pub HasFault : Script → List ℕ → SourceState → HeaderFault × ℕ → Type 0
+HasFault script given now fault =
+    ((more : List ℕ) → input_fault script (given ++ more) ≡ Some fault) ⊎ (IsAtEnd now.left × (input_fault script given ≡ Some fault))
+
+-- where the header is there and declares its samples, some are still to come
+abbrev pub AwaitsDeclared : Script → List ℕ → Type 0
+AwaitsDeclared script given =
+    HasHeader script given → IfSome (declared_bytes script (input_header script given)) (λ size. length given < (input_header script given).start + size)
+
+-- a further byte is wanted: the header is cut there and has no other fault, or declared samples are still to come
+pub record WantsMore (script : Script) (given : List ℕ) : Type 0 where
+  pub cut : (HasHeader script given → ⊥) → input_fault script given ≡ Some (NoSamples, length given)
+  pub declared : AwaitsDeclared script given

@@ -1,0 +1,17 @@
+use Rattle.std.proofs.Common.{arith, ap, sym, ◌∙◌, map, w16, w64, ◌*ℤ◌, ◌+ℤ◌}
+use Rattle.std.specs.Int.{int_wrap}
+use lib.Lanes.{zip2, chunk}
+use Rattle.dsp_lanes.proofs.LaneOps.{group_fits}
+use Rattle.dsp_lanes.proofs.LaneSums.{map-self, multiples_added}
+use Rattle.dsp_lanes.proofs.LaneClosings.{stored}
+use Rattle.dsp_lanes.proofs.q15.I16LaneKernels.mac_group.Goals as goal
+
+pub returns : goal.returns
+returns g c =
+    let at = c.args.at in
+    let n = g.row.L in
+    let sums = c.args.sums.now in
+    let row = c.args.row.now in
+    stored at sums _ _
+    ((multiples_added w16 w64 (omega arith) (omega arith) at n (chunk at n sums) c.args.tap row (group_fits w64 at n sums c.sums_64_fit.ensures c.requires.room) c.ranges.tap c.q15_fit.ensures c.requires.row).0
+    ∙ ap (λ l. zip2 (λ s x. int_wrap w64 (s +ℤ (c.args.tap *ℤ x))) (chunk at n l) (chunk at n (map (λ x. x) row))) (sym (map-self sums)))

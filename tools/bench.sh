@@ -16,7 +16,7 @@ top=$(cd "$(dirname "$(readlink -f "${BASH_SOURCE[0]}")")/.." && pwd) || exit 70
 folder=$(mktemp -d) || exit 70
 trap 'rm -rf "$folder"' EXIT
 
-[ -n "${DSPFX:-}" ] || "$top/dspfx" print "$top/examples/first/s.txt" >/dev/null || exit 70
+[ -n "${DSPFX:-}" ] || "$top/dspfx" prove || exit 70
 export PROGRAM=${DSPFX:-$top/build/dspfx}
 
 # launch FILE PROGRAM WORD..: writes microseconds of the processor, microseconds that passed, KiB at the

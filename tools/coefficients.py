@@ -1,17 +1,18 @@
 #!/usr/bin/env python3
 """Turns coefficients of a design tool or of CMSIS-DSP's C sources into a script, and back.
 
-Reads a C header or source (arrays of q7_t, q15_t, q31_t, int8_t to int32_t, float or double), a script of
-dspfx (the first list in it), a .npy file, or text with numbers. Writes a script, a block or a table of one, a C
-array, or a design.
+Reads a C header or source (arrays of q7_t, q15_t, q31_t, int8_t to int32_t, short, float or double), a script of
+dspfx (its first list, or --place), a .npy file, or text with numbers. Writes a script, a block or a table of one, a
+C array, or a design.
 
-Fractions are a design: taps stand from b[0] on, and a biquad is rows of b0 b1 b2 a0 a1 a2, as scipy's sos.
-They are times 2^7, 2^15 or 2^31, rounded half up and clamped. Whole numbers are taken as they stand, in the
-order of CMSIS-DSP's instances, which the script shares: taps of fir, decimate, interpolate and lms from
-b[T-1] down to b[0], and b0 (0 in q15) b1 b2 a1 a2 of a biquad, whose a1 and a2 have turned signs and whose
-numbers are divided by 2^p. The post shift p is the least that fits, or that of NAME_POST_SHIFT beside an array.
+Fractions are a design: taps from b[0] on, or, with --block biquad, rows of b0 b1 b2 a0 a1 a2, as scipy's sos. They
+are times 2^7, 2^15 or 2^31, and rounded half up. Whole numbers are taken as they are, in the order of CMSIS-DSP's
+instances, which the script shares: taps of fir, decimate, interpolate and lms from b[T-1] down to b[0], and
+b0 (0 in q15) b1 b2 a1 a2 of a biquad, whose a1 and a2 have opposite signs and whose numbers are divided by 2^p.
+The post shift p is that of the instance or of NAME_POST_SHIFT beside an array, or else the least that fits.
 
-Standard error says the greatest error of the rounding, and how far a sum can go beyond full scale.
+Standard error says the greatest error of the rounding, and how far each sum of the filter, or of each filter of a
+script, can go beyond full scale.
 
     tools/coefficients.py taps.txt                               a script: fir in q15, raw samples
     tools/coefficients.py sos.npy --block biquad --format q31    second-order sections
@@ -19,131 +20,101 @@ Standard error says the greatest error of the rounding, and how far a sum can go
     tools/coefficients.py script.txt --as c --name lowpass       a C array
 """
 import argparse
-import ast
 import math
 import re
 import struct
 import sys
 
+import c_source
+import language
+import samples
+
 BITS = {"q7": 7, "q15": 15, "q31": 31}
-TYPES = {"q7_t": "q7", "int8_t": "q7", "q15_t": "q15", "int16_t": "q15", "q31_t": "q31", "int32_t": "q31"}
-TYPES |= dict.fromkeys(["float", "double", "float32_t", "float64_t"])
-CAST = r"\(\s*(?:\w+_t|(?:unsigned\s+)?(?:char|short|int|long)|float|double)\s*\)"
 REVERSED = ("fir", "decimate", "interpolate", "lms")
 SECTIONS = ("biquad", "biquad64")
 SUMS = ("fir", "decimate", "interpolate", "sparse", "conv", "conv_partial", "correlate")
 SHIFTS = {("biquad", "q15"): 13, ("biquad", "q31"): 30, ("biquad64", "q31"): 30}
+MOST_NUMBERS = 16384
+NO_SOS = "scipy.signal.tf2sos(b, a), or output='sos' of the design"
 
 
 def stop(why):
     sys.exit(f"coefficients: {why}")
 
 
-class Numbers:
-    """What a file holds: whole numbers in the order of an instance, or the fractions of a design."""
+def note(text):
+    print(f"coefficients: {text}", file=sys.stderr)
 
-    def __init__(self, values, is_whole, form=None, shift=None, block=None):
-        self.values, self.is_whole, self.form, self.shift, self.block = values, is_whole, form, shift, block
+
+class Numbers:
+    """What a file holds: whole numbers in the order of an instance, or the fractions of a design.
+
+    `block` is the word of a block and the numbers before its list, where the file says them, `shift` a post shift,
+    `columns` how many numbers each row has, where all rows have as many, and `script` the script that was read."""
+
+    def __init__(self, values, is_whole, form=None, shift=None, block=None, columns=None, script=None):
+        self.values, self.is_whole, self.form, self.shift = values, is_whole, form, shift
+        self.block, self.columns, self.script = block, columns, script
 
 
 def of_npy(data):
     """The numbers of a .npy file of one or two dimensions."""
-    length = struct.unpack("<H" if data[6] == 1 else "<I", data[8 : 10 if data[6] == 1 else 12])[0]
-    start = (10 if data[6] == 1 else 12) + length
-    head = ast.literal_eval(data[start - length : start].decode())
-    kinds = {"f8": "d", "f4": "f", "i1": "b", "i2": "h", "i4": "i", "i8": "q"}
-    order, kind, shape = head["descr"][0], head["descr"][1:], head["shape"]
-    if kind not in kinds or len(shape) not in (1, 2):
-        stop(f"an array of {head['descr']} and shape {shape} is not read")
-    count = math.prod(shape)
-    values = struct.unpack_from(f"{'>' if order == '>' else '<'}{count}{kinds[kind]}", data, start)
-    if head["fortran_order"] and len(shape) == 2:
-        values = [values[column * shape[0] + row] for row in range(shape[0]) for column in range(shape[1])]
-    return Numbers(list(values), kind[0] == "i")
+    values, shape, kind = samples.array_of_npy(data)
+    return Numbers(values, kind[0] == "i", columns=shape[1] if len(shape) == 2 else None)
 
 
 def of_text(text):
     """Numbers between white space, commas and brackets; # and % begin a comment."""
-    words = re.sub(r"[][(),;{}]", " ", re.sub(r"[#%].*", "", text)).split()
+    lines = [re.sub(r"[][(),;{}]", " ", line).split() for line in re.sub(r"[#%].*", "", text).splitlines()]
+    lines = [line for line in lines if line]
+    words = [word for line in lines for word in line]
+    if not words:
+        stop("the file has no numbers")
+    columns = len(lines[0]) if len({len(line) for line in lines}) == 1 else None
     is_whole = all(re.fullmatch(r"[-+]?\d+", word) for word in words)
     try:
-        return Numbers([int(word) if is_whole else float(word) for word in words], is_whole)
+        return Numbers([int(word) if is_whole else float(word) for word in words], is_whole, columns=columns)
     except ValueError as error:
         stop(error)
 
 
-def of_script(text):
-    """The first block of a script that has a list, or the first table."""
-    text = re.sub(r"#.*", "", text)
-    form = re.search(r"\binput\s+\w+\s+(q\d+)", text)
-    found = re.search(r"\b([a-z][\w-]*)((?:\s+-?\d+)*)\s*\{([^}]*)\}", text)
-    if not found or not form:
-        stop("the script has no list")
-    before = re.findall(r"\bto\s+(q\d+)", text[: found.start()])
-    word, parameters = found[1], found[2].split()
-    shift = int(parameters[0]) if word in SECTIONS and parameters else None
-    block = None if re.search(r"\btable\s+$", text[: found.start()]) else " ".join([word, *parameters])
-    return Numbers([int(it) for it in found[3].split()], True, (before or [form[1]])[-1], shift, block)
-
-
-def c_number(word, defined, bits):
-    """A number of C: a cast, a hexadecimal of the type's own width, a suffix, a name that is defined."""
-    bare = re.sub(CAST, "", word).strip("() \t\n")
-    bare = re.sub(CAST, "", defined.get(bare, bare)).strip("() \t")
-    try:
-        if bits is None:
-            return float(bare.rstrip("fFlL"))
-        value = int(bare.rstrip("uUlL"), 0)
-    except ValueError:
-        stop(f"no number: {word.strip()[:60]}")
-    hexadecimal = bare.lower().startswith("0x")
-    return value - 2 ** (bits + 1) if hexadecimal and 2**bits <= value < 2 ** (bits + 1) else value
+def of_script(text, name, place):
+    """A list of a script: of the block at --place, of the table NAME, or the first one."""
+    script = language.read_script(text)
+    named = script.tables.get(name)
+    lists = [(number, it) for number, it in enumerate(script.blocks, 1) if it.lists]
+    if place is not None:
+        lists = [(number, it) for number, it in lists if number == place]
+    if not lists and named is None:
+        stop("the script has no list" if place is None else f"block {place} has no list, or is not there")
+    if named is not None and place is None:
+        form = next((it.form for _, it in lists if named in it.lists), script.form)
+        return Numbers(named, True, form, script=script)
+    number, block = lists[0]
+    if len(lists) > 1:
+        note(f"of {len(lists)} lists that of block {number} is taken: --place names another")
+    shift = int(block.numbers[0]) if block.word in SECTIONS else None
+    return Numbers(block.lists[0], True, block.form, shift, " ".join([block.word, *block.numbers]), script=script)
 
 
 def of_c(text, name):
-    """The array of this name, or the only one."""
-    text = re.sub(r"/\*.*?\*/|//[^\n]*", " ", text, flags=re.S)
-    defined = dict(re.findall(r"^[ \t]*#[ \t]*define[ \t]+(\w+)[ \t]+(.+?)[ \t]*$", text, re.M))
-    kinds = "|".join(TYPES)
-    array = rf"\b({kinds})\s+(?:const\s+)?(\w+)\s*((?:\[[^]]*\]\s*)+)[^=;{{]*=\s*\{{(.*?)\}}\s*;"
-    found = {it[1]: it for it in re.findall(array, text, re.S)}
-    if name is None and len(found) != 1:
-        stop(f"--name says which array: {', '.join(found) or 'there is none'}")
-    if name is not None and name not in found:
-        stop(f"no array {name}, only {', '.join(found) or 'none'}")
-    kind, name, lengths, body = found[name or next(iter(found))]
-    form = TYPES[kind]
-    words = [it for it in re.sub(r"[{}]", " ", body).split(",") if it.strip()]
-    values = [c_number(word, defined, BITS.get(form)) for word in words]
-    wanted = 1
-    for length in re.findall(r"\[([^]]*)\]", lengths):
-        length = re.sub(r"[A-Za-z_]\w*", lambda it: f"({defined.get(it[0], it[0])})", length).strip()
-        wanted *= eval(length) if re.fullmatch(r"[\d\s()+*-]+", length) else 0
-    if wanted and len(values) > wanted:
-        stop(f"{name} has {len(values)} numbers and the length {wanted}")
-    values += [0] * (wanted - len(values))
-    shift = next((it for key, it in defined.items() if key.lower() == f"{name}_post_shift".lower()), None)
-    return Numbers(values, form is not None, form, None if shift is None else int(shift, 0))
+    """The array of this name or of the instance of this name, or the only one."""
+    found = c_source.read(text, name)
+    return Numbers(found.values, found.form is not None, found.form, found.shift, found.block)
 
 
-def read(path, name):
+def read(path, name, place=None):
     try:
         with sys.stdin.buffer if path == "-" else open(path, "rb") as file:
             data = file.read()
         if data.startswith(b"\x93NUMPY"):
             return of_npy(data)
-    except (OSError, IndexError, struct.error, SyntaxError, ValueError) as error:
+        text = data.decode("utf-8", "replace").lstrip("\ufeff")
+        if re.match(r"(\s|#[^\n]*\n)*dspfx\s", text):
+            return of_script(text, name, place)
+        return of_c(text, name) if re.search(r"\]\s*[^=;{]*=\s*\{", text) else of_text(text)
+    except (OSError, IndexError, KeyError, struct.error, SyntaxError, ValueError) as error:
         stop(error)
-    text = data.decode("utf-8", "replace")
-    if re.match(r"(\s|#[^\n]*\n)*dspfx\s", text):
-        return of_script(text)
-    return of_c(text, name) if re.search(r"\]\s*[^=;{]*=\s*\{", text) else of_text(text)
-
-
-def rounded(values, form):
-    """Rounded half up and clamped."""
-    one = 2 ** BITS[form]
-    return [max(-one, min(one - 1, math.floor(value * one + 0.5))) for value in values]
 
 
 def rows_of(values, count, what):
@@ -152,22 +123,68 @@ def rows_of(values, count, what):
     return [values[start : start + count] for start in range(0, len(values), count)]
 
 
-def of_sections(rows):
-    """b0 b1 b2 and the fed back a1 a2 of rows b0 b1 b2 a0 a1 a2."""
+def is_sections(given):
+    """Whether fractions are rows of b0 b1 b2 1 a1 a2."""
+    return len(given.values) % 6 == 0 and len(given.values) > 0 and all(it == 1 for it in given.values[3::6])
+
+
+def is_transfer(given):
+    """Whether fractions are the two rows b and a of a transfer function: a begins with 1."""
+    return given.columns and len(given.values) == 2 * given.columns > 2 and given.values[given.columns] == 1
+
+
+def can_be_sections(numbers, form):
+    """Whether whole numbers may be sections as well as taps; taps are mostly the same from both ends."""
+    if numbers == numbers[::-1] or numbers == [-it for it in numbers[::-1]]:
+        return False
+    if form == "q15":
+        return len(numbers) % 6 == 0 and not any(numbers[1::6])
+    return form == "q31" and len(numbers) % 5 == 0
+
+
+def of_sections(rows, are_rows=True):
+    """b0 b1 b2 and the fed back a1 a2 of rows b0 b1 b2 a0 a1 a2. Numbers that were no rows of 6 have one a0."""
+    if any(row[3] == 0 or (row[3] != rows[0][3] and not are_rows) for row in rows):
+        stop("the fourth number of each row is a0, which is 1: rows are b0 b1 b2 a0 a1 a2, as scipy's sos has them. "
+             "Rows of an instance, b0 b1 b2 a1 a2, are written b0 b1 b2 1 -a1 -a2")  # fmt: skip
     return [[b0 / a0, b1 / a0, b2 / a0, -a1 / a0, -a2 / a0] for b0, b1, b2, a0, a1, a2 in rows]
 
 
-def quantised(design, word, form, shift):
+def rounded(values, form):
+    """Rounded half up; 1 becomes the greatest number."""
+    one = 2 ** BITS[form]
+    return [max(-one, min(one - 1, math.floor(value * one + 0.5))) for value in values]
+
+
+def halvings(values):
+    """How often these must be halved until each is in -1 to 1."""
+    return max(0, math.ceil(math.log2(max(max(map(abs, values), default=0), 1e-30))))
+
+
+def quantised(given, word, form, shift):
     """The whole numbers of a design in the order of an instance, and the post shift of a cascade."""
+    if not all(map(math.isfinite, given.values)):
+        stop("a number is not finite")
     if word not in SECTIONS:
-        numbers = rounded(design, form)
-        note_error(design, numbers, form, 0)
+        halved = halvings(given.values)
+        if halved:
+            stop(f"a number is {max(given.values, key=abs):g}, and {form} holds -1 to 1: divide all by {2**halved}, "
+                 f"and put `shift {halved}` after the block")  # fmt: skip
+        numbers = rounded(given.values, form)
+        note_error(given.values, numbers, form, 0)
         return numbers[::-1] if word in REVERSED else numbers, None
-    sections = of_sections(rows_of(design, 6, "b0 b1 b2 a0 a1 a2, as scipy's sos"))
+    if is_transfer(given) and not is_sections(given) and given.columns != 3:
+        stop(f"two rows b and a are no second-order sections: {NO_SOS}")
+    sections = of_sections(rows_of(given.values, 6, "b0 b1 b2 a0 a1 a2, as scipy's sos"), given.columns == 6)
     flat = [value for row in sections for value in row]
+    least, most = halvings(flat), SHIFTS[word, form]
     if shift is None:
         fits = lambda p: all(-1 <= it / 2**p and it / 2**p + 2.0 ** -(BITS[form] + 1) < 1 for it in flat)
-        shift = next((p for p in range(SHIFTS[word, form] + 1) if fits(p)), SHIFTS[word, form])
+        shift = next((p for p in range(most + 1) if fits(p)), None)
+    if shift is None or shift < least:
+        greatest = max(flat, key=abs)
+        stop(f"a coefficient is {greatest:g}, and --post-shift {least} is the least that holds it"
+             if least <= most else f"a coefficient is {greatest:g}, and no post shift holds it")  # fmt: skip
     numbers = rounded([value / 2**shift for value in flat], form)
     note_error(flat, numbers, form, shift)
     rows = rows_of(numbers, 5, "")
@@ -177,7 +194,7 @@ def quantised(design, word, form, shift):
 def note_error(design, numbers, form, shift):
     last = 2.0 ** (shift - BITS[form])
     error = max((abs(ideal - number * last) for ideal, number in zip(design, numbers)), default=0)
-    print(f"coefficients: greatest rounding error {error:.3g}, {error / last:.2f} of a last place", file=sys.stderr)
+    note(f"greatest rounding error {error:.3g}, {error / last:.2f} of a last place")
 
 
 def levels(sections):
@@ -195,35 +212,82 @@ def levels(sections):
     return found
 
 
-def note_sums(numbers, block, form, shift):
-    """Says how far the sums can go, over all inputs."""
+def note_sums(numbers, block, form, shift, level=1.0, where=""):
+    """Says how far the sums of a filter can go, over all inputs of at most `level`. Gives the last of these."""
     word, one = block[0], 2 ** BITS[form]
     if word in SECTIONS:
         sections = [[it * 2**shift / one for it in row] for row in in_fives(numbers, form)]
-        for place, level in enumerate(levels(sections), 1):
-            note_level(f"section {place}", level, form == "q31")
-    elif word in SUMS:
-        phases = int(block[1]) if word == "interpolate" and len(block) > 1 else 1
-        level = max((sum(map(abs, numbers[phase::phases])) / one for phase in range(phases)), default=0)
-        note_level("a sum", level, form == "q31" or (word == "sparse" and form == "q15" and level >= 2))
+        for place, reach in enumerate(levels(sections), 1):
+            level_now = None if reach is None else reach * level
+            note_level(f"{where}section {place}", level_now, form == "q31")
+        return 1.0 if level_now is None else level_now
+    phases = int(block[1]) if word == "interpolate" and len(block) > 1 else 1
+    reach = level * max((sum(map(abs, numbers[phase::phases])) / one for phase in range(phases)), default=0)
+    note_level(f"{where}a sum", reach, form == "q31" or (word == "sparse" and form == "q15" and reach >= 2))
+    return reach
 
 
 def note_level(what, level, wraps):
     if level is None:
-        print(f"coefficients: {what} does not settle", file=sys.stderr)
+        note(f"{what} does not settle")
     else:
         beyond = "" if level <= 1 else ", and wraps beyond it" if wraps else ", and is clipped at it"
-        print(f"coefficients: {what} can reach {level:.3f} of full scale{beyond}", file=sys.stderr)
+        note(f"{what} can reach {level:.3f} of full scale{beyond}")
+
+
+def plain_level(block, level):
+    """How far the samples after a block without sums of its own can go, or None where that is not judged."""
+    one, numbers = 2 ** BITS[block.form], [int(it) for it in block.numbers if it not in BITS]
+    return {
+        "offset": lambda: level + abs(numbers[0]) / one,
+        "scale": lambda: level * abs(numbers[0]) / one * 2.0 ** numbers[1],
+        "shift": lambda: level * 2.0 ** numbers[0],
+        "clip": lambda: min(level, max(map(abs, numbers)) / one),
+        "add": lambda: 2 * level,
+        "sub": lambda: 2 * level,
+        "mult": lambda: level * level,
+        "cmplx_mult": lambda: level * level / 2,
+        "cmplx_mult_real": lambda: level * level,
+        "cmplx_mag_squared": lambda: level * level / 2,
+        "mat_add": lambda: level + max(map(abs, block.lists[0])) / one,
+        "mat_sub": lambda: level + max(map(abs, block.lists[0])) / one,
+        "mat_scale": lambda: level * abs(numbers[2]) / one * 2.0 ** numbers[3],
+        "mat_mult": lambda: level * max(sum(map(abs, block.lists[0][it :: numbers[2]])) for it in range(numbers[2])) / one,
+        "lattice_fir": lambda: None,
+        "lattice_iir": lambda: None,
+        "lms": lambda: None,
+        "pid": lambda: None,
+    }.get(block.word, lambda: level)()
+
+
+def judge(script):
+    """Says of each block of a script how far it can go, where what comes in is at most full scale."""
+    level = 1.0
+    for number, block in enumerate(script.blocks, 1):
+        where = f"block {number} {block.word}: "
+        if block.word in SECTIONS or block.word in SUMS:
+            shift = int(block.numbers[0]) if block.word in SECTIONS else None
+            level = note_sums(block.lists[0], [block.word, *block.numbers], block.form, shift, level, where)
+        else:
+            level = plain_level(block, level)
+            if level is None:
+                note(f"{where}not judged")
+            elif level > 1:
+                note_level(f"{where}a sample", level, False)
+        level = 1.0 if level is None else min(level, 1.0)
 
 
 def in_fives(numbers, form):
-    if form == "q15":
-        return [row[:1] + row[2:] for row in rows_of(numbers, 6, "b0 0 b1 b2 a1 a2")]
-    return rows_of(numbers, 5, "b0 b1 b2 a1 a2")
+    if form != "q15":
+        return rows_of(numbers, 5, "b0 b1 b2 a1 a2")
+    rows = rows_of(numbers, 6, "b0 0 b1 b2 a1 a2")
+    if any(row[1] for row in rows):
+        note("the second number of a section is not 0: it is never used")
+    return [row[:1] + row[2:] for row in rows]
 
 
 def as_design(numbers, word, form, shift):
-    """The fractions that whole numbers stand for, b[0] first or as rows of sos."""
+    """The fractions that whole numbers are, b[0] first or as rows of sos."""
     one = 2 ** BITS[form]
     if word not in SECTIONS:
         return "".join(f"{it / one!r}\n" for it in (numbers[::-1] if word in REVERSED else numbers))
@@ -237,44 +301,107 @@ def as_c(numbers, name, form, shift):
     return f"{head}const {form}_t {name}[{len(numbers)}] = {{\n" + "".join(f"    {row},\n" for row in rows) + "};\n"
 
 
+def chosen_block(words, given):
+    """The word of the block, the numbers before its list, and its post shift."""
+    if words.block is None and given.block is None:
+        test_is_clear(words, given)
+    block = (words.block or given.block or ("biquad" if given.shift is not None else "fir")).split()
+    kind = language.BLOCKS.get(block[0] if block else "")
+    if kind is None or not kind.lists:
+        stop(f"{words.block} is no block with a list")
+    shift = given.shift
+    if block[0] in SECTIONS:
+        if len(block) > 2:
+            stop(f"{block[0]} has one number before its list, the post shift")
+        if words.block and len(block) == 2:
+            shift = of_word(block[1], "post shift")
+            if words.post_shift is not None and words.post_shift != shift:
+                stop(f"--block says the post shift {shift}, and --post-shift {words.post_shift}")
+        return block[:1], shift if words.post_shift is None else words.post_shift
+    if words.post_shift is not None:
+        stop(f"{block[0]} has no post shift: --block biquad or biquad64 has one")
+    if len(block) - 1 != kind.numbers and words.kind in ("script", "block"):
+        stop(f"{block[0]} has {kind.numbers} numbers before its list: --block '{block[0]}{' N' * kind.numbers}'")
+    return [block[0], *(str(of_word(it, "number")) for it in block[1:])], None
+
+
+def of_word(word, what):
+    if not re.fullmatch(r"-?\d+", word):
+        stop(f"{word} is no {what}")
+    return int(word)
+
+
+def test_is_clear(words, given):
+    """Refuses numbers that may be taps or sections where nothing says which."""
+    form = words.format or given.form or "q15"
+    if not given.is_whole and is_sections(given):
+        stop("rows of b0 b1 b2 1 a1 a2 look like second-order sections: --block biquad (or --block fir for taps)")
+    if not given.is_whole and is_transfer(given):
+        stop(f"two rows look like b and a of a transfer function, which no block takes: {NO_SOS}, and --block biquad "
+             "(or --block fir for taps)")  # fmt: skip
+    if given.is_whole and given.shift is None and can_be_sections(given.values, form):
+        stop(f"{len(given.values)} numbers may be taps or sections: --block fir, or --block biquad --post-shift P")
+
+
+def test_numbers(numbers, block, form, shift, kind):
+    """Refuses what no sound script could have."""
+    word, least = block[0], -(2 ** BITS[form])
+    wide = next((it for it in numbers if not least <= it < -least), None)
+    if wide is not None:
+        stop(f"{wide} is beyond {form}, {least} to {-least - 1}: --format names another format")
+    if form not in language.BLOCKS[word].formats:
+        stop(f"{word} has no {form}, only {' and '.join(language.BLOCKS[word].formats)}: --format")
+    if word in SECTIONS:
+        if shift is None:
+            stop("whole numbers of a biquad need their post shift: --post-shift P, or NAME_POST_SHIFT in the source")
+        if not 0 <= shift <= SHIFTS[word, form]:
+            stop(f"the post shift of {word} in {form} is 0 to {SHIFTS[word, form]}")
+        in_fives(numbers, form)
+    if word == "interpolate" and len(block) > 1 and len(numbers) % max(1, int(block[1])):
+        stop(f"interpolate {block[1]} takes a multiple of {block[1]} taps, and these are {len(numbers)}")
+    if not 1 <= len(numbers) <= MOST_NUMBERS:
+        stop(f"{len(numbers)} numbers: a list has 1 to {MOST_NUMBERS}")
+    if kind in ("script", "block") and language.BLOCKS[word].lists != 1:
+        stop(f"{word} has {language.BLOCKS[word].lists} lists: --as table writes one of them")
+
+
 def main():
     parser = argparse.ArgumentParser(description=__doc__, formatter_class=argparse.RawDescriptionHelpFormatter)
     parser.add_argument("file", help="what is read; - is standard input")
     parser.add_argument("--as", dest="kind", default="script", choices=["script", "block", "table", "c", "design"])
-    parser.add_argument("--block", help="a block's word and what stands before its list, as 'decimate 4'; else fir")
+    parser.add_argument("--block", help="a block's word and the numbers before its list, as 'decimate 4'; else fir")
     parser.add_argument("--format", choices=BITS, help="else that of the file, else q15")
-    parser.add_argument("--post-shift", type=int, help="of a biquad; else the least that fits")
-    parser.add_argument("--name", help="the array that is read; the array or table that is written")
+    parser.add_argument("--post-shift", type=int, help="of a biquad; else that of the file, or the least that fits")
+    parser.add_argument("--name", help="the array, instance or table that is read; the array or table that is written")
+    parser.add_argument("--place", type=int, help="of a script: which block's list is taken, counted from 1")
     parser.add_argument("--input", default="raw", choices=["raw", "wave"], help="the container of the script")
-    parser.add_argument("--channels", type=int, default=1)
-    parser.add_argument("--rate", type=int, default=48000, help="of raw samples")
+    parser.add_argument("--channels", type=int, default=1, choices=range(1, 17), metavar="1..16")
+    parser.add_argument("--rate", type=samples.positive, default=48000, help="of raw samples")
     words = parser.parse_args()
 
-    given = read(words.file, words.name)
-    block = words.block or given.block or "fir"
-    word, form = block.split()[0], words.format or given.form or "q15"
+    given = read(words.file, words.name, words.place)
+    block, shift = chosen_block(words, given)
+    word, form = block[0], words.format or given.form or "q15"
     if word in SECTIONS and (word, form) not in SHIFTS:
-        stop(f"{word} has no {form}")
-    shift = given.shift if words.post_shift is None else words.post_shift
-    if given.is_whole:
-        numbers, least = given.values, -(2 ** BITS[form])
-        if any(not least <= it < -least for it in numbers):
-            stop(f"a number is beyond {form}")
-        if word in SECTIONS and shift is None:
-            stop("whole numbers of a biquad have a post shift: --post-shift")
-    else:
-        numbers, shift = quantised(given.values, word, form, shift)
-    note_sums(numbers, block.split(), form, shift)
+        stop(f"{word} has no {form}, only {' and '.join(language.BLOCKS[word].formats)}: --format")
+    numbers = given.values
+    if not given.is_whole:
+        numbers, shift = quantised(given, word, form, shift)
+    test_numbers(numbers, block, form, shift, words.kind)
+    if given.script:
+        judge(given.script)
+    elif word in SECTIONS or word in SUMS:
+        note_sums(numbers, block, form, shift)
 
     if word in SECTIONS:
-        block = f"{word} {shift}"
+        block = [word, str(shift)]
     listed = "{" + " ".join(map(str, numbers)) + "}"
     head = f"input {words.input} {form} {words.channels}" + f" {words.rate}" * (words.input == "raw")
     name = words.name or "coefficients"
     print({
-        "script": lambda: f"dspfx 1\n{head}\n{block} {listed}\noutput {words.input}\n",
-        "block": lambda: f"{block} {listed}\n",
-        "table": lambda: f"table {name} {listed}\n",
+        "script": lambda: f"dspfx 1\n{head}\n{' '.join(block)} {listed}\noutput {words.input}\n",
+        "block": lambda: f"{' '.join(block)} {listed}\n",
+        "table": lambda: f"table {name.lower()} {listed}\n",
         "c": lambda: as_c(numbers, name, form, shift),
         "design": lambda: as_design(numbers, word, form, shift),
     }[words.kind](), end="")  # fmt: skip

@@ -1,7 +1,7 @@
 #!/usr/bin/env bash
-# WAVE files of other programs through `dspfx run`, and what it writes read by them: python's `wave`
-# module, and sox, libsndfile's tools and ffmpeg where they are installed. It is no part of the gate.
-# DSPFX names another program to be tried, which takes `run SCRIPT IN OUT`.
+# WAVE and Sun AU files of other programs through `dspfx run` and `dspfx convert`, and what it writes read
+# by them: python's `wave` module, and sox, libsndfile's tools and ffmpeg where they are installed. It is no
+# part of the gate. DSPFX names another program to be tried, which takes `run SCRIPT IN OUT`.
 . "$(dirname "$(readlink -f "${BASH_SOURCE[0]}")")/checking.sh"
 
 # Copies a WAVE file by a script of no blocks: copy FORMAT CHANNELS IN OUT [CONTAINER].
@@ -116,11 +116,48 @@ with_program() {
     done
 }
 
+# Writes a file again in the other form: turn FROM TO IN OUT.
+turn() {
+    rm -f "$4"
+    "$program" convert "$@"
+}
+
+# The noise as a Sun AU file of so many bits: au_by_PROGRAM BITS FILE.
+au_by_sox() { sox -D "$folder/noise.wav" -e signed-integer -b "$1" -t au "$2"; }
+au_by_sndfile() {
+    local kind=pcm$1
+    [ "$1" = 8 ] && kind=pcms8
+    sndfile-convert "-$kind" "$folder/noise.wav" "$folder/made.au" && mv "$folder/made.au" "$2"
+}
+au_by_ffmpeg() {
+    local kind=pcm_s$1be
+    [ "$1" = 8 ] && kind=pcm_s8
+    ffmpeg -v error -y -i "$folder/noise.wav" -c:a "$kind" -f au "$2"
+}
+
+# Files of a program in either form, converted here, and those read by it; and back.
+with_conversions() {
+    local program_of=$1 bits channels name status
+    for bits in 8 16 24 32; do
+        for channels in 1 2 6; do
+            name="$program_of, convert, $bits bits, $channels channels"
+            python_write 3 "$channels" 48000 333 "$folder/noise.wav"
+            "au_by_$program_of" "$bits" "$folder/in.au" >"$folder/log" 2>&1
+            status=$?
+            check "$name: written" test "$status" = 0
+            check "$name: to WAVE" turn au wave "$folder/in.au" "$folder/out.wav"
+            check "$name: WAVE as it was" same_by "$program_of" "$folder/in.au" "$folder/out.wav"
+            check "$name: to AU" turn wave au "$folder/out.wav" "$folder/out.au"
+            check "$name: AU as it was" same_by "$program_of" "$folder/in.au" "$folder/out.au"
+        done
+    done
+}
+
 if has python3; then
     with_python
-    if has sox; then with_program sox; fi
-    if has sndfile-convert; then with_program sndfile; fi
-    if has ffmpeg; then with_program ffmpeg; fi
+    if has sox; then with_program sox; with_conversions sox; fi
+    if has sndfile-convert; then with_program sndfile; with_conversions sndfile; fi
+    if has ffmpeg; then with_program ffmpeg; with_conversions ffmpeg; fi
 fi
 
 counted

@@ -20,7 +20,7 @@ class Module:
         self.imports, self.whole, self.items = {}, {}, {}
         with open(path, encoding='utf-8') as file:
             lines = file.read().splitlines()
-        name, start, comment = None, 0, None
+        name, start, comment, both = None, 0, None, False
         for number, line in enumerate(lines + ['-- ----']):
             used = IMPORT.match(line)
             if used:
@@ -44,7 +44,9 @@ class Module:
                 if name:
                     self.close(name, start, number if comment is None else comment, lines)
                 name, start = found.group(1), number if comment is None else comment
-                self.items.setdefault(name, (0, set(), comment is not None))
+                self.items.setdefault(name, (0, set(), both or comment is not None))
+                # (a comment that says `.., and ..` is that of a pair, as a way to write and the way to read it)
+                both = comment is not None and ', and ' in ' '.join(lines[comment:number])
             comment = None
         if name:
             self.close(name, start, len(lines), lines)

@@ -1,15 +1,29 @@
-"""Sample files, as tools/compare.py and tools/plot.py read them: WAVE, raw and text."""
+"""Reads sample files for tools/compare.py and tools/plot.py: WAVE, Sun AU, .npy, raw words, and text.
+
+A file of whole numbers has a format (q7, q15 or q31). A file of fractions of full scale has the format `float`.
+A WAVE file, an AU file and a .npy file say what they hold. A raw or a text file is read as the options say.
+
+Text is what has the ending of one (.txt, .csv, .log, .gdb, .hex): decimal numbers, hexadecimal words (0x.., or
+bare with --hex) in two's complement, fractions, what gdb prints of an array or by `x/`, and CSV with a heading.
+"""
 import array
-import os
+import ast
+import csv
+import math
+import re
+import struct
 import sys
-import wave
 
 CODES = {"q7": "b", "q15": "h", "q31": "i"}
 BITS = {"q7": 7, "q15": 15, "q31": 31}
+OF_WIDTH = {8: "q7", 16: "q15", 24: "q31", 32: "q31"}
+TEXTS = (".txt", ".csv", ".log", ".gdb", ".hex")
+PCM, FLOAT, EXTENSIBLE = 1, 3, 0xFFFE
+UNKNOWN_SIZE = 0xFFFFFFFF
 
 
 class Samples:
-    """The samples of a file, frame after frame."""
+    """The samples of a file, frame after frame: whole numbers of a format, or fractions where `form` is float."""
 
     def __init__(self, values, form, channels, rate):
         self.values, self.form, self.channels, self.rate = values, form, channels, rate
@@ -17,41 +31,223 @@ class Samples:
     def channel(self, place):
         return self.values[place :: self.channels]
 
+    def fractions(self):
+        """All samples as parts of full scale."""
+        return self.values if self.form == "float" else [it / 2 ** BITS[self.form] for it in self.values]
 
-def decoded(data, form):
-    """Little-endian signed words; a last one that is torn is left out."""
-    words = array.array(CODES[form])
+    def frames(self):
+        return len(self.values) // self.channels
+
+
+def words_of(data, code, is_big=False):
+    """The words of these bytes. A last one that is torn is left out."""
+    words = array.array(code)
     words.frombytes(data[: len(data) // words.itemsize * words.itemsize])
-    if sys.byteorder == "big":
+    if is_big != (sys.byteorder == "big"):
         words.byteswap()
     return words
 
 
-def read_wave(path):
-    with wave.open(path) as file:
-        form = {1: "q7", 2: "q15", 4: "q31"}.get(file.getsampwidth())
-        if form is None:
-            raise ValueError(f"{path}: {8 * file.getsampwidth()} bits are not read")
-        # (a length that is not known stands as the greatest, so no more is asked for than there is)
-        data = file.readframes(min(file.getnframes(), os.path.getsize(path)))
-        if form == "q7":
-            data = bytes(byte ^ 128 for byte in data)
-        return Samples(decoded(data, form), form, file.getnchannels(), file.getframerate())
+def decoded(data, form):
+    """Raw samples: little-endian, two's complement."""
+    return words_of(data, CODES[form])
 
 
-def read(path, form="q15", channels=1, rate=48000):
-    """A WAVE file says its format itself; of a .txt, .csv or .log file the whole numbers count; else it is raw."""
+def of_pcm(data, bits, is_big=False, is_unsigned=False):
+    """Samples of 8, 16, 24 or 32 bits; those of 24 bits are read as q31, times 256."""
+    if bits == 8:
+        return words_of(bytes(byte ^ 128 for byte in data) if is_unsigned else data, "b")
+    if bits == 24:
+        wide = bytearray(len(data) // 3 * 4)
+        for byte in range(3):
+            wide[byte + (not is_big) :: 4] = data[byte : len(data) // 3 * 3 : 3]
+        return words_of(bytes(wide), "i", is_big)
+    return words_of(data, CODES[OF_WIDTH[bits]], is_big)
+
+
+def read_wave(data):
+    """A WAVE file of 8 to 32 bits or of floats, with an extension or without."""
+    place, tag, size = 12, None, 0
+    while place + 8 <= len(data):
+        kind, size = struct.unpack_from("<4sI", data, place)
+        place += 8
+        if kind == b"fmt " and tag is None:
+            tag, channels, rate, _, _, bits = struct.unpack_from("<HHIIHH", data, place)
+            if tag == EXTENSIBLE:
+                (tag,) = struct.unpack_from("<H", data, place + 24)
+        elif kind == b"data":
+            break
+        place += size + size % 2
+    else:
+        raise ValueError("the WAVE file has no samples")
+    if tag is None:
+        raise ValueError("the WAVE file has no `fmt ` before its samples")
+    if not 1 <= channels or not ((tag == PCM and bits in OF_WIDTH) or (tag == FLOAT and bits in (32, 64))):
+        raise ValueError(f"a WAVE file with tag {tag}, {bits} bits and {channels} channels is not read")
+    body = data[place:] if size == UNKNOWN_SIZE else data[place : place + size]
+    if size != UNKNOWN_SIZE and len(body) < size:
+        raise ValueError(f"the WAVE file is cut: it declares {size} bytes of samples and has {len(body)}")
+    body = body[: len(body) // (channels * bits // 8) * (channels * bits // 8)]
+    if tag == FLOAT:
+        return Samples(words_of(body, "f" if bits == 32 else "d"), "float", channels, rate)
+    return Samples(of_pcm(body, bits, is_unsigned=True), OF_WIDTH[bits], channels, rate)
+
+
+def read_au(data):
+    """A Sun AU file of 8 to 32 bits, or of floats."""
+    start, size, encoding, rate, channels = struct.unpack_from(">5I", data, 4)
+    bits = {2: 8, 3: 16, 4: 24, 5: 32, 6: 32, 7: 64}.get(encoding)
+    if bits is None or channels < 1 or start < 24:
+        raise ValueError(f"an AU file with encoding {encoding}, {channels} channels and data at {start} is not read")
+    body = data[start:] if size == UNKNOWN_SIZE else data[start : start + size]
+    if size != UNKNOWN_SIZE and len(body) < size:
+        raise ValueError(f"the AU file is cut: it declares {size} bytes of samples and has {len(body)}")
+    body = body[: len(body) // (channels * bits // 8) * (channels * bits // 8)]
+    if encoding in (6, 7):
+        return Samples(words_of(body, "f" if bits == 32 else "d", is_big=True), "float", channels, rate)
+    return Samples(of_pcm(body, bits, is_big=True), OF_WIDTH[bits], channels, rate)
+
+
+def array_of_npy(data):
+    """The numbers of a .npy file of one or two dimensions row by row, its shape, and numpy's name of the type."""
+    length = struct.unpack("<H" if data[6] == 1 else "<I", data[8 : 10 if data[6] == 1 else 12])[0]
+    start = (10 if data[6] == 1 else 12) + length
+    head = ast.literal_eval(data[start - length : start].decode())
+    codes = {"f8": "d", "f4": "f", "i1": "b", "i2": "h", "i4": "i", "i8": "q"}
+    order, kind, shape = head["descr"][0], head["descr"][1:], head["shape"]
+    if kind not in codes or len(shape) not in (1, 2):
+        raise ValueError(f"an array of {head['descr']} and shape {shape} is not read")
+    count = math.prod(shape)
+    values = list(struct.unpack_from(f"{'>' if order == '>' else '<'}{count}{codes[kind]}", data, start))
+    if head["fortran_order"] and len(shape) == 2:
+        values = [values[column * shape[0] + row] for row in range(shape[0]) for column in range(shape[1])]
+    return values, shape, kind
+
+
+def read_npy(data, form, channels, rate):
+    """An array of frames, or of frames and channels; scipy.io.wavfile and numpy.fromfile give such ones."""
+    values, shape, kind = array_of_npy(data)
+    channels = shape[1] if len(shape) == 2 else channels
+    if kind[0] == "f":
+        return Samples(values, "float", channels, rate)
+    form = {"i1": "q7", "i2": "q15", "i4": "q31", "i8": form}[kind]
+    return Samples(in_range(values, form, "the array"), form, channels, rate)
+
+
+def in_range(values, form, what):
+    most = 2 ** BITS[form]
+    for place, value in enumerate(values):
+        if not -most <= value < most:
+            raise ValueError(f"{what}: number {place + 1}, {value}, is beyond {form}: --format names another format")
+    return values
+
+
+def number_of(word, form, is_hex):
+    """A whole number or a fraction. A hexadecimal word is taken in two's complement of the format's width."""
+    bare = word.lower()
+    if is_hex or re.match(r"[-+]?0x", bare):
+        value, width = int(bare, 16), BITS[form] + 1
+        if value >= 2**width:
+            raise ValueError(f"{word} has more than {width} bits: --format names another format")
+        return value - 2**width if value >= 2 ** (width - 1) else value
+    if re.fullmatch(r"[-+]?\d+", bare):
+        return int(bare)
+    if re.fullmatch(r"[-+]?(\d+\.?\d*|\.\d+)(e[-+]?\d+)?", bare):
+        return float(bare)
+    raise ValueError(f"no number: {word[:40]}")
+
+
+def column_places(row, wanted, channels):
+    """The places of the columns that are wanted, by the heading of a CSV file."""
+    names = [cell.strip() for cell in row]
+    if wanted is None:
+        if len(names) != channels:
+            raise ValueError(f"--column names the column of the samples: {', '.join(names)}")
+        return list(range(len(names)))
+    missing = [name for name in wanted.split(",") if name not in names]
+    if missing:
+        raise ValueError(f"no column {missing[0]}: {', '.join(names)}")
+    return [names.index(name) for name in wanted.split(",")]
+
+
+def words_of_csv(lines, wanted, channels):
+    """The cells of the columns that are wanted, row after row."""
+    text = "\n".join(lines)
+    mark = max(",;\t", key=lines[0].count)
+    rows = [row for row in csv.reader(text.splitlines(), delimiter=mark) if any(cell.strip() for cell in row)]
+    places = column_places(rows[0], wanted, channels)
+    for row in rows[1:]:
+        for place in places:
+            if place >= len(row):
+                raise ValueError(f"a row of {len(row)} cells: {mark.join(row)[:60]}")
+            yield row[place].strip()
+
+
+def words_of_lines(lines):
+    """The numbers of text: between white space, commas and braces, behind the address of a line of gdb's x/."""
+    for line in lines:
+        line = re.sub(r"^\s*0x[0-9a-fA-F]+(\s*<[^>]*>)?:", " ", line)
+        line = re.sub(r"^\s*\$\d+\s*=", " ", line)
+        # (gdb shortens equal numbers: {0 <repeats 15 times>, 1})
+        line = re.sub(r"([-\w.]+)\s*<repeats (\d+) times>", lambda it: f"{it[1]} " * int(it[2]), line)
+        if "..." in line:
+            raise ValueError("gdb left numbers out (...): `set print elements 0` shows all")
+        yield from re.sub(r"[][(){},;]", " ", line).split()
+
+
+def is_heading(line):
+    """Whether a line of text has words that are no numbers, as the first one of CSV files has."""
+    return bool(re.search(r"[A-Za-z_]", re.sub(r"0x[0-9a-fA-F]+|<[^>]*>|\d[eE][-+]?\d", "", line))) and ":" not in line
+
+
+def read_text(text, form, channels, rate, column=None, is_hex=False):
+    """Numbers in a text; fractions where one has a point or an exponent."""
+    lines = [line for line in re.sub(r"#.*", "", text.lstrip("\ufeff")).splitlines() if line.strip()]
+    if not lines:
+        raise ValueError("no numbers")
+    if column is not None or (not is_hex and is_heading(lines[0])):
+        words = words_of_csv(lines, column, channels)
+    else:
+        words = words_of_lines(lines)
+    values = [number_of(word, form, is_hex) for word in words]
+    if any(isinstance(value, float) for value in values):
+        return Samples([float(value) for value in values], "float", channels, rate)
+    return Samples(in_range(values, form, "the text"), form, channels, rate)
+
+
+def read(path, form="q15", channels=1, rate=48000, column=None, is_hex=False):
+    """The samples of a file, by its first bytes, or else by the ending of its name."""
     with open(path, "rb") as file:
         data = file.read()
-    if data[:4] == b"RIFF":
-        return read_wave(path)
-    if path.endswith((".txt", ".csv", ".log")):
-        words = data.decode("utf-8", "replace").replace(",", " ").replace(";", " ").split()
-        return Samples([int(word, 0) for word in words], form, channels, rate)
+    try:
+        if data[:4] == b"RIFF":
+            return read_wave(data)
+        if data[:4] == b".snd":
+            return read_au(data)
+        if data[:6] == b"\x93NUMPY":
+            return read_npy(data, form, channels, rate)
+        if path.lower().endswith(TEXTS):
+            return read_text(data.decode("utf-8", "replace"), form, channels, rate, column, is_hex)
+    except (ValueError, KeyError, IndexError, SyntaxError, struct.error) as error:
+        raise ValueError(f"{path}: {error}") from error
     return Samples(decoded(data, form), form, channels, rate)
 
 
 def add_arguments(parser):
     parser.add_argument("--format", default="q15", choices=CODES, help="of raw and text files; else q15")
-    parser.add_argument("--channels", type=int, default=1, help="of raw and text files; else 1")
-    parser.add_argument("--rate", type=int, default=48000, help="of raw and text files; else 48000")
+    parser.add_argument("--channels", type=positive, default=1, help="of raw and text files; else 1")
+    parser.add_argument("--rate", type=positive, default=48000, help="of raw and text files; else 48000")
+    parser.add_argument("--column", metavar="NAME", help="of CSV files with a heading; NAME,NAME for two channels")
+    parser.add_argument("--hex", action="store_true", help="bare words of text files are hexadecimal")
+
+
+def positive(word):
+    value = int(word)
+    if value < 1:
+        raise ValueError
+    return value
+
+
+def read_by(words, path):
+    """The samples of a file, as the options of a command say."""
+    return read(path, words.format, words.channels, words.rate, words.column, words.hex)

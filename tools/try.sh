@@ -1,6 +1,7 @@
 #!/usr/bin/env bash
-# Runs the program's words with no proof, within a minute, for as long as nothing is built: tools/try.sh
-# run SCRIPT IN OUT. It has the program compiled with checks, so a run is slow, and ends after 10 minutes.
+# Runs the program's words with no proof, in about a minute: tools/try.sh run SCRIPT IN OUT. It has the program
+# compiled with checks each time, so a run is slow, and ends after 10 minutes. ./dspfx calls it where it could not
+# keep such a program (tools/unproved.py).
 top=$(cd "$(dirname "$(readlink -f "${BASH_SOURCE[0]}")")/.." && pwd) || exit 70
 command -v rt >/dev/null || { echo "dspfx: rt, the command of the Rattle toolchain, is not on the PATH" >&2; exit 70; }
 echo "dspfx: compiled without its proofs: nothing is proved of this run" >&2
@@ -10,7 +11,7 @@ words=()
 for place in $(seq $#); do
     word=${!place}
     case ${1-}:$place in
-    run:[234] | gen:[45] | print:2) [[ -z $word || $word = /* ]] || word=$PWD/$word ;;
+    run:[234] | gen:[45] | print:2 | convert:[45]) [[ -z $word || $word = /* ]] || word=$PWD/$word ;;
     esac
     words+=("$word")
 done
@@ -18,5 +19,9 @@ log=$(mktemp) || exit 70
 trap 'rm -f "$log"' EXIT
 (cd "$top/crates/dspfx" && exec rt try --seconds 600 -- "${words[@]}") 2>"$log" </dev/null
 status=$?
-grep -q '^run=ended ' "$log" || { cat "$log" >&2; exit 70; }
+grep -q '^run=ended ' "$log" || {
+    cat "$log" >&2
+    echo 'dspfx: the run without proofs did not end: it has 10 minutes; the program that `./dspfx prove` builds has no such limit' >&2
+    exit 70
+}
 exit $status

@@ -1,0 +1,677 @@
+#!/usr/bin/env python3
+"""Tests of what a first day with the program stumbled over: aliases, faults, pictures, comparisons, coefficients.
+
+    tools/first_day.py [CLASS ..]      Aliases, Faults, Reading, Comparing, Coefficients, Pictures, Wrapper,
+                                       Installing, Machines
+
+Each case calls a command as a user does, and compares numbers and texts with what is worked out here. DSPFX_PROGRAM
+names another program for ./dspfx. Pictures are left out where matplotlib is not there.
+"""
+import importlib.util
+import math
+import os
+import re
+import shutil
+import socket
+import struct
+import subprocess
+import sys
+import tempfile
+import unittest
+
+TOP = os.path.dirname(os.path.dirname(os.path.abspath(__file__)))
+DSPFX = f"{TOP}/dspfx"
+COPY = "dspfx 1 input raw q15 1 8000 output raw"
+HAS_PLOTS = importlib.util.find_spec("matplotlib") and importlib.util.find_spec("numpy")
+
+
+class Ran:
+    """What a command wrote, and its status."""
+
+    def __init__(self, folder, words, data=None):
+        ran = subprocess.run(words, cwd=folder, input=data, stdin=None if data is not None else subprocess.DEVNULL,
+                             stdout=subprocess.PIPE, stderr=subprocess.PIPE)  # fmt: skip
+        self.status = ran.returncode
+        self.out, self.err = (it.decode(errors="replace") for it in (ran.stdout, ran.stderr))
+
+
+class Case(unittest.TestCase):
+    """A case has a folder of its own."""
+
+    def setUp(self):
+        self.folder = tempfile.mkdtemp()
+        self.addCleanup(shutil.rmtree, self.folder)
+
+    def path(self, name):
+        return f"{self.folder}/{name}"
+
+    def write(self, name, content):
+        with open(self.path(name), "wb") as file:
+            file.write(content.encode() if isinstance(content, str) else content)
+        return name
+
+    def content(self, name):
+        with open(self.path(name), "rb") as file:
+            return file.read()
+
+    def dspfx(self, *words):
+        return Ran(self.folder, [DSPFX, *words])
+
+    def tool(self, name, *words):
+        return Ran(self.folder, [sys.executable, f"{TOP}/tools/{name}.py", *words])
+
+    def ends(self, ran, status, *texts):
+        """The status, and texts on either stream."""
+        self.assertEqual(ran.status, status, ran.out + ran.err)
+        for text in texts:
+            self.assertIn(text, ran.out + ran.err)
+
+
+def words16(*values):
+    return struct.pack(f"<{len(values)}h", *values)
+
+
+def wave_file(bits, channels, values, rate=8000, is_extensible=False):
+    """A WAVE file, by formulas of its own: values are whole numbers of so many bits."""
+    width = bits // 8
+    data = b"".join((value + 128 if bits == 8 else value).to_bytes(width, "little", signed=bits > 8) for value in values)
+    tail = struct.pack("<HHI", 22, bits, 0) + bytes.fromhex("0100000000001000800000aa00389b71") if is_extensible else b""
+    form = struct.pack("<HHIIHH", 0xFFFE if is_extensible else 1, channels, rate, rate * channels * width, channels * width, bits)
+    body = b"WAVEfmt " + struct.pack("<I", len(form + tail)) + form + tail + b"data" + struct.pack("<I", len(data)) + data
+    return b"RIFF" + struct.pack("<I", len(body)) + body + b"\0" * (len(data) % 2)
+
+
+def au_file(bits, channels, values, rate=8000, size=None):
+    data = b"".join(value.to_bytes(bits // 8, "big", signed=True) for value in values)
+    return b".snd" + struct.pack(">5I", 24, len(data) if size is None else size, {8: 2, 16: 3, 24: 4, 32: 5}[bits], rate, channels) + data
+
+
+def npy_file(kind, code, shape, values):
+    head = f"{{'descr': '{kind}', 'fortran_order': False, 'shape': {shape}, }}".ljust(117) + "\n"
+    return b"\x93NUMPY\1\0" + struct.pack("<H", len(head)) + head.encode() + struct.pack(f"<{len(values)}{code}", *values)
+
+
+class Aliases(Case):
+    """An output that is the input or the script under another name is refused, and nothing is lost."""
+
+    COMMANDS = {
+        "run, the input": (["run", "script", "in.raw"], "in.raw"),
+        "run, the script": (["run", "script", "in.raw"], "script"),
+        "gen, the script": (["gen", "1", "100", "script"], "script"),
+        "convert wave au": (["convert", "wave", "au", "in.wav"], "in.wav"),
+        "convert au wave": (["convert", "au", "wave", "in.au"], "in.au"),
+    }
+
+    def setUp(self):
+        super().setUp()
+        self.write("script", COPY)
+        self.write("in.raw", bytes(range(256)) * 400)
+        self.write("in.wav", wave_file(16, 1, range(20000)))
+        self.write("in.au", au_file(16, 1, range(20000)))
+
+    def refused(self, alias):
+        for name, (words, target) in self.COMMANDS.items():
+            with self.subTest(name):
+                output = alias(target)
+                before = self.content(target)
+                ran = self.dspfx(*words, output)
+                self.assertEqual(self.content(target), before)
+                self.ends(ran, 8, "dspfx: output not written\n", "is the same file as", output, target)
+
+    def linked(self, make, target):
+        name = f"alias-of-{target}"
+        if os.path.lexists(self.path(name)):
+            os.remove(self.path(name))
+        make(self.path(target), self.path(name))
+        return name
+
+    def test_another_spelling(self):
+        self.refused(lambda target: f"./{target}")
+
+    def test_an_absolute_name(self):
+        self.refused(self.path)
+
+    def test_a_hard_link(self):
+        self.refused(lambda target: self.linked(os.link, target))
+
+    def test_a_symbolic_link(self):
+        self.refused(lambda target: self.linked(os.symlink, target))
+
+    def test_through_a_link_to_a_folder(self):
+        os.symlink(self.folder, self.path("here"))
+        self.refused(lambda target: f"here/{target}")
+
+    def test_the_same_word(self):
+        for name, (words, target) in self.COMMANDS.items():
+            with self.subTest(name):
+                before = self.content(target)
+                self.ends(self.dspfx(*words, target), 1, f"{target}, which would be lost: name another output")
+                self.assertEqual(self.content(target), before)
+
+    def test_an_old_output(self):
+        """A run that is refused leaves an output as it was; one that fails later leaves what it wrote."""
+        self.write("out", "old")
+        self.write("faulty", "dspfx 1 input")
+        self.assertEqual(self.dspfx("run", "faulty", "in.raw", "out").status, 2)
+        self.assertEqual(self.content("out"), b"old")
+        self.write("cut.wav", wave_file(16, 1, range(1000))[:1044])
+        self.write("copy", "dspfx 1 input wave q15 1 output raw")
+        self.assertEqual(self.dspfx("run", "copy", "cut.wav", "out").status, 4)
+        self.assertEqual(self.content("out"), words16(*range(256)))
+
+
+class Faults(Case):
+    """After each status the wrapper says what to do, and the report stays."""
+
+    def script(self, text, *hints):
+        self.write("s.txt", text)
+        self.ends(self.dspfx("print", "s.txt"), 2, *hints)
+
+    def test_words(self):
+        self.write("s.txt", COPY)
+        for words, hint in (
+            ([], "no command"), (["rum", "a"], "run is one"), (["run", "a", "b"], "and here are 2"),
+            (["run", "s.txt", "a", "b", "--block", "64"], "`block N` at the end"),
+            (["run", "s.txt", "a", "b", "block", "12345678901"], "one to ten digits"),
+            (["gen", "1", "99999999", "s.txt", "o"], "at most 16777216, and here is 99999999"),
+            (["gen", "9999999999", "1", "s.txt", "o"], "SEED is at most 4294967295"),
+            (["run", "s.txt", "", "o"], "word 2 after run is empty"),
+        ):  # fmt: skip
+            with self.subTest(words):
+                ran = self.dspfx(*words)
+                self.ends(ran, 1, hint)
+                self.assertRegex(ran.out, r"\Adspfx: usage: [^\n]*\n\Z")
+
+    def test_scripts(self):
+        head = "dspfx 1\ninput raw q15 1 8000\n"
+        self.script(b"\xef\xbb\xbf" + COPY.encode(), "s.txt:1:1: BadByte", "byte order mark (EF BB BF)")
+        self.script(COPY.encode("utf-16"), "byte order mark (FF FE)")
+        self.script("", "the script is empty")
+        self.script(wave_file(16, 1, [1]), "this is a WAVE file")
+        self.script(head + "fir {1 2 3\noutput raw\n", "s.txt:4:1: BadNumber", "list that begins at 3:5 is not closed")
+        self.script(head + "fir {1 2 3\n", "list that begins at 3:5 is not closed")
+        self.script(head + "firr {1}\noutput raw", "firr is no block; fir is one")
+        self.script(head + "fir {0.5}\noutput raw", "numbers are whole")
+        self.script(head + "fir {1, 2}\noutput raw", "no `,`")
+        self.script(head + "FIR {1}\noutput raw", "small letters")
+        self.script(head + "fir {40000}\noutput raw", "-32768 to 32767 in fir")
+        self.script(head + "add\noutput raw", "add takes 2 channels, and the signal has 1")
+        self.script(head + "interpolate 2 {1 2 3}\noutput raw", "a multiple of 2 taps, and these are 3")
+        self.script("dspfx 1\ninput raw q7 1 8000\nbiquad 0 {1}\n", "q7 has no biquad; q15 and q31 have")
+        self.script("dspfx 1\ninput raw q15 1 8000\nbiquad64 0 {1}\n", "q15 has no biquad64; q31 has")
+        self.script("dspfx 1\ninput wave q15 1 48000\noutput raw", "has no rate")
+        self.script("dspfx 1 input wave q15 1 table a {1} fir a output raw", "write `dspfx 2`")
+
+    def test_a_good_script_is_run_once(self):
+        self.write("count", f"#!/bin/sh\necho call >>{self.path('calls')}\nexit 0\n")
+        os.chmod(self.path("count"), 0o755)
+        self.write("s.txt", COPY)
+        subprocess.run([DSPFX, "run", "s.txt", "a", "b"], cwd=self.folder, env=dict(os.environ, DSPFX_PROGRAM=self.path("count")))
+        self.assertEqual(self.content("calls"), b"call\n")
+
+    def test_block_lengths(self):
+        self.write("s.txt", "dspfx 1 input raw q15 1 8000 decimate 6 {1} output raw")
+        self.write("in.raw", bytes(100))
+        self.ends(self.dspfx("run", "s.txt", "in.raw", "o", "block", "100"), 3, "multiple of 6 frames", "96 and 102")
+        self.ends(self.dspfx("run", "s.txt", "in.raw", "o", "block", "65537"), 3, "nearest to 65537: 65532")
+
+    def test_headers(self):
+        self.write("s.txt", "dspfx 1 input wave q15 1 output wave")
+        floats = bytearray(wave_file(32, 1, [1, 2]))
+        floats[20] = 3
+        for name, data, hint in (
+            ("24", wave_file(24, 1, [1]), "`input wave q31 1 to q15`"), ("stereo", wave_file(16, 2, [1, 2]), "`input wave q15 2`"),
+            ("float", bytes(floats), "holds floating point"), ("empty", b"", "is empty"), ("raw", b"1234" * 9, "is no WAVE file"),
+            ("au", au_file(16, 1, [1]), "convert au wave"), ("cut", wave_file(16, 1, range(9))[:50], "was cut"),
+            ("flac", b"fLaC" + bytes(50), "is a FLAC file"),
+        ):  # fmt: skip
+            with self.subTest(name):
+                self.write("in", data)
+                self.ends(self.dspfx("run", "s.txt", "in", "o"), 4, hint)
+
+    def test_lengths(self):
+        self.write("s.txt", "dspfx 1 input raw q7 1 8000 correlate {1} output raw")
+        self.write("in", bytes(1048577))
+        self.ends(self.dspfx("run", "s.txt", "in", "o"), 5, "at most 1,048,576 samples")
+
+    def test_files(self):
+        self.write("s.txt", COPY)
+        self.write("in", bytes(4))
+        os.mkdir(self.path("folder"))
+        self.ends(self.dspfx("run", "none", "in", "o"), 6, "script none: no such file or directory")
+        self.ends(self.dspfx("run", "folder", "in", "o"), 6, "script folder: is a folder")
+        self.ends(self.dspfx("run", "s.txt", "none", "o"), 7, "input none: no such file or directory")
+        self.ends(self.dspfx("run", "s.txt", "in", "missing/o"), 8, "there is no folder missing")
+        self.ends(self.dspfx("run", "s.txt", "in", "folder"), 8, "output folder: is a folder")
+        self.ends(self.dspfx("run", "s.txt", "in", "/dev/full"), 8, "no space left on device")
+        if os.geteuid():
+            os.chmod(self.path("folder"), 0o555)
+            self.ends(self.dspfx("run", "s.txt", "in", "folder/o"), 8, "permission denied")
+
+    def test_signals(self):
+        """A wrapper that is told to end ends the program too."""
+        os.mkfifo(self.path("pipe"))
+        self.write("s.txt", COPY)
+        running = subprocess.Popen([DSPFX, "run", "s.txt", "pipe", "o"], cwd=self.folder, stdout=subprocess.DEVNULL)
+        with open(self.path("pipe"), "wb", buffering=0) as pipe:
+            running.terminate()
+            self.assertEqual(running.wait(10), -15)
+            with self.assertRaises(BrokenPipeError):
+                pipe.write(bytes(4))
+
+
+class Reading(Case):
+    """One reader for all sample files."""
+
+    def read(self, name, content, **options):
+        self.write(name, content)
+        sys.path.insert(0, f"{TOP}/tools")
+        import samples
+
+        return samples.read(self.path(name), **options)
+
+    def is_read(self, name, content, form, count, values, **options):
+        found = self.read(name, content, **options)
+        self.assertEqual((found.form, found.channels, list(found.values)), (form, count, values))
+
+    def test_wave(self):
+        for is_extensible in (False, True):
+            for bits, form, by in ((8, "q7", 1), (16, "q15", 1), (24, "q31", 256), (32, "q31", 1)):
+                values = [-(2 ** (bits - 1)), 1, -1, 2 ** (bits - 1) - 1, 5, 6]
+                file = wave_file(bits, 2, values, 44100, is_extensible)
+                self.is_read("x", file, form, 2, [it * by for it in values])
+                self.assertEqual(self.read("x", file).rate, 44100)
+        with self.assertRaises(ValueError):
+            self.read("x", wave_file(16, 1, range(10))[:-4])
+
+    def test_au(self):
+        for bits, form, by in ((8, "q7", 1), (16, "q15", 1), (24, "q31", 256), (32, "q31", 1)):
+            values = [-(2 ** (bits - 1)), 1, -1, 2 ** (bits - 1) - 1]
+            self.is_read("x", au_file(bits, 2, values), form, 2, [it * by for it in values])
+            self.is_read("x", au_file(bits, 2, values, size=0xFFFFFFFF), form, 2, [it * by for it in values])
+
+    def test_npy(self):
+        self.is_read("x", npy_file("<i2", "h", (2, 2), [1, 2, 3, -4]), "q15", 2, [1, 2, 3, -4])
+        self.is_read("x", npy_file("<f8", "d", (3,), [0.5, -1.0, 0.25]), "float", 1, [0.5, -1.0, 0.25])
+
+    def test_text(self):
+        self.is_read("x.txt", "1 -2, 0x10\n# 7\n0xfffe;0x8000", "q15", 1, [1, -2, 16, -2, -32768])
+        self.is_read("x.gdb", "0x20000010 <output>:\t1\t-2\n0x20000014 <output+4>:\t3\t4\n", "q15", 1, [1, -2, 3, 4])
+        self.is_read("x.gdb", "0x20000010:\t0xff85\t0x0001\n", "q15", 1, [-123, 1])
+        self.is_read("x.gdb", "$1 = {0 <repeats 3 times>, -7, 9}\n", "q15", 1, [0, 0, 0, -7, 9])
+        self.is_read("x.hex", "FF85 0001 7fff", "q15", 1, [-123, 1, 32767], is_hex=True)
+        self.is_read("x.csv", "left,right\n1,2\n3,4\n", "q15", 2, [1, 2, 3, 4], channels=2)
+        self.is_read("x.csv", "n;value\n0;5\n1;-6\n", "q15", 1, [5, -6], column="value")
+        self.is_read("x.txt", "0.5\n-1e-1\n0", "float", 1, [0.5, -0.1, 0])
+        for text, options in (("n,value\n0,5\n", {}), ("a,b\n1,2\n", {"column": "c"}), ("40000", {}), ("0x12345", {}),
+                              ("$1 = {1, 2...}", {}), ("one two\nthree", {}), ("", {})):  # fmt: skip
+            with self.assertRaises(ValueError, msg=text):
+                self.read("x.csv", text, **options)
+
+
+class Comparing(Case):
+    """tools/compare.py says all places, and never says `same` wrongly."""
+
+    def test_a_wrong_bit(self):
+        values = list(range(500))
+        self.write("a.raw", words16(*values))
+        wrong = bytearray(words16(*values))
+        wrong[201] ^= 1
+        self.write("b.raw", bytes(wrong))
+        ran = self.tool("compare", "a.raw", "b.raw")
+        self.ends(ran, 1, "frame 100 channel 0: wanted 100, found 356, by 256\n", "differ: 1 of 500 samples", "greatest: 256")
+
+    def test_many_places(self):
+        self.write("a.raw", words16(*range(100)))
+        self.write("b.raw", words16(*(it + (it >= 60) for it in range(100))))
+        ran = self.tool("compare", "a.raw", "b.raw", "--channels", "2")
+        self.ends(ran, 1, "frame 30 channel 0: wanted 60, found 61, by 1", "and 20 more", "differ: 40 of 100 samples")
+        self.assertEqual(ran.out.count("wanted"), 20)
+        self.ends(self.tool("compare", "a.raw", "b.raw", "--within", "1"), 0, "greatest: 1", "same: 100 samples, within 1")
+
+    def test_fractions(self):
+        values = [1000, -20000, 30000]
+        self.write("a.npy", npy_file("<f8", "d", (3,), [(it + 0.5) / 32768 for it in values]))
+        self.write("b.raw", words16(*values))
+        noise, power = 3 * 0.25, sum((it + 0.5) ** 2 for it in values)
+        self.ends(self.tool("compare", "a.npy", "b.raw"), 1, "greatest: 0.5 last places", f"signal to noise: {10 * math.log10(power / noise):.1f} dB")
+        self.ends(self.tool("compare", "a.npy", "b.raw", "--within", "0.5"), 0, "within 0.5")
+        self.write("nan.npy", npy_file("<f8", "d", (3,), [math.nan] * 3))
+        self.assertEqual(self.tool("compare", "nan.npy", "b.raw", "--within", "9").status, 1)
+
+    def test_a_shift(self):
+        values = [(it * it * 7919) % 30011 - 15000 for it in range(600)]
+        self.write("a.raw", words16(*values))
+        self.write("late.raw", words16(*([0] * 37 + values[:-37])))
+        self.write("early.raw", words16(*values[21:]))
+        self.ends(self.tool("compare", "a.raw", "late.raw", "--lag", "50", "--common"), 0, "lag: 37 frames", "same: 563 samples")
+        self.ends(self.tool("compare", "a.raw", "early.raw", "--lag", "50"), 0, "lag: -21 frames", "same: 579 samples")
+        self.ends(self.tool("compare", "a.raw", "late.raw", "--lag", "50"), 1, "lengths: 600 and 563 samples")
+
+    def test_wave_of_all_kinds(self):
+        values = [-5, 7, 100, -100]
+        self.write("a.wav", wave_file(24, 2, values))
+        self.write("b.wav", wave_file(32, 2, [it * 256 for it in values], is_extensible=True))
+        self.write("c.au", au_file(24, 2, values))
+        for other in ("b.wav", "c.au"):
+            self.ends(self.tool("compare", "a.wav", other), 0, "same: 4 samples")
+        self.write("d.wav", wave_file(24, 1, values))
+        self.ends(self.tool("compare", "a.wav", "d.wav"), 2, "2 channels and 1")
+
+    def test_what_is_not_compared(self):
+        self.write("a.raw", words16(1, 2, 3))
+        self.ends(self.tool("compare", "a.raw", "a.raw", "--channels", "2"), 2, "no whole number of frames")
+        self.ends(self.tool("compare", "a.raw", "a.raw", "--offset", "9"), 2, "leaves none")
+        self.ends(self.tool("compare", "a.raw", "none.raw"), 2)
+
+
+C_SOURCE = """
+#define EQ_STAGES (2)
+#define EQ_POSTSHIFT (2u)
+#if 0
+q15_t eq_coeffs[12] = {0};
+#endif
+const short eq_coeffs[12] = {1<<14, 0, INT16_MAX, -(1<<13), 3, 4, 5, 0, 6, 7, 8, 9};
+arm_biquad_casd_df1_inst_q15 eq = { EQ_STAGES, eq_state, (q15_t *)eq_coeffs, EQ_POSTSHIFT };
+q31_t taps[4] = {1, 2, 3, 4};
+q15_t six[6] = {1, 0, 2, 3, 4, 5};
+q31_t wide[5] = {1, 2, 3, 4, 5};
+#define WIDE_POST_SHIFT (1u)
+void init(void) { arm_fir_decimate_init_q31(&down, 4, 2, taps, state, 64); }
+"""
+EQ = "biquad 2 {16384 0 32767 -8192 3 4 5 0 6 7 8 9}\n"
+
+
+class Coefficients(Case):
+    """tools/coefficients.py writes no wrong filter."""
+
+    def refuses(self, hint, *words):
+        ran = self.tool("coefficients", *words)
+        self.ends(ran, 1, hint)
+        self.assertEqual(ran.out, "")
+
+    def gives(self, text, *words):
+        ran = self.tool("coefficients", *words, "--as", "block")
+        self.assertEqual((ran.status, ran.out), (0, text), ran.err)
+        return ran.err
+
+    def test_c_sources(self):
+        self.write("f.c", C_SOURCE)
+        self.gives(EQ, "f.c", "--name", "eq")
+        self.gives(EQ, "f.c", "--name", "eq_coeffs")
+        self.gives("decimate 2 {1 2 3 4}\n", "f.c", "--name", "taps")
+        self.gives("biquad 1 {1 2 3 4 5}\n", "f.c", "--name", "wide")
+        self.refuses("--name says which array", "f.c")
+        self.refuses("may be taps or sections", "f.c", "--name", "six")
+        self.gives("fir {1 0 2 3 4 5}\n", "f.c", "--name", "six", "--block", "fir")
+        self.refuses("need their post shift", "f.c", "--name", "six", "--block", "biquad")
+        self.gives("biquad 3 {1 0 2 3 4 5}\n", "f.c", "--name", "six", "--block", "biquad 3")
+        self.write("bad.c", C_SOURCE.replace("EQ_STAGES (2)", "EQ_STAGES (3)"))
+        self.refuses("has 12 numbers, and 3 stages of q15 have 18", "bad.c", "--name", "eq")
+
+    def test_post_shifts(self):
+        self.write("sos.txt", "1 0.5 0.25 1 -1.75 0.5\n")
+        self.refuses("--post-shift 1 is the least", "sos.txt", "--block", "biquad", "--post-shift", "0")
+        self.refuses("--post-shift 1 is the least", "sos.txt", "--block", "biquad 0")
+        self.refuses("says the post shift 2, and --post-shift 3", "sos.txt", "--block", "biquad 2", "--post-shift", "3")
+        self.gives("biquad 2 {8192 0 4096 2048 14336 -4096}\n", "sos.txt", "--block", "biquad 2")
+        self.gives("biquad 1 {16384 0 8192 4096 28672 -8192}\n", "sos.txt", "--block", "biquad")
+        self.refuses("no post shift", "sos.txt", "--block", "fir", "--post-shift", "1")
+
+    def test_what_is_no_filter(self):
+        self.write("sos.txt", "1 0.5 0.25 1 -1.75 0.5\n" * 2)
+        self.refuses("look like second-order sections", "sos.txt")
+        self.write("ba.txt", "0.1 0.2 0.1 0.5\n1 0.5 0.25 0.125\n")
+        self.refuses("b and a of a transfer function", "ba.txt")
+        self.write("ba6.txt", "0.1 0.2 0.1 0.5 0.25 0.125\n1 0.5 0.25 0.5 0.25 0.125\n")
+        self.refuses("no second-order sections", "ba6.txt", "--block", "biquad")
+        self.write("big.txt", "1.25 0.5\n")
+        self.refuses("divide all by 2", "big.txt")
+        self.write("taps.txt", "0.5 0.25 0.125\n")
+        self.refuses("--block 'decimate N'", "taps.txt", "--block", "decimate")
+        self.refuses("a multiple of 2 taps", "taps.txt", "--block", "interpolate 2")
+        self.refuses("decimate has no q7", "taps.txt", "--block", "decimate 2", "--format", "q7")
+        self.refuses("is no block", "taps.txt", "--block", "firr")
+
+    def test_a_script_of_several_filters(self):
+        self.write("s.txt", "dspfx 2 input raw q15 1 8000 table half {16384 16384} fir half shift 1 biquad 1 {16384 0 0 0 0 0} fir {32767 1} output raw")
+        err = self.gives("fir {16384 16384}\n", "s.txt")
+        self.assertIn("block 1 fir: a sum can reach 1.000 of full scale\n", err)
+        self.assertIn("block 2 shift: a sample can reach 2.000 of full scale, and is clipped at it\n", err)
+        self.assertIn("block 3 biquad: section 1 can reach 1.000 of full scale\n", err)
+        self.assertIn("block 4 fir: a sum can reach 1.000 of full scale\n", err)
+        self.assertIn("--place names another", err)
+        self.gives("fir {32767 1}\n", "s.txt", "--place", "4")
+
+    def test_worst_cases(self):
+        """The greatest sum of a cascade is that of the absolute values of its answer to an impulse."""
+        b0, a1 = 0.5, 0.75
+        self.write("sos.txt", f"{b0} 0 0 1 {-a1} 0\n{b0} 0 0 1 {-a1} 0\n")
+        err = self.gives("biquad 0 {16384 0 0 0 24576 0 16384 0 0 0 24576 0}\n", "sos.txt", "--block", "biquad")
+        for place in (1, 2):
+            self.assertIn(f"section {place} can reach {(b0 / (1 - a1)) ** place:.3f} of full scale", err)
+
+
+class Pictures(Case):
+    """What tools/plot.py draws is right for every output."""
+
+    FIR = [0.02, 0.08, 0.16, 0.24, 0.24, 0.16, 0.08, 0.02]
+
+    def setUp(self):
+        super().setUp()
+        if not HAS_PLOTS:
+            self.skipTest("no matplotlib")
+
+    def curves(self, *words):
+        """What a picture has, as lists of points by the names of the curves."""
+        ran = self.tool("plot", words[0], "x.png", *words[1:], "--data", "x.csv")
+        self.assertEqual(ran.status, 0, ran.err)
+        self.assertEqual(self.content("x.png")[1:4], b"PNG")
+        found = {}
+        for line in self.content("x.csv").decode().splitlines()[1:]:
+            name, x, y = line.rsplit(",", 2)
+            found.setdefault(name, []).append((float(x), float(y)))
+        return found
+
+    def level(self, hertz, rate):
+        """The answer of FIR to a frequency, in decibels."""
+        real = sum(tap * math.cos(2 * math.pi * hertz * n / rate) for n, tap in enumerate(self.FIR))
+        imaginary = sum(tap * math.sin(2 * math.pi * hertz * n / rate) for n, tap in enumerate(self.FIR))
+        return 20 * math.log10(math.hypot(real, imaginary))
+
+    def edge(self, points, below=-6.0):
+        return next(x for x, y in points if y < below + points[0][1])
+
+    def is_right(self, head, tail, rate, **change):
+        taps = " ".join(str(round(it * 32768)) for it in reversed(self.FIR))
+        self.write("s.txt", f"dspfx 1 {head} fir {{{taps}}} {tail}")
+        points = self.curves("response", "s.txt", *change.get("options", []))["script spectrum"]
+        self.assertAlmostEqual(points[-1][0], rate / 2)
+        wanted = next(x for x, _ in points if self.level(x, rate) < self.level(0, rate) - 6)
+        self.assertLessEqual(abs(self.edge(points) - wanted), points[1][0])
+        self.assertAlmostEqual(points[0][1], self.level(0, rate), delta=0.05)
+
+    def test_one_channel(self):
+        self.is_right("input raw q15 1 48000", "output raw", 48000)
+        self.is_right("input wave q15 1", "output wavex", 44100, options=["--rate", "44100"])
+
+    def test_several_channels(self):
+        self.is_right("input raw q15 2 48000", "output raw", 48000)
+        self.is_right("input raw q15 4 48000", "to q31 output wavex", 48000, options=["--channel", "3"])
+        self.write("s.txt", "dspfx 1 input raw q15 2 48000 output raw")
+        self.assertEqual(self.tool("plot", "response", "x.png", "s.txt", "--channel", "2").status, 1)
+
+    def test_other_rates(self):
+        self.write("s.txt", "dspfx 1 input raw q15 2 48000 decimate 6 {32767} output raw")
+        points = self.curves("response", "s.txt")["script spectrum"]
+        self.assertAlmostEqual(points[-1][0], 4000)
+        self.write("s.txt", "dspfx 1 input raw q15 1 8000 interpolate 2 {16384 16384} output raw")
+        self.assertAlmostEqual(self.curves("response", "s.txt")["script spectrum"][-1][0], 8000)
+
+    def test_a_design(self):
+        self.write("taps.txt", "\n".join(map(str, self.FIR)))
+        self.write("s.txt", f"dspfx 1 input raw q15 2 48000 fir {{{' '.join(str(round(it * 32768)) for it in reversed(self.FIR))}}} output raw")
+        found = self.curves("response", "s.txt", "--design", "taps.txt")
+        for (x, y), (other, ideal) in zip(found["script impulse"], found["ideal impulse"]):
+            self.assertEqual(x, other)
+            self.assertLess(abs(y - ideal), 3 * 2**-15)
+
+    def test_files(self):
+        tone = [round(20000 * math.sin(2 * math.pi * 1000 * n / 8000)) for n in range(800)]
+        silence = [0] * 800
+        frames = [it for pair in zip(silence, tone) for it in pair]
+        for name, data in (("x.wav", wave_file(24, 2, [it * 256 for it in frames])), ("y.wav", wave_file(16, 2, frames, is_extensible=True))):
+            self.write(name, data)
+            found = self.curves("files", name)
+            self.assertEqual(max(found[f"{name} channel 1 spectrum"], key=lambda it: it[1])[0], 1000)
+            self.assertEqual(max(found[f"{name} channel 0 waveform"], key=lambda it: it[1])[1], 0)
+
+    def test_differences(self):
+        self.write("a.wav", wave_file(16, 2, [0, 0, 0, 0]))
+        self.write("b.wav", wave_file(16, 2, [0, 0, 0, -3]))
+        found = self.curves("difference", "a.wav", "b.wav")
+        self.assertEqual(found["channel 0"], [(0, 0), (1, 0)])
+        self.assertEqual(found["channel 1"], [(0, 0), (1, -2)])
+        self.write("c.wav", wave_file(16, 1, [0, 0]))
+        self.assertEqual(self.tool("plot", "difference", "x.png", "a.wav", "c.wav").status, 1)
+
+    def test_nothing_is_destroyed(self):
+        self.write("a.wav", wave_file(16, 1, [1, 2, 3]))
+        before = self.content("a.wav")
+        self.ends(self.tool("plot", "files", "a.wav", "a.wav"), 1, "ends with .png")
+        os.symlink("a.wav", self.path("a.png"))
+        self.ends(self.tool("plot", "files", "a.png", "a.wav"), 1, "is read: name another output")
+        self.assertEqual(self.content("a.wav"), before)
+
+
+class Installing(Case):
+    """tools/install.sh puts the program, its page and its completion under a prefix, and takes them away."""
+
+    def install(self, *words):
+        program = os.environ.get("DSPFX_PROGRAM", f"{TOP}/build/unproved")
+        return subprocess.run([f"{TOP}/tools/install.sh", *words], env=dict(os.environ, DSPFX_PROGRAM=program),
+                              stdout=subprocess.PIPE, stderr=subprocess.STDOUT, text=True)  # fmt: skip
+
+    def files(self):
+        return sorted(name for _, _, names in os.walk(self.path("prefix")) for name in names)
+
+    def test_there_and_away(self):
+        self.assertEqual(self.install(self.path("prefix")).returncode, 0)
+        self.assertEqual(self.files(), ["dspfx", "dspfx", "dspfx.1"])
+        self.assertTrue(os.access(self.path("prefix/bin/dspfx"), os.X_OK))
+        self.assertEqual(self.install("--uninstall", self.path("prefix")).returncode, 0)
+        self.assertEqual(self.files(), [])
+        self.assertEqual(self.install("--other").returncode, 1)
+
+    def test_the_page(self):
+        self.write("dspfx.1", Ran(self.folder, [sys.executable, f"{TOP}/tools/man.py"]).out)
+        if shutil.which("mandoc"):
+            ran = Ran(self.folder, ["mandoc", "-T", "lint", "-W", "warning", "dspfx.1"])
+            self.assertEqual((ran.status, ran.out + ran.err), (0, ""))
+        if shutil.which("man"):
+            text = re.sub(r"\s+", " ", Ran(self.folder, ["man", "-l", "dspfx.1"]).out)
+            for words in ("gen SEED FRAMES SCRIPT OUT", "convert au wave IN OUT", "dspfx: output not written", "SEE ALSO"):
+                self.assertIn(words, text)
+
+    def test_completion(self):
+        def completed(*words):
+            script = f"source {TOP}/tools/completion.bash; COMP_WORDS=({' '.join(words)}); COMP_CWORD={len(words) - 1}; _dspfx 2>/dev/null; echo ${{COMPREPLY[*]}}"
+            return Ran(self.folder, ["bash", "-c", script]).out.split()
+
+        self.write("script.txt", COPY)
+        self.assertEqual(completed("dspfx", "r"), ["run"])
+        self.assertEqual(completed("dspfx", "run", "scr"), ["script.txt"])
+        self.assertEqual(completed("dspfx", "run", "a", "b", "c", "bl"), ["block"])
+        self.assertEqual(completed("dspfx", "convert", "au", "''"), ["wave"])
+        self.assertEqual(completed("dspfx", "gen", "7", "s"), [])
+        self.assertEqual(completed("dspfx", "convert", "au", "w"), ["wave"])
+
+
+class Machines(Case):
+    """The recipe for several machines, over an sshd on this machine."""
+
+    @unittest.skipUnless(all(map(shutil.which, ("parallel", "rsync", "ssh", "ssh-keygen"))) and os.path.exists("/usr/sbin/sshd"),
+                         "no sshd, parallel and rsync")  # fmt: skip
+    def test_the_recipe(self):
+        for key in ("host", "user"):
+            subprocess.run(["ssh-keygen", "-q", "-t", "ed25519", "-N", "", "-f", self.path(key)], check=True)
+        port = self.free_port()
+        self.write("config", f"Port {port}\nListenAddress 127.0.0.1\nHostKey {self.path('host')}\nPidFile none\n"
+                             f"AuthorizedKeysFile {self.path('user.pub')}\nStrictModes no\nUsePAM no\nPermitRootLogin yes\n")  # fmt: skip
+        if os.geteuid() == 0:
+            os.makedirs("/run/sshd", exist_ok=True)
+        server = subprocess.Popen(["/usr/sbin/sshd", "-D", "-f", self.path("config"), "-E", self.path("log")])
+        self.addCleanup(server.wait)
+        self.addCleanup(server.terminate)
+        with open(f"{TOP}/docs/USE.md") as file:
+            recipe = re.search(r"^```bash\n(parallel -S one,two .*?)^```", file.read(), re.M | re.S)[1]
+        login = (f"ssh -p {port} -i {self.path('user')} -o StrictHostKeyChecking=no -o UserKnownHostsFile=/dev/null"
+                 " -o LogLevel=ERROR -o ConnectionAttempts=5 127.0.0.1")  # fmt: skip
+        for folder in ("build", "out/recordings"):
+            os.makedirs(self.path(folder))
+        os.symlink(f"{TOP}/examples", self.path("examples"))
+        shutil.copy(os.environ.get("DSPFX_PROGRAM", f"{TOP}/build/dspfx"), self.path("build/dspfx"))
+        for name in ("one", "two"):
+            shutil.copy(f"{TOP}/examples/lowpass/in.wav", self.path(f"out/recordings/{name}.wav"))
+        work = f"dspfx-test-{os.getpid()}"
+        recipe = recipe.replace("-S one,two", f"--will-cite -S '{login}'").replace("dspfx-run", work)
+        self.ends(Ran(self.folder, ["bash", "-eu", "-c", recipe]), 0)
+        for name in ("one", "two"):
+            with open(f"{TOP}/examples/lowpass/expected.wav", "rb") as file:
+                self.assertEqual(self.content(f"out/filtered/{name}.wav"), file.read())
+        self.assertFalse(os.path.exists(os.path.expanduser(f"~/{work}")))
+
+    def free_port(self):
+        with socket.socket() as it:
+            it.bind(("127.0.0.1", 0))
+            return it.getsockname()[1]
+
+
+class Wrapper(Case):
+    """What ./dspfx answers itself."""
+
+    def test_words(self):
+        for word in ("--help", "help"):
+            ran = self.dspfx(word)
+            self.ends(ran, 0, "run SCRIPT IN OUT [block N]", "docs/USE.md")
+        with open(f"{TOP}/VERSION") as file:
+            self.ends(self.dspfx("--version"), 0, f"dspfx {file.read().strip()} (")
+        self.ends(self.dspfx("help", "more"), 1, "dspfx: usage")
+
+    def test_a_link(self):
+        os.symlink(DSPFX, self.path("mine"))
+        self.write("s.txt", COPY)
+        self.ends(Ran(self.folder, ["./mine", "print", "s.txt"]), 0, "dspfx 1\n")
+
+    def test_pipes(self):
+        self.write("s.txt", COPY)
+        ran = Ran(self.folder, [DSPFX, "run", "s.txt", "/dev/stdin", "o"], words16(1, 2, 3))
+        self.ends(ran, 0, "in 3 frames")
+        self.assertEqual(self.content("o"), words16(1, 2, 3))
+
+    def test_no_line_without_a_terminal(self):
+        self.write("s.txt", COPY)
+        self.assertNotIn("%", self.dspfx("gen", "1", "10", "s.txt", "o").err)
+
+    @unittest.skipUnless(shutil.which("script"), "no script")
+    def test_a_line_on_a_terminal(self):
+        """A run that goes on for four seconds shows how much of its input is read, and then clears the line."""
+        self.write("in", bytes(1000))
+        self.write("slow", "#!/bin/sh\nexec 3<in\nfor n in 1 2 3 4 5 6 7 8 9 10; do dd bs=100 count=1 <&3 >/dev/null 2>&1; sleep 0.5; done\necho done\n")
+        os.chmod(self.path("slow"), 0o755)
+        environment = dict(os.environ, DSPFX_PROGRAM=self.path("slow"))
+        ran = subprocess.run(["script", "-qec", f"{DSPFX} run s in out", "/dev/null"], cwd=self.folder, env=environment,
+                             stdin=subprocess.DEVNULL, stdout=subprocess.PIPE)  # fmt: skip
+        said = ran.stdout.decode()
+        self.assertRegex(said, r"\A\r\033\[Kdspfx: [45]0 % of the input, [\d.]+ MB a second, 0:0\d left\r\033\[K")
+        self.assertTrue(said.endswith("\r\033[Kdone\r\n"), said[-60:])
+
+if __name__ == "__main__":
+    program = unittest.main(verbosity=0, exit=False)
+    counts = program.result
+    # (a test with several cases counts once)
+    bad = len({re.sub(r" [\[(].*", "", str(case)) if "[" in str(case) else str(case) for case, _ in counts.failures + counts.errors})
+    print(f"{counts.testsRun - len(counts.skipped) - bad} passed, {bad} failed")
+    for case, why in {str(why): (case, why) for case, why in counts.skipped}.values():
+        print(f"skipped: {why}")
+    sys.exit(bad > 0)

@@ -1,0 +1,33 @@
+#!/usr/bin/env bash
+# Installs the proved program, its man page and its completion for bash: tools/install.sh [PREFIX], or removes
+# them: tools/install.sh --uninstall [PREFIX]. PREFIX is /usr/local where it is not named.
+#
+# What is installed is build/dspfx, which needs the C library alone; ./dspfx with its hints stays in the repository.
+set -eu
+top=$(cd "$(dirname "$(readlink -f "${BASH_SOURCE[0]}")")/.." && pwd)
+files='bin/dspfx share/man/man1/dspfx.1 share/bash-completion/completions/dspfx'
+
+is_removing=
+if [ "${1-}" = --uninstall ]; then
+    is_removing=1
+    shift
+fi
+case ${1-} in -*) echo "install: $1 is no option" >&2; exit 1 ;; esac
+prefix=${1:-/usr/local}
+
+if [ -n "$is_removing" ]; then
+    for file in $files; do rm -f -- "$prefix/$file"; done
+    echo "install: removed from $prefix"
+    exit
+fi
+
+program=${DSPFX_PROGRAM:-$top/build/dspfx}
+if [ -z "${DSPFX_PROGRAM-}" ] && ! "$top/tools/sources.py" dspfx; then
+    echo 'install: no proved program is built of these sources: ./dspfx prove' >&2
+    exit 1
+fi
+for file in $files; do mkdir -p -- "$(dirname -- "$prefix/$file")"; done
+install -m 755 -- "$program" "$prefix/bin/dspfx"
+"$top/tools/man.py" >"$prefix/share/man/man1/dspfx.1"
+install -m 644 -- "$top/tools/completion.bash" "$prefix/share/bash-completion/completions/dspfx"
+echo "install: dspfx $(cat "$top/VERSION") is in $prefix"

@@ -214,7 +214,7 @@ short_is header declared count is cut =
     ap (λ (b : Bool). if b then Some (declared, count - header.start) else None) less)
 
 short_fault : (direction : Direction) (given : List ℕ) (header : OpenHeader) → IsSource direction given header → (declared taken : ℕ) (error : ConvertFault) → header.size ≡ Some declared
-    → length given ≡ header.start + taken → taken < in_whole_frames header declared → IsShort direction error header.start declared taken → source_fault direction given ≡ Some error
+    → length given ≡ header.start + taken → taken < in_whole_frames header declared → IsShort direction error declared taken (header.start + taken) → source_fault direction given ≡ Some error
 short_fault WaveToAu given header has declared taken error is long cut error_is =
     let got : length given - header.start ≡ taken = omega (arith, long) in
     ap (λ (said : Result OpenHeader (HeaderFault × ℕ)). elim said [

@@ -3,3 +3,4 @@ pub mod GeneratorLemmas
 pub mod FormatLaws
 pub mod ReaderLaws
 pub mod OpenLaws
+pub mod SampleReads

@@ -32,9 +32,6 @@ enum Next {
     Other { known: Option<Sampling>, taken: u64 },
 }
 
-/// Unknown chunks are skipped in pieces of so many bytes.
-const PIECE: usize = 4096;
-
 /// Fills the piece. That the file ends before is a fault of it.
 pub(crate) fn take<S: Source>(source: &mut S, piece: &mut [u8], taken: u64) -> Result<(), HeaderOr>
     requires { taken ≤ 2 ^ 40 }
@@ -63,14 +60,15 @@ pub(crate) fn skip<S: Source>(source: &mut S, count: u64, taken: u64) -> Result<
     ensures err { IfErr result (λ error.
         Missing taken count (S.state source.old) (S.state source.new) error) }
 {
-    let mut buffer = [0; PIECE];
-    let mut skipped = 0;
-    while skipped < count {
-        let size = (count - skipped).min(PIECE as u64) as usize;
-        take(source, &mut buffer[..size], taken + skipped)?;
-        skipped += size as u64;
+    match dsp_ports::skip(source, count, MAX_INPUT - taken) {
+        Ok(came) if came < count => Err(HeaderOr::Fault {
+            fault: HeaderFault::NoSamples,
+            offset: taken + came,
+        }),
+        Ok(_) => Ok(()),
+        Err(FillFault::Failed) => Err(HeaderOr::Read),
+        Err(FillFault::LimitReached) => Err(HeaderOr::Long),
     }
-    Ok(())
 }
 
 /// What a `data` chunk at the offset heads, where a `fmt ` chunk came before it.

@@ -1,4 +1,4 @@
-use Rattle.std.proofs.Common.{◌≡◌, ◌+◌, ◌-◌, ◌^◌, ◌≤◌, ℕ, List, ◌++◌, length}
+use Rattle.std.proofs.Common.{◌≡◌, ◌+◌, ◌-◌, ◌^◌, ℕ, List, ◌++◌, length}
 use Rattle.dsp_defs.specs.Wave.{chunks_behind}
 use Rattle.dsp_defs.specs.Open.{wanted_in}
 use Rattle.dsp_wave.specs.Opening.{own_said_from}

@@ -1,4 +1,4 @@
-use Rattle.std.proofs.Common.{◌≡◌, ◌∙◌, arith, refl, ap, None, Some}
+use Rattle.std.proofs.Common.{arith, refl, Some}
 use Rattle.std.proofs.lemmas.Result.{err_from_is_err_and}
 use Rattle.dsp_defs.specs.Open.{wanted_by}
 use Rattle.dsp_wave.specs.Reading.{said_from}

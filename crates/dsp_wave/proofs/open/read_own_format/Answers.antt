@@ -1,7 +1,7 @@
-use Rattle.std.proofs.Common.{◌≡◌, ◌+◌, ◌++◌, ◌∙◌, ℕ, List, take, length, refl, sym, ap, subst, arith, append_assoc, None}
+use Rattle.std.proofs.Common.{◌≡◌, ◌+◌, ◌++◌, ◌∙◌, take, length, refl, sym, ap, arith, None}
 use Rattle.std.proofs.lemmas.Result.{err_from_is_err_and}
 use Rattle.dsp_defs.specs.Wave.{chunks_behind}
-use Rattle.dsp_defs.specs.Open.{own_wanted, wanted_in}
+use Rattle.dsp_defs.specs.Open.{wanted_in}
 use Rattle.dsp_wave.specs.Reading.{said_from}
 use Rattle.dsp_wave.specs.Taking.{said_behind}
 use Rattle.dsp_wave.specs.Opening.{own_said_behind}

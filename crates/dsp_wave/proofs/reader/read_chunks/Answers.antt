@@ -1,4 +1,4 @@
-use Rattle.std.proofs.Common.{◌≡◌, ◌+◌, ◌∙◌, ℕ, List, [], ◌++◌, length, arith, refl, sym, ap}
+use Rattle.std.proofs.Common.{◌+◌, [], length, arith, refl}
 use Rattle.std.proofs.lemmas.Result.{err_from_is_err_and}
 use Rattle.dsp_wave.specs.Reading.{said_from}
 use Rattle.dsp_wave.proofs.ReaderLaws as laws

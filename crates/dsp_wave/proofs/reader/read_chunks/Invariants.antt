@@ -1,4 +1,4 @@
-use Rattle.std.proofs.Common.{◌≡◌, ◌+◌, ◌-◌, ◌^◌, ◌≤◌, ℕ, List, ◌++◌}
+use Rattle.std.proofs.Common.{◌≡◌, ◌+◌, ◌-◌, ◌^◌, ℕ, List, ◌++◌}
 use Rattle.dsp_wave.specs.Reading.{said_from}
 use Rattle.dsp_wave.specs.Taking.{Came}
 use Rattle.dsp_wave.proofs.reader.read_chunks.Given as goal

@@ -64,7 +64,9 @@ def value_of(text, defined, depth=0):
     try:
         return of_tree(ast.parse(bare, mode="eval").body, defined, depth)
     except (SyntaxError, ValueError, RecursionError, ZeroDivisionError, TypeError) as error:
-        raise ValueError(f"no number: {text.strip()[:60]}") from error
+        macro = re.match(r"[A-Za-z_]\w*\s*\(", bare)
+        more = "; `cc -E -P FILE | tools/coefficients.py - --name NAME` replaces macros first" if macro else ""
+        raise ValueError(f"no number: {text.strip()[:60]}{more}") from error
 
 
 def of_tree(tree, defined, depth):

@@ -74,8 +74,16 @@ def of_text(text):
     is_whole = all(re.fullmatch(r"[-+]?\d+", word) for word in words)
     try:
         return Numbers([int(word) if is_whole else float(word) for word in words], is_whole, columns=columns)
-    except ValueError as error:
-        stop(error)
+    except ValueError:
+        stop(f"no number: {next(word for word in words if not is_number(word))[:60]!r}; a script, a C array, a .npy file or numbers are read")
+
+
+def is_number(word):
+    try:
+        float(word)
+        return True
+    except ValueError:
+        return False
 
 
 def of_script(text, name, place):
@@ -113,7 +121,9 @@ def read(path, name, place=None):
         if re.match(r"(\s|#[^\n]*\n)*dspfx\s", text):
             return of_script(text, name, place)
         return of_c(text, name) if re.search(r"\]\s*[^=;{]*=\s*\{", text) else of_text(text)
-    except (OSError, IndexError, KeyError, struct.error, SyntaxError, ValueError) as error:
+    except OSError as error:
+        stop(f"{path}: {error.strerror[0].lower()}{error.strerror[1:]}")
+    except (IndexError, KeyError, struct.error, SyntaxError, ValueError) as error:
         stop(error)
 
 

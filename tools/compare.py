@@ -134,7 +134,10 @@ def main():
     words = parser.parse_args()
     try:
         lines, is_same = compare(words)
-    except (OSError, ValueError) as error:
+    except OSError as error:
+        print(f"compare: {error.filename}: {error.strerror[0].lower()}{error.strerror[1:]}", file=sys.stderr)
+        sys.exit(2)
+    except ValueError as error:
         print(f"compare: {error}", file=sys.stderr)
         sys.exit(2)
     print(*lines, sep="\n")

@@ -29,6 +29,7 @@ COMMANDS = {
     "print": ("SCRIPT", 1, None, None),
     "convert": ("wave au IN OUT, or convert au wave IN OUT", None, 3, 4),
 }
+OF_WRAPPER = ("prove", "test", "help", "--help", "-h", "--version")
 TAGS = {2: "ADPCM", 3: "floating point", 6: "A-law", 7: "mu-law", 17: "ADPCM", 80: "MPEG", 85: "MP3"}
 ENCODINGS = {1: "mu-law", 6: "floating point", 7: "floating point", 27: "A-law"}
 MAGIC = {b"RIFX": "a big-endian WAVE file", b"RF64": "an RF64 file", b"FORM": "an AIFF file", b"fLaC": "a FLAC file",
@@ -70,6 +71,10 @@ def words_fault(words):
     if not words:
         return "no command: ./dspfx --help lists them"
     name, *rest = words
+    if name in OF_WRAPPER:
+        return f"{name} takes no further words"
+    if name in ("version", "-v", "-V"):
+        return f"{name} is no command; --version is one"
     if name not in COMMANDS:
         near = difflib.get_close_matches(name, COMMANDS, 1)
         return f"{named(name)} is no command" + (f"; {near[0]} is one" if near else f": {', '.join(COMMANDS)}")
@@ -175,15 +180,26 @@ def block_before(text, offset):
     return next((token for token, _ in reversed(tokens_before(text, offset)) if token in language.BLOCKS), None)
 
 
+def what_is_no_text(text):
+    """What is said of a script that is a file of samples, or None."""
+    start = text[:4096]
+    if start[:4] in (b"RIFF", b".snd"):
+        kind = {b"RIFF": "a WAVE file", b".snd": "an AU file"}[start[:4]]
+    elif b"\0" in start or start.decode("utf-8", "replace").count("\ufffd") > len(start) // 8 + 1:
+        kind = "no text"
+    else:
+        return None
+    return f"this is {kind}; the script is the first file: run SCRIPT IN OUT, gen SEED FRAMES SCRIPT OUT"
+
+
 def hint_of_bytes(text, offset):
     """What a byte that begins no token may be."""
     for mark, name in ((b"\xef\xbb\xbf", "UTF-8"), (b"\xff\xfe", "UTF-16"), (b"\xfe\xff", "UTF-16")):
         if text.startswith(mark):
             wish = "without it" if name == "UTF-8" else "as UTF-8 without one"
             return f"the file begins with a byte order mark ({mark.hex(' ').upper()}), which editors do not show: save it {wish}"
-    if offset == 0 and not text[:1].isascii() or text[:4] in (b"RIFF", b".snd") or b"\0" in text[: offset + 64]:
-        kind = {b"RIFF": "a WAVE file", b".snd": "an AU file"}.get(text[:4], "no text")
-        return f"this is {kind}; the script is the first file: run SCRIPT IN OUT, gen SEED FRAMES SCRIPT OUT"
+    if what_is_no_text(text):
+        return what_is_no_text(text)
     byte = text[offset : offset + 1]
     if byte == b"." or byte == b"+":
         return "numbers are whole: tools/coefficients.py makes them of fractions" if byte == b"." else "numbers have no `+`"
@@ -228,6 +244,11 @@ def hint_of_number(text, offset):
     word = word_at(text, offset) or text[offset : offset + 1].decode("latin1")
     if place:
         return f"the list that begins at {place} is not closed: a `}}` is missing before {word}"
+    before = [token for token, _ in tokens_before(text, offset)]
+    if before[-4:-2] == ["input", "raw"]:
+        return f"`input raw FORMAT CHANNELS RATE` needs a rate, as in `input raw {before[-2]} {before[-1]} 48000`"
+    if before[-3:-1] in (["input", "raw"], ["input", "wave"]):
+        return "the number of channels is missing, 1 to 16"
     block = block_before(text, offset)
     return f"{block} takes {language.BLOCKS[block].numbers} numbers before its list" if block else "a number is wanted here"
 
@@ -286,7 +307,7 @@ def hint_of_range(text, offset, fields):
 
 BITS_OF = language.FORMATS
 HINTS = {
-    "TooLong": lambda text, offset, fields: f"a script has at most {SCRIPT_MOST} bytes",
+    "TooLong": lambda text, offset, fields: what_is_no_text(text) or f"a script has at most {SCRIPT_MOST} bytes",
     "BadByte": lambda text, offset, fields: hint_of_bytes(text, offset),
     "UnknownWord": lambda text, offset, fields: hint_of_word(text, offset),
     "BadNumber": lambda text, offset, fields: hint_of_number(text, offset),
@@ -440,7 +461,7 @@ def wave_hints(of_file, data, script, length):
         yield f"{of_file}has {bits} bits, and 8, 16, 24 and 32 are read: {TO_WAVE}"
     elif script and (script.form != has or script.channels != channels):
         to = f" to {script.form}" if script.form != has else ""
-        yield f"{of_file}has {bits} bits and {channels} channels: `input wave {has} {channels}{to}` in place of `input wave {script.form} {script.channels}`"
+        yield f"{of_file}has {bits} bits and {channels} channel{'s' * (channels != 1)}: `input wave {has} {channels}{to}` in place of `input wave {script.form} {script.channels}`"
     elif size != 0xFFFFFFFF and length < start + size // (channels * bits // 8) * (channels * bits // 8):
         yield f"{of_file}was cut: its header declares {size} bytes of samples, and {length - start} came; the output has the whole blocks of these"
     else:

@@ -18,6 +18,7 @@ import subprocess
 import sys
 import tempfile
 import unittest
+import unittest.mock
 
 TOP = os.path.dirname(os.path.dirname(os.path.abspath(__file__)))
 DSPFX = f"{TOP}/dspfx"
@@ -175,7 +176,8 @@ class Faults(Case):
             (["run", "s.txt", "a", "b", "block", "12345678901"], "one to ten digits"),
             (["gen", "1", "99999999", "s.txt", "o"], "at most 16777216, and here is 99999999"),
             (["gen", "9999999999", "1", "s.txt", "o"], "SEED is at most 4294967295"),
-            (["run", "s.txt", "", "o"], "word 2 after run is empty"),
+            (["run", "s.txt", "", "o"], "word 2 after run is empty"), (["version"], "--version is one"),
+            (["test", "all"], "test takes no further words"),
         ):  # fmt: skip
             with self.subTest(words):
                 ran = self.dspfx(*words)
@@ -188,6 +190,9 @@ class Faults(Case):
         self.script(COPY.encode("utf-16"), "byte order mark (FF FE)")
         self.script("", "the script is empty")
         self.script(wave_file(16, 1, [1]), "this is a WAVE file")
+        self.script(words16(*range(-16384, 16384)), "this is no text; the script is the first file")
+        self.script(bytes(range(1, 256)) * 5000, "TooLong", "this is no text; the script is the first file")
+        self.script("# " + "x\n# " * 400000, "TooLong", "a script has at most 1048576 bytes")
         self.script(head + "fir {1 2 3\noutput raw\n", "s.txt:4:1: BadNumber", "list that begins at 3:5 is not closed")
         self.script(head + "fir {1 2 3\n", "list that begins at 3:5 is not closed")
         self.script(head + "firr {1}\noutput raw", "firr is no block; fir is one")
@@ -200,6 +205,8 @@ class Faults(Case):
         self.script("dspfx 1\ninput raw q7 1 8000\nbiquad 0 {1}\n", "q7 has no biquad; q15 and q31 have")
         self.script("dspfx 1\ninput raw q15 1 8000\nbiquad64 0 {1}\n", "q15 has no biquad64; q31 has")
         self.script("dspfx 1\ninput wave q15 1 48000\noutput raw", "has no rate")
+        self.script("dspfx 1\ninput raw q15 2\noutput raw", "needs a rate, as in `input raw q15 2 48000`")
+        self.script("dspfx 1\ninput wave q15\noutput raw", "the number of channels is missing")
         self.script("dspfx 1 input wave q15 1 table a {1} fir a output raw", "write `dspfx 2`")
 
     def test_a_good_script_is_run_once(self):
@@ -233,6 +240,15 @@ class Faults(Case):
         self.write("s.txt", "dspfx 1 input raw q7 1 8000 correlate {1} output raw")
         self.write("in", bytes(1048577))
         self.ends(self.dspfx("run", "s.txt", "in", "o"), 5, "at most 1,048,576 samples")
+
+    def test_a_torn_frame(self):
+        """The last frame of a raw input is left out where it is not whole, and the page says so."""
+        self.write("s.txt", COPY)
+        self.write("in", b"abc")
+        self.ends(self.dspfx("run", "s.txt", "in", "o"), 0, "in 1 frames")
+        self.assertEqual(self.content("o"), b"ab")
+        with open(f"{TOP}/docs/SCRIPT.md") as file:
+            self.assertIn("A last frame that is not whole is left out", file.read())
 
     def test_files(self):
         self.write("s.txt", COPY)
@@ -304,7 +320,7 @@ class Reading(Case):
         self.is_read("x.csv", "n;value\n0;5\n1;-6\n", "q15", 1, [5, -6], column="value")
         self.is_read("x.txt", "0.5\n-1e-1\n0", "float", 1, [0.5, -0.1, 0])
         for text, options in (("n,value\n0,5\n", {}), ("a,b\n1,2\n", {"column": "c"}), ("40000", {}), ("0x12345", {}),
-                              ("$1 = {1, 2...}", {}), ("one two\nthree", {}), ("", {})):  # fmt: skip
+                              ("$1 = {1, 2...}", {}), ("one two\nthree", {}), ("", {}), ("dspfx 1 input raw\n", {"column": "dspfx 1 input raw"})):  # fmt: skip
             with self.assertRaises(ValueError, msg=text):
                 self.read("x.csv", text, **options)
 
@@ -362,7 +378,11 @@ class Comparing(Case):
         self.write("a.raw", words16(1, 2, 3))
         self.ends(self.tool("compare", "a.raw", "a.raw", "--channels", "2"), 2, "no whole number of frames")
         self.ends(self.tool("compare", "a.raw", "a.raw", "--offset", "9"), 2, "leaves none")
-        self.ends(self.tool("compare", "a.raw", "none.raw"), 2)
+        self.ends(self.tool("compare", "a.raw", "none.raw"), 2, "compare: none.raw: no such file or directory")
+        self.write("script.txt", COPY)
+        self.ends(self.tool("compare", "a.raw", "script.txt"), 2, "script.txt: no numbers")
+        self.write("torn.raw", words16(1, 2, 3) + b"\1")
+        self.ends(self.tool("compare", "a.raw", "torn.raw"), 2, "torn.raw: 7 bytes are no whole number of q15 samples")
 
 
 C_SOURCE = """
@@ -432,6 +452,11 @@ class Coefficients(Case):
         self.refuses("a multiple of 2 taps", "taps.txt", "--block", "interpolate 2")
         self.refuses("decimate has no q7", "taps.txt", "--block", "decimate 2", "--format", "q7")
         self.refuses("is no block", "taps.txt", "--block", "firr")
+        self.write("in.wav", wave_file(16, 1, [1, 2]))
+        self.refuses("a script, a C array, a .npy file or numbers are read", "in.wav")
+        self.refuses("none.txt: no such file or directory", "none.txt")
+        self.write("macro.c", "#define HALF(x) (x / 2)\nq15_t taps[2] = {HALF(8), 3};")
+        self.refuses("`cc -E -P FILE | tools/coefficients.py - --name NAME` replaces macros first", "macro.c")
 
     def test_a_script_of_several_filters(self):
         self.write("s.txt", "dspfx 2 input raw q15 1 8000 table half {16384 16384} fir half shift 1 biquad 1 {16384 0 0 0 0 0} fir {32767 1} output raw")
@@ -648,6 +673,22 @@ class Wrapper(Case):
         ran = Ran(self.folder, [DSPFX, "run", "s.txt", "/dev/stdin", "o"], words16(1, 2, 3))
         self.ends(ran, 0, "in 3 frames")
         self.assertEqual(self.content("o"), words16(1, 2, 3))
+
+    def test_the_cases_without_proofs(self):
+        """`./dspfx test` says how many cases ran, and one that does not agree or does not come is a failure."""
+        sys.path.insert(0, f"{TOP}/tools")
+        import wrapper
+
+        for less, status in ((0, 0), (1, 0), (0, 1)):
+            def tried(crate, *words, given):
+                count = sum(len(line.split(b"|")[0].split(b",")) for line in given.splitlines())
+                return status == 0, f"{count - less} cases agree\n", ""
+
+            with unittest.mock.patch.object(wrapper, "tried", tried):
+                is_well, _, note = wrapper.cases()
+            self.assertEqual(is_well, not less and status == 0)
+            ran, total, left_out = map(int, re.findall(r"\d+", note))
+            self.assertEqual((ran + left_out, left_out), (total, 1))
 
     def test_no_line_without_a_terminal(self):
         self.write("s.txt", COPY)

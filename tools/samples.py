@@ -210,6 +210,8 @@ def read_text(text, form, channels, rate, column=None, is_hex=False):
     else:
         words = words_of_lines(lines)
     values = [number_of(word, form, is_hex) for word in words]
+    if not values:
+        raise ValueError("no numbers after the heading" if is_heading(lines[0]) else "no numbers")
     if any(isinstance(value, float) for value in values):
         return Samples([float(value) for value in values], "float", channels, rate)
     return Samples(in_range(values, form, "the text"), form, channels, rate)
@@ -228,6 +230,8 @@ def read(path, form="q15", channels=1, rate=48000, column=None, is_hex=False):
             return read_npy(data, form, channels, rate)
         if path.lower().endswith(TEXTS):
             return read_text(data.decode("utf-8", "replace"), form, channels, rate, column, is_hex)
+        if len(data) % struct.calcsize(CODES[form]):
+            raise ValueError(f"{len(data)} bytes are no whole number of {form} samples")
     except (ValueError, KeyError, IndexError, SyntaxError, struct.error) as error:
         raise ValueError(f"{path}: {error}") from error
     return Samples(decoded(data, form), form, channels, rate)

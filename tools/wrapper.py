@@ -1,8 +1,12 @@
 #!/usr/bin/env python3
 """What ./dspfx answers itself: test, help, --help and --version. (`prove` is tools/build.py.)"""
+import functools
+import math
 import os
+import re
 import subprocess
 import sys
+import tempfile
 import time
 from concurrent.futures import ThreadPoolExecutor, as_completed
 
@@ -36,18 +40,42 @@ def show_version():
     return 0
 
 
-def tried(crate, *words):
-    """Runs the tests of a crate, or its program, without proofs: whether all is well, and what was said."""
-    given = f"{TOP}/crates/{crate}/stdin" if "--test" not in words else os.devnull
-    with open(given, "rb") as file:
+def tried(crate, *words, given=b""):
+    """Runs the tests of a crate, or its program over an input, without proofs: whether it ended well, and what it said."""
+    with tempfile.TemporaryFile() as file:
+        file.write(given)
+        file.seek(0)
         ran = subprocess.run(["rt", "try", *words, "--seconds", "600"], cwd=f"{TOP}/crates/{crate}",
                              stdin=file, stdout=subprocess.PIPE, stderr=subprocess.PIPE, text=True)  # fmt: skip
-    is_well = ran.returncode == 0
-    wanted = f"{TOP}/crates/{crate}/stdout"
-    if is_well and "--test" not in words and os.path.exists(wanted):
-        with open(wanted) as file:
-            is_well = file.read() == ran.stdout
-    return is_well, ran.stdout + ran.stderr
+    return ran.returncode == 0, ran.stdout, ran.stderr
+
+
+def tests(crate):
+    """Whether the tests of a crate pass, what they said, and what is to be known of them."""
+    is_well, said, fault = tried(crate, "--test")
+    return is_well, said + fault, ""
+
+
+def is_long(case):
+    """Whether a case correlates a block of more than 1,000,000 samples: without proofs, that takes minutes."""
+    words, script, _, status = case.split("|")[:4]
+    script = script[1:] if script.startswith("=") else bytes.fromhex(script).decode(errors="replace")
+    frames = [int(it) for it in re.findall(r"\bblock (\d+)", words)] or [256]
+    samples = max(frames) * math.prod(int(it) for it in re.findall(r"\binterpolate (\d+)", script))
+    return status in ("0", "5") and "correlate" in script and samples > 1_000_000
+
+
+def cases():
+    """Runs the cases of dsp_vectors that are not long, as `tests` does."""
+    folder = f"{TOP}/crates/dsp_vectors"
+    with open(f"{folder}/stdin") as file, open(f"{folder}/stdout") as wanted:
+        lines = [line for line in file if not line.startswith("#")]
+        count = int(wanted.read().split()[0])
+    left_out = sum(len(line.split("|")[0].split(",")) for line in lines if is_long(line))
+    given = "".join(line for line in lines if not is_long(line))
+    is_well, said, fault = tried("dsp_vectors", given=given.encode())
+    is_well = is_well and said == f"{count - left_out} cases agree\n"
+    return is_well, said + fault, f"{count - left_out} of {count} cases; {left_out} that takes minutes is left to `.ci/run`"
 
 
 def has_tests(crate):
@@ -61,16 +89,18 @@ def has_tests(crate):
 
 
 def test():
-    """Runs the tests of all crates, and the vectors, without proofs, side by side. 1 where one fails."""
-    crates = [crate for crate in sorted(os.listdir(f"{TOP}/crates")) if has_tests(crate)]
-    tasks = {f"tests of {crate}": (crate, "--test") for crate in crates} | {"cases of dsp_vectors": ("dsp_vectors",)}
+    """Runs the tests of all crates, and the cases, without proofs, side by side. 1 where one fails."""
+    tasks = {"cases of dsp_vectors": cases}
+    for crate in sorted(filter(has_tests, os.listdir(f"{TOP}/crates"))):
+        tasks[f"tests of {crate}"] = functools.partial(tests, crate)
     begin, failed = time.monotonic(), 0
     say(f"{', '.join(tasks)}, without proofs")
     with ThreadPoolExecutor(len(os.sched_getaffinity(0))) as pool:
-        running = {pool.submit(tried, *words): name for name, words in tasks.items()}
-        for task in as_completed(running):
-            is_well, said = task.result()
-            say(f"{running[task]}: {'passed' if is_well else 'FAILED'}, {time.monotonic() - begin:.0f} s so far")
+        running = {pool.submit(task): name for name, task in tasks.items()}
+        for ended in as_completed(running):
+            is_well, said, note = ended.result()
+            result = ("passed" if is_well else "FAILED") + (f" ({note})" if note else "")
+            say(f"{running[ended]}: {result}, {time.monotonic() - begin:.0f} s so far")
             if not is_well:
                 failed += 1
                 print(said, file=sys.stderr)

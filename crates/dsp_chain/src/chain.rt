@@ -170,6 +170,27 @@ impl<U: AnyUnit + Drop> Chain<U> {
         Ok(feed_row(self.links.as_mut_slice(), frames, out, steps))
     }
 
+    /// How many frames were fed.
+    pub fn frames(&self) -> u64
+        ensures { result ≡ self.now.frames }
+    {
+        self.frames
+    }
+
+    /// Whether its tail was begun.
+    pub fn has_ended(&self) -> bool
+        ensures { result ≡ self.now.ended }
+    {
+        self.ended
+    }
+
+    /// The fault that it answers from now on, if it has answered one.
+    pub fn fault(&self) -> Option<GatherFull>
+        ensures { result ≡ self.now.failed }
+    {
+        self.failed
+    }
+
     /// The samples of `out` that one call needs at most.
     pub fn room(&self) -> usize
         ensures { result ≡ place_room (output_of self.now) }

@@ -1,21 +1,21 @@
 -- What the calls of a session give, for every signal that it has taken.
 use Rattle.std.specs.Prelude.{◌≡◌, ◌⊎◌, ℕ, ◌+◌, ◌*◌, ◌<◌, ◌≤◌, true, false, List, [], ◌++◌, length, Some, None, is_some, IsTrue}
 use Rattle.dsp_defs.specs.Block.{Frame, live_chain, whole_chain}
-use Rattle.dsp_defs.specs.Bytes.{coding_of, coded, samples}
+use Rattle.dsp_defs.specs.Bytes.{coding_of, coded, samples, width}
 use Rattle.dsp_defs.specs.Cost.{cost, live_cost, chain_turns, turns_of_calls, turns}
 use Rattle.dsp_defs.specs.Counts.{Counts}
 use Rattle.dsp_defs.specs.Measure as measure
 use Rattle.dsp_defs.specs.Grammar.{IsSound, container_of}
 use Rattle.dsp_defs.specs.Output.{output_coding}
 use Rattle.dsp_stage.specs.Row as row
-use Rattle.dsp_stage.specs.Row.{blocks_of, chain_products, row_turns}
+use Rattle.dsp_stage.specs.Row.{blocks_of, chain_products, place_room, row_turns}
 use Rattle.dsp_defs.specs.Shape.{is_legal, gathered}
 use Rattle.dsp_defs.specs.declared.fault.GatherFull.{GatherFull}
 use Rattle.dsp_defs.specs.declared.format.Coding.{Coding}
 use Rattle.dsp_defs.specs.declared.limits.TheConstants.{MAX_GATHERED}
 use Rattle.dsp_defs.specs.declared.measure.Measure.{Measure}
 use Rattle.dsp_defs.specs.declared.script.Script.{Script}
-use Rattle.dsp_chain.specs.Chain.{ChainStandsFor, ChainGave, IsLive, IsSpent, input_place, given_of, made_of}
+use Rattle.dsp_chain.specs.Chain.{ChainStandsFor, ChainGave, IsLive, IsSpent, input_place, given_of, made_of, output_of}
 pub use Rattle.dsp_input.specs.Taking.{frame_bytes}
 use Rattle.dsp_session.specs.SessionState.{SessionState}
 
@@ -115,6 +115,10 @@ pub record SameSession (old new : SessionState) : Type 0 where
   pub script : new.script ≡ old.script
   pub block : new.block ≡ old.block
   pub coding : new.coding ≡ old.coding
+
+-- the bytes that a call gives at most
+abbrev pub call_room : SessionState → ℕ
+call_room s = place_room (output_of s.chain) * width (output_coding s.script)
 
 -- the measures of what its blocks have taken
 abbrev pub measured : SessionState → List Measure

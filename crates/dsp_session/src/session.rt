@@ -11,7 +11,7 @@ ghost use Rattle.dsp_session.specs.Keeping.{Restores};
 ghost use Rattle.dsp_session.specs.Advancing.{Runs};
 ghost use Rattle.dsp_chain.specs.Restored.{kept_of};
 ghost use Rattle.dsp_defs.specs.Block.{Frame};
-ghost use Rattle.dsp_session.specs.Session.{IsReady, IsNew, SameSession, StandsFor, Feeds, Fails, IsTooMuch, Ends, call_room, measured, signal};
+ghost use Rattle.dsp_session.specs.Session.{IsReady, IsNew, SameSession, StandsFor, Feeds, Fails, IsTooMuch, Ends, call_room, given_bytes, measured, signal, tail_bytes};
 
 use crate::worker::Worker;
 use dsp_defs::{Coding, GatherFull, Measure, Script, Steps, WindowFault};
@@ -93,6 +93,21 @@ impl<U: AnyUnit + Drop> Session<U> {
         ensures { result ≡ call_room self.now }
     {
         self.worker.room()
+    }
+
+    /// The bytes of a frame of the output.
+    pub fn given_bytes(&self) -> usize
+        ensures { result ≡ given_bytes self.now.script }
+    {
+        self.worker.given_bytes()
+    }
+
+    /// The bytes of the tail, where the frames fed so far are the whole input.
+    pub fn tail_bytes(&self) -> u128
+        requires { self.now.chain.frames ≤ 2 ^ 40 }
+        ensures { result ≡ tail_bytes self.now.script self.now.chain.frames }
+    {
+        self.worker.tail_bytes()
     }
 
     /// How many frames were taken.

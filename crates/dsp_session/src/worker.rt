@@ -12,7 +12,7 @@ ghost use Rattle.dsp_session.specs.Keeping.{Restores};
 ghost use Rattle.dsp_session.specs.Advancing.{Runs};
 ghost use Rattle.dsp_chain.specs.Restored.{kept_of};
 ghost use Rattle.dsp_defs.specs.Block.{Frame};
-ghost use Rattle.dsp_session.specs.Session.{IsReady, IsNew, StandsFor, SameScript, SameSession, Feeds, Fails, IsTooMuch, Ends, block_bytes, call_room, measured, signal};
+ghost use Rattle.dsp_session.specs.Session.{IsReady, IsNew, StandsFor, SameScript, SameSession, Feeds, Fails, IsTooMuch, Ends, block_bytes, call_room, given_bytes, measured, signal, tail_bytes};
 
 use dsp_chain::Chain;
 use dsp_defs::{GatherFull, Measure, Script, Steps, WindowFault};
@@ -149,6 +149,21 @@ impl<U: AnyUnit + Drop> Worker<U> {
         ensures { result ≡ call_room self.now }
     {
         self.bytes.len()
+    }
+
+    /// The bytes of a frame of the output.
+    pub fn given_bytes(&self) -> usize
+        ensures { result ≡ given_bytes self.now.script }
+    {
+        usize::from(output_flow(&self.script).channels) * width(self.output)
+    }
+
+    /// The bytes of the tail, where the frames fed so far are the whole input.
+    pub fn tail_bytes(&self) -> u128
+        requires { self.now.chain.frames ≤ 2 ^ 40 }
+        ensures { result ≡ tail_bytes self.now.script self.now.chain.frames }
+    {
+        u128::from(self.chain.tail_frames()) * self.given_bytes() as u128
     }
 
     /// How many frames were taken.

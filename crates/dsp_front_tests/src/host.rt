@@ -153,7 +153,7 @@ fn samples_of_24_bits<L: Ledger>(rt: &impl Abort, alloc: Global, blank: Blank) -
     assert!(rt; script.input.format == Fmt::Q31);
     let mut session = Session::new(alloc, script, 2)?;
     session.set_coding(Coding::Wave24);
-    let frame = usize::from(script.input.channels) * width(Coding::Wave24);
+    let frame = session.frame_bytes();
     feed_frames(
         rt,
         &mut session,

@@ -27,7 +27,7 @@ module _ (script : Script) (header : Header) (input now : SourceState) where
 
   pub part_unread : (frame end taken size : ℕ) (found : SampleFault) → frame ≡ frame_bytes script header.coding
       → (let at : Stored = record { start = header.start; size = header.size; frame = frame } in
-        samples.PartUnread at end taken size (λ n. samples.IsUnread found at n input now) input now)
+      samples.PartUnread at end taken size (λ n. samples.IsUnread found at n input now) input now)
       → PartUnread script header end taken size (named found) input now
   part_unread frame end taken size found is unread =
       part_cause (stored script header) end taken size (λ n. samples.IsUnread found (stored script header) n input now)

@@ -222,12 +222,13 @@ pub data WroteBlocks (direction : Direction) (given written : List ℕ) (sink af
   Nothing : IsUnheaded direction given → after ≡ sink → WroteBlocks direction given written sink after
   Blocks : (header : OpenHeader) → IsSource direction given header → written ≡ target_blocks direction header given → WroteBlocks direction given written sink after
 
--- what was written: a front of what is given by the frames that came, with the pad byte where all came, where the output has failed;
+-- what was written: less than what is given by the frames that came, or a front of it with the pad byte where all came, where the output has failed;
 -- nothing, where it would be too long; and else the whole blocks
 abbrev pub HasWritten : ConvertFault → Direction → List ℕ → List ℕ → SourceState → SinkState → SinkState → Type 0
 HasWritten fault.Write direction given written now sink after =
     (header : OpenHeader) × IsSource direction given header
-    × (Begins written (target_of_signal direction header (source_signal direction header given))
+    × ((Begins written (target_of_signal direction header (source_signal direction header given))
+    × (length written < length (target_of_signal direction header (source_signal direction header given))))
     ⊎ (Begins written (target_with direction header given) × IsTakenWhole header (length given) now))
 HasWritten (fault.Riff size limit) direction given written now sink after = after ≡ sink
 HasWritten error direction given written now sink after = WroteBlocks direction given written sink after

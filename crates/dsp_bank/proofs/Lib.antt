@@ -1,0 +1,4 @@
+mod Groups
+mod PastRows
+mod RowsGo
+mod Composition

@@ -1,5 +1,5 @@
 -- Sections one after another, on one channel of a bank.
-use Rattle.std.proofs.Common.{◌≡◌, ◌∙◌, ap, ap₂, refl, sym, subst, ℕ, zero, suc, ◌+◌, ◌*◌, ◌<◌, ◌≤◌, ℤ, List, [], ◌∷◌, ◌++◌, map, flat_map, length, take, drop, arith}
+use Rattle.std.proofs.Common.{◌≡◌, ◌∙◌, ap, ap₂, refl, sym, subst, ℕ, zero, suc, ◌+◌, ◌*◌, ◌<◌, ◌≤◌, ℤ, List, [], ◌∷◌, ◌++◌, map, flat_map, length, drop, arith}
 use Rattle.std.specs.List.{range_with_len}
 use Rattle.std.proofs.lemmas.List.{append-nil, append_assoc}
 use Rattle.std.proofs.lemmas.List.FromFn.{map-range_with_len_more}
@@ -13,7 +13,7 @@ use Rattle.dsp_biquad.proofs.Cascades.{next-section, all-sections}
 use Rattle.dsp_bank.specs.Rows.{acts_at, four_at}
 
 -- a piece more
-flat-more : {A B : Type 0} (f : ℕ → List B) (a n m : ℕ) → a + n ≡ m → flat_map f (range_with_len a (n + 1)) ≡ flat_map f (range_with_len a n) ++ f m
+flat-more : {B : Type 0} (f : ℕ → List B) (a n m : ℕ) → a + n ≡ m → flat_map f (range_with_len a (suc n)) ≡ flat_map f (range_with_len a n) ++ f m
 flat-more f a zero m e = append-nil (f a) ∙ ap f (let same : a ≡ m = omega (arith, e) in same)
 flat-more f a (suc n) m e = ap (λ l. f a ++ l) (flat-more f (a + 1) n m (omega (arith, e))) ∙ sym (append_assoc (f a) (flat_map f (range_with_len (a + 1) n)) (f m))
 
@@ -54,7 +54,8 @@ module _ (format : Fmt) (p size : ℕ) (numbers : List ℤ) where
     fours kept s = flat_map (four_at sections kept i) (range_with_len 0 s)
 
     fours-more : (kept : List ℤ) (s : ℕ) → fours kept (s + 1) ≡ fours kept s ++ four_at sections kept i s
-    fours-more kept s = flat-more {A = ℕ} (four_at sections kept i) 0 s s (omega arith)
+    fours-more kept s =
+        ap (fours kept) (let one : s + 1 ≡ suc s = omega arith in one) ∙ flat-more (four_at sections kept i) 0 s s (omega arith)
 
     fours-size : (kept : List ℤ) (s : ℕ) → ((t : ℕ) → t < s → length (four_at sections kept i t) ≡ 4) → (x : List ℤ) → length (fours kept s) ≡ length ((front_acts s).keeps x)
     fours-size kept zero four x = refl

@@ -2,3 +2,4 @@ mod Groups
 mod PastRows
 mod RowsGo
 mod Composition
+mod SectionsGo

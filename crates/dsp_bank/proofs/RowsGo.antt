@@ -2,7 +2,7 @@
 use Rattle.std.proofs.Common.{◌≡◌, ◌∙◌, ap, sym, subst, ℕ, zero, suc, ◌+◌, ◌*◌, ◌<◌, ◌≤◌, ℤ, ◌+ℤ◌, ◌*ℤ◌, List, [], ◌∷◌, ◌++◌, arith}
 use Rattle.std.proofs.Math.Nat.{mul-le-mul_right}
 use Rattle.dsp_defs.specs.Biquad.{Section, section_close}
-use Rattle.dsp_defs.specs.Signal.{sample, values}
+use Rattle.dsp_defs.specs.Signal.{values}
 use Rattle.dsp_defs.specs.Streaming.{GoesOn}
 use Rattle.dsp_defs.proofs.Signal.{values-add, values_cong}
 use Rattle.dsp_defs.specs.declared.format.Fmt.{Fmt}

@@ -3,3 +3,5 @@ mod PastRows
 mod RowsGo
 mod Composition
 mod SectionsGo
+mod BlockFrames
+mod BankFed

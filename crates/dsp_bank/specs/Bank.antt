@@ -1,13 +1,12 @@
 -- A bank of biquads: one cascade for each channel of a frame, all with the same numbers.
-use Rattle.std.specs.Prelude.{ℕ, ◌≡◌, ◌*◌, ℤ, pos, Bool, true, false, List, replicate}
+use Rattle.std.specs.Prelude.{ℕ, ◌≡◌, ◌*◌, ℤ, pos, Bool, List, replicate}
 use Rattle.dsp_defs.specs.Cost.{section_count}
 use Rattle.dsp_defs.specs.Signal.{values}
 use Rattle.dsp_defs.specs.declared.format.Fmt.{Fmt}
 use Rattle.dsp_defs.specs.declared.script.Block.{Block}
 use Rattle.dsp_defs.specs.declared.script.Block.TheVariants.{Biquad}
-use Rattle.dsp_stage.specs.Channels.{numbers_in, unit_of_filters}
+use Rattle.dsp_stage.specs.Channels.{numbers_in}
 use Rattle.dsp_stage.specs.Filter.{FilterState, steady_filter}
-use Rattle.dsp_stage.specs.Unit.{UnitState, StandsFor, CountsFrames}
 
 -- what a contract sees of a bank: what it was made of, the most frames of a call, and the numbers that it keeps, channel after
 -- channel and in a channel section after section: the last two samples and the last two outputs, the newest first

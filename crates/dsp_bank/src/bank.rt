@@ -1,6 +1,6 @@
 use crate::BankSample;
 use crate::block::run_block;
-use crate::kept::{keep_samples, restore_samples};
+use crate::kept::{keep_samples, restore_samples, zeros};
 use crate::making::check_channels;
 use dsp_biquad::{check_coefficients, check_shift};
 use dsp_defs::{MakeFault, Steps};
@@ -28,6 +28,7 @@ pub struct Bank<T: BankSample + FormatLanes<L>, const L: usize> {
 
 impl<T: BankSample + FormatLanes<L>, const L: usize> Model for Bank<T, L> {
     ghost use Rattle.std.specs.Prelude.{◌≡◌, ◌≤◌, ◌+◌, ◌*◌, ◌/◌, ◌%◌, length, map};
+    ghost use Rattle.dsp_defs.specs.declared.limits.TheConstants.{MAX_CHANNELS, MAX_SAMPLES};
     ghost use Rattle.dsp_bank.specs.Bank.{BankState};
 
     ghost Value = { BankState };
@@ -59,6 +60,7 @@ impl<T: BankSample + FormatLanes<L>, const L: usize> Bank<T, L> {
     ghost use Rattle.dsp_lanes.specs.Turns.{lane_turns};
     ghost use Rattle.dsp_stage.specs.Channels.{AreFed};
     ghost use Rattle.dsp_stage.specs.Kept.{Each, IsOfKind, in_words};
+    ghost use Rattle.dsp_defs.specs.declared.limits.TheConstants.{MAX_CHANNELS, MAX_SAMPLES};
     ghost use Rattle.dsp_bank.specs.Bank.{BankState, IsNewBank, bank_filters, sections_of};
     ghost use Rattle.dsp_bank.specs.Making.{bank_fault};
 
@@ -112,9 +114,9 @@ impl<T: BankSample + FormatLanes<L>, const L: usize> Bank<T, L> {
         let channels = usize::from(channels);
         let long = (block + 2) * channels;
         let count = channels * (coefficients.len() / T::SIZE) * 4;
-        let kept = vec![in alloc; T::zero(); count]?;
-        let frames = vec![in alloc; T::zero(); long]?;
-        let outputs = vec![in alloc; T::zero(); long]?;
+        let kept = zeros(alloc, count)?;
+        let frames = zeros(alloc, long)?;
+        let outputs = zeros(alloc, long)?;
         Ok(Bank {
             post_shift,
             coefficients,
@@ -141,17 +143,13 @@ impl<T: BankSample + FormatLanes<L>, const L: usize> Bank<T, L> {
         ensures turns { steps.new.turns ≤ steps.old.turns + 5 * sections_of T.format self.old
             * (length frames.now / self.old.channels) * lane_turns L self.old.channels }
     {
-        let row = self.channels;
-        let count = frames.len() / row;
-        let long = (count + 2) * row;
         run_block(
             self.coefficients.as_slice(),
             self.post_shift,
             self.kept.as_mut_slice(),
-            row,
-            count,
-            &mut self.frames.as_mut_slice()[..long],
-            &mut self.outputs.as_mut_slice()[..long],
+            self.channels,
+            self.frames.as_mut_slice(),
+            self.outputs.as_mut_slice(),
             frames,
             out,
             steps,

@@ -1,11 +1,24 @@
 //! The numbers that a bank keeps, as samples.
-ghost use Rattle.std.specs.Prelude.{◌≡◌, ◌<◌, length, map};
+ghost use Rattle.std.specs.Prelude.{◌≡◌, ◌<◌, length, map, pos, replicate, IfOk};
 ghost use Rattle.dsp_defs.specs.Formats.{word};
 ghost use Rattle.dsp_defs.specs.Signal.{sample};
 ghost use Rattle.dsp_stage.specs.Kept.{Each, IsOfKind, in_words};
 
 use dsp_sat::Sample;
 use dsp_unit::number_of;
+use std::alloc::{AllocError, Global};
+
+/// A list of zeros.
+pub(crate) fn zeros<T: Sample>(alloc: Global, count: usize) -> Result<Vec<T>, AllocError>
+    ensures zeros { IfOk result (λ v. map T.number v.items ≡ replicate count (pos 0)) }
+    ensures size { IfOk result (λ v. length v.items ≡ count) }
+{
+    let mut zeros = Vec::with_capacity(alloc, count)?;
+    for _ in 0..count {
+        zeros.push(T::zero())?;
+    }
+    Ok(zeros)
+}
 
 /// Writes the numbers of samples.
 pub(crate) fn keep_samples<T: Sample>(samples: &[T], out: &mut [i64])

@@ -28,7 +28,7 @@ pub struct Bank<T: BankSample + FormatLanes<L>, const L: usize> {
 
 impl<T: BankSample + FormatLanes<L>, const L: usize> Model for Bank<T, L> {
     ghost use Rattle.std.specs.Prelude.{◌≡◌, ◌≤◌, ◌+◌, ◌*◌, ◌/◌, ◌%◌, length, map};
-    ghost use Rattle.dsp_defs.specs.declared.limits.TheConstants.{MAX_CHANNELS, MAX_SAMPLES};
+    ghost use Rattle.dsp_defs.specs.declared.limits.TheConstants.{MAX_SAMPLES};
     ghost use Rattle.dsp_bank.specs.Bank.{BankState};
 
     ghost Value = { BankState };
@@ -47,7 +47,7 @@ impl<T: BankSample + FormatLanes<L>, const L: usize> Model for Bank<T, L> {
         × (length b.coefficients.items % T.SIZE ≡ 0)
         × (length b.coefficients.items ≤ 64 * T.SIZE)
         × (1 ≤ b.channels)
-        × (b.channels ≤ MAX_CHANNELS)
+        × (b.channels ≤ 255)
         × (b.capacity ≤ MAX_SAMPLES)
         × (length b.kept.items ≡ b.channels * (length b.coefficients.items / T.SIZE) * 4)
         × (length b.frames.items ≡ (b.capacity + 2) * b.channels)
@@ -60,7 +60,7 @@ impl<T: BankSample + FormatLanes<L>, const L: usize> Bank<T, L> {
     ghost use Rattle.dsp_lanes.specs.Turns.{lane_turns};
     ghost use Rattle.dsp_stage.specs.Channels.{AreFed};
     ghost use Rattle.dsp_stage.specs.Kept.{Each, IsOfKind, in_words};
-    ghost use Rattle.dsp_defs.specs.declared.limits.TheConstants.{MAX_CHANNELS, MAX_SAMPLES};
+    ghost use Rattle.dsp_defs.specs.declared.limits.TheConstants.{MAX_SAMPLES};
     ghost use Rattle.dsp_bank.specs.Bank.{BankState, IsNewBank, bank_filters, sections_of};
     ghost use Rattle.dsp_bank.specs.Making.{bank_fault};
 
@@ -96,7 +96,7 @@ impl<T: BankSample + FormatLanes<L>, const L: usize> Bank<T, L> {
     }
 
     /// A bank of checked coefficients.
-    fn of_coefficients(
+    pub(crate) fn of_coefficients(
         alloc: Global,
         post_shift: u8,
         coefficients: Vec<T>,
@@ -106,8 +106,7 @@ impl<T: BankSample + FormatLanes<L>, const L: usize> Bank<T, L> {
         requires shift { post_shift ≤ T.GREATEST_SHIFT }
         requires whole { length coefficients.items % T.SIZE ≡ 0 }
         requires few { length coefficients.items ≤ 64 * T.SIZE }
-        requires some { 1 ≤ channels }
-        requires channels { channels ≤ MAX_CHANNELS }
+        requires channels { 1 ≤ channels }
         requires block { block ≤ MAX_SAMPLES }
         ensures { IfOk result (IsNewBank T.format post_shift (map T.number coefficients.items) channels block) }
     {
@@ -135,6 +134,7 @@ impl<T: BankSample + FormatLanes<L>, const L: usize> Bank<T, L> {
         requires block { length frames.now ≤ self.old.capacity * self.old.channels }
         requires same { length out.old ≡ length frames.now }
         ensures made { self.new ≡ record self.old { kept = self.new.kept } }
+        ensures size { length self.new.kept ≡ length self.old.kept }
         ensures fed { AreFed (bank_filters T.format false self.old) (bank_filters T.format false self.new)
             (length frames.now / self.old.channels) (map T.number frames.now)
             (length frames.now / self.old.channels) (map T.number out.new) steps.old steps.new }

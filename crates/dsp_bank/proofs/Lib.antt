@@ -5,3 +5,4 @@ mod Composition
 mod SectionsGo
 mod BlockFrames
 mod BankFed
+mod BankUnits

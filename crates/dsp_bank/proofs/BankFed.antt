@@ -54,11 +54,14 @@ module _ (format : Fmt) (old : BankState) (kept' : List ℤ) (count : ℕ) (take
       let long' = length-samples_in old.channels count given c in
       let start : Counts = record { multiplies = 0; turns = 0 } in
       let stop : Counts = record { multiplies = length xs * (5 * sections_of format old); turns = 0 } in
-      let paid : length xs * (5 * sections_of format old) ≡ 0 + length xs * (5 * sections_of format old) = omega arith in
-      (start, stop, steady-fed format (bank_block old) (5 * sections_of format old) old.capacity (biquad-steady format old.post_shift old.coefficients)
-      (numbers_in (4 * sections_of format old) old.kept c) (numbers_in (4 * sections_of format old) kept' c) xs ys start stop (long' ∙ sym long)
-      (length-numbers_in (4 * sections_of format old) old.channels kept' size' c h ∙ sym (length-numbers_in (4 * sections_of format old) old.channels old.kept size c h))
-      (goes c h) paid (λ n. omega arith))
+      let paid : length xs * (5 * sections_of format old) ≡ 0 + length xs * (5 * sections_of format old) = omega arith in (
+        start,
+        stop,
+        steady-fed format (bank_block old) (5 * sections_of format old) old.capacity (biquad-steady format old.post_shift old.coefficients)
+            (numbers_in (4 * sections_of format old) old.kept c) (numbers_in (4 * sections_of format old) kept' c) xs ys start stop (long' ∙ sym long)
+            (length-numbers_in (4 * sections_of format old) old.channels kept' size' c h ∙ sym (length-numbers_in (4 * sections_of format old) old.channels old.kept size c h))
+            (goes c h) paid (λ n. omega arith),
+      )
 
   olds : List FilterState
   olds = bank_filters format false old
@@ -81,12 +84,14 @@ module _ (format : Fmt) (old : BankState) (kept' : List ℤ) (count : ℕ) (take
     each = λ c h.
         let long = length-filters format old in
         let inside : c < old.channels = omega (arith, h, long) in
-        let fed = channel-fed c inside in
-        (fed.0, fed.1,
-        subst (λ k. FilterFeeds (filter_at (bank_filters format false old) c) (filter_at (bank_filters format false (record old { kept = kept' })) c) (samples_in k count taken c) (samples_in k count given c) fed.0 fed.1) (sym long)
-        (subst (λ f. FilterFeeds f (filter_at (bank_filters format false (record old { kept = kept' })) c) (samples_in old.channels count taken c) (samples_in old.channels count given c) fed.0 fed.1) (sym (filter-of format old c inside))
-        (subst (λ f. FilterFeeds (steady_filter format (bank_block old) old.capacity (numbers_in (4 * sections_of format old) old.kept c) false) f (samples_in old.channels count taken c) (samples_in old.channels count given c) fed.0 fed.1)
-        (sym (filter-of format (record old { kept = kept' }) c inside)) fed.2)));
+        let fed = channel-fed c inside in (
+          fed.0,
+          fed.1,
+          subst (λ k. FilterFeeds (filter_at (bank_filters format false old) c) (filter_at (bank_filters format false (record old { kept = kept' })) c) (samples_in k count taken c) (samples_in k count given c) fed.0 fed.1) (sym long)
+              (subst (λ f. FilterFeeds f (filter_at (bank_filters format false (record old { kept = kept' })) c) (samples_in old.channels count taken c) (samples_in old.channels count given c) fed.0 fed.1) (sym (filter-of format old c inside))
+              (subst (λ f. FilterFeeds (steady_filter format (bank_block old) old.capacity (numbers_in (4 * sections_of format old) old.kept c) false) f (samples_in old.channels count taken c) (samples_in old.channels count given c) fed.0 fed.1)
+              (sym (filter-of format (record old { kept = kept' }) c inside)) fed.2)),
+        );
     multiplies = λ n _.
         let one = cost-is n in
         let other = cost-is (n + count) in

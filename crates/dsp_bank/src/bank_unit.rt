@@ -1,3 +1,9 @@
+ghost use Rattle.std.specs.Prelude.{◌≡◌, ◌≤◌, ◌+◌, ◌*◌, ◌/◌, ◌%◌, All, FitsSigned, false, length, take};
+ghost use Rattle.dsp_defs.specs.Formats.{word};
+ghost use Rattle.dsp_lanes.specs.Turns.{lane_turns};
+ghost use Rattle.dsp_stage.specs.Channels.{AreFed};
+ghost use Rattle.dsp_bank.specs.Bank.{bank_filters, sections_of};
+
 use crate::numbers::{put_numbers, take_numbers};
 use crate::{Bank, BankSample};
 use dsp_defs::{Block, MAX_SAMPLES, Measure, Steps};
@@ -8,12 +14,6 @@ use dsp_unit::samples_of;
 use std::alloc::{AllocError, Global};
 use std::marker::Model;
 use std::sync::ledger::Ledger;
-
-ghost use Rattle.std.specs.Prelude.{◌≡◌, ◌≤◌, ◌+◌, ◌*◌, ◌/◌, ◌%◌, All, FitsSigned, false, length, take};
-ghost use Rattle.dsp_defs.specs.Formats.{word};
-ghost use Rattle.dsp_lanes.specs.Turns.{lane_turns};
-ghost use Rattle.dsp_stage.specs.Channels.{AreFed};
-ghost use Rattle.dsp_bank.specs.Bank.{bank_filters, sections_of};
 
 /// A bank at its place: a cascade of biquads on all channels of a frame at once.
 #[derive(Drop)]

@@ -44,7 +44,14 @@ fn run_frames<T: BankSample, M: Ledger>(
 {
     inner[2 * row..].copy_from_slice(frames);
     run_sections(
-        coefficients, post_shift, kept, row, count, inner, outputs, steps,
+        coefficients,
+        post_shift,
+        kept,
+        row,
+        count,
+        inner,
+        outputs,
+        steps,
     );
     out.copy_from_slice(&inner[2 * row..]);
 }

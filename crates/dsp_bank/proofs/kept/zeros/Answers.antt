@@ -8,9 +8,9 @@ loop-preserved g c =
     let so_far = c.loop.invariant in
     record {
       zeros = ap (map number) c.in_ok-push.ensures.items ∙ map_push number c.loop.zeros.items c.zero.result
-      ∙ (λ j. so_far.zeros j ++ (c.zero.ensures j ∷ [])) ∙ replicate_more c.loop.counter (pos 0);
+          ∙ (λ j. so_far.zeros j ++ (c.zero.ensures j ∷ [])) ∙ replicate_more c.loop.counter (pos 0);
       size = ap length c.in_ok-push.ensures.items
-      ∙ omega (arith, length-append c.loop.zeros.items (c.zero.result ∷ []), so_far.size);
+          ∙ omega (arith, length-append c.loop.zeros.items (c.zero.result ∷ []), so_far.size);
     }
 
 pub returns-clause-zeros : goal.returns-clause-zeros

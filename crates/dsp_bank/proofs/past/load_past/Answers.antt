@@ -28,7 +28,7 @@ loop-channel-preserved g c =
     let long = length-group number kept (row * c.args.sections) group c.requires.size within in
     let here = sym (group-read number kept group)
     ∙ four-read number four c.index-four-0.result c.index-four-1.result c.index-four-2.result c.index-four-3.result
-        long c.index-four-0.is c.index-four-1.is c.index-four-2.is c.index-four-3.is
+    long c.index-four-0.is c.index-four-1.is c.index-four-2.is c.index-four-3.is
     ∙ sym (past-here row i frames frames' outputs outputs' x1 x2 y1 y2 inside put put') in
     record {
       fours = below_more _ i

@@ -14,8 +14,8 @@ returns g c =
     let room' : c.args.channel < length first = omega (arith, room, length-set rows newest c.args.newest) in
     record {
       newest_is = sample-map-set_other number first c.args.channel newest c.args.second apart
-      ∙ sample-map-set_same number rows newest c.args.newest room;
+          ∙ sample-map-set_same number rows newest c.args.newest room;
       second_is = sample-map-set_same number first c.args.channel c.args.second room';
       others = λ k away away'. sample-map-set_other number first c.args.channel k c.args.second away'
-      ∙ sample-map-set_other number rows newest k c.args.newest away;
+          ∙ sample-map-set_other number rows newest k c.args.newest away;
     }

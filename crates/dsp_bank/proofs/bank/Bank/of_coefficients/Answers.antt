@@ -20,5 +20,5 @@ returns g c =
       channels_are = c.from-channels.ensures;
       capacity_is = refl;
       zeros = c.in_ok-kept.ensures.zeros
-      ∙ (λ i. replicate (c.from-channels.ensures i * sections i * 4) (pos 0));
+          ∙ (λ i. replicate (c.from-channels.ensures i * sections i * 4) (pos 0));
     }

@@ -31,11 +31,17 @@ outputs-whole g c =
 
 pub invariant_of-self : goal.invariant_of-self
 invariant_of-self g c =
-    let is = c.self.invariant in
-    (is.0, is.1, is.2, is.3, is.4, is.5,
-    ap length (kept-whole g c) ∙ c.run_block.auto.kept ∙ ap length c.as_mut_slice.ensures.value ∙ is.6,
-    ap length (frames-whole g c) ∙ c.run_block.auto.inner ∙ ap length c.as_mut_slice-2.ensures.value ∙ is.7,
-    ap length (outputs-whole g c) ∙ c.run_block.auto.outputs ∙ ap length c.as_mut_slice-3.ensures.value ∙ is.8)
+    let is = c.self.invariant in (
+      is.0,
+      is.1,
+      is.2,
+      is.3,
+      is.4,
+      is.5,
+      ap length (kept-whole g c) ∙ c.run_block.auto.kept ∙ ap length c.as_mut_slice.ensures.value ∙ is.6,
+      ap length (frames-whole g c) ∙ c.run_block.auto.inner ∙ ap length c.as_mut_slice-2.ensures.value ∙ is.7,
+      ap length (outputs-whole g c) ∙ c.run_block.auto.outputs ∙ ap length c.as_mut_slice-3.ensures.value ∙ is.8,
+    )
 
 -- the bank before the call
 abbrev before-call : (g : _) (c : goal.After-out-1 g) → BankState

@@ -29,10 +29,13 @@ feed_bank-requires g c =
     let count = length (frames_in b.channels frames) in
     let most = at-most b.channels b.capacity (length frames) count signal.whole_frames few in
     let input : length c.as_mut_slice.result.now ≡ b.capacity * b.channels = ap length c.as_mut_slice.ensures.value ∙ c.self.invariant.2 in
-    let output : length c.as_mut_slice-2.result.now ≡ b.capacity * b.channels = ap length c.as_mut_slice-2.ensures.value ∙ c.self.invariant.3 in
-    (search rules,
-    (no-rest b.channels b.capacity (length frames) count signal.whole_frames few,
-    (most, (signal.in_format, (omega (arith, most, input), (omega (arith, most, output), omega (arith, most, room')))))))
+    let output : length c.as_mut_slice-2.result.now ≡ b.capacity * b.channels = ap length c.as_mut_slice-2.ensures.value ∙ c.self.invariant.3 in (
+      search rules,
+      (
+        no-rest b.channels b.capacity (length frames) count signal.whole_frames few,
+        (most, (signal.in_format, (omega (arith, most, input), (omega (arith, most, output), omega (arith, most, room'))))),
+      ),
+    )
 
 pub returns-clause-output : goal.returns-clause-output
 returns-clause-output g c =

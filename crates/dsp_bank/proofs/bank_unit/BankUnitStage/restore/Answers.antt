@@ -8,10 +8,11 @@ use Rattle.dsp_bank.proofs.BankUnits.{bank-fits_words, bank-restores, whole-kept
 use Rattle.dsp_bank.proofs.bank_unit.BankUnitStage.restore.Goals as goal
 
 pub restore-requires : goal.restore-requires
-restore-requires g c =
-    (search rules,
-    bank-fits_words g.T.Sample.format c.self.inside.bank c.args.numbers.now c.self.invariant.0.size
-        (rw (← c.self.view_is) at c.requires.fits))
+restore-requires g c = (
+  search rules,
+  bank-fits_words g.T.Sample.format c.self.inside.bank c.args.numbers.now c.self.invariant.0.size
+      (rw (← c.self.view_is) at c.requires.fits),
+)
 
 pub invariant_of-self : goal.invariant_of-self
 invariant_of-self g c =

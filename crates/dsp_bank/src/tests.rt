@@ -1,5 +1,5 @@
 //! Banks beside a cascade for each channel, and worked rows.
-ghost use Rattle.std.specs.Prelude.{◌≡◌, ◌≤◌, ◌*◌, ◌%◌, length};
+ghost use Rattle.std.specs.Prelude.{◌≡◌, IsFalse, length};
 ghost use Rattle.dsp_lanes.specs.Turns.{RisesWithin};
 
 use crate::{Bank, BankSample};
@@ -58,6 +58,7 @@ fn feed_pieces<T: BankSample + FormatLanes<L>, const L: usize, M: Ledger>(
 )
     requires channels { bank.old.channels ≡ row }
     requires capacity { bank.old.capacity ≡ 7 }
+    ensures { length bank.new.kept ≡ length bank.old.kept }
 {
     let mut at = 0;
     let mut size = 1;
@@ -102,6 +103,33 @@ fn channel_of<T: Copy>(
     }
 }
 
+/// Compares what a bank gave and keeps of a channel with a cascade.
+fn compare_cascade<T: BankSample + PartialEq, M: Ledger>(
+    rt: &impl Abort,
+    alloc: Global,
+    cascade: &mut Biquads<T, Section<T>>,
+    row: usize,
+    channel: usize,
+    frames: &[T],
+    given: &[T],
+    kept: &[i64],
+    steps: &mut Steps<M>,
+)
+    requires running { IsFalse cascade.old.filter.ended }
+    requires capacity { cascade.old.filter.capacity ≡ 4096 }
+{
+    assert!(rt; 1 <= row && row <= 16 && frames.len() <= 4096);
+    let count = frames.len() / row;
+    let mut values = vec![in alloc; T::zero(); count].expect(rt, "memory");
+    let mut outputs = vec![in alloc; T::zero(); count].expect(rt, "memory");
+    channel_of(rt, row, channel, frames, values.as_mut_slice());
+    cascade.process(values.as_slice(), outputs.as_mut_slice(), steps);
+    compare_channel(rt, row, channel, given, outputs.as_slice());
+    let mut numbers = vec![in alloc; 0; cascade.kept_count()].expect(rt, "memory");
+    cascade.keep(numbers.as_mut_slice());
+    assert!(rt; numbers.as_slice() == kept);
+}
+
 /// Compares what a bank gave and keeps with a cascade for each channel.
 fn compare<T: BankSample + PartialEq, M: Ledger>(
     rt: &impl Abort,
@@ -114,25 +142,26 @@ fn compare<T: BankSample + PartialEq, M: Ledger>(
     kept: &[i64],
     steps: &mut Steps<M>,
 ) {
-    assert!(rt; 1 <= row && row <= 16 && frames.len() <= 4096);
-    let count = frames.len() / row;
-    let mut values = vec![in alloc; T::zero(); count].expect(rt, "memory");
-    let mut outputs = vec![in alloc; T::zero(); count].expect(rt, "memory");
-    for channel in 0..row {
+    assert!(rt; 1 <= row);
+    let each = kept.len() / row;
+    for (channel, numbers) in kept.chunks(each.max(1)).enumerate() {
         let mut cascade = Biquads::<T, Section<T>>::new(
             alloc,
             post_shift,
             coefficients,
             4096,
         ).expect(rt, "a cascade");
-        channel_of(rt, row, channel, frames, values.as_mut_slice());
-        cascade.process(values.as_slice(), outputs.as_mut_slice(), steps);
-        compare_channel(rt, row, channel, given, outputs.as_slice());
-        let mut numbers = vec![in alloc; 0; cascade.kept_count()].expect(rt, "memory");
-        cascade.keep(numbers.as_mut_slice());
-        let at = channel * numbers.len();
-        assert!(rt; at + numbers.len() <= kept.len());
-        assert!(rt; numbers.as_slice() == &kept[at..at + numbers.len()]);
+        compare_cascade(
+            rt,
+            alloc,
+            &mut cascade,
+            row,
+            channel,
+            frames,
+            given,
+            numbers,
+            steps,
+        );
     }
 }
 
@@ -157,25 +186,13 @@ fn run<T: BankSample + FormatLanes<L> + PartialEq, const L: usize, M: Ledger>(
     let mut kept = vec![in alloc; 0; first.kept_count()].expect(rt, "memory");
     let half = 19 * row;
     assert!(rt; half <= frames.len());
-    feed_pieces(
-        rt,
-        &mut first,
-        row,
-        &frames[..half],
-        &mut given.as_mut_slice()[..half],
-        steps,
-    );
+    let (early, late) = frames.split_at(half);
+    let (early_out, late_out) = given.as_mut_slice().split_at_mut(half);
+    feed_pieces(rt, &mut first, row, early, early_out, steps);
     first.keep(kept.as_mut_slice());
     assert!(rt; second.fits(kept.as_slice()));
     second.restore(kept.as_slice());
-    feed_pieces(
-        rt,
-        &mut second,
-        row,
-        &frames[half..],
-        &mut given.as_mut_slice()[half..],
-        steps,
-    );
+    feed_pieces(rt, &mut second, row, late, late_out, steps);
     second.keep(kept.as_mut_slice());
     compare(
         rt,

@@ -31,22 +31,31 @@ lanes-within L n some =
 
 -- the filter of a channel
 pub filter-of : (format : Fmt) (b : BankState) (c : ℕ) → c < b.channels →
-    filter_at (bank_filters format false b) c ≡ steady_filter format (bank_block b) b.capacity (numbers_in (4 * sections_of format b) b.kept c) false
+    filter_at (bank_filters format false b) c ≡ steady_filter format (bank_block b) b.capacity
+    (numbers_in (4 * sections_of format b) b.kept c) false
 filter-of format b c h =
-    get_or-map-range_with_len (λ i. steady_filter format (bank_block b) b.capacity (numbers_in (4 * sections_of format b) b.kept i) false) 0 b.channels c c no_filter h (omega arith)
+    get_or-map-range_with_len (λ i. steady_filter format (bank_block b) b.capacity
+    (numbers_in (4 * sections_of format b) b.kept i) false) 0 b.channels c c no_filter h (omega arith)
 
 pub length-filters : (format : Fmt) (b : BankState) → length (bank_filters format false b) ≡ b.channels
-length-filters format b = length-map-range_with_len (λ i. steady_filter format (bank_block b) b.capacity (numbers_in (4 * sections_of format b) b.kept i) false) 0 b.channels
+length-filters format b = length-map-range_with_len (λ i. steady_filter format (bank_block b) b.capacity
+    (numbers_in (4 * sections_of format b) b.kept i) false) 0 b.channels
 
 module _ (format : Fmt) (old : BankState) (kept' : List ℤ) (count : ℕ) (taken given : List ℤ) (before after : Counts)
-    (some : 1 ≤ old.channels) (size : length old.kept ≡ old.channels * (4 * sections_of format old)) (size' : length kept' ≡ old.channels * (4 * sections_of format old))
-    (goes : ChannelsTake (block_acts format (bank_block old)) (4 * sections_of format old) old.channels count old.kept kept' taken given)
-    (rises : RisesWithin before after (sections_of format old * (count * (5 * old.channels))) (sections_of format old * (count * (5 * lane_turns (lanes format) old.channels)))) where
+    (some : 1 ≤ old.channels) (size : length old.kept ≡ old.channels * (4 * sections_of format old))
+    (size' : length kept' ≡ old.channels * (4 * sections_of format old))
+    (goes : ChannelsTake (block_acts format (bank_block old)) (4 * sections_of format old) old.channels count old.kept
+    kept' taken given)
+    (rises : RisesWithin before after (sections_of format old * (count * (5 * old.channels)))
+    (sections_of format old * (count * (5 * lane_turns (lanes format) old.channels)))) where
   price : ℕ
   price = 5 * sections_of format old
 
-  channel-fed : (c : ℕ) → c < old.channels → (start stop : Counts) × FilterFeeds (steady_filter format (bank_block old) old.capacity (numbers_in (4 * sections_of format old) old.kept c) false)
-      (steady_filter format (bank_block old) old.capacity (numbers_in (4 * sections_of format old) kept' c) false) (samples_in old.channels count taken c) (samples_in old.channels count given c) start stop
+  channel-fed : (c : ℕ) → c < old.channels → (start stop : Counts)
+      × FilterFeeds (steady_filter format (bank_block old) old.capacity (numbers_in (4 * sections_of format old)
+      old.kept c) false)
+      (steady_filter format (bank_block old) old.capacity (numbers_in (4 * sections_of format old) kept' c) false)
+      (samples_in old.channels count taken c) (samples_in old.channels count given c) start stop
   channel-fed c h =
       let xs = samples_in old.channels count taken c in
       let ys = samples_in old.channels count given c in
@@ -54,31 +63,40 @@ module _ (format : Fmt) (old : BankState) (kept' : List ℤ) (count : ℕ) (take
       let long' = length-samples_in old.channels count given c in
       let start : Counts = record { multiplies = 0; turns = 0 } in
       let stop : Counts = record { multiplies = length xs * (5 * sections_of format old); turns = 0 } in
-      let paid : length xs * (5 * sections_of format old) ≡ 0 + length xs * (5 * sections_of format old) = omega arith in (
+      let paid : length xs * (5 * sections_of format old) ≡ 0 + length xs * (5 * sections_of format old) = omega arith
+      in (
         start,
         stop,
-        steady-fed format (bank_block old) (5 * sections_of format old) old.capacity (biquad-steady format old.post_shift old.coefficients)
-            (numbers_in (4 * sections_of format old) old.kept c) (numbers_in (4 * sections_of format old) kept' c) xs ys start stop (long' ∙ sym long)
-            (length-numbers_in (4 * sections_of format old) old.channels kept' size' c h ∙ sym (length-numbers_in (4 * sections_of format old) old.channels old.kept size c h))
+        steady-fed format (bank_block old) (5 * sections_of format old) old.capacity
+            (biquad-steady format old.post_shift old.coefficients)
+            (numbers_in (4 * sections_of format old) old.kept c) (numbers_in (4 * sections_of format old) kept' c) xs
+            ys start stop (long' ∙ sym long)
+            (length-numbers_in (4 * sections_of format old) old.channels kept' size' c h
+            ∙ sym (length-numbers_in (4 * sections_of format old) old.channels old.kept size c h))
             (goes c h) paid (λ n. omega arith),
       )
 
   olds : List FilterState
   olds = bank_filters format false old
 
-  first : filter_at (bank_filters format false old) 0 ≡ steady_filter format (bank_block old) old.capacity (numbers_in (4 * sections_of format old) old.kept 0) false
+  first : filter_at (bank_filters format false old) 0 ≡ steady_filter format (bank_block old) old.capacity
+      (numbers_in (4 * sections_of format old) old.kept 0) false
   first = filter-of format old 0 (omega (arith, some))
 
-  cost-is : (n : ℕ) → live_block_cost (filter_at (bank_filters format false old) 0).format 1 (filter_at (bank_filters format false old) 0).block n ≡ n * (5 * sections_of format old)
-  cost-is n = (λ i. live_block_cost (first i).format 1 (first i).block n) ∙ (biquad-steady format old.post_shift old.coefficients).live_cost n
+  cost-is : (n : ℕ) → live_block_cost (filter_at (bank_filters format false old) 0).format 1
+      (filter_at (bank_filters format false old) 0).block n ≡ n * (5 * sections_of format old)
+  cost-is n = (λ i. live_block_cost (first i).format 1 (first i).block n)
+      ∙ (biquad-steady format old.post_shift old.coefficients).live_cost n
 
-  turns-are : (n m : ℕ) → block_turns (filter_at (bank_filters format false old) 0).format 1 (filter_at (bank_filters format false old) 0).block n (n + m) ≡ m * (5 * sections_of format old)
+  turns-are : (n m : ℕ) → block_turns (filter_at (bank_filters format false old) 0).format 1
+      (filter_at (bank_filters format false old) 0).block n (n + m) ≡ m * (5 * sections_of format old)
   turns-are n m =
       let one = (biquad-steady format old.post_shift old.coefficients).live_cost n in
       let other = (biquad-steady format old.post_shift old.coefficients).live_cost (n + m) in
       (λ i. block_turns (first i).format 1 (first i).block n (n + m)) ∙ omega (arith, one, other)
 
-  pub bank-fed : AreFed (bank_filters format false old) (bank_filters format false (record old { kept = kept' })) count taken count given before after
+  pub bank-fed : AreFed (bank_filters format false old) (bank_filters format false (record old { kept = kept' }))
+      count taken count given before after
   bank-fed = record {
     size = length-filters format (record old { kept = kept' }) ∙ sym (length-filters format old);
     each = λ c h.
@@ -87,22 +105,33 @@ module _ (format : Fmt) (old : BankState) (kept' : List ℤ) (count : ℕ) (take
         let fed = channel-fed c inside in (
           fed.0,
           fed.1,
-          subst (λ k. FilterFeeds (filter_at (bank_filters format false old) c) (filter_at (bank_filters format false (record old { kept = kept' })) c) (samples_in k count taken c) (samples_in k count given c) fed.0 fed.1) (sym long)
-              (subst (λ f. FilterFeeds f (filter_at (bank_filters format false (record old { kept = kept' })) c) (samples_in old.channels count taken c) (samples_in old.channels count given c) fed.0 fed.1) (sym (filter-of format old c inside))
-              (subst (λ f. FilterFeeds (steady_filter format (bank_block old) old.capacity (numbers_in (4 * sections_of format old) old.kept c) false) f (samples_in old.channels count taken c) (samples_in old.channels count given c) fed.0 fed.1)
+          subst (λ k. FilterFeeds (filter_at (bank_filters format false old) c)
+              (filter_at (bank_filters format false (record old { kept = kept' })) c) (samples_in k count taken c)
+              (samples_in k count given c) fed.0 fed.1) (sym long)
+              (subst (λ f. FilterFeeds f (filter_at (bank_filters format false (record old { kept = kept' })) c)
+              (samples_in old.channels count taken c) (samples_in old.channels count given c) fed.0 fed.1)
+              (sym (filter-of format old c inside))
+              (subst (λ f. FilterFeeds (steady_filter format (bank_block old) old.capacity
+              (numbers_in (4 * sections_of format old) old.kept c) false) f (samples_in old.channels count taken
+              c) (samples_in old.channels count given c) fed.0 fed.1)
               (sym (filter-of format (record old { kept = kept' }) c inside)) fed.2)),
         );
     multiplies = λ n _.
         let one = cost-is n in
         let other = cost-is (n + count) in
         let long = length-filters format old in
-        (λ i. long i * other i + before.multiplies) ∙ omega (arith, rises.multiplies_rise) ∙ sym (λ i. long i * one i + after.multiplies);
+        (λ i. long i * other i + before.multiplies) ∙ omega (arith, rises.multiplies_rise)
+        ∙ sym (λ i. long i * one i + after.multiplies);
     turns = λ n _.
         let turns = turns-are n count in
         let long = length-filters format old in
-        let less : (sections_of format old * (count * 5)) * lane_turns (lanes format) old.channels ≤ (sections_of format old * (count * 5)) * old.channels =
-        mul-le-mul_left (sections_of format old * (count * 5)) (lanes-within (lanes format) old.channels (some-lanes format)) in
-        let is : length (bank_filters format false old) * block_turns (filter_at (bank_filters format false old) 0).format 1 (filter_at (bank_filters format false old) 0).block n (n + count) ≡ old.channels * (count * (5 * sections_of format old)) =
+        let less : (sections_of format old * (count * 5)) * lane_turns (lanes format) old.channels ≤
+        (sections_of format old * (count * 5)) * old.channels =
+        mul-le-mul_left (sections_of format old * (count * 5)) (lanes-within (lanes format) old.channels
+        (some-lanes format)) in
+        let is : length (bank_filters format false old) * block_turns (filter_at (bank_filters format false old)
+        0).format 1 (filter_at (bank_filters format false old) 0).block n (n + count)
+        ≡ old.channels * (count * (5 * sections_of format old)) =
         (λ i. long i * turns i) in
         omega (arith, rises.turns_within, less, is);
   }

@@ -9,7 +9,8 @@ use Rattle.dsp_stage.specs.Channels.{numbers_in}
 use Rattle.dsp_stage.specs.Filter.{FilterState, steady_filter}
 use Rattle.dsp_stage.specs.Unit.{UnitState, StandsFor, CountsFrames, most_kept}
 
--- what a contract sees of a bank: what it was made of, the most frames of a call, and the numbers that it keeps, channel after
+-- what a contract sees of a bank: what it was made of, the most frames of a call, and the numbers that it keeps,
+-- channel after
 -- channel and in a channel section after section: the last two samples and the last two outputs, the newest first
 pub record BankState : Type 0 where
   pub post_shift : ℕ
@@ -29,10 +30,12 @@ bank_block b = Biquad b.post_shift b.coefficients
 -- the filters that it stands for, one for each channel, each with its own numbers
 abbrev pub bank_filters : Fmt → Bool → BankState → List FilterState
 bank_filters format ended b =
-    values b.channels (λ i. steady_filter format (bank_block b) b.capacity (numbers_in (4 * sections_of format b) b.kept i) ended)
+    values b.channels (λ i. steady_filter format (bank_block b) b.capacity (numbers_in (4 * sections_of format b)
+    b.kept i) ended)
 
 -- a bank that has taken nothing: it keeps zeros
-pub record IsNewBank (format : Fmt) (post_shift : ℕ) (coefficients : List ℤ) (channels capacity : ℕ) (b : BankState) : Type 0 where
+pub record IsNewBank (format : Fmt) (post_shift : ℕ) (coefficients : List ℤ) (channels capacity : ℕ)
+    (b : BankState) : Type 0 where
   pub post_shift_is : b.post_shift ≡ post_shift
   pub coefficients_are : b.coefficients ≡ coefficients
   pub channels_are : b.channels ≡ channels

@@ -17,7 +17,8 @@ channel_after row count frames channel = values count (λ n. cell row frames (n 
 -- what a section keeps of a channel after n frames: its last two samples and its last two outputs, the newest first
 abbrev pub past : ℕ → List ℤ → List ℤ → ℕ → ℕ → List ℤ
 past row frames outputs n channel =
-    cell row frames (n + 1) channel ∷ cell row frames n channel ∷ cell row outputs (n + 1) channel ∷ cell row outputs n channel ∷ []
+    cell row frames (n + 1) channel ∷ cell row frames n channel ∷ cell row outputs (n + 1) channel ∷ cell row outputs
+    n channel ∷ []
 
 -- the newest number and the one before it stand in the second and the first frame of a channel; nothing else changed
 pub record PutsPast (row channel : ℕ) (newest second : ℤ) (old new : List ℤ) : Type 0 where
@@ -51,17 +52,21 @@ abbrev pub acts_at : Fmt → ℕ → ℕ → List ℤ → ℕ → Behaviour
 acts_at format p size numbers s = section_acts format p (section_at size numbers s)
 
 -- each channel goes on as the section does, from what it kept of it, and the other sections keep what they kept
-pub record SectionGoes (acts : Behaviour) (sections section row count : ℕ) (kept kept' frames frames' : List ℤ) : Type 0 where
-  pub goes : (i : ℕ) → i < row → GoesOn acts.gives acts.keeps (four_at sections kept i section) (four_at sections kept' i section)
+pub record SectionGoes (acts : Behaviour) (sections section row count : ℕ) (kept kept' frames frames' : List ℤ) : Type
+    0 where
+  pub goes : (i : ℕ) → i < row → GoesOn acts.gives acts.keeps (four_at sections kept i section)
+      (four_at sections kept' i section)
       (channel_after row count frames i) (channel_after row count frames' i)
   pub others : (i s : ℕ) → i < row → s < sections → s ≢ section → four_at sections kept' i s ≡ four_at sections kept i s
 
 -- each channel goes on as a behaviour does, from as many numbers for each channel
 abbrev pub ChannelsGo : Behaviour → ℕ → ℕ → ℕ → List ℤ → List ℤ → List ℤ → List ℤ → Type 0
 ChannelsGo acts size row count kept kept' frames frames' =
-    (i : ℕ) → i < row → GoesOn acts.gives acts.keeps (numbers_in size kept i) (numbers_in size kept' i) (channel_after row count frames i) (channel_after row count frames' i)
+    (i : ℕ) → i < row → GoesOn acts.gives acts.keeps (numbers_in size kept i) (numbers_in size kept' i)
+    (channel_after row count frames i) (channel_after row count frames' i)
 
 -- the same of frames alone
 abbrev pub ChannelsTake : Behaviour → ℕ → ℕ → ℕ → List ℤ → List ℤ → List ℤ → List ℤ → Type 0
 ChannelsTake acts size row count kept kept' taken given =
-    (i : ℕ) → i < row → GoesOn acts.gives acts.keeps (numbers_in size kept i) (numbers_in size kept' i) (samples_in row count taken i) (samples_in row count given i)
+    (i : ℕ) → i < row → GoesOn acts.gives acts.keeps (numbers_in size kept i) (numbers_in size kept' i)
+    (samples_in row count taken i) (samples_in row count given i)

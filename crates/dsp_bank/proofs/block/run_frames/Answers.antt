@@ -22,10 +22,13 @@ returns-clause-goes g c = λ i h.
     let taken = taken-frames number row count i h c.args.inner.now written c.requires.inner
     (ap length c.copy_from_slice.ensures.after ∙ c.requires.frames)
     ∙ ap (λ l. samples_in row count (map number l) i) c.copy_from_slice.ensures.after in
-    let before = channel_after row count (map number (put_mid (2 * row) (length c.args.inner.now - 2 * row) c.args.inner.now written)) i in
-    let long : length inner ≡ (count + 2) * row = c.run_sections.auto.frames ∙ length-put row count c.args.inner.now written c.requires.inner
+    let before = channel_after row count (map number (put_mid (2 * row) (length c.args.inner.now - 2 * row)
+    c.args.inner.now written)) i in
+    let long : length inner ≡ (count + 2) * row = c.run_sections.auto.frames ∙ length-put row count c.args.inner.now
+    written c.requires.inner
     (ap length c.copy_from_slice.ensures.after ∙ c.requires.frames) in
     let given = given-frames number row count i h inner long
     ∙ ap (λ l. samples_in row count (map number l) i) (sym c.copy_from_slice-2.ensures.after) in
-    subst (λ xs. GoesOn acts.gives acts.keeps old new xs (samples_in row count (map number c.copy_from_slice-2.new.self) i)) taken
+    subst (λ xs. GoesOn acts.gives acts.keeps old new xs
+    (samples_in row count (map number c.copy_from_slice-2.new.self) i)) taken
     (subst (λ ys. GoesOn acts.gives acts.keeps old new before ys) given (c.run_sections.ensures.goes i h))

@@ -7,7 +7,8 @@ use Rattle.dsp_bank.proofs.kept.restore_samples.Goals as goal
 
 pub sample_at-requires-clause-inside : goal.sample_at-requires-clause-inside
 sample_at-requires-clause-inside g c =
-    let size = length-words IsOfKind (word g.T.Sample.format) (length c.args.samples.now) c.args.numbers.now c.requires in
+    let size = length-words IsOfKind (word g.T.Sample.format) (length c.args.samples.now) c.args.numbers.now
+    c.requires in
     omega (arith, size, c.loop-k-test.true)
 
 pub sample_at-requires-clause-fits : goal.sample_at-requires-clause-fits
@@ -33,7 +34,8 @@ loop-k-preserved g c =
 pub returns : goal.returns
 returns g c =
     let number = g.T.Sample.number in
-    let size = length-words IsOfKind (word g.T.Sample.format) (length c.args.samples.now) c.args.numbers.now c.requires in
+    let size = length-words IsOfKind (word g.T.Sample.format) (length c.args.samples.now) c.args.numbers.now
+    c.requires in
     let all = take_all c.loop-k.k c.loop-k.samples (omega (arith, c.loop-k-test.false, c.loop-k.auto.samples)) in
     let all' = take_all c.loop-k.k c.args.numbers.now (omega (arith, c.loop-k-test.false, size)) in
     ap (map number) (sym all) ∙ c.loop-k.invariant ∙ all'

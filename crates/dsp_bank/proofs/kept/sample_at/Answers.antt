@@ -14,7 +14,8 @@ use Rattle.dsp_bank.proofs.kept.sample_at.Goals as goal
 kept-fits : (format : Fmt) (numbers : List ℤ) (k : ℕ) → Each IsOfKind (in_words (word format) (length numbers)) numbers
     → k < length numbers → SFits (word format) (sample numbers k)
 kept-fits format numbers k each inside =
-    All-get_or (FitsSigned (word format)) numbers k (pos 0) inside (fit-words (word format) (length numbers) numbers each)
+    All-get_or (FitsSigned (word format)) numbers k (pos 0) inside (fit-words (word format) (length numbers) numbers
+    each)
 
 fits-32 : (format : Fmt) (z : ℤ) → SFits (word format) z → SFits w32 z
 fits-32 Q7 z fits = record { sfits = omega (arith, fits.sfits) }

@@ -16,7 +16,8 @@ returns-clause-goes g c =
     let inner = map number c.load_past.new.frames in
     let first = map number c.load_past.new.outputs in
     let outputs = map number c.section_rows.new.outputs in
-    subst (λ l. SectionGoes acts c.args.sections c.args.section c.args.row c.args.count kept kept' frames (map number l))
+    subst (λ l. SectionGoes acts c.args.sections c.args.section c.args.row c.args.count kept kept' frames
+    (map number l))
     (sym c.copy_from_slice.ensures.after)
     (section-goes g.T.Sample.format c.args.post_shift five c.args.sections c.args.section c.args.row c.args.count kept
     kept' frames inner first outputs c.load_past.ensures c.section_rows.ensures.follows c.section_rows.ensures.past

@@ -33,7 +33,8 @@ loop-section-preserved g c =
     let inside : s < sections = c.loop-section-test.true in
     let whole : length old ≡ row * sections * 4 = length-map c.args.kept.now number ∙ c.requires.size
     ∙ ap (λ n. row * (length c.args.coefficients.now / n) * 4) (sym c.SIZE.ensures) in
-    let step = subst (λ (f : Section). SectionGoes (section_acts format p f) sections s row count mid new frames' frames'')
+    let step = subst (λ (f : Section). SectionGoes (section_acts format p f) sections s row count mid new frames'
+    frames'')
     c.numbers_at-five.ensures c.run_section.ensures.goes in
     let one = count * (5 * row) in
     let turns = count * (5 * lane_turns (lanes format) row) in
@@ -45,7 +46,12 @@ loop-section-preserved g c =
       rest = stay-more format p size numbers sections row count old mid new frames frames' frames'' s whole inside
           so_far.gone so_far.rest step;
       steps = record {
-        multiplies_rise = omega (arith, rise, so_far.steps.multiplies_rise, c.run_section.ensures.steps.multiplies_rise);
+        multiplies_rise = omega (
+          arith,
+          rise,
+          so_far.steps.multiplies_rise,
+          c.run_section.ensures.steps.multiplies_rise,
+        );
         turns_within = omega (arith, rise', so_far.steps.turns_within, c.run_section.ensures.steps.turns_within);
       };
     }
@@ -69,8 +75,14 @@ returns-clause-goes g c =
     let done : c.loop-section.section ≡ coefficients / c.SIZE.result = omega
     (arith, c.loop-section-test.false, c.loop-section.auto.section-end) in
     let some = some-size format size is in
-    let long : length numbers ≡ sections * size = omega (arith, length-map c.args.coefficients.now number, c.requires.whole, some) in
-    let gone = subst (λ s. HaveGone format p size numbers (coefficients / c.SIZE.result) row c.args.count s old new frames frames')
+    let long : length numbers ≡ sections * size = omega (
+      arith,
+      length-map c.args.coefficients.now number,
+      c.requires.whole,
+      some,
+    ) in
+    let gone = subst (λ s. HaveGone format p size numbers (coefficients / c.SIZE.result) row c.args.count s old new
+    frames frames')
     done c.loop-section.invariant.gone in
     let gone' = subst (λ s. HaveGone format p size numbers s row c.args.count s old new frames frames') same gone in
     all-gone format p size numbers sections row c.args.count is old new frames frames'

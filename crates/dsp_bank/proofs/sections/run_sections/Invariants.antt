@@ -10,7 +10,8 @@ invariant-loop-section g l = record {
   gone : HaveGone g.T.Sample.format l.post_shift g.T.BiquadSample.SIZE (map g.T.Sample.number l.coefficients) l.sections
       l.row l.count l.section (map g.T.Sample.number l.initial.kept) (map g.T.Sample.number l.kept)
       (map g.T.Sample.number l.initial.frames) (map g.T.Sample.number l.frames);
-  rest : LaterStay g.T.Sample.format l.post_shift g.T.BiquadSample.SIZE (map g.T.Sample.number l.coefficients) l.sections
+  rest : LaterStay g.T.Sample.format l.post_shift g.T.BiquadSample.SIZE (map g.T.Sample.number l.coefficients)
+      l.sections
       l.row l.count l.section (map g.T.Sample.number l.initial.kept) (map g.T.Sample.number l.kept);
   steps : RisesWithin l.initial.steps l.steps (l.section * (l.count * (5 * l.row)))
       (l.section * (l.count * (5 * lane_turns (lanes g.T.Sample.format) l.row)));

@@ -13,7 +13,8 @@ returns g c =
     let long : c.len.result ≡ length items = search rules in
     let sections : c.len.result / c.SIZE.result ≡ section_count format (map number items) =
     (λ i. long i / c.SIZE.ensures i)
-    ∙ sym (count-at format size g.met.T.BiquadSample.has_size (map number items) ∙ ap (λ n. n / size) (length-map items number)) in
+    ∙ sym (count-at format size g.met.T.BiquadSample.has_size (map number items) ∙ ap (λ n. n / size)
+    (length-map items number)) in
     record {
       post_shift_is = refl;
       coefficients_are = refl;

@@ -1,5 +1,3 @@
-use Rattle.std.proofs.Common.{false}
-use Rattle.std.proofs.lemmas.Bool.{false≢true}
 use Rattle.dsp_bank.proofs.BankUnits.{words-fit_bank, bank-fits_words}
 use Rattle.dsp_bank.proofs.bank_unit.BankUnitStage.place.Goals as goal
 

@@ -4,7 +4,7 @@ use Rattle.dsp_defs.specs.declared.limits.TheConstants.{MAX_SAMPLES}
 use Rattle.dsp_stage.specs.Kept.{IsOfKind}
 use Rattle.dsp_stage.proofs.ChannelKept.{length-words}
 use Rattle.dsp_bank.specs.Bank.{BankState, IsWholeBank}
-use Rattle.dsp_bank.proofs.BankUnits.{bank-fits_words, bank-restores, whole-kept}
+use Rattle.dsp_bank.proofs.BankUnits.{bank-fits_words, whole-kept}
 use Rattle.dsp_bank.proofs.bank_unit.BankUnitStage.restore.Goals as goal
 
 pub restore-requires : goal.restore-requires

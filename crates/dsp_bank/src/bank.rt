@@ -17,7 +17,8 @@ use std::sync::ledger::Ledger;
 pub struct Bank<T: BankSample + FormatLanes<L>, const L: usize> {
     post_shift: u8,
     coefficients: Vec<T>,
-    // Channel after channel, section after section: the last two samples and outputs, the newest first.
+    // Channel after channel and section after section: the last two samples and the last two outputs,
+    // the newest first.
     kept: Vec<T>,
     // Two frames for what a section keeps, and then the frames of a call and what a section gives.
     frames: Vec<T>,
@@ -65,10 +66,10 @@ impl<T: BankSample + FormatLanes<L>, const L: usize> Bank<T, L> {
     ghost use Rattle.dsp_bank.specs.Making.{bank_fault};
 
     /// A bank that has taken nothing, from the post shift and the numbers of its sections one after
-    /// another, for frames of `channels` samples, at most `block` of them a call. `Length` where the
-    /// numbers are none, no whole sections or those of more than 64, then `Range` where the post shift
-    /// is too great, `Range` where the channels are not in 1..`MAX_CHANNELS`, `Range` where the block is
-    /// not in 1..`MAX_SAMPLES`, then `Memory`. No later call takes memory.
+    /// another, for frames of `channels` samples, at most `block` frames a call. `Length` where the
+    /// numbers are none, no whole sections or those of more than 64. Then `Range` where the post shift
+    /// is too great, where the channels are not in 1..`MAX_CHANNELS`, or where the block is not in
+    /// 1..`MAX_SAMPLES`, in this order, each with its value. Then `Memory`. No later call takes memory.
     pub fn new(
         alloc: Global,
         post_shift: u8,
@@ -76,7 +77,8 @@ impl<T: BankSample + FormatLanes<L>, const L: usize> Bank<T, L> {
         channels: u8,
         block: usize,
     ) -> Result<Self, MakeFault>
-        ensures made { IfOk result (IsNewBank T.format post_shift (map T.number coefficients.now) channels block) }
+        ensures made { IfOk result
+            (IsNewBank T.format post_shift (map T.number coefficients.now) channels block) }
         ensures fault { MatchOption (bank_fault T.SIZE T.GREATEST_SHIFT
             (length coefficients.now) post_shift channels block)
             (IfErr result (λ e. e ≡ MakeFault.Memory)) (λ e. result ≡ Err e) }
@@ -108,7 +110,8 @@ impl<T: BankSample + FormatLanes<L>, const L: usize> Bank<T, L> {
         requires few { length coefficients.items ≤ 64 * T.SIZE }
         requires channels { 1 ≤ channels }
         requires block { block ≤ MAX_SAMPLES }
-        ensures { IfOk result (IsNewBank T.format post_shift (map T.number coefficients.items) channels block) }
+        ensures { IfOk result
+            (IsNewBank T.format post_shift (map T.number coefficients.items) channels block) }
     {
         let channels = usize::from(channels);
         let long = (block + 2) * channels;
@@ -127,15 +130,18 @@ impl<T: BankSample + FormatLanes<L>, const L: usize> Bank<T, L> {
         })
     }
 
-    /// Writes the next values of each channel, those of its cascade alone. The samples of a frame stand
-    /// side by side, one for each channel.
+    /// Writes the next values of each channel: those of a cascade on this channel alone. A frame has
+    /// one sample for each channel, and the frames are one after another. It counts five products a
+    /// sample and section, and at most five turns a frame and section for each group of L channels and
+    /// for each channel of the rest.
     pub fn process<M: Ledger>(&mut self, frames: &[T], out: &mut [T], steps: &mut Steps<M>)
         requires whole { length frames.now % self.old.channels ≡ 0 }
         requires block { length frames.now ≤ self.old.capacity * self.old.channels }
         requires same { length out.old ≡ length frames.now }
         ensures made { self.new ≡ record self.old { kept = self.new.kept } }
         ensures size { length self.new.kept ≡ length self.old.kept }
-        ensures fed { AreFed (bank_filters T.format false self.old) (bank_filters T.format false self.new)
+        ensures fed { AreFed
+            (bank_filters T.format false self.old) (bank_filters T.format false self.new)
             (length frames.now / self.old.channels) (map T.number frames.now)
             (length frames.now / self.old.channels) (map T.number out.new) steps.old steps.new }
         ensures multiplies { steps.new.multiplies ≡ steps.old.multiplies
@@ -174,7 +180,8 @@ impl<T: BankSample + FormatLanes<L>, const L: usize> Bank<T, L> {
 
     /// Whether these can be the kept numbers of the bank: as many, each in the range of its width.
     pub fn fits(&self, numbers: &[i64]) -> bool
-        ensures { IsTrue result ↔ Each IsOfKind (in_words (word T.format) (length self.now.kept)) numbers.now }
+        ensures { IsTrue result
+            ↔ Each IsOfKind (in_words (word T.format) (length self.now.kept)) numbers.now }
     {
         are_samples::<T>(numbers, self.kept.len())
     }

@@ -16,7 +16,8 @@ use std::sync::ledger::Ledger;
 /// The numbers of a section in a list: b0, b1, b2, a1, a2.
 fn numbers_at<T: BankSample>(coefficients: &[T], section: usize) -> [T; 5]
     requires { (section + 1) * T.SIZE ≤ length coefficients.now }
-    ensures { five_of (map T.number result) ≡ section_at T.SIZE (map T.number coefficients.now) section }
+    ensures { five_of (map T.number result)
+        ≡ section_at T.SIZE (map T.number coefficients.now) section }
 {
     let at = section * T::SIZE;
     let numbers = &coefficients[at..at + T::SIZE];
@@ -79,8 +80,8 @@ pub(crate) fn run_sections<T: BankSample, M: Ledger>(
     requires size { length kept.old ≡ row * (length coefficients.now / T.SIZE) * 4 }
     requires frames { length frames.old ≡ (count + 2) * row }
     requires outputs { length outputs.old ≡ (count + 2) * row }
-    ensures goes { ChannelsGo (block_acts T.format (Biquad post_shift (map T.number coefficients.now)))
-        (4 * (length coefficients.now / T.SIZE)) row count
+    ensures goes { ChannelsGo
+        (block_acts T.format (Biquad post_shift (map T.number coefficients.now))) (4 * (length coefficients.now / T.SIZE)) row count
         (map T.number kept.old) (map T.number kept.new)
         (map T.number frames.old) (map T.number frames.new) }
     ensures steps { RisesWithin steps.old steps.new

@@ -1,0 +1,6 @@
+use Rattle.std.proofs.Common.{◌≡◌, map, take}
+use Rattle.dsp_bank.proofs.numbers.take_numbers.Given as goal
+
+-- the samples so far are those of the numbers
+abbrev pub invariant-loop-k : goal.invariant-loop-k
+invariant-loop-k g l = map g.T.Sample.number (take l.k l.samples) ≡ take l.k l.numbers

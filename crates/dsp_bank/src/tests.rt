@@ -1,0 +1,312 @@
+//! Banks beside a cascade for each channel, and worked rows.
+ghost use Rattle.std.specs.Prelude.{◌≡◌, IsFalse, length};
+ghost use Rattle.dsp_lanes.specs.Turns.{RisesWithin};
+
+use crate::{Bank, BankSample};
+use dsp_biquad::{Biquads, Section};
+use dsp_defs::{MakeFault, Steps};
+use dsp_lanes::FormatLanes;
+use std::alloc::Global;
+use std::marker::Brand;
+use std::process::Abort;
+use std::sync::ledger::{Blank, Ledger};
+
+/// The next number of a generator, in 32 bits.
+fn next(seed: &mut i32) -> i32 {
+    *seed = seed.wrapping_mul(1664525).wrapping_add(1013904223);
+    *seed ^ (*seed >> 15)
+}
+
+/// Samples of 16 bits: of any size, or often the ends of the range.
+fn samples15(rt: &impl Abort, alloc: Global, seed: &mut i32, count: usize, ends: bool) -> Vec<i16> {
+    let mut samples = Vec::with_capacity(alloc, count).expect(rt, "memory");
+    for _ in 0..count {
+        let value = (next(seed) >> 16) as i16;
+        let sample = match value % 3 {
+            0 if ends => i16::MIN,
+            1 if ends => i16::MAX,
+            _ => value,
+        };
+        samples.push(sample).expect(rt, "memory");
+    }
+    samples
+}
+
+/// Samples of 32 bits.
+fn samples31(rt: &impl Abort, alloc: Global, seed: &mut i32, count: usize, ends: bool) -> Vec<i32> {
+    let mut samples = Vec::with_capacity(alloc, count).expect(rt, "memory");
+    for _ in 0..count {
+        let value = next(seed);
+        let sample = match value % 3 {
+            0 if ends => i32::MIN,
+            1 if ends => i32::MAX,
+            _ => value,
+        };
+        samples.push(sample).expect(rt, "memory");
+    }
+    samples
+}
+
+/// Feeds frames to a bank in pieces of 1, 2, .. 7 frames.
+fn feed_pieces<T: BankSample + FormatLanes<L>, const L: usize, M: Ledger>(
+    rt: &impl Abort,
+    bank: &mut Bank<T, L>,
+    row: usize,
+    frames: &[T],
+    out: &mut [T],
+    steps: &mut Steps<M>,
+)
+    requires channels { bank.old.channels ≡ row }
+    requires capacity { bank.old.capacity ≡ 7 }
+    ensures { length bank.new.kept ≡ length bank.old.kept }
+{
+    let mut at = 0;
+    let mut size = 1;
+    while at < frames.len() {
+        assert!(rt; at < 4096 && size <= 7 && row <= 16);
+        let end = frames.len().min(at + size * row);
+        assert!(rt; at < end && end - at <= 7 * row && (end - at) % row == 0 && end <= out.len());
+        bank.process(&frames[at..end], &mut out[at..end], steps);
+        at = end;
+        size = size % 7 + 1;
+    }
+}
+
+/// Compares a channel of frames with the values of a cascade.
+fn compare_channel<T: PartialEq>(
+    rt: &impl Abort,
+    row: usize,
+    channel: usize,
+    frames: &[T],
+    values: &[T],
+) {
+    let mut at = channel;
+    for value in values {
+        assert!(rt; at < 4096 && row <= 16 && at < frames.len() && frames[at] == *value);
+        at += row;
+    }
+}
+
+/// Reads a channel of frames.
+fn channel_of<T: Copy>(
+    rt: &impl Abort,
+    row: usize,
+    channel: usize,
+    frames: &[T],
+    values: &mut [T],
+) {
+    let mut at = channel;
+    for value in values {
+        assert!(rt; at < 4096 && row <= 16 && at < frames.len());
+        *value = frames[at];
+        at += row;
+    }
+}
+
+/// Compares what a bank gave and keeps of a channel with a cascade.
+fn compare_cascade<T: BankSample + PartialEq, M: Ledger>(
+    rt: &impl Abort,
+    alloc: Global,
+    cascade: &mut Biquads<T, Section<T>>,
+    row: usize,
+    channel: usize,
+    frames: &[T],
+    given: &[T],
+    kept: &[i64],
+    steps: &mut Steps<M>,
+)
+    requires running { IsFalse cascade.old.filter.ended }
+    requires capacity { cascade.old.filter.capacity ≡ 4096 }
+{
+    assert!(rt; 1 <= row && row <= 16 && frames.len() <= 4096);
+    let count = frames.len() / row;
+    let mut values = vec![in alloc; T::zero(); count].expect(rt, "memory");
+    let mut outputs = vec![in alloc; T::zero(); count].expect(rt, "memory");
+    channel_of(rt, row, channel, frames, values.as_mut_slice());
+    cascade.process(values.as_slice(), outputs.as_mut_slice(), steps);
+    compare_channel(rt, row, channel, given, outputs.as_slice());
+    let mut numbers = vec![in alloc; 0; cascade.kept_count()].expect(rt, "memory");
+    cascade.keep(numbers.as_mut_slice());
+    assert!(rt; numbers.as_slice() == kept);
+}
+
+/// Compares what a bank gave and keeps with a cascade for each channel.
+fn compare<T: BankSample + PartialEq, M: Ledger>(
+    rt: &impl Abort,
+    alloc: Global,
+    post_shift: u8,
+    coefficients: &[T],
+    row: usize,
+    frames: &[T],
+    given: &[T],
+    kept: &[i64],
+    steps: &mut Steps<M>,
+) {
+    assert!(rt; 1 <= row);
+    let each = kept.len() / row;
+    for (channel, numbers) in kept.chunks(each.max(1)).enumerate() {
+        let mut cascade = Biquads::<T, Section<T>>::new(
+            alloc,
+            post_shift,
+            coefficients,
+            4096,
+        ).expect(rt, "a cascade");
+        compare_cascade(
+            rt,
+            alloc,
+            &mut cascade,
+            row,
+            channel,
+            frames,
+            given,
+            numbers,
+            steps,
+        );
+    }
+}
+
+/// Runs a bank over half of the frames, and another one, from the numbers that it kept, over the rest.
+fn run<T: BankSample + FormatLanes<L> + PartialEq, const L: usize, M: Ledger>(
+    rt: &impl Abort,
+    alloc: Global,
+    post_shift: u8,
+    coefficients: &[T],
+    channels: u8,
+    frames: &[T],
+    steps: &mut Steps<M>,
+) {
+    let row = usize::from(channels);
+    let mut first = Bank::<T, L>::new(alloc, post_shift, coefficients, channels, 7).expect(
+        rt, "a bank",
+    );
+    let mut second = Bank::<T, L>::new(alloc, post_shift, coefficients, channels, 7).expect(
+        rt, "a bank",
+    );
+    let mut given = vec![in alloc; T::zero(); frames.len()].expect(rt, "memory");
+    let mut kept = vec![in alloc; 0; first.kept_count()].expect(rt, "memory");
+    let half = 19 * row;
+    assert!(rt; half <= frames.len());
+    let (early, late) = frames.split_at(half);
+    let (early_out, late_out) = given.as_mut_slice().split_at_mut(half);
+    feed_pieces(rt, &mut first, row, early, early_out, steps);
+    first.keep(kept.as_mut_slice());
+    assert!(rt; second.fits(kept.as_slice()));
+    second.restore(kept.as_slice());
+    feed_pieces(rt, &mut second, row, late, late_out, steps);
+    second.keep(kept.as_mut_slice());
+    compare(
+        rt,
+        alloc,
+        post_shift,
+        coefficients,
+        row,
+        frames,
+        given.as_slice(),
+        kept.as_slice(),
+        steps,
+    );
+}
+
+/// One case in both formats.
+fn case<M: Ledger>(
+    rt: &impl Abort,
+    alloc: Global,
+    seed: &mut i32,
+    sections: u8,
+    channels: u8,
+    kind: u8,
+    steps: &mut Steps<M>,
+) {
+    let sections = usize::from(sections);
+    let count = 40 * usize::from(channels);
+    let coefficients = samples15(rt, alloc, seed, 6 * sections, kind > 0);
+    let frames = samples15(rt, alloc, seed, count, kind > 1);
+    let shift = [0, 7, 13][usize::from(kind % 3)];
+    run::<i16, 8, M>(rt, alloc, shift, &coefficients, channels, &frames, steps);
+    let coefficients = samples31(rt, alloc, seed, 5 * sections, kind > 0);
+    let frames = samples31(rt, alloc, seed, count, kind > 1);
+    let shift = [0, 7, 30][usize::from(kind % 3)];
+    run::<i32, 4, M>(rt, alloc, shift, &coefficients, channels, &frames, steps);
+}
+
+/// On 1 to 16 channels, of 1, 2, 3 and 64 sections.
+fn all_cases<M: Ledger>(rt: &impl Abort, alloc: Global, steps: &mut Steps<M>) {
+    let mut seed = 7;
+    for channels in 1..17 {
+        for kind in 0..3 {
+            for sections in 1..4 {
+                case(rt, alloc, &mut seed, sections, channels, kind, steps);
+            }
+        }
+        case(rt, alloc, &mut seed, 64, channels, 1, steps);
+    }
+}
+
+/// A section on 8 channels and 4 frames, whose feedback halves: 160 products, in 20 turns.
+fn eight_channels<M: Ledger>(rt: &impl Abort, alloc: Global, steps: &mut Steps<M>)
+    ensures { RisesWithin steps.old steps.new 160 20 }
+{
+    let mut frames = [0i16; 32];
+    frames[0] = 800;
+    frames[6] = -1600;
+    frames[7] = 3200;
+    frames[15] = -32768;
+    let mut out = [7i16; 32];
+    let mut kept = [7i64; 32];
+    let mut bank = Bank::<i16, 8>::new(alloc, 0, &[16384, 0, 0, 0, 16384, 0], 8, 4).expect(
+        rt, "a bank",
+    );
+    bank.process(&frames, &mut out, steps);
+    assert!(rt; out[0] == 400 && out[8] == 200 && out[16] == 100 && out[24] == 50 && out[1] == 0);
+    assert!(rt; out[6] == -800 && out[14] == -400 && out[22] == -200 && out[30] == -100);
+    assert!(rt; out[7] == 1600 && out[15] == -15584 && out[23] == -7792 && out[31] == -3896);
+    assert!(rt; bank.kept_count() == 32);
+    bank.keep(&mut kept);
+    assert!(rt; kept[..4] == [0, 0, 50, 100] && kept[4..8] == [0, 0, 0, 0]);
+    assert!(rt; kept[24..28] == [0, 0, -100, -200] && kept[28..] == [0, 0, -3896, -7792]);
+}
+
+/// The same in Q31 on 3 channels, none of which is a whole group.
+fn three_channels<M: Ledger>(rt: &impl Abort, alloc: Global, steps: &mut Steps<M>)
+    ensures { RisesWithin steps.old steps.new 30 30 }
+{
+    let mut out = [7i32; 6];
+    let coefficients = [1073741824, 0, 0, 1073741824, 0];
+    let mut bank = Bank::<i32, 4>::new(alloc, 0, &coefficients, 3, 2).expect(rt, "a bank");
+    bank.process(&[800, -1600, i32::MIN, 0, 0, 0], &mut out, steps);
+    assert!(rt; out == [400, -800, -1073741824, 200, -400, -536870912]);
+}
+
+/// All calls that count their products, with one counter.
+fn counted<M: Ledger>(rt: &impl Abort, alloc: Global, blank: Blank)
+    requires name { blank.name ≡ M.name }
+    requires parts { blank.parts ≡ M.parts }
+    requires two { M.parts ≡ 2 }
+{
+    let mut steps = Steps::<M>::new(blank);
+    all_cases(rt, alloc, &mut steps);
+    eight_channels(rt, alloc, &mut steps);
+    three_channels(rt, alloc, &mut steps);
+}
+
+#[test]
+fn counted_calls(rt: HostRuntime) {
+    counted::<Brand>(&rt, rt.alloc(), Blank::new(2));
+}
+
+#[test]
+fn faults(rt: HostRuntime) {
+    let alloc = rt.alloc();
+    let none = Bank::<i16, 8>::new(alloc, 14, &[0; 5], 17, 0);
+    assert!(rt; matches!(none, Err(MakeFault::Length { taps: 5, factor: 6 })));
+    let none = Bank::<i16, 8>::new(alloc, 14, &[0; 6], 17, 0);
+    assert!(rt; matches!(none, Err(MakeFault::Range { value: 14 })));
+    let none = Bank::<i32, 4>::new(alloc, 30, &[0; 5], 17, 0);
+    assert!(rt; matches!(none, Err(MakeFault::Range { value: 17 })));
+    let none = Bank::<i32, 4>::new(alloc, 30, &[0; 5], 16, 0);
+    assert!(rt; matches!(none, Err(MakeFault::Range { value: 0 })));
+    let bank = Bank::<i16, 8>::new(alloc, 13, &[0; 6], 2, 4).expect(&rt, "a bank");
+    assert!(rt;
+        !bank.fits(&[0; 4]) && !bank.fits(&[0, 0, 0, 0, 0, 0, 0, 32768]) && bank.fits(&[-32768; 8])
+    );
+}

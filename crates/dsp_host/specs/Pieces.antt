@@ -1,5 +1,5 @@
 -- A signal in pieces: sessions that go on behind a piece by the numbers that it left, what a piece gives, and why it is refused.
-use Rattle.std.specs.Prelude.{◌≡◌, ◌⊎◌, ℕ, ◌+◌, ◌*◌, ◌^◌, ◌<◌, ◌≤◌, ℤ, List, [], ◌++◌, length, drop, IsTrue}
+use Rattle.std.specs.Prelude.{◌≡◌, ◌⊎◌, ℕ, ◌+◌, ◌*◌, ◌<◌, ◌≤◌, ℤ, List, [], ◌++◌, length, drop, IsTrue}
 use Rattle.dsp_defs.specs.Block.{Frame}
 use Rattle.dsp_defs.specs.Bytes.{width}
 use Rattle.dsp_defs.specs.Counts.{Counts}
@@ -12,8 +12,8 @@ use Rattle.dsp_defs.specs.declared.script.Script.{Script}
 use Rattle.dsp_stage.specs.Row.{place_behind, place_room}
 use Rattle.dsp_chain.specs.Chain.{input_place}
 use Rattle.dsp_chain.specs.Keeping.{Fits, kept, kept_count}
-use Rattle.dsp_session.specs.Advancing.{Runs, count_of}
-use Rattle.dsp_session.specs.Session.{StandsFor, Feeds, Fails, SameSession, call_room, frame_bytes, input_coding, signal}
+use Rattle.dsp_session.specs.Advancing.{Runs}
+use Rattle.dsp_session.specs.Session.{StandsFor, Feeds, Fails, SameSession, frame_bytes, input_coding, signal}
 use Rattle.dsp_session.specs.SessionState.{SessionState}
 use Rattle.dsp_host.specs.Opening.{FailsToOpen, asked}
 use Rattle.dsp_host.specs.declared.refusal.Refusal.{Refusal}
@@ -83,11 +83,11 @@ abbrev pub piece_room : Script → ℕ → ℕ
 piece_room script block = place_room (place_behind (input_place script block) script.blocks) * width (output_coding script)
 
 -- what a call may be given behind so many frames, with so much room for what it gives
-pub record Accepts (script : Script) (coding : Coding) (block frames : ℕ) (bytes : List ℕ) (room : ℕ) : Type 0 where
+pub record Accepts (script : Script) (coding : Coding) (block frames : ℕ) (bytes : List ℕ) (space : ℕ) : Type 0 where
   pub whole : AreWhole script coding bytes
   pub few : frames_of script coding bytes ≤ block
   pub in_limit : frames + frames_of script coding bytes ≤ MAX_INPUT
-  pub room : piece_room script block ≤ room
+  pub room : piece_room script block ≤ space
 
 -- a correlation would gather too many samples: it holds so many of a channel, and so many would be more
 pub record IsFull (script : Script) (before frames told more : ℕ) : Type 0 where
@@ -113,10 +113,15 @@ pub record Fed (old new : SessionState) (given : ℕ) (bytes out after : List �
   pub count : given ≡ length new.out
   pub front : after ≡ new.out ++ drop given out
 
--- it took nothing, and wrote nothing; it is as it was, but that where a correlation was full it answers that from now on
+-- it is as it was, but that where a correlation was full it answers that from now on
+abbrev pub Stays : Refusal → SessionState → SessionState → Counts → Counts → Type 0
+Stays (refusal.Gather told more) old new before counts = Fails old new (record { held = told; more = more }) before counts
+Stays why old new before counts = new ≡ old
+
+-- it took nothing, and nothing was written
 pub record NotFed (why : Refusal) (old new : SessionState) (bytes out after : List ℕ) (before counts : Counts) : Type 0 where
   pub cause : Refuses why old.script old.coding old.block old.chain.frames bytes (length out)
-  pub stays : elim why [ refusal.Gather told more ↦ Fails old new (record { held = told; more = more }) before counts | _ ↦ new ≡ old ]
+  pub stays : Stays why old new before counts
   pub unwritten : after ≡ out
   pub no_steps : counts ≡ before
 

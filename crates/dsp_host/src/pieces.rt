@@ -1,8 +1,7 @@
-ghost use Rattle.std.specs.Prelude.{◌≡◌, ◌+◌, ◌*◌, ◌^◌, ◌<◌, ◌≤◌, ◌↔◌, ◌++◌, List, [], length, take, drop, IfOk, IfErr, IfSome, IfNone, IsTrue};
+ghost use Rattle.std.specs.Prelude.{◌≡◌, ◌+◌, ◌*◌, ◌^◌, ◌<◌, ◌≤◌, ◌↔◌, ◌++◌, ℕ, List, [], length, take, drop, IfOk, IfErr, IfSome, IfNone, IsFalse, IsTrue};
 ghost use Rattle.dsp_defs.specs.Block.{Frame};
 ghost use Rattle.dsp_defs.specs.declared.fault.GatherFull.{GatherFull};
 ghost use Rattle.dsp_chain.specs.Keeping.{kept, kept_count};
-ghost use Rattle.dsp_chain.specs.Restored.{kept_of};
 ghost use Rattle.dsp_input.specs.Taking.{frame_bytes};
 ghost use Rattle.dsp_session.specs.Advancing.{Runs};
 ghost use Rattle.dsp_session.specs.Session.{StandsFor, Feeds, Fails, SameSession, signal};
@@ -66,14 +65,16 @@ fn whole_frames(bytes: &[u8], frame: usize) -> Option<usize>
 /// Behind so many frames, at most 2^40, so many more may come.
 fn may_come(frames: u64, more: u64) -> bool
     requires { frames ≤ MAX_INPUT }
-    ensures { IsTrue result ↔ (frames + more ≤ MAX_INPUT) }
+    ensures few { IsTrue result → frames + more ≤ MAX_INPUT }
+    ensures many { IsFalse result → MAX_INPUT < frames + more }
 {
     more <= MAX_INPUT - frames
 }
 
-/// At most this many.
+/// They are at most this many.
 fn is_within(count: u64, most: u64) -> bool
-    ensures { IsTrue result ↔ (count ≤ most) }
+    ensures within { IsTrue result → count ≤ most }
+    ensures over { IsFalse result → most < count }
 {
     count <= most
 }
@@ -164,9 +165,8 @@ pub fn feed<U: AnyUnit + Drop, L: Ledger>(
 /// Writes the numbers that a session keeps to the front, and answers how many they are.
 pub fn save<U: AnyUnit + Drop>(session: &Session<U>, numbers: &mut [i64]) -> usize
     requires runs { Runs session.now }
-    requires room { length (kept_of session.now.chain) ≤ length numbers.old }
-    ensures count { result ≡ length (kept_of session.now.chain) }
-    ensures frames { result ≡ kept_count session.now.script session.now.chain.frames }
+    requires room { kept_count session.now.script session.now.chain.frames ≤ length numbers.old }
+    ensures count { result ≡ kept_count session.now.script session.now.chain.frames }
     ensures stands { (x : List Frame) → StandsFor session.now x
         → take result numbers.new ≡ kept session.now.script x }
     ensures rest { numbers.new ≡ take result numbers.new ++ drop result numbers.old }

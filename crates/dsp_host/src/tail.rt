@@ -24,8 +24,9 @@ pub fn finish<U: AnyUnit + Drop, L: Ledger>(
     if let Some(WindowFault { end, length }) = session.window_fault(0) {
         return Err(Refusal::Window { end, length });
     }
+    let room = out.len();
     let bytes = session.tail_bytes();
-    if bytes > out.len() as u128 {
+    if bytes > room as u128 {
         return Err(Refusal::Room { bytes });
     }
     let mut given = 0;

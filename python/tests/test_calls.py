@@ -197,7 +197,7 @@ class Faults(unittest.TestCase):
     def test_scripts(self):
         for blocks, kind, fields, line, column, shown in (
             ("fir {32768}", "OutOfRange", {"low": -32768, "high": 32767}, 1, 6, "fir {32768}\n         ^"),
-            ("shift 1\n  fri {1}", "UnknownWord", {}, 2, 3, "  fri {1}\n      ^"),
+            ("shift 1\n  fri {1}", "UnknownWord", {}, 2, 3, "; fir is a block\n      fri {1}\n      ^"),
             ("add", "ChannelsHere", {"got": 1, "wanted": 2}, 1, 1, "add\n    ^"),
             ("to q15", "NoSuchForm", {"format": "q15"}, 1, 4, "to q15\n       ^"),
             ("fir {}", "Length", {"taps": 0, "factor": 1}, 1, 6, "fir {}\n         ^"),
@@ -273,6 +273,7 @@ class Faults(unittest.TestCase):
         self.assertEqual(chain.frames, 4112)
 
 
+@unittest.skipIf(sys.version_info < (3, 9), "tools/coefficients.py needs Python 3.9")
 class Design(unittest.TestCase):
     """The helpers give what tools/coefficients.py gives."""
 

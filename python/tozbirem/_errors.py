@@ -1,9 +1,13 @@
 """What the library refuses, as exceptions."""
 
+import difflib
 from typing import Any, Dict, Tuple
 
 KINDS = ("", "TooLong", "BadByte", "UnknownWord", "BadNumber", "OutOfRange", "Missing", "NoSuchForm", "ChannelsHere",
          "Length", "TooMany", "BadName", "NameTaken")  # fmt: skip
+BLOCKS = ("offset negate abs scale shift clip to add sub mult cmplx_conj cmplx_mult cmplx_mult_real cmplx_mag_squared route fir "
+          "sparse decimate interpolate biquad biquad64 lattice_fir lattice_iir lms pid conv conv_partial correlate mat_add "
+          "mat_sub mat_scale mat_trans mat_mult power dot cmplx_dot max min").split()  # fmt: skip
 FIELDS = {
     "OutOfRange": ("low", "high"),
     "NoSuchForm": ("format",),
@@ -75,11 +79,17 @@ class ScriptError(TozbiremError, ValueError):
         cut = max(0, self.column - 40)
         part = ("..." if cut else "") + text[cut : cut + 72] + ("..." if len(text) > cut + 72 else "")
         caret = " " * (self.column - 1 - cut + (3 if cut else 0)) + "^"
-        meaning = MEANINGS[kind].format(**fields)
+        meaning = MEANINGS[kind].format(**fields) + (near(text[self.column - 1 :]) if kind == "UnknownWord" else "")
         super().__init__(2, f"line {self.line}, column {self.column}: {kind}{said}: {meaning}\n    {part}\n    {caret}")
 
     def __reduce__(self):
         return ScriptError, (self.kind, self.offset, self.fields, self.script, self._own)
+
+
+def near(text: str) -> str:
+    """A block whose word is like the first one of a text."""
+    found = difflib.get_close_matches(text.split()[0], BLOCKS, 1) if text.split() else []
+    return f"; {found[0]} is a block" if found else ""
 
 
 def script_error(answer, script: bytes, own: Tuple[int, int]) -> ScriptError:

@@ -6,7 +6,7 @@ use Rattle.dsp_defs.specs.Counts.{Counts}
 use Rattle.dsp_stage.specs.Unit.{UnitState, frames_in}
 use Rattle.dsp_stage.specs.Row.{InRow, IsFed, IsFinished, AllCount, AllTaken, AllTook, AllGave, AllSpent, place_behind, blocks_of, row_given, row_made, row_turns}
 use Rattle.dsp_defs.proofs.FrameLemmas.{length-frames_in}
-use Rattle.dsp_stage.proofs.TailLaws.{count-given, count-made, stand-gave, gave-front, made-within, spent-gave, spent-given, spent-made, nothing-passes}
+use Rattle.dsp_stage.proofs.TailLaws.{count-given, count-made, stand-gave, gave-front, made-within, took-within, spent-gave, spent-given, spent-made, nothing-passes}
 use Rattle.dsp_stage.proofs.MemorylessLaws.{no-frames}
 use Rattle.dsp_defs.specs.Cost.{live_cost}
 use Rattle.dsp_defs.specs.Shape.{live_frames, frames_behind}
@@ -105,6 +105,7 @@ chain-finished c d links news given before after links_are news_are input ended 
   gives = (λ i. row_given (news_are i) (count i)) ∙ done.finishes.frames c.frames took;
   multiplies = (let made = done.finishes.multiplies c.frames took in let new : made_of d ≡ row_made news c.frames = (λ i. row_made (news_are i) (count i)) in omega (arith, made, new));
   turns = done.finishes.turns c.frames took;
+  few = took-within d.units d.frames took';
   within = made-within d.input d.units d.frames row' took';
   spent = λ none _. chain-spent d row' took' (rw news_are (spent none));
   refused = λ some. absurd (none-some (ap is_some works) some);
@@ -139,6 +140,7 @@ chain-refused c d counts units input ended failed count some row took = record {
   gives = (λ i. row_given (units i) (count i)) ∙ (let nothing : length (frames_in (place_behind c.input (blocks_of c.units)).channels []) ≡ 0 = ap length (no-frames (place_behind c.input (blocks_of c.units)).channels) in omega (arith, nothing));
   multiplies = ap (λ k. k + counts.multiplies) (λ i. row_made (units i) (count i));
   turns = omega arith;
+  few = took-within d.units d.frames (rw (count, units) took);
   within = made-within d.input d.units d.frames (rw (input, units) row) (rw (count, units) took);
   spent = λ _ works. absurd (some-none works);
   refused = λ _. (refl, units, refl);

@@ -2,7 +2,7 @@
 use Rattle.std.proofs.Common.{◌≡◌, ◌∙◌, ap, refl, sym, subst, ℕ, ◌*◌, ◌/◌, ◌^◌, ◌<◌, ◌≤◌, Bool, true, false, cond, List, [], ◌∷◌, Option, Some, None, IfSome, arith}
 use Rattle.dsp_defs.specs.Grammar.{Suits, IsChain}
 use Rattle.dsp_defs.specs.Table.{flow_after}
-use Rattle.dsp_defs.specs.Shape.{group_of, groups_after, correlation_length, whole_frames, live_frames, gathered, held, window_end, window_at}
+use Rattle.dsp_defs.specs.Shape.{group_of, groups_after, correlation_length, frames_behind, whole_frames, live_frames, gathered, held, window_end, window_at}
 use Rattle.dsp_stage.specs.Row.{AllFew}
 use Rattle.dsp_defs.specs.declared.flow.Flow.{Flow}
 use Rattle.dsp_defs.specs.declared.script.Block.{Block}
@@ -11,7 +11,7 @@ use Rattle.dsp_stage.proofs.ChainPlaces.{takes_some, takes_and_gives}
 use Rattle.dsp_stage.proofs.CostLaws.{quotient_more, full_more}
 use Rattle.std.proofs.Math.Nat.{mul-le-mul_right}
 use Rattle.std.proofs.lemmas.Grind.{common_steps}
-use Rattle.dsp_chain.specs.FrameRule.{group_rule, rule_of, rules_of, whole_by, live_by, gathers, frames_gathered, window_of, window_by, IsRule, AreFew}
+use Rattle.dsp_chain.specs.FrameRule.{group_rule, rule_of, rules_of, whole_by, live_by, gathers, frames_by, frames_gathered, window_of, window_by, IsRule, AreFew}
 use Rattle.dsp_chain.specs.declared.frame_rule.FrameRule.{FrameRule}
 use Rattle.dsp_chain.specs.declared.frame_rule.FrameRule.TheVariants as rule
 
@@ -124,3 +124,18 @@ held-within false n m held all h k = k
 pub held-fewer : (rules : List FrameRule) (n m : ℕ) → n ≤ m → frames_gathered live_by rules n ≤ frames_gathered whole_by rules m
 held-fewer [] n m h = omega arith
 held-fewer (r ∷ rules) n m h = held-within (gathers r) n m _ _ h (held-fewer rules (live_by r n) (whole_by r m) (let live = live-fewer r n in let more = whole-fewer r n m h in omega (arith, live, more)))
+
+-- a tail has no fewer frames than none
+pub live-within : (rules : List FrameRule) (n m : ℕ) → n ≤ m → frames_by live_by rules n ≤ frames_by whole_by rules m
+live-within [] n m h = h
+live-within (r ∷ rules) n m h = live-within rules (live_by r n) (whole_by r m) (let live = live-fewer r n in let more = whole-fewer r n m h in omega (arith, live, more))
+
+-- ---- the frames behind a chain
+
+pub rules-whole : (blocks : List Block) (n : ℕ) → frames_by whole_by (rules_of blocks) n ≡ frames_behind whole_frames blocks n
+rules-whole [] n = refl
+rules-whole (b ∷ blocks) n = ap (frames_by whole_by (rules_of blocks)) (whole-rule b n) ∙ rules-whole blocks (whole_frames b n)
+
+pub rules-live : (blocks : List Block) (n : ℕ) → frames_by live_by (rules_of blocks) n ≡ frames_behind live_frames blocks n
+rules-live [] n = refl
+rules-live (b ∷ blocks) n = ap (frames_by live_by (rules_of blocks)) (live-rule b n) ∙ rules-live blocks (live_frames b n)

@@ -115,6 +115,7 @@ pub record FinishesChain (old new : ChainState) (given : List ℤ) (before after
   pub passes : Passes (output_of old) given
   pub gave : (x ys : List Frame) → ChainGave old x ys → ChainGave new x (ys ++ frames_in (output_of old).channels given)
   pub gives : given_of new ≡ given_of old + length (frames_in (output_of old).channels given)
+  pub few : given_of new ≤ frames_behind whole_frames (blocks_of new.units) new.frames
   pub multiplies : made_of new + before.multiplies ≡ made_of old + after.multiplies
   pub turns : after.turns + before.multiplies ≤ before.turns + after.multiplies
   pub within : made_of new ≤ chain_products new.input.format new.input.channels (blocks_of new.units) new.frames

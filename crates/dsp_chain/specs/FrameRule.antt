@@ -47,6 +47,11 @@ abbrev pub frames_gathered : (FrameRule → ℕ → ℕ) → List FrameRule → 
 frames_gathered gives [] n = 0
 frames_gathered gives (rule ∷ rules) n = if gathers rule then n else frames_gathered gives rules (gives rule n)
 
+-- the frames behind all the blocks
+abbrev pub frames_by : (FrameRule → ℕ → ℕ) → List FrameRule → ℕ → ℕ
+frames_by gives [] n = n
+frames_by gives (rule ∷ rules) n = frames_by gives rules (gives rule n)
+
 -- a window that ends past its convolution: its end, and the length of that
 abbrev pub window_of : FrameRule → ℕ → Option (ℕ × ℕ)
 window_of (ConvPartial first count taps) n = if nat_lt (full_length n taps) (first + count) then Some (first + count, full_length n taps) else None

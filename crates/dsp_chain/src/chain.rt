@@ -1,4 +1,4 @@
-use crate::frame_rule::{FrameRule, gather_fault, gathered, window_fault};
+use crate::frame_rule::{FrameRule, gather_fault, gathered, tail_frames, window_fault};
 use crate::keeping::{count_kept, count_row, fits_row, keep_row, restore_row};
 use crate::kept_rule::KeptRule;
 use crate::row::{Link, count_measures, feed_row, find_measure, finish_row};
@@ -74,7 +74,7 @@ impl<U: Stage + Drop> Model for Chain<U> {
 impl<U: AnyUnit + Drop> Chain<U> {
     ghost use Rattle.std.specs.Prelude.{◌≡◌, ◌≤◌, ◌<◌, ◌+◌, ◌^◌, ◌↔◌, List, IsTrue, IsFalse, IfOk, IfErr, IsErr, None, Some, length, take, slice_get};
     ghost use Rattle.std.specs.Option.{option_map};
-    ghost use Rattle.dsp_defs.specs.Shape.{gathered, held, window_at, is_legal};
+    ghost use Rattle.dsp_defs.specs.Shape.{frames_behind, gathered, held, live_frames, whole_frames, window_at, is_legal};
     ghost use Rattle.dsp_defs.specs.Grammar.{IsChain, correlates, input_flow};
     ghost use Rattle.dsp_defs.specs.declared.fault.GatherFull.{GatherFull};
     ghost use Rattle.dsp_defs.specs.declared.fault.WindowFault.{WindowFault};
@@ -170,6 +170,27 @@ impl<U: AnyUnit + Drop> Chain<U> {
         Ok(feed_row(self.links.as_mut_slice(), frames, out, steps))
     }
 
+    /// How many frames were fed.
+    pub fn frames(&self) -> u64
+        ensures { result ≡ self.now.frames }
+    {
+        self.frames
+    }
+
+    /// Whether its tail was begun.
+    pub fn has_ended(&self) -> bool
+        ensures { result ≡ self.now.ended }
+    {
+        self.ended
+    }
+
+    /// The fault that it answers from now on, if it has answered one.
+    pub fn fault(&self) -> Option<GatherFull>
+        ensures { result ≡ self.now.failed }
+    {
+        self.failed
+    }
+
     /// The samples of `out` that one call needs at most.
     pub fn room(&self) -> usize
         ensures { result ≡ place_room (output_of self.now) }
@@ -184,6 +205,15 @@ impl<U: AnyUnit + Drop> Chain<U> {
             ≡ window_at (blocks_of self.now.units) (self.now.frames + more) }
     {
         window_fault(&self.rules, self.frames + more)
+    }
+
+    /// How many frames the tail has, where the frames fed so far are the whole input.
+    pub fn tail_frames(&self) -> u64
+        requires { self.now.frames ≤ 2 ^ 40 }
+        ensures { frames_behind live_frames (blocks_of self.now.units) self.now.frames + result
+            ≡ frames_behind whole_frames (blocks_of self.now.units) self.now.frames }
+    {
+        tail_frames(&self.rules, self.frames)
     }
 
     /// Writes the next frames of the tail, and answers the number of their samples: 0 where it is spent

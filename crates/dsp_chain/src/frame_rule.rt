@@ -4,7 +4,7 @@ ghost use Rattle.dsp_defs.specs.Sums.{full_length};
 ghost use Rattle.dsp_defs.specs.declared.fault.GatherFull.{GatherFull};
 ghost use Rattle.dsp_defs.specs.declared.fault.WindowFault.{WindowFault};
 ghost use Rattle.dsp_defs.specs.declared.limits.TheConstants.{MAX_GATHERED, MAX_TAPS};
-ghost use Rattle.dsp_chain.specs.FrameRule.{rule_of, whole_by, live_by, gathers, frames_gathered, window_of, window_by, IsRule, AreFew};
+ghost use Rattle.dsp_chain.specs.FrameRule.{rule_of, whole_by, live_by, gathers, frames_by, frames_gathered, window_of, window_by, IsRule, AreFew};
 
 use dsp_defs::{Block, GatherFull, MAX_GATHERED, WindowFault};
 
@@ -190,6 +190,36 @@ pub fn gather_fault(rules: &[FrameRule], before: u64, frames: u64) -> Option<Gat
         held,
         more: gathered - held,
     })
+}
+
+/// The frames that come behind all blocks of a whole input of so many.
+fn whole_frames(rules: &[FrameRule], frames: u64) -> u64
+    requires { AreFew rules.now frames }
+    ensures { result ≡ frames_by whole_by rules.now frames }
+{
+    let Some((rule, behind)) = rules.split_first() else {
+        return frames;
+    };
+    whole_frames(behind, rule.whole(frames))
+}
+
+/// The frames that have come there of an input that may go on.
+fn live_frames(rules: &[FrameRule], frames: u64) -> u64
+    requires { AreFew rules.now frames }
+    ensures { result ≡ frames_by live_by rules.now frames }
+{
+    let Some((rule, behind)) = rules.split_first() else {
+        return frames;
+    };
+    live_frames(behind, rule.live(frames))
+}
+
+/// The frames of the tail of a whole input of so many.
+pub fn tail_frames(rules: &[FrameRule], frames: u64) -> u64
+    requires { AreFew rules.now frames }
+    ensures { frames_by live_by rules.now frames + result ≡ frames_by whole_by rules.now frames }
+{
+    whole_frames(rules, frames) - live_frames(rules, frames)
 }
 
 /// The first partial convolution whose window ends past the full one when so many frames are the

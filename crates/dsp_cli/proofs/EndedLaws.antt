@@ -10,7 +10,7 @@ use Rattle.dsp_defs.specs.Report.{report_text}
 use Rattle.dsp_defs.specs.Words.{command_of}
 use Rattle.dsp_defs.specs.declared.au.Direction.{Direction}
 use Rattle.dsp_defs.specs.declared.command.Command.{Command}
-use Rattle.dsp_defs.specs.declared.command.Command.TheVariants.{Gen, Print, Convert}
+use Rattle.dsp_defs.specs.declared.command.Command.TheVariants.{Gen, Convert}
 use Rattle.dsp_defs.specs.declared.measure.Measure.{Measure}
 use Rattle.dsp_defs.specs.declared.script.Script.{Script}
 use Rattle.dsp_session.specs.Session.{IsReady, cost_of, measures_of}
@@ -35,9 +35,9 @@ use Rattle.dsp_cli.specs.declared.top.Outcome.TheVariants as outcome
 use Rattle.dsp_cli.proofs.GeneratedLaws.{generated_frames}
 use Rattle.dsp_cli.proofs.InputLaws.{frame_in, signal_stays, output_stays}
 use Rattle.dsp_cli.proofs.ReportLaws.{rose, tells-all}
-use Rattle.dsp_cli.proofs.StatusLaws.{command_not_none, of_stream, text_some, blocks_text, stream_text, stream_output, conversion_status, length_answers, stream_some, stream_or_print, reports_done, fault_not_done, refused_not_done, stream_refused, stream_not_refused, any_answers, stream_answers}
+use Rattle.dsp_cli.proofs.StatusLaws.{command_not_none, of_stream, blocks_text, stream_text, conversion_status, length_answers, stream_some, stream_or_print, reports_done, fault_not_done, refused_not_done, stream_refused, stream_not_refused, any_answers, stream_answers}
 use Rattle.dsp_cli.proofs.StopLaws.{gen_reads, gen_faulty, stop_blocks}
-use Rattle.dsp_cli.proofs.Told.{IfSome-always, IfSome-each, IfSome-map, told_whole, told_split, told_script, told_sound, told_faulty}
+use Rattle.dsp_cli.proofs.Told.{IfSome-always, IfSome-each, IfSome-map, told_split, told_script, told_sound, told_faulty}
 use Rattle.dsp_cli.proofs.WordLaws.{gen_makes_few}
 
 legal_not : {test : Bool} → IsTrue test → IsFalse test → ⊥

@@ -1,5 +1,5 @@
 -- What a run comes to for the words that ask for it.
-use Rattle.std.proofs.Common.{◌≡◌, ℕ, Bool, List, ◌++◌, Option, None, Some, IsSome, IsTrue, IsFalse, refl, sym, ap, ◌∙◌, subst, flat_map, codes, inl, inr}
+use Rattle.std.proofs.Common.{◌≡◌, ℕ, Bool, List, ◌++◌, Option, Some, IsTrue, IsFalse, refl, sym, ap, ◌∙◌, subst, flat_map, codes, inl, inr}
 use Rattle.dsp_ports.specs.Ports.{SourceState, SinkState}
 use Rattle.dsp_defs.specs.Counts.{Counts}
 use Rattle.dsp_defs.specs.Output.{format_of, channels_of}
@@ -15,7 +15,7 @@ use Rattle.dsp_session.specs.Stream.{Done, Stopped as StreamStopped}
 use Rattle.dsp_cli.specs.Fault.{summary_text}
 use Rattle.dsp_cli.specs.Call.{Call, call, Untouched, Streams, Went, Stopped, Happened}
 use Rattle.dsp_cli.specs.Perform.{NotBegun, ReadsAs, Ran, RanGenerated, Made, FailsToLoad, FailsToRun, FailsToGenerate}
-use Rattle.dsp_cli.specs.Run.{HasText, HasBlocks, IsStream, IsReading, read_from}
+use Rattle.dsp_cli.specs.Run.{HasText, IsStream, IsReading, read_from}
 use Rattle.dsp_cli.specs.Script.{named_by, chosen, chosen_block, is_legal_for}
 use Rattle.dsp_cli.specs.declared.fault.Fault.{Fault}
 use Rattle.dsp_cli.specs.declared.fault.Fault.TheVariants.{ScriptRead, Script as BadText, BlockLength, Memory, Stream}

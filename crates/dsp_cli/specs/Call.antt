@@ -17,7 +17,7 @@ use Rattle.dsp_defs.specs.declared.script.Script.{Script}
 use Rattle.dsp_session.specs.Stream.{Done, Stopped as StreamStopped}
 use Rattle.dsp_cli.specs.Fault.{status_of, fault_line}
 use Rattle.dsp_cli.specs.Run.{HasText, HasBlocks, IsStream, IsPrint, IsReading, IfWhole, Tells, ReportsText, Wrote, read_from}
-use Rattle.dsp_cli.specs.Script.{ReadsText, IfScript, chosen_block, is_legal_for}
+use Rattle.dsp_cli.specs.Script.{ReadsText, chosen_block, is_legal_for}
 use Rattle.dsp_cli.specs.declared.fault.Fault.{Fault}
 use Rattle.dsp_cli.specs.declared.fault.Fault.TheVariants.{Usage, ScriptRead, Script as BadText, BlockLength, Memory, Stream, Conversion}
 use Rattle.dsp_defs.specs.Au.{target}

@@ -29,7 +29,7 @@ pub struct Summary {
 }
 
 /// The measures of a session, into a list that was made with room for them.
-pub fn find_measures<U: AnyUnit + Drop>(session: &Session<'_, U>, measures: &mut Vec<Measure>)
+pub fn find_measures<U: AnyUnit + Drop>(session: &Session<U>, measures: &mut Vec<Measure>)
     requires empty { measures.old.items ≡ [] }
     requires room { measure_counts session.now.script.input.channels session.now.script.blocks
         ≤ vec_capacity measures.old }

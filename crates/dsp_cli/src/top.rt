@@ -76,22 +76,22 @@ fn chosen(named: Option<u32>, script: &Script) -> u64
 fn run_script<U: AnyUnit + Drop, S: Source, K: Sink, L: Ledger>(
     alloc: Global,
     named: Option<u32>,
-    script: &Script,
+    script: Script,
     input: &mut S,
     output: &mut K,
     steps: &mut Steps<L>,
 ) -> Result<Summary, Fault>
-    requires { IsSound script.now }
+    requires { IsSound script }
     ensures ok { IfOk result (λ summary.
-        Ran named script.now summary (S.state input.old) (S.state input.new) (K.state output.old)
+        Ran named script summary (S.state input.old) (S.state input.new) (K.state output.old)
         (K.state output.new) steps.old steps.new) }
     ensures err { IfErr result (λ fault.
-        FailsToRun fault named script.now (S.state input.old) (S.state input.new)
+        FailsToRun fault named script (S.state input.old) (S.state input.new)
         (K.state output.old) (K.state output.new) steps.old steps.new) }
 {
-    let block = chosen(named, script);
-    if !legal(script, block) {
-        let unit = unit(script);
+    let block = chosen(named, &script);
+    if !legal(&script, block) {
+        let unit = unit(&script);
         return Err(Fault::BlockLength { block, unit });
     }
     let Ok(mut session) = Session::<U>::new(alloc, script, block) else {
@@ -106,6 +106,7 @@ fn run_script<U: AnyUnit + Drop, S: Source, K: Sink, L: Ledger>(
         Err(fault) => return Err(Fault::Stream(fault)),
     };
     find_measures(&session, &mut measures);
+    let script = session.script();
     Ok(Summary {
         input: Flow {
             format: script.input.format,
@@ -122,17 +123,17 @@ fn generate<U: AnyUnit + Drop, K: Sink, L: Ledger>(
     alloc: Global,
     seed: u32,
     frames: u32,
-    script: &Script,
+    script: Script,
     output: &mut K,
     steps: &mut Steps<L>,
 ) -> Result<Summary, Fault>
-    requires sound { IsSound script.now }
+    requires sound { IsSound script }
     requires few { frames ≤ MAX_GENERATED }
     ensures ok { IfOk result (λ summary.
-        RanGenerated seed frames script.now summary (K.state output.old)
+        RanGenerated seed frames script summary (K.state output.old)
         (K.state output.new) steps.old steps.new) }
     ensures err { IfErr result (λ fault.
-        FailsToGenerate fault seed frames script.now (K.state output.old)
+        FailsToGenerate fault seed frames script (K.state output.old)
         (K.state output.new) steps.old steps.new) }
 {
     let mut input = GenSource::new(&script.input, seed, frames);
@@ -176,12 +177,12 @@ fn perform<U: AnyUnit + Drop, P: Source, S: Source, K: Sink, O: Source, L: Ledge
         }
         Command::Run { block, .. } => {
             let script = load_script(alloc, script)?;
-            let summary = run_script::<U, _, _, _>(alloc, block, &script, input, output, steps)?;
+            let summary = run_script::<U, _, _, _>(alloc, block, script, input, output, steps)?;
             Ok(Outcome::Ran(summary))
         }
         Command::Gen { seed, frames } => {
             let script = load_script(alloc, script)?;
-            let summary = generate::<U, _, _>(alloc, seed, frames, &script, output, steps)?;
+            let summary = generate::<U, _, _>(alloc, seed, frames, script, output, steps)?;
             Ok(Outcome::Ran(summary))
         }
     }

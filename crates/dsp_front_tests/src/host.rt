@@ -49,7 +49,7 @@ fn frames_of(rt: &impl Abort, bytes: &[u8], frame: usize) -> usize
 /// Feeds the session one or two frames of so many bytes, and compares what it gives of them.
 fn feed_frames<L: Ledger>(
     rt: &impl Abort,
-    session: &mut Session<'_, BlockUnit>,
+    session: &mut Session<BlockUnit>,
     frame: usize,
     bytes: &[u8],
     wanted: &[u8],
@@ -74,7 +74,7 @@ fn feed_frames<L: Ledger>(
 /// Ends the input, and compares the pieces of the tail.
 fn end_gives<L: Ledger>(
     rt: &impl Abort,
-    session: &mut Session<'_, BlockUnit>,
+    session: &mut Session<BlockUnit>,
     pieces: &[&[u8]],
     steps: &mut Steps<L>,
 ) {
@@ -86,7 +86,7 @@ fn end_gives<L: Ledger>(
 }
 
 /// Compares the first measure, of the script's third block, with a sum of squares.
-fn power_is(rt: &impl Abort, session: &Session<'_, BlockUnit>, value: i64) {
+fn power_is(rt: &impl Abort, session: &Session<BlockUnit>, value: i64) {
     assert_eq!(rt; session.measures(), 1);
     let power = Measure::Power {
         number: 3,
@@ -112,7 +112,7 @@ fn three_samples_and_a_tail<L: Ledger>(
         b"dspfx 1 input raw q15 1 8000 fir {16384} conv {16384 0 16384 8192} power output raw";
     let script = script_of(alloc, text).ok_or("a script")?;
     let frame = frame_size(&script);
-    let mut session = Session::new(alloc, &script, 2)?;
+    let mut session = Session::new(alloc, script, 2)?;
     feed_frames(
         rt,
         &mut session,
@@ -151,9 +151,9 @@ fn samples_of_24_bits<L: Ledger>(rt: &impl Abort, alloc: Global, blank: Blank) -
     let text = b"dspfx 1 input wave q31 2 fir {1073741824} output raw";
     let script = script_of(alloc, text).ok_or("a script")?;
     assert!(rt; script.input.format == Fmt::Q31);
-    let mut session = Session::new(alloc, &script, 2)?;
+    let mut session = Session::new(alloc, script, 2)?;
     session.set_coding(Coding::Wave24);
-    let frame = usize::from(script.input.channels) * width(Coding::Wave24);
+    let frame = session.frame_bytes();
     feed_frames(
         rt,
         &mut session,

@@ -27,7 +27,7 @@ fn streamed<L: Ledger>(
     if !legal(&script, 2) {
         return None;
     }
-    let mut session = Session::<BlockUnit>::new(alloc, &script, 2).ok()?;
+    let mut session = Session::<BlockUnit>::new(alloc, script, 2).ok()?;
     Some(stream(&mut session, input, output, &mut steps))
 }
 
@@ -131,7 +131,7 @@ fn first_windows(
     if !legal(&script, 2) {
         return None;
     }
-    let session = Session::<BlockUnit>::new(alloc, &script, 2).ok()?;
+    let session = Session::<BlockUnit>::new(alloc, script, 2).ok()?;
     Some((
         session.out().len(),
         session.window_fault(0),

@@ -1,10 +1,11 @@
 -- What the calls of a chain make of bytes.
-use Rattle.std.proofs.Common.{◌≡◌, ℕ, ◌+◌, ◌*◌, ◌/◌, ◌^◌, ◌<◌, ◌≤◌, ℤ, List, [], ◌∷◌, ◌++◌, length, take, drop, fold, flat_map, All, FitsSigned, refl, sym, ap, ◌∙◌, subst, arith, inl, inr}
-use Rattle.dsp_defs.specs.Block.{Frame, format_after}
+use Rattle.std.proofs.Common.{◌≡◌, ℕ, suc, ◌+◌, ◌*◌, ◌/◌, ◌^◌, ◌<◌, ◌≤◌, ℤ, List, [], ◌∷◌, ◌++◌, length, take, drop, fold, flat_map, length-append, All, FitsSigned, refl, sym, ap, ◌∙◌, subst, arith, inl, inr}
+use Rattle.std.proofs.lemmas.List.Concat.{flat_map-cons}
+use Rattle.dsp_defs.specs.Block.{Frame, format_after, channels_after}
 use Rattle.dsp_defs.specs.Bytes.{IsValue, format_in, width, bytes_of, sample_of}
 use Rattle.dsp_defs.specs.Counts.{Counts}
 use Rattle.dsp_defs.specs.Formats.{word}
-use Rattle.dsp_defs.specs.Output.{format_of, output_coding}
+use Rattle.dsp_defs.specs.Output.{channels_of, format_of, output_coding}
 use Rattle.dsp_stage.specs.Row.{Place, Passes, place_after, place_behind, place_room, blocks_of, chain_products, row_turns}
 use Rattle.dsp_defs.specs.Signal.{values}
 use Rattle.dsp_stage.specs.Unit.{frames_in}
@@ -16,22 +17,40 @@ use Rattle.dsp_defs.specs.declared.script.Block.{Block}
 use Rattle.dsp_defs.specs.declared.script.Script.{Script}
 use Rattle.dsp_defs.proofs.BlockLaws.{length-values}
 use Rattle.dsp_stage.proofs.ChainPlaces.{legal_is_open, open_behind}
-use Rattle.dsp_defs.proofs.CodingLemmas.{width-some, IsValue-coding_of, IsValue-fits}
+use Rattle.dsp_defs.proofs.CodingLemmas.{width-some, length-bytes_of, IsValue-coding_of, IsValue-fits}
 use Rattle.dsp_defs.proofs.SampleLaws.{decoded, encoded}
 use Rattle.std.proofs.lemmas.List.Elements.{All-weaker}
-use Rattle.dsp_defs.specs.Shape.{gathered, held}
+use Rattle.dsp_defs.specs.Shape.{frames_behind, gathered, held, whole_frames}
 use Rattle.dsp_defs.specs.declared.fault.GatherFull.{GatherFull}
 use Rattle.dsp_chain.proofs.Room.{written-row}
-use Rattle.dsp_chain.specs.Chain.{ChainState, ChainStandsFor, SameChain, FeedsChain, FailsChain, FinishesChain, IsNewChain, IsTooMuch as chain_too_much, live_of, output_of, input_place, made_of}
+use Rattle.dsp_chain.specs.Chain.{ChainState, ChainStandsFor, SameChain, FeedsChain, FailsChain, FinishesChain, IsNewChain, IsTooMuch as chain_too_much, given_of, live_of, output_of, input_place, made_of}
 use Rattle.dsp_input.specs.Taking.{frame_bytes}
 use Rattle.dsp_session.specs.SessionState.{SessionState}
 use Rattle.dsp_session.specs.Working.{IsWorking}
-use Rattle.dsp_session.specs.Session.{IsReady, Holds, IsNew, Feeds, Fails, IsTooMuch, Ends, input_coding, signal, live_values, products_of, turns_of}
+use Rattle.dsp_session.specs.Session.{IsReady, Holds, IsNew, Feeds, Fails, IsTooMuch, Ends, given_bytes, input_coding, signal, live_values, products_of, turns_of}
 
 -- the format behind the blocks
 format_behind : (p : Place) (blocks : List Block) → (place_behind p blocks).format ≡ fold format_after p.format blocks
 format_behind p [] = refl
 format_behind p (block ∷ blocks) = format_behind (place_after p block) blocks
+
+-- the channels behind the blocks
+channels_behind : (p : Place) (blocks : List Block) → (place_behind p blocks).channels ≡ fold channels_after p.channels blocks
+channels_behind p [] = refl
+channels_behind p (block ∷ blocks) = channels_behind (place_after p block) blocks
+
+-- the bytes of samples
+length-written : (coding : Coding) (ys : List ℤ) → length (flat_map (bytes_of coding) ys) ≡ length ys * width coding
+length-written coding [] = no_more (width coding)
+  where
+    no_more : (w : ℕ) → 0 ≡ 0 * w
+    no_more w = omega arith
+length-written coding (y ∷ ys) =
+    ap length (flat_map-cons (bytes_of coding) y ys) ∙ length-append (bytes_of coding y) (flat_map (bytes_of coding) ys)
+    ∙ (λ i. length-bytes_of coding y i + length-written coding ys i) ∙ one_more (length ys) (width coding)
+  where
+    one_more : (n w : ℕ) → w + n * w ≡ suc n * w
+    one_more n w = omega arith
 
 -- rows have room
 pub row_room : (n b c w : ℕ) → n ≤ b → n * (c * w) ≤ b * c * w
@@ -132,6 +151,21 @@ module _ (script : Script) (block : ℕ) (ready : IsReady script block) where
     pub gives_format : (output_of old).format ≡ format_of script
     gives_format = ap (λ (p : Place). (place_behind p (blocks_of old.units)).format) input ∙ ap (λ bs. (place_behind (input_place script block) bs).format) blocks ∙ format_behind (input_place script block) script.blocks
 
+    -- and its channels
+    gives_channels : (output_of old).channels ≡ channels_of script
+    gives_channels = ap (λ (p : Place). (place_behind p (blocks_of old.units)).channels) input ∙ ap (λ bs. (place_behind (input_place script block) bs).channels) blocks ∙ channels_behind (input_place script block) script.blocks
+
+    -- the bytes of frames that it gives
+    size_is : (ys : List ℤ) (out : List ℕ) → out ≡ flat_map (bytes_of (output_coding script)) ys → length ys ≡ length (frames_in (output_of old).channels ys) * (output_of old).channels
+        → length out ≡ length (frames_in (output_of old).channels ys) * given_bytes script
+    size_is ys out given whole =
+        ap length given ∙ length-written (output_coding script) ys ∙ ap (λ n. n * width (output_coding script)) whole
+        ∙ group (length (frames_in (output_of old).channels ys)) (output_of old).channels (width (output_coding script))
+        ∙ ap (λ c. length (frames_in (output_of old).channels ys) * (c * width (output_coding script))) gives_channels
+      where
+        group : (n c w : ℕ) → n * c * w ≡ n * (c * w)
+        group n c w = grind arith
+
     live_is : (x : List Frame) → live_of old x ≡ live_values script x
     live_is x = rw (input, blocks) refl
 
@@ -164,7 +198,7 @@ module _ (script : Script) (block : ℕ) (ready : IsReady script block) where
           works = fed.works;
           counted = fed.counted ∙ ap (λ (z : List Frame). old.frames + length z) taken;
           given = live;
-          frames = record { out = given ∙ encoded (output_coding script) (output_of old).channels ys fed.passes.signal.whole_frames; gives = fed.gives };
+          frames = record { out = given ∙ encoded (output_coding script) (output_of old).channels ys fed.passes.signal.whole_frames; long = size_is ys out given fed.passes.signal.whole_frames; gives = fed.gives };
           values = λ x stands. more_live x stands.chain;
           stands = λ x stands. record { holds = holds_again fed.same; chain = subst (λ z. ChainStandsFor new (x ++ z)) taken (fed.stands x stands.chain); live = fed.live };
           multiplies = fed.multiplies;
@@ -190,10 +224,11 @@ module _ (script : Script) (block : ℕ) (ready : IsReady script block) where
           failed = finished.failed;
           counted = finished.counted;
           given = piece;
-          frames = record { out = given ∙ encoded (output_coding script) (output_of old).channels ys finished.passes.signal.whole_frames; gives = finished.gives };
+          frames = record { out = given ∙ encoded (output_coding script) (output_of old).channels ys finished.passes.signal.whole_frames; long = size_is ys out given finished.passes.signal.whole_frames; gives = finished.gives };
           gave = λ x ys gave. record { holds = holds_again finished.same; chain = finished.gave x ys gave.chain };
           multiplies = finished.multiplies;
           turns = finished.turns;
+          few = subst (λ bs. given_of new ≤ frames_behind whole_frames bs new.frames) (finished.same.blocks ∙ blocks) finished.few;
           within = subst (λ n. made_of new ≤ n) (products_are new.frames) finished.within;
           spent = λ zero works. finished.spent (none_written ys w answer some answer_is zero) works;
           refused = λ failed. (let (nothing, units, steps) = finished.refused failed in (no_answer nothing, units, steps));

@@ -1,21 +1,21 @@
 -- What the calls of a session give, for every signal that it has taken.
-use Rattle.std.specs.Prelude.{◌≡◌, ◌⊎◌, ℕ, ◌+◌, ◌*◌, ◌<◌, ◌≤◌, true, false, List, [], ◌++◌, length, Some, None, is_some, IsTrue}
+use Rattle.std.specs.Prelude.{◌≡◌, ◌⊎◌, ℕ, ◌+◌, ◌-◌, ◌*◌, ◌<◌, ◌≤◌, true, false, List, [], ◌++◌, length, Some, None, is_some, IsTrue}
 use Rattle.dsp_defs.specs.Block.{Frame, live_chain, whole_chain}
-use Rattle.dsp_defs.specs.Bytes.{coding_of, coded, samples}
+use Rattle.dsp_defs.specs.Bytes.{coding_of, coded, samples, width}
 use Rattle.dsp_defs.specs.Cost.{cost, live_cost, chain_turns, turns_of_calls, turns}
 use Rattle.dsp_defs.specs.Counts.{Counts}
 use Rattle.dsp_defs.specs.Measure as measure
 use Rattle.dsp_defs.specs.Grammar.{IsSound, container_of}
-use Rattle.dsp_defs.specs.Output.{output_coding}
+use Rattle.dsp_defs.specs.Output.{channels_of, output_coding}
 use Rattle.dsp_stage.specs.Row as row
-use Rattle.dsp_stage.specs.Row.{blocks_of, chain_products, row_turns}
-use Rattle.dsp_defs.specs.Shape.{is_legal, gathered}
+use Rattle.dsp_stage.specs.Row.{blocks_of, chain_products, place_room, row_turns}
+use Rattle.dsp_defs.specs.Shape.{frames_behind, gathered, is_legal, live_frames, whole_frames}
 use Rattle.dsp_defs.specs.declared.fault.GatherFull.{GatherFull}
 use Rattle.dsp_defs.specs.declared.format.Coding.{Coding}
 use Rattle.dsp_defs.specs.declared.limits.TheConstants.{MAX_GATHERED}
 use Rattle.dsp_defs.specs.declared.measure.Measure.{Measure}
 use Rattle.dsp_defs.specs.declared.script.Script.{Script}
-use Rattle.dsp_chain.specs.Chain.{ChainStandsFor, ChainGave, IsLive, IsSpent, input_place, given_of, made_of}
+use Rattle.dsp_chain.specs.Chain.{ChainStandsFor, ChainGave, IsLive, IsSpent, input_place, given_of, made_of, output_of}
 pub use Rattle.dsp_input.specs.Taking.{frame_bytes}
 use Rattle.dsp_session.specs.SessionState.{SessionState}
 
@@ -116,6 +116,18 @@ pub record SameSession (old new : SessionState) : Type 0 where
   pub block : new.block ≡ old.block
   pub coding : new.coding ≡ old.coding
 
+-- the bytes of a frame of the output
+abbrev pub given_bytes : Script → ℕ
+given_bytes script = channels_of script * width (output_coding script)
+
+-- the bytes of the tail of a signal of n frames
+abbrev pub tail_bytes : Script → ℕ → ℕ
+tail_bytes script n = (frames_behind whole_frames script.blocks n - frames_behind live_frames script.blocks n) * given_bytes script
+
+-- the bytes that a call gives at most
+abbrev pub call_room : SessionState → ℕ
+call_room s = place_room (output_of s.chain) * width (output_coding s.script)
+
 -- the measures of what its blocks have taken
 abbrev pub measured : SessionState → List Measure
 measured s = row.measured_by 1 s.chain.units
@@ -123,6 +135,7 @@ measured s = row.measured_by 1 s.chain.units
 -- the call gave these frames, as bytes of the output
 pub record GivesFrames (old new : SessionState) (given : List Frame) : Type 0 where
   pub out : new.out ≡ output_bytes old.script given
+  pub long : length new.out ≡ length given * given_bytes old.script
   pub gives : given_of new.chain ≡ given_of old.chain + length given
 
 -- fed with bytes, it has taken their frames too, and gave what they add to the live values, for the multiplies that these have
@@ -160,6 +173,7 @@ pub record Ends (old new : SessionState) (answer : ℕ) (before after : Counts) 
   pub gave : (x ys : List Frame) → HasGiven old x ys → HasGiven new x (ys ++ given)
   pub multiplies : made_of new.chain + before.multiplies ≡ made_of old.chain + after.multiplies
   pub turns : after.turns + before.multiplies ≤ before.turns + after.multiplies
+  pub few : given_of new.chain ≤ frames_behind whole_frames new.script.blocks new.chain.frames
   pub within : made_of new.chain ≤ products_of new.script new.chain.frames
   pub spent : answer ≡ 0 → old.chain.failed ≡ None → IsSpent new.chain
   pub refused : IsTrue (is_some old.chain.failed) → (answer ≡ 0) × (new.chain.units ≡ old.chain.units) × (after ≡ before)

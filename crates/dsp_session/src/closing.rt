@@ -21,7 +21,7 @@ use std::sync::ledger::Ledger;
 
 /// Writes the tail piece by piece. The whole signal has at most `frames` frames.
 fn write_tail<U: AnyUnit + Drop, K: Sink, L: Ledger>(
-    worker: &mut Worker<'_, U>,
+    worker: &mut Worker<U>,
     frames: u64,
     output: &mut K,
     steps: &mut Steps<L>,
@@ -68,7 +68,7 @@ fn write_pad<K: Sink>(script: &Script, header: Header, output: &mut K) -> Result
 
 /// Writes the tail and the pad byte, and makes sure of the output.
 fn write_end<U: AnyUnit + Drop, K: Sink, L: Ledger>(
-    worker: &mut Worker<'_, U>,
+    worker: &mut Worker<U>,
     frames: u64,
     header: Header,
     output: &mut K,
@@ -96,7 +96,7 @@ fn write_end<U: AnyUnit + Drop, K: Sink, L: Ledger>(
 
 /// Works on the last bytes of the input, gives the tail, and makes sure of the output.
 pub fn close<U: AnyUnit + Drop, K: Sink, L: Ledger>(
-    worker: &mut Worker<'_, U>,
+    worker: &mut Worker<U>,
     block: &[u8],
     last: Last,
     header: Header,

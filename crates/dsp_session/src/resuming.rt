@@ -67,7 +67,7 @@ fn skip_samples<S: Source>(
 
 /// Works on the first frames behind the header, and makes sure of the output. The room holds a block of the input.
 fn pass_first<U: AnyUnit + Drop, S: Source, K: Sink, L: Ledger>(
-    worker: &mut Worker<'_, U>,
+    worker: &mut Worker<U>,
     room: &mut [u8],
     header: Header,
     frames: u32,
@@ -115,7 +115,7 @@ fn pass_first<U: AnyUnit + Drop, S: Source, K: Sink, L: Ledger>(
 /// Passes over the first frames behind the header, and works on the rest; it answers the frames of all. The room holds
 /// a block of the input.
 fn pass_rest<U: AnyUnit + Drop, S: Source, K: Sink, L: Ledger>(
-    worker: &mut Worker<'_, U>,
+    worker: &mut Worker<U>,
     room: &mut [u8],
     header: Header,
     frames: u32,
@@ -142,13 +142,12 @@ fn pass_rest<U: AnyUnit + Drop, S: Source, K: Sink, L: Ledger>(
         steps.new) }
     ensures few { IfOk result (λ total. total ≤ 2 ^ 40) }
 {
-    let script = worker.script();
-    let frame = frame_bytes(script, header.coding);
+    let frame = frame_bytes(worker.script(), header.coding);
     let span = Span {
         from: u64::from(frames) * frame,
         end: u64::MAX,
     };
-    let skipped = skip_samples(script, header, span.from, input)?;
+    let skipped = skip_samples(worker.script(), header, span.from, input)?;
     if skipped < span.from {
         return Err(PartFault::Behind {
             at: frames,
@@ -166,7 +165,7 @@ fn pass_rest<U: AnyUnit + Drop, S: Source, K: Sink, L: Ledger>(
 /// of the output and what the script gives of these frames while the signal goes on, and makes sure of
 /// it. It writes no tail. It takes no memory, and the session then stands for these frames.
 pub fn stream_first<U: AnyUnit + Drop, S: Source, K: Sink, L: Ledger>(
-    session: &mut Session<'_, U>,
+    session: &mut Session<U>,
     frames: u32,
     input: &mut S,
     output: &mut K,
@@ -204,7 +203,7 @@ pub fn stream_first<U: AnyUnit + Drop, S: Source, K: Sink, L: Ledger>(
 /// writes what the script gives of them, the tail and the pad byte, and makes sure of it. It writes
 /// no header. It takes no memory.
 pub fn stream_rest<U: AnyUnit + Drop, S: Source, K: Sink, L: Ledger>(
-    session: &mut Session<'_, U>,
+    session: &mut Session<U>,
     frames: u32,
     input: &mut S,
     output: &mut K,
@@ -239,6 +238,7 @@ pub fn stream_rest<U: AnyUnit + Drop, S: Source, K: Sink, L: Ledger>(
         output,
         steps,
     )?;
+    let script = session.worker.script();
     Ok(Totals {
         frames_taken,
         frames_given: frames_given(script, frames_taken),

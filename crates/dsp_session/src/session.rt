@@ -1,4 +1,4 @@
-ghost use Rattle.std.specs.Prelude.{◌≡◌, ◌+◌, ◌*◌, ◌^◌, ◌<◌, ◌≤◌, ◌↔◌, List, [], Some, None, length, slice_get, IfOk, IfErr, IsErr, IsFalse};
+ghost use Rattle.std.specs.Prelude.{◌≡◌, ◌+◌, ◌*◌, ◌^◌, ◌<◌, ◌≤◌, ◌↔◌, List, [], Some, None, length, slice_get, IfOk, IfErr, IsErr, IsFalse, IsTrue};
 ghost use Rattle.std.specs.Option.{option_map};
 ghost use Rattle.dsp_defs.specs.Bytes.{format_in};
 ghost use Rattle.dsp_defs.specs.Shape.{gathered, held, window_at};
@@ -11,7 +11,7 @@ ghost use Rattle.dsp_session.specs.Keeping.{Restores};
 ghost use Rattle.dsp_session.specs.Advancing.{Runs};
 ghost use Rattle.dsp_chain.specs.Restored.{kept_of};
 ghost use Rattle.dsp_defs.specs.Block.{Frame};
-ghost use Rattle.dsp_session.specs.Session.{IsReady, IsNew, SameSession, StandsFor, Feeds, Fails, IsTooMuch, Ends, measured, signal};
+ghost use Rattle.dsp_session.specs.Session.{IsReady, IsNew, SameSession, StandsFor, Feeds, Fails, IsTooMuch, Ends, call_room, given_bytes, measured, signal, tail_bytes};
 
 use crate::worker::Worker;
 use dsp_defs::{Coding, GatherFull, Measure, Script, Steps, WindowFault};
@@ -20,16 +20,16 @@ use std::alloc::{AllocError, Global};
 use std::marker::Model;
 use std::sync::ledger::Ledger;
 
-/// A script at work: it takes bytes of the input's samples and gives bytes of the output's samples.
+/// A script at work, which the session owns: it takes bytes of the input's samples and gives bytes of the output's samples.
 /// A stream also reads the headers of files and writes them.
 #[derive(Drop)]
-pub struct Session<'s, U: Stage + Drop> {
-    pub(crate) worker: Worker<'s, U>,
+pub struct Session<U: Stage + Drop> {
+    pub(crate) worker: Worker<U>,
     /// The block that a stream reads into.
     pub(crate) block: Vec<u8>,
 }
 
-impl<'s, U: Stage + Drop> Model for Session<'s, U> {
+impl<U: Stage + Drop> Model for Session<U> {
     ghost use Rattle.std.specs.Prelude.{◌≡◌, vec_len};
     ghost use Rattle.dsp_session.specs.Session.{block_bytes, input_coding};
     ghost use Rattle.dsp_session.specs.SessionState.{SessionState};
@@ -43,12 +43,12 @@ impl<'s, U: Stage + Drop> Model for Session<'s, U> {
         (input_coding s.worker.script) s.worker.block };
 }
 
-impl<'s, U: AnyUnit + Drop> Session<'s, U> {
+impl<U: AnyUnit + Drop> Session<U> {
     /// A session of the script, for blocks of at most `block` frames, that has taken nothing. All
     /// memory of a run is taken here.
-    pub fn new(alloc: Global, script: &'s Script, block: u64) -> Result<Self, AllocError>
-        requires { IsReady script.now block }
-        ensures { IfOk result (IsNew script.now block) }
+    pub fn new(alloc: Global, script: Script, block: u64) -> Result<Self, AllocError>
+        requires { IsReady script block }
+        ensures { IfOk result (IsNew script block) }
     {
         let worker = Worker::new(alloc, script, block)?;
         let block = vec![in alloc; 0; worker.block_bytes()]?;
@@ -63,6 +63,72 @@ impl<'s, U: AnyUnit + Drop> Session<'s, U> {
         ensures { self.new ≡ record self.old { coding = coding } }
     {
         self.worker.set_coding(coding);
+    }
+
+    /// The script.
+    pub fn script(&self) -> &Script
+        ensures script { result.now ≡ self.now.script }
+        ensures ready { IsReady self.now.script self.now.block }
+    {
+        self.worker.script()
+    }
+
+    /// The most frames of a call.
+    pub fn block(&self) -> usize
+        ensures { result ≡ self.now.block }
+    {
+        self.worker.block()
+    }
+
+    /// The bytes of a frame of the input, at least one.
+    pub fn frame_bytes(&self) -> usize
+        ensures value { result ≡ frame_bytes self.now.script self.now.coding }
+        ensures some { 0 < result }
+    {
+        self.worker.frame_bytes()
+    }
+
+    /// The bytes that one call gives at most.
+    pub fn room(&self) -> usize
+        ensures { result ≡ call_room self.now }
+    {
+        self.worker.room()
+    }
+
+    /// The bytes of a frame of the output.
+    pub fn given_bytes(&self) -> usize
+        ensures { result ≡ given_bytes self.now.script }
+    {
+        self.worker.given_bytes()
+    }
+
+    /// The bytes of the tail, where the frames fed so far are the whole input.
+    pub fn tail_bytes(&self) -> u128
+        requires { self.now.chain.frames ≤ 2 ^ 40 }
+        ensures { result ≡ tail_bytes self.now.script self.now.chain.frames }
+    {
+        self.worker.tail_bytes()
+    }
+
+    /// How many frames were taken.
+    pub fn frames(&self) -> u64
+        ensures { result ≡ self.now.chain.frames }
+    {
+        self.worker.frames()
+    }
+
+    /// Whether the input has ended.
+    pub fn has_ended(&self) -> bool
+        ensures { result ≡ self.now.chain.ended }
+    {
+        self.worker.has_ended()
+    }
+
+    /// The fault that the session answers from now on, if it has answered one.
+    pub fn fault(&self) -> Option<GatherFull>
+        ensures { result ≡ self.now.chain.failed }
+    {
+        self.worker.fault()
     }
 
     /// The bytes that the last call gave.
@@ -90,6 +156,7 @@ impl<'s, U: AnyUnit + Drop> Session<'s, U> {
             (signal self.old.script self.old.coding bytes.now) ≤ 2 ^ 40 }
         ensures same { SameSession self.old self.new }
         ensures given { IfOk result (λ given. given ≡ length self.new.out) }
+        ensures within { IfOk result (λ given. given ≤ call_room self.old) }
         ensures fed { IfOk result (λ _. Feeds self.old self.new bytes.now steps.old steps.new) }
         ensures full { IsErr result ↔ IsTooMuch self.old
             (length (signal self.old.script self.old.coding bytes.now)) }
@@ -118,6 +185,7 @@ impl<'s, U: AnyUnit + Drop> Session<'s, U> {
     pub fn end<L: Ledger>(&mut self, steps: &mut Steps<L>) -> usize
         ensures same { SameSession self.old self.new }
         ensures given { result ≡ length self.new.out }
+        ensures within { result ≤ call_room self.old }
         ensures ends { Ends self.old self.new result steps.old steps.new }
     {
         self.worker.end(steps)
@@ -155,6 +223,13 @@ impl<'s, U: AnyUnit + Drop> Session<'s, U> {
         ensures { (x : List Frame) → StandsFor self.now x → out.new ≡ kept self.now.script x }
     {
         self.worker.keep(out);
+    }
+
+    /// Whether the script's blocks can keep these numbers of so many frames, at most 2^40.
+    pub fn fits(&self, frames: u64, numbers: &[i64]) -> bool
+        ensures { IsTrue result ↔ (frames ≤ 2 ^ 40) × Fits self.now.script frames numbers.now }
+    {
+        self.worker.fits(frames, numbers)
     }
 
     /// Gives a new session the numbers that the blocks keep of so many frames, which count as taken.

@@ -50,7 +50,7 @@ pub const WHOLE: Span = Span {
 
 /// Works on the frames of some bytes, and writes the live values that they add.
 pub fn pass_block<U: AnyUnit + Drop, K: Sink, L: Ledger>(
-    worker: &mut Worker<'_, U>,
+    worker: &mut Worker<U>,
     bytes: &[u8],
     output: &mut K,
     steps: &mut Steps<L>,
@@ -82,7 +82,7 @@ pub fn pass_block<U: AnyUnit + Drop, K: Sink, L: Ledger>(
 
 /// Works on block after block until the samples end, or the part of them.
 pub fn pass_blocks<U: AnyUnit + Drop, S: Source, K: Sink, L: Ledger>(
-    worker: &mut Worker<'_, U>,
+    worker: &mut Worker<U>,
     block: &mut [u8],
     header: Header,
     span: Span,
@@ -105,10 +105,9 @@ pub fn pass_blocks<U: AnyUnit + Drop, S: Source, K: Sink, L: Ledger>(
         (S.state input.old) (S.state input.new) (K.state output.old) (K.state output.new) steps.old
         steps.new) }
 {
-    let script = worker.script();
     let mut taken = span.from;
     'passing: loop {
-        let count = read_block(script, header, span.end, taken, block, input)?;
+        let count = read_block(worker.script(), header, span.end, taken, block, input)?;
         if count < block.len() {
             return Ok(Last {
                 before: taken,
@@ -123,7 +122,7 @@ pub fn pass_blocks<U: AnyUnit + Drop, S: Source, K: Sink, L: Ledger>(
 /// Works on the samples behind the header, gives the tail, and makes sure of the output; it answers
 /// the frames that it took. The room holds a block of the input.
 fn stream_samples<U: AnyUnit + Drop, S: Source, K: Sink, L: Ledger>(
-    worker: &mut Worker<'_, U>,
+    worker: &mut Worker<U>,
     room: &mut [u8],
     header: Header,
     input: &mut S,
@@ -161,7 +160,7 @@ fn stream_samples<U: AnyUnit + Drop, S: Source, K: Sink, L: Ledger>(
 ///
 /// The output of a block is accepted wholly before a byte of the next block is asked for.
 pub fn stream<U: AnyUnit + Drop, S: Source, K: Sink, L: Ledger>(
-    session: &mut Session<'_, U>,
+    session: &mut Session<U>,
     input: &mut S,
     output: &mut K,
     steps: &mut Steps<L>,
@@ -181,8 +180,7 @@ pub fn stream<U: AnyUnit + Drop, S: Source, K: Sink, L: Ledger>(
     ensures refused { IfErr result (λ fault. StaysRefused fault session.new) }
     ensures same { SameScript session.old session.new }
 {
-    let script = session.worker.script();
-    let header = open(script, input, output)?;
+    let header = open(session.worker.script(), input, output)?;
     session.worker.set_coding(header.coding);
     let frames_taken = stream_samples(
         &mut session.worker,
@@ -192,6 +190,7 @@ pub fn stream<U: AnyUnit + Drop, S: Source, K: Sink, L: Ledger>(
         output,
         steps,
     )?;
+    let script = session.worker.script();
     Ok(Totals {
         frames_taken,
         frames_given: frames_given(script, frames_taken),

@@ -1,4 +1,4 @@
-ghost use Rattle.std.specs.Prelude.{◌≡◌, ◌+◌, ◌*◌, ◌/◌, ◌^◌, ◌<◌, ◌≤◌, ◌↔◌, List, [], length, take, drop, flat_map, All, IfOk, IfErr, IsErr, IsFalse, Some, None, slice_get};
+ghost use Rattle.std.specs.Prelude.{◌≡◌, ◌+◌, ◌*◌, ◌/◌, ◌^◌, ◌<◌, ◌≤◌, ◌↔◌, List, [], length, take, drop, flat_map, All, IfOk, IfErr, IsErr, IsFalse, IsTrue, Some, None, slice_get};
 ghost use Rattle.std.specs.Option.{option_map};
 ghost use Rattle.dsp_defs.specs.Bytes.{IsValue, bytes_of, format_in, sample_of, width};
 ghost use Rattle.dsp_defs.specs.Shape.{gathered, held, window_at};
@@ -12,7 +12,7 @@ ghost use Rattle.dsp_session.specs.Keeping.{Restores};
 ghost use Rattle.dsp_session.specs.Advancing.{Runs};
 ghost use Rattle.dsp_chain.specs.Restored.{kept_of};
 ghost use Rattle.dsp_defs.specs.Block.{Frame};
-ghost use Rattle.dsp_session.specs.Session.{IsReady, IsNew, StandsFor, SameScript, SameSession, Feeds, Fails, IsTooMuch, Ends, block_bytes, measured, signal};
+ghost use Rattle.dsp_session.specs.Session.{IsReady, IsNew, StandsFor, SameScript, SameSession, Feeds, Fails, IsTooMuch, Ends, block_bytes, call_room, given_bytes, measured, signal, tail_bytes};
 
 use dsp_chain::Chain;
 use dsp_defs::{GatherFull, Measure, Script, Steps, WindowFault};
@@ -54,8 +54,8 @@ fn encode_front(coding: Coding, samples: &[i32], bytes: &mut [u8]) -> usize
 
 /// The blocks of a script at work on bytes.
 #[derive(Drop)]
-pub struct Worker<'s, U: Stage + Drop> {
-    script: &'s Script,
+pub struct Worker<U: Stage + Drop> {
+    script: Script,
     chain: Chain<U>,
     input: Coding,
     output: Coding,
@@ -66,7 +66,7 @@ pub struct Worker<'s, U: Stage + Drop> {
     given: usize,
 }
 
-impl<'s, U: Stage + Drop> Model for Worker<'s, U> {
+impl<U: Stage + Drop> Model for Worker<U> {
     ghost use Rattle.std.specs.Prelude.{take, vec_len};
     ghost use Rattle.dsp_session.specs.SessionState.{SessionState};
     ghost use Rattle.dsp_session.specs.Working.{IsWorking};
@@ -74,7 +74,7 @@ impl<'s, U: Stage + Drop> Model for Worker<'s, U> {
     ghost Value = { SessionState };
 
     ghost view = { λ w. record {
-      script = w.script.now;
+      script = w.script;
       block = w.block;
       coding = w.input;
       chain = w.chain;
@@ -83,7 +83,7 @@ impl<'s, U: Stage + Drop> Model for Worker<'s, U> {
 
     ghost invariant = { λ w. IsWorking
         (record {
-          script = w.script.now;
+          script = w.script;
           block = w.block;
           coding = w.input;
           chain = w.chain;
@@ -92,15 +92,15 @@ impl<'s, U: Stage + Drop> Model for Worker<'s, U> {
         w.output (vec_len w.samples) (vec_len w.values) (vec_len w.bytes) w.given };
 }
 
-impl<'s, U: AnyUnit + Drop> Worker<'s, U> {
+impl<U: AnyUnit + Drop> Worker<U> {
     /// A worker for blocks of at most `block` frames, that has taken nothing. All memory of a run is
     /// taken here.
-    pub fn new(alloc: Global, script: &'s Script, block: u64) -> Result<Self, AllocError>
-        requires { IsReady script.now block }
-        ensures { IfOk result (IsNew script.now block) }
+    pub fn new(alloc: Global, script: Script, block: u64) -> Result<Self, AllocError>
+        requires { IsReady script block }
+        ensures { IfOk result (IsNew script block) }
     {
-        let chain = Chain::new(alloc, script, block)?;
-        let flow = output_flow(script);
+        let chain = Chain::new(alloc, &script, block)?;
+        let flow = output_flow(&script);
         let input = coding_of(script.input.kind.container(), script.input.format);
         let output = coding_of(script.output, flow.format);
         let block = block as usize;
@@ -122,18 +122,76 @@ impl<'s, U: AnyUnit + Drop> Worker<'s, U> {
     }
 
     /// The script.
-    pub fn script(&self) -> &'s Script
+    pub fn script(&self) -> &Script
         ensures script { result.now ≡ self.now.script }
         ensures ready { IsReady self.now.script self.now.block }
     {
-        self.script
+        &self.script
+    }
+
+    /// The most frames of a call.
+    pub fn block(&self) -> usize
+        ensures { result ≡ self.now.block }
+    {
+        self.block
+    }
+
+    /// The bytes of a frame of the input.
+    pub fn frame_bytes(&self) -> usize
+        ensures value { result ≡ frame_bytes self.now.script self.now.coding }
+        ensures some { 0 < result }
+    {
+        frame_bytes(&self.script, self.input) as usize
+    }
+
+    /// The bytes that one call gives at most.
+    pub fn room(&self) -> usize
+        ensures { result ≡ call_room self.now }
+    {
+        self.bytes.len()
+    }
+
+    /// The bytes of a frame of the output.
+    pub fn given_bytes(&self) -> usize
+        ensures { result ≡ given_bytes self.now.script }
+    {
+        usize::from(output_flow(&self.script).channels) * width(self.output)
+    }
+
+    /// The bytes of the tail, where the frames fed so far are the whole input.
+    pub fn tail_bytes(&self) -> u128
+        requires { self.now.chain.frames ≤ 2 ^ 40 }
+        ensures { result ≡ tail_bytes self.now.script self.now.chain.frames }
+    {
+        u128::from(self.chain.tail_frames()) * self.given_bytes() as u128
+    }
+
+    /// How many frames were taken.
+    pub fn frames(&self) -> u64
+        ensures { result ≡ self.now.chain.frames }
+    {
+        self.chain.frames()
+    }
+
+    /// Whether the input has ended.
+    pub fn has_ended(&self) -> bool
+        ensures { result ≡ self.now.chain.ended }
+    {
+        self.chain.has_ended()
+    }
+
+    /// The fault that the chain answers from now on, if it has answered one.
+    pub fn fault(&self) -> Option<GatherFull>
+        ensures { result ≡ self.now.chain.failed }
+    {
+        self.chain.fault()
     }
 
     /// The bytes of a block of the input.
     pub fn block_bytes(&self) -> usize
         ensures { result ≡ block_bytes self.now.script self.now.coding self.now.block }
     {
-        self.block * frame_bytes(self.script, self.input) as usize
+        self.block * frame_bytes(&self.script, self.input) as usize
     }
 
     /// The samples of the input stand in this coding of its format.
@@ -168,6 +226,7 @@ impl<'s, U: AnyUnit + Drop> Worker<'s, U> {
             (signal self.old.script self.old.coding bytes.now) ≤ 2 ^ 40 }
         ensures same { SameSession self.old self.new }
         ensures given { IfOk result (λ given. given ≡ length self.new.out) }
+        ensures within { IfOk result (λ given. given ≤ call_room self.old) }
         ensures fed { IfOk result (λ _. Feeds self.old self.new bytes.now steps.old steps.new) }
         ensures full { IsErr result ↔ IsTooMuch self.old
             (length (signal self.old.script self.old.coding bytes.now)) }
@@ -206,6 +265,7 @@ impl<'s, U: AnyUnit + Drop> Worker<'s, U> {
     pub fn end<L: Ledger>(&mut self, steps: &mut Steps<L>) -> usize
         ensures same { SameSession self.old self.new }
         ensures given { result ≡ length self.new.out }
+        ensures within { result ≤ call_room self.old }
         ensures ends { Ends self.old self.new result steps.old steps.new }
     {
         let count = self.chain.finish(self.values.as_mut_slice(), steps);
@@ -249,6 +309,13 @@ impl<'s, U: AnyUnit + Drop> Worker<'s, U> {
             → result ≡ kept_count self.now.script self.now.chain.frames }
     {
         self.chain.kept_count()
+    }
+
+    /// Whether the blocks can keep these numbers of so many frames.
+    pub fn fits(&self, frames: u64, numbers: &[i64]) -> bool
+        ensures { IsTrue result ↔ (frames ≤ 2 ^ 40) × Fits self.now.script frames numbers.now }
+    {
+        self.chain.fits(frames, numbers)
     }
 
     /// Gives a new worker the numbers that the blocks keep of so many frames, which count as taken.

@@ -3,7 +3,7 @@ use Rattle.std.proofs.lemmas.Result.{err_from_is_err_and}
 use Rattle.dsp_cli.specs.Call.{Printed, Turned}
 use Rattle.dsp_cli.specs.Run.{HasText}
 use Rattle.dsp_cli.proofs.WordLaws.{gen_makes_few}
-use Rattle.dsp_cli.proofs.PerformLaws.{run_went, run_stops, gen_went, gen_stops, load_stops}
+use Rattle.dsp_cli.proofs.PerformLaws.{run_went, run_stops, gen_went, gen_stops}
 use Rattle.dsp_cli.proofs.top.perform.Goals as goal
 
 pub returns-in_default-clause-err : goal.returns-in_default-clause-err

@@ -1,6 +1,6 @@
-use Rattle.std.proofs.Common.{◌∙◌, subst, sym, arith}
+use Rattle.std.proofs.Common.{◌∙◌, arith}
 use Rattle.dsp_stage.specs.Row.{Place, blocks_of}
-use Rattle.dsp_chain.specs.KeptRule.{HaveGroups, counts_by}
+use Rattle.dsp_chain.specs.KeptRule.{counts_by}
 use Rattle.dsp_chain.proofs.FrameRules.{rules-few}
 use Rattle.dsp_chain.proofs.KeptCounts.{counts-chain, length-rules}
 use Rattle.dsp_chain.proofs.Restored.{have-groups}

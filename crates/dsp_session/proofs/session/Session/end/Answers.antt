@@ -8,3 +8,6 @@ returns-clause-given g c = c.end.ensures.given
 
 pub returns-clause-ends : goal.returns-clause-ends
 returns-clause-ends g c = rw (← c.self.view_is) c.end.ensures.ends
+
+pub returns-clause-within : goal.returns-clause-within
+returns-clause-within g c = rw (← c.self.view_is) c.end.ensures.within

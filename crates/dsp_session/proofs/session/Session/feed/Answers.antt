@@ -29,3 +29,6 @@ returns-clause-numbers g c = rw (← c.self.view_is) c.feed.ensures.numbers
 
 pub returns-clause-refused : goal.returns-clause-refused
 returns-clause-refused g c = rw (← c.self.view_is) c.feed.ensures.refused
+
+pub returns-clause-within : goal.returns-clause-within
+returns-clause-within g c = rw (← c.self.view_is) c.feed.ensures.within

@@ -1,0 +1,3 @@
+pub mod Opening
+pub mod Pieces
+pub mod Tail

@@ -126,13 +126,19 @@ struct tozbirem_lengths {
  */
 
 /**
+ * @brief          The version of the library.
+ * @return         65,536 for each major version, 256 for each minor one, and the patch: 256 is 0.1.0
+ */
+uint32_t tozbirem_version(void);
+
+/**
  * @brief          Reads a script, and says what a run of it takes and gives.
  * @param[in]      script         the text of the script; it needs no zero at its end
  * @param[in]      script_length  bytes of the text, at most 1,048,576
  * @param[in]      block          most frames of a call, 1 to 65,536 and a multiple of the script's unit; 0 for the
  *                                script's own block length, or its default. It changes no sample
  * @param[in]      frames         frames of an input, for frames_given, kept and the cost
- * @param[out]     plan           what the script is
+ * @param[out]     plan           what the script is; as it was after another status than TOZBIREM_OK
  * @param[out]     answer         the fault, if there is one
  * @return         TOZBIREM_OK, TOZBIREM_SCRIPT, TOZBIREM_BLOCK, TOZBIREM_INPUT for more than 2^40 frames, or
  *                 TOZBIREM_MEMORY
@@ -171,9 +177,10 @@ uint32_t tozbirem_feed(const void *script, size_t script_length, uint64_t block,
  * @param[in]      kept           the numbers that the last call wrote to kept_out
  * @param[in]      kept_count     how many these are; 0 before the first frame
  * @param[out]     output         the frames of the tail: none but for `conv`, `conv_partial` and `correlate`
- * @param[in]      output_bytes   bytes of the buffer; TOZBIREM_ROOM says how many are needed
+ * @param[in]      output_bytes   bytes of the buffer; TOZBIREM_ROOM says how many the tail has, so that a call with 0
+ *                                asks for it
  * @param[out]     measures       the measures, in the order of the script, and in a block by channel
- * @param[in]      measures_room  how many fit there, at least the plan's measures
+ * @param[in]      measures_room  how many fit there; the plan says how many there are, and no more are written than fit
  * @param[out]     answer         given, and kept, which is the number of measures, or the fault
  * @return         TOZBIREM_OK, or why nothing was done
  */

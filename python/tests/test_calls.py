@@ -169,6 +169,9 @@ class Functions(unittest.TestCase):
         with open(f"{TOP}/VERSION") as version, open(f"{TOP}/python/pyproject.toml") as project:
             self.assertIn(f'version = "{tozbirem.__version__}"', project.read())
             self.assertEqual(version.read().strip(), tozbirem.__version__)
+        major, minor, patch = map(int, tozbirem.__version__.split("."))
+        number = sys.modules["tozbirem._library"].LIBRARY.tozbirem_version()
+        self.assertEqual(number, major << 16 | minor << 8 | patch)
 
     def test_every_function_of_the_definitions(self):
         """Each function of CMSIS-DSP that docs/DEFINITIONS.md names is here, and no other."""

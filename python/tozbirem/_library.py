@@ -31,6 +31,7 @@ class Lengths(ctypes.Structure):
 READ = [c_void_p, c_size_t]  # memory and its length
 WRITTEN = READ
 CALLS = {
+    "tozbirem_version": [],
     "tozbirem_plan": [*READ, c_uint64, c_uint64, POINTER(Plan), POINTER(Answer)],
     "tozbirem_feed": [*READ, c_uint64, c_uint64, *READ, *READ, *WRITTEN, *WRITTEN, POINTER(Answer)],
     "tozbirem_finish": [*READ, c_uint64, c_uint64, *READ, *WRITTEN, *WRITTEN, POINTER(Answer)],

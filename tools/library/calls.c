@@ -31,6 +31,7 @@ static void test_plans(void)
 {
     struct tozbirem_plan plan;
     struct tozbirem_answer answer;
+    CHECK(tozbirem_version() >> 16 == 0 && tozbirem_version() >> 8 == 1);
     CHECK(tozbirem_plan(FIR, strlen(FIR), 100, 10, &plan, &answer) == TOZBIREM_OK);
     CHECK(plan.block == 100 && plan.unit == 1 && plan.frame_bytes == 4 && plan.given_bytes == 4 && plan.room == 400);
     CHECK(plan.measures == 2 && plan.frames_given == 10 && plan.cost_low == 2 * 10 * 2 + 2 * 10 && plan.cost_high == 0);

@@ -57,7 +57,7 @@ def of_crate():
     records = {}
     for name, body in re.findall(r"#\[repr\(C\)\][^{]*?struct (\w+) \{(.*?)\}", text, re.S):
         records[f"tozbirem_{RECORDS[name]}"] = [(field, c_name(kind)) for field, kind in re.findall(r"pub (\w+): (\w+)", body)]
-    statuses = {name: int(number) for name, number in re.findall(r"const ([A-Z_]+): u32 = (\d+);", text)}
+    statuses = {name: int(number) for name, number in re.findall(r"pub const ([A-Z_]+): u32 = (\d+);", text)}
     kinds = {name: int(number) for name, number in re.findall(r"ScriptKind::(\w+)(?: \{[^}]*\})? => \((\d+),", text)}
     return functions, records, statuses, kinds
 
@@ -67,7 +67,8 @@ def of_header():
     text = re.sub(r"/\*.*?\*/", "", text_of(f"{TOP}/include/tozbirem.h"), flags=re.S)
     functions = {}
     for result, name, arguments in re.findall(r"^(\w+) (tozbirem_\w+)\(([^)]*)\);", text, re.M):
-        kinds = [re.sub(r"\s*\*", "*", re.sub(r"\w+$", "", it.strip())).strip() for it in arguments.split(",")]
+        named = [] if arguments == "void" else arguments.split(",")
+        kinds = [re.sub(r"\s*\*", "*", re.sub(r"\w+$", "", it.strip())).strip() for it in named]
         functions[name] = (result, kinds)
     records = {}
     for name, body in re.findall(r"^struct (tozbirem\w*) \{(.*?)^\};", text, re.M | re.S):

@@ -47,6 +47,17 @@ examples() {
         check "${program##*/}" "$program"
     done
     check 'the lines that build the examples' one_line
+    check 'the lines of README.md' front_page
+}
+
+# The C of the front page, in a program.
+front_page() {
+    {
+        printf '#include "tozbirem.h"\n#include <stdio.h>\nint main(void) {\nint16_t input[256] = {1000, 1000}, output[256];\n'
+        sed -n '/^```c$/,/^```$/{/^```/d;p}' "$top/README.md"
+        printf 'return !(printf("%%d", output[1]) && given == 0 && output[1] == 750);\n}\n'
+    } >"$folder/front.c"
+    cc -std=c99 -I "$out" "$folder/front.c" "$out/libtozbirem.a" -o "$folder/front" && "$folder/front"
 }
 
 # The commands in the comments of the examples, in a folder that has links to the top.

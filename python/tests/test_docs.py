@@ -19,8 +19,10 @@ def lacking(names):
 
 class Page(unittest.TestCase):
     def test_each_piece_of_python(self):
-        with open(f"{TOP}/docs/PYTHON.md") as file:
-            fences = FENCE.findall(file.read())
+        fences = []
+        for page in ("README.md", "docs/PYTHON.md"):
+            with open(f"{TOP}/{page}") as file:
+                fences += FENCE.findall(file.read())
         space, count = {}, 0
         for words, text in fences:
             kind, *names = words.split() or ["needs"]

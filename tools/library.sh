@@ -25,7 +25,7 @@ trap 'rm -rf "$work"' EXIT
 (cd "$top/crates/dsp_c" && rt lib >&2)
 kit=$(dirname "$(dirname "$(readlink -f "$(command -v rt)")")")
 heap=$kit/c/liblibc_c.a
-[ -e "$heap" ] || heap=$(find -L "$kit" /opt/rattle -name liblibc_c.a -print -quit 2>/dev/null)
+[ -e "$heap" ] || { echo "library: the toolchain has no c/liblibc_c.a beside rt" >&2; exit 70; }
 cp "$top/crates/dsp_c/out/libdsp_c.a" "$work/libtozbirem.a"
 chmod u+w "$work/libtozbirem.a"
 (cd "$work" && ar x "$heap" && ar q libtozbirem.a ./*.o && ranlib libtozbirem.a) 2>&1 | sed 's/^/library: /' >&2

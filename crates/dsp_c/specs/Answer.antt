@@ -1,5 +1,5 @@
 -- The numbers by which C is answered: the status of a call that did nothing, and what there is to say of it.
-use Rattle.std.specs.Prelude.{◌≡◌, ℕ, ◌-◌, ◌^◌, min, ℤ, pos}
+use Rattle.std.specs.Prelude.{ℕ, ◌-◌, ◌^◌, min, ℤ, pos}
 use Rattle.dsp_defs.specs.declared.script_fault.ScriptKind.{ScriptKind}
 use Rattle.dsp_defs.specs.declared.script_fault.ScriptKind.TheVariants as kind
 use Rattle.dsp_defs.specs.declared.format.Fmt.{Fmt}

@@ -1,5 +1,5 @@
 -- The measures as C sees them, a row each.
-use Rattle.std.specs.Prelude.{ℕ, ◌-◌, ◌^◌, min, ℤ, pos, Option, Some, None}
+use Rattle.std.specs.Prelude.{ℕ, ℤ, pos, Option, Some, None}
 use Rattle.dsp_defs.specs.declared.measure.Measure.{Measure}
 use Rattle.dsp_defs.specs.declared.measure.Measure.TheVariants.{Power, Dot, CmplxDot, Max, Min}
 use Rattle.dsp_c.specs.Answer.{field}

@@ -1,6 +1,5 @@
-use Rattle.std.proofs.Common.{◌≡◌, ◌∙◌, ◌≤◌, ◌++◌, List, length, map, min, take, None, ap, sym, subst, arith}
+use Rattle.std.proofs.Common.{◌≡◌, ◌∙◌, ◌++◌, length, map, min, take, ap, sym, arith}
 use Rattle.std.proofs.lemmas.List.{length-take-le}
-use Rattle.dsp_defs.specs.Block.{Frame}
 use Rattle.dsp_defs.specs.Output.{live_bytes, whole_bytes}
 use Rattle.dsp_defs.specs.Shape.{window_at}
 use Rattle.dsp_defs.specs.declared.script.Script.{Script}

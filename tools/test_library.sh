@@ -30,10 +30,10 @@ compiled() {
     done
 }
 
-# Each program that was built, once: ran NAME COMMAND..
+# Each program that was built, once.
 examples() {
     local program
-    for program in "$folder"/fir.* ; do
+    for program in "$folder"/fir.*; do
         check "${program##*/}" python3 "$top/tools/library/examples.py" fir "$program"
     done
     for program in "$folder"/biquad.*; do
@@ -82,11 +82,13 @@ exports() {
 }
 
 memory() {
-    check 'each allocation refused, built' gcc -std=c99 $strict -Wl,--wrap=malloc -Wl,--wrap=realloc -Wl,--wrap=free \
+    has cc || return
+    check 'each allocation refused, built' cc -std=c99 $strict -Wl,--wrap=malloc -Wl,--wrap=realloc -Wl,--wrap=free \
         -Wl,--wrap=posix_memalign -Wl,--wrap=aligned_alloc "$top/tools/library/refuse.c" "$out/libtozbirem.a" -o "$folder/refuse"
     check 'each allocation refused' "$folder/refuse"
     if has valgrind; then
-        check 'no leak, no read outside' valgrind -q --error-exitcode=9 --leak-check=full "$folder/fir.gcc.static"
+        cc -std=c99 -I "$out" "$top/tools/library/calls.c" "$out/libtozbirem.a" -lpthread -o "$folder/watched"
+        check 'no leak, no read outside' valgrind -q --error-exitcode=9 --leak-check=full "$folder/watched"
     fi
 }
 

@@ -2,12 +2,15 @@
 
 import array
 import ctypes
+from typing import Any, Sequence, Union
 
 try:
     import numpy
 except ImportError:
     numpy = None  # type: ignore[assignment]
 
+Samples = Union[Sequence[int], Sequence[Sequence[int]], memoryview, Any]  # or an array of numpy
+Array = Any  # an array of numpy, or array.array
 BITS = {"q7": 7, "q15": 15, "q31": 31}
 CODES = {7: "b", 15: "h", 31: "i"}
 NAMES = {7: "int8", 15: "int16", 31: "int32"}

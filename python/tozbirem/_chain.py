@@ -176,7 +176,7 @@ class Chain:
 
     # ---- samples
 
-    def process(self, samples):
+    def process(self, samples: _arrays.Samples) -> _arrays.Array:
         """Takes the next samples of the signal, and returns what they add to the output, at once.
 
         Raises TypeError and OverflowError for samples that are none of the format, ValueError for an array of another
@@ -195,7 +195,7 @@ class Chain:
             raise
         return _arrays.shaped(_arrays.joined(pieces or [_arrays.empty(0, self._output_bits)]), self.output_channels)
 
-    def finish(self):
+    def finish(self) -> _arrays.Array:
         """Ends the signal, and returns its tail: what `conv`, `conv_partial` and `correlate` still give.
 
         Raises TozbiremError where a window of `conv_partial` ends past the convolution (25); the signal then goes on.
@@ -217,7 +217,7 @@ class Chain:
         tail = _arrays.joined([output[: answer.given * 8 // (self._output_bits + 1)]])
         return _arrays.shaped(tail, self.output_channels)
 
-    def run(self, samples):
+    def run(self, samples: _arrays.Samples) -> _arrays.Array:
         """Takes a whole signal, and returns all that it gives: `process` and `finish` in one."""
         given = [self.process(samples), self.finish()]
         return _arrays.joined(given) if len(given[1]) else given[0]

@@ -1,5 +1,5 @@
 -- A conversion goes on block by block.
-use Rattle.std.proofs.Common.{◌≡◌, ℕ, suc, ◌+◌, ◌-◌, ◌*◌, ◌/◌, ◌^◌, ◌<◌, ◌≤◌, List, [], ◌++◌, length, take, drop, Option, Some, None, Result, Ok, Err, Bool, true, nat_lt, if◌then◌else◌, IfSome, ℤ, refl, sym, ap, ap₂, ◌∙◌, subst, arith, append_assoc, append-nil, length-append, inl, inr}
+use Rattle.std.proofs.Common.{◌≡◌, ℕ, suc, ◌+◌, ◌-◌, ◌*◌, ◌/◌, ◌^◌, ◌<◌, ◌≤◌, List, [], ◌++◌, length, take, drop, Option, Some, None, Result, Ok, Err, Bool, true, nat_lt, if◌then◌else◌, IfSome, ℤ, refl, sym, ap, ap₂, ◌∙◌, subst, arith, append_assoc, append-nil, length-append, length-drop, inl, inr}
 use Rattle.std.specs.List.{flat_map}
 use Rattle.std.specs.Option.{option_map, unwrap_or}
 use Rattle.std.specs.Io.KnownBytes.{IsAtEnd, append_known}
@@ -214,7 +214,7 @@ short_is header declared count is cut =
     ap (λ (b : Bool). if b then Some (declared, count - header.start) else None) less)
 
 short_fault : (direction : Direction) (given : List ℕ) (header : OpenHeader) → IsSource direction given header → (declared taken : ℕ) (error : ConvertFault) → header.size ≡ Some declared
-    → length given ≡ header.start + taken → taken < in_whole_frames header declared → IsShort direction error header.start declared taken → source_fault direction given ≡ Some error
+    → length given ≡ header.start + taken → taken < in_whole_frames header declared → IsShort direction error declared taken (header.start + taken) → source_fault direction given ≡ Some error
 short_fault WaveToAu given header has declared taken error is long cut error_is =
     let got : length given - header.start ≡ taken = omega (arith, long) in
     ap (λ (said : Result OpenHeader (HeaderFault × ℕ)). elim said [
@@ -354,14 +354,18 @@ module _ (direction : Direction) (header : OpenHeader) (good : IsOpenGood header
         ∙ sym (append_assoc head (coded direction header good (signal direction header good going.heard)) (coded direction header good (signal direction header good last)))
 
     -- the sink has failed within the block
-    pub unwritten : (k : ℕ) → Took between after (take k (exchanged (width header.coding) (take (n * open_frame_bytes header) block))) → after.faults ≡ one_more between.faults
+    pub unwritten : (k : ℕ) → k < length (exchanged (width header.coding) (take (n * open_frame_bytes header) block)) → Took between after (take k (exchanged (width header.coding) (take (n * open_frame_bytes header) block))) → after.faults ≡ one_more between.faults
         → Stopped direction fault.Write before now empty after
-    unwritten k took faulty =
+    unwritten k less took faulty =
         let part = take k (exchanged (width header.coding) (take (n * open_frame_bytes header) block)) in
         let written = head ++ coded direction header good (signal direction header good going.heard) ++ part in
         let is : exchanged (width header.coding) (take (n * open_frame_bytes header) block) ≡ coded direction header good (signal direction header good last) = given_is direction header good taken input mid now sink between after going block count n small size read n_is in
         let rest = drop k (exchanged (width header.coding) (take (n * open_frame_bytes header) block)) in
         let split : part ++ rest ≡ coded direction header good (signal direction header good last) = take-append-drop k _ ∙ is in
+        let front : target_of_signal direction header (source_signal direction header taken_bytes) ≡ written ++ rest =
+        whole_coded
+        ∙ ap (λ xs. head ++ coded direction header good (signal direction header good going.heard) ++ xs) (sym split)
+        ∙ sym (append_assoc (head ++ coded direction header good (signal direction header good going.heard)) part rest) in
         record {
           given = taken_bytes;
           written = written;
@@ -375,9 +379,8 @@ module _ (direction : Direction) (header : OpenHeader) (good : IsOpenGood header
             header,
             begun.opened.said (going.heard ++ last),
             inl (
-              rest,
-              whole_coded ∙ ap (λ xs. head ++ coded direction header good (signal direction header good going.heard) ++ xs) (sym split)
-                  ∙ sym (append_assoc (head ++ coded direction header good (signal direction header good going.heard)) part rest),
+              (rest, front),
+              omega (arith, less, ap length front, length-append written rest, length-drop k (exchanged (width header.coding) (take (n * open_frame_bytes header) block))),
             ),
           );
           faults = (read.no_fault ∙ going.no_input_fault ∙ begun.opened.no_fault, faulty ∙ ap one_more (going.no_output_fault ∙ begun.no_fault));

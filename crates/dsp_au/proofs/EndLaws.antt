@@ -1,5 +1,5 @@
 -- The begin and the end of a conversion.
-use Rattle.std.proofs.Common.{◌≡◌, ◌⊎◌, ℕ, ◌+◌, ◌*◌, ◌^◌, ◌≤◌, List, [], ◌++◌, length, take, drop, Option, Some, None, IfSome, refl, sym, ap, ◌∙◌, subst, arith, append_assoc, append-nil, inl, inr}
+use Rattle.std.proofs.Common.{length-append, length-take-le, ◌<◌, ◌≡◌, ◌⊎◌, ℕ, ◌+◌, ◌*◌, ◌^◌, ◌≤◌, List, [], ◌++◌, length, take, drop, Option, Some, None, IfSome, refl, sym, ap, ◌∙◌, subst, arith, append_assoc, append-nil, inl, inr}
 use Rattle.std.specs.Option.{unwrap_or}
 use Rattle.std.specs.Io.KnownBytes.{append_known}
 use Rattle.std.proofs.lemmas.List.{take-append-drop}
@@ -104,13 +104,13 @@ module _ (direction : Direction) (header : OpenHeader) (input now : SourceState)
   stops_too_long (fault.Au said offset) h = absurd h
 
   -- its header was not written
-  pub stops_unwritten : (k : ℕ) (after : SinkState) → Took sink after (take k (form_header (target_form direction) header)) → after.faults ≡ one_more sink.faults → Stopped direction fault.Write input now sink after
-  stops_unwritten k after took faulty =
+  pub stops_unwritten : (k : ℕ) → k < length (form_header (target_form direction) header) → (after : SinkState) → Took sink after (take k (form_header (target_form direction) header)) → after.faults ≡ one_more sink.faults → Stopped direction fault.Write input now sink after
+  stops_unwritten k less after took faulty =
       let head = form_header (target_form direction) header in
-      let behind = target_of_signal direction header (source_signal direction header opened.first) in
       let samples = form_coded (target_form direction) header.coding (source_signal direction header opened.first) in
       let whole : head ++ samples ≡ take k head ++ (drop k head ++ samples) = ap (λ xs. xs ++ samples) (sym (take-append-drop k head)) ∙ append_assoc (take k head) (drop k head) samples in
-      stops_opened fault.Write after (take k head) took (header, has) (header, has, inl (drop k head ++ samples, whole)) (opened.no_fault, faulty)
+      let fewer : length (take k head) < length (head ++ samples) = omega (arith, less, length-take-le k head (omega (arith, less)), length-append head samples) in
+      stops_opened fault.Write after (take k head) took (header, has) (header, has, inl ((drop k head ++ samples, whole), fewer)) (opened.no_fault, faulty)
 
 -- ---- all samples were written
 

@@ -7,3 +7,4 @@ pub mod EndLaws
 pub mod SourceLaws
 pub mod KeptSamples
 pub mod KeptSignals
+mod UnreadLaws

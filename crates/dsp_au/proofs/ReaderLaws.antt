@@ -183,37 +183,6 @@ module _ (old mid now : SourceState) (block : List ℕ) (came : AuCame 0 24 old 
         cause = missed error m.bytes m.short m.missed;
       }
 
--- ---- piece after piece
-
-module _ (taken skipped count size room : ℕ) (old mid now : SourceState) (front block : List ℕ) (came : AuCame taken skipped old mid front) (long : length block ≡ size) where
-  -- a whole piece
-  pub piece_came : (n : ℕ) → Filled mid now block room n → size ≤ n → AuCame taken (skipped + size) old now (front ++ block)
-  piece_came n filled full =
-      let all : take n block ≡ block = take_all n block (omega (arith, long, full)) in
-      both_came taken skipped size old mid now front block came (record { long = long; gave = subst (Gave mid now) all filled.gave; no_fault = filled.no_fault })
-
-  -- the file has ended within a piece
-  pub piece_cut : (n : ℕ) → Filled mid now block room n → n < size → skipped + size ≤ count → AuMissing taken count old now (Fault Ended (taken + skipped + n))
-  piece_cut n filled cut within =
-      let part : length (take n block) ≡ n = length-take-le n block filled.within in
-      let whole : length (front ++ take n block) ≡ skipped + n = omega (arith, length-append front (take n block), came.long, part) in
-      record {
-        bytes = front ++ take n block;
-        short = omega (arith, whole, cut, within);
-        gave = Gave-append old mid now front (take n block) came.gave filled.gave;
-        missed = (refl, omega (arith, whole), filled.end (omega (arith, long, cut)), filled.no_fault ∙ came.no_fault);
-      }
-
-  -- the source has failed within a piece
-  pub piece_failed : Unfilled mid now size room Failed → skipped + size ≤ count → AuMissing taken count old now Read
-  piece_failed u within =
-      record {
-        bytes = front ++ u.bytes;
-        short = omega (arith, length-append front u.bytes, came.long, u.short, within);
-        gave = Gave-append old mid now front u.bytes came.gave u.gave;
-        missed = u.cause.0 ∙ ap one_more came.no_fault;
-      }
-
 -- ---- the whole header
 
 module _ (old mid now : SourceState) (block : List ℕ) (count : ℕ) (size : length block ≡ 24) (filled : Filled old mid block (2 ^ 40) count)

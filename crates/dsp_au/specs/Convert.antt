@@ -15,6 +15,9 @@ use Rattle.dsp_defs.specs.declared.wave.HeaderFault.TheVariants as wave_fault
 use Rattle.dsp_defs.specs.declared.au.AuFault.TheVariants as au_fault
 use Rattle.dsp_defs.specs.declared.au.Direction.{Direction}
 use Rattle.dsp_defs.specs.declared.au.Direction.TheVariants.{WaveToAu, AuToWave}
+use Rattle.dsp_wave.specs.Samples as samples
+pub use Rattle.dsp_wave.specs.Samples.{AreAll, InDeclared}
+use Rattle.dsp_wave.specs.declared.samples.Stored.{Stored}
 use Rattle.dsp_au.specs.declared.conversion.TheConstants.{CONVERT_BLOCK}
 use Rattle.dsp_au.specs.declared.conversion.Converted.{Converted}
 use Rattle.dsp_au.specs.declared.fault.ConvertFault.{ConvertFault}
@@ -22,22 +25,17 @@ use Rattle.dsp_au.specs.declared.fault.ConvertFault.TheVariants as fault
 
 -- ---- the source
 
+-- where the samples stand behind a header
+abbrev pub stored : OpenHeader → Stored
+stored header = record { start = header.start; size = header.size; frame = open_frame_bytes header }
+
 -- the bytes of the whole frames among so many bytes
 abbrev pub in_whole_frames : OpenHeader → ℕ → ℕ
-in_whole_frames header size = size / open_frame_bytes header * open_frame_bytes header
+in_whole_frames header size = samples.in_whole_frames (open_frame_bytes header) size
 
 -- the bytes at which a header says that there are whole frames of samples, where it declares its samples
 abbrev pub declared_bytes : OpenHeader → Option ℕ
-declared_bytes header = option_map (in_whole_frames header) header.size
-
--- so many bytes of samples are not more than those declared
-abbrev pub InDeclared : Option ℕ → ℕ → Type 0
-InDeclared declared count = IfSome declared (λ size. count ≤ size)
-
--- the samples have ended behind so many bytes of them
-abbrev pub AreAll : Option ℕ → ℕ → SourceState → Type 0
-AreAll (Some size) count now = count ≡ size
-AreAll None count now = IsAtEnd now.left
+declared_bytes header = samples.declared_bytes (stored header)
 
 -- of so many bytes that were taken all samples are there: those that the header declares, or all to the end of the input
 abbrev pub IsTakenWhole : OpenHeader → ℕ → SourceState → Type 0
@@ -143,24 +141,18 @@ abbrev pub block_bytes : OpenHeader → ℕ
 block_bytes header = block_frames header * open_frame_bytes header
 
 -- behind `taken` bytes of samples the front of the block came, and all of it unless the samples have ended
-pub record BlockRead (header : OpenHeader) (taken : ℕ) (block : List ℕ) (count : ℕ) (input now : SourceState) : Type 0 where
-  pub within : count ≤ length block
-  pub gave : Gave input now (take count block)
-  pub declared : InDeclared (declared_bytes header) (taken + count)
-  pub in_limit : header.start + taken + count ≤ 2 ^ 40
-  pub room_left : count < length block → header.size ≡ None → header.start + taken + count < 2 ^ 40
-  pub end : count < length block → AreAll (declared_bytes header) (taken + count) now
-  pub no_fault : now.faults ≡ input.faults
+abbrev pub BlockRead : OpenHeader → (taken : ℕ) → List ℕ → ℕ → SourceState → SourceState → Type 0
+BlockRead header taken block count input now = samples.BlockRead (stored header) taken block count input now
 
 -- the declared samples end behind `taken` bytes of them: what is at fault
 abbrev pub IsShort : Direction → ConvertFault → ℕ → ℕ → ℕ → Type 0
-IsShort WaveToAu error start declared taken = error ≡ fault.Wave (wave_fault.Short declared taken) (start + taken)
-IsShort AuToWave error start declared taken = error ≡ fault.Au (au_fault.Short declared taken) (start + taken)
+IsShort WaveToAu error declared got offset = error ≡ fault.Wave (wave_fault.Short declared got) offset
+IsShort AuToWave error declared got offset = error ≡ fault.Au (au_fault.Short declared got) offset
 
 -- the input ended before the declared whole frames
 abbrev pub EndsShort : Direction → ConvertFault → OpenHeader → ℕ → SourceState → SourceState → Type 0
 EndsShort direction error header taken input now =
-    (declared : ℕ) × (header.size ≡ Some declared) × IsShort direction error header.start declared taken × IsAtEnd now.left
+    (declared : ℕ) × (header.size ≡ Some declared) × IsShort direction error declared taken (header.start + taken) × IsAtEnd now.left
     × (now.faults ≡ input.faults) × (taken < in_whole_frames header declared)
 
 -- why it did not come
@@ -173,13 +165,9 @@ IsUnread direction (fault.Au said offset) header taken input now = EndsShort dir
 IsUnread direction error header taken input now = ⊥
 
 -- less than a block came
-pub record Unread (direction : Direction) (header : OpenHeader) (taken size : ℕ) (error : ConvertFault) (input now : SourceState) : Type 0 where
-  pub bytes : List ℕ
-  pub gave : Gave input now bytes
-  pub short : length bytes < size
-  pub in_limit : header.start + taken + length bytes ≤ 2 ^ 40
-  pub declared : InDeclared (declared_bytes header) (taken + length bytes)
-  pub cause : IsUnread direction error header (taken + length bytes) input now
+abbrev pub Unread : Direction → OpenHeader → (taken size : ℕ) → ConvertFault → SourceState → SourceState → Type 0
+Unread direction header taken size error input now =
+    samples.Unread (stored header) taken size (λ n. IsUnread direction error header n input now) input now
 
 -- the header and the samples of the whole blocks among some bytes
 abbrev pub target_blocks : Direction → OpenHeader → List ℕ → List ℕ
@@ -234,12 +222,13 @@ pub data WroteBlocks (direction : Direction) (given written : List ℕ) (sink af
   Nothing : IsUnheaded direction given → after ≡ sink → WroteBlocks direction given written sink after
   Blocks : (header : OpenHeader) → IsSource direction given header → written ≡ target_blocks direction header given → WroteBlocks direction given written sink after
 
--- what was written: a front of what is given by the frames that came, with the pad byte where all came, where the output has failed;
+-- what was written: less than what is given by the frames that came, or a front of it with the pad byte where all came, where the output has failed;
 -- nothing, where it would be too long; and else the whole blocks
 abbrev pub HasWritten : ConvertFault → Direction → List ℕ → List ℕ → SourceState → SinkState → SinkState → Type 0
 HasWritten fault.Write direction given written now sink after =
     (header : OpenHeader) × IsSource direction given header
-    × (Begins written (target_of_signal direction header (source_signal direction header given))
+    × ((Begins written (target_of_signal direction header (source_signal direction header given))
+    × (length written < length (target_of_signal direction header (source_signal direction header given))))
     ⊎ (Begins written (target_with direction header given) × IsTakenWhole header (length given) now))
 HasWritten (fault.Riff size limit) direction given written now sink after = after ≡ sink
 HasWritten error direction given written now sink after = WroteBlocks direction given written sink after

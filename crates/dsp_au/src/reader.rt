@@ -9,9 +9,6 @@ use byteorder::{BigEndian, ByteOrder};
 use dsp_defs::{AuFault, Coding, MAX_CHANNELS, MAX_INPUT, OpenHeader};
 use dsp_ports::{FillFault, Source, fill};
 
-/// What stands before the samples is skipped in pieces of so many bytes.
-const PIECE: usize = 4096;
-
 /// How samples of an encoding stand, where it is linear.
 fn coding_of(encoding: u32) -> Option<Coding>
     ensures { result ≡ coding_of_encoding encoding }
@@ -69,23 +66,15 @@ fn skip<S: Source>(source: &mut S, count: u64, taken: u64) -> Result<(), AuOr>
     ensures err { IfErr result (λ error.
         AuMissing taken count (S.state source.old) (S.state source.new) error) }
 {
-    let mut buffer = [0; PIECE];
-    let mut skipped = 0;
-    while skipped < count {
-        let size = (count - skipped).min(PIECE as u64) as usize;
-        match fill(source, &mut buffer[..size], MAX_INPUT - taken - skipped) {
-            Ok(came) if came < size => {
-                return Err(AuOr::Fault {
-                    fault: AuFault::Ended,
-                    offset: taken + skipped + came as u64,
-                });
-            }
-            Ok(_) => skipped += size as u64,
-            Err(FillFault::Failed) => return Err(AuOr::Read),
-            Err(FillFault::LimitReached) => unreachable!(),
-        }
+    match dsp_ports::skip(source, count, MAX_INPUT - taken) {
+        Ok(came) if came < count => Err(AuOr::Fault {
+            fault: AuFault::Ended,
+            offset: taken + came,
+        }),
+        Ok(_) => Ok(()),
+        Err(FillFault::Failed) => Err(AuOr::Read),
+        Err(FillFault::LimitReached) => unreachable!(),
     }
-    Ok(())
 }
 
 /// Reads the header of an AU file of linear samples with 8, 16, 24 or 32 bits and 1 to 16 channels

@@ -2,29 +2,19 @@
 
 ghost use Rattle.std.specs.Prelude.{◌≡◌, ◌+◌, ◌*◌, ◌<◌, ◌≤◌, ◌^◌, ℕ, length, get_or, IfOk, IfErr};
 ghost use Rattle.dsp_defs.specs.Au.{open_frame_bytes};
-ghost use Rattle.dsp_au.specs.Convert.{BlockRead, InDeclared, IsShort, Opened, Unopened, Unread, declared_bytes, in_whole_frames};
+ghost use Rattle.dsp_au.specs.Convert.{BlockRead, InDeclared, IsShort, Opened, Unopened, Unread, declared_bytes};
 
 use crate::fault::{AuOr, ConvertFault};
 use crate::reader::read_au;
 use dsp_defs::{AuFault, Direction, HeaderFault, MAX_INPUT, OpenHeader};
-use dsp_ports::{FillFault, Source, fill};
-use dsp_wave::{HeaderOr, read_open_header, width};
+use dsp_ports::Source;
+use dsp_wave::{HeaderOr, SampleFault, Stored, read_open_header, read_samples, width};
 
 /// The bytes of a frame.
 pub(crate) fn frame_bytes(header: OpenHeader) -> usize
     ensures { result ≡ open_frame_bytes header }
 {
     usize::from(header.channels) * width(header.coding)
-}
-
-/// The bytes of the whole frames among so many bytes.
-fn in_whole_frames(header: OpenHeader, size: u32) -> u64
-    requires { 1 ≤ open_frame_bytes header }
-    ensures value { result ≡ in_whole_frames header size }
-    ensures few { result ≤ size }
-{
-    let frame = frame_bytes(header) as u64;
-    u64::from(size) / frame * frame
 }
 
 /// No more bytes of the input may be taken.
@@ -60,11 +50,9 @@ pub(crate) fn read_source<S: Source>(
 }
 
 /// The input ended behind so many bytes of samples, before those that were declared.
-fn short(direction: Direction, header: OpenHeader, declared: u32, got: u64) -> ConvertFault
-    requires { header.start + got ≤ 2 ^ 40 }
-    ensures { IsShort direction result header.start declared got }
+fn short(direction: Direction, declared: u32, got: u64, offset: u64) -> ConvertFault
+    ensures { IsShort direction result declared got offset }
 {
-    let offset = header.start + got;
     match direction {
         Direction::WaveToAu => ConvertFault::Wave {
             fault: HeaderFault::Short { declared, got },
@@ -95,19 +83,21 @@ pub(crate) fn read_block<S: Source>(
         (S.state input.new)) }
     ensures small { (i : ℕ) → get_or block.new i 0 < 256 }
 {
-    let left = match header.size {
-        Some(size) => in_whole_frames(header, size) - taken,
-        None => u64::MAX,
+    let stored = Stored {
+        start: header.start,
+        size: header.size,
+        frame: frame_bytes(header) as u64,
     };
-    let want = left.min(block.len() as u64) as usize;
-    match fill(input, &mut block[..want], MAX_INPUT - header.start - taken) {
-        Ok(count) => match header.size {
-            Some(declared) if count < want => {
-                Err(short(direction, header, declared, taken + count as u64))
-            }
-            _ => Ok(count),
-        },
-        Err(FillFault::Failed) => Err(ConvertFault::Read),
-        Err(FillFault::LimitReached) => Err(LIMIT_REACHED),
+    match read_samples(stored, u64::MAX, taken, block, input) {
+        Ok(count) => Ok(count),
+        Err(
+            SampleFault::Short {
+                declared,
+                got,
+                offset,
+            },
+        ) => Err(short(direction, declared, got, offset)),
+        Err(SampleFault::Failed) => Err(ConvertFault::Read),
+        Err(SampleFault::LimitReached) => Err(LIMIT_REACHED),
     }
 }

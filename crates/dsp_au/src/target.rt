@@ -1,6 +1,6 @@
 //! The file that is written: its header, and what stands behind its samples.
 
-ghost use Rattle.std.specs.Prelude.{◌≡◌, ◌≢◌, ◌*◌, ◌/◌, ◌-◌, ◌^◌, ◌<◌, ◌≤◌, ℕ, take, MatchResult, IfSome, IsNone};
+ghost use Rattle.std.specs.Prelude.{◌≡◌, ◌≢◌, ◌*◌, ◌/◌, ◌-◌, ◌^◌, ◌<◌, ◌≤◌, ℕ, length, take, MatchResult, IfSome, IsNone};
 ghost use Rattle.dsp_ports.specs.Ports.{CountsFaults, Took, IsSettled};
 ghost use Rattle.dsp_defs.specs.Au.{FormFits, form_header, form_pad, open_declared_frames, open_frame_bytes, target_form};
 ghost use Rattle.dsp_defs.specs.Open.{IsOpenGood};
@@ -63,7 +63,8 @@ pub(crate) fn write_target_header<K: Sink>(
     ensures took { MatchResult result
         (λ _. Took (K.state output.old) (K.state output.new)
         (form_header (target_form direction) header))
-        (λ _. (count : ℕ) × Took (K.state output.old) (K.state output.new)
+        (λ _. (count : ℕ) × (count < length (form_header (target_form direction) header))
+        × Took (K.state output.old) (K.state output.new)
         (take count (form_header (target_form direction) header))) }
     ensures faults { CountsFaults result (K.state output.old).faults (K.state output.new).faults }
 {

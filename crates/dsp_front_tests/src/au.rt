@@ -84,7 +84,7 @@ fn au_fault(
     offset: u64,
 ) -> Result<(), AllocError> {
     let mut file = AU;
-    if place + bytes.len() <= 26 {
+    if place <= 26 && bytes.len() <= 26 - place {
         file[place..place + bytes.len()].copy_from_slice(bytes);
     }
     let mut source = MemSource::new(alloc, &file, 7, &[])?;

@@ -1,5 +1,5 @@
 -- What is taken of an input: its header, its samples, and why it stopped.
-use Rattle.std.specs.Prelude.{◌≡◌, ◌≢◌, ◌⊎◌, ℕ, ◌+◌, ◌-◌, ◌*◌, ◌/◌, ◌^◌, ◌<◌, ◌≤◌, nat_lt, if◌then◌else◌, List, ◌++◌, length, take, Option, Some, None, Ok, Err, IfSome}
+use Rattle.std.specs.Prelude.{◌≡◌, ◌≢◌, ◌⊎◌, ℕ, ◌+◌, ◌-◌, ◌*◌, ◌^◌, ◌<◌, ◌≤◌, nat_lt, if◌then◌else◌, List, ◌++◌, length, Option, Some, None, Ok, Err, IfSome}
 use Rattle.std.specs.Io.KnownBytes.{IsAtEnd}
 use Rattle.dsp_ports.specs.Ports.{SourceState, one_more, Gave}
 use Rattle.dsp_defs.specs.Bytes.{width}
@@ -14,6 +14,9 @@ use Rattle.dsp_defs.specs.declared.wave.Header.{Header}
 use Rattle.dsp_defs.specs.declared.wave.HeaderFault.{HeaderFault}
 use Rattle.dsp_defs.specs.declared.wave.HeaderFault.TheVariants.{NoSamples, Short}
 use Rattle.dsp_wave.specs.Reading.{IsSure}
+use Rattle.dsp_wave.specs.Samples as samples
+pub use Rattle.dsp_wave.specs.Samples.{AreAll, InDeclared}
+use Rattle.dsp_wave.specs.declared.samples.Stored.{Stored}
 use Rattle.dsp_input.specs.declared.fault.InputFault.{InputFault}
 use Rattle.dsp_input.specs.declared.fault.InputFault.TheVariants as fault
 
@@ -23,13 +26,17 @@ use Rattle.dsp_input.specs.declared.fault.InputFault.TheVariants as fault
 abbrev pub frame_bytes : Script → Coding → ℕ
 frame_bytes script coding = script.input.channels * width coding
 
+-- where the samples stand behind a header
+abbrev pub stored : Script → Header → Stored
+stored script header = record { start = header.start; size = header.size; frame = frame_bytes script header.coding }
+
 -- the bytes of the whole frames among so many bytes
 abbrev pub in_whole_frames : Script → Coding → ℕ → ℕ
-in_whole_frames script coding size = size / frame_bytes script coding * frame_bytes script coding
+in_whole_frames script coding size = samples.in_whole_frames (frame_bytes script coding) size
 
 -- the bytes at which a header says that there are whole frames of samples, where it declares its samples
 abbrev pub declared_bytes : Script → Header → Option ℕ
-declared_bytes script header = elim header.size [ Some size ↦ Some (in_whole_frames script header.coding size) | None ↦ None ]
+declared_bytes script header = samples.declared_bytes (stored script header)
 
 -- all samples were taken: those that the header declares, or all to the end of the input
 abbrev pub IsTakenWhole : Script → List ℕ → SourceState → Type 0
@@ -92,35 +99,13 @@ Fits script header =
 
 -- ---- the samples
 
--- so many bytes of samples are not more than those declared
-abbrev pub InDeclared : Option ℕ → ℕ → Type 0
-InDeclared declared count = IfSome declared (λ size. count ≤ size)
-
--- the samples have ended behind so many bytes of them
-abbrev pub AreAll : Option ℕ → ℕ → SourceState → Type 0
-AreAll (Some size) count now = count ≡ size
-AreAll None count now = IsAtEnd now.left
-
 -- behind `taken` bytes of samples the front of the block came, and all of it unless the samples have ended, or the part of them that ends at `end`
-pub record PartRead (script : Script) (header : Header) (end taken : ℕ) (block : List ℕ) (count : ℕ) (input now : SourceState) : Type 0 where
-  pub within : count ≤ length block
-  pub gave : Gave input now (take count block)
-  pub declared : InDeclared (declared_bytes script header) (taken + count)
-  pub in_limit : header.start + taken + count ≤ 2 ^ 40
-  pub in_part : taken + count ≤ end
-  pub room_left : count < length block → header.size ≡ None → taken + count < end → header.start + taken + count < 2 ^ 40
-  pub ended : count < length block → (taken + count ≡ end) ⊎ AreAll (declared_bytes script header) (taken + count) now
-  pub no_fault : now.faults ≡ input.faults
+abbrev pub PartRead : Script → Header → (end taken : ℕ) → List ℕ → ℕ → SourceState → SourceState → Type 0
+PartRead script header end taken block count input now = samples.PartRead (stored script header) end taken block count input now
 
 -- the same of all samples, which no part ends
-pub record BlockRead (script : Script) (header : Header) (taken : ℕ) (block : List ℕ) (count : ℕ) (input now : SourceState) : Type 0 where
-  pub within : count ≤ length block
-  pub gave : Gave input now (take count block)
-  pub declared : InDeclared (declared_bytes script header) (taken + count)
-  pub in_limit : header.start + taken + count ≤ 2 ^ 40
-  pub room_left : count < length block → header.size ≡ None → header.start + taken + count < 2 ^ 40
-  pub end : count < length block → AreAll (declared_bytes script header) (taken + count) now
-  pub no_fault : now.faults ≡ input.faults
+abbrev pub BlockRead : Script → Header → (taken : ℕ) → List ℕ → ℕ → SourceState → SourceState → Type 0
+BlockRead script header taken block count input now = samples.BlockRead (stored script header) taken block count input now
 
 -- why it did not come
 abbrev pub IsUnread : InputFault → Script → Header → ℕ → SourceState → SourceState → Type 0
@@ -133,18 +118,14 @@ IsUnread (fault.Header fault offset) script header taken input now =
     × (taken < in_whole_frames script header.coding declared)
 
 -- less than a block came
-pub record Unread (script : Script) (header : Header) (taken size : ℕ) (fault : InputFault) (input now : SourceState) : Type 0 where
-  pub bytes : List ℕ
-  pub gave : Gave input now bytes
-  pub short : length bytes < size
-  pub in_limit : header.start + taken + length bytes ≤ 2 ^ 40
-  pub declared : InDeclared (declared_bytes script header) (taken + length bytes)
-  pub cause : IsUnread fault script header (taken + length bytes) input now
+abbrev pub Unread : Script → Header → (taken size : ℕ) → InputFault → SourceState → SourceState → Type 0
+Unread script header taken size fault input now =
+    samples.Unread (stored script header) taken size (λ n. IsUnread fault script header n input now) input now
 
 -- and no byte of them behind the part
-pub record PartUnread (script : Script) (header : Header) (end taken size : ℕ) (fault : InputFault) (input now : SourceState) : Type 0 where
-  pub unread : Unread script header taken size fault input now
-  pub in_part : taken + length unread.bytes ≤ end
+abbrev pub PartUnread : Script → Header → (end taken size : ℕ) → InputFault → SourceState → SourceState → Type 0
+PartUnread script header end taken size fault input now =
+    samples.PartUnread (stored script header) end taken size (λ n. IsUnread fault script header n input now) input now
 
 -- ---- faults of the input
 

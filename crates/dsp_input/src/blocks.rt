@@ -1,10 +1,12 @@
 ghost use Rattle.std.specs.Prelude.{◌≡◌, ◌+◌, ◌^◌, ◌≤◌, length, IfOk, IfErr};
-ghost use Rattle.dsp_input.specs.Taking.{frame_bytes, declared_bytes, in_whole_frames, InDeclared, PartRead, PartUnread};
+ghost use Rattle.dsp_wave.specs.Samples.{InDeclared};
+ghost use Rattle.dsp_input.specs.Taking.{frame_bytes, declared_bytes, PartRead, PartUnread};
 
 use crate::fault::InputFault;
 use crate::header::frame_bytes;
-use dsp_defs::{Coding, Header, HeaderFault, MAX_INPUT, Script};
-use dsp_ports::{FillFault, Source, fill};
+use dsp_defs::{Header, HeaderFault, MAX_INPUT, Script};
+use dsp_ports::Source;
+use dsp_wave::{SampleFault, Stored, read_samples};
 
 /// Takes the next block of samples: less than a block where the samples end, or the part of them that
 /// ends behind `end` bytes. All samples end at `u64::MAX` at the latest.
@@ -26,36 +28,27 @@ pub fn read_block<S: Source>(
         PartUnread script.now header end taken (length block.old) fault (S.state input.old)
         (S.state input.new)) }
 {
-    let stop = match header.size {
-        Some(size) => in_whole_frames(script, header.coding, size).min(end),
-        None => end,
+    let stored = Stored {
+        start: header.start,
+        size: header.size,
+        frame: frame_bytes(script, header.coding),
     };
-    let want = (stop - taken).min(block.len() as u64) as usize;
-    match fill(input, &mut block[..want], MAX_INPUT - header.start - taken) {
-        Ok(count) => match header.size {
-            Some(declared) if count < want => {
-                let got = taken + count as u64;
-                Err(InputFault::Header {
-                    fault: HeaderFault::Short { declared, got },
-                    offset: header.start + got,
-                })
-            }
-            _ => Ok(count),
-        },
-        Err(FillFault::Failed) => Err(InputFault::Failed),
-        Err(FillFault::LimitReached) => Err(InputFault::Limit {
+    match read_samples(stored, end, taken, block, input) {
+        Ok(count) => Ok(count),
+        Err(
+            SampleFault::Short {
+                declared,
+                got,
+                offset,
+            },
+        ) => Err(InputFault::Header {
+            fault: HeaderFault::Short { declared, got },
+            offset,
+        }),
+        Err(SampleFault::Failed) => Err(InputFault::Failed),
+        Err(SampleFault::LimitReached) => Err(InputFault::Limit {
             taken: MAX_INPUT,
             limit: MAX_INPUT,
         }),
     }
-}
-
-/// The bytes of the whole frames among so many bytes.
-pub fn in_whole_frames(script: &Script, coding: Coding, size: u32) -> u64
-    requires { 1 ≤ frame_bytes script.now coding }
-    ensures value { result ≡ in_whole_frames script.now coding size }
-    ensures few { result ≤ size }
-{
-    let frame = frame_bytes(script, coding);
-    u64::from(size) / frame * frame
 }

@@ -109,7 +109,7 @@ module _ (c : Call) (status : ℕ) (report told : SinkState) where
   stop_stands script Output stop is tells =
       let s = stop.did in
       stopped_stands stop is (λ broken. absurd (omega (arith, is, broken))) (λ broken. absurd (omega (arith, is, broken)))
-      (λ _. (s.cause, elim s.wrote.1 [ inl front ↦ inl (s.written, s.put, front) | inr front ↦ inr ((s.written, s.put, front.0), front.1) ])) (λ e. absurd (omega (arith, is, e)))
+      (λ _. (s.cause, elim s.wrote.1 [ inl front ↦ inl (s.written, s.put, front.0) | inr front ↦ inr ((s.written, s.put, front.0), front.1) ])) (λ e. absurd (omega (arith, is, e)))
   stop_stands script (Header fault offset) stop is tells =
       let s = stop.did in
       stopped_stands stop is (λ _. part_written s.put s.wrote) (λ _. s.faults.1) (λ e. absurd (omega (arith, is, e))) (λ e. absurd (omega (arith, is, e)))

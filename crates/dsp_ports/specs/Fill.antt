@@ -28,6 +28,16 @@ pub record Unfilled (old new : SourceState) (size room : ℕ) (fault : FillFault
   pub in_room : length bytes ≤ room
   pub cause : HasFillCause fault old new (length bytes) room
 
+-- so many bytes came and were forgotten, and all that were asked for unless the input has ended
+pub record Skipped (old new : SourceState) (count room came : ℕ) : Type 0 where
+  pub bytes : List ℕ
+  pub long : length bytes ≡ came
+  pub within : came ≤ count
+  pub in_room : came ≤ room
+  pub gave : Gave old new bytes
+  pub end : came < count → IsAtEnd new.left
+  pub no_fault : new.faults ≡ old.faults
+
 -- so many bytes came by reads of a port, each of which asked for all that was still missing and gave something
 pub data Asked {S : Type 0} (Reads : S → ℕ → S → Type 0) (taken : S → ℕ) (want : ℕ) (start : S) : ℕ → S → Type 0 where
   Begun : Asked Reads taken want start 0 start

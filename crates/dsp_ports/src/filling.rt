@@ -1,5 +1,5 @@
 ghost use Rattle.std.specs.Prelude.{◌≡◌, ◌+◌, ◌<◌, ◌≤◌, ◌^◌, ◌⊎◌, length, min, IfOk, IfErr};
-ghost use Rattle.dsp_ports.specs.Fill.{AsksForAll, Filled, Unfilled};
+ghost use Rattle.dsp_ports.specs.Fill.{AsksForAll, Filled, Skipped, Unfilled};
 
 use crate::source::Source;
 
@@ -11,6 +11,9 @@ pub enum FillFault {
     /// No more bytes may be taken.
     LimitReached,
 }
+
+/// Bytes that are skipped are read in pieces of so many.
+const PIECE: usize = 4096;
 
 /// Reads until the block is full or the input has ended, and takes at most `room` bytes. It does not read where
 /// nothing is missing or nothing may be taken.
@@ -37,4 +40,25 @@ pub fn fill<S: Source>(input: &mut S, block: &mut [u8], room: u64) -> Result<usi
         }
     }
     Ok(filled)
+}
+
+/// Takes so many bytes and forgets them, or all to the end of the input, and answers how many came. It takes at most
+/// `room` bytes.
+pub fn skip<S: Source>(input: &mut S, count: u64, room: u64) -> Result<u64, FillFault>
+    ensures ok { IfOk result (λ came.
+        Skipped (S.state input.old) (S.state input.new) count room came) }
+    ensures err { IfErr result (λ fault.
+        Unfilled (S.state input.old) (S.state input.new) count room fault) }
+{
+    let mut buffer = [0; PIECE];
+    let mut skipped = 0;
+    while skipped < count {
+        let size = (count - skipped).min(PIECE as u64) as usize;
+        let came = fill(input, &mut buffer[..size], room - skipped)?;
+        skipped += came as u64;
+        if came < size {
+            return Ok(skipped);
+        }
+    }
+    Ok(skipped)
 }

@@ -226,7 +226,7 @@ module _ (script : Script) (block : ℕ) (ready : IsReady script block) (session
 
   -- the output failed within the values of the last samples
   pub stops_unpassed : None ≡ window_at script.blocks (session.chain.frames + count) → (stop : StreamFault) (final : SinkState) (after : Counts) → FailsToPass stop script header.coding x fed_bytes then final counts after → Stopped script block stop input now sink final before after
-  stops_unpassed window fault.Output final after (added, written, is, (back, split), put, risen, costs, kept) =
+  stops_unpassed window fault.Output final after (added, written, is, (back, split), less, put, risen, costs, kept) =
       let y = x ++ signal script header.coding fed_bytes in
       let (tail, whole) = live_front script y in
       let begins : output script given ≡ (head ++ live_bytes script x ++ written) ++ (back ++ (tail ++ output_pad script header)) =
@@ -240,7 +240,15 @@ module _ (script : Script) (block : ℕ) (ready : IsReady script block) (session
         put = put ∙ ap (λ known. append_known known written) passed.took.put ∙ sym (append_known-append sink.put (head ++ live_bytes script x) written);
         unflushed = tt;
         cause = has;
-        wrote = (limits, inr ((back ++ (tail ++ output_pad script header), begins), is_whole));
+        wrote = (
+          limits,
+          inr (
+            (back ++ (tail ++ output_pad script header), begins),
+            is_whole,
+            ap (window_at script.blocks) (frames_is ∙ sym fed_all) ∙ sym window,
+            subst (λ n. gathered script.blocks n ≤ MAX_GATHERED) (sym frames_is) kept,
+          ),
+        );
         faults = (passed.no_input_fault, risen ∙ ap one_more passed.no_output_fault);
         in_declared = λ _. behind;
         lag = λ _. lag written;
@@ -381,7 +389,15 @@ module _ (script : Script) (block : ℕ) (ready : IsReady script block) (session
             put = put_all final tail.written tail.put;
             unflushed = tt;
             cause = has;
-            wrote = (limits, inr ((back, begins), is_whole));
+            wrote = (
+              limits,
+              inr (
+                (back, begins),
+                is_whole,
+                ap (window_at script.blocks) frames_is ∙ no_window,
+                subst (λ n. gathered script.blocks n ≤ MAX_GATHERED) (sym frames_is) passes.not_full,
+              ),
+            );
             faults = (passed.no_input_fault, failed ∙ ap one_more (passes.no_fault ∙ passed.no_output_fault));
             in_declared = λ _. behind;
             lag = λ _. lag (fed.out ++ tail.written);

@@ -203,7 +203,7 @@ module _ (start session : SessionState) (header : Header) (span : Span) (block :
     module _ (full : span.end ≤ came) where
       pub unpassed : (stop : StreamFault) (fed : SessionState) (after : SinkState) (made : Counts) → FailsToPassOn stop session fed bytes then after counts made
           → FirstStopped script start.block frames (part_fault.Stream stop) input now sink after before made
-      unpassed fault.Output fed after made (count, same, feeds, fewer, took, risen) =
+      unpassed fault.Output fed after made (count, less, same, feeds, fewer, took, risen) =
           laws.stops_unwritten start session header span last.before input mid between sink first then before counts new coding from begun going frames now bytes reached.read.gave declared few fed made same feeds
           after count took.put risen reached.read.no_fault
       unpassed (fault.Lengths (length_fault.Gather told more)) fed after made fails =

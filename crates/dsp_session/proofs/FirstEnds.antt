@@ -79,7 +79,7 @@ module _ (start : SessionState) (header : Header) (span : Span) (input mid : Sou
 
       pub unpassed_first : (stop : StreamFault) (last : SessionState) (after : SinkState) (counts : Counts) → FailsToPassOn stop session last piece then after made counts
           → FirstStopped script start.block frames (part_fault.Stream stop) input now sink after before counts
-      unpassed_first fault.Output last after counts (count, same, fed, fewer, took, risen) =
+      unpassed_first fault.Output last after counts (count, less, same, fed, fewer, took, risen) =
           laws.stops_unwritten start session header span taken input mid between sink first then before made new coding from begun going frames now piece gave read.declared few last counts same fed after count took.put risen read.no_fault
       unpassed_first (fault.Lengths (length_fault.Gather told more)) last after counts fails =
           laws.stops_full start session header span taken input mid between sink first then before made new coding from begun going frames now piece gave read.declared few last told more after counts fails read.no_fault before_is

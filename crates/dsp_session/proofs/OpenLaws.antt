@@ -1,5 +1,5 @@
 -- Where a stream stops before the first sample.
-use Rattle.std.proofs.Common.{◌≡◌, ◌≢◌, ℕ, ◌+◌, ◌*◌, ◌/◌, ◌^◌, ◌<◌, ◌≤◌, List, [], ◌++◌, length, take, drop, Option, Some, None, IfSome, Err, refl, sym, ap, ◌∙◌, subst, arith, append-nil, append_assoc, length-append, inl, inr}
+use Rattle.std.proofs.Common.{◌≡◌, ◌≢◌, ℕ, ◌+◌, ◌*◌, ◌/◌, ◌^◌, ◌<◌, ◌≤◌, List, [], ◌++◌, length, take, drop, Option, Some, None, IfSome, Err, refl, sym, ap, ◌∙◌, subst, arith, append-nil, append_assoc, length-append, length-take-le, inl, inr}
 use Rattle.std.proofs.lemmas.List.{take-append-drop}
 use Rattle.std.specs.Result.{IsOk}
 use Rattle.std.specs.Io.KnownBytes.{append_known}
@@ -206,19 +206,21 @@ module _ (script : Script) (block : ℕ) (counts : Counts) (ready : IsReady scri
       ap (frames_in_bytes script) (sym (append-nil first)) ∙ frames_are script header (some_frame script header.coding block ready) first opened.opens [] none_declared
       ∙ ap length (signal-nil script header.coding (some_frame script header.coding block ready))
 
-  pub stops_unwritten : Fits script header → (after : SinkState) (count : ℕ) → Took sink after (take count (output_header script header)) → after.faults ≡ one_more sink.faults → Stopped script block fault.Output input now sink after counts counts
-  stops_unwritten fits after count took risen =
+  pub stops_unwritten : Fits script header → (after : SinkState) (count : ℕ) → count < length (output_header script header) → Took sink after (take count (output_header script header)) → after.faults ≡ one_more sink.faults → Stopped script block fault.Output input now sink after counts counts
+  stops_unwritten fits after count less took risen =
       let all = output_header script header in
       let parted : part script block first ≡ all ++ live_bytes script (signal script header.coding []) =
       ap (part script block) (sym (append-nil first)) ∙ part_blocks script header (some_frame script header.coding block ready) first opened.opens block 0 [] [] (omega arith) (some_block script header.coding block ready) none_declared in
       let split : part script block first ≡ take count all ++ (drop count all ++ live_bytes script (signal script header.coding [])) =
       parted ∙ ap (λ xs. xs ++ live_bytes script (signal script header.coding [])) (sym (take-append-drop count all)) ∙ append_assoc (take count all) (drop count all) (live_bytes script (signal script header.coding [])) in
+      let fewer : length (take count all) < length (part script block first) =
+      omega (arith, less, length-take-le count all (omega (arith, less)), ap length parted, length-append all (live_bytes script (signal script header.coding []))) in
       let limits : KeepsLimits script (input_header script first) (in_whole_blocks block (frames_in_bytes script first)) =
       record {
         fits = subst (Fits script) (sym header_is) fits;
         not_full = subst (λ n. gathered script.blocks n ≤ MAX_GATHERED) (sym (ap (in_whole_blocks block) no_frames ∙ none_whole block)) (omega (arith, gathered-nothing script.blocks));
       } in
-      stops_first fault.Output after (take count all) took.put tt has (limits, inl (drop count all ++ live_bytes script (signal script header.coding []), split)) (opened.no_fault, risen)
+      stops_first fault.Output after (take count all) took.put tt has (limits, inl ((drop count all ++ live_bytes script (signal script header.coding []), split), fewer)) (opened.no_fault, risen)
 
 -- no header came, or the output would be too long
 pub stops_untaken : (script : Script) (block : ℕ) (counts : Counts) → IsReady script block → (stop : StreamFault) (input now : SourceState) (sink : SinkState) → Untaken script stop input now → Stopped script block stop input now sink sink counts counts

@@ -406,15 +406,26 @@ module _ (script : Script) (block : ℕ) (ready : IsReady script block) (header 
       taken_bytes = first ++ (heard ++ piece)
 
       module _ (last : SinkState) (passed : Counts) where
-        written_front : (added written : List ℕ) → live_bytes script (signal script header.coding heard ++ signal script header.coding piece) ≡ live_heard ++ added → Begins written added → Begins (wrote ++ written) (part script block taken_bytes)
-        written_front added written is (rest, split) =
+        written_whole : (added : List ℕ) → live_bytes script (signal script header.coding heard ++ signal script header.coding piece) ≡ live_heard ++ added
+            → part script block taken_bytes ≡ wrote ++ added
+        written_whole added is =
             let none : InDeclared (declared_bytes script header) (length ((heard ++ piece) ++ [])) = in_declared (declared_bytes script header) (length (heard ++ piece)) _ (ap length (sym (append-nil (heard ++ piece)))) (all_declared later count piece long full read) in
             let parted : part script block taken_bytes ≡ output_header script header ++ live_bytes script (signal script header.coding (heard ++ piece)) =
-            ap (λ xs. part script block (first ++ xs)) (sym (append-nil (heard ++ piece))) ∙ part_blocks script header (some_frame script header.coding block ready) first opens block (going.blocks + 1) (heard ++ piece) [] (more_heard later count piece long full read) some none in (
-              rest,
-              parted ∙ ap (λ x. output_header script header ++ live_bytes script x) (more_signal later count piece long full read) ∙ ap (λ xs. output_header script header ++ xs) (is ∙ ap (λ xs. live_heard ++ xs) split)
-                  ∙ sym (append_assoc (output_header script header) live_heard (written ++ rest)) ∙ sym (append_assoc wrote written rest),
-            )
+            ap (λ xs. part script block (first ++ xs)) (sym (append-nil (heard ++ piece))) ∙ part_blocks script header (some_frame script header.coding block ready) first opens block (going.blocks + 1) (heard ++ piece) [] (more_heard later count piece long full read) some none in
+            parted
+            ∙ ap (λ x. output_header script header ++ live_bytes script x) (more_signal later count piece long full read)
+            ∙ ap (λ xs. output_header script header ++ xs) is
+            ∙ sym (append_assoc (output_header script header) live_heard added)
+
+        written_front : (added written : List ℕ) → live_bytes script (signal script header.coding heard ++ signal script header.coding piece) ≡ live_heard ++ added
+            → Begins written added → Begins (wrote ++ written) (part script block taken_bytes)
+        written_front added written is (rest, split) =
+            (rest, written_whole added is ∙ ap (λ xs. wrote ++ xs) split ∙ sym (append_assoc wrote written rest))
+
+        written_less : (added written : List ℕ) → live_bytes script (signal script header.coding heard ++ signal script header.coding piece) ≡ live_heard ++ added
+            → length written < length added → length (wrote ++ written) < length (part script block taken_bytes)
+        written_less added written is less =
+            omega (arith, ap length (written_whole added is), length-append wrote added, length-append wrote written, less)
 
         all_put-more : (written : List ℕ) → last.put ≡ append_known then.put written → last.put ≡ append_known empty.put (wrote ++ written)
         all_put-more written put = put ∙ ap (λ known. append_known known written) all_put ∙ sym (append_known-append empty.put wrote written)
@@ -445,7 +456,7 @@ module _ (script : Script) (block : ℕ) (ready : IsReady script block) (header 
         behind = none_behind script header first opens (heard ++ piece) (all_declared later count piece long full read)
 
         pub stops_unpassed : (stop : StreamFault) → FailsToPass stop script header.coding (signal script header.coding heard) piece then last counts passed → Stopped script block stop origin later empty last before passed
-        stops_unpassed fault.Output (added, written, is, front, put, risen, costs, kept) =
+        stops_unpassed fault.Output (added, written, is, front, less, put, risen, costs, kept) =
             record {
               given = taken_bytes;
               written = wrote ++ written;
@@ -456,7 +467,7 @@ module _ (script : Script) (block : ℕ) (ready : IsReady script block) (header 
               cause = opens.has (heard ++ piece);
               wrote = (
                 blocks_keep script block header taken_bytes (opens.said (heard ++ piece)) begun.fits whole_all (subst (λ n. gathered script.blocks n ≤ MAX_GATHERED) (all_frames ∙ frames_all) kept),
-                inl (written_front added written is front),
+                inl (written_front added written is front, written_less added written is less),
               );
               faults = (read.no_fault ∙ going.no_input_fault ∙ begun.opened.no_fault, risen ∙ ap fault_more (going.no_output_fault ∙ begun.no_fault));
               in_declared = λ _. behind;

@@ -1,5 +1,5 @@
 -- A stream over a whole input is a stream over the part of it that begins before the first sample and does not end.
-use Rattle.std.proofs.Common.{◌≡◌, ℕ, zero, suc, ◌+◌, ◌-◌, ◌*◌, ◌^◌, ◌<◌, ◌≤◌, List, [], ◌++◌, length, take, drop, refl, sym, ap, ◌∙◌, subst, arith, length-append}
+use Rattle.std.proofs.Common.{◌≡◌, ℕ, zero, suc, ◌+◌, ◌-◌, ◌*◌, ◌^◌, ◌<◌, ◌≤◌, List, [], ◌++◌, length, take, drop, refl, sym, ap, ◌∙◌, subst, arith, length-append, length-take-le}
 use Rattle.std.proofs.lemmas.List.{take-append-drop}
 use Rattle.dsp_ports.specs.Ports.{SourceState, SinkState, Took}
 use Rattle.dsp_defs.specs.Block.{Frame}
@@ -48,11 +48,12 @@ passes_plain old new bytes sink after before counts passes x stands = record {
 
 pub fails_plain : (stop : StreamFault) (old new : SessionState) (bytes : List ℕ) (sink after : SinkState) (before counts : Counts) → FailsToPassOn stop old new bytes sink after before counts
     → (x : List Frame) → StandsFor old x → FailsToPass stop old.script old.coding x bytes sink after before counts
-fails_plain fault.Output old new bytes sink after before counts (count, same, fed, few, took, risen) x stands = (
+fails_plain fault.Output old new bytes sink after before counts (count, less, same, fed, few, took, risen) x stands = (
   new.out,
   take count new.out,
   feed_out old new bytes before counts same fed x stands,
   (drop count new.out, sym (take-append-drop count new.out)),
+  omega (arith, less, length-take-le count new.out (omega (arith, less))),
   took.put,
   risen,
   feed_costs old new bytes before counts same fed x stands,

@@ -59,7 +59,7 @@ module _ (start : SessionState) (header : Header) (span : Span) (input opened_at
 
       unpassed_rest : (stop : StreamFault) (last : SessionState) (after : SinkState) (counts : Counts) → FailsToPassOn stop session last piece then after made counts
           → RestStopped script start.block start start.chain.frames (part_fault.Stream stop) input now sink after before counts
-      unpassed_rest fault.Output last after counts (count, same, fed, few, took, risen) =
+      unpassed_rest fault.Output last after counts (count, less, same, fed, few, took, risen) =
           laws.rest_unwritten start session header span taken input opened_at mid between sink then before made runs coding from opened skip skipped skip_long still going
           now piece gave read.declared piece refl last counts same fed after count took.put risen read.no_fault
       unpassed_rest (fault.Lengths (length_fault.Gather told more)) last after counts fails =
@@ -157,7 +157,7 @@ module _ (start : SessionState) (header : Header) (span : Span) (input opened_at
     unclosed_rest new stop after counts (Unpassed none fails) = by stop fails
       where
         by : (stop : StreamFault) → FailsToPassOn stop session new piece then after made counts → RestStopped script start.block start start.chain.frames (part_fault.Stream stop) input now sink after before counts
-        by fault.Output (count, same, fed, few, took, risen) =
+        by fault.Output (count, less, same, fed, few, took, risen) =
             laws.rest_unwritten start session header span last.before input opened_at mid reached.between sink then before made runs coding from opened skip skipped skip_long still going now bytes reached.read.gave declared
             piece same_more new counts same fed after count took.put risen reached.read.no_fault
         by (fault.Lengths (length_fault.Gather told more)) fails =

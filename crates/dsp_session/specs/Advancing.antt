@@ -47,7 +47,7 @@ pub record PassesOn (old new : SessionState) (bytes : List ℕ) (sink after : Si
 -- they were, and the sink has failed within what they add; or a correlation would gather too many
 abbrev pub FailsToPassOn : StreamFault → SessionState → SessionState → List ℕ → SinkState → SinkState → Counts → Counts → Type 0
 FailsToPassOn fault.Output old new bytes sink after before counts =
-    (count : ℕ) × SameSession old new × Feeds old new bytes before counts × (gathered old.script.blocks new.chain.frames ≤ MAX_GATHERED)
+    (count : ℕ) × (count < length new.out) × SameSession old new × Feeds old new bytes before counts × (gathered old.script.blocks new.chain.frames ≤ MAX_GATHERED)
     × Took sink after (take count new.out) × (after.faults ≡ one_more sink.faults)
 FailsToPassOn (fault.Lengths (length_fault.Gather told more)) old new bytes sink after before counts =
     Fails old new (record { held = told; more = more }) before counts

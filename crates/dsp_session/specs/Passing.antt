@@ -39,7 +39,7 @@ pub record Passes (script : Script) (coding : Coding) (x : List Frame) (bytes : 
 abbrev pub FailsToPass : StreamFault → Script → Coding → List Frame → List ℕ → SinkState → SinkState → Counts → Counts → Type 0
 FailsToPass fault.Output script coding x bytes sink after before counts =
     (given written : List ℕ) × (live_bytes script (x ++ signal script coding bytes) ≡ live_bytes script x ++ given) × Begins written given
-    × (after.put ≡ append_known sink.put written) × (after.faults ≡ one_more sink.faults) × PassCosts script coding x bytes before counts
+    × (length written < length given) × (after.put ≡ append_known sink.put written) × (after.faults ≡ one_more sink.faults) × PassCosts script coding x bytes before counts
     × (gathered script.blocks (length (x ++ signal script coding bytes)) ≤ MAX_GATHERED)
 FailsToPass (fault.Lengths (length_fault.Gather told more)) script coding x bytes sink after before counts =
     (MAX_GATHERED < gathered script.blocks (length (x ++ signal script coding bytes))) × (told ≡ held script.blocks (length x))

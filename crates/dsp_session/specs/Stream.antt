@@ -79,12 +79,16 @@ pub data WrotePart (script : Script) (block worked : ℕ) (given written : List 
   Part : HasHeader script given → written ≡ part script block given → KeepsLimits script (input_header script given) worked
       → counts.multiplies ≡ before.multiplies + live_cost_of script worked → WrotePart script block worked given written sink after before counts
 
--- what was written: a front, where the output has failed; nothing, where it would be too long; and else the output of the whole blocks, without a last one
+-- what was written: a front, where the output has failed, before all that was due by then was written, or behind all samples where nothing
+-- else is at fault; nothing, where it would be too long; and else the output of the whole blocks, without a last one
 -- that was too much for a correlation
 abbrev pub HasWritten : StreamFault → Script → ℕ → List ℕ → List ℕ → SourceState → SinkState → SinkState → Counts → Counts → Type 0
 HasWritten fault.Output script block given written now sink after before counts =
     KeepsLimits script (input_header script given) (in_whole_blocks block (frames_in_bytes script given))
-    × (Begins written (part script block given) ⊎ (Begins written (output script given) × IsTakenWhole script given now))
+    × ((Begins written (part script block given) × (length written < length (part script block given)))
+    ⊎ (Begins written (output script given) × IsTakenWhole script given now
+    × (window_at script.blocks (frames_in_bytes script given) ≡ None)
+    × (gathered script.blocks (frames_in_bytes script given) ≤ MAX_GATHERED)))
 HasWritten (fault.Lengths (length_fault.Riff size limit)) script block given written now sink after before counts = after ≡ sink
 HasWritten (fault.Lengths (length_fault.Gather held more)) script block given written now sink after before counts =
     WrotePart script block (in_whole_blocks block (frames_in_bytes script given - 1)) given written sink after before counts

@@ -54,7 +54,8 @@ fn write_pad<K: Sink>(script: &Script, header: Header, output: &mut K) -> Result
     requires { (block : ℕ) × IsReady script.now block }
     ensures took { MatchResult result
         (λ _. Took (K.state output.old) (K.state output.new) (output_pad script.now header))
-        (λ _. (count : ℕ) × Took (K.state output.old) (K.state output.new)
+        (λ _. (count : ℕ) × (count < length (output_pad script.now header))
+        × Took (K.state output.old) (K.state output.new)
         (take count (output_pad script.now header))) }
     ensures faults { CountsFaults result (K.state output.old).faults (K.state output.new).faults }
 {

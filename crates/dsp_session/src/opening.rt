@@ -1,4 +1,4 @@
-ghost use Rattle.std.specs.Prelude.{◌≡◌, ℕ, take, IfOk, IfErr};
+ghost use Rattle.std.specs.Prelude.{◌≡◌, ◌<◌, ℕ, length, take, IfOk, IfErr};
 ghost use Rattle.dsp_ports.specs.Ports.{CountsFaults, Took};
 ghost use Rattle.dsp_defs.specs.Bytes.{format_in};
 ghost use Rattle.dsp_defs.specs.Counts.{Counts};
@@ -26,7 +26,7 @@ pub fn write_output_header<K: Sink>(
     ensures ok { IfOk result (λ _.
         Took (K.state output.old) (K.state output.new) (output_header script.now header)) }
     ensures err { IfErr result (λ fault. (count : ℕ) × (fault ≡ Output)
-        × Took (K.state output.old) (K.state output.new)
+        × (count < length (output_header script.now header)) × Took (K.state output.old) (K.state output.new)
         (take count (output_header script.now header))) }
     ensures faults { CountsFaults result (K.state output.old).faults (K.state output.new).faults }
 {

@@ -2,4 +2,6 @@ pub mod SampleBytes
 pub mod GeneratorLemmas
 pub mod FormatLaws
 pub mod ReaderLaws
+mod FirstFormat
 pub mod OpenLaws
+pub mod SampleReads

@@ -25,7 +25,8 @@ use Rattle.dsp_defs.specs.declared.wave.HeaderFault.TheVariants.{NotRiff, NotWav
 use Rattle.dsp_wave.specs.declared.reader.HeaderOr.{HeaderOr}
 use Rattle.dsp_wave.specs.declared.reader.HeaderOr.TheVariants.{Fault, Read, Long}
 use Rattle.dsp_wave.specs.Reading.{Says, IsHeaderOf, said_from, HasCause, Stopped, Headed, IsCut}
-use Rattle.dsp_wave.specs.Taking.{Came, IsMissed, Missing, FormatRead, IsEnough, format_chunk, said_behind}
+use Rattle.dsp_wave.specs.declared.reader.Next.TheVariants.{Other}
+use Rattle.dsp_wave.specs.Taking.{Came, IsMissed, Missing, FormatRead, IsEnough, format_chunk, said_behind, Chunked}
 
 -- ---- pieces, one after another
 
@@ -249,21 +250,6 @@ module _ (wanted : Wanted) (place : ℕ) (head : List ℕ) (long : length head �
   other_passes None more no_samples format total cs = grind (arith, common_steps, no_samples, format)
   other_passes (Some known) more no_samples format total cs = grind (arith, common_steps, no_samples)
 
-  -- the whole of a chunk came, and what is behind it goes on
-  pub chunk_came : (known later : Option Sampling) (old mid now : SourceState) (body : List ℕ) → Came place 8 old mid head → Came (place + 8) (padded size) mid now body
-      → ((more : List ℕ) → said_from wanted place known (head ++ (body ++ more)) ≡ said_from wanted (place + 8 + padded size) later more)
-      → (x : List ℕ) × Came place (length x) old now x × (place + 8 + padded size ≡ place + length x) × (8 ≤ length x)
-      × ((more : List ℕ) → said_from wanted place known (x ++ more) ≡ said_from wanted (place + 8 + padded size) later more)
-  chunk_came known later old mid now body first second goes =
-      let all = both_came place 8 (padded size) old mid now head body first second in
-      let whole : length (head ++ body) ≡ 8 + padded size = all.long in (
-        head ++ body,
-        rw (sym whole) at all,
-        omega (arith, whole),
-        omega (arith, whole),
-        λ more. ap (said_from wanted place known) (append_assoc head body more) ∙ goes more,
-      )
-
   -- ---- the first `fmt ` chunk
 
   module _ (format : bytes_eq (take 4 head) (codes "fmt ") ≡ true) where
@@ -343,6 +329,23 @@ module _ (wanted : Wanted) (place : ℕ) (head : List ℕ) (long : length head �
           rest_came old mid now rest first second =
               let came = rest_all old mid now rest first second in
               record { body = body ++ rest; came = came; said = λ more. rest_said rest more came.long }
+
+-- the whole of a chunk behind the format came, and what is behind it goes on
+pub chunk_came : (place : ℕ) (known : Sampling) (head : List ℕ) → length head ≡ 8 → bytes_eq (take 4 head) (codes "data") ≡ false
+    → (old mid now : SourceState) (body : List ℕ) → Came place 8 old mid head → Came (place + 8) (padded (u32_at head 4)) mid now body
+    → Chunked place known old now (Other (place + 8 + padded (u32_at head 4)))
+chunk_came place known head long other old mid now body first second =
+    let all = both_came place 8 (padded (u32_at head 4)) old mid now head body first second in
+    let whole : length (head ++ body) ≡ 8 + padded (u32_at head 4) = all.long in (
+      head ++ body,
+      rw (sym whole) at all,
+      omega (arith, whole),
+      omega (arith, whole),
+      λ wanted more.
+          ap (said_from wanted place (Some known)) (append_assoc head body more)
+          ∙ passes_whole wanted place head long (Some known) (Some known) body more second.long
+          (other_passes wanted place head long (Some known) (body ++ more) other refl),
+    )
 
 -- ---- the first twelve bytes
 

@@ -2,3 +2,4 @@ pub mod Generated
 pub mod Reading
 pub mod Taking
 pub mod Opening
+pub mod Samples

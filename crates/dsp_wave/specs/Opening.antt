@@ -1,5 +1,5 @@
 -- What the reader of a header of which nothing is wanted answers, and what it has taken of its source by then.
-use Rattle.std.specs.Prelude.{◌≡◌, ℕ, ◌+◌, ◌^◌, ◌≤◌, List, ◌++◌, length, Option, Some, None, Ok}
+use Rattle.std.specs.Prelude.{◌≡◌, ℕ, ◌+◌, ◌^◌, ◌≤◌, List, ◌++◌, length, Some, None, Ok}
 use Rattle.dsp_ports.specs.Ports.{SourceState, Gave}
 use Rattle.dsp_defs.specs.Wave.{Heads, chunks_behind, header_of, padded, u32_at}
 use Rattle.dsp_defs.specs.Open.{closed, open_header_of, wanted_by, wanted_in}
@@ -9,7 +9,6 @@ use Rattle.dsp_defs.specs.declared.wave.Wanted.{Wanted}
 use Rattle.dsp_defs.specs.declared.wave.OpenHeader.{OpenHeader}
 use Rattle.dsp_wave.specs.Reading.{Says, said_from}
 use Rattle.dsp_wave.specs.Taking.{Came}
-use Rattle.dsp_wave.specs.declared.open.Own.{Own}
 
 -- what bytes say of a header of which they want what they say; it is `open_header_of` without the channels
 abbrev pub own_header_of : Says
@@ -29,14 +28,6 @@ pub record OwnRead (place : ℕ) (head : List ℕ) (old now : SourceState) (want
   pub came : Came (place + 8) (padded (u32_at head 4)) old now body
   pub said : (more : List ℕ) → own_said_behind place head (body ++ more) ≡ said_from wanted (place + 8 + padded (u32_at head 4)) (Some known) more
   pub wants : (more : List ℕ) → wanted_in (chunks_behind 0 place (head ++ (body ++ more))) ≡ wanted
-
--- the chunks behind the first twelve bytes came, up to and with the first `fmt ` chunk
-pub record OwnFormat (old now : SourceState) (own : Own) : Type 0 where
-  pub bytes : List ℕ
-  pub came : Came 12 (length bytes) old now bytes
-  pub taken_is : own.taken ≡ 12 + length bytes
-  pub said : (more : List ℕ) → own_said_from 12 (bytes ++ more) ≡ said_from own.wanted own.taken (Some own.known) more
-  pub wants : (more : List ℕ) → wanted_in (chunks_behind 0 12 (bytes ++ more)) ≡ own.wanted
 
 -- the header came: exactly the bytes up to the first sample were taken, they say so whatever comes behind them, and they head a
 -- file that is wanted to have the format of its bits and its channels

@@ -1,5 +1,5 @@
 -- What a header's reader answers, and what it has taken of its source by then.
-use Rattle.std.specs.Prelude.{◌≡◌, ℕ, ◌+◌, ◌^◌, ◌<◌, ◌≤◌, ◌⊎◌, IsErr, List, ◌++◌, length, Option, Result, Ok, Err}
+use Rattle.std.specs.Prelude.{◌≡◌, ℕ, ◌+◌, ◌^◌, ◌<◌, ◌≤◌, ◌⊎◌, IsErr, List, ◌++◌, length, Option, None, Result, Ok, Err}
 use Rattle.std.specs.Io.KnownBytes.{IsAtEnd}
 use Rattle.dsp_ports.specs.Ports.{SourceState, one_more, Gave}
 use Rattle.dsp_defs.specs.Wave.{chunks_behind, header_in, header_of}
@@ -22,6 +22,11 @@ said_from wanted place known bytes = header_in wanted (place + length bytes) kno
 -- of all bytes this is what their header says, for something that is wanted, which may depend on the bytes
 abbrev pub IsHeaderOf : Says → Type 0
 IsHeaderOf says = (bytes : List ℕ) → (wanted : Wanted) × (says bytes ≡ header_of bytes wanted)
+
+-- of all bytes this is what they say from a place on, where no `fmt ` chunk stands before it, for something that is wanted, which
+-- may depend on the bytes
+abbrev pub IsSaidFrom : ℕ → Says → Type 0
+IsSaidFrom place says = (bytes : List ℕ) → (wanted : Wanted) × (says bytes ≡ said_from wanted place None bytes)
 
 -- the bytes say so whatever comes behind them, or they say so and are all there is
 abbrev pub IsSure : Says → SourceState → List ℕ → Result Header (HeaderFault × ℕ) → Type 0

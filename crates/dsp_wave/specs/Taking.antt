@@ -1,14 +1,16 @@
 -- What is taken of a source for a piece of a header.
-use Rattle.std.specs.Prelude.{◌≡◌, ℕ, ◌+◌, ◌-◌, ◌^◌, ◌<◌, ◌≤◌, List, [], ◌++◌, length, take, codes, true, Option, Some, None}
+use Rattle.std.specs.Prelude.{◌≡◌, ℕ, ◌+◌, ◌-◌, ◌^◌, ◌<◌, ◌≤◌, List, [], ◌++◌, length, take, codes, true, Some, None}
 use Rattle.std.specs.Str.{bytes_eq}
 use Rattle.std.specs.Io.KnownBytes.{IsAtEnd}
 use Rattle.dsp_ports.specs.Ports.{SourceState, one_more, Gave}
-use Rattle.dsp_defs.specs.Wave.{Chunk, extensible_tag, format_fault, header_of, padded, sampling, u16_at, u32_at}
+use Rattle.dsp_defs.specs.Open.{wanted_in}
+use Rattle.dsp_defs.specs.Wave.{Chunk, chunks_behind, extensible_tag, format_fault, header_of, padded, sampling, u16_at, u32_at}
 use Rattle.dsp_defs.specs.declared.wave.Sampling.{Sampling}
 use Rattle.dsp_defs.specs.declared.wave.Wanted.{Wanted}
 use Rattle.dsp_defs.specs.declared.wave.HeaderFault.TheVariants.{NoSamples}
 use Rattle.dsp_wave.specs.declared.reader.HeaderOr.{HeaderOr}
 use Rattle.dsp_wave.specs.declared.reader.HeaderOr.TheVariants.{Fault, Read, Long}
+use Rattle.dsp_wave.specs.declared.reader.FormatHead.{FormatHead}
 use Rattle.dsp_wave.specs.declared.reader.Next.{Next}
 use Rattle.dsp_wave.specs.declared.reader.Next.TheVariants.{Samples, Other}
 use Rattle.dsp_wave.specs.Reading.{Headed, Says, said_from}
@@ -79,9 +81,18 @@ pub record RiffRead (old now : SourceState) : Type 0 where
   pub came : Came 0 12 old now bytes
   pub said : (wanted : Wanted) (more : List ℕ) → header_of (bytes ++ more) wanted ≡ said_from wanted 12 None more
 
--- the chunk that came, up to the samples or to the chunk behind it
-abbrev pub Chunked : Wanted → ℕ → Option Sampling → SourceState → SourceState → Next → Type 0
-Chunked wanted place known old now (Samples header) = Headed (said_from wanted place known) place old now header
-Chunked wanted place known old now (Other later taken) =
+-- the chunks behind the first twelve bytes came, up to the id and the size of the first `fmt ` chunk
+pub record FormatFound (old now : SourceState) (first : FormatHead) : Type 0 where
+  pub bytes : List ℕ
+  pub came : Came 12 (length bytes) old now bytes
+  pub here : first.offset + 8 ≡ 12 + length bytes
+  pub head : IsFormatHead first.head
+  pub said : (wanted : Wanted) (more : List ℕ) → said_from wanted 12 None (bytes ++ more) ≡ said_behind wanted first.offset first.head more
+  pub wants : (more : List ℕ) → wanted_in (chunks_behind 0 12 (bytes ++ more)) ≡ wanted_in (chunks_behind 0 first.offset (first.head ++ more))
+
+-- the chunk behind the format that came, up to the samples or to the chunk behind it; what is wanted of the format changes nothing there
+abbrev pub Chunked : ℕ → Sampling → SourceState → SourceState → Next → Type 0
+Chunked place known old now (Samples header) = (wanted : Wanted) → Headed (said_from wanted place (Some known)) place old now header
+Chunked place known old now (Other taken) =
     (bytes : List ℕ) × Came place (length bytes) old now bytes × (taken ≡ place + length bytes) × (8 ≤ length bytes)
-    × ((more : List ℕ) → said_from wanted place known (bytes ++ more) ≡ said_from wanted taken later more)
+    × ((wanted : Wanted) (more : List ℕ) → said_from wanted place (Some known) (bytes ++ more) ≡ said_from wanted taken (Some known) more)

@@ -7,6 +7,7 @@ mod format;
 mod generator;
 mod open;
 mod reader;
+mod samples;
 mod slices;
 mod writer;
 
@@ -15,6 +16,7 @@ pub use dsp_defs::{Coding, OpenHeader};
 pub use generator::GenSource;
 pub use open::read_open_header;
 pub use reader::{HeaderOr, read_header};
+pub use samples::{SampleFault, Stored, read_samples};
 pub use slices::{decode, encode};
 pub use writer::{
     HEADER_ROOM, open_pad, open_riff_size, pad, riff_size, write_header, write_open_header,

@@ -4,22 +4,14 @@ ghost use Rattle.std.specs.Prelude.{◌≡◌, ◌+◌, ◌≤◌, ◌^◌, leng
 ghost use Rattle.dsp_defs.specs.Open.{opened, own_wanted};
 ghost use Rattle.dsp_wave.specs.Reading.{Stopped};
 ghost use Rattle.dsp_wave.specs.Taking.{IsFormatHead};
-ghost use Rattle.dsp_wave.specs.Opening.{OpenHeaded, OwnFormat, OwnRead, own_header_of, own_said_behind, own_said_from};
+ghost use Rattle.dsp_wave.specs.Opening.{OpenHeaded, OwnRead, own_header_of, own_said_behind};
 
 use crate::extension::EXTENSIBLE_SIZE;
 use crate::format::{rest_of_format, take_format};
-use crate::reader::{HeaderOr, padded, read_chunks, read_riff, skip, take};
+use crate::reader::{FormatHead, HeaderOr, first_format, format_size, read_chunks, read_riff};
 use byteorder::{ByteOrder, LittleEndian};
-use dsp_defs::{Fmt, Header, HeaderFault, MAX_CHANNELS, OpenHeader, Sampling, Wanted};
+use dsp_defs::{Fmt, Header, MAX_CHANNELS, OpenHeader, Sampling, Wanted};
 use dsp_ports::Source;
-
-/// What the first `fmt ` chunk of a file wants and says of its own samples, and where it ends.
-#[derive(Clone, Copy)]
-pub(crate) struct Own {
-    pub wanted: Wanted,
-    pub known: Sampling,
-    pub taken: u64,
-}
 
 /// What a `fmt ` chunk wants of its own samples, where its first 16 bytes are there.
 fn own_wanted(body: &[u8]) -> Wanted
@@ -65,36 +57,6 @@ fn read_own_format<S: Source>(
     Ok((wanted, known))
 }
 
-/// Reads chunk after chunk behind the first twelve bytes, up to and with the first `fmt ` chunk.
-fn first_format<S: Source>(source: &mut S) -> Result<Own, HeaderOr>
-    ensures ok { IfOk result (λ own. OwnFormat (S.state source.old) (S.state source.new) own) }
-    ensures err { IfErr result (λ error.
-        Stopped (own_said_from 12) 12 (S.state source.old) (S.state source.new) error) }
-{
-    let mut offset = 12;
-    'chunks: loop {
-        let mut head = [0; 8];
-        take(source, &mut head, offset)?;
-        let size = padded(LittleEndian::read_u32(&head[4..]));
-        if &head[..4] == b"data".as_slice() {
-            return Err(HeaderOr::Fault {
-                fault: HeaderFault::NoFormat,
-                offset,
-            });
-        }
-        if &head[..4] == b"fmt ".as_slice() {
-            let (wanted, known) = read_own_format(source, &head, offset)?;
-            return Ok(Own {
-                wanted,
-                known,
-                taken: offset + 8 + size,
-            });
-        }
-        skip(source, size, offset + 8)?;
-        offset += 8 + size;
-    }
-}
-
 /// Adds the channels to what a header says.
 fn opened(wanted: Wanted, header: Header) -> OpenHeader
     ensures { result ≡ opened wanted header }
@@ -120,11 +82,8 @@ pub fn read_open_header<S: Source>(source: &mut S) -> Result<OpenHeader, HeaderO
         Stopped own_header_of 0 (S.state source.old) (S.state source.new) error) }
 {
     read_riff(source)?;
-    let Own {
-        wanted,
-        known,
-        taken,
-    } = first_format(source)?;
-    let header = read_chunks(source, wanted, Some(known), taken)?;
+    let FormatHead { head, offset } = first_format(source)?;
+    let (wanted, known) = read_own_format(source, &head, offset)?;
+    let header = read_chunks(source, known, offset + 8 + format_size(&head))?;
     Ok(opened(wanted, header))
 }

@@ -1,9 +1,8 @@
-ghost use Rattle.std.specs.Prelude.{◌≡◌, ℕ, ◌+◌, ◌<◌, ◌≤◌, ◌^◌, ◌&&◌, List, codes, length, IfOk, IfErr};
-ghost use Rattle.std.specs.Option.{option_map, is_none};
-ghost use Rattle.std.specs.Str.{bytes_eq};
-ghost use Rattle.dsp_defs.specs.Wave.{header_of, declared_size, padded};
-ghost use Rattle.dsp_wave.specs.Reading.{Headed, IsHeaderOf, Says, Stopped, said_from};
-ghost use Rattle.dsp_wave.specs.Taking.{Came, Missing, Chunked, RiffRead};
+ghost use Rattle.std.specs.Prelude.{◌≡◌, ℕ, ◌+◌, ◌<◌, ◌≤◌, ◌^◌, List, Some, length, IfOk, IfErr};
+ghost use Rattle.dsp_defs.specs.Wave.{header_of, declared_size, padded, u32_at};
+ghost use Rattle.dsp_defs.specs.declared.wave.Wanted.{Wanted};
+ghost use Rattle.dsp_wave.specs.Reading.{Headed, IsHeaderOf, IsSaidFrom, Says, Stopped, said_from};
+ghost use Rattle.dsp_wave.specs.Taking.{Came, Missing, Chunked, FormatFound, RiffRead};
 
 use crate::format::read_format;
 use byteorder::{ByteOrder, LittleEndian};
@@ -25,15 +24,19 @@ pub enum HeaderOr {
     Long,
 }
 
-/// What a chunk was, and where the next one begins.
+/// What a chunk behind the format was, and where the next one begins.
 #[derive(Clone, Copy, Debug, PartialEq, Eq)]
 enum Next {
     Samples(Header),
-    Other { known: Option<Sampling>, taken: u64 },
+    Other { taken: u64 },
 }
 
-/// Unknown chunks are skipped in pieces of so many bytes.
-const PIECE: usize = 4096;
+/// The id and the size of the first `fmt ` chunk, and where it begins.
+#[derive(Clone, Copy)]
+pub(crate) struct FormatHead {
+    pub head: [u8; 8],
+    pub offset: u64,
+}
 
 /// Fills the piece. That the file ends before is a fault of it.
 pub(crate) fn take<S: Source>(source: &mut S, piece: &mut [u8], taken: u64) -> Result<(), HeaderOr>
@@ -63,44 +66,33 @@ pub(crate) fn skip<S: Source>(source: &mut S, count: u64, taken: u64) -> Result<
     ensures err { IfErr result (λ error.
         Missing taken count (S.state source.old) (S.state source.new) error) }
 {
-    let mut buffer = [0; PIECE];
-    let mut skipped = 0;
-    while skipped < count {
-        let size = (count - skipped).min(PIECE as u64) as usize;
-        take(source, &mut buffer[..size], taken + skipped)?;
-        skipped += size as u64;
-    }
-    Ok(())
-}
-
-/// What a `data` chunk at the offset heads, where a `fmt ` chunk came before it.
-fn samples_at(known: Option<Sampling>, size: u32, offset: u64) -> Option<Header>
-    requires { offset ≤ 2 ^ 40 }
-    ensures { result ≡ option_map (λ known.
-        record {
-          rate = known.rate;
-          start = offset + 8;
-          size = declared_size size;
-          coding = known.coding;
-        }) known }
-{
-    let size = if size == u32::MAX { None } else { Some(size) };
-    match known {
-        None => None,
-        Some(Sampling { rate, coding }) => Some(Header {
-            rate,
-            start: offset + 8,
-            size,
-            coding,
+    match dsp_ports::skip(source, count, MAX_INPUT - taken) {
+        Ok(came) if came < count => Err(HeaderOr::Fault {
+            fault: HeaderFault::NoSamples,
+            offset: taken + came,
         }),
+        Ok(_) => Ok(()),
+        Err(FillFault::Failed) => Err(HeaderOr::Read),
+        Err(FillFault::LimitReached) => Err(HeaderOr::Long),
     }
 }
 
-/// Whether a chunk with this id is the first of the format.
-fn is_first_format(known: Option<Sampling>, id: &[u8]) -> bool
-    ensures { result ≡ (is_none known && bytes_eq id.now (codes "fmt ")) }
+/// What a `data` chunk at the offset heads, where a `fmt ` chunk before it has said this of the samples.
+fn samples_at(known: Sampling, size: u32, offset: u64) -> Header
+    requires { offset ≤ 2 ^ 40 }
+    ensures { result ≡ record {
+      rate = known.rate;
+      start = offset + 8;
+      size = declared_size size;
+      coding = known.coding;
+    } }
 {
-    known.is_none() && id == b"fmt ".as_slice()
+    Header {
+        rate: known.rate,
+        start: offset + 8,
+        size: if size == u32::MAX { None } else { Some(size) },
+        coding: known.coding,
+    }
 }
 
 /// A size with the pad byte of an odd one.
@@ -110,39 +102,34 @@ pub(crate) fn padded(size: u32) -> u64
     u64::from(size) + u64::from(size % 2)
 }
 
-/// Reads the chunk that begins at the offset, and of a `data` chunk its id and size alone.
-fn next_chunk<S: Source>(
-    source: &mut S,
-    wanted: Wanted,
-    known: Option<Sampling>,
-    offset: u64,
-) -> Result<Next, HeaderOr>
+/// The size of the chunk with this id and size, with its pad byte.
+pub(crate) fn format_size(head: &[u8]) -> u64
+    requires { length head.now ≡ 8 }
+    ensures { result ≡ padded (u32_at head.now 4) }
+{
+    padded(LittleEndian::read_u32(&head[4..]))
+}
+
+/// Reads the chunk that begins at the offset, and of a `data` chunk its id and size alone. A `fmt ` chunk
+/// before it has said this of the samples.
+fn next_chunk<S: Source>(source: &mut S, known: Sampling, offset: u64) -> Result<Next, HeaderOr>
     requires { offset ≤ 2 ^ 40 }
-    ensures ok { IfOk result (λ next. Chunked wanted offset known (S.state source.old)
-        (S.state source.new) next) }
-    ensures err { IfErr result (λ error.
-        Stopped (said_from wanted offset known) offset (S.state source.old)
+    ensures ok { IfOk result (λ next.
+        Chunked offset known (S.state source.old) (S.state source.new) next) }
+    ensures err { (wanted : Wanted) → IfErr result (λ error.
+        Stopped (said_from wanted offset (Some known)) offset (S.state source.old)
         (S.state source.new) error) }
 {
     let mut head = [0; 8];
     take(source, &mut head, offset)?;
     let size = LittleEndian::read_u32(&head[4..]);
     if &head[..4] == b"data".as_slice() {
-        return match samples_at(known, size, offset) {
-            Some(header) => Ok(Next::Samples(header)),
-            None => Err(HeaderOr::Fault {
-                fault: HeaderFault::NoFormat,
-                offset,
-            }),
-        };
-    }
-    let taken = offset + 8 + padded(size);
-    if is_first_format(known, &head[..4]) {
-        let known = Some(read_format(source, wanted, &head, offset)?);
-        return Ok(Next::Other { known, taken });
+        return Ok(Next::Samples(samples_at(known, size, offset)));
     }
     skip(source, padded(size), offset + 8)?;
-    Ok(Next::Other { known, taken })
+    Ok(Next::Other {
+        taken: offset + 8 + padded(size),
+    })
 }
 
 /// Reads the `RIFF` and `WAVE` with which the file begins.
@@ -171,31 +158,52 @@ pub(crate) fn read_riff<S: Source>(source: &mut S) -> Result<(), HeaderOr>
     Ok(())
 }
 
-/// Reads chunk after chunk, from the offset on, up to the samples. The chunks before have said this
-/// of the samples.
+/// Reads chunk after chunk behind the first twelve bytes, up to the id and the size of the first `fmt `
+/// chunk.
+pub(crate) fn first_format<S: Source>(source: &mut S) -> Result<FormatHead, HeaderOr>
+    ensures ok { IfOk result (FormatFound (S.state source.old) (S.state source.new)) }
+    ensures err { (says : Says) → IsSaidFrom 12 says → IfErr result (λ error.
+        Stopped says 12 (S.state source.old) (S.state source.new) error) }
+{
+    let mut offset = 12;
+    'chunks: loop {
+        let mut head = [0; 8];
+        take(source, &mut head, offset)?;
+        if &head[..4] == b"data".as_slice() {
+            return Err(HeaderOr::Fault {
+                fault: HeaderFault::NoFormat,
+                offset,
+            });
+        }
+        if &head[..4] == b"fmt ".as_slice() {
+            return Ok(FormatHead { head, offset });
+        }
+        let size = padded(LittleEndian::read_u32(&head[4..]));
+        skip(source, size, offset + 8)?;
+        offset += 8 + size;
+    }
+}
+
+/// Reads chunk after chunk, from the offset on, up to the samples. A `fmt ` chunk before them has said
+/// this of the samples.
 pub(crate) fn read_chunks<S: Source>(
     source: &mut S,
-    wanted: Wanted,
-    known: Option<Sampling>,
+    known: Sampling,
     offset: u64,
 ) -> Result<Header, HeaderOr>
     requires { offset ≤ 2 ^ 40 }
-    ensures ok { IfOk result (λ header.
-        Headed (said_from wanted offset known) offset (S.state source.old)
+    ensures ok { (wanted : Wanted) → IfOk result (λ header.
+        Headed (said_from wanted offset (Some known)) offset (S.state source.old)
         (S.state source.new) header) }
-    ensures err { IfErr result (λ error.
-        Stopped (said_from wanted offset known) offset (S.state source.old)
+    ensures err { (wanted : Wanted) → IfErr result (λ error.
+        Stopped (said_from wanted offset (Some known)) offset (S.state source.old)
         (S.state source.new) error) }
 {
-    let mut known = known;
     let mut offset = offset;
-    loop {
-        match next_chunk(source, wanted, known, offset)? {
+    'header: loop {
+        match next_chunk(source, known, offset)? {
             Next::Samples(header) => return Ok(header),
-            Next::Other { known: next, taken } => {
-                known = next;
-                offset = taken;
-            }
+            Next::Other { taken } => offset = taken,
         }
     }
 }
@@ -213,6 +221,8 @@ pub fn read_header<S: Source>(source: &mut S, wanted: Wanted) -> Result<Header, 
         (S.state source.new) error) }
 {
     read_riff(source)?;
-    let header = read_chunks(source, wanted, None, 12)?;
+    let FormatHead { head, offset } = first_format(source)?;
+    let known = read_format(source, wanted, &head, offset)?;
+    let header = read_chunks(source, known, offset + 8 + format_size(&head))?;
     Ok(header)
 }

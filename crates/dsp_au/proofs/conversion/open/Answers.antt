@@ -12,5 +12,5 @@ returns-in-Some-clause-err g c = laws.stops_too_long c.args.direction _ _ _ _ c.
 
 pub returns-in-Err-clause-err : goal.returns-in-Err-clause-err
 returns-in-Err-clause-err g c =
-    let (count, took) = c.in-Err.ensures.took in
-    laws.stops_unwritten c.args.direction _ _ _ _ c.in_ok-header.ensures.ok count _ took c.in-Err.ensures.faults
+    let (count, less, took) = c.in-Err.ensures.took in
+    laws.stops_unwritten c.args.direction _ _ _ _ c.in_ok-header.ensures.ok count less _ took c.in-Err.ensures.faults

@@ -25,9 +25,8 @@ exchange-requires-clause-whole g c =
 pub returns-in-Err-clause-err : goal.returns-in-Err-clause-err
 returns-in-Err-clause-err g c before empty begun =
     let size : length c.read_block.new.block ≡ block_bytes c.args.header = c.read_block.auto.block ∙ c.passing.auto.block ∙ c.requires.block in
-    let (k, took) = c.in-Err.ensures.took in
-    let took' = rw (c.exchange.ensures, c.width.ensures, c.frame_bytes-frame.ensures) at took in
-    laws.unwritten c.args.direction c.args.header begun.opened.good before _ empty _ begun c.passing.taken _ _ _ _ c.passing.invariant c.read_block.new.block c.in_ok-count.count (c.in_ok-count.count / open_frame_bytes c.args.header) c.in_ok-count.ensures.small size c.in_ok-count.ensures.ok refl k took' c.in-Err.ensures.faults
+    let (k, less, took) = rw (c.exchange.ensures, c.width.ensures, c.frame_bytes-frame.ensures) at c.in-Err.ensures.took in
+    laws.unwritten c.args.direction c.args.header begun.opened.good before _ empty _ begun c.passing.taken _ _ _ _ c.passing.invariant c.read_block.new.block c.in_ok-count.count (c.in_ok-count.count / open_frame_bytes c.args.header) c.in_ok-count.ensures.small size c.in_ok-count.ensures.ok refl k less took c.in-Err.ensures.faults
 
 pub returns-then-count-block-clause-ok : goal.returns-then-count-block-clause-ok
 returns-then-count-block-clause-ok g c before empty begun =

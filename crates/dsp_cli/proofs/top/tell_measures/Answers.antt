@@ -27,7 +27,7 @@ returns-in_err-write_all-clause-tells g c =
     let i = c.loop-measure.measure-index in
     let ms = c.args.measures.now in
     let line = measure_line (get_or ms i (Power 0 0 (pos 0))) in
-    let (count, took) = c.in_err-write_all.ensures.took in
+    let (count, less, took) = c.in_err-write_all.ensures.took in
     let took' : Took (g.R.Sink.state c.loop-measure.report) (g.R.Sink.state c.write_all.new.sink) (take count line) = rw (c.deref.ensures.0, c.measure_line.ensures) at took in
     let wrote = wrote-more (g.R.Sink.state c.args.report.now) (g.R.Sink.state c.loop-measure.report) (g.R.Sink.state c.write_all.new.sink) (lines (take i ms)) (take count line) c.loop-measure.invariant.0 took' in
     tells-front (g.R.Sink.state c.args.report.now) (g.R.Sink.state c.write_all.new.sink) (lines ms) _ (line-begins ms i count (Power 0 0 (pos 0)) c.loop-measure-test.true) wrote

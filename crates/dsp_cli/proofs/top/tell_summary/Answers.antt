@@ -8,7 +8,7 @@ use Rattle.dsp_cli.proofs.top.tell_summary.Goals as goal
 pub returns-in_err-write_all-clause-tells : goal.returns-in_err-write_all-clause-tells
 returns-in_err-write_all-clause-tells g c =
     let head = head_text c.args.summary.now in
-    let (count, took) = c.in_err-write_all.ensures.took in
+    let (count, less, took) = c.in_err-write_all.ensures.took in
     let took' : Took (g.R.Sink.state c.args.report.now) (g.R.Sink.state c.write_all.new.sink) (take count head) = rw (c.deref.ensures.0, c.head_of.ensures) at took in
     tells-front (g.R.Sink.state c.args.report.now) (g.R.Sink.state c.write_all.new.sink) (head ++ lines c.args.summary.now.measures.items) (take count head)
     (head-begins head (lines c.args.summary.now.measures.items) count) took'.put c.in_err-write_all.ensures.faults

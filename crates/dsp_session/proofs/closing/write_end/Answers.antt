@@ -15,7 +15,7 @@ pub returns-in_err-write_pad-clause-written : goal.returns-in_err-write_pad-clau
 returns-in_err-write_pad-clause-written g c =
     let error = err_from_is_err_and c.from_residual-in_err-write_pad.result c.from_residual-in_err-write_pad.ensures.1 in
     let script : c.script.result.now ≡ c.args.worker.now.script = c.script.ensures.script ∙ c.in_ok-write_tail.ensures.same.script in
-    let (count, took) = c.in_err-write_pad.ensures.took in
+    let (count, less, took) = c.in_err-write_pad.ensures.took in
     let pad = subst (λ (s : Script). Took (g.K.Sink.state c.write_tail.new.output) (g.K.Sink.state c.write_pad.new.output) (take count (output_pad s c.args.header))) script took in
     rw error.1 (laws.pad_fails _ _ _ _ _ c.in_ok-write_tail.ensures.written _ count pad)
 

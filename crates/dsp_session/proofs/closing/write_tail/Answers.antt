@@ -57,7 +57,7 @@ returns-in_err-write_all-clause-same g c = record { script = c.end.ensures.same.
 pub returns-in_err-write_all-clause-written : goal.returns-in_err-write_all-clause-written
 returns-in_err-write_all-clause-written g c =
     let error = err_from_is_err_and c.from_residual.result c.from_residual.ensures.1 in
-    let (count, took) = rw c.out.ensures at c.in_err-write_all.ensures.took in
+    let (count, less, took) = rw c.out.ensures at c.in_err-write_all.ensures.took in
     rw error.1 (record {
       written = c.loop.invariant.written ++ take count c.end.new.self.out;
       put = laws.put_more (g.K.Sink.state c.args.output.now) (g.K.Sink.state c.loop.output) (g.K.Sink.state c.write_all.new.sink) c.loop.invariant.written _ c.loop.invariant.put took.put;

@@ -14,5 +14,5 @@ returns-in-Ok-clause-ok g c =
 pub returns-in-Err-clause-err : goal.returns-in-Err-clause-err
 returns-in-Err-clause-err g c =
     let bytes : c.deref.result.now ≡ output_header c.args.script.now c.args.header = c.deref.ensures.0 ∙ c.output_header.ensures in
-    let (count, took) = rw bytes at c.in-Err.ensures.took in
-    (count, refl, took)
+    let (count, less, took) = rw bytes at c.in-Err.ensures.took in
+    (count, refl, less, took)

@@ -22,7 +22,7 @@ returns-in-Some-clause-err g c =
 pub returns-in_err-write_output_header-clause-err : goal.returns-in_err-write_output_header-clause-err
 returns-in_err-write_output_header-clause-err g c =
     let (error, is, gives) = err_from_is_err_and c.from_residual-in_err-write_output_header.result c.from_residual-in_err-write_output_header.ensures.1 in
-    let (count, output, first) = c.in_err-write_output_header.ensures.err in
+    let (count, output, less, first) = c.in_err-write_output_header.ensures.err in
     let took = subst (λ (s : Script). Took (g.K.Sink.state c.args.output.now) (g.K.Sink.state c.write_output_header.new.output) (take count (output_header s c.in_ok-header.header))) c.script-script.ensures.script first in
     let opened = rw c.script-script.ensures.script at c.in_ok-header.ensures.ok in
     rw (is, gives, output, ← c.session.view_is) (laws.headless _ _ c.script-script.ensures.ready _ _ _ _ _ opened _ count took c.in_err-write_output_header.ensures.faults _)

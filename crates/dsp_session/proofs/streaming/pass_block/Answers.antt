@@ -1,4 +1,4 @@
-use Rattle.std.proofs.Common.{◌≡◌, refl, subst, Result, Ok, IsErr}
+use Rattle.std.proofs.Common.{◌≡◌, ℕ, ◌<◌, List, length, refl, subst, Result, Ok, IsErr}
 use Rattle.dsp_ports.specs.Ports.{Took}
 use Rattle.dsp_session.proofs.FeedLaws as laws
 use Rattle.dsp_session.proofs.streaming.pass_block.Goals as goal
@@ -14,8 +14,9 @@ returns-in-Err-clause-err g c =
 
 pub returns-in-Err-write_all-clause-err : goal.returns-in-Err-write_all-clause-err
 returns-in-Err-write_all-clause-err g c =
-    let (count, took) = c.in-Err-write_all.ensures.took in (
+    let (count, less, took) = c.in-Err-write_all.ensures.took in (
       count,
+      subst (λ (bytes : List ℕ). count < length bytes) c.out.ensures less,
       c.in-Ok.ensures.same,
       c.in-Ok.ensures.fed,
       laws.fits_on _ _ _ _ _ c.in-Ok.ensures.fed (λ over. ok-err c.feed.result _ c.in-Ok.is (c.feed.ensures.full.1 over)),

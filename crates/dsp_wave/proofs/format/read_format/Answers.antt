@@ -1,6 +1,6 @@
-use Rattle.std.proofs.Common.{◌≡◌, ◌+◌, ◌++◌, ◌∙◌, take, length, refl, sym, ap, subst, arith}
+use Rattle.std.proofs.Common.{◌≡◌, ◌+◌, ◌++◌, take, length, refl, arith}
 use Rattle.std.proofs.lemmas.Result.{err_from_is_err_and}
-use Rattle.dsp_wave.specs.Taking.{FormatRead, said_behind}
+use Rattle.dsp_wave.specs.Taking.{said_behind}
 use Rattle.dsp_wave.proofs.ReaderLaws as laws
 use Rattle.dsp_wave.proofs.format.read_format.Goals as goal
 

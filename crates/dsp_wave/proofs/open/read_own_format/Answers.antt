@@ -1,12 +1,13 @@
-use Rattle.std.proofs.Common.{◌≡◌, ◌+◌, ◌++◌, ◌∙◌, ℕ, List, take, length, refl, sym, ap, subst, arith, append_assoc, None}
+use Rattle.std.proofs.Common.{◌≡◌, ◌+◌, ◌++◌, ◌∙◌, take, length, refl, sym, ap, arith, None}
 use Rattle.std.proofs.lemmas.Result.{err_from_is_err_and}
 use Rattle.dsp_defs.specs.Wave.{chunks_behind}
-use Rattle.dsp_defs.specs.Open.{own_wanted, wanted_in}
+use Rattle.dsp_defs.specs.Open.{wanted_in}
 use Rattle.dsp_wave.specs.Reading.{said_from}
 use Rattle.dsp_wave.specs.Taking.{said_behind}
 use Rattle.dsp_wave.specs.Opening.{own_said_behind}
 use Rattle.dsp_wave.proofs.ReaderLaws as laws
 use Rattle.dsp_wave.proofs.OpenLaws as open_laws
+use Rattle.dsp_wave.proofs.FirstFormat.{wants_format}
 use Rattle.dsp_wave.proofs.open.read_own_format.Goals as goal
 
 pub returns-in_err-count-clause-err : goal.returns-in_err-count-clause-err
@@ -23,7 +24,7 @@ returns-in_err-known-clause-err g c =
     let (came, enough) = c.in_ok-count.ensures.ok in
     let here : c.args.offset + 8 + length body ≡ c.args.offset + 8 + c.in_ok-count.count = omega (arith, came.long) in
     rw (is, same) (laws.stopped_sooner (own_said_behind c.args.offset head) (λ more. said_behind c.own_wanted-wanted.result c.args.offset head (body ++ more)) (c.args.offset + 8) c.in_ok-count.count (c.args.offset + 8 + length body) here _ _ _ body came
-    (λ more. ap (λ w. said_from w c.args.offset None (head ++ (body ++ more))) (open_laws.wants_format c.args.offset head c.requires.head.long c.requires.head.id body more enough ∙ sym c.own_wanted-wanted.ensures)) _ c.in_err-known.ensures.err)
+    (λ more. ap (λ w. said_from w c.args.offset None (head ++ (body ++ more))) (wants_format c.args.offset head c.requires.head.long c.requires.head.id body more enough ∙ sym c.own_wanted-wanted.ensures)) _ c.in_err-known.ensures.err)
 
 pub returns-clause-ok : goal.returns-clause-ok
 returns-clause-ok g c =

@@ -1,14 +1,15 @@
-use Rattle.std.proofs.Common.{◌≡◌, ◌+◌, ◌-◌, ◌^◌, ◌≤◌, ℕ, List, ◌++◌}
+use Rattle.std.proofs.Common.{◌≡◌, ◌+◌, ◌-◌, ◌^◌, ℕ, List, ◌++◌, Some}
+use Rattle.dsp_defs.specs.declared.wave.Wanted.{Wanted}
 use Rattle.dsp_wave.specs.Reading.{said_from}
 use Rattle.dsp_wave.specs.Taking.{Came}
 use Rattle.dsp_wave.proofs.reader.read_chunks.Given as goal
 
-abbrev pub invariant-loop-header : goal.invariant-loop-header
-invariant-loop-header g l =
+abbrev pub invariant-header : goal.invariant-header
+invariant-header g l =
     record {
       read : (count : ℕ) × (bytes : List ℕ) × Came l.fn.offset count (g.S.Source.state l.fn.source) (g.S.Source.state l.source) bytes × (l.offset ≡ l.fn.offset + count)
-          × ((more : List ℕ) → said_from l.wanted l.fn.offset l.fn.known (bytes ++ more) ≡ said_from l.wanted l.offset l.known more);
+          × ((wanted : Wanted) (more : List ℕ) → said_from wanted l.fn.offset (Some l.known) (bytes ++ more) ≡ said_from wanted l.offset (Some l.known) more);
     }
 
-abbrev pub decreases-loop-header : goal.decreases-loop-header
-decreases-loop-header g l = 2 ^ 40 - l.offset
+abbrev pub decreases-header : goal.decreases-header
+decreases-header g l = 2 ^ 40 - l.offset

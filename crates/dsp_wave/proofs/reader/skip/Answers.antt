@@ -1,23 +1,49 @@
-use Rattle.std.proofs.Common.{◌≡◌, ◌+◌, ◌-◌, ◌≤◌, ◌++◌, arith, length}
-use Rattle.std.proofs.lemmas.Grind.{common_steps}
-use Rattle.std.proofs.lemmas.Result.{err_from_is_err_and}
-use Rattle.dsp_wave.proofs.ReaderLaws as laws
+use Rattle.std.proofs.Common.{◌+◌, refl, ap, sym, arith}
 use Rattle.dsp_wave.proofs.reader.skip.Goals as goal
 
-pub returns-in_err-take-clause-err : goal.returns-in_err-take-clause-err
-returns-in_err-take-clause-err g c =
-    let (front, came) = c.loop-skipped.invariant.came in
-    let (error, is, same) = err_from_is_err_and c.from_residual.result c.from_residual.ensures.1 in
-    let long : length c.take.new.piece ≡ c.min-size.result = grind (arith, common_steps, c.take.auto.piece, c.min-size.ensures) in
-    let order : length c.take.new.piece ≤ c.args.count - c.loop-skipped.skipped = omega (arith, long, c.min-size.ensures) in
-    let whole : c.loop-skipped.skipped + (c.args.count - c.loop-skipped.skipped) ≡ c.args.count = omega (arith, c.loop-skipped.invariant.within) in
-    rw (is, same) (rw whole at (laws.missing_later c.args.taken c.loop-skipped.skipped (c.args.count - c.loop-skipped.skipped) _ _ _ front _ came (laws.missing_more _ _ _ _ _ _ order c.in_err-take.ensures.err)))
-
-pub loop-skipped-preserved : goal.loop-skipped-preserved
-loop-skipped-preserved g c =
-    let (front, came) = c.loop-skipped.invariant.came in
-    let long : length c.take.new.piece ≡ c.min-size.result = grind (arith, common_steps, c.take.auto.piece, c.min-size.ensures) in
+pub returns-in-Ok-clause-err : goal.returns-in-Ok-clause-err
+returns-in-Ok-clause-err g c =
+    let skipped = c.in-Ok.ensures.ok in
     record {
-      within = omega (arith, c.min-size.ensures);
-      came = (front ++ c.take.new.piece, rw long at (laws.both_came c.args.taken c.loop-skipped.skipped (length c.take.new.piece) _ _ _ front c.take.new.piece came c.in_ok-take.ensures.ok));
+      bytes = skipped.bytes;
+      short = omega (arith, skipped.long, c.if-came-count.true);
+      gave = skipped.gave;
+      in_limit = omega (arith, skipped.long, skipped.in_room);
+      missed = (refl, ap (λ n. c.args.taken + n) (sym skipped.long), skipped.end c.if-came-count.true, skipped.no_fault);
+    }
+
+pub returns-in-Ok-2-clause-ok : goal.returns-in-Ok-2-clause-ok
+returns-in-Ok-2-clause-ok g c =
+    let skipped = c.in-Ok.ensures.ok in (
+      skipped.bytes,
+      record {
+        long = omega (arith, skipped.long, skipped.within, c.if-came-count.false);
+        gave = skipped.gave;
+        in_limit = omega (arith, skipped.in_room, c.if-came-count.false);
+        no_fault = skipped.no_fault;
+      },
+    )
+
+pub returns-in-Err-Failed-clause-err : goal.returns-in-Err-Failed-clause-err
+returns-in-Err-Failed-clause-err g c =
+    let missed = rw c.in-Err-Failed.field-0-is at c.in-Err-Failed.ensures.err in
+    let (fault, room) = missed.cause in
+    record {
+      bytes = missed.bytes;
+      short = missed.short;
+      gave = missed.gave;
+      in_limit = omega (arith, missed.in_room);
+      missed = (fault, omega (arith, room));
+    }
+
+pub returns-in-Err-LimitReached-clause-err : goal.returns-in-Err-LimitReached-clause-err
+returns-in-Err-LimitReached-clause-err g c =
+    let missed = rw c.in-Err-LimitReached.field-0-is at c.in-Err-LimitReached.ensures.err in
+    let (fault, room) = missed.cause in
+    record {
+      bytes = missed.bytes;
+      short = missed.short;
+      gave = missed.gave;
+      in_limit = omega (arith, missed.in_room);
+      missed = (omega (arith, room), fault);
     }

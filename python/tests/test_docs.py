@@ -1,0 +1,57 @@
+"""The Python of docs/PYTHON.md and the example that draws run as they are."""
+
+import importlib.util
+import os
+import re
+import subprocess
+import sys
+import tempfile
+import unittest
+
+from cases import TOP
+
+FENCE = re.compile(r"^```python([^\n]*)\n(.*?)^```$", re.M | re.S)
+
+
+def lacking(names):
+    return [name for name in names if importlib.util.find_spec(name) is None or sys.modules.get(name, name) is None]
+
+
+class Page(unittest.TestCase):
+    def test_each_piece_of_python(self):
+        fences = []
+        for page in ("README.md", "docs/PYTHON.md"):
+            with open(f"{TOP}/{page}") as file:
+                fences += FENCE.findall(file.read())
+        space, count = {}, 0
+        for words, text in fences:
+            kind, *names = words.split() or ["needs"]
+            if kind == "theirs" or lacking(names):
+                continue
+            with self.subTest(text.splitlines()[0]):
+                exec(compile(text, "docs/PYTHON.md", "exec"), space)
+            count += 1
+        self.assertGreater(count, 4)
+
+    def test_every_function_has_a_row(self):
+        """Each function here, by its name without the format, is in the table of the page."""
+        import tozbirem
+
+        with open(f"{TOP}/docs/PYTHON.md") as file:
+            table = file.read().partition("| cmsisdsp |")[2]
+        for name in tozbirem._functions():
+            if not re.match(r"arm_q\d+_to_", name):
+                self.assertRegex(table, rf"`{re.sub(r'_q(7|15|31)$', '', name)}_(\*|q15|q31)")
+
+    @unittest.skipIf(lacking(["numpy", "scipy", "matplotlib"]), "no numpy, scipy and matplotlib")
+    def test_the_design(self):
+        with tempfile.TemporaryDirectory() as folder:
+            ran = subprocess.run([sys.executable, f"{TOP}/examples/library/design.py", f"{folder}/x.png"], stdout=subprocess.PIPE,
+                                 text=True, env=dict(os.environ, PYTHONPATH=f"{TOP}/python"))  # fmt: skip
+            self.assertEqual(ran.returncode, 0)
+            self.assertGreater(float(re.fullmatch(r"signal to noise: ([\d.]+) dB\n", ran.stdout)[1]), 70)
+            self.assertTrue(os.path.exists(f"{folder}/x.png"))
+
+
+if __name__ == "__main__":
+    unittest.main()

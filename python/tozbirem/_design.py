@@ -1,0 +1,71 @@
+"""From a design in fractions to the numbers of the blocks, rounded as tools/coefficients.py does."""
+
+import math
+from fractions import Fraction
+from typing import List, Sequence, Tuple
+
+BITS = {"q7": 7, "q15": 15, "q31": 31}
+
+
+def rounded(value, bits: int) -> int:
+    """Times 2^bits, half a last place up."""
+    number = float(value)
+    if not math.isfinite(number):
+        raise ValueError(f"{number} is no fraction")
+    return math.floor(Fraction(number) * 2**bits + Fraction(1, 2))
+
+
+def flat(values) -> list:
+    return list(values.reshape(-1).tolist() if hasattr(values, "reshape") else values)
+
+
+def quantize(values: Sequence[float], format: str = "q15") -> List[int]:
+    """Fractions as whole numbers of the format: times 2^7, 2^15 or 2^31, rounded half up.
+
+    1.0 becomes the greatest number of the format, as it is the only value that is beyond it by one last place. Raises
+    ValueError for other values outside -1 to 1.
+    """
+    bits, found = BITS[format], []
+    for value in flat(values):
+        number = rounded(value, bits)
+        if not -(1 << bits) <= number <= 1 << bits:
+            raise ValueError(f"{value} is outside -1 to 1: scale the values first")
+        found.append(min(number, (1 << bits) - 1))
+    return found
+
+
+def fractions(samples: Sequence[int], format: str = "q15"):
+    """Samples as parts of full scale: an array of numpy if they are one, else a list of floats."""
+    one = 2.0 ** BITS[format]
+    return samples / one if hasattr(samples, "reshape") else [sample / one for sample in samples]  # type: ignore[operator]
+
+
+def fir_taps(b: Sequence[float], format: str = "q15") -> List[int]:
+    """The taps of fir, decimate, interpolate and lms from a design `b[0]` first: rounded, and from b[T-1] to b[0]."""
+    return quantize(b, format)[::-1]
+
+
+def biquad_sections(sos, format: str = "q15") -> Tuple[int, List[int]]:
+    """The post shift and the coefficients of a `biquad` (or, in q31, a `biquad64`) from second-order sections.
+
+    sos  rows of b0 b1 b2 a0 a1 a2, as scipy.signal gives by output="sos"
+
+    The post shift is the least with which all coefficients fit. The signs of a1 and a2 are turned, since CMSIS-DSP adds
+    the feedback; in q15 a section is b0, 0, b1, b2, a1, a2. Raises ValueError for rows that are no sections.
+    """
+    bits, sections = BITS[format], []
+    if format == "q7":
+        raise ValueError("a biquad has q15 and q31")
+    for row in sos:
+        numbers = [float(it) for it in row]
+        if len(numbers) != 6 or numbers[3] == 0:
+            raise ValueError("a section has six numbers, b0 b1 b2 a0 a1 a2, and a0 is not 0")
+        b0, b1, b2, a0, a1, a2 = (Fraction(it) for it in numbers)
+        sections.append([b0 / a0, b1 / a0, b2 / a0, -a1 / a0, -a2 / a0])
+    for shift in range(14 if format == "q15" else 31):
+        scaled = [[it * Fraction(2 ** bits, 2 ** shift) for it in section] for section in sections]
+        whole = [[math.floor(it + Fraction(1, 2)) for it in section] for section in scaled]
+        least, most = min(map(min, scaled), default=0), max(map(max, whole), default=0)
+        if least >= -(1 << bits) and most < 1 << bits:
+            return shift, [it for b0, *rest in whole for it in ([b0, 0] if format == "q15" else [b0]) + rest]
+    raise ValueError("the coefficients are too great for any post shift")

@@ -1,0 +1,46 @@
+"""The program `dspfx` over files in memory."""
+
+import ctypes
+from typing import NamedTuple, Union
+
+from ._library import LIBRARY, Lengths
+
+MOST = 1 << 32  # bytes of an output
+
+
+class Ran(NamedTuple):
+    """What a run of the program gave: its exit status, the file OUT, and what it printed."""
+
+    status: int
+    output: bytes
+    report: str
+
+
+def program(words: str, script: Union[str, bytes] = b"", data: bytes = b"") -> Ran:
+    """Runs `dspfx` with these words over files in memory.
+
+        >>> program("run s i o", "dspfx 1 input raw q15 1 8000 fir {16384} output raw", b"\\xe8\\x03").output.hex()
+        'f401'
+
+    words   as `run s i o block 256`, `gen 7 48000 s o`, `print s` or `convert wave au i o`, with single spaces; the names
+            stand for the files below
+    script  the file SCRIPT
+    data    the file IN
+
+    Returns the exit status (docs/USE.md), the bytes of the file OUT, and what the program printed. Raises nothing
+    for a fault: the status and the report say it.
+    """
+    text = script.encode() if isinstance(script, str) else bytes(script)
+    said, data = words.encode(), bytes(data)
+    room, told = max(1 << 16, 8 * len(data)), ctypes.create_string_buffer(1 << 20)
+    if said.startswith(b"print"):
+        told = ctypes.create_string_buffer(2 * len(text) + (1 << 16))
+    while True:
+        output, lengths = ctypes.create_string_buffer(room), Lengths()
+        status = LIBRARY.tozbirem_program(
+            said, len(said), text, len(text), data, len(data), output, room, told, len(told), ctypes.byref(lengths),
+        )  # fmt: skip
+        # (8 is an output that is not written: only a buffer that is full comes to it here)
+        if status != 8 or room >= MOST:
+            return Ran(status, output.raw[: lengths.output], told.raw[: lengths.report].decode("utf-8", "replace"))
+        room *= 4

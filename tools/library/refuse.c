@@ -1,0 +1,77 @@
+/*
+ * Refuses the allocations of each call, from the first one on, from the second one on, and so on: each call must end
+ * with out of memory, and leave nothing allocated.
+ */
+#include "tozbirem.h"
+
+#include <stdio.h>
+#include <stdlib.h>
+
+void *__real_malloc(size_t);
+void *__real_realloc(void *, size_t);
+void __real_free(void *);
+static long calls, refused, held;
+
+void *__wrap_malloc(size_t size)
+{
+    if (++calls >= refused && refused) return NULL;
+    void *p = __real_malloc(size);
+    held += p != NULL;
+    return p;
+}
+
+void *__wrap_realloc(void *old, size_t size)
+{
+    if (++calls >= refused && refused) return NULL;
+    void *p = __real_realloc(old, size);
+    held += p != NULL && old == NULL;
+    return p;
+}
+
+void __wrap_free(void *p)
+{
+    held -= p != NULL;
+    __real_free(p);
+}
+
+static const char *TEXT = "dspfx 2 input raw q15 2 8000 table t {1 2 3 4} fir t decimate 2 t sparse {1 2} {0 5} "
+                          "biquad 0 {16384 0 0 0 0 0} conv t lms 0 100 t mat_add 2 2 t max power correlate t output raw";
+
+static uint32_t call(int which)
+{
+    static int16_t input[16], output[4096];
+    static int64_t none[1], kept[8192];
+    static char report[4096];
+    static struct tozbirem_measure measures[64];
+    static struct tozbirem_lengths lengths;
+    struct tozbirem_plan plan;
+    struct tozbirem_answer answer;
+    size_t n = strlen(TEXT);
+    switch (which) {
+    case 0: return tozbirem_plan(TEXT, n, 8, 100, &plan, &answer);
+    case 1: return tozbirem_feed(TEXT, n, 8, 0, none, 0, input, 32, output, sizeof output, kept, 8192, &answer);
+    case 2: return tozbirem_finish(TEXT, n, 8, 0, none, 0, output, sizeof output, measures, 64, &answer);
+    default:
+        return tozbirem_program("run s i o block 8", 17, TEXT, n, input, 32, output, sizeof output, report, sizeof report,
+                                &lengths);
+    }
+}
+
+int main(void)
+{
+    for (int which = 0; which < 4; which++) {
+        refused = 0;
+        calls = 0;
+        uint32_t sound = call(which);
+        long all = calls;
+        if (sound != 0 || held != 0) return printf("call %d: %u, %ld held\n", which, (unsigned)sound, held), 1;
+        for (refused = 1; refused <= all; refused++) {
+            calls = 0;
+            uint32_t status = call(which);
+            if (status != TOZBIREM_MEMORY || held != 0)
+                return printf("call %d, allocation %ld of %ld: %u, %ld held\n", which, refused, all, (unsigned)status, held), 1;
+        }
+        printf("call %d: %ld allocations refused\n", which, all);
+    }
+    return 0;
+}

@@ -13,8 +13,14 @@ from cases import TOP
 FENCE = re.compile(r"^```python([^\n]*)\n(.*?)^```$", re.M | re.S)
 
 
+def is_here(name):
+    """Whether a package can be imported; scipy and matplotlib stand on numpy, which a run without it shuts out."""
+    needed = [name, "numpy"] if name in ("scipy", "matplotlib") else [name]
+    return all(sys.modules.get(it, it) is not None and importlib.util.find_spec(it) for it in needed)
+
+
 def lacking(names):
-    return [name for name in names if importlib.util.find_spec(name) is None or sys.modules.get(name, name) is None]
+    return [name for name in names if not is_here(name)]
 
 
 class Page(unittest.TestCase):

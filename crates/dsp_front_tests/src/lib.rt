@@ -30,8 +30,6 @@ mod gen_runs;
 #[cfg(test)]
 mod host;
 #[cfg(test)]
-mod pieces;
-#[cfg(test)]
 mod ports;
 #[cfg(test)]
 mod runs;

@@ -3,7 +3,7 @@ use Rattle.std.proofs.Common.{◌≡◌, ◌∙◌, ap, refl, sym, subst, ℕ, �
 use Rattle.std.proofs.lemmas.List.{map-append, take-append-drop, length-take-le}
 use Rattle.dsp_defs.specs.Shape.{live_frames}
 use Rattle.dsp_defs.specs.Kept.{IsOfKind, IsPlace, FitsAfter, kept_count, kept_kinds, place_of}
-use Rattle.dsp_stage.specs.Unit.{UnitState, IsNew}
+use Rattle.dsp_stage.specs.Unit.{UnitState, IsMade}
 use Rattle.dsp_stage.specs.Row.{blocks_of}
 use Rattle.dsp_stage.proofs.ChannelKept.{append-apart, each-length}
 use Rattle.dsp_chain.specs.FrameRule.{rule_of, rules_of, whole_by, live_by, AreFew}
@@ -54,9 +54,9 @@ module _ {links us : List UnitState} {link u : UnitState} {all rules : List Fram
       }
 
 -- the rules of one unit more, which is new
-pub keeps-more : (us : List UnitState) (u : UnitState) (b : Block) (f : Fmt) (c n fixed : ℕ) (keeps : List KeptRule) (r : KeptRule)
-    → IsNew b f c n u → fixed ≡ length u.kept → r ≡ kept_rule fixed c b → keeps ≡ unit_rules us → keeps ++ r ∷ [] ≡ unit_rules (us ++ u ∷ [])
-keeps-more us u b f c n fixed keeps r new is rule_is so_far =
+pub keeps-more : (banked : Bool) (us : List UnitState) (u : UnitState) (b : Block) (f : Fmt) (c n fixed : ℕ) (keeps : List KeptRule) (r : KeptRule)
+    → IsMade banked b f c n u → fixed ≡ length u.kept → r ≡ kept_rule fixed c b → keeps ≡ unit_rules us → keeps ++ r ∷ [] ≡ unit_rules (us ++ u ∷ [])
+keeps-more banked us u b f c n fixed keeps r new is rule_is so_far =
     let count : fixed ≡ kept_count u.format u.channels u.block 0 = is ∙ each-length IsPlace (kept_kinds u.format u.channels u.block 0) u.kept new.counts.place in
     let rule : r ≡ unit_rule u = rule_is ∙ (λ i. kept_rule (count i) (sym new.channels i) (sym new.block i)) in
     (λ i. so_far i ++ rule i ∷ []) ∙ sym (map-append unit_rule us (u ∷ []))

@@ -1,11 +1,12 @@
 -- A chain in the making: the units of the blocks so far.
-use Rattle.std.proofs.Common.{◌≡◌, ◌∙◌, ap, refl, sym, subst, ℕ, ◌+◌, ◌*◌, ◌<◌, ◌≤◌, List, [], ◌∷◌, ◌++◌, length, take, drop, get_or, arith}
-use Rattle.dsp_stage.specs.Unit.{UnitState, IsNew, most_frames}
+use Rattle.std.proofs.Common.{◌≡◌, ◌∙◌, ap, refl, sym, subst, ℕ, ◌+◌, ◌*◌, ◌<◌, ◌≤◌, Bool, List, [], ◌∷◌, ◌++◌, length, take, drop, get_or, arith}
+use Rattle.dsp_stage.specs.Unit.{UnitState, IsMade, turns_of, most_frames}
 use Rattle.dsp_stage.specs.Row.{Place, place_after, place_behind, blocks_of, InRow, AllNew}
 use Rattle.dsp_stage.proofs.NewRow.{place-more, blocks-more, row-more, new-more}
 use Rattle.dsp_stage.proofs.ChainPlaces.{IsOpen, AllOpen, flow_at, few_channels_after}
 use Rattle.dsp_defs.specs.Grammar.{Suits}
 use Rattle.dsp_defs.specs.Block.{channels_after}
+use Rattle.dsp_defs.specs.Cost.{unit_turns}
 use Rattle.std.proofs.lemmas.List.{drop_more}
 use Rattle.std.proofs.lemmas.Nat.{mul-le}
 use Rattle.dsp_defs.specs.declared.limits.TheConstants.{MAX_CHANNELS, MAX_SAMPLES}
@@ -13,31 +14,34 @@ use Rattle.dsp_defs.specs.Table.{flow_after}
 use Rattle.dsp_defs.specs.declared.script.Block.{Block}
 
 -- the blocks so far have new units in their places and end at `here`, and each of those left has its place open
-pub record Making (p here : Place) (blocks : List Block) (i : ℕ) (us : List UnitState) : Type 0 where
+pub record Making (banked : Bool) (p here : Place) (blocks : List Block) (i : ℕ) (us : List UnitState) : Type 0 where
   pub blocks_so_far : blocks_of us ≡ take i blocks
   pub row : InRow p us
-  pub fresh : AllNew us
+  pub fresh : AllNew banked us
   pub reached : place_behind p (take i blocks) ≡ here
   pub few_channels : here.channels ≤ MAX_CHANNELS
   pub places : AllOpen here (drop i blocks)
 
 -- no unit is made
-pub making-none : (p : Place) (blocks : List Block) → p.channels ≤ MAX_CHANNELS → AllOpen p blocks → Making p p blocks 0 []
-making-none p blocks few places = record { blocks_so_far = refl; row = tt; fresh = tt; reached = refl; few_channels = few; places = places }
+pub making-none : (banked : Bool) (p : Place) (blocks : List Block) → p.channels ≤ MAX_CHANNELS → AllOpen p blocks → Making banked p p blocks 0 []
+making-none banked p blocks few places = record { blocks_so_far = refl; row = tt; fresh = tt; reached = refl; few_channels = few; places = places }
 
 -- one more is
 pub making-more :
-    (p here next : Place) (blocks : List Block) (i j : ℕ) (us : List UnitState) (u : UnitState) (b : Block) → drop i blocks ≡ b ∷ drop j blocks → take j blocks ≡ take i blocks ++ b ∷ [] →
-    next ≡ place_after here b → IsNew b here.format here.channels here.capacity u → Making p here blocks i us → Making p next blocks j (us ++ u ∷ [])
-making-more p here next blocks i j us u b first more step is m = record {
+    (banked : Bool) (p here next : Place) (blocks : List Block) (i j : ℕ) (us : List UnitState) (u : UnitState) (b : Block) → drop i blocks ≡ b ∷ drop j blocks → take j blocks ≡ take i blocks ++ b ∷ [] →
+    next ≡ place_after here b → IsMade banked b here.format here.channels here.capacity u → Making banked p here blocks i us → Making banked p next blocks j (us ++ u ∷ [])
+making-more banked p here next blocks i j us u b first more step is m = record {
   blocks_so_far = blocks-more us u ∙ (λ k. m.blocks_so_far k ++ is.block k ∷ []) ∙ sym more;
   row = row-more p us u m.row (rw behind (record { format = is.format; channels = is.channels; capacity = is.capacity }));
-  fresh = new-more us u m.fresh ((is.stands, is.counts, is.plain), tt);
+  fresh = new-more banked us u m.fresh ((is.stands, is.counts, bound), tt);
   reached = ap (place_behind p) more ∙ place-more p (take i blocks) b ∙ ap (λ q. place_after q b) m.reached ∙ sym step;
   few_channels = subst (λ (q : Place). q.channels ≤ MAX_CHANNELS) (sym step) (few_channels_after (flow_at here) b places.1 m.few_channels);
   places = subst (λ (q : Place). AllOpen q (drop j blocks)) (sym step) places.2;
 }
   where
+    bound : (m n : ℕ) → turns_of u m n ≡ unit_turns banked u.format u.channels u.block m n
+    bound = λ m n. is.turns m n ∙ sym (λ i. unit_turns banked (is.format i) (is.channels i) (is.block i) m n)
+
     places : AllOpen here (b ∷ drop j blocks)
     places = subst (AllOpen here) first m.places
 
@@ -53,8 +57,8 @@ open-here : (here : Place) (blocks : List Block) → AllOpen here blocks → IsO
 open-here here [] places = places
 open-here here (b ∷ blocks) places = places.0
 
-pub making-open : (p here : Place) (blocks : List Block) (i : ℕ) (us : List UnitState) → Making p here blocks i us → IsOpen here
-making-open p here blocks i us m = open-here here (drop i blocks) m.places
+pub making-open : (banked : Bool) (p here : Place) (blocks : List Block) (i : ℕ) (us : List UnitState) → Making banked p here blocks i us → IsOpen here
+making-open banked p here blocks i us m = open-here here (drop i blocks) m.places
 
 -- what the next block of a chain in the making needs
 pub record Next (here : Place) (b : Block) : Type 0 where
@@ -70,8 +74,8 @@ few-frames p is =
     let frames : p.capacity * 1 ≤ p.capacity * p.channels = mul-le p.capacity 1 p.capacity p.channels (omega arith) is.channels in
     omega (arith, frames, is.samples)
 
-pub making-next : (p here : Place) (blocks : List Block) (i j : ℕ) (us : List UnitState) (b : Block) → drop i blocks ≡ b ∷ drop j blocks → Making p here blocks i us → Next here b
-making-next p here blocks i j us b first m = record {
+pub making-next : (banked : Bool) (p here : Place) (blocks : List Block) (i j : ℕ) (us : List UnitState) (b : Block) → drop i blocks ≡ b ∷ drop j blocks → Making banked p here blocks i us → Next here b
+making-next banked p here blocks i j us b first m = record {
   suits = places.1;
   open_here = places.0;
   few_channels = few_channels_after (flow_at here) b places.1 m.few_channels;

@@ -1,5 +1,5 @@
 -- A new chain.
-use Rattle.std.proofs.Common.{◌≡◌, ◌∙◌, ap, refl, sym, ℕ, ◌*◌, ◌/◌, ◌≤◌, false, List, [], ◌∷◌, ◌++◌, take, length, Option, Some, None, arith}
+use Rattle.std.proofs.Common.{◌≡◌, ◌∙◌, ap, refl, sym, ℕ, ◌*◌, ◌/◌, ◌≤◌, Bool, false, List, [], ◌∷◌, ◌++◌, take, length, Option, Some, None, arith}
 use Rattle.std.proofs.lemmas.List.{map-append}
 use Rattle.dsp_defs.specs.Grammar.{IsChain, correlates}
 use Rattle.dsp_defs.specs.Cost.{chain_turns}
@@ -48,9 +48,9 @@ rules-more rules r b blocks i j more is so_far =
 abbrev pub made : Place → List UnitState → ChainState
 made p us = record { input = p; units = us; frames = 0; ended = false; failed = None }
 
-pub new-whole : (p : Place) (us : List UnitState) (blocks : List Block) → blocks_of us ≡ blocks → InRow p us → AllNew us → IsChain (flow_at p) blocks → 1 ≤ p.channels → p.channels ≤ MAX_CHANNELS → length blocks ≤ MAX_BLOCKS → correlates blocks ≤ MAX_CORRELATES → AllOpen p blocks → IsWhole (made p us)
-new-whole p us blocks are row fresh chain some few many one opens =
-    let counts : AllCount us 0 = new-count us fresh in
+pub new-whole : (banked : Bool) (p : Place) (us : List UnitState) (blocks : List Block) → blocks_of us ≡ blocks → InRow p us → AllNew banked us → IsChain (flow_at p) blocks → 1 ≤ p.channels → p.channels ≤ MAX_CHANNELS → length blocks ≤ MAX_BLOCKS → correlates blocks ≤ MAX_CORRELATES → AllOpen p blocks → IsWhole (made p us)
+new-whole banked p us blocks are row fresh chain some few many one opens =
+    let counts : AllCount us 0 = new-count banked us fresh in
     record {
       row = row;
       took = count-took us 0 counts;
@@ -64,11 +64,11 @@ new-whole p us blocks are row fresh chain some few many one opens =
       few_frames = rw are (λ n fits. few_places p blocks n opens many one fits);
     }
 
-pub new-chain : (p : Place) (us : List UnitState) (blocks : List Block) → blocks_of us ≡ blocks → InRow p us → AllNew us → IsNewChain p blocks (made p us)
-new-chain p us blocks are row fresh = record {
+pub new-chain : (banked : Bool) (p : Place) (us : List UnitState) (blocks : List Block) → blocks_of us ≡ blocks → InRow p us → AllNew banked us → IsNewChain banked p blocks (made p us)
+new-chain banked p us blocks are row fresh = record {
   input = refl;
   blocks_are = are;
-  stands = record { running = refl; works = refl; counted = refl; units = new-stand p.format p.channels us fresh };
-  live = chain-live (made p us) row (new-count us fresh);
-  turns = λ m n. new-turns p us m n row fresh ∙ ap (λ bs. chain_turns p.format p.channels bs m n) are;
+  stands = record { running = refl; works = refl; counted = refl; units = new-stand banked p.format p.channels us fresh };
+  live = chain-live (made p us) row (new-count banked us fresh);
+  turns = λ m n. new-turns banked p us m n row fresh ∙ ap (λ bs. chain_turns banked p.format p.channels bs m n) are;
 }

@@ -126,13 +126,13 @@ pub record FinishesChain (old new : ChainState) (given : List ℤ) (before after
 abbrev pub input_place : Script → ℕ → Place
 input_place script block = record { format = script.input.format; channels = script.input.channels; capacity = block }
 
--- a chain of these blocks, that has taken nothing
-pub record IsNewChain (p : Place) (blocks : List Block) (c : ChainState) : Type 0 where
+-- a chain of these blocks, banked or not, that has taken nothing
+pub record IsNewChain (banked : Bool) (p : Place) (blocks : List Block) (c : ChainState) : Type 0 where
   pub input : c.input ≡ p
   pub blocks_are : blocks_of c.units ≡ blocks
   pub stands : ChainStandsFor c []
   pub live : IsLive c
-  pub turns : (m n : ℕ) → row_turns c.units m n ≡ chain_turns p.format p.channels blocks m n
+  pub turns : (m n : ℕ) → row_turns c.units m n ≡ chain_turns banked p.format p.channels blocks m n
 
 -- ---- what holds of each chain
 

@@ -72,7 +72,7 @@ impl<U: Stage + Drop> Model for Chain<U> {
 }
 
 impl<U: AnyUnit + Drop> Chain<U> {
-    ghost use Rattle.std.specs.Prelude.{◌≡◌, ◌≤◌, ◌<◌, ◌+◌, ◌^◌, ◌↔◌, List, IsTrue, IsFalse, IfOk, IfErr, IsErr, None, Some, length, take, slice_get};
+    ghost use Rattle.std.specs.Prelude.{◌≡◌, ◌≤◌, ◌<◌, ◌+◌, ◌^◌, ◌↔◌, List, true, false, IsTrue, IsFalse, IfOk, IfErr, IsErr, None, Some, length, take, slice_get};
     ghost use Rattle.std.specs.Option.{option_map};
     ghost use Rattle.dsp_defs.specs.Shape.{frames_behind, gathered, held, live_frames, whole_frames, window_at, is_legal};
     ghost use Rattle.dsp_defs.specs.Grammar.{IsChain, correlates, input_flow};
@@ -96,7 +96,33 @@ impl<U: AnyUnit + Drop> Chain<U> {
         requires few_blocks { length script.now.blocks ≤ MAX_BLOCKS }
         requires one_correlate { correlates script.now.blocks ≤ MAX_CORRELATES }
         requires legal { IsTrue (is_legal script.now.input.channels script.now.blocks block) }
-        ensures { IfOk result (IsNewChain (input_place script.now block) script.now.blocks) }
+        ensures { IfOk result (IsNewChain false (input_place script.now block) script.now.blocks) }
+    {
+        Self::made(alloc, script, block, false)
+    }
+
+    /// The same with the biquads of the script as banks, which work on all channels of a frame at once.
+    pub fn banked(alloc: Global, script: &Script, block: u64) -> Result<Self, AllocError>
+        requires chain { IsChain (input_flow script.now.input) script.now.blocks }
+        requires channels { 1 ≤ script.now.input.channels }
+        requires few_channels { script.now.input.channels ≤ MAX_CHANNELS }
+        requires few_blocks { length script.now.blocks ≤ MAX_BLOCKS }
+        requires one_correlate { correlates script.now.blocks ≤ MAX_CORRELATES }
+        requires legal { IsTrue (is_legal script.now.input.channels script.now.blocks block) }
+        ensures { IfOk result (IsNewChain true (input_place script.now block) script.now.blocks) }
+    {
+        Self::made(alloc, script, block, true)
+    }
+
+    /// The chain of a script, banked or not.
+    fn made(alloc: Global, script: &Script, block: u64, banked: bool) -> Result<Self, AllocError>
+        requires chain { IsChain (input_flow script.now.input) script.now.blocks }
+        requires channels { 1 ≤ script.now.input.channels }
+        requires few_channels { script.now.input.channels ≤ MAX_CHANNELS }
+        requires few_blocks { length script.now.blocks ≤ MAX_BLOCKS }
+        requires one_correlate { correlates script.now.blocks ≤ MAX_CORRELATES }
+        requires legal { IsTrue (is_legal script.now.input.channels script.now.blocks block) }
+        ensures { IfOk result (IsNewChain banked (input_place script.now block) script.now.blocks) }
     {
         let Input {
             format,
@@ -111,7 +137,7 @@ impl<U: AnyUnit + Drop> Chain<U> {
         let mut rules = Vec::with_capacity(alloc, blocks.len())?;
         let mut kept = Vec::with_capacity(alloc, blocks.len())?;
         for block in blocks {
-            let unit = U::of_block(alloc, block, flow.format, flow.channels, frames)?;
+            let unit = U::of_block(alloc, block, flow.format, flow.channels, frames, banked)?;
             let numbers = KeptRule::of_block(block, flow.channels, unit.kept_count() as u64);
             flow = flow.after(block);
             frames = most_frames(block, frames);

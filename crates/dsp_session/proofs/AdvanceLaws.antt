@@ -58,7 +58,7 @@ advances_none start sink before runs =
     let none = signal-nil start.script start.coding (some_frame start.script start.coding start.block runs.holds.ready) in
     let same : (x : List Frame) → x ++ signal start.script start.coding [] ≡ x = λ x. ap (λ y. x ++ y) none ∙ append-nil x in
     record {
-      same = record { script = refl; block = refl; coding = refl };
+      same = record { script = refl; banked = refl; block = refl; coding = refl };
       runs = runs;
       long = omega arith;
       counted = omega arith;
@@ -112,9 +112,9 @@ module _ (start session : SessionState) (blocks : ℕ) (heard : List ℕ) (sink 
         ∙ feed_out session fed piece counts passed passes.same passes.fed y stands
         ∙ (λ i. live_bytes (advances.same.script i) y ++ fed.out)
 
-    turned : passed.turns ≤ counts.turns + turns_of start.script (start.chain.frames + blocks * start.block) (start.chain.frames + suc blocks * start.block)
+    turned : passed.turns ≤ counts.turns + turns_of start.banked start.script (start.chain.frames + blocks * start.block) (start.chain.frames + suc blocks * start.block)
     turned =
-        subst (λ n. passed.turns ≤ counts.turns + n) (λ i. turns_of (advances.same.script i) (advances.counted i) (counted i)) passes.fed.turns
+        subst (λ n. passed.turns ≤ counts.turns + n) (λ i. turns_of (advances.same.banked i) (advances.same.script i) (advances.counted i) (counted i)) passes.fed.turns
 
     next : suc blocks ≡ blocks + 1
     next = omega arith
@@ -138,7 +138,7 @@ module _ (start session : SessionState) (blocks : ℕ) (heard : List ℕ) (sink 
           subst (StandsFor fed) (append_assoc x old more ∙ ap (λ y. x ++ y) (sym together))
           (subst (λ y. StandsFor fed ((x ++ old) ++ y)) same_signal (passes.fed.stands (x ++ old) (advances.stands x stands)));
       multiplies = omega (arith, passes.fed.multiplies, made_fed, made_before, advances.multiplies);
-      turned = subst (λ k. passed.turns ≤ before.turns + turns_from start.script start.block start.chain.frames k) next (omega (arith, turned, advances.turned));
+      turned = subst (λ k. passed.turns ≤ before.turns + turns_from start.banked start.script start.block start.chain.frames k) next (omega (arith, turned, advances.turned));
     }
 
 -- ---- a part of the samples

@@ -188,11 +188,11 @@ module _ (script : Script) (block : ℕ) (ready : IsReady script block) (session
   limits : KeepsLimits script (input_header script given) (in_whole_blocks block (frames_in_bytes script given))
   limits = blocks_keep script block header given (passed.opens.said (heard ++ rest)) passed.fits whole_blocks passed.not_full
 
-  early_turns : counts.turns ≤ before.turns + run_turns script block (frames_in_bytes script given)
-  early_turns = turns_before script block passed.blocks (frames_in_bytes script given) before.turns counts.turns (block_some script block ready) low high passed.turned
+  early_turns : counts.turns ≤ before.turns + run_turns session.banked script block (frames_in_bytes script given)
+  early_turns = turns_before session.banked script block passed.blocks (frames_in_bytes script given) before.turns counts.turns (block_some script block ready) low high passed.turned
 
-  fed_turns : (after : Counts) → PassCosts script header.coding x fed_bytes counts after → after.turns ≤ counts.turns + turns_of script (passed.blocks * block) (frames_in_bytes script given)
-  fed_turns after costs = subst (λ n. after.turns ≤ counts.turns + n) (λ i. turns_of script (frames_heard i) (sym frames_is i)) costs.turned
+  fed_turns : (after : Counts) → PassCosts session.banked script header.coding x fed_bytes counts after → after.turns ≤ counts.turns + turns_of session.banked script (passed.blocks * block) (frames_in_bytes script given)
+  fed_turns after costs = subst (λ n. after.turns ≤ counts.turns + n) (λ i. turns_of session.banked script (frames_heard i) (sym frames_is i)) costs.turned
 
   -- where the last samples were too many, some came
   frames_between_strictly : MAX_GATHERED < gathered script.blocks (length (x ++ signal script header.coding fed_bytes)) → passed.blocks * block < frames_in_bytes script given
@@ -205,7 +205,7 @@ module _ (script : Script) (block : ℕ) (ready : IsReady script block) (session
       ]
 
   -- a window ends past its convolution
-  pub stops_window : (end full : ℕ) → window_at script.blocks (session.chain.frames + count) ≡ Some (end, full) → Stopped script block (fault.Lengths (length_fault.Window end full)) input now sink then before counts
+  pub stops_window : (end full : ℕ) → window_at script.blocks (session.chain.frames + count) ≡ Some (end, full) → Stopped session.banked script block (fault.Lengths (length_fault.Window end full)) input now sink then before counts
   stops_window end full window =
       let frames : session.chain.frames + count ≡ frames_in_bytes script given = sym (frames_is ∙ length-append x (signal script header.coding fed_bytes) ∙ omega (arith, passed.stands.chain.counted, fed_frames)) in
       record {
@@ -225,7 +225,7 @@ module _ (script : Script) (block : ℕ) (ready : IsReady script block) (session
       }
 
   -- the output failed within the values of the last samples
-  pub stops_unpassed : None ≡ window_at script.blocks (session.chain.frames + count) → (stop : StreamFault) (final : SinkState) (after : Counts) → FailsToPass stop script header.coding x fed_bytes then final counts after → Stopped script block stop input now sink final before after
+  pub stops_unpassed : None ≡ window_at script.blocks (session.chain.frames + count) → (stop : StreamFault) (final : SinkState) (after : Counts) → FailsToPass stop session.banked script header.coding x fed_bytes then final counts after → Stopped session.banked script block stop input now sink final before after
   stops_unpassed window fault.Output final after (added, written, is, (back, split), less, put, risen, costs, kept) =
       let y = x ++ signal script header.coding fed_bytes in
       let (tail, whole) = live_front script y in
@@ -253,7 +253,7 @@ module _ (script : Script) (block : ℕ) (ready : IsReady script block) (session
         in_declared = λ _. behind;
         lag = λ _. lag written;
         cost = cost_so_far after.multiplies (length y) (omega arith) (omega (arith, costs.rise, passed.cost));
-        turns = turns_behind script block passed.blocks (frames_in_bytes script given) before.turns counts.turns after.turns (block_some script block ready) low high passed.turned (fed_turns after costs);
+        turns = turns_behind session.banked script block passed.blocks (frames_in_bytes script given) before.turns counts.turns after.turns (block_some script block ready) low high passed.turned (fed_turns after costs);
       }
     where
       regroup : (a b c d e f : List ℕ) → a ++ (((b ++ (c ++ d)) ++ e) ++ f) ≡ (a ++ b ++ c) ++ (d ++ (e ++ f))
@@ -290,7 +290,7 @@ module _ (script : Script) (block : ℕ) (ready : IsReady script block) (session
         in_declared = λ _. behind;
         lag = λ _. subst (LagsByOne script block given) (append-nil (head ++ live_bytes script x)) (lag []);
         cost = cost_so_far after.multiplies (length x) (omega (arith, length-append x (signal script header.coding fed_bytes))) (ap (λ (c : Counts). c.multiplies) still ∙ passed.cost);
-        turns = subst (λ (c : Counts). c.turns ≤ before.turns + run_turns script block (frames_in_bytes script given)) (sym still) early_turns;
+        turns = subst (λ (c : Counts). c.turns ≤ before.turns + run_turns session.banked script block (frames_in_bytes script given)) (sym still) early_turns;
       }
   stops_unpassed window _ final after none = absurd none
 
@@ -311,7 +311,7 @@ module _ (script : Script) (block : ℕ) (ready : IsReady script block) (session
         omega (arith, all)
 
     -- the last samples have passed
-    module _ (fed : SessionState) (mid : SinkState) (fed_counts : Counts) (same : SameSession session fed) (passes : Passes script header.coding x fed_bytes fed then mid counts fed_counts) where
+    module _ (fed : SessionState) (mid : SinkState) (fed_counts : Counts) (same : SameSession session fed) (passes : Passes session.banked script header.coding x fed_bytes fed then mid counts fed_counts) where
       abbrev y : List Frame
       y = x ++ signal script header.coding fed_bytes
 
@@ -328,10 +328,10 @@ module _ (script : Script) (block : ℕ) (ready : IsReady script block) (session
           append_assoc head (live_bytes script x) (fed.out ++ written)
           ∙ ap (λ xs. head ++ xs) (sym (append_assoc (live_bytes script x) fed.out written) ∙ ap (λ xs. xs ++ written) (sym passes.out))
 
-      late_turns : (spent : Counts) → spent.multiplies + live_cost_of script (length y) ≤ fed_counts.multiplies + products_of script (length y) → spent.turns + fed_counts.multiplies ≤ fed_counts.turns + spent.multiplies → spent.turns ≤ before.turns + run_turns script block (frames_in_bytes script given)
+      late_turns : (spent : Counts) → spent.multiplies + live_cost_of script (length y) ≤ fed_counts.multiplies + products_of script (length y) → spent.turns + fed_counts.multiplies ≤ fed_counts.turns + spent.multiplies → spent.turns ≤ before.turns + run_turns session.banked script block (frames_in_bytes script given)
       late_turns spent limit turned =
           let all : spent.multiplies + live_cost_of script (length y) ≤ fed_counts.multiplies + cost_of script (length y) = omega (arith, limit, products_are) in
-          turns_end script block passed.blocks (frames_in_bytes script given) before.turns counts.turns fed_counts.turns spent.turns fed_counts.multiplies spent.multiplies (block_some script block ready) low high passed.turned (fed_turns fed_counts passes.costs) turned
+          turns_end session.banked script block passed.blocks (frames_in_bytes script given) before.turns counts.turns fed_counts.turns spent.turns fed_counts.multiplies spent.multiplies (block_some script block ready) low high passed.turned (fed_turns fed_counts passes.costs) turned
           (subst (λ n. spent.multiplies + live_cost_of script n ≤ fed_counts.multiplies + cost_of script n) (sym frames_is) all)
 
       cost_all : (more : ℕ) → more + live_cost_of script (length y) ≤ fed_counts.multiplies + products_of script (length y) → more ≤ before.multiplies + cost_of script (length y)
@@ -345,7 +345,7 @@ module _ (script : Script) (block : ℕ) (ready : IsReady script block) (session
         tail_costs = subst (λ (s : Script). TailCosts result s (length y) fed_counts spent) fed_script costs
 
       pub stream_done : {E : Type 0} (final : SinkState) (spent : Counts) (frames : ℕ) → WritesRest {T = Unit {0}} {E = E} (Ok tt) (live_bytes fed.script y) (whole_bytes fed.script y ++ output_pad fed.script header) mid final → TailCosts {T = Unit {0}} {E = E} (Ok tt) fed.script (length y) fed_counts spent
-          → IsSettled final → final.faults ≡ mid.faults → frames ≡ (last.before + last.count) / frame_bytes script header.coding → (found : List Measure) → found ≡ measures_of fed.script y → Done script block frames input now sink final before spent found
+          → IsSettled final → final.faults ≡ mid.faults → frames ≡ (last.before + last.count) / frame_bytes script header.coding → (found : List Measure) → found ≡ measures_of fed.script y → Done session.banked script block frames input now sink final before spent found
       stream_done {E} final spent frames writes costs settled faults is found measured =
           let tail = tail_writes {E = E} (Ok tt) final spent writes costs in
           let all : head ++ live_bytes script x ++ (fed.out ++ tail.written) ≡ output script given = written_is tail.written ∙ ap (λ xs. head ++ xs) tail.whole ∙ sym output_all in
@@ -369,12 +369,12 @@ module _ (script : Script) (block : ℕ) (ready : IsReady script block) (session
             no_output_fault = faults ∙ passes.no_fault ∙ passed.no_output_fault;
             frame_count = is ∙ sym (frames_is ∙ frames_taken);
             cost = (let sum : spent.multiplies ≡ before.multiplies + cost_of script (length y) = omega (arith, exact, products_are, passes.costs.rise, passed.cost) in sum ∙ ap (λ n. before.multiplies + cost_of script n) (frames_taken ∙ sym is));
-            turns = subst (λ n. spent.turns ≤ before.turns + run_turns script block n) (frames_is ∙ frames_taken ∙ sym is) (late_turns spent (omega (arith, exact)) (tail_costs {E = E} (Ok tt) final spent writes costs).turned);
+            turns = subst (λ n. spent.turns ≤ before.turns + run_turns session.banked script block n) (frames_is ∙ frames_taken ∙ sym is) (late_turns spent (omega (arith, exact)) (tail_costs {E = E} (Ok tt) final spent writes costs).turned);
             measures = measured ∙ ap (λ (s : Script). measures_of s y) fed_script ∙ ap (measures_of script) (sym signal_all);
           }
 
       pub stream_unfinished : {E : Type 0} (error : E) (final : SinkState) (spent : Counts) → WritesRest {T = Unit {0}} (Err error) (live_bytes fed.script y) (whole_bytes fed.script y ++ output_pad fed.script header) mid final → TailCosts {T = Unit {0}} (Err error) fed.script (length y) fed_counts spent
-          → final.faults ≡ one_more mid.faults → Stopped script block fault.Output input now sink final before spent
+          → final.faults ≡ one_more mid.faults → Stopped session.banked script block fault.Output input now sink final before spent
       stream_unfinished error final spent writes costs failed =
           let tail = tail_writes (Err error) final spent writes costs in
           let (back, split) = tail.begins in
@@ -414,7 +414,7 @@ passed_as script same_script block same_block session header piece same_piece la
     (subst (λ xs. Passed script block session header xs last input now sink then before counts) (sym p) passed))
 
 pub done_as : (script same_script : Script) (block same_block frames same_frames : ℕ) (input now : SourceState) (sink then : SinkState) (before counts : Counts) (found : List Measure) →
-    script ≡ same_script → block ≡ same_block → frames ≡ same_frames → Done script block frames input now sink then before counts found → Done same_script same_block same_frames input now sink then before counts found
+    script ≡ same_script → block ≡ same_block → frames ≡ same_frames → Done session.banked script block frames input now sink then before counts found → Done same_script same_block same_frames input now sink then before counts found
 done_as script same_script block same_block frames same_frames input now sink then before counts found s b f done =
     subst (λ (t : Script). Done t same_block same_frames input now sink then before counts found) s
     (subst (λ n. Done script n same_frames input now sink then before counts found) b

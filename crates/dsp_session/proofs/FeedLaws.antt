@@ -53,15 +53,15 @@ module _ (s next : SessionState) (bytes : List ℕ) (before after : Counts) (sam
   feed_out =
       ap (output_bytes s.script) (fed.values x stands) ∙ coded-append (output_coding s.script) (live_values s.script x) fed.given ∙ ap (λ z. live_bytes s.script x ++ z) (sym fed.frames.out)
 
-  pub feed_costs : PassCosts s.script s.coding x bytes before after
+  pub feed_costs : PassCosts s.banked s.script s.coding x bytes before after
   feed_costs =
       let old = made_live s x stands in
       let after_is = fed.stands x stands in
       let new : made_of next.chain ≡ live_cost_of s.script (length (x ++ signal s.script s.coding bytes)) = made_live next (x ++ signal s.script s.coding bytes) after_is ∙ ap (λ (t : Script). live_cost_of t (length (x ++ signal s.script s.coding bytes))) same.script in
       record {
         rise = omega (arith, fed.multiplies, old, new);
-        turned = subst (λ m. after.turns ≤ before.turns + turns_of s.script m (length (x ++ signal s.script s.coding bytes))) stands.chain.counted
-            (subst (λ n. after.turns ≤ before.turns + turns_of s.script s.chain.frames n) after_is.chain.counted fed.turns);
+        turned = subst (λ m. after.turns ≤ before.turns + turns_of s.banked s.script m (length (x ++ signal s.script s.coding bytes))) stands.chain.counted
+            (subst (λ n. after.turns ≤ before.turns + turns_of s.banked s.script s.chain.frames n) after_is.chain.counted fed.turns);
       }
 
   -- it was not refused, so it has gathered no more than it may
@@ -79,7 +79,7 @@ module _ (s next : SessionState) (bytes : List ℕ) (before after : Counts) (sam
 -- the call was refused
 pub feed_refused : (s : SessionState) (x : List Frame) (bytes : List ℕ) (full : GatherFull) (sink last : SinkState) (before after : Counts) → StandsFor s x → IsTooMuch s (length (signal s.script s.coding bytes))
     → (full.held ≡ held s.script.blocks s.chain.frames) × (full.held + full.more ≡ gathered s.script.blocks (s.chain.frames + length (signal s.script s.coding bytes))) → last ≡ sink → after ≡ before
-    → FailsToPass (fault.Lengths (length_fault.Gather full.held full.more)) s.script s.coding x bytes sink last before after
+    → FailsToPass (fault.Lengths (length_fault.Gather full.held full.more)) s.banked s.script s.coding x bytes sink last before after
 feed_refused s x bytes full sink last before after stands too_much (held_is, sum_is) same steps =
     let all : s.chain.frames + length (signal s.script s.coding bytes) ≡ length (x ++ signal s.script s.coding bytes) = ap (λ n. n + length (signal s.script s.coding bytes)) stands.chain.counted ∙ sym (length-append x (signal s.script s.coding bytes)) in
     let sum : full.more + full.held ≡ full.held + full.more = omega arith in (

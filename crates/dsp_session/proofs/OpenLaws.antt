@@ -1,5 +1,5 @@
 -- Where a stream stops before the first sample.
-use Rattle.std.proofs.Common.{◌≡◌, ◌≢◌, ℕ, ◌+◌, ◌*◌, ◌/◌, ◌^◌, ◌<◌, ◌≤◌, List, [], ◌++◌, length, take, drop, Option, Some, None, IfSome, Err, refl, sym, ap, ◌∙◌, subst, arith, append-nil, append_assoc, length-append, length-take-le, inl, inr}
+use Rattle.std.proofs.Common.{◌≡◌, ◌≢◌, ℕ, ◌+◌, ◌*◌, ◌/◌, ◌^◌, ◌<◌, ◌≤◌, Bool, List, [], ◌++◌, length, take, drop, Option, Some, None, IfSome, Err, refl, sym, ap, ◌∙◌, subst, arith, append-nil, append_assoc, length-append, length-take-le, inl, inr}
 use Rattle.std.proofs.lemmas.List.{take-append-drop}
 use Rattle.std.specs.Result.{IsOk}
 use Rattle.std.specs.Io.KnownBytes.{append_known}
@@ -73,9 +73,9 @@ unflushed_by (fault.Header f offset) sink after written same = same
 unflushed_by (fault.Lengths length) sink after written same = same
 
 -- nothing was written before the header of the input was there
-module _ (script : Script) (block : ℕ) (counts : Counts) (input now : SourceState) (sink : SinkState) where
+module _ (banked : Bool) (script : Script) (block : ℕ) (counts : Counts) (input now : SourceState) (sink : SinkState) where
   unwritten : (fault : StreamFault) (given : List ℕ) → Gave input now given → length given ≤ 2 ^ 40 → (HasHeader script given → ⊥) → IsCause fault script block given now → HasWritten fault script block given [] now sink sink counts counts → CountsFault fault input now sink sink
-      → Stopped script block fault input now sink sink counts counts
+      → Stopped banked script block fault input now sink sink counts counts
   unwritten fault given gave limit none cause wrote faults =
       record {
         given = given;
@@ -93,7 +93,7 @@ module _ (script : Script) (block : ℕ) (counts : Counts) (input now : SourceSt
         turns = omega arith;
       }
 
-  by_cause : (error : InputFault) (given : List ℕ) → Gave input now given → length given ≤ 2 ^ 40 → IsUnopened error script given input now → Stopped script block (of_input error) input now sink sink counts counts
+  by_cause : (error : InputFault) (given : List ℕ) → Gave input now given → length given ≤ 2 ^ 40 → IsUnopened error script given input now → Stopped banked script block (of_input error) input now sink sink counts counts
   by_cause input_fault.Failed given gave within cause = unwritten fault.Input given gave within cause.2 (cause.1, λ has. absurd (cause.2 has)) (Nothing cause.2 refl) (cause.0, refl)
   by_cause (input_fault.Header f offset) given gave within cause =
       let none = no_header script f offset given now cause.0 cause.1 in
@@ -103,7 +103,7 @@ module _ (script : Script) (block : ℕ) (counts : Counts) (input now : SourceSt
       let more : WantsMore script given = record { cut = λ _. fault_by_header script given NoSamples (length given) unheaded.wave unheaded.cut; declared = λ has. absurd (unheaded.none has) } in
       unwritten (fault.Lengths (length_fault.Input taken limit)) given gave within unheaded.none (cause.0, cause.1, cause.2, more) (Nothing unheaded.none refl) (cause.4, refl)
 
-  pub stops_unopened : (error : InputFault) → Unopened script error input now → Stopped script block (of_input error) input now sink sink counts counts
+  pub stops_unopened : (error : InputFault) → Unopened script error input now → Stopped banked script block (of_input error) input now sink sink counts counts
   stops_unopened error u = by_cause error u.given u.gave u.in_limit u.cause
 
 -- none of these faults is that of a full correlation
@@ -152,7 +152,7 @@ unopened_faults (input_fault.Header f offset) script given input now sink cause 
 unopened_faults (input_fault.Limit taken limit) script given input now sink cause = (cause.4, refl)
 
 -- the header of the input is there, and no sample was taken
-module _ (script : Script) (block : ℕ) (counts : Counts) (ready : IsReady script block) (header : Header) (input now : SourceState) (sink : SinkState) (opened : Opened script header input now) where
+module _ (banked : Bool) (script : Script) (block : ℕ) (counts : Counts) (ready : IsReady script block) (header : Header) (input now : SourceState) (sink : SinkState) (opened : Opened script header input now) where
   abbrev first : List ℕ
   first = opened.first
 
@@ -175,7 +175,7 @@ module _ (script : Script) (block : ℕ) (counts : Counts) (ready : IsReady scri
       by_size (Some size) = omega arith
 
   stops_first : (fault : StreamFault) (after : SinkState) (written : List ℕ) → after.put ≡ append_known sink.put written → IsUnflushed fault sink after written → IsCause fault script block first now → HasWritten fault script block first written now sink after counts counts → CountsFault fault input now sink after
-      → Stopped script block fault input now sink after counts counts
+      → Stopped banked script block fault input now sink after counts counts
   stops_first fault after written put unflushed cause wrote faults =
       record {
         given = first;
@@ -197,7 +197,7 @@ module _ (script : Script) (block : ℕ) (counts : Counts) (ready : IsReady scri
   long_cause size long =
       (has, sym (ap (λ (h : Header). h.start) header_is ∙ opened.opens.start), subst (λ count. IsTooLong script count size) (sym (ap (known_frames script) header_is)) long, refl)
 
-  pub stops_too_long : (size : ℕ) → IsTooLong script (known_frames script header) size → Stopped script block (fault.Lengths (length_fault.Riff size MAX_RIFF_SIZE)) input now sink sink counts counts
+  pub stops_too_long : (size : ℕ) → IsTooLong script (known_frames script header) size → Stopped banked script block (fault.Lengths (length_fault.Riff size MAX_RIFF_SIZE)) input now sink sink counts counts
   stops_too_long size long =
       stops_first (fault.Lengths (length_fault.Riff size MAX_RIFF_SIZE)) sink [] (Took-nil sink).put refl (long_cause size long) refl (opened.no_fault, refl)
 
@@ -206,7 +206,7 @@ module _ (script : Script) (block : ℕ) (counts : Counts) (ready : IsReady scri
       ap (frames_in_bytes script) (sym (append-nil first)) ∙ frames_are script header (some_frame script header.coding block ready) first opened.opens [] none_declared
       ∙ ap length (signal-nil script header.coding (some_frame script header.coding block ready))
 
-  pub stops_unwritten : Fits script header → (after : SinkState) (count : ℕ) → count < length (output_header script header) → Took sink after (take count (output_header script header)) → after.faults ≡ one_more sink.faults → Stopped script block fault.Output input now sink after counts counts
+  pub stops_unwritten : Fits script header → (after : SinkState) (count : ℕ) → count < length (output_header script header) → Took sink after (take count (output_header script header)) → after.faults ≡ one_more sink.faults → Stopped banked script block fault.Output input now sink after counts counts
   stops_unwritten fits after count less took risen =
       let all = output_header script header in
       let parted : part script block first ≡ all ++ live_bytes script (signal script header.coding []) =
@@ -223,11 +223,11 @@ module _ (script : Script) (block : ℕ) (counts : Counts) (ready : IsReady scri
       stops_first fault.Output after (take count all) took.put tt has (limits, inl ((drop count all ++ live_bytes script (signal script header.coding []), split), fewer)) (opened.no_fault, risen)
 
 -- no header came, or the output would be too long
-pub stops_untaken : (script : Script) (block : ℕ) (counts : Counts) → IsReady script block → (stop : StreamFault) (input now : SourceState) (sink : SinkState) → Untaken script stop input now → Stopped script block stop input now sink sink counts counts
+pub stops_untaken : (script : Script) (block : ℕ) (counts : Counts) → IsReady script block → (stop : StreamFault) (input now : SourceState) (sink : SinkState) → Untaken script stop input now → Stopped banked script block stop input now sink sink counts counts
 stops_untaken script block counts ready stop input now sink (NoHeader error is unopened) =
-    subst (λ f. Stopped script block f input now sink sink counts counts) (sym is) (stops_unopened script block counts input now sink error unopened)
+    subst (λ f. Stopped banked script block f input now sink sink counts counts) (sym is) (stops_unopened script block counts input now sink error unopened)
 stops_untaken script block counts ready stop input now sink (LongOutput header size opened is long) =
-    subst (λ f. Stopped script block f input now sink sink counts counts) (sym is) (stops_too_long script block counts ready header input now sink opened size long)
+    subst (λ f. Stopped banked script block f input now sink sink counts counts) (sym is) (stops_too_long script block counts ready header input now sink opened size long)
 
 pub untaken_stays : (stop : StreamFault) (script : Script) (input now : SourceState) (s : SessionState) → Untaken script stop input now → StaysRefused stop s
 untaken_stays stop script input now s (NoHeader error is unopened) = subst (λ f. StaysRefused f s) (sym is) (input_stays error s)

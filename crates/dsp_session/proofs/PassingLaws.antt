@@ -51,7 +51,7 @@ pub record Going (script : Script) (block : ℕ) (header : Header) (taken : ℕ)
   pub no_input_fault : now.faults ≡ input.faults
   pub no_output_fault : after.faults ≡ sink.faults
   pub cost : counts.multiplies ≡ before.multiplies + live_cost_of script (length (signal script header.coding heard))
-  pub turned : counts.turns ≤ before.turns + calls_turns script block (blocks * block) blocks
+  pub turned : counts.turns ≤ before.turns + calls_turns session.banked script block (blocks * block) blocks
 
 pub block_some : (script : Script) (block : ℕ) → IsReady script block → 0 < block
 block_some script zero ready = absurd (omega (arith, (legal_parts script.input.channels script.blocks zero ready.legal).some))
@@ -228,7 +228,7 @@ module _ (script : Script) (block : ℕ) (ready : IsReady script block) (header 
         div_less : (n f : ℕ) → n / f ≤ n
         div_less n f = grind arith
 
-    more_cost : (passed : Counts) → PassCosts script header.coding (signal script header.coding heard) piece counts passed → passed.multiplies ≡ before.multiplies + live_cost_of script (length (signal script header.coding (heard ++ piece)))
+    more_cost : (passed : Counts) → PassCosts session.banked script header.coding (signal script header.coding heard) piece counts passed → passed.multiplies ≡ before.multiplies + live_cost_of script (length (signal script header.coding (heard ++ piece)))
     more_cost passed costs = omega (arith, costs.rise, going.cost, ap (λ (x : List Frame). live_cost_of script (length x)) more_signal)
 
     more_frames : length (signal script header.coding heard ++ signal script header.coding piece) ≡ suc going.blocks * block
@@ -237,16 +237,16 @@ module _ (script : Script) (block : ℕ) (ready : IsReady script block) (header 
     one_more : suc going.blocks * block ≡ (going.blocks + 1) * block
     one_more = omega arith
 
-    passed_turns : (passed : Counts) → PassCosts script header.coding (signal script header.coding heard) piece counts passed → passed.turns ≤ counts.turns + turns_of script (going.blocks * block) (suc going.blocks * block)
-    passed_turns passed costs = subst (λ n. passed.turns ≤ counts.turns + n) (λ i. turns_of script (frames_taken i) (more_frames i)) costs.turned
+    passed_turns : (passed : Counts) → PassCosts session.banked script header.coding (signal script header.coding heard) piece counts passed → passed.turns ≤ counts.turns + turns_of session.banked script (going.blocks * block) (suc going.blocks * block)
+    passed_turns passed costs = subst (λ n. passed.turns ≤ counts.turns + n) (λ i. turns_of session.banked script (frames_taken i) (more_frames i)) costs.turned
 
-    more_turns : (passed : Counts) → PassCosts script header.coding (signal script header.coding heard) piece counts passed → passed.turns ≤ before.turns + calls_turns script block ((going.blocks + 1) * block) (going.blocks + 1)
+    more_turns : (passed : Counts) → PassCosts session.banked script header.coding (signal script header.coding heard) piece counts passed → passed.turns ≤ before.turns + calls_turns session.banked script block ((going.blocks + 1) * block) (going.blocks + 1)
     more_turns passed costs =
         let next : suc going.blocks ≡ going.blocks + 1 = omega arith in
-        subst (λ k. passed.turns ≤ before.turns + calls_turns script block (k * block) k) next (omega (arith, passed_turns passed costs, going.turned, call_more script block going.blocks (going.blocks * block) refl))
+        subst (λ k. passed.turns ≤ before.turns + calls_turns session.banked script block (k * block) k) next (omega (arith, passed_turns passed costs, going.turned, call_more session.banked script block going.blocks (going.blocks * block) refl))
 
     -- its values were written
-    pub goes_on : (fed : SessionState) (last : SinkState) (passed : Counts) → SameSession session fed → Passes script header.coding (signal script header.coding heard) piece fed then last counts passed
+    pub goes_on : (fed : SessionState) (last : SinkState) (passed : Counts) → SameSession session fed → Passes session.banked script header.coding (signal script header.coding heard) piece fed then last counts passed
         → Going script block header (taken + count) fed input later sink last before passed
     goes_on fed last passed same passes =
         let more_live : live_bytes script (signal script header.coding (heard ++ piece)) ≡ live_heard ++ fed.out = ap (live_bytes script) more_signal ∙ passes.out in
@@ -267,7 +267,8 @@ module _ (script : Script) (block : ℕ) (ready : IsReady script block) (header 
           no_input_fault = read.no_fault ∙ going.no_input_fault;
           no_output_fault = passes.no_fault ∙ going.no_output_fault;
           cost = more_cost passed passes.costs;
-          turned = more_turns passed passes.costs;
+          turned = subst (λ banked. passed.turns ≤ before.turns + calls_turns banked script block ((going.blocks + 1) * block) (going.blocks + 1)) (sym same.banked)
+              (more_turns passed passes.costs);
         }
 
   -- from the begin of the input on
@@ -351,7 +352,7 @@ module _ (script : Script) (block : ℕ) (ready : IsReady script block) (header 
       faults (input_fault.Limit told most) unread = (clean unread.3, no_fault_written)
       faults (input_fault.Header f offset) (declared, size_is, f_is, place, end, same, fewer) = (clean same, no_fault_written)
 
-      pub stops_unread : Stopped script block (of_input error) origin later empty then before counts
+      pub stops_unread : Stopped session.banked script block (of_input error) origin later empty then before counts
       stops_unread = record {
         given = given;
         written = wrote;
@@ -366,7 +367,7 @@ module _ (script : Script) (block : ℕ) (ready : IsReady script block) (header 
         lag = λ _. subst (LagsByOne script block given) (append-nil wrote) (lags script block ready header first opens going.blocks heard bytes [] heard_declared going.blocks_heard (omega (arith, unread.short)));
         cost = cost_within script block ready header first opens before.multiplies counts.multiplies heard bytes (together bytes unread.declared) going.cost;
         turns = (let (low, high) = frames_between script block ready header first opens going.blocks heard bytes (together bytes unread.declared) going.blocks_heard (omega (arith, unread.short)) in
-            turns_before script block going.blocks (frames_in_bytes script given) before.turns counts.turns (block_some script block ready) low high going.turned);
+            turns_before session.banked script block going.blocks (frames_in_bytes script given) before.turns counts.turns (block_some script block ready) low high going.turned);
       }
 
     -- a part of a block came, since the samples have ended
@@ -455,7 +456,7 @@ module _ (script : Script) (block : ℕ) (ready : IsReady script block) (header 
         behind : IsInDeclared script taken_bytes
         behind = none_behind script header first opens (heard ++ piece) (all_declared later count piece long full read)
 
-        pub stops_unpassed : (stop : StreamFault) → FailsToPass stop script header.coding (signal script header.coding heard) piece then last counts passed → Stopped script block stop origin later empty last before passed
+        pub stops_unpassed : (stop : StreamFault) → FailsToPass stop session.banked script header.coding (signal script header.coding heard) piece then last counts passed → Stopped session.banked script block stop origin later empty last before passed
         stops_unpassed fault.Output (added, written, is, front, less, put, risen, costs, kept) =
             record {
               given = taken_bytes;
@@ -473,8 +474,8 @@ module _ (script : Script) (block : ℕ) (ready : IsReady script block) (header 
               in_declared = λ _. behind;
               lag = λ _. lags script block ready header first opens going.blocks heard piece written heard_declared going.blocks_heard (omega (arith, long));
               cost = all_cost passed.multiplies (more_cost later count piece long full read passed costs);
-              turns = turns_behind script block going.blocks (frames_in_bytes script taken_bytes) before.turns counts.turns passed.turns (block_some script block ready) low high going.turned
-                  (subst (λ n. passed.turns ≤ counts.turns + turns_of script (going.blocks * block) n) (sym (more_frames later count piece long full read) ∙ all_frames) (passed_turns later count piece long full read passed costs));
+              turns = turns_behind session.banked script block going.blocks (frames_in_bytes script taken_bytes) before.turns counts.turns passed.turns (block_some script block ready) low high going.turned
+                  (subst (λ n. passed.turns ≤ counts.turns + turns_of session.banked script (going.blocks * block) n) (sym (more_frames later count piece long full read) ∙ all_frames) (passed_turns later count piece long full read passed costs));
             }
         stops_unpassed (fault.Lengths (length_fault.Gather told more)) (over, held_is, more_is, same, still) =
             let blocks_before : in_whole_blocks block (frames_in_bytes script taken_bytes - 1) ≡ going.blocks * block =
@@ -511,6 +512,6 @@ module _ (script : Script) (block : ℕ) (ready : IsReady script block) (header 
               lag = λ _. subst (LagsByOne script block taken_bytes) (append-nil wrote) (lags script block ready header first opens going.blocks heard piece [] heard_declared going.blocks_heard (omega (arith, long)));
               cost = (let fewer = live_cost_within script.input.format script.input.channels script.blocks (length (signal script header.coding heard)) (frames_in_bytes script taken_bytes) (omega (arith, all_frames, length-append (signal script header.coding heard) (signal script header.coding piece))) in
                   let steps : passed.multiplies ≡ counts.multiplies = ap (λ (c : Counts). c.multiplies) still in omega (arith, fewer, going.cost, steps));
-              turns = subst (λ (c : Counts). c.turns ≤ before.turns + run_turns script block (frames_in_bytes script taken_bytes)) (sym still) (turns_before script block going.blocks (frames_in_bytes script taken_bytes) before.turns counts.turns (block_some script block ready) low high going.turned);
+              turns = subst (λ (c : Counts). c.turns ≤ before.turns + run_turns session.banked script block (frames_in_bytes script taken_bytes)) (sym still) (turns_before session.banked script block going.blocks (frames_in_bytes script taken_bytes) before.turns counts.turns (block_some script block ready) low high going.turned);
             }
         stops_unpassed _ none = absurd none

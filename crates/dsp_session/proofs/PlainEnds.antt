@@ -45,7 +45,7 @@ module _ (session : SessionState) (ready : IsReady session.script session.block)
       subst (λ c. Passes session.script c x bytes fed then mid counts made) coding (passes_plain session fed bytes then mid counts made passes x passed.stands)
 
   pub closed_plain : (new : SessionState) (final : SinkState) (spent : Counts) → Closed session new header bytes then final counts spent
-      → Done session.script session.block ((last.before + last.count) / frame_bytes session.script header.coding) input now sink final before spent (measured new)
+      → Done session.banked session.script session.block ((last.before + last.count) / frame_bytes session.script header.coding) input now sink final before spent (measured new)
   closed_plain new final spent closed =
       let passes = coded closed.fed closed.then closed.made closed.passes in
       laws.stream_done session.script session.block ready session header piece last input now sink then before counts passed (sym (window None closed.no_window))
@@ -53,18 +53,18 @@ module _ (session : SessionState) (ready : IsReady session.script session.block)
       (writes_rest {T = Unit {0}} {E = Failed} (Ok tt) closed.fed (output_pad closed.fed.script header) closed.then final closed.writes _ passes.stands) (closed.costs _ passes.stands) closed.settled closed.no_fault refl (measured new) (closed.measures _ passes.stands)
 
   pub unclosed_plain : (new : SessionState) (stop : StreamFault) (final : SinkState) (spent : Counts) → FailsToClose session new header bytes stop then final counts spent
-      → Stopped session.script session.block stop input now sink final before spent
+      → Stopped session.banked session.script session.block stop input now sink final before spent
   unclosed_plain new stop final spent (Windowed end full is found still made) =
       let stopped = laws.stops_window session.script session.block ready session header piece last input now sink then before counts passed end full (window (Some (end, full)) found) in
-      subst (λ c. Stopped session.script session.block stop input now sink final before c) (sym made)
-      (subst (λ s. Stopped session.script session.block stop input now sink s before counts) (sym still)
-      (subst (λ f. Stopped session.script session.block f input now sink then before counts) (sym is) stopped))
+      subst (λ c. Stopped session.banked session.script session.block stop input now sink final before c) (sym made)
+      (subst (λ s. Stopped session.banked session.script session.block stop input now sink s before counts) (sym still)
+      (subst (λ f. Stopped session.banked session.script session.block f input now sink then before counts) (sym is) stopped))
   unclosed_plain new stop final spent (Unpassed none fails) =
       laws.stops_unpassed session.script session.block ready session header piece last input now sink then before counts passed (sym (window None none)) stop final spent
-      (subst (λ c. FailsToPass stop session.script c x bytes then final counts spent) coding (fails_plain stop session new bytes then final counts spent fails x passed.stands))
+      (subst (λ c. FailsToPass stop session.banked session.script c x bytes then final counts spent) coding (fails_plain stop session new bytes then final counts spent fails x passed.stands))
   unclosed_plain new stop final spent (Unfinished fed mid made error is none passes writes costs limit failed) =
       let coded_passes = coded fed mid made passes in
-      subst (λ f. Stopped session.script session.block f input now sink final before spent) (sym is)
+      subst (λ f. Stopped session.banked session.script session.block f input now sink final before spent) (sym is)
       (laws.stream_unfinished session.script session.block ready session header piece last input now sink then before counts passed (sym (window None none))
       fed mid made passes.same coded_passes error final spent (writes_rest {T = Unit {0}} (Err error) fed (output_pad fed.script header) mid final writes _ coded_passes.stands) (costs _ coded_passes.stands) failed)
 

@@ -1,5 +1,5 @@
 -- A stream over a whole input is a stream over the part of it that begins before the first sample and does not end.
-use Rattle.std.proofs.Common.{◌≡◌, ℕ, zero, suc, ◌+◌, ◌-◌, ◌*◌, ◌^◌, ◌<◌, ◌≤◌, List, [], ◌++◌, length, take, drop, refl, sym, ap, ◌∙◌, subst, arith, length-append, length-take-le}
+use Rattle.std.proofs.Common.{◌≡◌, ℕ, zero, suc, ◌+◌, ◌-◌, ◌*◌, ◌^◌, ◌<◌, ◌≤◌, Bool, List, [], ◌++◌, length, take, drop, refl, sym, ap, ◌∙◌, subst, arith, length-append, length-take-le}
 use Rattle.std.proofs.lemmas.List.{take-append-drop}
 use Rattle.dsp_ports.specs.Ports.{SourceState, SinkState, Took}
 use Rattle.dsp_defs.specs.Block.{Frame}
@@ -36,7 +36,7 @@ use Rattle.dsp_session.proofs.TurnLaws.{call_more}
 -- ---- a call
 
 pub passes_plain : (old new : SessionState) (bytes : List ℕ) (sink after : SinkState) (before counts : Counts) → PassesOn old new bytes sink after before counts
-    → (x : List Frame) → StandsFor old x → Passes old.script old.coding x bytes new sink after before counts
+    → (x : List Frame) → StandsFor old x → Passes old.banked old.script old.coding x bytes new sink after before counts
 passes_plain old new bytes sink after before counts passes x stands = record {
   stands = passes.fed.stands x stands;
   out = feed_out old new bytes before counts passes.same passes.fed x stands;
@@ -47,7 +47,7 @@ passes_plain old new bytes sink after before counts passes x stands = record {
 }
 
 pub fails_plain : (stop : StreamFault) (old new : SessionState) (bytes : List ℕ) (sink after : SinkState) (before counts : Counts) → FailsToPassOn stop old new bytes sink after before counts
-    → (x : List Frame) → StandsFor old x → FailsToPass stop old.script old.coding x bytes sink after before counts
+    → (x : List Frame) → StandsFor old x → FailsToPass stop old.banked old.script old.coding x bytes sink after before counts
 fails_plain fault.Output old new bytes sink after before counts (count, less, same, fed, few, took, risen) x stands = (
   new.out,
   take count new.out,
@@ -73,12 +73,13 @@ fails_plain stop old new bytes sink after before counts none x stands = absurd n
 
 -- ---- blocks
 
-pub turns_plain : (script : Script) (size calls : ℕ) → turns_from script size 0 calls ≡ calls_turns script size (calls * size) calls
-turns_plain script size zero = refl
-turns_plain script size (suc k) =
+pub turns_plain : (banked : Bool) (script : Script) (size calls : ℕ)
+    → turns_from banked script size 0 calls ≡ calls_turns banked script size (calls * size) calls
+turns_plain banked script size zero = refl
+turns_plain banked script size (suc k) =
     let from : 0 + k * size ≡ k * size = omega arith in
     let to : 0 + suc k * size ≡ suc k * size = omega arith in
-    (λ i. turns_plain script size k i + turns_of script (from i) (to i)) ∙ call_more script size k (k * size) refl
+    (λ i. turns_plain banked script size k i + turns_of banked script (from i) (to i)) ∙ call_more banked script size k (k * size) refl
 
 pub live_bytes-nil : (script : Script) → live_bytes script [] ≡ []
 live_bytes-nil script = rw (live_chain-nil script.input.format script.input.channels script.blocks) refl
@@ -128,7 +129,9 @@ module _ (start session : SessionState) (header : Header) (span : Span) (taken :
     cost = (let first : live_cost_of script start.chain.frames ≡ 0 = ap (live_cost_of script) none ∙ live_cost-zero script.input.format script.input.channels script.blocks in
         let last : live_cost_of script session.chain.frames ≡ live_cost_of script (length (heard_signal header.coding)) = ap (live_cost_of script) stands.chain.counted in
         omega (arith, going.advances.multiplies, first, last));
-    turned = subst (λ n. counts.turns ≤ before.turns + n) (ap (λ m. turns_from script start.block m going.blocks) none ∙ turns_plain script start.block going.blocks) going.advances.turned;
+    turned = subst (λ banked. counts.turns ≤ before.turns + calls_turns banked script start.block (going.blocks * start.block) going.blocks) (sym going.advances.same.banked)
+        (subst (λ n. counts.turns ≤ before.turns + n)
+        (ap (λ m. turns_from start.banked script start.block m going.blocks) none ∙ turns_plain start.banked script start.block going.blocks) going.advances.turned);
   }
 
   -- from the begin of the input on

@@ -1,5 +1,5 @@
 -- How a session goes on from any state that it is in, whatever it has taken before: by a call, by whole blocks, and to its end.
-use Rattle.std.specs.Prelude.{◌≡◌, ℕ, zero, suc, ◌+◌, ◌*◌, ◌/◌, ◌^◌, ◌<◌, ◌≤◌, false, List, ◌++◌, length, take, Some, None, Ok, Err}
+use Rattle.std.specs.Prelude.{◌≡◌, ℕ, zero, suc, ◌+◌, ◌*◌, ◌/◌, ◌^◌, ◌<◌, ◌≤◌, false, Bool, List, ◌++◌, length, take, Some, None, Ok, Err}
 use Rattle.dsp_ports.specs.Ports.{SourceState, SinkState, one_more, Gave, Took, IsSettled}
 use Rattle.dsp_ports.specs.declared.source.Failed.{Failed}
 use Rattle.dsp_defs.specs.Block.{Frame}
@@ -59,9 +59,9 @@ FailsToPassOn fault old new bytes sink after before counts = ⊥
 -- ---- whole blocks
 
 -- the turn bound of so many calls of `size` frames each, from m frames on
-abbrev pub turns_from : Script → ℕ → ℕ → ℕ → ℕ
-turns_from script size m zero = 0
-turns_from script size m (suc calls) = turns_from script size m calls + turns_of script (m + calls * size) (m + suc calls * size)
+abbrev pub turns_from : Bool → Script → ℕ → ℕ → ℕ → ℕ
+turns_from banked script size m zero = 0
+turns_from banked script size m (suc calls) = turns_from banked script size m calls + turns_of banked script (m + calls * size) (m + suc calls * size)
 
 -- from `start` on so many blocks have passed, which have these bytes: what they add to the live values was written, for the multiplies of just these
 pub record Advances (start session : SessionState) (blocks : ℕ) (bytes : List ℕ) (sink after : SinkState) (before counts : Counts) : Type 0 where
@@ -75,7 +75,7 @@ pub record Advances (start session : SessionState) (blocks : ℕ) (bytes : List 
   pub values : (x : List Frame) → StandsFor start x → live_bytes start.script (x ++ signal start.script start.coding bytes) ≡ live_bytes start.script x ++ written
   pub stands : (x : List Frame) → StandsFor start x → StandsFor session (x ++ signal start.script start.coding bytes)
   pub multiplies : counts.multiplies + live_cost_of start.script start.chain.frames ≡ before.multiplies + live_cost_of start.script session.chain.frames
-  pub turned : counts.turns ≤ before.turns + turns_from start.script start.block start.chain.frames blocks
+  pub turned : counts.turns ≤ before.turns + turns_from start.banked start.script start.block start.chain.frames blocks
 
 -- ---- a part of an input
 

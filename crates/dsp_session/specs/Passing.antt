@@ -1,5 +1,5 @@
 -- Block after block: what is taken, worked on and written.
-use Rattle.std.specs.Prelude.{◌≡◌, ℕ, ◌+◌, ◌*◌, ◌^◌, ◌<◌, ◌≤◌, List, ◌++◌, length, take, None, Result, OnOk}
+use Rattle.std.specs.Prelude.{◌≡◌, ℕ, ◌+◌, ◌*◌, ◌^◌, ◌<◌, ◌≤◌, Bool, List, ◌++◌, length, take, None, Result, OnOk}
 use Rattle.std.specs.Io.KnownBytes.{append_known}
 use Rattle.dsp_ports.specs.Ports.{SourceState, SinkState, one_more, Gave, Took}
 use Rattle.dsp_defs.specs.Block.{Frame}
@@ -22,29 +22,29 @@ use Rattle.dsp_session.specs.declared.streaming.Last.{Last}
 -- ---- working and writing
 
 -- the steps of a call that adds the frames of these bytes to x
-pub record PassCosts (script : Script) (coding : Coding) (x : List Frame) (bytes : List ℕ) (before counts : Counts) : Type 0 where
+pub record PassCosts (banked : Bool) (script : Script) (coding : Coding) (x : List Frame) (bytes : List ℕ) (before counts : Counts) : Type 0 where
   pub rise : counts.multiplies + live_cost_of script (length x) ≡ before.multiplies + live_cost_of script (length (x ++ signal script coding bytes))
-  pub turned : counts.turns ≤ before.turns + turns_of script (length x) (length (x ++ signal script coding bytes))
+  pub turned : counts.turns ≤ before.turns + turns_of banked script (length x) (length (x ++ signal script coding bytes))
 
 -- the frames were worked on, and their live values were written
-pub record Passes (script : Script) (coding : Coding) (x : List Frame) (bytes : List ℕ) (new : SessionState) (sink after : SinkState) (before counts : Counts) : Type 0 where
+pub record Passes (banked : Bool) (script : Script) (coding : Coding) (x : List Frame) (bytes : List ℕ) (new : SessionState) (sink after : SinkState) (before counts : Counts) : Type 0 where
   pub stands : StandsFor new (x ++ signal script coding bytes)
   pub out : live_bytes script (x ++ signal script coding bytes) ≡ live_bytes script x ++ new.out
-  pub costs : PassCosts script coding x bytes before counts
+  pub costs : PassCosts banked script coding x bytes before counts
   pub not_full : gathered script.blocks (length (x ++ signal script coding bytes)) ≤ MAX_GATHERED
   pub took : Took sink after new.out
   pub no_fault : after.faults ≡ sink.faults
 
 -- the frames were worked on, and the sink has failed within their values; or a correlation would gather too many
-abbrev pub FailsToPass : StreamFault → Script → Coding → List Frame → List ℕ → SinkState → SinkState → Counts → Counts → Type 0
-FailsToPass fault.Output script coding x bytes sink after before counts =
+abbrev pub FailsToPass : StreamFault → Bool → Script → Coding → List Frame → List ℕ → SinkState → SinkState → Counts → Counts → Type 0
+FailsToPass fault.Output banked script coding x bytes sink after before counts =
     (given written : List ℕ) × (live_bytes script (x ++ signal script coding bytes) ≡ live_bytes script x ++ given) × Begins written given
-    × (length written < length given) × (after.put ≡ append_known sink.put written) × (after.faults ≡ one_more sink.faults) × PassCosts script coding x bytes before counts
+    × (length written < length given) × (after.put ≡ append_known sink.put written) × (after.faults ≡ one_more sink.faults) × PassCosts banked script coding x bytes before counts
     × (gathered script.blocks (length (x ++ signal script coding bytes)) ≤ MAX_GATHERED)
-FailsToPass (fault.Lengths (length_fault.Gather told more)) script coding x bytes sink after before counts =
+FailsToPass (fault.Lengths (length_fault.Gather told more)) banked script coding x bytes sink after before counts =
     (MAX_GATHERED < gathered script.blocks (length (x ++ signal script coding bytes))) × (told ≡ held script.blocks (length x))
     × (more + told ≡ gathered script.blocks (length (x ++ signal script coding bytes))) × (after ≡ sink) × (counts ≡ before)
-FailsToPass fault script coding x bytes sink after before counts = ⊥
+FailsToPass fault banked script coding x bytes sink after before counts = ⊥
 
 -- ---- the blocks so far
 
@@ -73,7 +73,7 @@ pub record Passed (script : Script) (frames : ℕ) (session : SessionState) (hea
   pub fits : Fits script header
   pub not_full : gathered script.blocks (blocks * frames) ≤ MAX_GATHERED
   pub cost : counts.multiplies ≡ before.multiplies + live_cost_of script (length (signal script header.coding heard))
-  pub turned : counts.turns ≤ before.turns + calls_turns script frames (blocks * frames) blocks
+  pub turned : counts.turns ≤ before.turns + calls_turns session.banked script frames (blocks * frames) blocks
 
 -- some input has led the session to this
 abbrev pub HasPassed : SessionState → Header → List ℕ → Last → Type 0

@@ -1,5 +1,5 @@
 -- What the calls of a session give, for every signal that it has taken.
-use Rattle.std.specs.Prelude.{◌≡◌, ◌⊎◌, ℕ, ◌+◌, ◌-◌, ◌*◌, ◌<◌, ◌≤◌, true, false, List, [], ◌++◌, length, Some, None, is_some, IsTrue}
+use Rattle.std.specs.Prelude.{◌≡◌, ◌⊎◌, ℕ, ◌+◌, ◌-◌, ◌*◌, ◌<◌, ◌≤◌, Bool, true, false, List, [], ◌++◌, length, Some, None, is_some, IsTrue}
 use Rattle.dsp_defs.specs.Block.{Frame, live_chain, whole_chain}
 use Rattle.dsp_defs.specs.Bytes.{coding_of, coded, samples, width}
 use Rattle.dsp_defs.specs.Cost.{cost, live_cost, chain_turns, turns_of_calls, turns}
@@ -57,16 +57,16 @@ abbrev pub products_of : Script → ℕ → ℕ
 products_of script n = chain_products script.input.format script.input.channels script.blocks n
 
 -- the turn bound of a call that leads its blocks from m input frames to n
-abbrev pub turns_of : Script → ℕ → ℕ → ℕ
-turns_of script m n = chain_turns script.input.format script.input.channels script.blocks m n
+abbrev pub turns_of : Bool → Script → ℕ → ℕ → ℕ
+turns_of banked script m n = chain_turns banked script.input.format script.input.channels script.blocks m n
 
 -- the turn bound of the first calls of a run of n frames in blocks of this length, and of the whole run
-abbrev pub calls_turns : Script → ℕ → ℕ → ℕ → ℕ
-calls_turns script block n calls = turns_of_calls script.input.format script.input.channels script.blocks block n calls
+abbrev pub calls_turns : Bool → Script → ℕ → ℕ → ℕ → ℕ
+calls_turns banked script block n calls = turns_of_calls banked script.input.format script.input.channels script.blocks block n calls
 
 -- the turn bound of a whole run of n frames
-abbrev pub run_turns : Script → ℕ → ℕ → ℕ
-run_turns script block n = turns script.input.format script.input.channels script.blocks block n
+abbrev pub run_turns : Bool → Script → ℕ → ℕ → ℕ
+run_turns banked script block n = turns banked script.input.format script.input.channels script.blocks block n
 
 -- the measures of a whole signal
 abbrev pub measures_of : Script → List Frame → List Measure
@@ -84,7 +84,7 @@ pub record Holds (s : SessionState) : Type 0 where
   pub ready : IsReady s.script s.block
   pub input : s.chain.input ≡ input_place s.script s.block
   pub blocks : blocks_of s.chain.units ≡ s.script.blocks
-  pub turns : (m n : ℕ) → row_turns s.chain.units m n ≡ turns_of s.script m n
+  pub turns : (m n : ℕ) → row_turns s.chain.units m n ≡ turns_of s.banked s.script m n
 
 -- it has taken the frames x, can take more, and nothing of its tail was given
 pub record StandsFor (s : SessionState) (x : List Frame) : Type 0 where
@@ -97,9 +97,10 @@ pub record HasGiven (s : SessionState) (x ys : List Frame) : Type 0 where
   pub holds : Holds s
   pub chain : ChainGave s.chain x ys
 
--- a session of the script that has taken nothing
-pub record IsNew (script : Script) (block : ℕ) (s : SessionState) : Type 0 where
+-- a session of the script, banked or not, that has taken nothing
+pub record IsNew (banked : Bool) (script : Script) (block : ℕ) (s : SessionState) : Type 0 where
   pub script_is : s.script ≡ script
+  pub banked_is : s.banked ≡ banked
   pub block_is : s.block ≡ block
   pub coding_is : s.coding ≡ input_coding script
   pub stands : StandsFor s []
@@ -108,11 +109,13 @@ pub record IsNew (script : Script) (block : ℕ) (s : SessionState) : Type 0 whe
 -- the same script in the same blocks
 pub record SameScript (old new : SessionState) : Type 0 where
   pub script : new.script ≡ old.script
+  pub banked : new.banked ≡ old.banked
   pub block : new.block ≡ old.block
 
 -- and of an input in the same coding
 pub record SameSession (old new : SessionState) : Type 0 where
   pub script : new.script ≡ old.script
+  pub banked : new.banked ≡ old.banked
   pub block : new.block ≡ old.block
   pub coding : new.coding ≡ old.coding
 
@@ -149,7 +152,7 @@ pub record Feeds (old new : SessionState) (bytes : List ℕ) (before after : Cou
   pub values : (x : List Frame) → StandsFor old x → live_values old.script (x ++ signal old.script old.coding bytes) ≡ live_values old.script x ++ given
   pub stands : (x : List Frame) → StandsFor old x → StandsFor new (x ++ signal old.script old.coding bytes)
   pub multiplies : made_of new.chain + before.multiplies ≡ made_of old.chain + after.multiplies
-  pub turns : after.turns ≤ before.turns + turns_of old.script old.chain.frames new.chain.frames
+  pub turns : after.turns ≤ before.turns + turns_of old.banked old.script old.chain.frames new.chain.frames
   pub live : IsLive new.chain
 
 -- it would have gathered too much, or a call before it would: nothing was given, and the session answers the same fault from now on

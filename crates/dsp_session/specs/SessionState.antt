@@ -1,4 +1,4 @@
-use Rattle.std.specs.Prelude.{ℕ, List}
+use Rattle.std.specs.Prelude.{ℕ, Bool, List}
 use Rattle.dsp_defs.specs.declared.format.Coding.{Coding}
 use Rattle.dsp_defs.specs.declared.script.Script.{Script}
 use Rattle.dsp_chain.specs.Chain.{ChainState}
@@ -6,6 +6,8 @@ use Rattle.dsp_chain.specs.Chain.{ChainState}
 -- what a contract sees of a session
 pub record SessionState : Type 0 where
   pub script : Script
+  -- whether its biquads work on all channels of a frame at once
+  pub banked : Bool
   -- the frames of a block
   pub block : ℕ
   -- how the samples of the input stand as bytes

@@ -1,5 +1,5 @@
 -- How the bytes that a stream took and the bytes that it wrote stand to each other at each of its ends.
-use Rattle.std.specs.Prelude.{◌≡◌, ◌⊎◌, ℕ, ◌+◌, ◌-◌, ◌*◌, ◌/◌, ◌^◌, ◌<◌, ◌≤◌, List, length, take, Some, None, IfSome}
+use Rattle.std.specs.Prelude.{◌≡◌, ◌⊎◌, ℕ, ◌+◌, ◌-◌, ◌*◌, ◌/◌, ◌^◌, ◌<◌, ◌≤◌, Bool, List, length, take, Some, None, IfSome}
 use Rattle.std.specs.Io.KnownBytes.{append_known}
 use Rattle.dsp_defs.specs.Counts.{Counts}
 use Rattle.dsp_ports.specs.Ports.{SourceState, SinkState, one_more, Gave, IsSettled, settled_after}
@@ -107,7 +107,7 @@ IsUnflushed fault.Output sink after written = Unit {0}
 IsUnflushed fault sink after written = after.settled ≡ settled_after sink.settled (length written)
 
 -- the stream stopped before its end; `given` and `written` are all bytes that were taken and that were written
-pub record Stopped (script : Script) (block : ℕ) (fault : StreamFault) (input now : SourceState) (sink after : SinkState) (before counts : Counts) : Type 0 where
+pub record Stopped (banked : Bool) (script : Script) (block : ℕ) (fault : StreamFault) (input now : SourceState) (sink after : SinkState) (before counts : Counts) : Type 0 where
   pub given : List ℕ
   pub written : List ℕ
   pub gave : Gave input now given
@@ -120,7 +120,7 @@ pub record Stopped (script : Script) (block : ℕ) (fault : StreamFault) (input 
   pub in_declared : HasHeader script given → IsInDeclared script given
   pub lag : HasHeader script given → LagsByOne script block given written
   pub cost : counts.multiplies ≤ before.multiplies + cost_of script (frames_in_bytes script given)
-  pub turns : counts.turns ≤ before.turns + run_turns script block (frames_in_bytes script given)
+  pub turns : counts.turns ≤ before.turns + run_turns banked script block (frames_in_bytes script given)
 
 -- where a correlation was full, the session answers the same fault from now on, and still holds what it held
 abbrev pub StaysRefused : StreamFault → SessionState → Type 0
@@ -130,7 +130,7 @@ StaysRefused fault s = Unit {0}
 -- ---- the end
 
 -- all samples were taken, exactly the output of the script was written, and the measures found are those of the whole signal at each place
-pub record Done (script : Script) (block frames : ℕ) (input now : SourceState) (sink after : SinkState) (before counts : Counts) (found : List Measure) : Type 0 where
+pub record Done (banked : Bool) (script : Script) (block frames : ℕ) (input now : SourceState) (sink after : SinkState) (before counts : Counts) (found : List Measure) : Type 0 where
   pub given : List ℕ
   pub gave : Gave input now given
   pub has : HasHeader script given
@@ -146,5 +146,5 @@ pub record Done (script : Script) (block frames : ℕ) (input now : SourceState)
   pub no_output_fault : after.faults ≡ sink.faults
   pub frame_count : frames ≡ frames_in_bytes script given
   pub cost : counts.multiplies ≡ before.multiplies + cost_of script frames
-  pub turns : counts.turns ≤ before.turns + run_turns script block frames
+  pub turns : counts.turns ≤ before.turns + run_turns banked script block frames
   pub measures : found ≡ measures_of script (input_signal script given)

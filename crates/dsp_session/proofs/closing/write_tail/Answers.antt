@@ -9,7 +9,7 @@ use Rattle.dsp_session.proofs.closing.write_tail.Goals as goal
 pub loop-init : goal.loop-init
 loop-init g c =
     record {
-      same = record { script = refl; block = refl; coding = refl };
+      same = record { script = refl; banked = refl; block = refl; coding = refl };
       no_fault = refl;
       counted = refl;
       made = refl;

@@ -13,7 +13,7 @@ use Rattle.dsp_chain.proofs.NewChain.{new-whole, new-chain, rules-more}
 use Rattle.dsp_chain.specs.FrameRule.{rules_of}
 use Rattle.dsp_chain.specs.KeptRule.{unit_rules}
 use Rattle.dsp_chain.proofs.KeptRows.{keeps-more}
-use Rattle.dsp_chain.proofs.chain.Chain.new.Goals as goal
+use Rattle.dsp_chain.proofs.chain.Chain.made.Goals as goal
 
 same-fits : (a b : ℕ) → a ≡ b → a ≤ b
 same-fits a b e = omega arith
@@ -21,9 +21,9 @@ same-fits a b e = omega arith
 pub loop-block-init : goal.loop-block-init
 loop-block-init g c =
     let p = input_place c.args.script.now c.args.block in (
-      subst (λ (us : List UnitState). Making p p c.as_slice-blocks.result.now 0 us) (sym (c.in_ok-links.ensures.items))
-          (subst (λ (blocks : List Block). Making p p blocks 0 []) (sym c.as_slice-blocks.ensures)
-          (making-none p c.args.script.now.blocks c.requires.few_channels (legal_is_open p c.args.script.now.blocks c.requires.chain c.requires.channels c.requires.legal))),
+      subst (λ (us : List UnitState). Making c.args.banked p p c.as_slice-blocks.result.now 0 us) (sym (c.in_ok-links.ensures.items))
+          (subst (λ (blocks : List Block). Making c.args.banked p p blocks 0 []) (sym c.as_slice-blocks.ensures)
+          (making-none c.args.banked p c.args.script.now.blocks c.requires.few_channels (legal_is_open p c.args.script.now.blocks c.requires.chain c.requires.channels c.requires.legal))),
       c.in_ok-rules.ensures.items,
       c.in_ok-kept.ensures.items ∙ sym (ap unit_rules c.in_ok-links.ensures.items),
     )
@@ -34,7 +34,7 @@ of_block-requires g c =
     let i = c.loop-block.block-index in
     let b = c.block-item.result in
     let here : Place = record { format = c.loop-block.flow.format; channels = c.loop-block.flow.channels; capacity = c.loop-block.frames } in
-    let next : Next here b = making-next (input_place c.args.script.now c.args.block) here blocks i (i + 1) c.loop-block.links.items b (next-first blocks i b c.loop-block-test.true c.block-item.is) c.loop-block.invariant.0 in
+    let next : Next here b = making-next c.args.banked (input_place c.args.script.now c.args.block) here blocks i (i + 1) c.loop-block.links.items b (next-first blocks i b c.loop-block-test.true c.block-item.is) c.loop-block.invariant.0 in
     record { suits = next.suits; channels = next.open_here.channels; frames = next.open_here.capacity; samples = next.open_here.samples }
 
 pub after-flow-requires : goal.after-flow-requires
@@ -43,7 +43,7 @@ after-flow-requires g c =
     let i = c.loop-block.block-index in
     let b = c.block-item.result in
     let here : Place = record { format = c.loop-block.flow.format; channels = c.loop-block.flow.channels; capacity = c.loop-block.frames } in
-    let next : Next here b = making-next (input_place c.args.script.now c.args.block) here blocks i (i + 1) c.loop-block.links.items b (next-first blocks i b c.loop-block-test.true c.block-item.is) c.loop-block.invariant.0 in
+    let next : Next here b = making-next c.args.banked (input_place c.args.script.now c.args.block) here blocks i (i + 1) c.loop-block.links.items b (next-first blocks i b c.loop-block-test.true c.block-item.is) c.loop-block.invariant.0 in
     let few : channels_after c.loop-block.flow.channels b ≤ MAX_CHANNELS = next.few_channels in
     omega (arith, few)
 
@@ -61,9 +61,9 @@ loop-block-preserved g c =
     let more : take (i + 1) blocks ≡ take i blocks ++ b ∷ [] = take_more blocks i b within ∙ ap (λ (e : Block). take i blocks ++ e ∷ []) (sym read) in
     let pushed : c.push.new.self.items ≡ c.loop-block.links.items ++ g.U.Stage.unit c.in_ok-unit.unit ∷ [] = c.in_ok-push.ensures.items ∙ ap (λ (u : UnitState). c.loop-block.links.items ++ u ∷ []) c.in_ok-new.ensures in
     let step : next ≡ place_after here b = next-place here next b c.after-flow.ensures c.most_frames-frames.ensures in (
-      rw pushed (making-more p here next blocks i (i + 1) c.loop-block.links.items (g.U.Stage.unit c.in_ok-unit.unit) b first more step c.in_ok-unit.ensures c.loop-block.invariant.0),
+      rw pushed (making-more c.args.banked p here next blocks i (i + 1) c.loop-block.links.items (g.U.Stage.unit c.in_ok-unit.unit) b first more step c.in_ok-unit.ensures c.loop-block.invariant.0),
       rw c.in_ok-push-2.ensures.items (rules-more c.loop-block.rules.items c.of.result b blocks i (i + 1) more c.of.ensures c.loop-block.invariant.1),
-      rw (pushed, c.in_ok-push-3.ensures.items) (keeps-more c.loop-block.links.items (g.U.Stage.unit c.in_ok-unit.unit) b here.format here.channels here.capacity _ c.loop-block.kept.items c.of_block-numbers.result c.in_ok-unit.ensures c.kept_count.ensures.count c.of_block-numbers.ensures c.loop-block.invariant.2),
+      rw (pushed, c.in_ok-push-3.ensures.items) (keeps-more c.args.banked c.loop-block.links.items (g.U.Stage.unit c.in_ok-unit.unit) b here.format here.channels here.capacity _ c.loop-block.kept.items c.of_block-numbers.result c.in_ok-unit.ensures c.kept_count.ensures.count c.of_block-numbers.ensures c.loop-block.invariant.2),
     )
 
 pub invariant_of-result : goal.invariant_of-result
@@ -77,7 +77,7 @@ invariant_of-result g c =
     let room : c.loop-block.frames * c.from-3.result ≡ place_room (place_behind p (blocks_of us)) = ap (λ n. c.loop-block.frames * n) c.from-3.ensures ∙ sym (ap place_room (ap (place_behind p) so_far ∙ c.loop-block.invariant.0.reached)) in
     let open_all = legal_is_open p c.args.script.now.blocks c.requires.chain c.requires.channels c.requires.legal in
     rw c.from-2.ensures (
-      new-whole p us c.args.script.now.blocks blocks c.loop-block.invariant.0.row c.loop-block.invariant.0.fresh c.requires.chain c.requires.channels c.requires.few_channels c.requires.few_blocks c.requires.one_correlate open_all,
+      new-whole c.args.banked p us c.args.script.now.blocks blocks c.loop-block.invariant.0.row c.loop-block.invariant.0.fresh c.requires.chain c.requires.channels c.requires.few_channels c.requires.few_blocks c.requires.one_correlate open_all,
       c.loop-block.invariant.1 ∙ ap rules_of (all ∙ sym blocks),
       c.loop-block.invariant.2,
       room,
@@ -89,7 +89,7 @@ returns g c =
     let us = c.loop-block.links.items in
     let read = c.as_slice-blocks.result.now in
     let blocks : blocks_of us ≡ c.args.script.now.blocks = c.loop-block.invariant.0.blocks_so_far ∙ take_all c.loop-block.block-index read (omega arith) ∙ c.as_slice-blocks.ensures in
-    rw c.from-2.ensures (new-chain p us c.args.script.now.blocks blocks c.loop-block.invariant.0.row c.loop-block.invariant.0.fresh)
+    rw c.from-2.ensures (new-chain c.args.banked p us c.args.script.now.blocks blocks c.loop-block.invariant.0.row c.loop-block.invariant.0.fresh)
 
 pub most_frames-frames-requires : goal.most_frames-frames-requires
 most_frames-frames-requires g c =
@@ -97,7 +97,7 @@ most_frames-frames-requires g c =
     let i = c.loop-block.block-index in
     let b = c.block-item.result in
     let here : Place = record { format = c.loop-block.flow.format; channels = c.loop-block.flow.channels; capacity = c.loop-block.frames } in
-    let next : Next here b = making-next (input_place c.args.script.now c.args.block) here blocks i (i + 1) c.loop-block.links.items b (next-first blocks i b c.loop-block-test.true c.block-item.is) c.loop-block.invariant.0 in
+    let next : Next here b = making-next c.args.banked (input_place c.args.script.now c.args.block) here blocks i (i + 1) c.loop-block.links.items b (next-first blocks i b c.loop-block-test.true c.block-item.is) c.loop-block.invariant.0 in
     record { groups = (has_groups (flow_at here) (b ∷ []) (next.suits, tt)).0; fits = omega (arith, next.few_frames) }
 
 pub overflow_mul-frames : goal.overflow_mul-frames
@@ -107,7 +107,7 @@ overflow_mul-frames g c =
     let b = c.block-item.result in
     let here : Place = record { format = c.loop-block.flow.format; channels = c.loop-block.flow.channels; capacity = c.loop-block.frames } in
     let behind : Place = record { format = c.after-flow.result.format; channels = c.after-flow.result.channels; capacity = c.most_frames-frames.result } in
-    let next : Next here b = making-next (input_place c.args.script.now c.args.block) here blocks i (i + 1) c.loop-block.links.items b (next-first blocks i b c.loop-block-test.true c.block-item.is) c.loop-block.invariant.0 in
+    let next : Next here b = making-next c.args.banked (input_place c.args.script.now c.args.block) here blocks i (i + 1) c.loop-block.links.items b (next-first blocks i b c.loop-block-test.true c.block-item.is) c.loop-block.invariant.0 in
     let step : behind ≡ place_after here b = next-place here behind b c.after-flow.ensures c.most_frames-frames.ensures in
     let samples : behind.capacity * behind.channels ≤ MAX_SAMPLES = subst (λ (p : Place). p.capacity * p.channels ≤ MAX_SAMPLES) (sym step) next.few_samples in
     rw c.from.ensures (omega (arith, samples))
@@ -115,7 +115,7 @@ overflow_mul-frames g c =
 pub overflow_mul-result : goal.overflow_mul-result
 overflow_mul-result g c =
     let here : Place = record { format = c.loop-block.flow.format; channels = c.loop-block.flow.channels; capacity = c.loop-block.frames } in
-    let samples : c.loop-block.frames * c.loop-block.flow.channels ≤ MAX_SAMPLES = (making-open (input_place c.args.script.now c.args.block) here c.as_slice-blocks.result.now c.loop-block.block-index c.loop-block.links.items c.loop-block.invariant.0).samples in
+    let samples : c.loop-block.frames * c.loop-block.flow.channels ≤ MAX_SAMPLES = (making-open c.args.banked (input_place c.args.script.now c.args.block) here c.as_slice-blocks.result.now c.loop-block.block-index c.loop-block.links.items c.loop-block.invariant.0).samples in
     rw c.from-3.ensures (omega (arith, samples))
 
 -- the row of a unit has just the room that the unit needs

@@ -32,7 +32,7 @@ pub struct Plan {
 
 /// The plan of a session, for so many frames.
 fn plan_of<U: AnyUnit + Drop>(session: &Session<U>, frames: u64) -> Plan
-    requires new { IsNew session.now.script session.now.block session.now }
+    requires new { IsNew session.now.banked session.now.script session.now.block session.now }
     requires few { frames ≤ MAX_INPUT }
     ensures { result ≡ plan_of session.now.script session.now.block frames }
 {

@@ -23,7 +23,7 @@ use Rattle.dsp_cli.specs.Causes.{EndsEarly, Causes, NoneFailed, Completes}
 use Rattle.dsp_cli.specs.Fault.{status_of, summary_text}
 use Rattle.dsp_cli.specs.Perform.{IsWhole, Made, Performed, HasStatus}
 use Rattle.dsp_cli.specs.Run.{HasText, HasBlocks, HasOutput, IsStream, IsGen, IsPrint, IsDone, IsRefusal, IsRefused, IsAnswer, IsFree, IfWhole, IsReading, Wrote, Tells, ReportsText, read_from}
-use Rattle.dsp_cli.specs.Script.{ReadsText, IfScript, chosen_block, is_legal_for}
+use Rattle.dsp_cli.specs.Script.{ReadsText, IfScript, chosen_block, is_legal_for, is_banked}
 use Rattle.dsp_cli.specs.declared.fault.Fault.{Fault}
 use Rattle.dsp_cli.specs.declared.fault.Fault.TheVariants.{Usage, ScriptRead, Script as BadText, BlockLength, Memory, Stream, Conversion}
 use Rattle.dsp_defs.specs.Au.{target}
@@ -73,7 +73,7 @@ module _ (c : Call) (status : ℕ) (report told : SinkState) where
 
   -- a stream stopped, or none was begun
   abbrev StreamStops : StreamFault → Script → Type 0
-  StreamStops fault script = Streams script (λ block input now. StreamStopped script block fault input now c.sink c.after c.before c.counts) c
+  StreamStops fault script = Streams script (λ block input now. StreamStopped (is_banked c.words) script block fault input now c.sink c.after c.before c.counts) c
 
   -- ---- what is left alone
 

@@ -12,23 +12,26 @@ use Rattle.dsp_defs.specs.declared.measure.Measure.{Measure}
 use Rattle.dsp_defs.specs.declared.script.Script.{Script}
 use Rattle.dsp_session.specs.Session.{cost_of}
 use Rattle.dsp_session.specs.Stream.{Done, Stopped as StreamStopped}
+use Rattle.dsp_session.specs.declared.fault.StreamFault.{StreamFault}
 use Rattle.dsp_cli.specs.Fault.{summary_text}
 use Rattle.dsp_cli.specs.Call.{Call, call, Untouched, Streams, Went, Stopped, Happened}
 use Rattle.dsp_cli.specs.Perform.{NotBegun, ReadsAs, Ran, RanGenerated, Made, FailsToLoad, FailsToRun, FailsToGenerate}
 use Rattle.dsp_cli.specs.Run.{HasText, IsStream, IsReading, read_from}
-use Rattle.dsp_cli.specs.Script.{named_by, chosen, chosen_block, is_legal_for}
+use Rattle.dsp_cli.specs.Script.{named_by, banked_by, chosen, chosen_block, is_banked, is_legal_for}
 use Rattle.dsp_cli.specs.declared.fault.Fault.{Fault}
 use Rattle.dsp_cli.specs.declared.fault.Fault.TheVariants.{ScriptRead, Script as BadText, BlockLength, Memory, Stream}
 use Rattle.dsp_cli.proofs.StatusLaws.{stream_blocks, stream_text}
 use Rattle.dsp_cli.specs.declared.report.Summary.{Summary}
 
 -- the stream of a session of the script, in blocks of the chosen length, has done this
-pub done_by : (script same : Script) (block same_block frames : ℕ) (input now : SourceState) (sink after : SinkState) (before counts : Counts) (found measured : List Measure)
-    → same ≡ script → same_block ≡ block → found ≡ measured → Done same same_block frames input now sink after before counts measured → Done script block frames input now sink after before counts found
-done_by script same block same_block frames input now sink after before counts found measured s b f done =
-    subst (λ (t : Script). Done t block frames input now sink after before counts found) s
-    (subst (λ n. Done same n frames input now sink after before counts found) b
-    (subst (λ m. Done same same_block frames input now sink after before counts m) (sym f) done))
+pub done_by : (banked same_banked : Bool) (script same : Script) (block same_block frames : ℕ) (input now : SourceState) (sink after : SinkState) (before counts : Counts) (found measured : List Measure)
+    → same_banked ≡ banked → same ≡ script → same_block ≡ block → found ≡ measured
+    → Done same_banked same same_block frames input now sink after before counts measured → Done banked script block frames input now sink after before counts found
+done_by banked same_banked script same block same_block frames input now sink after before counts found measured k s b f done =
+    subst (λ t. Done t script block frames input now sink after before counts found) k
+    (subst (λ (t : Script). Done same_banked t block frames input now sink after before counts found) s
+    (subst (λ n. Done same_banked same n frames input now sink after before counts found) b
+    (subst (λ m. Done same_banked same same_block frames input now sink after before counts m) (sym f) done)))
 
 -- and its summary is the report of just that
 pub text_by : (script : Script) (summary : Summary) → summary.input ≡ record { format = script.input.format; channels = script.input.channels }
@@ -59,11 +62,26 @@ module _ (words : List (List ℕ)) (source read port later : SourceState) (sink 
           other_same = refl;
         }
 
-    went : (summary : Summary) → Ran (named_by (Some command)) script summary (read_from (Some command) script.input port) now sink after before counts → Made (summary_text summary) called
+    -- whether the biquads are banks, by the command and by its words
+    flag : banked_by (Some command) ≡ is_banked words
+    flag = ap banked_by (sym is)
+
+    abbrev WentBy : Bool → Summary → Type 0
+    WentBy banked summary =
+        Done banked script (chosen (named_by (Some command)) script) summary.totals.frames_taken (read_from (Some command) script.input port) now sink after
+        before counts summary.measures.items
+
+    abbrev StopsBy : Bool → StreamFault → Type 0
+    StopsBy banked fault =
+        StreamStopped banked script (chosen (named_by (Some command)) script) fault (read_from (Some command) script.input port) now sink after before counts
+
+    went : (summary : Summary) → Ran (named_by (Some command)) (banked_by (Some command)) script summary (read_from (Some command) script.input port) now sink after before counts → Made (summary_text summary) called
     went summary ran =
         record {
           ending = Went script summary.totals.frames_taken summary.measures.items;
-          happened = streams (λ block input now. Done script block summary.totals.frames_taken input now sink after before counts summary.measures.items) ran.legal ran.done;
+          happened = streams
+              (λ block input now. Done (is_banked words) script block summary.totals.frames_taken input now sink after before counts summary.measures.items)
+              ran.legal (subst (λ banked. WentBy banked summary) flag ran.done);
           whole = tt;
           text_is = ran.text;
         }
@@ -72,22 +90,23 @@ module _ (words : List (List ℕ)) (source read port later : SourceState) (sink 
       left_alone : NotBegun (read_from (Some command) script.input port) now sink after before counts → Untouched called
       left_alone not_begun = record { input_same = left not_begun.input_same; output_same = not_begun.output_same; other_same = refl; counts_same = not_begun.counts_same }
 
-      stops : (fault : Fault) → FailsToRun fault (named_by (Some command)) script (read_from (Some command) script.input port) now sink after before counts → Happened (Stopped fault) called
+      stops : (fault : Fault) → FailsToRun fault (named_by (Some command)) (banked_by (Some command)) script (read_from (Some command) script.input port) now sink after before counts → Happened (Stopped fault) called
       stops (BlockLength block divisor) (length, untouched) =
           let chosen_is : chosen (named_by (Some command)) script ≡ chosen_block words script = ap (λ command. chosen (named_by command) script) (sym is) in
           let illegal : IsFalse (is_legal_for script block) = subst (λ n. IsFalse (is_legal_for script n)) (sym length.block_is) length.illegal in
           ((stream_blocks words stream, record { text = loaded.text; read = loaded.read; holds = (script, loaded.holds, illegal, length.block_is ∙ chosen_is, length.divisor_is) }), left_alone untouched)
       stops Memory untouched = (stream_text words stream, left_alone untouched)
       stops (Stream fault) stop =
-          (script, streams (λ block input now. StreamStopped script block fault input now sink after before counts) stop.legal stop.stopped)
+          (script, streams (λ block input now. StreamStopped (is_banked words) script block fault input now sink after before counts) stop.legal
+          (subst (λ banked. StopsBy banked fault) flag stop.stopped))
       stops fault none = absurd none
 
   -- a run
   module _ (named : Option ℕ) (banked : Bool) (is : command_of words ≡ Some (Run named banked)) where
-    pub run_went : (summary : Summary) → Ran named script summary port later sink after before counts → Made (summary_text summary) called
+    pub run_went : (summary : Summary) → Ran named banked script summary port later sink after before counts → Made (summary_text summary) called
     run_went summary ran = went (Run named banked) is (inl (named, banked, is)) later refl summary ran
 
-    pub run_stops : (fault : Fault) → FailsToRun fault named script port later sink after before counts → Happened (Stopped fault) called
+    pub run_stops : (fault : Fault) → FailsToRun fault named banked script port later sink after before counts → Happened (Stopped fault) called
     run_stops fault fails = stops (Run named banked) is (inl (named, banked, is)) later refl (λ same. same) fault fails
 
 -- a gen leaves the port of the input alone

@@ -20,7 +20,7 @@ use Rattle.dsp_session.proofs.OpeningLaws.{some_frame}
 use Rattle.dsp_cli.specs.Call.{Call}
 use Rattle.dsp_cli.specs.Causes.{NoneFailed}
 use Rattle.dsp_cli.specs.Run.{IsGen, IsStream, IsReading, IsGood, IsFree, InLimit, read_from}
-use Rattle.dsp_cli.specs.Script.{chosen_block}
+use Rattle.dsp_cli.specs.Script.{chosen_block, is_banked}
 use Rattle.dsp_cli.proofs.GatherLaws.{gathered_more}
 use Rattle.dsp_cli.proofs.GeneratedLaws.{generated_good, generated_in_limit}
 use Rattle.dsp_cli.proofs.InputLaws.{header_stays, frames_stay, signal_stays, some_not_none, fault_told, past_limit, frame_in}
@@ -96,7 +96,7 @@ module _ (c : Call) (script : Script) (channels : (1 ≤ script.input.channels) 
 
   module _ (report told : SinkState) (stream : IsStream c.words) (ready : IsReady script (chosen_block c.words script)) (now : SourceState) (reading : IsReading (command_of c.words) c.port c.later now)
       (bytes : List ℕ) (is_told : input.left ≡ Some bytes) (free : IsFree (command_of c.words) script (chosen_block c.words script) bytes) (none : NoneFailed c report told) where
-    pub stop_blocks : (fault : StreamFault) → Stopped script (chosen_block c.words script) fault input now c.sink c.after c.before c.counts → ⊥
+    pub stop_blocks : (fault : StreamFault) → Stopped (is_banked c.words) script (chosen_block c.words script) fault input now c.sink c.after c.before c.counts → ⊥
     stop_blocks Input stopped = input_kept stream now reading stopped.faults.0 none.input_kept
     stop_blocks Output stopped = none.output_kept (rose _ _ stopped.faults.1)
     stop_blocks (Header fault offset) stopped =

@@ -40,6 +40,10 @@ by_test : (test : Bool) (command : Option Command) → IfSome command MakesFew �
 by_test true command within = within
 by_test false command within = tt
 
+by_either : (test : Bool) (first second : Option Command) → IfSome first MakesFew → IfSome second MakesFew → IfSome (if test then first else second) MakesFew
+by_either true first second within later = within
+by_either false first second within later = later
+
 made_within : (seed frames : ℕ) (test : Bool) → nat_le frames MAX_GENERATED ≡ test → IfSome (if test then Some (Gen seed frames) else None) MakesFew
 made_within seed frames true is = grind (arith, nat_tests)
 made_within seed frames false is = tt
@@ -50,15 +54,13 @@ generating_within (Some seed) None = tt
 generating_within (Some seed) (Some frames) = made_within seed frames (nat_le frames MAX_GENERATED) refl
 
 running_within : (verb : List ℕ) (named : Option ℕ) → IfSome (running verb named) MakesFew
-running_within verb named = by_test (bytes_eq verb (codes "run")) (Some (Run named false)) tt
+running_within verb named =
+    by_either (bytes_eq verb (codes "run")) (Some (Run named false)) (if bytes_eq verb (codes "bank") then Some (Run named true) else None) tt
+    (by_test (bytes_eq verb (codes "bank")) (Some (Run named true)) tt)
 
 named_within : (verb : List ℕ) (count : Option ℕ) → IfSome (option_and_then (λ n. running verb (Some n)) count) MakesFew
 named_within verb None = tt
 named_within verb (Some n) = running_within verb (Some n)
-
-by_either : (test : Bool) (first second : Option Command) → IfSome first MakesFew → IfSome second MakesFew → IfSome (if test then first else second) MakesFew
-by_either true first second within later = within
-by_either false first second within later = later
 
 direction_within : (direction : Option Direction) → IfSome (option_map (λ d. Convert d) direction) MakesFew
 direction_within None = tt

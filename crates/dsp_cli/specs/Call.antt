@@ -17,7 +17,7 @@ use Rattle.dsp_defs.specs.declared.script.Script.{Script}
 use Rattle.dsp_session.specs.Stream.{Done, Stopped as StreamStopped}
 use Rattle.dsp_cli.specs.Fault.{status_of, fault_line}
 use Rattle.dsp_cli.specs.Run.{HasText, HasBlocks, IsStream, IsPrint, IsReading, IfWhole, Tells, ReportsText, Wrote, read_from}
-use Rattle.dsp_cli.specs.Script.{ReadsText, chosen_block, is_legal_for}
+use Rattle.dsp_cli.specs.Script.{ReadsText, chosen_block, is_banked, is_legal_for}
 use Rattle.dsp_cli.specs.declared.fault.Fault.{Fault}
 use Rattle.dsp_cli.specs.declared.fault.Fault.TheVariants.{Usage, ScriptRead, Script as BadText, BlockLength, Memory, Stream, Conversion}
 use Rattle.dsp_defs.specs.Au.{target}
@@ -128,13 +128,13 @@ Refuses fault c = ⊥
 -- what was done
 abbrev pub Happened : Ending → Call → Type 0
 Happened (Went script frames found) c =
-    Streams script (λ block input now. Done script block frames input now c.sink c.after c.before c.counts found) c
+    Streams script (λ block input now. Done (is_banked c.words) script block frames input now c.sink c.after c.before c.counts found) c
 Happened (Printed script) c =
     IsPrint c.words × ReadsText c.source c.read (λ text. Reads text script) × Untouched c
 Happened (Turned totals) c = Converts (λ direction. ConvertDone direction totals c.port c.later c.sink c.after) c
 Happened (Stopped (Conversion fault)) c = Converts (λ direction. ConvertStopped direction fault c.port c.later c.sink c.after) c
 Happened (Stopped (Stream fault)) c =
-    (script : Script) × Streams script (λ block input now. StreamStopped script block fault input now c.sink c.after c.before c.counts) c
+    (script : Script) × Streams script (λ block input now. StreamStopped (is_banked c.words) script block fault input now c.sink c.after c.before c.counts) c
 Happened (Stopped fault) c = Refuses fault c × Untouched c
 
 -- what is said of it

@@ -1,5 +1,5 @@
 -- What the parts of the top call do: a script is loaded, goes over an input, and is reported.
-use Rattle.std.specs.Prelude.{◌≡◌, ℕ, List, Option, None, Some, IsTrue, IsFalse, Result, Ok, Err}
+use Rattle.std.specs.Prelude.{◌≡◌, ℕ, Bool, false, List, Option, None, Some, IsTrue, IsFalse, Result, Ok, Err}
 use Rattle.dsp_ports.specs.Ports.{SourceState, SinkState, one_more}
 use Rattle.dsp_defs.specs.Counts.{Counts}
 use Rattle.dsp_defs.specs.Grammar.{Reads}
@@ -41,9 +41,9 @@ pub record NotBegun (input now : SourceState) (output after : SinkState) (before
   pub counts_same : counts ≡ before
 
 -- the run went over the whole input, and its summary is the report of just that
-pub record Ran (named : Option ℕ) (script : Script) (summary : Summary) (input now : SourceState) (output after : SinkState) (before counts : Counts) : Type 0 where
+pub record Ran (named : Option ℕ) (banked : Bool) (script : Script) (summary : Summary) (input now : SourceState) (output after : SinkState) (before counts : Counts) : Type 0 where
   pub legal : IsTrue (is_legal_for script (chosen named script))
-  pub done : Done script (chosen named script) summary.totals.frames_taken input now output after before counts summary.measures.items
+  pub done : Done banked script (chosen named script) summary.totals.frames_taken input now output after before counts summary.measures.items
   pub text : summary_text summary ≡ report_text script summary.totals.frames_taken summary.measures.items
 
 -- the chosen block length isn't legal
@@ -53,28 +53,28 @@ pub record StopsAtLength (block divisor : ℕ) (named : Option ℕ) (script : Sc
   pub divisor_is : divisor ≡ unit script.input.channels script.blocks
 
 -- the stream stopped
-pub record StopsInStream (fault : StreamFault) (named : Option ℕ) (script : Script) (input now : SourceState) (output after : SinkState) (before counts : Counts) : Type 0 where
+pub record StopsInStream (fault : StreamFault) (named : Option ℕ) (banked : Bool) (script : Script) (input now : SourceState) (output after : SinkState) (before counts : Counts) : Type 0 where
   pub legal : IsTrue (is_legal_for script (chosen named script))
-  pub stopped : StreamStopped script (chosen named script) fault input now output after before counts
+  pub stopped : StreamStopped banked script (chosen named script) fault input now output after before counts
 
 -- why a script does not run, and what was called by then
-abbrev pub FailsToRun : Fault → Option ℕ → Script → SourceState → SourceState → SinkState → SinkState → Counts → Counts → Type 0
-FailsToRun (BlockLength block divisor) named script input now output after before counts = StopsAtLength block divisor named script × NotBegun input now output after before counts
-FailsToRun Memory named script input now output after before counts = NotBegun input now output after before counts
-FailsToRun (Stream fault) named script input now output after before counts = StopsInStream fault named script input now output after before counts
-FailsToRun fault named script input now output after before counts = ⊥
+abbrev pub FailsToRun : Fault → Option ℕ → Bool → Script → SourceState → SourceState → SinkState → SinkState → Counts → Counts → Type 0
+FailsToRun (BlockLength block divisor) named banked script input now output after before counts = StopsAtLength block divisor named script × NotBegun input now output after before counts
+FailsToRun Memory named banked script input now output after before counts = NotBegun input now output after before counts
+FailsToRun (Stream fault) named banked script input now output after before counts = StopsInStream fault named banked script input now output after before counts
+FailsToRun fault named banked script input now output after before counts = ⊥
 
 -- the run went over a whole generated input
 pub record RanGenerated (seed frames : ℕ) (script : Script) (summary : Summary) (output after : SinkState) (before counts : Counts) : Type 0 where
   pub now : SourceState
   pub clean : now.faults ≡ 0
-  pub ran : Ran None script summary (generated_source script.input seed frames) now output after before counts
+  pub ran : Ran None false script summary (generated_source script.input seed frames) now output after before counts
 
 -- a run over a generated input stops
 pub record FailsToGenerate (fault : Fault) (seed frames : ℕ) (script : Script) (output after : SinkState) (before counts : Counts) : Type 0 where
   pub now : SourceState
   pub clean : now.faults ≡ 0
-  pub fails : FailsToRun fault None script (generated_source script.input seed frames) now output after before counts
+  pub fails : FailsToRun fault None false script (generated_source script.input seed frames) now output after before counts
 
 -- ---- what the words ask for
 

@@ -1,5 +1,5 @@
 -- What is read of a script, and what is said of the script that a source tells.
-use Rattle.std.specs.Prelude.{◌≡◌, ◌⊎◌, ◌+◌, ℕ, Bool, List, length, Option, Some, None, IfSome, unwrap_or}
+use Rattle.std.specs.Prelude.{◌≡◌, ◌⊎◌, ◌+◌, ℕ, Bool, false, List, length, Option, Some, None, IfSome, unwrap_or}
 use Rattle.std.specs.Io.KnownBytes.{IsAtEnd}
 use Rattle.dsp_ports.specs.Ports.{SourceState, Gave}
 use Rattle.dsp_defs.specs.Grammar.{Reads}
@@ -28,12 +28,20 @@ pub record ReadsText (source now : SourceState) (P : List ℕ → Type 0) : Type
 abbrev pub IfScript : Option (List ℕ) → (Script → Type 0) → Type 0
 IfScript left P = IfSome left (λ text. (script : Script) → Reads text script → P script)
 
--- ---- its block length
+-- ---- its block length, and whether it is banked
 
 -- the block length that a command names
 abbrev pub named_by : Option Command → Option ℕ
 named_by (Some (Run block banked)) = block
 named_by command = None
+
+-- whether the biquads of a command's script are banks
+abbrev pub banked_by : Option Command → Bool
+banked_by (Some (Run block banked)) = banked
+banked_by command = false
+
+abbrev pub is_banked : List (List ℕ) → Bool
+is_banked words = banked_by (command_of words)
 
 -- the block length that is named, else that of the script, else the default
 abbrev pub chosen : Option ℕ → Script → ℕ

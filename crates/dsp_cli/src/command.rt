@@ -51,17 +51,16 @@ fn generating(seed: Option<u32>, frames: Option<u32>) -> Option<Command>
     }
 }
 
-/// The run that a verb asks for, in blocks of the length that is named.
+/// The run that a verb asks for, banked or not, in blocks of the length that is named.
 fn running(verb: &str, block: Option<u32>) -> Option<Command>
     ensures { result ≡ running verb.now block }
 {
-    if verb == "run" {
-        return Some(Command::Run {
-            block,
-            banked: false,
-        });
-    }
-    None
+    let banked = match verb {
+        "run" => false,
+        "bank" => true,
+        _ => return None,
+    };
+    Some(Command::Run { block, banked })
 }
 
 /// The way from one named form of file to the other.

@@ -280,7 +280,7 @@ pub fn line_of(fault: &Fault) -> Line
     match fault {
         Fault::Usage => text(
             &mut line,
-            b"dspfx: usage: run SCRIPT IN OUT [block N], gen SEED FRAMES SCRIPT OUT, print SCRIPT, convert wave au IN OUT, convert au wave IN OUT\n",
+            b"dspfx: usage: run SCRIPT IN OUT [block N], gen SEED FRAMES SCRIPT OUT, print SCRIPT, bank SCRIPT IN OUT [block N], convert wave au IN OUT, convert au wave IN OUT\n",
         ),
         Fault::ScriptRead => text(&mut line, b"dspfx: script not read\n"),
         Fault::Script(fault) => script_line(&mut line, *fault),

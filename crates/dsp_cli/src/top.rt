@@ -7,7 +7,7 @@ ghost use Rattle.dsp_command.specs.Report.{measure_line, report_text};
 ghost use Rattle.dsp_command.specs.Words.{command_of};
 ghost use Rattle.dsp_command.specs.declared.command.Command.TheVariants.{Gen};
 ghost use Rattle.dsp_defs.specs.declared.limits.TheConstants.{MAX_GENERATED, MAX_SCRIPT};
-ghost use Rattle.dsp_session.specs.Session.{cost_of, measures_of};
+ghost use Rattle.dsp_session.specs.Session.{IsNew, IsReady, cost_of, measures_of};
 ghost use Rattle.dsp_cli.specs.Call.{Ended, Happened, HasDone, Spares, Stopped, Untouched, call};
 ghost use Rattle.dsp_cli.specs.Causes.{Causes, Completes};
 ghost use Rattle.dsp_cli.specs.Fault.{summary_text};
@@ -30,7 +30,7 @@ use dsp_script::{ParseFault, default_block, legal, output_flow, parse, print, un
 use dsp_session::{Session, stream};
 use dsp_stage::AnyUnit;
 use dsp_wave::GenSource;
-use std::alloc::Global;
+use std::alloc::{AllocError, Global};
 use std::sync::ledger::Ledger;
 
 /// What was done.
@@ -73,10 +73,27 @@ fn chosen(named: Option<u32>, script: &Script) -> u64
     }
 }
 
-/// Runs a script over the input.
+/// A session of the script, banked or not.
+fn session_of<U: AnyUnit + Drop>(
+    alloc: Global,
+    script: Script,
+    block: u64,
+    banked: bool,
+) -> Result<Session<U>, AllocError>
+    requires { IsReady script block }
+    ensures { IfOk result (IsNew banked script block) }
+{
+    match banked {
+        true => Session::banked(alloc, script, block),
+        false => Session::new(alloc, script, block),
+    }
+}
+
+/// Runs a script, banked or not, over the input.
 fn run_script<U: AnyUnit + Drop, S: Source, K: Sink, L: Ledger>(
     alloc: Global,
     named: Option<u32>,
+    banked: bool,
     script: Script,
     input: &mut S,
     output: &mut K,
@@ -84,10 +101,10 @@ fn run_script<U: AnyUnit + Drop, S: Source, K: Sink, L: Ledger>(
 ) -> Result<Summary, Fault>
     requires { IsSound script }
     ensures ok { IfOk result (λ summary.
-        Ran named script summary (S.state input.old) (S.state input.new) (K.state output.old)
+        Ran named banked script summary (S.state input.old) (S.state input.new) (K.state output.old)
         (K.state output.new) steps.old steps.new) }
     ensures err { IfErr result (λ fault.
-        FailsToRun fault named script (S.state input.old) (S.state input.new)
+        FailsToRun fault named banked script (S.state input.old) (S.state input.new)
         (K.state output.old) (K.state output.new) steps.old steps.new) }
 {
     let block = chosen(named, &script);
@@ -95,7 +112,7 @@ fn run_script<U: AnyUnit + Drop, S: Source, K: Sink, L: Ledger>(
         let unit = unit(&script);
         return Err(Fault::BlockLength { block, unit });
     }
-    let Ok(mut session) = Session::<U>::new(alloc, script, block) else {
+    let Ok(mut session) = session_of::<U>(alloc, script, block, banked) else {
         return Err(Fault::Memory);
     };
     // The list has all the room that it will need, so that no memory is wanted behind the stream.
@@ -138,7 +155,7 @@ fn generate<U: AnyUnit + Drop, K: Sink, L: Ledger>(
         (K.state output.new) steps.old steps.new) }
 {
     let mut input = GenSource::new(&script.input, seed, frames);
-    run_script::<U, _, _, _>(alloc, None, script, &mut input, output, steps)
+    run_script::<U, _, _, _>(alloc, None, false, script, &mut input, output, steps)
 }
 
 /// Does what the words say, but for the report.
@@ -176,9 +193,10 @@ fn perform<U: AnyUnit + Drop, P: Source, S: Source, K: Sink, O: Source, L: Ledge
                 Err(_) => Err(Fault::Memory),
             }
         }
-        Command::Run { block, .. } => {
+        Command::Run { block, banked } => {
             let script = load_script(alloc, script)?;
-            let summary = run_script::<U, _, _, _>(alloc, block, script, input, output, steps)?;
+            let summary =
+                run_script::<U, _, _, _>(alloc, block, banked, script, input, output, steps)?;
             Ok(Outcome::Ran(summary))
         }
         Command::Gen { seed, frames } => {

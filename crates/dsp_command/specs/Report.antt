@@ -71,7 +71,7 @@ located text offset = text.0 ++ codes " at " ++ decimal offset ++ text.1
 
 -- the words are no command
 abbrev pub usage_line : List ℕ
-usage_line = line (codes "dspfx: usage: run SCRIPT IN OUT [block N], gen SEED FRAMES SCRIPT OUT, print SCRIPT, convert wave au IN OUT, convert au wave IN OUT")
+usage_line = line (codes "dspfx: usage: run SCRIPT IN OUT [block N], gen SEED FRAMES SCRIPT OUT, print SCRIPT, bank SCRIPT IN OUT [block N], convert wave au IN OUT, convert au wave IN OUT")
 
 -- `dspfx: script: ` and the fault where it stands
 abbrev pub script_line : ScriptFault → List ℕ

@@ -1,5 +1,5 @@
 -- Which words are a command, and where they name its script, its input, its output and another file that it reads.
-use Rattle.std.specs.Prelude.{ℕ, ◌-◌, ◌^◌, Bool, false, not, ◌&&◌, nat_eq, nat_le, List, [], ◌∷◌, length, Option, Some, None, codes, if◌then◌else◌}
+use Rattle.std.specs.Prelude.{ℕ, ◌-◌, ◌^◌, Bool, true, false, not, ◌&&◌, nat_eq, nat_le, List, [], ◌∷◌, length, Option, Some, None, codes, if◌then◌else◌}
 use Rattle.std.specs.Option.{option_map, option_and_then}
 use Rattle.std.specs.Char.{is_ascii_digit}
 use Rattle.std.specs.List.{list_all}
@@ -36,9 +36,11 @@ abbrev pub generating : Option ℕ → Option ℕ → Option Command
 generating (Some seed) (Some frames) = if nat_le frames MAX_GENERATED then Some (Gen seed frames) else None
 generating seed frames = None
 
--- the verb of a run, in blocks of the length that is named, if one is
+-- the verb of a run, banked or not, in blocks of the length that is named, if one is
 abbrev pub running : List ℕ → Option ℕ → Option Command
-running verb named = if bytes_eq verb (codes "run") then Some (Run named false) else None
+running verb named =
+    if bytes_eq verb (codes "run") then Some (Run named false)
+    else (if bytes_eq verb (codes "bank") then Some (Run named true) else None)
 
 -- the way from one named form of file to the other
 abbrev pub direction_of : List ℕ → List ℕ → Option Direction
@@ -53,7 +55,8 @@ of_five verb second third fourth output =
     else (if bytes_eq verb (codes "convert") && are_gen_names fourth output then option_map (λ d. Convert d) (direction_of second third)
     else None)
 
--- `print SCRIPT`, `run SCRIPT IN OUT`, `gen SEED FRAMES SCRIPT OUT`, `convert FROM TO IN OUT` and `run SCRIPT IN OUT block N`
+-- `print SCRIPT`, `run SCRIPT IN OUT`, `gen SEED FRAMES SCRIPT OUT`, `convert FROM TO IN OUT` and `run SCRIPT IN OUT block N`;
+-- `bank` stands where `run` does
 abbrev pub command_of : List (List ℕ) → Option Command
 command_of (verb ∷ script ∷ []) = if bytes_eq verb (codes "print") && is_name script then Some Print else None
 command_of (verb ∷ script ∷ input ∷ output ∷ []) =

@@ -1,5 +1,5 @@
 -- The session that a text opens, and why it opens none.
-use Rattle.std.specs.Prelude.{◌≡◌, ℕ, zero, suc, List, Some, IsTrue, IsFalse, unwrap_or}
+use Rattle.std.specs.Prelude.{◌≡◌, ℕ, zero, suc, false, List, Some, IsTrue, IsFalse, unwrap_or}
 use Rattle.dsp_defs.specs.Grammar.{Reads}
 use Rattle.dsp_defs.specs.Reading.{first_fault}
 use Rattle.dsp_defs.specs.Shape.{default_block, is_legal, unit}
@@ -19,7 +19,7 @@ pub record IsOpened (text : List ℕ) (block : ℕ) (s : SessionState) : Type 0 
   pub script : Script
   pub reads : Reads text script
   pub legal : IsTrue (is_legal script.input.channels script.blocks (asked block script))
-  pub new : IsNew script (asked block script) s
+  pub new : IsNew false script (asked block script) s
 
 -- the text reads as a script, which runs in no blocks of that length
 pub record IsIllegal (text : List ℕ) (block told divisor : ℕ) : Type 0 where

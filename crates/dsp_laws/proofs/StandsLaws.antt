@@ -16,7 +16,7 @@ use Rattle.dsp_session.specs.declared.fault.StreamFault.TheVariants.{Header, Inp
 use Rattle.dsp_cli.specs.Call.{Call, Ending, Went, Printed, Turned, Stopped, Streams, Happened, Reported, Ended}
 use Rattle.dsp_cli.specs.Fault.{status_of, fault_line}
 use Rattle.dsp_cli.specs.Run.{HasText, HasOutput, IsStream, IsDone, Tells, ReportsText, read_from}
-use Rattle.dsp_cli.specs.Script.{chosen_block}
+use Rattle.dsp_cli.specs.Script.{chosen_block, is_banked}
 use Rattle.dsp_cli.specs.declared.fault.Fault.TheVariants.{Usage, ScriptRead, Script as BadText, BlockLength, Memory, Stream, Conversion}
 use Rattle.dsp_cli.proofs.StatusLaws.{stream_text, stream_output, reports_done, fault_not_done, stream_or_print}
 use Rattle.dsp_laws.specs.Stands.{IsBroken, IsStopped, Stands, Taken, Gather, Window, Riff, TellsLength, WroteFront, WrotePart}
@@ -50,7 +50,7 @@ module _ (c : Call) (status : ℕ) (report told : SinkState) where
         most = for_script went _ (within_most went d.gave (omega (arith, exact)));
         exact_cost = λ _. for_script went _ (frames, took_frames went d.gave d.frame_count, d.cost);
         turns = for_taken went _ d.gave
-            (subst (λ n. c.counts.turns ≤ c.before.turns + run_turns script (chosen_block c.words script) n) d.frame_count d.turns);
+            (subst (λ n. c.counts.turns ≤ c.before.turns + run_turns (is_banked c.words) script (chosen_block c.words script) n) d.frame_count d.turns);
         reported = λ _. for_script went _ (frames, found, took_frames went d.gave d.frame_count, for_given went _ d.gave d.measures, text_told reported, text_wrote reported);
       }
 
@@ -62,13 +62,13 @@ module _ (c : Call) (status : ℕ) (report told : SinkState) where
 
   -- a stream of this script was stopped by this fault
   abbrev Stops : Script → StreamFault → Type 0
-  Stops script fault = Streams script (λ block input now. StreamStopped script block fault input now c.sink c.after c.before c.counts) c
+  Stops script fault = Streams script (λ block input now. StreamStopped (is_banked c.words) script block fault input now c.sink c.after c.before c.counts) c
 
   module _ {script : Script} {fault : StreamFault} (stop : Stops script fault) (is : status ≡ status_of (Stream fault)) where
     abbrev source_input : SourceState
     source_input = read_from (command_of c.words) script.input c.port
 
-    abbrev s : StreamStopped script (chosen_block c.words script) fault source_input stop.now c.sink c.after c.before c.counts
+    abbrev s : StreamStopped (is_banked c.words) script (chosen_block c.words script) fault source_input stop.now c.sink c.after c.before c.counts
     s = stop.did
 
     abbrev Parts : Type 0

@@ -14,7 +14,7 @@ use Rattle.dsp_session.specs.Session.{cost_of, run_turns}
 use Rattle.dsp_session.specs.Stream.{IsOverfull, IsTakenWhole, KeepsLimits, LagsByOne, WantsMore, frames_in_bytes, in_whole_blocks}
 use Rattle.dsp_cli.specs.Call.{Call}
 use Rattle.dsp_cli.specs.Run.{IsDone, Tells, Wrote}
-use Rattle.dsp_cli.specs.Script.{IfScript, chosen_block}
+use Rattle.dsp_cli.specs.Script.{IfScript, chosen_block, is_banked}
 use Rattle.dsp_laws.specs.Taken.{FoundMeasures, IfTaken, IsReader, TookFrames, count_taken, least_frame_bytes}
 
 -- ---- statuses
@@ -104,7 +104,7 @@ pub record Stands (c : Call) (status : ℕ) (report told : SinkState) : Type 0 w
       (frames : ℕ) × TookFrames s frames input now × (c.counts.multiplies ≡ c.before.multiplies + cost_of s frames))
   -- the turns of its loops, for these frames
   pub turns : IfTaken c input now (λ s given.
-      c.counts.turns ≤ c.before.turns + run_turns s (chosen_block c.words s) (frames_in_bytes s given))
+      c.counts.turns ≤ c.before.turns + run_turns (is_banked c.words) s (chosen_block c.words s) (frames_in_bytes s given))
   -- what a stream that went over its whole input says of itself
   pub reported : IsDone status → IfScript c.source.left (λ s. (frames : ℕ) × (found : List Measure)
       × TookFrames s frames input now × FoundMeasures s found input now

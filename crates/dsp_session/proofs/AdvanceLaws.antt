@@ -121,7 +121,7 @@ module _ (start session : SessionState) (blocks : ℕ) (heard : List ℕ) (sink 
 
     pub advances_more : Advances start fed (blocks + 1) (heard ++ piece) sink last before passed
     advances_more = record {
-      same = record { script = script_is; block = passes.same.block ∙ advances.same.block; coding = passes.same.coding ∙ advances.same.coding };
+      same = record { script = script_is; banked = passes.same.banked ∙ advances.same.banked; block = passes.same.block ∙ advances.same.block; coding = passes.same.coding ∙ advances.same.coding };
       runs = passed_runs session fed piece then last counts passed passes;
       long = omega (arith, length-append heard piece, advances.long, long);
       counted = counted ∙ ap (λ k. start.chain.frames + k * start.block) next;

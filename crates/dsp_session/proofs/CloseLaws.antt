@@ -1,5 +1,5 @@
 -- The samples have ended: the last of them, the tail, and what that makes of the whole stream.
-use Rattle.std.proofs.Common.{◌≡◌, ℕ, suc, ◌+◌, ◌-◌, ◌*◌, ◌/◌, ◌^◌, ◌<◌, ◌≤◌, List, [], ◌++◌, length, take, Option, Some, None, Result, Ok, Err, sym, ap, ◌∙◌, subst, arith, append_assoc, append-nil, length-append, inl, inr}
+use Rattle.std.proofs.Common.{◌≡◌, ℕ, suc, ◌+◌, ◌-◌, ◌*◌, ◌/◌, ◌^◌, ◌<◌, ◌≤◌, Bool, List, [], ◌++◌, length, take, Option, Some, None, Result, Ok, Err, sym, ap, ◌∙◌, subst, arith, append_assoc, append-nil, length-append, inl, inr}
 use Rattle.std.proofs.lemmas.Bool.{cases_lt}
 use Rattle.std.proofs.lemmas.List.{length-take-le}
 use Rattle.std.specs.Io.KnownBytes.{IsAtEnd, append_known}
@@ -413,12 +413,17 @@ passed_as script same_script block same_block session header piece same_piece la
     (subst (λ n. Passed script n session header same_piece last input now sink then before counts) (sym b)
     (subst (λ xs. Passed script block session header xs last input now sink then before counts) (sym p) passed))
 
-pub done_as : (script same_script : Script) (block same_block frames same_frames : ℕ) (input now : SourceState) (sink then : SinkState) (before counts : Counts) (found : List Measure) →
-    script ≡ same_script → block ≡ same_block → frames ≡ same_frames → Done session.banked script block frames input now sink then before counts found → Done same_script same_block same_frames input now sink then before counts found
-done_as script same_script block same_block frames same_frames input now sink then before counts found s b f done =
-    subst (λ (t : Script). Done t same_block same_frames input now sink then before counts found) s
-    (subst (λ n. Done script n same_frames input now sink then before counts found) b
-    (subst (λ n. Done script block n input now sink then before counts found) f done))
+pub done_as :
+    (banked same_banked : Bool) (script same_script : Script) (block same_block frames same_frames : ℕ) (input now : SourceState) (sink then : SinkState)
+    (before counts : Counts) (found : List Measure) →
+    banked ≡ same_banked → script ≡ same_script → block ≡ same_block → frames ≡ same_frames
+    → Done banked script block frames input now sink then before counts found
+    → Done same_banked same_script same_block same_frames input now sink then before counts found
+done_as banked same_banked script same_script block same_block frames same_frames input now sink then before counts found k s b f done =
+    subst (λ t. Done t same_script same_block same_frames input now sink then before counts found) k
+    (subst (λ (t : Script). Done banked t same_block same_frames input now sink then before counts found) s
+    (subst (λ n. Done banked script n same_frames input now sink then before counts found) b
+    (subst (λ n. Done banked script block n input now sink then before counts found) f done)))
 
 pub few_taken : (start before count f : ℕ) → start + (before + count) ≤ 2 ^ 40 → (before + count) / f ≤ 2 ^ 40
 few_taken start before count f limit = omega (arith, quotient_within (before + count) f, limit)

@@ -223,11 +223,11 @@ module _ (banked : Bool) (script : Script) (block : ℕ) (counts : Counts) (read
       stops_first fault.Output after (take count all) took.put tt has (limits, inl ((drop count all ++ live_bytes script (signal script header.coding []), split), fewer)) (opened.no_fault, risen)
 
 -- no header came, or the output would be too long
-pub stops_untaken : (script : Script) (block : ℕ) (counts : Counts) → IsReady script block → (stop : StreamFault) (input now : SourceState) (sink : SinkState) → Untaken script stop input now → Stopped banked script block stop input now sink sink counts counts
-stops_untaken script block counts ready stop input now sink (NoHeader error is unopened) =
-    subst (λ f. Stopped banked script block f input now sink sink counts counts) (sym is) (stops_unopened script block counts input now sink error unopened)
-stops_untaken script block counts ready stop input now sink (LongOutput header size opened is long) =
-    subst (λ f. Stopped banked script block f input now sink sink counts counts) (sym is) (stops_too_long script block counts ready header input now sink opened size long)
+pub stops_untaken : (banked : Bool) (script : Script) (block : ℕ) (counts : Counts) → IsReady script block → (stop : StreamFault) (input now : SourceState) (sink : SinkState) → Untaken script stop input now → Stopped banked script block stop input now sink sink counts counts
+stops_untaken banked script block counts ready stop input now sink (NoHeader error is unopened) =
+    subst (λ f. Stopped banked script block f input now sink sink counts counts) (sym is) (stops_unopened banked script block counts input now sink error unopened)
+stops_untaken banked script block counts ready stop input now sink (LongOutput header size opened is long) =
+    subst (λ f. Stopped banked script block f input now sink sink counts counts) (sym is) (stops_too_long banked script block counts ready header input now sink opened size long)
 
 pub untaken_stays : (stop : StreamFault) (script : Script) (input now : SourceState) (s : SessionState) → Untaken script stop input now → StaysRefused stop s
 untaken_stays stop script input now s (NoHeader error is unopened) = subst (λ f. StaysRefused f s) (sym is) (input_stays error s)

@@ -1,5 +1,5 @@
 -- The end of a stream over a whole input.
-use Rattle.std.proofs.Common.{◌≡◌, ℕ, ◌+◌, ◌/◌, List, length, Option, Some, None, refl, sym, ap, ◌∙◌, subst, Ok, Err}
+use Rattle.std.proofs.Common.{◌≡◌, ℕ, ◌+◌, ◌/◌, Bool, List, length, Option, Some, None, refl, sym, ap, ◌∙◌, subst, Ok, Err}
 use Rattle.dsp_ports.specs.Ports.{SourceState, SinkState}
 use Rattle.dsp_ports.specs.declared.source.Failed.{Failed}
 use Rattle.dsp_defs.specs.Block.{Frame}
@@ -40,9 +40,9 @@ module _ (session : SessionState) (ready : IsReady session.script session.block)
       → window_at session.script.blocks (session.chain.frames + last.count / frame_bytes session.script header.coding) ≡ found
   window found is = ap (λ n. window_at session.script.blocks (session.chain.frames + n)) (sym fed_count) ∙ is
 
-  coded : (fed : SessionState) (mid : SinkState) (made : Counts) → PassesOn session fed bytes then mid counts made → Passes session.script header.coding x bytes fed then mid counts made
+  coded : (fed : SessionState) (mid : SinkState) (made : Counts) → PassesOn session fed bytes then mid counts made → Passes session.banked session.script header.coding x bytes fed then mid counts made
   coded fed mid made passes =
-      subst (λ c. Passes session.script c x bytes fed then mid counts made) coding (passes_plain session fed bytes then mid counts made passes x passed.stands)
+      subst (λ c. Passes session.banked session.script c x bytes fed then mid counts made) coding (passes_plain session fed bytes then mid counts made passes x passed.stands)
 
   pub closed_plain : (new : SessionState) (final : SinkState) (spent : Counts) → Closed session new header bytes then final counts spent
       → Done session.banked session.script session.block ((last.before + last.count) / frame_bytes session.script header.coding) input now sink final before spent (measured new)
@@ -75,7 +75,11 @@ unclosed_stays session new header bytes stop sink after before counts (Unpassed 
 unclosed_stays session new header bytes stop sink after before counts (Unfinished fed mid made error is none passes writes costs limit failed) = subst (λ f. StaysRefused f new) (sym is) tt
 
 -- the same of equal scripts and block lengths
-pub stopped_as : (script same_script : Script) (block same_block : ℕ) (stop : StreamFault) (input now : SourceState) (sink after : SinkState) (before counts : Counts) → script ≡ same_script → block ≡ same_block
-    → Stopped script block stop input now sink after before counts → Stopped same_script same_block stop input now sink after before counts
-stopped_as script same_script block same_block stop input now sink after before counts s b stopped =
-    subst (λ (t : Script). Stopped t same_block stop input now sink after before counts) s (subst (λ n. Stopped script n stop input now sink after before counts) b stopped)
+pub stopped_as :
+    (banked same_banked : Bool) (script same_script : Script) (block same_block : ℕ) (stop : StreamFault) (input now : SourceState) (sink after : SinkState)
+    (before counts : Counts) → banked ≡ same_banked → script ≡ same_script → block ≡ same_block
+    → Stopped banked script block stop input now sink after before counts → Stopped same_banked same_script same_block stop input now sink after before counts
+stopped_as banked same_banked script same_script block same_block stop input now sink after before counts k s b stopped =
+    subst (λ t. Stopped t same_script same_block stop input now sink after before counts) k
+    (subst (λ (t : Script). Stopped banked t same_block stop input now sink after before counts) s
+    (subst (λ n. Stopped banked script n stop input now sink after before counts) b stopped))

@@ -90,6 +90,9 @@ module _ (start session : SessionState) (header : Header) (span : Span) (taken :
   abbrev script : Script
   script = start.script
 
+  kept_flag : session.banked ≡ start.banked
+  kept_flag = going.advances.same.banked
+
   ready : IsReady script start.block
   ready = new.holds.ready
 
@@ -137,28 +140,31 @@ module _ (start session : SessionState) (header : Header) (span : Span) (taken :
   -- from the begin of the input on
   module _ (origin : SourceState) (empty : SinkState) (begun : Begun script header origin input empty sink) where
     pub stops_unread : (error : InputFault) (later : SourceState) → PartUnread session.script header span.end taken (block_bytes session.script session.coding session.block) error now later
-        → Stopped script start.block (of_input error) origin later empty then before counts
+        → Stopped start.banked script start.block (of_input error) origin later empty then before counts
     stops_unread error later unread =
         let same = going.advances.same in
         let scripted : PartUnread script header span.end taken (block_bytes script session.coding session.block) error now later =
         subst (λ (s : Script). PartUnread s header span.end taken (block_bytes s session.coding session.block) error now later) same.script unread in
         let sized : PartUnread script header span.end taken (block_bytes script header.coding start.block) error now later =
         subst (λ n. PartUnread script header span.end taken n error now later) (λ i. block_bytes script ((same.coding ∙ coding) i) (same.block i)) scripted in
-        passing.stops_unread script start.block ready header taken session input now sink then before counts going_plain origin empty begun later error sized.unread
+        subst (λ banked. Stopped banked script start.block (of_input error) origin later empty then before counts) kept_flag
+        (passing.stops_unread script start.block ready header taken session input now sink then before counts going_plain origin empty begun later error sized.unread)
 
     pub stops_unpassed : (stop : StreamFault) (later : SourceState) (piece : List ℕ) (last : SessionState) (after : SinkState) (made : Counts)
         → length piece ≡ block_bytes session.script session.coding session.block → PartRead session.script header (2 ^ 64 - 1) taken piece (length piece) now later
-        → FailsToPassOn stop session last piece then after counts made → Stopped script start.block stop origin later empty after before made
+        → FailsToPassOn stop session last piece then after counts made → Stopped start.banked script start.block stop origin later empty after before made
     stops_unpassed stop later piece last after made long read fails =
         let same = going.advances.same in
         let sized : length piece ≡ block_bytes script header.coding start.block = long ∙ (λ i. block_bytes (same.script i) ((same.coding ∙ coding) i) (same.block i)) in
         let whole = whole_read script header taken piece (length piece) now later (subst (λ (s : Script). PartRead s header (2 ^ 64 - 1) taken piece (length piece) now later) same.script read) in
-        let scripted : FailsToPass stop script session.coding (heard_signal header.coding) piece then after counts made =
-        subst (λ (s : Script). FailsToPass stop s session.coding (heard_signal header.coding) piece then after counts made) same.script
+        let scripted : FailsToPass stop session.banked script session.coding (heard_signal header.coding) piece then after counts made =
+        subst (λ (s : Script). FailsToPass stop session.banked s session.coding (heard_signal header.coding) piece then after counts made) same.script
         (fails_plain stop session last piece then after counts made fails (heard_signal header.coding) stands) in
-        let coded : FailsToPass stop script header.coding (heard_signal header.coding) piece then after counts made =
-        subst (λ c. FailsToPass stop script c (heard_signal header.coding) piece then after counts made) (same.coding ∙ coding) scripted in
-        passing.stops_unpassed script start.block ready header taken session input now sink then before counts going_plain origin empty begun later (length piece) piece sized (omega arith) whole after made stop coded
+        let coded : FailsToPass stop session.banked script header.coding (heard_signal header.coding) piece then after counts made =
+        subst (λ c. FailsToPass stop session.banked script c (heard_signal header.coding) piece then after counts made) (same.coding ∙ coding) scripted in
+        subst (λ banked. Stopped banked script start.block stop origin later empty after before made) kept_flag
+        (passing.stops_unpassed script start.block ready header taken session input now sink then before counts going_plain origin empty begun later
+        (length piece) piece sized (omega arith) whole after made stop coded)
 
     pub passed_plain : (later : SourceState) (block : List ℕ) (count : ℕ) → length block ≡ block_bytes script start.coding start.block → count < length block
         → PartRead script header (2 ^ 64 - 1) taken block count now later
@@ -188,15 +194,15 @@ module _ (start : SessionState) (header : Header) (span : Span) (new : StandsFor
 
   -- a block did not come or did not pass
   module _ (last : SessionState) (stop : StreamFault) (after : SinkState) (counts : Counts) (broke : Broke start last header span stop input now sink after before counts) where
-    pub broke_plain : (origin : SourceState) (empty : SinkState) → Begun start.script header origin input empty sink → Stopped start.script start.block stop origin now empty after before counts
+    pub broke_plain : (origin : SourceState) (empty : SinkState) → Begun start.script header origin input empty sink → Stopped start.banked start.script start.block stop origin now empty after before counts
     broke_plain origin empty begun = by broke.breaks
       where
-        by : Breaks broke.session last header span.end broke.taken stop broke.between now broke.then after broke.made counts → Stopped start.script start.block stop origin now empty after before counts
+        by : Breaks broke.session last header span.end broke.taken stop broke.between now broke.then after broke.made counts → Stopped start.banked start.script start.block stop origin now empty after before counts
         by (NotRead error is unread same still made) =
             let stopped = stops_unread start broke.session header span broke.taken input broke.between sink broke.then before broke.made new coding from broke.going origin empty begun error now unread in
-            subst (λ c. Stopped start.script start.block stop origin now empty after before c) (sym made)
-            (subst (λ s. Stopped start.script start.block stop origin now empty s before broke.made) (sym still)
-            (subst (λ f. Stopped start.script start.block f origin now empty broke.then before broke.made) (sym is) stopped))
+            subst (λ c. Stopped start.banked start.script start.block stop origin now empty after before c) (sym made)
+            (subst (λ s. Stopped start.banked start.script start.block stop origin now empty s before broke.made) (sym still)
+            (subst (λ f. Stopped start.banked start.script start.block f origin now empty broke.then before broke.made) (sym is) stopped))
         by (NotPassed piece long read fails) =
             stops_unpassed start broke.session header span broke.taken input broke.between sink broke.then before broke.made new coding from broke.going origin empty begun stop now piece last after counts long
             (subst (λ end. PartRead broke.session.script header end broke.taken piece (length piece) broke.between now) all read) fails

@@ -1,5 +1,5 @@
 -- What the calls of a chain make of bytes.
-use Rattle.std.proofs.Common.{◌≡◌, ℕ, suc, ◌+◌, ◌*◌, ◌/◌, ◌^◌, ◌<◌, ◌≤◌, ℤ, List, [], ◌∷◌, ◌++◌, length, take, drop, fold, flat_map, length-append, All, FitsSigned, refl, sym, ap, ◌∙◌, subst, arith, inl, inr}
+use Rattle.std.proofs.Common.{◌≡◌, ℕ, suc, ◌+◌, ◌*◌, ◌/◌, ◌^◌, ◌<◌, ◌≤◌, ℤ, Bool, List, [], ◌∷◌, ◌++◌, length, take, drop, fold, flat_map, length-append, All, FitsSigned, refl, sym, ap, ◌∙◌, subst, arith, inl, inr}
 use Rattle.std.proofs.lemmas.List.Concat.{flat_map-cons}
 use Rattle.dsp_defs.specs.Block.{Frame, format_after, channels_after}
 use Rattle.dsp_defs.specs.Bytes.{IsValue, format_in, width, bytes_of, sample_of}
@@ -82,9 +82,9 @@ module _ (script : Script) (block : ℕ) (ready : IsReady script block) where
 
   -- and their bytes
   pub few_bytes :
-      (chain : ChainState) → IsNewChain (input_place script block) script.blocks chain →
+      (banked : Bool) (chain : ChainState) → IsNewChain banked (input_place script block) script.blocks chain →
       (coding : Coding) (room w : ℕ) → room ≡ place_room (output_of chain) → w ≡ width coding → room * w < 2 ^ 64
-  few_bytes chain new coding room w room_is w_is =
+  few_bytes banked chain new coding room w room_is w_is =
       let same : place_room (output_of chain) ≡ place_room (place_behind (input_place script block) script.blocks) = (λ i. place_room (place_behind (new.input i) (new.blocks_are i))) in
       let bytes = mul-le room w MAX_SAMPLES 4 (omega (arith, room_is, same, few_samples)) (omega (arith, w_is, few_width coding)) in
       omega (arith, bytes)
@@ -169,12 +169,12 @@ module _ (script : Script) (block : ℕ) (ready : IsReady script block) where
     live_is : (x : List Frame) → live_of old x ≡ live_values script x
     live_is x = rw (input, blocks) refl
 
-    module _ (turns : (m n : ℕ) → row_turns old.units m n ≡ turns_of script m n) (coding : Coding) (earlier out : List ℕ) where
+    module _ (banked : Bool) (turns : (m n : ℕ) → row_turns old.units m n ≡ turns_of banked script m n) (coding : Coding) (earlier out : List ℕ) where
       abbrev first : SessionState
-      first = record { script = script; block = block; coding = coding; chain = old; out = earlier }
+      first = record { script = script; banked = banked; block = block; coding = coding; chain = old; out = earlier }
 
       abbrev next : SessionState
-      next = record { script = script; block = block; coding = coding; chain = new; out = out }
+      next = record { script = script; banked = banked; block = block; coding = coding; chain = new; out = out }
 
       -- its chain is still that of the script
       holds_again : SameChain old new → Holds next
@@ -235,31 +235,32 @@ module _ (script : Script) (block : ℕ) (ready : IsReady script block) where
         }
 
     -- a call that is refused leaves all but the fault
-    pub fails : (coding : Coding) (earlier : List ℕ) (fault : GatherFull) (before after : Counts) → FailsChain old new fault before after
-        → Fails (record { script = script; block = block; coding = coding; chain = old; out = earlier }) (record { script = script; block = block; coding = coding; chain = new; out = [] }) fault before after
-    fails coding earlier fault before after failed = record {
-      same = λ i. record { script = script; block = block; coding = coding; chain = failed.same i; out = [] };
+    pub fails : (banked : Bool) (coding : Coding) (earlier : List ℕ) (fault : GatherFull) (before after : Counts) → FailsChain old new fault before after
+        → Fails (record { script = script; banked = banked; block = block; coding = coding; chain = old; out = earlier }) (record { script = script; banked = banked; block = block; coding = coding; chain = new; out = [] }) fault before after
+    fails banked coding earlier fault before after failed = record {
+      same = λ i. record { script = script; banked = banked; block = block; coding = coding; chain = failed.same i; out = [] };
       again = failed.again;
       no_steps = failed.no_steps;
     }
 
     -- where it is refused
-    pub too_much : (coding : Coding) (earlier : List ℕ) (n m : ℕ) → n ≡ m → chain_too_much old n → IsTooMuch (record { script = script; block = block; coding = coding; chain = old; out = earlier }) m
-    too_much coding earlier n m same (inl many) = inl (subst (λ k. MAX_GATHERED < k) (λ i. gathered (blocks i) (old.frames + same i)) many)
-    too_much coding earlier n m same (inr failed) = inr failed
+    pub too_much : (banked : Bool) (coding : Coding) (earlier : List ℕ) (n m : ℕ) → n ≡ m → chain_too_much old n → IsTooMuch (record { script = script; banked = banked; block = block; coding = coding; chain = old; out = earlier }) m
+    too_much banked coding earlier n m same (inl many) = inl (subst (λ k. MAX_GATHERED < k) (λ i. gathered (blocks i) (old.frames + same i)) many)
+    too_much banked coding earlier n m same (inr failed) = inr failed
 
-    pub chain_much : (coding : Coding) (earlier : List ℕ) (n m : ℕ) → n ≡ m → IsTooMuch (record { script = script; block = block; coding = coding; chain = old; out = earlier }) m → chain_too_much old n
-    chain_much coding earlier n m same (inl many) = inl (subst (λ k. MAX_GATHERED < k) (sym (λ i. gathered (blocks i) (old.frames + same i))) many)
-    chain_much coding earlier n m same (inr failed) = inr failed
+    pub chain_much : (banked : Bool) (coding : Coding) (earlier : List ℕ) (n m : ℕ) → n ≡ m → IsTooMuch (record { script = script; banked = banked; block = block; coding = coding; chain = old; out = earlier }) m → chain_too_much old n
+    chain_much banked coding earlier n m same (inl many) = inl (subst (λ k. MAX_GATHERED < k) (sym (λ i. gathered (blocks i) (old.frames + same i))) many)
+    chain_much banked coding earlier n m same (inr failed) = inr failed
 
     pub numbers : (fault : GatherFull) (n m : ℕ) → n ≡ m → (fault.held ≡ held (blocks_of old.units) old.frames) × (fault.held + fault.more ≡ gathered (blocks_of old.units) (old.frames + n))
         → (fault.held ≡ held script.blocks old.frames) × (fault.held + fault.more ≡ gathered script.blocks (old.frames + m))
     numbers fault n m same (held_is, sum) = (held_is ∙ ap (λ bs. held bs old.frames) blocks, sum ∙ (λ i. gathered (blocks i) (old.frames + same i)))
 
   -- a new worker
-  pub is_new : (c : ChainState) → IsNewChain (input_place script block) script.blocks c → IsNew script block (record { script = script; block = block; coding = input_coding script; chain = c; out = [] })
-  is_new c is = record {
+  pub is_new : (banked : Bool) (c : ChainState) → IsNewChain banked (input_place script block) script.blocks c → IsNew banked script block (record { script = script; banked = banked; block = block; coding = input_coding script; chain = c; out = [] })
+  is_new banked c is = record {
     script_is = refl;
+    banked_is = refl;
     block_is = refl;
     coding_is = refl;
     stands = record { holds = record { ready = ready; input = is.input; blocks = is.blocks_are; turns = is.turns }; chain = is.stands; live = is.live };
@@ -270,7 +271,7 @@ module _ (script : Script) (block : ℕ) (ready : IsReady script block) where
 pub still_works :
     (s : SessionState) (chain : ChainState) (out : List ℕ) (coding : Coding) (samples_room values_room bytes_room given later : ℕ) →
     IsWorking s coding samples_room values_room bytes_room given → SameChain s.chain chain → later ≤ bytes_room →
-    IsWorking (record { script = s.script; block = s.block; coding = s.coding; chain = chain; out = out }) coding samples_room values_room bytes_room later
+    IsWorking (record { script = s.script; banked = s.banked; block = s.block; coding = s.coding; chain = chain; out = out }) coding samples_room values_room bytes_room later
 still_works s chain out coding samples_room values_room bytes_room given later is same within = record {
   holds = record {
     ready = is.holds.ready;

@@ -1,4 +1,4 @@
-ghost use Rattle.std.specs.Prelude.{◌≡◌, ◌<◌, ℕ, length, take, IfOk, IfErr};
+ghost use Rattle.std.specs.Prelude.{◌≡◌, ◌<◌, ℕ, Bool, length, take, IfOk, IfErr};
 ghost use Rattle.dsp_ports.specs.Ports.{CountsFaults, Took};
 ghost use Rattle.dsp_defs.specs.Bytes.{format_in};
 ghost use Rattle.dsp_defs.specs.Counts.{Counts};
@@ -67,9 +67,9 @@ pub fn open<S: Source, K: Sink>(
         Begun script.now header (S.state input.old) (S.state input.new) (K.state output.old)
         (K.state output.new)) }
     ensures coding { IfOk result (λ header. format_in header.coding ≡ script.now.input.format) }
-    ensures err { (block : ℕ) (counts : Counts) → IsReady script.now block → IfErr result (λ fault.
-        Stopped script.now block fault (S.state input.old) (S.state input.new) (K.state output.old)
-        (K.state output.new) counts counts) }
+    ensures err { (banked : Bool) (block : ℕ) (counts : Counts) → IsReady script.now block
+        → IfErr result (λ fault. Stopped banked script.now block fault (S.state input.old)
+        (S.state input.new) (K.state output.old) (K.state output.new) counts counts) }
     ensures unfed { (s : SessionState) → IfErr result (λ fault. StaysRefused fault s) }
 {
     let header = take_header(script, input)?;

@@ -1,4 +1,4 @@
-ghost use Rattle.std.specs.Prelude.{◌≡◌, ◌+◌, ◌*◌, ◌^◌, ◌<◌, ◌≤◌, ◌↔◌, List, [], Some, None, length, slice_get, IfOk, IfErr, IsErr, IsFalse, IsTrue};
+ghost use Rattle.std.specs.Prelude.{◌≡◌, ◌+◌, ◌*◌, ◌^◌, ◌<◌, ◌≤◌, ◌↔◌, List, [], true, false, Some, None, length, slice_get, IfOk, IfErr, IsErr, IsFalse, IsTrue};
 ghost use Rattle.std.specs.Option.{option_map};
 ghost use Rattle.dsp_defs.specs.Bytes.{format_in};
 ghost use Rattle.dsp_defs.specs.Shape.{gathered, held, window_at};
@@ -48,9 +48,25 @@ impl<U: AnyUnit + Drop> Session<U> {
     /// memory of a run is taken here.
     pub fn new(alloc: Global, script: Script, block: u64) -> Result<Self, AllocError>
         requires { IsReady script block }
-        ensures { IfOk result (IsNew script block) }
+        ensures { IfOk result (IsNew false script block) }
     {
-        let worker = Worker::new(alloc, script, block)?;
+        Self::made(alloc, script, block, false)
+    }
+
+    /// The same with the biquads of the script as banks, which work on all channels of a frame at once.
+    pub fn banked(alloc: Global, script: Script, block: u64) -> Result<Self, AllocError>
+        requires { IsReady script block }
+        ensures { IfOk result (IsNew true script block) }
+    {
+        Self::made(alloc, script, block, true)
+    }
+
+    /// A session of the script, banked or not.
+    fn made(alloc: Global, script: Script, block: u64, banked: bool) -> Result<Self, AllocError>
+        requires { IsReady script block }
+        ensures { IfOk result (IsNew banked script block) }
+    {
+        let worker = Worker::new(alloc, script, block, banked)?;
         let block = vec![in alloc; 0; worker.block_bytes()]?;
         Ok(Session { worker, block })
     }
@@ -71,6 +87,13 @@ impl<U: AnyUnit + Drop> Session<U> {
         ensures ready { IsReady self.now.script self.now.block }
     {
         self.worker.script()
+    }
+
+    /// Whether its biquads work on all channels of a frame at once.
+    pub fn is_banked(&self) -> bool
+        ensures { result ≡ self.now.banked }
+    {
+        self.worker.is_banked()
     }
 
     /// The most frames of a call.

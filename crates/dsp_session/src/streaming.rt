@@ -138,11 +138,11 @@ fn stream_samples<U: AnyUnit + Drop, S: Source, K: Sink, L: Ledger>(
     ensures same { SameSession worker.old worker.new }
     ensures ok { (before : SourceState) (empty : SinkState)
         → Begun worker.old.script header before (S.state input.old) empty (K.state output.old)
-        → IfOk result (λ frames. Done worker.old.script worker.old.block frames before
-        (S.state input.new) empty (K.state output.new) steps.old steps.new (measured worker.new)) }
+        → IfOk result (λ frames. Done worker.old.banked worker.old.script worker.old.block frames
+        before (S.state input.new) empty (K.state output.new) steps.old steps.new (measured worker.new)) }
     ensures err { (before : SourceState) (empty : SinkState)
         → Begun worker.old.script header before (S.state input.old) empty (K.state output.old)
-        → IfErr result (λ fault. Stopped worker.old.script worker.old.block fault before
+        → IfErr result (λ fault. Stopped worker.old.banked worker.old.script worker.old.block fault before
         (S.state input.new) empty (K.state output.new) steps.old steps.new) }
     ensures refused { IfErr result (λ fault. StaysRefused fault worker.new) }
     ensures few { IfOk result (λ frames. frames ≤ 2 ^ 40) }
@@ -167,16 +167,16 @@ pub fn stream<U: AnyUnit + Drop, S: Source, K: Sink, L: Ledger>(
 ) -> Result<Totals, StreamFault>
     requires new { StandsFor session.old [] }
     ensures ok { IfOk result (λ totals.
-        Done session.old.script session.old.block totals.frames_taken (S.state input.old)
-        (S.state input.new) (K.state output.old) (K.state output.new) steps.old steps.new
+        Done session.old.banked session.old.script session.old.block totals.frames_taken
+        (S.state input.old) (S.state input.new) (K.state output.old) (K.state output.new) steps.old steps.new
         (measured session.new)) }
     ensures given { IfOk result (λ totals.
         totals.frames_given ≡ frames_given session.old.script.blocks totals.frames_taken) }
     ensures multiplies { IfOk result (λ totals.
         totals.multiplies ≡ cost_of session.old.script totals.frames_taken) }
     ensures err { IfErr result (λ fault.
-        Stopped session.old.script session.old.block fault (S.state input.old) (S.state input.new)
-        (K.state output.old) (K.state output.new) steps.old steps.new) }
+        Stopped session.old.banked session.old.script session.old.block fault (S.state input.old)
+        (S.state input.new) (K.state output.old) (K.state output.new) steps.old steps.new) }
     ensures refused { IfErr result (λ fault. StaysRefused fault session.new) }
     ensures same { SameScript session.old session.new }
 {

@@ -5,6 +5,7 @@ ghost use Rattle.dsp_defs.specs.Shape.{gathered, held, window_at};
 ghost use Rattle.dsp_defs.specs.Signal.{values};
 ghost use Rattle.dsp_defs.specs.declared.fault.GatherFull.{GatherFull};
 ghost use Rattle.dsp_defs.specs.declared.fault.WindowFault.{WindowFault};
+ghost use Rattle.dsp_chain.specs.Chain.{IsNewChain, input_place};
 ghost use Rattle.dsp_chain.specs.Row.{measure_counts};
 ghost use Rattle.dsp_defs.specs.KeptOfScript.{Fits, kept, kept_count};
 ghost use Rattle.dsp_input.specs.Taking.{frame_bytes};
@@ -52,10 +53,27 @@ fn encode_front(coding: Coding, samples: &[i32], bytes: &mut [u8]) -> usize
     count
 }
 
+/// The chain of a script, banked or not.
+fn chain_of<U: AnyUnit + Drop>(
+    alloc: Global,
+    script: &Script,
+    block: u64,
+    banked: bool,
+) -> Result<Chain<U>, AllocError>
+    requires { IsReady script.now block }
+    ensures { IfOk result (IsNewChain banked (input_place script.now block) script.now.blocks) }
+{
+    match banked {
+        true => Chain::banked(alloc, script, block),
+        false => Chain::new(alloc, script, block),
+    }
+}
+
 /// The blocks of a script at work on bytes.
 #[derive(Drop)]
 pub struct Worker<U: Stage + Drop> {
     script: Script,
+    banked: bool,
     chain: Chain<U>,
     input: Coding,
     output: Coding,
@@ -75,6 +93,7 @@ impl<U: Stage + Drop> Model for Worker<U> {
 
     ghost view = { λ w. record {
       script = w.script;
+      banked = w.banked;
       block = w.block;
       coding = w.input;
       chain = w.chain;
@@ -84,6 +103,7 @@ impl<U: Stage + Drop> Model for Worker<U> {
     ghost invariant = { λ w. IsWorking
         (record {
           script = w.script;
+          banked = w.banked;
           block = w.block;
           coding = w.input;
           chain = w.chain;
@@ -95,11 +115,16 @@ impl<U: Stage + Drop> Model for Worker<U> {
 impl<U: AnyUnit + Drop> Worker<U> {
     /// A worker for blocks of at most `block` frames, that has taken nothing. All memory of a run is
     /// taken here.
-    pub fn new(alloc: Global, script: Script, block: u64) -> Result<Self, AllocError>
+    pub fn new(
+        alloc: Global,
+        script: Script,
+        block: u64,
+        banked: bool,
+    ) -> Result<Self, AllocError>
         requires { IsReady script block }
-        ensures { IfOk result (IsNew script block) }
+        ensures { IfOk result (IsNew banked script block) }
     {
-        let chain = Chain::new(alloc, &script, block)?;
+        let chain = chain_of(alloc, &script, block, banked)?;
         let flow = output_flow(&script);
         let input = coding_of(script.input.kind.container(), script.input.format);
         let output = coding_of(script.output, flow.format);
@@ -110,6 +135,7 @@ impl<U: AnyUnit + Drop> Worker<U> {
         let bytes = vec![in alloc; 0; room * width(output)]?;
         Ok(Worker {
             script,
+            banked,
             chain,
             input,
             output,
@@ -127,6 +153,13 @@ impl<U: AnyUnit + Drop> Worker<U> {
         ensures ready { IsReady self.now.script self.now.block }
     {
         &self.script
+    }
+
+    /// Whether its biquads are banks.
+    pub fn is_banked(&self) -> bool
+        ensures { result ≡ self.now.banked }
+    {
+        self.banked
     }
 
     /// The most frames of a call.

@@ -1,4 +1,4 @@
-use Rattle.std.proofs.Common.{ap, refl, subst, None}
+use Rattle.std.proofs.Common.{ap, refl, subst, false, None}
 use Rattle.std.proofs.lemmas.Result.{IfOk-weaker, IfErr-weaker}
 use Rattle.dsp_ports.specs.Ports.{SourceState}
 use Rattle.dsp_wave.specs.Generated.{generation_state}
@@ -13,7 +13,7 @@ returns-clause-ok g c =
     let sink = g.K.Sink.state c.args.output.now in
     let after = g.K.Sink.state c.run_script.new.output in
     let did = λ (summary : Summary) (s : SourceState).
-    Ran None c.args.script summary s now sink after c.args.steps.now c.run_script.new.steps in
+    Ran None false c.args.script summary s now sink after c.args.steps.now c.run_script.new.steps in
     let made = ap generation_state c.new-input.ensures in
     IfOk-weaker c.run_script.result _ _ (λ summary ran. record { now = now; clean = refl; ran = subst (did summary) made ran })
     c.run_script.ensures.ok
@@ -24,7 +24,7 @@ returns-clause-err g c =
     let sink = g.K.Sink.state c.args.output.now in
     let after = g.K.Sink.state c.run_script.new.output in
     let did = λ (fault : Fault) (s : SourceState).
-    FailsToRun fault None c.args.script s now sink after c.args.steps.now c.run_script.new.steps in
+    FailsToRun fault None false c.args.script s now sink after c.args.steps.now c.run_script.new.steps in
     let made = ap generation_state c.new-input.ensures in
     IfErr-weaker c.run_script.result _ _ (λ fault fails. record { now = now; clean = refl; fails = subst (did fault) made fails })
     c.run_script.ensures.err

@@ -19,7 +19,7 @@ loop-init g c =
     }
 
 pub returns-then-end-eq0-clause-same : goal.returns-then-end-eq0-clause-same
-returns-then-end-eq0-clause-same g c = record { script = c.end.ensures.same.script ∙ c.loop.invariant.same.script; block = c.end.ensures.same.block ∙ c.loop.invariant.same.block; coding = c.end.ensures.same.coding ∙ c.loop.invariant.same.coding }
+returns-then-end-eq0-clause-same g c = record { script = c.end.ensures.same.script ∙ c.loop.invariant.same.script; banked = c.end.ensures.same.banked ∙ c.loop.invariant.same.banked; block = c.end.ensures.same.block ∙ c.loop.invariant.same.block; coding = c.end.ensures.same.coding ∙ c.loop.invariant.same.coding }
 
 pub returns-then-end-eq0-clause-written : goal.returns-then-end-eq0-clause-written
 returns-then-end-eq0-clause-written g c =
@@ -52,7 +52,7 @@ returns-clause-written g c =
     }
 
 pub returns-in_err-write_all-clause-same : goal.returns-in_err-write_all-clause-same
-returns-in_err-write_all-clause-same g c = record { script = c.end.ensures.same.script ∙ c.loop.invariant.same.script; block = c.end.ensures.same.block ∙ c.loop.invariant.same.block; coding = c.end.ensures.same.coding ∙ c.loop.invariant.same.coding }
+returns-in_err-write_all-clause-same g c = record { script = c.end.ensures.same.script ∙ c.loop.invariant.same.script; banked = c.end.ensures.same.banked ∙ c.loop.invariant.same.banked; block = c.end.ensures.same.block ∙ c.loop.invariant.same.block; coding = c.end.ensures.same.coding ∙ c.loop.invariant.same.coding }
 
 pub returns-in_err-write_all-clause-written : goal.returns-in_err-write_all-clause-written
 returns-in_err-write_all-clause-written g c =
@@ -78,7 +78,7 @@ returns-in_err-write_all-clause-faults g c =
 pub loop-preserved : goal.loop-preserved
 loop-preserved g c =
     record {
-      same = record { script = c.end.ensures.same.script ∙ c.loop.invariant.same.script; block = c.end.ensures.same.block ∙ c.loop.invariant.same.block; coding = c.end.ensures.same.coding ∙ c.loop.invariant.same.coding };
+      same = record { script = c.end.ensures.same.script ∙ c.loop.invariant.same.script; banked = c.end.ensures.same.banked ∙ c.loop.invariant.same.banked; block = c.end.ensures.same.block ∙ c.loop.invariant.same.block; coding = c.end.ensures.same.coding ∙ c.loop.invariant.same.coding };
       no_fault = c.in_ok-write_all.ensures.faults ∙ c.loop.invariant.no_fault;
       counted = c.end.ensures.ends.counted ∙ c.loop.invariant.counted;
       made = omega (arith, c.end.ensures.ends.multiplies, c.loop.invariant.made);

@@ -66,7 +66,7 @@ returns-clause-ok g c before empty begun =
     let passed = laws.passed_as _ _ _ _ _ _ _ _ _ _ _ _ _ _ _ same.script same.block refl (plain.reached_plain _ _ _ c.requires.new c.requires.coding refl refl _ _ _ _ _ _ _ _ _ reached _ _ begun) in
     let frame : frame_bytes c.pass_blocks.new.worker.script coding ≡ c.frame_bytes.result =
     ap (λ (s : Script). frame_bytes s coding) (sym (c.script.ensures.script ∙ c.in_ok-close.ensures.same.script)) ∙ sym c.frame_bytes.ensures in
-    laws.done_as _ _ _ _ _ _ _ _ _ _ _ _ _ same.script same.block (laws.same_quotient (c.in_ok-last.last.before) c.in_ok-last.last.count _ _ frame)
+    laws.done_as _ _ _ _ _ _ _ _ _ _ _ _ _ _ _ same.banked same.script same.block (laws.same_quotient (c.in_ok-last.last.before) c.in_ok-last.last.count _ _ frame)
     (ends.closed_plain _ reached.going.advances.runs.holds.ready _ _ _ _ _ _ _ _ _ passed _ _ _ c.in_ok-close.ensures.ok)
 
 pub returns-in_err-close-clause-err : goal.returns-in_err-close-clause-err
@@ -75,7 +75,7 @@ returns-in_err-close-clause-err g c before empty begun =
     let same = c.in_ok-last.ensures.same in
     let reached = c.in_ok-last.ensures.ok in
     let passed = laws.passed_as _ _ _ _ _ _ _ _ _ _ _ _ _ _ _ same.script same.block refl (plain.reached_plain _ _ _ c.requires.new c.requires.coding refl refl _ _ _ _ _ _ _ _ _ reached _ _ begun) in
-    rw (is, err) (ends.stopped_as _ _ _ _ _ _ _ _ _ _ _ same.script same.block
+    rw (is, err) (ends.stopped_as _ _ _ _ _ _ _ _ _ _ _ _ _ same.banked same.script same.block
     (ends.unclosed_plain _ reached.going.advances.runs.holds.ready _ _ _ _ _ _ _ _ _ passed _ _ _ _ c.in_err-close.ensures.err))
 
 pub returns-in_err-close-clause-refused : goal.returns-in_err-close-clause-refused

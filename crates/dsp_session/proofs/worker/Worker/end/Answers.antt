@@ -26,7 +26,7 @@ returns-clause-ends g c =
     c.self.invariant.output (c.encode_front-self-inside.auto.bytes ∙ c.as_mut_slice-2.ensures.len) (rw same at c.encode_front-self-inside.ensures.bytes) in
     let answer : c.encode_front-self-inside.result ≡ length ys * width c.self.inside.output = rw same at c.encode_front-self-inside.ensures.count in
     rw (← c.self.view_is)
-    (laws.ends script c.self.inside.block holds.ready c.self.inside.chain c.finish-count.new.self holds.input holds.blocks holds.turns _ _ _ ys out c.encode_front-self-inside.result
+    (laws.ends script c.self.inside.block holds.ready c.self.inside.chain c.finish-count.new.self holds.input holds.blocks c.self.inside.banked holds.turns _ _ _ ys out c.encode_front-self-inside.result
     (width c.self.inside.output) (width-some c.self.inside.output) answer _ _ c.finish-count.ensures.finished)
 
 pub returns-clause-given : goal.returns-clause-given

@@ -48,7 +48,7 @@ pub returns-in_err-count-clause-refused : goal.returns-in_err-count-clause-refus
 returns-in_err-count-clause-refused g c =
     let holds = c.self.invariant.holds in
     let (error, is, same) = err_from_is_err_and c.from_residual.result c.from_residual.ensures.1 in
-    rw (is, same, ← c.self.view_is) (laws.fails c.self.inside.script c.self.inside.block holds.ready c.self.inside.chain c.feed.new.self holds.input holds.blocks _ _ _ _ _ c.in_err-count.ensures.refused)
+    rw (is, same, ← c.self.view_is) (laws.fails c.self.inside.script c.self.inside.block holds.ready c.self.inside.chain c.feed.new.self holds.input holds.blocks c.self.inside.banked _ _ _ _ _ c.in_err-count.ensures.refused)
 
 pub returns-in_err-count-clause-full : goal.returns-in_err-count-clause-full
 returns-in_err-count-clause-full g c =
@@ -60,7 +60,7 @@ returns-in_err-count-clause-full g c =
     let xs = take c.decode_front-count.result c.deref.result.now in
     let frames = laws.frames_are c.self.inside.script c.self.inside.block holds.ready c.self.inside.input c.args.bytes.now xs whole row in
     let count : length (frames_in c.self.inside.chain.input.channels xs) ≡ length (signal c.self.inside.script c.self.inside.input c.args.bytes.now) = ap (λ (p : Place). length (frames_in p.channels xs)) holds.input ∙ ap length frames in
-    rw (is, ← c.self.view_is) ((λ e. laws.too_much c.self.inside.script c.self.inside.block holds.ready c.self.inside.chain c.feed.new.self holds.input holds.blocks c.self.inside.input [] (length (frames_in c.self.inside.chain.input.channels xs)) (length (signal c.self.inside.script c.self.inside.input c.args.bytes.now)) count (c.in_err-count.ensures.full.0 refl)), (λ many. refl))
+    rw (is, ← c.self.view_is) ((λ e. laws.too_much c.self.inside.script c.self.inside.block holds.ready c.self.inside.chain c.feed.new.self holds.input holds.blocks c.self.inside.banked c.self.inside.input [] (length (frames_in c.self.inside.chain.input.channels xs)) (length (signal c.self.inside.script c.self.inside.input c.args.bytes.now)) count (c.in_err-count.ensures.full.0 refl)), (λ many. refl))
 
 pub returns-in_err-count-clause-numbers : goal.returns-in_err-count-clause-numbers
 returns-in_err-count-clause-numbers g c =
@@ -83,7 +83,7 @@ returns-clause-full g c =
     let xs = take c.decode_front-count.result c.deref.result.now in
     let frames = laws.frames_are c.self.inside.script c.self.inside.block holds.ready c.self.inside.input c.args.bytes.now xs whole row in
     let count : length (frames_in c.self.inside.chain.input.channels xs) ≡ length (signal c.self.inside.script c.self.inside.input c.args.bytes.now) = ap (λ (p : Place). length (frames_in p.channels xs)) holds.input ∙ ap length frames in
-    rw (← c.self.view_is) ((λ e. absurd (cc)), (λ many. absurd (let e = c.in_ok-count.ensures.full.1 (laws.chain_much c.self.inside.script c.self.inside.block holds.ready c.self.inside.chain c.feed.new.self holds.input holds.blocks c.self.inside.input [] (length (frames_in c.self.inside.chain.input.channels xs)) (length (signal c.self.inside.script c.self.inside.input c.args.bytes.now)) count many) in cc)))
+    rw (← c.self.view_is) ((λ e. absurd (cc)), (λ many. absurd (let e = c.in_ok-count.ensures.full.1 (laws.chain_much c.self.inside.script c.self.inside.block holds.ready c.self.inside.chain c.feed.new.self holds.input holds.blocks c.self.inside.banked c.self.inside.input [] (length (frames_in c.self.inside.chain.input.channels xs)) (length (signal c.self.inside.script c.self.inside.input c.args.bytes.now)) count many) in cc)))
 
 pub encode_front-self-inside-requires-clause-fits : goal.encode_front-self-inside-requires-clause-fits
 encode_front-self-inside-requires-clause-fits g c =
@@ -110,7 +110,7 @@ returns-clause-fed g c =
     let out = laws.write_row script c.self.inside.block ready c.self.inside.output c.encode_front-self-inside.result c.self.inside.bytes.len (take c.in_ok-count.count c.feed.new.out) c.encode_front-self-inside.new.bytes c.self.inside.bytes.items
     c.self.invariant.output (c.encode_front-self-inside.auto.bytes ∙ c.as_mut_slice-3.ensures.len) (rw same at c.encode_front-self-inside.ensures.bytes) in
     rw (← c.self.view_is)
-    (laws.feeds script c.self.inside.block ready c.self.inside.chain c.feed.new.self holds.input holds.blocks holds.turns _ _ _ (take c.decode_front-count.result c.deref.result.now) (take c.in_ok-count.count c.feed.new.out) c.args.bytes.now frames out _ _ c.in_ok-count.ensures.fed)
+    (laws.feeds script c.self.inside.block ready c.self.inside.chain c.feed.new.self holds.input holds.blocks c.self.inside.banked holds.turns _ _ _ (take c.decode_front-count.result c.deref.result.now) (take c.in_ok-count.count c.feed.new.out) c.args.bytes.now frames out _ _ c.in_ok-count.ensures.fed)
 
 pub invariant_of-self : goal.invariant_of-self
 invariant_of-self g c =

@@ -7,7 +7,7 @@ use Rattle.dsp_session.proofs.worker.Worker.new.Goals as goal
 
 pub overflow_mul-room : goal.overflow_mul-room
 overflow_mul-room g c =
-    let few = laws.few_bytes c.args.script c.args.block c.requires c.in_ok-chain.chain c.in_ok-chain.ensures c.coding_of-output.result c.room-room.result c.width.result c.room-room.ensures c.width.ensures in
+    let few = laws.few_bytes c.args.script c.args.block c.requires c.args.banked c.in_ok-chain.chain c.in_ok-chain.ensures c.coding_of-output.result c.room-room.result c.width.result c.room-room.ensures c.width.ensures in
     omega (arith, few)
 
 pub invariant_of-result : goal.invariant_of-result
@@ -26,6 +26,7 @@ pub returns : goal.returns
 returns g c =
     let new = c.in_ok-chain.ensures in record {
       script_is = refl;
+      banked_is = refl;
       block_is = refl;
       coding_is = c.coding_of-input.ensures ∙ ap (λ container. coding_of container c.args.script.input.format) c.container.ensures;
       stands = record {

@@ -6,7 +6,11 @@ pub returns-clause-coding : goal.returns-clause-coding
 returns-clause-coding g c = ap (λ (s : SessionState). record s { coding = c.args.coding }) c.self.view_is
 
 pub returns-clause-same : goal.returns-clause-same
-returns-clause-same g c = record { script = ap (λ (s : SessionState). s.script) c.self.view_is; block = ap (λ (s : SessionState). s.block) c.self.view_is }
+returns-clause-same g c = record {
+  script = ap (λ (s : SessionState). s.script) c.self.view_is;
+  banked = ap (λ (s : SessionState). s.banked) c.self.view_is;
+  block = ap (λ (s : SessionState). s.block) c.self.view_is;
+}
 
 pub invariant_of-self : goal.invariant_of-self
 invariant_of-self g c =

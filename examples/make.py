@@ -184,6 +184,19 @@ class Gallery:
         self.wave("halfband", "in.wav", 3, 1, RATE, b"".join(value.to_bytes(3, "little", signed=True) for value in wide))
         self.wave("halfband", "expected.wav", 2, 1, RATE // 2, pack(filtered(taps, once)))
 
+    def microphones(self):
+        """Four microphones as the channels of one file, each with a tone of its own and the same hum, through one
+        high-pass: two equal sections, 0.9*(1 - z^-1)^2 over two poles at 0.9. The coefficients are halves."""
+        section = q15(number / 2 for number in (0.9, -1.8, 0.9, 1.8, -0.81))
+        hum = tone(50, 8000, 600)
+        channels = [rounded(a + b for a, b in zip(tone(hertz, 9000, 600), hum)) for hertz in (400, 700, 1100, 1900)]
+        sections = [section, section]
+        numbers = [number for b0, *others in sections for number in (b0, 0, *others)]
+        given = [cascaded(sections, 1, channel) for channel in channels]
+        self.text("microphones", "script.txt", f"dspfx 1\ninput wave q15 4\nbiquad 1 {shown(numbers)}\noutput wave\n")
+        self.wave("microphones", "in.wav", 2, 4, RATE, pack([value for frame in zip(*channels) for value in frame]))
+        self.wave("microphones", "expected.wav", 2, 4, RATE, pack([value for frame in zip(*given) for value in frame]))
+
 
 gallery = Gallery(sys.argv[1] if len(sys.argv) > 1 else HERE)
 gallery.lowpass()
@@ -194,3 +207,4 @@ gallery.designed()
 gallery.equiripple()
 gallery.elliptic()
 gallery.halfband()
+gallery.microphones()

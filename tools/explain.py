@@ -25,6 +25,7 @@ MOST_FRAMES, MOST_NUMBER, MOST_BLOCK = 16777216, 4294967295, 65536
 # Each command: its words, and which of them are the script, the input and the output, counted from the command.
 COMMANDS = {
     "run": ("SCRIPT IN OUT [block N]", 1, 2, 3),
+    "bank": ("SCRIPT IN OUT [block N]", 1, 2, 3),
     "gen": ("SEED FRAMES SCRIPT OUT", 3, None, 4),
     "print": ("SCRIPT", 1, None, None),
     "convert": ("wave au IN OUT, or convert au wave IN OUT", None, 3, 4),
@@ -82,10 +83,11 @@ def words_fault(words):
         return f"word {words.index('', 1)} after {name} is empty (a variable that is not set?)"
     option = next((word for word in rest if re.match(r"--?[a-z]", word)), None)
     usage = f"{name} {COMMANDS[name][0]}"
-    if option and len(rest) != {"run": 3, "gen": 4, "print": 1, "convert": 4}[name]:
+    if option and len(rest) != {"run": 3, "bank": 3, "gen": 4, "print": 1, "convert": 4}[name]:
         more = "; a block length is `block N` at the end" if "block" in option else ""
         return f"there are no options, and {option} is one: {usage}{more}"
-    return {"run": run_fault, "gen": gen_fault, "print": print_fault, "convert": convert_fault}[name](rest, usage)
+    faults = {"run": run_fault, "bank": run_fault, "gen": gen_fault, "print": print_fault, "convert": convert_fault}
+    return faults[name](rest, usage)
 
 
 def run_fault(rest, usage):
@@ -94,7 +96,7 @@ def run_fault(rest, usage):
         if fault:
             return fault
     elif len(rest) != 3:
-        return f"run takes 3 words, or 5 with `block N`, and here are {len(rest)}: {usage}"
+        return f"{usage.split()[0]} takes 3 words, or 5 with `block N`, and here are {len(rest)}: {usage}"
     return same_words(rest[0], rest[1], rest[2])
 
 

@@ -172,6 +172,7 @@ class Faults(Case):
         self.write("s.txt", COPY)
         for words, hint in (
             ([], "no command"), (["rum", "a"], "run is one"), (["run", "a", "b"], "and here are 2"),
+            (["bank", "a", "b"], "bank takes 3 words"),
             (["run", "s.txt", "a", "b", "--block", "64"], "`block N` at the end"),
             (["run", "s.txt", "a", "b", "block", "12345678901"], "one to ten digits"),
             (["gen", "1", "99999999", "s.txt", "o"], "at most 16777216, and here is 99999999"),
@@ -607,6 +608,7 @@ class Installing(Case):
         self.assertEqual(completed("dspfx", "r"), ["run"])
         self.assertEqual(completed("dspfx", "run", "scr"), ["script.txt"])
         self.assertEqual(completed("dspfx", "run", "a", "b", "c", "bl"), ["block"])
+        self.assertEqual(completed("dspfx", "bank", "scr"), ["script.txt"])
         self.assertEqual(completed("dspfx", "convert", "au", "''"), ["wave"])
         self.assertEqual(completed("dspfx", "gen", "7", "s"), [])
         self.assertEqual(completed("dspfx", "convert", "au", "w"), ["wave"])

@@ -4,10 +4,10 @@
 # stands in the repository. It is no part of the gate. DSPFX names another program.
 . "$(dirname "$(readlink -f "${BASH_SOURCE[0]}")")/checking.sh"
 
-# use NAME INPUT ENDING
+# use NAME INPUT ENDING [COMMAND]
 use() {
     local use=$top/examples/$1
-    check "$1 runs" "$program" run "$use/script.txt" "$use/$2" "$folder/out.$3"
+    check "$1 runs" "$program" "${4-run}" "$use/script.txt" "$use/$2" "$folder/out.$3"
     check "$1 gives what is expected" cmp "$folder/out.$3" "$use/expected.$3"
     rm -f "$folder/out.$3"
 }
@@ -20,6 +20,8 @@ use designed in.raw raw
 use equiripple in.wav wav
 use elliptic in.wav wav
 use halfband in.wav wav
+use microphones in.wav wav
+use microphones in.wav wav bank
 
 if command -v python3 >/dev/null; then
     check "the gallery is made" python3 "$top/examples/make.py" "$folder/made"

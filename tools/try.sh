@@ -11,7 +11,7 @@ words=()
 for place in $(seq $#); do
     word=${!place}
     case ${1-}:$place in
-    run:[234] | gen:[45] | print:2 | convert:[45]) [[ -z $word || $word = /* ]] || word=$PWD/$word ;;
+    run:[234] | bank:[234] | gen:[45] | print:2 | convert:[45]) [[ -z $word || $word = /* ]] || word=$PWD/$word ;;
     esac
     words+=("$word")
 done

@@ -152,7 +152,7 @@ unopened_faults (input_fault.Header f offset) script given input now sink cause 
 unopened_faults (input_fault.Limit taken limit) script given input now sink cause = (cause.4, refl)
 
 -- the header of the input is there, and no sample was taken
-module _ (banked : Bool) (script : Script) (block : ℕ) (counts : Counts) (ready : IsReady script block) (header : Header) (input now : SourceState) (sink : SinkState) (opened : Opened script header input now) where
+module _ (script : Script) (block : ℕ) (counts : Counts) (ready : IsReady script block) (header : Header) (input now : SourceState) (sink : SinkState) (opened : Opened script header input now) where
   abbrev first : List ℕ
   first = opened.first
 
@@ -174,9 +174,9 @@ module _ (banked : Bool) (script : Script) (block : ℕ) (counts : Counts) (read
       by_size None = tt
       by_size (Some size) = omega arith
 
-  stops_first : (fault : StreamFault) (after : SinkState) (written : List ℕ) → after.put ≡ append_known sink.put written → IsUnflushed fault sink after written → IsCause fault script block first now → HasWritten fault script block first written now sink after counts counts → CountsFault fault input now sink after
+  stops_first : (banked : Bool) (fault : StreamFault) (after : SinkState) (written : List ℕ) → after.put ≡ append_known sink.put written → IsUnflushed fault sink after written → IsCause fault script block first now → HasWritten fault script block first written now sink after counts counts → CountsFault fault input now sink after
       → Stopped banked script block fault input now sink after counts counts
-  stops_first fault after written put unflushed cause wrote faults =
+  stops_first banked fault after written put unflushed cause wrote faults =
       record {
         given = first;
         written = written;
@@ -197,17 +197,17 @@ module _ (banked : Bool) (script : Script) (block : ℕ) (counts : Counts) (read
   long_cause size long =
       (has, sym (ap (λ (h : Header). h.start) header_is ∙ opened.opens.start), subst (λ count. IsTooLong script count size) (sym (ap (known_frames script) header_is)) long, refl)
 
-  pub stops_too_long : (size : ℕ) → IsTooLong script (known_frames script header) size → Stopped banked script block (fault.Lengths (length_fault.Riff size MAX_RIFF_SIZE)) input now sink sink counts counts
-  stops_too_long size long =
-      stops_first (fault.Lengths (length_fault.Riff size MAX_RIFF_SIZE)) sink [] (Took-nil sink).put refl (long_cause size long) refl (opened.no_fault, refl)
+  pub stops_too_long : (banked : Bool) (size : ℕ) → IsTooLong script (known_frames script header) size → Stopped banked script block (fault.Lengths (length_fault.Riff size MAX_RIFF_SIZE)) input now sink sink counts counts
+  stops_too_long banked size long =
+      stops_first banked (fault.Lengths (length_fault.Riff size MAX_RIFF_SIZE)) sink [] (Took-nil sink).put refl (long_cause size long) refl (opened.no_fault, refl)
 
   pub no_frames : frames_in_bytes script first ≡ 0
   no_frames =
       ap (frames_in_bytes script) (sym (append-nil first)) ∙ frames_are script header (some_frame script header.coding block ready) first opened.opens [] none_declared
       ∙ ap length (signal-nil script header.coding (some_frame script header.coding block ready))
 
-  pub stops_unwritten : Fits script header → (after : SinkState) (count : ℕ) → count < length (output_header script header) → Took sink after (take count (output_header script header)) → after.faults ≡ one_more sink.faults → Stopped banked script block fault.Output input now sink after counts counts
-  stops_unwritten fits after count less took risen =
+  pub stops_unwritten : (banked : Bool) → Fits script header → (after : SinkState) (count : ℕ) → count < length (output_header script header) → Took sink after (take count (output_header script header)) → after.faults ≡ one_more sink.faults → Stopped banked script block fault.Output input now sink after counts counts
+  stops_unwritten banked fits after count less took risen =
       let all = output_header script header in
       let parted : part script block first ≡ all ++ live_bytes script (signal script header.coding []) =
       ap (part script block) (sym (append-nil first)) ∙ part_blocks script header (some_frame script header.coding block ready) first opened.opens block 0 [] [] (omega arith) (some_block script header.coding block ready) none_declared in
@@ -220,14 +220,14 @@ module _ (banked : Bool) (script : Script) (block : ℕ) (counts : Counts) (read
         fits = subst (Fits script) (sym header_is) fits;
         not_full = subst (λ n. gathered script.blocks n ≤ MAX_GATHERED) (sym (ap (in_whole_blocks block) no_frames ∙ none_whole block)) (omega (arith, gathered-nothing script.blocks));
       } in
-      stops_first fault.Output after (take count all) took.put tt has (limits, inl ((drop count all ++ live_bytes script (signal script header.coding []), split), fewer)) (opened.no_fault, risen)
+      stops_first banked fault.Output after (take count all) took.put tt has (limits, inl ((drop count all ++ live_bytes script (signal script header.coding []), split), fewer)) (opened.no_fault, risen)
 
 -- no header came, or the output would be too long
 pub stops_untaken : (banked : Bool) (script : Script) (block : ℕ) (counts : Counts) → IsReady script block → (stop : StreamFault) (input now : SourceState) (sink : SinkState) → Untaken script stop input now → Stopped banked script block stop input now sink sink counts counts
 stops_untaken banked script block counts ready stop input now sink (NoHeader error is unopened) =
     subst (λ f. Stopped banked script block f input now sink sink counts counts) (sym is) (stops_unopened banked script block counts input now sink error unopened)
 stops_untaken banked script block counts ready stop input now sink (LongOutput header size opened is long) =
-    subst (λ f. Stopped banked script block f input now sink sink counts counts) (sym is) (stops_too_long banked script block counts ready header input now sink opened size long)
+    subst (λ f. Stopped banked script block f input now sink sink counts counts) (sym is) (stops_too_long script block counts ready header input now sink opened banked size long)
 
 pub untaken_stays : (stop : StreamFault) (script : Script) (input now : SourceState) (s : SessionState) → Untaken script stop input now → StaysRefused stop s
 untaken_stays stop script input now s (NoHeader error is unopened) = subst (λ f. StaysRefused f s) (sym is) (input_stays error s)

@@ -17,7 +17,7 @@ returns-in_err-write_output_header-clause-err g c banked block counts ready =
     let (error, is, same) = err_from_is_err_and c.from_residual-in_err-write_output_header.result c.from_residual-in_err-write_output_header.ensures.1 in
     let (count, output, less, took) = c.in_err-write_output_header.ensures.err in
     rw (is, same, output)
-    (laws.stops_unwritten banked c.args.script.now block counts ready _ _ _ _ c.in_ok-header.ensures.ok c.in_ok-header.ensures.fits _ count less took c.in_err-write_output_header.ensures.faults)
+    (laws.stops_unwritten c.args.script.now block counts ready _ _ _ _ c.in_ok-header.ensures.ok banked c.in_ok-header.ensures.fits _ count less took c.in_err-write_output_header.ensures.faults)
 
 pub returns-in_err-write_output_header-clause-unfed : goal.returns-in_err-write_output_header-clause-unfed
 returns-in_err-write_output_header-clause-unfed g c s =

@@ -73,7 +73,7 @@ module _ (s next : SessionState) (bytes : List ℕ) (before after : Counts) (sam
         | inr within ↦ subst (λ n. gathered s.script.blocks n ≤ MAX_GATHERED) all within
       ]
 
-  pub feed_passes : (sink last : SinkState) → Took sink last next.out → last.faults ≡ sink.faults → (IsTooMuch s (length (signal s.script s.coding bytes)) → ⊥) → Passes s.script s.coding x bytes next sink last before after
+  pub feed_passes : (sink last : SinkState) → Took sink last next.out → last.faults ≡ sink.faults → (IsTooMuch s (length (signal s.script s.coding bytes)) → ⊥) → Passes s.banked s.script s.coding x bytes next sink last before after
   feed_passes sink last took faults taken = record { stands = fed.stands x stands; out = feed_out; costs = feed_costs; not_full = feed_fits taken; took = took; no_fault = faults }
 
 -- the call was refused

@@ -1,5 +1,5 @@
 -- What streams over a part of an input have in common: what is written of more frames, and what more frames cost.
-use Rattle.std.proofs.Common.{◌≡◌, ℕ, ◌+◌, ◌<◌, ◌≤◌, List, ◌++◌, length, take, IfSome, sym, ap, ◌∙◌, subst, arith, append_assoc, length-append}
+use Rattle.std.proofs.Common.{◌≡◌, ℕ, ◌+◌, ◌<◌, ◌≤◌, false, List, ◌++◌, length, take, IfSome, sym, ap, ◌∙◌, subst, arith, append_assoc, length-append}
 use Rattle.dsp_ports.specs.Ports.{SourceState, SinkState, one_more}
 use Rattle.std.proofs.lemmas.List.{take_all}
 use Rattle.dsp_defs.specs.Block.{Frame}
@@ -41,7 +41,7 @@ live_in_whole script x more = coded_begins (output_coding script) _ _ (whole_cha
 
 -- more frames have no less cost
 pub live_cost_more : (script : Script) (m n : ℕ) → m ≤ n → live_cost_of script m ≤ live_cost_of script n
-live_cost_more script m n more = (let within = chain_turns_within script.input.format script.input.channels script.blocks m n more in omega (arith, within))
+live_cost_more script m n more = (let within = chain_turns_within false script.input.format script.input.channels script.blocks m n more in omega (arith, within))
 
 -- ---- the output of the first frames
 

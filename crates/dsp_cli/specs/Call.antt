@@ -1,25 +1,36 @@
 -- What the top call was given and what it left, and how it ended: one fact, from which all other clauses of `run` follow.
-use Rattle.std.specs.Prelude.{◌≡◌, ℕ, List, Option, Some, None, IfSome, IsTrue, IsFalse}
+use Rattle.std.specs.Prelude.{◌≡◌, ◌≤◌, ◌<◌, ◌++◌, ℕ, ℤ, List, length, Option, Some, None, IfSome, IsTrue, IsFalse}
 use Rattle.dsp_ports.specs.Ports.{SourceState, SinkState, one_more}
 use Rattle.dsp_defs.specs.Canon.{canon}
 use Rattle.dsp_defs.specs.Counts.{Counts}
 use Rattle.dsp_defs.specs.Grammar.{Reads}
-use Rattle.dsp_defs.specs.Output.{output}
+use Rattle.dsp_defs.specs.Block.{Frame}
+use Rattle.dsp_defs.specs.KeptOfScript.{kept}
+use Rattle.dsp_defs.specs.Output.{input_header, input_signal, live_bytes, output, output_pad, whole_bytes}
+use Rattle.dsp_defs.specs.StateBytes.{IsState, state_of}
+use Rattle.dsp_defs.specs.StateFields.{HasStateFault}
+use Rattle.dsp_defs.specs.declared.limits.TheConstants.{MAX_SCRIPT}
+use Rattle.dsp_defs.specs.declared.state_kind.StateKind.{StateKind}
+use Rattle.dsp_defs.specs.declared.state_kind.StateKind.TheVariants.{LongText}
 use Rattle.dsp_defs.specs.Reading.{first_fault}
 use Rattle.dsp_command.specs.Report.{report_text, converted_text}
 use Rattle.dsp_defs.specs.Shape.{unit}
 use Rattle.dsp_command.specs.Words.{command_of}
 use Rattle.dsp_defs.specs.declared.au.Direction.{Direction}
 use Rattle.dsp_command.specs.declared.command.Command.{Command}
-use Rattle.dsp_command.specs.declared.command.Command.TheVariants.{Gen, Print, Convert}
+use Rattle.dsp_command.specs.declared.command.Command.TheVariants.{Gen, Print, Stop, Go, Convert}
 use Rattle.dsp_defs.specs.declared.measure.Measure.{Measure}
 use Rattle.dsp_defs.specs.declared.script.Script.{Script}
+use Rattle.dsp_session.specs.Resuming.{FirstDone, FirstStopped, RestDone, RestStopped, first_output, later_frames}
+use Rattle.dsp_session.specs.Session.{StandsFor}
+use Rattle.dsp_session.specs.SessionState.{SessionState}
 use Rattle.dsp_session.specs.Stream.{Done, Stopped as StreamStopped}
+use Rattle.dsp_session.specs.declared.fault.PartFault.{PartFault}
 use Rattle.dsp_cli.specs.Fault.{status_of, fault_line}
-use Rattle.dsp_cli.specs.Run.{HasText, HasBlocks, IsStream, IsPrint, IsReading, IfWhole, Tells, ReportsText, Wrote, read_from}
-use Rattle.dsp_cli.specs.Script.{ReadsText, chosen_block, is_banked, is_legal_for}
+use Rattle.dsp_cli.specs.Run.{HasSource, HasText, HasBlocks, IsStream, IsPrint, IsReading, IfWhole, Tells, ReportsText, Wrote, read_from}
+use Rattle.dsp_cli.specs.Script.{ReadsText, ReadsBytes, IfScript, IfState, chosen, chosen_block, is_banked, is_legal_for}
 use Rattle.dsp_cli.specs.declared.fault.Fault.{Fault}
-use Rattle.dsp_cli.specs.declared.fault.Fault.TheVariants.{Usage, ScriptRead, Script as BadText, BlockLength, Memory, Stream, Conversion}
+use Rattle.dsp_cli.specs.declared.fault.Fault.TheVariants.{Usage, ScriptRead, Script as BadText, BlockLength, Memory, Stream, State, Part, Conversion}
 use Rattle.dsp_defs.specs.Au.{target}
 use Rattle.dsp_au.specs.Convert.{Done as ConvertDone, Stopped as ConvertStopped}
 use Rattle.dsp_au.specs.declared.conversion.Converted.{Converted}
@@ -79,21 +90,33 @@ Spares (Some (Gen seed frames)) c = (c.later ≡ c.port) × (c.seen ≡ c.other)
 Spares (Some (Convert direction)) c = SparesScript c
 Spares command c = c.seen ≡ c.other
 
+-- for each signal whose kept numbers a state has, what was written is what its whole signal has beyond its live values: the
+-- signal goes on with the frames of the input behind as many as the state has taken
+abbrev pub GoesOnRight : SourceState → List ℕ → SinkState → SinkState → Type 0
+GoesOnRight source bytes sink after = IfState source.left (λ script at numbers.
+    (x : List Frame) → length x ≡ at → numbers ≡ kept script x → (written : List ℕ) × Wrote written sink after
+    × (live_bytes script x ++ written ≡ whole_bytes script (x ++ later_frames script at bytes) ++ output_pad script (input_header script bytes)))
+
 -- what is so once a command is done, where the ports tell their bytes: exactly the output of the script was written, for all
--- the input, or the file in the other form
+-- the input, or for a part of it, or the file in the other form
 abbrev pub HasDone : Option Command → Call → Type 0
 HasDone None c = Unit {0}
 HasDone (Some Print) c = Unit {0}
+HasDone (Some (Stop at)) c = IfScript c.source.left (λ s. IfSome c.port.left (λ bytes. Wrote (first_output s at bytes) c.sink c.after))
+HasDone (Some Go) c = IfSome c.port.left (λ bytes. GoesOnRight c.source bytes c.sink c.after)
 HasDone (Some (Convert direction)) c = IfSome c.port.left (λ bytes. Wrote (target direction bytes) c.sink c.after)
 HasDone command c = IfWhole command c.source.left c.port (λ s bytes. Wrote (output s bytes) c.sink c.after)
 
 -- ---- how it ended
 
--- a script went over a whole input of so many frames, with these measures; the text of a script was made; a file was written in
--- the other form; or a fault stopped it
+-- a script went over a whole input of so many frames, with these measures; the text of a script was made; a script was stopped
+-- behind these frames; it went on to the end of so many, with these measures; a file was written in the other form; or a fault
+-- stopped it
 pub data Ending : Type 0 where
   Went : Script → ℕ → List Measure → Ending
   Printed : Script → Ending
+  Saved : Script → List Frame → Ending
+  Resumed : Script → ℕ → List Measure → Ending
   Turned : Converted → Ending
   Stopped : Fault → Ending
 
@@ -108,6 +131,30 @@ pub record Streams (script : Script) (Did : ℕ → SourceState → SourceState 
   pub did : Did (chosen_block c.words script) (read_from (command_of c.words) script.input c.port) now
   pub other_same : c.seen ≡ c.other
 
+-- the words ask to stop this script behind so many frames, and in blocks of the chosen length this was done; the other file was
+-- left alone
+pub record StopsAt (script : Script) (at : ℕ) (Did : ℕ → Type 0) (c : Call) : Type 0 where
+  pub asked : command_of c.words ≡ Some (Stop at)
+  pub read : ReadsText c.source c.read (λ text. Reads text script)
+  pub legal : IsTrue (is_legal_for script (chosen None script))
+  pub short : length (canon script) ≤ MAX_SCRIPT
+  pub did : Did (chosen None script)
+  pub other_same : c.seen ≡ c.other
+
+-- the words ask to go on, from the state of this script behind so many frames, and in blocks of the chosen length this was done by
+-- a session that stood for each signal with its numbers; the other file was left alone
+pub record GoesOn (script : Script) (Did : ℕ → SessionState → ℕ → Type 0) (c : Call) : Type 0 where
+  pub asked : command_of c.words ≡ Some Go
+  pub at : ℕ
+  pub numbers : List ℤ
+  pub read : ReadsBytes c.source c.read (λ bytes. IsState bytes script at numbers)
+  pub legal : IsTrue (is_legal_for script (chosen None script))
+  pub start : SessionState
+  pub script_is : start.script ≡ script
+  pub stands : (x : List Frame) → length x ≡ at → numbers ≡ kept script x → StandsFor start x
+  pub did : Did (chosen None script) start at
+  pub other_same : c.seen ≡ c.other
+
 -- the words are a conversion, and this was done with its input and output; nothing else was called
 pub record Converts (Did : Direction → Type 0) (c : Call) : Type 0 where
   pub direction : Direction
@@ -115,15 +162,38 @@ pub record Converts (Did : Direction → Type 0) (c : Call) : Type 0 where
   pub did : Did direction
   pub spared : SparesScript c
 
+-- the chosen block length isn't legal: of a script that was read, or of the script of a state
+pub data RefusesLength (block divisor : ℕ) (c : Call) : Type 0 where
+  OfText : HasBlocks (command_of c.words) → ReadsText c.source c.read (λ text. (script : Script) × Reads text script
+      × IsFalse (is_legal_for script block) × (block ≡ chosen_block c.words script) × (divisor ≡ unit script.input.channels script.blocks))
+      → RefusesLength block divisor c
+  OfState : command_of c.words ≡ Some Go → ReadsBytes c.source c.read (λ bytes. (script : Script) × (at : ℕ) × (numbers : List ℤ)
+      × IsState bytes script at numbers × IsFalse (is_legal_for script block) × (block ≡ chosen None script) × (divisor ≡ unit script.input.channels script.blocks))
+      → RefusesLength block divisor c
+
+-- the bytes are no state; or the text of a script that is to be stopped is too long for one
+pub data RefusesState (kind : StateKind) (offset : ℕ) (c : Call) : Type 0 where
+  OfBytes : command_of c.words ≡ Some Go → ReadsBytes c.source c.read (λ bytes. HasStateFault kind offset bytes) → RefusesState kind offset c
+  OfScript : (at : ℕ) → command_of c.words ≡ Some (Stop at) → ReadsText c.source c.read (λ text. (script : Script) × Reads text script
+      × IsTrue (is_legal_for script (chosen None script)) × (MAX_SCRIPT < length (canon script)) × (kind ≡ LongText (length (canon script))) × (offset ≡ 0))
+      → RefusesState kind offset c
+
 -- why no stream was begun
 abbrev pub Refuses : Fault → Call → Type 0
 Refuses Usage c = (command_of c.words ≡ None) × (c.read ≡ c.source)
-Refuses ScriptRead c = HasText (command_of c.words) × (c.read.faults ≡ one_more c.source.faults)
+Refuses ScriptRead c = HasSource (command_of c.words) × (c.read.faults ≡ one_more c.source.faults)
 Refuses (BadText fault) c = HasText (command_of c.words) × ReadsText c.source c.read (λ text. first_fault text ≡ Some fault)
-Refuses (BlockLength block divisor) c = HasBlocks (command_of c.words) × ReadsText c.source c.read (λ text. (script : Script) × Reads text script
-    × IsFalse (is_legal_for script block) × (block ≡ chosen_block c.words script) × (divisor ≡ unit script.input.channels script.blocks))
-Refuses Memory c = HasText (command_of c.words)
+Refuses (BlockLength block divisor) c = RefusesLength block divisor c
+Refuses (State kind offset) c = RefusesState kind offset c
+Refuses Memory c = HasSource (command_of c.words)
 Refuses fault c = ⊥
+
+-- the stream over the first frames stopped before their end, or that over the rest
+pub data StopsInPart (fault : PartFault) (c : Call) : Type 0 where
+  InFirst : (script : Script) (at : ℕ)
+      → StopsAt script at (λ block. FirstStopped script block at fault c.port c.later c.sink c.after c.before c.counts) c → StopsInPart fault c
+  InRest : (script : Script)
+      → GoesOn script (λ block start at. RestStopped script block start at fault c.port c.later c.sink c.after c.before c.counts) c → StopsInPart fault c
 
 -- what was done
 abbrev pub Happened : Ending → Call → Type 0
@@ -131,16 +201,23 @@ Happened (Went script frames found) c =
     Streams script (λ block input now. Done (is_banked c.words) script block frames input now c.sink c.after c.before c.counts found) c
 Happened (Printed script) c =
     IsPrint c.words × ReadsText c.source c.read (λ text. Reads text script) × Untouched c
+Happened (Saved script x) c = StopsAt script (length x) (λ block.
+    (session : SessionState) × (done : FirstDone script (length x) session c.port c.later c.sink c.after c.before c.counts) × (x ≡ input_signal script done.given)) c
+Happened (Resumed script frames found) c =
+    GoesOn script (λ block start at. RestDone script start at frames c.port c.later c.sink c.after c.before c.counts found) c
 Happened (Turned totals) c = Converts (λ direction. ConvertDone direction totals c.port c.later c.sink c.after) c
 Happened (Stopped (Conversion fault)) c = Converts (λ direction. ConvertStopped direction fault c.port c.later c.sink c.after) c
 Happened (Stopped (Stream fault)) c =
     (script : Script) × Streams script (λ block input now. StreamStopped (is_banked c.words) script block fault input now c.sink c.after c.before c.counts) c
+Happened (Stopped (Part fault)) c = StopsInPart fault c
 Happened (Stopped fault) c = Refuses fault c × Untouched c
 
 -- what is said of it
 abbrev pub text_of : Ending → List ℕ
 text_of (Went script frames found) = report_text script frames found
 text_of (Printed script) = canon script
+text_of (Saved script x) = state_of script (length x) (kept script x)
+text_of (Resumed script frames found) = report_text script frames found
 text_of (Turned totals) = converted_text totals.frames totals.channels totals.bits
 text_of (Stopped fault) = fault_line fault
 

@@ -1,18 +1,20 @@
 -- What the words ask for, what is read for them, and what is written.
-use Rattle.std.specs.Prelude.{◌≡◌, ◌≢◌, ◌⊎◌, ◌+◌, ◌^◌, ◌<◌, ℕ, ◌≤◌, Bool, List, length, take, Option, Some, None, IfSome, IsTrue}
+use Rattle.std.specs.Prelude.{◌≡◌, ◌≢◌, ◌⊎◌, ◌+◌, ◌*◌, ◌^◌, ◌<◌, ℕ, ◌≤◌, min, Bool, List, length, take, Option, Some, None, IfSome, IsTrue}
 use Rattle.std.specs.Io.KnownBytes.{append_known}
 use Rattle.dsp_ports.specs.Ports.{SourceState, SinkState, Rose, one_more, IsSettled}
 use Rattle.dsp_defs.specs.Generator.{generated_bytes}
-use Rattle.dsp_defs.specs.Output.{HasHeader, input_header}
+use Rattle.dsp_defs.specs.Canon.{canon}
+use Rattle.dsp_defs.specs.Output.{HasHeader, declared_frames, input_header}
 use Rattle.dsp_defs.specs.Shape.{window_at}
 use Rattle.dsp_command.specs.Words.{command_of}
 use Rattle.dsp_command.specs.declared.command.Command.{Command}
-use Rattle.dsp_command.specs.declared.command.Command.TheVariants.{Run, Gen, Print, Convert}
+use Rattle.dsp_command.specs.declared.command.Command.TheVariants.{Run, Gen, Print, Stop, Go, Convert}
 use Rattle.dsp_defs.specs.declared.format.Input.{Input}
-use Rattle.dsp_defs.specs.declared.limits.TheConstants.{MAX_GENERATED}
+use Rattle.dsp_defs.specs.declared.limits.TheConstants.{MAX_GENERATED, MAX_SCRIPT}
 use Rattle.dsp_defs.specs.declared.script.Script.{Script}
 use Rattle.dsp_session.specs.Stream.{KeepsLimits, declared_bytes, frames_in_bytes, input_fault}
-use Rattle.dsp_cli.specs.Script.{IfScript, is_legal_for}
+use Rattle.dsp_input.specs.Taking.{frame_bytes}
+use Rattle.dsp_cli.specs.Script.{IfScript, chosen, is_legal_for}
 
 -- ---- commands
 
@@ -32,9 +34,16 @@ IsStream words = IsRun words ⊎ IsGen words
 abbrev pub IsPrint : List (List ℕ) → Type 0
 IsPrint words = command_of words ≡ Some Print
 
+-- the command reads a script or a state
+abbrev pub HasSource : Option Command → Type 0
+HasSource None = ⊥
+HasSource (Some (Convert direction)) = ⊥
+HasSource command = Unit {0}
+
 -- the command reads the text of a script
 abbrev pub HasText : Option Command → Type 0
 HasText None = ⊥
+HasText (Some Go) = ⊥
 HasText (Some (Convert direction)) = ⊥
 HasText command = Unit {0}
 
@@ -42,6 +51,7 @@ HasText command = Unit {0}
 abbrev pub HasBlocks : Option Command → Type 0
 HasBlocks None = ⊥
 HasBlocks (Some Print) = ⊥
+HasBlocks (Some Go) = ⊥
 HasBlocks (Some (Convert direction)) = ⊥
 HasBlocks command = Unit {0}
 
@@ -49,6 +59,8 @@ HasBlocks command = Unit {0}
 abbrev pub HasOutput : Option Command → Type 0
 HasOutput (Some (Run named banked)) = Unit {0}
 HasOutput (Some (Gen seed frames)) = Unit {0}
+HasOutput (Some (Stop frames)) = Unit {0}
+HasOutput (Some Go) = Unit {0}
 HasOutput (Some (Convert direction)) = Unit {0}
 HasOutput command = ⊥
 
@@ -63,21 +75,24 @@ MakesFew command = Unit {0}
 abbrev pub IsDone : ℕ → Type 0
 IsDone status = (status ≡ 0) ⊎ (status ≡ 9)
 
--- the words, the script, its block length or want of memory stood in the way
+-- the words, the script, its block length, the state or want of memory stood in the way
 abbrev pub IsRefusal : ℕ → Type 0
-IsRefusal status = (status ≡ 1) ⊎ (status ≡ 2) ⊎ (status ≡ 3) ⊎ (status ≡ 6) ⊎ (status ≡ 10)
+IsRefusal status = (status ≡ 1) ⊎ (status ≡ 2) ⊎ (status ≡ 3) ⊎ (status ≡ 6) ⊎ (status ≡ 10) ⊎ (status ≡ 13)
 
 -- the input and the output were not begun: a print never does
 abbrev pub IsRefused : Option Command → ℕ → Type 0
 IsRefused (Some Print) status = Unit {0}
 IsRefused command status = IsRefusal status
 
--- the statuses that a command may end with: 1 alone where there is none; a gen has no fault of its input
+-- the statuses that a command may end with: 1 alone where there is none; a gen has no fault of its input, and a run that
+-- goes on reads no text
 abbrev pub IsAnswer : Option Command → ℕ → Type 0
 IsAnswer None status = status ≡ 1
 IsAnswer (Some (Run named banked)) status = (status ≤ 10) × (status ≢ 1)
 IsAnswer (Some (Gen seed frames)) status = (status ≤ 10) × (status ≢ 1) × (status ≢ 4) × (status ≢ 7)
 IsAnswer (Some Print) status = IsDone status ⊎ (status ≡ 2) ⊎ (status ≡ 6) ⊎ (status ≡ 10)
+IsAnswer (Some (Stop frames)) status = ((status ≤ 10) ⊎ (status ≡ 13)) × (status ≢ 1)
+IsAnswer (Some Go) status = ((status ≤ 10) ⊎ (status ≡ 13)) × (status ≢ 1) × (status ≢ 2)
 IsAnswer (Some (Convert direction)) status = IsDone status ⊎ (status ≡ 4) ⊎ (status ≡ 5) ⊎ (status ≡ 7) ⊎ (status ≡ 8)
 
 -- ---- what is read
@@ -138,5 +153,23 @@ IsGood command script bytes = (input_fault script bytes ≡ None) × InLimit scr
 pub record IsFree (command : Option Command) (script : Script) (block : ℕ) (bytes : List ℕ) : Type 0 where
   pub legal : IsTrue (is_legal_for script block)
   pub good : IsGood command script bytes
+  pub no_window : window_at script.blocks (frames_in_bytes script bytes) ≡ None
+  pub limits : KeepsLimits script (input_header script bytes) (frames_in_bytes script bytes)
+
+-- nothing stands in the way of stopping a script behind so many frames of an input of these bytes: they are there, and declared
+-- where a size is
+pub record IsStoppable (script : Script) (at : ℕ) (bytes : List ℕ) : Type 0 where
+  pub legal : IsTrue (is_legal_for script (chosen None script))
+  pub short : length (canon script) ≤ MAX_SCRIPT
+  pub good : HasHeader script (take (2 ^ 40) bytes)
+  pub reached : (input_header script bytes).start + at * frame_bytes script (input_header script bytes).coding ≤ min (length bytes) (2 ^ 40)
+  pub declared : IfSome (declared_frames script (input_header script bytes)) (λ frames. at ≤ frames)
+  pub limits : KeepsLimits script (input_header script bytes) at
+
+-- nothing stands in the way of going on from so many frames, over an input of these bytes
+pub record IsResumable (script : Script) (at : ℕ) (bytes : List ℕ) : Type 0 where
+  pub legal : IsTrue (is_legal_for script (chosen None script))
+  pub good : (input_fault script bytes ≡ None) × InLimit script bytes
+  pub reached : at ≤ frames_in_bytes script bytes
   pub no_window : window_at script.blocks (frames_in_bytes script bytes) ≡ None
   pub limits : KeepsLimits script (input_header script bytes) (frames_in_bytes script bytes)

@@ -1,5 +1,5 @@
 ghost use Rattle.std.specs.Prelude.{◌≡◌, [], ◌∷◌};
-ghost use Rattle.dsp_command.specs.Words.{are_gen_names, are_run_names, command_of, count_of, direction_of, generating, places_of, running};
+ghost use Rattle.dsp_command.specs.Words.{are_gen_names, are_run_names, command_of, count_of, direction_of, generating, of_six, places_of, running};
 ghost use Rattle.std.specs.Char.{is_ascii_digit};
 ghost use Rattle.std.specs.List.{list_all};
 
@@ -109,6 +109,9 @@ fn command_of_five(
     if verb == "gen" && are_gen_names(fourth, output) {
         return generating(count(second), count(third));
     }
+    if verb == "resume" && second == "go" && are_run_names(third, fourth, output) {
+        return Some(Command::Go);
+    }
     if verb == "convert" && are_gen_names(fourth, output) {
         let direction = direction(second, third)?;
         return Some(Command::Convert { direction });
@@ -116,21 +119,23 @@ fn command_of_five(
     None
 }
 
-/// What four words and two for the block length ask for.
+/// What six words ask for.
 fn command_of_six(
     verb: &str,
-    script: &str,
-    input: &str,
-    output: &str,
-    option: &str,
-    frames: &str,
+    second: &str,
+    third: &str,
+    fourth: &str,
+    fifth: &str,
+    last: &str,
 ) -> Option<Command>
-    ensures { result
-        ≡ command_of
-        (verb.now ∷ script.now ∷ input.now ∷ output.now ∷ option.now ∷ frames.now ∷ []) }
+    ensures { result ≡ of_six verb.now second.now third.now fourth.now fifth.now last.now }
 {
-    if are_run_names(script, input, output) && option == "block" {
-        let frames = count(frames)?;
+    if verb == "resume" && second == "stop" && are_run_names(fourth, fifth, last) {
+        let frames = count(third)?;
+        return Some(Command::Stop { frames });
+    }
+    if are_run_names(second, third, fourth) && fifth == "block" {
+        let frames = count(last)?;
         return running(verb, Some(frames));
     }
     None
@@ -183,6 +188,18 @@ pub fn places(words: &Words) -> Option<Places>
             script: Some(1),
             input: None,
             output: None,
+            other: None,
+        }),
+        Command::Stop { .. } => Some(Places {
+            script: Some(3),
+            input: Some(4),
+            output: Some(5),
+            other: None,
+        }),
+        Command::Go => Some(Places {
+            script: Some(2),
+            input: Some(3),
+            output: Some(4),
             other: None,
         }),
         Command::Convert { .. } => Some(Places {

@@ -1,6 +1,7 @@
 use dsp_au::ConvertFault;
+use dsp_defs::StateKind;
 use dsp_script::ScriptFault;
-use dsp_session::StreamFault;
+use dsp_session::{PartFault, StreamFault};
 
 /// Why a run is not done.
 #[derive(Clone, Copy, Debug, PartialEq, Eq)]
@@ -17,6 +18,11 @@ pub enum Fault {
     Memory,
     /// The stream stopped.
     Stream(StreamFault),
+    /// The bytes are no state, or the text of a script that is to be stopped is too long for one: what is
+    /// wrong, and where.
+    State { kind: StateKind, offset: u64 },
+    /// The stream over a part of the input stopped.
+    Part(PartFault),
     /// The conversion stopped.
     Conversion(ConvertFault),
 }

@@ -1,17 +1,17 @@
 //! The exit status and the one line of a run that isn't done.
 ghost use Rattle.std.specs.Prelude.{◌≡◌, ◌+◌, ◌≤◌, ◌++◌, [], length};
 ghost use Rattle.arrayvec.specs.ArrayVec.{array_vec_len};
-ghost use Rattle.dsp_command.specs.Report.{output_line, au_line, au_text, block_length_line, header_line, header_text, kind_text, lengths_line, located, script_line};
-ghost use Rattle.dsp_cli.specs.Fault.{fault_line, length_fault_line, status_of};
+ghost use Rattle.dsp_command.specs.Report.{output_line, au_line, au_text, block_length_line, header_line, header_text, kind_text, lengths_line, located, script_line, state_line, state_text};
+ghost use Rattle.dsp_cli.specs.Fault.{fault_line, length_fault_line, status_of, stream_line, stream_status};
 
 use crate::fault::Fault;
 use crate::line::{Line, field_name, format_name, integer_field, natural_field};
 use arrayvec::ArrayVec;
 use dsp_au::ConvertFault;
-use dsp_defs::{AuFault, HeaderFault};
+use dsp_defs::{AuFault, HeaderFault, StateKind};
 use dsp_line::{natural, text, wide_natural};
 use dsp_script::{ScriptFault, ScriptKind};
-use dsp_session::{LengthFault, StreamFault};
+use dsp_session::{LengthFault, PartFault, StreamFault};
 
 /// The exit status of a run that ends so.
 pub fn status_of(fault: &Fault) -> u8
@@ -21,13 +21,24 @@ pub fn status_of(fault: &Fault) -> u8
         Fault::Usage => 1,
         Fault::Script(_) => 2,
         Fault::BlockLength { .. } => 3,
-        Fault::Stream(StreamFault::Header { .. }) => 4,
-        Fault::Stream(StreamFault::Lengths(_)) => 5,
         Fault::ScriptRead => 6,
-        Fault::Stream(StreamFault::Input) => 7,
-        Fault::Stream(StreamFault::Output) => 8,
         Fault::Memory => 10,
+        Fault::State { .. } => 13,
+        Fault::Stream(fault) => stream_status(fault),
+        Fault::Part(PartFault::Behind { .. }) => 5,
+        Fault::Part(PartFault::Stream(fault)) => stream_status(fault),
         Fault::Conversion(fault) => conversion_status(fault),
+    }
+}
+
+fn stream_status(fault: &StreamFault) -> u8
+    ensures { result ≡ stream_status fault.now }
+{
+    match fault {
+        StreamFault::Header { .. } => 4,
+        StreamFault::Lengths(_) => 5,
+        StreamFault::Input => 7,
+        StreamFault::Output => 8,
     }
 }
 
@@ -160,6 +171,34 @@ fn au_fields(line: &mut Line, fault: AuFault)
     }
 }
 
+fn state_name(kind: StateKind) -> &'static [u8]
+    ensures name { result.now ≡ (state_text kind).0 }
+    ensures short { length result.now ≤ 12 }
+{
+    match kind {
+        StateKind::NotState => b"NotState",
+        StateKind::Version { .. } => b"Version",
+        StateKind::Text => b"Text",
+        StateKind::Cut => b"Cut",
+        StateKind::Value => b"Value",
+        StateKind::Extra => b"Extra",
+        StateKind::TooLong => b"TooLong",
+        StateKind::LongText { .. } => b"LongText",
+    }
+}
+
+fn state_fields(line: &mut Line, kind: StateKind)
+    requires { array_vec_len line.old ≤ 65 }
+    ensures items { line.new.items ≡ line.old.items ++ (state_text kind).1 }
+    ensures len { array_vec_len line.new ≤ array_vec_len line.old + 62 }
+{
+    match kind {
+        StateKind::Version { got } => natural_field(line, b"got", u64::from(got)),
+        StateKind::LongText { size } => natural_field(line, b"size", size),
+        _ => {}
+    }
+}
+
 fn located(line: &mut Line, kind: &[u8], offset: u64)
     requires kind { length kind.now ≤ 12 }
     requires room { array_vec_len line.old ≤ 15 }
@@ -198,6 +237,16 @@ fn au_line(line: &mut Line, fault: AuFault, offset: u64)
     text(line, b"dspfx: header: ");
     located(line, au_name(fault), offset);
     au_fields(line, fault);
+    text(line, b"\n");
+}
+
+fn state_line(line: &mut Line, kind: StateKind, offset: u64)
+    requires { array_vec_len line.old ≡ 0 }
+    ensures { line.new.items ≡ line.old.items ++ state_line kind offset }
+{
+    text(line, b"dspfx: state: ");
+    located(line, state_name(kind), offset);
+    state_fields(line, kind);
     text(line, b"\n");
 }
 
@@ -246,6 +295,30 @@ fn length_fault_line(line: &mut Line, fault: LengthFault)
     }
 }
 
+fn stream_line(line: &mut Line, fault: StreamFault)
+    requires { array_vec_len line.old ≡ 0 }
+    ensures { line.new.items ≡ line.old.items ++ stream_line fault }
+{
+    match fault {
+        StreamFault::Header { fault, offset } => header_line(line, fault, offset),
+        StreamFault::Lengths(fault) => length_fault_line(line, fault),
+        StreamFault::Input => text(line, b"dspfx: input not read\n"),
+        StreamFault::Output => text(line, output_line()),
+    }
+}
+
+fn part_line(line: &mut Line, fault: PartFault)
+    requires { array_vec_len line.old ≡ 0 }
+    ensures { line.new.items ≡ line.old.items ++ fault_line (Fault.Part fault) }
+{
+    match fault {
+        PartFault::Behind { at, got } => {
+            lengths_line(line, b"resume at", u128::from(at), b"input", got);
+        }
+        PartFault::Stream(fault) => stream_line(line, fault),
+    }
+}
+
 fn conversion_line(line: &mut Line, fault: ConvertFault)
     requires { array_vec_len line.old ≡ 0 }
     ensures { line.new.items ≡ line.old.items ++ fault_line (Fault.Conversion fault) }
@@ -280,18 +353,15 @@ pub fn line_of(fault: &Fault) -> Line
     match fault {
         Fault::Usage => text(
             &mut line,
-            b"dspfx: usage: run SCRIPT IN OUT [block N], gen SEED FRAMES SCRIPT OUT, print SCRIPT, bank SCRIPT IN OUT [block N], convert wave au IN OUT, convert au wave IN OUT\n",
+            b"dspfx: usage: run SCRIPT IN OUT [block N], gen SEED FRAMES SCRIPT OUT, print SCRIPT, resume stop K SCRIPT IN OUT, resume go STATE IN OUT, bank SCRIPT IN OUT [block N], convert wave au IN OUT, convert au wave IN OUT\n",
         ),
         Fault::ScriptRead => text(&mut line, b"dspfx: script not read\n"),
         Fault::Script(fault) => script_line(&mut line, *fault),
         Fault::BlockLength { block, unit } => block_length_line(&mut line, *block, *unit),
         Fault::Memory => text(&mut line, b"dspfx: want of memory\n"),
-        Fault::Stream(StreamFault::Header { fault, offset }) => {
-            header_line(&mut line, *fault, *offset);
-        }
-        Fault::Stream(StreamFault::Lengths(fault)) => length_fault_line(&mut line, *fault),
-        Fault::Stream(StreamFault::Input) => text(&mut line, b"dspfx: input not read\n"),
-        Fault::Stream(StreamFault::Output) => text(&mut line, output_line()),
+        Fault::State { kind, offset } => state_line(&mut line, *kind, *offset),
+        Fault::Stream(fault) => stream_line(&mut line, *fault),
+        Fault::Part(fault) => part_line(&mut line, *fault),
         Fault::Conversion(fault) => conversion_line(&mut line, *fault),
     }
     line

@@ -6,29 +6,31 @@ ghost use Rattle.dsp_defs.specs.Output.{input_signal};
 ghost use Rattle.dsp_command.specs.Report.{measure_line, report_text};
 ghost use Rattle.dsp_command.specs.Words.{command_of};
 ghost use Rattle.dsp_command.specs.declared.command.Command.TheVariants.{Gen};
-ghost use Rattle.dsp_defs.specs.declared.limits.TheConstants.{MAX_GENERATED, MAX_SCRIPT};
+ghost use Rattle.dsp_defs.specs.declared.limits.TheConstants.{MAX_GENERATED, MAX_SCRIPT, MAX_STATE};
 ghost use Rattle.dsp_session.specs.Session.{IsNew, IsReady, cost_of, measures_of};
 ghost use Rattle.dsp_cli.specs.Call.{Ended, Happened, HasDone, Spares, Stopped, Untouched, call};
 ghost use Rattle.dsp_cli.specs.Causes.{Causes, Completes};
 ghost use Rattle.dsp_cli.specs.Fault.{summary_text};
-ghost use Rattle.dsp_cli.specs.Script.{chosen, IfScript};
-ghost use Rattle.dsp_cli.specs.Perform.{ReadsAs, Ran, RanGenerated, Performed, FailsToLoad, FailsToRun, FailsToGenerate, HasStatus};
+ghost use Rattle.dsp_cli.specs.Script.{chosen, most_of_script, IfScript};
+ghost use Rattle.dsp_cli.specs.Perform.{ReadsAs, Ran, RanGenerated, Performed, FailsToLoad, FailsToRun, FailsToGenerate, LoadsState, FailsToLoadState, RanFirst, FailsToStop, RanRest, FailsToGoOn, HasStatus};
 ghost use Rattle.dsp_cli.specs.Run.{HasOutput, Wrote, Tells, ReportsText, IsDone, IsRefused};
 
 use crate::command::command;
 use crate::fault::Fault;
 use crate::fault_line::{line_of, status_of};
 use crate::report::{Report, Summary, converted_report, find_measures, head_of};
-use crate::script::{ReadFault, read_script};
+use crate::script::{ReadFault, read_whole};
 use crate::words::Words;
 use dsp_au::convert;
 use dsp_command::Command;
-use dsp_defs::{Flow, Measure, Script, Steps};
+use dsp_defs::{Flow, MAX_SCRIPT, MAX_STATE, Measure, Script, StateKind, Steps};
 use dsp_line::measure_line;
+use dsp_resume::{NewFault, Resume};
 use dsp_ports::{Failed, Sink, Source, write_all};
 use dsp_script::{ParseFault, default_block, legal, output_flow, parse, print, unit};
 use dsp_session::{Session, stream};
 use dsp_stage::AnyUnit;
+use dsp_state::{LoadFault, Saved, load};
 use dsp_wave::GenSource;
 use std::alloc::{AllocError, Global};
 use std::sync::ledger::Ledger;
@@ -38,7 +40,7 @@ use std::sync::ledger::Ledger;
 enum Outcome {
     /// A run went over the whole input.
     Ran(Summary),
-    /// The text of the script is to be reported.
+    /// The text of the script, or a state, is to be reported.
     Printed(Vec<u8>),
     /// A text that needs no memory is to be reported.
     Noted(Report),
@@ -50,7 +52,7 @@ fn load_script<P: Source>(alloc: Global, script: &mut P) -> Result<Script, Fault
     ensures err { IfErr result (λ fault. FailsToLoad fault (P.state script.old) (P.state script.new)) }
     ensures taken { (P.state script.new).taken ≤ (P.state script.old).taken + MAX_SCRIPT + 1 }
 {
-    let text = match read_script(alloc, script) {
+    let text = match read_whole(alloc, MAX_SCRIPT, script) {
         Ok(text) => text,
         Err(ReadFault::Failed) => return Err(Fault::ScriptRead),
         Err(ReadFault::Memory) => return Err(Fault::Memory),
@@ -158,6 +160,104 @@ fn generate<U: AnyUnit + Drop, K: Sink, L: Ledger>(
     run_script::<U, _, _, _>(alloc, None, false, script, &mut input, output, steps)
 }
 
+/// Reads a saved state.
+fn load_state<U: AnyUnit + Drop, P: Source>(alloc: Global, source: &mut P) -> Result<Saved, Fault>
+    ensures ok { IfOk result (λ saved. LoadsState (P.state source.old) (P.state source.new) saved) }
+    ensures err { IfErr result (λ fault. FailsToLoadState fault (P.state source.old) (P.state source.new)) }
+    ensures taken { (P.state source.new).taken ≤ (P.state source.old).taken + MAX_STATE + 1 }
+{
+    let bytes = match read_whole(alloc, MAX_STATE, source) {
+        Ok(bytes) => bytes,
+        Err(ReadFault::Failed) => return Err(Fault::ScriptRead),
+        Err(ReadFault::Memory) => return Err(Fault::Memory),
+    };
+    match load::<U>(alloc, &bytes) {
+        Ok(saved) => Ok(saved),
+        Err(LoadFault::State { kind, offset }) => Err(Fault::State { kind, offset }),
+        Err(LoadFault::Memory) => Err(Fault::Memory),
+    }
+}
+
+/// Works on the first frames of the input, and answers the state behind them.
+fn run_first<U: AnyUnit + Drop, S: Source, K: Sink, L: Ledger>(
+    alloc: Global,
+    frames: u32,
+    script: Script,
+    input: &mut S,
+    output: &mut K,
+    steps: &mut Steps<L>,
+) -> Result<Vec<u8>, Fault>
+    requires { IsSound script }
+    ensures ok { IfOk result (λ state.
+        RanFirst frames script state.items (S.state input.old) (S.state input.new)
+        (K.state output.old) (K.state output.new) steps.old steps.new) }
+    ensures err { IfErr result (λ fault.
+        FailsToStop fault frames script (S.state input.old) (S.state input.new)
+        (K.state output.old) (K.state output.new) steps.old steps.new) }
+{
+    let block = chosen(None, &script);
+    if !legal(&script, block) {
+        let unit = unit(&script);
+        return Err(Fault::BlockLength { block, unit });
+    }
+    let mut resume = match Resume::<U>::new(alloc, script, block, frames) {
+        Ok(resume) => resume,
+        Err(NewFault::LongText { size }) => {
+            let kind = StateKind::LongText { size };
+            return Err(Fault::State { kind, offset: 0 });
+        }
+        Err(NewFault::Memory) => return Err(Fault::Memory),
+    };
+    match resume.stop(input, output, steps) {
+        Ok(()) => Ok(resume.into_state()),
+        Err(fault) => Err(Fault::Part(fault)),
+    }
+}
+
+/// Goes on from a state, over the frames of the input behind those that it has taken.
+fn run_rest<U: AnyUnit + Drop, S: Source, K: Sink, L: Ledger>(
+    alloc: Global,
+    saved: Saved,
+    input: &mut S,
+    output: &mut K,
+    steps: &mut Steps<L>,
+) -> Result<Summary, Fault>
+    ensures ok { IfOk result (λ summary.
+        RanRest saved summary (S.state input.old) (S.state input.new) (K.state output.old)
+        (K.state output.new) steps.old steps.new) }
+    ensures err { IfErr result (λ fault.
+        FailsToGoOn fault saved (S.state input.old) (S.state input.new)
+        (K.state output.old) (K.state output.new) steps.old steps.new) }
+{
+    let block = chosen(None, saved.script());
+    if !legal(saved.script(), block) {
+        let unit = unit(saved.script());
+        return Err(Fault::BlockLength { block, unit });
+    }
+    let Ok(mut resume) = Resume::<U>::from_saved(alloc, saved, block) else {
+        return Err(Fault::Memory);
+    };
+    // The list has all the room that it will need, so that no memory is wanted behind the stream.
+    let Ok(mut measures) = Vec::with_capacity(alloc, resume.measures()) else {
+        return Err(Fault::Memory);
+    };
+    let totals = match resume.go(input, output, steps) {
+        Ok(totals) => totals,
+        Err(fault) => return Err(Fault::Part(fault)),
+    };
+    find_measures(resume.session(), &mut measures);
+    let script = resume.session().script();
+    Ok(Summary {
+        input: Flow {
+            format: script.input.format,
+            channels: script.input.channels,
+        },
+        output: output_flow(script),
+        totals,
+        measures,
+    })
+}
+
 /// Does what the words say, but for the report.
 fn perform<U: AnyUnit + Drop, P: Source, S: Source, K: Sink, O: Source, L: Ledger>(
     alloc: Global,
@@ -176,7 +276,8 @@ fn perform<U: AnyUnit + Drop, P: Source, S: Source, K: Sink, O: Source, L: Ledge
         (call words.now (P.state script.old) (P.state script.new) (S.state input.old)
         (S.state input.new) (K.state output.old) (K.state output.new) (O.state other.old)
         (O.state other.new) steps.old steps.new)) }
-    ensures taken { (P.state script.new).taken ≤ (P.state script.old).taken + MAX_SCRIPT + 1 }
+    ensures taken { (P.state script.new).taken
+        ≤ (P.state script.old).taken + most_of_script (command_of words.now) + 1 }
 {
     let Some(command) = command(words) else {
         return Err(Fault::Usage);
@@ -197,6 +298,16 @@ fn perform<U: AnyUnit + Drop, P: Source, S: Source, K: Sink, O: Source, L: Ledge
             let script = load_script(alloc, script)?;
             let summary =
                 run_script::<U, _, _, _>(alloc, block, banked, script, input, output, steps)?;
+            Ok(Outcome::Ran(summary))
+        }
+        Command::Stop { frames } => {
+            let script = load_script(alloc, script)?;
+            let state = run_first::<U, _, _, _>(alloc, frames, script, input, output, steps)?;
+            Ok(Outcome::Printed(state))
+        }
+        Command::Go => {
+            let saved = load_state::<U, _>(alloc, script)?;
+            let summary = run_rest::<U, _, _, _>(alloc, saved, input, output, steps)?;
             Ok(Outcome::Ran(summary))
         }
         Command::Gen { seed, frames } => {
@@ -323,7 +434,8 @@ pub fn run<U: AnyUnit + Drop, P: Source, S: Source, K: Sink, R: Sink, O: Source,
         × Tells (report_text s frames (measures_of s
         (input_signal s (generated_bytes s.input seed frames)))) (R.state report.old)
         (R.state report.new)) }
-    ensures script_taken { (P.state script.new).taken ≤ (P.state script.old).taken + MAX_SCRIPT + 1 }
+    ensures script_taken { (P.state script.new).taken
+        ≤ (P.state script.old).taken + most_of_script (command_of words.now) + 1 }
 
     // Which statuses may come, which must, and that nothing else stands in the way of 0.
     ensures causes { Causes (call words.now (P.state script.old) (P.state script.new)

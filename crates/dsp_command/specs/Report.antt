@@ -8,6 +8,8 @@ use Rattle.dsp_defs.specs.declared.script.Script.{Script}
 use Rattle.dsp_defs.specs.declared.script_fault.ScriptFault.{ScriptFault}
 use Rattle.dsp_defs.specs.declared.script_fault.ScriptKind.{ScriptKind}
 use Rattle.dsp_defs.specs.declared.script_fault.ScriptKind.TheVariants.{TooLong, BadByte, UnknownWord, BadNumber, OutOfRange, Missing, NoSuchForm, ChannelsHere, Length, TooMany, BadName, NameTaken}
+use Rattle.dsp_defs.specs.declared.state_kind.StateKind.{StateKind}
+use Rattle.dsp_defs.specs.declared.state_kind.StateKind.TheVariants as state
 use Rattle.dsp_defs.specs.declared.wave.HeaderFault.{HeaderFault}
 use Rattle.dsp_defs.specs.declared.wave.HeaderFault.TheVariants.{NotRiff, NotWave, NoFormat, FormatSize, Tag, Bits, Channels, Align, NoSamples, Short}
 use Rattle.dsp_defs.specs.declared.au.AuFault.{AuFault}
@@ -65,13 +67,24 @@ au_text (au.Channels got) = (codes "Channels", field (codes "got") (decimal got)
 au_text au.Ended = (codes "Ended", [])
 au_text (au.Short declared got) = (codes "Short", fields (codes "declared") declared (codes "got") got)
 
+-- a fault of a state
+abbrev pub state_text : StateKind → List ℕ × List ℕ
+state_text state.NotState = (codes "NotState", [])
+state_text (state.Version got) = (codes "Version", field (codes "got") (decimal got))
+state_text state.Text = (codes "Text", [])
+state_text state.Cut = (codes "Cut", [])
+state_text state.Value = (codes "Value", [])
+state_text state.Extra = (codes "Extra", [])
+state_text state.TooLong = (codes "TooLong", [])
+state_text (state.LongText size) = (codes "LongText", field (codes "size") (decimal size))
+
 -- `NAME at OFFSET` and the fields
 abbrev pub located : List ℕ × List ℕ → ℕ → List ℕ
 located text offset = text.0 ++ codes " at " ++ decimal offset ++ text.1
 
 -- the words are no command
 abbrev pub usage_line : List ℕ
-usage_line = line (codes "dspfx: usage: run SCRIPT IN OUT [block N], gen SEED FRAMES SCRIPT OUT, print SCRIPT, bank SCRIPT IN OUT [block N], convert wave au IN OUT, convert au wave IN OUT")
+usage_line = line (codes "dspfx: usage: run SCRIPT IN OUT [block N], gen SEED FRAMES SCRIPT OUT, print SCRIPT, resume stop K SCRIPT IN OUT, resume go STATE IN OUT, bank SCRIPT IN OUT [block N], convert wave au IN OUT, convert au wave IN OUT")
 
 -- `dspfx: script: ` and the fault where it stands
 abbrev pub script_line : ScriptFault → List ℕ
@@ -89,6 +102,10 @@ header_line fault offset = line (codes "dspfx: header: " ++ located (header_text
 abbrev pub au_line : AuFault → ℕ → List ℕ
 au_line fault offset = line (codes "dspfx: header: " ++ located (au_text fault) offset)
 
+-- `dspfx: state: ` and the fault where it stands
+abbrev pub state_line : StateKind → ℕ → List ℕ
+state_line kind offset = line (codes "dspfx: state: " ++ located (state_text kind) offset)
+
 -- `dspfx: lengths: ` and two numbers with their names
 abbrev pub lengths_line : List ℕ → ℕ → List ℕ → ℕ → List ℕ
 lengths_line first a second b = line (codes "dspfx: lengths: " ++ first ++ codes " " ++ decimal a ++ field second (decimal b))
@@ -104,6 +121,10 @@ gather_line held more = lengths_line (codes "gather held") held (codes "more") m
 -- `window end E, length L`
 abbrev pub window_line : ℕ → ℕ → List ℕ
 window_line end length = lengths_line (codes "window end") end (codes "length") length
+
+-- `resume at K, input G`
+abbrev pub behind_line : ℕ → ℕ → List ℕ
+behind_line at got = lengths_line (codes "resume at") at (codes "input") got
 
 -- `riff size S, limit L`
 abbrev pub riff_line : ℕ → ℕ → List ℕ

@@ -8,7 +8,7 @@ use Rattle.std.specs.Str.Parse.{digits_value}
 use Rattle.dsp_defs.specs.declared.au.Direction.{Direction}
 use Rattle.dsp_defs.specs.declared.au.Direction.TheVariants.{WaveToAu, AuToWave}
 use Rattle.dsp_command.specs.declared.command.Command.{Command}
-use Rattle.dsp_command.specs.declared.command.Command.TheVariants.{Run, Gen, Print, Convert}
+use Rattle.dsp_command.specs.declared.command.Command.TheVariants.{Run, Gen, Print, Stop, Go, Convert}
 use Rattle.dsp_command.specs.declared.command.Places.{Places}
 use Rattle.dsp_defs.specs.declared.limits.TheConstants.{MAX_GENERATED}
 
@@ -48,24 +48,31 @@ direction_of from to =
     if bytes_eq from (codes "wave") && bytes_eq to (codes "au") then Some WaveToAu
     else (if bytes_eq from (codes "au") && bytes_eq to (codes "wave") then Some AuToWave else None)
 
--- five words: a gen, and a conversion
+-- five words: a gen, a run that goes on, and a conversion
 abbrev pub of_five : List ℕ → List ℕ → List ℕ → List ℕ → List ℕ → Option Command
 of_five verb second third fourth output =
     if bytes_eq verb (codes "gen") && are_gen_names fourth output then generating (count_of second) (count_of third)
+    else (if bytes_eq verb (codes "resume") && bytes_eq second (codes "go") && are_run_names third fourth output then Some Go
     else (if bytes_eq verb (codes "convert") && are_gen_names fourth output then option_map (λ d. Convert d) (direction_of second third)
-    else None)
+    else None))
 
--- `print SCRIPT`, `run SCRIPT IN OUT`, `gen SEED FRAMES SCRIPT OUT`, `convert FROM TO IN OUT` and `run SCRIPT IN OUT block N`;
--- `bank` stands where `run` does
+-- six words: a run that is to be stopped, and a run with its block length
+abbrev pub of_six : List ℕ → List ℕ → List ℕ → List ℕ → List ℕ → List ℕ → Option Command
+of_six verb second third fourth fifth last =
+    if bytes_eq verb (codes "resume") && bytes_eq second (codes "stop") && are_run_names fourth fifth last
+    then option_map (λ n. Stop n) (count_of third)
+    else (if are_run_names second third fourth && bytes_eq fifth (codes "block")
+    then option_and_then (λ n. running verb (Some n)) (count_of last) else None)
+
+-- `print SCRIPT`, `run SCRIPT IN OUT`, `run SCRIPT IN OUT block N`, `gen SEED FRAMES SCRIPT OUT`, `resume stop K SCRIPT IN OUT`,
+-- `resume go STATE IN OUT` and `convert FROM TO IN OUT`; `bank` stands where `run` does
 abbrev pub command_of : List (List ℕ) → Option Command
 command_of (verb ∷ script ∷ []) = if bytes_eq verb (codes "print") && is_name script then Some Print else None
 command_of (verb ∷ script ∷ input ∷ output ∷ []) =
     if are_run_names script input output then running verb None else None
 command_of (verb ∷ seed ∷ frames ∷ script ∷ output ∷ []) =
     of_five verb seed frames script output
-command_of (verb ∷ script ∷ input ∷ output ∷ option ∷ count ∷ []) =
-    if are_run_names script input output && bytes_eq option (codes "block")
-    then option_and_then (λ n. running verb (Some n)) (count_of count) else None
+command_of (verb ∷ second ∷ third ∷ fourth ∷ fifth ∷ last ∷ []) = of_six verb second third fourth fifth last
 command_of words = None
 
 -- the verb is word 0, and the names follow it
@@ -73,6 +80,8 @@ abbrev pub places_of_command : Command → Places
 places_of_command (Run block banked) = record { script = Some 1; input = Some 2; output = Some 3; other = None }
 places_of_command (Gen seed frames) = record { script = Some 3; input = None; output = Some 4; other = None }
 places_of_command Print = record { script = Some 1; input = None; output = None; other = None }
+places_of_command (Stop frames) = record { script = Some 3; input = Some 4; output = Some 5; other = None }
+places_of_command Go = record { script = Some 2; input = Some 3; output = Some 4; other = None }
 places_of_command (Convert direction) = record { script = None; input = Some 3; output = Some 4; other = None }
 
 abbrev pub places_of : List (List ℕ) → Option Places

@@ -10,6 +10,10 @@ pub enum Command {
     Gen { seed: u32, frames: u32 },
     /// Print the canonical text of a script.
     Print,
+    /// Work on the first frames of an input, so many, and report the state behind them.
+    Stop { frames: u32 },
+    /// Go on from a state, over the frames of the input behind those that it has taken.
+    Go,
     /// Write the samples of a file in the other form of file.
     Convert { direction: Direction },
 }

@@ -4,7 +4,7 @@ use crate::runs::{Case, play};
 use std::test::Fail;
 
 const USAGE: &[u8] =
-    b"dspfx: usage: run SCRIPT IN OUT [block N], gen SEED FRAMES SCRIPT OUT, print SCRIPT, bank SCRIPT IN OUT [block N], convert wave au IN OUT, convert au wave IN OUT\n";
+    b"dspfx: usage: run SCRIPT IN OUT [block N], gen SEED FRAMES SCRIPT OUT, print SCRIPT, resume stop K SCRIPT IN OUT, resume go STATE IN OUT, bank SCRIPT IN OUT [block N], convert wave au IN OUT, convert au wave IN OUT\n";
 
 const COPY: &[u8] = b"dspfx 1 input raw q15 1 8000 output raw";
 

@@ -64,7 +64,7 @@ pub struct Case<'a> {
 const EXAMPLE: &[u8] = &[0xE8, 0x03, 0x18, 0xFC, 0xFF, 0xFF];
 
 const USAGE: &[u8] =
-    b"dspfx: usage: run SCRIPT IN OUT [block N], gen SEED FRAMES SCRIPT OUT, print SCRIPT, bank SCRIPT IN OUT [block N], convert wave au IN OUT, convert au wave IN OUT\n";
+    b"dspfx: usage: run SCRIPT IN OUT [block N], gen SEED FRAMES SCRIPT OUT, print SCRIPT, resume stop K SCRIPT IN OUT, resume go STATE IN OUT, bank SCRIPT IN OUT [block N], convert wave au IN OUT, convert au wave IN OUT\n";
 
 const CASES: &[Case<'static>] = &[
     // 1000, -1000 and -1 are halved.

@@ -3,13 +3,15 @@ use Rattle.std.proofs.Common.{◌≡◌, ◌≢◌, ◌⊎◌, ℕ, ◌≤◌, B
 use Rattle.dsp_ports.specs.Ports.{SinkState}
 use Rattle.dsp_command.specs.Words.{command_of}
 use Rattle.dsp_command.specs.declared.command.Command.{Command}
-use Rattle.dsp_command.specs.declared.command.Command.TheVariants.{Run, Gen, Print, Convert}
+use Rattle.dsp_command.specs.declared.command.Command.TheVariants.{Run, Gen, Print, Stop, Go, Convert}
+use Rattle.dsp_session.specs.declared.fault.PartFault.{PartFault}
+use Rattle.dsp_session.specs.declared.fault.PartFault.TheVariants as part_fault
 use Rattle.dsp_session.specs.declared.fault.StreamFault.{StreamFault}
 use Rattle.dsp_session.specs.declared.fault.StreamFault.TheVariants.{Header, Input, Output, Lengths}
-use Rattle.dsp_cli.specs.Fault.{status_of}
-use Rattle.dsp_cli.specs.Run.{HasText, HasBlocks, HasOutput, IsStream, IsGen, IsPrint, IsDone, IsRefusal, IsRefused, IsAnswer, ReportsText}
+use Rattle.dsp_cli.specs.Fault.{status_of, stream_status}
+use Rattle.dsp_cli.specs.Run.{HasSource, HasText, HasBlocks, HasOutput, IsStream, IsGen, IsPrint, IsDone, IsRefusal, IsRefused, IsAnswer, ReportsText}
 use Rattle.dsp_cli.specs.declared.fault.Fault.{Fault}
-use Rattle.dsp_cli.specs.declared.fault.Fault.TheVariants.{Usage, ScriptRead, Script as BadText, BlockLength, Memory, Stream, Conversion}
+use Rattle.dsp_cli.specs.declared.fault.Fault.TheVariants.{Usage, ScriptRead, Script as BadText, BlockLength, Memory, Stream, State, Part, Conversion}
 use Rattle.dsp_au.specs.declared.fault.ConvertFault.{ConvertFault}
 use Rattle.dsp_au.specs.declared.fault.ConvertFault.TheVariants as convert_fault
 
@@ -41,8 +43,16 @@ text_some (Some command) text = refl
 pub blocks_text : (command : Option Command) → HasBlocks command → HasText command
 blocks_text None blocks = absurd blocks
 blocks_text (Some Print) blocks = absurd blocks
+blocks_text (Some Go) blocks = absurd blocks
 blocks_text (Some (Convert direction)) blocks = absurd blocks
 blocks_text command blocks = tt
+
+-- what reads a text reads a source
+pub text_source : (command : Option Command) → HasText command → HasSource command
+text_source None text = absurd text
+text_source (Some Go) text = absurd text
+text_source (Some (Convert direction)) text = absurd text
+text_source command text = tt
 
 -- a stream works by a script, in blocks, and writes
 pub stream_blocks : (words : List (List ℕ)) → IsStream words → HasBlocks (command_of words)
@@ -65,6 +75,17 @@ conversion_status (convert_fault.Riff size limit) = inr (inl refl)
 conversion_status convert_fault.Read = inr (inr (inl refl))
 conversion_status convert_fault.Write = inr (inr (inr refl))
 
+-- those of a stream that stops, over a whole input or a part of it
+pub stream_statuses : (fault : StreamFault) → (stream_status fault ≡ 4) ⊎ (stream_status fault ≡ 5) ⊎ (stream_status fault ≡ 7) ⊎ (stream_status fault ≡ 8)
+stream_statuses (Header fault offset) = inl refl
+stream_statuses (Lengths fault) = inr (inl refl)
+stream_statuses Input = inr (inr (inl refl))
+stream_statuses Output = inr (inr (inr refl))
+
+pub part_status : (fault : PartFault) → (status_of (Part fault) ≡ 4) ⊎ (status_of (Part fault) ≡ 5) ⊎ (status_of (Part fault) ≡ 7) ⊎ (status_of (Part fault) ≡ 8)
+part_status (part_fault.Behind at got) = inr (inl refl)
+part_status (part_fault.Stream fault) = stream_statuses fault
+
 pub reports_done : {text : List ℕ} {status : ℕ} {report told : SinkState} → ReportsText text status report told → IsDone status
 reports_done (inl way) = inl way.0
 reports_done (inr way) = inr way.0
@@ -84,28 +105,16 @@ fault_not_done (Stream (Header fault offset)) done = neither 4 (λ is. omega (ar
 fault_not_done (Stream (Lengths fault)) done = neither 5 (λ is. omega (arith, is), λ is. omega (arith, is)) done
 fault_not_done (Stream Input) done = neither 7 (λ is. omega (arith, is), λ is. omega (arith, is)) done
 fault_not_done (Stream Output) done = neither 8 (λ is. omega (arith, is), λ is. omega (arith, is)) done
+fault_not_done (State kind offset) done = neither 13 (λ is. omega (arith, is), λ is. omega (arith, is)) done
+fault_not_done (Part fault) done = omega (arith, part_status fault, done)
 fault_not_done (Conversion fault) done = omega (arith, conversion_status fault, done)
 
 -- that of a refusal is another than those of what is begun
-refused_is : (n : ℕ) (P : Type 0) → IsRefusal n → (n ≡ 1 → P) × (n ≡ 2 → P) × (n ≡ 3 → P) × (n ≡ 6 → P) × (n ≡ 10 → P) → P
-refused_is n P (inl is) by = by.0 is
-refused_is n P (inr (inl is)) by = by.1 is
-refused_is n P (inr (inr (inl is))) by = by.2 is
-refused_is n P (inr (inr (inr (inl is)))) by = by.3 is
-refused_is n P (inr (inr (inr (inr is)))) by = by.4 is
-
-begun : (n : ℕ) → (n ≡ 1 → ⊥) × (n ≡ 2 → ⊥) × (n ≡ 3 → ⊥) × (n ≡ 6 → ⊥) × (n ≡ 10 → ⊥) → IsRefusal n → ⊥
-begun n not refused = refused_is n ⊥ refused not
-
 pub refused_not_done : (status : ℕ) → IsRefusal status → IsDone status → ⊥
-refused_not_done status refused (inl is) = begun 0 (λ e. omega (arith, e), λ e. omega (arith, e), λ e. omega (arith, e), λ e. omega (arith, e), λ e. omega (arith, e)) (subst IsRefusal is refused)
-refused_not_done status refused (inr is) = begun 9 (λ e. omega (arith, e), λ e. omega (arith, e), λ e. omega (arith, e), λ e. omega (arith, e), λ e. omega (arith, e)) (subst IsRefusal is refused)
+refused_not_done status refused done = omega (arith, refused, done)
 
 pub stream_not_refused : (fault : StreamFault) → IsRefusal (status_of (Stream fault)) → ⊥
-stream_not_refused (Header fault offset) refused = begun 4 (λ e. omega (arith, e), λ e. omega (arith, e), λ e. omega (arith, e), λ e. omega (arith, e), λ e. omega (arith, e)) refused
-stream_not_refused (Lengths fault) refused = begun 5 (λ e. omega (arith, e), λ e. omega (arith, e), λ e. omega (arith, e), λ e. omega (arith, e), λ e. omega (arith, e)) refused
-stream_not_refused Input refused = begun 7 (λ e. omega (arith, e), λ e. omega (arith, e), λ e. omega (arith, e), λ e. omega (arith, e), λ e. omega (arith, e)) refused
-stream_not_refused Output refused = begun 8 (λ e. omega (arith, e), λ e. omega (arith, e), λ e. omega (arith, e), λ e. omega (arith, e), λ e. omega (arith, e)) refused
+stream_not_refused fault refused = omega (arith, stream_statuses fault, refused)
 
 -- a stream that was not begun was refused
 pub stream_refused : (words : List (List ℕ)) (status : ℕ) → IsStream words → IsRefused (command_of words) status → IsRefusal status
@@ -124,12 +133,26 @@ any_answers (Some (Gen seed frames)) status some (inl two) = (omega (arith, two)
 any_answers (Some (Gen seed frames)) status some (inr (inl six)) = (omega (arith, six), λ e. omega (arith, six, e), λ e. omega (arith, six, e), λ e. omega (arith, six, e))
 any_answers (Some (Gen seed frames)) status some (inr (inr ten)) = (omega (arith, ten), λ e. omega (arith, ten, e), λ e. omega (arith, ten, e), λ e. omega (arith, ten, e))
 any_answers (Some Print) status some is = inr is
+any_answers (Some (Stop at)) status some is = (inl (omega (arith, is)), λ e. omega (arith, is, e))
+any_answers (Some Go) status some is = absurd some
 any_answers (Some (Convert direction)) status some is = absurd some
+
+-- and what reads a script or a state
+pub source_answers : (command : Option Command) (status : ℕ) → HasSource command → (status ≡ 6) ⊎ (status ≡ 10) → IsAnswer command status
+source_answers None status some is = absurd some
+source_answers (Some Go) status some is = (inl (omega (arith, is)), λ e. omega (arith, is, e), λ e. omega (arith, is, e))
+source_answers (Some (Convert direction)) status some is = absurd some
+source_answers (Some (Run named banked)) status some is = any_answers (Some (Run named banked)) status tt (inr is)
+source_answers (Some (Gen seed frames)) status some is = any_answers (Some (Gen seed frames)) status tt (inr is)
+source_answers (Some Print) status some is = any_answers (Some Print) status tt (inr is)
+source_answers (Some (Stop at)) status some is = any_answers (Some (Stop at)) status tt (inr is)
 
 -- what a command that works in blocks may end with
 pub length_answers : (command : Option Command) → HasBlocks command → IsAnswer command 3
 length_answers None blocks = absurd blocks
 length_answers (Some Print) blocks = absurd blocks
+length_answers (Some Go) blocks = absurd blocks
+length_answers (Some (Stop at)) blocks = (inl (omega arith), λ e. omega (arith, e))
 length_answers (Some (Convert direction)) blocks = absurd blocks
 length_answers (Some (Run named banked)) blocks = (omega arith, λ e. omega (arith, e))
 length_answers (Some (Gen seed frames)) blocks = (omega arith, λ e. omega (arith, e), λ e. omega (arith, e), λ e. omega (arith, e))
@@ -138,3 +161,9 @@ length_answers (Some (Gen seed frames)) blocks = (omega arith, λ e. omega (arit
 pub stream_answers : (words : List (List ℕ)) (status : ℕ) → IsStream words → status ≤ 10 → status ≢ 1 → (IsGen words → (status ≢ 4) × (status ≢ 7)) → IsAnswer (command_of words) status
 stream_answers words status (inl (named, banked, is)) few other never = subst (λ command. IsAnswer command status) (sym is) (few, other)
 stream_answers words status (inr gen) few other never = subst (λ command. IsAnswer command status) (sym gen.2) (few, other, (never gen).0, (never gen).1)
+
+-- what a run that is stopped and one that goes on may end with
+pub part_answers : (fault : PartFault) → ((at : ℕ) → IsAnswer (Some (Stop at)) (status_of (Part fault))) × IsAnswer (Some Go) (status_of (Part fault))
+part_answers fault =
+    let status = part_status fault in
+    (λ at. (inl (omega (arith, status)), λ e. omega (arith, status, e)), (inl (omega (arith, status)), λ e. omega (arith, status, e), λ e. omega (arith, status, e)))

@@ -7,7 +7,7 @@ use Rattle.std.proofs.lemmas.Bool.Decides.{nat_tests}
 use Rattle.dsp_command.specs.Words.{count_of, is_name, are_run_names, are_gen_names, generating, running, direction_of, command_of}
 use Rattle.dsp_defs.specs.declared.au.Direction.{Direction}
 use Rattle.dsp_command.specs.declared.command.Command.{Command}
-use Rattle.dsp_command.specs.declared.command.Command.TheVariants.{Run, Gen, Print, Convert}
+use Rattle.dsp_command.specs.declared.command.Command.TheVariants.{Run, Gen, Print, Stop, Go, Convert}
 use Rattle.dsp_defs.specs.declared.limits.TheConstants.{MAX_GENERATED}
 use Rattle.dsp_cli.specs.Run.{MakesFew}
 
@@ -58,6 +58,10 @@ running_within verb named =
     by_either (bytes_eq verb (codes "run")) (Some (Run named false)) (if bytes_eq verb (codes "bank") then Some (Run named true) else None) tt
     (by_test (bytes_eq verb (codes "bank")) (Some (Run named true)) tt)
 
+stopping_within : (count : Option ℕ) → IfSome (option_map (λ n. Stop n) count) MakesFew
+stopping_within None = tt
+stopping_within (Some n) = tt
+
 named_within : (verb : List ℕ) (count : Option ℕ) → IfSome (option_and_then (λ n. running verb (Some n)) count) MakesFew
 named_within verb None = tt
 named_within verb (Some n) = running_within verb (Some n)
@@ -73,12 +77,17 @@ commands_within (a ∷ b ∷ []) = by_test (bytes_eq a (codes "print") && is_nam
 commands_within (a ∷ b ∷ c ∷ []) = tt
 commands_within (a ∷ b ∷ c ∷ d ∷ []) = by_test (are_run_names b c d) (running a None) (running_within a None)
 commands_within (a ∷ b ∷ c ∷ d ∷ e ∷ []) =
-    by_either (bytes_eq a (codes "gen") && are_gen_names d e) (generating (count_of b) (count_of c))
-    (if bytes_eq a (codes "convert") && are_gen_names d e then option_map (λ d. Convert d) (direction_of b c) else None)
+    let goes = bytes_eq a (codes "resume") && bytes_eq b (codes "go") && are_run_names c d e in
+    let converts = bytes_eq a (codes "convert") && are_gen_names d e in
+    let converted = if converts then option_map (λ d. Convert d) (direction_of b c) else None in
+    by_either (bytes_eq a (codes "gen") && are_gen_names d e) (generating (count_of b) (count_of c)) (if goes then Some Go else converted)
     (generating_within (count_of b) (count_of c))
-    (by_test (bytes_eq a (codes "convert") && are_gen_names d e) (option_map (λ d. Convert d) (direction_of b c)) (direction_within (direction_of b c)))
+    (by_either goes (Some Go) converted tt (by_test converts (option_map (λ d. Convert d) (direction_of b c)) (direction_within (direction_of b c))))
 commands_within (a ∷ b ∷ c ∷ d ∷ e ∷ f ∷ []) =
-    by_test (are_run_names b c d && bytes_eq e (codes "block")) (option_and_then (λ n. running a (Some n)) (count_of f)) (named_within a (count_of f))
+    let blocks = are_run_names b c d && bytes_eq e (codes "block") in
+    by_either (bytes_eq a (codes "resume") && bytes_eq b (codes "stop") && are_run_names d e f) (option_map (λ n. Stop n) (count_of c))
+    (if blocks then option_and_then (λ n. running a (Some n)) (count_of f) else None) (stopping_within (count_of c))
+    (by_test blocks (option_and_then (λ n. running a (Some n)) (count_of f)) (named_within a (count_of f)))
 commands_within (a ∷ b ∷ c ∷ d ∷ e ∷ f ∷ g ∷ words) = tt
 
 pub gen_makes_few : (words : List (List ℕ)) (seed frames : ℕ) → command_of words ≡ Some (Gen seed frames) → frames ≤ MAX_GENERATED

@@ -10,33 +10,38 @@ use Rattle.dsp_command.specs.Report.{report_text}
 use Rattle.dsp_command.specs.Words.{command_of}
 use Rattle.dsp_defs.specs.declared.au.Direction.{Direction}
 use Rattle.dsp_command.specs.declared.command.Command.{Command}
-use Rattle.dsp_command.specs.declared.command.Command.TheVariants.{Gen, Convert}
+use Rattle.dsp_command.specs.declared.command.Command.TheVariants.{Gen, Stop, Go, Convert}
 use Rattle.dsp_defs.specs.declared.measure.Measure.{Measure}
 use Rattle.dsp_defs.specs.declared.script.Script.{Script}
 use Rattle.dsp_session.specs.Session.{IsReady, cost_of, measures_of}
 use Rattle.dsp_session.specs.Stream.{Stopped as StreamStopped}
+use Rattle.dsp_session.specs.Resuming.{first_output}
+use Rattle.dsp_session.specs.declared.fault.PartFault.{PartFault}
 use Rattle.dsp_session.specs.declared.fault.StreamFault.{StreamFault}
 use Rattle.dsp_session.specs.declared.fault.StreamFault.TheVariants.{Header, Input, Output, Lengths}
 use Rattle.dsp_session.proofs.OpeningLaws.{some_frame}
-use Rattle.dsp_cli.specs.Call.{Call, Untouched, HasDone, Spares, Ending, Went, Printed, Turned, Stopped, Streams, Refuses, Happened, Reported, Ended, text_of}
+use Rattle.dsp_cli.specs.Call.{Call, Untouched, HasDone, Spares, Ending, Went, Printed, Saved, Resumed, Turned, Stopped, Streams, StopsAt, GoesOn, StopsInPart, InFirst, InRest, RefusesLength, OfText, OfState, RefusesState, OfBytes, OfScript, GoesOnRight, Refuses, Happened, Reported, Ended, text_of}
 use Rattle.dsp_cli.specs.Causes.{EndsEarly, Causes, NoneFailed, Completes}
 use Rattle.dsp_cli.specs.Fault.{status_of, summary_text}
 use Rattle.dsp_cli.specs.Perform.{IsWhole, Made, Performed, HasStatus}
-use Rattle.dsp_cli.specs.Run.{HasText, HasBlocks, HasOutput, IsStream, IsGen, IsPrint, IsDone, IsRefusal, IsRefused, IsAnswer, IsFree, IfWhole, IsReading, Wrote, Tells, ReportsText, read_from}
-use Rattle.dsp_cli.specs.Script.{ReadsText, IfScript, chosen_block, is_legal_for, is_banked}
+use Rattle.dsp_cli.specs.Run.{HasSource, HasText, HasBlocks, HasOutput, IsStream, IsGen, IsPrint, IsDone, IsRefusal, IsRefused, IsAnswer, IsFree, IfWhole, IsReading, Wrote, Tells, ReportsText, read_from}
+use Rattle.dsp_cli.specs.Script.{ReadsText, ReadsBytes, IfScript, IfState, named_by, chosen, chosen_block, is_legal_for, is_banked}
 use Rattle.dsp_cli.specs.declared.fault.Fault.{Fault}
-use Rattle.dsp_cli.specs.declared.fault.Fault.TheVariants.{Usage, ScriptRead, Script as BadText, BlockLength, Memory, Stream, Conversion}
+use Rattle.dsp_cli.specs.declared.fault.Fault.TheVariants.{Usage, ScriptRead, Script as BadText, BlockLength, Memory, Stream, State, Part, Conversion}
 use Rattle.dsp_defs.specs.Au.{target}
 use Rattle.dsp_au.specs.Convert.{IsPortFault, CountsFault, IsFree as IsConvertible}
 use Rattle.dsp_au.specs.declared.fault.ConvertFault.{ConvertFault}
 use Rattle.dsp_au.specs.declared.fault.ConvertFault.TheVariants as convert_fault
 use Rattle.dsp_cli.specs.declared.top.Outcome.{Outcome}
 use Rattle.dsp_cli.specs.declared.top.Outcome.TheVariants as outcome
+use Rattle.dsp_cli.proofs.ResumeLaws as resume
 use Rattle.dsp_cli.proofs.GeneratedLaws.{generated_frames}
 use Rattle.dsp_cli.proofs.InputLaws.{frame_in, signal_stays, output_stays}
 use Rattle.dsp_cli.proofs.ReportLaws.{rose, tells-all}
-use Rattle.dsp_cli.proofs.StatusLaws.{command_not_none, of_stream, blocks_text, stream_text, conversion_status, length_answers, stream_some, stream_or_print, reports_done, fault_not_done, refused_not_done, stream_refused, stream_not_refused, any_answers, stream_answers}
+use Rattle.dsp_cli.proofs.StatusLaws.{command_not_none, of_stream, blocks_text, stream_text, conversion_status, length_answers, stream_some, stream_or_print, reports_done, fault_not_done, refused_not_done, stream_refused, stream_not_refused, any_answers, source_answers, part_answers, part_status, text_source, no_stop, stream_answers}
 use Rattle.dsp_cli.proofs.StopLaws.{gen_reads, gen_faulty, stop_blocks}
+use Rattle.dsp_cli.proofs.PartTold.{first_stays, rest_stays, rest_output}
+use Rattle.dsp_cli.proofs.StateTold.{told_state}
 use Rattle.dsp_cli.proofs.Told.{IfSome-always, IfSome-each, IfSome-map, told_split, told_script, told_sound, told_faulty}
 use Rattle.dsp_cli.proofs.WordLaws.{gen_makes_few}
 
@@ -80,12 +85,25 @@ module _ (c : Call) (status : ℕ) (report told : SinkState) where
   settled_by : (ending : Ending) → Happened ending c → Reported ending status report told → HasOutput (command_of c.words) → IsDone status → IsSettled c.after
   settled_by (Went script frames found) went reported output done = went.did.settled
   settled_by (Printed script) printed reported output done = absurd (subst HasOutput printed.0 output)
+  settled_by (Saved script x) saved reported output done = saved.did.1.settled
+  settled_by (Resumed script frames found) resumed reported output done = resumed.did.settled
   settled_by (Turned totals) turned reported output done = turned.did.settled
   settled_by (Stopped fault) happened reported output done = absurd (fault_not_done fault (subst IsDone reported.0 done))
+
+  part_begun : (fault : PartFault) → status ≡ status_of (Part fault) → IsRefusal status → Untouched c
+  part_begun fault is refused = absurd (omega (arith, is, part_status fault, refused))
 
   untouched_by : (ending : Ending) → Happened ending c → Reported ending status report told → IsRefused (command_of c.words) status → Untouched c
   untouched_by (Went script frames found) went reported refused = absurd (refused_not_done status (stream_refused c.words status went.stream refused) (reports_done reported))
   untouched_by (Printed script) printed reported refused = printed.2
+  untouched_by (Saved script x) saved reported refused =
+      absurd (refused_not_done status (subst (λ command. IsRefused command status) saved.asked refused) (reports_done reported))
+  untouched_by (Resumed script frames found) resumed reported refused =
+      absurd (refused_not_done status (subst (λ command. IsRefused command status) resumed.asked refused) (reports_done reported))
+  untouched_by (Stopped (Part fault)) (InFirst script at stop) reported refused =
+      part_begun fault reported.0 (subst (λ command. IsRefused command status) stop.asked refused)
+  untouched_by (Stopped (Part fault)) (InRest script stop) reported refused =
+      part_begun fault reported.0 (subst (λ command. IsRefused command status) stop.asked refused)
   untouched_by (Turned totals) turned reported refused =
       let refusal : IsRefusal status = subst (λ command. IsRefused command status) turned.asked refused in
       absurd (refused_not_done status refusal (reports_done reported))
@@ -99,11 +117,14 @@ module _ (c : Call) (status : ℕ) (report told : SinkState) where
   gen_leaves : IsGen c.words → (now : SourceState) → IsReading (command_of c.words) c.port c.later now → c.later ≡ c.port
   gen_leaves (seed, frames, is) now reading = (subst (λ command. IsReading command c.port c.later now) is reading).0
 
-  text_spares : (command : Option Command) → HasText command → Untouched c → Spares command c
-  text_spares None text untouched = absurd text
-  text_spares (Some (Gen seed frames)) text untouched = (untouched.input_same, untouched.other_same)
-  text_spares (Some (Convert direction)) text untouched = absurd text
-  text_spares command text untouched = untouched.other_same
+  source_spares : (command : Option Command) → HasSource command → Untouched c → Spares command c
+  source_spares None text untouched = absurd text
+  source_spares (Some (Gen seed frames)) text untouched = (untouched.input_same, untouched.other_same)
+  source_spares (Some (Convert direction)) text untouched = absurd text
+  source_spares command text untouched = untouched.other_same
+
+  text_spares : HasText (command_of c.words) → Untouched c → Spares (command_of c.words) c
+  text_spares text untouched = source_spares (command_of c.words) (text_source (command_of c.words) text) untouched
 
   stream_spares : {script : Script} {Did : ℕ → SourceState → SourceState → Type 0} → Streams script Did c → Spares (command_of c.words) c
   stream_spares streams =
@@ -113,14 +134,21 @@ module _ (c : Call) (status : ℕ) (report told : SinkState) where
   spared_by : (ending : Ending) → Happened ending c → Spares (command_of c.words) c
   spared_by (Went script frames found) went = stream_spares went
   spared_by (Printed script) printed = subst (λ command. Spares command c) (sym printed.0) printed.2.other_same
+  spared_by (Saved script x) saved = subst (λ command. Spares command c) (sym saved.asked) saved.other_same
+  spared_by (Resumed script frames found) resumed = subst (λ command. Spares command c) (sym resumed.asked) resumed.other_same
+  spared_by (Stopped (Part fault)) (InFirst script at stop) = subst (λ command. Spares command c) (sym stop.asked) stop.other_same
+  spared_by (Stopped (Part fault)) (InRest script stop) = subst (λ command. Spares command c) (sym stop.asked) stop.other_same
+  spared_by (Stopped (State kind offset)) (OfBytes is read, untouched) = subst (λ command. Spares command c) (sym is) untouched.other_same
+  spared_by (Stopped (State kind offset)) (OfScript at is read, untouched) = subst (λ command. Spares command c) (sym is) untouched.other_same
   spared_by (Turned totals) turned = subst (λ command. Spares command c) (sym turned.asked) turned.spared
   spared_by (Stopped (Stream fault)) (script, stop) = stream_spares stop
   spared_by (Stopped (Conversion fault)) stop = subst (λ command. Spares command c) (sym stop.asked) stop.spared
   spared_by (Stopped Usage) happened = subst (λ command. Spares command c) (sym happened.0.0) happened.1.other_same
-  spared_by (Stopped ScriptRead) happened = text_spares (command_of c.words) happened.0.0 happened.1
-  spared_by (Stopped (BadText fault)) happened = text_spares (command_of c.words) happened.0.0 happened.1
-  spared_by (Stopped (BlockLength block divisor)) happened = text_spares (command_of c.words) (blocks_text (command_of c.words) happened.0.0) happened.1
-  spared_by (Stopped Memory) happened = text_spares (command_of c.words) happened.0 happened.1
+  spared_by (Stopped ScriptRead) happened = source_spares (command_of c.words) happened.0.0 happened.1
+  spared_by (Stopped (BadText fault)) happened = text_spares happened.0.0 happened.1
+  spared_by (Stopped (BlockLength block divisor)) (OfText blocks read, untouched) = text_spares (blocks_text (command_of c.words) blocks) untouched
+  spared_by (Stopped (BlockLength block divisor)) (OfState is read, untouched) = subst (λ command. Spares command c) (sym is) untouched.other_same
+  spared_by (Stopped Memory) happened = source_spares (command_of c.words) happened.0 happened.1
 
   -- ---- what was done
 
@@ -164,6 +192,26 @@ module _ (c : Call) (status : ℕ) (report told : SinkState) where
       of_stream c.words (λ command. HasDone command c) went.stream
       (λ named banked is. subst Writes is (went_writes script frames found went)) (λ seed count is. subst Writes is (went_writes script frames found went))
   done_by (Printed script) printed reported done = subst (λ command. HasDone command c) (sym printed.0) tt
+  done_by (Saved script x) saved reported done =
+      let (session, did, first) = saved.did in
+      let ready : IsReady script (chosen None script) = record { sound = (saved.read.text, saved.read.holds); legal = saved.legal } in
+      subst (λ command. HasDone command c) (sym saved.asked)
+      (told_script c.source c.read script (λ s. IfSome c.port.left (λ bytes. Wrote (first_output s (length x) bytes) c.sink c.after)) saved.read
+      (IfSome-each c.port.left _ (λ bytes is_told.
+      let (more, left, all) = told_split _ c.later.left did.given bytes did.gave.front is_told in
+      let some = some_frame script (input_header script did.given).coding (chosen None script) ready in
+      did.put ∙ ap (append_known c.sink.put) (sym (ap (first_output script (length x)) all ∙ first_stays script (length x) did.given more did.has did.exact did.frame_count some)))))
+  done_by (Resumed script frames found) resumed reported done =
+      let did = resumed.did in
+      let ready : IsReady script (chosen None script) = record { sound = resumed.read.holds.runs.sound; legal = resumed.legal } in
+      let some = some_frame script (input_header script did.given).coding (chosen None script) ready in
+      subst (λ command. HasDone command c) (sym resumed.asked)
+      (IfSome-each c.port.left _ (λ bytes is_told.
+      let (more, left, all) = told_split _ c.later.left did.given bytes did.gave.front is_told in
+      let stays = rest_stays script resumed.at did.given more did.has some c.later left did.whole in
+      told_state c.source c.read script resumed.at resumed.numbers _ resumed.read
+      (λ x long keeps. (did.written, did.put,
+      did.output x (resumed.stands x long keeps) ∙ sym (ap (rest_output script resumed.at x) all ∙ stays x)))))
   done_by (Turned totals) turned reported done =
       let did = turned.did in
       let put : (bytes : List ℕ) → target turned.direction bytes ≡ target turned.direction did.given → Wrote (target turned.direction bytes) c.sink c.after =
@@ -178,6 +226,8 @@ module _ (c : Call) (status : ℕ) (report told : SinkState) where
   counted_by : (ending : Ending) → Happened ending c → Reported ending status report told → (seed frames : ℕ) → command_of c.words ≡ Some (Gen seed frames) → IsDone status → GenCounted seed frames
   counted_by (Went script count found) went reported seed frames is done = went_counts script count found went seed frames is (report_tells (report_text script count found) reported)
   counted_by (Printed script) printed reported seed frames is done = absurd (stream_or_print c.words (inr (seed, frames, is)) printed.0)
+  counted_by (Saved script x) saved reported seed frames is done = absurd (let same : Some (Gen seed frames) ≡ Some (Stop (length x)) = sym is ∙ saved.asked in cc)
+  counted_by (Resumed script count found) resumed reported seed frames is done = absurd (let same : Some (Gen seed frames) ≡ Some Go = sym is ∙ resumed.asked in cc)
   counted_by (Turned totals) turned reported seed frames is done = absurd (subst HasText (sym is ∙ turned.asked) tt)
   counted_by (Stopped fault) happened reported seed frames is done = absurd (fault_not_done fault (subst IsDone reported.0 done))
 
@@ -189,10 +239,17 @@ module _ (c : Call) (status : ℕ) (report told : SinkState) where
 
   stop_answers : (fault : Fault) → Happened (Stopped fault) c → IsAnswer (command_of c.words) (status_of fault)
   stop_answers Usage happened = subst (λ command. IsAnswer command 1) (sym happened.0.0) refl
-  stop_answers ScriptRead happened = any_answers (command_of c.words) 6 happened.0.0 (inr (inl refl))
+  stop_answers ScriptRead happened = source_answers (command_of c.words) 6 happened.0.0 (inl refl)
   stop_answers (BadText fault) happened = any_answers (command_of c.words) 2 happened.0.0 (inl refl)
-  stop_answers (BlockLength block divisor) happened = length_answers (command_of c.words) happened.0.0
-  stop_answers Memory happened = any_answers (command_of c.words) 10 happened.0 (inr (inr refl))
+  stop_answers (BlockLength block divisor) (OfText blocks read, untouched) = length_answers (command_of c.words) blocks
+  stop_answers (BlockLength block divisor) (OfState is read, untouched) =
+      subst (λ command. IsAnswer command 3) (sym is) (inl (omega arith), λ e. omega (arith, e), λ e. omega (arith, e))
+  stop_answers Memory happened = source_answers (command_of c.words) 10 happened.0 (inr refl)
+  stop_answers (State kind offset) (OfBytes is read, untouched) =
+      subst (λ command. IsAnswer command 13) (sym is) (inr refl, λ e. omega (arith, e), λ e. omega (arith, e))
+  stop_answers (State kind offset) (OfScript at is read, untouched) = subst (λ command. IsAnswer command 13) (sym is) (inr refl, λ e. omega (arith, e))
+  stop_answers (Part fault) (InFirst script at stop) = subst (λ command. IsAnswer command (status_of (Part fault))) (sym stop.asked) ((part_answers fault).0 at)
+  stop_answers (Part fault) (InRest script stop) = subst (λ command. IsAnswer command (status_of (Part fault))) (sym stop.asked) (part_answers fault).1
   stop_answers (Conversion fault) stop = subst (λ command. IsAnswer command (status_of (Conversion fault))) (sym stop.asked) (inr (conversion_status fault))
   stop_answers (Stream (Header fault offset)) (script, stop) =
       stream_answers c.words 4 stop.stream (omega arith) (λ e. omega (arith, e))
@@ -205,8 +262,19 @@ module _ (c : Call) (status : ℕ) (report told : SinkState) where
   answer_by : (ending : Ending) → Happened ending c → Reported ending status report told → IsAnswer (command_of c.words) status
   answer_by (Went script frames found) went reported = done_answers went.stream (reports_done reported)
   answer_by (Printed script) printed reported = subst (λ command. IsAnswer command status) (sym printed.0) (inl (reports_done reported))
+  answer_by (Saved script x) saved reported =
+      let done : IsDone status = reports_done reported in
+      subst (λ command. IsAnswer command status) (sym saved.asked) (inl (omega (arith, done)), λ e. omega (arith, done, e))
+  answer_by (Resumed script frames found) resumed reported =
+      let done : IsDone status = reports_done reported in
+      subst (λ command. IsAnswer command status) (sym resumed.asked) (inl (omega (arith, done)), λ e. omega (arith, done, e), λ e. omega (arith, done, e))
   answer_by (Turned totals) turned reported = subst (λ command. IsAnswer command status) (sym turned.asked) (inl (reports_done reported))
   answer_by (Stopped fault) happened reported = subst (IsAnswer (command_of c.words)) (sym reported.0) (stop_answers fault happened)
+
+  stop_legal : (script : Script) (at : ℕ) → command_of c.words ≡ Some (Stop at) → IsTrue (is_legal_for script (chosen None script))
+      → IsTrue (is_legal_for script (chosen_block c.words script))
+  stop_legal script at stop legal =
+      subst (λ n. IsTrue (is_legal_for script n)) (ap (λ command. chosen (named_by command) script) (sym stop)) legal
 
   -- ---- where they must come
 
@@ -217,8 +285,11 @@ module _ (c : Call) (status : ℕ) (report told : SinkState) where
   refused_faulty Usage refuses is text = absurd (subst HasText refuses.0 text)
   refused_faulty ScriptRead refuses is text = IfSome-always c.source.left _ (λ _ _. inr (inl is))
   refused_faulty (BadText fault) refuses is text = IfSome-always c.source.left _ (λ _ _. inl is)
-  refused_faulty (BlockLength block divisor) refuses is text =
-      let read = refuses.1 in
+  refused_faulty (State kind offset) (OfBytes go read) is text = absurd (subst HasText go text)
+  refused_faulty (State kind offset) (OfScript at stop read) is text =
+      told_sound c.source c.read read.holds.0 (EndsEarly 2 status) (record { text = read.text; read = read.read; holds = read.holds.1 })
+  refused_faulty (BlockLength block divisor) (OfState go read) is text = absurd (subst HasText go text)
+  refused_faulty (BlockLength block divisor) (OfText blocks read) is text =
       told_sound c.source c.read read.holds.0 (EndsEarly 2 status) (record { text = read.text; read = read.read; holds = read.holds.1 })
   refused_faulty Memory refuses is text = IfSome-always c.source.left _ (λ _ _. inr (inr is))
   refused_faulty fault refuses is text = absurd refuses
@@ -226,6 +297,10 @@ module _ (c : Call) (status : ℕ) (report told : SinkState) where
   faulty_by : (ending : Ending) → Happened ending c → Reported ending status report told → HasText (command_of c.words) → Faulty
   faulty_by (Went script frames found) went reported text = told_sound c.source c.read script (EndsEarly 2 status) went.read
   faulty_by (Printed script) printed reported text = told_sound c.source c.read script (EndsEarly 2 status) printed.1
+  faulty_by (Saved script x) saved reported text = told_sound c.source c.read script (EndsEarly 2 status) saved.read
+  faulty_by (Resumed script frames found) resumed reported text = absurd (subst HasText resumed.asked text)
+  faulty_by (Stopped (Part fault)) (InFirst script at stop) reported text = told_sound c.source c.read script (EndsEarly 2 status) stop.read
+  faulty_by (Stopped (Part fault)) (InRest script stop) reported text = absurd (subst HasText stop.asked text)
   faulty_by (Turned totals) turned reported text = absurd (subst HasText turned.asked text)
   faulty_by (Stopped (Stream fault)) (script, stop) reported text = told_sound c.source c.read script (EndsEarly 2 status) stop.read
   faulty_by (Stopped (Conversion fault)) stop reported text = absurd (subst HasText stop.asked text)
@@ -242,6 +317,11 @@ module _ (c : Call) (status : ℕ) (report told : SinkState) where
   refused_illegal ScriptRead refuses is blocks = script_always IllegalEnds (λ _ _. inr (inl is))
   refused_illegal (BadText fault) refuses is blocks = told_faulty c.source c.read fault IllegalEnds refuses.1
   refused_illegal (BlockLength block divisor) refuses is blocks = script_always IllegalEnds (λ _ _. inl is)
+  refused_illegal (State kind offset) (OfBytes go read) is blocks = absurd (subst HasBlocks go blocks)
+  refused_illegal (State kind offset) (OfScript at stop read) is blocks =
+      let (script, reads, legal, long, kind_is, offset_is) = read.holds in
+      let chosen_is : chosen None script ≡ chosen_block c.words script = ap (λ command. chosen (named_by command) script) (sym stop) in
+      legal_ends script (record { text = read.text; read = read.read; holds = reads }) (subst (λ n. IsTrue (is_legal_for script n)) chosen_is legal)
   refused_illegal Memory refuses is blocks = script_always IllegalEnds (λ _ _. inr (inr is))
   refused_illegal fault refuses is blocks = absurd refuses
 
@@ -251,6 +331,10 @@ module _ (c : Call) (status : ℕ) (report told : SinkState) where
   illegal_by : (ending : Ending) → Happened ending c → Reported ending status report told → HasBlocks (command_of c.words) → IfScript c.source.left IllegalEnds
   illegal_by (Went script frames found) went reported blocks = legal_ends script went.read went.legal
   illegal_by (Printed script) printed reported blocks = absurd (subst HasBlocks printed.0 blocks)
+  illegal_by (Saved script x) saved reported blocks = legal_ends script saved.read (stop_legal script (length x) saved.asked saved.legal)
+  illegal_by (Resumed script frames found) resumed reported blocks = absurd (subst HasBlocks resumed.asked blocks)
+  illegal_by (Stopped (Part fault)) (InFirst script at stop) reported blocks = legal_ends script stop.read (stop_legal script at stop.asked stop.legal)
+  illegal_by (Stopped (Part fault)) (InRest script stop) reported blocks = absurd (subst HasBlocks stop.asked blocks)
   illegal_by (Turned totals) turned reported blocks = absurd (subst HasBlocks turned.asked blocks)
   illegal_by (Stopped (Stream fault)) (script, stop) reported blocks = legal_ends script stop.read stop.legal
   illegal_by (Stopped (Conversion fault)) stop reported blocks = absurd (subst HasBlocks stop.asked blocks)
@@ -278,8 +362,10 @@ module _ (c : Call) (status : ℕ) (report told : SinkState) where
   refused_runs Usage refuses is stream = absurd (command_not_none c.words (stream_some c.words stream) refuses.0)
   refused_runs ScriptRead refuses is stream = runs_always (λ _ _ _ none. absurd (none.script_kept (rose _ _ refuses.1)))
   refused_runs (BadText fault) refuses is stream = told_faulty c.source c.read fault RunsOver refuses.1
-  refused_runs (BlockLength block divisor) refuses is stream =
-      let read = refuses.1 in
+  refused_runs (State kind offset) (OfBytes go read) is stream = absurd (subst HasText go (stream_text c.words stream))
+  refused_runs (State kind offset) (OfScript at stop read) is stream = absurd (no_stop c.words stream at stop)
+  refused_runs (BlockLength block divisor) (OfState go read) is stream = absurd (subst HasText go (stream_text c.words stream))
+  refused_runs (BlockLength block divisor) (OfText blocks read) is stream =
       let (script, reads, illegal, block_is, unit_is) = read.holds in
       told_script c.source c.read script RunsOver (record { text = read.text; read = read.read; holds = reads })
       (IfSome-always (read_from (command_of c.words) script.input c.port).left (Runs script) (λ _ free _. absurd (legal_not free.legal (subst (λ n. IsFalse (is_legal_for script n)) block_is illegal))))
@@ -289,6 +375,10 @@ module _ (c : Call) (status : ℕ) (report told : SinkState) where
   runs_by : (ending : Ending) → Happened ending c → Reported ending status report told → IsStream c.words → IfScript c.source.left RunsOver
   runs_by (Went script frames found) went reported stream = reported_runs (report_text script frames found) reported
   runs_by (Printed script) printed reported stream = absurd (stream_or_print c.words stream printed.0)
+  runs_by (Saved script x) saved reported stream = absurd (no_stop c.words stream (length x) saved.asked)
+  runs_by (Resumed script frames found) resumed reported stream = absurd (subst HasText resumed.asked (stream_text c.words stream))
+  runs_by (Stopped (Part fault)) (InFirst script at stop) reported stream = absurd (no_stop c.words stream at stop.asked)
+  runs_by (Stopped (Part fault)) (InRest script stop) reported stream = absurd (subst HasText stop.asked (stream_text c.words stream))
   runs_by (Turned totals) turned reported stream = absurd (subst HasText turned.asked (stream_text c.words stream))
   runs_by (Stopped (Stream fault)) (script, streams) reported stream =
       told_script c.source c.read script RunsOver streams.read
@@ -308,13 +398,20 @@ module _ (c : Call) (status : ℕ) (report told : SinkState) where
   refused_prints Usage refuses is print = absurd (command_not_none c.words (print_some c.words print) refuses.0)
   refused_prints ScriptRead refuses is print = script_always (λ _. Prints) (λ _ kept _. absurd (kept (rose _ _ refuses.1)))
   refused_prints (BadText fault) refuses is print = told_faulty c.source c.read fault (λ _. Prints) refuses.1
-  refused_prints (BlockLength block divisor) refuses is print = absurd (subst HasBlocks print refuses.0)
+  refused_prints (BlockLength block divisor) (OfText blocks read) is print = absurd (subst HasBlocks print blocks)
+  refused_prints (BlockLength block divisor) (OfState go read) is print = absurd (subst HasText (sym print ∙ go) tt)
+  refused_prints (State kind offset) (OfBytes go read) is print = absurd (subst HasText (sym print ∙ go) tt)
+  refused_prints (State kind offset) (OfScript at stop read) is print = absurd (let same : Some Print ≡ Some (Stop at) = sym print ∙ stop in cc)
   refused_prints Memory refuses is print = script_always (λ _. Prints) (λ _ _ _. inr is)
   refused_prints fault refuses is print = absurd refuses
 
   prints_by : (ending : Ending) → Happened ending c → Reported ending status report told → IsPrint c.words → IfScript c.source.left (λ _. Prints)
   prints_by (Went script frames found) went reported print = absurd (stream_or_print c.words went.stream print)
   prints_by (Printed script) printed reported print = script_always (λ _. Prints) (λ _. reported_prints _ reported)
+  prints_by (Saved script x) saved reported print = absurd (let same : Some Print ≡ Some (Stop (length x)) = sym print ∙ saved.asked in cc)
+  prints_by (Resumed script frames found) resumed reported print = absurd (subst HasText (sym print ∙ resumed.asked) tt)
+  prints_by (Stopped (Part fault)) (InFirst script at stop) reported print = absurd (let same : Some Print ≡ Some (Stop at) = sym print ∙ stop.asked in cc)
+  prints_by (Stopped (Part fault)) (InRest script stop) reported print = absurd (subst HasText (sym print ∙ stop.asked) tt)
   prints_by (Turned totals) turned reported print = absurd (subst HasText (sym print ∙ turned.asked) tt)
   prints_by (Stopped (Stream fault)) (script, stop) reported print = absurd (stream_or_print c.words stop.stream print)
   prints_by (Stopped (Conversion fault)) stop reported print = absurd (subst HasText (sym print ∙ stop.asked) tt)
@@ -333,12 +430,21 @@ module _ (c : Call) (status : ℕ) (report told : SinkState) where
   reported_turns text (inl way) none = way.0
   reported_turns text (inr way) none = absurd (none.report_kept (rose _ _ way.1))
 
+  no_source : (direction : Direction) → command_of c.words ≡ Some (Convert direction) → HasSource (command_of c.words) → ⊥
+  no_source direction is source = subst HasSource is source
+
   no_text : (direction : Direction) → command_of c.words ≡ Some (Convert direction) → HasText (command_of c.words) → ⊥
   no_text direction is text = subst HasText is text
 
   turns_by : (ending : Ending) → Happened ending c → Reported ending status report told → (direction : Direction) → command_of c.words ≡ Some (Convert direction) → Turns direction
   turns_by (Went script frames found) went reported direction is = absurd (no_text direction is (stream_text c.words went.stream))
   turns_by (Printed script) printed reported direction is = absurd (subst HasText (sym printed.0 ∙ is) tt)
+  turns_by (Saved script x) saved reported direction is = absurd (subst HasSource (sym saved.asked ∙ is) tt)
+  turns_by (Resumed script frames found) resumed reported direction is = absurd (subst HasSource (sym resumed.asked ∙ is) tt)
+  turns_by (Stopped (Part fault)) (InFirst script at stop) reported direction is = absurd (subst HasSource (sym stop.asked ∙ is) tt)
+  turns_by (Stopped (Part fault)) (InRest script stop) reported direction is = absurd (subst HasSource (sym stop.asked ∙ is) tt)
+  turns_by (Stopped (State kind offset)) (OfBytes go read, untouched) reported direction is = absurd (subst HasSource (sym go ∙ is) tt)
+  turns_by (Stopped (State kind offset)) (OfScript at stop read, untouched) reported direction is = absurd (subst HasSource (sym stop ∙ is) tt)
   turns_by (Turned totals) turned reported direction is = IfSome-always c.port.left _ (λ bytes free none. reported_turns _ reported none)
   turns_by (Stopped (Stream fault)) (script, stop) reported direction is = absurd (no_text direction is (stream_text c.words stop.stream))
   turns_by (Stopped (Conversion fault)) stop reported direction is =
@@ -346,10 +452,12 @@ module _ (c : Call) (status : ℕ) (report told : SinkState) where
       IfSome-map c.port.left _ _
       (λ bytes hinders free none. absurd (conversion_kept fault (hinders (subst (λ d. IsConvertible d bytes) (sym same) free)) stop.did.faults none)) stop.did.hinders
   turns_by (Stopped Usage) happened reported direction is = absurd (let found : None ≡ Some (Convert direction) = sym happened.0.0 ∙ is in cc)
-  turns_by (Stopped ScriptRead) happened reported direction is = absurd (no_text direction is happened.0.0)
+  turns_by (Stopped ScriptRead) happened reported direction is = absurd (no_source direction is happened.0.0)
   turns_by (Stopped (BadText fault)) happened reported direction is = absurd (no_text direction is happened.0.0)
-  turns_by (Stopped (BlockLength block divisor)) happened reported direction is = absurd (no_text direction is (blocks_text (command_of c.words) happened.0.0))
-  turns_by (Stopped Memory) happened reported direction is = absurd (no_text direction is happened.0)
+  turns_by (Stopped (BlockLength block divisor)) (OfText blocks read, untouched) reported direction is =
+      absurd (no_text direction is (blocks_text (command_of c.words) blocks))
+  turns_by (Stopped (BlockLength block divisor)) (OfState go read, untouched) reported direction is = absurd (subst HasSource (sym go ∙ is) tt)
+  turns_by (Stopped Memory) happened reported direction is = absurd (no_source direction is happened.0)
 
   -- ---- the clauses
 
@@ -374,11 +482,16 @@ module _ (c : Call) (status : ℕ) (report told : SinkState) where
       answer = answer_by end.ending end.happened end.reported;
       faulty = faulty_by end.ending end.happened end.reported;
       illegal = illegal_by end.ending end.happened end.reported;
+      bad_state = resume.bad_state c status report told end;
+      illegal_state = resume.illegal_state c status report told end;
+      long = resume.long c status report told end;
     }
 
     pub completes : Completes c status report told
     completes = record {
       runs = runs_by end.ending end.happened end.reported;
       prints = prints_by end.ending end.happened end.reported;
+      stops = resume.stops c status report told end;
+      goes = resume.goes c status report told end;
       converts = turns_by end.ending end.happened end.reported;
     }

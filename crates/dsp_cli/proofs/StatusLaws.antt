@@ -28,6 +28,10 @@ pub stream_or_print : (words : List (List ℕ)) → IsStream words → IsPrint w
 stream_or_print words (inl (named, banked, is)) print = let same : Some (Run named banked) ≡ Some Print = sym is ∙ print in cc
 stream_or_print words (inr (seed, frames, is)) print = let same : Some (Gen seed frames) ≡ Some Print = sym is ∙ print in cc
 
+pub no_stop : (words : List (List ℕ)) → IsStream words → (at : ℕ) → command_of words ≡ Some (Stop at) → ⊥
+no_stop words (inl (named, banked, is)) at stop = let same : Some (Run named banked) ≡ Some (Stop at) = sym is ∙ stop in cc
+no_stop words (inr (seed, frames, is)) at stop = let same : Some (Gen seed frames) ≡ Some (Stop at) = sym is ∙ stop in cc
+
 -- what holds of a run and of a gen holds of the words of a stream
 pub of_stream : (words : List (List ℕ)) (P : Option Command → Type 0) → IsStream words
     → ((named : Option ℕ) (banked : Bool) → command_of words ≡ Some (Run named banked) → P (Some (Run named banked)))

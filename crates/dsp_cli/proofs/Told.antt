@@ -59,15 +59,15 @@ told_longer (Some all) rest given front = told_length (Some all) rest given all 
 
 -- ---- the script
 
--- the text that was read is the one that is told, or both are too long
-abbrev Same : List ℕ → List ℕ → Type 0
-Same text all = (all ≡ text) ⊎ ((MAX_SCRIPT < length text) × (MAX_SCRIPT < length all))
+-- the bytes that were read are those that are told, or both are too long
+abbrev pub Same : ℕ → List ℕ → List ℕ → Type 0
+Same limit text all = (all ≡ text) ⊎ ((limit < length text) × (limit < length all))
 
-told_text : (source now : SourceState) (text : List ℕ) → IsReadWhole source now text → IfSome source.left (Same text)
-told_text source now text read =
+pub told_text : (limit : ℕ) (source now : SourceState) (text : List ℕ) → IsReadWhole limit source now text → IfSome source.left (Same limit text)
+told_text limit source now text read =
     elim read.end [
-      | inl ended ↦ IfSome-map source.left (λ all. all ≡ text) (Same text) (λ all same. inl same) (told_whole source.left now.left text read.gave.front ended)
-      | inr long ↦ IfSome-map source.left (λ all. length text ≤ length all) (Same text) (λ all more. inr (omega arith, omega arith)) (told_longer source.left now.left text read.gave.front)
+      | inl ended ↦ IfSome-map source.left (λ all. all ≡ text) (Same limit text) (λ all same. inl same) (told_whole source.left now.left text read.gave.front ended)
+      | inr long ↦ IfSome-map source.left (λ all. length text ≤ length all) (Same limit text) (λ all more. inr (omega arith, omega arith)) (told_longer source.left now.left text read.gave.front)
     ]
 
 -- a text that is too long has that fault
@@ -83,22 +83,22 @@ no_fault text script reads = (reads_or_fails text).0 (script, reads)
 -- what holds of the script that was read holds of each that is told
 pub told_script : (source now : SourceState) (script : Script) (P : Script → Type 0) → ReadsAs source now script → P script → IfScript source.left P
 told_script source now script P loaded holds =
-    IfSome-map source.left (Same loaded.text) _
+    IfSome-map source.left (Same MAX_SCRIPT loaded.text) _
     (λ all same other reads. elim same [
       | inl is ↦ subst P (one_script loaded.text script other loaded.holds (subst (λ text. Reads text other) is reads)) holds
       | inr long ↦ absurd (omega (arith, long.0, loaded.holds.short))
     ])
-    (told_text source now loaded.text loaded.read)
+    (told_text MAX_SCRIPT source now loaded.text loaded.read)
 
 -- a script that was read has no fault
 pub told_sound : (source now : SourceState) (script : Script) (P : Type 0) → ReadsAs source now script → IfSome source.left (λ text. IsSome (first_fault text) → P)
 told_sound source now script P loaded =
-    IfSome-map source.left (Same loaded.text) _
+    IfSome-map source.left (Same MAX_SCRIPT loaded.text) _
     (λ all same some. elim same [
       | inl is ↦ let none : first_fault all ≡ None = ap first_fault is ∙ no_fault loaded.text script loaded.holds in absurd (none_not_some none some)
       | inr long ↦ absurd (omega (arith, long.0, loaded.holds.short))
     ])
-    (told_text source now loaded.text loaded.read)
+    (told_text MAX_SCRIPT source now loaded.text loaded.read)
   where
     none_not_some : {found : Option ScriptFault} → found ≡ None → IsSome found → ⊥
     none_not_some none some = absurd (let same = subst IsSome none some in cc)
@@ -106,12 +106,12 @@ told_sound source now script P loaded =
 -- what holds of the fault that was read holds of that which is told
 pub told_first : (source now : SourceState) (fault : ScriptFault) → ReadsText source now (λ text. first_fault text ≡ Some fault) → IfSome source.left (λ all. first_fault all ≡ Some fault)
 told_first source now fault has =
-    IfSome-map source.left (Same has.text) _
+    IfSome-map source.left (Same MAX_SCRIPT has.text) _
     (λ all same. elim same [
       | inl is ↦ ap first_fault is ∙ has.holds
       | inr long ↦ first_fault_long all long.1 ∙ sym (first_fault_long has.text long.0) ∙ has.holds
     ])
-    (told_text source now has.text has.read)
+    (told_text MAX_SCRIPT source now has.text has.read)
 
 -- a text with a fault is no script
 pub told_faulty : (source now : SourceState) (fault : ScriptFault) (P : Script → Type 0) → ReadsText source now (λ text. first_fault text ≡ Some fault) → IfScript source.left P

@@ -85,7 +85,7 @@ module _ (c : Call) (status : ℕ) (report told : SinkState) where
   settled_by : (ending : Ending) → Happened ending c → Reported ending status report told → HasOutput (command_of c.words) → IsDone status → IsSettled c.after
   settled_by (Went script frames found) went reported output done = went.did.settled
   settled_by (Printed script) printed reported output done = absurd (subst HasOutput printed.0 output)
-  settled_by (Saved script x) saved reported output done = saved.did.1.settled
+  settled_by (Saved script at x) saved reported output done = saved.did.1.settled
   settled_by (Resumed script frames found) resumed reported output done = resumed.did.settled
   settled_by (Turned totals) turned reported output done = turned.did.settled
   settled_by (Stopped fault) happened reported output done = absurd (fault_not_done fault (subst IsDone reported.0 done))
@@ -96,7 +96,7 @@ module _ (c : Call) (status : ℕ) (report told : SinkState) where
   untouched_by : (ending : Ending) → Happened ending c → Reported ending status report told → IsRefused (command_of c.words) status → Untouched c
   untouched_by (Went script frames found) went reported refused = absurd (refused_not_done status (stream_refused c.words status went.stream refused) (reports_done reported))
   untouched_by (Printed script) printed reported refused = printed.2
-  untouched_by (Saved script x) saved reported refused =
+  untouched_by (Saved script at x) saved reported refused =
       absurd (refused_not_done status (subst (λ command. IsRefused command status) saved.asked refused) (reports_done reported))
   untouched_by (Resumed script frames found) resumed reported refused =
       absurd (refused_not_done status (subst (λ command. IsRefused command status) resumed.asked refused) (reports_done reported))
@@ -134,7 +134,7 @@ module _ (c : Call) (status : ℕ) (report told : SinkState) where
   spared_by : (ending : Ending) → Happened ending c → Spares (command_of c.words) c
   spared_by (Went script frames found) went = stream_spares went
   spared_by (Printed script) printed = subst (λ command. Spares command c) (sym printed.0) printed.2.other_same
-  spared_by (Saved script x) saved = subst (λ command. Spares command c) (sym saved.asked) saved.other_same
+  spared_by (Saved script at x) saved = subst (λ command. Spares command c) (sym saved.asked) saved.other_same
   spared_by (Resumed script frames found) resumed = subst (λ command. Spares command c) (sym resumed.asked) resumed.other_same
   spared_by (Stopped (Part fault)) (InFirst script at stop) = subst (λ command. Spares command c) (sym stop.asked) stop.other_same
   spared_by (Stopped (Part fault)) (InRest script stop) = subst (λ command. Spares command c) (sym stop.asked) stop.other_same
@@ -192,15 +192,15 @@ module _ (c : Call) (status : ℕ) (report told : SinkState) where
       of_stream c.words (λ command. HasDone command c) went.stream
       (λ named banked is. subst Writes is (went_writes script frames found went)) (λ seed count is. subst Writes is (went_writes script frames found went))
   done_by (Printed script) printed reported done = subst (λ command. HasDone command c) (sym printed.0) tt
-  done_by (Saved script x) saved reported done =
+  done_by (Saved script at x) saved reported done =
       let (session, did, first) = saved.did in
       let ready : IsReady script (chosen None script) = record { sound = (saved.read.text, saved.read.holds); legal = saved.legal } in
       subst (λ command. HasDone command c) (sym saved.asked)
-      (told_script c.source c.read script (λ s. IfSome c.port.left (λ bytes. Wrote (first_output s (length x) bytes) c.sink c.after)) saved.read
+      (told_script c.source c.read script (λ s. IfSome c.port.left (λ bytes. Wrote (first_output s at bytes) c.sink c.after)) saved.read
       (IfSome-each c.port.left _ (λ bytes is_told.
       let (more, left, all) = told_split _ c.later.left did.given bytes did.gave.front is_told in
       let some = some_frame script (input_header script did.given).coding (chosen None script) ready in
-      did.put ∙ ap (append_known c.sink.put) (sym (ap (first_output script (length x)) all ∙ first_stays script (length x) did.given more did.has did.exact did.frame_count some)))))
+      did.put ∙ ap (append_known c.sink.put) (sym (ap (first_output script at) all ∙ first_stays script at did.given more did.has did.exact did.frame_count some)))))
   done_by (Resumed script frames found) resumed reported done =
       let did = resumed.did in
       let ready : IsReady script (chosen None script) = record { sound = resumed.read.holds.runs.sound; legal = resumed.legal } in
@@ -226,7 +226,7 @@ module _ (c : Call) (status : ℕ) (report told : SinkState) where
   counted_by : (ending : Ending) → Happened ending c → Reported ending status report told → (seed frames : ℕ) → command_of c.words ≡ Some (Gen seed frames) → IsDone status → GenCounted seed frames
   counted_by (Went script count found) went reported seed frames is done = went_counts script count found went seed frames is (report_tells (report_text script count found) reported)
   counted_by (Printed script) printed reported seed frames is done = absurd (stream_or_print c.words (inr (seed, frames, is)) printed.0)
-  counted_by (Saved script x) saved reported seed frames is done = absurd (let same : Some (Gen seed frames) ≡ Some (Stop (length x)) = sym is ∙ saved.asked in cc)
+  counted_by (Saved script at x) saved reported seed frames is done = absurd (let same : Some (Gen seed frames) ≡ Some (Stop at) = sym is ∙ saved.asked in cc)
   counted_by (Resumed script count found) resumed reported seed frames is done = absurd (let same : Some (Gen seed frames) ≡ Some Go = sym is ∙ resumed.asked in cc)
   counted_by (Turned totals) turned reported seed frames is done = absurd (subst HasText (sym is ∙ turned.asked) tt)
   counted_by (Stopped fault) happened reported seed frames is done = absurd (fault_not_done fault (subst IsDone reported.0 done))
@@ -262,7 +262,7 @@ module _ (c : Call) (status : ℕ) (report told : SinkState) where
   answer_by : (ending : Ending) → Happened ending c → Reported ending status report told → IsAnswer (command_of c.words) status
   answer_by (Went script frames found) went reported = done_answers went.stream (reports_done reported)
   answer_by (Printed script) printed reported = subst (λ command. IsAnswer command status) (sym printed.0) (inl (reports_done reported))
-  answer_by (Saved script x) saved reported =
+  answer_by (Saved script at x) saved reported =
       let done : IsDone status = reports_done reported in
       subst (λ command. IsAnswer command status) (sym saved.asked) (inl (omega (arith, done)), λ e. omega (arith, done, e))
   answer_by (Resumed script frames found) resumed reported =
@@ -297,7 +297,7 @@ module _ (c : Call) (status : ℕ) (report told : SinkState) where
   faulty_by : (ending : Ending) → Happened ending c → Reported ending status report told → HasText (command_of c.words) → Faulty
   faulty_by (Went script frames found) went reported text = told_sound c.source c.read script (EndsEarly 2 status) went.read
   faulty_by (Printed script) printed reported text = told_sound c.source c.read script (EndsEarly 2 status) printed.1
-  faulty_by (Saved script x) saved reported text = told_sound c.source c.read script (EndsEarly 2 status) saved.read
+  faulty_by (Saved script at x) saved reported text = told_sound c.source c.read script (EndsEarly 2 status) saved.read
   faulty_by (Resumed script frames found) resumed reported text = absurd (subst HasText resumed.asked text)
   faulty_by (Stopped (Part fault)) (InFirst script at stop) reported text = told_sound c.source c.read script (EndsEarly 2 status) stop.read
   faulty_by (Stopped (Part fault)) (InRest script stop) reported text = absurd (subst HasText stop.asked text)
@@ -331,7 +331,7 @@ module _ (c : Call) (status : ℕ) (report told : SinkState) where
   illegal_by : (ending : Ending) → Happened ending c → Reported ending status report told → HasBlocks (command_of c.words) → IfScript c.source.left IllegalEnds
   illegal_by (Went script frames found) went reported blocks = legal_ends script went.read went.legal
   illegal_by (Printed script) printed reported blocks = absurd (subst HasBlocks printed.0 blocks)
-  illegal_by (Saved script x) saved reported blocks = legal_ends script saved.read (stop_legal script (length x) saved.asked saved.legal)
+  illegal_by (Saved script at x) saved reported blocks = legal_ends script saved.read (stop_legal script at saved.asked saved.legal)
   illegal_by (Resumed script frames found) resumed reported blocks = absurd (subst HasBlocks resumed.asked blocks)
   illegal_by (Stopped (Part fault)) (InFirst script at stop) reported blocks = legal_ends script stop.read (stop_legal script at stop.asked stop.legal)
   illegal_by (Stopped (Part fault)) (InRest script stop) reported blocks = absurd (subst HasBlocks stop.asked blocks)
@@ -375,7 +375,7 @@ module _ (c : Call) (status : ℕ) (report told : SinkState) where
   runs_by : (ending : Ending) → Happened ending c → Reported ending status report told → IsStream c.words → IfScript c.source.left RunsOver
   runs_by (Went script frames found) went reported stream = reported_runs (report_text script frames found) reported
   runs_by (Printed script) printed reported stream = absurd (stream_or_print c.words stream printed.0)
-  runs_by (Saved script x) saved reported stream = absurd (no_stop c.words stream (length x) saved.asked)
+  runs_by (Saved script at x) saved reported stream = absurd (no_stop c.words stream at saved.asked)
   runs_by (Resumed script frames found) resumed reported stream = absurd (subst HasText resumed.asked (stream_text c.words stream))
   runs_by (Stopped (Part fault)) (InFirst script at stop) reported stream = absurd (no_stop c.words stream at stop.asked)
   runs_by (Stopped (Part fault)) (InRest script stop) reported stream = absurd (subst HasText stop.asked (stream_text c.words stream))
@@ -408,7 +408,7 @@ module _ (c : Call) (status : ℕ) (report told : SinkState) where
   prints_by : (ending : Ending) → Happened ending c → Reported ending status report told → IsPrint c.words → IfScript c.source.left (λ _. Prints)
   prints_by (Went script frames found) went reported print = absurd (stream_or_print c.words went.stream print)
   prints_by (Printed script) printed reported print = script_always (λ _. Prints) (λ _. reported_prints _ reported)
-  prints_by (Saved script x) saved reported print = absurd (let same : Some Print ≡ Some (Stop (length x)) = sym print ∙ saved.asked in cc)
+  prints_by (Saved script at x) saved reported print = absurd (let same : Some Print ≡ Some (Stop at) = sym print ∙ saved.asked in cc)
   prints_by (Resumed script frames found) resumed reported print = absurd (subst HasText (sym print ∙ resumed.asked) tt)
   prints_by (Stopped (Part fault)) (InFirst script at stop) reported print = absurd (let same : Some Print ≡ Some (Stop at) = sym print ∙ stop.asked in cc)
   prints_by (Stopped (Part fault)) (InRest script stop) reported print = absurd (subst HasText (sym print ∙ stop.asked) tt)
@@ -439,7 +439,7 @@ module _ (c : Call) (status : ℕ) (report told : SinkState) where
   turns_by : (ending : Ending) → Happened ending c → Reported ending status report told → (direction : Direction) → command_of c.words ≡ Some (Convert direction) → Turns direction
   turns_by (Went script frames found) went reported direction is = absurd (no_text direction is (stream_text c.words went.stream))
   turns_by (Printed script) printed reported direction is = absurd (subst HasText (sym printed.0 ∙ is) tt)
-  turns_by (Saved script x) saved reported direction is = absurd (subst HasSource (sym saved.asked ∙ is) tt)
+  turns_by (Saved script at x) saved reported direction is = absurd (subst HasSource (sym saved.asked ∙ is) tt)
   turns_by (Resumed script frames found) resumed reported direction is = absurd (subst HasSource (sym resumed.asked ∙ is) tt)
   turns_by (Stopped (Part fault)) (InFirst script at stop) reported direction is = absurd (subst HasSource (sym stop.asked ∙ is) tt)
   turns_by (Stopped (Part fault)) (InRest script stop) reported direction is = absurd (subst HasSource (sym stop.asked ∙ is) tt)

@@ -8,3 +8,6 @@ pub mod StatusLaws
 pub mod StopLaws
 pub mod EndedLaws
 pub mod ReportLaws
+pub mod StateTold
+pub mod PartTold
+pub mod ResumeLaws

@@ -1,26 +1,27 @@
 -- What a run comes to for the words that ask for it.
-use Rattle.std.proofs.Common.{◌≡◌, ℕ, Bool, List, ◌++◌, Option, Some, IsTrue, IsFalse, refl, sym, ap, ◌∙◌, subst, flat_map, codes, inl, inr}
+use Rattle.std.proofs.Common.{◌≡◌, ℕ, Bool, List, ◌++◌, Option, None, Some, IsTrue, IsFalse, refl, sym, ap, ◌∙◌, subst, flat_map, codes, inl, inr}
 use Rattle.dsp_ports.specs.Ports.{SourceState, SinkState}
 use Rattle.dsp_defs.specs.Counts.{Counts}
-use Rattle.dsp_defs.specs.Output.{format_of, channels_of}
+use Rattle.dsp_defs.specs.Output.{format_of, channels_of, input_signal}
 use Rattle.dsp_command.specs.Report.{done_line, frames_line, multiplies_line, measure_line, report_text}
 use Rattle.dsp_defs.specs.Shape.{frames_given}
 use Rattle.dsp_command.specs.Words.{command_of}
 use Rattle.dsp_command.specs.declared.command.Command.{Command}
-use Rattle.dsp_command.specs.declared.command.Command.TheVariants.{Run, Gen}
+use Rattle.dsp_command.specs.declared.command.Command.TheVariants.{Run, Gen, Stop, Go}
 use Rattle.dsp_defs.specs.declared.measure.Measure.{Measure}
 use Rattle.dsp_defs.specs.declared.script.Script.{Script}
+use Rattle.dsp_state.specs.SavedState.{SavedState}
 use Rattle.dsp_session.specs.Session.{cost_of}
 use Rattle.dsp_session.specs.Stream.{Done, Stopped as StreamStopped}
 use Rattle.dsp_session.specs.declared.fault.StreamFault.{StreamFault}
 use Rattle.dsp_cli.specs.Fault.{summary_text}
-use Rattle.dsp_cli.specs.Call.{Call, call, Untouched, Streams, Went, Stopped, Happened}
-use Rattle.dsp_cli.specs.Perform.{NotBegun, ReadsAs, Ran, RanGenerated, Made, FailsToLoad, FailsToRun, FailsToGenerate}
-use Rattle.dsp_cli.specs.Run.{HasText, IsStream, IsReading, read_from}
+use Rattle.dsp_cli.specs.Call.{Call, call, Untouched, Streams, Went, Saved, Resumed, Stopped, OfText, OfState, OfBytes, OfScript, InFirst, InRest, Happened}
+use Rattle.dsp_cli.specs.Perform.{NotBegun, ReadsAs, Ran, RanGenerated, Made, FailsToLoad, FailsToRun, FailsToGenerate, LoadsState, FailsToLoadState, RanFirst, FailsToStop, RanRest, FailsToGoOn}
+use Rattle.dsp_cli.specs.Run.{HasSource, HasText, HasBlocks, IsStream, IsReading, read_from}
 use Rattle.dsp_cli.specs.Script.{named_by, banked_by, chosen, chosen_block, is_banked, is_legal_for}
 use Rattle.dsp_cli.specs.declared.fault.Fault.{Fault}
-use Rattle.dsp_cli.specs.declared.fault.Fault.TheVariants.{ScriptRead, Script as BadText, BlockLength, Memory, Stream}
-use Rattle.dsp_cli.proofs.StatusLaws.{stream_blocks, stream_text}
+use Rattle.dsp_cli.specs.declared.fault.Fault.TheVariants.{ScriptRead, Script as BadText, BlockLength, Memory, Stream, State, Part}
+use Rattle.dsp_cli.proofs.StatusLaws.{stream_blocks, stream_text, text_source}
 use Rattle.dsp_cli.specs.declared.report.Summary.{Summary}
 
 -- the stream of a session of the script, in blocks of the chosen length, has done this
@@ -94,8 +95,9 @@ module _ (words : List (List ℕ)) (source read port later : SourceState) (sink 
       stops (BlockLength block divisor) (length, untouched) =
           let chosen_is : chosen (named_by (Some command)) script ≡ chosen_block words script = ap (λ command. chosen (named_by command) script) (sym is) in
           let illegal : IsFalse (is_legal_for script block) = subst (λ n. IsFalse (is_legal_for script n)) (sym length.block_is) length.illegal in
-          ((stream_blocks words stream, record { text = loaded.text; read = loaded.read; holds = (script, loaded.holds, illegal, length.block_is ∙ chosen_is, length.divisor_is) }), left_alone untouched)
-      stops Memory untouched = (stream_text words stream, left_alone untouched)
+          (OfText (stream_blocks words stream)
+          (record { text = loaded.text; read = loaded.read; holds = (script, loaded.holds, illegal, length.block_is ∙ chosen_is, length.divisor_is) }), left_alone untouched)
+      stops Memory untouched = (text_source (command_of words) (stream_text words stream), left_alone untouched)
       stops (Stream fault) stop =
           (script, streams (λ block input now. StreamStopped (is_banked words) script block fault input now sink after before counts) stop.legal
           (subst (λ banked. StopsBy banked fault) flag stop.stopped))
@@ -122,7 +124,96 @@ module _ (words : List (List ℕ)) (source read port : SourceState) (sink after 
 -- a script isn't loaded
 pub load_stops : (words : List (List ℕ)) (source read port : SourceState) (sink : SinkState) (other : SourceState) (counts : Counts) → HasText (command_of words) → (fault : Fault) → FailsToLoad fault source read
     → Happened (Stopped fault) (call words source read port port sink sink other other counts counts)
-load_stops words source read port sink other counts some ScriptRead fails = ((some, fails), record { input_same = refl; output_same = refl; other_same = refl; counts_same = refl })
+load_stops words source read port sink other counts some ScriptRead fails = ((text_source (command_of words) some, fails), record { input_same = refl; output_same = refl; other_same = refl; counts_same = refl })
 load_stops words source read port sink other counts some (BadText fault) fails = ((some, fails), record { input_same = refl; output_same = refl; other_same = refl; counts_same = refl })
-load_stops words source read port sink other counts some Memory fails = (some, record { input_same = refl; output_same = refl; other_same = refl; counts_same = refl })
+load_stops words source read port sink other counts some Memory fails = (text_source (command_of words) some, record { input_same = refl; output_same = refl; other_same = refl; counts_same = refl })
 load_stops words source read port sink other counts some fault none = absurd none
+
+-- a state isn't loaded
+pub state_stops : (words : List (List ℕ)) (source read port : SourceState) (sink : SinkState) (other : SourceState) (counts : Counts)
+    → command_of words ≡ Some Go → (fault : Fault) → FailsToLoadState fault source read
+    → Happened (Stopped fault) (call words source read port port sink sink other other counts counts)
+state_stops words source read port sink other counts go ScriptRead fails =
+    ((subst HasSource (sym go) tt, fails), record { input_same = refl; output_same = refl; other_same = refl; counts_same = refl })
+state_stops words source read port sink other counts go (State kind offset) fails =
+    (OfBytes go fails, record { input_same = refl; output_same = refl; other_same = refl; counts_same = refl })
+state_stops words source read port sink other counts go Memory fails =
+    (subst HasSource (sym go) tt, record { input_same = refl; output_same = refl; other_same = refl; counts_same = refl })
+state_stops words source read port sink other counts go fault none = absurd none
+
+module _ (words : List (List ℕ)) (source read port later : SourceState) (sink after : SinkState) (other : SourceState) (before counts : Counts) where
+  abbrev asked : Call
+  asked = call words source read port later sink after other other before counts
+
+  alone : NotBegun port later sink after before counts → Untouched asked
+  alone not_begun = record { input_same = not_begun.input_same; output_same = not_begun.output_same; other_same = refl; counts_same = not_begun.counts_same }
+
+  -- a run that is to be stopped
+  module _ (script : Script) (loaded : ReadsAs source read script) (at : ℕ) (is : command_of words ≡ Some (Stop at)) where
+    pub first_ran : (state : List ℕ) → RanFirst at script state port later sink after before counts → Made state asked
+    first_ran state ran = record {
+      ending = Saved script at (input_signal script ran.done.given);
+      happened = record {
+        asked = is;
+        read = loaded;
+        legal = ran.legal;
+        short = ran.short;
+        did = (ran.session, ran.done, refl);
+        other_same = refl;
+      };
+      whole = tt;
+      text_is = ran.state_is;
+    }
+
+    pub first_stops : (fault : Fault) → FailsToStop fault at script port later sink after before counts → Happened (Stopped fault) asked
+    first_stops (BlockLength block divisor) (length, untouched) =
+        let chosen_is : chosen None script ≡ chosen_block words script = ap (λ command. chosen (named_by command) script) (sym is) in
+        let illegal : IsFalse (is_legal_for script block) = subst (λ n. IsFalse (is_legal_for script n)) (sym length.block_is) length.illegal in
+        (OfText (subst HasBlocks (sym is) tt)
+        (record { text = loaded.text; read = loaded.read; holds = (script, loaded.holds, illegal, length.block_is ∙ chosen_is, length.divisor_is) }), alone untouched)
+    first_stops (State kind offset) (text, untouched) =
+        (OfScript at is (record { text = loaded.text; read = loaded.read; holds = (script, loaded.holds, text.legal, text.long, text.kind_is, text.offset_is) }), alone untouched)
+    first_stops Memory untouched = (subst HasSource (sym is) tt, alone untouched)
+    first_stops (Part fault) stop =
+        InFirst script at (record { asked = is; read = loaded; legal = stop.legal; short = stop.short; did = stop.stopped; other_same = refl })
+    first_stops fault none = absurd none
+
+  -- a run that goes on
+  module _ (saved : SavedState) (loaded : LoadsState source read saved) (go : command_of words ≡ Some Go) where
+    pub rest_ran : (summary : Summary) → RanRest saved summary port later sink after before counts → Made (summary_text summary) asked
+    rest_ran summary ran = record {
+      ending = Resumed saved.script summary.totals.frames_taken summary.measures.items;
+      happened = record {
+        asked = go;
+        at = saved.frames;
+        numbers = saved.numbers;
+        read = loaded;
+        legal = ran.continues.legal;
+        start = ran.start;
+        script_is = ran.continues.script_is;
+        stands = ran.continues.stands;
+        did = ran.done;
+        other_same = refl;
+      };
+      whole = tt;
+      text_is = ran.text;
+    }
+
+    pub rest_stops : (fault : Fault) → FailsToGoOn fault saved port later sink after before counts → Happened (Stopped fault) asked
+    rest_stops (BlockLength block divisor) (length, untouched) =
+        let illegal : IsFalse (is_legal_for saved.script block) = subst (λ n. IsFalse (is_legal_for saved.script n)) (sym length.block_is) length.illegal in
+        (OfState go (record { text = loaded.text; read = loaded.read; holds = (saved.script, saved.frames, saved.numbers, loaded.holds, illegal, length.block_is, length.divisor_is) }), alone untouched)
+    rest_stops Memory untouched = (subst HasSource (sym go) tt, alone untouched)
+    rest_stops (Part fault) stop = InRest saved.script (record {
+      asked = go;
+      at = saved.frames;
+      numbers = saved.numbers;
+      read = loaded;
+      legal = stop.continues.legal;
+      start = stop.start;
+      script_is = stop.continues.script_is;
+      stands = stop.continues.stands;
+      did = stop.stopped;
+      other_same = refl;
+    })
+    rest_stops fault none = absurd none

@@ -57,7 +57,7 @@ module _ (c : Call) (status : ℕ) (report told : SinkState) where
   bad_state_by : (ending : Ending) → Happened ending c → Reported ending status report told → command_of c.words ≡ Some Go → HasBadState
   bad_state_by (Went script frames found) went reported go = absurd (subst HasText go (stream_text c.words went.stream))
   bad_state_by (Printed script) printed reported go = absurd (subst HasText (sym printed.0 ∙ go) tt)
-  bad_state_by (Saved script x) saved reported go = absurd (not_stop (length x) go saved.asked)
+  bad_state_by (Saved script at x) saved reported go = absurd (not_stop at go saved.asked)
   bad_state_by (Resumed script frames found) resumed reported go = bad_never script resumed.at resumed.numbers resumed.read
   bad_state_by (Turned totals) turned reported go = absurd (subst HasSource (sym go ∙ turned.asked) tt)
   bad_state_by (Stopped Usage) happened reported go = absurd (not_none Go go happened.0.0)
@@ -92,7 +92,7 @@ module _ (c : Call) (status : ℕ) (report told : SinkState) where
   illegal_by : (ending : Ending) → Happened ending c → Reported ending status report told → command_of c.words ≡ Some Go → IfState c.source.left IllegalEnds
   illegal_by (Went script frames found) went reported go = absurd (subst HasText go (stream_text c.words went.stream))
   illegal_by (Printed script) printed reported go = absurd (subst HasText (sym printed.0 ∙ go) tt)
-  illegal_by (Saved script x) saved reported go = absurd (not_stop (length x) go saved.asked)
+  illegal_by (Saved script at x) saved reported go = absurd (not_stop at go saved.asked)
   illegal_by (Resumed script frames found) resumed reported go = legal_ends script resumed.at resumed.numbers resumed.read resumed.legal
   illegal_by (Turned totals) turned reported go = absurd (subst HasSource (sym go ∙ turned.asked) tt)
   illegal_by (Stopped Usage) happened reported go = absurd (not_none Go go happened.0.0)
@@ -125,7 +125,7 @@ module _ (c : Call) (status : ℕ) (report told : SinkState) where
       → IfScript c.source.left LongEnds
   long_by (Went script frames found) went reported at stop = absurd (no_stop c.words went.stream at stop)
   long_by (Printed script) printed reported at stop = absurd (not_print at printed.0 stop)
-  long_by (Saved script x) saved reported at stop = short_ends script saved.read saved.short
+  long_by (Saved script frames x) saved reported at stop = short_ends script saved.read saved.short
   long_by (Resumed script frames found) resumed reported at stop = absurd (not_stop at resumed.asked stop)
   long_by (Turned totals) turned reported at stop = absurd (subst HasSource (sym stop ∙ turned.asked) tt)
   long_by (Stopped Usage) happened reported at stop = absurd (not_none (Stop at) stop happened.0.0)
@@ -166,7 +166,7 @@ module _ (c : Call) (status : ℕ) (report told : SinkState) where
       → IfScript c.source.left (Stops at)
   stops_by (Went script frames found) went reported at stop = absurd (no_stop c.words went.stream at stop)
   stops_by (Printed script) printed reported at stop = absurd (not_print at printed.0 stop)
-  stops_by (Saved script x) saved reported at stop = stops_always at (λ _ _ _ none. reported_done _ reported none)
+  stops_by (Saved script frames x) saved reported at stop = stops_always at (λ _ _ _ none. reported_done _ reported none)
   stops_by (Resumed script frames found) resumed reported at stop = absurd (not_stop at resumed.asked stop)
   stops_by (Turned totals) turned reported at stop = absurd (subst HasSource (sym stop ∙ turned.asked) tt)
   stops_by (Stopped Usage) happened reported at stop = absurd (not_none (Stop at) stop happened.0.0)
@@ -208,7 +208,7 @@ module _ (c : Call) (status : ℕ) (report told : SinkState) where
   goes_by : (ending : Ending) → Happened ending c → Reported ending status report told → command_of c.words ≡ Some Go → IfState c.source.left Goes
   goes_by (Went script frames found) went reported go = absurd (subst HasText go (stream_text c.words went.stream))
   goes_by (Printed script) printed reported go = absurd (subst HasText (sym printed.0 ∙ go) tt)
-  goes_by (Saved script x) saved reported go = absurd (not_stop (length x) go saved.asked)
+  goes_by (Saved script at x) saved reported go = absurd (not_stop at go saved.asked)
   goes_by (Resumed script frames found) resumed reported go = goes_always (λ _ _ _ _ none. reported_done _ reported none)
   goes_by (Turned totals) turned reported go = absurd (subst HasSource (sym go ∙ turned.asked) tt)
   goes_by (Stopped Usage) happened reported go = absurd (not_none Go go happened.0.0)

@@ -110,12 +110,12 @@ HasDone command c = IfWhole command c.source.left c.port (λ s bytes. Wrote (out
 -- ---- how it ended
 
 -- a script went over a whole input of so many frames, with these measures; the text of a script was made; a script was stopped
--- behind these frames; it went on to the end of so many, with these measures; a file was written in the other form; or a fault
+-- behind so many frames, which are these; it went on to the end of so many, with these measures; a file was written in the other form; or a fault
 -- stopped it
 pub data Ending : Type 0 where
   Went : Script → ℕ → List Measure → Ending
   Printed : Script → Ending
-  Saved : Script → List Frame → Ending
+  Saved : Script → ℕ → List Frame → Ending
   Resumed : Script → ℕ → List Measure → Ending
   Turned : Converted → Ending
   Stopped : Fault → Ending
@@ -201,8 +201,8 @@ Happened (Went script frames found) c =
     Streams script (λ block input now. Done (is_banked c.words) script block frames input now c.sink c.after c.before c.counts found) c
 Happened (Printed script) c =
     IsPrint c.words × ReadsText c.source c.read (λ text. Reads text script) × Untouched c
-Happened (Saved script x) c = StopsAt script (length x) (λ block.
-    (session : SessionState) × (done : FirstDone script (length x) session c.port c.later c.sink c.after c.before c.counts) × (x ≡ input_signal script done.given)) c
+Happened (Saved script at x) c = StopsAt script at (λ block.
+    (session : SessionState) × (done : FirstDone script at session c.port c.later c.sink c.after c.before c.counts) × (x ≡ input_signal script done.given)) c
 Happened (Resumed script frames found) c =
     GoesOn script (λ block start at. RestDone script start at frames c.port c.later c.sink c.after c.before c.counts found) c
 Happened (Turned totals) c = Converts (λ direction. ConvertDone direction totals c.port c.later c.sink c.after) c
@@ -216,7 +216,7 @@ Happened (Stopped fault) c = Refuses fault c × Untouched c
 abbrev pub text_of : Ending → List ℕ
 text_of (Went script frames found) = report_text script frames found
 text_of (Printed script) = canon script
-text_of (Saved script x) = state_of script (length x) (kept script x)
+text_of (Saved script at x) = state_of script at (kept script x)
 text_of (Resumed script frames found) = report_text script frames found
 text_of (Turned totals) = converted_text totals.frames totals.channels totals.bits
 text_of (Stopped fault) = fault_line fault

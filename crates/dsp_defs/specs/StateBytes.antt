@@ -1,6 +1,6 @@
 -- A saved state as bytes: a script, how many frames it has taken, and the numbers that its blocks keep of them. All
 -- numbers are little-endian.
-use Rattle.std.specs.Prelude.{◌≡◌, ◌≤◌, ◌<◌, ◌^◌, ℕ, ℤ, List, ◌++◌, length, codes, flat_map, IsTrue}
+use Rattle.std.specs.Prelude.{◌≡◌, ◌≤◌, ◌<◌, ◌^◌, ℕ, ℤ, List, ◌++◌, length, codes, flat_map, All, FitsSigned, IsTrue}
 use Rattle.std.specs.Int.{to_le_bytes, from_le_bytes, cast_unsigned, cast_signed}
 use Rattle.dsp_defs.specs.Canon.{canon}
 use Rattle.dsp_defs.specs.Grammar.{IsSound}
@@ -33,11 +33,12 @@ pub record CanRun (script : Script) : Type 0 where
   pub block : ℕ
   pub legal : IsTrue (is_legal script.input.channels script.blocks block)
 
--- the bytes are the state of a script that can run, whose blocks can keep these numbers of so many frames
+-- the bytes are the state of a script that can run, whose blocks can keep these numbers, each of 64 bits, of so many frames
 pub record IsState (bytes : List ℕ) (script : Script) (frames : ℕ) (numbers : List ℤ) : Type 0 where
   pub bytes_are : bytes ≡ state_of script frames numbers
   pub runs : CanRun script
   pub short_text : length (canon script) ≤ MAX_SCRIPT
   pub few : frames < 2 ^ 32
+  pub words : All (FitsSigned w64) numbers
   pub fits : Fits script frames numbers
   pub short : length bytes ≤ MAX_STATE

@@ -2,3 +2,4 @@ pub mod StateLaws
 pub mod NumberLaws
 pub mod StateParts
 pub mod LoadLaws
+pub mod StateFaults

@@ -24,7 +24,7 @@ apart (x ∷ xs) (y ∷ ys) zs ws size e =
 
 -- ---- numbers
 
-below : (z : ℤ) → SFits w64 z → of_z w64 z < 2 ^ 64
+pub below : (z : ℤ) → SFits w64 z → of_z w64 z < 2 ^ 64
 below (pos n) fits = omega (arith, fits.sfits)
 below (negsuc n) fits = omega arith
 

@@ -1,0 +1,62 @@
+-- Numbers of 8 bytes each, read and written.
+use Rattle.std.proofs.Common.{◌≡◌, ◌∙◌, ap, refl, sym, ℕ, zero, suc, ◌+◌, ◌*◌, ◌<◌, ◌≤◌, ◌^◌, List, [], ◌∷◌, ◌++◌, length, take, drop, get_or, All, add-one, arith, length-take, length-drop}
+use Rattle.std.specs.Int.{w64, to_le_bytes, from_le_bytes, cast_signed}
+use Rattle.std.specs.List.{flat_map, range_with_len}
+use Rattle.std.proofs.lemmas.Grind.{flat_map-append}
+use Rattle.std.proofs.lemmas.Int.{of_z-to_z}
+use Rattle.std.proofs.lemmas.List.{append-nil, get_or-take}
+use Rattle.std.proofs.lemmas.List.Elements.{All-head, All-tail, All-take, All-drop}
+use Rattle.std.proofs.lemmas.List.FromFn.{map-range_with_len_more}
+use Rattle.std.proofs.lemmas.Nat.{le_bytes_8}
+use Rattle.std.proofs.Math.Seq.{take-add}
+use Rattle.byteorder.specs.Endian.{little_number}
+use Rattle.dsp_defs.specs.Signal.{values}
+use Rattle.dsp_defs.specs.StateBytes.{number_bytes, number_of}
+
+-- bytes are below 256
+abbrev pub AreBytes : List ℕ → Type 0
+AreBytes bytes = All (λ b. b < 256) bytes
+
+pub byte_at : (bytes : List ℕ) → AreBytes bytes → (i : ℕ) → get_or bytes i 0 < 256
+byte_at [] are i = omega arith
+byte_at (b ∷ bytes) are zero = All-head (λ b. b < 256) b bytes are
+byte_at (b ∷ bytes) are (suc i) = byte_at bytes (All-tail (λ b. b < 256) b bytes are) i
+
+-- ---- reading
+
+little_8 : (bytes : List ℕ) → little_number 8 bytes ≡ from_le_bytes w64 (take 8 bytes)
+little_8 bytes =
+    let same : (i : ℕ) → i < 8 → get_or (take 8 bytes) i 0 ≡ get_or bytes i 0 = λ i below. get_or-take 8 bytes i 0 below in
+    omega (arith, same 0 (omega arith), same 1 (omega arith), same 2 (omega arith), same 3 (omega arith), same 4 (omega arith), same 5 (omega arith), same 6 (omega arith), same 7 (omega arith))
+
+-- the number at a place, as byteorder reads it
+pub read_number : (bytes : List ℕ) (k : ℕ) → cast_signed w64 (little_number 8 (drop (8 * k) bytes)) ≡ number_of (take 8 (drop (k * 8) bytes))
+read_number bytes k =
+    let place : 8 * k ≡ k * 8 = omega arith in
+    ap (cast_signed w64) (little_8 (drop (8 * k) bytes)) ∙ ap (λ n. number_of (take 8 (drop n bytes))) place
+
+-- ---- and back
+
+below_64 : (bytes : List ℕ) → ((i : ℕ) → get_or bytes i 0 < 256) → from_le_bytes w64 bytes < 2 ^ 64
+below_64 bytes at = omega (arith, at 0, at 1, at 2, at 3, at 4, at 5, at 6, at 7)
+
+number_back : (bytes : List ℕ) → length bytes ≡ 8 → AreBytes bytes → number_bytes (number_of bytes) ≡ bytes
+number_back bytes long are =
+    let at = byte_at bytes are in
+    ap (to_le_bytes w64) (of_z-to_z w64 (from_le_bytes w64 bytes) (below_64 bytes at)) ∙ le_bytes_8 bytes (from_le_bytes w64 bytes) long at refl
+
+-- the bytes of the numbers that were read are those that they were read of
+pub numbers_back : (bytes : List ℕ) → AreBytes bytes → (k : ℕ) → k * 8 ≤ length bytes → flat_map number_bytes (values k (λ i. number_of (take 8 (drop (i * 8) bytes)))) ≡ take (k * 8) bytes
+numbers_back bytes are zero within = refl
+numbers_back bytes are (suc k) within =
+    let at : ℕ → _ = λ i. number_of (take 8 (drop (i * 8) bytes)) in
+    let piece = take 8 (drop (k * 8) bytes) in
+    let long : length piece ≡ 8 = omega (arith, within, length-take 8 (drop (k * 8) bytes), length-drop (k * 8) bytes) in
+    let more : values (suc k) at ≡ values k at ++ at k ∷ [] = ap (λ n. values n at) (sym (add-one k)) ∙ map-range_with_len_more at 0 k k (omega arith) in
+    let count : k * 8 + 8 ≡ suc k * 8 = omega arith in
+    ap (flat_map number_bytes) more
+    ∙ flat_map-append number_bytes (values k at) (at k ∷ [])
+    ∙ ap (λ l. l ++ flat_map number_bytes (at k ∷ [])) (numbers_back bytes are k (omega (arith, within)))
+    ∙ ap (λ l. take (k * 8) bytes ++ l) (append-nil (number_bytes (at k)) ∙ number_back piece long (All-take (λ b. b < 256) 8 (drop (k * 8) bytes) (All-drop (λ b. b < 256) (k * 8) bytes are)))
+    ∙ sym (take-add (k * 8) 8 bytes)
+    ∙ ap (λ n. take n bytes) count

@@ -1,3 +1,4 @@
 pub mod StateLaws
 pub mod NumberLaws
 pub mod StateParts
+pub mod LoadLaws

@@ -1,10 +1,10 @@
 -- Numbers of 8 bytes each, read and written.
-use Rattle.std.proofs.Common.{◌≡◌, ◌∙◌, ap, refl, sym, ℕ, zero, suc, ◌+◌, ◌*◌, ◌<◌, ◌≤◌, ◌^◌, List, [], ◌∷◌, ◌++◌, length, take, drop, get_or, All, add-one, arith, length-take, length-drop}
-use Rattle.std.specs.Int.{w64, to_le_bytes, from_le_bytes, cast_signed}
-use Rattle.std.specs.List.{flat_map, range_with_len}
+use Rattle.std.proofs.Common.{◌≡◌, ◌∙◌, ap, refl, sym, ℕ, zero, suc, ◌+◌, ◌-◌, ◌*◌, ◌<◌, ◌≤◌, ◌^◌, List, [], ◌∷◌, ◌++◌, length, take, drop, get_or, All, add-one, arith, take-take, length-take, length-drop}
+use Rattle.std.specs.Int.{w32, w64, to_le_bytes, from_le_bytes, cast_signed}
+use Rattle.std.specs.List.{flat_map}
 use Rattle.std.proofs.lemmas.Grind.{flat_map-append}
 use Rattle.std.proofs.lemmas.Int.{of_z-to_z}
-use Rattle.std.proofs.lemmas.List.{append-nil, get_or-take}
+use Rattle.std.proofs.lemmas.List.{append-nil, get_or-take, drop-take, take_all}
 use Rattle.std.proofs.lemmas.List.Elements.{All-head, All-tail, All-take, All-drop}
 use Rattle.std.proofs.lemmas.List.FromFn.{map-range_with_len_more}
 use Rattle.std.proofs.lemmas.Nat.{le_bytes_8}
@@ -12,6 +12,7 @@ use Rattle.std.proofs.Math.Seq.{take-add}
 use Rattle.byteorder.specs.Endian.{little_number}
 use Rattle.dsp_defs.specs.Signal.{values}
 use Rattle.dsp_defs.specs.StateBytes.{number_bytes, number_of}
+use Rattle.dsp_defs.specs.Wave.{u32_at}
 
 -- bytes are below 256
 abbrev pub AreBytes : List ℕ → Type 0
@@ -29,11 +30,16 @@ little_8 bytes =
     let same : (i : ℕ) → i < 8 → get_or (take 8 bytes) i 0 ≡ get_or bytes i 0 = λ i below. get_or-take 8 bytes i 0 below in
     omega (arith, same 0 (omega arith), same 1 (omega arith), same 2 (omega arith), same 3 (omega arith), same 4 (omega arith), same 5 (omega arith), same 6 (omega arith), same 7 (omega arith))
 
--- the number at a place, as byteorder reads it
-pub read_number : (bytes : List ℕ) (k : ℕ) → cast_signed w64 (little_number 8 (drop (8 * k) bytes)) ≡ number_of (take 8 (drop (k * 8) bytes))
-read_number bytes k =
+-- the number at a place among the first ones, as byteorder reads it
+pub read_number : (bytes front : List ℕ) (count k : ℕ) → k < count → front ≡ take (8 * count) bytes → cast_signed w64 (little_number 8 (drop (8 * k) front)) ≡ number_of (take 8 (drop (k * 8) bytes))
+read_number bytes front count k below is =
     let place : 8 * k ≡ k * 8 = omega arith in
-    ap (cast_signed w64) (little_8 (drop (8 * k) bytes)) ∙ ap (λ n. number_of (take 8 (drop n bytes))) place
+    let behind = 8 * count - k * 8 in
+    let split : 8 * count ≡ k * 8 + behind = omega (arith, below) in
+    let piece : drop (8 * k) front ≡ take behind (drop (k * 8) bytes) =
+    (λ i. drop (place i) (is i)) ∙ ap (λ n. drop (k * 8) (take n bytes)) split ∙ drop-take (k * 8) behind bytes in
+    ap (cast_signed w64) (little_8 (drop (8 * k) front)) ∙ ap (λ l. number_of (take 8 l)) piece
+    ∙ ap number_of (take-take 8 behind (drop (k * 8) bytes) (omega (arith, below)))
 
 -- ---- and back
 
@@ -60,3 +66,18 @@ numbers_back bytes are (suc k) within =
     ∙ ap (λ l. take (k * 8) bytes ++ l) (append-nil (number_bytes (at k)) ∙ number_back piece long (All-take (λ b. b < 256) 8 (drop (k * 8) bytes) (All-drop (λ b. b < 256) (k * 8) bytes are)))
     ∙ sym (take-add (k * 8) 8 bytes)
     ∙ ap (λ n. take n bytes) count
+
+-- ---- numbers of 4 bytes
+
+little_4 : (bytes : List ℕ) → little_number 4 bytes ≡ from_le_bytes w32 (take 4 bytes)
+little_4 bytes =
+    let same : (i : ℕ) → i < 4 → get_or (take 4 bytes) i 0 ≡ get_or bytes i 0 = λ i below. get_or-take 4 bytes i 0 below in
+    omega (arith, same 0 (omega arith), same 1 (omega arith), same 2 (omega arith), same 3 (omega arith))
+
+-- the number at a place, as byteorder reads it of what stands from there on
+pub u32_read : (bytes piece : List ℕ) (place : ℕ) → piece ≡ drop place bytes → little_number 4 piece ≡ u32_at bytes place
+u32_read bytes piece place is = little_4 piece ∙ ap (λ l. from_le_bytes w32 (take 4 l)) is
+
+-- all that stands from a place on
+pub from_place : (bytes : List ℕ) (at place : ℕ) → at ≡ place → take (length bytes - at) (drop at bytes) ≡ drop place bytes
+from_place bytes at place is = take_all (length bytes - at) (drop at bytes) (omega (arith, length-drop at bytes)) ∙ ap (λ n. drop n bytes) is

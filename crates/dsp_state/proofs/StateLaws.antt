@@ -8,7 +8,7 @@ use Rattle.std.proofs.lemmas.Nat.{from_le_bytes-to_le_bytes_4, from_le_bytes-to_
 use Rattle.dsp_defs.specs.Canon.{canon}
 use Rattle.dsp_defs.specs.declared.limits.TheConstants.{MAX_SCRIPT}
 use Rattle.dsp_defs.specs.declared.script.Script.{Script}
-use Rattle.dsp_defs.specs.StateBytes.{number_bytes, state_head, state_of}
+use Rattle.dsp_defs.specs.StateBytes.{number_bytes, state_of}
 
 -- ---- pieces of equal lengths
 

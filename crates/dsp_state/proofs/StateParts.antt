@@ -6,7 +6,7 @@ use Rattle.std.proofs.lemmas.List.{drop-drop, take-append-drop, take_all}
 use Rattle.std.proofs.lemmas.List.Elements.{All-take, All-drop}
 use Rattle.std.proofs.lemmas.Nat.{le_bytes_4}
 use Rattle.dsp_defs.specs.Canon.{canon}
-use Rattle.dsp_defs.specs.StateBytes.{IsState, number_bytes, state_of}
+use Rattle.dsp_defs.specs.StateBytes.{IsState, number_bytes}
 use Rattle.dsp_defs.specs.StateFields.{HasNumbers, count_in, frames_in_state, frames_place, numbers_in, numbers_place, state_end, text_in, text_size}
 use Rattle.dsp_defs.specs.Wave.{u32_at}
 use Rattle.dsp_defs.specs.declared.limits.TheConstants.{MAX_STATE}

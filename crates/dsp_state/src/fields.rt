@@ -106,10 +106,13 @@ pub fn read_script(alloc: Global, bytes: &[u8], size: usize) -> Result<Script, L
     }
 }
 
-/// Reads as many numbers as there is room for from their bytes, 8 each.
-pub fn read_numbers(bytes: &[u8], numbers: &mut [i64])
-    requires { length bytes.now ≡ 8 * length numbers.old }
-    ensures { numbers.new ≡ values (length numbers.old) (λ i. number_of (take 8 (drop (i * 8) bytes.now))) }
+/// The first numbers of some bytes, 8 bytes each.
+pub fn read_numbers(alloc: Global, bytes: &[u8], count: usize) -> Result<Vec<i64>, AllocError>
+    requires { 8 * count ≤ length bytes.now }
+    ensures { IfOk result (λ numbers.
+        numbers.items ≡ values count (λ i. number_of (take 8 (drop (i * 8) bytes.now)))) }
 {
-    LittleEndian::read_i64_into(bytes, numbers);
+    let mut numbers = vec![in alloc; 0; count]?;
+    LittleEndian::read_i64_into(&bytes[..8 * count], numbers.as_mut_slice());
+    Ok(numbers)
 }

@@ -5,10 +5,12 @@
 mod fault;
 mod fields;
 mod laws;
+mod loading;
 mod maker;
 mod saved;
 
 pub use fault::{LoadFault, NewFault};
 pub use laws::{default_length_is_legal, one_state};
+pub use loading::load;
 pub use maker::{append_numbers, begin_state};
 pub use saved::Saved;

@@ -1,5 +1,5 @@
 use Rattle.std.proofs.Common.{◌≡◌, ◌≤◌, ◌∙◌, ◌+◌, ◌-◌, ap, length, take, drop, Ok, arith}
-use Rattle.dsp_defs.specs.StateFields.{frames_place, text_size}
+use Rattle.dsp_defs.specs.StateFields.{text_size}
 use Rattle.dsp_state.proofs.fields.read_script.Goals as goal
 
 pub returns-in-Some-clause-ok : goal.returns-in-Some-clause-ok

@@ -1,4 +1,4 @@
-use Rattle.std.proofs.Common.{◌≡◌, ◌∙◌, subst, sym}
+use Rattle.std.proofs.Common.{subst, sym}
 use Rattle.dsp_defs.specs.Grammar.{Reads}
 use Rattle.dsp_script.proofs.CanonLaws.{canon_read}
 use Rattle.dsp_script.proofs.ScriptLaws.{one_script}

@@ -122,7 +122,7 @@ abbrev pub Unread : Script → Header → (taken size : ℕ) → InputFault → 
 Unread script header taken size fault input now =
     samples.Unread (stored script header) taken size (λ n. IsUnread fault script header n input now) input now
 
--- and no byte of them behind the part
+-- and the part has more
 abbrev pub PartUnread : Script → Header → (end taken size : ℕ) → InputFault → SourceState → SourceState → Type 0
 PartUnread script header end taken size fault input now =
     samples.PartUnread (stored script header) end taken size (λ n. IsUnread fault script header n input now) input now

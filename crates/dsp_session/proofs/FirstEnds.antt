@@ -18,7 +18,7 @@ use Rattle.dsp_session.specs.declared.fault.StreamFault.{StreamFault}
 use Rattle.dsp_session.specs.declared.fault.StreamFault.TheVariants as fault
 use Rattle.dsp_session.specs.declared.fault.PartFault.TheVariants as part_fault
 use Rattle.dsp_session.specs.declared.streaming.Span.{Span}
-use Rattle.dsp_session.proofs.OpeningLaws.{some_frame, frames_of_blocks, frames-whole, length-signal, signal-append}
+use Rattle.dsp_session.proofs.OpeningLaws.{some_frame, frames_of_blocks, frames-whole, length-signal, signal-append, div_less}
 use Rattle.dsp_session.proofs.PassingLaws.{block_some, in_blocks}
 use Rattle.dsp_session.proofs.FirstLaws as laws
 
@@ -45,11 +45,18 @@ module _ (start : SessionState) (header : Header) (span : Span) (input mid : Sou
     pub few_heard : (bytes : List ℕ) → taken + length bytes ≤ span.end → length (signal script header.coding (going.heard ++ bytes)) ≤ frames
     few_heard bytes within = few_frames (going.heard ++ bytes) (omega (arith, within, going.taken_is, from, length-append going.heard bytes))
 
+    -- fewer came where the part has more
+    fewer_heard : (bytes : List ℕ) → taken + length bytes < span.end → length (signal script header.coding (going.heard ++ bytes)) < frames
+    fewer_heard bytes cut =
+        let all = going.heard ++ bytes in
+        rw (length-signal script header.coding some all)
+        (div_less (length all) frames (frame_bytes script header.coding) some (omega (arith, cut, end, going.taken_is, from, length-append going.heard bytes)))
+
     pub unread_first : (error : InputFault) (now : SourceState) → PartUnread script header span.end taken (block_bytes script session.coding session.block) error between now
         → FirstStopped script start.block frames (part_fault.Stream (of_input error)) input now sink then before made
     unread_first error now u =
         laws.stops_unread start session header span taken input mid between sink first then before made new coding from begun going frames now u.unread.bytes u.unread.gave u.unread.declared
-        (few_heard u.unread.bytes u.in_part) error u.unread.cause
+        (few_heard u.unread.bytes (omega (arith, u.in_part))) (fewer_heard u.unread.bytes u.in_part) error u.unread.cause
 
     module _ (now : SourceState) (piece : List ℕ) (long : length piece ≡ block_bytes script start.coding start.block) (read : PartRead script header span.end taken piece (length piece) between now) where
       gave : Gave between now piece

@@ -26,7 +26,7 @@ use Rattle.dsp_session.proofs.PassingLaws.{in_declared}
 use Rattle.dsp_session.proofs.PlainLaws.{live_bytes-nil}
 use Rattle.dsp_session.specs.Opening.{Begun, Untaken, NoHeader, LongOutput, of_input}
 use Rattle.dsp_session.specs.Stream.{in_whole_blocks}
-use Rattle.dsp_session.specs.Resuming.{IsFirstCause, CountsPartFault, FirstStopped, FirstWritten, HasFrames, first_output}
+use Rattle.dsp_session.specs.Resuming.{IsFirstCause, IsOfInput, CountsPartFault, FirstStopped, FirstWritten, HasFrames, first_output}
 use Rattle.dsp_session.specs.declared.fault.LengthFault.TheVariants as length_fault
 use Rattle.dsp_session.specs.declared.fault.StreamFault.{StreamFault}
 use Rattle.dsp_session.specs.declared.fault.StreamFault.TheVariants as fault
@@ -48,9 +48,10 @@ module _ (script : Script) (block : ℕ) (ready : IsReady script block) (frames 
       → ((given : List ℕ) → Begins written (first_output script (frames_in_bytes script given) given) → FirstWritten stop script given written sink after)
       → IsFirstCause stop script block frames (opened.first ++ bytes) now → CountsPartFault stop input now sink after
       → length (signal script header.coding bytes) ≤ frames
+      → (IsOfInput stop → length (signal script header.coding bytes) < frames)
       → counts.multiplies ≤ before.multiplies + live_cost_of script (length (signal script header.coding bytes))
       → FirstStopped script block frames stop input now sink after before counts
-  first_stops stop bytes written now after before counts declared gave put begins wrote cause faults few cost =
+  first_stops stop bytes written now after before counts declared gave put begins wrote cause faults few fewer cost =
       let count = frames_are script header some opened.first opened.opens bytes declared in
       record {
         given = opened.first ++ bytes;
@@ -61,6 +62,7 @@ module _ (script : Script) (block : ℕ) (ready : IsReady script block) (frames 
         wrote = wrote (opened.first ++ bytes) (subst (Begins written) (sym (first_is script header some opened.first opened.opens bytes declared)) begins);
         faults = faults;
         in_part = λ _. omega (arith, count, few);
+        missing = λ of _. omega (arith, count, fewer of);
         cost = rw count cost;
       }
 
@@ -84,7 +86,7 @@ module _ (script : Script) (block : ℕ) (ready : IsReady script block) (frames 
       first_stops (part_fault.Behind frames got) [] [] mid sink before before none_declared (Gave-nil mid) (Took-nil sink).put
       (output_header script header ++ live_bytes script (signal script header.coding []), refl) (λ given front. inr front)
       (opened.opens.has [], refl, fewer, subst (λ (h : Header). Counted got (declared_frames script h)) (sym (opened.opens.said [])) (subst (Counted got) (sym declared) refl))
-      (opened.no_fault, refl) (omega (arith, no_frames)) (omega arith)
+      (opened.no_fault, refl) (omega (arith, no_frames)) (λ none. absurd none) (omega arith)
 
   -- the output failed within its header
   pub headless : (after : SinkState) (count : ℕ) → Took sink after (take count (output_header script header)) → after.faults ≡ one_more sink.faults → (before : Counts)
@@ -94,7 +96,7 @@ module _ (script : Script) (block : ℕ) (ready : IsReady script block) (frames 
       let live = live_bytes script (signal script header.coding []) in
       first_stops (part_fault.Stream fault.Output) [] (take count all) mid after before before none_declared (Gave-nil mid) took.put
       (drop count all ++ live, ap (λ xs. xs ++ live) (sym (take-append-drop count all)) ∙ append_assoc (take count all) (drop count all) live) (λ given front. inr front)
-      (opened.opens.has []) (opened.no_fault, risen) (omega (arith, no_frames)) (omega arith)
+      (opened.opens.has []) (opened.no_fault, risen) (omega (arith, no_frames)) (λ none. absurd none) (omega arith)
 
 -- ---- before the first sample
 
@@ -114,6 +116,7 @@ module _ (script : Script) (block : ℕ) (ready : IsReady script block) (frames 
     wrote = unopened_wrote error script u.given sink (unopened_none error script u.given input now u.cause);
     faults = unopened_faults error script u.given input now sink u.cause;
     in_part = λ has. absurd (unopened_none error script u.given input now u.cause has);
+    missing = λ _ has. absurd (unopened_none error script u.given input now u.cause has);
     cost = omega arith;
   })
   first_untaken (LongOutput header size opened is long) = subst (λ f. FirstStopped script block frames (part_fault.Stream f) input now sink sink before before) (sym is) (record {
@@ -125,6 +128,7 @@ module _ (script : Script) (block : ℕ) (ready : IsReady script block) (frames 
     wrote = refl;
     faults = (opened.no_fault, refl);
     in_part = λ has. omega (arith, opening.no_frames script block before ready header input now sink opened);
+    missing = λ none _. absurd none;
     cost = omega arith;
   })
 
@@ -211,11 +215,12 @@ module _ (start session : SessionState) (header : Header) (span : Span) (taken :
         → Begins (wrote ++ written) (live_bytes script (x ++ signal script header.coding bytes))
         → ((given : List ℕ) → Begins ((head ++ wrote) ++ written) (first_output script (frames_in_bytes script given) given) → FirstWritten stop script given ((head ++ wrote) ++ written) sink after)
         → IsFirstCause stop script start.block frames (begun.opened.first ++ (heard ++ bytes)) later → CountsPartFault stop input later sink after
+        → (IsOfInput stop → frames_heard bytes < frames)
         → made.multiplies ≤ before.multiplies + live_cost_of script (frames_heard bytes)
         → FirstStopped script start.block frames stop input later sink after before made
-    stops_at stop written after made put front shape cause faults cost =
+    stops_at stop written after made put front shape cause faults fewer cost =
         first_stops script start.block ready frames header input mid sink begun.opened stop (heard ++ bytes) ((head ++ wrote) ++ written) later after before made
-        in_all (Gave-append mid now later heard bytes going.gave gave) (put_more written after put) (begins bytes written front) shape cause faults few cost
+        in_all (Gave-append mid now later heard bytes going.gave gave) (put_more written after put) (begins bytes written front) shape cause faults few fewer cost
 
     -- ---- each end
 
@@ -231,13 +236,13 @@ module _ (start session : SessionState) (header : Header) (span : Span) (taken :
     count_is : frames_in_bytes script (begun.opened.first ++ (heard ++ bytes)) ≡ frames_heard bytes
     count_is = frames_are script header some_bytes begun.opened.first begun.opened.opens (heard ++ bytes) in_all
 
-    pub stops_unread : (error : InputFault) → IsUnread error script header (taken + length bytes) now later → FirstStopped script start.block frames (part_fault.Stream (of_input error)) input later sink then before counts
-    stops_unread error unread =
+    pub stops_unread : frames_heard bytes < frames → (error : InputFault) → IsUnread error script header (taken + length bytes) now later → FirstStopped script start.block frames (part_fault.Stream (of_input error)) input later sink then before counts
+    stops_unread fewer error unread =
         stops_at (part_fault.Stream (of_input error)) [] then counts nothing_more (front_alone bytes) (unread_shape error)
         (input_first error script start.block frames (begun.opened.first ++ (heard ++ bytes)) later
         (unread_cause script start.block header begun.opened.first begun.opened.opens (heard ++ bytes) (taken + length bytes) all_taken now later error unread))
         (unread_faults error script header (taken + length bytes) input now later sink then unread read_so_far clean)
-        (cost_within bytes)
+        (λ _. fewer) (cost_within bytes)
       where
         unread_shape : (f : InputFault) → (given : List ℕ) → Begins ((head ++ wrote) ++ []) (first_output script (frames_in_bytes script given) given)
             → FirstWritten (part_fault.Stream (of_input f)) script given ((head ++ wrote) ++ []) sink then
@@ -249,7 +254,7 @@ module _ (start session : SessionState) (header : Header) (span : Span) (taken :
     pub stops_behind : (got : ℕ) → got < frames → HasFrames script (begun.opened.first ++ (heard ++ bytes)) later got → later.faults ≡ now.faults → FirstStopped script start.block frames (part_fault.Behind frames got) input later sink then before counts
     stops_behind got fewer has same =
         stops_at (part_fault.Behind frames got) [] then counts nothing_more (front_alone bytes) (λ given front. inr front)
-        (begun.opened.opens.has (heard ++ bytes), refl, fewer, has) (same ∙ read_so_far, clean) (cost_within bytes)
+        (begun.opened.opens.has (heard ++ bytes), refl, fewer, has) (same ∙ read_so_far, clean) (λ none. absurd none) (cost_within bytes)
 
     -- the frames of these bytes were fed to it, and the sink has failed within what they add, or behind it
     module _ (fed : SessionState) (made : Counts) (same : SameSession session fed) (feeds : Feeds session fed bytes counts made) where
@@ -283,7 +288,7 @@ module _ (start session : SessionState) (header : Header) (span : Span) (taken :
       stops_unwritten after count put risen still =
           stops_at (part_fault.Stream fault.Output) (take count fed.out) after made put
           (drop count fed.out, adds ∙ ap (λ ys. wrote ++ ys) (sym (take-append-drop count fed.out)) ∙ sym (append_assoc wrote (take count fed.out) (drop count fed.out)))
-          (λ given front. inr front) (begun.opened.opens.has (heard ++ bytes)) (still ∙ read_so_far, risen ∙ ap one_more clean) (omega (arith, made_is))
+          (λ given front. inr front) (begun.opened.opens.has (heard ++ bytes)) (still ∙ read_so_far, risen ∙ ap one_more clean) (λ none. absurd none) (omega (arith, made_is))
 
     -- they would be too many for a correlation
     pub stops_full : (last : SessionState) (told more : ℕ) (after : SinkState) (made : Counts) → FailsToPassOn (fault.Lengths (length_fault.Gather told more)) session last bytes then after counts made → later.faults ≡ now.faults
@@ -307,4 +312,4 @@ module _ (start session : SessionState) (header : Header) (span : Span) (taken :
             more_is = omega (arith, sum, total);
           },
         )
-        (same ∙ read_so_far, clean) (cost_within bytes)))
+        (same ∙ read_so_far, clean) (λ none. absurd none) (cost_within bytes)))

@@ -34,7 +34,7 @@ whole_blocks-append block blocks x y long short =
     let count : length (x ++ y) / block ≡ blocks = ap (λ n. n / block) all ∙ div-mul-add blocks block (length y) short in
     ap (λ n. take (n * block) (x ++ y)) count ∙ take_at x y (blocks * block) long
 
-div_less : (n b f : ℕ) → 0 < f → n < b * f → n / f < b
+pub div_less : (n b f : ℕ) → 0 < f → n < b * f → n / f < b
 div_less n b f some less = grind (arith)
 
 pub floor_within : (n f : ℕ) → n / f * f ≤ n

@@ -76,6 +76,13 @@ abbrev pub CountsPartFault : PartFault → SourceState → SourceState → SinkS
 CountsPartFault (part_fault.Behind at got) input now sink after = (now.faults ≡ input.faults) × (after.faults ≡ sink.faults)
 CountsPartFault (part_fault.Stream stop) input now sink after = CountsFault stop input now sink after
 
+-- the input stopped it, and the output did not
+abbrev pub IsOfInput : PartFault → Type 0
+IsOfInput (part_fault.Stream (fault.Header said offset)) = Unit {0}
+IsOfInput (part_fault.Stream (fault.Lengths (length_fault.Input taken limit))) = Unit {0}
+IsOfInput (part_fault.Stream fault.Input) = Unit {0}
+IsOfInput stop = ⊥
+
 -- ---- the first frames
 
 -- exactly the header and the first frames were taken, the first output was written, and the session stands for these frames
@@ -110,6 +117,8 @@ pub record FirstStopped (script : Script) (block frames : ℕ) (stop : PartFault
   pub wrote : FirstWritten stop script given written sink after
   pub faults : CountsPartFault stop input now sink after
   pub in_part : HasHeader script given → frames_in_bytes script given ≤ frames
+  -- the input is at fault only where frames are missing
+  pub missing : IsOfInput stop → HasHeader script given → frames_in_bytes script given < frames
   pub cost : counts.multiplies ≤ before.multiplies + live_cost_of script (frames_in_bytes script given)
 
 -- ---- the rest

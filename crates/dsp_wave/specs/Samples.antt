@@ -63,7 +63,7 @@ pub record Unread (stored : Stored) (taken size : ℕ) (Cause : ℕ → Type 0) 
   pub declared : InDeclared (declared_bytes stored) (taken + length bytes)
   pub cause : Cause (taken + length bytes)
 
--- and no byte of them behind the part
+-- and the part has more
 pub record PartUnread (stored : Stored) (end taken size : ℕ) (Cause : ℕ → Type 0) (input now : SourceState) : Type 0 where
   pub unread : Unread stored taken size Cause input now
-  pub in_part : taken + length unread.bytes ≤ end
+  pub in_part : taken + length unread.bytes < end

@@ -44,6 +44,10 @@ module _ (stored : Stored) (end taken stop : ℕ) (declared : InDeclared (declar
   in_part None is n few = omega (arith, part, is, few, want_is)
   in_part (Some size) is n few = omega (arith, part, is, few, want_is)
 
+  before : (bytes : Option ℕ) → StopsAt bytes end stop → (n : ℕ) → n < want → taken + n < end
+  before None is n cut = omega (arith, part, is, cut, want_is)
+  before (Some size) is n cut = omega (arith, part, is, cut, want_is)
+
   less : (bytes : Option ℕ) → StopsAt bytes end stop → (n : ℕ) → n < want → IfSome bytes (λ size. taken + n < size)
   less None is n few = tt
   less (Some size) is n few = omega (arith, is, few, want_is)
@@ -109,7 +113,7 @@ module _ (stored : Stored) (end taken stop : ℕ) (declared : InDeclared (declar
               subst (λ m. taken + m < in_whole_frames stored.frame size) (sym n) few_is,
             );
           };
-          in_part = in_part (declared_bytes stored) stop_is (length (take count front)) (omega (arith, n, few));
+          in_part = before (declared_bytes stored) stop_is (length (take count front)) (omega (arith, n, cut));
         }
 
   failed : Unfilled input now (length front) room Failed → PartUnread stored end taken (length old) (λ n. IsUnread fault.Failed stored n input now) input now
@@ -126,7 +130,7 @@ module _ (stored : Stored) (end taken stop : ℕ) (declared : InDeclared (declar
         less (declared_bytes stored) stop_is (length unfilled.bytes) (omega (arith, unfilled.short, long, want_is)),
       );
     };
-    in_part = in_part (declared_bytes stored) stop_is (length unfilled.bytes) (omega (arith, unfilled.short, long));
+    in_part = before (declared_bytes stored) stop_is (length unfilled.bytes) (omega (arith, unfilled.short, long));
   }
 
   limited : Unfilled input now (length front) room LimitReached
@@ -144,7 +148,7 @@ module _ (stored : Stored) (end taken stop : ℕ) (declared : InDeclared (declar
         less (declared_bytes stored) stop_is (length unfilled.bytes) (omega (arith, unfilled.short, long)),
       );
     };
-    in_part = in_part (declared_bytes stored) stop_is (length unfilled.bytes) (omega (arith, unfilled.short, long));
+    in_part = before (declared_bytes stored) stop_is (length unfilled.bytes) (omega (arith, unfilled.short, long));
   }
 
 pub returns-in_default-clause-ok : goal.returns-in_default-clause-ok

@@ -139,6 +139,20 @@ impl<U: AnyUnit + Drop> Resume<U> {
         &self.state
     }
 
+    /// The same, which it gives away.
+    pub fn into_state(self) -> Vec<u8>
+        ensures { result.items ≡ self.state }
+    {
+        self.state
+    }
+
+    /// The session.
+    pub fn session(&self) -> &Session<U>
+        ensures { result.now ≡ self.now.session }
+    {
+        &self.session
+    }
+
     /// Passes over the frames that the state has taken, works on those that follow, and writes what
     /// the script gives of them, to its end. It returns the totals of the whole input.
     pub fn go<S: Source, K: Sink, L: Ledger>(

@@ -10,7 +10,7 @@ use Rattle.dsp_command.specs.Report.{report_text}
 use Rattle.dsp_command.specs.Words.{command_of}
 use Rattle.dsp_defs.specs.declared.au.Direction.{Direction}
 use Rattle.dsp_command.specs.declared.command.Command.{Command}
-use Rattle.dsp_command.specs.declared.command.Command.TheVariants.{Gen, Stop, Go, Convert}
+use Rattle.dsp_command.specs.declared.command.Command.TheVariants.{Gen, Print, Stop, Go, Convert}
 use Rattle.dsp_defs.specs.declared.measure.Measure.{Measure}
 use Rattle.dsp_defs.specs.declared.script.Script.{Script}
 use Rattle.dsp_session.specs.Session.{IsReady, cost_of, measures_of}
@@ -312,6 +312,9 @@ module _ (c : Call) (status : ℕ) (report told : SinkState) where
   script_always : (P : Script → Type 0) → ((s : Script) → P s) → IfScript c.source.left P
   script_always P always = IfSome-always c.source.left _ (λ _ s _. always s)
 
+  legal_ends : (script : Script) → ReadsText c.source c.read (λ text. Reads text script) → IsTrue (is_legal_for script (chosen_block c.words script)) → IfScript c.source.left IllegalEnds
+  legal_ends script read legal = told_script c.source c.read script IllegalEnds read (λ illegal. absurd (legal_not legal illegal))
+
   refused_illegal : (fault : Fault) → Refuses fault c → status ≡ status_of fault → HasBlocks (command_of c.words) → IfScript c.source.left IllegalEnds
   refused_illegal Usage refuses is blocks = absurd (subst HasBlocks refuses.0 blocks)
   refused_illegal ScriptRead refuses is blocks = script_always IllegalEnds (λ _ _. inr (inl is))
@@ -324,9 +327,6 @@ module _ (c : Call) (status : ℕ) (report told : SinkState) where
       legal_ends script (record { text = read.text; read = read.read; holds = reads }) (subst (λ n. IsTrue (is_legal_for script n)) chosen_is legal)
   refused_illegal Memory refuses is blocks = script_always IllegalEnds (λ _ _. inr (inr is))
   refused_illegal fault refuses is blocks = absurd refuses
-
-  legal_ends : (script : Script) → ReadsText c.source c.read (λ text. Reads text script) → IsTrue (is_legal_for script (chosen_block c.words script)) → IfScript c.source.left IllegalEnds
-  legal_ends script read legal = told_script c.source c.read script IllegalEnds read (λ illegal. absurd (legal_not legal illegal))
 
   illegal_by : (ending : Ending) → Happened ending c → Reported ending status report told → HasBlocks (command_of c.words) → IfScript c.source.left IllegalEnds
   illegal_by (Went script frames found) went reported blocks = legal_ends script went.read went.legal

@@ -63,7 +63,7 @@ frames_stay script bytes more has =
 
 -- ---- the whole of the samples
 
-quotient_is : (n f m : ℕ) → 0 < f → n * f ≤ m → m < n * f + f → m / f ≡ n
+pub quotient_is : (n f m : ℕ) → 0 < f → n * f ≤ m → m < n * f + f → m / f ≡ n
 quotient_is n f m some low high =
     let split : m ≡ n * f + (m - n * f) = omega (arith, low) in
     ap (λ k. k / f) split ∙ div-mul-add n f (m - n * f) (omega (arith, low, high))

@@ -163,6 +163,14 @@ fits_not_long script given more size has long fits =
 raw_fault : (script : Script) (bytes : List ℕ) (rate : ℕ) → script.input.kind ≡ kind.Raw rate → input_fault script bytes ≡ None
 raw_fault script bytes rate is = ap (λ k. elim k [ kind.Raw rate ↦ None | kind.Wave ↦ wave_fault script bytes ]) is
 
+-- what is missing of the declared samples, where so many are
+abbrev Missing : Script → Header → ℕ → Option ℕ → Option (HeaderFault × ℕ)
+Missing script header count size = elim size [
+  | Some declared ↦ if nat_lt count (header.start + in_whole_frames script header.coding declared)
+      then Some (Short declared (count - header.start), count) else None
+  | None ↦ None
+]
+
 -- a header is no fault where its declared samples are all there
 fault_of_good : (script : Script) (bytes : List ℕ) (header : Header) → script.input.kind ≡ kind.Wave → header_of bytes (wanted_of script) ≡ Ok header
     → ((declared : ℕ) → header.size ≡ Some declared → header.start + declared ≤ length bytes) → input_fault script bytes ≡ None
@@ -171,11 +179,7 @@ fault_of_good script bytes header wave is enough =
     ∙ ap (λ r. elim r [ Err fault ↦ Some fault | Ok header ↦ short_fault script header (length bytes) ]) is ∙ by header.size enough
   where
     by : (size : Option ℕ) → ((declared : ℕ) → size ≡ Some declared → header.start + declared ≤ length bytes)
-        → elim size [
-          | Some declared ↦ if nat_lt (length bytes) (header.start + in_whole_frames script header.coding declared)
-              then Some (Short declared (length bytes - header.start), length bytes) else None
-          | None ↦ None
-        ] ≡ None
+        → Missing script header (length bytes) size ≡ None
     by None within = refl
     by (Some declared) within =
         let less : in_whole_frames script header.coding declared ≤ declared = whole_below declared (frame_bytes script header.coding) in
@@ -206,6 +210,10 @@ no_fault_far script bytes has fault all = by script.input.kind refl
     by kind.Wave is =
         let (header, good) = ok_header (wanted_of script) bytes (subst (λ k. HeaderIsThere k (wanted_of script) bytes) is has) in
         far header good header.size refl is
+
+-- so many frames were declared, or came to the end of the input
+abbrev Counted : Script → List ℕ → SourceState → ℕ → Option ℕ → Type 0
+Counted script given now got declared = elim declared [ Some n ↦ got ≡ n | None ↦ (got ≡ frames_in_bytes script given) × IsAtEnd now.left ]
 
 -- of the first frames
 module _ (script : Script) (block at : ℕ) (stop : PartFault) (ready : IsReady script block) (input now : SourceState) (sink after : SinkState) (before counts : Counts) where
@@ -246,7 +254,7 @@ module _ (script : Script) (block at : ℕ) (stop : PartFault) (ready : IsReady 
       has_all = subst (HasHeader script) (take-append-drop (2 ^ 40) (given ++ more)) (has_stays script (take (2 ^ 40) (given ++ more)) (drop (2 ^ 40) (given ++ more)) here.good)
 
       not_behind : (got : ℕ) → HasHeader script given → got < at → (declared : Option ℕ) → IfSome declared (λ n. at ≤ n)
-          → elim declared [ Some n ↦ got ≡ n | None ↦ (got ≡ frames_in_bytes script given) × IsAtEnd now.left ] → ⊥
+          → Counted script given now got declared → ⊥
       not_behind got has fewer None none (count, end) = omega (arith, fewer, count, ended has end)
       not_behind got has fewer (Some n) most same = omega (arith, fewer, most, same)
 
@@ -297,7 +305,7 @@ module _ (script : Script) (block : ℕ) (start : SessionState) (at : ℕ) (stop
       some xs = some_frame script (input_header script xs).coding block ready
 
       not_behind : (got : ℕ) → HasHeader script given → got < at → (declared : Option ℕ) → declared_frames script (input_header script given) ≡ declared
-          → elim declared [ Some n ↦ got ≡ n | None ↦ (got ≡ frames_in_bytes script given) × IsAtEnd now.left ] → ⊥
+          → Counted script given now got declared → ⊥
       not_behind got has fewer None none (count, end) =
           let nothing : more ≡ [] = subst IsAtEnd split.1 end in
           let all : frames_in_bytes script (given ++ more) ≡ frames_in_bytes script given =

@@ -1,5 +1,5 @@
 -- What a run comes to for the words that ask for it.
-use Rattle.std.proofs.Common.{◌≡◌, ℕ, Bool, List, ◌++◌, Option, None, Some, IsTrue, IsFalse, refl, sym, ap, ◌∙◌, subst, flat_map, codes, inl, inr}
+use Rattle.std.proofs.Common.{◌≡◌, ◌≤◌, ℕ, Bool, List, length, ◌++◌, Option, None, Some, IsTrue, IsFalse, refl, sym, ap, ◌∙◌, subst, flat_map, codes, inl, inr}
 use Rattle.dsp_ports.specs.Ports.{SourceState, SinkState}
 use Rattle.dsp_defs.specs.Counts.{Counts}
 use Rattle.dsp_defs.specs.Output.{format_of, channels_of, input_signal}
@@ -10,6 +10,14 @@ use Rattle.dsp_command.specs.declared.command.Command.{Command}
 use Rattle.dsp_command.specs.declared.command.Command.TheVariants.{Run, Gen, Stop, Go}
 use Rattle.dsp_defs.specs.declared.measure.Measure.{Measure}
 use Rattle.dsp_defs.specs.declared.script.Script.{Script}
+use Rattle.dsp_defs.specs.Canon.{canon}
+use Rattle.dsp_defs.specs.KeptOfScript.{kept}
+use Rattle.dsp_defs.specs.StateBytes.{state_of}
+use Rattle.dsp_defs.specs.declared.limits.TheConstants.{MAX_SCRIPT}
+use Rattle.dsp_resume.specs.ResumeState.{ResumeState, Saves}
+use Rattle.dsp_session.specs.Resuming.{FirstDone, FirstStopped, RestDone, RestStopped}
+use Rattle.dsp_session.specs.SessionState.{SessionState}
+use Rattle.dsp_session.specs.declared.fault.PartFault.{PartFault}
 use Rattle.dsp_state.specs.SavedState.{SavedState}
 use Rattle.dsp_session.specs.Session.{cost_of}
 use Rattle.dsp_session.specs.Stream.{Done, Stopped as StreamStopped}
@@ -128,6 +136,51 @@ load_stops words source read port sink other counts some ScriptRead fails = ((te
 load_stops words source read port sink other counts some (BadText fault) fails = ((some, fails), record { input_same = refl; output_same = refl; other_same = refl; counts_same = refl })
 load_stops words source read port sink other counts some Memory fails = (text_source (command_of words) some, record { input_same = refl; output_same = refl; other_same = refl; counts_same = refl })
 load_stops words source read port sink other counts some fault none = absurd none
+
+-- a run that was stopped has done this, and its state is that of the first frames
+pub first_by : (script : Script) (at : ℕ) (state : List ℕ) (old new : ResumeState) (input now : SourceState) (sink after : SinkState) (before counts : Counts)
+    → old.session.script ≡ script → old.frames ≡ at → state ≡ new.state → IsTrue (is_legal_for script (chosen None script)) → length (canon script) ≤ MAX_SCRIPT
+    → FirstDone old.session.script old.frames new.session input now sink after before counts → Saves old new
+    → RanFirst at script state input now sink after before counts
+first_by script at state old new input now sink after before counts script_is at_is state_is legal short done saves =
+    let own : FirstDone script at new.session input now sink after before counts =
+    subst (λ n. FirstDone script n new.session input now sink after before counts) at_is
+    (subst (λ (s : Script). FirstDone s old.frames new.session input now sink after before counts) script_is done) in
+    let x = input_signal script own.given in
+    record {
+      legal = legal;
+      short = short;
+      session = new.session;
+      done = own;
+      state_is =
+          state_is ∙ saves.state x own.stands (sym own.frame_count ∙ sym at_is) ∙ (λ i. state_of (script_is i) (at_is i) (kept (script_is i) x));
+    }
+
+-- and one that went on has done that
+pub rest_by : (script same : Script) (start : SessionState) (at same_at frames : ℕ) (input now : SourceState) (sink after : SinkState) (before counts : Counts)
+    (found measured : List Measure) → same ≡ script → same_at ≡ at → found ≡ measured
+    → RestDone same start same_at frames input now sink after before counts measured → RestDone script start at frames input now sink after before counts found
+rest_by script same start at same_at frames input now sink after before counts found measured s a f done =
+    subst (λ (t : Script). RestDone t start at frames input now sink after before counts found) s
+    (subst (λ n. RestDone same start n frames input now sink after before counts found) a
+    (subst (λ m. RestDone same start same_at frames input now sink after before counts m) (sym f) done))
+
+-- or has stopped
+pub first_stopped_by : (script same : Script) (block same_block at same_at : ℕ) (stop : PartFault) (input now : SourceState) (sink after : SinkState)
+    (before counts : Counts) → same ≡ script → same_block ≡ block → same_at ≡ at
+    → FirstStopped same same_block same_at stop input now sink after before counts → FirstStopped script block at stop input now sink after before counts
+first_stopped_by script same block same_block at same_at stop input now sink after before counts s b a stopped =
+    subst (λ (t : Script). FirstStopped t block at stop input now sink after before counts) s
+    (subst (λ n. FirstStopped same n at stop input now sink after before counts) b
+    (subst (λ n. FirstStopped same same_block n stop input now sink after before counts) a stopped))
+
+pub rest_stopped_by : (script same : Script) (block same_block : ℕ) (start : SessionState) (at same_at : ℕ) (stop : PartFault) (input now : SourceState)
+    (sink after : SinkState) (before counts : Counts) → same ≡ script → same_block ≡ block → same_at ≡ at
+    → RestStopped same same_block start same_at stop input now sink after before counts → RestStopped script block start at stop input now sink after before counts
+rest_stopped_by script same block same_block start at same_at stop input now sink after before counts s b a stopped =
+    subst (λ (t : Script). RestStopped t block start at stop input now sink after before counts) s
+    (subst (λ n. RestStopped same n start at stop input now sink after before counts) b
+    (subst (λ n. RestStopped same same_block start n stop input now sink after before counts) a stopped))
 
 -- a state isn't loaded
 pub state_stops : (words : List (List ℕ)) (source read port : SourceState) (sink : SinkState) (other : SourceState) (counts : Counts)

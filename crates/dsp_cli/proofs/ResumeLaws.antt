@@ -65,7 +65,7 @@ module _ (c : Call) (status : ℕ) (report told : SinkState) where
   bad_state_by (Stopped (BadText fault)) happened reported go = absurd (subst HasText go happened.0.0)
   bad_state_by (Stopped (BlockLength block divisor)) (OfText blocks read, untouched) reported go = absurd (subst HasBlocks go blocks)
   bad_state_by (Stopped (BlockLength block divisor)) (OfState is read, untouched) reported go =
-      let (script, at, numbers, state, rest) = read.holds in
+      let (script, at, numbers, state, illegal, block_is, unit_is) = read.holds in
       bad_never script at numbers (record { text = read.text; read = read.read; holds = state })
   bad_state_by (Stopped (State kind offset)) happened reported go = bad_always (inl reported.0)
   bad_state_by (Stopped Memory) happened reported go = bad_always (inr (inr reported.0))

@@ -1,4 +1,5 @@
 ghost use Rattle.std.specs.Prelude.{◌≡◌, ◌<◌, ◌≤◌, ◌^◌, ℕ, [], length, Some, IfOk, IfErr, IsTrue, IsFalse, slice_get};
+ghost use Rattle.dsp_chain.specs.Row.{measure_counts};
 ghost use Rattle.dsp_defs.specs.KeptOfScript.{kept_count};
 ghost use Rattle.dsp_defs.specs.Shape.{frames_given, gathered, is_legal};
 ghost use Rattle.dsp_defs.specs.StateBytes.{state_head};
@@ -181,7 +182,9 @@ impl<U: AnyUnit + Drop> Resume<U> {
 
     /// How many measures the script has: in the order of its blocks, then by channel.
     pub fn measures(&self) -> usize
-        ensures { result ≡ length (measured self.now.session) }
+        ensures count { result ≡ length (measured self.now.session) }
+        ensures stays { result ≡ measure_counts self.now.session.script.input.channels
+            self.now.session.script.blocks }
     {
         self.session.measures()
     }

@@ -1,9 +1,9 @@
 use Rattle.std.proofs.Common.{ap, sym, refl, ◌∙◌, subst, Some}
 use Rattle.std.proofs.lemmas.Result.{err_from_is_err_and}
 use Rattle.dsp_cli.specs.Call.{Printed, Turned}
-use Rattle.dsp_cli.specs.Run.{HasText}
+use Rattle.dsp_cli.specs.Run.{HasSource}
 use Rattle.dsp_cli.proofs.WordLaws.{gen_makes_few}
-use Rattle.dsp_cli.proofs.PerformLaws.{run_went, run_stops, gen_went, gen_stops}
+use Rattle.dsp_cli.proofs.PerformLaws.{run_went, run_stops, gen_went, gen_stops, first_ran, first_stops, rest_ran, rest_stops}
 use Rattle.dsp_cli.proofs.top.perform.Goals as goal
 
 pub returns-in_default-clause-err : goal.returns-in_default-clause-err
@@ -42,7 +42,7 @@ returns-in-Ok-print-clause-ok g c =
 
 pub returns-in-Print-clause-err : goal.returns-in-Print-clause-err
 returns-in-Print-clause-err g c =
-    (subst HasText (sym (sym c.in-Some.ensures ∙ ap Some c.in-Print.is)) tt, record { input_same = refl; output_same = refl; other_same = refl; counts_same = refl })
+    (subst HasSource (sym (sym c.in-Some.ensures ∙ ap Some c.in-Print.is)) tt, record { input_same = refl; output_same = refl; other_same = refl; counts_same = refl })
 
 pub returns-in-Run-clause-ok : goal.returns-in-Run-clause-ok
 returns-in-Run-clause-ok g c =
@@ -63,3 +63,23 @@ returns-in_err-summary-in-Gen-clause-err g c =
     let p = err_from_is_err_and c.from_residual-in_err-summary-in-Gen.result c.from_residual-in_err-summary-in-Gen.ensures.1 in
     rw (p.1, p.2)
     (gen_stops _ _ _ _ _ _ _ _ _ _ c.in_ok-script-in-Gen.ensures.ok _ _ (sym c.in-Some.ensures ∙ ap Some c.in-Gen.is) _ c.in_err-summary-in-Gen.ensures.err)
+
+pub returns-in-Stop-clause-ok : goal.returns-in-Stop-clause-ok
+returns-in-Stop-clause-ok g c =
+    first_ran _ _ _ _ _ _ _ _ _ _ _ c.in_ok-script-in-Stop.ensures.ok _ (sym c.in-Some.ensures ∙ ap Some c.in-Stop.is) _ c.in_ok-state-in-Stop.ensures.ok
+
+pub returns-in_err-state-in-Stop-clause-err : goal.returns-in_err-state-in-Stop-clause-err
+returns-in_err-state-in-Stop-clause-err g c =
+    let p = err_from_is_err_and c.from_residual-in_err-state-in-Stop.result c.from_residual-in_err-state-in-Stop.ensures.1 in
+    rw (p.1, p.2)
+    (first_stops _ _ _ _ _ _ _ _ _ _ _ c.in_ok-script-in-Stop.ensures.ok _ (sym c.in-Some.ensures ∙ ap Some c.in-Stop.is) _ c.in_err-state-in-Stop.ensures.err)
+
+pub returns-in-Go-clause-ok : goal.returns-in-Go-clause-ok
+returns-in-Go-clause-ok g c =
+    rest_ran _ _ _ _ _ _ _ _ _ _ _ c.in_ok-saved-in-Go.ensures.ok (sym c.in-Some.ensures ∙ ap Some c.in-Go.is) _ c.in_ok-summary-in-Go.ensures.ok
+
+pub returns-in_err-summary-in-Go-clause-err : goal.returns-in_err-summary-in-Go-clause-err
+returns-in_err-summary-in-Go-clause-err g c =
+    let p = err_from_is_err_and c.from_residual-in_err-summary-in-Go.result c.from_residual-in_err-summary-in-Go.ensures.1 in
+    rw (p.1, p.2)
+    (rest_stops _ _ _ _ _ _ _ _ _ _ _ c.in_ok-saved-in-Go.ensures.ok (sym c.in-Some.ensures ∙ ap Some c.in-Go.is) _ c.in_err-summary-in-Go.ensures.err)

@@ -200,7 +200,7 @@ module _ (c : Call) (status : ℕ) (report told : SinkState) where
       (IfSome-each c.port.left _ (λ bytes is_told.
       let (more, left, all) = told_split _ c.later.left did.given bytes did.gave.front is_told in
       let some = some_frame script (input_header script did.given).coding (chosen None script) ready in
-      did.put ∙ ap (append_known c.sink.put) (sym (ap (first_output script at) all ∙ first_stays script at did.given more did.has did.exact did.frame_count some)))))
+      did.put ∙ ap (append_known c.sink.put) (sym (ap (first_output script at) all ∙ first_stays script did.given more did.has some at did.exact did.frame_count)))))
   done_by (Resumed script frames found) resumed reported done =
       let did = resumed.did in
       let ready : IsReady script (chosen None script) = record { sound = resumed.read.holds.runs.sound; legal = resumed.legal } in

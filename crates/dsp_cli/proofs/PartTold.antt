@@ -200,7 +200,7 @@ no_fault_far script bytes has fault all = by script.input.kind refl
     far header is (Some n) some wave =
         let pad = replicate (header.start + n) 0 in
         let found : input_fault script (bytes ++ pad) ≡ None = fault_of_good script (bytes ++ pad) header wave (header_of-append bytes pad (wanted_of script) header is)
-        (λ declared same. (let equal : n ≡ declared = (let both : Some n ≡ Some declared = sym some ∙ same in cc) in omega (arith, equal, length-append bytes pad, length-replicate (header.start + n) 0))) in
+        (λ declared same. (let equal : n ≡ declared = (let both : Some n ≡ Some declared = sym some ∙ same in cc) in omega (arith, equal, length-append bytes pad, length-replicate {A = ℕ} (header.start + n) 0))) in
         some_not_none (input_fault script (bytes ++ pad)) fault (all pad) found
 
     by : (k : InputKind) → script.input.kind ≡ k → ⊥

@@ -1,6 +1,6 @@
 use Rattle.std.proofs.Common.{arith}
 use Rattle.dsp_blocks.proofs.Rooms.{room-few}
-use Rattle.dsp_blocks.proofs.of_block.BlockUnitAnyUnit.of_block.Goals as goal
+use Rattle.dsp_blocks.proofs.of_block.plain.Goals as goal
 
 pub fir-requires-clause-room : goal.fir-requires-clause-room
 fir-requires-clause-room c = room-few _ c.args.block.now c.args.frames c.requires.suits (omega (arith, c.ranges.channels)) c.requires.samples

@@ -18,7 +18,7 @@ use Rattle.dsp_stage.proofs.GoingOn.{outputs-next, reverse-more}
 use Rattle.dsp_defs.specs.Counts.{Counts}
 use Rattle.dsp_lanes.specs.Turns.{RisesWithin}
 use Rattle.dsp_stage.proofs.ChannelKept.{append-apart}
-use Rattle.dsp_stage.specs.Kept.{lms_kept}
+use Rattle.dsp_defs.specs.Kept.{lms_kept}
 use Rattle.dsp_window.specs.Rolling.{Rolling, last_samples}
 use Rattle.dsp_window.proofs.Pushed.{shows-after}
 use Rattle.dsp_window.proofs.Rolls.{length-last_of}

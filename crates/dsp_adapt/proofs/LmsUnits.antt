@@ -16,7 +16,7 @@ use Rattle.dsp_defs.specs.declared.script.Block.TheVariants.{Lms}
 use Rattle.dsp_defs.proofs.BlockLaws.{length-values, lms_causal}
 use Rattle.dsp_defs.proofs.FrameLemmas.{length-frames_in, map-values}
 use Rattle.dsp_defs.proofs.Signal.{values_cong}
-use Rattle.dsp_stage.specs.Kept.{lms_kept}
+use Rattle.dsp_defs.specs.Kept.{lms_kept}
 use Rattle.dsp_stage.specs.Unit.{UnitState, MadeAs, CountsFrames, Feeds, IsNew, IsOutput, Restores}
 use Rattle.dsp_stage.specs.Unit as Units
 use Rattle.dsp_stage.proofs.ChannelKept.{append-apart, words-placed}

@@ -1,7 +1,7 @@
 -- A step of a controller.
 use Rattle.std.proofs.Common.{◌≡◌, ◌∙◌, ap, sym, ℤ, ◌+ℤ◌, ◌*ℤ◌, List, [], ◌∷◌, ◌++◌}
 use Rattle.dsp_defs.specs.Adaptive.{Gains, pid_close, pid_output}
-use Rattle.dsp_stage.specs.Kept.{latest}
+use Rattle.dsp_defs.specs.Kept.{latest}
 use Rattle.dsp_defs.specs.Signal.{outputs}
 use Rattle.dsp_defs.specs.Streaming.{GoesOn, Continues}
 use Rattle.dsp_stage.proofs.GoingOn.{outputs-next, latest-new, latest-old}

@@ -68,7 +68,7 @@ impl<T: LmsSample + LaneSample<L>, const L: usize> Lms<T, L> {
     ghost use Rattle.std.specs.Prelude.{◌≡◌, ◌≤◌, ◌+◌, ◌-◌, ◌*◌, ◌++◌, ◌↔◌, ℤ, List, [], length, map, IfOk, IfErr, IsTrue, MatchOption};
     ghost use Rattle.dsp_defs.specs.Formats.{word};
     ghost use Rattle.dsp_defs.specs.Streaming.{Continues};
-    ghost use Rattle.dsp_stage.specs.Kept.{Each, IsOfKind, in_words, lms_kept};
+    ghost use Rattle.dsp_defs.specs.Kept.{Each, IsOfKind, in_words, lms_kept};
     ghost use Rattle.dsp_adapt.specs.LmsState.{StandsFor, kept, lms_errors, lms_fault, lms_outputs, new_lms, pairs};
 
     /// A filter that has taken nothing, from its first weights in time-reversed order, `w[T-1]` to

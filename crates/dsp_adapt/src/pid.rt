@@ -23,7 +23,7 @@ impl<T: PidSample> Pid<T> {
     ghost use Rattle.std.specs.Prelude.{◌≡◌, ◌≤◌, ◌+◌, ◌*◌, ◌↔◌, true, IfOk, IsFalse, IsTrue, MatchOption, IsOk, length, map, take, drop};
     ghost use Rattle.dsp_defs.specs.Adaptive.{pid_gains};
     ghost use Rattle.dsp_stage.specs.Filter.{FilterFeeds, FilterRestores, IsNewFilter};
-    ghost use Rattle.dsp_stage.specs.Kept.{kinds_by, Each, IsOfKind};
+    ghost use Rattle.dsp_defs.specs.Kept.{kinds_by, Each, IsOfKind};
     ghost use Rattle.dsp_unit.specs.Making.{block_fault};
     ghost use Rattle.dsp_defs.specs.declared.script.Block.TheVariants.{Pid as PidBlock};
 

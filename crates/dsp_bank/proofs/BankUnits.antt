@@ -14,7 +14,7 @@ use Rattle.dsp_defs.specs.declared.script.Block.TheVariants.{Biquad}
 use Rattle.dsp_defs.proofs.FrameLemmas.{length-frames_in}
 use Rattle.dsp_stage.specs.Channels.{AreFed, numbers_in, unit_of_filters}
 use Rattle.dsp_stage.specs.Filter.{FilterState, FilterCounts, IsByChannel, IsLike, AreFilters, filter_at, no_filter, kept_of_all, tails_of}
-use Rattle.dsp_stage.specs.Kept.{Each, IsOfKind, IsPlace, HasPlace, Fits, FitsAfter, InWord, in_words, kept_kinds, kept_numbers, kept_of_channel, sections_kept}
+use Rattle.dsp_defs.specs.Kept.{Each, IsOfKind, IsPlace, HasPlace, Fits, FitsAfter, InWord, in_words, kept_kinds, kept_numbers, kept_of_channel, sections_kept}
 use Rattle.dsp_stage.specs.Unit.{UnitState, StandsFor, CountsFrames, Feeds, Restores, IsOutput, frames_in}
 use Rattle.dsp_stage.proofs.ChannelFrames.{get_or-default, kept-places}
 use Rattle.dsp_stage.proofs.ChannelKept.{length-numbers_in, numbers-in_pieces, pieces-same, words-placed}

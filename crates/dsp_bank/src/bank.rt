@@ -60,7 +60,7 @@ impl<T: BankSample + FormatLanes<L>, const L: usize> Bank<T, L> {
     ghost use Rattle.dsp_defs.specs.Formats.{word};
     ghost use Rattle.dsp_lanes.specs.Turns.{lane_turns};
     ghost use Rattle.dsp_stage.specs.Channels.{AreFed};
-    ghost use Rattle.dsp_stage.specs.Kept.{Each, IsOfKind, in_words};
+    ghost use Rattle.dsp_defs.specs.Kept.{Each, IsOfKind, in_words};
     ghost use Rattle.dsp_defs.specs.declared.limits.TheConstants.{MAX_SAMPLES};
     ghost use Rattle.dsp_bank.specs.Bank.{BankState, IsNewBank, bank_filters, sections_of};
     ghost use Rattle.dsp_bank.specs.Making.{bank_fault};

@@ -2,7 +2,7 @@
 ghost use Rattle.std.specs.Prelude.{◌≡◌, ◌<◌, length, map, pos, replicate, IfOk};
 ghost use Rattle.dsp_defs.specs.Formats.{word};
 ghost use Rattle.dsp_defs.specs.Signal.{sample};
-ghost use Rattle.dsp_stage.specs.Kept.{Each, IsOfKind, in_words};
+ghost use Rattle.dsp_defs.specs.Kept.{Each, IsOfKind, in_words};
 
 use dsp_sat::Sample;
 use dsp_unit::number_of;

@@ -7,7 +7,7 @@ use borrow.Rule.Slice.PartMut.{put_mid}
 use Rattle.std.proofs.lemmas.Grind.{flat_map-append}
 use Rattle.std.proofs.Math.Seq.{take-add}
 use Rattle.dsp_stage.specs.Channels.{numbers_in}
-use Rattle.dsp_stage.specs.Kept.{Kind, Each, IsOfKind}
+use Rattle.dsp_defs.specs.Kept.{Kind, Each, IsOfKind}
 use Rattle.dsp_stage.proofs.ChannelKept.{each-length, length-pieces, numbers-in_pieces, length-numbers_in, pieces-each, each-pieces}
 
 module _ (kinds : List Kind) (four : length kinds ≡ 4) (n : ℕ) (numbers : List ℤ) where

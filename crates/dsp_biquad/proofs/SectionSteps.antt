@@ -4,7 +4,7 @@ use Rattle.std.proofs.lemmas.List.{map-append, reverse-append}
 use Rattle.std.proofs.lemmas.Int.{int_wrap_fits}
 use Rattle.std.proofs.Math.ListN.{get_or-map}
 use Rattle.dsp_defs.specs.Biquad.{Section, section_close, section_output, biquad_section, fed_back, wide_output}
-use Rattle.dsp_stage.specs.Kept.{latest}
+use Rattle.dsp_defs.specs.Kept.{latest}
 use Rattle.dsp_defs.specs.Numbers.{◌>>◌, wrap, w32, w64}
 use Rattle.dsp_defs.specs.Signal.{sample, outputs}
 use Rattle.dsp_defs.specs.Streaming.{GoesOn, Continues}

@@ -7,9 +7,9 @@ use Rattle.dsp_defs.specs.Numbers.{Width, w32, w64}
 use Rattle.dsp_defs.specs.Formats.{word}
 use Rattle.dsp_defs.specs.Cost.{section_count}
 use Rattle.dsp_stage.specs.Filter.{IsSteady, IsStepwise}
-use Rattle.dsp_stage.specs.Kept.{Kind, InWord, Fixed, Below, Each, IsPlace, kinds_by, in_words}
+use Rattle.dsp_defs.specs.Kept.{Kind, InWord, Fixed, Below, Each, IsPlace, kinds_by, in_words}
 use Rattle.dsp_stage.proofs.ChannelKept.{words-placed}
-use Rattle.dsp_stage.proofs.KeptLaws.{kept_of_channel-place}
+use Rattle.dsp_defs.proofs.KeptLaws.{kept_of_channel-place}
 use Rattle.dsp_unit.proofs.Units.{scaled, less-scaled}
 use Rattle.dsp_defs.specs.declared.format.Fmt.{Fmt}
 use Rattle.dsp_defs.specs.declared.format.Fmt.TheVariants.{Q7, Q15, Q31}

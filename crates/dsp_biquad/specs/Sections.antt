@@ -5,7 +5,7 @@ use Rattle.dsp_defs.specs.Formats.{word}
 use Rattle.dsp_defs.specs.Signal.{sample, outputs}
 use Rattle.dsp_defs.specs.Biquad.{Section, biquad_section, biquad64_section, fed_back, wide_output}
 use Rattle.dsp_defs.specs.Parameters.{greatest_biquad_shift}
-use Rattle.dsp_stage.specs.Kept.{latest, kept_of_channel}
+use Rattle.dsp_defs.specs.Kept.{latest, kept_of_channel}
 use Rattle.dsp_stage.specs.Filter.{of_channel}
 use Rattle.dsp_defs.specs.Streaming.{Behaviour, then}
 use Rattle.dsp_defs.specs.declared.format.Fmt.{Fmt}

@@ -25,7 +25,7 @@ impl<T: Sample, S: CascadeSection<T>> Biquads<T, S> {
     ghost use Rattle.std.specs.Prelude.{◌≡◌, ◌≤◌, ◌+◌, ◌*◌, ◌↔◌, true, IfOk, IfErr, IsFalse, IsTrue, MatchOption, length, map, take, drop};
     ghost use Rattle.dsp_defs.specs.Cost.{section_count};
     ghost use Rattle.dsp_stage.specs.Filter.{FilterFeeds, FilterRestores, IsNewFilter};
-    ghost use Rattle.dsp_stage.specs.Kept.{kinds_by, Each, IsOfKind};
+    ghost use Rattle.dsp_defs.specs.Kept.{kinds_by, Each, IsOfKind};
     ghost use Rattle.dsp_biquad.specs.Making.{cascade_fault};
     ghost use Rattle.dsp_biquad.specs.Sections.{coefficients_of};
 

@@ -67,7 +67,7 @@ fn sections_of<T: Sample, S: CascadeSection<T>>(
 
 impl<T: Sample, S: CascadeSection<T>> Cascade<T, S> {
     ghost use Rattle.std.specs.Prelude.{◌≡◌, ◌≤◌, ◌*◌, ◌%◌, [], length, map, IfOk};
-    ghost use Rattle.dsp_stage.specs.Kept.{kept_of_channel};
+    ghost use Rattle.dsp_defs.specs.Kept.{kept_of_channel};
 
     /// Sections of the coefficients that have taken nothing.
     pub fn new(alloc: Global, post_shift: u8, coefficients: Vec<T>) -> Result<Self, AllocError>

@@ -2,7 +2,7 @@ ghost use Rattle.std.specs.Prelude.{◌≡◌, ◌≤◌, ◌*◌, ◌/◌, ◌�
 ghost use Rattle.std.specs.List.{range_with_len};
 ghost use Rattle.dsp_defs.specs.Cost.{section_count};
 ghost use Rattle.dsp_stage.specs.Filter.{IsStepwise};
-ghost use Rattle.dsp_stage.specs.Kept.{Kind, kinds_by, Each, IsOfKind};
+ghost use Rattle.dsp_defs.specs.Kept.{Kind, kinds_by, Each, IsOfKind};
 ghost use Rattle.dsp_defs.specs.Streaming.{Behaviour, chained};
 ghost use Rattle.dsp_defs.specs.declared.script.Block.{Block};
 ghost use Rattle.dsp_biquad.specs.Sections.{AreParameters, IsCascade, block_acts, coefficients_of, post_shift_of};

@@ -1,6 +1,6 @@
 ghost use Rattle.std.specs.Prelude.{◌≡◌, ◌≤◌, ◌*◌, ◌↔◌, ℕ, length, map, flat_map, IsTrue};
 ghost use Rattle.std.specs.List.{range_with_len};
-ghost use Rattle.dsp_stage.specs.Kept.{Each, IsOfKind};
+ghost use Rattle.dsp_defs.specs.Kept.{Each, IsOfKind};
 
 use crate::CascadeSection;
 use dsp_sat::Sample;

@@ -1,7 +1,7 @@
 ghost use Rattle.std.specs.Prelude.{◌≡◌, ◌<◌};
 ghost use Rattle.dsp_defs.specs.Formats.{word};
 ghost use Rattle.dsp_defs.specs.Signal.{sample};
-ghost use Rattle.dsp_stage.specs.Kept.{Each, IsOfKind, in_words};
+ghost use Rattle.dsp_defs.specs.Kept.{Each, IsOfKind, in_words};
 
 use crate::{BiquadSample, CascadeSection};
 use dsp_defs::Steps;
@@ -76,7 +76,7 @@ impl<T: BiquadSample> CascadeSection<T> for Section<T> {
 
     ghost use Rattle.std.specs.Prelude.{refl};
     ghost use Rattle.dsp_defs.specs.Formats.{word};
-    ghost use Rattle.dsp_stage.specs.Kept.{in_words};
+    ghost use Rattle.dsp_defs.specs.Kept.{in_words};
     ghost use Rattle.dsp_defs.specs.declared.script.Block.TheVariants.{Biquad};
     ghost use Rattle.dsp_biquad.specs.Sections.{IsBiquadIn, section_acts, section_of};
     ghost use Rattle.dsp_biquad.specs.Blocks.{some-size, few-size, of-numbers, empty-at, cascade-at, count-at, parameters-at, words-of_sections, is-biquad, biquad-stepwise};

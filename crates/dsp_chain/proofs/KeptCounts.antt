@@ -2,13 +2,13 @@
 use Rattle.std.proofs.Common.{◌≡◌, ◌∙◌, ap, ap₂, refl, sym, ℕ, suc, ◌+◌, ℤ, List, [], ◌∷◌, ◌++◌, length, length-append}
 use Rattle.dsp_defs.specs.Block.{Frame, live}
 use Rattle.dsp_defs.specs.Shape.{live_frames}
-use Rattle.dsp_stage.specs.Kept.{IsPlace, kept_count, kept_kinds, kept_numbers, kept_of_chain}
+use Rattle.dsp_defs.specs.Kept.{IsPlace, kept_count, kept_kinds, kept_numbers, kept_of_chain, kept_count_of_chain}
 use Rattle.dsp_stage.specs.Unit.{UnitState}
 use Rattle.dsp_stage.specs.Row.{Place, place_after, blocks_of, InRow, AllCount, AllStand}
 use Rattle.dsp_stage.proofs.ChannelKept.{each-length}
 use Rattle.dsp_chain.specs.FrameRule.{rule_of, rules_of, live_by, AreFew}
 use Rattle.dsp_chain.specs.KeptRule.{unit_rule, unit_rules, count_by, counts_by}
-use Rattle.dsp_chain.specs.Restored.{kept_by, kept_count_of_chain}
+use Rattle.dsp_chain.specs.Restored.{kept_by}
 use Rattle.dsp_chain.proofs.FrameRules.{few-live, live-rule}
 use Rattle.dsp_chain.proofs.KeptRules.{count-rule}
 

@@ -2,7 +2,7 @@
 use Rattle.std.proofs.Common.{◌≡◌, ◌∙◌, ap, refl, sym, subst, ℕ, ◌+◌, ◌^◌, ◌<◌, ◌≤◌, ℤ, List, [], ◌∷◌, ◌++◌, length, take, drop, Bool, true, false, ◌==◌, IsTrue, Option, Some, IfSome, arith, rules, tests, length-append}
 use Rattle.std.proofs.lemmas.List.{map-append, take-append-drop, length-take-le}
 use Rattle.dsp_defs.specs.Shape.{live_frames}
-use Rattle.dsp_stage.specs.Kept.{IsOfKind, IsPlace, FitsAfter, kept_count, kept_kinds, place_of}
+use Rattle.dsp_defs.specs.Kept.{IsOfKind, IsPlace, FitsAfter, kept_count, kept_kinds, place_of}
 use Rattle.dsp_stage.specs.Unit.{UnitState, IsNew}
 use Rattle.dsp_stage.specs.Row.{blocks_of}
 use Rattle.dsp_stage.proofs.ChannelKept.{append-apart, each-length}

@@ -3,7 +3,7 @@ use Rattle.std.proofs.Common.{◌≡◌, ◌∙◌, ap, refl, sym, subst, ℕ, z
 use Rattle.std.specs.List.{range_with_len}
 use Rattle.std.proofs.lemmas.List.{length-replicate}
 use Rattle.dsp_defs.specs.Formats.{word}
-use Rattle.dsp_stage.specs.Kept.{Kind, InWord, Fixed, Each, IsOfKind, FitsAfter, IsTaken, flag, in_words, extreme_kinds, kinds_by, kept_kinds, kept_count, place_of}
+use Rattle.dsp_defs.specs.Kept.{Kind, InWord, Fixed, Each, IsOfKind, FitsAfter, IsTaken, flag, in_words, extreme_kinds, kinds_by, kept_kinds, kept_count, place_of}
 use Rattle.dsp_stage.proofs.ChannelKept.{length-pieces}
 use Rattle.dsp_defs.specs.declared.format.Fmt.{Fmt}
 use Rattle.dsp_defs.specs.declared.script.Block.{Block}

@@ -2,7 +2,7 @@
 use Rattle.std.proofs.Common.{◌≡◌, ◌∙◌, ap, ap₂, refl, sym, subst, ℕ, zero, suc, ◌+◌, ◌*◌, ◌<◌, ◌≤◌, ℤ, List, [], ◌∷◌, ◌++◌, length, get_or, arith, None, length-append}
 use Rattle.std.specs.Prelude.{All, slice_get}
 use Rattle.std.proofs.lemmas.List.FromFn.{length-map-range_with_len}
-use Rattle.dsp_stage.specs.Kept.{kept_measures}
+use Rattle.dsp_defs.specs.Kept.{kept_measures}
 use Rattle.dsp_defs.specs.Signal.{values}
 use Rattle.dsp_stage.specs.Unit.{UnitState, measures_of}
 use Rattle.dsp_stage.specs.Row.{Place, place_after, blocks_of, InRow, measured_by}

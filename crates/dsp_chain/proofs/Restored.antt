@@ -8,14 +8,14 @@ use Rattle.dsp_defs.specs.declared.script.Block.{Block}
 use Rattle.dsp_defs.specs.declared.script.Block.TheVariants.{Decimate, MatAdd, MatSub, MatScale, MatTrans, MatMult}
 use Rattle.dsp_defs.specs.declared.flow.Flow.{Flow}
 use Rattle.dsp_defs.proofs.FrameLaws.{length-live}
-use Rattle.dsp_stage.specs.Kept.{Each, IsPlace, IsOfKind, kept_kinds, kept_count, kept_numbers, kept_of_chain}
+use Rattle.dsp_defs.specs.Kept.{Each, IsPlace, IsOfKind, kept_kinds, kept_count, kept_numbers, kept_of_chain, FitsBlocks}
 use Rattle.dsp_stage.specs.Unit.{UnitState, turns_of}
 use Rattle.dsp_stage.specs.Row.{Place, place_after, blocks_of, InRow, AllCount, AllStand, row_turns}
 use Rattle.dsp_stage.proofs.ChannelKept.{append-apart, each-length, kinds-place}
-use Rattle.dsp_stage.proofs.KeptLaws.{kept_numbers-place}
+use Rattle.dsp_defs.proofs.KeptLaws.{kept_numbers-place}
 use Rattle.dsp_chain.specs.FrameRule.{rule_of, IsRule}
 use Rattle.dsp_chain.specs.KeptRule.{kept_rule, unit_rule, unit_rules, HaveGroups}
-use Rattle.dsp_chain.specs.Restored.{kept_by, FitsBlocks, FitsUnits, AllRestores}
+use Rattle.dsp_chain.specs.Restored.{kept_by, FitsUnits, AllRestores}
 use Rattle.dsp_chain.proofs.FrameRules.{is-rule}
 
 -- ---- units in their places

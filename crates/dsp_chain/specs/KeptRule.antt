@@ -1,6 +1,6 @@
 -- How many numbers the blocks of a chain keep.
 use Rattle.std.specs.Prelude.{ℕ, ◌+◌, ◌*◌, ◌%◌, ◌^◌, ◌<◌, min, List, [], ◌∷◌, map}
-use Rattle.dsp_stage.specs.Kept.{kept_count}
+use Rattle.dsp_defs.specs.Kept.{kept_count}
 use Rattle.dsp_stage.specs.Unit.{UnitState}
 use Rattle.dsp_defs.specs.declared.script.Block.{Block}
 use Rattle.dsp_defs.specs.declared.script.Block.TheVariants.{Decimate, Conv, ConvPartial, Correlate, MatAdd, MatSub, MatScale, MatTrans, MatMult, Max, Min}

@@ -1,13 +1,11 @@
 -- Save and resume of a chain: the numbers that it keeps, which numbers it can keep, and what it is with them.
 use Rattle.std.specs.Prelude.{◌≡◌, ℕ, ◌+◌, ◌≤◌, ◌^◌, ℤ, false, List, [], ◌∷◌, ◌++◌, length, flat_map, None}
-use Rattle.dsp_defs.specs.Block.{Frame, format_after, channels_after}
-use Rattle.dsp_stage.specs.Kept.{FitsAfter, kept_count, kept_of_chain}
+use Rattle.dsp_defs.specs.Block.{Frame}
+use Rattle.dsp_defs.specs.Kept.{FitsAfter, FitsBlocks, kept_of_chain}
 use Rattle.dsp_defs.specs.Shape.{live_frames, gathered}
 use Rattle.dsp_stage.specs.Unit.{UnitState, Restores}
 use Rattle.dsp_stage.specs.Row.{blocks_of}
-use Rattle.dsp_defs.specs.declared.format.Fmt.{Fmt}
 use Rattle.dsp_defs.specs.declared.limits.TheConstants.{MAX_GATHERED}
-use Rattle.dsp_defs.specs.declared.script.Block.{Block}
 use Rattle.dsp_chain.specs.Chain.{ChainState, ChainStandsFor, SameChain, IsLive}
 use Rattle.dsp_chain.specs.FrameRule.{rules_of, AreFew}
 use Rattle.dsp_chain.specs.KeptRule.{unit_rules, HaveGroups}
@@ -21,20 +19,7 @@ kept_by us = flat_map (λ (u : UnitState). u.kept) us
 abbrev pub kept_of : ChainState → List ℤ
 kept_of c = kept_by c.units
 
--- how many numbers the blocks keep of n frames, each of the live frames at its place
-abbrev pub kept_count_of_chain : Fmt → ℕ → List Block → ℕ → ℕ
-kept_count_of_chain format channels [] n = 0
-kept_count_of_chain format channels (block ∷ blocks) n =
-    kept_count format channels block n + kept_count_of_chain (format_after format block) (channels_after channels block) blocks (live_frames block n)
-
--- the numbers are such that the blocks can keep them of n frames, each of the live frames at its place
-abbrev pub FitsBlocks : Fmt → ℕ → List Block → ℕ → List ℤ → Type 0
-FitsBlocks format channels [] n numbers = numbers ≡ []
-FitsBlocks format channels (block ∷ blocks) n numbers =
-    (here later : List ℤ) × (numbers ≡ here ++ later) × FitsAfter format channels block n here
-    × FitsBlocks (format_after format block) (channels_after channels block) blocks (live_frames block n) later
-
--- and the chain can have been fed with so many
+-- the chain can have been fed with so many frames, and can keep these numbers of them
 pub record FitsChain (c : ChainState) (frames : ℕ) (numbers : List ℤ) : Type 0 where
   pub limit : frames ≤ 2 ^ 40
   pub gathers : gathered (blocks_of c.units) frames ≤ MAX_GATHERED

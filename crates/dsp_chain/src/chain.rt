@@ -80,10 +80,10 @@ impl<U: AnyUnit + Drop> Chain<U> {
     ghost use Rattle.dsp_defs.specs.declared.fault.WindowFault.{WindowFault};
     ghost use Rattle.dsp_stage.specs.Row.{Passes, place_room, blocks_of, measured_by};
     ghost use Rattle.dsp_stage.specs.Unit.{frames_in};
-    ghost use Rattle.dsp_chain.specs.Restored.{kept_of, kept_count_of_chain, FitsChain, RestoresChain};
+    ghost use Rattle.dsp_chain.specs.Restored.{kept_of, FitsChain, RestoresChain};
     ghost use Rattle.dsp_chain.specs.Row.{measure_counts};
     ghost use Rattle.dsp_defs.specs.Block.{Frame};
-    ghost use Rattle.dsp_stage.specs.Kept.{kept_of_chain};
+    ghost use Rattle.dsp_defs.specs.Kept.{kept_of_chain, kept_count_of_chain};
     ghost use Rattle.dsp_chain.specs.Chain.{ChainState, ChainStandsFor, output_of, IsTooMuch, FeedsChain, FailsChain, FinishesChain, input_place, IsNewChain};
     ghost use Rattle.dsp_defs.specs.declared.limits.TheConstants.{MAX_BLOCKS, MAX_CHANNELS, MAX_CORRELATES};
 

@@ -3,11 +3,11 @@ use Rattle.std.proofs.Common.{◌≡◌, ℕ, Bool, List, ◌++◌, Option, Some
 use Rattle.dsp_ports.specs.Ports.{SourceState, SinkState}
 use Rattle.dsp_defs.specs.Counts.{Counts}
 use Rattle.dsp_defs.specs.Output.{format_of, channels_of}
-use Rattle.dsp_defs.specs.Report.{done_line, frames_line, multiplies_line, measure_line, report_text}
+use Rattle.dsp_command.specs.Report.{done_line, frames_line, multiplies_line, measure_line, report_text}
 use Rattle.dsp_defs.specs.Shape.{frames_given}
-use Rattle.dsp_defs.specs.Words.{command_of}
-use Rattle.dsp_defs.specs.declared.command.Command.{Command}
-use Rattle.dsp_defs.specs.declared.command.Command.TheVariants.{Run, Gen}
+use Rattle.dsp_command.specs.Words.{command_of}
+use Rattle.dsp_command.specs.declared.command.Command.{Command}
+use Rattle.dsp_command.specs.declared.command.Command.TheVariants.{Run, Gen}
 use Rattle.dsp_defs.specs.declared.measure.Measure.{Measure}
 use Rattle.dsp_defs.specs.declared.script.Script.{Script}
 use Rattle.dsp_session.specs.Session.{cost_of}

@@ -5,7 +5,7 @@ use Rattle.std.specs.Io.KnownBytes.{append_known}
 use Rattle.std.specs.Prelude.{slice_get, Some}
 use Rattle.dsp_ports.specs.Ports.{SinkState, Rose, one_more, Took}
 use Rattle.dsp_ports.proofs.Moved.{append_known-append}
-use Rattle.dsp_defs.specs.Report.{measure_line}
+use Rattle.dsp_command.specs.Report.{measure_line}
 use Rattle.dsp_defs.specs.Streaming.{Begins}
 use Rattle.dsp_defs.specs.declared.measure.Measure.{Measure}
 use Rattle.dsp_cli.specs.Run.{Wrote, Tells}

@@ -1,9 +1,9 @@
 -- The commands, and the statuses that they may end with.
 use Rattle.std.proofs.Common.{◌≡◌, ◌≢◌, ◌⊎◌, ℕ, ◌≤◌, Bool, List, refl, sym, ◌∙◌, subst, arith, inl, inr, None, Some, Option, IsSome}
 use Rattle.dsp_ports.specs.Ports.{SinkState}
-use Rattle.dsp_defs.specs.Words.{command_of}
-use Rattle.dsp_defs.specs.declared.command.Command.{Command}
-use Rattle.dsp_defs.specs.declared.command.Command.TheVariants.{Run, Gen, Print, Convert}
+use Rattle.dsp_command.specs.Words.{command_of}
+use Rattle.dsp_command.specs.declared.command.Command.{Command}
+use Rattle.dsp_command.specs.declared.command.Command.TheVariants.{Run, Gen, Print, Convert}
 use Rattle.dsp_session.specs.declared.fault.StreamFault.{StreamFault}
 use Rattle.dsp_session.specs.declared.fault.StreamFault.TheVariants.{Header, Input, Output, Lengths}
 use Rattle.dsp_cli.specs.Fault.{status_of}

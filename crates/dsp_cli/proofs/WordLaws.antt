@@ -4,10 +4,10 @@ use Rattle.std.specs.Prelude.{codes}
 use Rattle.std.specs.Option.{option_map, option_and_then}
 use Rattle.std.specs.Str.{bytes_eq}
 use Rattle.std.proofs.lemmas.Bool.Decides.{nat_tests}
-use Rattle.dsp_defs.specs.Words.{count_of, is_name, are_run_names, are_gen_names, generating, running, direction_of, command_of}
+use Rattle.dsp_command.specs.Words.{count_of, is_name, are_run_names, are_gen_names, generating, running, direction_of, command_of}
 use Rattle.dsp_defs.specs.declared.au.Direction.{Direction}
-use Rattle.dsp_defs.specs.declared.command.Command.{Command}
-use Rattle.dsp_defs.specs.declared.command.Command.TheVariants.{Run, Gen, Print, Convert}
+use Rattle.dsp_command.specs.declared.command.Command.{Command}
+use Rattle.dsp_command.specs.declared.command.Command.TheVariants.{Run, Gen, Print, Convert}
 use Rattle.dsp_defs.specs.declared.limits.TheConstants.{MAX_GENERATED}
 use Rattle.dsp_cli.specs.Run.{MakesFew}
 

@@ -6,12 +6,12 @@ use Rattle.dsp_defs.specs.Counts.{Counts}
 use Rattle.dsp_defs.specs.Grammar.{Reads}
 use Rattle.dsp_defs.specs.Output.{output}
 use Rattle.dsp_defs.specs.Reading.{first_fault}
-use Rattle.dsp_defs.specs.Report.{report_text, converted_text}
+use Rattle.dsp_command.specs.Report.{report_text, converted_text}
 use Rattle.dsp_defs.specs.Shape.{unit}
-use Rattle.dsp_defs.specs.Words.{command_of}
+use Rattle.dsp_command.specs.Words.{command_of}
 use Rattle.dsp_defs.specs.declared.au.Direction.{Direction}
-use Rattle.dsp_defs.specs.declared.command.Command.{Command}
-use Rattle.dsp_defs.specs.declared.command.Command.TheVariants.{Gen, Print, Convert}
+use Rattle.dsp_command.specs.declared.command.Command.{Command}
+use Rattle.dsp_command.specs.declared.command.Command.TheVariants.{Gen, Print, Convert}
 use Rattle.dsp_defs.specs.declared.measure.Measure.{Measure}
 use Rattle.dsp_defs.specs.declared.script.Script.{Script}
 use Rattle.dsp_session.specs.Stream.{Done, Stopped as StreamStopped}

@@ -2,9 +2,9 @@
 use Rattle.std.specs.Prelude.{◌≡◌, ◌⊎◌, ℕ, Some, IsSome, IfSome, IsFalse}
 use Rattle.dsp_ports.specs.Ports.{SinkState, Rose}
 use Rattle.dsp_defs.specs.Reading.{first_fault}
-use Rattle.dsp_defs.specs.Words.{command_of}
+use Rattle.dsp_command.specs.Words.{command_of}
 use Rattle.dsp_defs.specs.declared.au.Direction.{Direction}
-use Rattle.dsp_defs.specs.declared.command.Command.TheVariants.{Convert}
+use Rattle.dsp_command.specs.declared.command.Command.TheVariants.{Convert}
 use Rattle.dsp_au.specs.Convert.{IsFree as IsConvertible}
 use Rattle.dsp_cli.specs.Call.{Call}
 use Rattle.dsp_cli.specs.Run.{HasText, HasBlocks, IsStream, IsPrint, IsAnswer, IsFree, IfWhole}

@@ -1,6 +1,6 @@
 -- What a run answers: a status, and the lines of its report.
 use Rattle.std.specs.Prelude.{ℕ, List, ◌++◌, codes, flat_map}
-use Rattle.dsp_defs.specs.Report.{usage_line, script_line, block_length_line, header_line, input_limit_line, gather_line, window_line, riff_line, au_line, script_read_line, input_read_line, output_line, memory_line, done_line, frames_line, multiplies_line, measure_line}
+use Rattle.dsp_command.specs.Report.{usage_line, script_line, block_length_line, header_line, input_limit_line, gather_line, window_line, riff_line, au_line, script_read_line, input_read_line, output_line, memory_line, done_line, frames_line, multiplies_line, measure_line}
 use Rattle.dsp_cli.specs.declared.fault.Fault.{Fault}
 use Rattle.dsp_cli.specs.declared.fault.Fault.TheVariants.{Usage, ScriptRead, Script, BlockLength, Memory, Stream, Conversion}
 use Rattle.dsp_au.specs.declared.fault.ConvertFault.TheVariants as convert_fault

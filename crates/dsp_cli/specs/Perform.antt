@@ -4,7 +4,7 @@ use Rattle.dsp_ports.specs.Ports.{SourceState, SinkState, one_more}
 use Rattle.dsp_defs.specs.Counts.{Counts}
 use Rattle.dsp_defs.specs.Grammar.{Reads}
 use Rattle.dsp_defs.specs.Reading.{first_fault}
-use Rattle.dsp_defs.specs.Report.{report_text}
+use Rattle.dsp_command.specs.Report.{report_text}
 use Rattle.dsp_defs.specs.Shape.{unit}
 use Rattle.dsp_defs.specs.declared.script.Script.{Script}
 use Rattle.dsp_session.specs.Stream.{Stopped as StreamStopped, Done}

@@ -5,9 +5,9 @@ use Rattle.dsp_ports.specs.Ports.{SourceState, SinkState, Rose, one_more, IsSett
 use Rattle.dsp_defs.specs.Generator.{generated_bytes}
 use Rattle.dsp_defs.specs.Output.{HasHeader, input_header}
 use Rattle.dsp_defs.specs.Shape.{window_at}
-use Rattle.dsp_defs.specs.Words.{command_of}
-use Rattle.dsp_defs.specs.declared.command.Command.{Command}
-use Rattle.dsp_defs.specs.declared.command.Command.TheVariants.{Run, Gen, Print, Convert}
+use Rattle.dsp_command.specs.Words.{command_of}
+use Rattle.dsp_command.specs.declared.command.Command.{Command}
+use Rattle.dsp_command.specs.declared.command.Command.TheVariants.{Run, Gen, Print, Convert}
 use Rattle.dsp_defs.specs.declared.format.Input.{Input}
 use Rattle.dsp_defs.specs.declared.limits.TheConstants.{MAX_GENERATED}
 use Rattle.dsp_defs.specs.declared.script.Script.{Script}

@@ -4,9 +4,9 @@ use Rattle.std.specs.Io.KnownBytes.{IsAtEnd}
 use Rattle.dsp_ports.specs.Ports.{SourceState, Gave}
 use Rattle.dsp_defs.specs.Grammar.{Reads}
 use Rattle.dsp_defs.specs.Shape.{is_legal, default_block}
-use Rattle.dsp_defs.specs.Words.{command_of}
-use Rattle.dsp_defs.specs.declared.command.Command.{Command}
-use Rattle.dsp_defs.specs.declared.command.Command.TheVariants.{Run}
+use Rattle.dsp_command.specs.Words.{command_of}
+use Rattle.dsp_command.specs.declared.command.Command.{Command}
+use Rattle.dsp_command.specs.declared.command.Command.TheVariants.{Run}
 use Rattle.dsp_defs.specs.declared.limits.TheConstants.{MAX_SCRIPT}
 use Rattle.dsp_defs.specs.declared.script.Script.{Script}
 

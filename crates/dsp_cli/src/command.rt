@@ -1,10 +1,11 @@
 ghost use Rattle.std.specs.Prelude.{◌≡◌, [], ◌∷◌};
-ghost use Rattle.dsp_defs.specs.Words.{are_gen_names, are_run_names, command_of, count_of, direction_of, generating, places_of, running};
+ghost use Rattle.dsp_command.specs.Words.{are_gen_names, are_run_names, command_of, count_of, direction_of, generating, places_of, running};
 ghost use Rattle.std.specs.Char.{is_ascii_digit};
 ghost use Rattle.std.specs.List.{list_all};
 
 use crate::words::Words;
-use dsp_defs::{Command, Direction, MAX_GENERATED, Places};
+use dsp_command::{Command, Places};
+use dsp_defs::{Direction, MAX_GENERATED};
 
 fn all_digits(word: &str) -> bool
     ensures { result ≡ list_all is_ascii_digit word.now }

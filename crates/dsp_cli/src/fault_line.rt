@@ -1,7 +1,7 @@
 //! The exit status and the one line of a run that isn't done.
 ghost use Rattle.std.specs.Prelude.{◌≡◌, ◌+◌, ◌≤◌, ◌++◌, [], length};
 ghost use Rattle.arrayvec.specs.ArrayVec.{array_vec_len};
-ghost use Rattle.dsp_defs.specs.Report.{output_line, au_line, au_text, block_length_line, header_line, header_text, kind_text, lengths_line, located, script_line};
+ghost use Rattle.dsp_command.specs.Report.{output_line, au_line, au_text, block_length_line, header_line, header_text, kind_text, lengths_line, located, script_line};
 ghost use Rattle.dsp_cli.specs.Fault.{fault_line, length_fault_line, status_of};
 
 use crate::fault::Fault;

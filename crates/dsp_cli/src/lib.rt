@@ -11,7 +11,7 @@ mod top;
 mod words;
 
 pub use command::places;
-pub use dsp_defs::Places;
+pub use dsp_command::Places;
 pub use fault_line::output_line;
 pub use top::run;
 pub use words::Words;

@@ -2,7 +2,7 @@
 ghost use Rattle.std.specs.Prelude.{◌≡◌, ◌+◌, ◌≤◌, ◌++◌, length, codes, decimal};
 ghost use Rattle.std.specs.Fmt.{signed_decimal};
 ghost use Rattle.arrayvec.specs.ArrayVec.{array_vec_len};
-ghost use Rattle.dsp_defs.specs.Report.{field};
+ghost use Rattle.dsp_command.specs.Report.{field};
 ghost use Rattle.dsp_defs.specs.Table.{format_name};
 
 use arrayvec::ArrayVec;

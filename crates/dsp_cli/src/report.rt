@@ -1,7 +1,7 @@
 //! The report of a run that is done. It is built in place and takes no memory.
 ghost use Rattle.std.specs.Prelude.{◌≡◌, ◌+◌, ◌≤◌, ◌++◌, [], length, vec_capacity};
 ghost use Rattle.arrayvec.specs.ArrayVec.{array_vec_len};
-ghost use Rattle.dsp_defs.specs.Report.{converted_line, converted_text, frames_line, multiplies_line};
+ghost use Rattle.dsp_command.specs.Report.{converted_line, converted_text, frames_line, multiplies_line};
 ghost use Rattle.dsp_chain.specs.Row.{measure_counts};
 ghost use Rattle.dsp_session.specs.Session.{measured};
 ghost use Rattle.dsp_cli.specs.Fault.{head_text};

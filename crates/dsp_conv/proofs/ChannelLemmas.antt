@@ -12,10 +12,10 @@ use Rattle.dsp_defs.specs.Signal.{sample}
 use Rattle.dsp_defs.specs.Streaming.{Continues, last_of}
 use Rattle.dsp_defs.specs.Shape.{whole_frames, live_frames}
 use Rattle.dsp_defs.specs.Cost as cost
-use Rattle.dsp_stage.specs.Kept.{Fixed, Each, IsPlace, IsOfKind, IsTaken, in_words, kinds_by, place_of, FitsChannel}
+use Rattle.dsp_defs.specs.Kept.{Fixed, Each, IsPlace, IsOfKind, IsTaken, in_words, kinds_by, place_of, FitsChannel}
 use Rattle.dsp_stage.specs.Filter.{FilterStandsFor, FilterCounts, FilterTook, FilterMadeAs, FilterFeeds, FilterFinishes, FilterRestores, IsNewFilter, filter_made, filter_room, of_channel}
 use Rattle.dsp_stage.proofs.ChannelKept.{words-placed}
-use Rattle.dsp_stage.proofs.KeptLaws.{Each-append}
+use Rattle.dsp_defs.proofs.KeptLaws.{Each-append}
 use Rattle.dsp_lanes.specs.Turns.{lane_turns}
 use Rattle.dsp_unit.specs.Making.{AreTaps}
 use Rattle.dsp_unit.proofs.LastPlace.{each-last, kinds-of, of-kinds, same-number}

@@ -10,7 +10,7 @@ use Rattle.dsp_defs.specs.Cost.{correlation_products}
 use Rattle.dsp_defs.specs.declared.limits.TheConstants.{MAX_GATHERED}
 use Rattle.dsp_defs.specs.declared.script.Block.{Block}
 use Rattle.dsp_defs.specs.declared.script.Block.TheVariants as Blocks
-use Rattle.dsp_stage.specs.Kept.{Each, IsPlace, IsOfKind, FitsChannel, in_words}
+use Rattle.dsp_defs.specs.Kept.{Each, IsPlace, IsOfKind, FitsChannel, in_words}
 use Rattle.dsp_stage.specs.Filter.{FilterStandsFor, FilterCounts, FilterTook, FilterFeeds, FilterFinishes, FilterRestores, IsNewFilter, filter_made}
 use Rattle.dsp_stage.proofs.ChannelKept.{words-placed, length-words}
 use Rattle.dsp_unit.specs.Making.{AreTaps}

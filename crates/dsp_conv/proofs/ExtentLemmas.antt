@@ -6,7 +6,7 @@ use Rattle.dsp_defs.specs.Formats.{word}
 use Rattle.dsp_defs.specs.Sums.{full_length}
 use Rattle.dsp_defs.specs.Shape.{whole_frames, live_frames}
 use Rattle.dsp_defs.specs.Cost.{live_block_cost, cost_so_far}
-use Rattle.dsp_stage.specs.Kept.{Fixed, flag, in_words, kinds_by, kept_of_channel}
+use Rattle.dsp_defs.specs.Kept.{Fixed, flag, in_words, kinds_by, kept_of_channel}
 use Rattle.dsp_stage.specs.Unit.{most_frames}
 use Rattle.dsp_defs.specs.Streaming.{last_of}
 use Rattle.dsp_conv.specs.declared.extent.Extent.{Extent}

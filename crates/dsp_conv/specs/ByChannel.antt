@@ -4,7 +4,7 @@ use Rattle.dsp_defs.specs.Sums.{full_length}
 use Rattle.dsp_defs.specs.Cost.{lane_turns, correlation_products}
 use Rattle.dsp_defs.specs.Shape.{group_of}
 use Rattle.dsp_stage.specs.Filter.{IsByChannel}
-use Rattle.dsp_stage.proofs.KeptLaws.{kept_of_channel-place}
+use Rattle.dsp_defs.proofs.KeptLaws.{kept_of_channel-place}
 use Rattle.dsp_unit.specs.Making.{AreTaps}
 use Rattle.dsp_unit.proofs.Units.{scaled, scaled-one, scaled-none, less-scaled, less-none}
 use Rattle.dsp_defs.specs.declared.format.Fmt.{Fmt}

@@ -4,7 +4,7 @@ use Rattle.dsp_defs.specs.Formats.{word}
 use Rattle.dsp_defs.specs.Signal.{sample}
 use Rattle.dsp_defs.specs.Streaming.{last_of, rows}
 use Rattle.dsp_defs.specs.Shape.{whole_frames, live_frames}
-use Rattle.dsp_stage.specs.Kept.{kept_of_channel}
+use Rattle.dsp_defs.specs.Kept.{kept_of_channel}
 use Rattle.dsp_stage.specs.Filter.{FilterState, of_channel, of_whole_channel}
 use Rattle.dsp_window.specs.Rolling.{Rolling}
 use Rattle.dsp_defs.specs.declared.limits.TheConstants.{MAX_TAPS}

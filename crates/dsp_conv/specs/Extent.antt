@@ -1,7 +1,7 @@
 -- Which values of a full convolution are given.
 use Rattle.std.specs.Prelude.{ℕ, zero, suc, ◌+◌, ◌-◌, min, ℤ, List}
 use Rattle.dsp_defs.specs.Sums.{full_length}
-use Rattle.dsp_stage.specs.Kept.{flag}
+use Rattle.dsp_defs.specs.Kept.{flag}
 use Rattle.dsp_conv.specs.declared.extent.Extent.{Extent}
 use Rattle.dsp_conv.specs.declared.extent.Extent.TheVariants.{Full, Within}
 use Rattle.dsp_defs.specs.declared.script.Block.{Block}

@@ -44,7 +44,7 @@ impl<T: OwnLanes> Correlate<T> {
     ghost use Rattle.dsp_defs.specs.declared.fault.GatherFull.{GatherFull};
     ghost use Rattle.dsp_defs.specs.declared.limits.TheConstants.{MAX_GATHERED, MAX_TAPS};
     ghost use Rattle.dsp_defs.specs.Formats.{word};
-    ghost use Rattle.dsp_stage.specs.Kept.{Each, IsOfKind, in_words};
+    ghost use Rattle.dsp_defs.specs.Kept.{Each, IsOfKind, in_words};
     ghost use Rattle.dsp_conv.specs.CorrelateState.{new_correlate, tail_of, made_of};
 
     /// A correlation that has taken nothing, with the taps `b[0]` to `b[T-1]`. `Length` where there are

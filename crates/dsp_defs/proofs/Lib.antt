@@ -19,3 +19,4 @@ pub mod FrameLemmas
 pub mod SampleLaws
 pub mod HeaderCoding
 pub mod AuLaws
+pub mod KeptLaws

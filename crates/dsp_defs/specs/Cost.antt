@@ -104,18 +104,19 @@ abbrev pub unit_turns : Bool → Fmt → ℕ → Block → ℕ → ℕ → ℕ
 unit_turns true format c (Biquad post_shift coefficients) m n = 5 * section_count format coefficients * (n - m) * lane_turns format c
 unit_turns banked format c block m n = block_turns format c block m n
 
--- the turn bound of a call in which a chain goes from m to n input frames: the sum over its blocks
-abbrev pub chain_turns : Fmt → ℕ → List Block → ℕ → ℕ → ℕ
-chain_turns format c [] m n = 0
-chain_turns format c (block ∷ blocks) m n =
-    block_turns format c block m n + chain_turns (format_after format block) (channels_after c block) blocks (live_frames block m) (live_frames block n)
+-- the turn bound of a call in which a chain, banked or not, goes from m to n input frames: the sum over its blocks
+abbrev pub chain_turns : Bool → Fmt → ℕ → List Block → ℕ → ℕ → ℕ
+chain_turns banked format c [] m n = 0
+chain_turns banked format c (block ∷ blocks) m n =
+    unit_turns banked format c block m n
+    + chain_turns banked (format_after format block) (channels_after c block) blocks (live_frames block m) (live_frames block n)
 
 -- the sum over the first calls of a run of n frames, each of `size` frames but for a shorter last one
-abbrev pub turns_of_calls : Fmt → ℕ → List Block → ℕ → ℕ → ℕ → ℕ
-turns_of_calls format c blocks size n zero = 0
-turns_of_calls format c blocks size n (suc i) =
-    turns_of_calls format c blocks size n i + chain_turns format c blocks (i * size) (min (suc i * size) n)
+abbrev pub turns_of_calls : Bool → Fmt → ℕ → List Block → ℕ → ℕ → ℕ → ℕ
+turns_of_calls banked format c blocks size n zero = 0
+turns_of_calls banked format c blocks size n (suc i) =
+    turns_of_calls banked format c blocks size n i + chain_turns banked format c blocks (i * size) (min (suc i * size) n)
 
 -- the turn bound of a whole run of n frames by calls of `size` frames
-abbrev pub turns : Fmt → ℕ → List Block → ℕ → ℕ → ℕ
-turns format c blocks size n = rest format c blocks n + turns_of_calls format c blocks size n (div_ceil n size)
+abbrev pub turns : Bool → Fmt → ℕ → List Block → ℕ → ℕ → ℕ
+turns banked format c blocks size n = rest format c blocks n + turns_of_calls banked format c blocks size n (div_ceil n size)

@@ -29,5 +29,8 @@ pub mod Grammar
 pub mod Places
 pub mod Reading
 pub mod Canon
-pub mod Words
-pub mod Report
+pub mod Kept
+pub mod KeptOfScript
+pub mod Sizes
+pub mod StateBytes
+pub mod StateFields

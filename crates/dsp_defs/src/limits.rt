@@ -62,3 +62,9 @@ pub const MAX_GENERATED: u32 = 16_777_216;
 
 /// The rate that a generated WAVE file says, in frames a second.
 pub const GENERATED_RATE: u32 = 48_000;
+
+/// The greatest number of bytes of a saved state: 2^30.
+pub const MAX_STATE: usize = 1_073_741_824;
+
+/// The greatest number of samples, of all channels, at any place of a script that is checked.
+pub const MAX_CHECKED: usize = 16_777_216;

@@ -2,8 +2,8 @@
 use Rattle.std.specs.Prelude.{◌≡◌, ◌⊎◌, ℕ, List, [], Option, Some, None, get_or, unwrap_or}
 use Rattle.dsp_ports.specs.Ports.{SinkState}
 use Rattle.dsp_defs.specs.Counts.{Counts}
-use Rattle.dsp_defs.specs.Words.{places_of}
-use Rattle.dsp_defs.specs.declared.command.Places.{Places}
+use Rattle.dsp_command.specs.Words.{places_of}
+use Rattle.dsp_command.specs.declared.command.Places.{Places}
 use Rattle.dsp_cli.specs.Call.{Ended, call}
 use Rattle.dsp_files.specs.Files.{FileInput, FileOutput, input_state, output_state, new_sink}
 

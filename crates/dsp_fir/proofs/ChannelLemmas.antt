@@ -8,7 +8,7 @@ use Rattle.dsp_defs.specs.Formats.{word, lanes}
 use Rattle.dsp_defs.specs.Streaming.{Continues}
 use Rattle.dsp_defs.specs.Counts.{Counts}
 use Rattle.dsp_defs.specs.Cost as cost
-use Rattle.dsp_stage.specs.Kept.{kept_of_channel, FitsChannel}
+use Rattle.dsp_defs.specs.Kept.{kept_of_channel, FitsChannel}
 use Rattle.dsp_stage.specs.Filter.{FilterFeeds, FilterRestores, IsNewFilter, of_channel, steady_filter}
 use Rattle.dsp_stage.proofs.SampleFilters.{sample-new, sample-fed, sample-restored, sample-fits, fits-sample}
 use Rattle.dsp_lanes.specs.Turns.{lane_turns}

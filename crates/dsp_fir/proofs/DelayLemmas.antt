@@ -23,7 +23,7 @@ use Rattle.std.proofs.lemmas.List.{length-append}
 use Rattle.dsp_lanes.specs.Turns.{RisesWithin}
 use Rattle.dsp_defs.specs.Counts.{Counts}
 use Rattle.dsp_fir.specs.Delays.{greatest_delay, delays_fault, delayed_sum, sparse_rows}
-use Rattle.dsp_stage.specs.Kept.{greatest}
+use Rattle.dsp_defs.specs.Kept.{greatest}
 use Rattle.dsp_fir.specs.ByChannel.{IsWindowIn}
 use Rattle.dsp_defs.specs.declared.script.Block.TheVariants.{Sparse}
 use Rattle.dsp_defs.specs.declared.fault.MakeFault.{MakeFault}

@@ -3,11 +3,11 @@ use Rattle.std.specs.Prelude.{ℕ, suc, ◌-◌, ◌*◌, ◌≡◌, ◌≤◌, 
 use Rattle.std.proofs.Common.{arith}
 use Rattle.std.proofs.lemmas.Int.{ints}
 use Rattle.std.proofs.Math.Nat.{max-le}
-use Rattle.dsp_stage.specs.Kept.{greatest}
+use Rattle.dsp_defs.specs.Kept.{greatest}
 use Rattle.dsp_defs.specs.declared.limits.TheConstants.{MAX_DELAY}
 use Rattle.dsp_unit.specs.Making.{AreTaps}
 use Rattle.dsp_defs.specs.Cost.{lane_turns}
-use Rattle.dsp_stage.proofs.KeptLaws.{kept_of_channel-place}
+use Rattle.dsp_defs.proofs.KeptLaws.{kept_of_channel-place}
 use Rattle.dsp_unit.proofs.Units.{scaled}
 use Rattle.dsp_fir.specs.WindowState.{IsWindowBlock}
 use Rattle.dsp_defs.specs.declared.format.Fmt.{Fmt}

@@ -5,7 +5,7 @@ use Rattle.dsp_defs.specs.Shape.{group_of}
 use Rattle.dsp_defs.specs.Streaming.{last_of}
 use Rattle.dsp_defs.specs.declared.limits.TheConstants.{MAX_DELAY}
 use Rattle.dsp_stage.specs.Filter.{FilterState, steady_filter}
-use Rattle.dsp_stage.specs.Kept.{greatest, kept_of_channel}
+use Rattle.dsp_defs.specs.Kept.{greatest, kept_of_channel}
 use Rattle.dsp_stage.proofs.SampleFilters.{IsSampleBlock}
 use Rattle.dsp_defs.specs.declared.format.Fmt.{Fmt}
 use Rattle.dsp_defs.specs.declared.script.Block.{Block}

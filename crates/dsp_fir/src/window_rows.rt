@@ -2,7 +2,7 @@ ghost use Rattle.std.specs.Prelude.{◌≡◌, ◌≤◌, ◌+◌, ◌*◌, ◌+
 ghost use Rattle.dsp_defs.specs.Streaming.{Continues};
 ghost use Rattle.dsp_lanes.specs.Turns.{RisesWithin, lane_turns};
 ghost use Rattle.dsp_stage.specs.Filter.{of_channel};
-ghost use Rattle.dsp_stage.specs.Kept.{kept_of_channel};
+ghost use Rattle.dsp_defs.specs.Kept.{kept_of_channel};
 ghost use Rattle.dsp_fir.specs.ByChannel.{IsWindowIn};
 ghost use Rattle.dsp_fir.specs.WindowState.{block_of, past_count, tap_count};
 

@@ -7,7 +7,7 @@ use Rattle.dsp_defs.specs.Formats.{word}
 use Rattle.dsp_defs.specs.Parameters.{IsBetween, least, greatest}
 use Rattle.dsp_defs.specs.Signal.{sample}
 use Rattle.dsp_defs.specs.Counts.{Counts}
-use Rattle.dsp_stage.specs.Kept.{limit_of}
+use Rattle.dsp_defs.specs.Kept.{limit_of}
 use Rattle.dsp_stage.specs.Unit.{UnitState, MadeAs, CountsFrames, IsSignal, Accepts, Feeds, most_frames, room_of}
 use Rattle.dsp_defs.specs.Block.{Frame, channels_after}
 use Rattle.dsp_defs.proofs.FrameLemmas.{length-frames_in}

@@ -41,7 +41,7 @@ impl<W: FrameWork + Drop> Model for Memoryless<W> {
 
 impl<W: FrameWork + Drop> Memoryless<W> {
     ghost use Rattle.std.specs.Prelude.{◌≡◌, ◌≤◌, ◌*◌, ◌↔◌, ℕ, ℤ, List, [], IfOk, IsFalse};
-    ghost use Rattle.dsp_stage.specs.Kept.{Fits, FitsAfter, place_of};
+    ghost use Rattle.dsp_defs.specs.Kept.{Fits, FitsAfter, place_of};
     ghost use Rattle.dsp_defs.specs.Grammar.{Suits};
     ghost use Rattle.dsp_stage.specs.Unit.{IsNew, Restores, measures_of};
 

@@ -9,7 +9,7 @@ use Rattle.dsp_defs.specs.Shape.{gathered}
 use Rattle.dsp_defs.specs.declared.limits.TheConstants.{MAX_GATHERED}
 use Rattle.dsp_defs.specs.declared.script.Script.{Script}
 use Rattle.dsp_stage.specs.Row.{place_behind, place_room}
-use Rattle.dsp_chain.specs.Keeping.{kept, kept_count}
+use Rattle.dsp_defs.specs.KeptOfScript.{kept, kept_count}
 use Rattle.dsp_session.specs.Session.{Holds, StandsFor, call_room, input_coding, signal}
 use Rattle.dsp_session.specs.SessionState.{SessionState}
 use Rattle.dsp_session.proofs.FeedLaws.{feed_out}

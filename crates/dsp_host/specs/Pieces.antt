@@ -11,7 +11,7 @@ use Rattle.dsp_defs.specs.declared.limits.TheConstants.{MAX_GATHERED, MAX_INPUT}
 use Rattle.dsp_defs.specs.declared.script.Script.{Script}
 use Rattle.dsp_stage.specs.Row.{place_behind, place_room}
 use Rattle.dsp_chain.specs.Chain.{input_place}
-use Rattle.dsp_chain.specs.Keeping.{Fits, kept, kept_count}
+use Rattle.dsp_defs.specs.KeptOfScript.{Fits, kept, kept_count}
 use Rattle.dsp_session.specs.Advancing.{Runs}
 use Rattle.dsp_session.specs.Session.{StandsFor, Feeds, Fails, SameSession, frame_bytes, input_coding, signal}
 use Rattle.dsp_session.specs.SessionState.{SessionState}

@@ -1,7 +1,7 @@
 ghost use Rattle.std.specs.Prelude.{◌≡◌, ◌+◌, ◌*◌, ◌^◌, ◌<◌, ◌≤◌, ◌↔◌, ◌++◌, ℕ, List, [], length, take, drop, IfOk, IfErr, IfSome, IfNone, IsFalse, IsTrue};
 ghost use Rattle.dsp_defs.specs.Block.{Frame};
 ghost use Rattle.dsp_defs.specs.declared.fault.GatherFull.{GatherFull};
-ghost use Rattle.dsp_chain.specs.Keeping.{kept, kept_count};
+ghost use Rattle.dsp_defs.specs.KeptOfScript.{kept, kept_count};
 ghost use Rattle.dsp_input.specs.Taking.{frame_bytes};
 ghost use Rattle.dsp_session.specs.Advancing.{Runs};
 ghost use Rattle.dsp_session.specs.Session.{StandsFor, Feeds, Fails, SameSession, signal};

@@ -11,7 +11,7 @@ use Rattle.dsp_defs.specs.Numbers.{◌>>◌, Width, saturate, wrap, w32, w64}
 use Rattle.dsp_defs.specs.Formats.{word, word_bits, accumulator, close}
 use Rattle.dsp_defs.specs.Signal.{sample, sum_below, outputs}
 use Rattle.dsp_defs.specs.Lattice.{reflected, backward_values, ladder_close, ladder_sum, ladder_output, lattice_iir}
-use Rattle.dsp_stage.specs.Kept.{ladder_kept}
+use Rattle.dsp_defs.specs.Kept.{ladder_kept}
 use Rattle.dsp_defs.specs.Streaming.{GoesOn, Continues}
 use Rattle.dsp_stage.proofs.GoingOn.{outputs-next, reverse-more}
 use Rattle.dsp_sat.proofs.Words.{abs_within}

@@ -12,7 +12,7 @@ use Rattle.std.proofs.Math.ListN.{get_or-map}
 use Rattle.dsp_defs.specs.Numbers.{◌>>◌, saturate}
 use Rattle.dsp_defs.specs.Signal.{sample}
 use Rattle.dsp_defs.specs.Lattice.{lattice_output, lattice_stage, lattice_fir}
-use Rattle.dsp_stage.specs.Kept.{latest, lattice_kept}
+use Rattle.dsp_defs.specs.Kept.{latest, lattice_kept}
 use Rattle.dsp_defs.specs.Streaming.{GoesOn}
 use Rattle.dsp_stage.proofs.GoingOn.{goes-nothing, goes-twice, goes-chain, outputs-next, latest-new}
 use Rattle.dsp_lanes.specs.Reflected.{reflected}

@@ -5,9 +5,9 @@ use Rattle.std.proofs.lemmas.List.{length-replicate}
 use Rattle.dsp_defs.specs.Numbers.{◌>>◌, wrap, w32}
 use Rattle.dsp_defs.specs.Formats.{word}
 use Rattle.dsp_defs.specs.Lattice.{lattice_stage}
-use Rattle.dsp_stage.specs.Kept.{InWord, latest, lattice_kept, ladder_kept}
+use Rattle.dsp_defs.specs.Kept.{InWord, latest, lattice_kept, ladder_kept}
 use Rattle.dsp_stage.specs.Filter.{IsSteady, IsStepwise}
-use Rattle.dsp_stage.proofs.KeptLaws.{kept_of_channel-place}
+use Rattle.dsp_defs.proofs.KeptLaws.{kept_of_channel-place}
 use Rattle.dsp_stage.proofs.ChannelKept.{words-placed}
 use Rattle.dsp_unit.proofs.Units.{scaled, less-scaled}
 use Rattle.dsp_defs.specs.declared.limits.TheConstants.{MAX_STAGES}

@@ -18,7 +18,7 @@ pub type FirLattice15 = FirLattice<i16>;
 impl<T: NarrowSample> FirLattice<T> {
     ghost use Rattle.std.specs.Prelude.{◌≡◌, ◌≤◌, ◌+◌, ◌*◌, ◌↔◌, true, IfOk, IfErr, IsFalse, IsTrue, MatchOption, length, map, take, drop};
     ghost use Rattle.dsp_stage.specs.Filter.{FilterFeeds, FilterRestores, IsNewFilter};
-    ghost use Rattle.dsp_stage.specs.Kept.{kinds_by, Each, IsOfKind};
+    ghost use Rattle.dsp_defs.specs.Kept.{kinds_by, Each, IsOfKind};
     ghost use Rattle.dsp_defs.specs.declared.script.Block.TheVariants.{LatticeFir};
     ghost use Rattle.dsp_lattice.specs.LatticeState.{coefficients_of};
     ghost use Rattle.dsp_lattice.specs.Making.{fir_lattice_fault};

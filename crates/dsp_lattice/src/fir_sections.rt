@@ -1,7 +1,7 @@
 ghost use Rattle.std.specs.Prelude.{◌≡◌, ◌≤◌, ◌*◌, length, map};
 ghost use Rattle.std.specs.List.{zip};
 ghost use Rattle.dsp_defs.specs.Counts.{Rises};
-ghost use Rattle.dsp_stage.specs.Kept.{lattice_kept};
+ghost use Rattle.dsp_defs.specs.Kept.{lattice_kept};
 ghost use Rattle.dsp_defs.specs.Lattice.{lattice_fir};
 ghost use Rattle.dsp_defs.specs.Streaming.{GoesOn};
 ghost use Rattle.dsp_lattice.specs.LatticeState.{sections_give, filter_kept};

@@ -16,7 +16,7 @@ pub struct IirLattice<T: LatticeSample> {
 impl<T: LatticeSample> IirLattice<T> {
     ghost use Rattle.std.specs.Prelude.{◌≡◌, ◌≤◌, ◌+◌, ◌*◌, ◌↔◌, true, IfOk, IfErr, IsFalse, IsTrue, MatchOption, length, map, take, drop};
     ghost use Rattle.dsp_stage.specs.Filter.{FilterFeeds, FilterRestores, IsNewFilter};
-    ghost use Rattle.dsp_stage.specs.Kept.{kinds_by, Each, IsOfKind};
+    ghost use Rattle.dsp_defs.specs.Kept.{kinds_by, Each, IsOfKind};
     ghost use Rattle.dsp_defs.specs.declared.script.Block.TheVariants.{LatticeIir};
     ghost use Rattle.dsp_lattice.specs.LatticeState.{coefficients_of};
     ghost use Rattle.dsp_lattice.specs.Making.{iir_lattice_fault};

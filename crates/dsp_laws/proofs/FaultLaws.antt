@@ -1,7 +1,7 @@
 -- Which fault has a status, and what is so of the script where one of its faults has it.
 use Rattle.std.proofs.Common.{◌≡◌, ◌⊎◌, ℕ, refl, subst, arith, inl, inr, Some, IsFalse}
 use Rattle.dsp_ports.specs.Ports.{SinkState, one_more}
-use Rattle.dsp_defs.specs.Report.{block_length_line, header_line, script_line}
+use Rattle.dsp_command.specs.Report.{block_length_line, header_line, script_line}
 use Rattle.dsp_defs.specs.Shape.{unit}
 use Rattle.dsp_defs.specs.declared.script.Script.{Script}
 use Rattle.dsp_defs.specs.declared.script_fault.ScriptFault.{ScriptFault}
@@ -16,8 +16,8 @@ use Rattle.dsp_cli.specs.declared.fault.Fault.{Fault}
 use Rattle.dsp_cli.specs.declared.fault.Fault.TheVariants.{Usage, ScriptRead, Script as BadText, BlockLength, Stream, Conversion}
 use Rattle.dsp_au.specs.declared.fault.ConvertFault.TheVariants as convert_fault
 use Rattle.dsp_defs.specs.declared.au.Direction.{Direction}
-use Rattle.dsp_defs.specs.declared.command.Command.TheVariants.{Convert}
-use Rattle.dsp_defs.specs.Words.{command_of}
+use Rattle.dsp_command.specs.declared.command.Command.TheVariants.{Convert}
+use Rattle.dsp_command.specs.Words.{command_of}
 use Rattle.dsp_cli.proofs.StatusLaws.{reports_done, stream_text, stream_output, conversion_status}
 use Rattle.dsp_cli.proofs.Told.{told_script}
 use Rattle.dsp_laws.specs.Stands.{IsStopped}

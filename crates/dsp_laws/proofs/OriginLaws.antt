@@ -3,9 +3,9 @@ use Rattle.std.proofs.Common.{◌≡◌, ◌⊎◌, ◌+◌, ◌^◌, ◌<◌, �
 use Rattle.dsp_ports.specs.Ports.{SourceState, SinkState, Gave, one_more}
 use Rattle.dsp_defs.specs.Output.{header_by, input_header, wanted_of}
 use Rattle.dsp_defs.specs.Reading.{first_fault}
-use Rattle.dsp_defs.specs.Report.{header_line}
-use Rattle.dsp_defs.specs.Words.{command_of}
-use Rattle.dsp_defs.specs.declared.command.Command.{Command}
+use Rattle.dsp_command.specs.Report.{header_line}
+use Rattle.dsp_command.specs.Words.{command_of}
+use Rattle.dsp_command.specs.declared.command.Command.{Command}
 use Rattle.dsp_defs.specs.declared.format.InputKind.{InputKind}
 use Rattle.dsp_defs.specs.declared.format.InputKind.TheVariants.{Raw, Wave}
 use Rattle.dsp_defs.specs.declared.measure.Measure.{Measure}

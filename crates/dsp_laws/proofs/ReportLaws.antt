@@ -3,8 +3,8 @@ use Rattle.std.proofs.Common.{◌≡◌, ℕ, List, refl, sym, ap, ◌∙◌, su
 use Rattle.dsp_ports.specs.Ports.{SourceState, SinkState, IsSettled}
 use Rattle.dsp_defs.specs.Canon.{canon}
 use Rattle.dsp_defs.specs.Reading.{first_fault}
-use Rattle.dsp_defs.specs.Report.{script_line}
-use Rattle.dsp_defs.specs.Words.{command_of}
+use Rattle.dsp_command.specs.Report.{script_line}
+use Rattle.dsp_command.specs.Words.{command_of}
 use Rattle.dsp_defs.specs.declared.script.Script.{Script}
 use Rattle.dsp_defs.specs.declared.script_fault.ScriptFault.{ScriptFault}
 use Rattle.dsp_session.specs.declared.fault.StreamFault.TheVariants.{Header, Input, Output, Lengths}

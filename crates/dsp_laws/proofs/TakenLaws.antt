@@ -4,7 +4,7 @@ use Rattle.std.proofs.lemmas.List.{take_at}
 use Rattle.std.specs.Option.{option_map}
 use Rattle.std.specs.Io.KnownBytes.{prepend_known}
 use Rattle.dsp_ports.specs.Ports.{SourceState, Gave}
-use Rattle.dsp_defs.specs.Words.{command_of}
+use Rattle.dsp_command.specs.Words.{command_of}
 use Rattle.dsp_defs.specs.declared.script.Script.{Script}
 use Rattle.dsp_session.specs.Session.{cost_of}
 use Rattle.dsp_session.specs.Stream.{frames_in_bytes}

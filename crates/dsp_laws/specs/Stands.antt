@@ -2,10 +2,10 @@
 use Rattle.std.specs.Prelude.{◌≡◌, ◌⊎◌, ◌+◌, ◌-◌, ◌/◌, ◌^◌, ◌≤◌, ℕ, List, length, None, Some}
 use Rattle.dsp_ports.specs.Ports.{SourceState, SinkState}
 use Rattle.dsp_defs.specs.Output.{HasHeader, input_header, known_frames, output, part as part_of}
-use Rattle.dsp_defs.specs.Report.{input_limit_line, gather_line, window_line, riff_line, report_text}
+use Rattle.dsp_command.specs.Report.{input_limit_line, gather_line, window_line, riff_line, report_text}
 use Rattle.dsp_defs.specs.Shape.{gathered, window_at}
 use Rattle.dsp_defs.specs.Streaming.{Begins}
-use Rattle.dsp_defs.specs.Words.{command_of}
+use Rattle.dsp_command.specs.Words.{command_of}
 use Rattle.dsp_defs.specs.declared.limits.TheConstants.{MAX_GATHERED, MAX_RIFF_SIZE}
 use Rattle.dsp_defs.specs.declared.measure.Measure.{Measure}
 use Rattle.dsp_defs.specs.declared.script.Script.{Script}

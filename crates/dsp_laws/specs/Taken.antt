@@ -5,8 +5,8 @@ use Rattle.dsp_ports.specs.Ports.{SourceState}
 use Rattle.dsp_defs.specs.Bytes.{coding_of}
 use Rattle.dsp_defs.specs.Output.{input_signal}
 use Rattle.dsp_defs.specs.Wave.{file_coding}
-use Rattle.dsp_defs.specs.declared.command.Command.{Command}
-use Rattle.dsp_defs.specs.declared.command.Command.TheVariants.{Gen}
+use Rattle.dsp_command.specs.declared.command.Command.{Command}
+use Rattle.dsp_command.specs.declared.command.Command.TheVariants.{Gen}
 use Rattle.dsp_defs.specs.declared.format.Coding.{Coding}
 use Rattle.dsp_defs.specs.declared.format.Container.TheVariants as container
 use Rattle.dsp_defs.specs.declared.format.Input.{Input}

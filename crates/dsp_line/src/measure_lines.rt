@@ -1,7 +1,7 @@
 //! The line of a measure in a report. It is built in place and takes no memory.
 ghost use Rattle.std.specs.Prelude.{◌≡◌, ◌+◌, ◌≤◌, ◌++◌, length};
 ghost use Rattle.arrayvec.specs.ArrayVec.{array_vec_len};
-ghost use Rattle.dsp_defs.specs.Report.{channel_text, extreme_line, found_text, measure_line, sums_line};
+ghost use Rattle.dsp_command.specs.Report.{channel_text, extreme_line, found_text, measure_line, sums_line};
 
 use crate::{integer, natural, text};
 use arrayvec::ArrayVec;

@@ -11,7 +11,7 @@ use Rattle.dsp_defs.specs.Shape.{live_frames}
 use Rattle.dsp_defs.specs.Cost.{live_block_cost, block_turns}
 use Rattle.dsp_defs.specs.Streaming.{Continues}
 use Rattle.dsp_defs.specs.Counts.{Counts}
-use Rattle.dsp_stage.specs.Kept.{kept_of_channel, kinds_by, in_words, Each, IsPlace, IsOfKind, FitsChannel, place_of}
+use Rattle.dsp_defs.specs.Kept.{kept_of_channel, kinds_by, in_words, Each, IsPlace, IsOfKind, FitsChannel, place_of}
 use Rattle.dsp_stage.specs.Unit.{most_frames, most_room}
 use Rattle.dsp_stage.specs.Filter.{FilterStandsFor, FilterCounts, FilterFeeds, FilterFinishes, FilterRestores, IsNewFilter, of_channel, steady_filter}
 use Rattle.dsp_stage.proofs.ChannelKept.{words-placed, length-words, fit-words}

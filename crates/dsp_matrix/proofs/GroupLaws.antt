@@ -10,7 +10,7 @@ use Rattle.std.proofs.Math.Seq.{drop-append-add}
 use Rattle.dsp_defs.specs.Signal.{values}
 use Rattle.dsp_defs.specs.Streaming.{Continues}
 use Rattle.dsp_defs.specs.Matrix.{each_group}
-use Rattle.dsp_stage.specs.Kept.{open_group}
+use Rattle.dsp_defs.specs.Kept.{open_group}
 use Rattle.dsp_defs.proofs.Signal.{values_cong, values-add}
 use Rattle.dsp_matrix.specs.Groups.{Group, given_group, given_groups, left_open}
 use Rattle.dsp_defs.proofs.BlockLaws.{length-values}

@@ -6,7 +6,7 @@ use Rattle.dsp_defs.specs.declared.limits.TheConstants.{MAX_MATRIX_SIDE}
 use Rattle.dsp_defs.specs.Formats.{word}
 use Rattle.dsp_defs.specs.Signal.{values}
 use Rattle.dsp_defs.specs.Matrix.{each_group}
-use Rattle.dsp_stage.specs.Kept.{open_group, IsTaken, in_words, kept_of_channel, kinds_by, place_of}
+use Rattle.dsp_defs.specs.Kept.{open_group, IsTaken, in_words, kept_of_channel, kinds_by, place_of}
 use Rattle.dsp_defs.specs.Shape.{group_of, live_frames, whole_frames}
 use Rattle.dsp_defs.specs.Cost.{live_block_cost, block_turns}
 use Rattle.dsp_defs.specs.Counts.{Counts}

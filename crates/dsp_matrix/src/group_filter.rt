@@ -1,6 +1,6 @@
 ghost use Rattle.std.specs.Prelude.{◌≡◌, ◌≤◌, ◌<◌, ◌+◌, ◌*◌, ◌/◌, ◌++◌, ◌↔◌, IsTrue, length, map, take, drop};
 ghost use Rattle.dsp_defs.specs.Formats.{word};
-ghost use Rattle.dsp_stage.specs.Kept.{Each, IsOfKind, in_words};
+ghost use Rattle.dsp_defs.specs.Kept.{Each, IsOfKind, in_words};
 ghost use Rattle.dsp_matrix.specs.Groups.{given_group, given_groups, left_open, RisesJust, given_count, product_count};
 
 use crate::GroupWork;
@@ -191,7 +191,7 @@ fn are_open<T: Sample, W: GroupWork<T>>(work: &W, numbers: &[i64]) -> bool
 impl<T: Sample, W: GroupWork<T> + Drop> GroupFilter<T, W> {
     ghost use Rattle.std.specs.Prelude.{◌≡◌, ◌≤◌, ◌<◌, ◌+◌, ◌*◌, ◌/◌, ◌++◌, ◌↔◌, ℕ, [], true, IfOk, IsFalse, IsTrue, length, map, take, drop};
     ghost use Rattle.dsp_stage.specs.Filter.{FilterFeeds, FilterFinishes, FilterRestores, IsNewFilter};
-    ghost use Rattle.dsp_stage.specs.Kept.{FitsChannel};
+    ghost use Rattle.dsp_defs.specs.Kept.{FitsChannel};
     ghost use Rattle.dsp_stage.specs.Unit.{most_frames};
     ghost use Rattle.dsp_matrix.specs.Groups.{given_count, given_groups, left_open, product_count};
 

@@ -9,7 +9,7 @@ use Rattle.dsp_defs.specs.Numbers.{w32}
 use Rattle.dsp_defs.specs.Signal.{sample}
 use Rattle.dsp_defs.specs.declared.format.Fmt.{Fmt}
 use Rattle.dsp_defs.specs.declared.format.Fmt.TheVariants.{Q7, Q15, Q31}
-use Rattle.dsp_stage.specs.Kept.{Each, IsOfKind, extreme_kept, extreme_kinds}
+use Rattle.dsp_defs.specs.Kept.{Each, IsOfKind, extreme_kept, extreme_kinds}
 use Rattle.dsp_measure.specs.Extremes.{wins, extreme, better_behind, ExtremeState, extreme_of, IsFew, IsFound, KeepsExtreme}
 
 -- ---- which wins

@@ -11,8 +11,8 @@ use Rattle.dsp_defs.specs.Measure.{dot, cmplx_dot_sums, maximum, minimum}
 use Rattle.dsp_defs.specs.Signal.{sample}
 use Rattle.dsp_defs.specs.declared.format.Fmt.{Fmt}
 use Rattle.dsp_stage.specs.Channels.{samples_in, numbers_in}
-use Rattle.dsp_stage.specs.Kept
-use Rattle.dsp_stage.specs.Kept.{Each, IsOfKind, in_words, kinds_by, kept_kinds, kept_numbers, extreme_kept, extreme_kinds}
+use Rattle.dsp_defs.specs.Kept
+use Rattle.dsp_defs.specs.Kept.{Each, IsOfKind, in_words, kinds_by, kept_kinds, kept_numbers, extreme_kept, extreme_kinds}
 use Rattle.dsp_stage.specs.Unit.{frames_in}
 use Rattle.dsp_stage.proofs.ChannelFrames.{channel-frames_in, channel-more, length-samples_in}
 use Rattle.dsp_stage.proofs.ChannelKept.{length-words, length-pieces, pieces-apart, pieces-same, pieces-each, each-pieces, each-length, numbers-in_pieces, length-numbers_in}

@@ -8,7 +8,7 @@ use Rattle.dsp_defs.specs.declared.format.Fmt.{Fmt}
 use Rattle.dsp_defs.specs.declared.format.Fmt.TheVariants.{Q31}
 use Rattle.dsp_defs.specs.declared.measure.Measure.TheVariants as Measures
 use Rattle.dsp_stage.specs.Channels.{numbers_in}
-use Rattle.dsp_stage.specs.Kept.{Each, IsOfKind, FitsAfter, extreme_kinds, kept_extreme, kept_measures}
+use Rattle.dsp_defs.specs.Kept.{Each, IsOfKind, FitsAfter, extreme_kinds, kept_extreme, kept_measures}
 use Rattle.dsp_stage.proofs.ChannelKept.{each-length}
 use Rattle.dsp_measure.specs.Extremes.{KeepsExtreme}
 use Rattle.dsp_measure.specs.Measures.{block_of, parts_of}

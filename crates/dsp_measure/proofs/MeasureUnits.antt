@@ -15,7 +15,7 @@ use Rattle.dsp_defs.specs.declared.format.Fmt.{Fmt}
 use Rattle.dsp_defs.specs.declared.format.Fmt.TheVariants.{Q7, Q15, Q31}
 use Rattle.dsp_defs.specs.declared.script.Block.{Block}
 use Rattle.dsp_stage.specs.Channels.{numbers_in}
-use Rattle.dsp_stage.specs.Kept.{Each, IsPlace, IsOfKind, IsTaken, Fits, FitsAfter, HasPlace, kinds_by, kept_kinds, kept_numbers, extreme_kinds, limit_of}
+use Rattle.dsp_defs.specs.Kept.{Each, IsPlace, IsOfKind, IsTaken, Fits, FitsAfter, HasPlace, kinds_by, kept_kinds, kept_numbers, extreme_kinds, limit_of}
 use Rattle.dsp_stage.specs.Unit.{UnitState, MadeAs, StandsFor, CountsFrames, Feeds, Restores, Accepts, IsNew, IsSignal, IsOutput, frames_in, room_of, most_frames, most_kept}
 use Rattle.dsp_defs.proofs.FrameLemmas.{length-frames_in}
 use Rattle.dsp_stage.proofs.ChannelKept.{kinds-place, each-length, pieces-same, pieces-each}

@@ -8,7 +8,7 @@ use Rattle.dsp_defs.specs.declared.format.Fmt.{Fmt}
 use Rattle.dsp_defs.specs.declared.script.Block.{Block}
 use Rattle.dsp_defs.specs.declared.script.Block.TheVariants.{Max}
 use Rattle.dsp_defs.proofs.FrameLemmas.{length-frames_in}
-use Rattle.dsp_stage.specs.Kept.{limit_of}
+use Rattle.dsp_defs.specs.Kept.{limit_of}
 use Rattle.dsp_stage.specs.Unit.{Accepts, CountsFrames, IsNew, IsSignal, UnitState, frames_in}
 
 module _ (b : Block) (format : Fmt) (channels frames : ℕ) (u : UnitState) (samples : List ℤ) (is : IsNew b format channels frames u) where

@@ -4,7 +4,7 @@ use Rattle.dsp_defs.specs.Formats.{word}
 use Rattle.dsp_defs.specs.Measure.{better_of}
 use Rattle.dsp_defs.specs.declared.format.Fmt.{Fmt}
 use Rattle.dsp_defs.specs.declared.script.Block.TheVariants.{Max}
-use Rattle.dsp_stage.specs.Kept.{Each, IsOfKind, IsTaken, extreme_kinds}
+use Rattle.dsp_defs.specs.Kept.{Each, IsOfKind, IsTaken, extreme_kinds}
 
 -- whether the first number wins over the second: the lesser one does, or the greater one; none wins over an equal one
 abbrev pub wins : Bool → ℤ → ℤ → Bool

@@ -7,7 +7,7 @@ use Rattle.dsp_defs.specs.Measure.{dot, cmplx_dot_sums}
 use Rattle.dsp_defs.specs.declared.format.Fmt.{Fmt}
 use Rattle.dsp_defs.specs.declared.script.Block.{Block}
 use Rattle.dsp_defs.specs.declared.script.Block.TheVariants.{Power, Dot, CmplxDot, Max, Min}
-use Rattle.dsp_stage.specs.Kept.{Each, IsOfKind, IsTaken, kinds_by, kept_kinds, kept_numbers, kept_of_channel, Fits}
+use Rattle.dsp_defs.specs.Kept.{Each, IsOfKind, IsTaken, kinds_by, kept_kinds, kept_numbers, kept_of_channel, Fits}
 use Rattle.dsp_stage.specs.Unit.{frames_in}
 use Rattle.dsp_measure.specs.declared.measure_block.MeasureBlock.{MeasureBlock}
 use Rattle.dsp_measure.specs.declared.measure_block.MeasureBlock.TheVariants as measure

@@ -31,7 +31,7 @@ impl<T: MeasureSample + WideSample> CmplxDot<T> {
     ghost use Rattle.dsp_defs.specs.Counts.{Rises};
     ghost use Rattle.dsp_defs.specs.Formats.{accumulator};
     ghost use Rattle.dsp_defs.specs.Measure.{cmplx_dot_close};
-    ghost use Rattle.dsp_stage.specs.Kept.{Each, IsOfKind, in_words};
+    ghost use Rattle.dsp_defs.specs.Kept.{Each, IsOfKind, in_words};
     ghost use Rattle.dsp_measure.specs.Sums.{complex_sums};
 
     /// The sums of nothing.

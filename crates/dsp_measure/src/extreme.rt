@@ -94,7 +94,7 @@ impl<T: MeasureSample, O: Order> Extreme<T, O> {
     ghost use Rattle.dsp_defs.specs.Formats.{word};
     ghost use Rattle.dsp_defs.specs.Signal.{sample};
     ghost use Rattle.dsp_stage.specs.Channels.{samples_in};
-    ghost use Rattle.dsp_stage.specs.Kept.{extreme_kept};
+    ghost use Rattle.dsp_defs.specs.Kept.{extreme_kept};
     ghost use Rattle.dsp_measure.specs.Extremes.{ExtremeState, extreme_of, IsFew, KeepsExtreme};
 
     /// The extreme of no samples.

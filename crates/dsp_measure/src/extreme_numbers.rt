@@ -1,7 +1,7 @@
 //! The four numbers that an extreme keeps: 1 where there was a sample, the best one, its index, and the
 //! count of samples; all are 0 where there was none.
 ghost use Rattle.std.specs.Prelude.{◌≡◌, ◌↔◌, ℕ, suc, Some, IfSome, IsTrue, length};
-ghost use Rattle.dsp_stage.specs.Kept.{Below, Each, Fixed, IsOfKind, extreme_kept, extreme_kinds};
+ghost use Rattle.dsp_defs.specs.Kept.{Below, Each, Fixed, IsOfKind, extreme_kept, extreme_kinds};
 ghost use Rattle.dsp_measure.specs.Extremes.{IsFew, IsFound, KeepsExtreme};
 
 use crate::MeasureSample;

@@ -1,7 +1,7 @@
 //! What the measures of a unit do with the numbers that they keep, one after another.
 ghost use Rattle.std.specs.Prelude.{◌≡◌, ◌+◌, ◌++◌, ◌*◌, ◌/◌, ◌<◌, ◌≤◌, ◌∷◌, [], ℕ, ℤ, All, FitsSigned, List, length};
 ghost use Rattle.dsp_stage.specs.Channels.{samples_in};
-ghost use Rattle.dsp_stage.specs.Kept.{Each, IsOfKind, extreme_kept, extreme_kinds, in_words};
+ghost use Rattle.dsp_defs.specs.Kept.{Each, IsOfKind, extreme_kept, extreme_kinds, in_words};
 ghost use Rattle.dsp_defs.specs.Counts.{Rises};
 ghost use Rattle.dsp_defs.specs.Formats.{accumulator, word};
 ghost use Rattle.dsp_defs.specs.Signal.{sample};

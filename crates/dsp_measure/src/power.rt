@@ -23,7 +23,7 @@ impl<T: MeasureSample> Power<T> {
     ghost use Rattle.dsp_defs.specs.Counts.{Rises};
     ghost use Rattle.dsp_defs.specs.Formats.{accumulator};
     ghost use Rattle.dsp_defs.specs.Measure.{power};
-    ghost use Rattle.dsp_stage.specs.Kept.{Each, IsOfKind, in_words};
+    ghost use Rattle.dsp_defs.specs.Kept.{Each, IsOfKind, in_words};
 
     /// The sum of nothing.
     pub fn new() -> Self

@@ -1,7 +1,7 @@
 //! The results of a unit's measures, from the numbers that they keep.
 ghost use Rattle.std.specs.Prelude.{◌≡◌, ◌+◌, ◌*◌, ◌<◌, ◌≤◌, ℕ, Some, drop, length, slice_get};
 ghost use Rattle.dsp_defs.specs.Measure.{cmplx_dot_close};
-ghost use Rattle.dsp_stage.specs.Kept.{Each, FitsAfter, IsOfKind, extreme_kinds, kept_extreme, kept_measures};
+ghost use Rattle.dsp_defs.specs.Kept.{Each, FitsAfter, IsOfKind, extreme_kinds, kept_extreme, kept_measures};
 ghost use Rattle.dsp_defs.specs.declared.format.Fmt.TheVariants.{Q31};
 ghost use Rattle.dsp_stage.specs.Channels.{numbers_in};
 ghost use Rattle.dsp_measure.specs.Extremes.{KeepsExtreme};

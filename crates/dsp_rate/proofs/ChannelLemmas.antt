@@ -15,10 +15,10 @@ use Rattle.dsp_defs.specs.Counts.{Counts}
 use Rattle.dsp_defs.specs.Streaming.{Continues}
 use Rattle.dsp_defs.specs.Sums.{decimate}
 use Rattle.dsp_defs.specs.Cost as cost
-use Rattle.dsp_stage.specs.Kept.{Fixed, Each, IsPlace, IsOfKind, in_words, FitsChannel}
+use Rattle.dsp_defs.specs.Kept.{Fixed, Each, IsPlace, IsOfKind, in_words, FitsChannel}
 use Rattle.dsp_stage.specs.Filter.{FilterStandsFor, FilterCounts, FilterFeeds, IsNewFilter}
 use Rattle.dsp_stage.proofs.ChannelKept.{words-placed}
-use Rattle.dsp_stage.proofs.KeptLaws.{Each-append}
+use Rattle.dsp_defs.proofs.KeptLaws.{Each-append}
 use Rattle.dsp_stage.proofs.CostLaws.{quotient_more}
 use Rattle.dsp_lanes.specs.Turns.{lane_turns}
 use Rattle.dsp_window.specs.Rolling.{Rolling, last_samples}

@@ -10,7 +10,7 @@ use Rattle.dsp_defs.specs.Counts.{Counts}
 use Rattle.dsp_defs.specs.Streaming.{Continues}
 use Rattle.dsp_defs.specs.Sums.{interpolate}
 use Rattle.dsp_defs.specs.Cost as cost
-use Rattle.dsp_stage.specs.Kept.{FitsChannel}
+use Rattle.dsp_defs.specs.Kept.{FitsChannel}
 use Rattle.dsp_stage.specs.Filter.{FilterStandsFor, FilterCounts, FilterFeeds, IsNewFilter}
 use Rattle.dsp_stage.proofs.ChannelKept.{words-placed, words-fit, length-words, fit-words}
 use Rattle.dsp_lanes.specs.Turns.{lane_turns}

@@ -3,7 +3,7 @@ use Rattle.std.specs.Prelude.{◌-◌, ◌*◌, ◌/◌, ◌%◌, ◌<◌, ◌�
 use Rattle.dsp_defs.specs.Cost.{lane_turns}
 use Rattle.dsp_defs.specs.Shape.{group_of}
 use Rattle.dsp_stage.specs.Filter.{IsByChannel}
-use Rattle.dsp_stage.proofs.KeptLaws.{kept_of_channel-place}
+use Rattle.dsp_defs.proofs.KeptLaws.{kept_of_channel-place}
 use Rattle.dsp_unit.specs.Making.{AreTaps}
 use Rattle.dsp_unit.proofs.Units.{scaled}
 use Rattle.dsp_defs.specs.declared.format.Fmt.{Fmt}

@@ -5,7 +5,7 @@ use Rattle.dsp_defs.specs.Formats.{word, close}
 use Rattle.dsp_defs.specs.Signal.{sample, values, sum_below}
 use Rattle.dsp_defs.specs.Streaming.{last_of}
 use Rattle.dsp_stage.specs.Filter.{FilterState}
-use Rattle.dsp_stage.specs.Kept.{kept_of_channel}
+use Rattle.dsp_defs.specs.Kept.{kept_of_channel}
 use Rattle.dsp_unit.specs.Making.{block_fault, taps_fault}
 use Rattle.dsp_defs.specs.declared.format.Fmt.{Fmt}
 use Rattle.dsp_defs.specs.declared.script.Block.TheVariants as Block

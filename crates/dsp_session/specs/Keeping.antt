@@ -2,7 +2,7 @@
 use Rattle.std.specs.Prelude.{◌≡◌, ℕ, false, ℤ, List, length, None}
 use Rattle.dsp_defs.specs.Block.{Frame}
 use Rattle.dsp_chain.specs.Chain.{IsLive}
-use Rattle.dsp_chain.specs.Keeping.{kept}
+use Rattle.dsp_defs.specs.KeptOfScript.{kept}
 use Rattle.dsp_session.specs.SessionState.{SessionState}
 use Rattle.dsp_session.specs.Session.{Holds, StandsFor, SameSession}
 

@@ -8,7 +8,7 @@ use Rattle.dsp_defs.specs.Shape.{live_frames}
 use Rattle.dsp_defs.specs.Cost.{live_block_cost, block_turns}
 use Rattle.dsp_defs.specs.Counts.{Counts}
 use Rattle.dsp_stage.specs.Unit.{StandsFor, CountsFrames, Accepts, Feeds, frames_in}
-use Rattle.dsp_stage.specs.Kept.{limit_of}
+use Rattle.dsp_defs.specs.Kept.{limit_of}
 use Rattle.dsp_stage.specs.Filter.{of_channel, IsByChannel, FilterState, FilterStandsFor, FilterCounts, FilterAccepts, filter_at, no_filter, IsLike, AreFilters}
 use Rattle.dsp_stage.specs.Channels.{unit_of_filters, samples_in, AreFed}
 use Rattle.dsp_defs.proofs.FrameLemmas.{length-frames_in}

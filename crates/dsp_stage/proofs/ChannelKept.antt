@@ -5,7 +5,7 @@ use Rattle.std.specs.Prelude.{All, FitsSigned}
 use Rattle.std.proofs.lemmas.List.{take-append-drop, length-drop, length-replicate}
 use Rattle.std.proofs.lemmas.Bool.{cases_lt}
 use Rattle.std.proofs.Math.Nat.{mul-div_cancel_left}
-use Rattle.dsp_stage.specs.Kept.{Kind, InWord, Fixed, Below, Each, IsPlace, IsOfKind, in_words}
+use Rattle.dsp_defs.specs.Kept.{Kind, InWord, Fixed, Below, Each, IsPlace, IsOfKind, in_words}
 use Rattle.dsp_defs.specs.Numbers.{Width}
 use Rattle.dsp_stage.specs.Channels.{numbers_in}
 

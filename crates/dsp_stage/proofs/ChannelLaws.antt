@@ -6,7 +6,7 @@ use Rattle.std.proofs.lemmas.List.{length-map}
 use Rattle.dsp_defs.specs.Signal.{sample, values}
 use Rattle.dsp_defs.specs.Block.{Frame, channel, frames_of, each_channel, applied, whole, live}
 use Rattle.dsp_defs.specs.Shape.{whole_frames, live_frames}
-use Rattle.dsp_stage.specs.Kept.{kept_of_channel, kinds_by, kept_kinds, Each, IsPlace, HasPlace}
+use Rattle.dsp_defs.specs.Kept.{kept_of_channel, kinds_by, kept_kinds, Each, IsPlace, HasPlace}
 use Rattle.dsp_stage.specs.Unit.{StandsFor, CountsFrames, TookFrames}
 use Rattle.dsp_stage.specs.Filter.{of_channel, of_whole_channel, IsByChannel, FilterState, FilterStandsFor, FilterCounts, FilterTook, filter_at, no_filter, kept_of_all, tails_of, AreFilters}
 use Rattle.dsp_stage.specs.Channels.{unit_of_filters}

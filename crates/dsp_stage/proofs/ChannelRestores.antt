@@ -4,7 +4,7 @@ use Rattle.std.specs.List.{range_with_len}
 use Rattle.std.specs.Prelude.{All}
 use Rattle.std.proofs.Math.Nat.{mul-mod_right}
 use Rattle.dsp_defs.specs.Block.{Frame, channel}
-use Rattle.dsp_stage.specs.Kept.{Kind, kept_of_channel, kinds_by, kept_kinds, kept_numbers, Each, IsPlace, IsOfKind, Fits, FitsAfter, FitsChannel}
+use Rattle.dsp_defs.specs.Kept.{Kind, kept_of_channel, kinds_by, kept_kinds, kept_numbers, Each, IsPlace, IsOfKind, Fits, FitsAfter, FitsChannel}
 use Rattle.dsp_stage.specs.Unit.{Restores, IsNew}
 use Rattle.dsp_stage.specs.Filter.{IsByChannel, FilterState, FilterStandsFor, FilterCounts, filter_at, no_filter, AreFilters, IsNewFilter}
 use Rattle.dsp_stage.specs.Channels.{unit_of_filters, numbers_in, AreRestored}

@@ -3,7 +3,7 @@ use Rattle.std.proofs.Common.{◌≡◌, ◌∙◌, ap, ap₂, refl, sym, ℕ, s
 use Rattle.std.proofs.lemmas.List.{append_assoc, append-nil, reverse-append, reverse-reverse, take_more_set, map_more, map-append, get_or-drop, drop-set-lt, drop-drop}
 use Rattle.dsp_defs.specs.Signal.{sample, outputs_of_history, outputs}
 use Rattle.dsp_defs.specs.Streaming.{Continues, GoesOn, Behaviour, then, chained}
-use Rattle.dsp_stage.specs.Kept.{latest}
+use Rattle.dsp_defs.specs.Kept.{latest}
 use Rattle.dsp_defs.proofs.Streaming.{continues_chain, continues_twice, outputs-append}
 use Rattle.dsp_stage.proofs.ChannelKept.{append-apart}
 

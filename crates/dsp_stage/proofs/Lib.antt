@@ -1,4 +1,3 @@
-pub mod KeptLaws
 pub mod MemorylessLaws
 pub mod RowLaws
 pub mod TailLaws

@@ -4,8 +4,8 @@ use Rattle.std.specs.List.{range_with_len}
 use Rattle.std.proofs.lemmas.List.FromFn.{length-map-range_with_len, get_or-map-range_with_len}
 use Rattle.dsp_defs.specs.Signal.{sample}
 use Rattle.dsp_defs.specs.Measure.{power, maximum, minimum, block_measures}
-use Rattle.dsp_stage.specs.Kept.{kept_extreme, kept_measures}
-use Rattle.dsp_stage.specs.Kept.{extreme_kept, kept_numbers}
+use Rattle.dsp_defs.specs.Kept.{kept_extreme, kept_measures}
+use Rattle.dsp_defs.specs.Kept.{extreme_kept, kept_numbers}
 use Rattle.dsp_defs.specs.Block.{Frame, channel}
 use Rattle.dsp_stage.specs.Unit.{UnitState, measures_of}
 use Rattle.dsp_defs.proofs.Signal.{values_cong}

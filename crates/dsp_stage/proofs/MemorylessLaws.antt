@@ -5,12 +5,12 @@ use Rattle.std.proofs.lemmas.List.{map-append, length-map, append-nil}
 use Rattle.dsp_defs.specs.Block.{Frame, channel, whole, live}
 use Rattle.dsp_defs.specs.Shape.{whole_frames, live_frames}
 use Rattle.dsp_defs.specs.Cost.{live_block_cost, cost_so_far, block_turns}
-use Rattle.dsp_stage.specs.Kept.{kept_measures}
+use Rattle.dsp_defs.specs.Kept.{kept_measures}
 use Rattle.dsp_defs.specs.Counts.{Counts}
 use Rattle.dsp_defs.proofs.FrameLemmas.{length-frames_in}
 use Rattle.dsp_defs.specs.Block.{channels_after}
 use Rattle.dsp_stage.specs.Unit.{UnitState, MadeAs, StandsFor, CountsFrames, made_so_far, Feeds, Finishes, Restores, IsNew, IsOutput, frames_in}
-use Rattle.dsp_stage.specs.Kept.{kept_of_channel, kept_numbers, kinds_by, kept_kinds, Kind, Each, IsPlace, IsOfKind, IsTaken, Fits, FitsAfter, place_of}
+use Rattle.dsp_defs.specs.Kept.{kept_of_channel, kept_numbers, kinds_by, kept_kinds, Kind, Each, IsPlace, IsOfKind, IsTaken, Fits, FitsAfter, place_of}
 use Rattle.dsp_defs.specs.declared.format.Fmt.{Fmt}
 use Rattle.dsp_defs.specs.declared.script.Block.{Block}
 

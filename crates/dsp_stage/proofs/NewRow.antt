@@ -1,5 +1,5 @@
 -- What is given of no frames, and a row of units that have taken nothing.
-use Rattle.std.proofs.Common.{◌≡◌, ◌∙◌, ap, ap₂, refl, ℕ, zero, suc, ◌+◌, ◌-◌, ◌*◌, ◌/◌, ℤ, List, [], ◌∷◌, ◌++◌, map, length, take, arith, nat_abs, Option, Some, None}
+use Rattle.std.proofs.Common.{◌≡◌, ◌∙◌, ap, ap₂, refl, Bool, true, false, ℕ, zero, suc, ◌+◌, ◌-◌, ◌*◌, ◌/◌, ℤ, List, [], ◌∷◌, ◌++◌, map, length, take, arith, nat_abs, Option, Some, None}
 use Rattle.dsp_defs.specs.Signal.{values}
 use Rattle.dsp_defs.specs.Block.{each_channel, live, live_conv, live_conv_partial, format_after, channels_after}
 use Rattle.dsp_defs.specs.Sums.{fir, sparse, decimate, interpolate, conv_partial}
@@ -9,7 +9,7 @@ use Rattle.dsp_defs.specs.Adaptive.{pid}
 use Rattle.dsp_defs.specs.Matrix.{each_group, added, subtracted, scaled, transposed, multiplied, mat_add, mat_sub, mat_scale, mat_trans, mat_mult}
 use Rattle.dsp_defs.specs.Shape.{live_frames, groups_after, group_of}
 use Rattle.dsp_defs.specs.Cost.{unit_turns, chain_turns}
-use Rattle.dsp_stage.specs.Unit.{UnitState}
+use Rattle.dsp_stage.specs.Unit.{UnitState, turns_of, IsNew, IsMade}
 use Rattle.dsp_stage.specs.Row.{Place, place_after, place_behind, MadeFor, blocks_of, InRow, AllRun, AllStand, AllCount, AllNew, row_turns}
 use Rattle.dsp_defs.proofs.BlockLaws.{length-values, length-lattice_fir, length-biquad, length-biquad64}
 use Rattle.dsp_defs.specs.declared.format.Fmt.{Fmt}
@@ -87,23 +87,60 @@ frames-nothing block = groups-nothing (group_of block)
 
 -- ---- a row
 
-pub new-stand : (format : Fmt) (channels : ℕ) (us : List UnitState) → AllNew us → AllStand format channels us []
-new-stand format channels [] h = tt
-new-stand format channels (u ∷ us) h =
-    (h.0.0, rw (live-nothing format channels u.block) (new-stand (format_after format u.block) (channels_after channels u.block) us h.1))
+pub new-stand : (banked : Bool) (format : Fmt) (channels : ℕ) (us : List UnitState) → AllNew banked us → AllStand format channels us []
+new-stand banked format channels [] h = tt
+new-stand banked format channels (u ∷ us) h =
+    (h.0.0, rw (live-nothing format channels u.block)
+    (new-stand banked (format_after format u.block) (channels_after channels u.block) us h.1))
 
-pub new-count : (us : List UnitState) → AllNew us → AllCount us 0
-new-count [] h = tt
-new-count (u ∷ us) h = (h.0.1, rw (frames-nothing u.block) (new-count us h.1))
+pub new-count : (banked : Bool) (us : List UnitState) → AllNew banked us → AllCount us 0
+new-count banked [] h = tt
+new-count banked (u ∷ us) h = (h.0.1, rw (frames-nothing u.block) (new-count banked us h.1))
 
-pub new-run : (us : List UnitState) → AllNew us → AllRun us
-new-run [] h = tt
-new-run (u ∷ us) h = (h.0.0.running, new-run us h.1)
+pub new-run : (banked : Bool) (us : List UnitState) → AllNew banked us → AllRun us
+new-run banked [] h = tt
+new-run banked (u ∷ us) h = (h.0.0.running, new-run banked us h.1)
 
--- without a bank the turn bound is that of the blocks
-pub new-turns : (p : Place) (us : List UnitState) (m n : ℕ) → InRow p us → AllNew us → row_turns us m n ≡ chain_turns p.format p.channels (blocks_of us) m n
-new-turns p [] m n row h = refl
-new-turns p (u ∷ us) m n row h = ap₂ (λ (here later : ℕ). here + later) (λ i. unit_turns (h.0.2 i) (row.0.format i) (row.0.channels i) u.block m n) (new-turns (place_after p u.block) us (live_frames u.block m) (live_frames u.block n) row.1 h.1)
+-- the turn bound is that of the blocks
+pub new-turns : (banked : Bool) (p : Place) (us : List UnitState) (m n : ℕ) → InRow p us → AllNew banked us
+    → row_turns us m n ≡ chain_turns banked p.format p.channels (blocks_of us) m n
+new-turns banked p [] m n row h = refl
+new-turns banked p (u ∷ us) m n row h =
+    ap₂ (λ (here later : ℕ). here + later)
+    (h.0.2 m n ∙ ap₂ (λ f c. unit_turns banked f c u.block m n) row.0.format row.0.channels)
+    (new-turns banked (place_after p u.block) us (live_frames u.block m) (live_frames u.block n) row.1 h.1)
+
+-- ---- a unit that is no bank
+
+-- banked or not, a block that is no biquad has one bound
+abbrev pub IsPlain : Block → Type 0
+IsPlain (Biquad p coefficients) = ⊥
+IsPlain block = Unit {0}
+
+pub plain-turns : (banked : Bool) (format : Fmt) (c : ℕ) (block : Block) (m n : ℕ) → IsPlain block
+    → unit_turns false format c block m n ≡ unit_turns banked format c block m n
+plain-turns true format c (Biquad p coefficients) m n plain = absurd plain
+plain-turns banked format c block m n plain = refl
+
+-- a unit that is no bank is what is to be made of such a block
+made-of : (banked : Bool) (b : Block) (f : Fmt) (c n : ℕ) (u : UnitState)
+    → ((m k : ℕ) → unit_turns false f c b m k ≡ unit_turns banked f c b m k) → IsNew b f c n u → IsMade banked b f c n u
+made-of banked b f c n u same new = record {
+  block = new.block;
+  format = new.format;
+  channels = new.channels;
+  capacity = new.capacity;
+  turns = λ m k. rw (new.plain, new.format, new.channels, new.block) (same m k);
+  stands = new.stands;
+  counts = new.counts;
+}
+
+pub plain-made : (banked : Bool) (b : Block) (f : Fmt) (c n : ℕ) (u : UnitState) → IsPlain b → IsNew b f c n u → IsMade banked b f c n u
+plain-made banked b f c n u plain new = made-of banked b f c n u (λ m k. plain-turns banked f c b m k plain) new
+
+-- and of each block where nothing is banked
+pub unbanked-made : (b : Block) (f : Fmt) (c n : ℕ) (u : UnitState) → IsNew b f c n u → IsMade false b f c n u
+unbanked-made b f c n u new = made-of false b f c n u (λ m k. refl) new
 
 -- ---- one unit more
 
@@ -119,6 +156,6 @@ pub row-more : (p : Place) (us : List UnitState) (u : UnitState) → InRow p us 
 row-more p [] u row made = (made, tt)
 row-more p (v ∷ us) u row made = (row.0, row-more (place_after p v.block) us u row.1 made)
 
-pub new-more : (us : List UnitState) (u : UnitState) → AllNew us → AllNew (u ∷ []) → AllNew (us ++ u ∷ [])
-new-more [] u h one = one
-new-more (v ∷ us) u h one = (h.0, new-more us u h.1 one)
+pub new-more : (banked : Bool) (us : List UnitState) (u : UnitState) → AllNew banked us → AllNew banked (u ∷ []) → AllNew banked (us ++ u ∷ [])
+new-more banked [] u h one = one
+new-more banked (v ∷ us) u h one = (h.0, new-more banked us u h.1 one)

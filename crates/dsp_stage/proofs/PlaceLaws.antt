@@ -1,7 +1,7 @@
 -- Whether numbers fit, by the place that they have.
 use Rattle.std.proofs.Common.{◌≡◌, ℕ, ℤ, List, Option, Some, None, IsTrue, IfSome, refl}
 use Rattle.std.specs.Prelude.{is_some, ◌↔◌}
-use Rattle.dsp_stage.specs.Kept.{FitsAfter, Fits, place_of}
+use Rattle.dsp_defs.specs.Kept.{FitsAfter, Fits, place_of}
 use Rattle.dsp_defs.specs.declared.format.Fmt.{Fmt}
 use Rattle.dsp_defs.specs.declared.script.Block.{Block}
 

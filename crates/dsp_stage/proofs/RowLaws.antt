@@ -4,7 +4,7 @@ use Rattle.dsp_defs.specs.Streaming.{Continues}
 use Rattle.dsp_defs.specs.Block.{Frame, live, live_chain, format_after, channels_after}
 use Rattle.dsp_defs.specs.Shape.{live_frames, frames_behind}
 use Rattle.dsp_defs.specs.Cost.{live_block_cost, unit_turns}
-use Rattle.dsp_stage.specs.Kept.{limit_of}
+use Rattle.dsp_defs.specs.Kept.{limit_of}
 use Rattle.dsp_defs.specs.Counts.{Counts}
 use Rattle.dsp_stage.specs.Unit.{UnitState, StandsFor, CountsFrames, Accepts, Feeds, IsOutput, most_frames, frames_in}
 use Rattle.dsp_stage.specs.Row.{Place, place_after, Passes, MadeFor, blocks_of, AllStand, AllTaken, AllAccept, FeedsRow, IsFed}

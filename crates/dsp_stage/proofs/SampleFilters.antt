@@ -7,7 +7,7 @@ use Rattle.dsp_defs.specs.Streaming.{Continues}
 use Rattle.dsp_defs.specs.Shape.{whole_frames, live_frames}
 use Rattle.dsp_defs.specs.Cost.{live_block_cost, block_turns}
 use Rattle.dsp_defs.specs.Counts.{Counts}
-use Rattle.dsp_stage.specs.Kept.{kept_of_channel, kinds_by, in_words, InWord, Each, IsPlace, IsOfKind, IsTaken, FitsChannel}
+use Rattle.dsp_defs.specs.Kept.{kept_of_channel, kinds_by, in_words, InWord, Each, IsPlace, IsOfKind, IsTaken, FitsChannel}
 use Rattle.dsp_stage.specs.Unit.{most_frames}
 use Rattle.dsp_stage.specs.Filter.{FilterState, FilterFeeds, FilterFinishes, FilterRestores, IsByChannel, IsNewFilter, IsSteady, of_channel, of_whole_channel, steady_filter}
 use Rattle.dsp_stage.proofs.ChannelKept.{words-placed, length-words, words-fit, fit-words}

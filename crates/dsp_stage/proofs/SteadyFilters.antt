@@ -4,7 +4,7 @@ use Rattle.std.proofs.lemmas.List.{append-nil}
 use Rattle.dsp_defs.specs.Streaming.{GoesOn}
 use Rattle.dsp_defs.specs.Cost.{block_turns}
 use Rattle.dsp_defs.specs.Counts.{Counts, Rises}
-use Rattle.dsp_stage.specs.Kept.{kept_of_channel, kinds_by, Each, IsPlace, IsOfKind, FitsChannel}
+use Rattle.dsp_defs.specs.Kept.{kept_of_channel, kinds_by, Each, IsPlace, IsOfKind, FitsChannel}
 use Rattle.dsp_stage.specs.Filter.{FilterStandsFor, FilterCounts, FilterFeeds, FilterFinishes, FilterRestores, IsNewFilter, IsSteady, IsStepwise, of_channel, steady_filter}
 use Rattle.dsp_stage.proofs.ChannelKept.{each-length}
 use Rattle.dsp_defs.specs.declared.format.Fmt.{Fmt}

@@ -5,7 +5,7 @@ use Rattle.dsp_defs.specs.Block.{Frame, whole, live, live_chain, whole_chain}
 use Rattle.dsp_defs.specs.Shape.{live_frames, whole_frames, frames_behind}
 use Rattle.dsp_defs.specs.Cost.{live_block_cost, live_cost, cost_so_far, unit_turns}
 use Rattle.dsp_defs.specs.Measure.{measures, block_measures}
-use Rattle.dsp_stage.specs.Kept.{kept_measures}
+use Rattle.dsp_defs.specs.Kept.{kept_measures}
 use Rattle.dsp_defs.specs.Streaming.{Begins}
 use Rattle.dsp_defs.specs.Counts.{Counts}
 use Rattle.dsp_stage.specs.Unit.{UnitState, MadeAs, StandsFor, CountsFrames, TookFrames, given_so_far, made_so_far, turns_of, Finishes, measures_of, whole_products}

@@ -5,7 +5,7 @@ use Rattle.std.proofs.Math.Nat.{mul-le-mul_left, mul-le-mul_right}
 use Rattle.dsp_defs.specs.Sums.{full_length}
 use Rattle.dsp_defs.specs.Shape.{group_of, correlation_length, live_frames, whole_frames}
 use Rattle.dsp_defs.specs.Cost.{section_count, live_block_cost, live_cost, lane_turns, block_turns, unit_turns}
-use Rattle.dsp_stage.specs.Kept.{IsTaken}
+use Rattle.dsp_defs.specs.Kept.{IsTaken}
 use Rattle.dsp_stage.specs.Unit.{UnitState, turns_of}
 use Rattle.dsp_stage.specs.Row.{Place, place_after, blocks_of, InRow, AllTaken, row_turns}
 use Rattle.dsp_defs.specs.declared.format.Fmt.{Fmt}

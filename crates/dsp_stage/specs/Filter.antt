@@ -6,8 +6,8 @@ use Rattle.dsp_defs.specs.Block.{Frame, channel, live_channel, whole_channel, fo
 use Rattle.dsp_defs.specs.Shape.{group_of, whole_frames, live_frames}
 use Rattle.dsp_defs.specs.Cost.{live_block_cost, cost_so_far, block_turns}
 use Rattle.dsp_defs.specs.Counts.{Counts}
-use Rattle.dsp_stage.specs.Kept.{kept_of_channel, kept_numbers, kinds_by, kept_kinds, Each, IsPlace, IsTaken, limit_of, place_of}
-use Rattle.dsp_stage.specs.Kept.{kept_measures}
+use Rattle.dsp_defs.specs.Kept.{kept_of_channel, kept_numbers, kinds_by, kept_kinds, Each, IsPlace, IsTaken, limit_of, place_of}
+use Rattle.dsp_defs.specs.Kept.{kept_measures}
 use Rattle.dsp_stage.specs.Unit.{most_frames}
 use Rattle.dsp_defs.specs.declared.format.Fmt.TheVariants.{Q15}
 use Rattle.dsp_defs.specs.declared.format.Fmt.{Fmt}

@@ -1,4 +1,3 @@
-pub mod Kept
 pub mod Unit
 pub mod Row
 pub mod Filter

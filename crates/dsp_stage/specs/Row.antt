@@ -1,10 +1,10 @@
 -- Units in a row, each fed with what the one before it gives.
-use Rattle.std.specs.Prelude.{◌≡◌, ℕ, ◌+◌, ◌*◌, ◌^◌, ◌<◌, ◌≤◌, ℤ, List, [], ◌∷◌, ◌++◌, map, length, false, ◌⊎◌}
+use Rattle.std.specs.Prelude.{◌≡◌, ℕ, ◌+◌, ◌*◌, ◌^◌, ◌<◌, ◌≤◌, ℤ, Bool, List, [], ◌∷◌, ◌++◌, map, length, false, ◌⊎◌}
 use Rattle.dsp_defs.specs.Streaming.{Continues}
 use Rattle.dsp_defs.specs.Block.{Frame, whole, live, live_chain, format_after, channels_after}
 use Rattle.dsp_defs.specs.Shape.{whole_frames, live_frames, frames_behind}
-use Rattle.dsp_defs.specs.Cost.{live_cost}
-use Rattle.dsp_stage.specs.Kept.{IsTaken}
+use Rattle.dsp_defs.specs.Cost.{live_cost, unit_turns}
+use Rattle.dsp_defs.specs.Kept.{IsTaken}
 use Rattle.dsp_defs.specs.Measure.{block_measures}
 use Rattle.dsp_defs.specs.Counts.{Counts}
 use Rattle.dsp_stage.specs.Unit.{whole_products, UnitState, StandsFor, CountsFrames, TookFrames, given_so_far, made_so_far, turns_of, measures_of, most_frames, frames_in, IsSignal}
@@ -67,10 +67,11 @@ abbrev pub AllCount : List UnitState → ℕ → Type 0
 AllCount [] n = Unit {0}
 AllCount (u ∷ us) n = CountsFrames u n × AllCount us (live_frames u.block n)
 
--- the units have taken nothing, and none is a bank
-abbrev pub AllNew : List UnitState → Type 0
-AllNew [] = Unit {0}
-AllNew (u ∷ us) = (StandsFor u [] × CountsFrames u 0 × (u.banked ≡ false)) × AllNew us
+-- the units have taken nothing, and each has the turn bound of its block, banked or not
+abbrev pub AllNew : Bool → List UnitState → Type 0
+AllNew banked [] = Unit {0}
+AllNew banked (u ∷ us) =
+    (StandsFor u [] × CountsFrames u 0 × ((m n : ℕ) → turns_of u m n ≡ unit_turns banked u.format u.channels u.block m n)) × AllNew banked us
 
 -- each block can take the whole signal at its place, where the first takes n frames
 abbrev pub AllTaken : List Block → ℕ → Type 0

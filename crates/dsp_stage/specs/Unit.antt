@@ -7,8 +7,8 @@ unfoldable pub use Rattle.dsp_defs.specs.Block.{frames_in}
 use Rattle.dsp_defs.specs.Block.{Frame, whole, live, format_after, channels_after}
 use Rattle.dsp_defs.specs.Shape.{group_of, whole_frames, live_frames}
 use Rattle.dsp_defs.specs.Cost.{cost_so_far, live_block_cost, unit_turns}
-use Rattle.dsp_stage.specs.Kept.{kept_numbers, HasPlace, limit_of}
-use Rattle.dsp_stage.specs.Kept.{kept_measures}
+use Rattle.dsp_defs.specs.Kept.{kept_numbers, HasPlace, limit_of}
+use Rattle.dsp_defs.specs.Kept.{kept_measures}
 use Rattle.dsp_defs.specs.Counts.{Counts}
 use Rattle.dsp_defs.specs.declared.format.Fmt.{Fmt}
 use Rattle.dsp_defs.specs.declared.measure.Measure.{Measure}
@@ -140,12 +140,22 @@ pub record IsOutput (u : UnitState) (most : ℕ) (samples : List ℤ) : Type 0 w
   pub signal : IsSignal (format_after u.format u.block) (channels_after u.channels u.block) samples
   pub at_most : length (frames_in (channels_after u.channels u.block) samples) ≤ most
 
--- a unit of the block at its place, that has taken nothing
+-- a unit of the block at its place, that has taken nothing and is no bank
 pub record IsNew (b : Block) (f : Fmt) (c n : ℕ) (u : UnitState) : Type 0 where
   pub block : u.block ≡ b
   pub format : u.format ≡ f
   pub channels : u.channels ≡ c
   pub capacity : u.capacity ≡ n
   pub plain : u.banked ≡ false
+  pub stands : StandsFor u []
+  pub counts : CountsFrames u 0
+
+-- the same where a unit may be a bank: its turn bound is that of the block, banked or not
+pub record IsMade (banked : Bool) (b : Block) (f : Fmt) (c n : ℕ) (u : UnitState) : Type 0 where
+  pub block : u.block ≡ b
+  pub format : u.format ≡ f
+  pub channels : u.channels ≡ c
+  pub capacity : u.capacity ≡ n
+  pub turns : (m k : ℕ) → turns_of u m k ≡ unit_turns banked f c b m k
   pub stands : StandsFor u []
   pub counts : CountsFrames u 0

@@ -2,11 +2,9 @@
 #![tactic(auto)]
 
 mod any_unit;
-mod laws;
 mod room;
 mod stage;
 
 pub use any_unit::AnyUnit;
-pub use laws::kept_numbers_have_their_place;
 pub use room::most_frames;
 pub use stage::Stage;

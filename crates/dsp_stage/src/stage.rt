@@ -1,6 +1,6 @@
 ghost use Rattle.std.specs.Prelude.{◌≡◌, ◌≤◌, ℕ, Some, length, take, slice_get, IfSome, IsFalse};
 ghost use Rattle.dsp_defs.specs.Block.{channels_after};
-ghost use Rattle.dsp_stage.specs.Kept.{Fits, FitsAfter, place_of};
+ghost use Rattle.dsp_defs.specs.Kept.{Fits, FitsAfter, place_of};
 ghost use Rattle.dsp_stage.specs.Unit.{UnitState, frames_in, room_of, IsSignal, IsOutput, Accepts, Feeds, Finishes, Restores, measures_of, most_frames, most_kept};
 
 use dsp_defs::{Measure, Steps};

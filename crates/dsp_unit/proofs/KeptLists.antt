@@ -5,7 +5,7 @@ use Rattle.std.proofs.lemmas.List.{append-nil, take_more, length-map, get_or-map
 use Rattle.std.proofs.lemmas.Grind.{flat_map-append}
 use Rattle.std.proofs.lemmas.Nat.{mul-le}
 use Rattle.std.proofs.lemmas.List.Folds.{flat_map-map, length-flat_map-take}
-use Rattle.dsp_stage.specs.Kept.{Fits, FitsAfter, FitsChannel, place_of}
+use Rattle.dsp_defs.specs.Kept.{Fits, FitsAfter, FitsChannel, place_of}
 use Rattle.dsp_stage.specs.Filter.{FilterState, AreFilters, filter_at, no_filter, kept_of_all}
 use Rattle.dsp_stage.specs.Channels.{numbers_in}
 use Rattle.dsp_stage.proofs.ChannelRestores.{fits-channels, channels-fit}

@@ -5,8 +5,8 @@ use Rattle.std.proofs.lemmas.List.{length-replicate, length_push, take-append-dr
 use Rattle.dsp_defs.specs.declared.format.Fmt.{Fmt}
 use Rattle.dsp_defs.specs.Formats.{word}
 use Rattle.dsp_defs.specs.Signal.{sample}
-use Rattle.dsp_stage.specs.Kept.{Kind, InWord, Fixed, Each, IsOfKind, in_words}
-use Rattle.dsp_stage.proofs.KeptLaws.{Each-append}
+use Rattle.dsp_defs.specs.Kept.{Kind, InWord, Fixed, Each, IsOfKind, in_words}
+use Rattle.dsp_defs.proofs.KeptLaws.{Each-append}
 use Rattle.dsp_stage.proofs.ChannelKept.{each-length, words-fit, fit-words}
 
 -- the last number is of the last kind

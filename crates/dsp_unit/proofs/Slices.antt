@@ -5,7 +5,7 @@ use Rattle.std.proofs.Common.{SFits, to_z, of_z}
 use Rattle.std.specs.Int.{Width, w32, w64}
 use Rattle.std.proofs.lemmas.Int.{ints}
 use Rattle.dsp_defs.specs.Formats.{word}
-use Rattle.dsp_stage.specs.Kept.{Each, IsOfKind, in_words}
+use Rattle.dsp_defs.specs.Kept.{Each, IsOfKind, in_words}
 use Rattle.dsp_defs.specs.Signal.{sample}
 use Rattle.dsp_defs.specs.declared.format.Fmt.{Fmt}
 use Rattle.dsp_defs.specs.declared.format.Fmt.TheVariants.{Q7, Q15, Q31}

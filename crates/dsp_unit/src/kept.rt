@@ -1,7 +1,7 @@
 ghost use Rattle.std.specs.Prelude.{◌≡◌, ◌≤◌, ◌+◌, ◌*◌, ℕ, Some, All, IfSome, IsFalse, length, map};
 ghost use Rattle.dsp_stage.specs.Channels.{AreRestored, numbers_in};
 ghost use Rattle.dsp_stage.specs.Filter.{AreFilters, filter_at, kept_of_all};
-ghost use Rattle.dsp_stage.specs.Kept.{Fits, FitsAfter, place_of};
+ghost use Rattle.dsp_defs.specs.Kept.{Fits, FitsAfter, place_of};
 
 use crate::Filter;
 use dsp_sat::Sample;

@@ -1,6 +1,6 @@
 ghost use Rattle.std.specs.Prelude.{◌≡◌, ◌↔◌, [], ◌∷◌, length, map, All, FitsSigned, IfOk, IsTrue};
 ghost use Rattle.dsp_defs.specs.Formats.{word};
-ghost use Rattle.dsp_stage.specs.Kept.{Each, IsOfKind, in_words};
+ghost use Rattle.dsp_defs.specs.Kept.{Each, IsOfKind, in_words};
 
 use dsp_sat::Sample;
 use dsp_window::is_sample;

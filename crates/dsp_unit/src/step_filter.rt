@@ -27,7 +27,7 @@ impl<T: Sample, W: Stepwise<T> + Drop> Model for StepFilter<T, W> {
 impl<T: Sample, W: Stepwise<T> + Drop> StepFilter<T, W> {
     ghost use Rattle.std.specs.Prelude.{◌≡◌, ◌≤◌, ◌+◌, ◌*◌, ◌↔◌, [], true, IsFalse, IsTrue, length, map, take, drop};
     ghost use Rattle.dsp_stage.specs.Filter.{FilterFeeds, FilterFinishes, FilterRestores, IsNewFilter};
-    ghost use Rattle.dsp_stage.specs.Kept.{kept_of_channel, kinds_by, Each, IsOfKind};
+    ghost use Rattle.dsp_defs.specs.Kept.{kept_of_channel, kinds_by, Each, IsOfKind};
 
     /// A filter that has taken nothing, for at most `capacity` samples a call, from work where nothing
     /// was taken.

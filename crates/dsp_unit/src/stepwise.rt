@@ -1,7 +1,7 @@
 ghost use Rattle.std.specs.Prelude.{◌≡◌, ◌≤◌, ◌*◌, ◌↔◌, ℕ, ℤ, List, [], length, map, IfOk, IsTrue};
 ghost use Rattle.dsp_defs.specs.Counts.{Rises};
 ghost use Rattle.dsp_stage.specs.Filter.{IsStepwise, of_channel};
-ghost use Rattle.dsp_stage.specs.Kept.{kept_of_channel, kinds_by, Each, IsOfKind};
+ghost use Rattle.dsp_defs.specs.Kept.{kept_of_channel, kinds_by, Each, IsOfKind};
 ghost use Rattle.dsp_defs.specs.Streaming.{GoesOn};
 ghost use Rattle.dsp_defs.specs.declared.script.Block.{Block};
 

@@ -3,7 +3,7 @@
 ghost use Rattle.std.specs.Prelude.{◌≡◌, [], ◌∷◌, ◌++◌, pos, replicate};
 ghost use Rattle.dsp_defs.specs.Numbers.{neg};
 ghost use Rattle.dsp_defs.specs.Block.{frames_in};
-ghost use Rattle.dsp_stage.specs.Kept.{kept_numbers, kept_of_chain, kept_count, HasPlace, FitsAfter};
+ghost use Rattle.dsp_defs.specs.Kept.{kept_numbers, kept_of_chain, kept_count, HasPlace, FitsAfter};
 
 use dsp_defs::{Block, Fmt};
 

@@ -6,7 +6,7 @@ use Rattle.dsp_defs.specs.Formats.{word}
 use Rattle.dsp_defs.specs.Signal.{sample}
 use Rattle.dsp_defs.specs.declared.format.Fmt.{Fmt}
 use Rattle.dsp_defs.specs.declared.format.Fmt.TheVariants.{Q7, Q15, Q31}
-use Rattle.dsp_stage.specs.Kept.{Each, IsOfKind, in_words}
+use Rattle.dsp_defs.specs.Kept.{Each, IsOfKind, in_words}
 use Rattle.dsp_stage.proofs.ChannelKept.{fit-words}
 use Rattle.dsp_unit.proofs.Slices.{narrow-word}
 use Rattle.dsp_bank.proofs.kept.sample_at.Goals as goal

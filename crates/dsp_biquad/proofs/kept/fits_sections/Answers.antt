@@ -2,7 +2,7 @@ use Rattle.std.proofs.Common.{◌∙◌, refl, sym, subst, arith, ℕ, flat_map}
 use Rattle.std.specs.List.{range_with_len}
 use Rattle.std.proofs.lemmas.Bool.{false≢true}
 use Rattle.dsp_stage.specs.Channels.{numbers_in}
-use Rattle.dsp_stage.specs.Kept.{Each, IsOfKind}
+use Rattle.dsp_defs.specs.Kept.{Each, IsOfKind}
 use Rattle.dsp_biquad.proofs.SectionNumbers.{kinds-count, each-section, sections-each, piece-is}
 use Rattle.dsp_biquad.proofs.kept.fits_sections.Goals as goal
 

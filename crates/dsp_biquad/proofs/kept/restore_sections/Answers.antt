@@ -1,6 +1,6 @@
 use Rattle.std.proofs.Common.{◌∙◌, ap, sym, subst, ◌*◌, length, flat_map, take_all, arith}
 use Rattle.std.proofs.Math.Seq.{map-set_same}
-use Rattle.dsp_stage.specs.Kept.{Each, IsOfKind}
+use Rattle.dsp_defs.specs.Kept.{Each, IsOfKind}
 use Rattle.dsp_biquad.proofs.SectionNumbers.{each-section, piece-is, restored-more}
 use Rattle.dsp_biquad.proofs.kept.restore_sections.Goals as goal
 

@@ -1,5 +1,5 @@
 use Rattle.std.proofs.Common.{◌≡◌, ◌∙◌, ap, refl, sym, subst, true, false, length, arith, Some}
-use Rattle.dsp_stage.specs.Kept.{place_of}
+use Rattle.dsp_defs.specs.Kept.{place_of}
 use Rattle.dsp_chain.specs.Restored.{FitsUnits}
 use Rattle.dsp_chain.proofs.KeptRows.{front, cut, told, no-numbers}
 use Rattle.dsp_chain.proofs.Room.{no-units}

@@ -2,7 +2,7 @@ use Rattle.std.proofs.Common.{◌∙◌, ap, refl, sym, subst, length, arith, �
 use Rattle.std.proofs.lemmas.List.{take-append-drop}
 use Rattle.dsp_stage.specs.Unit.{UnitState, Restores}
 use Rattle.dsp_stage.specs.Row.{AllRun}
-use Rattle.dsp_stage.specs.Kept.{FitsAfter}
+use Rattle.dsp_defs.specs.Kept.{FitsAfter}
 use Rattle.dsp_chain.specs.Restored.{FitsUnits, AllRestores}
 use Rattle.dsp_chain.proofs.KeptRows.{front, cut}
 use Rattle.dsp_chain.proofs.Room.{no-units}

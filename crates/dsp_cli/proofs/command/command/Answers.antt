@@ -1,5 +1,5 @@
 use Rattle.std.proofs.Common.{ap, sym, ◌∙◌}
-use Rattle.dsp_defs.specs.Words.{command_of}
+use Rattle.dsp_command.specs.Words.{command_of}
 use Rattle.dsp_cli.proofs.WordLaws.{five_words, six_words}
 use Rattle.dsp_cli.proofs.command.command.Goals as goal
 

@@ -1,5 +1,5 @@
 use Rattle.std.proofs.Common.{◌++◌, append_assoc, ap, ◌∙◌, codes, decimal}
-use Rattle.dsp_defs.specs.Report.{field}
+use Rattle.dsp_command.specs.Report.{field}
 use Rattle.dsp_cli.proofs.fault_line.au_fields.Goals as goal
 
 pub returns-in-Short-clause-items : goal.returns-in-Short-clause-items

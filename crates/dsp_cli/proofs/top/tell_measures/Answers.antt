@@ -4,7 +4,7 @@ use Rattle.std.proofs.lemmas.Result.{err_from_is_err_and}
 use Rattle.std.proofs.lemmas.List.{take_all}
 use Rattle.dsp_ports.specs.Ports.{Took}
 use Rattle.dsp_ports.proofs.Moved.{Took-nil}
-use Rattle.dsp_defs.specs.Report.{measure_line}
+use Rattle.dsp_command.specs.Report.{measure_line}
 use Rattle.dsp_cli.specs.Run.{Wrote}
 use Rattle.dsp_cli.proofs.ReportLaws.{lines, lines-more, line-begins, wrote-more, tells-front, tells-all}
 use Rattle.dsp_cli.proofs.top.tell_measures.Goals as goal

@@ -1,5 +1,5 @@
 use Rattle.std.proofs.Common.{◌≡◌, take, flat_map}
-use Rattle.dsp_defs.specs.Report.{measure_line}
+use Rattle.dsp_command.specs.Report.{measure_line}
 use Rattle.dsp_cli.specs.Run.{Wrote}
 use Rattle.dsp_cli.proofs.top.tell_measures.Given as goal
 

@@ -1,5 +1,5 @@
 use Rattle.std.proofs.Common.{◌≡◌, ◌∙◌, ◌-◌, ap, None, Some, map, pos, length, vec_len, arith, rules}
-use Rattle.dsp_stage.specs.Kept.{greatest}
+use Rattle.dsp_defs.specs.Kept.{greatest}
 use Rattle.dsp_fir.specs.Delays.{sparse_rows}
 use Rattle.dsp_fir.proofs.BlockLemmas.{block-values}
 use Rattle.dsp_fir.proofs.DelayLemmas.{within-past, named-values}

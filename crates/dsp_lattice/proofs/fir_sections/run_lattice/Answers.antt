@@ -1,7 +1,7 @@
 use Rattle.std.proofs.Common.{◌≡◌, ◌∙◌, ap, sym, subst, List, ℤ, map, length}
 use Rattle.std.specs.List.{zip}
 use Rattle.std.proofs.lemmas.List.{length-map}
-use Rattle.dsp_stage.specs.Kept.{lattice_kept}
+use Rattle.dsp_defs.specs.Kept.{lattice_kept}
 use Rattle.dsp_defs.specs.Streaming.{GoesOn}
 use Rattle.dsp_lattice.specs.LatticeState.{sections_give}
 use Rattle.dsp_lattice.proofs.Sections.{lattice-whole}

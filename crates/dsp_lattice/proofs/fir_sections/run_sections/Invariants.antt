@@ -1,7 +1,7 @@
 use Rattle.std.proofs.Common.{◌≡◌, ◌*◌, length, map, take, drop}
 use Rattle.std.specs.List.{zip}
 use Rattle.dsp_defs.specs.Counts.{Rises}
-use Rattle.dsp_stage.specs.Kept.{lattice_kept}
+use Rattle.dsp_defs.specs.Kept.{lattice_kept}
 use Rattle.dsp_defs.specs.Streaming.{GoesOn}
 use Rattle.dsp_lattice.specs.LatticeState.{sections_give}
 use Rattle.dsp_lattice.proofs.fir_sections.run_sections.Given as goal

@@ -5,7 +5,7 @@ use Rattle.std.proofs.lemmas.Bool.Decides.{nat_tests}
 use Rattle.dsp_defs.specs.Formats.{word}
 use Rattle.dsp_defs.specs.Signal.{sample}
 use Rattle.dsp_defs.specs.declared.format.Fmt.{Fmt}
-use Rattle.dsp_stage.specs.Kept.{Below, Fixed, IsOfKind}
+use Rattle.dsp_defs.specs.Kept.{Below, Fixed, IsOfKind}
 use Rattle.dsp_measure.specs.Extremes.{IsFew, KeepsExtreme}
 use Rattle.dsp_measure.proofs.ExtremeLaws.{four-numbers}
 use Rattle.dsp_measure.proofs.extreme_numbers.are_of_some.Goals as goal

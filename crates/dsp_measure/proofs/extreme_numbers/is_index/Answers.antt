@@ -3,7 +3,7 @@ use Rattle.std.specs.Prelude.{IsTrue, int_le}
 use Rattle.std.specs.Int.Signed.{le_z_yes, lt_z_yes}
 use Rattle.std.proofs.lemmas.Int.{ints}
 use Rattle.std.proofs.lemmas.Bool.Decides.{nat_tests}
-use Rattle.dsp_stage.specs.Kept.{Below, Fixed, IsOfKind}
+use Rattle.dsp_defs.specs.Kept.{Below, Fixed, IsOfKind}
 use Rattle.dsp_measure.specs.Extremes.{IsFew}
 use Rattle.dsp_measure.proofs.extreme_numbers.is_index.Goals as goal
 use Rattle.dsp_measure.proofs.extreme_numbers.is_index.Goals.{then-index-ge0, else-index-ge0}

@@ -1,7 +1,7 @@
 use Rattle.std.proofs.Common.{◌≡◌, ◌∙◌, ap, sym, subst, Some, refl, rules, ℤ, pos, List, [], ◌∷◌, length, set, SFits, to_z, to_z-of_z, arith}
 use mir.Syntax.{w32, w64}
 use Rattle.std.proofs.lemmas.Int.{to_z_pos}
-use Rattle.dsp_stage.specs.Kept.{extreme_kept}
+use Rattle.dsp_defs.specs.Kept.{extreme_kept}
 use Rattle.dsp_measure.specs.Extremes.{IsFound, KeepsExtreme}
 use Rattle.dsp_measure.proofs.ExtremeLaws.{word-fits, keeps-found}
 use Rattle.dsp_measure.proofs.extreme_numbers.write_extreme.Goals as goal

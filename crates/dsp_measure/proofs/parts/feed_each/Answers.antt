@@ -1,6 +1,6 @@
 use Rattle.std.proofs.Common.{◌≡◌, ◌∙◌, ap, sym, subst, rules, ℤ, List, take, drop, ◌+◌, ◌-◌, ◌*◌, ◌/◌, ◌<◌, ◌≤◌, ℕ, length, arith}
 use Rattle.dsp_stage.specs.Channels.{numbers_in}
-use Rattle.dsp_stage.specs.Kept.{Each, IsOfKind, kinds_by}
+use Rattle.dsp_defs.specs.Kept.{Each, IsOfKind, kinds_by}
 use Rattle.dsp_measure.specs.Measures.{block_of, parts_of, size_of, price_of, PartFeeds}
 use Rattle.dsp_measure.proofs.MeasureParts.{length-kept, kinds-each, parts-more, parts-feed, PartsSoFar}
 use Rattle.dsp_stage.proofs.ChannelKept.{length-numbers_in}

@@ -1,6 +1,6 @@
 use Rattle.std.proofs.Common.{◌≡◌, ◌∙◌, ap, ◌/◌, ◌+◌, ◌++◌, length, arith, length-append}
 use Rattle.dsp_stage.specs.Channels.{samples_in}
-use Rattle.dsp_stage.specs.Kept.{extreme_kept}
+use Rattle.dsp_defs.specs.Kept.{extreme_kept}
 use Rattle.dsp_stage.proofs.ChannelFrames.{length-samples_in}
 use Rattle.dsp_measure.specs.Extremes.{ExtremeState, extreme, extreme_of, KeepsExtreme}
 use Rattle.dsp_measure.proofs.ExtremeLaws.{same-state}

@@ -1,7 +1,7 @@
 use Rattle.std.proofs.Common.{◌≡◌, ◌∙◌, ap, sym, subst, ◌*◌, ◌<◌, ℕ, ℤ, List, Option, Some, length, arith, below_more}
 use Rattle.dsp_defs.specs.declared.format.Fmt.{Fmt}
 use Rattle.dsp_stage.specs.Channels.{numbers_in}
-use Rattle.dsp_stage.specs.Kept.{Each, IsOfKind, FitsAfter, FitsChannel, kinds_by, place_of}
+use Rattle.dsp_defs.specs.Kept.{Each, IsOfKind, FitsAfter, FitsChannel, kinds_by, place_of}
 use Rattle.dsp_measure.specs.Measures.{block_of, parts_of, size_of}
 use Rattle.dsp_measure.specs.declared.measure_block.MeasureBlock.{MeasureBlock}
 use Rattle.dsp_measure.proofs.MeasureParts.{length-kept, kinds-each, each-kinds}

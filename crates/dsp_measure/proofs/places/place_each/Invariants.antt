@@ -1,6 +1,6 @@
 use Rattle.std.proofs.Common.{ℕ, ◌<◌}
 use Rattle.dsp_stage.specs.Channels.{numbers_in}
-use Rattle.dsp_stage.specs.Kept.{FitsChannel}
+use Rattle.dsp_defs.specs.Kept.{FitsChannel}
 use Rattle.dsp_measure.specs.Measures.{block_of, size_of}
 use Rattle.dsp_measure.proofs.places.place_each.Given as goal
 

@@ -1,6 +1,6 @@
 use Rattle.std.proofs.Common.{◌≡◌, ◌∙◌, sym, refl, true, false}
 use Rattle.dsp_defs.specs.Formats.{accumulator}
-use Rattle.dsp_stage.specs.Kept.{IsOfKind}
+use Rattle.dsp_defs.specs.Kept.{IsOfKind}
 use Rattle.dsp_stage.proofs.ChannelKept.{words-fit, fit-words, length-words}
 use Rattle.dsp_measure.proofs.places.place_sums.Goals as goal
 use Rattle.dsp_measure.proofs.places.place_sums.Goals.{else-numbers-size-via-then-numbers-size+else-are_sums, else-numbers-size-via-else-numbers-size}

@@ -2,7 +2,7 @@ use Rattle.std.proofs.Common.{◌∙◌, ap, rules, ◌*◌, ◌<◌, drop, Some
 use mir.Syntax.{w64}
 use Rattle.dsp_defs.specs.Signal.{sample}
 use Rattle.dsp_defs.specs.declared.measure.Measure.TheVariants as Measures
-use Rattle.dsp_stage.specs.Kept.{kept_extreme}
+use Rattle.dsp_defs.specs.Kept.{kept_extreme}
 use Rattle.dsp_measure.proofs.MeasureResults.{value-at, power-room, max-room, min-room, max-keeps, min-keeps}
 use Rattle.dsp_measure.proofs.results.result_of.Goals as goal
 

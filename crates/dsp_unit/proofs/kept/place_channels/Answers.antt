@@ -1,6 +1,6 @@
 use Rattle.std.proofs.Common.{◌≡◌, ◌∙◌, sym, subst, Some, ◌/◌, ◌<◌, length, map, arith, below_more}
 use Rattle.std.proofs.lemmas.List.{length-map}
-use Rattle.dsp_stage.specs.Kept.{Fits, FitsChannel}
+use Rattle.dsp_defs.specs.Kept.{Fits, FitsChannel}
 use Rattle.dsp_stage.specs.Filter.{filter_at}
 use Rattle.dsp_stage.specs.Channels.{numbers_in}
 use Rattle.dsp_stage.proofs.ChannelRestores.{fits-whole}

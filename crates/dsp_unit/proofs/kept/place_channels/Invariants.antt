@@ -1,6 +1,6 @@
 use Rattle.std.proofs.Common.{ℕ, ◌<◌, map}
 use Rattle.dsp_stage.specs.Filter.{filter_at}
-use Rattle.dsp_stage.specs.Kept.{FitsChannel}
+use Rattle.dsp_defs.specs.Kept.{FitsChannel}
 use Rattle.dsp_stage.specs.Channels.{numbers_in}
 use Rattle.dsp_unit.proofs.kept.place_channels.Given as goal
 

@@ -1,6 +1,6 @@
 use Rattle.std.proofs.Common.{◌≡◌, ◌∙◌, ◌<◌, ◌/◌, sym, subst, length, map, ◌+◌, get_or, arith}
 use Rattle.std.proofs.lemmas.List.{length-map, map-set}
-use Rattle.dsp_stage.specs.Kept.{FitsChannel}
+use Rattle.dsp_defs.specs.Kept.{FitsChannel}
 use Rattle.dsp_stage.specs.Filter.{FilterState, FilterRestores, filter_at, no_filter}
 use Rattle.dsp_stage.specs.Channels.{numbers_in}
 use Rattle.dsp_unit.proofs.KeptLists.{fits-each, piece-room}

@@ -1,5 +1,5 @@
 use Rattle.dsp_defs.specs.Formats.{word}
-use Rattle.dsp_stage.specs.Kept.{IsOfKind}
+use Rattle.dsp_defs.specs.Kept.{IsOfKind}
 use Rattle.dsp_stage.proofs.ChannelKept.{length-words, words-fit, fit-words}
 use Rattle.dsp_unit.proofs.samples.are_samples.Goals as goal
 

@@ -1,7 +1,7 @@
 use Rattle.std.proofs.Common.{◌≡◌, ◌≤◌, ◌+◌, ◌-◌, ◌++◌, ◌∙◌, ap, sym, subst, length-take-le, map, length, take, drop, take_at, reverse, arith, rules, vec_len}
 use Rattle.std.proofs.lemmas.List.{length-map}
 use Rattle.dsp_defs.specs.Formats.{word}
-use Rattle.dsp_stage.specs.Kept.{IsOfKind}
+use Rattle.dsp_defs.specs.Kept.{IsOfKind}
 use Rattle.dsp_stage.proofs.ChannelKept.{length-words, fit-words}
 use Rattle.dsp_defs.specs.declared.limits.TheConstants.{MAX_SAMPLES}
 use Rattle.dsp_window.specs.Rolling.{Rolling, last_samples}

@@ -5,7 +5,7 @@ use Rattle.std.proofs.lemmas.List.Elements.{All-get_or}
 use Rattle.dsp_defs.specs.Formats.{word}
 use Rattle.dsp_defs.specs.Signal.{sample}
 use Rattle.dsp_defs.specs.declared.format.Fmt.{Fmt}
-use Rattle.dsp_stage.specs.Kept.{Each, IsOfKind, in_words}
+use Rattle.dsp_defs.specs.Kept.{Each, IsOfKind, in_words}
 use Rattle.dsp_stage.proofs.ChannelKept.{length-words, fit-words}
 use Rattle.dsp_unit.proofs.Slices.{narrow-word}
 use Rattle.dsp_adapt.specs.PidState.{block_of}

@@ -1,7 +1,7 @@
 use Rattle.std.proofs.Common.{◌≡◌, ◌≤◌, ◌*◌, sym, subst, length, rules}
 use Rattle.dsp_defs.specs.Formats.{word}
 use Rattle.dsp_defs.specs.declared.limits.TheConstants.{MAX_SAMPLES}
-use Rattle.dsp_stage.specs.Kept.{IsOfKind}
+use Rattle.dsp_defs.specs.Kept.{IsOfKind}
 use Rattle.dsp_stage.proofs.ChannelKept.{length-words}
 use Rattle.dsp_bank.specs.Bank.{BankState, IsWholeBank}
 use Rattle.dsp_bank.proofs.BankUnits.{bank-fits_words, whole-kept}

@@ -1,6 +1,6 @@
 use Rattle.std.proofs.Common.{◌≡◌, ◌∙◌, ap, sym, subst, ℕ, List, length, map, flat_map, rules, vec_len}
 use Rattle.std.specs.List.{range_with_len}
-use Rattle.dsp_stage.specs.Kept.{Kind, Each, IsOfKind}
+use Rattle.dsp_defs.specs.Kept.{Kind, Each, IsOfKind}
 use Rattle.dsp_biquad.proofs.cascade.CascadeStepwise.fits.Goals as goal
 
 pub returns : goal.returns

@@ -2,7 +2,7 @@ use Rattle.std.proofs.Common.{◌≡◌, ◌∙◌, ap, sym, subst, ◌≤◌, �
 use Rattle.std.proofs.lemmas.List.{length-map}
 use Rattle.std.specs.Result.{IfOk}
 use Rattle.std.specs.declared.result.Result.{Result}
-use Rattle.dsp_stage.specs.Kept.{kept_of_channel}
+use Rattle.dsp_defs.specs.Kept.{kept_of_channel}
 use Rattle.dsp_biquad.specs.Sections.{coefficients_of}
 use Rattle.dsp_biquad.proofs.cascade.CascadeStepwise.of_block.Goals as goal
 

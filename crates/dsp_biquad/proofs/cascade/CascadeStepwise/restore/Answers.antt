@@ -1,7 +1,7 @@
 use Rattle.std.proofs.Common.{◌≡◌, ◌∙◌, ap, sym, subst, ℕ, ◌*◌, ◌≤◌, length, map, flat_map, take, drop, ◌++◌, rules}
 use Rattle.dsp_defs.specs.Cost.{section_count}
 use Rattle.dsp_defs.specs.Streaming.{chained}
-use Rattle.dsp_stage.specs.Kept.{Each, IsOfKind}
+use Rattle.dsp_defs.specs.Kept.{Each, IsOfKind}
 use Rattle.dsp_unit.proofs.Units.{written-whole}
 use Rattle.dsp_biquad.specs.Sections.{block_acts}
 use Rattle.dsp_biquad.proofs.SectionNumbers.{kinds-count}

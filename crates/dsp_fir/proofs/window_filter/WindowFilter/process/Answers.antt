@@ -1,5 +1,5 @@
 use Rattle.std.proofs.Common.{◌∙◌, ◌++◌, ap, sym, map}
-use Rattle.dsp_stage.specs.Kept.{kept_of_channel}
+use Rattle.dsp_defs.specs.Kept.{kept_of_channel}
 use Rattle.dsp_window.proofs.Pushed.{keeps-after}
 use Rattle.dsp_fir.specs.ByChannel.{windowed}
 use Rattle.dsp_fir.specs.WindowState.{block_of, past_count}

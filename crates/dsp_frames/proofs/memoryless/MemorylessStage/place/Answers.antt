@@ -1,7 +1,7 @@
 use Rattle.std.proofs.Common.{◌≡◌, refl, ap, sym, subst, ℤ, List, [], ◌∷◌, length, Some, arith}
 use Rattle.std.specs.Prelude.{◌==◌, IsTrue}
 use Rattle.std.proofs.lemmas.Grind.{common_steps}
-use Rattle.dsp_stage.specs.Kept.{FitsAfter}
+use Rattle.dsp_defs.specs.Kept.{FitsAfter}
 use Rattle.dsp_frames.proofs.memoryless.MemorylessStage.place.Goals as goal
 
 none : (xs : List ℤ) → IsTrue (length xs == 0) → xs ≡ []

@@ -1,7 +1,7 @@
 use Rattle.std.proofs.Common.{◌≡◌, ◌∙◌, ap, sym, ◌+◌, length, map, drop, reverse, rules}
 use Rattle.std.proofs.lemmas.List.{length-map}
 use Rattle.dsp_defs.specs.Formats.{word}
-use Rattle.dsp_stage.specs.Kept.{IsOfKind}
+use Rattle.dsp_defs.specs.Kept.{IsOfKind}
 use Rattle.dsp_stage.proofs.ChannelKept.{length-words, fit-words}
 use Rattle.dsp_unit.proofs.Units.{written-whole}
 use Rattle.dsp_lattice.proofs.iir_work.IirLatticeWorkStepwise.restore.Goals as goal

@@ -1,7 +1,7 @@
 use Rattle.std.proofs.Common.{◌≡◌, ◌∙◌, ap, sym, ◌-◌, get_or, length, map, drop, reverse, arith, rules, length-drop}
 use Rattle.std.proofs.lemmas.List.{take_all, length-map, length-reverse}
 use Rattle.dsp_defs.specs.Lattice.{lattice_iir}
-use Rattle.dsp_stage.specs.Kept.{ladder_kept}
+use Rattle.dsp_defs.specs.Kept.{ladder_kept}
 use Rattle.dsp_stage.proofs.GoingOn.{goes-more, rest-stays}
 use Rattle.dsp_unit.proofs.Units.{written-whole}
 use Rattle.dsp_lattice.proofs.Ladders.{ladder-step}

@@ -1,7 +1,7 @@
 use Rattle.std.proofs.Common.{◌≡◌, ◌+◌, ◌*◌, length, map, take, drop, reverse}
 use Rattle.dsp_defs.specs.Counts.{Rises}
 use Rattle.dsp_defs.specs.Lattice.{lattice_iir}
-use Rattle.dsp_stage.specs.Kept.{ladder_kept}
+use Rattle.dsp_defs.specs.Kept.{ladder_kept}
 use Rattle.dsp_defs.specs.Streaming.{GoesOn}
 use Rattle.dsp_lattice.proofs.iir_work.IirLatticeWorkStepwise.run.Given as goal
 

@@ -1,6 +1,6 @@
 use Rattle.std.proofs.Common.{◌≡◌, ◌∙◌, ap, sym, subst, ◌*◌, ◌<◌, pos, replicate, false, rules}
 use Rattle.dsp_stage.specs.Unit.{IsNew}
-use Rattle.dsp_stage.specs.Kept.{FitsAfter}
+use Rattle.dsp_defs.specs.Kept.{FitsAfter}
 use Rattle.dsp_measure.specs.Measures.{block_of, parts_of, size_of}
 use Rattle.dsp_measure.proofs.MeasureUnits.{measure-new, zeros-fit, enough-channels, state}
 use Rattle.dsp_measure.proofs.unit.Unit.new.Goals as goal

@@ -1,7 +1,7 @@
 use Rattle.std.proofs.Common.{◌≡◌, sym, subst, ℕ, length, map, Some, IfSome}
 use Rattle.std.proofs.lemmas.List.{length-map}
 use Rattle.dsp_stage.specs.Filter.{filter_at}
-use Rattle.dsp_stage.specs.Kept.{FitsAfter, place_of}
+use Rattle.dsp_defs.specs.Kept.{FitsAfter, place_of}
 use Rattle.dsp_unit.proofs.each_channel.EachChannelStage.place.Goals as goal
 
 pub returns-clause-fits : goal.returns-clause-fits

@@ -1,7 +1,7 @@
 use Rattle.std.proofs.Common.{◌≡◌, sym, subst, ◌≤◌, ◌++◌, length, map, take, drop, arith}
 use Rattle.std.specs.Prelude.{IsFalse}
 use Rattle.std.proofs.lemmas.List.{length-map}
-use Rattle.dsp_stage.specs.Kept.{Fits}
+use Rattle.dsp_defs.specs.Kept.{Fits}
 use Rattle.dsp_stage.specs.Filter.{AreFilters, filter_at, filter_room}
 use Rattle.dsp_stage.specs.Channels.{unit_of_filters, AreRestored}
 use Rattle.dsp_stage.specs.Unit.{Restores, UnitState}

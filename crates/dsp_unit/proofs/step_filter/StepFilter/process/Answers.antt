@@ -3,7 +3,7 @@ use Rattle.std.proofs.lemmas.List.{length-map}
 use Rattle.dsp_defs.specs.Streaming.{GoesOn}
 use Rattle.dsp_defs.specs.Counts.{Rises}
 use Rattle.dsp_stage.specs.Filter.{of_channel}
-use Rattle.dsp_stage.specs.Kept.{kept_of_channel}
+use Rattle.dsp_defs.specs.Kept.{kept_of_channel}
 use Rattle.dsp_stage.proofs.SteadyFilters.{stepwise-fed}
 use Rattle.dsp_unit.proofs.Slices.{front-written}
 use Rattle.dsp_unit.proofs.step_filter.StepFilter.process.Goals as goal

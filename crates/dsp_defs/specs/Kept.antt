@@ -11,6 +11,7 @@ use Rattle.dsp_defs.specs.Adaptive.{lms, weights_before, pid}
 use Rattle.dsp_defs.specs.Measure.{power, dot, cmplx_dot_sums, cmplx_dot_close, maximum, minimum}
 use Rattle.dsp_defs.specs.Block.{Frame, channel, input_pairs, live, format_after, channels_after}
 use Rattle.dsp_defs.specs.Cost.{section_count}
+use Rattle.dsp_defs.specs.Shape.{live_frames}
 use Rattle.dsp_defs.specs.declared.limits.TheConstants.{MAX_GATHERED}
 use Rattle.dsp_defs.specs.declared.format.Fmt.{Fmt}
 use Rattle.dsp_defs.specs.declared.format.Fmt.TheVariants.{Q31}
@@ -206,6 +207,19 @@ FitsAfter format channels block n numbers = IsTaken block n × Each IsOfKind (ke
 -- and of some number of frames
 abbrev pub Fits : Fmt → ℕ → Block → List ℤ → Type 0
 Fits format channels block numbers = (n : ℕ) × FitsAfter format channels block n numbers
+
+-- how many numbers the blocks keep of n frames, each of the live frames at its place
+abbrev pub kept_count_of_chain : Fmt → ℕ → List Block → ℕ → ℕ
+kept_count_of_chain format channels [] n = 0
+kept_count_of_chain format channels (block ∷ blocks) n =
+    kept_count format channels block n + kept_count_of_chain (format_after format block) (channels_after channels block) blocks (live_frames block n)
+
+-- the numbers are such that the blocks can keep them of n frames, each of the live frames at its place
+abbrev pub FitsBlocks : Fmt → ℕ → List Block → ℕ → List ℤ → Type 0
+FitsBlocks format channels [] n numbers = numbers ≡ []
+FitsBlocks format channels (block ∷ blocks) n numbers =
+    (here later : List ℤ) × (numbers ≡ here ++ later) × FitsAfter format channels block n here
+    × FitsBlocks (format_after format block) (channels_after channels block) blocks (live_frames block n) later
 
 -- the least number of frames at which a block stands where n frames lead it
 abbrev pub place_of : Block → ℕ → ℕ

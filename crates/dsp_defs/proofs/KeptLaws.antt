@@ -11,8 +11,8 @@ use Rattle.dsp_defs.specs.Biquad.{Section, sections, biquad_section, biquad64_se
 use Rattle.dsp_defs.specs.Adaptive.{weights_before, lms, lms_output}
 use Rattle.dsp_defs.specs.Block.{Frame, channel, input_pairs}
 use Rattle.dsp_defs.specs.Cost.{section_count}
-use Rattle.dsp_stage.specs.Kept
-use Rattle.dsp_stage.specs.Kept.{Kind, InWord, Fixed, Each, IsPlace, in_words, open_group, greatest, lattice_kept, ladder_kept, sections_kept, wide_sections_kept, lms_kept, kept_of_channel, kinds_by, kept_numbers, HasPlace}
+use Rattle.dsp_defs.specs.Kept
+use Rattle.dsp_defs.specs.Kept.{Kind, InWord, Fixed, Each, IsPlace, in_words, open_group, greatest, lattice_kept, ladder_kept, sections_kept, wide_sections_kept, lms_kept, kept_of_channel, kinds_by, kept_numbers, HasPlace}
 use Rattle.dsp_defs.proofs.BlockLaws.{length-values}
 use Rattle.dsp_defs.specs.declared.format.Fmt.{Fmt}
 use Rattle.dsp_defs.specs.declared.format.Fmt.TheVariants.{Q7, Q15, Q31}

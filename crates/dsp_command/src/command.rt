@@ -1,4 +1,4 @@
-use crate::au::Direction;
+use dsp_defs::Direction;
 
 /// What the words of a command line ask for.
 #[derive(Clone, Copy, Debug, PartialEq, Eq)]

@@ -7,9 +7,9 @@ use Rattle.std.specs.Str.{bytes_eq}
 use Rattle.std.specs.Str.Parse.{digits_value}
 use Rattle.dsp_defs.specs.declared.au.Direction.{Direction}
 use Rattle.dsp_defs.specs.declared.au.Direction.TheVariants.{WaveToAu, AuToWave}
-use Rattle.dsp_defs.specs.declared.command.Command.{Command}
-use Rattle.dsp_defs.specs.declared.command.Command.TheVariants.{Run, Gen, Print, Convert}
-use Rattle.dsp_defs.specs.declared.command.Places.{Places}
+use Rattle.dsp_command.specs.declared.command.Command.{Command}
+use Rattle.dsp_command.specs.declared.command.Command.TheVariants.{Run, Gen, Print, Convert}
+use Rattle.dsp_command.specs.declared.command.Places.{Places}
 use Rattle.dsp_defs.specs.declared.limits.TheConstants.{MAX_GENERATED}
 
 -- a count: one to ten digits, of at most 2^32 - 1

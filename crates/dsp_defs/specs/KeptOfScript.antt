@@ -2,10 +2,9 @@
 use Rattle.std.specs.Prelude.{ℕ, ◌≤◌, ℤ, List}
 use Rattle.dsp_defs.specs.Block.{Frame}
 use Rattle.dsp_defs.specs.Shape.{gathered}
-use Rattle.dsp_stage.specs.Kept.{kept_of_chain}
+use Rattle.dsp_defs.specs.Kept.{kept_of_chain, kept_count_of_chain, FitsBlocks}
 use Rattle.dsp_defs.specs.declared.limits.TheConstants.{MAX_GATHERED}
 use Rattle.dsp_defs.specs.declared.script.Script.{Script}
-use Rattle.dsp_chain.specs.Restored.{FitsBlocks, kept_count_of_chain}
 
 -- what the blocks of a script keep of the frames x, block after block
 abbrev pub kept : Script → List Frame → List ℤ

@@ -1,5 +1,0 @@
-use Rattle.dsp_stage.proofs.KeptLaws.{kept_numbers-place}
-use Rattle.dsp_stage.proofs.laws.kept_numbers_have_their_place.Goals as goal
-
-pub returns : goal.returns
-returns c = kept_numbers-place c.args.format

@@ -1,7 +1,6 @@
-use Rattle.std.proofs.Common.{◌≡◌, ◌∙◌, ap, sym, map, List, ℤ, arith, w32, w64}
-use lib.Lanes.{chunk, Each1}
+use Rattle.std.proofs.Common.{◌∙◌, ap, sym, w32}
+use lib.Lanes.{chunk}
 use Rattle.std.proofs.lemmas.Simd.{length-chunk}
-use mir.Val.{SFits}
 use Rattle.dsp_lanes.proofs.LaneOps.{group_fits}
 use Rattle.dsp_lanes.proofs.LaneSums.{map-self}
 use Rattle.dsp_lanes.proofs.SectionLanes.{masked_read}

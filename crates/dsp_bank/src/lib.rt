@@ -17,3 +17,6 @@ pub use bank_unit::BankUnit;
 
 #[cfg(test)]
 mod tests;
+
+#[cfg(test)]
+mod unit_tests;

@@ -1,2 +1,2 @@
-mod Banks
+mod PlainBlocks
 mod Rooms

@@ -17,6 +17,3 @@ pub use bank_unit::BankUnit;
 
 #[cfg(test)]
 mod tests;
-
-#[cfg(test)]
-mod unit_tests;

@@ -1,1 +1,2 @@
+mod PlainBlocks
 mod Rooms

@@ -1,6 +1,7 @@
 ghost use Rattle.dsp_blocks.specs.BlockUnit.{state_of};
 
 use dsp_adapt::{LmsUnit, PidWork};
+use dsp_bank::BankUnit;
 use dsp_biquad::{Cascade, Section, Section64};
 use dsp_complex::ComplexUnit;
 use dsp_conv::{Convolution, Correlate};
@@ -42,6 +43,8 @@ pub enum BlockUnit {
     Biquad15(EachStep<i16, Cascade<i16, Section<i16>>>),
     Biquad31(EachStep<i32, Cascade<i32, Section<i32>>>),
     Biquad64(EachStep<i32, Cascade<i32, Section64>>),
+    Bank15(BankUnit<i16, 8>),
+    Bank31(BankUnit<i32, 4>),
     Conv7(EachConvolution<i8, 16>),
     Conv15(EachConvolution<i16, 8>),
     Conv31(EachConvolution<i32, 4>),
@@ -77,6 +80,8 @@ macro_rules! for_unit {
             BlockUnit::Biquad15($unit) => $result,
             BlockUnit::Biquad31($unit) => $result,
             BlockUnit::Biquad64($unit) => $result,
+            BlockUnit::Bank15($unit) => $result,
+            BlockUnit::Bank31($unit) => $result,
             BlockUnit::Conv7($unit) => $result,
             BlockUnit::Conv15($unit) => $result,
             BlockUnit::Conv31($unit) => $result,

@@ -1,5 +1,5 @@
-ghost use Rattle.std.specs.Prelude.{◌≤◌, ◌≢◌, ◌*◌, IfOk};
-ghost use Rattle.dsp_stage.specs.Unit.{IsNew, most_frames, most_room};
+ghost use Rattle.std.specs.Prelude.{◌≤◌, ◌≢◌, ◌*◌, IfOk, true};
+ghost use Rattle.dsp_stage.specs.Unit.{IsMade, IsNew, most_frames, most_room};
 ghost use Rattle.dsp_defs.specs.Grammar.{Suits};
 ghost use Rattle.dsp_defs.specs.declared.format.Fmt.TheVariants.{Q7, Q15, Q31};
 ghost use Rattle.dsp_fir.specs.ByChannel.{IsWindowIn};
@@ -14,6 +14,7 @@ ghost use Rattle.dsp_blocks.specs.BlockUnit.{state_of};
 
 use crate::BlockUnit;
 use dsp_adapt::LmsUnit;
+use dsp_bank::BankUnit;
 use dsp_defs::{Block, Fmt, MAX_SAMPLES};
 use dsp_unit::EachChannel;
 use std::alloc::{AllocError, Global};
@@ -146,6 +147,28 @@ pub fn biquad(
         Fmt::Q7 => unreachable!(),
         Fmt::Q15 => Ok(BlockUnit::Biquad15(EachChannel::new(alloc, block, channels, frames)?)),
         Fmt::Q31 => Ok(BlockUnit::Biquad31(EachChannel::new(alloc, block, channels, frames)?)),
+    }
+}
+
+/// A cascade on all channels of a frame at once.
+pub fn bank(
+    alloc: Global,
+    block: &Block,
+    format: Fmt,
+    channels: u8,
+    frames: usize,
+) -> Result<BlockUnit, AllocError>
+    requires block { IsBiquadIn format block.now }
+    requires wide { format ≢ Q7 }
+    requires channels { 1 ≤ channels }
+    requires frames { 1 ≤ frames }
+    requires samples { frames * channels ≤ MAX_SAMPLES }
+    ensures { IfOk result (λ u. IsMade true block.now format channels frames (state_of u)) }
+{
+    match format {
+        Fmt::Q7 => unreachable!(),
+        Fmt::Q15 => Ok(BlockUnit::Bank15(BankUnit::new(alloc, block, channels, frames)?)),
+        Fmt::Q31 => Ok(BlockUnit::Bank31(BankUnit::new(alloc, block, channels, frames)?)),
     }
 }
 

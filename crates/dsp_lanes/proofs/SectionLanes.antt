@@ -21,7 +21,7 @@ use Rattle.dsp_lanes.proofs.LaneOps.{bits_of, cast_lanes, widened, narrowed}
 use Rattle.dsp_lanes.proofs.LaneSums.{plus_in, times_in}
 use Rattle.dsp_lanes.proofs.LaneClosings.{Castable, down_in, up_in, low_lanes, low_word}
 use Rattle.dsp_lanes.proofs.ProductPairs.{IsSmall, product_small}
-use Rattle.dsp_lanes.proofs.LaneValues.{AreValues, minus_in, of_list, of_splat, same_values, sums, differences, multiples, downs, ups, wides, products, narrows_asked, narrows, read_values, sample_fits}
+use Rattle.dsp_lanes.proofs.LaneValues.{AreValues, minus_in, listed, of_list, of_splat, same_values, sums, differences, multiples, downs, ups, wides, products, narrows_asked, narrows, read_values, sample_fits}
 use Rattle.dsp_lanes.proofs.FloorShifts.{upper_word, unsigned_word}
 use Rattle.dsp_lanes.proofs.SectionHalves.{five_shifted}
 
@@ -135,6 +135,21 @@ module _ (n : ℕ) where
     where
       word_below : (a : ℕ) → a % 2 ^ 32 < 2 ^ 63
       word_below a = let h : a % 2 ^ 32 < 2 ^ 32 = mod_below a (2 ^ 32) (omega arith) in omega (arith, h)
+
+  -- numbers of 32 bits in the low words of their lanes
+  pub masked_read : (xs : List ℤ) → length xs ≡ n → Each1 (SFits w32) xs
+      → (map (int_wrap w32) (map (to_z w64) (zip2 and_in (widened w32 w64 xs) (replicate n 4294967295))) ≡ xs)
+      × Each1 (SFits w64) (map (to_z w64) (zip2 and_in (widened w32 w64 xs) (replicate n 4294967295)))
+  masked_read xs long h =
+      let wide = wides w32 w64 n (omega arith) (of_list w32 n xs long h (omega (arith, ints))) in
+      let read = read_values w64 n (masks wide) in (
+        ap (map (int_wrap w32)) read.0
+            ∙ map-map (int_wrap w32) (λ i. pos (of_z w64 (sample xs i) % 2 ^ 32)) (range_with_len 0 n)
+            ∙ (λ t. map (λ i. (unsigned_word (sample xs i) (wide.fit i)
+            ∙ int_wrap_fits w32 (sample xs i) (sample_fits w32 xs h (omega (arith, ints)) i)) t) (range_with_len 0 n))
+            ∙ sym (listed n xs long),
+        read.1,
+      )
 
   abbrev product_32 : ℤ → List ℤ → List ℕ
   product_32 f xs = zip2 (times_in w64) (cast_lanes w32 w64 (replicate n (of_z w32 f))) (low_lanes n (bits_of w64 xs))

@@ -135,7 +135,8 @@ impl<const L: usize> SectionKernels<L> for i32 {
     #[inline(always)]
     fn load(samples: &[i32], at: usize) -> Simd<i64, L> {
         q31_fit(samples);
-        Simd::<i32, L>::from_slice(&samples[at..]).cast::<i64>()
+        // A product reads the low word alone, and the compiler is not to keep the sign above it.
+        Simd::<i32, L>::from_slice(&samples[at..]).cast::<i64>() & Simd::splat(0xffff_ffff)
     }
 
     #[inline(always)]
@@ -262,6 +263,12 @@ impl SectionSample for i16 {
                 five, post_shift, row, count, first, inputs, outputs, steps,
             );
             first += 4;
+        }
+        'twos: while row - first >= 2 {
+            section_channels::<i16, 2, M>(
+                five, post_shift, row, count, first, inputs, outputs, steps,
+            );
+            first += 2;
         }
         'ones: while row - first >= 1 {
             section_channels::<i16, 1, M>(

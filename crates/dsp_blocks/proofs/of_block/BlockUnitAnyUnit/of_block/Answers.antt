@@ -1,39 +1,23 @@
-use Rattle.std.proofs.Common.{arith}
-use Rattle.dsp_blocks.proofs.Rooms.{room-few}
+use Rattle.std.proofs.Common.{sym, subst, Bool}
+use Rattle.std.proofs.lemmas.Result.{IfOk-weaker}
+use Rattle.dsp_stage.specs.Unit.{IsMade, IsNew}
+use Rattle.dsp_stage.proofs.NewRow.{plain-made, unbanked-made}
+use Rattle.dsp_blocks.specs.BlockUnit.{state_of}
+use Rattle.dsp_blocks.proofs.PlainBlocks.{is-plain}
 use Rattle.dsp_blocks.proofs.of_block.BlockUnitAnyUnit.of_block.Goals as goal
+use Rattle.dsp_blocks.proofs.of_block.BlockUnitAnyUnit.of_block.Goals.{in_default-via-in-Biquad+else-banked, in_default-via-in_default}
 
-pub fir-requires-clause-room : goal.fir-requires-clause-room
-fir-requires-clause-room c = room-few _ c.args.block.now c.args.frames c.requires.suits (omega (arith, c.ranges.channels)) c.requires.samples
-
-pub decimate-requires-clause-room : goal.decimate-requires-clause-room
-decimate-requires-clause-room c = room-few _ c.args.block.now c.args.frames c.requires.suits (omega (arith, c.ranges.channels)) c.requires.samples
-
-pub interpolate-requires-clause-room : goal.interpolate-requires-clause-room
-interpolate-requires-clause-room c = room-few _ c.args.block.now c.args.frames c.requires.suits (omega (arith, c.ranges.channels)) c.requires.samples
-
-pub lattice_fir-requires-clause-room : goal.lattice_fir-requires-clause-room
-lattice_fir-requires-clause-room c = room-few _ c.args.block.now c.args.frames c.requires.suits (omega (arith, c.ranges.channels)) c.requires.samples
-
-pub lattice_iir-requires-clause-room : goal.lattice_iir-requires-clause-room
-lattice_iir-requires-clause-room c = room-few _ c.args.block.now c.args.frames c.requires.suits (omega (arith, c.ranges.channels)) c.requires.samples
-
-pub biquad-requires-clause-room : goal.biquad-requires-clause-room
-biquad-requires-clause-room c = room-few _ c.args.block.now c.args.frames c.requires.suits (omega (arith, c.ranges.channels)) c.requires.samples
-
-pub biquad64-requires-clause-room : goal.biquad64-requires-clause-room
-biquad64-requires-clause-room c = room-few _ c.args.block.now c.args.frames c.requires.suits (omega (arith, c.ranges.channels)) c.requires.samples
-
-pub conv-requires-clause-room : goal.conv-requires-clause-room
-conv-requires-clause-room c = room-few _ c.args.block.now c.args.frames c.requires.suits (omega (arith, c.ranges.channels)) c.requires.samples
-
-pub correlate-requires-clause-room : goal.correlate-requires-clause-room
-correlate-requires-clause-room c = room-few _ c.args.block.now c.args.frames c.requires.suits (omega (arith, c.ranges.channels)) c.requires.samples
-
-pub pid-requires-clause-room : goal.pid-requires-clause-room
-pid-requires-clause-room c = room-few _ c.args.block.now c.args.frames c.requires.suits (omega (arith, c.ranges.channels)) c.requires.samples
-
-pub matrix-requires-clause-room : goal.matrix-requires-clause-room
-matrix-requires-clause-room c = room-few _ c.args.block.now c.args.frames c.requires.suits (omega (arith, c.ranges.channels)) c.requires.samples
-
-pub product-requires-clause-room : goal.product-requires-clause-room
-product-requires-clause-room c = room-few _ c.args.block.now c.args.frames c.requires.suits (omega (arith, c.ranges.channels)) c.requires.samples
+pub returns-in_default : goal.returns-in_default
+returns-in_default c =
+    let block = c.args.block.now in
+    let format = c.args.format in
+    let channels = c.args.channels in
+    let frames = c.args.frames in
+    IfOk-weaker c.plain.result (λ u. IsNew block format channels frames (state_of u))
+    (λ u. IsMade c.args.banked block format channels frames (state_of u))
+    (λ u new. elim c.in_default.branch [
+      in_default-via-in-Biquad+else-banked w ↦ subst (λ (b : Bool). IsMade b block format channels frames
+          (state_of u)) (sym w.if-banked.false) (unbanked-made block format channels frames (state_of u) new)
+      | in_default-via-in_default w ↦ plain-made c.args.banked block format channels frames (state_of u)
+          (is-plain block w.in_default.not-Biquad) new
+    ]) c.plain.ensures

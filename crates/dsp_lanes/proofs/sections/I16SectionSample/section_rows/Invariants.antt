@@ -31,6 +31,20 @@ invariant-fours g l = record {
 abbrev pub decreases-fours : goal.decreases-fours
 decreases-fours g l = l.row - l.first
 
+abbrev pub invariant-twos : goal.invariant-twos
+invariant-twos g l = record {
+  within : l.first ≤ l.row;
+  size : length l.outputs ≡ length l.fn.outputs;
+  follows : (i : ℕ) → i < l.first → Follows Q15 l.post_shift (five_of (map (λ x. x) l.five)) l.row
+      (map (λ x. x) l.inputs) (map (λ x. x) l.outputs) l.count i;
+  past : (i : ℕ) → i < l.row → Stays l.row (map (λ x. x) l.fn.outputs) (map (λ x. x) l.outputs) 2 i;
+  counted : (k m r : ℕ) × (l.first ≡ 8 * k + 4 * m + 2 * r) × (l.row < 8 * k + 8)
+      × RisesWithin l.fn.steps l.steps (l.count * (5 * l.first)) (l.count * (5 * (k + m + r)));
+}
+
+abbrev pub decreases-twos : goal.decreases-twos
+decreases-twos g l = l.row - l.first
+
 abbrev pub invariant-ones : goal.invariant-ones
 invariant-ones g l = record {
   within : l.first ≤ l.row;
@@ -38,8 +52,8 @@ invariant-ones g l = record {
   follows : (i : ℕ) → i < l.first → Follows Q15 l.post_shift (five_of (map (λ x. x) l.five)) l.row
       (map (λ x. x) l.inputs) (map (λ x. x) l.outputs) l.count i;
   past : (i : ℕ) → i < l.row → Stays l.row (map (λ x. x) l.fn.outputs) (map (λ x. x) l.outputs) 2 i;
-  counted : (k m r : ℕ) × (l.first ≡ 8 * k + 4 * m + r) × (l.row < 8 * k + 8)
-      × RisesWithin l.fn.steps l.steps (l.count * (5 * l.first)) (l.count * (5 * (k + m + r)));
+  counted : (k m r s : ℕ) × (l.first ≡ 8 * k + 4 * m + 2 * r + s) × (l.row < 8 * k + 8)
+      × RisesWithin l.fn.steps l.steps (l.count * (5 * l.first)) (l.count * (5 * (k + m + r + s)));
 }
 
 abbrev pub decreases-ones : goal.decreases-ones

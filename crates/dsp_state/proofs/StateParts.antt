@@ -11,7 +11,7 @@ use Rattle.dsp_defs.specs.StateFields.{HasNumbers, count_in, frames_in_state, fr
 use Rattle.dsp_defs.specs.Wave.{u32_at}
 use Rattle.dsp_defs.specs.declared.limits.TheConstants.{MAX_STATE}
 use Rattle.dsp_defs.specs.declared.script.Script.{Script}
-use Rattle.dsp_state.proofs.NumberLaws.{AreBytes, byte_at, numbers_back}
+use Rattle.dsp_state.proofs.NumberLaws.{AreBytes, byte_at, numbers_back, numbers_fit}
 use Rattle.dsp_state.proofs.StateLaws.{fields}
 
 -- ---- numbers of 4 bytes
@@ -78,6 +78,7 @@ is_state bytes script are short has ends =
       runs = text.runs;
       short_text = shorter _ _ _ size text.before.short;
       few = u32_below bytes (frames_place bytes) are;
+      words = numbers_fit (drop (numbers_place bytes) bytes) (All-drop (λ b. b < 256) (numbers_place bytes) bytes are) (count_in bytes script);
       fits = has.fit;
       short = short;
     }

@@ -77,8 +77,8 @@ numbers_fit bytes are count =
     let at : ℕ → ℤ = λ i. number_of (take 8 (drop (i * 8) bytes)) in
     All-from_get_or (FitsSigned w64) (values count at) (pos 0)
     (λ k within.
-      let found : get_or (values count at) k (pos 0) ≡ at k = get_or-map-range_with_len at 0 count k k (pos 0) (omega (arith, within, length-map-range_with_len at 0 count)) (omega arith) in
-      subst (FitsSigned w64) (sym found) (number_fits (take 8 (drop (k * 8) bytes)) (All-take (λ b. b < 256) 8 (drop (k * 8) bytes) (All-drop (λ b. b < 256) (k * 8) bytes are))))
+    let found : get_or (values count at) k (pos 0) ≡ at k = get_or-map-range_with_len at 0 count k k (pos 0) (omega (arith, within, length-map-range_with_len at 0 count)) (omega arith) in
+    subst (FitsSigned w64) (sym found) (number_fits (take 8 (drop (k * 8) bytes)) (All-take (λ b. b < 256) 8 (drop (k * 8) bytes) (All-drop (λ b. b < 256) (k * 8) bytes are))))
 
 -- ---- numbers of 4 bytes
 

@@ -1,5 +1,5 @@
 -- Save and resume of a chain: the numbers that it keeps, which numbers it can keep, and what it is with them.
-use Rattle.std.specs.Prelude.{◌≡◌, ℕ, ◌+◌, ◌≤◌, ◌^◌, ℤ, false, List, [], ◌∷◌, ◌++◌, length, flat_map, None}
+use Rattle.std.specs.Prelude.{◌≡◌, ℕ, ◌≤◌, ◌^◌, ℤ, false, List, [], ◌∷◌, ◌++◌, length, flat_map, None}
 use Rattle.dsp_defs.specs.Block.{Frame}
 use Rattle.dsp_defs.specs.Kept.{FitsAfter, FitsBlocks, kept_of_chain}
 use Rattle.dsp_defs.specs.Shape.{live_frames, gathered}

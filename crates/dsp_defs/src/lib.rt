@@ -23,8 +23,8 @@ pub use flow::Flow;
 pub use format::{Coding, Container, Fmt, Input, InputKind};
 pub use laws::{
     cut_header_is_named, divisor_is_greatest, frames_are_counted, given_bytes_stay,
-    given_values_stay, header_is_read_back, header_stays, kept_numbers_have_their_place, part_stays,
-    samples_are_bytes, unit_is_least,
+    given_values_stay, header_is_read_back, header_stays, kept_numbers_have_their_place,
+    part_stays, samples_are_bytes, unit_is_least,
 };
 pub use limits::{
     DEFAULT_BLOCK_LENGTH, GENERATED_RATE, MAX_BLOCK_LENGTH, MAX_BLOCKS, MAX_CHANNELS, MAX_CHECKED,

@@ -27,6 +27,7 @@ pub record IsNewResume (script : Script) (block frames : ℕ) (r : ResumeState) 
   pub block_is : r.session.block ≡ block
   pub stands : StandsFor r.session []
   pub frames_is : r.frames ≡ frames
+  pub plain : r.session.banked ≡ false
   pub stops : r.stops ≡ true
   pub head : r.state ≡ state_head script frames
   pub short : length (canon script) ≤ MAX_SCRIPT
@@ -37,6 +38,7 @@ pub record IsResumed (saved : SavedState) (block : ℕ) (r : ResumeState) : Type
   pub block_is : r.session.block ≡ block
   pub runs : Runs r.session
   pub frames_is : r.frames ≡ saved.frames
+  pub plain : r.session.banked ≡ false
   pub goes : r.stops ≡ false
   pub counted : r.session.chain.frames ≡ saved.frames
   pub stands : (x : List Frame) → length x ≡ saved.frames → saved.numbers ≡ kept saved.script x → StandsFor r.session x

@@ -5,5 +5,5 @@
 mod laws;
 mod resume;
 
-pub use laws::parts_make_the_whole;
+pub use laws::{first_part_is_told, parts_make_the_whole, rest_is_told};
 pub use resume::Resume;

@@ -43,11 +43,13 @@ impl<U: Stage + Drop> Model for Resume<U> {
         (vec_len r.numbers) (vec_capacity r.state) };
 }
 
-/// How many numbers the state of a session after so many frames has. Where a correlation would gather too much
-/// the run is refused before it is stopped, and no number is kept.
+/// How many numbers the state of a session after so many frames has. Where a correlation would gather too
+/// much the run is refused before it is stopped, and no number is kept.
 fn count_numbers<U: AnyUnit + Drop>(session: &Session<U>, frames: u32) -> Result<usize, AllocError>
-    ensures { gathered session.now.script.blocks frames ≤ MAX_GATHERED
+    ensures kept { gathered session.now.script.blocks frames ≤ MAX_GATHERED
         → IfOk result (λ count. count ≡ kept_count session.now.script frames) }
+    ensures none { MAX_GATHERED < gathered session.now.script.blocks frames
+        → IfOk result (λ count. count ≡ 0) }
 {
     let frames = u64::from(frames);
     if session.gathered(frames) > MAX_GATHERED as u64 {
@@ -60,8 +62,8 @@ fn count_numbers<U: AnyUnit + Drop>(session: &Session<U>, frames: u32) -> Result
 }
 
 impl<U: AnyUnit + Drop> Resume<U> {
-    /// A run of the script, in blocks of at most `block` frames, that is to be stopped after so many frames.
-    /// All its memory is taken here, also that of its state.
+    /// A run of the script, in blocks of at most `block` frames, that is to be stopped after so many
+    /// frames. All its memory is taken here, also that of its state.
     pub fn new(alloc: Global, script: Script, block: u64, frames: u32) -> Result<Self, NewFault>
         requires { IsReady script block }
         ensures ok { IfOk result (IsNewResume script block frames) }
@@ -167,7 +169,8 @@ impl<U: AnyUnit + Drop> Resume<U> {
         requires frames { self.old.session.chain.frames ≡ self.old.frames }
         ensures ok { IfOk result (λ totals. RestDone self.old.session.script self.old.session
             self.old.frames totals.frames_taken (S.state input.old) (S.state input.new)
-            (K.state output.old) (K.state output.new) steps.old steps.new (measured self.new.session)) }
+            (K.state output.old) (K.state output.new) steps.old steps.new
+            (measured self.new.session)) }
         ensures given { IfOk result (λ totals.
             totals.frames_given ≡ frames_given self.old.session.script.blocks totals.frames_taken) }
         ensures multiplies { IfOk result (λ totals.

@@ -9,7 +9,7 @@ use Rattle.dsp_defs.specs.Adaptive.{pid}
 use Rattle.dsp_defs.specs.Matrix.{each_group, added, subtracted, scaled, transposed, multiplied, mat_add, mat_sub, mat_scale, mat_trans, mat_mult}
 use Rattle.dsp_defs.specs.Shape.{live_frames, groups_after, group_of}
 use Rattle.dsp_defs.specs.Cost.{unit_turns, chain_turns}
-use Rattle.dsp_stage.specs.Unit.{UnitState, turns_of, IsNew, IsMade}
+use Rattle.dsp_stage.specs.Unit.{UnitState, IsNew, IsMade}
 use Rattle.dsp_stage.specs.Row.{Place, place_after, place_behind, MadeFor, blocks_of, InRow, AllRun, AllStand, AllCount, AllNew, row_turns}
 use Rattle.dsp_defs.proofs.BlockLaws.{length-values, length-lattice_fir, length-biquad, length-biquad64}
 use Rattle.dsp_defs.specs.declared.format.Fmt.{Fmt}
@@ -89,9 +89,11 @@ frames-nothing block = groups-nothing (group_of block)
 
 pub new-stand : (banked : Bool) (format : Fmt) (channels : ℕ) (us : List UnitState) → AllNew banked us → AllStand format channels us []
 new-stand banked format channels [] h = tt
-new-stand banked format channels (u ∷ us) h =
-    (h.0.0, rw (live-nothing format channels u.block)
-    (new-stand banked (format_after format u.block) (channels_after channels u.block) us h.1))
+new-stand banked format channels (u ∷ us) h = (
+  h.0.0,
+  rw (live-nothing format channels u.block)
+      (new-stand banked (format_after format u.block) (channels_after channels u.block) us h.1),
+)
 
 pub new-count : (banked : Bool) (us : List UnitState) → AllNew banked us → AllCount us 0
 new-count banked [] h = tt

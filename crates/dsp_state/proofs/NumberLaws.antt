@@ -1,14 +1,14 @@
 -- Numbers of 8 bytes each, read and written.
-use Rattle.std.proofs.Common.{◌≡◌, ◌∙◌, ap, refl, sym, ℕ, zero, suc, ◌+◌, ◌-◌, ◌*◌, ◌<◌, ◌≤◌, ◌^◌, List, [], ◌∷◌, ◌++◌, length, take, drop, get_or, All, add-one, arith, take-take, length-take, length-drop, ℤ, pos, SFits, subst}
+use Rattle.std.proofs.Common.{◌≡◌, ◌∙◌, ap, refl, sym, ℕ, zero, suc, ◌+◌, ◌-◌, ◌*◌, ◌<◌, ◌≤◌, ◌^◌, List, [], ◌∷◌, ◌++◌, length, take, drop, get_or, All, add-one, arith, take-take, length-take, length-drop, pos, ℤ, subst, FitsSigned}
 use Rattle.std.specs.Int.{w32, w64, to_le_bytes, from_le_bytes, cast_signed}
 use Rattle.std.specs.List.{flat_map}
 use Rattle.std.proofs.lemmas.Grind.{flat_map-append}
 use Rattle.std.proofs.lemmas.Int.{of_z-to_z}
 use Rattle.std.proofs.lemmas.List.{append-nil, get_or-take, drop-take, take_all}
 use Rattle.std.proofs.lemmas.List.Elements.{All-head, All-tail, All-take, All-drop, All-from_get_or}
-use Rattle.std.proofs.Math.Facts.{sfits_to_z}
-use Rattle.std.proofs.lemmas.List.FromFn.{get_or-map-range_with_len, length-map-range_with_len, map-range_with_len_more}
+use Rattle.std.proofs.lemmas.List.FromFn.{map-range_with_len_more, get_or-map-range_with_len, length-map-range_with_len}
 use Rattle.std.proofs.lemmas.Nat.{le_bytes_8}
+use Rattle.std.proofs.Math.Facts.{sfits_to_z}
 use Rattle.std.proofs.Math.Seq.{take-add}
 use Rattle.byteorder.specs.Endian.{little_number}
 use Rattle.dsp_defs.specs.Signal.{values}
@@ -52,18 +52,6 @@ number_back bytes long are =
     let at = byte_at bytes are in
     ap (to_le_bytes w64) (of_z-to_z w64 (from_le_bytes w64 bytes) (below_64 bytes at)) ∙ le_bytes_8 bytes (from_le_bytes w64 bytes) long at refl
 
--- a number of 8 bytes has 64 bits
-pub number_fits : (bytes : List ℕ) → AreBytes bytes → SFits w64 (number_of bytes)
-number_fits bytes are = sfits_to_z (record { fits = below_64 bytes (byte_at bytes are) })
-
-pub numbers_fit : (bytes : List ℕ) → AreBytes bytes → (count : ℕ) → All (SFits w64) (values count (λ i. number_of (take 8 (drop (i * 8) bytes))))
-numbers_fit bytes are count =
-    let at : ℕ → ℤ = λ i. number_of (take 8 (drop (i * 8) bytes)) in
-    let long = length-map-range_with_len at 0 count in
-    All-from_get_or (SFits w64) (values count at) (pos 0) (λ i within.
-    subst (SFits w64) (sym (get_or-map-range_with_len at 0 count i i (pos 0) (omega (arith, within, long)) (omega arith)))
-    (number_fits (take 8 (drop (i * 8) bytes)) (All-take (λ b. b < 256) 8 (drop (i * 8) bytes) (All-drop (λ b. b < 256) (i * 8) bytes are))))
-
 -- the bytes of the numbers that were read are those that they were read of
 pub numbers_back : (bytes : List ℕ) → AreBytes bytes → (k : ℕ) → k * 8 ≤ length bytes → flat_map number_bytes (values k (λ i. number_of (take 8 (drop (i * 8) bytes)))) ≡ take (k * 8) bytes
 numbers_back bytes are zero within = refl
@@ -79,6 +67,18 @@ numbers_back bytes are (suc k) within =
     ∙ ap (λ l. take (k * 8) bytes ++ l) (append-nil (number_bytes (at k)) ∙ number_back piece long (All-take (λ b. b < 256) 8 (drop (k * 8) bytes) (All-drop (λ b. b < 256) (k * 8) bytes are)))
     ∙ sym (take-add (k * 8) 8 bytes)
     ∙ ap (λ n. take n bytes) count
+
+-- and each of them has 64 bits
+number_fits : (bytes : List ℕ) → AreBytes bytes → FitsSigned w64 (number_of bytes)
+number_fits bytes are = sfits_to_z {w = w64} {n = from_le_bytes w64 bytes} (record { fits = below_64 bytes (byte_at bytes are) })
+
+pub numbers_fit : (bytes : List ℕ) → AreBytes bytes → (count : ℕ) → All (FitsSigned w64) (values count (λ i. number_of (take 8 (drop (i * 8) bytes))))
+numbers_fit bytes are count =
+    let at : ℕ → ℤ = λ i. number_of (take 8 (drop (i * 8) bytes)) in
+    All-from_get_or (FitsSigned w64) (values count at) (pos 0)
+    (λ k within.
+    let found : get_or (values count at) k (pos 0) ≡ at k = get_or-map-range_with_len at 0 count k k (pos 0) (omega (arith, within, length-map-range_with_len at 0 count)) (omega arith) in
+    subst (FitsSigned w64) (sym found) (number_fits (take 8 (drop (k * 8) bytes)) (All-take (λ b. b < 256) 8 (drop (k * 8) bytes) (All-drop (λ b. b < 256) (k * 8) bytes are))))
 
 -- ---- numbers of 4 bytes
 

@@ -68,8 +68,10 @@ pub fn read_length(bytes: &[u8]) -> Result<usize, LoadFault>
 /// The script of a canonical text, where it can run.
 fn read_canonical(alloc: Global, text: &[u8]) -> Result<Option<Script>, AllocError>
     requires { length text.now ≤ MAX_SCRIPT }
-    ensures some { (script : Script) → result ≡ Ok (Some script) → CanRun script × (canon script ≡ text.now) }
-    ensures none { result ≡ Ok None → (script : Script) → CanRun script → canon script ≡ text.now → ⊥ }
+    ensures some { (script : Script) → result ≡ Ok (Some script)
+        → CanRun script × (canon script ≡ text.now) }
+    ensures none { result ≡ Ok None → (script : Script) → CanRun script
+        → canon script ≡ text.now → ⊥ }
 {
     one_reading();
     canonical_text_is_read_back();

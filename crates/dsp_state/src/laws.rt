@@ -14,8 +14,9 @@ use dsp_script::unit_divides_legal_lengths;
 /// A list of bytes is the state of at most one script, one number of frames and one list of numbers.
 pub fn one_state()
     ensures { (s t : Script) (m n : ℕ) (xs ys : List ℤ) → IsSound s → IsSound t
-        → length (canon s) ≤ MAX_SCRIPT → length (canon t) ≤ MAX_SCRIPT → m < 2 ^ 32 → n < 2 ^ 32
-        → All (FitsSigned w64) xs → All (FitsSigned w64) ys → state_of s m xs ≡ state_of t n ys
+        → length (canon s) ≤ MAX_SCRIPT → length (canon t) ≤ MAX_SCRIPT
+        → m < 2 ^ 32 → n < 2 ^ 32 → All (FitsSigned w64) xs → All (FitsSigned w64) ys
+        → state_of s m xs ≡ state_of t n ys
         → (s ≡ t) × (m ≡ n) × (xs ≡ ys) }
 {}
 

@@ -17,7 +17,8 @@ impl Model for Saved {
 
     ghost view = { λ s. record { script = s.script; frames = s.frames; numbers = s.numbers.items } };
 
-    ghost invariant = { λ s. IsSaved (record { script = s.script; frames = s.frames; numbers = s.numbers.items }) };
+    ghost invariant = { λ s. IsSaved
+        (record { script = s.script; frames = s.frames; numbers = s.numbers.items }) };
 }
 
 impl Saved {

@@ -115,12 +115,7 @@ impl<U: Stage + Drop> Model for Worker<U> {
 impl<U: AnyUnit + Drop> Worker<U> {
     /// A worker for blocks of at most `block` frames, that has taken nothing. All memory of a run is
     /// taken here.
-    pub fn new(
-        alloc: Global,
-        script: Script,
-        block: u64,
-        banked: bool,
-    ) -> Result<Self, AllocError>
+    pub fn new(alloc: Global, script: Script, block: u64, banked: bool) -> Result<Self, AllocError>
         requires { IsReady script block }
         ensures { IfOk result (IsNew banked script block) }
     {

@@ -6,7 +6,7 @@ use Rattle.dsp_defs.specs.StateFields.{HasStateFault}
 use Rattle.dsp_defs.specs.declared.limits.TheConstants.{MAX_STATE}
 use Rattle.dsp_defs.specs.declared.script.Script.{Script}
 use Rattle.dsp_defs.specs.declared.state_kind.StateKind.{StateKind}
-use Rattle.dsp_defs.specs.declared.state_kind.StateKind.TheVariants.{TooLong}
+use Rattle.dsp_defs.specs.declared.state_kind.StateKind.TheVariants.{NotState, Version, Text, Cut, Value, Extra, TooLong, LongText}
 use Rattle.dsp_state.proofs.StateFaults.{one_reading, no_fault}
 use Rattle.dsp_cli.specs.Script.{ReadsBytes, IfState}
 use Rattle.dsp_cli.proofs.Told.{IfSome-map, Same, told_text}
@@ -34,6 +34,28 @@ told_good source now script at numbers read =
       | inr long ↦ absurd (omega (arith, long.0, read.holds.short))
     ])
     (told_text MAX_STATE source now read.text read.read)
+
+-- bytes have the fault of those that were read
+pub told_same_fault : (source now : SourceState) (kind : StateKind) (offset : ℕ) → ReadsBytes source now (λ bytes. HasStateFault kind offset bytes)
+    → IfSome source.left (λ bytes. HasStateFault kind offset bytes)
+told_same_fault source now kind offset read =
+    IfSome-map source.left (Same MAX_STATE read.text) _
+    (λ all same. elim same [
+      | inl is ↦ subst (HasStateFault kind offset) (sym is) read.holds
+      | inr long ↦ too_long kind all long.0 long.1 read.holds
+    ])
+    (told_text MAX_STATE source now read.text read.read)
+  where
+    too_long : (kind : StateKind) (all : List ℕ) → MAX_STATE < length read.text → MAX_STATE < length all → HasStateFault kind offset read.text
+        → HasStateFault kind offset all
+    too_long TooLong all here there fault = (there, fault.1)
+    too_long NotState all here there fault = absurd (omega (arith, here, fault.0))
+    too_long (Version got) all here there fault = absurd (omega (arith, here, fault.0))
+    too_long Text all here there fault = absurd (omega (arith, here, fault.0))
+    too_long Cut all here there fault = absurd (omega (arith, here, fault.0))
+    too_long Value all here there fault = absurd (omega (arith, here, fault.0))
+    too_long Extra all here there fault = absurd (omega (arith, here, fault.0))
+    too_long (LongText size) all here there fault = absurd (omega (arith, here, fault.0))
 
 -- and bytes with a fault are no state
 pub told_fault : (source now : SourceState) (kind : StateKind) (offset : ℕ) → ReadsBytes source now (λ bytes. HasStateFault kind offset bytes)

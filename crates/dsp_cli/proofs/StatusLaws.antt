@@ -44,6 +44,10 @@ pub text_some : (command : Option Command) → HasText command → IsSome comman
 text_some None text = absurd text
 text_some (Some command) text = refl
 
+pub source_some : (command : Option Command) → HasSource command → IsSome command
+source_some None source = absurd source
+source_some (Some command) source = refl
+
 pub blocks_text : (command : Option Command) → HasBlocks command → HasText command
 blocks_text None blocks = absurd blocks
 blocks_text (Some Print) blocks = absurd blocks

@@ -14,16 +14,16 @@ use Rattle.dsp_defs.specs.declared.wave.Header.{Header as FileHeader}
 use Rattle.dsp_defs.specs.declared.wave.HeaderFault.{HeaderFault}
 use Rattle.dsp_session.specs.Stream.{HasFault, declared_bytes, in_whole_frames, input_fault, wave_fault}
 use Rattle.dsp_session.specs.declared.fault.StreamFault.TheVariants.{Header, Input, Output, Lengths}
-use Rattle.dsp_cli.specs.Call.{Call, Ending, Went, Printed, Turned, Stopped, Streams, Refuses, Happened, Reported, Ended}
+use Rattle.dsp_cli.specs.Call.{Call, Ending, Went, Printed, Turned, Stopped, Streams, Refuses, Happened, Reported, Ended, Saved, Resumed, OfText, OfState, OfBytes, OfScript, InFirst, InRest}
 use Rattle.dsp_cli.specs.Run.{HasText, HasOutput, IsStream, IsRun, IsDone, Tells, read_from}
-use Rattle.dsp_cli.specs.declared.fault.Fault.TheVariants.{Usage, ScriptRead, Script as BadText, BlockLength, Memory, Stream, Conversion}
+use Rattle.dsp_cli.specs.declared.fault.Fault.TheVariants.{Usage, ScriptRead, Script as BadText, BlockLength, Memory, Stream, Conversion, State, Part}
 use Rattle.dsp_cli.proofs.InputLaws.{fault_told, some_not_none}
-use Rattle.dsp_cli.proofs.StatusLaws.{text_some, blocks_text, stream_text, stream_output, command_not_none, fault_not_done, reports_done, stream_some}
+use Rattle.dsp_cli.proofs.StatusLaws.{text_some, blocks_text, stream_text, stream_output, command_not_none, fault_not_done, reports_done, stream_some, source_some, no_stop}
 use Rattle.dsp_cli.proofs.StopLaws.{gen_faulty, gen_reads}
 use Rattle.dsp_cli.proofs.Told.{IfSome-map, told_first, told_more, told_script}
 use Rattle.dsp_laws.specs.Origins.{MayEndAtLimit, Origins, TellsHeader}
 use Rattle.dsp_laws.specs.Taken.{bytes_taken}
-use Rattle.dsp_laws.proofs.FaultLaws.{StoppedBy, StreamStops, stopped, of_usage, of_script_read, of_text, of_length, of_header, of_input, of_output}
+use Rattle.dsp_laws.proofs.FaultLaws.{StoppedBy, StreamStops, stopped, of_usage, of_script_read, of_text, of_length, of_header, of_input, of_output, of_state}
 use Rattle.dsp_laws.proofs.TakenLaws.{for_given, leaves_port, reads_port}
 
 -- ---- inputs
@@ -94,14 +94,22 @@ module _ (c : Call) (status : ℕ) (report told : SinkState) where
   some_command : (ending : Ending) → Happened ending c → Reported ending status report told → (status ≡ 1) ⊎ IsSome (command_of c.words)
   some_command (Went script frames found) went reported = inr (stream_some c.words went.stream)
   some_command (Printed script) printed reported = inr (subst IsSome (sym printed.0) refl)
+  some_command (Saved script at x) saved reported = inr (subst IsSome (sym saved.asked) refl)
+  some_command (Resumed script frames found) resumed reported = inr (subst IsSome (sym resumed.asked) refl)
+  some_command (Stopped (Part fault)) (InFirst script at stop) reported = inr (subst IsSome (sym stop.asked) refl)
+  some_command (Stopped (Part fault)) (InRest script stop) reported = inr (subst IsSome (sym stop.asked) refl)
+  some_command (Stopped (State kind offset)) (OfBytes go read, untouched) reported = inr (subst IsSome (sym go) refl)
+  some_command (Stopped (State kind offset)) (OfScript at stop read, untouched) reported = inr (subst IsSome (sym stop) refl)
   some_command (Turned totals) turned reported = inr (subst IsSome (sym turned.asked) refl)
   some_command (Stopped (Conversion fault)) stop reported = inr (subst IsSome (sym stop.asked) refl)
   some_command (Stopped (Stream fault)) (script, stop) reported = inr (stream_some c.words stop.stream)
   some_command (Stopped Usage) happened reported = inl reported.0
-  some_command (Stopped ScriptRead) happened reported = inr (text_some (command_of c.words) happened.0.0)
+  some_command (Stopped ScriptRead) happened reported = inr (source_some (command_of c.words) happened.0.0)
   some_command (Stopped (BadText fault)) happened reported = inr (text_some (command_of c.words) happened.0.0)
-  some_command (Stopped (BlockLength block divisor)) happened reported = inr (text_some (command_of c.words) (blocks_text (command_of c.words) happened.0.0))
-  some_command (Stopped Memory) happened reported = inr (text_some (command_of c.words) happened.0)
+  some_command (Stopped (BlockLength block divisor)) (OfText blocks read, untouched) reported =
+      inr (text_some (command_of c.words) (blocks_text (command_of c.words) blocks))
+  some_command (Stopped (BlockLength block divisor)) (OfState go read, untouched) reported = inr (subst IsSome (sym go) refl)
+  some_command (Stopped Memory) happened reported = inr (source_some (command_of c.words) happened.0)
 
   usage_where : Ended c status report told → IsNone (command_of c.words) → status ≡ 1
   usage_where end none =
@@ -163,6 +171,10 @@ module _ (c : Call) (status : ℕ) (report told : SinkState) where
 
   limited : IsStream c.words → (ending : Ending) → Happened ending c → Reported ending status report told → Full → AtLimit
   limited stream (Went script frames found) went reported full = inr (inr (full_went script frames found went (reports_done reported) full))
+  limited stream (Saved script at x) saved reported full = absurd (no_stop c.words stream at saved.asked)
+  limited stream (Resumed script frames found) resumed reported full = absurd (subst HasText resumed.asked (stream_text c.words stream))
+  limited stream (Stopped (Part fault)) (InFirst script at stop) reported full = absurd (no_stop c.words stream at stop.asked)
+  limited stream (Stopped (Part fault)) (InRest script stop) reported full = absurd (subst HasText stop.asked (stream_text c.words stream))
   limited stream (Turned totals) turned reported full = absurd (subst HasText turned.asked (stream_text c.words stream))
   limited stream (Stopped (Conversion fault)) stop reported full = absurd (subst HasText stop.asked (stream_text c.words stream))
   limited stream (Printed script) printed reported full = absurd (not_full printed.2.input_same full)
@@ -189,6 +201,10 @@ module _ (c : Call) (status : ℕ) (report told : SinkState) where
   report_failed (Went script frames found) (inr way) nine = way.1
   report_failed (Printed script) (inl way) nine = absurd (omega (arith, nine, way.0))
   report_failed (Printed script) (inr way) nine = way.1
+  report_failed (Saved script at x) (inl way) nine = absurd (omega (arith, nine, way.0))
+  report_failed (Saved script at x) (inr way) nine = way.1
+  report_failed (Resumed script frames found) (inl way) nine = absurd (omega (arith, nine, way.0))
+  report_failed (Resumed script frames found) (inr way) nine = way.1
   report_failed (Turned totals) (inl way) nine = absurd (omega (arith, nine, way.0))
   report_failed (Turned totals) (inr way) nine = way.1
   report_failed (Stopped fault) reported nine = absurd (fault_not_done fault (subst IsDone reported.0 (inr nine)))
@@ -202,7 +218,7 @@ module _ (c : Call) (status : ℕ) (report told : SinkState) where
     bad_script = λ is.
         let (fault, refuses, tells) = of_text c report told (stopped_by 2 is (λ done. omega (arith, done))) in
         IfSome-map c.source.left (λ all. first_fault all ≡ Some fault) _ (λ all first. subst IsSome (sym first) refl) (told_first c.source c.read fault refuses.1);
-    bad_length = λ is. IfSome-map c.source.left _ _ (λ text all s reads. (all s reads).0) (of_length c report told (stopped_by 3 is (λ done. omega (arith, done))));
+    bad_length = λ blocks is. IfSome-map c.source.left _ _ (λ text all s reads. (all s reads).0) (of_length c report told blocks (stopped_by 3 is (λ done. omega (arith, done))));
     header = λ stream is.
         let (fault, offset, stops, tells) = of_header c report told stream (stopped_by 4 is (λ done. omega (arith, done))) in
         header_told fault offset stops tells;
@@ -211,6 +227,7 @@ module _ (c : Call) (status : ℕ) (report told : SinkState) where
     input_read = λ is. elim (of_input c report told (stopped_by 7 is (λ done. omega (arith, done)))) [ inl stop ↦ input_failed stop | inr counted ↦ counted ];
     output_written = λ is. of_output c report told (stopped_by 8 is (λ done. omega (arith, done)));
     report_written = report_failed end.ending end.reported;
+    bad_state = λ is. of_state c report told (stopped_by 13 is (λ done. omega (arith, done)));
   }
     where
       stopped_by : (n : ℕ) → status ≡ n → (IsDone n → ⊥) → StoppedBy c report told n

@@ -7,13 +7,15 @@ use Rattle.dsp_command.specs.Report.{script_line}
 use Rattle.dsp_command.specs.Words.{command_of}
 use Rattle.dsp_defs.specs.declared.script.Script.{Script}
 use Rattle.dsp_defs.specs.declared.script_fault.ScriptFault.{ScriptFault}
+use Rattle.dsp_command.specs.declared.command.Command.TheVariants.{Print, Stop}
+use Rattle.dsp_session.specs.declared.fault.PartFault.TheVariants as part_fault
 use Rattle.dsp_session.specs.declared.fault.StreamFault.TheVariants.{Header, Input, Output, Lengths}
-use Rattle.dsp_cli.specs.Call.{Call, Ending, Went, Printed, Turned, Stopped, Streams, Happened, Reported, Ended}
+use Rattle.dsp_cli.specs.Call.{Call, Ending, Went, Printed, Saved, Resumed, Turned, Stopped, Streams, Happened, Reported, Ended}
 use Rattle.dsp_cli.specs.Fault.{status_of, fault_line}
 use Rattle.dsp_cli.specs.Run.{HasText, HasBlocks, IsPrint, IsDone, Wrote, Tells, read_from}
 use Rattle.dsp_cli.specs.Script.{ReadsText, IfScript}
 use Rattle.dsp_cli.specs.declared.fault.Fault.{Fault}
-use Rattle.dsp_cli.specs.declared.fault.Fault.TheVariants.{Usage, ScriptRead, Script as BadText, BlockLength, Memory, Stream, Conversion}
+use Rattle.dsp_cli.specs.declared.fault.Fault.TheVariants.{Usage, ScriptRead, Script as BadText, BlockLength, Memory, Stream, State, Part, Conversion}
 use Rattle.dsp_au.specs.declared.fault.ConvertFault.TheVariants as convert_fault
 use Rattle.dsp_cli.proofs.StatusLaws.{reports_done, fault_not_done, stream_or_print}
 use Rattle.dsp_cli.proofs.Told.{IfSome-map, told_first, told_script}
@@ -53,6 +55,20 @@ module _ (c : Call) (status : ℕ) (report told : SinkState) where
     other_kept = ap (λ (s : SourceState). s.faults) printed.2.other_same;
     report_kept = text_kept reported zero;
   }
+  clean (Saved script at x) saved reported zero = record {
+    script_kept = saved.read.read.no_fault;
+    input_kept = saved.did.1.no_input_fault;
+    output_kept = saved.did.1.no_output_fault;
+    other_kept = ap (λ (s : SourceState). s.faults) saved.other_same;
+    report_kept = text_kept reported zero;
+  }
+  clean (Resumed script frames found) resumed reported zero = record {
+    script_kept = resumed.read.read.no_fault;
+    input_kept = resumed.did.no_input_fault;
+    output_kept = resumed.did.no_output_fault;
+    other_kept = ap (λ (s : SourceState). s.faults) resumed.other_same;
+    report_kept = text_kept reported zero;
+  }
   clean (Turned totals) turned reported zero = record {
     script_kept = ap (λ (s : SourceState). s.faults) turned.spared.script_same;
     input_kept = turned.did.no_input_fault;
@@ -65,6 +81,8 @@ module _ (c : Call) (status : ℕ) (report told : SinkState) where
   settled : (ending : Ending) → Happened ending c → Reported ending status report told → status ≡ 0 → IsSettled told
   settled (Went script frames found) went reported zero = text_settled reported zero
   settled (Printed script) printed reported zero = text_settled reported zero
+  settled (Saved script at x) saved reported zero = text_settled reported zero
+  settled (Resumed script frames found) resumed reported zero = text_settled reported zero
   settled (Turned totals) turned reported zero = text_settled reported zero
   settled (Stopped fault) happened reported zero = absurd (fault_not_done fault (subst IsDone reported.0 (inl zero)))
 
@@ -75,6 +93,8 @@ module _ (c : Call) (status : ℕ) (report told : SinkState) where
   print_told (Printed script) printed reported print done =
       told_script c.source c.read script (λ s. Tells (canon s) report told × (status ≡ 0 → Wrote (canon s) report told)) printed.1
       (text_told reported, text_wrote reported)
+  print_told (Saved script at x) saved reported print done = absurd (let same : Some Print ≡ Some (Stop at) = sym print ∙ saved.asked in cc)
+  print_told (Resumed script frames found) resumed reported print done = absurd (subst HasText (sym print ∙ resumed.asked) tt)
   print_told (Turned totals) turned reported print done = absurd (subst HasText (sym print ∙ turned.asked) tt)
   print_told (Stopped fault) happened reported print done = absurd (fault_not_done fault (subst IsDone reported.0 done))
 
@@ -97,6 +117,12 @@ module _ (c : Call) (status : ℕ) (report told : SinkState) where
   fault_told (Stream (Lengths fault)) tells = tt
   fault_told (Stream Input) tells = tells
   fault_told (Stream Output) tells = tells
+  fault_told (State kind offset) tells = tt
+  fault_told (Part (part_fault.Behind at got)) tells = tt
+  fault_told (Part (part_fault.Stream (Header fault offset))) tells = tt
+  fault_told (Part (part_fault.Stream (Lengths fault))) tells = tt
+  fault_told (Part (part_fault.Stream Input)) tells = tells
+  fault_told (Part (part_fault.Stream Output)) tells = tells
   fault_told (Conversion convert_fault.Read) tells = tells
   fault_told (Conversion convert_fault.Write) tells = tells
   fault_told (Conversion fault) tells = tt
@@ -104,6 +130,8 @@ module _ (c : Call) (status : ℕ) (report told : SinkState) where
   line_told : (ending : Ending) → Reported ending status report told → LineTold status
   line_told (Went script frames found) reported = done_line (reports_done reported)
   line_told (Printed script) reported = done_line (reports_done reported)
+  line_told (Saved script at x) reported = done_line (reports_done reported)
+  line_told (Resumed script frames found) reported = done_line (reports_done reported)
   line_told (Turned totals) reported = done_line (reports_done reported)
   line_told (Stopped fault) (is, tells) = subst LineTold (sym is) (fault_told fault tells)
 
@@ -122,6 +150,6 @@ module _ (c : Call) (status : ℕ) (report told : SinkState) where
     unprinted = λ print nine. IfSome-map c.source.left _ _ (λ text all s reads. (all s reads).0) (print_told end.ending end.happened end.reported print (inr nine));
     tells = line_told end.ending end.reported;
     tells_fault = text_fault end;
-    tells_length = λ is.
-        IfSome-map c.source.left _ _ (λ text all s reads. (all s reads).1) (of_length c report told (stopped c report told status 3 end is (λ done. omega (arith, done))));
+    tells_length = λ blocks is.
+        IfSome-map c.source.left _ _ (λ text all s reads. (all s reads).1) (of_length c report told blocks (stopped c report told status 3 end is (λ done. omega (arith, done))));
   }

@@ -1,15 +1,21 @@
 -- Where each exit status of the top call comes from.
-use Rattle.std.specs.Prelude.{◌≡◌, ◌⊎◌, ◌↔◌, ◌+◌, ◌^◌, ℕ, Some, IfSome, IsNone, IsSome, IsFalse}
+use Rattle.std.specs.Prelude.{◌≡◌, ◌⊎◌, ◌↔◌, ◌+◌, ◌^◌, ◌<◌, ℕ, length, Some, IfSome, IsNone, IsSome, IsFalse}
 use Rattle.dsp_ports.specs.Ports.{SinkState, one_more}
 use Rattle.dsp_defs.specs.Output.{input_header}
 use Rattle.dsp_defs.specs.Reading.{first_fault}
-use Rattle.dsp_command.specs.Report.{header_line}
+use Rattle.dsp_command.specs.Report.{header_line, state_line}
 use Rattle.dsp_command.specs.Words.{command_of}
+use Rattle.dsp_command.specs.declared.command.Command.TheVariants.{Stop, Go}
+use Rattle.dsp_defs.specs.Canon.{canon}
+use Rattle.dsp_defs.specs.StateFields.{HasStateFault}
+use Rattle.dsp_defs.specs.declared.limits.TheConstants.{MAX_SCRIPT}
+use Rattle.dsp_defs.specs.declared.state_kind.StateKind.{StateKind}
+use Rattle.dsp_defs.specs.declared.state_kind.StateKind.TheVariants.{LongText}
 use Rattle.dsp_defs.specs.declared.format.InputKind.TheVariants.{Wave}
 use Rattle.dsp_defs.specs.declared.wave.HeaderFault.{HeaderFault}
 use Rattle.dsp_session.specs.Stream.{declared_bytes, input_fault}
 use Rattle.dsp_cli.specs.Call.{Call}
-use Rattle.dsp_cli.specs.Run.{IsStream, IsDone, Tells}
+use Rattle.dsp_cli.specs.Run.{HasBlocks, IsStream, IsDone, Tells}
 use Rattle.dsp_cli.specs.Script.{IfScript, chosen_block, is_legal_for}
 use Rattle.dsp_laws.specs.Taken.{bytes_taken}
 
@@ -28,6 +34,15 @@ MayEndAtLimit c status =
     × IfScript c.source.left (λ s. (s.input.kind ≡ Wave)
     × (IsDone status → IfSome (bytes_taken c.port c.later) (λ given. IsSome (declared_bytes s (input_header s given)))))
 
+-- a state is at fault, or the text of a script is too long for one, and the line says it
+pub data BadState (c : Call) (report told : SinkState) : Type 0 where
+  OfBytes : command_of c.words ≡ Some Go
+      → IfSome c.source.left (λ bytes. (kind : StateKind) × (offset : ℕ) × HasStateFault kind offset bytes × Tells (state_line kind offset) report told)
+      → BadState c report told
+  OfScript : (at : ℕ) → command_of c.words ≡ Some (Stop at)
+      → IfScript c.source.left (λ s. (MAX_SCRIPT < length (canon s)) × Tells (state_line (LongText (length (canon s))) 0) report told)
+      → BadState c report told
+
 -- of a call, its status and its report: what is so where it is this one
 pub record Origins (c : Call) (status : ℕ) (report told : SinkState) : Type 0 where
   -- 1: exactly where the words are no command; the script's source is then as before
@@ -35,8 +50,8 @@ pub record Origins (c : Call) (status : ℕ) (report told : SinkState) : Type 0 
   pub script_same : status ≡ 1 → c.read ≡ c.source
   -- 2: the script has a first fault
   pub bad_script : status ≡ 2 → IfSome c.source.left (λ text. IsSome (first_fault text))
-  -- 3: the chosen block length isn't legal
-  pub bad_length : status ≡ 3 → IfScript c.source.left (λ s. IsFalse (is_legal_for s (chosen_block c.words s)))
+  -- 3: the chosen block length isn't legal, of a script that was read, or of the script of a state
+  pub bad_length : HasBlocks (command_of c.words) → status ≡ 3 → IfScript c.source.left (λ s. IsFalse (is_legal_for s (chosen_block c.words s)))
   -- 4 of a run or a gen: a fault of the input's header, or its end before all declared frames
   pub header : IsStream c.words → status ≡ 4 → TellsHeader c report told
   -- 5 of a run or a gen: also where as many bytes were taken as may be, unless a fault was found there or the declared samples end there
@@ -47,3 +62,5 @@ pub record Origins (c : Call) (status : ℕ) (report told : SinkState) : Type 0 
   pub input_read : status ≡ 7 → c.later.faults ≡ one_more c.port.faults
   pub output_written : status ≡ 8 → c.after.faults ≡ one_more c.sink.faults
   pub report_written : status ≡ 9 → told.faults ≡ one_more report.faults
+  -- 13: the state of a run that goes on is at fault, or the text of a script that is to be stopped is too long for one
+  pub bad_state : status ≡ 13 → BadState c report told

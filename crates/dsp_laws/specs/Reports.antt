@@ -7,7 +7,8 @@ use Rattle.dsp_command.specs.Report.{block_length_line, input_read_line, memory_
 use Rattle.dsp_defs.specs.Shape.{unit}
 use Rattle.dsp_defs.specs.declared.script_fault.ScriptFault.{ScriptFault}
 use Rattle.dsp_cli.specs.Call.{Call}
-use Rattle.dsp_cli.specs.Run.{IsPrint, Tells, Wrote}
+use Rattle.dsp_command.specs.Words.{command_of}
+use Rattle.dsp_cli.specs.Run.{HasBlocks, IsPrint, Tells, Wrote}
 use Rattle.dsp_cli.specs.Script.{IfScript, chosen_block}
 
 -- where the source tells its bytes and they have a first fault, P holds of it
@@ -42,5 +43,5 @@ pub record Reports (c : Call) (status : ℕ) (report told : SinkState) : Type 0 
   -- a fault has its line
   pub tells : IfSome (line_of_status status) (λ line. Tells line report told)
   pub tells_fault : status ≡ 2 → IfFault c.source.left (λ fault. Tells (script_line fault) report told)
-  pub tells_length : status ≡ 3 → IfScript c.source.left (λ s.
+  pub tells_length : HasBlocks (command_of c.words) → status ≡ 3 → IfScript c.source.left (λ s.
       Tells (block_length_line (chosen_block c.words s) (unit s.input.channels s.blocks)) report told)

@@ -16,20 +16,26 @@ import sys
 from math import gcd, lcm
 
 import language
+import state
 
 WIDTH = 72  # the characters of a line that are shown; a longer one is cut round the caret
 WHITE = b" \t\r\n"
 SCRIPT_MOST = 1 << 20
 MOST_FRAMES, MOST_NUMBER, MOST_BLOCK = 16777216, 4294967295, 65536
 
-# Each command: its words, and which of them are the script, the input and the output, counted from the command.
 COMMANDS = {
-    "run": ("SCRIPT IN OUT [block N]", 1, 2, 3),
-    "bank": ("SCRIPT IN OUT [block N]", 1, 2, 3),
-    "gen": ("SEED FRAMES SCRIPT OUT", 3, None, 4),
-    "print": ("SCRIPT", 1, None, None),
-    "convert": ("wave au IN OUT, or convert au wave IN OUT", None, 3, 4),
+    "run": "SCRIPT IN OUT [block N]",
+    "bank": "SCRIPT IN OUT [block N]",
+    "gen": "SEED FRAMES SCRIPT OUT",
+    "print": "SCRIPT",
+    "convert": "wave au IN OUT, or convert au wave IN OUT",
+    "resume": "stop K SCRIPT IN OUT, or resume go STATE IN OUT",
 }
+# Which words of a command are its script or state, its input and its output, counted from the first.
+PLACES = {
+    "run": (1, 2, 3), "bank": (1, 2, 3), "gen": (3, None, 4), "print": (1, None, None), "convert": (None, 3, 4),
+    "resume stop": (3, 4, 5), "resume go": (2, 3, 4),
+}  # fmt: skip
 OF_WRAPPER = ("prove", "test", "help", "--help", "-h", "--version")
 TAGS = {2: "ADPCM", 3: "floating point", 6: "A-law", 7: "mu-law", 17: "ADPCM", 80: "MPEG", 85: "MP3"}
 ENCODINGS = {1: "mu-law", 6: "floating point", 7: "floating point", 27: "A-law"}
@@ -44,13 +50,16 @@ class Words:
     def __init__(self, words):
         self.words = words
         self.command = words[0] if words else None
-        _, *places = COMMANDS.get(self.command, ("", None, None, None))
+        if self.command == "resume" and words[1:2] in (["stop"], ["go"]):
+            self.command = " ".join(words[:2])
         self.script, self.input, self.output = (
-            words[place] if place is not None and place < len(words) else None for place in places
+            words[place] if place is not None and place < len(words) else None
+            for place in PLACES.get(self.command, (None, None, None))
         )
+        self.first = "state" if self.command == "resume go" else "script"
 
     def reads(self):
-        return [(name, path) for name, path in (("the script", self.script), ("the input", self.input)) if path]
+        return [(name, path) for name, path in ((f"the {self.first}", self.script), ("the input", self.input)) if path]
 
 
 def named(path):
@@ -82,11 +91,13 @@ def words_fault(words):
     if "" in rest:
         return f"word {words.index('', 1)} after {name} is empty (a variable that is not set?)"
     option = next((word for word in rest if re.match(r"--?[a-z]", word)), None)
-    usage = f"{name} {COMMANDS[name][0]}"
-    if option and len(rest) != {"run": 3, "bank": 3, "gen": 4, "print": 1, "convert": 4}[name]:
+    usage = f"{name} {COMMANDS[name]}"
+    taken = {"run": 3, "bank": 3, "gen": 4, "print": 1, "convert": 4, "resume": 4 if rest[:1] == ["go"] else 5}
+    if option and len(rest) != taken[name]:
         more = "; a block length is `block N` at the end" if "block" in option else ""
         return f"there are no options, and {option} is one: {usage}{more}"
-    faults = {"run": run_fault, "bank": run_fault, "gen": gen_fault, "print": print_fault, "convert": convert_fault}
+    faults = {"run": run_fault, "bank": run_fault, "gen": gen_fault, "print": print_fault, "convert": convert_fault,
+              "resume": resume_fault}  # fmt: skip
     return faults[name](rest, usage)
 
 
@@ -119,9 +130,21 @@ def convert_fault(rest, usage):
     return same_words(None, rest[2], rest[3])
 
 
-def same_words(script, source, output):
+def resume_fault(rest, usage):
+    if rest[:1] == ["stop"]:
+        if len(rest) != 5:
+            return f"resume stop takes 4 words, and here are {len(rest) - 1}: resume stop K SCRIPT IN OUT"
+        return count_fault("K", rest[1], MOST_NUMBER) or same_words(rest[2], rest[3], rest[4])
+    if rest[:1] == ["go"]:
+        if len(rest) != 4:
+            return f"resume go takes 3 words, and here are {len(rest) - 1}: resume go STATE IN OUT"
+        return same_words(rest[1], rest[2], rest[3], of="STATE")
+    return f"resume is followed by stop or go: {usage}"
+
+
+def same_words(script, source, output, of="SCRIPT"):
     """What is wrong where two words name one file."""
-    for what, path in (("SCRIPT", script), ("IN", source)):
+    for what, path in ((of, script), ("IN", source)):
         if path == output:
             return f"OUT is {what}, {named(path)}, which would be lost: name another output"
     return None
@@ -351,9 +374,12 @@ def explain_script(words, program):
 def sound_script(words):
     """The parts of the script, or None where it cannot be read again."""
     try:
+        if words.first == "state":
+            with open(words.script, "rb") as file:
+                return language.read_script(state.read_state(file.read())[0])
         with open(words.script, encoding="utf-8", errors="replace") as file:
             return language.read_script(file.read())
-    except (OSError, TypeError, ValueError):
+    except (OSError, TypeError, ValueError, state.Fault):
         return None
 
 
@@ -384,7 +410,8 @@ def unit_of(script):
 def explain_block(words, _):
     script = sound_script(words)
     unit = unit_of(script)
-    length = int(words.words[5]) if len(words.words) > 5 and words.words[5].isdigit() else None
+    given = words.words[5:6] if words.command in ("run", "bank") else []
+    length = int(given[0]) if given and given[0].isdigit() else None
     if unit is None:
         yield f"a block length is 1 to {MOST_BLOCK}, and a multiple of the unit that the report names"
     elif unit > MOST_BLOCK:
@@ -471,6 +498,10 @@ def wave_hints(of_file, data, script, length):
 
 
 def explain_lengths(words, _):
+    if words.first == "state":
+        yield "where the report has `resume at`, the input has fewer frames than the state has taken: is it another, or cut?"
+    elif words.command == "resume stop":
+        yield "where the report has `resume at`, the input has fewer than K frames: name a smaller K"
     script = sound_script(words)
     found = {block.word for block in script.blocks} if script else set()
     if "correlate" in found:
@@ -499,9 +530,9 @@ def fault_of_reading(path):
         return reason_of(error.errno)
 
 
-def explain_reading(what):
+def explain_reading(of_input):
     def lines(words, _):
-        path = words.script if what == "script" else words.input
+        what, path = ("input", words.input) if of_input else (words.first, words.script)
         if path:
             fault = fault_of_reading(path)
             yield f"{what} {named(path)}: {fault}" if fault else f"{what} {named(path)} can be opened now, but a read failed"
@@ -560,16 +591,31 @@ def explain_memory(words, _):
     yield "out of memory: a run takes room for its block length at each place, so a small `block N` needs less"
 
 
+def explain_state(words, _):
+    if words.first != "state":
+        yield f"the canonical text of the script has more than {SCRIPT_MOST} bytes, and a state holds it"
+        return
+    try:
+        with open(words.script, "rb") as file:
+            list(state.lines_of(file.read()))
+        fault = "its script or its numbers are none that a run can have"
+    except (OSError, state.Fault) as found:
+        fault = found
+    yield f"state {named(words.script)}: {fault}"
+    yield "`./dspfx resume stop K SCRIPT IN OUT > STATE` makes one"
+
+
 EXPLAINED = {
     1: lambda words, _: explain_words(words.words),
     3: explain_block,
     4: explain_header,
     5: explain_lengths,
-    6: explain_reading("script"),
-    7: explain_reading("input"),
+    6: explain_reading(False),
+    7: explain_reading(True),
     8: explain_writing,
     9: explain_report,
     10: explain_memory,
+    13: explain_state,
 }
 
 

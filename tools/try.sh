@@ -10,8 +10,10 @@ echo "dspfx: compiled without its proofs: nothing is proved of this run" >&2
 words=()
 for place in $(seq $#); do
     word=${!place}
-    case ${1-}:$place in
-    run:[234] | bank:[234] | gen:[45] | print:2 | convert:[45]) [[ -z $word || $word = /* ]] || word=$PWD/$word ;;
+    command=${1-}
+    [ "$command" != resume ] || command=${2-}
+    case $command:$place in
+    run:[234] | bank:[234] | gen:[45] | print:2 | convert:[45] | stop:[456] | go:[345]) [[ -z $word || $word = /* ]] || word=$PWD/$word ;;
     esac
     words+=("$word")
 done

@@ -32,6 +32,8 @@ mod host;
 #[cfg(test)]
 mod ports;
 #[cfg(test)]
+mod resume;
+#[cfg(test)]
 mod runs;
 #[cfg(test)]
 mod same;

@@ -1,5 +1,5 @@
 #!/usr/bin/env bash
-# Refuses each allocation of `print`, of a run and of a gen in turn, by a small library in front of the C
+# Refuses each allocation of `print`, of a run, a bank, a gen and of both parts of a run in turn, by a small library in front of the C
 # library's `malloc`: each must end with status 10, its line, and an output that was never made; the first
 # number that no allocation is left for must be done. It is no part of the gate, and needs gcc.
 # DSPFX names another built program.
@@ -90,4 +90,8 @@ refused_in_turn() {
 
 refused_in_turn print print "$folder/script.txt" || exit 1
 refused_in_turn run run "$folder/script.txt" "$folder/in.raw" "$folder/out.wav" || exit 1
+refused_in_turn bank bank "$folder/script.txt" "$folder/in.raw" "$folder/out.wav" || exit 1
 refused_in_turn gen gen 7 1000 "$folder/script.txt" "$folder/out.wav" || exit 1
+refused_in_turn "resume stop" resume stop 100 "$folder/script.txt" "$folder/in.raw" "$folder/out.wav" || exit 1
+cp "$folder/report" "$folder/saved"
+refused_in_turn "resume go" resume go "$folder/saved" "$folder/in.raw" "$folder/out.wav" || exit 1

@@ -67,8 +67,9 @@ def report(count, given, products):
 
 
 def line(script, source, status, told, written, ports):
-    return "run s i o block %d|=%s|%s|%d|=%s|%s|piece %d,%s" % (
-        BLOCK, script, source.hex(), status, told, written.hex(), PIECE, ports)
+    """A run, and where there is a biquad also a run of `bank`, which has the same bytes and report."""
+    commands = ",".join("%s s i o block %d" % (name, BLOCK) for name in (["run", "bank"] if "biquad" in script else ["run"]))
+    return "%s|=%s|%s|%d|=%s|%s|piece %d,%s" % (commands, script, source.hex(), status, told, written.hex(), PIECE, ports)
 
 
 def cases(text, whole, live, products, wave):

@@ -1,12 +1,14 @@
 #!/usr/bin/env python3
-"""Runs random sound scripts at three block lengths each, and compares their outputs and reports.
+"""Runs random sound scripts at three block lengths each, in a bank, and in two sittings, and compares what they write.
 
     soak.py [COUNT [SEED]]
 
 COUNT scripts (10,000 where it is not said) come from SEED (1). Each is run over a file of random samples, then
-in blocks of two other lengths over a pipe that gives the same bytes in pieces of 1 to 4,096. All three must
-end with the same status, report and output; where a window of a convolution ends past it, the output depends
-on the block length, and the rest is compared. DSPFX names another built program. It is no part of the gate.
+in blocks of two other lengths over a pipe that gives the same bytes in pieces of 1 to 4,096, and by `bank`. All
+must end with the same status, report and output; where a window of a convolution ends past it, the output depends
+on the block length, and the rest is compared. A run that is done is also stopped after a random frame, and goes on
+from its state: both outputs together and the last report must be those of one run, and tools/state.py must read the
+state. DSPFX names another built program. It is no part of the gate.
 """
 import os
 import random
@@ -17,6 +19,8 @@ import sys
 import tempfile
 import threading
 import time
+
+import state
 
 TOP = os.path.dirname(os.path.dirname(os.path.abspath(__file__)))
 PROGRAM = os.environ.get("DSPFX") or f"{TOP}/build/dspfx"
@@ -207,6 +211,25 @@ def piped(folder, content, block, rng):
     return answer
 
 
+def in_two_sittings(folder, whole, rng):
+    """What is wrong with a run that is stopped after a frame and goes on, or None."""
+    found = re.search(rb"^in (\d+) frames", whole[1], re.M)
+    frames = rng.randint(0, int(found[1]))
+    status, saved, first = ran(folder, ["resume", "stop", str(frames), "s", "in", "o"], "o")
+    if status != 0:
+        return f"stop {frames}: {status} {saved!r}"
+    with open(f"{folder}/state", "wb") as file:
+        file.write(saved)
+    status, report, rest = ran(folder, ["resume", "go", "state", "in", "o"], "o")
+    if (status, report, (first or b"") + (rest or b"")) != (0, whole[1], whole[2] or b""):
+        return f"go from {frames}: {status} {report!r}"
+    try:
+        list(state.lines_of(saved))
+    except state.Fault as fault:
+        return f"state of {frames}: {fault}"
+    return None
+
+
 def unit_of(folder):
     """The number that divides each legal block length, by the program's own word."""
     status, report, _ = ran(folder, ["run", "s", "in", "o", "block", "65537"], "o")
@@ -238,6 +261,14 @@ def main():
                 if not same and 3 not in (whole[0], other[0]):
                     differ += 1
                     print(f"differ at block {block}:\n{script}\n{whole[:2]}\n{other[:2]}\n{content.hex()}", flush=True)
+            banked = ran(folder, ["bank", "s", "in", "o"], "o")
+            if banked != whole:
+                differ += 1
+                print(f"differ by bank:\n{script}\n{whole[:2]}\n{banked[:2]}\n{content.hex()}", flush=True)
+            fault = in_two_sittings(folder, whole, rng) if whole[0] == 0 else None
+            if fault:
+                differ += 1
+                print(f"differ in two sittings:\n{script}\n{fault}\n{content.hex()}", flush=True)
             compared += 1
             statuses[whole[0]] = statuses.get(whole[0], 0) + 1
     told = ", ".join(f"{number} ended with {status}" for status, number in sorted(statuses.items()))

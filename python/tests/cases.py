@@ -18,7 +18,7 @@ class Case:
         words, script, data, status, report, output, *ports = line.split("|")
         self.commands, self.status, self.is_plain = words.split(","), int(status), not ports
         self.script, self.data, self.output = (bytes_of(it) for it in (script, data, output))
-        self.report = bytes_of(report).decode()
+        self.report = bytes_of(report).decode(errors="replace")  # (a saved state is no text)
 
 
 def bytes_of(field):

@@ -51,7 +51,7 @@ module _ (c : Call) (report told : SinkState) where
       by : (ending : Ending) → Happened ending c → Reported ending status report told → StoppedBy status
       by (Went script frames found) happened reported = absurd (undone (subst IsDone at (reports_done reported)))
       by (Printed script) happened reported = absurd (undone (subst IsDone at (reports_done reported)))
-      by (Saved script at x) happened reported = absurd (undone (subst IsDone at (reports_done reported)))
+      by (Saved script place x) happened reported = absurd (undone (subst IsDone at (reports_done reported)))
       by (Resumed script frames found) happened reported = absurd (undone (subst IsDone at (reports_done reported)))
       by (Turned totals) happened reported = absurd (undone (subst IsDone at (reports_done reported)))
       by (Stopped fault) happened (is, tells) = (fault, happened, is, tells)

@@ -99,6 +99,11 @@ class Aliases(Case):
         "run, the input": (["run", "script", "in.raw"], "in.raw"),
         "run, the script": (["run", "script", "in.raw"], "script"),
         "gen, the script": (["gen", "1", "100", "script"], "script"),
+        "bank, the input": (["bank", "script", "in.raw"], "in.raw"),
+        "resume stop, the input": (["resume", "stop", "9", "script", "in.raw"], "in.raw"),
+        "resume stop, the script": (["resume", "stop", "9", "script", "in.raw"], "script"),
+        "resume go, the input": (["resume", "go", "state", "in.raw"], "in.raw"),
+        "resume go, the state": (["resume", "go", "state", "in.raw"], "state"),
         "convert wave au": (["convert", "wave", "au", "in.wav"], "in.wav"),
         "convert au wave": (["convert", "au", "wave", "in.au"], "in.au"),
     }
@@ -107,6 +112,8 @@ class Aliases(Case):
         super().setUp()
         self.write("script", COPY)
         self.write("in.raw", bytes(range(256)) * 400)
+        text = "dspfx 1\ninput raw q15 1 8000\noutput raw\n".encode()
+        self.write("state", b"DSPSTATE" + struct.pack("<II", 1, len(text)) + text + struct.pack("<I", 9))
         self.write("in.wav", wave_file(16, 1, range(20000)))
         self.write("in.au", au_file(16, 1, range(20000)))
 
@@ -172,7 +179,10 @@ class Faults(Case):
         self.write("s.txt", COPY)
         for words, hint in (
             ([], "no command"), (["rum", "a"], "run is one"), (["run", "a", "b"], "and here are 2"),
-            (["bank", "a", "b"], "bank takes 3 words"),
+            (["bank", "a", "b"], "bank takes 3 words"), (["resume", "on"], "resume is followed by stop or go"),
+            (["resume", "stop", "1", "a", "b"], "resume stop takes 4 words, and here are 3"),
+            (["resume", "stop", "1.5", "a", "b", "c"], "K has one to ten digits, and here is 1.5"),
+            (["resume", "go", "a", "b"], "resume go takes 3 words, and here are 2"),
             (["run", "s.txt", "a", "b", "--block", "64"], "`block N` at the end"),
             (["run", "s.txt", "a", "b", "block", "12345678901"], "one to ten digits"),
             (["gen", "1", "99999999", "s.txt", "o"], "at most 16777216, and here is 99999999"),
@@ -209,6 +219,23 @@ class Faults(Case):
         self.script("dspfx 1\ninput raw q15 2\noutput raw", "needs a rate, as in `input raw q15 2 48000`")
         self.script("dspfx 1\ninput wave q15\noutput raw", "the number of channels is missing")
         self.script("dspfx 1 input wave q15 1 table a {1} fir a output raw", "write `dspfx 2`")
+
+    def test_states(self):
+        """A state that is cut or other, and inputs that have not so many frames."""
+        self.write("s.txt", COPY)
+        self.write("in.raw", words16(1, 2, 3))
+        ran = subprocess.run([DSPFX, "resume", "stop", "2", "s.txt", "in.raw", "o"], cwd=self.folder, stdout=subprocess.PIPE)
+        self.assertEqual((ran.returncode, self.content("o")), (0, words16(1, 2)))
+        self.write("state", ran.stdout)
+        self.ends(self.dspfx("resume", "go", "state", "in.raw", "o"), 0, "in 3 frames")
+        self.assertEqual(self.content("o"), words16(3))
+        self.ends(self.tool("state", "state"), 0, "after 2 frames of", "input raw q15 1 8000")
+        self.write("state", ran.stdout[:-1])
+        self.ends(self.dspfx("resume", "go", "state", "in.raw", "o"), 13, "state state: cut at byte", "makes one")
+        self.ends(self.tool("state", "state"), 1, "cut at byte")
+        self.ends(self.dspfx("resume", "go", "s.txt", "in.raw", "o"), 13, "its first bytes are not DSPSTATE")
+        self.ends(self.dspfx("resume", "go", "none", "in.raw", "o"), 6, "state none: no such file")
+        self.ends(self.dspfx("resume", "stop", "4", "s.txt", "in.raw", "o"), 5, "resume at 4, input 3", "name a smaller K")
 
     def test_a_good_script_is_run_once(self):
         self.write("count", f"#!/bin/sh\necho call >>{self.path('calls')}\nexit 0\n")

@@ -1,5 +1,5 @@
 -- Which fault has a status, and what is so of the script where one of its faults has it.
-use Rattle.std.proofs.Common.{◌≡◌, ◌⊎◌, ℕ, ◌<◌, length, refl, subst, arith, inl, inr, Some, IfSome, IsFalse}
+use Rattle.std.proofs.Common.{◌≡◌, ◌⊎◌, ℕ, ◌<◌, length, refl, subst, arith, inl, inr, Some, IsFalse}
 use Rattle.dsp_ports.specs.Ports.{SinkState, one_more}
 use Rattle.dsp_command.specs.Report.{block_length_line, header_line, script_line, state_line}
 use Rattle.dsp_defs.specs.Canon.{canon}
@@ -14,15 +14,15 @@ use Rattle.dsp_session.specs.declared.fault.StreamFault.{StreamFault}
 use Rattle.dsp_session.specs.declared.fault.StreamFault.TheVariants.{Header, Input, Output, Lengths}
 use Rattle.dsp_cli.specs.Call.{Call, Ending, Went, Printed, Saved, Resumed, Turned, Stopped, OfText, OfState, OfBytes, OfScript, InFirst, InRest, Refuses, Happened, Reported, Ended}
 use Rattle.dsp_cli.specs.Fault.{status_of, fault_line}
-use Rattle.dsp_cli.specs.Run.{HasText, HasBlocks, HasOutput, IsStream, IsDone, Tells}
+use Rattle.dsp_cli.specs.Run.{HasText, HasBlocks, IsStream, IsDone, Tells}
 use Rattle.dsp_cli.specs.Script.{IfScript, chosen_block, is_legal_for}
 use Rattle.dsp_cli.specs.declared.fault.Fault.{Fault}
-use Rattle.dsp_cli.specs.declared.fault.Fault.TheVariants.{Usage, ScriptRead, Script as BadText, BlockLength, Memory, Stream, State, Part, Conversion}
+use Rattle.dsp_cli.specs.declared.fault.Fault.TheVariants.{Usage, ScriptRead, Script as BadText, BlockLength, Stream, State, Part, Conversion}
 use Rattle.dsp_au.specs.declared.fault.ConvertFault.TheVariants as convert_fault
 use Rattle.dsp_defs.specs.declared.au.Direction.{Direction}
-use Rattle.dsp_command.specs.declared.command.Command.TheVariants.{Stop, Go, Convert}
+use Rattle.dsp_command.specs.declared.command.Command.TheVariants.{Convert}
 use Rattle.dsp_command.specs.Words.{command_of}
-use Rattle.dsp_cli.proofs.StatusLaws.{reports_done, stream_text, stream_output, no_stop, part_status, conversion_status}
+use Rattle.dsp_cli.proofs.StatusLaws.{reports_done, stream_text, no_stop, part_status, conversion_status}
 use Rattle.dsp_cli.proofs.Told.{IfSome-map, told_script}
 use Rattle.dsp_cli.proofs.StateTold.{told_same_fault}
 use Rattle.dsp_laws.specs.Origins.{BadState}

@@ -15,10 +15,10 @@ use Rattle.dsp_defs.specs.declared.wave.HeaderFault.{HeaderFault}
 use Rattle.dsp_session.specs.Stream.{HasFault, declared_bytes, in_whole_frames, input_fault, wave_fault}
 use Rattle.dsp_session.specs.declared.fault.StreamFault.TheVariants.{Header, Input, Output, Lengths}
 use Rattle.dsp_cli.specs.Call.{Call, Ending, Went, Printed, Turned, Stopped, Streams, Refuses, Happened, Reported, Ended, Saved, Resumed, OfText, OfState, OfBytes, OfScript, InFirst, InRest}
-use Rattle.dsp_cli.specs.Run.{HasText, HasOutput, IsStream, IsRun, IsDone, Tells, read_from}
+use Rattle.dsp_cli.specs.Run.{HasText, IsStream, IsRun, IsDone, Tells, read_from}
 use Rattle.dsp_cli.specs.declared.fault.Fault.TheVariants.{Usage, ScriptRead, Script as BadText, BlockLength, Memory, Stream, Conversion, State, Part}
 use Rattle.dsp_cli.proofs.InputLaws.{fault_told, some_not_none}
-use Rattle.dsp_cli.proofs.StatusLaws.{text_some, blocks_text, stream_text, stream_output, command_not_none, fault_not_done, reports_done, stream_some, source_some, no_stop}
+use Rattle.dsp_cli.proofs.StatusLaws.{text_some, blocks_text, stream_text, command_not_none, fault_not_done, reports_done, stream_some, source_some, no_stop}
 use Rattle.dsp_cli.proofs.StopLaws.{gen_faulty, gen_reads}
 use Rattle.dsp_cli.proofs.Told.{IfSome-map, told_first, told_more, told_script}
 use Rattle.dsp_laws.specs.Origins.{MayEndAtLimit, Origins, TellsHeader}

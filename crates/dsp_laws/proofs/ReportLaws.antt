@@ -1,19 +1,18 @@
 -- What the report says, from how the call ended.
-use Rattle.std.proofs.Common.{◌≡◌, ℕ, List, refl, sym, ap, ◌∙◌, subst, arith, inl, inr, Some, IfSome}
+use Rattle.std.proofs.Common.{◌≡◌, ℕ, sym, ap, ◌∙◌, subst, arith, inl, inr, Some, IfSome}
 use Rattle.dsp_ports.specs.Ports.{SourceState, SinkState, IsSettled}
 use Rattle.dsp_defs.specs.Canon.{canon}
 use Rattle.dsp_defs.specs.Reading.{first_fault}
 use Rattle.dsp_command.specs.Report.{script_line}
 use Rattle.dsp_command.specs.Words.{command_of}
 use Rattle.dsp_defs.specs.declared.script.Script.{Script}
-use Rattle.dsp_defs.specs.declared.script_fault.ScriptFault.{ScriptFault}
 use Rattle.dsp_command.specs.declared.command.Command.TheVariants.{Print, Stop}
 use Rattle.dsp_session.specs.declared.fault.PartFault.TheVariants as part_fault
 use Rattle.dsp_session.specs.declared.fault.StreamFault.TheVariants.{Header, Input, Output, Lengths}
 use Rattle.dsp_cli.specs.Call.{Call, Ending, Went, Printed, Saved, Resumed, Turned, Stopped, Streams, Happened, Reported, Ended}
 use Rattle.dsp_cli.specs.Fault.{status_of, fault_line}
-use Rattle.dsp_cli.specs.Run.{HasText, HasBlocks, IsPrint, IsDone, Wrote, Tells, read_from}
-use Rattle.dsp_cli.specs.Script.{ReadsText, IfScript}
+use Rattle.dsp_cli.specs.Run.{HasText, IsPrint, IsDone, Wrote, Tells, read_from}
+use Rattle.dsp_cli.specs.Script.{IfScript}
 use Rattle.dsp_cli.specs.declared.fault.Fault.{Fault}
 use Rattle.dsp_cli.specs.declared.fault.Fault.TheVariants.{Usage, ScriptRead, Script as BadText, BlockLength, Memory, Stream, State, Part, Conversion}
 use Rattle.dsp_au.specs.declared.fault.ConvertFault.TheVariants as convert_fault

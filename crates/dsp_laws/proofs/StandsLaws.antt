@@ -15,10 +15,10 @@ use Rattle.dsp_session.specs.declared.fault.StreamFault.{StreamFault}
 use Rattle.dsp_session.specs.declared.fault.StreamFault.TheVariants.{Header, Input, Output, Lengths}
 use Rattle.dsp_cli.specs.Call.{Call, Ending, Went, Printed, Turned, Stopped, Streams, Happened, Reported, Ended, Saved, Resumed, InFirst, InRest}
 use Rattle.dsp_cli.specs.Fault.{status_of, fault_line}
-use Rattle.dsp_cli.specs.Run.{HasText, HasOutput, IsStream, IsDone, Tells, ReportsText, read_from}
+use Rattle.dsp_cli.specs.Run.{HasText, IsStream, IsDone, Tells, ReportsText, read_from}
 use Rattle.dsp_cli.specs.Script.{chosen_block, is_banked}
 use Rattle.dsp_cli.specs.declared.fault.Fault.TheVariants.{Usage, ScriptRead, Script as BadText, BlockLength, Memory, Stream, Conversion, State, Part}
-use Rattle.dsp_cli.proofs.StatusLaws.{stream_text, stream_output, reports_done, fault_not_done, stream_or_print, no_stop}
+use Rattle.dsp_cli.proofs.StatusLaws.{stream_text, reports_done, fault_not_done, stream_or_print, no_stop}
 use Rattle.dsp_laws.specs.Stands.{IsBroken, IsStopped, Stands, Taken, Gather, Window, Riff, TellsLength, WroteFront, WrotePart}
 use Rattle.dsp_laws.proofs.TextLaws.{text_told, text_wrote}
 use Rattle.dsp_laws.proofs.TakenLaws.{reader, for_script, for_given, for_taken, within_most, took_frames}

@@ -1,5 +1,5 @@
 -- The fields of a state are good and nothing stands behind them, so a state has no fault, and one reading.
-use Rattle.std.proofs.Common.{◌≡◌, ◌≢◌, ◌∙◌, ap, refl, sym, subst, ℕ, zero, suc, ◌+◌, ◌*◌, ◌<◌, ◌≤◌, ◌^◌, ℤ, pos, List, [], ◌∷◌, ◌++◌, length, take, drop, get_or, codes, flat_map, All, SFits, to_z, arith, length-append, length-take}
+use Rattle.std.proofs.Common.{◌≡◌, ◌∙◌, ap, refl, sym, subst, ℕ, zero, suc, ◌+◌, ◌*◌, ◌<◌, ◌≤◌, ◌^◌, ℤ, pos, List, [], ◌∷◌, ◌++◌, length, take, drop, get_or, codes, flat_map, All, SFits, to_z, arith, length-append, length-take}
 use Rattle.std.specs.Int.{w32, w64, to_le_bytes, from_le_bytes}
 use Rattle.std.proofs.Math.Seq.{take-append_seam, drop-append_seam, drop-append-add}
 use Rattle.std.proofs.lemmas.Int.{to_z-of_z}
@@ -15,10 +15,10 @@ use Rattle.dsp_defs.specs.KeptOfScript.{Fits, kept_count}
 use Rattle.dsp_defs.specs.Shape.{gathered, live_frames}
 use Rattle.dsp_defs.specs.Signal.{values}
 use Rattle.dsp_defs.specs.StateBytes.{IsState, number_bytes, number_of, state_of}
-use Rattle.dsp_defs.specs.StateFields.{HasMark, HasVersion, HasLength, HasText, HasFrames, HasNumbers, IsCut, InVersion, InLength, InText, InFrames, InNumbers, HasNoText, LongSize, OtherText, HasNoValue, ManyFrames, OtherNumbers, HasStateFault, count_in, frames_in_state, frames_place, numbers_in, numbers_place, state_end, text_in, text_size}
+use Rattle.dsp_defs.specs.StateFields.{HasMark, HasVersion, HasLength, HasText, HasFrames, HasNumbers, IsCut, InVersion, InLength, InText, InFrames, InNumbers, HasNoText, LongSize, OtherText, HasNoValue, ManyFrames, OtherNumbers, HasStateFault, count_in, frames_in_state, frames_place, numbers_in, numbers_place, state_end, text_size}
 use Rattle.dsp_defs.specs.Wave.{u32_at}
 use Rattle.dsp_defs.specs.declared.format.Fmt.{Fmt}
-use Rattle.dsp_defs.specs.declared.limits.TheConstants.{MAX_GATHERED, MAX_SCRIPT, MAX_STATE}
+use Rattle.dsp_defs.specs.declared.limits.TheConstants.{MAX_GATHERED, MAX_SCRIPT}
 use Rattle.dsp_defs.specs.declared.script.Block.{Block}
 use Rattle.dsp_defs.specs.declared.script.Script.{Script}
 use Rattle.dsp_defs.specs.declared.state_kind.StateKind.{StateKind}

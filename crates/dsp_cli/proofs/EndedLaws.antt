@@ -20,12 +20,12 @@ use Rattle.dsp_session.specs.declared.fault.PartFault.{PartFault}
 use Rattle.dsp_session.specs.declared.fault.StreamFault.{StreamFault}
 use Rattle.dsp_session.specs.declared.fault.StreamFault.TheVariants.{Header, Input, Output, Lengths}
 use Rattle.dsp_session.proofs.OpeningLaws.{some_frame}
-use Rattle.dsp_cli.specs.Call.{Call, Untouched, HasDone, Spares, Ending, Went, Printed, Saved, Resumed, Turned, Stopped, Streams, StopsAt, GoesOn, StopsInPart, InFirst, InRest, RefusesLength, OfText, OfState, RefusesState, OfBytes, OfScript, GoesOnRight, Refuses, Happened, Reported, Ended, text_of}
+use Rattle.dsp_cli.specs.Call.{Call, Untouched, HasDone, Spares, Ending, Went, Printed, Saved, Resumed, Turned, Stopped, Streams, InFirst, InRest, OfText, OfState, OfBytes, OfScript, Refuses, Happened, Reported, Ended, text_of}
 use Rattle.dsp_cli.specs.Causes.{EndsEarly, Causes, NoneFailed, Completes}
 use Rattle.dsp_cli.specs.Fault.{status_of, summary_text}
 use Rattle.dsp_cli.specs.Perform.{IsWhole, Made, Performed, HasStatus}
 use Rattle.dsp_cli.specs.Run.{HasSource, HasText, HasBlocks, HasOutput, IsStream, IsGen, IsPrint, IsDone, IsRefusal, IsRefused, IsAnswer, IsFree, IfWhole, IsReading, Wrote, Tells, ReportsText, read_from}
-use Rattle.dsp_cli.specs.Script.{ReadsText, ReadsBytes, IfScript, IfState, named_by, chosen, chosen_block, is_legal_for, is_banked}
+use Rattle.dsp_cli.specs.Script.{ReadsText, IfScript, named_by, chosen, chosen_block, is_legal_for, is_banked}
 use Rattle.dsp_cli.specs.declared.fault.Fault.{Fault}
 use Rattle.dsp_cli.specs.declared.fault.Fault.TheVariants.{Usage, ScriptRead, Script as BadText, BlockLength, Memory, Stream, State, Part, Conversion}
 use Rattle.dsp_defs.specs.Au.{target}
@@ -210,8 +210,11 @@ module _ (c : Call) (status : ℕ) (report told : SinkState) where
       let (more, left, all) = told_split _ c.later.left did.given bytes did.gave.front is_told in
       let stays = rest_stays script resumed.at did.given more did.has some c.later left did.whole in
       told_state c.source c.read script resumed.at resumed.numbers _ resumed.read
-      (λ x long keeps. (did.written, did.put,
-      did.output x (resumed.stands x long keeps) ∙ sym (ap (rest_output script resumed.at x) all ∙ stays x)))))
+      (λ x long keeps. (
+        did.written,
+        did.put,
+        did.output x (resumed.stands x long keeps) ∙ sym (ap (rest_output script resumed.at x) all ∙ stays x),
+      ))))
   done_by (Turned totals) turned reported done =
       let did = turned.did in
       let put : (bytes : List ℕ) → target turned.direction bytes ≡ target turned.direction did.given → Wrote (target turned.direction bytes) c.sink c.after =

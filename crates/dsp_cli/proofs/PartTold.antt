@@ -1,5 +1,5 @@
 -- What stays of a part of an input where more bytes stand behind it, and that what stops a stream over a part stands in its way.
-use Rattle.std.proofs.Common.{◌≡◌, ◌⊎◌, ℕ, ◌+◌, ◌-◌, ◌*◌, ◌/◌, ◌^◌, ◌<◌, ◌≤◌, min, Bool, false, nat_lt, if◌then◌else◌, List, [], ◌++◌, length, take, drop, replicate, Option, Some, None, IfSome, Result, Ok, Err, refl, sym, ap, ◌∙◌, subst, arith, append-nil, append_assoc, length-append, inl, inr}
+use Rattle.std.proofs.Common.{◌≡◌, ◌⊎◌, ℕ, ◌+◌, ◌-◌, ◌*◌, ◌/◌, ◌^◌, ◌<◌, ◌≤◌, min, false, nat_lt, if◌then◌else◌, List, [], ◌++◌, length, take, drop, replicate, Option, Some, None, IfSome, Ok, Err, refl, sym, ap, ◌∙◌, subst, arith, append-nil, append_assoc, length-append, inl, inr}
 use Rattle.std.proofs.Math.Seq.{take-append-add}
 use Rattle.std.proofs.lemmas.Bool.Decides.{nat_tests}
 use Rattle.std.proofs.lemmas.List.{take_all, take_at, take-append-drop, drop-append-le, length-take, length-drop, length-replicate}
@@ -86,8 +86,12 @@ module _ (script : Script) (bytes : List ℕ) (some : 0 < frame_in script bytes)
       by None none = absurd (cc none)
       by (Some k) same =
           let quotient : k / frame_in script bytes ≡ n = cc same in
-          omega (arith, quotient, quotient_more (length (take k (drop (input_header script bytes).start bytes))) k (frame_in script bytes)
-          (omega (arith, length-take k (drop (input_header script bytes).start bytes))))
+          omega (
+            arith,
+            quotient,
+            quotient_more (length (take k (drop (input_header script bytes).start bytes))) k (frame_in script bytes)
+                (omega (arith, length-take k (drop (input_header script bytes).start bytes))),
+          )
 
 -- ---- what was written
 

@@ -102,13 +102,17 @@ module _ (words : List (List ℕ)) (source read port later : SourceState) (sink 
       stops : (fault : Fault) → FailsToRun fault (named_by (Some command)) (banked_by (Some command)) script (read_from (Some command) script.input port) now sink after before counts → Happened (Stopped fault) called
       stops (BlockLength block divisor) (length, untouched) =
           let chosen_is : chosen (named_by (Some command)) script ≡ chosen_block words script = ap (λ command. chosen (named_by command) script) (sym is) in
-          let illegal : IsFalse (is_legal_for script block) = subst (λ n. IsFalse (is_legal_for script n)) (sym length.block_is) length.illegal in
-          (OfText (stream_blocks words stream)
-          (record { text = loaded.text; read = loaded.read; holds = (script, loaded.holds, illegal, length.block_is ∙ chosen_is, length.divisor_is) }), left_alone untouched)
+          let illegal : IsFalse (is_legal_for script block) = subst (λ n. IsFalse (is_legal_for script n)) (sym length.block_is) length.illegal in (
+            OfText (stream_blocks words stream)
+                (record { text = loaded.text; read = loaded.read; holds = (script, loaded.holds, illegal, length.block_is ∙ chosen_is, length.divisor_is) }),
+            left_alone untouched,
+          )
       stops Memory untouched = (text_source (command_of words) (stream_text words stream), left_alone untouched)
-      stops (Stream fault) stop =
-          (script, streams (λ block input now. StreamStopped (is_banked words) script block fault input now sink after before counts) stop.legal
-          (subst (λ banked. StopsBy banked fault) flag stop.stopped))
+      stops (Stream fault) stop = (
+        script,
+        streams (λ block input now. StreamStopped (is_banked words) script block fault input now sink after before counts) stop.legal
+            (subst (λ banked. StopsBy banked fault) flag stop.stopped),
+      )
       stops fault none = absurd none
 
   -- a run
@@ -221,9 +225,11 @@ module _ (words : List (List ℕ)) (source read port later : SourceState) (sink 
     pub first_stops : (fault : Fault) → FailsToStop fault at script port later sink after before counts → Happened (Stopped fault) asked
     first_stops (BlockLength block divisor) (length, untouched) =
         let chosen_is : chosen None script ≡ chosen_block words script = ap (λ command. chosen (named_by command) script) (sym is) in
-        let illegal : IsFalse (is_legal_for script block) = subst (λ n. IsFalse (is_legal_for script n)) (sym length.block_is) length.illegal in
-        (OfText (subst HasBlocks (sym is) tt)
-        (record { text = loaded.text; read = loaded.read; holds = (script, loaded.holds, illegal, length.block_is ∙ chosen_is, length.divisor_is) }), alone untouched)
+        let illegal : IsFalse (is_legal_for script block) = subst (λ n. IsFalse (is_legal_for script n)) (sym length.block_is) length.illegal in (
+          OfText (subst HasBlocks (sym is) tt)
+              (record { text = loaded.text; read = loaded.read; holds = (script, loaded.holds, illegal, length.block_is ∙ chosen_is, length.divisor_is) }),
+          alone untouched,
+        )
     first_stops (State kind offset) (text, untouched) =
         (OfScript at is (record { text = loaded.text; read = loaded.read; holds = (script, loaded.holds, text.legal, text.long, text.kind_is, text.offset_is) }), alone untouched)
     first_stops Memory untouched = (subst HasSource (sym is) tt, alone untouched)

@@ -1,5 +1,5 @@
 -- The clauses of the top call on runs that are stopped and that go on, from how it ended.
-use Rattle.std.proofs.Common.{◌≡◌, ◌⊎◌, ℕ, ◌<◌, ◌≤◌, ℤ, List, length, refl, sym, ap, ◌∙◌, subst, arith, inl, inr, Option, None, Some, IfSome, IsTrue, IsFalse, Bool, true, false}
+use Rattle.std.proofs.Common.{◌≡◌, ◌⊎◌, ℕ, ◌<◌, ◌≤◌, ℤ, List, length, sym, ap, ◌∙◌, subst, arith, inl, inr, None, Some, IfSome, IsTrue, IsFalse, Bool, true, false}
 use Rattle.dsp_ports.specs.Ports.{SinkState}
 use Rattle.dsp_defs.specs.Canon.{canon}
 use Rattle.dsp_defs.specs.Grammar.{Reads}
@@ -10,14 +10,12 @@ use Rattle.dsp_defs.specs.declared.script.Script.{Script}
 use Rattle.dsp_defs.specs.declared.state_kind.StateKind.{StateKind}
 use Rattle.dsp_command.specs.Words.{command_of}
 use Rattle.dsp_command.specs.declared.command.Command.{Command}
-use Rattle.dsp_command.specs.declared.command.Command.TheVariants.{Print, Stop, Go, Convert}
+use Rattle.dsp_command.specs.declared.command.Command.TheVariants.{Print, Stop, Go}
 use Rattle.dsp_session.specs.Session.{IsReady}
-use Rattle.dsp_cli.specs.Call.{Call, Ending, Went, Printed, Saved, Resumed, Turned, Stopped, InFirst, InRest, OfText, OfState, OfBytes, OfScript, Happened, Reported, Ended, Refuses, text_of}
+use Rattle.dsp_cli.specs.Call.{Call, Ending, Went, Printed, Saved, Resumed, Turned, Stopped, InFirst, InRest, OfText, OfState, OfBytes, OfScript, Happened, Reported, Ended}
 use Rattle.dsp_cli.specs.Causes.{EndsEarly, NoneFailed}
-use Rattle.dsp_cli.specs.Fault.{status_of}
 use Rattle.dsp_cli.specs.Run.{HasSource, HasText, HasBlocks, IsStoppable, IsResumable, ReportsText}
 use Rattle.dsp_cli.specs.Script.{ReadsText, ReadsBytes, IfScript, IfState, named_by, chosen, chosen_block, is_legal_for}
-use Rattle.dsp_cli.specs.declared.fault.Fault.{Fault}
 use Rattle.dsp_cli.specs.declared.fault.Fault.TheVariants.{Usage, ScriptRead, Script as BadText, BlockLength, Memory, Stream, State, Part, Conversion}
 use Rattle.dsp_cli.proofs.PartTold.{first_hinders, rest_hinders}
 use Rattle.dsp_cli.proofs.ReportLaws.{rose}

@@ -1,5 +1,5 @@
 -- What is so of the state that a source tells, from what was read of it.
-use Rattle.std.proofs.Common.{◌≡◌, ℕ, ◌<◌, ◌≤◌, ℤ, List, length, sym, ap, subst, arith, inl, inr, Some, IfSome}
+use Rattle.std.proofs.Common.{ℕ, ◌<◌, ℤ, List, length, sym, subst, arith, inl, inr, IfSome}
 use Rattle.dsp_ports.specs.Ports.{SourceState}
 use Rattle.dsp_defs.specs.StateBytes.{IsState}
 use Rattle.dsp_defs.specs.StateFields.{HasStateFault}

@@ -296,8 +296,9 @@ fn perform<U: AnyUnit + Drop, P: Source, S: Source, K: Sink, O: Source, L: Ledge
         }
         Command::Run { block, banked } => {
             let script = load_script(alloc, script)?;
-            let summary =
-                run_script::<U, _, _, _>(alloc, block, banked, script, input, output, steps)?;
+            let summary = run_script::<U, _, _, _>(
+                alloc, block, banked, script, input, output, steps,
+            )?;
             Ok(Outcome::Ran(summary))
         }
         Command::Stop { frames } => {

@@ -1,4 +1,4 @@
-use Rattle.std.proofs.Common.{◌≡◌, subst, IsTrue}
+use Rattle.std.proofs.Common.{subst, IsTrue}
 use Rattle.dsp_cli.specs.Script.{is_legal_for}
 use Rattle.dsp_cli.proofs.PerformLaws.{first_by}
 use Rattle.dsp_cli.proofs.top.run_first.Goals as goal

@@ -45,9 +45,7 @@ fn plain(
             alloc, block, format, channels, frames,
         ),
         Block::Decimate { .. } => makers::decimate(alloc, block, format, channels, frames),
-        Block::Interpolate { .. } => makers::interpolate(
-            alloc, block, format, channels, frames,
-        ),
+        Block::Interpolate { .. } => makers::interpolate(alloc, block, format, channels, frames),
         Block::LatticeFir { .. } => makers::lattice_fir(alloc, block, channels, frames),
         Block::LatticeIir { .. } => makers::lattice_iir(alloc, block, format, channels, frames),
         Block::Biquad { .. } => makers::biquad(alloc, block, format, channels, frames),
@@ -64,9 +62,7 @@ fn plain(
         | Block::MatTrans { .. } => makers::matrix(alloc, block, format, channels, frames),
         Block::MatMult { .. } => makers::product(alloc, block, channels, frames),
         Block::Power | Block::Dot | Block::CmplxDot | Block::Max | Block::Min => {
-            Ok(BlockUnit::Measure(dsp_measure::Unit::new(
-                alloc, block, format, channels, frames,
-            )?))
+            Ok(BlockUnit::Measure(dsp_measure::Unit::new(alloc, block, format, channels, frames)?))
         }
     }
 }

@@ -26,7 +26,7 @@ pub record TailSoFar (old now : SessionState) (given : ℕ) (first out : List �
 
 pub starts : (s : SessionState) (out : List ℕ) (counts : Counts) → Runs s → TailSoFar s s 0 out out counts counts
 starts s out counts runs = record {
-  same = record { script = refl; block = refl; coding = refl };
+  same = record { script = refl; banked = refl; block = refl; coding = refl };
   counted = refl;
   works = runs.works;
   size = omega arith;
@@ -62,7 +62,7 @@ module _ (old now next : SessionState) (runs : Runs old) (given : ℕ) (first ou
   frames_next = ends.counted ∙ so_far.counted
 
   pub same_next : SameSession old next
-  same_next = record { script = script_next; block = same.block ∙ so_far.same.block; coding = same.coding ∙ so_far.same.coding }
+  same_next = record { script = script_next; banked = same.banked ∙ so_far.same.banked; block = same.block ∙ so_far.same.block; coding = same.coding ∙ so_far.same.coding }
 
   size_next : given + answer + given_of old.chain * f ≡ given_of next.chain * f
   size_next = sum given answer (given_of old.chain) (given_of now.chain) (length ends.given) (given_of next.chain) f so_far.size (answer_is ∙ ends.frames.long ∙ ap (λ (s : Script). length ends.given * given_bytes s) so_far.same.script) ends.frames.gives

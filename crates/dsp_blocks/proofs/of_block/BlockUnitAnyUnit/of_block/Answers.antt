@@ -16,7 +16,7 @@ returns-in_default c =
     IfOk-weaker c.plain.result (λ u. IsNew block format channels frames (state_of u))
     (λ u. IsMade c.args.banked block format channels frames (state_of u))
     (λ u new. elim c.in_default.branch [
-      in_default-via-in-Biquad+else-banked w ↦ subst (λ (b : Bool). IsMade b block format channels frames
+      | in_default-via-in-Biquad+else-banked w ↦ subst (λ (b : Bool). IsMade b block format channels frames
           (state_of u)) (sym w.if-banked.false) (unbanked-made block format channels frames (state_of u) new)
       | in_default-via-in_default w ↦ plain-made c.args.banked block format channels frames (state_of u)
           (is-plain block w.in_default.not-Biquad) new

@@ -7,6 +7,8 @@ there is. The values come from formulas, and not from the program.
 """
 import struct
 
+from header_cases import chunk, coded, extension, format_body, riff, samples
+from header_cases import header as header_of
 from port_cases import BLOCK, PIECE, SAMPLES, SCRIPTS, biquad, bytes_of, header, report
 
 MIDDLE = 3
@@ -174,7 +176,33 @@ def length_cases(parts):
         yield line("resume go", parts.state(MIDDLE), cut, 4, told, b"")
 
 
+def wide_cases():
+    """A file of 24 bits with an extended header, two channels, a filter and a measure behind it, and an extended output."""
+    frames = [(8388607, -8388608), (-1, 1), (4660, -86), (0, 8388607), (-8388608, 3)]
+    data = b"".join(value.to_bytes(3, "little", signed=True) for frame in frames for value in frame)
+    source = riff(chunk(b"fmt ", format_body(0xFFFE, 2, 48000, 24, extra=extension(24))), chunk(b"data", data))
+    script = "dspfx 1\ninput wave q31 2\nblock 2\nfir {536870912 1073741824}\nmax\noutput wavex\n"
+    values = list(samples(data, 24))
+    channels = [values[0::2], values[1::2]]
+    # (a half of each sample and a quarter of the one before it)
+    given = [[(2 * now + before) >> 2 for now, before in zip(x, [0, *x])] for x in channels]
+    bytes_in_all = coded([it for pair in zip(*given) for it in pair], "q31", "wavex")
+    best = lambda y: (max(y), y.index(max(y)))
+    done = "dspfx: done;in 5 frames of 2 channels q31;out 5 frames of 2 channels q31;multiplies 20;"
+    done += "".join("max 2 channel %d = %d at %d;" % (c, *best(y)) for c, y in enumerate(given))
+    first = header_of("q31", 2, 48000, "wavex", len(bytes_in_all))
+    for count in range(len(frames) + 1):
+        kept = [([0] + x[:count])[-1] for x in channels]
+        for y in given:
+            kept += [1, *best(y[:count]), count] if count else [0, 0, 0, 0]
+        state = state_of(script, count, kept)
+        yield line("resume stop %d" % count, script, source, 0, state, first + bytes_in_all[: 8 * count])
+        yield line("resume go", state, source, 0, done, bytes_in_all[8 * count :])
+
+
 def main():
+    print("# 24 bits, two channels, extended headers: stopped after each frame")
+    print(*wide_cases(), sep="\n")
     for script in SCRIPTS:
         for wave in (False, True):
             parts = Parts(*script, wave)

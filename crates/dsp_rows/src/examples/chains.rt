@@ -83,8 +83,9 @@ pub fn costs()
 
 // 16 frames a call: two calls of 16 and one of 8, in lanes of 8.
 pub fn turn_bounds()
-    ensures fir { turns Fmt.Q15 1 (Block.Fir HALVES ∷ []) 16 40 ≡ 10 }
-    ensures two_calls_of_eight { turns Fmt.Q15 1 (Block.Fir HALVES ∷ []) 8 16 ≡ 4 }
-    ensures rest { turns Fmt.Q15 1 (Block.Conv HALVES ∷ []) 16 40 ≡ 12 }
-    ensures others_by_their_products { turns Fmt.Q15 2 (Block.Biquad 0 TWO_SECTIONS ∷ []) 16 2 ≡ 40 }
+    ensures fir { turns false Fmt.Q15 1 (Block.Fir HALVES ∷ []) 16 40 ≡ 10 }
+    ensures two_calls_of_eight { turns false Fmt.Q15 1 (Block.Fir HALVES ∷ []) 8 16 ≡ 4 }
+    ensures rest { turns false Fmt.Q15 1 (Block.Conv HALVES ∷ []) 16 40 ≡ 12 }
+    ensures others_by_their_products { turns false Fmt.Q15 2 (Block.Biquad 0 TWO_SECTIONS ∷ []) 16 2 ≡ 40 }
+    ensures nine_channels_in_a_bank { turns true Fmt.Q15 9 (Block.Biquad 0 TWO_SECTIONS ∷ []) 16 2 ≡ 40 }
 {}

@@ -412,6 +412,7 @@ fn end_early<L: Ledger>(rt: &impl Abort, alloc: Global, blank: Blank) -> Result<
     };
     let mut empty = MemSource::new(alloc, &[], 4, &[])?;
     let mut nothing = MemSink::new(alloc, 64, 64, &[])?;
+    assert!(rt; legal(saved.script(), 4));
     let mut run = Resume::<BlockUnit>::from_saved(alloc, saved, 4)?;
     let gone = run.go(&mut empty, &mut nothing, &mut steps);
     assert_same!(*rt; gone, Err(PartFault::Behind { at: 1, got: 0 }));

@@ -194,16 +194,16 @@ uint32_t tozbirem_finish(const void *script, size_t script_length, uint64_t bloc
  * @param[in]      words          its words with single spaces between them, as `run s i o block 256`, `print s` or
  *                                `convert wave au i o`; names of files stand for the buffers below
  * @param[in]      words_length   bytes of the words
- * @param[in]      script         the file SCRIPT
+ * @param[in]      script         the file SCRIPT, or STATE of `resume go`
  * @param[in]      script_length  bytes of it
  * @param[in]      input          the file IN
  * @param[in]      input_bytes    bytes of it
  * @param[out]     output         the file OUT
  * @param[in]      output_bytes   bytes of the buffer; a run that would write more ends with 8
- * @param[out]     report         what the program prints
+ * @param[out]     report         what the program prints, which for `resume stop` is the state
  * @param[in]      report_bytes   bytes of the buffer; a run that would print more ends with 9
  * @param[out]     lengths        how many bytes of the two were written
- * @return         the exit status of the program, 0 to 10 (docs/USE.md)
+ * @return         the exit status of the program, 0 to 10 or 13 (docs/USE.md)
  */
 uint32_t tozbirem_program(const void *words, size_t words_length, const void *script, size_t script_length,
                           const void *input, size_t input_bytes, void *output, size_t output_bytes,

@@ -32,6 +32,15 @@ class Program(unittest.TestCase):
                     ran = tozbirem.program(command, case.script, case.data)
                     self.assertEqual((ran.status, ran.report, ran.output), (case.status, case.report, case.output))
 
+    def test_in_two_sittings(self):
+        """1000, 0 and 0 through one section that halves, and adds half of the last output."""
+        script, data = "dspfx 1 input raw q15 1 8000 biquad 0 {16384 0 0 0 16384 0} output raw", bytes.fromhex("e80300000000")
+        first = tozbirem.program("resume stop 1 s i o", script, data)
+        self.assertEqual((first.status, first.output.hex(), first.printed[:8], len(first.printed)), (0, "f401", b"DSPSTATE", 123))
+        rest = tozbirem.program("resume go s i o", first.printed, data)
+        self.assertEqual((rest.status, rest.output.hex()), (0, "fa007d00"))
+        self.assertEqual(tozbirem.program("resume go s i o", first.printed[:-1], data).report, "dspfx: state: Cut at 122\n")
+
     def test_faults_of_scripts(self):
         """Where the program reports a fault in a script, a chain of it raises the same one."""
         count = 0

@@ -6,14 +6,19 @@ from typing import NamedTuple, Union
 from ._library import LIBRARY, Lengths
 
 MOST = 1 << 32  # bytes of an output
+MOST_STATE = 1 << 30  # and of a saved state
 
 
 class Ran(NamedTuple):
-    """What a run of the program gave: its exit status, the file OUT, and what it printed."""
+    """What a run of the program gave: its exit status, the file OUT, and what it printed, as a text and as bytes.
+
+    What `resume stop` prints is a saved state, which is no text: take `printed` of it.
+    """
 
     status: int
     output: bytes
     report: str
+    printed: bytes = b""
 
 
 def program(words: str, script: Union[str, bytes] = b"", data: bytes = b"") -> Ran:
@@ -22,9 +27,9 @@ def program(words: str, script: Union[str, bytes] = b"", data: bytes = b"") -> R
         >>> program("run s i o", "dspfx 1 input raw q15 1 8000 fir {16384} output raw", b"\\xe8\\x03").output.hex()
         'f401'
 
-    words   as `run s i o block 256`, `gen 7 48000 s o`, `print s` or `convert wave au i o`, with single spaces; the names
-            stand for the files below
-    script  the file SCRIPT
+    words   as `run s i o block 256`, `gen 7 48000 s o`, `print s`, `resume stop 100 s i o` or `convert wave au i o`, with
+            single spaces; the names stand for the files below
+    script  the file SCRIPT, or STATE of `resume go`
     data    the file IN
 
     Returns the exit status (docs/USE.md), the bytes of the file OUT, and what the program printed. Raises nothing
@@ -40,7 +45,11 @@ def program(words: str, script: Union[str, bytes] = b"", data: bytes = b"") -> R
         status = LIBRARY.tozbirem_program(
             said, len(said), text, len(text), data, len(data), output, room, told, len(told), ctypes.byref(lengths),
         )  # fmt: skip
-        # (8 is an output that is not written: only a buffer that is full comes to it here)
-        if status != 8 or room >= MOST:
-            return Ran(status, output.raw[: lengths.output], told.raw[: lengths.report].decode("utf-8", "replace"))
-        room *= 4
+        # (8 is an output that is not written, and 9 a report: only a buffer that is full comes to it here)
+        if status == 8 and room < MOST:
+            room *= 4
+        elif status == 9 and len(told) < MOST_STATE:
+            told = ctypes.create_string_buffer(min(8 * len(told), MOST_STATE))
+        else:
+            printed = told.raw[: lengths.report]
+            return Ran(status, output.raw[: lengths.output], printed.decode("utf-8", "replace"), printed)

@@ -195,6 +195,20 @@ class Faults(Case):
                 self.ends(ran, 1, hint)
                 self.assertRegex(ran.out, r"\Adspfx: usage: [^\n]*\n\Z")
 
+    def test_the_usage_line(self):
+        """It names each command that the wrapper explains, and no other; help and completion know them too."""
+        sys.path.insert(0, f"{TOP}/tools")
+        import explain
+
+        line = self.dspfx("no", "command").out
+        named = {part.split()[0] for part in line.strip().removeprefix("dspfx: usage: ").split(", ")}
+        self.assertEqual(named, set(explain.COMMANDS))
+        for name in ("help.txt", "completion.bash"):
+            with open(f"{TOP}/tools/{name}") as file:
+                text = file.read()
+            for command in named:
+                self.assertRegex(text, rf"\b{command}\b")
+
     def test_scripts(self):
         head = "dspfx 1\ninput raw q15 1 8000\n"
         self.script(b"\xef\xbb\xbf" + COPY.encode(), "s.txt:1:1: BadByte", "byte order mark (EF BB BF)")

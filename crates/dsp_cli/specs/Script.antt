@@ -57,6 +57,7 @@ abbrev pub banked_by : Option Command → Bool
 banked_by (Some (Run block banked)) = banked
 banked_by command = false
 
+-- whether the biquads of these words' script are banks
 abbrev pub is_banked : List (List ℕ) → Bool
 is_banked words = banked_by (command_of words)
 

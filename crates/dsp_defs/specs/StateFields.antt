@@ -14,24 +14,27 @@ use Rattle.dsp_defs.specs.declared.state_kind.StateKind.TheVariants.{NotState, V
 
 -- ---- where the fields stand
 
--- the length of the text, at 12, and the text behind it
+-- the length of the text: size = u32 at 12
 abbrev pub text_size : List ℕ → ℕ
 text_size bytes = u32_at bytes 12
 
+-- the text behind it: bytes 16 .. 16 + size
 abbrev pub text_in : List ℕ → List ℕ
 text_in bytes = take (text_size bytes) (drop 16 bytes)
 
--- the frames behind the text
+-- where the count of frames stands: 16 + size
 abbrev pub frames_place : List ℕ → ℕ
 frames_place bytes = 16 + text_size bytes
 
+-- the frames that the blocks have taken: K = u32 at 16 + size
 abbrev pub frames_in_state : List ℕ → ℕ
 frames_in_state bytes = u32_at bytes (frames_place bytes)
 
--- and the numbers behind them, 8 bytes each
+-- where the kept numbers begin: 20 + size
 abbrev pub numbers_place : List ℕ → ℕ
 numbers_place bytes = 20 + text_size bytes
 
+-- the first `count` of them: number i is the signed 64-bit number at 20 + size + 8 i
 abbrev pub numbers_in : List ℕ → ℕ → List ℤ
 numbers_in bytes count = values count (λ i. number_of (take 8 (drop (i * 8) (drop (numbers_place bytes) bytes))))
 
@@ -45,15 +48,18 @@ state_end bytes script = numbers_place bytes + count_in bytes script * 8
 
 -- ---- fields that are good, with all before them
 
+-- the first eight bytes are the mark
 pub record HasMark (bytes : List ℕ) : Type 0 where
   pub long : 8 ≤ length bytes
   pub mark : take 8 bytes ≡ codes "DSPSTATE"
 
+-- the mark, and version 1 behind it
 pub record HasVersion (bytes : List ℕ) : Type 0 where
   pub before : HasMark bytes
   pub long : 12 ≤ length bytes
   pub one : u32_at bytes 8 ≡ 1
 
+-- these two, and the length of a text that is no longer than a script may be
 pub record HasLength (bytes : List ℕ) : Type 0 where
   pub before : HasVersion bytes
   pub long : 16 ≤ length bytes

@@ -33,6 +33,7 @@ abbrev pub most_groups : Option (ℕ × ℕ) → ℕ → ℕ
 most_groups None n = n
 most_groups (Some g) n = div_ceil n g.0 * g.1
 
+-- the most frames that a call with n frames may give: n * L of `interpolate`, M rows for each group begun, else n
 abbrev pub most_frames : Block → ℕ → ℕ
 most_frames (Interpolate factor taps) n = n * factor
 most_frames block n = most_groups (group_of block) n

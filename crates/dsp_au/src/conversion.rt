@@ -2,6 +2,7 @@ ghost use Rattle.std.specs.Prelude.{◌≡◌, ◌≤◌, ◌^◌, length, IfOk,
 ghost use Rattle.dsp_ports.specs.Ports.{SourceState, SinkState};
 ghost use Rattle.dsp_defs.specs.Au.{open_frame_bytes};
 ghost use Rattle.dsp_au.specs.Convert.{Begun, Done, Passed, Stopped, block_bytes};
+ghost use Rattle.dsp_au.specs.declared.conversion.TheConstants.{CONVERT_BLOCK};
 
 use crate::exchange::exchange;
 use crate::fault::ConvertFault;
@@ -26,7 +27,7 @@ pub const CONVERT_BLOCK: usize = 16_384;
 fn block_bytes(header: OpenHeader) -> usize
     requires { 1 ≤ open_frame_bytes header }
     ensures value { result ≡ block_bytes header }
-    ensures within { result ≤ 16384 }
+    ensures within { result ≤ CONVERT_BLOCK }
 {
     let frame = frame_bytes(header);
     CONVERT_BLOCK / frame * frame

@@ -1,40 +1,26 @@
 -- What the bytes of an input say, and what of it stays where more bytes stand behind them.
-use Rattle.std.proofs.Common.{◌≡◌, ℕ, ◌+◌, ◌-◌, ◌*◌, ◌/◌, ◌^◌, ◌<◌, ◌≤◌, List, [], ◌++◌, length, take, drop, Option, Some, None, IfSome, Result, Ok, Err, refl, sym, ap, ◌∙◌, subst, arith, append-nil, length-append, take-take, inl, inr}
-use Rattle.std.proofs.lemmas.List.{take_all, take_at, drop-append-le, length-take, length-drop}
+use Rattle.std.proofs.Common.{◌≡◌, ℕ, ◌+◌, ◌-◌, ◌*◌, ◌/◌, ◌^◌, ◌<◌, ◌≤◌, List, [], ◌++◌, length, take, drop, Option, Some, None, IfSome, Result, Ok, Err, refl, sym, ap, ◌∙◌, subst, arith, append-nil, length-append, inl, inr}
+use Rattle.std.proofs.lemmas.List.{take_at, length-take, length-drop}
 use Rattle.std.proofs.lemmas.Nat.{div-mul-add}
 use Rattle.std.specs.Io.KnownBytes.{IsAtEnd}
-use Rattle.std.specs.Result.{IsOk, result_unwrap_or}
+use Rattle.std.specs.Result.{IsOk}
 use Rattle.dsp_ports.specs.Ports.{SourceState}
-use Rattle.dsp_defs.specs.Output.{HasHeader, HeaderIsThere, header_by, wanted_of, input_header, input_signal, sample_bytes, output}
-use Rattle.dsp_defs.specs.Block.{Frame}
-use Rattle.dsp_defs.specs.Bytes.{samples}
+use Rattle.dsp_defs.specs.Output.{HasHeader, HeaderIsThere, wanted_of, input_header, input_signal, sample_bytes, output}
+use Rattle.dsp_defs.specs.Bytes.{width}
 use Rattle.dsp_defs.specs.Wave.{header_of}
 use Rattle.dsp_defs.specs.declared.format.InputKind.{InputKind}
 use Rattle.dsp_defs.specs.declared.format.InputKind.TheVariants as kind
 use Rattle.dsp_defs.specs.declared.script.Script.{Script}
 use Rattle.dsp_defs.specs.declared.wave.Header.{Header}
 use Rattle.dsp_defs.specs.declared.wave.HeaderFault.{HeaderFault}
-use Rattle.dsp_defs.specs.declared.wave.Wanted.{Wanted}
-use Rattle.dsp_defs.proofs.SampleLaws.{length-samples, samples-whole}
-use Rattle.dsp_defs.proofs.WaveLemmas.{header_of-append}
+use Rattle.dsp_defs.proofs.SampleLaws.{length-samples}
 use Rattle.dsp_stage.proofs.CostLaws.{quotient_more}
 use Rattle.dsp_session.specs.Session.{frame_bytes}
-use Rattle.dsp_session.proofs.FaultLaws.{ok_header, no_samples, fault_by_header}
+pub use Rattle.dsp_resume.proofs.ToldLaws.{header_stays}
+use Rattle.dsp_resume.proofs.ToldLaws.{whole_stays}
+use Rattle.dsp_session.proofs.FaultLaws.{fault_by_header}
 use Rattle.dsp_session.specs.Stream.{HasFault, IsTakenWhole, declared_bytes, frames_in_bytes, input_fault}
 use Rattle.dsp_cli.specs.Run.{InLimit}
-
--- ---- headers
-
--- it stays
-there_stays : (k : InputKind) (wanted : Wanted) (bytes more : List ℕ) → HeaderIsThere k wanted bytes → header_by k wanted (bytes ++ more) ≡ header_by k wanted bytes
-there_stays (kind.Raw rate) wanted bytes more there = refl
-there_stays kind.Wave wanted bytes more there =
-    let (header, is) = ok_header wanted bytes there in
-    let later : header_of (bytes ++ more) wanted ≡ Ok header = header_of-append bytes more wanted header is in
-    ap (λ r. result_unwrap_or r (no_samples wanted (bytes ++ more))) later ∙ sym (ap (λ r. result_unwrap_or r (no_samples wanted bytes)) is)
-
-pub header_stays : (script : Script) (bytes more : List ℕ) → HasHeader script bytes → input_header script (bytes ++ more) ≡ input_header script bytes
-header_stays script bytes more has = there_stays script.input.kind (wanted_of script) bytes more has
 
 -- ---- frames
 
@@ -68,48 +54,12 @@ quotient_is n f m some low high =
     let split : m ≡ n * f + (m - n * f) = omega (arith, low) in
     ap (λ k. k / f) split ∙ div-mul-add n f (m - n * f) (omega (arith, low, high))
 
-floor_below : (n f : ℕ) → 0 < f → (n / f * f ≤ n) × (n < n / f * f + f)
-floor_below n f some = grind (arith)
+factor_some : (a b : ℕ) → 0 < a * b → 1 ≤ a
+factor_some a b some = grind (arith)
 
 module _ (script : Script) (given more : List ℕ) (has : HasHeader script given) (some : 0 < frame_in script given) where
-  abbrev header : Header
-  header = input_header script given
-
-  abbrev frame : ℕ
-  frame = frame_in script given
-
-  abbrev samples_of : List ℕ → List Frame
-  samples_of bytes = samples header.coding script.input.channels bytes
-
-  -- less than a frame behind the declared ones gives none
-  declared_stay : (size : ℕ) → length given ≡ header.start + size / frame * frame
-      → samples_of (take size (drop header.start (given ++ more))) ≡ samples_of (take size (drop header.start given))
-  declared_stay size count =
-      let d = drop header.start given in
-      let floor = floor_below size frame some in
-      let long : length d ≡ size / frame * frame = omega (arith, count, length-drop header.start given) in
-      let split : drop header.start (given ++ more) ≡ d ++ more = drop-append-le header.start given more (omega (arith, count)) in
-      let all : length (take size (d ++ more)) / frame ≡ size / frame =
-      quotient_is (size / frame) frame (length (take size (d ++ more))) some
-      (omega (arith, length-take size (d ++ more), length-append d more, long, floor.0)) (omega (arith, length-take size (d ++ more), floor.1)) in
-      let front : take (size / frame * frame) (take size (d ++ more)) ≡ d = take-take (size / frame * frame) size (d ++ more) floor.0 ∙ take_at d more (size / frame * frame) long in
-      ap (λ l. samples_of (take size l)) split
-      ∙ sym (samples-whole header.coding script.input.channels (size / frame) (take size (d ++ more)) some (sym all))
-      ∙ ap samples_of front ∙ sym (ap samples_of (take_all size d (omega (arith, long, floor.0))))
-
-  abbrev IsWhole : Option ℕ → SourceState → Type 0
-  IsWhole declared now = elim declared [ Some size ↦ length given ≡ header.start + size | None ↦ IsAtEnd now.left ]
-
   pub signal_stays : (now : SourceState) → now.left ≡ Some more → IsTakenWhole script given now → input_signal script (given ++ more) ≡ input_signal script given
-  signal_stays now left whole = ap (λ (h : Header). samples h.coding script.input.channels (sample_bytes h (given ++ more))) (header_stays script given more has) ∙ by header.size whole
-    where
-      by : (size : Option ℕ) → IsWhole (elim size [ Some n ↦ Some (n / frame * frame) | None ↦ None ]) now
-          → samples_of (elim size [ Some n ↦ take n (drop header.start (given ++ more)) | None ↦ drop header.start (given ++ more) ])
-          ≡ samples_of (elim size [ Some n ↦ take n (drop header.start given) | None ↦ drop header.start given ])
-      by None ended =
-          let nothing : more ≡ [] = subst IsAtEnd left ended in
-          ap (λ l. samples_of (drop header.start (given ++ l))) nothing ∙ ap (λ l. samples_of (drop header.start l)) (append-nil given)
-      by (Some n) count = declared_stay n count
+  signal_stays = whole_stays script given more has (factor_some script.input.channels (width (input_header script given).coding) some)
 
   pub output_stays : (now : SourceState) → now.left ≡ Some more → IsTakenWhole script given now → output script (given ++ more) ≡ output script given
   output_stays now left whole = rw (signal_stays now left whole, header_stays script given more has) refl

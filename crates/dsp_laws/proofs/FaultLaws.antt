@@ -1,5 +1,5 @@
 -- Which fault has a status, and what is so of the script where one of its faults has it.
-use Rattle.std.proofs.Common.{◌≡◌, ◌⊎◌, ℕ, ◌<◌, length, refl, subst, arith, inl, inr, Some, IsFalse}
+use Rattle.std.proofs.Common.{◌≡◌, ◌⊎◌, ℕ, ◌<◌, length, refl, subst, arith, inl, inr, None, Some, IsFalse}
 use Rattle.dsp_ports.specs.Ports.{SinkState, one_more}
 use Rattle.dsp_command.specs.Report.{block_length_line, header_line, script_line, state_line}
 use Rattle.dsp_defs.specs.Canon.{canon}
@@ -15,16 +15,16 @@ use Rattle.dsp_session.specs.declared.fault.StreamFault.TheVariants.{Header, Inp
 use Rattle.dsp_cli.specs.Call.{Call, Ending, Went, Printed, Saved, Resumed, Turned, Stopped, OfText, OfState, OfBytes, OfScript, InFirst, InRest, Refuses, Happened, Reported, Ended}
 use Rattle.dsp_cli.specs.Fault.{status_of, fault_line}
 use Rattle.dsp_cli.specs.Run.{HasText, HasBlocks, IsStream, IsDone, Tells}
-use Rattle.dsp_cli.specs.Script.{IfScript, chosen_block, is_legal_for}
+use Rattle.dsp_cli.specs.Script.{IfScript, IfState, chosen, chosen_block, is_legal_for}
 use Rattle.dsp_cli.specs.declared.fault.Fault.{Fault}
 use Rattle.dsp_cli.specs.declared.fault.Fault.TheVariants.{Usage, ScriptRead, Script as BadText, BlockLength, Stream, State, Part, Conversion}
 use Rattle.dsp_au.specs.declared.fault.ConvertFault.TheVariants as convert_fault
 use Rattle.dsp_defs.specs.declared.au.Direction.{Direction}
-use Rattle.dsp_command.specs.declared.command.Command.TheVariants.{Convert}
+use Rattle.dsp_command.specs.declared.command.Command.TheVariants.{Convert, Go}
 use Rattle.dsp_command.specs.Words.{command_of}
 use Rattle.dsp_cli.proofs.StatusLaws.{reports_done, stream_text, no_stop, part_status, conversion_status}
 use Rattle.dsp_cli.proofs.Told.{IfSome-map, told_script}
-use Rattle.dsp_cli.proofs.StateTold.{told_same_fault}
+use Rattle.dsp_cli.proofs.StateTold.{told_same_fault, told_state}
 use Rattle.dsp_laws.specs.Origins.{BadState}
 use Rattle.dsp_laws.specs.Origins as origin
 use Rattle.dsp_laws.specs.Stands.{IsStopped}
@@ -101,6 +101,18 @@ module _ (c : Call) (report told : SinkState) where
   of_length blocks (Part fault, happened, is, tells) = absurd (omega (arith, is, part_status fault))
   of_length blocks (Conversion fault, happened, is, tells) = absurd (omega (arith, is, conversion_status fault))
   of_length blocks (fault, happened, is, tells) = absurd (omega (arith, is))
+
+  pub of_state_length : command_of c.words ≡ Some Go → StoppedBy 3 → IfState c.source.left (λ s at numbers. IsFalse (is_legal_for s (chosen None s)))
+  of_state_length go (BlockLength block divisor, (OfState same read, untouched), is, tells) =
+      let (script, at, numbers, kept, illegal, block_is, divisor_is) = read.holds in
+      told_state c.source c.read script at numbers (λ s at numbers. IsFalse (is_legal_for s (chosen None s)))
+      (record { text = read.text; read = read.read; holds = kept })
+      (subst (λ block. IsFalse (is_legal_for script block)) block_is illegal)
+  of_state_length go (BlockLength block divisor, (OfText text has, untouched), is, tells) = absurd (subst HasBlocks go text)
+  of_state_length go (Stream fault, happened, is, tells) = absurd (omega (arith, is, stream_status fault))
+  of_state_length go (Part fault, happened, is, tells) = absurd (omega (arith, is, part_status fault))
+  of_state_length go (Conversion fault, happened, is, tells) = absurd (omega (arith, is, conversion_status fault))
+  of_state_length go (fault, happened, is, tells) = absurd (omega (arith, is))
 
   pub of_state : StoppedBy 13 → BadState c report told
   of_state (State kind offset, (OfBytes go read, untouched), is, tells) =

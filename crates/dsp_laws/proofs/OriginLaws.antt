@@ -23,7 +23,7 @@ use Rattle.dsp_cli.proofs.StopLaws.{gen_faulty, gen_reads}
 use Rattle.dsp_cli.proofs.Told.{IfSome-map, told_first, told_more, told_script}
 use Rattle.dsp_laws.specs.Origins.{MayEndAtLimit, Origins, TellsHeader}
 use Rattle.dsp_laws.specs.Taken.{bytes_taken}
-use Rattle.dsp_laws.proofs.FaultLaws.{StoppedBy, StreamStops, stopped, of_usage, of_script_read, of_text, of_length, of_header, of_input, of_output, of_state}
+use Rattle.dsp_laws.proofs.FaultLaws.{StoppedBy, StreamStops, stopped, of_usage, of_script_read, of_text, of_length, of_state_length, of_header, of_input, of_output, of_state}
 use Rattle.dsp_laws.proofs.TakenLaws.{for_given, leaves_port, reads_port}
 
 -- ---- inputs
@@ -219,6 +219,7 @@ module _ (c : Call) (status : ℕ) (report told : SinkState) where
         let (fault, refuses, tells) = of_text c report told (stopped_by 2 is (λ done. omega (arith, done))) in
         IfSome-map c.source.left (λ all. first_fault all ≡ Some fault) _ (λ all first. subst IsSome (sym first) refl) (told_first c.source c.read fault refuses.1);
     bad_length = λ blocks is. IfSome-map c.source.left _ _ (λ text all s reads. (all s reads).0) (of_length c report told blocks (stopped_by 3 is (λ done. omega (arith, done))));
+    bad_state_length = λ go is. of_state_length c report told go (stopped_by 3 is (λ done. omega (arith, done)));
     header = λ stream is.
         let (fault, offset, stops, tells) = of_header c report told stream (stopped_by 4 is (λ done. omega (arith, done))) in
         header_told fault offset stops tells;

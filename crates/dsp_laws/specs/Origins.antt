@@ -1,5 +1,5 @@
 -- Where each exit status of the top call comes from.
-use Rattle.std.specs.Prelude.{◌≡◌, ◌⊎◌, ◌↔◌, ◌+◌, ◌^◌, ◌<◌, ℕ, length, Some, IfSome, IsNone, IsSome, IsFalse}
+use Rattle.std.specs.Prelude.{◌≡◌, ◌⊎◌, ◌↔◌, ◌+◌, ◌^◌, ◌<◌, ℕ, length, None, Some, IfSome, IsNone, IsSome, IsFalse}
 use Rattle.dsp_ports.specs.Ports.{SinkState, one_more}
 use Rattle.dsp_defs.specs.Output.{input_header}
 use Rattle.dsp_defs.specs.Reading.{first_fault}
@@ -16,7 +16,7 @@ use Rattle.dsp_defs.specs.declared.wave.HeaderFault.{HeaderFault}
 use Rattle.dsp_session.specs.Stream.{declared_bytes, input_fault}
 use Rattle.dsp_cli.specs.Call.{Call}
 use Rattle.dsp_cli.specs.Run.{HasBlocks, IsStream, IsDone, Tells}
-use Rattle.dsp_cli.specs.Script.{IfScript, chosen_block, is_legal_for}
+use Rattle.dsp_cli.specs.Script.{IfScript, IfState, chosen, chosen_block, is_legal_for}
 use Rattle.dsp_laws.specs.Taken.{bytes_taken}
 
 -- the input is WAVE and has this fault, and the line says it
@@ -50,8 +50,11 @@ pub record Origins (c : Call) (status : ℕ) (report told : SinkState) : Type 0 
   pub script_same : status ≡ 1 → c.read ≡ c.source
   -- 2: the script has a first fault
   pub bad_script : status ≡ 2 → IfSome c.source.left (λ text. IsSome (first_fault text))
-  -- 3: the chosen block length isn't legal, of a script that was read, or of the script of a state
+  -- 3: the chosen block length isn't legal
   pub bad_length : HasBlocks (command_of c.words) → status ≡ 3 → IfScript c.source.left (λ s. IsFalse (is_legal_for s (chosen_block c.words s)))
+  -- and of a run that goes on, that of the script of its state
+  pub bad_state_length : command_of c.words ≡ Some Go → status ≡ 3
+      → IfState c.source.left (λ s at numbers. IsFalse (is_legal_for s (chosen None s)))
   -- 4 of a run or a gen: a fault of the input's header, or its end before all declared frames
   pub header : IsStream c.words → status ≡ 4 → TellsHeader c report told
   -- 5 of a run or a gen: also where as many bytes were taken as may be, unless a fault was found there or the declared samples end there

@@ -15,9 +15,9 @@ use Rattle.dsp_defs.specs.declared.script.Script.{Script}
 use Rattle.dsp_defs.specs.declared.wave.Header.{Header}
 use Rattle.dsp_input.specs.Taking.{AreAll, Fits, InDeclared, declared_bytes, frame_bytes, frames_in_bytes, in_whole_frames}
 use Rattle.dsp_session.specs.SessionState.{SessionState}
-use Rattle.dsp_session.specs.Session.{IsReady, StandsFor, signal, live_cost_of}
+use Rattle.dsp_session.specs.Session.{IsReady, StandsFor, block_bytes, signal, live_cost_of}
 use Rattle.dsp_session.specs.Opening.{Begun}
-use Rattle.dsp_session.specs.Stream.{in_whole_blocks}
+use Rattle.dsp_session.specs.Stream.{LagsByOne, in_whole_blocks}
 use Rattle.dsp_session.specs.Advancing.{FailsToPassOn, PassesOn, Going, Reached, count_of}
 use Rattle.dsp_session.specs.Resuming.{FirstDone, FirstStopped, first_output}
 use Rattle.dsp_session.specs.declared.fault.LengthFault.TheVariants as length_fault
@@ -100,6 +100,12 @@ module _ (start session : SessionState) (header : Header) (span : Span) (block :
 
   few : length (signal script header.coding all) ≤ frames
   few = rw count_is (at_most frames came frame some (omega (arith, reached.read.in_part, end)))
+
+  in_limit : header.start + (last.before + length bytes) ≤ 2 ^ 40
+  in_limit = omega (arith, long, reached.read.in_limit)
+
+  in_block : length bytes ≤ block_bytes script header.coding start.block
+  in_block = omega (arith, long, reached.short, reached.size, ap (λ c. block_bytes script c start.block) coding)
 
   abbrev whole : Option ℕ → Option ℕ
   whole size = elim size [ Some s ↦ Some (in_whole_frames script header.coding s) | None ↦ None ]
@@ -188,7 +194,7 @@ module _ (start session : SessionState) (header : Header) (span : Span) (block :
     -- the input ends before the part does
     pub behind : came < span.end → IfSome (declared_frames script header) (λ got. frames ≤ got) → FirstStopped script start.block frames (part_fault.Behind frames (came / frame)) input now sink then before counts
     behind cut enough =
-        laws.stops_behind start session header span last.before input mid between sink first then before counts new coding from begun going frames now bytes reached.read.gave declared few
+        laws.stops_behind start session header span last.before input mid between sink first then before counts new coding from begun going frames now bytes reached.read.gave declared few in_limit in_block
         (came / frame) (less came frames frame some (omega (arith, cut, end)))
         (subst (λ (h : Header). Counted (declared_frames script h)) (sym (begun.opened.opens.said all)) (by_size header.size enough ended))
         reached.read.no_fault
@@ -204,10 +210,10 @@ module _ (start session : SessionState) (header : Header) (span : Span) (block :
       pub unpassed : (stop : StreamFault) (fed : SessionState) (after : SinkState) (made : Counts) → FailsToPassOn stop session fed bytes then after counts made
           → FirstStopped script start.block frames (part_fault.Stream stop) input now sink after before made
       unpassed fault.Output fed after made (count, less, same, feeds, fewer, took, risen) =
-          laws.stops_unwritten start session header span last.before input mid between sink first then before counts new coding from begun going frames now bytes reached.read.gave declared few fed made same feeds
+          laws.stops_unwritten start session header span last.before input mid between sink first then before counts new coding from begun going frames now bytes reached.read.gave declared few in_limit in_block fed made same feeds
           after count took.put risen reached.read.no_fault
       unpassed (fault.Lengths (length_fault.Gather told more)) fed after made fails =
-          laws.stops_full start session header span last.before input mid between sink first then before counts new coding from begun going frames now bytes reached.read.gave declared few fed told more
+          laws.stops_full start session header span last.before input mid between sink first then before counts new coding from begun going frames now bytes reached.read.gave declared few in_limit in_block fed told more
           after made fails reached.read.no_fault (before_is full (some_more full fails.1))
       unpassed stop fed after made none = absurd none
 
@@ -215,7 +221,7 @@ module _ (start session : SessionState) (header : Header) (span : Span) (block :
       module _ (fed : SessionState) (after : SinkState) (made : Counts) (passes : PassesOn session fed bytes then after counts made) where
         pub unflushed : (final : SinkState) → final.put ≡ after.put → final.faults ≡ one_more after.faults → FirstStopped script start.block frames (part_fault.Stream fault.Output) input now sink final before made
         unflushed final put failed =
-            laws.stops_unwritten start session header span last.before input mid between sink first then before counts new coding from begun going frames now bytes reached.read.gave declared few fed made passes.same passes.fed final (length fed.out)
+            laws.stops_unwritten start session header span last.before input mid between sink first then before counts new coding from begun going frames now bytes reached.read.gave declared few in_limit in_block fed made passes.same passes.fed final (length fed.out)
             (put ∙ passes.took.put ∙ ap (append_known then.put) (sym (take_all (length fed.out) fed.out (omega arith)))) (failed ∙ ap one_more passes.no_fault) reached.read.no_fault
 
         counted : fed.chain.frames ≡ frames
@@ -231,10 +237,10 @@ module _ (start session : SessionState) (header : Header) (span : Span) (block :
         exact_length = omega (arith, begun.opened.opens.start, all_long, exact full, length-append begun.opened.first all)
 
         fed_stands : StandsFor fed (signal script header.coding all)
-        fed_stands = laws.fed_stands start session header span last.before input mid between sink first then before counts new coding from begun going frames now bytes reached.read.gave declared few fed made passes.same passes.fed
+        fed_stands = laws.fed_stands start session header span last.before input mid between sink first then before counts new coding from begun going frames now bytes reached.read.gave declared few in_limit in_block fed made passes.same passes.fed
 
         adds : live_bytes script (signal script header.coding all) ≡ going.advances.written ++ fed.out
-        adds = laws.adds_all start session header span last.before input mid between sink first then before counts new coding from begun going frames now bytes reached.read.gave declared few fed made passes.same passes.fed
+        adds = laws.adds_all start session header span last.before input mid between sink first then before counts new coding from begun going frames now bytes reached.read.gave declared few in_limit in_block fed made passes.same passes.fed
 
         output_is : first_output script frames given ≡ (output_header script header ++ going.advances.written) ++ fed.out
         output_is =
@@ -251,6 +257,7 @@ module _ (start session : SessionState) (header : Header) (span : Span) (block :
           has = begun.opened.opens.has all;
           exact = subst (λ (h : Header). length given ≡ h.start + frames * frame_bytes script h.coding) (sym header_is) exact_length;
           frame_count = sym same_frames;
+          in_limit = omega (arith, begun.opened.opens.start, all_long, reached.read.in_limit, length-append begun.opened.first all);
           stands = subst (StandsFor fed) (sym (signal_is script header some begun.opened.first begun.opened.opens all in_all)) fed_stands;
           runs = passed_runs session fed bytes then after counts made passes;
           limits = record {
@@ -258,9 +265,12 @@ module _ (start session : SessionState) (header : Header) (span : Span) (block :
             not_full = subst (λ n. n ≤ MAX_GATHERED) (λ i. gathered (going.advances.same.script i).blocks (counted i)) passes.not_full;
           };
           put = flushed.put ∙ put_all ∙ ap (append_known sink.put) (sym output_is);
+          lag = subst (λ b. LagsByOne script b given (first_output script frames given)) (sym (passes.same.block ∙ going.advances.same.block))
+              (subst (LagsByOne script start.block given) (sym output_is)
+              (laws.lag_at start session header span last.before input mid between sink first then before counts new coding from begun going frames now bytes reached.read.gave declared few in_limit in_block fed.out));
           settled = flushed-settled after final flushed;
           no_input_fault = reached.read.no_fault ∙ going.no_fault ∙ begun.opened.no_fault;
           no_output_fault = clean ∙ passes.no_fault ∙ going.advances.no_fault ∙ begun.no_fault;
-          cost = laws.made_is start session header span last.before input mid between sink first then before counts new coding from begun going frames now bytes reached.read.gave declared few fed made passes.same passes.fed
+          cost = laws.made_is start session header span last.before input mid between sink first then before counts new coding from begun going frames now bytes reached.read.gave declared few in_limit in_block fed made passes.same passes.fed
               ∙ ap (λ n. before.multiplies + live_cost_of script n) (all_frames full);
         }

@@ -1,5 +1,5 @@
 -- What the loop over the first frames of an input answers makes the ends of that stream.
-use Rattle.std.proofs.Common.{◌≡◌, ℕ, ◌+◌, ◌-◌, ◌*◌, ◌/◌, ◌<◌, ◌≤◌, List, [], ◌++◌, length, sym, ap, ◌∙◌, subst, arith, length-append}
+use Rattle.std.proofs.Common.{◌≡◌, ℕ, ◌+◌, ◌-◌, ◌*◌, ◌/◌, ◌^◌, ◌<◌, ◌≤◌, List, [], ◌++◌, length, sym, ap, ◌∙◌, subst, arith, length-append}
 use Rattle.std.proofs.lemmas.List.{take_all}
 use Rattle.dsp_ports.specs.Ports.{SourceState, SinkState, Gave}
 use Rattle.dsp_defs.specs.Counts.{Counts}
@@ -52,11 +52,15 @@ module _ (start : SessionState) (header : Header) (span : Span) (input mid : Sou
         rw (length-signal script header.coding some all)
         (div_less (length all) frames (frame_bytes script header.coding) some (omega (arith, cut, end, going.taken_is, from, length-append going.heard bytes)))
 
+    size_is : block_bytes script session.coding session.block ≡ block_bytes script header.coding start.block
+    size_is = λ i. block_bytes script ((going.advances.same.coding ∙ coding) i) (going.advances.same.block i)
+
     pub unread_first : (error : InputFault) (now : SourceState) → PartUnread script header span.end taken (block_bytes script session.coding session.block) error between now
         → FirstStopped script start.block frames (part_fault.Stream (of_input error)) input now sink then before made
     unread_first error now u =
         laws.stops_unread start session header span taken input mid between sink first then before made new coding from begun going frames now u.unread.bytes u.unread.gave u.unread.declared
-        (few_heard u.unread.bytes (omega (arith, u.in_part))) (fewer_heard u.unread.bytes u.in_part) error u.unread.cause
+        (few_heard u.unread.bytes (omega (arith, u.in_part))) (omega (arith, u.unread.in_limit))
+        (omega (arith, u.unread.short, size_is)) (fewer_heard u.unread.bytes u.in_part) error u.unread.cause
 
     module _ (now : SourceState) (piece : List ℕ) (long : length piece ≡ block_bytes script start.coding start.block) (read : PartRead script header span.end taken piece (length piece) between now) where
       gave : Gave between now piece
@@ -64,6 +68,12 @@ module _ (start : SessionState) (header : Header) (span : Span) (input mid : Sou
 
       few : length (signal script header.coding (going.heard ++ piece)) ≤ frames
       few = few_heard piece read.in_part
+
+      in_limit : header.start + (taken + length piece) ≤ 2 ^ 40
+      in_limit = omega (arith, read.in_limit)
+
+      in_block : length piece ≤ block_bytes script header.coding start.block
+      in_block = omega (arith, long, ap (λ c. block_bytes script c start.block) coding)
 
       heard_long : length going.heard ≡ going.blocks * start.block * frame_bytes script header.coding
       heard_long = frames_of_blocks script start.coding start.block going.blocks (length going.heard) going.advances.long ∙ ap (λ c. going.blocks * start.block * frame_bytes script c) coding
@@ -87,9 +97,9 @@ module _ (start : SessionState) (header : Header) (span : Span) (input mid : Sou
       pub unpassed_first : (stop : StreamFault) (last : SessionState) (after : SinkState) (counts : Counts) → FailsToPassOn stop session last piece then after made counts
           → FirstStopped script start.block frames (part_fault.Stream stop) input now sink after before counts
       unpassed_first fault.Output last after counts (count, less, same, fed, fewer, took, risen) =
-          laws.stops_unwritten start session header span taken input mid between sink first then before made new coding from begun going frames now piece gave read.declared few last counts same fed after count took.put risen read.no_fault
+          laws.stops_unwritten start session header span taken input mid between sink first then before made new coding from begun going frames now piece gave read.declared few in_limit in_block last counts same fed after count took.put risen read.no_fault
       unpassed_first (fault.Lengths (length_fault.Gather told more)) last after counts fails =
-          laws.stops_full start session header span taken input mid between sink first then before made new coding from begun going frames now piece gave read.declared few last told more after counts fails read.no_fault before_is
+          laws.stops_full start session header span taken input mid between sink first then before made new coding from begun going frames now piece gave read.declared few in_limit in_block last told more after counts fails read.no_fault before_is
       unpassed_first stop last after counts none = absurd none
 
   pub broke_first : (last : SessionState) (stop : StreamFault) (now : SourceState) (after : SinkState) (counts : Counts) → Broke start last header span stop mid now first after before counts

@@ -1,5 +1,5 @@
 -- The ends of a stream over the first frames of an input.
-use Rattle.std.proofs.Common.{◌≡◌, ℕ, ◌+◌, ◌-◌, ◌*◌, ◌<◌, ◌≤◌, List, [], ◌++◌, length, take, drop, Option, Some, None, refl, sym, ap, ◌∙◌, subst, arith, append_assoc, append-nil, length-append, inl, inr}
+use Rattle.std.proofs.Common.{◌≡◌, ℕ, ◌+◌, ◌-◌, ◌*◌, ◌^◌, ◌<◌, ◌≤◌, List, [], ◌++◌, length, take, drop, Option, Some, None, refl, sym, ap, ◌∙◌, subst, arith, append_assoc, append-nil, length-append, inl, inr}
 use Rattle.std.proofs.lemmas.List.{take-append-drop}
 use Rattle.std.specs.Io.KnownBytes.{IsAtEnd, append_known}
 use Rattle.dsp_ports.specs.Ports.{SourceState, SinkState, one_more, Gave, Took}
@@ -14,7 +14,7 @@ use Rattle.dsp_input.specs.declared.fault.InputFault.{InputFault}
 use Rattle.dsp_input.specs.declared.fault.InputFault.TheVariants as input_fault
 use Rattle.dsp_input.specs.Taking.{InDeclared, IsUnread, Opened, declared_bytes, frame_bytes, frames_in_bytes, in_whole_frames}
 use Rattle.dsp_session.specs.SessionState.{SessionState}
-use Rattle.dsp_session.specs.Session.{IsReady, StandsFor, SameSession, Feeds, signal, live_cost_of}
+use Rattle.dsp_session.specs.Session.{IsReady, StandsFor, SameSession, Feeds, block_bytes, signal, live_cost_of}
 use Rattle.dsp_chain.specs.Chain.{made_of}
 use Rattle.dsp_defs.specs.Shape.{gathered, held}
 use Rattle.dsp_defs.specs.declared.limits.TheConstants.{MAX_GATHERED}
@@ -22,10 +22,10 @@ use Rattle.dsp_session.specs.Advancing.{Going, FailsToPassOn}
 use Rattle.dsp_session.proofs.FeedLaws.{feed_out, made_live}
 use Rattle.dsp_session.specs.declared.streaming.Span.{Span}
 use Rattle.dsp_stage.proofs.CostLaws.{live_cost-zero}
-use Rattle.dsp_session.proofs.PassingLaws.{in_declared}
+use Rattle.dsp_session.proofs.PassingLaws.{in_declared, lags}
 use Rattle.dsp_session.proofs.PlainLaws.{live_bytes-nil}
 use Rattle.dsp_session.specs.Opening.{Begun, Untaken, NoHeader, LongOutput, of_input}
-use Rattle.dsp_session.specs.Stream.{in_whole_blocks}
+use Rattle.dsp_session.specs.Stream.{LagsByOne, in_whole_blocks}
 use Rattle.dsp_session.specs.Resuming.{IsFirstCause, IsOfInput, CountsPartFault, FirstStopped, FirstWritten, HasFrames, first_output}
 use Rattle.dsp_session.specs.declared.fault.LengthFault.TheVariants as length_fault
 use Rattle.dsp_session.specs.declared.fault.StreamFault.{StreamFault}
@@ -43,7 +43,8 @@ module _ (script : Script) (block : ℕ) (ready : IsReady script block) (frames 
   some = some_frame script header.coding block ready
 
   pub first_stops : (stop : PartFault) (bytes written : List ℕ) (now : SourceState) (after : SinkState) (before counts : Counts)
-      → InDeclared (declared_bytes script header) (length bytes) → Gave mid now bytes → after.put ≡ append_known sink.put written
+      → InDeclared (declared_bytes script header) (length bytes) → header.start + length bytes ≤ 2 ^ 40 → LagsByOne script block (opened.first ++ bytes) written
+      → Gave mid now bytes → after.put ≡ append_known sink.put written
       → Begins written (output_header script header ++ live_bytes script (signal script header.coding bytes))
       → ((given : List ℕ) → Begins written (first_output script (frames_in_bytes script given) given) → FirstWritten stop script given written sink after)
       → IsFirstCause stop script block frames (opened.first ++ bytes) now → CountsPartFault stop input now sink after
@@ -51,16 +52,18 @@ module _ (script : Script) (block : ℕ) (ready : IsReady script block) (frames 
       → (IsOfInput stop → length (signal script header.coding bytes) < frames)
       → counts.multiplies ≤ before.multiplies + live_cost_of script (length (signal script header.coding bytes))
       → FirstStopped script block frames stop input now sink after before counts
-  first_stops stop bytes written now after before counts declared gave put begins wrote cause faults few fewer cost =
+  first_stops stop bytes written now after before counts declared limit lag gave put begins wrote cause faults few fewer cost =
       let count = frames_are script header some opened.first opened.opens bytes declared in
       record {
         given = opened.first ++ bytes;
         written = written;
         gave = Gave-append input mid now opened.first bytes opened.gave gave;
+        in_limit = omega (arith, limit, opened.opens.start, length-append opened.first bytes);
         put = put;
         cause = cause;
         wrote = wrote (opened.first ++ bytes) (subst (Begins written) (sym (first_is script header some opened.first opened.opens bytes declared)) begins);
         faults = faults;
+        lag = λ _. lag;
         in_part = λ _. omega (arith, count, few);
         missing = λ of _. omega (arith, count, fewer of);
         cost = rw count cost;
@@ -73,6 +76,12 @@ module _ (script : Script) (block : ℕ) (ready : IsReady script block) (frames 
       by_size None = tt
       by_size (Some size) = omega arith
 
+  none_taken : header.start + 0 ≤ 2 ^ 40
+  none_taken = omega (arith, opened.opens.start, opened.opens.in_limit)
+
+  lags_none : (before : Counts) (written : List ℕ) → LagsByOne script block (opened.first ++ []) written
+  lags_none before written = subst (λ given. LagsByOne script block given written) (sym (append-nil opened.first)) (opening.lags_none script block before ready header input mid sink opened written)
+
   no_frames : length (signal script header.coding []) ≡ 0
   no_frames = ap length (signal-nil script header.coding some)
 
@@ -83,7 +92,7 @@ module _ (script : Script) (block : ℕ) (ready : IsReady script block) (frames 
   -- the header declares fewer frames than are wanted
   pub declares_fewer : (got : ℕ) → got < frames → declared_frames script header ≡ Some got → (before : Counts) → FirstStopped script block frames (part_fault.Behind frames got) input mid sink sink before before
   declares_fewer got fewer declared before =
-      first_stops (part_fault.Behind frames got) [] [] mid sink before before none_declared (Gave-nil mid) (Took-nil sink).put
+      first_stops (part_fault.Behind frames got) [] [] mid sink before before none_declared none_taken (lags_none before []) (Gave-nil mid) (Took-nil sink).put
       (output_header script header ++ live_bytes script (signal script header.coding []), refl) (λ given front. inr front)
       (opened.opens.has [], refl, fewer, subst (λ (h : Header). Counted got (declared_frames script h)) (sym (opened.opens.said [])) (subst (Counted got) (sym declared) refl))
       (opened.no_fault, refl) (omega (arith, no_frames)) (λ none. absurd none) (omega arith)
@@ -94,7 +103,7 @@ module _ (script : Script) (block : ℕ) (ready : IsReady script block) (frames 
   headless after count took risen before =
       let all = output_header script header in
       let live = live_bytes script (signal script header.coding []) in
-      first_stops (part_fault.Stream fault.Output) [] (take count all) mid after before before none_declared (Gave-nil mid) took.put
+      first_stops (part_fault.Stream fault.Output) [] (take count all) mid after before before none_declared none_taken (lags_none before (take count all)) (Gave-nil mid) took.put
       (drop count all ++ live, ap (λ xs. xs ++ live) (sym (take-append-drop count all)) ∙ append_assoc (take count all) (drop count all) live) (λ given front. inr front)
       (opened.opens.has []) (opened.no_fault, risen) (omega (arith, no_frames)) (λ none. absurd none) (omega arith)
 
@@ -111,10 +120,12 @@ module _ (script : Script) (block : ℕ) (ready : IsReady script block) (frames 
     given = u.given;
     written = [];
     gave = u.gave;
+    in_limit = u.in_limit;
     put = (Took-nil sink).put;
     cause = input_first error script block frames u.given now (unopened_cause error script block u.given input now u.cause);
     wrote = unopened_wrote error script u.given sink (unopened_none error script u.given input now u.cause);
     faults = unopened_faults error script u.given input now sink u.cause;
+    lag = λ has. absurd (unopened_none error script u.given input now u.cause has);
     in_part = λ has. absurd (unopened_none error script u.given input now u.cause has);
     missing = λ _ has. absurd (unopened_none error script u.given input now u.cause has);
     cost = omega arith;
@@ -123,10 +134,12 @@ module _ (script : Script) (block : ℕ) (ready : IsReady script block) (frames 
     given = opened.first;
     written = [];
     gave = opened.gave;
+    in_limit = opened.opens.in_limit;
     put = (Took-nil sink).put;
     cause = long_cause script block before ready header input now sink opened size long;
     wrote = refl;
     faults = (opened.no_fault, refl);
+    lag = λ _. opening.lags_none script block before ready header input now sink opened [];
     in_part = λ has. omega (arith, opening.no_frames script block before ready header input now sink opened);
     missing = λ none _. absurd none;
     cost = omega arith;
@@ -206,9 +219,21 @@ module _ (start session : SessionState) (header : Header) (span : Span) (taken :
   pub put_more : (written : List ℕ) (after : SinkState) → after.put ≡ append_known then.put written → after.put ≡ append_known sink.put ((head ++ wrote) ++ written)
   put_more written after put = put ∙ ap (λ known. append_known known written) put_so_far ∙ sym (append_known-append sink.put (head ++ wrote) written)
 
-  module _ (frames : ℕ) (later : SourceState) (bytes : List ℕ) (gave : Gave now later bytes) (declared : InDeclared (declared_bytes script header) (taken + length bytes)) (few : frames_heard bytes ≤ frames) where
+  module _ (frames : ℕ) (later : SourceState) (bytes : List ℕ) (gave : Gave now later bytes) (declared : InDeclared (declared_bytes script header) (taken + length bytes)) (few : frames_heard bytes ≤ frames)
+      (limit : header.start + (taken + length bytes) ≤ 2 ^ 40) (short : length bytes ≤ block_bytes script header.coding start.block) where
+    all_taken : length (heard ++ bytes) ≡ taken + length bytes
+    all_taken = omega (arith, going.taken_is, from, length-append heard bytes)
+
     in_all : InDeclared (declared_bytes script header) (length (heard ++ bytes))
     in_all = in_declared (declared_bytes script header) (taken + length bytes) (length (heard ++ bytes)) (omega (arith, going.taken_is, from, length-append heard bytes)) declared
+
+    -- at most a block is ahead of what was written
+    pub lag_at : (written : List ℕ) → LagsByOne script start.block (begun.opened.first ++ (heard ++ bytes)) ((head ++ wrote) ++ written)
+    lag_at written =
+        let heard_declared = in_declared (declared_bytes script header) taken (length heard) (omega (arith, going.taken_is, from)) going.declared in
+        subst (λ ys. LagsByOne script start.block (begun.opened.first ++ (heard ++ bytes)) ((head ++ ys) ++ written)) wrote_is
+        (lags script start.block ready header begun.opened.first begun.opened.opens going.blocks heard bytes written heard_declared
+        (going.advances.long ∙ ap (λ c. going.blocks * block_bytes script c start.block) coding) short)
 
     -- all that came was worked on or not, and this front of its values was written
     pub stops_at : (stop : PartFault) (written : List ℕ) (after : SinkState) (made : Counts) → after.put ≡ append_known then.put written
@@ -220,12 +245,9 @@ module _ (start session : SessionState) (header : Header) (span : Span) (taken :
         → FirstStopped script start.block frames stop input later sink after before made
     stops_at stop written after made put front shape cause faults fewer cost =
         first_stops script start.block ready frames header input mid sink begun.opened stop (heard ++ bytes) ((head ++ wrote) ++ written) later after before made
-        in_all (Gave-append mid now later heard bytes going.gave gave) (put_more written after put) (begins bytes written front) shape cause faults few fewer cost
+        in_all (omega (arith, limit, all_taken)) (lag_at written) (Gave-append mid now later heard bytes going.gave gave) (put_more written after put) (begins bytes written front) shape cause faults few fewer cost
 
     -- ---- each end
-
-    all_taken : length (heard ++ bytes) ≡ taken + length bytes
-    all_taken = omega (arith, going.taken_is, from, length-append heard bytes)
 
     read_so_far : now.faults ≡ input.faults
     read_so_far = going.no_fault ∙ begun.opened.no_fault

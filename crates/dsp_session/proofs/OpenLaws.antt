@@ -162,7 +162,7 @@ module _ (script : Script) (block : ℕ) (counts : Counts) (ready : IsReady scri
   pub has : HasHeader script first
   has = subst (HasHeader script) (append-nil first) (opened.opens.has [])
 
-  lags_none : (written : List ℕ) → LagsByOne script block first written
+  pub lags_none : (written : List ℕ) → LagsByOne script block first written
   lags_none written =
       let start : (input_header script first).start ≡ length first = ap (λ (h : Header). h.start) header_is ∙ opened.opens.start in
       record { blocks = 0; taken = omega (arith, start); wrote = inl refl; one = omega (arith, start) }

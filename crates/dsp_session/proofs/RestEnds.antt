@@ -44,15 +44,25 @@ module _ (start : SessionState) (header : Header) (span : Span) (input opened_at
   -- ---- a block did not come, or did not pass
 
   module _ (session : SessionState) (taken : ℕ) (between : SourceState) (then : SinkState) (made : Counts) (going : Going start session header span taken mid between sink then before made) where
+    size_is : block_bytes script session.coding session.block ≡ block_bytes script header.coding start.block
+    size_is = λ i. block_bytes script ((going.advances.same.coding ∙ coding) i) (going.advances.same.block i)
+
     unread_rest : (error : InputFault) → PartUnread script header span.end taken (block_bytes script session.coding session.block) error between now
         → RestStopped script start.block start start.chain.frames (part_fault.Stream (of_input error)) input now sink then before made
     unread_rest error u =
         laws.rest_unread start session header span taken input opened_at mid between sink then before made runs coding from opened skip skipped skip_long still going
-        now u.unread.bytes u.unread.gave u.unread.declared error u.unread.cause
+        now u.unread.bytes u.unread.gave u.unread.declared (omega (arith, u.unread.in_limit))
+        (omega (arith, u.unread.short, size_is)) error u.unread.cause
 
     module _ (piece : List ℕ) (long : length piece ≡ block_bytes script start.coding start.block) (read : PartRead script header span.end taken piece (length piece) between now) where
       gave : Gave between now piece
       gave = subst (Gave between now) (take_all (length piece) piece (omega arith)) read.gave
+
+      in_limit : header.start + (taken + length piece) ≤ 2 ^ 40
+      in_limit = omega (arith, read.in_limit)
+
+      in_block : length piece ≤ block_bytes script header.coding start.block
+      in_block = omega (arith, long, ap (λ c. block_bytes script c start.block) coding)
 
       piece_frames : length (signal script header.coding piece) ≡ start.block
       piece_frames = frames-whole script header.coding some piece start.block (long ∙ ap (λ c. block_bytes script c start.block) coding)
@@ -61,10 +71,10 @@ module _ (start : SessionState) (header : Header) (span : Span) (input opened_at
           → RestStopped script start.block start start.chain.frames (part_fault.Stream stop) input now sink after before counts
       unpassed_rest fault.Output last after counts (count, less, same, fed, few, took, risen) =
           laws.rest_unwritten start session header span taken input opened_at mid between sink then before made runs coding from opened skip skipped skip_long still going
-          now piece gave read.declared piece refl last counts same fed after count took.put risen read.no_fault
+          now piece gave read.declared in_limit in_block piece refl last counts same fed after count took.put risen read.no_fault
       unpassed_rest (fault.Lengths (length_fault.Gather told more)) last after counts fails =
           laws.rest_full start session header span taken input opened_at mid between sink then before made runs coding from opened skip skipped skip_long still going
-          now piece gave read.declared piece refl last told more after counts fails read.no_fault (omega (arith, piece_frames)) (λ less. absurd (omega (arith, less, piece_frames)))
+          now piece gave read.declared in_limit in_block piece refl last told more after counts fails read.no_fault (omega (arith, piece_frames)) (λ less. absurd (omega (arith, less, piece_frames)))
       unpassed_rest stop last after counts none = absurd none
 
   pub broke_rest : (last : SessionState) (stop : StreamFault) (after : SinkState) (counts : Counts) → Broke start last header span stop mid now sink after before counts
@@ -102,6 +112,12 @@ module _ (start : SessionState) (header : Header) (span : Span) (input opened_at
 
     declared : InDeclared (declared_bytes script header) (last.before + length bytes)
     declared = in_declared (declared_bytes script header) (last.before + last.count) (last.before + length bytes) (omega (arith, bytes_long)) reached.read.declared
+
+    all_in_limit : header.start + (last.before + length bytes) ≤ 2 ^ 40
+    all_in_limit = omega (arith, bytes_long, reached.read.in_limit)
+
+    all_in_block : length bytes ≤ block_bytes script header.coding start.block
+    all_in_block = omega (arith, bytes_long, reached.short, reached.size, ap (λ c. block_bytes script c start.block) coding)
 
     same_more : signal script header.coding piece ≡ signal script header.coding bytes
     same_more = (λ i. signal script header.coding (whole_front (going.advances.same.script i) header last.count block)) ∙ front_signal script header.coding some last.count block reached.read.within
@@ -141,7 +157,7 @@ module _ (start : SessionState) (header : Header) (span : Span) (input opened_at
     total = start.chain.frames + length (signal script header.coding (going.heard ++ bytes))
 
     counted : session.chain.frames + count_of session piece ≡ total
-    counted = laws.fed_frames start session header span last.before input opened_at mid reached.between sink then before made runs coding from opened skip skipped skip_long still going now bytes reached.read.gave declared piece same_more
+    counted = laws.fed_frames start session header span last.before input opened_at mid reached.between sink then before made runs coding from opened skip skipped skip_long still going now bytes reached.read.gave declared all_in_limit all_in_block piece same_more
 
     window : (found : Option (ℕ × ℕ)) → window_at session.script.blocks (session.chain.frames + count_of session piece) ≡ found → window_at script.blocks total ≡ found
     window found is = (λ i. window_at (sym going.advances.same.script i).blocks (sym counted i)) ∙ is
@@ -152,33 +168,34 @@ module _ (start : SessionState) (header : Header) (span : Span) (input opened_at
         subst (λ c. RestStopped script start.block start start.chain.frames (part_fault.Stream stop) input now sink after before c) (sym unspent)
         (subst (λ s. RestStopped script start.block start start.chain.frames (part_fault.Stream stop) input now sink s before made) (sym unmoved)
         (subst (λ f. RestStopped script start.block start start.chain.frames (part_fault.Stream f) input now sink then before made) (sym is)
-        (laws.rest_windowed start session header span last.before input opened_at mid reached.between sink then before made runs coding from opened skip skipped skip_long still going now bytes reached.read.gave declared
+        (laws.rest_windowed start session header span last.before input opened_at mid reached.between sink then before made runs coding from opened skip skipped skip_long still going now bytes reached.read.gave declared all_in_limit all_in_block
         end full is_whole (window (Some (end, full)) found) reached.read.no_fault)))
     unclosed_rest new stop after counts (Unpassed none fails) = by stop fails
       where
         by : (stop : StreamFault) → FailsToPassOn stop session new piece then after made counts → RestStopped script start.block start start.chain.frames (part_fault.Stream stop) input now sink after before counts
         by fault.Output (count, less, same, fed, few, took, risen) =
-            laws.rest_unwritten start session header span last.before input opened_at mid reached.between sink then before made runs coding from opened skip skipped skip_long still going now bytes reached.read.gave declared
+            laws.rest_unwritten start session header span last.before input opened_at mid reached.between sink then before made runs coding from opened skip skipped skip_long still going now bytes reached.read.gave declared all_in_limit all_in_block
             piece same_more new counts same fed after count took.put risen reached.read.no_fault
         by (fault.Lengths (length_fault.Gather told more)) fails =
-            laws.rest_full start session header span last.before input opened_at mid reached.between sink then before made runs coding from opened skip skipped skip_long still going now bytes reached.read.gave declared
+            laws.rest_full start session header span last.before input opened_at mid reached.between sink then before made runs coding from opened skip skipped skip_long still going now bytes reached.read.gave declared all_in_limit all_in_block
             piece same_more new told more after counts fails reached.read.no_fault few_more (λ less. (is_whole, window None none))
         by stop none = absurd none
     unclosed_rest new stop after counts (Unfinished fed middle spent error is none passes writes costs limit failed) =
         subst (λ f. RestStopped script start.block start start.chain.frames (part_fault.Stream f) input now sink after before counts) (sym is)
-        (laws.rest_unfinished start session header span last.before input opened_at mid reached.between sink then before made runs coding from opened skip skipped skip_long still going now bytes reached.read.gave declared
+        (laws.rest_unfinished start session header span last.before input opened_at mid reached.between sink then before made runs coding from opened skip skipped skip_long still going now bytes reached.read.gave declared all_in_limit all_in_block
         piece same_more fed spent passes.same passes.fed error middle after counts passes.took passes.no_fault writes (window None none) limit is_whole failed reached.read.no_fault)
 
     pub closed_rest : Fits script header → (new : SessionState) (after : SinkState) (counts : Counts) → Closed session new header piece then after made counts
         → RestDone script start start.chain.frames ((last.before + last.count) / frame_bytes script header.coding) input now sink after before counts (measured new)
     closed_rest fits new after counts closed =
-        laws.rest_done start session header span last.before input opened_at mid reached.between sink then before made runs coding from opened skip skipped skip_long still going now bytes reached.read.gave declared
+        laws.rest_done start session header span last.before input opened_at mid reached.between sink then before made runs coding from opened skip skipped skip_long still going now bytes reached.read.gave declared all_in_limit all_in_block
         piece same_more closed.fed closed.made closed.passes.same closed.passes.fed {E = Failed} closed.then after counts closed.passes.took closed.passes.no_fault closed.writes (window None closed.no_window) closed.limit
         is_whole closed.no_fault reached.read.no_fault closed.settled fits closed.passes.not_full closed.costs (measured new) closed.measures
         ((last.before + last.count) / frame_bytes script header.coding) total_is
+        (λ none. omega (arith, bytes_long, reached.read.room_left reached.short none (omega (arith, unended, reached.read.in_limit))))
       where
         total_is : (last.before + last.count) / frame_bytes script header.coding ≡ total
         total_is =
             sym (frames_are script header some opened.first opened.opens all (in_declared (declared_bytes script header) (last.before + last.count) (length all) (sym all_long) reached.read.declared)
             ∙ length-signal script header.coding some all ∙ ap (λ n. n / frame_bytes script header.coding) all_long)
-            ∙ laws.count_is start session header span last.before input opened_at mid reached.between sink then before made runs coding from opened skip skipped skip_long still going now bytes reached.read.gave declared
+            ∙ laws.count_is start session header span last.before input opened_at mid reached.between sink then before made runs coding from opened skip skipped skip_long still going now bytes reached.read.gave declared all_in_limit all_in_block

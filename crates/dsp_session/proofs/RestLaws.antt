@@ -1,7 +1,7 @@
 -- The ends of a stream over the rest of an input.
-use Rattle.std.proofs.Common.{◌≡◌, ℕ, ◌+◌, ◌-◌, ◌*◌, ◌<◌, ◌≤◌, List, [], ◌++◌, length, take, drop, Some, None, Result, Ok, Err, sym, ap, ◌∙◌, subst, arith, append_assoc, append-nil, length-append, inl, inr}
+use Rattle.std.proofs.Common.{◌≡◌, ℕ, ◌+◌, ◌-◌, ◌*◌, ◌^◌, ◌<◌, ◌≤◌, List, [], ◌++◌, length, take, drop, Some, None, Result, Ok, Err, sym, ap, ◌∙◌, subst, arith, append_assoc, append-nil, length-append, inl, inr}
 use Rattle.std.proofs.lemmas.Bool.{cases_lt}
-use Rattle.std.proofs.lemmas.List.{take-append-drop, drop_at}
+use Rattle.std.proofs.lemmas.List.{take-append-drop, take_at, drop_at}
 use Rattle.std.specs.Io.KnownBytes.{append_known}
 use Rattle.dsp_ports.specs.Ports.{SourceState, SinkState, one_more, Gave, Took, IsSettled}
 use Rattle.dsp_ports.proofs.Moved.{Took-nil, Gave-append, append_known-append}
@@ -20,11 +20,11 @@ use Rattle.dsp_input.specs.declared.fault.InputFault.{InputFault}
 use Rattle.dsp_input.specs.Taking.{Fits, InDeclared, IsTakenWhole, IsUnread, Opened, declared_bytes, frame_bytes, frames_in_bytes}
 use Rattle.dsp_session.specs.Opening.{of_input}
 use Rattle.dsp_session.specs.SessionState.{SessionState}
-use Rattle.dsp_session.specs.Session.{IsReady, StandsFor, SameSession, Feeds, signal, cost_of, live_cost_of, products_of, measures_of}
+use Rattle.dsp_session.specs.Session.{IsReady, StandsFor, SameSession, Feeds, block_bytes, signal, cost_of, live_cost_of, products_of, measures_of}
 use Rattle.dsp_session.specs.Stream.{in_whole_blocks}
 use Rattle.dsp_session.specs.Passing.{WritesTail, TailCosts}
 use Rattle.dsp_session.specs.Advancing.{Runs, Going, FailsToPassOn, count_of}
-use Rattle.dsp_session.specs.Resuming.{IsRestCause, CountsPartFault, RestDone, RestStopped, RestWritten, later_frames}
+use Rattle.dsp_session.specs.Resuming.{IsRestCause, CountsPartFault, LaterLagsByOne, RestDone, RestStopped, RestWritten, later_blocks_end, later_frames}
 use Rattle.dsp_session.specs.declared.fault.LengthFault.TheVariants as length_fault
 use Rattle.dsp_session.specs.declared.fault.StreamFault.TheVariants as fault
 use Rattle.dsp_session.specs.declared.fault.PartFault.{PartFault}
@@ -80,15 +80,48 @@ module _ (start session : SessionState) (header : Header) (span : Span) (taken :
   wrote_is : (x : List Frame) → StandsFor start x → live_bytes script (x ++ fed) ≡ live_bytes script x ++ wrote
   wrote_is x is = ap (λ c. live_bytes script (x ++ signal script c heard)) (sym coding) ∙ going.advances.values x is
 
-  module _ (end : SourceState) (bytes : List ℕ) (gave : Gave now end bytes) (declared : InDeclared (declared_bytes script header) (taken + length bytes)) where
+  skip_frames : length (signal script header.coding skip) ≡ frames
+  skip_frames = frames-whole script header.coding some skip frames (skip_long ∙ from)
+
+  -- the later frames of the blocks that have passed
+  heard_later : later_frames script frames (opened.first ++ (skip ++ heard)) ≡ fed
+  heard_later =
+      let in_heard = in_declared (declared_bytes script header) taken (length (skip ++ heard)) (omega (arith, going.taken_is, skip_long, length-append skip heard)) going.declared in
+      ap (drop frames) (
+        signal_is script header some opened.first opened.opens (skip ++ heard) in_heard
+            ∙ signal-append script header.coding some skip heard frames (skip_long ∙ from)
+      ) ∙ drop_at (signal script header.coding skip) fed frames skip_frames
+
+  -- at most a block is ahead of what was written
+  lags : (bytes written : List ℕ) → length bytes ≤ block_bytes script header.coding start.block → LaterLagsByOne script start.block start frames (given bytes) (wrote ++ written)
+  lags bytes written short =
+      let long : length heard ≡ going.blocks * block_bytes script header.coding start.block = going.advances.long ∙ ap (λ c. going.blocks * block_bytes script c start.block) coding in
+      let ends : (blocks : ℕ) → later_blocks_end script start.block frames (input_header script (given bytes)) blocks ≡ header.start + blocks * block_bytes script header.coding start.block + frames * frame_bytes script header.coding =
+      λ blocks. ap (λ (h : Header). later_blocks_end script start.block frames h blocks) (opened.opens.said (skip ++ (heard ++ bytes))) in
+      let front : given bytes ≡ (opened.first ++ (skip ++ heard)) ++ bytes =
+      ap (λ ys. opened.first ++ ys) (sym (append_assoc skip heard bytes)) ∙ sym (append_assoc opened.first (skip ++ heard) bytes) in
+      let count : length (opened.first ++ (skip ++ heard)) ≡ later_blocks_end script start.block frames (input_header script (given bytes)) going.blocks =
+      omega (arith, ends going.blocks, long, skip_long, from, opened.opens.start, length-append opened.first (skip ++ heard), length-append skip heard) in
+      let taken_front : take (later_blocks_end script start.block frames (input_header script (given bytes)) going.blocks) (given bytes) ≡ opened.first ++ (skip ++ heard) =
+      ap (take (later_blocks_end script start.block frames (input_header script (given bytes)) going.blocks)) front ∙ take_at (opened.first ++ (skip ++ heard)) bytes _ count in
+      let all : length (given bytes) ≡ length (opened.first ++ (skip ++ heard)) + length bytes = ap length front ∙ length-append (opened.first ++ (skip ++ heard)) bytes in
+      record {
+        blocks = going.blocks;
+        wrote = inr (omega (arith, all, count), λ x is. (
+          written,
+          sym (append_assoc (live_bytes script x) wrote written)
+              ∙ ap (λ ys. ys ++ written) (sym (ap (λ (y : List Frame). live_bytes script (x ++ y)) (ap (later_frames script frames) taken_front ∙ heard_later) ∙ wrote_is x is)),
+        ));
+        one = (let next = ends (going.blocks + 1) in omega (arith, next, all, count, ends going.blocks, short));
+      }
+
+  module _ (end : SourceState) (bytes : List ℕ) (gave : Gave now end bytes) (declared : InDeclared (declared_bytes script header) (taken + length bytes))
+      (below_limit : header.start + (taken + length bytes) ≤ 2 ^ 40) (short : length bytes ≤ block_bytes script header.coding start.block) where
     all_long : length (skip ++ (heard ++ bytes)) ≡ taken + length bytes
     all_long = omega (arith, going.taken_is, skip_long, length-append skip (heard ++ bytes), length-append heard bytes)
 
     in_all : InDeclared (declared_bytes script header) (length (skip ++ (heard ++ bytes)))
     in_all = in_declared (declared_bytes script header) (taken + length bytes) (length (skip ++ (heard ++ bytes))) (sym all_long) declared
-
-    skip_frames : length (signal script header.coding skip) ≡ frames
-    skip_frames = frames-whole script header.coding some skip frames (skip_long ∙ from)
 
     signal_all : input_signal script (given bytes) ≡ signal script header.coding skip ++ later bytes
     signal_all =
@@ -104,6 +137,9 @@ module _ (start session : SessionState) (header : Header) (span : Span) (taken :
     gave_all : Gave input end (given bytes)
     gave_all = Gave-append input opened_at end opened.first (skip ++ (heard ++ bytes)) opened.gave (Gave-append opened_at mid end skip (heard ++ bytes) skipped (Gave-append mid now end heard bytes going.gave gave))
 
+    all_in_limit : length (given bytes) ≤ 2 ^ 40
+    all_in_limit = omega (arith, below_limit, all_long, opened.opens.start, length-append opened.first (skip ++ (heard ++ bytes)))
+
     -- a front of what the frames add was written, or of all
     pub rest_stops : (stop : PartFault) (written : List ℕ) (after : SinkState) (made : Counts) → after.put ≡ append_known sink.put (wrote ++ written)
         → ((x : List Frame) → StandsFor start x → RestWritten script x frames (given bytes) (wrote ++ written) end)
@@ -114,10 +150,12 @@ module _ (start session : SessionState) (header : Header) (span : Span) (taken :
       given = given bytes;
       written = going.advances.written ++ written;
       gave = gave_all;
+      in_limit = all_in_limit;
       put = put;
       cause = cause;
       idle = λ fewer. absurd (omega (arith, fewer, count_is));
       wrote = wrote;
+      lag = λ _. lags bytes written short;
       faults = faults;
       cost = λ enough. rw count_is cost;
     }
@@ -291,13 +329,16 @@ module _ (start session : SessionState) (header : Header) (span : Span) (taken :
             → Fits script header → gathered session.script.blocks last.chain.frames ≤ MAX_GATHERED
             → ((x : List Frame) → StandsFor last x → TailCosts {T = Unit {0}} {E = E} (Ok tt) last.script (length x) made spent)
             → (found : List Measure) → ((x : List Frame) → StandsFor last x → found ≡ measures_of last.script x)
-            → (total : ℕ) → total ≡ frames + length (later bytes)
+            → (total : ℕ) → total ≡ frames + length (later bytes) → (header.size ≡ None → header.start + (taken + length bytes) < 2 ^ 40)
             → RestDone script start frames total input end sink after before spent found
-        rest_done {E} middle after spent took still writes none limit ended clean_output clean settled fits few costs found measures total total_is = record {
+        rest_done {E} middle after spent took still writes none limit ended clean_output clean settled fits few costs found measures total total_is room = record {
           given = given bytes;
           written = wrote ++ (last.out ++ writes.written);
           gave = gave_all;
           has = opened.opens.has (skip ++ (heard ++ bytes));
+          in_limit = all_in_limit;
+          room_left = λ none. (let free = room (ap (λ (h : Header). h.size) (sym (opened.opens.said (skip ++ (heard ++ bytes)))) ∙ none) in
+              omega (arith, free, all_long, opened.opens.start, length-append opened.first (skip ++ (heard ++ bytes))));
           whole = ended;
           frame_count = total_is ∙ sym count_is;
           enough = omega (arith, total_is);
@@ -307,6 +348,7 @@ module _ (start session : SessionState) (header : Header) (span : Span) (taken :
           };
           no_window = ap (window_at script.blocks) total_is ∙ none;
           put = put_all {E = E} (Ok tt) middle after spent took writes none limit;
+          lag = lags bytes (last.out ++ writes.written) short;
           output = λ x is.
               sym (behind_live {E = E} (Ok tt) middle after spent took writes none limit x is) ∙ writes.whole (x ++ later_frames script frames (given bytes)) (last_stands x is)
               ∙ all_of {E = E} (Ok tt) middle after spent took writes none limit x;

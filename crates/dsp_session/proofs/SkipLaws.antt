@@ -72,6 +72,7 @@ module _ (script : Script) (header : Header) (end taken : ℕ) (input now : Sour
         gave = Gave-append input now later skipping.bytes unread.unread.bytes skipping.gave unread.unread.gave;
         in_part = omega (arith, unread.in_part, all);
         declared = in_declared (declared_bytes script header) (taken + length unread.unread.bytes) (length (skipping.bytes ++ unread.unread.bytes)) all unread.unread.declared;
+        in_limit = omega (arith, unread.unread.in_limit, all);
         between = now;
         no_fault = skipping.no_fault;
         cause = subst (λ n. IsUnread error script header n now later) all unread.unread.cause;

@@ -15,7 +15,7 @@ use Rattle.dsp_input.specs.declared.fault.InputFault.{InputFault}
 use Rattle.dsp_input.specs.Taking.{AreAll, InDeclared, IsTakenWhole, IsUnread, declared_bytes, frame_bytes, frames_in_bytes}
 use Rattle.dsp_session.specs.Session.{StandsFor, cost_of, live_cost_of, measures_of}
 use Rattle.dsp_session.specs.SessionState.{SessionState}
-use Rattle.dsp_session.specs.Stream.{KeepsLimits, IsOverfull, IsCause, CountsFault, in_whole_blocks}
+use Rattle.dsp_session.specs.Stream.{KeepsLimits, IsOverfull, IsCause, CountsFault, LagsByOne, blocks_end, in_whole_blocks}
 use Rattle.dsp_session.specs.Advancing.{Runs}
 use Rattle.dsp_session.specs.declared.fault.LengthFault.TheVariants as length_fault
 use Rattle.dsp_session.specs.declared.fault.StreamFault.{StreamFault}
@@ -32,6 +32,19 @@ first_output script frames bytes = output_header script (input_header script byt
 -- the frames behind them
 abbrev pub later_frames : Script → ℕ → List ℕ → List Frame
 later_frames script frames bytes = drop frames (input_signal script bytes)
+
+-- where the first blocks of the later frames end
+abbrev pub later_blocks_end : Script → ℕ → ℕ → Header → ℕ → ℕ
+later_blocks_end script block from header blocks = blocks_end script block header blocks + from * frame_bytes script header.coding
+
+-- beyond the first frames and the blocks of the later ones whose live values were written, at most one block was taken
+pub record LaterLagsByOne (script : Script) (block : ℕ) (start : SessionState) (from : ℕ) (given written : List ℕ) : Type 0 where
+  pub blocks : ℕ
+  pub wrote : (blocks ≡ 0) ⊎ ((later_blocks_end script block from (input_header script given) blocks ≤ length given)
+      × ((x : List Frame) → StandsFor start x → Begins
+      (live_bytes script (x ++ later_frames script from (take (later_blocks_end script block from (input_header script given) blocks) given)))
+      (live_bytes script x ++ written)))
+  pub one : length given ≤ later_blocks_end script block from (input_header script given) (blocks + 1)
 
 -- ---- causes
 
@@ -92,10 +105,12 @@ pub record FirstDone (script : Script) (frames : ℕ) (session : SessionState) (
   pub has : HasHeader script given
   pub exact : length given ≡ (input_header script given).start + frames * frame_bytes script (input_header script given).coding
   pub frame_count : frames ≡ frames_in_bytes script given
+  pub in_limit : length given ≤ 2 ^ 40
   pub stands : StandsFor session (input_signal script given)
   pub runs : Runs session
   pub limits : KeepsLimits script (input_header script given) frames
   pub put : after.put ≡ append_known sink.put (first_output script frames given)
+  pub lag : LagsByOne script session.block given (first_output script frames given)
   pub settled : IsSettled after
   pub no_input_fault : now.faults ≡ input.faults
   pub no_output_fault : after.faults ≡ sink.faults
@@ -112,10 +127,12 @@ pub record FirstStopped (script : Script) (block frames : ℕ) (stop : PartFault
   pub given : List ℕ
   pub written : List ℕ
   pub gave : Gave input now given
+  pub in_limit : length given ≤ 2 ^ 40
   pub put : after.put ≡ append_known sink.put written
   pub cause : IsFirstCause stop script block frames given now
   pub wrote : FirstWritten stop script given written sink after
   pub faults : CountsPartFault stop input now sink after
+  pub lag : HasHeader script given → LagsByOne script block given written
   pub in_part : HasHeader script given → frames_in_bytes script given ≤ frames
   -- the input is at fault only where frames are missing
   pub missing : IsOfInput stop → HasHeader script given → frames_in_bytes script given < frames
@@ -130,12 +147,15 @@ pub record RestDone (script : Script) (start : SessionState) (from frames : ℕ)
   pub written : List ℕ
   pub gave : Gave input now given
   pub has : HasHeader script given
+  pub in_limit : length given ≤ 2 ^ 40
+  pub room_left : (input_header script given).size ≡ None → length given < 2 ^ 40
   pub whole : IsTakenWhole script given now
   pub frame_count : frames ≡ frames_in_bytes script given
   pub enough : from ≤ frames
   pub limits : KeepsLimits script (input_header script given) frames
   pub no_window : window_at script.blocks frames ≡ None
   pub put : after.put ≡ append_known sink.put written
+  pub lag : LaterLagsByOne script start.block start from given written
   pub output : (x : List Frame) → StandsFor start x
       → live_bytes script x ++ written ≡ whole_bytes script (x ++ later_frames script from given) ++ output_pad script (input_header script given)
   pub settled : IsSettled after
@@ -157,10 +177,12 @@ pub record RestStopped (script : Script) (block : ℕ) (start : SessionState) (f
   pub given : List ℕ
   pub written : List ℕ
   pub gave : Gave input now given
+  pub in_limit : length given ≤ 2 ^ 40
   pub put : after.put ≡ append_known sink.put written
   pub cause : IsRestCause stop script block from given now
   pub idle : frames_in_bytes script given < from → (after ≡ sink) × (counts ≡ before)
   pub wrote : (x : List Frame) → StandsFor start x → RestWritten script x from given written now
+  pub lag : HasHeader script given → LaterLagsByOne script block start from given written
   pub faults : CountsPartFault stop input now sink after
   pub cost : from ≤ frames_in_bytes script given → counts.multiplies + live_cost_of script from ≤ before.multiplies + cost_of script (frames_in_bytes script given)
 
@@ -184,6 +206,7 @@ pub record Unskipped (script : Script) (header : Header) (end : ℕ) (error : In
   pub gave : Gave input now bytes
   pub in_part : length bytes ≤ end
   pub declared : InDeclared (declared_bytes script header) (length bytes)
+  pub in_limit : header.start + length bytes ≤ 2 ^ 40
   pub between : SourceState
   pub no_fault : between.faults ≡ input.faults
   pub cause : IsUnread error script header (length bytes) between now

@@ -11,7 +11,9 @@ pub returns-in_err-skipped-clause-err : goal.returns-in_err-skipped-clause-err
 returns-in_err-skipped-clause-err g c before opened fits =
     let (error, is, gives) = err_from_is_err_and c.from_residual.result c.from_residual.ensures.1 in
     let missed = rw c.script-2.ensures.script at c.in_err-skipped.ensures.err in
-    rw (is, gives) (early.unskipped _ _ c.requires.runs.holds.ready _ _ _ _ _ _ _ opened _ _ _ missed)
+    let frame : c.frame_bytes-frame.result ≡ frame_bytes c.args.worker.now.script c.args.header.coding =
+    c.frame_bytes-frame.ensures ∙ ap (λ (s : Script). frame_bytes s c.args.header.coding) c.script.ensures.script in
+    rw (is, gives) (early.unskipped _ _ c.requires.runs.holds.ready _ c.args.frames _ _ _ _ _ opened _ _ _ (λ i. c.from.ensures i * frame i) missed)
 
 pub returns-then-skipped-span-clause-err : goal.returns-then-skipped-span-clause-err
 returns-then-skipped-span-clause-err g c before opened fits =

@@ -53,7 +53,7 @@ fn run_frames<T: BankSample, M: Ledger>(
         outputs,
         steps,
     );
-    out.copy_from_slice(&inner[2 * row..]);
+    out.copy_from_slice(&outputs[2 * row..]);
 }
 
 /// Writes the next values of each channel, by way of rows with room for two frames more than those of

@@ -30,8 +30,8 @@ fn numbers_at<T: BankSample>(coefficients: &[T], section: usize) -> [T; 5]
     ]
 }
 
-/// Gives the frames after the first two to a section, and writes its outputs over them. The first two
-/// frames of both slices are for what the section keeps.
+/// Gives the frames after the first two to a section, and writes its outputs. The first two frames of
+/// both slices are for what the section keeps.
 fn run_section<T: BankSample, M: Ledger>(
     five: &[T],
     post_shift: u8,
@@ -52,18 +52,17 @@ fn run_section<T: BankSample, M: Ledger>(
     requires outputs { length outputs.old ≡ (count + 2) * row }
     ensures goes { SectionGoes (section_acts T.format post_shift (five_of (map T.number five.now)))
         sections section row count (map T.number kept.old) (map T.number kept.new)
-        (map T.number frames.old) (map T.number frames.new) }
+        (map T.number frames.old) (map T.number outputs.new) }
     ensures steps { RisesWithin steps.old steps.new (count * (5 * row))
         (count * (5 * lane_turns (lanes T.format) row)) }
 {
     load_past(kept, sections, section, row, frames, outputs);
     T::section_rows(five, post_shift, row, count, frames, outputs, steps);
     save_past(frames, outputs, count, row, sections, section, kept);
-    frames.copy_from_slice(outputs);
 }
 
 /// Gives the frames after the first two to the sections of a list, one after another, and writes the
-/// outputs of the last over them.
+/// outputs of the last. Those of the others stand over the frames.
 pub(crate) fn run_sections<T: BankSample, M: Ledger>(
     coefficients: &[T],
     post_shift: u8,
@@ -83,16 +82,25 @@ pub(crate) fn run_sections<T: BankSample, M: Ledger>(
     ensures goes { ChannelsGo
         (block_acts T.format (Biquad post_shift (map T.number coefficients.now))) (4 * (length coefficients.now / T.SIZE)) row count
         (map T.number kept.old) (map T.number kept.new)
-        (map T.number frames.old) (map T.number frames.new) }
+        (map T.number frames.old) (map T.number outputs.new) }
     ensures steps { RisesWithin steps.old steps.new
         ((length coefficients.now / T.SIZE) * (count * (5 * row)))
         ((length coefficients.now / T.SIZE) * (count * (5 * lane_turns (lanes T.format) row))) }
 {
     let sections = coefficients.len() / T::SIZE;
-    for section in 0..sections {
+    let Some(last) = sections.checked_sub(1) else {
+        outputs.copy_from_slice(frames);
+        return;
+    };
+    for section in 0..last {
         let five = numbers_at(coefficients, section);
         run_section(
             &five, post_shift, sections, section, kept, row, count, frames, outputs, steps,
         );
+        frames.copy_from_slice(outputs);
     }
+    let five = numbers_at(coefficients, last);
+    run_section(
+        &five, post_shift, sections, last, kept, row, count, frames, outputs, steps,
+    );
 }

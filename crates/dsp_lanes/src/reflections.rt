@@ -28,15 +28,17 @@ fn folded(k: i16) -> (i16, i16)
     }
 }
 
-/// The high words of the products of samples and a factor.
+/// The high words of the products of samples and a factor. It counts the products, and as many turns.
 #[inline(always)]
-fn high_words(samples: i16x8, factor: i16) -> i16x8
+fn high_words<L: Ledger>(samples: i16x8, factor: i16, steps: &mut Steps<L>) -> i16x8
     requires long { length samples ≡ 8 }
     requires fit { Each1 (FitsSigned w16) samples }
     ensures value { result ≡ map (λ x. floor_shift (x *ℤ factor) 16) samples }
     ensures fit { Each1 (FitsSigned w16) result }
+    ensures steps { Rises steps.old steps.new 8 8 }
 {
     let products = samples.cast::<i32>() * i16x8::splat(factor).cast::<i32>();
+    steps.count(8, 8);
     (products >> i32x8::splat(16)).cast::<i16>()
 }
 
@@ -44,15 +46,16 @@ fn high_words(samples: i16x8, factor: i16) -> i16x8
 /// is one by 16 of twice the product. The multiple of 2^16 in twice the coefficient makes no product: it
 /// adds or takes off each sample once.
 #[inline(always)]
-fn fractions(k: i16, samples: i16x8) -> i16x8
+fn fractions<L: Ledger>(k: i16, samples: i16x8, steps: &mut Steps<L>) -> i16x8
     requires apart { k ≢ negsuc 32767 }
     requires long { length samples ≡ 8 }
     requires fit { Each1 (FitsSigned w16) samples }
     ensures value { result ≡ map (λ x. floor_shift (k *ℤ x) 15) samples }
     ensures fit { Each1 (FitsSigned w16) result }
+    ensures steps { Rises steps.old steps.new 8 8 }
 {
     let (factor, whole) = folded(k);
-    let high = high_words(samples, factor);
+    let high = high_words(samples, factor, steps);
     if whole > 0 {
         high + samples
     } else if whole < 0 {
@@ -89,7 +92,14 @@ fn reflected_value(product: i32, value: i16) -> i16
 /// Writes over the eight values f and g from `at` on those that the section gives for them; `before` is
 /// the value g before them.
 #[inline(always)]
-fn reflect_group(k: i16, before: i16, forward: &mut [i16], backward: &mut [i16], at: usize)
+fn reflect_group<L: Ledger>(
+    k: i16,
+    before: i16,
+    forward: &mut [i16],
+    backward: &mut [i16],
+    at: usize,
+    steps: &mut Steps<L>,
+)
     requires apart { k ≢ negsuc 32767 }
     requires forward { at + 8 ≤ length forward.old }
     requires backward { at + 8 ≤ length backward.old }
@@ -99,14 +109,15 @@ fn reflect_group(k: i16, before: i16, forward: &mut [i16], backward: &mut [i16],
     ensures backward { backward.new ≡ put_chunk at backward.old
         (zip2 (λ f g. reflected k f g) (chunk at 8 forward.old)
         (before ∷ chunk at 7 backward.old)) }
+    ensures steps { Rises steps.old steps.new 16 16 }
 {
     q15_fit(forward);
     q15_fit(backward);
     let f = i16x8::from_slice(&forward[at..]);
     let stored = i16x8::from_slice(&backward[at..]);
     let g = i16x8::splat(before).shuffle(stored, [0, 8, 9, 10, 11, 12, 13, 14]);
-    saturated_sums(fractions(k, g), f).copy_to_slice(&mut forward[at..]);
-    saturated_sums(fractions(k, f), g).copy_to_slice(&mut backward[at..]);
+    saturated_sums(fractions(k, g, steps), f).copy_to_slice(&mut forward[at..]);
+    saturated_sums(fractions(k, f, steps), g).copy_to_slice(&mut backward[at..]);
 }
 
 /// Writes over the values f and g of each sample those that a section of a lattice without feedback
@@ -130,8 +141,7 @@ pub fn reflect<L: Ledger>(
     let mut at = 0;
     'groups: while k != i16::MIN && forward.len() - at >= 8 {
         let next = backward[at + 7];
-        reflect_group(k, last, forward, backward, at);
-        steps.count(16, 16);
+        reflect_group(k, last, forward, backward, at, steps);
         last = next;
         at += 8;
     }

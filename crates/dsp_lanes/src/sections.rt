@@ -167,6 +167,16 @@ impl<const L: usize> SectionKernels<L> for i32 {
     }
 }
 
+/// The numbers of a section as values of their own, which the compiler keeps in registers: it sees
+/// that no output is written over them.
+#[inline(always)]
+fn own_numbers<T: Sample>(five: &[T]) -> [T; 5]
+    requires { length five.now ≡ 5 }
+    ensures { result ≡ five.now }
+{
+    [five[0], five[1], five[2], five[3], five[4]]
+}
+
 /// Writes the outputs of N channels, those from `first` on, in all frames behind the first two.
 #[inline(always)]
 fn section_channels<T: SectionKernels<N>, const N: usize, M: Ledger>(
@@ -195,10 +205,12 @@ fn section_channels<T: SectionKernels<N>, const N: usize, M: Ledger>(
         → Stays row (map T.number outputs.old) (map T.number outputs.new) (count + 2) i }
     ensures steps { RisesWithin steps.old steps.new (count * (5 * N)) (count * 5) }
 {
+    // The compiler orders the sum by these lines. With the last output after the one before it, fewer
+    // sums stand between its product and the next output.
+    let mut y2 = T::load(outputs, first);
     let mut x1 = T::load(inputs, row + first);
     let mut x2 = T::load(inputs, first);
     let mut y1 = T::load(outputs, row + first);
-    let mut y2 = T::load(outputs, first);
     for frame in 0..count {
         let at = (frame + 2) * row + first;
         let x = T::load(inputs, at);
@@ -251,28 +263,29 @@ impl SectionSample for i16 {
         outputs: &mut [i16],
         steps: &mut Steps<M>,
     ) {
+        let numbers = own_numbers(five);
         let mut first = 0;
         'eights: while row - first >= 8 {
             section_channels::<i16, 8, M>(
-                five, post_shift, row, count, first, inputs, outputs, steps,
+                &numbers, post_shift, row, count, first, inputs, outputs, steps,
             );
             first += 8;
         }
         'fours: while row - first >= 4 {
             section_channels::<i16, 4, M>(
-                five, post_shift, row, count, first, inputs, outputs, steps,
+                &numbers, post_shift, row, count, first, inputs, outputs, steps,
             );
             first += 4;
         }
         'twos: while row - first >= 2 {
             section_channels::<i16, 2, M>(
-                five, post_shift, row, count, first, inputs, outputs, steps,
+                &numbers, post_shift, row, count, first, inputs, outputs, steps,
             );
             first += 2;
         }
         'ones: while row - first >= 1 {
             section_channels::<i16, 1, M>(
-                five, post_shift, row, count, first, inputs, outputs, steps,
+                &numbers, post_shift, row, count, first, inputs, outputs, steps,
             );
             first += 1;
         }
@@ -289,22 +302,23 @@ impl SectionSample for i32 {
         outputs: &mut [i32],
         steps: &mut Steps<M>,
     ) {
+        let numbers = own_numbers(five);
         let mut first = 0;
         'fours: while row - first >= 4 {
             section_channels::<i32, 4, M>(
-                five, post_shift, row, count, first, inputs, outputs, steps,
+                &numbers, post_shift, row, count, first, inputs, outputs, steps,
             );
             first += 4;
         }
         'twos: while row - first >= 2 {
             section_channels::<i32, 2, M>(
-                five, post_shift, row, count, first, inputs, outputs, steps,
+                &numbers, post_shift, row, count, first, inputs, outputs, steps,
             );
             first += 2;
         }
         'rest: while row - first >= 1 {
             section_channels::<i32, 1, M>(
-                five, post_shift, row, count, first, inputs, outputs, steps,
+                &numbers, post_shift, row, count, first, inputs, outputs, steps,
             );
             first += 1;
         }

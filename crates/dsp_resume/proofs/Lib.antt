@@ -1,2 +1,2 @@
 mod StopLaws
-mod ToldLaws
+pub mod ToldLaws

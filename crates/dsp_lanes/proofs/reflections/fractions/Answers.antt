@@ -6,10 +6,11 @@ use Rattle.dsp_lanes.proofs.LaneSums.{lanes_read}
 use Rattle.dsp_defs.specs.Numbers.{floor_shift}
 use Rattle.dsp_lanes.proofs.Fractions.{added_read, lessened_read, same_fractions, whole_above, whole_below, whole_none}
 use Rattle.dsp_lanes.proofs.reflections.fractions.Goals.{then-whole-gt0, else-whole-gt0, then-whole-lt0, else-whole-lt0}
+use Rattle.dsp_lanes.proofs.reflections.fractions.Given.{Over}
 use Rattle.dsp_lanes.proofs.reflections.fractions.Goals as goal
 
 pub high_words-high-requires-clause-fit : goal.high_words-high-requires-clause-fit
-high_words-high-requires-clause-fit c = subst (λ (l : List ℤ). Each1 (SFits w16) l)
+high_words-high-requires-clause-fit g c = subst (λ (l : List ℤ). Each1 (SFits w16) l)
     (sym (ints_of_bits w16 c.args.samples c.requires.fit)) c.requires.fit
 
 abbrev Are : ℤ → List ℤ → List ℕ → Type 0
@@ -17,8 +18,8 @@ Are k xs lanes = (map (to_z w16) lanes ≡ map (λ x. floor_shift (k *ℤ x) 15)
     × Each1 (SFits w16) (map (to_z w16) lanes)
 
 -- in each of the three cases the lanes are those of the fractions
-read : (c : goal.Joined-whole-gt0) → Are c.args.k c.args.samples c.if-whole-gt0.result
-read c =
+read : (g : Over) (c : goal.Joined-whole-gt0 g) → Are c.args.k c.args.samples c.if-whole-gt0.result
+read g c =
     let k = c.args.k in
     let xs = c.args.samples in
     let u = c.folded-factor.result.0 in
@@ -56,7 +57,7 @@ read c =
     ]
 
 pub returns-clause-value : goal.returns-clause-value
-returns-clause-value c = (read c).0
+returns-clause-value g c = (read g c).0
 
 pub returns-clause-fit : goal.returns-clause-fit
-returns-clause-fit c = (read c).1
+returns-clause-fit g c = (read g c).1

@@ -16,8 +16,8 @@ groups-preserved g c =
       eight-more _ _ _ _ c.groups.forward c.groups.backward _ at c.requires c.groups.auto.forward c.groups.auto.backward so_far
           c.reflect_group.new.forward c.reflect_group.new.backward _ (at + 8) refl (omega (arith, so_far.within)) c.reflect_group.ensures.forward c.reflect_group.ensures.backward (to_z-of_z w16 next fits),
       record {
-        multiplies_rise = omega (arith, c.groups.invariant.1, c.count.ensures);
-        turns_rise = omega (arith, c.groups.invariant.1, c.count.ensures);
+        multiplies_rise = omega (arith, c.groups.invariant.1, c.reflect_group.ensures.steps);
+        turns_rise = omega (arith, c.groups.invariant.1, c.reflect_group.ensures.steps);
       },
     )
 

@@ -9,30 +9,30 @@ use Rattle.dsp_lanes.proofs.ReflectedGroups.{before_chunk, forward-is, backward-
 use Rattle.dsp_lanes.proofs.reflections.reflect_group.Goals as goal
 
 pub saturated_sums-requires-clause-long_y : goal.saturated_sums-requires-clause-long_y
-saturated_sums-requires-clause-long_y c =
+saturated_sums-requires-clause-long_y g c =
     ap length (ints_of_bits w16 (chunk c.args.at 8 c.args.forward.now) (group_fits w16 c.args.at 8 c.args.forward.now c.q15_fit.ensures c.requires.forward)) ∙ length-chunk c.args.at 8 c.args.forward.now c.requires.forward
 
 pub saturated_sums-requires-clause-fit_y : goal.saturated_sums-requires-clause-fit_y
-saturated_sums-requires-clause-fit_y c =
+saturated_sums-requires-clause-fit_y g c =
     let fits = group_fits w16 c.args.at 8 c.args.forward.now c.q15_fit.ensures c.requires.forward in
     subst (λ (xs : List ℤ). Each1 (SFits w16) xs) (sym (ints_of_bits w16 (chunk c.args.at 8 c.args.forward.now) fits)) fits
 
 pub fractions-requires-2-clause-long : goal.fractions-requires-2-clause-long
-fractions-requires-2-clause-long c =
+fractions-requires-2-clause-long g c =
     ap length (ints_of_bits w16 (chunk c.args.at 8 c.args.forward.now) (group_fits w16 c.args.at 8 c.args.forward.now c.q15_fit.ensures c.requires.forward)) ∙ length-chunk c.args.at 8 c.args.forward.now c.requires.forward
 
 pub fractions-requires-2-clause-fit : goal.fractions-requires-2-clause-fit
-fractions-requires-2-clause-fit c =
+fractions-requires-2-clause-fit g c =
     let fits = group_fits w16 c.args.at 8 c.args.forward.now c.q15_fit.ensures c.requires.forward in
     subst (λ (xs : List ℤ). Each1 (SFits w16) xs) (sym (ints_of_bits w16 (chunk c.args.at 8 c.args.forward.now) fits)) fits
 
 pub saturated_sums-requires-2-clause-fit_x : goal.saturated_sums-requires-2-clause-fit_x
-saturated_sums-requires-2-clause-fit_x c =
+saturated_sums-requires-2-clause-fit_x g c =
     let fits = c.fractions-2.ensures.fit in
     subst (λ (xs : List ℤ). Each1 (SFits w16) xs) (sym (ints_of_bits w16 c.fractions-2.result fits)) fits
 
 pub returns-clause-forward : goal.returns-clause-forward
-returns-clause-forward c =
+returns-clause-forward g c =
     let at = c.args.at in
     let gs = c.args.backward.now in
     let f8 = chunk at 8 c.args.forward.now in
@@ -46,7 +46,7 @@ returns-clause-forward c =
     ∙ forward-is c.args.k f8 (c.args.before ∷ chunk at 7 gs))
 
 pub returns-clause-backward : goal.returns-clause-backward
-returns-clause-backward c =
+returns-clause-backward g c =
     let at = c.args.at in
     let gs = c.args.backward.now in
     let f8 = chunk at 8 c.args.forward.now in

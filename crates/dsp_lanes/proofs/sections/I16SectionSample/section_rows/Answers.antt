@@ -1,8 +1,8 @@
-use Rattle.std.proofs.Common.{◌≡◌, ◌≤◌, ◌*◌, arith, ap, refl, ◌∙◌, ◌+◌, map}
+use Rattle.std.proofs.Common.{◌≡◌, ◌≤◌, ◌*◌, arith, ap, refl, ◌∙◌, ◌+◌, map, subst}
 use native.Mathlib.Nat.{mul-le-mul_left}
 use Rattle.dsp_lanes.specs.Turns.{lane_turns}
 use Rattle.dsp_defs.specs.declared.format.Fmt.TheVariants.{Q15}
-use Rattle.dsp_lanes.specs.Sections.{five_of}
+use Rattle.dsp_lanes.specs.Sections.{five_of, Follows}
 use Rattle.dsp_lanes.proofs.SectionChannels.{follows-group, past-group}
 use Rattle.dsp_lanes.proofs.sections.I16SectionSample.section_rows.Goals as goal
 
@@ -11,7 +11,7 @@ eights-preserved g c =
     let so_far = c.eights.invariant in
     let (k, at, counts) = so_far.counted in
     let e = c.section_channels.ensures in
-    let five = five_of (map (λ x. x) c.args.five.now) in
+    let five = five_of (map (λ x. x) c.own_numbers-numbers.result) in
     let xs = map (λ x. x) c.args.inputs.now in
     let old = map (λ x. x) c.args.outputs.now in
     let mid = map (λ x. x) c.eights.outputs in
@@ -38,7 +38,7 @@ fours-preserved g c =
     let so_far = c.fours.invariant in
     let (k, m, at, below, counts) = so_far.counted in
     let e = c.section_channels-in-fours.ensures in
-    let five = five_of (map (λ x. x) c.args.five.now) in
+    let five = five_of (map (λ x. x) c.own_numbers-numbers.result) in
     let xs = map (λ x. x) c.args.inputs.now in
     let old = map (λ x. x) c.args.outputs.now in
     let mid = map (λ x. x) c.fours.outputs in
@@ -84,7 +84,7 @@ twos-preserved g c =
     let so_far = c.twos.invariant in
     let (k, m, r, at, below, counts) = so_far.counted in
     let e = c.section_channels-in-twos.ensures in
-    let five = five_of (map (λ x. x) c.args.five.now) in
+    let five = five_of (map (λ x. x) c.own_numbers-numbers.result) in
     let xs = map (λ x. x) c.args.inputs.now in
     let old = map (λ x. x) c.args.outputs.now in
     let mid = map (λ x. x) c.twos.outputs in
@@ -132,7 +132,7 @@ ones-preserved g c =
     let so_far = c.ones.invariant in
     let (k, m, r, s, at, below, counts) = so_far.counted in
     let e = c.section_channels-in-ones.ensures in
-    let five = five_of (map (λ x. x) c.args.five.now) in
+    let five = five_of (map (λ x. x) c.own_numbers-numbers.result) in
     let xs = map (λ x. x) c.args.inputs.now in
     let old = map (λ x. x) c.args.outputs.now in
     let mid = map (λ x. x) c.ones.outputs in
@@ -154,6 +154,15 @@ ones-preserved g c =
             { multiplies_rise = omega (arith, counts, e.steps); turns_within = omega (arith, counts, e.steps) },
       );
     }
+
+pub returns-clause-follows : goal.returns-clause-follows
+returns-clause-follows g c =
+    let so_far = c.ones.invariant in
+    let row = c.args.row in
+    let all : c.ones.first ≡ row = omega (arith, so_far.within, c.ones-test.false) in
+    λ i h. subst (λ l. Follows Q15 c.args.post_shift (five_of (map (λ x. x) l)) row (map (λ x. x) c.args.inputs.now)
+    (map (λ x. x) c.ones.outputs) c.args.count i)
+    c.own_numbers-numbers.ensures (so_far.follows i (omega (arith, h, all)))
 
 pub returns-clause-steps : goal.returns-clause-steps
 returns-clause-steps g c =

@@ -8,7 +8,7 @@ abbrev pub invariant-eights : goal.invariant-eights
 invariant-eights g l = record {
   within : l.first ≤ l.row;
   size : length l.outputs ≡ length l.fn.outputs;
-  follows : (i : ℕ) → i < l.first → Follows Q15 l.post_shift (five_of (map (λ x. x) l.five)) l.row
+  follows : (i : ℕ) → i < l.first → Follows Q15 l.post_shift (five_of (map (λ x. x) l.numbers)) l.row
       (map (λ x. x) l.inputs) (map (λ x. x) l.outputs) l.count i;
   past : (i : ℕ) → i < l.row → Stays l.row (map (λ x. x) l.fn.outputs) (map (λ x. x) l.outputs) 2 i;
   counted : (k : ℕ) × (l.first ≡ 8 * k) × RisesWithin l.fn.steps l.steps (l.count * (5 * l.first)) (l.count * (5 * k));
@@ -21,7 +21,7 @@ abbrev pub invariant-fours : goal.invariant-fours
 invariant-fours g l = record {
   within : l.first ≤ l.row;
   size : length l.outputs ≡ length l.fn.outputs;
-  follows : (i : ℕ) → i < l.first → Follows Q15 l.post_shift (five_of (map (λ x. x) l.five)) l.row
+  follows : (i : ℕ) → i < l.first → Follows Q15 l.post_shift (five_of (map (λ x. x) l.numbers)) l.row
       (map (λ x. x) l.inputs) (map (λ x. x) l.outputs) l.count i;
   past : (i : ℕ) → i < l.row → Stays l.row (map (λ x. x) l.fn.outputs) (map (λ x. x) l.outputs) 2 i;
   counted : (k m : ℕ) × (l.first ≡ 8 * k + 4 * m) × (l.row < 8 * k + 8)
@@ -35,7 +35,7 @@ abbrev pub invariant-twos : goal.invariant-twos
 invariant-twos g l = record {
   within : l.first ≤ l.row;
   size : length l.outputs ≡ length l.fn.outputs;
-  follows : (i : ℕ) → i < l.first → Follows Q15 l.post_shift (five_of (map (λ x. x) l.five)) l.row
+  follows : (i : ℕ) → i < l.first → Follows Q15 l.post_shift (five_of (map (λ x. x) l.numbers)) l.row
       (map (λ x. x) l.inputs) (map (λ x. x) l.outputs) l.count i;
   past : (i : ℕ) → i < l.row → Stays l.row (map (λ x. x) l.fn.outputs) (map (λ x. x) l.outputs) 2 i;
   counted : (k m r : ℕ) × (l.first ≡ 8 * k + 4 * m + 2 * r) × (l.row < 8 * k + 8)
@@ -49,7 +49,7 @@ abbrev pub invariant-ones : goal.invariant-ones
 invariant-ones g l = record {
   within : l.first ≤ l.row;
   size : length l.outputs ≡ length l.fn.outputs;
-  follows : (i : ℕ) → i < l.first → Follows Q15 l.post_shift (five_of (map (λ x. x) l.five)) l.row
+  follows : (i : ℕ) → i < l.first → Follows Q15 l.post_shift (five_of (map (λ x. x) l.numbers)) l.row
       (map (λ x. x) l.inputs) (map (λ x. x) l.outputs) l.count i;
   past : (i : ℕ) → i < l.row → Stays l.row (map (λ x. x) l.fn.outputs) (map (λ x. x) l.outputs) 2 i;
   counted : (k m r s : ℕ) × (l.first ≡ 8 * k + 4 * m + 2 * r + s) × (l.row < 8 * k + 8)

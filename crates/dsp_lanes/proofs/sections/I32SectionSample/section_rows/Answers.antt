@@ -1,6 +1,6 @@
-use Rattle.std.proofs.Common.{arith, refl, ◌∙◌, ◌+◌, map}
+use Rattle.std.proofs.Common.{arith, refl, ◌∙◌, ◌+◌, map, subst, ◌≡◌}
 use Rattle.dsp_defs.specs.declared.format.Fmt.TheVariants.{Q31}
-use Rattle.dsp_lanes.specs.Sections.{five_of}
+use Rattle.dsp_lanes.specs.Sections.{five_of, Follows}
 use Rattle.dsp_lanes.proofs.SectionChannels.{follows-group, past-group}
 use Rattle.dsp_lanes.proofs.sections.I32SectionSample.section_rows.Goals as goal
 
@@ -9,7 +9,7 @@ fours-preserved g c =
     let so_far = c.fours.invariant in
     let (k, at, counts) = so_far.counted in
     let e = c.section_channels.ensures in
-    let five = five_of (map (λ x. x) c.args.five.now) in
+    let five = five_of (map (λ x. x) c.own_numbers-numbers.result) in
     let xs = map (λ x. x) c.args.inputs.now in
     let old = map (λ x. x) c.args.outputs.now in
     let mid = map (λ x. x) c.fours.outputs in
@@ -36,7 +36,7 @@ twos-preserved g c =
     let so_far = c.twos.invariant in
     let (k, m, at, below, counts) = so_far.counted in
     let e = c.section_channels-in-twos.ensures in
-    let five = five_of (map (λ x. x) c.args.five.now) in
+    let five = five_of (map (λ x. x) c.own_numbers-numbers.result) in
     let xs = map (λ x. x) c.args.inputs.now in
     let old = map (λ x. x) c.args.outputs.now in
     let mid = map (λ x. x) c.twos.outputs in
@@ -82,7 +82,7 @@ rest-preserved g c =
     let so_far = c.rest.invariant in
     let (k, m, r, at, below, counts) = so_far.counted in
     let e = c.section_channels-in-rest.ensures in
-    let five = five_of (map (λ x. x) c.args.five.now) in
+    let five = five_of (map (λ x. x) c.own_numbers-numbers.result) in
     let xs = map (λ x. x) c.args.inputs.now in
     let old = map (λ x. x) c.args.outputs.now in
     let mid = map (λ x. x) c.rest.outputs in
@@ -103,3 +103,12 @@ rest-preserved g c =
             { multiplies_rise = omega (arith, counts, e.steps); turns_within = omega (arith, counts, e.steps) },
       );
     }
+
+pub returns-clause-follows : goal.returns-clause-follows
+returns-clause-follows g c =
+    let so_far = c.rest.invariant in
+    let row = c.args.row in
+    let all : c.rest.first ≡ row = omega (arith, so_far.within, c.rest-test.false) in
+    λ i h. subst (λ l. Follows Q31 c.args.post_shift (five_of (map (λ x. x) l)) row (map (λ x. x) c.args.inputs.now)
+    (map (λ x. x) c.rest.outputs) c.args.count i)
+    c.own_numbers-numbers.ensures (so_far.follows i (omega (arith, h, all)))

@@ -88,8 +88,8 @@ module _ (start session : SessionState) (header : Header) (span : Span) (taken :
   heard_later =
       let in_heard = in_declared (declared_bytes script header) taken (length (skip ++ heard)) (omega (arith, going.taken_is, skip_long, length-append skip heard)) going.declared in
       ap (drop frames) (
-        signal_is script header some opened.first opened.opens (skip ++ heard) in_heard
-            ∙ signal-append script header.coding some skip heard frames (skip_long ∙ from)
+      signal_is script header some opened.first opened.opens (skip ++ heard) in_heard
+      ∙ signal-append script header.coding some skip heard frames (skip_long ∙ from)
       ) ∙ drop_at (signal script header.coding skip) fed frames skip_frames
 
   -- at most a block is ahead of what was written
@@ -107,11 +107,14 @@ module _ (start session : SessionState) (header : Header) (span : Span) (taken :
       let all : length (given bytes) ≡ length (opened.first ++ (skip ++ heard)) + length bytes = ap length front ∙ length-append (opened.first ++ (skip ++ heard)) bytes in
       record {
         blocks = going.blocks;
-        wrote = inr (omega (arith, all, count), λ x is. (
-          written,
-          sym (append_assoc (live_bytes script x) wrote written)
-              ∙ ap (λ ys. ys ++ written) (sym (ap (λ (y : List Frame). live_bytes script (x ++ y)) (ap (later_frames script frames) taken_front ∙ heard_later) ∙ wrote_is x is)),
-        ));
+        wrote = inr (
+          omega (arith, all, count),
+          λ x is. (
+            written,
+            sym (append_assoc (live_bytes script x) wrote written)
+                ∙ ap (λ ys. ys ++ written) (sym (ap (λ (y : List Frame). live_bytes script (x ++ y)) (ap (later_frames script frames) taken_front ∙ heard_later) ∙ wrote_is x is)),
+          ),
+        );
         one = (let next = ends (going.blocks + 1) in omega (arith, next, all, count, ends going.blocks, short));
       }
 

@@ -1,0 +1,10 @@
+mod AdaptedStates
+mod Correlations
+mod KeptStates
+mod Ladders
+mod Mapped
+mod MatrixBlocks
+mod NewestSums
+mod Phases
+mod Scattered
+mod SectionLists

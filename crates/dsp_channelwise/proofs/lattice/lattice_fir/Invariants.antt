@@ -1,0 +1,14 @@
+use Rattle.std.proofs.Common.{◌≡◌, ◌+◌, ◌*◌, ◌≤◌, ℤ, length, take}
+use Rattle.std.specs.Prelude.{All, FitsSigned, fold, map}
+use Rattle.std.specs.Int.{w16}
+use Rattle.dsp_defs.specs.Lattice.{lattice_stage}
+use Rattle.dsp_channelwise.proofs.lattice.lattice_fir.Given as goal
+
+-- the stages so far
+abbrev pub invariant-loop-stage : goal.invariant-loop-stage
+invariant-loop-stage g l = record {
+  values : l.pairs.items ≡ fold lattice_stage (map (λ (a : ℤ). (a, a)) l.x) (take l.stage-index l.k);
+  long : length l.pairs.items ≡ length l.x;
+  fits : All (λ (w : ℤ × ℤ). FitsSigned w16 w.0 × FitsSigned w16 w.1) l.pairs.items;
+  products : l.steps.multiplies ≤ l.initial.steps.multiplies + l.stage-index * (length l.x * 2);
+}

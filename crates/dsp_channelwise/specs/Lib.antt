@@ -1,0 +1,3 @@
+pub mod Adapting
+pub mod Groups
+pub mod Recursions

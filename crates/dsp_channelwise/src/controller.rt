@@ -1,0 +1,104 @@
+//! The controller.
+ghost use Rattle.std.specs.Prelude.{◌≡◌, ◌≢◌, ◌+◌, ◌*◌, ◌≤◌, ◌^◌, All, FitsSigned, IfOk, length, nat_abs};
+ghost use Rattle.dsp_defs.specs.Adaptive.{pid, pid_close, pid_gains, pid_output};
+ghost use Rattle.dsp_defs.specs.Formats.{word};
+ghost use Rattle.dsp_defs.specs.declared.format.Fmt.TheVariants.{Q7};
+ghost use Rattle.dsp_channelwise.specs.Recursions.{gains_of};
+
+use crate::newest::newest_sum;
+use dsp_defs::{Fmt, Steps};
+use dsp_exact::{Recurrence, back, outputs, saturate};
+use dsp_sat::{wrap32, wrap64};
+use std::alloc::{AllocError, Global};
+use std::sync::ledger::Ledger;
+
+/// The gains A0, A1 and A2.
+#[derive(Clone, Copy)]
+pub(crate) struct Gains {
+    pub a0: i32,
+    pub a1: i32,
+    pub a2: i32,
+}
+
+/// sat(kp+ki+kd), sat(-(2*kd+kp)), kd, and in Q31 step by step.
+fn gains_by(format: Fmt, kp: i32, ki: i32, kd: i32) -> Gains
+    ensures { gains_of result ≡ pid_gains format kp ki kd }
+{
+    let (p, i, d) = (i128::from(kp), i128::from(ki), i128::from(kd));
+    match format {
+        Fmt::Q31 => Gains {
+            a0: saturate(format, i128::from(saturate(format, p + i)) + d),
+            a1: wrap32(-i128::from(saturate(format, i128::from(saturate(format, 2 * d)) + p))),
+            a2: kd,
+        },
+        _ => Gains {
+            a0: saturate(format, p + i + d),
+            a1: saturate(format, -(2 * d + p)),
+            a2: kd,
+        },
+    }
+}
+
+/// A sum and the value before it as a sample.
+fn pid_close(format: Fmt, sum: i128, y1: i32) -> i32
+    requires wide { format ≢ Q7 }
+    requires small { nat_abs sum ≤ 2 ^ 100 }
+    ensures value { result ≡ pid_close format sum y1 }
+    ensures fits { FitsSigned (word format) result }
+{
+    let y1 = i128::from(y1);
+    match format {
+        Fmt::Q31 => wrap32((i128::from(wrap64(sum)) >> 31) + y1),
+        _ => saturate(Fmt::Q15, (sum + y1 * 32768) >> 15),
+    }
+}
+
+/// y from A0*x + A1*x1 + A2*x2 and y1.
+#[derive(Clone, Copy)]
+struct Controller {
+    format: Fmt,
+    gains: Gains,
+    ghost wide: { format ≢ Q7 },
+}
+
+impl Recurrence for Controller {
+    type In = i32;
+
+    type Out = i32;
+
+    ghost next = { λ r. pid_output r.format (gains_of r.gains) };
+
+    ghost IsValue = { λ r y. FitsSigned (word r.format) y };
+
+    ghost cost = { λ r. 3 };
+
+    fn next<L: Ledger>(&self, x: &[i32], y: &[i32], steps: &mut Steps<L>) -> i32 {
+        let gains = self.gains;
+        let sum = newest_sum(gains.a0, gains.a1, gains.a2, x, steps);
+        pid_close(self.format, sum, back(y, 0))
+    }
+}
+
+/// The controller of a whole signal, as many values as x has samples, by its proportional, integral and
+/// derivative gain; each in the format of the samples. The source is `arm_pid_q15` and `arm_pid_q31` of
+/// CMSIS-DSP.
+pub fn pid<L: Ledger>(
+    alloc: Global,
+    format: Fmt,
+    kp: i32,
+    ki: i32,
+    kd: i32,
+    x: &[i32],
+    steps: &mut Steps<L>,
+) -> Result<Vec<i32>, AllocError>
+    requires wide { format ≢ Q7 }
+    ensures values { IfOk result (λ y. y.items ≡ pid format kp ki kd x.now) }
+    ensures fits { IfOk result (λ y. All (FitsSigned (word format)) y.items) }
+    ensures products { steps.new.multiplies ≤ steps.old.multiplies + length x.now * 3 }
+{
+    let controller = Controller {
+        format,
+        gains: gains_by(format, kp, ki, kd),
+    };
+    outputs(alloc, &controller, x, steps)
+}

@@ -1,0 +1,78 @@
+//! The correlation.
+ghost use Rattle.std.specs.Prelude.{◌≡◌, ◌+◌, ◌*◌, ◌<◌, ◌≤◌, ◌^◌, ◌+ℤ◌, ◌*ℤ◌, ℕ, pos, All, FitsSigned, IfOk, length, nat_abs};
+ghost use Rattle.dsp_defs.specs.Formats.{close, word};
+ghost use Rattle.dsp_defs.specs.Signal.{delayed, sample};
+ghost use Rattle.dsp_defs.specs.Sums.{correlate};
+
+use dsp_defs::{Fmt, Steps};
+use dsp_exact::{Formula, close, product, values};
+use std::alloc::{AllocError, Global};
+use std::sync::ledger::Ledger;
+
+/// Adds a * b[j] to the sum at each place at - j.
+fn scatter<L: Ledger>(sums: &mut [i128], at: usize, a: i32, b: &[i32], steps: &mut Steps<L>)
+    requires inside { at < length sums.old }
+    requires room { length b.now ≤ at + 1 }
+    requires small { (n : ℕ) → n < length sums.old → nat_abs (sample sums.old n) ≤ 2 ^ 126 }
+    ensures length { length sums.new ≡ length sums.old }
+    ensures values { (n : ℕ) → n < length sums.old
+        → sample sums.new n ≡ sample sums.old n +ℤ a *ℤ delayed b.now at n }
+    ensures small { (n : ℕ) → n < length sums.old
+        → nat_abs (sample sums.new n) ≤ nat_abs (sample sums.old n) + 2 ^ 62 }
+    ensures products { steps.new.multiplies ≤ steps.old.multiplies + length b.now }
+{
+    for j in 0..b.len() {
+        sums[at - j] += product(a, b[j], steps);
+    }
+}
+
+/// Sums as samples.
+#[derive(Clone, Copy)]
+struct Closed<'a> {
+    format: Fmt,
+    sums: &'a [i128],
+}
+
+impl<'a> Formula for Closed<'a> {
+    ghost format = { λ f. f.format };
+
+    ghost Gives = { λ f n. n < length f.sums.now };
+
+    ghost at = { λ f n. close f.format (sample f.sums.now n) };
+
+    ghost cost = { λ f. 0 };
+
+    fn at<L: Ledger>(&self, n: usize, steps: &mut Steps<L>) -> i32 {
+        close(self.format, self.sums[n])
+    }
+}
+
+/// c(n) = close(sum over k of x(k) * b[k-(n-(m-1))]) for n < 2*m-1, with m the greater length; none of no
+/// samples; each in the format of the samples. Each product is made once, and added where it belongs.
+/// The source is `arm_correlate_q7`, `arm_correlate_q15` and `arm_correlate_q31` of CMSIS-DSP.
+pub fn correlate<L: Ledger>(
+    alloc: Global,
+    format: Fmt,
+    taps: &[i32],
+    x: &[i32],
+    steps: &mut Steps<L>,
+) -> Result<Vec<i32>, AllocError>
+    requires { length x.now + length taps.now < 2 ^ 60 }
+    ensures values { IfOk result (λ y. y.items ≡ correlate format taps.now x.now) }
+    ensures fits { IfOk result (λ y. All (FitsSigned (word format)) y.items) }
+    ensures products { steps.new.multiplies ≤ steps.old.multiplies + length x.now * length taps.now }
+{
+    if x.is_empty() {
+        return Ok(Vec::new(alloc));
+    }
+    let m = x.len().max(taps.len());
+    let mut sums = vec![in alloc; 0i128; 2 * m - 1]?;
+    for k in 0..x.len() {
+        scatter(sums.as_mut_slice(), k + m - 1, x[k], taps, steps);
+    }
+    let closed = Closed {
+        format,
+        sums: sums.as_slice(),
+    };
+    values(alloc, sums.len(), &closed, steps)
+}

@@ -1,0 +1,99 @@
+//! The lattice without feedback, one whole signal after another.
+ghost use Rattle.std.specs.Prelude.{◌≡◌, ◌+◌, ◌*◌, ◌≤◌, ℤ, pos, All, FitsSigned, IfOk, get_or, length, map, reverse};
+ghost use Rattle.dsp_defs.specs.Formats.{word};
+ghost use Rattle.dsp_defs.specs.Lattice.{lattice_fir, lattice_output};
+ghost use Rattle.dsp_defs.specs.declared.format.Fmt.TheVariants.{Q15};
+
+use dsp_defs::{Fmt, Steps};
+use dsp_exact::{Recurrence, outputs, product, saturate};
+use std::alloc::{AllocError, Global};
+use std::sync::ledger::Ledger;
+
+/// f_m(n) and g_m(n) from f_{m-1}(n), g_{m-1}(n-1).
+#[derive(Clone, Copy)]
+struct LatticeStage {
+    k: i32,
+}
+
+impl Recurrence for LatticeStage {
+    type In = (i32, i32);
+
+    type Out = (i32, i32);
+
+    ghost next = { λ s. lattice_output s.k };
+
+    ghost IsValue = { λ s (w : ℤ × ℤ). FitsSigned (word Q15) w.0 × FitsSigned (word Q15) w.1 };
+
+    ghost cost = { λ s. 2 };
+
+    fn next<L: Ledger>(
+        &self,
+        x: &[(i32, i32)],
+        _y: &[(i32, i32)],
+        steps: &mut Steps<L>,
+    ) -> (i32, i32) {
+        let (f, _) = newest(x, 0);
+        let (_, g) = newest(x, 1);
+        let up = product(self.k, g, steps) >> 15;
+        let down = product(self.k, f, steps) >> 15;
+        (
+            saturate(Fmt::Q15, up + i128::from(f)),
+            saturate(Fmt::Q15, down + i128::from(g)),
+        )
+    }
+}
+
+/// The newest pair but k, and zeros before the start.
+fn newest(x: &[(i32, i32)], k: usize) -> (i32, i32)
+    ensures { result ≡ get_or (reverse x.now) k (pos 0, pos 0) }
+{
+    if k < x.len() {
+        x[x.len() - 1 - k]
+    } else {
+        (0, 0)
+    }
+}
+
+/// The stages k_1 to k_S one after another, from f_0(n) = g_0(n) = x(n), as many values as x has samples;
+/// each in Q15. The source is `arm_fir_lattice_q15` of CMSIS-DSP.
+pub fn lattice_fir<L: Ledger>(
+    alloc: Global,
+    k: &[i32],
+    x: &[i32],
+    steps: &mut Steps<L>,
+) -> Result<Vec<i32>, AllocError>
+    requires { All (FitsSigned (word Q15)) x.now }
+    ensures values { IfOk result (λ y. y.items ≡ lattice_fir k.now x.now) }
+    ensures fits { IfOk result (λ y. All (FitsSigned (word Q15)) y.items) }
+    ensures products { steps.new.multiplies ≤ steps.old.multiplies + length x.now * (2 * length k.now) }
+{
+    let mut pairs = paired(alloc, x)?;
+    for stage in k {
+        pairs = outputs(alloc, &LatticeStage { k: *stage }, pairs.as_slice(), steps)?;
+    }
+    firsts(alloc, pairs.as_slice())
+}
+
+/// Each sample as a pair of itself.
+fn paired(alloc: Global, x: &[i32]) -> Result<Vec<(i32, i32)>, AllocError>
+    ensures { IfOk result (λ y. y.items ≡ map (λ (a : ℤ). (a, a)) x.now) }
+{
+    let mut y = Vec::with_capacity(alloc, x.len())?;
+    for a in x {
+        y.push((*a, *a))?;
+    }
+    Ok(y)
+}
+
+/// The first number of each pair.
+fn firsts(alloc: Global, pairs: &[(i32, i32)]) -> Result<Vec<i32>, AllocError>
+    requires { All (λ (w : ℤ × ℤ). FitsSigned (word Q15) w.0 × FitsSigned (word Q15) w.1) pairs.now }
+    ensures values { IfOk result (λ y. y.items ≡ map (λ (w : ℤ × ℤ). w.0) pairs.now) }
+    ensures fits { IfOk result (λ y. All (FitsSigned (word Q15)) y.items) }
+{
+    let mut y = Vec::with_capacity(alloc, pairs.len())?;
+    for pair in pairs {
+        y.push(pair.0)?;
+    }
+    Ok(y)
+}

@@ -1,0 +1,7 @@
+mod Coded
+mod Compared
+mod Evaluations
+mod PlaceSizes
+mod SignalLaws
+mod WholeFrames
+mod Wholes

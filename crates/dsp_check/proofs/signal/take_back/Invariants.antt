@@ -1,0 +1,10 @@
+use Rattle.std.proofs.Common.{◌≡◌, ◌<◌, ◌≤◌, [], ℕ, get_or}
+use Rattle.dsp_check.specs.Channels.{without_last}
+use Rattle.dsp_check.proofs.signal.take_back.Given as goal
+
+-- the channels before this one have lost their last sample, and the others are as they were
+abbrev pub invariant-loop-channel : goal.invariant-loop-channel
+invariant-loop-channel l = record {
+  before : (k : ℕ) → k < l.channel-index → get_or l.channels k [] ≡ without_last (get_or l.fn.channels k []);
+  behind : (k : ℕ) → l.channel-index ≤ k → get_or l.channels k [] ≡ get_or l.fn.channels k [];
+}

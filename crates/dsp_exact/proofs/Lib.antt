@@ -1,0 +1,4 @@
+pub mod ExactSums
+pub mod Products
+pub mod Pushed
+pub mod Recurrences

@@ -1,0 +1,66 @@
+//! The formulas of blocks without memory, on exact numbers.
+ghost use Rattle.std.specs.Prelude.{◌≡◌, ◌+◌, ◌-ℤ◌, ◌≤◌, ◌≤ℤ◌, ◌^◌, FitsSigned, nat_abs, negsuc, pos};
+ghost use Rattle.dsp_defs.specs.Elementwise.{IsScaleShift, IsShift, convert, mult, scale, shift, shift_in};
+ghost use Rattle.dsp_defs.specs.Formats.{word, word_bits};
+
+use crate::numbers::{product, saturate, word_bits};
+use dsp_defs::{Fmt, Steps};
+use dsp_sat::sat31;
+use std::sync::ledger::Ledger;
+
+/// x * 2^s, saturated, where it grows, and x >> -s where it shrinks.
+pub fn shift_in(format: Fmt, x: i32, s: i32) -> i32
+    requires low { negsuc 30 ≤ℤ s }
+    requires high { s ≤ℤ pos 31 }
+    requires fits { FitsSigned (word format) x }
+    ensures value { result ≡ shift_in (word_bits format) x s }
+    ensures fits { FitsSigned (word format) result }
+{
+    if s >= 0 {
+        saturate(format, i128::from(x) * 2i128.pow(s as u32))
+    } else {
+        x >> -s
+    }
+}
+
+/// The product as a sample.
+pub fn mult<L: Ledger>(format: Fmt, a: i32, b: i32, steps: &mut Steps<L>) -> i32
+    ensures value { result ≡ mult format a b }
+    ensures fits { FitsSigned (word format) result }
+    ensures products { steps.new.multiplies ≡ steps.old.multiplies + 1 }
+{
+    let p = product(a, b, steps);
+    match format {
+        Fmt::Q7 => saturate(format, p >> 7),
+        Fmt::Q15 => saturate(format, p >> 15),
+        Fmt::Q31 => 2 * sat31((p >> 32) as i64),
+    }
+}
+
+/// A sample times a fraction and a power of two.
+pub fn scale<L: Ledger>(format: Fmt, fract: i32, s: i32, x: i32, steps: &mut Steps<L>) -> i32
+    requires { IsScaleShift format s }
+    ensures value { result ≡ scale format fract s x }
+    ensures fits { FitsSigned (word format) result }
+    ensures products { steps.new.multiplies ≡ steps.old.multiplies + 1 }
+{
+    let p = product(x, fract, steps);
+    match format {
+        Fmt::Q7 => saturate(format, p >> (7 - s).unsigned_abs()),
+        Fmt::Q15 => saturate(format, p >> (15 - s).unsigned_abs()),
+        Fmt::Q31 => shift_in(format, (p >> 32) as i32, s + 1),
+    }
+}
+
+/// The same fraction in another format.
+pub fn convert(from: Fmt, to: Fmt, x: i32) -> i32
+    requires { FitsSigned (word from) x }
+    ensures value { result ≡ convert from to x }
+    ensures fits { FitsSigned (word to) result }
+{
+    if word_bits(from) <= word_bits(to) {
+        x * 2i32.pow(word_bits(to) - word_bits(from))
+    } else {
+        x >> (word_bits(from) - word_bits(to))
+    }
+}

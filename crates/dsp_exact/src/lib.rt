@@ -1,0 +1,15 @@
+//! Exact numbers of 128 bits and how they become samples, and lists that are made by a formula: the
+//! values at 0, 1, .., sums of terms, and recursions over a whole signal.
+#![tactic(auto)]
+
+mod elementwise;
+mod formula;
+mod numbers;
+mod reads;
+mod recurrence;
+
+pub use elementwise::{convert, mult, scale, shift_in};
+pub use formula::{Formula, Terms, sum_below, values};
+pub use numbers::{close, product, saturate, word_bits, wrap};
+pub use reads::{back, back_wide, delayed, sample};
+pub use recurrence::{Recurrence, outputs};

@@ -1,8 +1,6 @@
 -- A signal as a list of its channels.
 use Rattle.std.specs.Prelude.{◌≡◌, ℕ, ◌-◌, ◌≤◌, ℤ, List, [], ◌∷◌, ◌++◌, length, map, take, get_or, replicate, All, FitsSigned}
-use Rattle.dsp_defs.specs.Bytes.{IsValue}
 use Rattle.dsp_defs.specs.Formats.{word}
-use Rattle.dsp_defs.specs.declared.format.Coding.{Coding}
 use Rattle.dsp_defs.specs.Signal.{sample, values}
 use Rattle.dsp_defs.specs.Block.{Frame}
 use Rattle.dsp_defs.specs.declared.format.Fmt.{Fmt}
@@ -32,10 +30,6 @@ no_frames channels = replicate channels []
 -- one frame more
 abbrev pub with_frame : List (List ℤ) → List ℤ → List (List ℤ)
 with_frame channels frame = values (length channels) (λ c. get_or channels c [] ++ sample frame c ∷ [])
-
--- all samples have bytes in a coding
-abbrev pub AreCoded : Coding → List (List ℤ) → Type 0
-AreCoded coding channels = All (λ samples. All (IsValue coding) samples) channels
 
 -- one sample fewer
 abbrev pub without_last : List ℤ → List ℤ

@@ -34,7 +34,7 @@ pub fn signal_of(
 }
 
 /// Adds the bytes of a signal of this format behind those that are there, frame by frame, as they
-/// stand in a container.
+/// stand in a container. Where memory is wanting, a front of them may be there.
 pub fn add_coded(
     alloc: Global,
     container: Container,

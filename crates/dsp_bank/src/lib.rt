@@ -14,6 +14,3 @@ mod sections;
 pub use bank::Bank;
 pub use bank_sample::BankSample;
 pub use bank_unit::BankUnit;
-
-#[cfg(test)]
-mod tests;

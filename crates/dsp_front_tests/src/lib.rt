@@ -1,6 +1,5 @@
 //! Callers of the crates in front of the blocks: script, ports, files, chain and session; and whole runs of
-//! the program over ports in memory, worked by hand, of an independent implementation, and over ports that
-//! fail at each place, and over real files.
+//! the program over ports in memory and over real files. Runs that are data alone are lines of dsp_vectors.
 #![tactic(auto)]
 
 /// Ends the test where what was found is not what is wanted, and shows both. It is a call, since all that
@@ -16,17 +15,11 @@ macro_rules! assert_same {
 #[cfg(test)]
 mod au;
 #[cfg(test)]
-mod block_runs;
-#[cfg(test)]
 mod chain;
-#[cfg(test)]
-mod chain_runs;
 #[cfg(test)]
 mod files;
 #[cfg(test)]
 mod full_disk;
-#[cfg(test)]
-mod gen_runs;
 #[cfg(test)]
 mod host;
 #[cfg(test)]
@@ -43,5 +36,3 @@ mod script;
 mod session;
 #[cfg(test)]
 mod wave;
-#[cfg(test)]
-mod wave_runs;

@@ -14,6 +14,8 @@ macro_rules! assert_same {
 #[cfg(test)]
 mod adapt;
 #[cfg(test)]
+mod bank;
+#[cfg(test)]
 mod biquad;
 #[cfg(test)]
 mod complex;

@@ -1,7 +1,7 @@
 ghost use Rattle.std.specs.Prelude.{◌≡◌};
 
 use crate::{
-    adapt, biquad, complex, conv, fir, lanes, lattice, matrix, measure, rate, sat, vector,
+    adapt, bank, biquad, complex, conv, fir, lanes, lattice, matrix, measure, rate, sat, vector,
 };
 use dsp_defs::Steps;
 use std::alloc::Global;
@@ -24,6 +24,7 @@ fn counted<M: Ledger>(rt: &impl Abort, alloc: Global, blank: Blank)
     rate::counted(rt, alloc, &mut steps);
     lattice::counted(rt, alloc, &mut steps);
     biquad::counted(rt, alloc, &mut steps);
+    bank::counted(rt, alloc, &mut steps);
     adapt::counted(rt, alloc, &mut steps);
     conv::counted(rt, alloc, &mut steps);
     matrix::counted(rt, alloc, &mut steps);

@@ -1,15 +1,14 @@
-//! Banks beside a cascade for each channel, and worked rows.
+//! Callers of dsp_bank: banks beside a cascade for each channel, and worked rows.
 ghost use Rattle.std.specs.Prelude.{◌≡◌, IsFalse, length};
 ghost use Rattle.dsp_lanes.specs.Turns.{RisesWithin};
 
-use crate::{Bank, BankSample};
+use dsp_bank::{Bank, BankSample};
 use dsp_biquad::{Biquads, Section};
 use dsp_defs::{MakeFault, Steps};
 use dsp_lanes::FormatLanes;
 use std::alloc::Global;
-use std::marker::Brand;
 use std::process::Abort;
-use std::sync::ledger::{Blank, Ledger};
+use std::sync::ledger::Ledger;
 
 /// The next number of a generator, in 32 bits.
 fn next(seed: &mut i32) -> i32 {
@@ -277,21 +276,11 @@ fn three_channels<M: Ledger>(rt: &impl Abort, alloc: Global, steps: &mut Steps<M
     assert!(rt; out == [400, -800, -1073741824, 200, -400, -536870912]);
 }
 
-/// All calls that count their products, with one counter.
-fn counted<M: Ledger>(rt: &impl Abort, alloc: Global, blank: Blank)
-    requires name { blank.name ≡ M.name }
-    requires parts { blank.parts ≡ M.parts }
-    requires two { M.parts ≡ 2 }
-{
-    let mut steps = Steps::<M>::new(blank);
-    all_cases(rt, alloc, &mut steps);
-    eight_channels(rt, alloc, &mut steps);
-    three_channels(rt, alloc, &mut steps);
-}
-
-#[test]
-fn counted_calls(rt: HostRuntime) {
-    counted::<Brand>(&rt, rt.alloc(), Blank::new(2));
+/// The calls that count their products.
+pub(crate) fn counted<M: Ledger>(rt: &impl Abort, alloc: Global, steps: &mut Steps<M>) {
+    all_cases(rt, alloc, steps);
+    eight_channels(rt, alloc, steps);
+    three_channels(rt, alloc, steps);
 }
 
 #[test]

@@ -1,5 +1,5 @@
 use Rattle.std.proofs.Common.{◌≡◌, ◌-◌, length}
-use Rattle.dsp_bank.proofs.tests.feed_pieces.Given as goal
+use Rattle.dsp_tests.proofs.bank.feed_pieces.Given as goal
 
 -- the bank is for rows and blocks as before
 abbrev pub invariant-loop-at : goal.invariant-loop-at

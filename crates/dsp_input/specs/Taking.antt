@@ -1,5 +1,5 @@
 -- What is taken of an input: its header, its samples, and why it stopped.
-use Rattle.std.specs.Prelude.{◌≡◌, ◌≢◌, ◌⊎◌, ℕ, ◌+◌, ◌-◌, ◌*◌, ◌^◌, ◌<◌, ◌≤◌, nat_lt, if◌then◌else◌, List, ◌++◌, length, Option, Some, None, Ok, Err, IfSome}
+use Rattle.std.specs.Prelude.{◌≡◌, ◌≢◌, ◌⊎◌, ℕ, ◌+◌, ◌-◌, ◌*◌, ◌^◌, ◌<◌, ◌≤◌, nat_lt, if◌then◌else◌, List, ◌++◌, length, take, Option, Some, None, Ok, Err, IfSome}
 use Rattle.std.specs.Io.KnownBytes.{IsAtEnd}
 use Rattle.dsp_ports.specs.Ports.{SourceState, one_more, Gave}
 use Rattle.dsp_defs.specs.Bytes.{width}
@@ -127,6 +127,35 @@ abbrev pub PartUnread : Script → Header → (end taken size : ℕ) → InputFa
 PartUnread script header end taken size fault input now =
     samples.PartUnread (stored script header) end taken size (λ n. IsUnread fault script header n input now) input now
 
+-- these bytes of the part that ends at `end` bytes were taken so far
+pub record TakenSoFar (script : Script) (header : Header) (end : ℕ) (bytes : List ℕ) (input now : SourceState) : Type 0 where
+  pub gave : Gave input now bytes
+  pub in_part : length bytes ≤ end
+  pub declared : InDeclared (declared_bytes script header) (length bytes)
+  pub in_limit : header.start + length bytes ≤ 2 ^ 40
+  pub no_fault : now.faults ≡ input.faults
+
+-- it was taken piece by piece, to its end or to that of the samples
+pub record PartTaken (script : Script) (header : Header) (end : ℕ) (bytes : List ℕ) (input now : SourceState) : Type 0 where
+  pub gave : Gave input now bytes
+  pub in_part : length bytes ≤ end
+  pub declared : InDeclared (declared_bytes script header) (length bytes)
+  pub in_limit : header.start + length bytes ≤ 2 ^ 40
+  pub ended : (length bytes ≡ end) ⊎ AreAll (declared_bytes script header) (length bytes) now
+  pub room_left : header.size ≡ None → length bytes < end → header.start + length bytes < 2 ^ 40
+  pub no_fault : now.faults ≡ input.faults
+
+-- it was not, and this is why the byte behind those that came did not
+pub record PartLost (script : Script) (header : Header) (end : ℕ) (error : InputFault) (input now : SourceState) : Type 0 where
+  pub bytes : List ℕ
+  pub gave : Gave input now bytes
+  pub in_part : length bytes < end
+  pub declared : InDeclared (declared_bytes script header) (length bytes)
+  pub in_limit : header.start + length bytes ≤ 2 ^ 40
+  pub between : SourceState
+  pub no_fault : between.faults ≡ input.faults
+  pub cause : IsUnread error script header (length bytes) between now
+
 -- ---- faults of the input
 
 -- the input ends before all declared whole frames came: what is declared, the bytes behind the header, and all bytes
@@ -160,3 +189,26 @@ AwaitsDeclared script given =
 pub record WantsMore (script : Script) (given : List ℕ) : Type 0 where
   pub cut : (HasHeader script given → ⊥) → input_fault script given ≡ Some (NoSamples, length given)
   pub declared : AwaitsDeclared script given
+
+-- why the input stopped, from the bytes that were taken of it
+abbrev pub IsInputCause : InputFault → Script → List ℕ → SourceState → Type 0
+IsInputCause fault.Failed script given now = (length given < 2 ^ 40) × AwaitsDeclared script given
+IsInputCause (fault.Limit taken limit) script given now = (length given ≡ 2 ^ 40) × (taken ≡ 2 ^ 40) × (limit ≡ 2 ^ 40) × WantsMore script given
+IsInputCause (fault.Header said offset) script given now = HasFault script given now (said, offset)
+
+-- ---- limits
+
+-- no byte was taken behind the samples that the header declares
+abbrev pub IsInDeclared : Script → List ℕ → Type 0
+IsInDeclared script given =
+    let header = input_header script given in
+    IfSome (declared_bytes script header) (λ size. length given ≤ header.start + size)
+
+-- the header and the declared samples, or all bytes where none are declared, are no more than may be taken
+abbrev pub InLimit : Script → List ℕ → Type 0
+InLimit script bytes =
+    let header = input_header script bytes in
+    elim (declared_bytes script header) [
+      | Some size ↦ HasHeader script (take (2 ^ 40) bytes) × (header.start + size ≤ 2 ^ 40)
+      | None ↦ length bytes < 2 ^ 40
+    ]

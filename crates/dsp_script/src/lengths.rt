@@ -61,8 +61,8 @@ fn same_group(rows: u8, columns: u8) -> (u64, u64)
 }
 
 /// The length of a convolution of so many samples and taps.
-fn full_length(frames: u64, taps: &List) -> u64
-    requires { full_length frames (length taps.now) < 2 ^ 63 }
+pub fn full_length(frames: u64, taps: &List) -> u64
+    requires { frames ≤ 2 ^ 63 }
     ensures { result ≡ full_length frames (length taps.now) }
 {
     match frames {
@@ -98,8 +98,8 @@ fn steady_frames(block: &Block, frames: u64) -> u64
     }
 }
 
-/// The frames that a block is to give of so many.
-fn given_frames(block: &Block, frames: u64) -> u64
+/// The frames that a block is to give of so many: a partial convolution gives all of its window.
+pub fn given_frames(block: &Block, frames: u64) -> u64
     requires group { IsGroup (group_of block.now) }
     requires few { given_frames block.now frames < 2 ^ 63 }
     ensures { result ≡ given_frames block.now frames }

@@ -21,7 +21,7 @@ pub use fault::ParseFault;
 pub use laws::{
     canonical_text_is_read_back, one_reading, tables_are_their_numbers, unit_divides_legal_lengths,
 };
-pub use lengths::{cost, default_block, frames_given, legal, unit};
+pub use lengths::{cost, default_block, frames_given, full_length, given_frames, legal, unit};
 pub use output::{output_flow, output_rate};
 pub use printer::print;
 pub use reader::parse;

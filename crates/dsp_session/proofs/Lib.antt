@@ -1,5 +1,4 @@
 pub mod OpeningLaws
-pub mod FaultLaws
 pub mod OpenLaws
 pub mod Pieces
 pub mod FeedLaws

@@ -23,7 +23,7 @@ use Rattle.dsp_defs.specs.declared.limits.TheConstants.{MAX_GATHERED, MAX_RIFF_S
 use Rattle.dsp_chain.proofs.NewChain.{gathered-nothing}
 use Rattle.dsp_input.specs.declared.fault.InputFault.{InputFault}
 use Rattle.dsp_input.specs.declared.fault.InputFault.TheVariants as input_fault
-use Rattle.dsp_input.specs.Taking.{Fits, HasFault, InDeclared, IsTooLong, IsUnopened, Opened, Opens, Unopened, WantsMore, declared_bytes, frames_in_bytes, in_whole_frames}
+use Rattle.dsp_input.specs.Taking.{Fits, HasFault, InDeclared, IsInputCause, IsTooLong, IsUnopened, Opened, Opens, Unopened, WantsMore, declared_bytes, frames_in_bytes, in_whole_frames}
 use Rattle.dsp_session.specs.declared.fault.LengthFault.TheVariants as length_fault
 use Rattle.dsp_session.specs.declared.fault.StreamFault.{StreamFault}
 use Rattle.dsp_session.specs.declared.fault.StreamFault.TheVariants as fault
@@ -31,7 +31,9 @@ use Rattle.dsp_session.specs.SessionState.{SessionState}
 use Rattle.dsp_session.specs.Session.{IsReady, block_bytes, signal}
 use Rattle.dsp_session.specs.Opening.{Untaken, NoHeader, LongOutput, of_input}
 use Rattle.dsp_session.specs.Stream.{IsUnflushed, IsCause, HasWritten, CountsFault, Stopped, StaysRefused, Nothing, KeepsLimits, LagsByOne, IsInDeclared, in_whole_blocks}
-use Rattle.dsp_session.proofs.FaultLaws.{fault_by_header}
+use Rattle.dsp_input.proofs.FaultLaws.{fault_by_header, header_fault, no_header}
+pub use Rattle.dsp_input.proofs.CauseLaws.{fits_known, known_fits, none_behind, unopened_none}
+use Rattle.dsp_input.proofs.CauseLaws.{unopened_by}
 use Rattle.dsp_session.proofs.OpeningLaws.{some_frame, part_blocks, frames_are, signal-nil}
 use Rattle.std.proofs.Math.Nat.{mul-le-mul}
 
@@ -47,23 +49,6 @@ headed_choice container.Wavex none all headed = refl
 -- what stands behind the samples of an output with a header
 pub pad_bytes : (script : Script) (header : Header) → script.output ≢ container.Raw → output_pad script header ≡ pad (format_of script) (channels_of script) (known_frames script header)
 pad_bytes script header headed = headed_choice script.output [] _ headed
-
--- bytes that are known to have a fault have no header
-pub no_header : (script : Script) (fault : HeaderFault) (offset : ℕ) (given : List ℕ) (now : SourceState) → script.input.kind ≡ kind.Wave → IsSure (λ bytes. header_of bytes (wanted_of script)) now given (Err (fault, offset)) → HasHeader script given → ⊥
-no_header script fault offset given now wave sure has =
-    let faulty : header_of given (wanted_of script) ≡ Err (fault, offset) = said sure in
-    let there : IsOk (header_of given (wanted_of script)) = subst (λ k. HeaderIsThere k (wanted_of script) given) wave has in
-    let none : IsOk {T = Header} {E = HeaderFault × ℕ} (Err (fault, offset)) = subst IsOk faulty there in
-    absurd cc
-  where
-    said : IsSure (λ bytes. header_of bytes (wanted_of script)) now given (Err (fault, offset)) → header_of given (wanted_of script) ≡ Err (fault, offset)
-    said (inl all) = ap (λ bytes. header_of bytes (wanted_of script)) (sym (append-nil given)) ∙ all []
-    said (inr (end, here)) = here
-
--- what the header says is a fault of the input
-pub header_fault : (script : Script) (fault : HeaderFault) (offset : ℕ) (given : List ℕ) (now : SourceState) → script.input.kind ≡ kind.Wave → IsSure (λ bytes. header_of bytes (wanted_of script)) now given (Err (fault, offset)) → HasFault script given now (fault, offset)
-header_fault script fault offset given now wave (inl all) = inl (λ more. fault_by_header script (given ++ more) fault offset wave (all more))
-header_fault script fault offset given now wave (inr (end, here)) = inr (end, fault_by_header script given fault offset wave here)
 
 -- a sink that took these bytes and was not flushed
 pub unflushed_by : (fault : StreamFault) (sink after : SinkState) (written : List ℕ) → after.settled ≡ settled_after sink.settled (length written) → IsUnflushed fault sink after written
@@ -106,45 +91,26 @@ module _ (banked : Bool) (script : Script) (block : ℕ) (counts : Counts) (inpu
   pub stops_unopened : (error : InputFault) → Unopened script error input now → Stopped banked script block (of_input error) input now sink sink counts counts
   stops_unopened error u = by_cause error u.given u.gave u.in_limit u.cause
 
+-- a fault of the input is that of a stream
+pub input_cause : (error : InputFault) (script : Script) (block : ℕ) (given : List ℕ) (now : SourceState) → IsInputCause error script given now → IsCause (of_input error) script block given now
+input_cause input_fault.Failed script block given now cause = cause
+input_cause (input_fault.Header f offset) script block given now cause = cause
+input_cause (input_fault.Limit taken limit) script block given now cause = cause
+
+pub unopened_cause : (error : InputFault) (script : Script) (block : ℕ) (given : List ℕ) (input now : SourceState) → IsUnopened error script given input now → IsCause (of_input error) script block given now
+unopened_cause error script block given input now unopened = input_cause error script block given now (unopened_by error script given input now unopened)
+
 -- none of these faults is that of a full correlation
 pub input_stays : (error : InputFault) (s : SessionState) → StaysRefused (of_input error) s
 input_stays input_fault.Failed s = tt
 input_stays (input_fault.Header said offset) s = tt
 input_stays (input_fault.Limit taken limit) s = tt
 
--- the test of the sizes was passed
-pub fits_known : (script : Script) (header : Header) (known : Option ℕ) → known ≡ known_frames script header
-    → (script.output ≢ container.Raw → HeaderFits script.output (format_of script) (channels_of script) known) → Fits script header
-fits_known script header known is fits =
-    subst (λ count. script.output ≢ container.Raw → HeaderFits script.output (format_of script) (channels_of script) count) is fits
-
 none_whole : (block : ℕ) → in_whole_blocks block 0 ≡ 0
 none_whole block =
     let none : 0 / block ≡ 0 = omega arith in
     let nothing : 0 * block ≡ 0 = omega arith in
     ap (λ q. q * block) none ∙ nothing
-
--- no byte behind the declared samples was taken
-pub none_behind : (script : Script) (header : Header) (first : List ℕ) → Opens script header first → (bytes : List ℕ) → InDeclared (declared_bytes script header) (length bytes) → IsInDeclared script (first ++ bytes)
-none_behind script header first opens bytes within =
-    subst (λ (h : Header). IfSome (declared_bytes script h) (λ size. length (first ++ bytes) ≤ h.start + size)) (sym (opens.said bytes)) (by_size (declared_bytes script header) within)
-  where
-    by_size : (declared : Option ℕ) → InDeclared declared (length bytes) → IfSome declared (λ size. length (first ++ bytes) ≤ header.start + size)
-    by_size None within = tt
-    by_size (Some size) within = omega (arith, within, opens.start, length-append first bytes)
-
--- why no header came
-pub unopened_cause : (error : InputFault) (script : Script) (block : ℕ) (given : List ℕ) (input now : SourceState) → IsUnopened error script given input now → IsCause (of_input error) script block given now
-unopened_cause input_fault.Failed script block given input now cause = (cause.1, λ has. absurd (cause.2 has))
-unopened_cause (input_fault.Header f offset) script block given input now cause = header_fault script f offset given now cause.0 cause.1
-unopened_cause (input_fault.Limit taken limit) script block given input now cause =
-    let unheaded = cause.3 in
-    (cause.0, cause.1, cause.2, record { cut = λ _. fault_by_header script given NoSamples (length given) unheaded.wave unheaded.cut; declared = λ has. absurd (unheaded.none has) })
-
-pub unopened_none : (error : InputFault) (script : Script) (given : List ℕ) (input now : SourceState) → IsUnopened error script given input now → HasHeader script given → ⊥
-unopened_none input_fault.Failed script given input now cause = cause.2
-unopened_none (input_fault.Header f offset) script given input now cause = no_header script f offset given now cause.0 cause.1
-unopened_none (input_fault.Limit taken limit) script given input now cause = cause.3.none
 
 pub unopened_faults : (error : InputFault) (script : Script) (given : List ℕ) (input now : SourceState) (sink : SinkState) → IsUnopened error script given input now → CountsFault (of_input error) input now sink sink
 unopened_faults input_fault.Failed script given input now sink cause = (cause.0, refl)
@@ -232,7 +198,3 @@ stops_untaken banked script block counts ready stop input now sink (LongOutput h
 pub untaken_stays : (stop : StreamFault) (script : Script) (input now : SourceState) (s : SessionState) → Untaken script stop input now → StaysRefused stop s
 untaken_stays stop script input now s (NoHeader error is unopened) = subst (λ f. StaysRefused f s) (sym is) (input_stays error s)
 untaken_stays stop script input now s (LongOutput header size opened is long) = subst (λ f. StaysRefused f s) (sym is) tt
-
-pub known_fits : (script : Script) (header : Header) (known : Option ℕ) → known ≡ known_frames script header → Fits script header
-    → script.output ≢ container.Raw → HeaderFits script.output (format_of script) (channels_of script) known
-known_fits script header known is fits headed = subst (HeaderFits script.output (format_of script) (channels_of script)) (sym is) (fits headed)

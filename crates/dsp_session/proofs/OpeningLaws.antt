@@ -12,16 +12,15 @@ use Rattle.dsp_defs.specs.declared.wave.Header.{Header}
 use Rattle.dsp_defs.proofs.CodingLemmas.{width-some}
 use Rattle.dsp_defs.proofs.SampleLaws.{length-samples, samples-nil, samples-append, samples-whole, count-whole}
 use Rattle.dsp_input.specs.Taking.{InDeclared, Opens, declared_bytes, frame_bytes, frames_in_bytes, in_whole_frames}
+use Rattle.dsp_input.proofs.SampleBytes.{frame_some}
+pub use Rattle.dsp_input.proofs.SampleBytes.{floor_within, signal_is, frames_are, output_is}
 use Rattle.dsp_session.specs.Session.{IsReady, block_bytes, signal}
 use Rattle.std.proofs.Math.Nat.{mul-le-mul}
 
 -- ---- frames and blocks
 
-some_product : (a b : ℕ) → 1 ≤ a → 1 ≤ b → 1 ≤ a * b
-some_product a b h k = mul-le-mul h k
-
 pub some_frame : (script : Script) (coding : Coding) (block : ℕ) → IsReady script block → 0 < frame_bytes script coding
-some_frame script coding block ready = some_product script.input.channels (width coding) ready.sound.1.fit.channels.0 (width-some coding)
+some_frame script coding block ready = frame_some script coding ready.sound
 
 -- a number of frames that are whole blocks
 pub frames_of_blocks : (script : Script) (coding : Coding) (block blocks count : ℕ) → count ≡ blocks * block_bytes script coding block → count ≡ blocks * block * frame_bytes script coding
@@ -36,9 +35,6 @@ whole_blocks-append block blocks x y long short =
 
 pub div_less : (n b f : ℕ) → 0 < f → n < b * f → n / f < b
 div_less n b f some less = grind (arith)
-
-pub floor_within : (n f : ℕ) → n / f * f ≤ n
-floor_within n f = grind (arith)
 
 module _ (script : Script) (coding : Coding) (some : 0 < frame_bytes script coding) where
   pub signal-nil : signal script coding [] ≡ []
@@ -64,28 +60,8 @@ module _ (script : Script) (coding : Coding) (some : 0 < frame_bytes script codi
 -- ---- behind the header
 
 module _ (script : Script) (header : Header) (some : 0 < frame_bytes script header.coding) (first : List ℕ) (opens : Opens script header first) where
-  dropped : (bytes : List ℕ) → drop header.start (first ++ bytes) ≡ bytes
-  dropped bytes = drop_at first bytes header.start (sym opens.start)
-
-  by_size : (bytes : List ℕ) (size : Option ℕ) → InDeclared (elim size [ Some s ↦ Some (in_whole_frames script header.coding s) | None ↦ None ]) (length bytes)
-      → elim size [ Some s ↦ take s (drop header.start (first ++ bytes)) | None ↦ drop header.start (first ++ bytes) ] ≡ bytes
-  by_size bytes None declared = dropped bytes
-  by_size bytes (Some size) declared = ap (take size) (dropped bytes) ∙ take_all size bytes (omega (arith, declared, floor_within size (frame_bytes script header.coding)))
-
-  samples_are : (bytes : List ℕ) → InDeclared (declared_bytes script header) (length bytes) → sample_bytes header (first ++ bytes) ≡ bytes
-  samples_are bytes declared = by_size bytes header.size declared
-
-  pub signal_is : (bytes : List ℕ) → InDeclared (declared_bytes script header) (length bytes) → input_signal script (first ++ bytes) ≡ signal script header.coding bytes
-  signal_is bytes declared = rw (opens.said bytes) (ap (signal script header.coding) (samples_are bytes declared))
-
-  pub frames_are : (bytes : List ℕ) → InDeclared (declared_bytes script header) (length bytes) → frames_in_bytes script (first ++ bytes) ≡ length (signal script header.coding bytes)
-  frames_are bytes declared = ap length (signal_is bytes declared)
-
-  pub output_is : (bytes : List ℕ) → InDeclared (declared_bytes script header) (length bytes) → output script (first ++ bytes) ≡ output_header script header ++ whole_bytes script (signal script header.coding bytes) ++ output_pad script header
-  output_is bytes declared = rw (signal_is bytes declared, opens.said bytes) refl
-
   part_is : (block : ℕ) (bytes : List ℕ) → InDeclared (declared_bytes script header) (length bytes) → part script block (first ++ bytes) ≡ output_header script header ++ live_bytes script (whole_blocks block (signal script header.coding bytes))
-  part_is block bytes declared = rw (signal_is bytes declared, opens.said bytes) refl
+  part_is block bytes declared = rw (signal_is script header some first opens bytes declared, opens.said bytes) refl
 
   -- the part of whole blocks, and of less than one more
   pub part_blocks : (block blocks : ℕ) (heard bytes : List ℕ) → length heard ≡ blocks * block_bytes script header.coding block → length bytes < block_bytes script header.coding block → InDeclared (declared_bytes script header) (length (heard ++ bytes))

@@ -17,8 +17,8 @@ use Rattle.dsp_session.specs.Session.{signal, live_values, live_cost_of}
 use Rattle.dsp_session.specs.Stream.{IsCause, CountsFault}
 use Rattle.dsp_session.specs.Resuming.{IsFirstCause, IsRestCause, first_output}
 use Rattle.dsp_session.specs.declared.fault.PartFault.TheVariants as part_fault
-use Rattle.dsp_session.proofs.FaultLaws.{ends_short}
-use Rattle.dsp_session.proofs.PassingLaws.{further}
+use Rattle.dsp_input.proofs.CauseLaws.{unread_by}
+use Rattle.dsp_session.proofs.OpenLaws.{input_cause}
 use Rattle.dsp_session.proofs.OpeningLaws.{signal_is}
 use Rattle.dsp_session.proofs.TurnLaws.{chain_turns_within}
 
@@ -55,26 +55,10 @@ first_is script header some first opens bytes declared =
 
 -- ---- samples that did not come
 
-module _ (script : Script) (block : ℕ) (header : Header) (first : List ℕ) (opens : Opens script header first) (bytes : List ℕ) (taken : ℕ) (long : length bytes ≡ taken) (now later : SourceState) where
-  abbrev given : List ℕ
-  given = first ++ bytes
-
-  count : length given ≡ header.start + taken
-  count = omega (arith, opens.start, long, length-append first bytes)
-
-  pub unread_cause : (f : InputFault) → IsUnread f script header taken now later → IsCause (of_input f) script block given later
-  unread_cause input_fault.Failed unread =
-      let wanted = subst (λ (h : Header). IfSome (declared_bytes script h) (λ size. length given < h.start + size)) (sym (opens.said bytes)) (further header.start (length given) taken count (declared_bytes script header) unread.2) in
-      (omega (arith, unread.1, count), λ _. wanted)
-  unread_cause (input_fault.Limit told most) unread =
-      let wanted = subst (λ (h : Header). IfSome (declared_bytes script h) (λ size. length given < h.start + size)) (sym (opens.said bytes)) (further header.start (length given) taken count (declared_bytes script header) unread.4) in
-      (omega (arith, unread.0, count), unread.1, unread.2, record { cut = λ none. absurd (none (opens.has bytes)); declared = λ _. wanted })
-  unread_cause (input_fault.Header f offset) (declared, size_is, f_is, place, end, same, fewer) =
-      let header_is = opens.said bytes in
-      let short = ends_short script given later declared taken (opens.has bytes) (ap (λ (h : Header). h.size) header_is ∙ size_is)
-      (count ∙ ap (λ (h : Header). h.start + taken) (sym header_is))
-      (subst (λ (h : Header). taken < in_whole_frames script h.coding declared) (sym header_is) fewer) end in
-      subst (λ o. HasFault script given later (f, o)) (count ∙ sym place) (subst (λ k. HasFault script given later (k, length given)) (sym f_is) short)
+pub unread_cause : (script : Script) (block : ℕ) (header : Header) (first : List ℕ) → Opens script header first → (bytes : List ℕ) (taken : ℕ) → length bytes ≡ taken → (now later : SourceState) (f : InputFault)
+    → IsUnread f script header taken now later → IsCause (of_input f) script block (first ++ bytes) later
+unread_cause script block header first opens bytes taken long now later f unread =
+    input_cause f script block (first ++ bytes) later (unread_by script header first opens bytes taken long now later f unread)
 
 -- neither part asks for more than that
 pub input_first : (f : InputFault) (script : Script) (block frames : ℕ) (given : List ℕ) (now : SourceState) → IsCause (of_input f) script block given now

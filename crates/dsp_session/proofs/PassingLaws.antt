@@ -27,8 +27,8 @@ use Rattle.dsp_session.specs.declared.fault.LengthFault.TheVariants as length_fa
 use Rattle.dsp_session.specs.declared.fault.StreamFault.{StreamFault}
 use Rattle.dsp_session.specs.declared.fault.StreamFault.TheVariants as fault
 use Rattle.dsp_session.proofs.OpeningLaws.{some_frame, frames_of_blocks, signal-nil, length-signal, signal-append, frames-whole, frames_are, part_blocks}
-use Rattle.dsp_session.proofs.OpenLaws.{some_block, none_behind, unflushed_by}
-use Rattle.dsp_session.proofs.FaultLaws.{ends_short}
+use Rattle.dsp_session.proofs.OpenLaws.{some_block, input_cause, none_behind, unflushed_by}
+use Rattle.dsp_input.proofs.CauseLaws.{unread_by}
 use Rattle.dsp_session.proofs.FeedLaws.{quiet_script}
 use Rattle.dsp_script.proofs.Paces.{legal_parts}
 use Rattle.dsp_session.proofs.TurnLaws.{call_more, turns_before, turns_behind}
@@ -59,10 +59,6 @@ block_some script (suc n) ready = omega arith
 
 pub in_declared : (declared : Option ℕ) (n m : ℕ) → n ≡ m → InDeclared declared n → InDeclared declared m
 in_declared declared n m same within = subst (InDeclared declared) same within
-
-pub further : (start given taken : ℕ) → given ≡ start + taken → (declared : Option ℕ) → IfSome declared (λ size. taken < size) → IfSome declared (λ size. given < start + size)
-further start given taken is None less = tt
-further start given taken is (Some size) less = omega (arith, is, less)
 
 -- the whole blocks among some frames
 pub in_blocks : (blocks block n : ℕ) → 0 < block → blocks * block ≤ n → n < suc blocks * block → in_whole_blocks block n ≡ blocks * block
@@ -324,18 +320,9 @@ module _ (script : Script) (block : ℕ) (ready : IsReady script block) (header 
       clean same = same ∙ going.no_input_fault ∙ no_fault_read
 
       cause_of : (f : InputFault) → IsUnread f script header (taken + length bytes) now later → IsCause (of_input f) script block given later
-      cause_of input_fault.Failed unread =
-          let wanted = subst (λ (h : Header). IfSome (declared_bytes script h) (λ size. length given < h.start + size)) (sym (opens.said (heard ++ bytes))) (further header.start (length given) (taken + length bytes) count (declared_bytes script header) unread.2) in
-          (omega (arith, unread.1, count), λ _. wanted)
-      cause_of (input_fault.Limit told most) unread =
-          let wanted = subst (λ (h : Header). IfSome (declared_bytes script h) (λ size. length given < h.start + size)) (sym (opens.said (heard ++ bytes))) (further header.start (length given) (taken + length bytes) count (declared_bytes script header) unread.4) in
-          (omega (arith, unread.0, count), unread.1, unread.2, record { cut = λ none. absurd (none has); declared = λ _. wanted })
-      cause_of (input_fault.Header f offset) (declared, size_is, f_is, place, end, same, fewer) =
-          let header_is = opens.said (heard ++ bytes) in
-          let short = ends_short script given later declared (taken + length bytes) has (ap (λ (h : Header). h.size) header_is ∙ size_is)
-          (count ∙ ap (λ (h : Header). h.start + (taken + length bytes)) (sym header_is))
-          (subst (λ (h : Header). taken + length bytes < in_whole_frames script h.coding declared) (sym header_is) fewer) end in
-          subst (λ o. HasFault script given later (f, o)) (count ∙ sym place) (subst (λ k. HasFault script given later (k, length given)) (sym f_is) short)
+      cause_of f unread =
+          input_cause f script block given later
+          (unread_by script header first opens (heard ++ bytes) (taken + length bytes) (omega (arith, going.taken_is, length-append heard bytes)) now later f unread)
 
       part_written : WrotePart script block (in_whole_blocks block (frames_in_bytes script given)) given wrote empty then before counts
       part_written =

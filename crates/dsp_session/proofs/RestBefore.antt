@@ -13,11 +13,11 @@ use Rattle.dsp_defs.specs.declared.script.Script.{Script}
 use Rattle.dsp_defs.specs.declared.wave.Header.{Header}
 use Rattle.dsp_stage.proofs.CostLaws.{live_cost_within}
 use Rattle.dsp_input.specs.declared.fault.InputFault.{InputFault}
-use Rattle.dsp_input.specs.Taking.{AreAll, InDeclared, Opened, declared_bytes, frame_bytes, frames_in_bytes, in_whole_frames}
+use Rattle.dsp_input.specs.Taking.{AreAll, InDeclared, Opened, PartLost, declared_bytes, frame_bytes, frames_in_bytes, in_whole_frames}
 use Rattle.dsp_session.specs.SessionState.{SessionState}
 use Rattle.dsp_session.specs.Session.{IsReady, block_bytes}
 use Rattle.dsp_session.specs.Opening.{Untaken, NoHeader, LongOutput, of_input}
-use Rattle.dsp_session.specs.Resuming.{IsRestCause, CountsPartFault, RestStopped, RestWritten, Skipped, Unskipped, later_blocks_end, later_frames}
+use Rattle.dsp_session.specs.Resuming.{IsRestCause, CountsPartFault, RestStopped, RestWritten, Skipped, later_blocks_end, later_frames}
 use Rattle.dsp_session.specs.declared.fault.LengthFault.TheVariants as length_fault
 use Rattle.dsp_session.specs.declared.fault.StreamFault.{StreamFault}
 use Rattle.dsp_session.specs.declared.fault.StreamFault.TheVariants as fault
@@ -124,7 +124,7 @@ module _ (script : Script) (block : ℕ) (ready : IsReady script block) (start :
         by_size (Some size) enough is = absurd (let more = fewer_bytes from (size / frame) frame enough in omega (arith, more, is, cut, end_is))
 
     -- or they did not come
-    pub unskipped : (end : ℕ) (error : InputFault) (now : SourceState) → end ≡ from * frame → Unskipped script header end error mid now → RestStopped script block start from (part_fault.Stream (of_input error)) input now sink sink before before
+    pub unskipped : (end : ℕ) (error : InputFault) (now : SourceState) → end ≡ from * frame → PartLost script header end error mid now → RestStopped script block start from (part_fault.Stream (of_input error)) input now sink sink before before
     unskipped end error now end_is u =
         nothing_done (part_fault.Stream (of_input error)) (given u.bytes) now (Gave-append input mid now opened.first u.bytes opened.gave u.gave)
         (omega (arith, u.in_limit, opened.opens.start, length-append opened.first u.bytes)) (λ _. within_one header mid opened u.bytes (omega (arith, u.in_part, end_is)) (given u.bytes) refl)

@@ -199,14 +199,3 @@ pub record Skipped (script : Script) (header : Header) (end taken : ℕ) (input 
   pub ended : (taken ≡ end) ⊎ AreAll (declared_bytes script header) taken now
   pub room_left : header.size ≡ None → taken < end → header.start + taken < 2 ^ 40
   pub no_fault : now.faults ≡ input.faults
-
--- fewer came
-pub record Unskipped (script : Script) (header : Header) (end : ℕ) (error : InputFault) (input now : SourceState) : Type 0 where
-  pub bytes : List ℕ
-  pub gave : Gave input now bytes
-  pub in_part : length bytes ≤ end
-  pub declared : InDeclared (declared_bytes script header) (length bytes)
-  pub in_limit : header.start + length bytes ≤ 2 ^ 40
-  pub between : SourceState
-  pub no_fault : between.faults ≡ input.faults
-  pub cause : IsUnread error script header (length bytes) between now

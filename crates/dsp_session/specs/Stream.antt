@@ -10,21 +10,13 @@ use Rattle.dsp_defs.specs.declared.limits.TheConstants.{MAX_GATHERED, MAX_RIFF_S
 use Rattle.dsp_defs.specs.declared.measure.Measure.{Measure}
 use Rattle.dsp_defs.specs.declared.script.Script.{Script}
 use Rattle.dsp_defs.specs.declared.wave.Header.{Header}
-pub use Rattle.dsp_input.specs.Taking.{AwaitsDeclared, HasFault, IsTakenWhole, WantsMore, declared_bytes, frames_in_bytes, in_whole_frames, input_fault, short_fault, wave_fault}
+pub use Rattle.dsp_input.specs.Taking.{AwaitsDeclared, HasFault, IsInDeclared, IsTakenWhole, WantsMore, declared_bytes, frames_in_bytes, in_whole_frames, input_fault, short_fault, wave_fault}
 use Rattle.dsp_input.specs.Taking.{Fits, IsTooLong}
 use Rattle.dsp_session.specs.Session.{block_bytes, cost_of, live_cost_of, run_turns, measures_of}
 use Rattle.dsp_session.specs.SessionState.{SessionState}
 use Rattle.dsp_session.specs.declared.fault.LengthFault.TheVariants as length_fault
 use Rattle.dsp_session.specs.declared.fault.StreamFault.{StreamFault}
 use Rattle.dsp_session.specs.declared.fault.StreamFault.TheVariants as fault
-
--- ---- the input
-
--- no byte was taken behind the samples that the header declares
-abbrev pub IsInDeclared : Script → List ℕ → Type 0
-IsInDeclared script given =
-    let header = input_header script given in
-    IfSome (declared_bytes script header) (λ size. length given ≤ header.start + size)
 
 -- where the first blocks of samples behind a header end
 abbrev pub blocks_end : Script → ℕ → Header → ℕ → ℕ

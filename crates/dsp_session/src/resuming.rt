@@ -4,12 +4,12 @@ ghost use Rattle.std.specs.Prelude.{◌≡◌, ◌^◌, ◌<◌, ◌≤◌, [], 
 ghost use Rattle.dsp_ports.specs.Ports.{SourceState, SinkState};
 ghost use Rattle.dsp_defs.specs.Output.{declared_frames};
 ghost use Rattle.dsp_defs.specs.Shape.{frames_given};
-ghost use Rattle.dsp_input.specs.Taking.{Fits, Opened, frame_bytes};
+ghost use Rattle.dsp_input.specs.Taking.{Fits, Opened, PartLost, frame_bytes};
 ghost use Rattle.dsp_session.specs.Session.{StandsFor, SameScript, SameSession, block_bytes, cost_of, measured};
 ghost use Rattle.dsp_session.specs.Opening.{Begun};
 ghost use Rattle.dsp_session.specs.Advancing.{Runs};
 ghost use Rattle.dsp_session.specs.declared.fault.PartFault.TheVariants.{Behind};
-ghost use Rattle.dsp_session.specs.Resuming.{FirstDone, FirstStopped, RestDone, RestStopped, Skipped, Unskipped};
+ghost use Rattle.dsp_session.specs.Resuming.{FirstDone, FirstStopped, RestDone, RestStopped, Skipped};
 
 use crate::closing::close;
 use crate::fault::{PartFault, StreamFault};
@@ -52,7 +52,7 @@ fn skip_samples<S: Source>(
     requires limit { header.start ≤ 2 ^ 40 }
     requires frame { 1 ≤ frame_bytes script.now header.coding }
     ensures ok { IfOk result (λ taken. Skipped script.now header end taken (S.state input.old) (S.state input.new)) }
-    ensures err { IfErr result (λ fault. Unskipped script.now header end fault (S.state input.old) (S.state input.new)) }
+    ensures err { IfErr result (λ fault. PartLost script.now header end fault (S.state input.old) (S.state input.new)) }
 {
     let mut piece = [0; PIECE];
     let mut taken = 0;

@@ -1,9 +1,10 @@
 -- What is at fault in an input: its header, or its end before all declared frames.
-use Rattle.std.proofs.Common.{◌≡◌, ℕ, ◌+◌, ◌-◌, ◌<◌, nat_lt, Bool, true, if◌then◌else◌, List, length, Some, None, Result, Ok, Err, refl, sym, ap, ◌∙◌, subst, arith, inr}
+use Rattle.std.proofs.Common.{◌≡◌, ℕ, ◌+◌, ◌-◌, ◌<◌, nat_lt, Bool, true, if◌then◌else◌, List, [], ◌++◌, length, Some, None, Result, Ok, Err, refl, sym, ap, ◌∙◌, subst, arith, append-nil, inl, inr}
 use Rattle.std.proofs.lemmas.Bool.Decides.{nat_tests}
 use Rattle.std.specs.Io.KnownBytes.{IsAtEnd}
 use Rattle.std.specs.Result.{IsOk, result_unwrap_or}
 use Rattle.dsp_ports.specs.Ports.{SourceState}
+use Rattle.dsp_wave.specs.Reading.{IsSure}
 use Rattle.dsp_defs.specs.Bytes.{coding_of}
 use Rattle.dsp_defs.specs.Output.{HasHeader, HeaderIsThere, header_by, wanted_of, input_header}
 use Rattle.dsp_defs.specs.Wave.{header_of}
@@ -50,6 +51,23 @@ pub fault_by_header : (script : Script) (bytes : List ℕ) (fault : HeaderFault)
 fault_by_header script bytes fault offset wave is =
     ap (λ k. elim k [ kind.Raw rate ↦ None | kind.Wave ↦ wave_fault script bytes ]) wave
     ∙ ap (λ r. elim r [ Err fault ↦ Some fault | Ok header ↦ short_fault script header (length bytes) ]) is
+
+-- bytes that are known to have a fault have no header
+pub no_header : (script : Script) (fault : HeaderFault) (offset : ℕ) (given : List ℕ) (now : SourceState) → script.input.kind ≡ kind.Wave → IsSure (λ bytes. header_of bytes (wanted_of script)) now given (Err (fault, offset)) → HasHeader script given → ⊥
+no_header script fault offset given now wave sure has =
+    let faulty : header_of given (wanted_of script) ≡ Err (fault, offset) = said sure in
+    let there : IsOk (header_of given (wanted_of script)) = subst (λ k. HeaderIsThere k (wanted_of script) given) wave has in
+    let none : IsOk {T = Header} {E = HeaderFault × ℕ} (Err (fault, offset)) = subst IsOk faulty there in
+    absurd cc
+  where
+    said : IsSure (λ bytes. header_of bytes (wanted_of script)) now given (Err (fault, offset)) → header_of given (wanted_of script) ≡ Err (fault, offset)
+    said (inl all) = ap (λ bytes. header_of bytes (wanted_of script)) (sym (append-nil given)) ∙ all []
+    said (inr (end, here)) = here
+
+-- what the header says is a fault of the input
+pub header_fault : (script : Script) (fault : HeaderFault) (offset : ℕ) (given : List ℕ) (now : SourceState) → script.input.kind ≡ kind.Wave → IsSure (λ bytes. header_of bytes (wanted_of script)) now given (Err (fault, offset)) → HasFault script given now (fault, offset)
+header_fault script fault offset given now wave (inl all) = inl (λ more. fault_by_header script (given ++ more) fault offset wave (all more))
+header_fault script fault offset given now wave (inr (end, here)) = inr (end, fault_by_header script given fault offset wave here)
 
 pub fault_by_end : (script : Script) (bytes : List ℕ) (declared : ℕ) → HasHeader script bytes → (input_header script bytes).size ≡ Some declared
     → length bytes < (input_header script bytes).start + in_whole_frames script (input_header script bytes).coding declared

@@ -5,3 +5,5 @@ mod PlaceSizes
 mod SignalLaws
 mod WholeFrames
 mod Wholes
+pub mod CheckEnds
+pub mod ReadLaws

@@ -22,6 +22,7 @@ abbrev pub IsSeen : Mismatch → List ℕ → List ℕ → SourceState → Sourc
 IsSeen (Differs offset) wanted seen old new = (offset ≤ length wanted) × IsDecided offset wanted seen new × (new.faults ≡ old.faults)
 IsSeen Failed wanted seen old new = (seen ≡ take (length seen) wanted) × (new.faults ≡ one_more old.faults)
 
+-- the port gave these bytes, which show that it does not have exactly those wanted, or it failed behind them
 pub record Mismatches (fault : Mismatch) (wanted : List ℕ) (old new : SourceState) : Type 0 where
   pub seen : List ℕ
   pub gave : Gave old new seen

@@ -1,3 +1,5 @@
 pub mod Channels
+pub mod Check
 pub mod Comparing
 pub mod Evaluating
+pub mod Steps

@@ -2,35 +2,13 @@
 ghost use Rattle.std.specs.Prelude.{◌≡◌, ◌≤◌, ◌<◌, ◌^◌, length};
 ghost use Rattle.std.specs.Option.{option_map};
 ghost use Rattle.dsp_defs.specs.Grammar.{IsSound};
-ghost use Rattle.dsp_defs.specs.Shape.{correlation_length, given_frames, group_of, whole_frames, window_at, window_end};
+ghost use Rattle.dsp_defs.specs.Shape.{given_frames, group_of, whole_frames, window_at, window_end};
 ghost use Rattle.dsp_defs.specs.Sizes.{size_at};
-ghost use Rattle.dsp_defs.specs.Sums.{full_length};
 ghost use Rattle.dsp_defs.specs.declared.fault.WindowFault.{WindowFault};
 ghost use Rattle.dsp_script.specs.Lengths.{HasLegalBlock, IsGroup};
 
-use dsp_defs::{Block, Flow, List, MAX_CHECKED, Script, WindowFault};
-
-/// The values of a full convolution.
-fn full_length(n: u64, taps: &List) -> u64
-    requires { n < 2 ^ 63 }
-    ensures { result ≡ full_length n (length taps.now) }
-{
-    match n {
-        0 => 0,
-        _ => n + taps.as_slice().len() as u64 - 1,
-    }
-}
-
-/// The values of a correlation.
-fn correlation_length(n: u64, taps: &List) -> u64
-    requires { correlation_length n (length taps.now) < 2 ^ 63 }
-    ensures { result ≡ correlation_length n (length taps.now) }
-{
-    match n {
-        0 => 0,
-        _ => 2 * n.max(taps.as_slice().len() as u64) - 1,
-    }
-}
+use dsp_defs::{Block, Flow, MAX_CHECKED, Script, WindowFault};
+use dsp_script::{full_length, given_frames};
 
 /// The length of what a block gives of a whole signal of n frames.
 fn whole_frames(block: &Block, n: u64) -> u64
@@ -40,30 +18,10 @@ fn whole_frames(block: &Block, n: u64) -> u64
     ensures { result ≡ whole_frames block.now n }
 {
     match block {
-        Block::Interpolate { factor, .. } => n * u64::from(*factor),
-        Block::Decimate { factor, .. } => n / u64::from(*factor),
-        Block::MatAdd { rows, columns, .. }
-        | Block::MatSub { rows, columns, .. }
-        | Block::MatScale { rows, columns, .. }
-        | Block::MatTrans { rows, columns } => {
-            let size = u64::from(*rows) * u64::from(*columns);
-            n / size * size
-        }
-        Block::MatMult {
-            rows,
-            columns,
-            given,
-            ..
-        } => {
-            let rows = u64::from(*rows);
-            n / (rows * u64::from(*columns)) * (rows * u64::from(*given))
-        }
-        Block::Conv { taps } => full_length(n, taps),
         Block::ConvPartial { first, count, taps } => {
             u64::from(*count).min(full_length(n, taps).saturating_sub(u64::from(*first)))
         }
-        Block::Correlate { taps } => correlation_length(n, taps),
-        _ => n,
+        _ => given_frames(block, n),
     }
 }
 

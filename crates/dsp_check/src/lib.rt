@@ -4,14 +4,18 @@
 
 mod bytes;
 mod channels;
+mod checking;
 mod comparing;
 mod evaluating;
+mod fault;
 mod frames;
 mod lengths;
 mod signal;
 
 pub use bytes::{add_coded, signal_of};
+pub use checking::check;
 pub use comparing::{Mismatch, compare};
 pub use evaluating::evaluate;
+pub use fault::CheckFault;
 pub use lengths::{size_fault, window_fault};
 pub use signal::Signal;

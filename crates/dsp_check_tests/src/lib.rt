@@ -10,6 +10,8 @@ macro_rules! assert_same {
 }
 
 #[cfg(test)]
+mod files;
+#[cfg(test)]
 mod numbers;
 #[cfg(test)]
 mod same;

@@ -53,7 +53,7 @@ const ROWS: &[Row] = &[
 ];
 
 /// The script of a text, where some block length is legal.
-fn script_of(alloc: Global, text: &[u8]) -> Option<Script>
+pub(crate) fn script_of(alloc: Global, text: &[u8]) -> Option<Script>
     ensures sound { IfSome result IsSound }
     ensures legal { IfSome result HasLegalBlock }
 {

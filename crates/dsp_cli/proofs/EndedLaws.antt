@@ -8,9 +8,8 @@ use Rattle.dsp_defs.specs.Grammar.{Reads}
 use Rattle.dsp_defs.specs.Reading.{first_fault}
 use Rattle.dsp_command.specs.Report.{report_text}
 use Rattle.dsp_command.specs.Words.{command_of}
-use Rattle.dsp_defs.specs.declared.au.Direction.{Direction}
 use Rattle.dsp_command.specs.declared.command.Command.{Command}
-use Rattle.dsp_command.specs.declared.command.Command.TheVariants.{Gen, Print, Stop, Go, Convert}
+use Rattle.dsp_command.specs.declared.command.Command.TheVariants.{Gen, Print, Stop, Go, Convert, Check}
 use Rattle.dsp_defs.specs.declared.measure.Measure.{Measure}
 use Rattle.dsp_defs.specs.declared.script.Script.{Script}
 use Rattle.dsp_session.specs.Session.{IsReady, cost_of, measures_of}
@@ -20,25 +19,24 @@ use Rattle.dsp_session.specs.declared.fault.PartFault.{PartFault}
 use Rattle.dsp_session.specs.declared.fault.StreamFault.{StreamFault}
 use Rattle.dsp_session.specs.declared.fault.StreamFault.TheVariants.{Header, Input, Output, Lengths}
 use Rattle.dsp_session.proofs.OpeningLaws.{some_frame}
-use Rattle.dsp_cli.specs.Call.{Call, Untouched, HasDone, Spares, Ending, Went, Printed, Saved, Resumed, Turned, Stopped, Streams, InFirst, InRest, OfText, OfState, OfBytes, OfScript, Refuses, Happened, Reported, Ended, text_of}
+use Rattle.dsp_cli.specs.Call.{Call, Untouched, HasDone, Spares, Ending, Went, Printed, Saved, Resumed, Turned, Checked, Stopped, Streams, InFirst, InRest, OfText, OfState, OfBytes, OfScript, Refuses, Happened, Reported, Ended, text_of}
 use Rattle.dsp_cli.specs.Causes.{EndsEarly, Causes, NoneFailed, Completes}
 use Rattle.dsp_cli.specs.Fault.{status_of, summary_text}
 use Rattle.dsp_cli.specs.Perform.{IsWhole, Made, Performed, HasStatus}
 use Rattle.dsp_cli.specs.Run.{HasSource, HasText, HasBlocks, HasOutput, IsStream, IsGen, IsPrint, IsDone, IsRefusal, IsRefused, IsAnswer, IsFree, IfWhole, IsReading, Wrote, Tells, ReportsText, read_from}
 use Rattle.dsp_cli.specs.Script.{ReadsText, IfScript, named_by, chosen, chosen_block, is_legal_for, is_banked}
 use Rattle.dsp_cli.specs.declared.fault.Fault.{Fault}
-use Rattle.dsp_cli.specs.declared.fault.Fault.TheVariants.{Usage, ScriptRead, Script as BadText, BlockLength, Memory, Stream, State, Part, Conversion}
+use Rattle.dsp_cli.specs.declared.fault.Fault.TheVariants.{Usage, ScriptRead, Script as BadText, BlockLength, Memory, Stream, State, Part, Conversion, Comparison}
 use Rattle.dsp_defs.specs.Au.{target}
-use Rattle.dsp_au.specs.Convert.{IsPortFault, CountsFault, IsFree as IsConvertible}
-use Rattle.dsp_au.specs.declared.fault.ConvertFault.{ConvertFault}
-use Rattle.dsp_au.specs.declared.fault.ConvertFault.TheVariants as convert_fault
 use Rattle.dsp_cli.specs.declared.top.Outcome.{Outcome}
 use Rattle.dsp_cli.specs.declared.top.Outcome.TheVariants as outcome
+use Rattle.dsp_cli.proofs.CheckLaws as check
+use Rattle.dsp_cli.proofs.ConvertLaws as convert
 use Rattle.dsp_cli.proofs.ResumeLaws as resume
 use Rattle.dsp_cli.proofs.GeneratedLaws.{generated_frames}
-use Rattle.dsp_cli.proofs.InputLaws.{frame_in, signal_stays, output_stays}
+use Rattle.dsp_input.proofs.InputLaws.{frame_in, signal_stays, output_stays}
 use Rattle.dsp_cli.proofs.ReportLaws.{rose, tells-all}
-use Rattle.dsp_cli.proofs.StatusLaws.{command_not_none, of_stream, blocks_text, stream_text, conversion_status, length_answers, stream_some, stream_or_print, reports_done, fault_not_done, refused_not_done, stream_refused, stream_not_refused, any_answers, source_answers, part_answers, part_status, text_source, no_stop, stream_answers}
+use Rattle.dsp_cli.proofs.StatusLaws.{command_not_none, of_stream, blocks_text, stream_text, stream_output, conversion_status, comparison_status, length_answers, stream_some, stream_or_print, reports_done, fault_not_done, refused_not_done, stream_refused, stream_not_refused, any_answers, source_answers, part_answers, part_status, comparison_answers, text_source, no_stop, stream_answers}
 use Rattle.dsp_cli.proofs.StopLaws.{gen_reads, gen_faulty, stop_blocks}
 use Rattle.dsp_cli.proofs.PartTold.{first_stays, rest_stays, rest_output}
 use Rattle.dsp_cli.proofs.StateTold.{told_state}
@@ -88,6 +86,7 @@ module _ (c : Call) (status : ℕ) (report told : SinkState) where
   settled_by (Saved script at x) saved reported output done = saved.did.1.settled
   settled_by (Resumed script frames found) resumed reported output done = resumed.did.settled
   settled_by (Turned totals) turned reported output done = turned.did.settled
+  settled_by (Checked script size) checked reported output done = absurd (subst HasOutput checked.asked output)
   settled_by (Stopped fault) happened reported output done = absurd (fault_not_done fault (subst IsDone reported.0 done))
 
   part_begun : (fault : PartFault) → status ≡ status_of (Part fault) → IsRefusal status → Untouched c
@@ -107,6 +106,12 @@ module _ (c : Call) (status : ℕ) (report told : SinkState) where
   untouched_by (Turned totals) turned reported refused =
       let refusal : IsRefusal status = subst (λ command. IsRefused command status) turned.asked refused in
       absurd (refused_not_done status refusal (reports_done reported))
+  untouched_by (Checked script size) checked reported refused =
+      let refusal : IsRefusal status × (status ≡ 10 → ⊥) = subst (λ command. IsRefused command status) checked.asked refused in
+      absurd (refused_not_done status refusal.0 (reports_done reported))
+  untouched_by (Stopped (Comparison fault)) (script, stop) reported refused =
+      let refusal : IsRefusal status × (status ≡ 10 → ⊥) = subst (λ command. IsRefused command status) stop.asked refused in
+      absurd (refusal.1 (omega (arith, reported.0, comparison_status fault, refusal.0)))
   untouched_by (Stopped (Stream fault)) (script, stop) reported refused =
       absurd (stream_not_refused fault (subst IsRefusal reported.0 (stream_refused c.words status stop.stream refused)))
   untouched_by (Stopped (Conversion fault)) stop reported refused =
@@ -121,6 +126,7 @@ module _ (c : Call) (status : ℕ) (report told : SinkState) where
   source_spares None text untouched = absurd text
   source_spares (Some (Gen seed frames)) text untouched = (untouched.input_same, untouched.other_same)
   source_spares (Some (Convert direction)) text untouched = absurd text
+  source_spares (Some Check) text untouched = untouched.output_same
   source_spares command text untouched = untouched.other_same
 
   text_spares : HasText (command_of c.words) → Untouched c → Spares (command_of c.words) c
@@ -141,6 +147,8 @@ module _ (c : Call) (status : ℕ) (report told : SinkState) where
   spared_by (Stopped (State kind offset)) (OfBytes is read, untouched) = subst (λ command. Spares command c) (sym is) untouched.other_same
   spared_by (Stopped (State kind offset)) (OfScript at is read, untouched) = subst (λ command. Spares command c) (sym is) untouched.other_same
   spared_by (Turned totals) turned = subst (λ command. Spares command c) (sym turned.asked) turned.spared
+  spared_by (Checked script size) checked = subst (λ command. Spares command c) (sym checked.asked) checked.output_same
+  spared_by (Stopped (Comparison fault)) (script, stop) = subst (λ command. Spares command c) (sym stop.asked) stop.output_same
   spared_by (Stopped (Stream fault)) (script, stop) = stream_spares stop
   spared_by (Stopped (Conversion fault)) stop = subst (λ command. Spares command c) (sym stop.asked) stop.spared
   spared_by (Stopped Usage) happened = subst (λ command. Spares command c) (sym happened.0.0) happened.1.other_same
@@ -220,6 +228,8 @@ module _ (c : Call) (status : ℕ) (report told : SinkState) where
       let put : (bytes : List ℕ) → target turned.direction bytes ≡ target turned.direction did.given → Wrote (target turned.direction bytes) c.sink c.after =
       λ bytes same. did.put ∙ ap (append_known c.sink.put) (sym same) in
       subst (λ command. HasDone command c) (sym turned.asked) (IfSome-map c.port.left _ (λ bytes. Wrote (target turned.direction bytes) c.sink c.after) put did.told)
+  done_by (Checked script size) checked reported done =
+      subst (λ command. HasDone command c) (sym checked.asked) (check.same_by c status report told script size checked)
   done_by (Stopped fault) happened reported done = absurd (fault_not_done fault (subst IsDone reported.0 done))
 
   abbrev GenCounted : ℕ → ℕ → Type 0
@@ -232,6 +242,7 @@ module _ (c : Call) (status : ℕ) (report told : SinkState) where
   counted_by (Saved script at x) saved reported seed frames is done = absurd (let same : Some (Gen seed frames) ≡ Some (Stop at) = sym is ∙ saved.asked in cc)
   counted_by (Resumed script count found) resumed reported seed frames is done = absurd (let same : Some (Gen seed frames) ≡ Some Go = sym is ∙ resumed.asked in cc)
   counted_by (Turned totals) turned reported seed frames is done = absurd (subst HasText (sym is ∙ turned.asked) tt)
+  counted_by (Checked script size) checked reported seed frames is done = absurd (subst HasOutput (sym is ∙ checked.asked) tt)
   counted_by (Stopped fault) happened reported seed frames is done = absurd (fault_not_done fault (subst IsDone reported.0 done))
 
   -- ---- which statuses come
@@ -254,6 +265,7 @@ module _ (c : Call) (status : ℕ) (report told : SinkState) where
   stop_answers (Part fault) (InFirst script at stop) = subst (λ command. IsAnswer command (status_of (Part fault))) (sym stop.asked) ((part_answers fault).0 at)
   stop_answers (Part fault) (InRest script stop) = subst (λ command. IsAnswer command (status_of (Part fault))) (sym stop.asked) (part_answers fault).1
   stop_answers (Conversion fault) stop = subst (λ command. IsAnswer command (status_of (Conversion fault))) (sym stop.asked) (inr (conversion_status fault))
+  stop_answers (Comparison fault) (script, stop) = subst (λ command. IsAnswer command (status_of (Comparison fault))) (sym stop.asked) (comparison_answers fault)
   stop_answers (Stream (Header fault offset)) (script, stop) =
       stream_answers c.words 4 stop.stream (omega arith) (λ e. omega (arith, e))
       (λ gen. absurd (gen_faulty c script stop.read.holds.fit.channels gen stop.now stop.did.given (fault, offset) stop.did.gave stop.did.cause))
@@ -272,7 +284,15 @@ module _ (c : Call) (status : ℕ) (report told : SinkState) where
       let done : IsDone status = reports_done reported in
       subst (λ command. IsAnswer command status) (sym resumed.asked) (inl (omega (arith, done)), λ e. omega (arith, done, e), λ e. omega (arith, done, e))
   answer_by (Turned totals) turned reported = subst (λ command. IsAnswer command status) (sym turned.asked) (inl (reports_done reported))
+  answer_by (Checked script size) checked reported =
+      let done : IsDone status = reports_done reported in
+      subst (λ command. IsAnswer command status) (sym checked.asked) (inl (omega (arith, done)), λ e. omega (arith, done, e), λ e. omega (arith, done, e))
   answer_by (Stopped fault) happened reported = subst (IsAnswer (command_of c.words)) (sym reported.0) (stop_answers fault happened)
+
+  check_legal : (script : Script) → command_of c.words ≡ Some Check → IsTrue (is_legal_for script (chosen None script))
+      → IsTrue (is_legal_for script (chosen_block c.words script))
+  check_legal script is legal =
+      subst (λ n. IsTrue (is_legal_for script n)) (ap (λ command. chosen (named_by command) script) (sym is)) legal
 
   stop_legal : (script : Script) (at : ℕ) → command_of c.words ≡ Some (Stop at) → IsTrue (is_legal_for script (chosen None script))
       → IsTrue (is_legal_for script (chosen_block c.words script))
@@ -307,6 +327,8 @@ module _ (c : Call) (status : ℕ) (report told : SinkState) where
   faulty_by (Turned totals) turned reported text = absurd (subst HasText turned.asked text)
   faulty_by (Stopped (Stream fault)) (script, stop) reported text = told_sound c.source c.read script (EndsEarly 2 status) stop.read
   faulty_by (Stopped (Conversion fault)) stop reported text = absurd (subst HasText stop.asked text)
+  faulty_by (Checked script size) checked reported text = told_sound c.source c.read script (EndsEarly 2 status) checked.read
+  faulty_by (Stopped (Comparison fault)) (script, stop) reported text = told_sound c.source c.read script (EndsEarly 2 status) stop.read
   faulty_by (Stopped fault) happened reported text = refused_faulty fault happened.0 reported.0 text
 
   abbrev IllegalEnds : Script → Type 0
@@ -341,6 +363,8 @@ module _ (c : Call) (status : ℕ) (report told : SinkState) where
   illegal_by (Turned totals) turned reported blocks = absurd (subst HasBlocks turned.asked blocks)
   illegal_by (Stopped (Stream fault)) (script, stop) reported blocks = legal_ends script stop.read stop.legal
   illegal_by (Stopped (Conversion fault)) stop reported blocks = absurd (subst HasBlocks stop.asked blocks)
+  illegal_by (Checked script size) checked reported blocks = legal_ends script checked.read (check_legal script checked.asked checked.legal)
+  illegal_by (Stopped (Comparison fault)) (script, stop) reported blocks = legal_ends script stop.read (check_legal script stop.asked stop.legal)
   illegal_by (Stopped fault) happened reported blocks = refused_illegal fault happened.0 reported.0 blocks
 
   -- ---- what must not come
@@ -388,6 +412,8 @@ module _ (c : Call) (status : ℕ) (report told : SinkState) where
       (IfSome-each (read_from (command_of c.words) script.input c.port).left (Runs script) (λ bytes is_told free none.
       absurd (stop_blocks c script streams.read.holds.fit.channels report told stream (ready_of c script _ streams) streams.now streams.reading bytes is_told free none fault streams.did)))
   runs_by (Stopped (Conversion fault)) stop reported stream = absurd (subst HasText stop.asked (stream_text c.words stream))
+  runs_by (Checked script size) checked reported stream = absurd (subst HasOutput checked.asked (stream_output c.words stream))
+  runs_by (Stopped (Comparison fault)) (script, stop) reported stream = absurd (subst HasOutput stop.asked (stream_output c.words stream))
   runs_by (Stopped fault) happened reported stream = refused_runs fault happened.0 reported.0 stream
 
   abbrev Prints : Type 0
@@ -418,49 +444,9 @@ module _ (c : Call) (status : ℕ) (report told : SinkState) where
   prints_by (Turned totals) turned reported print = absurd (subst HasText (sym print ∙ turned.asked) tt)
   prints_by (Stopped (Stream fault)) (script, stop) reported print = absurd (stream_or_print c.words stop.stream print)
   prints_by (Stopped (Conversion fault)) stop reported print = absurd (subst HasText (sym print ∙ stop.asked) tt)
+  prints_by (Checked script size) checked reported print = absurd (subst HasBlocks (sym checked.asked ∙ print) tt)
+  prints_by (Stopped (Comparison fault)) (script, stop) reported print = absurd (subst HasBlocks (sym stop.asked ∙ print) tt)
   prints_by (Stopped fault) happened reported print = refused_prints fault happened.0 reported.0 print
-
-  -- a conversion
-  abbrev Turns : Direction → Type 0
-  Turns direction = IfSome c.port.left (λ bytes. IsConvertible direction bytes → NoneFailed c report told → status ≡ 0)
-
-  conversion_kept : (fault : ConvertFault) → IsPortFault fault → CountsFault fault c.port c.later c.sink c.after → NoneFailed c report told → ⊥
-  conversion_kept convert_fault.Read fails faults none = none.input_kept (rose _ _ faults.0)
-  conversion_kept convert_fault.Write fails faults none = none.output_kept (rose _ _ faults.1)
-  conversion_kept fault fails faults none = fails
-
-  reported_turns : (text : List ℕ) → ReportsText text status report told → NoneFailed c report told → status ≡ 0
-  reported_turns text (inl way) none = way.0
-  reported_turns text (inr way) none = absurd (none.report_kept (rose _ _ way.1))
-
-  no_source : (direction : Direction) → command_of c.words ≡ Some (Convert direction) → HasSource (command_of c.words) → ⊥
-  no_source direction is source = subst HasSource is source
-
-  no_text : (direction : Direction) → command_of c.words ≡ Some (Convert direction) → HasText (command_of c.words) → ⊥
-  no_text direction is text = subst HasText is text
-
-  turns_by : (ending : Ending) → Happened ending c → Reported ending status report told → (direction : Direction) → command_of c.words ≡ Some (Convert direction) → Turns direction
-  turns_by (Went script frames found) went reported direction is = absurd (no_text direction is (stream_text c.words went.stream))
-  turns_by (Printed script) printed reported direction is = absurd (subst HasText (sym printed.0 ∙ is) tt)
-  turns_by (Saved script at x) saved reported direction is = absurd (subst HasSource (sym saved.asked ∙ is) tt)
-  turns_by (Resumed script frames found) resumed reported direction is = absurd (subst HasSource (sym resumed.asked ∙ is) tt)
-  turns_by (Stopped (Part fault)) (InFirst script at stop) reported direction is = absurd (subst HasSource (sym stop.asked ∙ is) tt)
-  turns_by (Stopped (Part fault)) (InRest script stop) reported direction is = absurd (subst HasSource (sym stop.asked ∙ is) tt)
-  turns_by (Stopped (State kind offset)) (OfBytes go read, untouched) reported direction is = absurd (subst HasSource (sym go ∙ is) tt)
-  turns_by (Stopped (State kind offset)) (OfScript at stop read, untouched) reported direction is = absurd (subst HasSource (sym stop ∙ is) tt)
-  turns_by (Turned totals) turned reported direction is = IfSome-always c.port.left _ (λ bytes free none. reported_turns _ reported none)
-  turns_by (Stopped (Stream fault)) (script, stop) reported direction is = absurd (no_text direction is (stream_text c.words stop.stream))
-  turns_by (Stopped (Conversion fault)) stop reported direction is =
-      let same : stop.direction ≡ direction = (let found : Some (Convert stop.direction) ≡ Some (Convert direction) = sym stop.asked ∙ is in cc) in
-      IfSome-map c.port.left _ _
-      (λ bytes hinders free none. absurd (conversion_kept fault (hinders (subst (λ d. IsConvertible d bytes) (sym same) free)) stop.did.faults none)) stop.did.hinders
-  turns_by (Stopped Usage) happened reported direction is = absurd (let found : None ≡ Some (Convert direction) = sym happened.0.0 ∙ is in cc)
-  turns_by (Stopped ScriptRead) happened reported direction is = absurd (no_source direction is happened.0.0)
-  turns_by (Stopped (BadText fault)) happened reported direction is = absurd (no_text direction is happened.0.0)
-  turns_by (Stopped (BlockLength block divisor)) (OfText blocks read, untouched) reported direction is =
-      absurd (no_text direction is (blocks_text (command_of c.words) blocks))
-  turns_by (Stopped (BlockLength block divisor)) (OfState go read, untouched) reported direction is = absurd (subst HasSource (sym go ∙ is) tt)
-  turns_by (Stopped Memory) happened reported direction is = absurd (no_source direction is happened.0)
 
   -- ---- the clauses
 
@@ -496,5 +482,6 @@ module _ (c : Call) (status : ℕ) (report told : SinkState) where
       prints = prints_by end.ending end.happened end.reported;
       stops = resume.stops c status report told end;
       goes = resume.goes c status report told end;
-      converts = turns_by end.ending end.happened end.reported;
+      converts = convert.converts c status report told end;
+      checks = check.checks c status report told end;
     }

@@ -25,8 +25,8 @@ use Rattle.dsp_defs.proofs.WaveLaws.{header_of-wave_header}
 use Rattle.dsp_wave.proofs.GeneratorLemmas.{data_small, header_fits, generated-made, generated_bytes-small, length-made}
 use Rattle.dsp_session.specs.Session.{frame_bytes}
 use Rattle.dsp_session.specs.Stream.{declared_bytes, frames_in_bytes, in_whole_frames, input_fault, short_fault, wave_fault}
-use Rattle.dsp_cli.specs.Run.{InLimit}
-use Rattle.dsp_cli.proofs.InputLaws.{frame_in, frames_of_bytes, good_header}
+use Rattle.dsp_input.specs.Taking.{InLimit}
+use Rattle.dsp_input.proofs.InputLaws.{frame_in, frames_of_bytes, good_header}
 
 some_product : (a b : ℕ) → 1 ≤ a → 1 ≤ b → 1 ≤ a * b
 some_product a b h k = mul-le-mul h k

@@ -1,5 +1,4 @@
 pub mod GatherLaws
-pub mod InputLaws
 pub mod WordLaws
 pub mod PerformLaws
 pub mod GeneratedLaws
@@ -11,3 +10,6 @@ pub mod ReportLaws
 pub mod StateTold
 pub mod PartTold
 pub mod ResumeLaws
+pub mod ConvertLaws
+pub mod CheckTold
+pub mod CheckLaws

@@ -32,11 +32,11 @@ use Rattle.dsp_session.specs.declared.fault.LengthFault.TheVariants as length_fa
 use Rattle.dsp_session.specs.declared.fault.PartFault.{PartFault}
 use Rattle.dsp_session.specs.declared.fault.PartFault.TheVariants as part_fault
 use Rattle.dsp_session.specs.declared.fault.StreamFault.TheVariants as fault
-use Rattle.dsp_session.proofs.FaultLaws.{ok_header}
+use Rattle.dsp_input.proofs.FaultLaws.{ok_header}
 use Rattle.dsp_session.proofs.OpeningLaws.{some_frame}
 use Rattle.dsp_cli.specs.Run.{IsStoppable, IsResumable}
 use Rattle.dsp_cli.proofs.GatherLaws.{gathered_more}
-use Rattle.dsp_cli.proofs.InputLaws.{header_stays, frame_in, frames_of_bytes, frames_stay, signal_stays, some_not_none, fault_told, quotient_is}
+use Rattle.dsp_input.proofs.InputLaws.{header_stays, frame_in, frames_of_bytes, frames_stay, signal_stays, some_not_none, fault_told, quotient_is}
 use Rattle.dsp_cli.proofs.StopLaws.{length_blocks}
 use Rattle.dsp_cli.proofs.Told.{told_split}
 

@@ -3,11 +3,11 @@ use Rattle.std.proofs.Common.{◌≡◌, ◌≤◌, ℕ, Bool, List, length, ◌
 use Rattle.dsp_ports.specs.Ports.{SourceState, SinkState}
 use Rattle.dsp_defs.specs.Counts.{Counts}
 use Rattle.dsp_defs.specs.Output.{format_of, channels_of, input_signal}
-use Rattle.dsp_command.specs.Report.{done_line, frames_line, multiplies_line, measure_line, report_text}
+use Rattle.dsp_command.specs.Report.{done_line, frames_line, multiplies_line, measure_line, report_text, same_text}
 use Rattle.dsp_defs.specs.Shape.{frames_given}
 use Rattle.dsp_command.specs.Words.{command_of}
 use Rattle.dsp_command.specs.declared.command.Command.{Command}
-use Rattle.dsp_command.specs.declared.command.Command.TheVariants.{Run, Gen, Stop, Go}
+use Rattle.dsp_command.specs.declared.command.Command.TheVariants.{Run, Gen, Stop, Go, Check}
 use Rattle.dsp_defs.specs.declared.measure.Measure.{Measure}
 use Rattle.dsp_defs.specs.declared.script.Script.{Script}
 use Rattle.dsp_defs.specs.Canon.{canon}
@@ -23,12 +23,12 @@ use Rattle.dsp_session.specs.Session.{cost_of}
 use Rattle.dsp_session.specs.Stream.{Done, Stopped as StreamStopped}
 use Rattle.dsp_session.specs.declared.fault.StreamFault.{StreamFault}
 use Rattle.dsp_cli.specs.Fault.{summary_text}
-use Rattle.dsp_cli.specs.Call.{Call, call, Untouched, Streams, Went, Saved, Resumed, Stopped, OfText, OfState, OfBytes, OfScript, InFirst, InRest, Happened}
-use Rattle.dsp_cli.specs.Perform.{NotBegun, ReadsAs, Ran, RanGenerated, Made, FailsToLoad, FailsToRun, FailsToGenerate, LoadsState, FailsToLoadState, RanFirst, FailsToStop, RanRest, FailsToGoOn}
+use Rattle.dsp_cli.specs.Call.{Call, call, Untouched, Streams, Went, Saved, Resumed, Checked, Stopped, OfText, OfState, OfBytes, OfScript, InFirst, InRest, Happened}
+use Rattle.dsp_cli.specs.Perform.{NotBegun, Compared, FailsToCompare, ReadsAs, Ran, RanGenerated, Made, FailsToLoad, FailsToRun, FailsToGenerate, LoadsState, FailsToLoadState, RanFirst, FailsToStop, RanRest, FailsToGoOn}
 use Rattle.dsp_cli.specs.Run.{HasSource, HasText, HasBlocks, IsStream, IsReading, read_from}
 use Rattle.dsp_cli.specs.Script.{named_by, banked_by, chosen, chosen_block, is_banked, is_legal_for}
 use Rattle.dsp_cli.specs.declared.fault.Fault.{Fault}
-use Rattle.dsp_cli.specs.declared.fault.Fault.TheVariants.{ScriptRead, Script as BadText, BlockLength, Memory, Stream, State, Part}
+use Rattle.dsp_cli.specs.declared.fault.Fault.TheVariants.{ScriptRead, Script as BadText, BlockLength, Memory, Stream, State, Part, Comparison}
 use Rattle.dsp_cli.proofs.StatusLaws.{stream_blocks, stream_text, text_source}
 use Rattle.dsp_cli.specs.declared.report.Summary.{Summary}
 
@@ -276,3 +276,27 @@ module _ (words : List (List ℕ)) (source read port later : SourceState) (sink 
       other_same = refl;
     })
     rest_stops fault none = absurd none
+
+-- a check leaves the output alone
+module _ (words : List (List ℕ)) (source read port later : SourceState) (sink : SinkState) (other seen : SourceState) (before counts : Counts) (script : Script) (loaded : ReadsAs source read script) (is : command_of words ≡ Some Check) where
+  abbrev checking : Call
+  checking = call words source read port later sink sink other seen before counts
+
+  pub check_went : (size : ℕ) → Compared script size port later other seen before counts → Made (same_text size) checking
+  check_went size compared = record {
+    ending = Checked script size;
+    happened = record { asked = is; read = loaded; legal = compared.legal; did = compared.done; output_same = refl };
+    whole = tt;
+    text_is = refl;
+  }
+
+  pub check_stops : (fault : Fault) → FailsToCompare fault script port later other seen before counts → Happened (Stopped fault) checking
+  check_stops (BlockLength block divisor) (length, alone) =
+      let chosen_is : chosen None script ≡ chosen_block words script = ap (λ command. chosen (named_by command) script) (sym is) in
+      let illegal : IsFalse (is_legal_for script block) = subst (λ n. IsFalse (is_legal_for script n)) (sym length.block_is) length.illegal in (
+        OfText (subst HasBlocks (sym is) tt)
+            (record { text = loaded.text; read = loaded.read; holds = (script, loaded.holds, illegal, length.block_is ∙ chosen_is, length.divisor_is) }),
+        record { input_same = alone.input_same; output_same = refl; other_same = alone.other_same; counts_same = alone.counts_same },
+      )
+  check_stops (Comparison fault) stop = (script, record { asked = is; read = loaded; legal = stop.legal; did = stop.stopped; output_same = refl })
+  check_stops fault none = absurd none

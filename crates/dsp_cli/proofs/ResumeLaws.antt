@@ -12,11 +12,11 @@ use Rattle.dsp_command.specs.Words.{command_of}
 use Rattle.dsp_command.specs.declared.command.Command.{Command}
 use Rattle.dsp_command.specs.declared.command.Command.TheVariants.{Print, Stop, Go}
 use Rattle.dsp_session.specs.Session.{IsReady}
-use Rattle.dsp_cli.specs.Call.{Call, Ending, Went, Printed, Saved, Resumed, Turned, Stopped, InFirst, InRest, OfText, OfState, OfBytes, OfScript, Happened, Reported, Ended}
+use Rattle.dsp_cli.specs.Call.{Call, Ending, Went, Printed, Saved, Resumed, Turned, Checked, Stopped, InFirst, InRest, OfText, OfState, OfBytes, OfScript, Happened, Reported, Ended}
 use Rattle.dsp_cli.specs.Causes.{EndsEarly, NoneFailed}
-use Rattle.dsp_cli.specs.Run.{HasSource, HasText, HasBlocks, IsStoppable, IsResumable, ReportsText}
+use Rattle.dsp_cli.specs.Run.{HasSource, HasText, HasBlocks, HasOutput, IsStoppable, IsResumable, ReportsText}
 use Rattle.dsp_cli.specs.Script.{ReadsText, ReadsBytes, IfScript, IfState, named_by, chosen, chosen_block, is_legal_for}
-use Rattle.dsp_cli.specs.declared.fault.Fault.TheVariants.{Usage, ScriptRead, Script as BadText, BlockLength, Memory, Stream, State, Part, Conversion}
+use Rattle.dsp_cli.specs.declared.fault.Fault.TheVariants.{Usage, ScriptRead, Script as BadText, BlockLength, Memory, Stream, State, Part, Conversion, Comparison}
 use Rattle.dsp_cli.proofs.PartTold.{first_hinders, rest_hinders}
 use Rattle.dsp_cli.proofs.ReportLaws.{rose}
 use Rattle.dsp_cli.proofs.StateTold.{told_state, told_good, told_fault}
@@ -58,6 +58,7 @@ module _ (c : Call) (status : ℕ) (report told : SinkState) where
   bad_state_by (Saved script at x) saved reported go = absurd (not_stop at go saved.asked)
   bad_state_by (Resumed script frames found) resumed reported go = bad_never script resumed.at resumed.numbers resumed.read
   bad_state_by (Turned totals) turned reported go = absurd (subst HasSource (sym go ∙ turned.asked) tt)
+  bad_state_by (Checked script size) checked reported go = absurd (subst HasText (sym checked.asked ∙ go) tt)
   bad_state_by (Stopped Usage) happened reported go = absurd (not_none Go go happened.0.0)
   bad_state_by (Stopped ScriptRead) happened reported go = bad_always (inr (inl reported.0))
   bad_state_by (Stopped (BadText fault)) happened reported go = absurd (subst HasText go happened.0.0)
@@ -71,6 +72,7 @@ module _ (c : Call) (status : ℕ) (report told : SinkState) where
   bad_state_by (Stopped (Part fault)) (InFirst script at stop) reported go = absurd (not_stop at go stop.asked)
   bad_state_by (Stopped (Part fault)) (InRest script stop) reported go = bad_never script stop.at stop.numbers stop.read
   bad_state_by (Stopped (Conversion fault)) stop reported go = absurd (subst HasSource (sym go ∙ stop.asked) tt)
+  bad_state_by (Stopped (Comparison fault)) (script, compared) reported go = absurd (subst HasText (sym compared.asked ∙ go) tt)
 
   abbrev IllegalEnds : Script → ℕ → List ℤ → Type 0
   IllegalEnds s at numbers = IsFalse (is_legal_for s (chosen None s)) → EndsEarly 3 status
@@ -93,6 +95,7 @@ module _ (c : Call) (status : ℕ) (report told : SinkState) where
   illegal_by (Saved script at x) saved reported go = absurd (not_stop at go saved.asked)
   illegal_by (Resumed script frames found) resumed reported go = legal_ends script resumed.at resumed.numbers resumed.read resumed.legal
   illegal_by (Turned totals) turned reported go = absurd (subst HasSource (sym go ∙ turned.asked) tt)
+  illegal_by (Checked script size) checked reported go = absurd (subst HasText (sym checked.asked ∙ go) tt)
   illegal_by (Stopped Usage) happened reported go = absurd (not_none Go go happened.0.0)
   illegal_by (Stopped ScriptRead) happened reported go = state_always IllegalEnds (λ _ _ _ _. inr (inl reported.0))
   illegal_by (Stopped (BadText fault)) happened reported go = absurd (subst HasText go happened.0.0)
@@ -104,6 +107,7 @@ module _ (c : Call) (status : ℕ) (report told : SinkState) where
   illegal_by (Stopped (Part fault)) (InFirst script at stop) reported go = absurd (not_stop at go stop.asked)
   illegal_by (Stopped (Part fault)) (InRest script stop) reported go = legal_ends script stop.at stop.numbers stop.read stop.legal
   illegal_by (Stopped (Conversion fault)) stop reported go = absurd (subst HasSource (sym go ∙ stop.asked) tt)
+  illegal_by (Stopped (Comparison fault)) (script, compared) reported go = absurd (subst HasText (sym compared.asked ∙ go) tt)
 
   -- ---- a text that is too long for a state
 
@@ -126,6 +130,7 @@ module _ (c : Call) (status : ℕ) (report told : SinkState) where
   long_by (Saved script frames x) saved reported at stop = short_ends script saved.read saved.short
   long_by (Resumed script frames found) resumed reported at stop = absurd (not_stop at resumed.asked stop)
   long_by (Turned totals) turned reported at stop = absurd (subst HasSource (sym stop ∙ turned.asked) tt)
+  long_by (Checked script size) checked reported at stop = absurd (subst HasOutput (sym stop ∙ checked.asked) tt)
   long_by (Stopped Usage) happened reported at stop = absurd (not_none (Stop at) stop happened.0.0)
   long_by (Stopped ScriptRead) happened reported at stop = script_always LongEnds (λ _ _ _. inr (inl reported.0))
   long_by (Stopped (BadText fault)) happened reported at stop = told_faulty c.source c.read fault LongEnds happened.0.1
@@ -140,6 +145,7 @@ module _ (c : Call) (status : ℕ) (report told : SinkState) where
   long_by (Stopped (Part fault)) (InFirst script frames first) reported at stop = short_ends script first.read first.short
   long_by (Stopped (Part fault)) (InRest script rest) reported at stop = absurd (not_stop at rest.asked stop)
   long_by (Stopped (Conversion fault)) turned reported at stop = absurd (subst HasSource (sym stop ∙ turned.asked) tt)
+  long_by (Stopped (Comparison fault)) (script, compared) reported at stop = absurd (subst HasOutput (sym stop ∙ compared.asked) tt)
 
   -- ---- what must not come
 
@@ -167,6 +173,7 @@ module _ (c : Call) (status : ℕ) (report told : SinkState) where
   stops_by (Saved script frames x) saved reported at stop = stops_always at (λ _ _ _ none. reported_done _ reported none)
   stops_by (Resumed script frames found) resumed reported at stop = absurd (not_stop at resumed.asked stop)
   stops_by (Turned totals) turned reported at stop = absurd (subst HasSource (sym stop ∙ turned.asked) tt)
+  stops_by (Checked script size) checked reported at stop = absurd (subst HasOutput (sym stop ∙ checked.asked) tt)
   stops_by (Stopped Usage) happened reported at stop = absurd (not_none (Stop at) stop happened.0.0)
   stops_by (Stopped ScriptRead) happened reported at stop = stops_always at (λ _ _ _ none. absurd (none.script_kept (rose _ _ happened.0.1)))
   stops_by (Stopped (BadText fault)) happened reported at stop = told_faulty c.source c.read fault (Stops at) happened.0.1
@@ -192,6 +199,7 @@ module _ (c : Call) (status : ℕ) (report told : SinkState) where
       ]))
   stops_by (Stopped (Part fault)) (InRest script rest) reported at stop = absurd (not_stop at rest.asked stop)
   stops_by (Stopped (Conversion fault)) turned reported at stop = absurd (subst HasSource (sym stop ∙ turned.asked) tt)
+  stops_by (Stopped (Comparison fault)) (script, compared) reported at stop = absurd (subst HasOutput (sym stop ∙ compared.asked) tt)
 
   abbrev Goes : Script → ℕ → List ℤ → Type 0
   Goes s at numbers = IfSome c.port.left (λ bytes. IsResumable s at bytes → NoneFailed c report told → Done0)
@@ -209,6 +217,7 @@ module _ (c : Call) (status : ℕ) (report told : SinkState) where
   goes_by (Saved script at x) saved reported go = absurd (not_stop at go saved.asked)
   goes_by (Resumed script frames found) resumed reported go = goes_always (λ _ _ _ _ none. reported_done _ reported none)
   goes_by (Turned totals) turned reported go = absurd (subst HasSource (sym go ∙ turned.asked) tt)
+  goes_by (Checked script size) checked reported go = absurd (subst HasText (sym checked.asked ∙ go) tt)
   goes_by (Stopped Usage) happened reported go = absurd (not_none Go go happened.0.0)
   goes_by (Stopped ScriptRead) happened reported go = goes_always (λ _ _ _ _ none. absurd (none.script_kept (rose _ _ happened.0.1)))
   goes_by (Stopped (BadText fault)) happened reported go = absurd (subst HasText go happened.0.0)
@@ -230,6 +239,7 @@ module _ (c : Call) (status : ℕ) (report told : SinkState) where
         | inr risen ↦ none.output_kept (rose _ _ risen)
       ]))
   goes_by (Stopped (Conversion fault)) stop reported go = absurd (subst HasSource (sym go ∙ stop.asked) tt)
+  goes_by (Stopped (Comparison fault)) (script, compared) reported go = absurd (subst HasText (sym compared.asked ∙ go) tt)
 
   -- ---- the clauses
 

@@ -3,7 +3,7 @@ use Rattle.std.proofs.Common.{◌≡◌, ◌≢◌, ◌⊎◌, ℕ, ◌≤◌, B
 use Rattle.dsp_ports.specs.Ports.{SinkState}
 use Rattle.dsp_command.specs.Words.{command_of}
 use Rattle.dsp_command.specs.declared.command.Command.{Command}
-use Rattle.dsp_command.specs.declared.command.Command.TheVariants.{Run, Gen, Print, Stop, Go, Convert}
+use Rattle.dsp_command.specs.declared.command.Command.TheVariants.{Run, Gen, Print, Stop, Go, Convert, Check}
 use Rattle.dsp_session.specs.declared.fault.PartFault.{PartFault}
 use Rattle.dsp_session.specs.declared.fault.PartFault.TheVariants as part_fault
 use Rattle.dsp_session.specs.declared.fault.StreamFault.{StreamFault}
@@ -11,9 +11,11 @@ use Rattle.dsp_session.specs.declared.fault.StreamFault.TheVariants.{Header, Inp
 use Rattle.dsp_cli.specs.Fault.{status_of, stream_status}
 use Rattle.dsp_cli.specs.Run.{HasSource, HasText, HasBlocks, HasOutput, IsStream, IsGen, IsPrint, IsDone, IsRefusal, IsRefused, IsAnswer, ReportsText}
 use Rattle.dsp_cli.specs.declared.fault.Fault.{Fault}
-use Rattle.dsp_cli.specs.declared.fault.Fault.TheVariants.{Usage, ScriptRead, Script as BadText, BlockLength, Memory, Stream, State, Part, Conversion}
+use Rattle.dsp_cli.specs.declared.fault.Fault.TheVariants.{Usage, ScriptRead, Script as BadText, BlockLength, Memory, Stream, State, Part, Conversion, Comparison}
 use Rattle.dsp_au.specs.declared.fault.ConvertFault.{ConvertFault}
 use Rattle.dsp_au.specs.declared.fault.ConvertFault.TheVariants as convert_fault
+use Rattle.dsp_check.specs.declared.fault.CheckFault.{CheckFault}
+use Rattle.dsp_check.specs.declared.fault.CheckFault.TheVariants as check_fault
 
 -- ---- commands
 
@@ -83,6 +85,20 @@ conversion_status (convert_fault.Riff size limit) = inr (inl refl)
 conversion_status convert_fault.Read = inr (inr (inl refl))
 conversion_status convert_fault.Write = inr (inr (inr refl))
 
+-- those of a check that stops
+pub comparison_status : (fault : CheckFault)
+    → (status_of (Comparison fault) ≡ 4) ⊎ (status_of (Comparison fault) ≡ 5) ⊎ (status_of (Comparison fault) ≡ 7)
+    ⊎ (status_of (Comparison fault) ≡ 10) ⊎ (status_of (Comparison fault) ≡ 11) ⊎ (status_of (Comparison fault) ≡ 14)
+comparison_status (check_fault.Header fault offset) = inl refl
+comparison_status (check_fault.Input taken limit) = inr (inl refl)
+comparison_status (check_fault.Window end length) = inr (inl refl)
+comparison_status (check_fault.Riff size limit) = inr (inl refl)
+comparison_status (check_fault.Size size limit) = inr (inl refl)
+comparison_status check_fault.Read = inr (inr (inl refl))
+comparison_status check_fault.Memory = inr (inr (inr (inl refl)))
+comparison_status (check_fault.Differs offset) = inr (inr (inr (inr (inl refl))))
+comparison_status check_fault.Other = inr (inr (inr (inr (inr refl))))
+
 -- those of a stream that stops, over a whole input or a part of it
 pub stream_statuses : (fault : StreamFault) → (stream_status fault ≡ 4) ⊎ (stream_status fault ≡ 5) ⊎ (stream_status fault ≡ 7) ⊎ (stream_status fault ≡ 8)
 stream_statuses (Header fault offset) = inl refl
@@ -116,6 +132,7 @@ fault_not_done (Stream Output) done = neither 8 (λ is. omega (arith, is), λ is
 fault_not_done (State kind offset) done = neither 13 (λ is. omega (arith, is), λ is. omega (arith, is)) done
 fault_not_done (Part fault) done = omega (arith, part_status fault, done)
 fault_not_done (Conversion fault) done = omega (arith, conversion_status fault, done)
+fault_not_done (Comparison fault) done = omega (arith, comparison_status fault, done)
 
 -- that of a refusal is another than those of what is begun
 pub refused_not_done : (status : ℕ) → IsRefusal status → IsDone status → ⊥
@@ -144,6 +161,7 @@ any_answers (Some Print) status some is = inr is
 any_answers (Some (Stop at)) status some is = (inl (omega (arith, is)), λ e. omega (arith, is, e))
 any_answers (Some Go) status some is = absurd some
 any_answers (Some (Convert direction)) status some is = absurd some
+any_answers (Some Check) status some is = (inl (omega (arith, is)), λ e. omega (arith, is, e), λ e. omega (arith, is, e))
 
 -- and what reads a script or a state
 pub source_answers : (command : Option Command) (status : ℕ) → HasSource command → (status ≡ 6) ⊎ (status ≡ 10) → IsAnswer command status
@@ -154,6 +172,7 @@ source_answers (Some (Run named banked)) status some is = any_answers (Some (Run
 source_answers (Some (Gen seed frames)) status some is = any_answers (Some (Gen seed frames)) status tt (inr is)
 source_answers (Some Print) status some is = any_answers (Some Print) status tt (inr is)
 source_answers (Some (Stop at)) status some is = any_answers (Some (Stop at)) status tt (inr is)
+source_answers (Some Check) status some is = any_answers (Some Check) status tt (inr is)
 
 -- what a command that works in blocks may end with
 pub length_answers : (command : Option Command) → HasBlocks command → IsAnswer command 3
@@ -162,6 +181,7 @@ length_answers (Some Print) blocks = absurd blocks
 length_answers (Some Go) blocks = absurd blocks
 length_answers (Some (Stop at)) blocks = (inl (omega arith), λ e. omega (arith, e))
 length_answers (Some (Convert direction)) blocks = absurd blocks
+length_answers (Some Check) blocks = (inl (omega arith), λ e. omega (arith, e), λ e. omega (arith, e))
 length_answers (Some (Run named banked)) blocks = (omega arith, λ e. omega (arith, e))
 length_answers (Some (Gen seed frames)) blocks = (omega arith, λ e. omega (arith, e), λ e. omega (arith, e), λ e. omega (arith, e))
 
@@ -175,3 +195,15 @@ pub part_answers : (fault : PartFault) → ((at : ℕ) → IsAnswer (Some (Stop 
 part_answers fault =
     let status = part_status fault in
     (λ at. (inl (omega (arith, status)), λ e. omega (arith, status, e)), (inl (omega (arith, status)), λ e. omega (arith, status, e), λ e. omega (arith, status, e)))
+
+-- what a check may end with
+pub comparison_answers : (fault : CheckFault) → IsAnswer (Some Check) (status_of (Comparison fault))
+comparison_answers check_fault.Other = (inr refl, λ e. omega (arith, e), λ e. omega (arith, e))
+comparison_answers check_fault.Memory = (inl (omega arith), λ e. omega (arith, e), λ e. omega (arith, e))
+comparison_answers (check_fault.Differs offset) = (inl (omega arith), λ e. omega (arith, e), λ e. omega (arith, e))
+comparison_answers check_fault.Read = (inl (omega arith), λ e. omega (arith, e), λ e. omega (arith, e))
+comparison_answers (check_fault.Header fault offset) = (inl (omega arith), λ e. omega (arith, e), λ e. omega (arith, e))
+comparison_answers (check_fault.Input taken limit) = (inl (omega arith), λ e. omega (arith, e), λ e. omega (arith, e))
+comparison_answers (check_fault.Window end length) = (inl (omega arith), λ e. omega (arith, e), λ e. omega (arith, e))
+comparison_answers (check_fault.Riff size limit) = (inl (omega arith), λ e. omega (arith, e), λ e. omega (arith, e))
+comparison_answers (check_fault.Size size limit) = (inl (omega arith), λ e. omega (arith, e), λ e. omega (arith, e))

@@ -19,11 +19,12 @@ use Rattle.dsp_session.specs.declared.fault.StreamFault.TheVariants.{Header, Inp
 use Rattle.dsp_session.proofs.OpeningLaws.{some_frame}
 use Rattle.dsp_cli.specs.Call.{Call}
 use Rattle.dsp_cli.specs.Causes.{NoneFailed}
-use Rattle.dsp_cli.specs.Run.{IsGen, IsStream, IsReading, IsGood, IsFree, InLimit, read_from}
+use Rattle.dsp_cli.specs.Run.{IsGen, IsStream, IsReading, IsGood, IsFree, read_from}
+use Rattle.dsp_input.specs.Taking.{InLimit}
 use Rattle.dsp_cli.specs.Script.{chosen_block, is_banked}
 use Rattle.dsp_cli.proofs.GatherLaws.{gathered_more}
 use Rattle.dsp_cli.proofs.GeneratedLaws.{generated_good, generated_in_limit}
-use Rattle.dsp_cli.proofs.InputLaws.{header_stays, frames_stay, signal_stays, some_not_none, fault_told, past_limit, frame_in}
+use Rattle.dsp_input.proofs.InputLaws.{header_stays, frames_stay, signal_stays, some_not_none, fault_told, past_limit, frame_in}
 use Rattle.dsp_cli.proofs.ReportLaws.{rose}
 use Rattle.dsp_cli.proofs.Told.{told_split}
 use Rattle.dsp_cli.proofs.WordLaws.{gen_makes_few}

@@ -7,7 +7,7 @@ use Rattle.std.proofs.lemmas.Bool.Decides.{nat_tests}
 use Rattle.dsp_command.specs.Words.{count_of, is_name, are_run_names, are_gen_names, generating, running, direction_of, command_of}
 use Rattle.dsp_defs.specs.declared.au.Direction.{Direction}
 use Rattle.dsp_command.specs.declared.command.Command.{Command}
-use Rattle.dsp_command.specs.declared.command.Command.TheVariants.{Run, Gen, Print, Stop, Go, Convert}
+use Rattle.dsp_command.specs.declared.command.Command.TheVariants.{Run, Gen, Print, Stop, Go, Convert, Check}
 use Rattle.dsp_defs.specs.declared.limits.TheConstants.{MAX_GENERATED}
 use Rattle.dsp_cli.specs.Run.{MakesFew}
 
@@ -75,7 +75,10 @@ commands_within [] = tt
 commands_within (a ∷ []) = tt
 commands_within (a ∷ b ∷ []) = by_test (bytes_eq a (codes "print") && is_name b) (Some Print) tt
 commands_within (a ∷ b ∷ c ∷ []) = tt
-commands_within (a ∷ b ∷ c ∷ d ∷ []) = by_test (are_run_names b c d) (running a None) (running_within a None)
+commands_within (a ∷ b ∷ c ∷ d ∷ []) =
+    let runs = if are_run_names b c d then running a None else None in
+    by_either (bytes_eq a (codes "check") && is_name b && is_name c && is_name d) (Some Check) runs tt
+    (by_test (are_run_names b c d) (running a None) (running_within a None))
 commands_within (a ∷ b ∷ c ∷ d ∷ e ∷ []) =
     let goes = bytes_eq a (codes "resume") && bytes_eq b (codes "go") && are_run_names c d e in
     let converts = bytes_eq a (codes "convert") && are_gen_names d e in

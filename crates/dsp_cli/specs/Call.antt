@@ -13,12 +13,12 @@ use Rattle.dsp_defs.specs.declared.limits.TheConstants.{MAX_SCRIPT}
 use Rattle.dsp_defs.specs.declared.state_kind.StateKind.{StateKind}
 use Rattle.dsp_defs.specs.declared.state_kind.StateKind.TheVariants.{LongText}
 use Rattle.dsp_defs.specs.Reading.{first_fault}
-use Rattle.dsp_command.specs.Report.{report_text, converted_text}
+use Rattle.dsp_command.specs.Report.{report_text, converted_text, same_text}
 use Rattle.dsp_defs.specs.Shape.{unit}
 use Rattle.dsp_command.specs.Words.{command_of}
 use Rattle.dsp_defs.specs.declared.au.Direction.{Direction}
 use Rattle.dsp_command.specs.declared.command.Command.{Command}
-use Rattle.dsp_command.specs.declared.command.Command.TheVariants.{Gen, Print, Stop, Go, Convert}
+use Rattle.dsp_command.specs.declared.command.Command.TheVariants.{Gen, Print, Stop, Go, Convert, Check}
 use Rattle.dsp_defs.specs.declared.measure.Measure.{Measure}
 use Rattle.dsp_defs.specs.declared.script.Script.{Script}
 use Rattle.dsp_session.specs.Resuming.{FirstDone, FirstStopped, RestDone, RestStopped, first_output, later_frames}
@@ -30,10 +30,11 @@ use Rattle.dsp_cli.specs.Fault.{status_of, fault_line}
 use Rattle.dsp_cli.specs.Run.{HasSource, HasText, HasBlocks, IsStream, IsPrint, IsReading, IfWhole, Tells, ReportsText, Wrote, read_from}
 use Rattle.dsp_cli.specs.Script.{ReadsText, ReadsBytes, IfScript, IfState, chosen, chosen_block, is_banked, is_legal_for}
 use Rattle.dsp_cli.specs.declared.fault.Fault.{Fault}
-use Rattle.dsp_cli.specs.declared.fault.Fault.TheVariants.{Usage, ScriptRead, Script as BadText, BlockLength, Memory, Stream, State, Part, Conversion}
+use Rattle.dsp_cli.specs.declared.fault.Fault.TheVariants.{Usage, ScriptRead, Script as BadText, BlockLength, Memory, Stream, State, Part, Conversion, Comparison}
 use Rattle.dsp_defs.specs.Au.{target}
 use Rattle.dsp_au.specs.Convert.{Done as ConvertDone, Stopped as ConvertStopped}
 use Rattle.dsp_au.specs.declared.conversion.Converted.{Converted}
+use Rattle.dsp_check.specs.Check.{Done as CheckDone, Stopped as CheckStopped}
 
 -- ---- what was given and what was left
 
@@ -88,6 +89,7 @@ pub record SparesScript (c : Call) : Type 0 where
 abbrev pub Spares : Option Command → Call → Type 0
 Spares (Some (Gen seed frames)) c = (c.later ≡ c.port) × (c.seen ≡ c.other)
 Spares (Some (Convert direction)) c = SparesScript c
+Spares (Some Check) c = c.after ≡ c.sink
 Spares command c = c.seen ≡ c.other
 
 -- for each signal whose kept numbers a state has, what was written is what its whole signal has beyond its live values: the
@@ -98,26 +100,28 @@ GoesOnRight source bytes sink after = IfState source.left (λ script at numbers.
     × (live_bytes script x ++ written ≡ whole_bytes script (x ++ later_frames script at bytes) ++ output_pad script (input_header script bytes)))
 
 -- what is so once a command is done, where the ports tell their bytes: exactly the output of the script was written, for all
--- the input, or for a part of it, or the file in the other form
+-- the input, or for a part of it, or the file in the other form; or the other file is exactly the output of the script
 abbrev pub HasDone : Option Command → Call → Type 0
 HasDone None c = Unit {0}
 HasDone (Some Print) c = Unit {0}
 HasDone (Some (Stop at)) c = IfScript c.source.left (λ s. IfSome c.port.left (λ bytes. Wrote (first_output s at bytes) c.sink c.after))
 HasDone (Some Go) c = IfSome c.port.left (λ bytes. GoesOnRight c.source bytes c.sink c.after)
 HasDone (Some (Convert direction)) c = IfSome c.port.left (λ bytes. Wrote (target direction bytes) c.sink c.after)
+HasDone (Some Check) c = IfScript c.source.left (λ s. IfSome c.port.left (λ bytes. IfSome c.other.left (λ file. file ≡ output s bytes)))
 HasDone command c = IfWhole command c.source.left c.port (λ s bytes. Wrote (output s bytes) c.sink c.after)
 
 -- ---- how it ended
 
 -- a script went over a whole input of so many frames, with these measures; the text of a script was made; a script was stopped
--- behind so many frames, which are these; it went on to the end of so many, with these measures; a file was written in the other form; or a fault
--- stopped it
+-- behind so many frames, which are these; it went on to the end of so many, with these measures; a file was written in the other
+-- form; the other file is the output of a script, of so many bytes; or a fault stopped it
 pub data Ending : Type 0 where
   Went : Script → ℕ → List Measure → Ending
   Printed : Script → Ending
   Saved : Script → ℕ → List Frame → Ending
   Resumed : Script → ℕ → List Measure → Ending
   Turned : Converted → Ending
+  Checked : Script → ℕ → Ending
   Stopped : Fault → Ending
 
 -- the words are a run or a gen of this script, and in blocks of the chosen length a stream did this with its input; the
@@ -161,6 +165,14 @@ pub record Converts (Did : Direction → Type 0) (c : Call) : Type 0 where
   pub asked : command_of c.words ≡ Some (Convert direction)
   pub did : Did direction
   pub spared : SparesScript c
+
+-- the words are a check by this script, and this was done with its input and the other file; the output was left alone
+pub record Checks (script : Script) (Did : Type 0) (c : Call) : Type 0 where
+  pub asked : command_of c.words ≡ Some Check
+  pub read : ReadsText c.source c.read (λ text. Reads text script)
+  pub legal : IsTrue (is_legal_for script (chosen None script))
+  pub did : Did
+  pub output_same : c.after ≡ c.sink
 
 -- the chosen block length isn't legal: of a script that was read, or of the script of a state
 pub data RefusesLength (block divisor : ℕ) (c : Call) : Type 0 where
@@ -206,7 +218,10 @@ Happened (Saved script at x) c = StopsAt script at (λ block.
 Happened (Resumed script frames found) c =
     GoesOn script (λ block start at. RestDone script start at frames c.port c.later c.sink c.after c.before c.counts found) c
 Happened (Turned totals) c = Converts (λ direction. ConvertDone direction totals c.port c.later c.sink c.after) c
+Happened (Checked script size) c = Checks script (CheckDone script size c.port c.later c.other c.seen c.before c.counts) c
 Happened (Stopped (Conversion fault)) c = Converts (λ direction. ConvertStopped direction fault c.port c.later c.sink c.after) c
+Happened (Stopped (Comparison fault)) c =
+    (script : Script) × Checks script (CheckStopped script fault c.port c.later c.other c.seen c.before c.counts) c
 Happened (Stopped (Stream fault)) c =
     (script : Script) × Streams script (λ block input now. StreamStopped (is_banked c.words) script block fault input now c.sink c.after c.before c.counts) c
 Happened (Stopped (Part fault)) c = StopsInPart fault c
@@ -219,6 +234,7 @@ text_of (Printed script) = canon script
 text_of (Saved script at x) = state_of script at (kept script x)
 text_of (Resumed script frames found) = report_text script frames found
 text_of (Turned totals) = converted_text totals.frames totals.channels totals.bits
+text_of (Checked script size) = same_text size
 text_of (Stopped fault) = fault_line fault
 
 -- that was reported; a fault has its status, also where the report has failed

@@ -2,14 +2,16 @@
 use Rattle.std.specs.Prelude.{◌≡◌, ◌⊎◌, ◌<◌, ℕ, length, None, Some, IsSome, IfSome, IsTrue, IsFalse}
 use Rattle.dsp_ports.specs.Ports.{SinkState, Rose}
 use Rattle.dsp_defs.specs.Canon.{canon}
+use Rattle.dsp_defs.specs.Output.{output}
 use Rattle.dsp_defs.specs.Reading.{first_fault}
 use Rattle.dsp_defs.specs.StateFields.{HasStateFault}
 use Rattle.dsp_defs.specs.declared.limits.TheConstants.{MAX_SCRIPT}
 use Rattle.dsp_defs.specs.declared.state_kind.StateKind.{StateKind}
 use Rattle.dsp_command.specs.Words.{command_of}
 use Rattle.dsp_defs.specs.declared.au.Direction.{Direction}
-use Rattle.dsp_command.specs.declared.command.Command.TheVariants.{Stop, Go, Convert}
+use Rattle.dsp_command.specs.declared.command.Command.TheVariants.{Stop, Go, Convert, Check}
 use Rattle.dsp_au.specs.Convert.{IsFree as IsConvertible}
+use Rattle.dsp_check.specs.Check.{IsFree as IsCheckable}
 use Rattle.dsp_cli.specs.Call.{Call}
 use Rattle.dsp_cli.specs.Run.{HasText, HasBlocks, IsStream, IsPrint, IsAnswer, IsFree, IsStoppable, IsResumable, IfWhole}
 use Rattle.dsp_cli.specs.Script.{IfScript, IfState, chosen, chosen_block, is_legal_for}
@@ -46,7 +48,11 @@ pub record NoneFailed (c : Call) (report told : SinkState) : Type 0 where
   pub other_kept : Rose c.other.faults c.seen.faults → ⊥
   pub report_kept : Rose report.faults told.faults → ⊥
 
--- where nothing stands in the way and no port fails, all is done, or memory is wanted
+-- it is 0 where P holds, and 11 where it does not
+abbrev pub Judges : Type 0 → ℕ → Type 0
+Judges P status = (P × (status ≡ 0)) ⊎ ((P → ⊥) × (status ≡ 11))
+
+-- where nothing stands in the way and no port fails, all is done, or memory is wanted; a check says whether the file is the output
 pub record Completes (c : Call) (status : ℕ) (report told : SinkState) : Type 0 where
   pub runs : IsStream c.words → IfWhole (command_of c.words) c.source.left c.port (λ s bytes.
       IsFree (command_of c.words) s (chosen_block c.words s) bytes → NoneFailed c report told → (status ≡ 0) ⊎ (status ≡ 10))
@@ -58,3 +64,5 @@ pub record Completes (c : Call) (status : ℕ) (report told : SinkState) : Type 
       IsResumable s at bytes → NoneFailed c report told → (status ≡ 0) ⊎ (status ≡ 10)))
   pub converts : (direction : Direction) → command_of c.words ≡ Some (Convert direction) → IfSome c.port.left (λ bytes.
       IsConvertible direction bytes → NoneFailed c report told → status ≡ 0)
+  pub checks : command_of c.words ≡ Some Check → IfScript c.source.left (λ s. IfSome c.port.left (λ bytes. IfSome c.other.left (λ file.
+      IsTrue (is_legal_for s (chosen None s)) → IsCheckable s bytes → NoneFailed c report told → Judges (file ≡ output s bytes) status ⊎ (status ≡ 10))))

@@ -1,9 +1,10 @@
 -- What a run answers: a status, and the lines of its report.
 use Rattle.std.specs.Prelude.{ℕ, List, ◌++◌, codes, flat_map}
-use Rattle.dsp_command.specs.Report.{usage_line, script_line, block_length_line, header_line, input_limit_line, behind_line, state_line, gather_line, window_line, riff_line, au_line, script_read_line, input_read_line, output_line, memory_line, done_line, frames_line, multiplies_line, measure_line}
+use Rattle.dsp_command.specs.Report.{usage_line, script_line, block_length_line, header_line, input_limit_line, behind_line, state_line, gather_line, window_line, riff_line, check_size_line, au_line, differs_line, other_read_line, script_read_line, input_read_line, output_line, memory_line, done_line, frames_line, multiplies_line, measure_line}
 use Rattle.dsp_cli.specs.declared.fault.Fault.{Fault}
-use Rattle.dsp_cli.specs.declared.fault.Fault.TheVariants.{Usage, ScriptRead, Script, BlockLength, Memory, Stream, State, Part, Conversion}
+use Rattle.dsp_cli.specs.declared.fault.Fault.TheVariants.{Usage, ScriptRead, Script, BlockLength, Memory, Stream, State, Part, Conversion, Comparison}
 use Rattle.dsp_au.specs.declared.fault.ConvertFault.TheVariants as convert_fault
+use Rattle.dsp_check.specs.declared.fault.CheckFault.TheVariants as check_fault
 use Rattle.dsp_cli.specs.declared.report.Summary.{Summary}
 use Rattle.dsp_session.specs.declared.fault.LengthFault.{LengthFault}
 use Rattle.dsp_session.specs.declared.fault.LengthFault.TheVariants as length_fault
@@ -37,6 +38,15 @@ status_of (Conversion (convert_fault.Input taken limit)) = 5
 status_of (Conversion (convert_fault.Riff size limit)) = 5
 status_of (Conversion convert_fault.Read) = 7
 status_of (Conversion convert_fault.Write) = 8
+status_of (Comparison (check_fault.Header fault offset)) = 4
+status_of (Comparison (check_fault.Input taken limit)) = 5
+status_of (Comparison (check_fault.Window end length)) = 5
+status_of (Comparison (check_fault.Riff size limit)) = 5
+status_of (Comparison (check_fault.Size size limit)) = 5
+status_of (Comparison check_fault.Read) = 7
+status_of (Comparison check_fault.Memory) = 10
+status_of (Comparison (check_fault.Differs offset)) = 11
+status_of (Comparison check_fault.Other) = 14
 
 -- the line of a length past its limit
 abbrev pub length_fault_line : LengthFault → List ℕ
@@ -69,6 +79,15 @@ fault_line (Conversion (convert_fault.Input taken limit)) = input_limit_line tak
 fault_line (Conversion (convert_fault.Riff size limit)) = riff_line size limit
 fault_line (Conversion convert_fault.Read) = input_read_line
 fault_line (Conversion convert_fault.Write) = output_line
+fault_line (Comparison (check_fault.Header fault offset)) = header_line fault offset
+fault_line (Comparison (check_fault.Input taken limit)) = input_limit_line taken limit
+fault_line (Comparison (check_fault.Window end length)) = window_line end length
+fault_line (Comparison (check_fault.Riff size limit)) = riff_line size limit
+fault_line (Comparison (check_fault.Size size limit)) = check_size_line size limit
+fault_line (Comparison check_fault.Read) = input_read_line
+fault_line (Comparison check_fault.Memory) = memory_line
+fault_line (Comparison (check_fault.Differs offset)) = differs_line offset
+fault_line (Comparison check_fault.Other) = other_read_line
 
 -- the report of a run that is done: its head, and a line for each measure
 abbrev pub head_text : Summary → List ℕ

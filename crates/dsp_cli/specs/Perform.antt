@@ -23,12 +23,14 @@ use Rattle.dsp_session.specs.SessionState.{SessionState}
 use Rattle.dsp_session.specs.declared.fault.PartFault.{PartFault}
 use Rattle.dsp_session.specs.Stream.{Stopped as StreamStopped, Done}
 use Rattle.dsp_session.specs.declared.fault.StreamFault.{StreamFault}
+use Rattle.dsp_check.specs.Check.{Done as CheckDone, Stopped as CheckStopped}
+use Rattle.dsp_check.specs.declared.fault.CheckFault.{CheckFault}
 use Rattle.dsp_cli.specs.Call.{Call, Ending, Stopped, Happened, text_of}
 use Rattle.dsp_cli.specs.Fault.{status_of, fault_line, summary_text}
 use Rattle.dsp_cli.specs.Script.{ReadsText, ReadsBytes, chosen, is_legal_for}
 use Rattle.dsp_cli.specs.Run.{generated_source, Tells, ReportsText}
 use Rattle.dsp_cli.specs.declared.fault.Fault.{Fault}
-use Rattle.dsp_cli.specs.declared.fault.Fault.TheVariants.{ScriptRead, Script as BadText, BlockLength, Memory, Stream, State, Part}
+use Rattle.dsp_cli.specs.declared.fault.Fault.TheVariants.{ScriptRead, Script as BadText, BlockLength, Memory, Stream, State, Part, Comparison}
 use Rattle.dsp_cli.specs.declared.report.Summary.{Summary}
 use Rattle.dsp_cli.specs.declared.top.Outcome.{Outcome}
 use Rattle.dsp_cli.specs.declared.top.Outcome.TheVariants as outcome
@@ -159,6 +161,31 @@ FailsToGoOn (BlockLength block divisor) saved input now output after before coun
 FailsToGoOn Memory saved input now output after before counts = NotBegun input now output after before counts
 FailsToGoOn (Part fault) saved input now output after before counts = StopsInRest fault saved input now output after before counts
 FailsToGoOn fault saved input now output after before counts = ⊥
+
+-- ---- a check
+
+-- the other file is the output of the script, of so many bytes
+pub record Compared (script : Script) (size : ℕ) (input now other seen : SourceState) (before counts : Counts) : Type 0 where
+  pub legal : IsTrue (is_legal_for script (chosen None script))
+  pub done : CheckDone script size input now other seen before counts
+
+-- it was not found to be
+pub record StopsComparing (fault : CheckFault) (script : Script) (input now other seen : SourceState) (before counts : Counts) : Type 0 where
+  pub legal : IsTrue (is_legal_for script (chosen None script))
+  pub stopped : CheckStopped script fault input now other seen before counts
+
+-- neither the input nor the other file was called, and nothing was counted
+pub record NotCompared (input now other seen : SourceState) (before counts : Counts) : Type 0 where
+  pub input_same : now ≡ input
+  pub other_same : seen ≡ other
+  pub counts_same : counts ≡ before
+
+-- why it was not, and what was called by then
+abbrev pub FailsToCompare : Fault → Script → SourceState → SourceState → SourceState → SourceState → Counts → Counts → Type 0
+FailsToCompare (BlockLength block divisor) script input now other seen before counts =
+    StopsAtLength block divisor None script × NotCompared input now other seen before counts
+FailsToCompare (Comparison fault) script input now other seen before counts = StopsComparing fault script input now other seen before counts
+FailsToCompare fault script input now other seen before counts = ⊥
 
 -- ---- what the words ask for
 

@@ -1,5 +1,5 @@
 -- What the words ask for, what is read for them, and what is written.
-use Rattle.std.specs.Prelude.{◌≡◌, ◌≢◌, ◌⊎◌, ◌+◌, ◌*◌, ◌^◌, ◌<◌, ℕ, ◌≤◌, min, Bool, List, length, take, Option, Some, None, IfSome, IsTrue}
+use Rattle.std.specs.Prelude.{◌≡◌, ◌≢◌, ◌⊎◌, ◌+◌, ◌*◌, ◌^◌, ℕ, ◌≤◌, min, Bool, List, length, take, Option, Some, None, IfSome, IsTrue}
 use Rattle.std.specs.Io.KnownBytes.{append_known}
 use Rattle.dsp_ports.specs.Ports.{SourceState, SinkState, Rose, one_more, IsSettled}
 use Rattle.dsp_defs.specs.Generator.{generated_bytes}
@@ -8,12 +8,12 @@ use Rattle.dsp_defs.specs.Output.{HasHeader, declared_frames, input_header}
 use Rattle.dsp_defs.specs.Shape.{window_at}
 use Rattle.dsp_command.specs.Words.{command_of}
 use Rattle.dsp_command.specs.declared.command.Command.{Command}
-use Rattle.dsp_command.specs.declared.command.Command.TheVariants.{Run, Gen, Print, Stop, Go, Convert}
+use Rattle.dsp_command.specs.declared.command.Command.TheVariants.{Run, Gen, Print, Stop, Go, Convert, Check}
 use Rattle.dsp_defs.specs.declared.format.Input.{Input}
 use Rattle.dsp_defs.specs.declared.limits.TheConstants.{MAX_GENERATED, MAX_SCRIPT}
 use Rattle.dsp_defs.specs.declared.script.Script.{Script}
-use Rattle.dsp_session.specs.Stream.{KeepsLimits, declared_bytes, frames_in_bytes, input_fault}
-use Rattle.dsp_input.specs.Taking.{frame_bytes}
+use Rattle.dsp_session.specs.Stream.{KeepsLimits, frames_in_bytes, input_fault}
+use Rattle.dsp_input.specs.Taking.{InLimit, frame_bytes}
 use Rattle.dsp_cli.specs.Script.{IfScript, chosen, is_legal_for}
 
 -- ---- commands
@@ -79,13 +79,14 @@ IsDone status = (status ≡ 0) ⊎ (status ≡ 9)
 abbrev pub IsRefusal : ℕ → Type 0
 IsRefusal status = (status ≡ 1) ⊎ (status ≡ 2) ⊎ (status ≡ 3) ⊎ (status ≡ 6) ⊎ (status ≡ 10) ⊎ (status ≡ 13)
 
--- the input and the output were not begun: a print never does
+-- the input and the output were not begun: a print never does, and a check may want memory for an input that it has taken
 abbrev pub IsRefused : Option Command → ℕ → Type 0
 IsRefused (Some Print) status = Unit {0}
+IsRefused (Some Check) status = IsRefusal status × (status ≢ 10)
 IsRefused command status = IsRefusal status
 
--- the statuses that a command may end with: 1 alone where there is none; a gen has no fault of its input, and a run that
--- goes on reads no text
+-- the statuses that a command may end with: 1 alone where there is none; a gen has no fault of its input, a run that goes on
+-- reads no text, and a check writes no output
 abbrev pub IsAnswer : Option Command → ℕ → Type 0
 IsAnswer None status = status ≡ 1
 IsAnswer (Some (Run named banked)) status = (status ≤ 10) × (status ≢ 1)
@@ -94,6 +95,7 @@ IsAnswer (Some Print) status = IsDone status ⊎ (status ≡ 2) ⊎ (status ≡ 
 IsAnswer (Some (Stop frames)) status = ((status ≤ 10) ⊎ (status ≡ 13)) × (status ≢ 1)
 IsAnswer (Some Go) status = ((status ≤ 10) ⊎ (status ≡ 13)) × (status ≢ 1) × (status ≢ 2)
 IsAnswer (Some (Convert direction)) status = IsDone status ⊎ (status ≡ 4) ⊎ (status ≡ 5) ⊎ (status ≡ 7) ⊎ (status ≡ 8)
+IsAnswer (Some Check) status = ((status ≤ 11) ⊎ (status ≡ 14)) × (status ≢ 1) × (status ≢ 8)
 
 -- ---- what is read
 
@@ -134,15 +136,6 @@ ReportsText text status old new =
     ⊎ ((status ≡ 9) × (new.faults ≡ one_more old.faults) × Tells text old new)
 
 -- ---- what stands in the way
-
--- the header and the declared samples, or all bytes where none are declared, are no more than may be taken
-abbrev pub InLimit : Script → List ℕ → Type 0
-InLimit script bytes =
-    let header = input_header script bytes in
-    elim (declared_bytes script header) [
-      | Some size ↦ HasHeader script (take (2 ^ 40) bytes) × (header.start + size ≤ 2 ^ 40)
-      | None ↦ length bytes < 2 ^ 40
-    ]
 
 -- the input is whole, and within the limit; a generated one always is
 abbrev pub IsGood : Option Command → Script → List ℕ → Type 0

@@ -90,6 +90,9 @@ fn command_of_two(verb: &str, script: &str) -> Option<Command>
 fn command_of_four(verb: &str, script: &str, input: &str, output: &str) -> Option<Command>
     ensures { result ≡ command_of (verb.now ∷ script.now ∷ input.now ∷ output.now ∷ []) }
 {
+    if verb == "check" && !script.is_empty() && !input.is_empty() && !output.is_empty() {
+        return Some(Command::Check);
+    }
     if are_run_names(script, input, output) {
         return running(verb, None);
     }
@@ -207,6 +210,12 @@ pub fn places(words: &Words) -> Option<Places>
             input: Some(3),
             output: Some(4),
             other: None,
+        }),
+        Command::Check => Some(Places {
+            script: Some(1),
+            input: Some(2),
+            output: None,
+            other: Some(3),
         }),
     }
 }

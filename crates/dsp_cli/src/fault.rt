@@ -1,4 +1,5 @@
 use dsp_au::ConvertFault;
+use dsp_check::CheckFault;
 use dsp_defs::StateKind;
 use dsp_script::ScriptFault;
 use dsp_session::{PartFault, StreamFault};
@@ -25,4 +26,6 @@ pub enum Fault {
     Part(PartFault),
     /// The conversion stopped.
     Conversion(ConvertFault),
+    /// The other file was not found to be the output.
+    Comparison(CheckFault),
 }

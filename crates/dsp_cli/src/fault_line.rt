@@ -1,13 +1,14 @@
 //! The exit status and the one line of a run that isn't done.
 ghost use Rattle.std.specs.Prelude.{◌≡◌, ◌+◌, ◌≤◌, ◌++◌, [], length};
 ghost use Rattle.arrayvec.specs.ArrayVec.{array_vec_len};
-ghost use Rattle.dsp_command.specs.Report.{output_line, au_line, au_text, block_length_line, header_line, header_text, kind_text, lengths_line, located, script_line, state_line, state_text};
+ghost use Rattle.dsp_command.specs.Report.{output_line, au_line, au_text, block_length_line, differs_line, header_line, header_text, kind_text, lengths_line, located, script_line, state_line, state_text};
 ghost use Rattle.dsp_cli.specs.Fault.{fault_line, length_fault_line, status_of, stream_line, stream_status};
 
 use crate::fault::Fault;
 use crate::line::{Line, field_name, format_name, integer_field, natural_field};
 use arrayvec::ArrayVec;
 use dsp_au::ConvertFault;
+use dsp_check::CheckFault;
 use dsp_defs::{AuFault, HeaderFault, StateKind};
 use dsp_line::{natural, text, wide_natural};
 use dsp_script::{ScriptFault, ScriptKind};
@@ -28,6 +29,7 @@ pub fn status_of(fault: &Fault) -> u8
         Fault::Part(PartFault::Behind { .. }) => 5,
         Fault::Part(PartFault::Stream(fault)) => stream_status(fault),
         Fault::Conversion(fault) => conversion_status(fault),
+        Fault::Comparison(fault) => comparison_status(fault),
     }
 }
 
@@ -50,6 +52,22 @@ fn conversion_status(fault: &ConvertFault) -> u8
         ConvertFault::Input { .. } | ConvertFault::Riff { .. } => 5,
         ConvertFault::Read => 7,
         ConvertFault::Write => 8,
+    }
+}
+
+fn comparison_status(fault: &CheckFault) -> u8
+    ensures { result ≡ status_of (Fault.Comparison fault.now) }
+{
+    match fault {
+        CheckFault::Header { .. } => 4,
+        CheckFault::Input { .. }
+        | CheckFault::Window { .. }
+        | CheckFault::Riff { .. }
+        | CheckFault::Size { .. } => 5,
+        CheckFault::Read => 7,
+        CheckFault::Memory => 10,
+        CheckFault::Differs { .. } => 11,
+        CheckFault::Other => 14,
     }
 }
 
@@ -250,6 +268,15 @@ fn state_line(line: &mut Line, kind: StateKind, offset: u64)
     text(line, b"\n");
 }
 
+fn differs_line(line: &mut Line, offset: u64)
+    requires { array_vec_len line.old ≡ 0 }
+    ensures { line.new.items ≡ line.old.items ++ differs_line offset }
+{
+    text(line, b"dspfx: differs at ");
+    natural(line, offset);
+    text(line, b"\n");
+}
+
 fn block_length_line(line: &mut Line, block: u64, unit: u64)
     requires { array_vec_len line.old ≡ 0 }
     ensures { line.new.items ≡ line.old.items ++ block_length_line block unit }
@@ -337,6 +364,31 @@ fn conversion_line(line: &mut Line, fault: ConvertFault)
     }
 }
 
+fn comparison_line(line: &mut Line, fault: CheckFault)
+    requires { array_vec_len line.old ≡ 0 }
+    ensures { line.new.items ≡ line.old.items ++ fault_line (Fault.Comparison fault) }
+{
+    match fault {
+        CheckFault::Header { fault, offset } => header_line(line, fault, offset),
+        CheckFault::Input { taken, limit } => {
+            length_fault_line(line, LengthFault::Input { taken, limit });
+        }
+        CheckFault::Window { end, length } => {
+            length_fault_line(line, LengthFault::Window { end, length });
+        }
+        CheckFault::Riff { size, limit } => {
+            length_fault_line(line, LengthFault::Riff { size, limit });
+        }
+        CheckFault::Size { size, limit } => {
+            lengths_line(line, b"check size", size, b"limit", limit);
+        }
+        CheckFault::Differs { offset } => differs_line(line, offset),
+        CheckFault::Read => text(line, b"dspfx: input not read\n"),
+        CheckFault::Other => text(line, b"dspfx: other input not read\n"),
+        CheckFault::Memory => text(line, b"dspfx: want of memory\n"),
+    }
+}
+
 /// The line of an output that is not written.
 pub fn output_line() -> &'static [u8]
     ensures line { result.now ≡ output_line }
@@ -353,7 +405,7 @@ pub fn line_of(fault: &Fault) -> Line
     match fault {
         Fault::Usage => text(
             &mut line,
-            b"dspfx: usage: run SCRIPT IN OUT [block N], gen SEED FRAMES SCRIPT OUT, print SCRIPT, resume stop K SCRIPT IN OUT, resume go STATE IN OUT, bank SCRIPT IN OUT [block N], convert wave au IN OUT, convert au wave IN OUT\n",
+            b"dspfx: usage: run SCRIPT IN OUT [block N], gen SEED FRAMES SCRIPT OUT, print SCRIPT, resume stop K SCRIPT IN OUT, resume go STATE IN OUT, bank SCRIPT IN OUT [block N], convert wave au IN OUT, convert au wave IN OUT, check SCRIPT IN OUT\n",
         ),
         Fault::ScriptRead => text(&mut line, b"dspfx: script not read\n"),
         Fault::Script(fault) => script_line(&mut line, *fault),
@@ -363,6 +415,7 @@ pub fn line_of(fault: &Fault) -> Line
         Fault::Stream(fault) => stream_line(&mut line, *fault),
         Fault::Part(fault) => part_line(&mut line, *fault),
         Fault::Conversion(fault) => conversion_line(&mut line, *fault),
+        Fault::Comparison(fault) => comparison_line(&mut line, *fault),
     }
     line
 }

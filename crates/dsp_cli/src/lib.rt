@@ -12,6 +12,8 @@ mod words;
 
 pub use command::places;
 pub use dsp_command::Places;
-pub use fault_line::output_line;
+pub use fault::Fault;
+pub use fault_line::{line_of, output_line};
+pub use line::Line;
 pub use top::run;
 pub use words::Words;

@@ -1,7 +1,7 @@
 //! The report of a run that is done. It is built in place and takes no memory.
 ghost use Rattle.std.specs.Prelude.{◌≡◌, ◌+◌, ◌≤◌, ◌++◌, [], length, vec_capacity};
 ghost use Rattle.arrayvec.specs.ArrayVec.{array_vec_len};
-ghost use Rattle.dsp_command.specs.Report.{converted_line, converted_text, frames_line, multiplies_line};
+ghost use Rattle.dsp_command.specs.Report.{bytes_line, converted_line, converted_text, frames_line, multiplies_line, same_text};
 ghost use Rattle.dsp_chain.specs.Row.{measure_counts};
 ghost use Rattle.dsp_session.specs.Session.{measured};
 ghost use Rattle.dsp_cli.specs.Fault.{head_text};
@@ -98,6 +98,27 @@ pub fn converted_report(totals: Converted) -> Report
     let mut report = ArrayVec::new();
     push(&mut report, b"dspfx: done\n");
     push(&mut report, &converted_line(totals));
+    report
+}
+
+/// `bytes N`
+fn bytes_line(size: u64) -> Line
+    ensures { result.items ≡ bytes_line size }
+{
+    let mut line = ArrayVec::new();
+    text(&mut line, b"bytes ");
+    natural(&mut line, size);
+    text(&mut line, b"\n");
+    line
+}
+
+/// The report of a check, over a file of so many bytes that is the output.
+pub fn same_report(size: u64) -> Report
+    ensures { result.items ≡ same_text size }
+{
+    let mut report = ArrayVec::new();
+    push(&mut report, b"dspfx: same\n");
+    push(&mut report, &bytes_line(size));
     report
 }
 

@@ -12,16 +12,17 @@ ghost use Rattle.dsp_cli.specs.Call.{Ended, Happened, HasDone, Spares, Stopped, 
 ghost use Rattle.dsp_cli.specs.Causes.{Causes, Completes};
 ghost use Rattle.dsp_cli.specs.Fault.{summary_text};
 ghost use Rattle.dsp_cli.specs.Script.{chosen, most_of_script, IfScript};
-ghost use Rattle.dsp_cli.specs.Perform.{ReadsAs, Ran, RanGenerated, Performed, FailsToLoad, FailsToRun, FailsToGenerate, LoadsState, FailsToLoadState, RanFirst, FailsToStop, RanRest, FailsToGoOn, HasStatus};
+ghost use Rattle.dsp_cli.specs.Perform.{Compared, FailsToCompare, ReadsAs, Ran, RanGenerated, Performed, FailsToLoad, FailsToRun, FailsToGenerate, LoadsState, FailsToLoadState, RanFirst, FailsToStop, RanRest, FailsToGoOn, HasStatus};
 ghost use Rattle.dsp_cli.specs.Run.{HasOutput, Wrote, Tells, ReportsText, IsDone, IsRefused};
 
 use crate::command::command;
 use crate::fault::Fault;
 use crate::fault_line::{line_of, status_of};
-use crate::report::{Report, Summary, converted_report, find_measures, head_of};
+use crate::report::{Report, Summary, converted_report, find_measures, head_of, same_report};
 use crate::script::{ReadFault, read_whole};
 use crate::words::Words;
 use dsp_au::convert;
+use dsp_check::check;
 use dsp_command::Command;
 use dsp_defs::{Flow, MAX_SCRIPT, MAX_STATE, Measure, Script, StateKind, Steps};
 use dsp_line::measure_line;
@@ -258,6 +259,33 @@ fn run_rest<U: AnyUnit + Drop, S: Source, K: Sink, L: Ledger>(
     })
 }
 
+/// Compares a file with what the script gives of the input, and answers its length.
+fn check_script<S: Source, O: Source, L: Ledger>(
+    alloc: Global,
+    script: &Script,
+    input: &mut S,
+    other: &mut O,
+    steps: &mut Steps<L>,
+) -> Result<u64, Fault>
+    requires { IsSound script.now }
+    ensures ok { IfOk result (λ size.
+        Compared script.now size (S.state input.old) (S.state input.new) (O.state other.old)
+        (O.state other.new) steps.old steps.new) }
+    ensures err { IfErr result (λ fault.
+        FailsToCompare fault script.now (S.state input.old) (S.state input.new)
+        (O.state other.old) (O.state other.new) steps.old steps.new) }
+{
+    let block = chosen(None, script);
+    if !legal(script, block) {
+        let unit = unit(script);
+        return Err(Fault::BlockLength { block, unit });
+    }
+    match check(alloc, script, input, other, steps) {
+        Ok(size) => Ok(size),
+        Err(fault) => Err(Fault::Comparison(fault)),
+    }
+}
+
 /// Does what the words say, but for the report.
 fn perform<U: AnyUnit + Drop, P: Source, S: Source, K: Sink, O: Source, L: Ledger>(
     alloc: Global,
@@ -315,6 +343,11 @@ fn perform<U: AnyUnit + Drop, P: Source, S: Source, K: Sink, O: Source, L: Ledge
             let script = load_script(alloc, script)?;
             let summary = generate::<U, _, _>(alloc, seed, frames, script, output, steps)?;
             Ok(Outcome::Ran(summary))
+        }
+        Command::Check => {
+            let script = load_script(alloc, script)?;
+            let size = check_script(alloc, &script, input, other, steps)?;
+            Ok(Outcome::Noted(same_report(size)))
         }
     }
 }
@@ -396,7 +429,8 @@ fn settle<R: Sink>(outcome: Result<Outcome, Fault>, report: &mut R) -> u8
 /// The top call: does what the words say over five ports, and answers the exit status. A run that is done reports what
 /// came in, what went out and the multiplies; after a fault one line is tried on the report. A run takes its blocks in
 /// the length that the words name, else the script, else the default; a gen names none. A gen takes its
-/// input from the generator, and leaves the port `input` alone.
+/// input from the generator, and leaves the port `input` alone. A check compares the port `other` with what the script
+/// gives of the input, and leaves the port `output` alone.
 pub fn run<U: AnyUnit + Drop, P: Source, S: Source, K: Sink, R: Sink, O: Source, L: Ledger>(
     alloc: Global,
     words: &Words,
@@ -413,7 +447,7 @@ pub fn run<U: AnyUnit + Drop, P: Source, S: Source, K: Sink, R: Sink, O: Source,
         (O.state other.old) (O.state other.new) steps.old steps.new) result
         (R.state report.old) (R.state report.new) }
 
-    // A command that is done has written exactly what it is to write for all the input.
+    // A command that is done has written exactly what it is to write for all the input, or has found it in the other file.
     ensures done { IsDone result → HasDone (command_of words.now)
         (call words.now (P.state script.old) (P.state script.new) (S.state input.old)
         (S.state input.new) (K.state output.old) (K.state output.new) (O.state other.old)
@@ -438,7 +472,7 @@ pub fn run<U: AnyUnit + Drop, P: Source, S: Source, K: Sink, R: Sink, O: Source,
     ensures script_taken { (P.state script.new).taken
         ≤ (P.state script.old).taken + most_of_script (command_of words.now) + 1 }
 
-    // Which statuses may come, which must, and that nothing else stands in the way of 0.
+    // Which statuses may come, which must, and that nothing else stands in the way of 0, or of a check's verdict.
     ensures causes { Causes (call words.now (P.state script.old) (P.state script.new)
         (S.state input.old) (S.state input.new) (K.state output.old) (K.state output.new)
         (O.state other.old) (O.state other.new) steps.old steps.new) result }

@@ -84,7 +84,7 @@ located text offset = text.0 ++ codes " at " ++ decimal offset ++ text.1
 
 -- the words are no command
 abbrev pub usage_line : List ℕ
-usage_line = line (codes "dspfx: usage: run SCRIPT IN OUT [block N], gen SEED FRAMES SCRIPT OUT, print SCRIPT, resume stop K SCRIPT IN OUT, resume go STATE IN OUT, bank SCRIPT IN OUT [block N], convert wave au IN OUT, convert au wave IN OUT")
+usage_line = line (codes "dspfx: usage: run SCRIPT IN OUT [block N], gen SEED FRAMES SCRIPT OUT, print SCRIPT, resume stop K SCRIPT IN OUT, resume go STATE IN OUT, bank SCRIPT IN OUT [block N], convert wave au IN OUT, convert au wave IN OUT, check SCRIPT IN OUT")
 
 -- `dspfx: script: ` and the fault where it stands
 abbrev pub script_line : ScriptFault → List ℕ
@@ -130,6 +130,14 @@ behind_line at got = lengths_line (codes "resume at") at (codes "input") got
 abbrev pub riff_line : ℕ → ℕ → List ℕ
 riff_line size limit = lengths_line (codes "riff size") size (codes "limit") limit
 
+-- `check size S, limit L`
+abbrev pub check_size_line : ℕ → ℕ → List ℕ
+check_size_line size limit = lengths_line (codes "check size") size (codes "limit") limit
+
+-- the file is not the output from this byte on
+abbrev pub differs_line : ℕ → List ℕ
+differs_line offset = line (codes "dspfx: differs at " ++ decimal offset)
+
 -- the script's source failed
 abbrev pub script_read_line : List ℕ
 script_read_line = line (codes "dspfx: script not read")
@@ -137,6 +145,10 @@ script_read_line = line (codes "dspfx: script not read")
 -- the input failed
 abbrev pub input_read_line : List ℕ
 input_read_line = line (codes "dspfx: input not read")
+
+-- the other file that is read failed
+abbrev pub other_read_line : List ℕ
+other_read_line = line (codes "dspfx: other input not read")
 
 -- the output failed
 abbrev pub output_line : List ℕ
@@ -199,6 +211,18 @@ converted_line frames channels bits =
 -- what a conversion reports
 abbrev pub converted_text : ℕ → ℕ → ℕ → List ℕ
 converted_text frames channels bits = done_line ++ converted_line frames channels bits
+
+-- `dspfx: same`
+abbrev pub same_line : List ℕ
+same_line = line (codes "dspfx: same")
+
+-- `bytes N`
+abbrev pub bytes_line : ℕ → List ℕ
+bytes_line size = line (codes "bytes " ++ decimal size)
+
+-- what a check reports, over a file of so many bytes that is the output
+abbrev pub same_text : ℕ → List ℕ
+same_text size = same_line ++ bytes_line size
 
 -- what a run over n frames of input reports: what came in, what went out, the multiplies, and the measures
 abbrev pub report_text : Script → ℕ → List Measure → List ℕ

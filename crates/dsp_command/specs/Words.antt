@@ -8,7 +8,7 @@ use Rattle.std.specs.Str.Parse.{digits_value}
 use Rattle.dsp_defs.specs.declared.au.Direction.{Direction}
 use Rattle.dsp_defs.specs.declared.au.Direction.TheVariants.{WaveToAu, AuToWave}
 use Rattle.dsp_command.specs.declared.command.Command.{Command}
-use Rattle.dsp_command.specs.declared.command.Command.TheVariants.{Run, Gen, Print, Stop, Go, Convert}
+use Rattle.dsp_command.specs.declared.command.Command.TheVariants.{Run, Gen, Print, Stop, Go, Convert, Check}
 use Rattle.dsp_command.specs.declared.command.Places.{Places}
 use Rattle.dsp_defs.specs.declared.limits.TheConstants.{MAX_GENERATED}
 
@@ -48,6 +48,12 @@ direction_of from to =
     if bytes_eq from (codes "wave") && bytes_eq to (codes "au") then Some WaveToAu
     else (if bytes_eq from (codes "au") && bytes_eq to (codes "wave") then Some AuToWave else None)
 
+-- four words: a check, whose names may be any, and a run
+abbrev pub of_four : List ℕ → List ℕ → List ℕ → List ℕ → Option Command
+of_four verb script input output =
+    if bytes_eq verb (codes "check") && is_name script && is_name input && is_name output then Some Check
+    else (if are_run_names script input output then running verb None else None)
+
 -- five words: a gen, a run that goes on, and a conversion
 abbrev pub of_five : List ℕ → List ℕ → List ℕ → List ℕ → List ℕ → Option Command
 of_five verb second third fourth output =
@@ -65,11 +71,10 @@ of_six verb second third fourth fifth last =
     then option_and_then (λ n. running verb (Some n)) (count_of last) else None)
 
 -- `print SCRIPT`, `run SCRIPT IN OUT`, `run SCRIPT IN OUT block N`, `gen SEED FRAMES SCRIPT OUT`, `resume stop K SCRIPT IN OUT`,
--- `resume go STATE IN OUT` and `convert FROM TO IN OUT`; `bank` stands where `run` does
+-- `resume go STATE IN OUT`, `convert FROM TO IN OUT` and `check SCRIPT IN OUT`; `bank` stands where `run` does
 abbrev pub command_of : List (List ℕ) → Option Command
 command_of (verb ∷ script ∷ []) = if bytes_eq verb (codes "print") && is_name script then Some Print else None
-command_of (verb ∷ script ∷ input ∷ output ∷ []) =
-    if are_run_names script input output then running verb None else None
+command_of (verb ∷ script ∷ input ∷ output ∷ []) = of_four verb script input output
 command_of (verb ∷ seed ∷ frames ∷ script ∷ output ∷ []) =
     of_five verb seed frames script output
 command_of (verb ∷ second ∷ third ∷ fourth ∷ fifth ∷ last ∷ []) = of_six verb second third fourth fifth last
@@ -83,6 +88,7 @@ places_of_command Print = record { script = Some 1; input = None; output = None;
 places_of_command (Stop frames) = record { script = Some 3; input = Some 4; output = Some 5; other = None }
 places_of_command Go = record { script = Some 2; input = Some 3; output = Some 4; other = None }
 places_of_command (Convert direction) = record { script = None; input = Some 3; output = Some 4; other = None }
+places_of_command Check = record { script = Some 1; input = Some 2; output = None; other = Some 3 }
 
 abbrev pub places_of : List (List ℕ) → Option Places
 places_of words = option_map places_of_command (command_of words)

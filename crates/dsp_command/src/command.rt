@@ -16,6 +16,8 @@ pub enum Command {
     Go,
     /// Write the samples of a file in the other form of file.
     Convert { direction: Direction },
+    /// Compare a file with the output that a script has for an input.
+    Check,
 }
 
 /// Which words name the script, the input, the output and another file that is read, counted from 0;

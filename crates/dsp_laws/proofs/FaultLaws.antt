@@ -1,7 +1,7 @@
 -- Which fault has a status, and what is so of the script where one of its faults has it.
 use Rattle.std.proofs.Common.{◌≡◌, ◌⊎◌, ℕ, ◌<◌, length, refl, subst, arith, inl, inr, None, Some, IsFalse}
 use Rattle.dsp_ports.specs.Ports.{SinkState, one_more}
-use Rattle.dsp_command.specs.Report.{block_length_line, header_line, script_line, state_line}
+use Rattle.dsp_command.specs.Report.{block_length_line, differs_line, header_line, script_line, state_line}
 use Rattle.dsp_defs.specs.Canon.{canon}
 use Rattle.dsp_defs.specs.Shape.{unit}
 use Rattle.dsp_defs.specs.declared.limits.TheConstants.{MAX_SCRIPT}
@@ -12,20 +12,21 @@ use Rattle.dsp_defs.specs.declared.wave.HeaderFault.{HeaderFault}
 use Rattle.dsp_session.specs.declared.fault.PartFault.TheVariants as part_fault
 use Rattle.dsp_session.specs.declared.fault.StreamFault.{StreamFault}
 use Rattle.dsp_session.specs.declared.fault.StreamFault.TheVariants.{Header, Input, Output, Lengths}
-use Rattle.dsp_cli.specs.Call.{Call, Ending, Went, Printed, Saved, Resumed, Turned, Stopped, OfText, OfState, OfBytes, OfScript, InFirst, InRest, Refuses, Happened, Reported, Ended}
+use Rattle.dsp_cli.specs.Call.{Call, Ending, Went, Printed, Saved, Resumed, Turned, Checked, Stopped, OfText, OfState, OfBytes, OfScript, InFirst, InRest, Refuses, Happened, Reported, Ended}
 use Rattle.dsp_cli.specs.Fault.{status_of, fault_line}
-use Rattle.dsp_cli.specs.Run.{HasText, HasBlocks, IsStream, IsDone, Tells}
+use Rattle.dsp_cli.specs.Run.{HasText, HasBlocks, HasOutput, IsStream, IsDone, Tells}
 use Rattle.dsp_cli.specs.Script.{IfScript, IfState, chosen, chosen_block, is_legal_for}
 use Rattle.dsp_cli.specs.declared.fault.Fault.{Fault}
-use Rattle.dsp_cli.specs.declared.fault.Fault.TheVariants.{Usage, ScriptRead, Script as BadText, BlockLength, Stream, State, Part, Conversion}
+use Rattle.dsp_cli.specs.declared.fault.Fault.TheVariants.{Usage, ScriptRead, Script as BadText, BlockLength, Stream, State, Part, Conversion, Comparison}
 use Rattle.dsp_au.specs.declared.fault.ConvertFault.TheVariants as convert_fault
+use Rattle.dsp_check.specs.declared.fault.CheckFault.TheVariants as check_fault
 use Rattle.dsp_defs.specs.declared.au.Direction.{Direction}
 use Rattle.dsp_command.specs.declared.command.Command.TheVariants.{Convert, Go}
 use Rattle.dsp_command.specs.Words.{command_of}
-use Rattle.dsp_cli.proofs.StatusLaws.{reports_done, stream_text, no_stop, part_status, conversion_status}
+use Rattle.dsp_cli.proofs.StatusLaws.{reports_done, stream_text, stream_output, no_stop, part_status, conversion_status, comparison_status}
 use Rattle.dsp_cli.proofs.Told.{IfSome-map, told_script}
 use Rattle.dsp_cli.proofs.StateTold.{told_same_fault, told_state}
-use Rattle.dsp_laws.specs.Origins.{BadState}
+use Rattle.dsp_laws.specs.Origins.{BadState, FailsOther}
 use Rattle.dsp_laws.specs.Origins as origin
 use Rattle.dsp_laws.specs.Stands.{IsStopped}
 
@@ -54,6 +55,7 @@ module _ (c : Call) (report told : SinkState) where
       by (Saved script place x) happened reported = absurd (undone (subst IsDone at (reports_done reported)))
       by (Resumed script frames found) happened reported = absurd (undone (subst IsDone at (reports_done reported)))
       by (Turned totals) happened reported = absurd (undone (subst IsDone at (reports_done reported)))
+      by (Checked script size) happened reported = absurd (undone (subst IsDone at (reports_done reported)))
       by (Stopped fault) happened (is, tells) = (fault, happened, is, tells)
 
   -- ---- which fault it was
@@ -63,6 +65,7 @@ module _ (c : Call) (report told : SinkState) where
   of_usage (Stream fault, happened, is, tells) = absurd (omega (arith, is, stream_status fault))
   of_usage (Part fault, happened, is, tells) = absurd (omega (arith, is, part_status fault))
   of_usage (Conversion fault, happened, is, tells) = absurd (omega (arith, is, conversion_status fault))
+  of_usage (Comparison fault, happened, is, tells) = absurd (omega (arith, is, comparison_status fault))
   of_usage (fault, happened, is, tells) = absurd (omega (arith, is))
 
   pub of_script_read : StoppedBy 6 → Refuses ScriptRead c
@@ -70,6 +73,7 @@ module _ (c : Call) (report told : SinkState) where
   of_script_read (Stream fault, happened, is, tells) = absurd (omega (arith, is, stream_status fault))
   of_script_read (Part fault, happened, is, tells) = absurd (omega (arith, is, part_status fault))
   of_script_read (Conversion fault, happened, is, tells) = absurd (omega (arith, is, conversion_status fault))
+  of_script_read (Comparison fault, happened, is, tells) = absurd (omega (arith, is, comparison_status fault))
   of_script_read (fault, happened, is, tells) = absurd (omega (arith, is))
 
   -- the text has this fault, and its line was told
@@ -81,6 +85,7 @@ module _ (c : Call) (report told : SinkState) where
   of_text (Stream fault, happened, is, tells) = absurd (omega (arith, is, stream_status fault))
   of_text (Part fault, happened, is, tells) = absurd (omega (arith, is, part_status fault))
   of_text (Conversion fault, happened, is, tells) = absurd (omega (arith, is, conversion_status fault))
+  of_text (Comparison fault, happened, is, tells) = absurd (omega (arith, is, comparison_status fault))
   of_text (fault, happened, is, tells) = absurd (omega (arith, is))
 
   -- the chosen block length isn't legal, and its line was told
@@ -100,6 +105,7 @@ module _ (c : Call) (report told : SinkState) where
   of_length blocks (Stream fault, happened, is, tells) = absurd (omega (arith, is, stream_status fault))
   of_length blocks (Part fault, happened, is, tells) = absurd (omega (arith, is, part_status fault))
   of_length blocks (Conversion fault, happened, is, tells) = absurd (omega (arith, is, conversion_status fault))
+  of_length blocks (Comparison fault, happened, is, tells) = absurd (omega (arith, is, comparison_status fault))
   of_length blocks (fault, happened, is, tells) = absurd (omega (arith, is))
 
   pub of_state_length : command_of c.words ≡ Some Go → StoppedBy 3 → IfState c.source.left (λ s at numbers. IsFalse (is_legal_for s (chosen None s)))
@@ -112,6 +118,7 @@ module _ (c : Call) (report told : SinkState) where
   of_state_length go (Stream fault, happened, is, tells) = absurd (omega (arith, is, stream_status fault))
   of_state_length go (Part fault, happened, is, tells) = absurd (omega (arith, is, part_status fault))
   of_state_length go (Conversion fault, happened, is, tells) = absurd (omega (arith, is, conversion_status fault))
+  of_state_length go (Comparison fault, happened, is, tells) = absurd (omega (arith, is, comparison_status fault))
   of_state_length go (fault, happened, is, tells) = absurd (omega (arith, is))
 
   pub of_state : StoppedBy 13 → BadState c report told
@@ -125,6 +132,7 @@ module _ (c : Call) (report told : SinkState) where
   of_state (Stream fault, happened, is, tells) = absurd (omega (arith, is, stream_status fault))
   of_state (Part fault, happened, is, tells) = absurd (omega (arith, is, part_status fault))
   of_state (Conversion fault, happened, is, tells) = absurd (omega (arith, is, conversion_status fault))
+  of_state (Comparison fault, happened, is, tells) = absurd (omega (arith, is, comparison_status fault))
   of_state (fault, happened, is, tells) = absurd (omega (arith, is))
 
   -- the header has this fault, and its line was told
@@ -143,9 +151,10 @@ module _ (c : Call) (report told : SinkState) where
   of_header stream (Part fault, InFirst script at stop, is, tells) = absurd (no_stop c.words stream at stop.asked)
   of_header stream (Part fault, InRest script stop, is, tells) = absurd (subst HasText stop.asked (stream_text c.words stream))
   of_header stream (Conversion fault, stop, is, tells) = absurd (no_conversion stream stop.asked)
+  of_header stream (Comparison fault, (script, stop), is, tells) = absurd (subst HasOutput stop.asked (stream_output c.words stream))
   of_header stream (fault, happened, is, tells) = absurd (omega (arith, is))
 
-  -- a read of the input has failed, in a stream or a conversion
+  -- a read of the input has failed, in a stream, a conversion or a check
   pub of_input : StoppedBy 7 → StreamStops c Input ⊎ (c.later.faults ≡ one_more c.port.faults)
   of_input (Stream Input, happened, is, tells) = inl happened
   of_input (Stream (Header fault offset), happened, is, tells) = absurd (omega (arith, is))
@@ -158,6 +167,7 @@ module _ (c : Call) (report told : SinkState) where
   of_input (Part (part_fault.Stream Output), happened, is, tells) = absurd (omega (arith, is))
   of_input (Part (part_fault.Behind at got), happened, is, tells) = absurd (omega (arith, is))
   of_input (Conversion convert_fault.Read, stop, is, tells) = inr stop.did.faults.0
+  of_input (Comparison check_fault.Read, (script, stop), is, tells) = inr stop.did.faults
   of_input (fault, happened, is, tells) = absurd (omega (arith, is))
 
   -- a write of the output has, in a stream or a conversion
@@ -173,4 +183,24 @@ module _ (c : Call) (report told : SinkState) where
   of_output (Part (part_fault.Stream Input), happened, is, tells) = absurd (omega (arith, is))
   of_output (Part (part_fault.Behind at got), happened, is, tells) = absurd (omega (arith, is))
   of_output (Conversion convert_fault.Write, stop, is, tells) = stop.did.faults.1
+  of_output (Comparison fault, happened, is, tells) = absurd (omega (arith, is, comparison_status fault))
   of_output (fault, happened, is, tells) = absurd (omega (arith, is))
+
+  -- the file that is checked differs from here on, and its line was told
+  abbrev DifferenceTold : Type 0
+  DifferenceTold = (offset : ℕ) × Happened (Stopped (Comparison (check_fault.Differs offset))) c × Tells (differs_line offset) report told
+
+  pub of_difference : StoppedBy 11 → DifferenceTold
+  of_difference (Comparison (check_fault.Differs offset), happened, is, tells) = (offset, happened, tells)
+  of_difference (Stream fault, happened, is, tells) = absurd (omega (arith, is, stream_status fault))
+  of_difference (Part fault, happened, is, tells) = absurd (omega (arith, is, part_status fault))
+  of_difference (Conversion fault, happened, is, tells) = absurd (omega (arith, is, conversion_status fault))
+  of_difference (fault, happened, is, tells) = absurd (omega (arith, is))
+
+  -- or it has failed
+  pub of_other : StoppedBy 14 → FailsOther c
+  of_other (Comparison check_fault.Other, (script, stop), is, tells) = record { asked = stop.asked; failed = stop.did.compared.cause.1 }
+  of_other (Stream fault, happened, is, tells) = absurd (omega (arith, is, stream_status fault))
+  of_other (Part fault, happened, is, tells) = absurd (omega (arith, is, part_status fault))
+  of_other (Conversion fault, happened, is, tells) = absurd (omega (arith, is, conversion_status fault))
+  of_other (fault, happened, is, tells) = absurd (omega (arith, is))

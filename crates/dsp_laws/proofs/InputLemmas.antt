@@ -21,8 +21,8 @@ use Rattle.std.proofs.Math.Nat.{mul-le-mul}
 use Rattle.dsp_stage.proofs.CostLaws.{block_cost_grows, quotient_more}
 use Rattle.dsp_session.specs.Session.{frame_bytes}
 use Rattle.dsp_session.specs.Stream.{frames_in_bytes}
-use Rattle.dsp_session.proofs.FaultLaws.{no_samples}
-use Rattle.dsp_cli.proofs.InputLaws.{frame_in, frames_of_bytes}
+use Rattle.dsp_input.proofs.FaultLaws.{no_samples}
+use Rattle.dsp_input.proofs.InputLaws.{frame_in, frames_of_bytes}
 use Rattle.dsp_laws.specs.Taken.{least_frame_bytes, narrowest_coding}
 use Rattle.dsp_defs.specs.Block.{format_after, channels_after}
 use Rattle.dsp_defs.specs.Shape.{given_frames}

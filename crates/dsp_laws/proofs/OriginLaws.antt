@@ -1,9 +1,9 @@
 -- Where each status comes from, from how the call ended.
 use Rattle.std.proofs.Common.{◌≡◌, ◌⊎◌, ◌+◌, ◌^◌, ◌<◌, ◌≤◌, ℕ, List, [], ◌++◌, length, refl, sym, ap, ◌∙◌, subst, arith, inl, inr, None, Some, Option, IfSome, IsSome, IsNone}
 use Rattle.dsp_ports.specs.Ports.{SourceState, SinkState, Gave, one_more}
-use Rattle.dsp_defs.specs.Output.{header_by, input_header, wanted_of}
+use Rattle.dsp_defs.specs.Output.{header_by, input_header, output, wanted_of}
 use Rattle.dsp_defs.specs.Reading.{first_fault}
-use Rattle.dsp_command.specs.Report.{header_line}
+use Rattle.dsp_command.specs.Report.{differs_line, header_line}
 use Rattle.dsp_command.specs.Words.{command_of}
 use Rattle.dsp_command.specs.declared.command.Command.{Command}
 use Rattle.dsp_defs.specs.declared.format.InputKind.{InputKind}
@@ -14,16 +14,20 @@ use Rattle.dsp_defs.specs.declared.wave.Header.{Header as FileHeader}
 use Rattle.dsp_defs.specs.declared.wave.HeaderFault.{HeaderFault}
 use Rattle.dsp_session.specs.Stream.{HasFault, declared_bytes, in_whole_frames, input_fault, wave_fault}
 use Rattle.dsp_session.specs.declared.fault.StreamFault.TheVariants.{Header, Input, Output, Lengths}
-use Rattle.dsp_cli.specs.Call.{Call, Ending, Went, Printed, Turned, Stopped, Streams, Refuses, Happened, Reported, Ended, Saved, Resumed, OfText, OfState, OfBytes, OfScript, InFirst, InRest}
-use Rattle.dsp_cli.specs.Run.{HasText, IsStream, IsRun, IsDone, Tells, read_from}
-use Rattle.dsp_cli.specs.declared.fault.Fault.TheVariants.{Usage, ScriptRead, Script as BadText, BlockLength, Memory, Stream, Conversion, State, Part}
-use Rattle.dsp_cli.proofs.InputLaws.{fault_told, some_not_none}
-use Rattle.dsp_cli.proofs.StatusLaws.{text_some, blocks_text, stream_text, command_not_none, fault_not_done, reports_done, stream_some, source_some, no_stop}
+use Rattle.dsp_cli.specs.Call.{Call, Ending, Went, Printed, Turned, Checked, Stopped, Streams, Refuses, Happened, Reported, Ended, Saved, Resumed, OfText, OfState, OfBytes, OfScript, InFirst, InRest}
+use Rattle.dsp_cli.specs.Run.{HasText, HasOutput, IsStream, IsRun, IsDone, Tells, read_from}
+use Rattle.dsp_cli.specs.Script.{chosen}
+use Rattle.dsp_cli.specs.declared.fault.Fault.TheVariants.{Usage, ScriptRead, Script as BadText, BlockLength, Memory, Stream, Conversion, State, Part, Comparison}
+use Rattle.dsp_check.specs.declared.fault.CheckFault.TheVariants as check_fault
+use Rattle.dsp_input.proofs.InputLaws.{fault_told, some_not_none}
+use Rattle.dsp_cli.proofs.StatusLaws.{text_some, blocks_text, stream_text, stream_output, command_not_none, fault_not_done, reports_done, stream_some, source_some, no_stop}
+use Rattle.dsp_cli.proofs.CheckLaws.{ready_of}
+use Rattle.dsp_cli.proofs.CheckTold.{first_differs}
 use Rattle.dsp_cli.proofs.StopLaws.{gen_faulty, gen_reads}
-use Rattle.dsp_cli.proofs.Told.{IfSome-map, told_first, told_more, told_script}
-use Rattle.dsp_laws.specs.Origins.{MayEndAtLimit, Origins, TellsHeader}
+use Rattle.dsp_cli.proofs.Told.{IfSome-each, IfSome-map, told_first, told_more, told_script}
+use Rattle.dsp_laws.specs.Origins.{DiffersFirst, MayEndAtLimit, Origins, TellsDifference, TellsHeader}
 use Rattle.dsp_laws.specs.Taken.{bytes_taken}
-use Rattle.dsp_laws.proofs.FaultLaws.{StoppedBy, StreamStops, stopped, of_usage, of_script_read, of_text, of_length, of_state_length, of_header, of_input, of_output, of_state}
+use Rattle.dsp_laws.proofs.FaultLaws.{StoppedBy, StreamStops, stopped, of_usage, of_script_read, of_text, of_length, of_state_length, of_header, of_input, of_output, of_state, of_difference, of_other}
 use Rattle.dsp_laws.proofs.TakenLaws.{for_given, leaves_port, reads_port}
 
 -- ---- inputs
@@ -101,6 +105,8 @@ module _ (c : Call) (status : ℕ) (report told : SinkState) where
   some_command (Stopped (State kind offset)) (OfBytes go read, untouched) reported = inr (subst IsSome (sym go) refl)
   some_command (Stopped (State kind offset)) (OfScript at stop read, untouched) reported = inr (subst IsSome (sym stop) refl)
   some_command (Turned totals) turned reported = inr (subst IsSome (sym turned.asked) refl)
+  some_command (Checked script size) checked reported = inr (subst IsSome (sym checked.asked) refl)
+  some_command (Stopped (Comparison fault)) (script, stop) reported = inr (subst IsSome (sym stop.asked) refl)
   some_command (Stopped (Conversion fault)) stop reported = inr (subst IsSome (sym stop.asked) refl)
   some_command (Stopped (Stream fault)) (script, stop) reported = inr (stream_some c.words stop.stream)
   some_command (Stopped Usage) happened reported = inl reported.0
@@ -177,6 +183,8 @@ module _ (c : Call) (status : ℕ) (report told : SinkState) where
   limited stream (Stopped (Part fault)) (InRest script stop) reported full = absurd (subst HasText stop.asked (stream_text c.words stream))
   limited stream (Turned totals) turned reported full = absurd (subst HasText turned.asked (stream_text c.words stream))
   limited stream (Stopped (Conversion fault)) stop reported full = absurd (subst HasText stop.asked (stream_text c.words stream))
+  limited stream (Checked script size) checked reported full = absurd (subst HasOutput checked.asked (stream_output c.words stream))
+  limited stream (Stopped (Comparison fault)) (script, stop) reported full = absurd (subst HasOutput stop.asked (stream_output c.words stream))
   limited stream (Printed script) printed reported full = absurd (not_full printed.2.input_same full)
   limited stream (Stopped (Stream Input)) (script, stop) reported full =
       absurd (omega (arith, taken_all stop (2 ^ 40) (omega arith) full stop.did.gave, stop.did.cause.0))
@@ -207,7 +215,22 @@ module _ (c : Call) (status : ℕ) (report told : SinkState) where
   report_failed (Resumed script frames found) (inr way) nine = way.1
   report_failed (Turned totals) (inl way) nine = absurd (omega (arith, nine, way.0))
   report_failed (Turned totals) (inr way) nine = way.1
+  report_failed (Checked script size) (inl way) nine = absurd (omega (arith, nine, way.0))
+  report_failed (Checked script size) (inr way) nine = way.1
   report_failed (Stopped fault) reported nine = absurd (fault_not_done fault (subst IsDone reported.0 (inr nine)))
+
+  -- ---- a file that differs
+
+  difference_told : (offset : ℕ) → Happened (Stopped (Comparison (check_fault.Differs offset))) c → Tells (differs_line offset) report told → TellsDifference c report told
+  difference_told offset (script, stop) tells = record {
+    asked = stop.asked;
+    offset = offset;
+    cause = told_script c.source c.read script _ stop.read
+        (IfSome-each c.port.left _ (λ bytes is_told. IfSome-each c.other.left (DiffersFirst offset (output script bytes)) (λ file file_told.
+        let found = first_differs script (chosen None script) (ready_of c script _ stop) stop.read.holds.fit.channels.0 c.port c.later c.other c.seen c.before c.counts offset stop.did bytes file is_told file_told in
+        record { same = found.0; other = found.1 })));
+    line = tells;
+  }
 
   -- ---- all
 
@@ -228,6 +251,10 @@ module _ (c : Call) (status : ℕ) (report told : SinkState) where
     input_read = λ is. elim (of_input c report told (stopped_by 7 is (λ done. omega (arith, done)))) [ inl stop ↦ input_failed stop | inr counted ↦ counted ];
     output_written = λ is. of_output c report told (stopped_by 8 is (λ done. omega (arith, done)));
     report_written = report_failed end.ending end.reported;
+    differs = λ is.
+        let (offset, stops, tells) = of_difference c report told (stopped_by 11 is (λ done. omega (arith, done))) in
+        difference_told offset stops tells;
+    other_read = λ is. of_other c report told (stopped_by 14 is (λ done. omega (arith, done)));
     bad_state = λ is. of_state c report told (stopped_by 13 is (λ done. omega (arith, done)));
   }
     where

@@ -13,12 +13,12 @@ use Rattle.dsp_session.specs.Session.{cost_of, run_turns}
 use Rattle.dsp_session.specs.Stream.{Stopped as StreamStopped, Nothing, Part, WrotePart as StreamWrote, KeepsLimits, IsTakenWhole, frames_in_bytes}
 use Rattle.dsp_session.specs.declared.fault.StreamFault.{StreamFault}
 use Rattle.dsp_session.specs.declared.fault.StreamFault.TheVariants.{Header, Input, Output, Lengths}
-use Rattle.dsp_cli.specs.Call.{Call, Ending, Went, Printed, Turned, Stopped, Streams, Happened, Reported, Ended, Saved, Resumed, InFirst, InRest}
+use Rattle.dsp_cli.specs.Call.{Call, Ending, Went, Printed, Turned, Checked, Stopped, Streams, Happened, Reported, Ended, Saved, Resumed, InFirst, InRest}
 use Rattle.dsp_cli.specs.Fault.{status_of, fault_line}
-use Rattle.dsp_cli.specs.Run.{HasText, IsStream, IsDone, Tells, ReportsText, read_from}
+use Rattle.dsp_cli.specs.Run.{HasText, HasOutput, IsStream, IsDone, Tells, ReportsText, read_from}
 use Rattle.dsp_cli.specs.Script.{chosen_block, is_banked}
-use Rattle.dsp_cli.specs.declared.fault.Fault.TheVariants.{Usage, ScriptRead, Script as BadText, BlockLength, Memory, Stream, Conversion, State, Part}
-use Rattle.dsp_cli.proofs.StatusLaws.{stream_text, reports_done, fault_not_done, stream_or_print, no_stop}
+use Rattle.dsp_cli.specs.declared.fault.Fault.TheVariants.{Usage, ScriptRead, Script as BadText, BlockLength, Memory, Stream, Conversion, State, Part, Comparison}
+use Rattle.dsp_cli.proofs.StatusLaws.{stream_text, stream_output, reports_done, fault_not_done, stream_or_print, no_stop}
 use Rattle.dsp_laws.specs.Stands.{IsBroken, IsStopped, Stands, Taken, Gather, Window, Riff, TellsLength, WroteFront, WrotePart}
 use Rattle.dsp_laws.proofs.TextLaws.{text_told, text_wrote}
 use Rattle.dsp_laws.proofs.TakenLaws.{reader, for_script, for_given, for_taken, within_most, took_frames}
@@ -150,6 +150,8 @@ module _ (c : Call) (status : ℕ) (report told : SinkState) where
       by (Stopped (Part fault)) (InRest script stop) reported = absurd (subst HasText stop.asked (stream_text c.words stream))
       by (Stopped (State kind offset)) happened (is, tells) = absurd (omega (arith, is, begun))
       by (Turned totals) turned reported = absurd (subst HasText turned.asked (stream_text c.words stream))
+      by (Checked script size) checked reported = absurd (subst HasOutput checked.asked (stream_output c.words stream))
+      by (Stopped (Comparison fault)) (script, stop) reported = absurd (subst HasOutput stop.asked (stream_output c.words stream))
       by (Stopped (Conversion fault)) stop reported = absurd (subst HasText stop.asked (stream_text c.words stream))
       by (Stopped (Stream fault)) (script, stop) (is, tells) = stop_stands script fault stop is tells
       by (Stopped Usage) happened (is, tells) = absurd (omega (arith, is, begun))

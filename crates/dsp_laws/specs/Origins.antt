@@ -1,11 +1,11 @@
 -- Where each exit status of the top call comes from.
-use Rattle.std.specs.Prelude.{◌≡◌, ◌⊎◌, ◌↔◌, ◌+◌, ◌^◌, ◌<◌, ℕ, length, None, Some, IfSome, IsNone, IsSome, IsFalse}
+use Rattle.std.specs.Prelude.{◌≡◌, ◌≢◌, ◌⊎◌, ◌↔◌, ◌+◌, ◌^◌, ◌<◌, ℕ, List, length, take, slice_get, None, Some, IfSome, IsNone, IsSome, IsFalse}
 use Rattle.dsp_ports.specs.Ports.{SinkState, one_more}
-use Rattle.dsp_defs.specs.Output.{input_header}
+use Rattle.dsp_defs.specs.Output.{input_header, output}
 use Rattle.dsp_defs.specs.Reading.{first_fault}
-use Rattle.dsp_command.specs.Report.{header_line, state_line}
+use Rattle.dsp_command.specs.Report.{differs_line, header_line, state_line}
 use Rattle.dsp_command.specs.Words.{command_of}
-use Rattle.dsp_command.specs.declared.command.Command.TheVariants.{Stop, Go}
+use Rattle.dsp_command.specs.declared.command.Command.TheVariants.{Stop, Go, Check}
 use Rattle.dsp_defs.specs.Canon.{canon}
 use Rattle.dsp_defs.specs.StateFields.{HasStateFault}
 use Rattle.dsp_defs.specs.declared.limits.TheConstants.{MAX_SCRIPT}
@@ -43,6 +43,24 @@ pub data BadState (c : Call) (report told : SinkState) : Type 0 where
       → IfScript c.source.left (λ s. (MAX_SCRIPT < length (canon s)) × Tells (state_line (LongText (length (canon s))) 0) report told)
       → BadState c report told
 
+-- up to this place both have the same bytes, and there they differ, or only one of them has ended
+pub record DiffersFirst (offset : ℕ) (wanted file : List ℕ) : Type 0 where
+  pub same : take offset file ≡ take offset wanted
+  pub other : slice_get file offset ≢ slice_get wanted offset
+
+-- the words are a check, the file is not the output, and the line says the first place where it differs
+pub record TellsDifference (c : Call) (report told : SinkState) : Type 0 where
+  pub asked : command_of c.words ≡ Some Check
+  pub offset : ℕ
+  pub cause : IfScript c.source.left (λ s. IfSome c.port.left (λ bytes. IfSome c.other.left (λ file.
+      DiffersFirst offset (output s bytes) file)))
+  pub line : Tells (differs_line offset) report told
+
+-- the words are a check, and its other file has failed, once
+pub record FailsOther (c : Call) : Type 0 where
+  pub asked : command_of c.words ≡ Some Check
+  pub failed : c.seen.faults ≡ one_more c.other.faults
+
 -- of a call, its status and its report: what is so where it is this one
 pub record Origins (c : Call) (status : ℕ) (report told : SinkState) : Type 0 where
   -- 1: exactly where the words are no command; the script's source is then as before
@@ -65,5 +83,9 @@ pub record Origins (c : Call) (status : ℕ) (report told : SinkState) : Type 0 
   pub input_read : status ≡ 7 → c.later.faults ≡ one_more c.port.faults
   pub output_written : status ≡ 8 → c.after.faults ≡ one_more c.sink.faults
   pub report_written : status ≡ 9 → told.faults ≡ one_more report.faults
+  -- 11: the file that is checked is not the output
+  pub differs : status ≡ 11 → TellsDifference c report told
   -- 13: the state of a run that goes on is at fault, or the text of a script that is to be stopped is too long for one
   pub bad_state : status ≡ 13 → BadState c report told
+  -- 14: the file that is checked has failed
+  pub other_read : status ≡ 14 → FailsOther c

@@ -5,16 +5,19 @@ use std::alloc::Global;
 pub struct NoCase;
 
 /// How the ports of a case behave: which call of each fails, counted from 1, where 0 is none; how many bytes
-/// a call passes at most; how many the output holds; and how many of the input are to be taken, where that is told.
+/// a call passes at most; how many the output holds; and how many of the input are to be taken and of the other
+/// file are to be seen, where that is told.
 #[derive(Clone, Copy, Debug, PartialEq, Eq)]
 pub struct Ports {
     pub script: u32,
     pub input: u32,
     pub output: u32,
     pub report: u32,
+    pub other: u32,
     pub piece: usize,
     pub room: usize,
     pub taken: Option<usize>,
+    pub seen: Option<usize>,
 }
 
 /// How many bytes a call passes where the case does not say it.
@@ -24,14 +27,17 @@ const PIECE: usize = 7;
 const ROOM: usize = 1 << 20;
 
 impl Ports {
-    const GOOD: Ports = Ports {
+    /// Ports that do not fail.
+    pub const GOOD: Ports = Ports {
         script: 0,
         input: 0,
         output: 0,
         report: 0,
+        other: 0,
         piece: PIECE,
         room: ROOM,
         taken: None,
+        seen: None,
     };
 
     /// The same but for what the words `NAME NUMBER` say.
@@ -42,9 +48,11 @@ impl Ports {
             "input" => ports.input = number,
             "output" => ports.output = number,
             "report" => ports.report = number,
+            "other" => ports.other = number,
             "piece" => ports.piece = number as usize,
             "room" => ports.room = number as usize,
             "taken" => ports.taken = Some(number as usize),
+            "seen" => ports.seen = Some(number as usize),
             _ => return Err(NoCase),
         }
         Ok(ports)
@@ -69,7 +77,8 @@ impl Ports {
     }
 }
 
-/// Commands, the bytes of their script and input, and what each must answer, report and write.
+/// Commands, the bytes of their script and input, and what each must answer, report and write; of a check the
+/// output is the file that it reads, and nothing is written.
 #[derive(Drop)]
 pub struct Case {
     pub commands: String,

@@ -3,7 +3,7 @@ use Rattle.std.proofs.lemmas.Result.{err_from_is_err_and}
 use Rattle.dsp_cli.specs.Call.{Printed, Turned}
 use Rattle.dsp_cli.specs.Run.{HasSource}
 use Rattle.dsp_cli.proofs.WordLaws.{gen_makes_few}
-use Rattle.dsp_cli.proofs.PerformLaws.{run_went, run_stops, gen_went, gen_stops, first_ran, first_stops, rest_ran, rest_stops}
+use Rattle.dsp_cli.proofs.PerformLaws.{run_went, run_stops, gen_went, gen_stops, check_went, check_stops, first_ran, first_stops, rest_ran, rest_stops}
 use Rattle.dsp_cli.proofs.top.perform.Goals as goal
 
 pub returns-in_default-clause-err : goal.returns-in_default-clause-err
@@ -54,8 +54,8 @@ returns-in_err-summary-in-Run-clause-err g c =
     rw (p.1, p.2)
     (run_stops _ _ _ _ _ _ _ _ _ _ _ c.in_ok-script-in-Run.ensures.ok _ _ (sym c.in-Some.ensures ∙ ap Some c.in-Run.is) _ c.in_err-summary-in-Run.ensures.err)
 
-pub returns-clause-ok : goal.returns-clause-ok
-returns-clause-ok g c =
+pub returns-in-Gen-clause-ok : goal.returns-in-Gen-clause-ok
+returns-in-Gen-clause-ok g c =
     gen_went _ _ _ _ _ _ _ _ _ _ c.in_ok-script-in-Gen.ensures.ok _ _ (sym c.in-Some.ensures ∙ ap Some c.in-Gen.is) _ c.in_ok-summary-in-Gen.ensures.ok
 
 pub returns-in_err-summary-in-Gen-clause-err : goal.returns-in_err-summary-in-Gen-clause-err
@@ -83,3 +83,14 @@ returns-in_err-summary-in-Go-clause-err g c =
     let p = err_from_is_err_and c.from_residual-in_err-summary-in-Go.result c.from_residual-in_err-summary-in-Go.ensures.1 in
     rw (p.1, p.2)
     (rest_stops _ _ _ _ _ _ _ _ _ _ _ c.in_ok-saved-in-Go.ensures.ok (sym c.in-Some.ensures ∙ ap Some c.in-Go.is) _ c.in_err-summary-in-Go.ensures.err)
+
+pub returns-clause-ok : goal.returns-clause-ok
+returns-clause-ok g c =
+    rw c.same_report.ensures
+    (check_went _ _ _ _ _ _ _ _ _ _ _ c.in_ok-script-in-Check.ensures.ok (sym c.in-Some.ensures ∙ ap Some c.in-Check.is) _ c.in_ok-size-in-Check.ensures.ok)
+
+pub returns-in_err-size-in-Check-clause-err : goal.returns-in_err-size-in-Check-clause-err
+returns-in_err-size-in-Check-clause-err g c =
+    let p = err_from_is_err_and c.from_residual-in_err-size-in-Check.result c.from_residual-in_err-size-in-Check.ensures.1 in
+    rw (p.1, p.2)
+    (check_stops _ _ _ _ _ _ _ _ _ _ _ c.in_ok-script-in-Check.ensures.ok (sym c.in-Some.ensures ∙ ap Some c.in-Check.is) _ c.in_err-size-in-Check.ensures.err)

@@ -21,6 +21,10 @@
  * numbers that the caller holds. So nothing has to be freed, a state is saved by copying it, and any number of threads
  * may call at the same time. A call takes memory by malloc(), and frees it before it returns.
  *
+ * **Small calls.** Each of these calls reads the script again, which takes some microseconds. For calls of a few frames
+ * there is a handle, which holds the script and its filters from call to call: tozbirem_hold(), tozbirem_push() and
+ * tozbirem_let_go(). Its calls take no memory. It gives the same samples.
+ *
  * **What the caller owes.** Each pointer is valid for the length that goes with it. Memory that is written overlaps no
  * other argument. Everything else is tested: a call that cannot do what is asked returns a status, and changes no
  * state.
@@ -52,7 +56,9 @@ enum tozbirem_status {
     TOZBIREM_NULL = 27,      /**< a null pointer; only of the functions for a chain, below */
     TOZBIREM_KEPT_ROOM = 28, /**< kept_out is too short: first is how many numbers it needs */
     TOZBIREM_OVERLAP = 29,   /**< the output overlaps the input; only of tozbirem_process() */
-    TOZBIREM_ENDED = 30      /**< the signal has ended; only of tozbirem_process() and tozbirem_end() */
+    TOZBIREM_ENDED = 30,     /**< the signal has ended; only of tozbirem_process() and tozbirem_end() */
+    TOZBIREM_FULL = 31,      /**< `correlate` would hold first samples of a channel; only of tozbirem_push() */
+    TOZBIREM_EMPTY = 32      /**< the handle holds no signal; only of tozbirem_push() and tozbirem_keep() */
 };
 
 /** @brief The kind of a fault in a script, by its name in docs/SCRIPT.md, with what low and high say. */
@@ -113,6 +119,18 @@ struct tozbirem_measure {
     int64_t value;    /**< the sum, the real part of it, or the greatest or least sample */
     int64_t other;    /**< the imaginary part, or the frame of that sample, from 0 */
 };
+
+/**
+ * @brief A signal that is held from call to call, or nothing. Begin with TOZBIREM_EMPTY_HANDLE, or with all bytes 0.
+ *
+ * Its fields are the library's own. It may be moved, but of two copies only one may be used. Threads may hand it on, by a
+ * lock or as one starts or ends, and one call at a time uses it.
+ */
+struct tozbirem_handle {
+    uint8_t is_full; /**< 1 where it holds a signal, else 0 */
+    void *at;        /**< what it holds */
+};
+#define TOZBIREM_EMPTY_HANDLE {0, NULL}
 
 /** @brief How much a program wrote. */
 struct tozbirem_lengths {
@@ -190,6 +208,68 @@ uint32_t tozbirem_finish(const void *script, size_t script_length, uint64_t bloc
                          struct tozbirem_answer *answer);
 
 /**
+ * @brief          Has a handle hold a signal of a script. What the handle held before is freed.
+ * @param[in]      script         the text of the script, which is not needed after the call
+ * @param[in]      script_length  bytes of the text
+ * @param[in]      block          most frames of a call, as for tozbirem_plan()
+ * @param[in]      frames         how many frames came before; 0 for a new signal
+ * @param[in]      kept           the numbers that these left, from tozbirem_keep() or tozbirem_feed()
+ * @param[in]      kept_count     how many these are; 0 before the first frame
+ * @param[in,out]  handle         the handle
+ * @param[out]     answer         the fault, if there is one
+ * @return         TOZBIREM_OK, TOZBIREM_SCRIPT, TOZBIREM_BLOCK, TOZBIREM_STATE or TOZBIREM_MEMORY; the handle is as it
+ *                 was after another status than TOZBIREM_OK
+ */
+uint32_t tozbirem_hold(const void *script, size_t script_length, uint64_t block, uint64_t frames, const int64_t *kept,
+                       size_t kept_count, struct tozbirem_handle *handle, struct tozbirem_answer *answer);
+
+/**
+ * @brief          Takes the next frames of the signal that a handle holds, and writes what they add to the output.
+ *                 It gives what tozbirem_feed() gives of the same signal.
+ * @param[in,out]  handle         the handle
+ * @param[in]      input          whole frames, at most a block of them, or none
+ * @param[in]      input_bytes    bytes of these frames
+ * @param[out]     output         the frames that come of them; the rest of the buffer stays as it is
+ * @param[in]      output_bytes   bytes of the buffer, at least the plan's room
+ * @param[out]     answer         given, or the fault
+ * @return         TOZBIREM_OK, or why nothing was done: TOZBIREM_FRAMES, TOZBIREM_LENGTH, TOZBIREM_INPUT, TOZBIREM_ROOM,
+ *                 TOZBIREM_FULL or TOZBIREM_EMPTY
+ */
+uint32_t tozbirem_push(struct tozbirem_handle *handle, const void *input, size_t input_bytes, void *output,
+                       size_t output_bytes, struct tozbirem_answer *answer);
+
+/**
+ * @brief          Writes the numbers that the signal of a handle leaves, to save the state or to end the signal by
+ *                 tozbirem_finish(). The handle holds it as before.
+ * @param[in,out]  handle         the handle
+ * @param[out]     kept_out       the numbers
+ * @param[in]      kept_room      how many numbers fit there
+ * @param[out]     answer         kept, or the fault
+ * @return         TOZBIREM_OK, or why nothing was written: TOZBIREM_KEPT_ROOM or TOZBIREM_EMPTY
+ */
+uint32_t tozbirem_keep(struct tozbirem_handle *handle, int64_t *kept_out, size_t kept_room,
+                       struct tozbirem_answer *answer);
+
+/**
+ * @brief          Frees what a handle holds. It then holds nothing, and can be used again.
+ * @param[in,out]  handle         the handle
+ * @return         TOZBIREM_OK
+ */
+uint32_t tozbirem_let_go(struct tozbirem_handle *handle);
+
+/**
+ * @brief          Says in a line of text what a status means, with the numbers of the answer: the line that `dspfx`
+ *                 reports where it has one, as "script: UnknownWord at 17".
+ * @param[in]      status         what a call returned
+ * @param[in]      answer         what it said besides
+ * @param[out]     text           the bytes of the line, with no zero and no new line behind them; it stays as it is
+ *                                where it is too short
+ * @param[in]      text_bytes     bytes of the buffer; 256 are always enough
+ * @return         how many bytes the line has
+ */
+uint64_t tozbirem_explain(uint32_t status, const struct tozbirem_answer *answer, void *text, size_t text_bytes);
+
+/**
  * @brief          Runs the program `dspfx` over files in memory.
  * @param[in]      words          its words with single spaces between them, as `run s i o block 256`, `print s` or
  *                                `convert wave au i o`; names of files stand for the buffers below
@@ -198,16 +278,19 @@ uint32_t tozbirem_finish(const void *script, size_t script_length, uint64_t bloc
  * @param[in]      script_length  bytes of it
  * @param[in]      input          the file IN
  * @param[in]      input_bytes    bytes of it
+ * @param[in]      other          the other file that a command reads, as the output to be checked of `check`
+ * @param[in]      other_bytes    bytes of it
  * @param[out]     output         the file OUT
  * @param[in]      output_bytes   bytes of the buffer; a run that would write more ends with 8
  * @param[out]     report         what the program prints, which for `resume stop` is the state
  * @param[in]      report_bytes   bytes of the buffer; a run that would print more ends with 9
  * @param[out]     lengths        how many bytes of the two were written
- * @return         the exit status of the program, 0 to 10 or 13 (docs/USE.md)
+ * @return         the exit status of the program, 0 to 14 (docs/USE.md)
  */
 uint32_t tozbirem_program(const void *words, size_t words_length, const void *script, size_t script_length,
-                          const void *input, size_t input_bytes, void *output, size_t output_bytes,
-                          void *report, size_t report_bytes, struct tozbirem_lengths *lengths);
+                          const void *input, size_t input_bytes, const void *other, size_t other_bytes,
+                          void *output, size_t output_bytes, void *report, size_t report_bytes,
+                          struct tozbirem_lengths *lengths);
 
 /*
  * ---- A chain: the script of a signal, the number of its frames, and where its numbers are. These functions test
@@ -345,30 +428,19 @@ static inline uint32_t tozbirem_end(struct tozbirem *chain, void *output, size_t
 }
 
 /**
- * @brief          A status in words, for a message.
- * @param[in]      status         what a call returned
- * @return         a text of a few words
+ * @brief          What the last call on a chain said, in a line of text that ends with a zero.
+ * @param[in]      chain          the chain
+ * @param[in]      status         what the call returned
+ * @param[out]     text           the line, or an empty text where the buffer is too short for it
+ * @param[in]      size           bytes of the buffer; 256 are always enough
+ * @return         text
  */
-static inline const char *tozbirem_text(uint32_t status)
+static inline const char *tozbirem_text(const struct tozbirem *chain, uint32_t status, char *text, size_t size)
 {
-    switch (status) {
-    case TOZBIREM_OK: return "done";
-    case TOZBIREM_SCRIPT: return "a fault in the script";
-    case TOZBIREM_BLOCK: return "the block length is not legal";
-    case TOZBIREM_MEMORY: return "out of memory";
-    case TOZBIREM_FRAMES: return "the input has no whole frames";
-    case TOZBIREM_LENGTH: return "the input has more than one block";
-    case TOZBIREM_INPUT: return "the signal would have more than 2^40 frames";
-    case TOZBIREM_ROOM: return "the output is too short";
-    case TOZBIREM_KEPT_ROOM: return "the room for kept numbers is too short";
-    case TOZBIREM_GATHER: return "too many samples for correlate";
-    case TOZBIREM_WINDOW: return "a window of conv_partial ends past the convolution";
-    case TOZBIREM_STATE: return "these blocks keep no such numbers";
-    case TOZBIREM_NULL: return "a null pointer";
-    case TOZBIREM_OVERLAP: return "the output overlaps the input";
-    case TOZBIREM_ENDED: return "the signal has ended";
-    default: return "no status of tozbirem";
-    }
+    if (!chain || !text || !size) return "";
+    uint64_t length = tozbirem_explain(status, &chain->answer, text, size - 1);
+    text[length < size ? length : 0] = 0;
+    return text;
 }
 
 #ifdef __cplusplus

@@ -46,6 +46,7 @@ int main(int count, char **words)
     int64_t kept[2 * NUMBERS];
     struct state state = {0, 0, {0}};
     struct tozbirem chain;
+    char line[256];
     size_t given;
 
     if (count != 2) return fprintf(stderr, "biquad STATE\n"), 2;
@@ -53,7 +54,8 @@ int main(int count, char **words)
     uint32_t status = tozbirem_open(&chain, script, FRAMES, kept, 2 * NUMBERS);
     if (status == TOZBIREM_OK) status = tozbirem_resume(&chain, state.frames, state.numbers, (size_t)state.count);
     if (status == TOZBIREM_OK) status = tozbirem_process(&chain, input, FRAMES, output, sizeof output, &given);
-    if (status != TOZBIREM_OK) return fprintf(stderr, "biquad: %s\n", tozbirem_text(status)), 1;
+    if (status != TOZBIREM_OK)
+        return fprintf(stderr, "biquad: %s\n", tozbirem_text(&chain, status, line, sizeof line)), 1;
     for (size_t i = 0; i < given; i++) printf("%ld\n", (long)output[i]);
     return save(words[1], &chain) ? 0 : 1;
 }

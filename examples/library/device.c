@@ -66,8 +66,8 @@ int main(int count, char **words)
         if (!(files[i] = read_file(words[i + 1], &sizes[i]))) return fprintf(stderr, "not read: %s\n", words[i + 1]), 2;
     char *output = (char *)malloc(MOST);
     if (!output) return 2;
-    uint32_t status = tozbirem_program(run, strlen(run), files[0], sizes[0], files[1], sizes[1], output, MOST, report,
-                                       sizeof report, &lengths);
+    uint32_t status = tozbirem_program(run, strlen(run), files[0], sizes[0], files[1], sizes[1], files[2], sizes[2],
+                                       output, MOST, report, sizeof report, &lengths);
     int failed = 2;
     if (status == 0)
         failed = judge(output, (size_t)lengths.output, files[2], sizes[2]);

@@ -15,11 +15,12 @@ int main(void)
     int64_t kept[4]; /* two states of T-1 numbers */
     size_t given;
     struct tozbirem chain;
+    char line[256];
 
     uint32_t status = tozbirem_open(&chain, script, 6, kept, 4);
     if (status == TOZBIREM_OK) status = tozbirem_process(&chain, input, 6, output, sizeof output, &given);
     if (status != TOZBIREM_OK) {
-        fprintf(stderr, "fir: %s\n", tozbirem_text(status));
+        fprintf(stderr, "fir: %s\n", tozbirem_text(&chain, status, line, sizeof line));
         return 1;
     }
     for (size_t i = 0; i < given; i++) printf("%d\n", output[i]);

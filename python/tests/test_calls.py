@@ -212,12 +212,26 @@ class Faults(unittest.TestCase):
             error = pickle.loads(pickle.dumps(caught.exception))
             self.assertEqual((error.status, error.kind, error.fields, error.line, error.column), (2, kind, fields, line, column))
             self.assertIn(shown, str(error))
+            self.assertEqual(f"dspfx: {error.text}\n", tozbirem.program("print s", error.script).report)
         self.assertRaises(tozbirem.ScriptError, Chain, "negate", "q8")
         self.assertRaises(tozbirem.ScriptError, Chain, "negate", "q15", 17)
         self.assertRaises(tozbirem.ScriptError, Chain, [("fir", [1] * 16385)])
 
     def test_no_legal_block_length(self):
-        self.refused(3, Chain, "decimate 255 {1} decimate 255 {1} decimate 255 {1}")
+        said = self.refused(3, Chain, "decimate 255 {1} decimate 255 {1} decimate 255 {1}")
+        self.assertRegex(said, r"block length \d+, unit 0")
+
+    def test_the_texts_of_refusals(self):
+        chain = Chain("fir {1 2}")
+        self.refused(26, setattr, chain, "state", (5, (1, 2, 3)))
+        with self.assertRaises(TozbiremError) as caught:
+            chain.state = (5, (40000,))
+        self.assertEqual(caught.exception.text, "these blocks keep no such numbers after so many frames")
+
+    def test_another_file(self):
+        """A command that reads no other file does the same with one."""
+        script, data = "dspfx 1 input raw q15 1 8000 negate output raw", b"\1\0\2\0"
+        self.assertEqual(tozbirem.program("run s i o", script, data, b"other"), tozbirem.program("run s i o", script, data=data))
 
     def test_samples(self):
         chain = Chain("fir {16384 16384}")
@@ -272,8 +286,10 @@ class Faults(unittest.TestCase):
     def test_a_full_correlation(self):
         chain = Chain("interpolate 255 {%s} correlate {1}" % " ".join(["1"] * 255), format="q15")
         chain.process([0] * 4112)
-        self.assertIn("1048560 samples", self.refused(24, chain.process, [0]))
+        self.assertEqual("too many samples for correlate: 1048815 of a channel", self.refused(24, chain.process, [0]))
         self.assertEqual(chain.frames, 4112)
+        self.refused(24, chain.process, [0] * 20000)
+        self.assertEqual((chain.frames, flat(chain.process([]))), (4112, []))
 
 
 @unittest.skipIf(sys.version_info < (3, 9), "tools/coefficients.py needs Python 3.9")

@@ -2,16 +2,17 @@
 
 import array
 import re
+import weakref
 from ctypes import byref
 from typing import Any, List, NamedTuple, Optional, Sequence, Tuple, Union
 
 from . import _arrays
 from ._errors import TozbiremError, judge
-from ._library import LIBRARY, Answer, MeasureRow, Plan
+from ._library import LIBRARY, Answer, Handle, MeasureRow, Plan, explain
 
 KINDS = ("", "power", "dot", "cmplx_dot", "max", "min")
 LONGEST = 8192  # frames of a call at most; a longer piece takes several
-ROOM, KEPT_ROOM, ENDED = 23, 28, 30
+ROOM, GATHER, KEPT_ROOM, ENDED, FULL = 23, 24, 28, 30, 31
 Block = Union[str, Sequence[Any]]
 
 
@@ -117,12 +118,16 @@ class Chain:
         self._count = plan.measures
         self._rooms: dict = {}
         self._next = array.array("q", bytes(8 * 64))
+        # The signal is held in blocks of at most _held frames, or not where that is 0. _kept are its numbers, unless it
+        # is ahead of them.
+        self._handle, self._held, self._ahead = Handle(), 0, False
+        weakref.finalize(self, LIBRARY.tozbirem_let_go, self._handle)
         self.reset()
 
     def reset(self) -> None:
         """Begins a new signal."""
-        self._kept, self._kept_count = array.array("q"), 0
-        self._frames, self._measures = 0, None
+        self._go_on_from((0, array.array("q"), 0))
+        self._measures = None
 
     # ---- what the chain is
 
@@ -187,13 +192,9 @@ class Chain:
         words = _arrays.words(samples, self._bits, self.channels)
         if len(words) % self.channels:
             raise TozbiremError(20, f"no whole frames of {self.channels} channels")
-        step, before = self._length(len(words) // self.channels) * self.channels, self._now()
-        try:
-            pieces = [self._feed(words[place : place + step]) for place in range(0, len(words), step)]
-        except BaseException:
-            self._frames, self._kept, self._kept_count = before
-            raise
-        return _arrays.shaped(_arrays.joined(pieces or [_arrays.empty(0, self._output_bits)]), self.output_channels)
+        step = self._length(len(words) // self.channels) * self.channels
+        pieces = [self._push(words)] if len(words) <= step else self._push_all(words, step)
+        return _arrays.shaped(_arrays.joined(pieces), self.output_channels)
 
     def finish(self) -> _arrays.Array:
         """Ends the signal, and returns its tail: what `conv`, `conv_partial` and `correlate` still give.
@@ -201,6 +202,7 @@ class Chain:
         Raises TozbiremError where a window of `conv_partial` ends past the convolution (25); the signal then goes on.
         """
         self._must_go_on()
+        self._save()
         output = _arrays.empty(4096, self._output_bits)
         rows = (MeasureRow * max(1, self._count))()
         while True:
@@ -232,35 +234,70 @@ class Chain:
         if self._measures is not None:
             raise TozbiremError(ENDED, "the signal has ended: reset() begins another")
 
-    def _feed(self, words):
+    def _push_all(self, words, step: int):
+        """The pieces that come of all the words, or nothing has changed."""
+        before = self._now()
+        try:
+            return [self._push(words[place : place + step]) for place in range(0, len(words), step)]
+        except BaseException:
+            self._go_on_from(before)
+            raise
+
+    def _push(self, words):
+        """What the words, at most a call of them, add to the output."""
         frames = len(words) // self.channels
         block = self._length(frames)
-        output = _arrays.empty(self._room(block) * 8 // (self._output_bits + 1) + 1, self._output_bits)
-        while True:
-            answer = Answer()
-            status = LIBRARY.tozbirem_feed(
-                self._script, len(self._script), block, self._frames, _arrays.address(self._kept), self._kept_count,
-                _arrays.address(words), _arrays.size(words), _arrays.address(output), _arrays.size(output),
-                _arrays.address(self._next), len(self._next), byref(answer),
-            )  # fmt: skip
-            if status != KEPT_ROOM or answer.first <= len(self._next):
-                break
-            self._next = array.array("q", bytes(8 * (answer.first + answer.first // 2)))
+        if self._held < block:
+            self._hold(block)
+        output, answer = _arrays.empty(self._room(self._held) * 8 // (self._output_bits + 1) + 1, self._output_bits), Answer()
+        status = LIBRARY.tozbirem_push(
+            byref(self._handle), _arrays.address(words), _arrays.size(words), _arrays.address(output), _arrays.size(output), byref(answer),
+        )  # fmt: skip
+        if status == FULL:
+            raise TozbiremError(GATHER, explain(status, answer))
         judge(status, answer, self._script, self._own)
-        spare = self._kept if len(self._kept) >= 64 else array.array("q", bytes(8 * len(self._next)))
-        self._kept, self._kept_count, self._next = self._next, answer.kept, spare
-        self._frames += frames
+        self._frames, self._ahead = self._frames + frames, True
         return output[: answer.given * 8 // (self._output_bits + 1)]
+
+    def _hold(self, block: int) -> None:
+        """Holds the signal in blocks of that many frames, from its numbers on."""
+        self._save()
+        answer = Answer()
+        status = LIBRARY.tozbirem_hold(
+            self._script, len(self._script), block, self._frames, _arrays.address(self._kept), self._kept_count,
+            byref(self._handle), byref(answer),
+        )  # fmt: skip
+        judge(status, answer, self._script, self._own)
+        self._held = block
+
+    def _save(self) -> None:
+        """Has the numbers of the signal in _kept."""
+        while self._ahead:
+            answer = Answer()
+            status = LIBRARY.tozbirem_keep(byref(self._handle), _arrays.address(self._next), len(self._next), byref(answer))
+            if status == KEPT_ROOM:
+                self._next = array.array("q", bytes(8 * (answer.first + answer.first // 2)))
+                continue
+            judge(status, answer, self._script, self._own)
+            spare = self._kept if len(self._kept) >= 64 else array.array("q", bytes(8 * len(self._next)))
+            self._kept, self._kept_count, self._next, self._ahead = self._next, answer.kept, spare, False
 
     # ---- the state
 
     def _now(self):
+        self._save()
         return self._frames, self._kept[: self._kept_count], self._kept_count
+
+    def _go_on_from(self, state) -> None:
+        """The signal is the one of these frames, numbers and their count; no handle holds it."""
+        self._frames, self._kept, self._kept_count = state
+        self._held, self._ahead = 0, False
 
     @property
     def state(self) -> State:
         """The frames so far and the numbers that the blocks keep. Setting it goes on from there; TozbiremError 26 says that
         these blocks keep no such numbers after so many frames, and leaves the chain as it was."""
+        self._save()
         return State(self._frames, tuple(self._kept[: self._kept_count]))
 
     @state.setter
@@ -270,16 +307,18 @@ class Chain:
             raise TozbiremError(26, "a signal has 0 to 2^40 frames")
         before, ended = self._now(), self._measures
         try:
-            self._frames, self._kept, self._kept_count = frames, array.array("q", numbers), len(numbers)
+            self._go_on_from((frames, array.array("q", numbers), len(numbers)))
             self._measures = None
-            self._feed(_arrays.empty(0, self._bits))
+            self._hold(self.unit)
         except BaseException as error:
-            (self._frames, self._kept, self._kept_count), self._measures = before, ended
+            self._go_on_from(before)
+            self._measures = ended
             if isinstance(error, OverflowError):
                 raise TozbiremError(26, "these blocks keep no numbers of more than 64 bits") from None
             raise
 
     def __reduce__(self):
+        self._save()
         numbers = array.array("q", self._kept[: self._kept_count]).tobytes()
         return restored, (self._script, self._own, self._frames, numbers, self._measures)
 

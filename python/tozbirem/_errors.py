@@ -29,17 +29,6 @@ MEANINGS = {
     "BadName": "a name begins with a letter and has at most 32 bytes",
     "NameTaken": "two tables have different names",
 }
-TEXTS = {
-    3: "{first} frames are no legal block length; the unit is {second}",
-    20: "no whole frames, of {first} bytes each",
-    21: "more than a block of {first} frames",
-    22: "more than 2^40 frames",
-    23: "the output is too short: it needs {first} bytes",
-    28: "too little room for the kept numbers: {first} are needed",
-    24: "correlate holds {first} samples of a channel, and {second} more are too many",
-    25: "a window of conv_partial ends at {first}, and there are {second} values",
-    26: "these blocks keep no such numbers after so many frames",
-}
 
 
 class TozbiremError(Exception):
@@ -48,12 +37,12 @@ class TozbiremError(Exception):
     `status` is that of include/tozbirem.h: 3 a block length that is not legal (no block length is, where a script's
     groups are too long), 20 samples that are no whole frames, 22 a signal of more than 2^40 frames, 24 too many samples
     for correlate, 25 a window of conv_partial past its convolution, 26 a state that these blocks cannot have, and 30 a
-    signal that has ended.
+    signal that has ended. `text` says it in a line.
     """
 
     def __init__(self, status: int, text: str) -> None:
         super().__init__(status, text)
-        self.status = status
+        self.status, self.text = status, text
 
     def __str__(self) -> str:
         return str(self.args[1])
@@ -63,27 +52,29 @@ class ScriptError(TozbiremError, ValueError):
     """The text is no script: its first fault.
 
     `kind` and `fields` are those of docs/SCRIPT.md, `offset` counts bytes of `script`, and `line` and `column` count from 1
-    in the text that was given. The message shows the line, with a caret under the place.
+    in the text that was given. The message shows the line, with a caret under the place, and `text` is what `dspfx` reports,
+    as `script: UnknownWord at 17`.
     """
 
-    def __init__(self, kind: str, offset: int, fields: Dict[str, Any], script: bytes, own: Tuple[int, int]) -> None:
+    def __init__(self, kind: str, offset: int, fields: Dict[str, Any], script: bytes, own: Tuple[int, int], text: str = "") -> None:
         self.kind, self.offset, self.fields, self.script, self._own = kind, offset, fields, script, own
         begin, end = own if offset >= own[0] else (0, len(script))
         shown = script[begin:end]
         place = min(offset - begin, len(shown.rstrip()) if kind == "Missing" or offset >= end else len(shown))
         start = shown.rfind(b"\n", 0, place) + 1
-        text = shown[start:].split(b"\n", 1)[0].rstrip(b"\r").decode("utf-8", "replace").replace("\t", " ")
+        row = shown[start:].split(b"\n", 1)[0].rstrip(b"\r").decode("utf-8", "replace").replace("\t", " ")
         self.line = shown.count(b"\n", 0, place) + 1
         self.column = len(shown[start:place].decode("utf-8", "replace")) + 1
         said = "".join(f", {name} {value}" for name, value in fields.items())
         cut = max(0, self.column - 40)
-        part = ("..." if cut else "") + text[cut : cut + 72] + ("..." if len(text) > cut + 72 else "")
+        part = ("..." if cut else "") + row[cut : cut + 72] + ("..." if len(row) > cut + 72 else "")
         caret = " " * (self.column - 1 - cut + (3 if cut else 0)) + "^"
-        meaning = MEANINGS[kind].format(**fields) + (near(text[self.column - 1 :]) if kind == "UnknownWord" else "")
+        meaning = MEANINGS[kind].format(**fields) + (near(row[self.column - 1 :]) if kind == "UnknownWord" else "")
         super().__init__(2, f"line {self.line}, column {self.column}: {kind}{said}: {meaning}\n    {part}\n    {caret}")
+        self.text = text
 
     def __reduce__(self):
-        return ScriptError, (self.kind, self.offset, self.fields, self.script, self._own)
+        return ScriptError, (self.kind, self.offset, self.fields, self.script, self._own, self.text)
 
 
 def near(text: str) -> str:
@@ -93,11 +84,13 @@ def near(text: str) -> str:
 
 
 def script_error(answer, script: bytes, own: Tuple[int, int]) -> ScriptError:
+    from ._library import explain
+
     kind = KINDS[answer.kind]
     fields = dict(zip(FIELDS.get(kind, ()), (answer.low, answer.high)))
     if "format" in fields:
         fields["format"] = f"q{fields['format']}"
-    return ScriptError(kind, answer.first, fields, script, own)
+    return ScriptError(kind, answer.first, fields, script, own, explain(2, answer))
 
 
 def judge(status: int, answer, script: bytes, own: Tuple[int, int]) -> None:
@@ -108,4 +101,6 @@ def judge(status: int, answer, script: bytes, own: Tuple[int, int]) -> None:
         raise script_error(answer, script, own)
     if status == 10:
         raise MemoryError("out of memory")
-    raise TozbiremError(status, TEXTS.get(status, "status {status}").format(status=status, first=answer.first, second=answer.second))
+    from ._library import explain
+
+    raise TozbiremError(status, explain(status, answer))

@@ -2,7 +2,7 @@
 
 import ctypes
 import os
-from ctypes import POINTER, c_int64, c_size_t, c_uint32, c_uint64, c_void_p
+from ctypes import POINTER, c_int64, c_size_t, c_uint8, c_uint32, c_uint64, c_void_p
 
 NAME = "libtozbirem.so"
 
@@ -24,6 +24,10 @@ class MeasureRow(ctypes.Structure):
                 ("value", c_int64), ("other", c_int64)]  # fmt: skip
 
 
+class Handle(ctypes.Structure):
+    _fields_ = [("is_full", c_uint8), ("at", c_void_p)]
+
+
 class Lengths(ctypes.Structure):
     _fields_ = [("output", c_uint64), ("report", c_uint64)]
 
@@ -35,8 +39,14 @@ CALLS = {
     "tozbirem_plan": [*READ, c_uint64, c_uint64, POINTER(Plan), POINTER(Answer)],
     "tozbirem_feed": [*READ, c_uint64, c_uint64, *READ, *READ, *WRITTEN, *WRITTEN, POINTER(Answer)],
     "tozbirem_finish": [*READ, c_uint64, c_uint64, *READ, *WRITTEN, *WRITTEN, POINTER(Answer)],
-    "tozbirem_program": [*READ, *READ, *READ, *WRITTEN, *WRITTEN, POINTER(Lengths)],
+    "tozbirem_hold": [*READ, c_uint64, c_uint64, *READ, POINTER(Handle), POINTER(Answer)],
+    "tozbirem_push": [POINTER(Handle), *READ, *WRITTEN, POINTER(Answer)],
+    "tozbirem_keep": [POINTER(Handle), *WRITTEN, POINTER(Answer)],
+    "tozbirem_let_go": [POINTER(Handle)],
+    "tozbirem_explain": [c_uint32, POINTER(Answer), *WRITTEN],
+    "tozbirem_program": [*READ, *READ, *READ, *READ, *WRITTEN, *WRITTEN, POINTER(Lengths)],
 }
+RESULTS = {"tozbirem_explain": c_uint64}  # of the others a status
 
 
 def places():
@@ -52,9 +62,16 @@ def load():
             library = ctypes.CDLL(place)
             for name, arguments in CALLS.items():
                 getattr(library, name).argtypes = arguments
-                getattr(library, name).restype = c_uint32
+                getattr(library, name).restype = RESULTS.get(name, c_uint32)
             return library
     raise ImportError(f"{NAME} is not in {' or '.join(places())}: `tools/library.sh python` builds it")
 
 
 LIBRARY = load()
+
+
+def explain(status: int, answer: Answer) -> str:
+    """What a status means, with the numbers of the answer: a line of text."""
+    line = ctypes.create_string_buffer(256)
+    length = LIBRARY.tozbirem_explain(status, ctypes.byref(answer), line, len(line))
+    return line.raw[:length].decode()

@@ -21,7 +21,7 @@ class Ran(NamedTuple):
     printed: bytes = b""
 
 
-def program(words: str, script: Union[str, bytes] = b"", data: bytes = b"") -> Ran:
+def program(words: str, script: Union[str, bytes] = b"", data: bytes = b"", other: bytes = b"") -> Ran:
     """Runs `dspfx` with these words over files in memory.
 
         >>> program("run s i o", "dspfx 1 input raw q15 1 8000 fir {16384} output raw", b"\\xe8\\x03").output.hex()
@@ -31,19 +31,21 @@ def program(words: str, script: Union[str, bytes] = b"", data: bytes = b"") -> R
             single spaces; the names stand for the files below
     script  the file SCRIPT, or STATE of `resume go`
     data    the file IN
+    other   the other file that a command reads, as the output that `check` checks
 
     Returns the exit status (docs/USE.md), the bytes of the file OUT, and what the program printed. Raises nothing
     for a fault: the status and the report say it.
     """
     text = script.encode() if isinstance(script, str) else bytes(script)
-    said, data = words.encode(), bytes(data)
+    said, data, other = words.encode(), bytes(data), bytes(other)
     room, told = max(1 << 16, 8 * len(data)), ctypes.create_string_buffer(1 << 20)
     if said.startswith(b"print"):
         told = ctypes.create_string_buffer(2 * len(text) + (1 << 16))
     while True:
         output, lengths = ctypes.create_string_buffer(room), Lengths()
         status = LIBRARY.tozbirem_program(
-            said, len(said), text, len(text), data, len(data), output, room, told, len(told), ctypes.byref(lengths),
+            said, len(said), text, len(text), data, len(data), other, len(other), output, room, told, len(told),
+            ctypes.byref(lengths),
         )  # fmt: skip
         # (8 is an output that is not written, and 9 a report: only a buffer that is full comes to it here)
         if status == 8 and room < MOST:

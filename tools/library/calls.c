@@ -124,7 +124,6 @@ static void test_null(void)
     CHECK(tozbirem_end(&chain, output, sizeof output, &given, NULL, 2) == TOZBIREM_NULL);
     CHECK(tozbirem_resume(NULL, 0, kept, 0) == TOZBIREM_NULL && tozbirem_resume(&chain, 0, NULL, 1) == TOZBIREM_NULL);
     CHECK(tozbirem_state(NULL) == NULL && chain.frames == 0);
-    for (uint32_t status = 0; status < 40; status++) CHECK(tozbirem_text(status) && *tozbirem_text(status));
 }
 
 static void test_chains(void)
@@ -162,6 +161,105 @@ static void test_chains(void)
     CHECK(tozbirem_process(&chain, input + 2, 1, output, 100, &given) == TOZBIREM_STATE && chain.frames == 1);
 }
 
+/* The line of a status with its numbers, which is compared with what is wanted. */
+static int says(uint32_t status, const struct tozbirem_answer *answer, const char *wanted)
+{
+    char line[256];
+    size_t length = (size_t)tozbirem_explain(status, answer, line, sizeof line);
+    return length == strlen(wanted) && !memcmp(line, wanted, length);
+}
+
+static void test_texts(void)
+{
+    const char *torn = "dspfx 1 input raw q15 1 8000 fir {16384 40000} output raw";
+    int64_t kept[8];
+    int16_t input[2] = {0, 0}, output[8];
+    char line[64];
+    size_t given;
+    struct tozbirem chain;
+    struct tozbirem_answer answer;
+    struct tozbirem_plan plan;
+    memset(&answer, 0, sizeof answer);
+    CHECK(tozbirem_plan(torn, strlen(torn), 0, 0, &plan, &answer) == TOZBIREM_SCRIPT);
+    CHECK(says(TOZBIREM_SCRIPT, &answer, "script: OutOfRange at 40, low -32768, high 32767"));
+    memset(line, 7, sizeof line);
+    CHECK(tozbirem_explain(TOZBIREM_SCRIPT, &answer, line, 47) == 48 && line[0] == 7 && line[46] == 7);
+    CHECK(tozbirem_explain(TOZBIREM_SCRIPT, &answer, line, 48) == 48 && line[0] == 's' && line[48] == 7);
+    CHECK(tozbirem_plan(FIR, strlen(FIR), 65537, 0, &plan, &answer) == TOZBIREM_BLOCK);
+    CHECK(says(TOZBIREM_BLOCK, &answer, "block length 65537, unit 1"));
+    CHECK(tozbirem_feed(FIR, strlen(FIR), 4, 0, kept, 0, input, 3, output, 16, kept, 8, &answer) == TOZBIREM_FRAMES);
+    CHECK(says(TOZBIREM_FRAMES, &answer, "the input has no whole frames, of 4 bytes each"));
+    CHECK(says(TOZBIREM_OK, &answer, "done") && says(TOZBIREM_MEMORY, &answer, "want of memory"));
+    CHECK(says(99, &answer, "no status of tozbirem"));
+    CHECK(tozbirem_open(&chain, "dspfx 1 input raw q16", 0, kept, 8) == TOZBIREM_SCRIPT);
+    CHECK(!strcmp(tozbirem_text(&chain, TOZBIREM_SCRIPT, line, sizeof line), "script: UnknownWord at 18"));
+    CHECK(!strcmp(tozbirem_text(&chain, TOZBIREM_SCRIPT, line, 10), ""));
+    CHECK(!*tozbirem_text(NULL, TOZBIREM_OK, line, 10) && !*tozbirem_text(&chain, TOZBIREM_OK, NULL, 10));
+    CHECK(tozbirem_process(&chain, input, 1, output, 16, NULL) == TOZBIREM_NULL);
+    CHECK(!strcmp(tozbirem_text(&chain, TOZBIREM_NULL, line, sizeof line), "a null pointer"));
+    (void)given;
+}
+
+/* A signal that is held gives, call by call, what its text gives, and leaves the same numbers. */
+static void test_handles(void)
+{
+    int16_t input[64], by_text[64], by_handle[64];
+    int64_t kept[2][NUMBERS], numbers[NUMBERS];
+    struct tozbirem_answer answer, other;
+    struct tozbirem_handle handle = TOZBIREM_EMPTY_HANDLE, second = TOZBIREM_EMPTY_HANDLE;
+    size_t n = strlen(FIR), count = 0;
+    uint64_t frames = 0;
+    int half = 0;
+    CHECK(tozbirem_push(&handle, input, 0, by_handle, sizeof by_handle, &answer) == TOZBIREM_EMPTY);
+    CHECK(tozbirem_keep(&handle, numbers, NUMBERS, &answer) == TOZBIREM_EMPTY);
+    CHECK(tozbirem_let_go(&handle) == TOZBIREM_OK && says(TOZBIREM_EMPTY, &answer, "the handle holds no signal"));
+    CHECK(tozbirem_hold("dspfx 3", 7, 0, 0, numbers, 0, &handle, &answer) == TOZBIREM_SCRIPT && !handle.is_full);
+    CHECK(tozbirem_hold(FIR, n, 32, 0, numbers, 0, &handle, &answer) == TOZBIREM_OK && handle.is_full);
+    for (int call = 0; call < 100; call++) {
+        size_t bytes = 4 * (size_t)(call % 17);
+        for (int i = 0; i < 64; i++) input[i] = (int16_t)(call * 977 + i * 331);
+        CHECK(tozbirem_feed(FIR, n, 32, frames, kept[half], count, input, bytes, by_text, sizeof by_text, kept[!half],
+                            NUMBERS, &answer) == TOZBIREM_OK);
+        half = !half, count = (size_t)answer.kept, frames += bytes / 4;
+        CHECK(tozbirem_push(&handle, input, bytes, by_handle, sizeof by_handle, &other) == TOZBIREM_OK);
+        CHECK(other.given == answer.given && !memcmp(by_text, by_handle, (size_t)answer.given));
+        CHECK(tozbirem_keep(&handle, numbers, NUMBERS, &other) == TOZBIREM_OK && other.kept == count);
+        CHECK(!memcmp(numbers, kept[half], count * sizeof *numbers));
+    }
+    CHECK(tozbirem_push(&handle, input, 3, by_handle, sizeof by_handle, &answer) == TOZBIREM_FRAMES && answer.first == 4);
+    CHECK(tozbirem_push(&handle, input, 128, by_handle, 127, &answer) == TOZBIREM_ROOM && answer.first == 128);
+    CHECK(tozbirem_keep(&handle, numbers, count - 1, &answer) == TOZBIREM_KEPT_ROOM && answer.first == count);
+    /* Another handle goes on from the numbers, and a handle that is used again lets go of what it held. */
+    numbers[0] = 40000;
+    CHECK(tozbirem_hold(FIR, n, 32, frames, numbers, count, &handle, &answer) == TOZBIREM_STATE && handle.is_full);
+    CHECK(tozbirem_hold(FIR, n, 16, frames, kept[half], count, &second, &answer) == TOZBIREM_OK);
+    CHECK(tozbirem_push(&handle, input, 64, by_text, sizeof by_text, &answer) == TOZBIREM_OK);
+    CHECK(tozbirem_push(&second, input, 64, by_handle, sizeof by_handle, &other) == TOZBIREM_OK);
+    CHECK(answer.given == 64 && other.given == 64 && !memcmp(by_text, by_handle, 64));
+    CHECK(tozbirem_push(&second, input, 68, by_handle, sizeof by_handle, &other) == TOZBIREM_LENGTH && other.first == 16);
+    CHECK(tozbirem_hold(LONG, strlen(LONG), 65536, 0, numbers, 0, &second, &answer) == TOZBIREM_OK);
+    CHECK(tozbirem_let_go(&handle) == TOZBIREM_OK && tozbirem_let_go(&second) == TOZBIREM_OK && !second.is_full);
+}
+
+/* A correlation that is full refuses the next frames, and goes on with fewer. */
+static void test_full(void)
+{
+    enum { BLOCK = 65536 };
+    struct tozbirem_answer answer;
+    struct tozbirem_handle handle = TOZBIREM_EMPTY_HANDLE;
+    int64_t none[1];
+    char *input = (char *)calloc(BLOCK, 1), *output = (char *)calloc(BLOCK, 1);
+    CHECK(tozbirem_hold(LONG, strlen(LONG), BLOCK, 0, none, 0, &handle, &answer) == TOZBIREM_OK);
+    for (int call = 0; call < 15; call++) CHECK(tozbirem_push(&handle, input, BLOCK, output, BLOCK, &answer) == TOZBIREM_OK);
+    CHECK(tozbirem_push(&handle, input, BLOCK - 1, output, BLOCK, &answer) == TOZBIREM_OK);
+    CHECK(tozbirem_push(&handle, input, 2, output, BLOCK, &answer) == TOZBIREM_FULL && answer.first == 1048577);
+    CHECK(says(TOZBIREM_FULL, &answer, "too many samples for correlate: 1048577 of a channel"));
+    CHECK(tozbirem_push(&handle, input, 1, output, BLOCK, &answer) == TOZBIREM_OK);
+    CHECK(tozbirem_let_go(&handle) == TOZBIREM_OK);
+    free(input);
+    free(output);
+}
+
 static void test_programs(void)
 {
     const char *run = "run s i o", *print = "print s", *wrong = "rum s i o";
@@ -171,7 +269,7 @@ static void test_programs(void)
     char report[ROOM];
     struct tozbirem_lengths lengths;
 #define PROGRAM(words, room, told) \
-    tozbirem_program(words, strlen(words), script, strlen(script), input, 6, output, room, report, told, &lengths)
+    tozbirem_program(words, strlen(words), script, strlen(script), input, 6, script, 0, output, room, report, told, &lengths)
     CHECK(PROGRAM(run, ROOM, ROOM) == 0 && lengths.output == 6 && !memcmp(output, wanted, 6));
     CHECK(lengths.report > 12 && !memcmp(report, "dspfx: done\n", 12));
     CHECK(PROGRAM(run, 5, ROOM) == 8);
@@ -225,6 +323,9 @@ int main(void)
     test_ends();
     test_null();
     test_chains();
+    test_texts();
+    test_handles();
+    test_full();
     test_programs();
     test_threads();
     return failed;

@@ -12,8 +12,8 @@ import re
 import sys
 
 TOP = os.path.dirname(os.path.dirname(os.path.dirname(os.path.abspath(__file__))))
-RECORDS = {"Answer": "answer", "Plan": "plan", "MeasureRow": "measure", "Lengths": "lengths"}
-WORDS = {"u8": "uint8_t", "u32": "uint32_t", "u64": "uint64_t", "i64": "int64_t"}
+RECORDS = {"Answer": "answer", "Handle": "handle", "Plan": "plan", "MeasureRow": "measure", "Lengths": "lengths"}
+WORDS = {"u8": "uint8_t", "bool": "uint8_t", "*mut ()": "void*", "u32": "uint32_t", "u64": "uint64_t", "i64": "int64_t"}
 
 
 def text_of(path):
@@ -45,6 +45,20 @@ def c_name(name):
     return f"struct tozbirem_{RECORDS[name]}" if name in RECORDS else WORDS[name]
 
 
+def members(body):
+    """The fields of a struct; what is ghost is no field."""
+    return re.findall(r"^    (?:pub(?:\(crate\))? )?(\w+): ([^,{]+),", body, re.M)
+
+
+def laid_out(parts, name):
+    """The fields in the words of C. A struct in another is laid out there; the memory takes no bytes."""
+    found = []
+    for field, kind in parts[name]:
+        if kind != "Global":
+            found += laid_out(parts, kind) if kind in parts else [(field, c_name(kind))]
+    return found
+
+
 def of_crate():
     """The functions and records of the crate, in the words of C, and its numbers of statuses and kinds."""
     crates = {os.path.dirname(path) for path in sources() if 'extern "C" fn tozbirem_' in text_of(path)} | {f"{TOP}/crates/dsp_c/src"}
@@ -54,9 +68,8 @@ def of_crate():
     for name, arguments, result in re.findall(r'extern "C" fn (\w+)\((.*?)\)\s*->\s*(\w+)', text, re.S):
         kinds = [part.split(":", 1)[1] for part in arguments.split(",") if ":" in part]
         functions[name] = (c_name(result), [it for kind in kinds for it in c_types(kind)])
-    records = {}
-    for name, body in re.findall(r"#\[repr\(C\)\][^{]*?struct (\w+) \{(.*?)\}", text, re.S):
-        records[f"tozbirem_{RECORDS[name]}"] = [(field, c_name(kind)) for field, kind in re.findall(r"pub (\w+): (\w+)", body)]
+    parts = {name: members(body) for name, body in re.findall(r"#\[repr\(C\)\][^{]*?struct (\w+) \{(.*?)\n\}", text, re.S)}
+    records = {f"tozbirem_{RECORDS[name]}": laid_out(parts, name) for name in parts if name in RECORDS}
     statuses = {name: int(number) for name, number in re.findall(r"pub const ([A-Z_]+): u32 = (\d+);", text)}
     kinds = {name: int(number) for name, number in re.findall(r"ScriptKind::(\w+)(?: \{[^}]*\})? => \((\d+),", text)}
     return functions, records, statuses, kinds
@@ -74,7 +87,7 @@ def of_header():
     for name, body in re.findall(r"^struct (tozbirem\w*) \{(.*?)^\};", text, re.M | re.S):
         fields = []
         for kind, names in re.findall(r"(\w+) ([^;]+);", body):
-            fields += [(field.strip(), kind) for field in names.split(",")]
+            fields += [(field.strip(" *"), kind + "*" * field.count("*")) for field in names.split(",")]
         records[name] = fields
     enumerations = {}
     for name, body in re.findall(r"^enum (tozbirem\w*) \{(.*?)\}", text, re.M | re.S):
@@ -89,7 +102,7 @@ def of_header():
 def python_kind(kind):
     """A ctypes argument in the words of C, where pointers to samples are void pointers."""
     known = {ctypes.c_void_p: "void*", ctypes.c_size_t: "uint64_t", ctypes.c_uint64: "uint64_t",
-             ctypes.c_uint32: "uint32_t", ctypes.c_int64: "int64_t"}  # fmt: skip
+             ctypes.c_uint32: "uint32_t", ctypes.c_int64: "int64_t", ctypes.c_uint8: "uint8_t"}  # fmt: skip
     return known.get(kind) or f"struct tozbirem_{RECORDS[kind._type_.__name__]}*"
 
 

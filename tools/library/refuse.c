@@ -46,20 +46,27 @@ static uint32_t call(int which)
     static struct tozbirem_lengths lengths;
     struct tozbirem_plan plan;
     struct tozbirem_answer answer;
+    struct tozbirem_handle handle = TOZBIREM_EMPTY_HANDLE;
     size_t n = strlen(TEXT);
     switch (which) {
     case 0: return tozbirem_plan(TEXT, n, 8, 100, &plan, &answer);
     case 1: return tozbirem_feed(TEXT, n, 8, 0, none, 0, input, 32, output, sizeof output, kept, 8192, &answer);
     case 2: return tozbirem_finish(TEXT, n, 8, 0, none, 0, output, sizeof output, measures, 64, &answer);
+    case 3: {
+        uint32_t status = tozbirem_hold(TEXT, n, 8, 0, none, 0, &handle, &answer);
+        if (status == TOZBIREM_OK) status = tozbirem_push(&handle, input, 32, output, sizeof output, &answer);
+        tozbirem_let_go(&handle);
+        return status;
+    }
     default:
-        return tozbirem_program("run s i o block 8", 17, TEXT, n, input, 32, output, sizeof output, report, sizeof report,
-                                &lengths);
+        return tozbirem_program("run s i o block 8", 17, TEXT, n, input, 32, input, 32, output, sizeof output, report,
+                                sizeof report, &lengths);
     }
 }
 
 int main(void)
 {
-    for (int which = 0; which < 4; which++) {
+    for (int which = 0; which < 5; which++) {
         refused = 0;
         calls = 0;
         uint32_t sound = call(which);

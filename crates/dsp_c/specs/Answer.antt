@@ -66,6 +66,7 @@ status_of (refusal.Input limit) = 22
 status_of (refusal.Room bytes) = 23
 status_of (refusal.KeptRoom count) = 28
 status_of (refusal.Gather held more) = 24
+status_of (refusal.Full samples) = 31
 status_of (refusal.Window end full) = 25
 
 abbrev pub answer_of : Refusal → Answer
@@ -77,4 +78,5 @@ answer_of (refusal.Input limit) = numbers limit 0
 answer_of (refusal.Room bytes) = numbers (saturated bytes) 0
 answer_of (refusal.KeptRoom count) = numbers (saturated count) 0
 answer_of (refusal.Gather held more) = numbers held more
+answer_of (refusal.Full samples) = numbers samples 0
 answer_of (refusal.Window end full) = numbers end full

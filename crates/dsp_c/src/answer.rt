@@ -29,6 +29,11 @@ pub const STATE: u32 = 26;
 
 pub const KEPT_ROOM: u32 = 28;
 
+pub const FULL: u32 = 31;
+
+/// A handle that holds nothing.
+pub const EMPTY: u32 = 32;
+
 /// What a call answers beside its status.
 #[repr(C)]
 #[derive(Clone, Copy)]
@@ -152,6 +157,7 @@ pub fn status_of(why: Refusal) -> u32
         Refusal::Room { .. } => ROOM,
         Refusal::KeptRoom { .. } => KEPT_ROOM,
         Refusal::Gather { .. } => GATHER,
+        Refusal::Full { .. } => FULL,
         Refusal::Window { .. } => WINDOW,
     }
 }
@@ -180,6 +186,7 @@ pub fn answer_of(why: Refusal) -> Answer
         Refusal::Room { bytes } => numbers(saturated(bytes), 0),
         Refusal::KeptRoom { numbers: count } => numbers(saturated(count), 0),
         Refusal::Gather { held, more } => numbers(held, more),
+        Refusal::Full { samples } => numbers(samples, 0),
         Refusal::Window { end, length } => numbers(end, length),
     }
 }

@@ -7,12 +7,14 @@ ghost use Rattle.dsp_c.specs.Answer.{answer_of, status_of};
 ghost use Rattle.dsp_c.specs.Pieces.{EndsWith, FailsToEnd};
 ghost use Rattle.dsp_c.specs.Plan.{FailsToPlan, IsPlanned};
 ghost use Rattle.dsp_c.specs.Program.{NotPlayed, Played};
+ghost use Rattle.dsp_c.specs.Text.{Writes, text_of};
 
 use crate::answer::{Answer, MEMORY, OK, answer_of, status_of};
 use crate::measures::MeasureRow;
 use crate::pieces::{counted_piece, counted_tail};
 use crate::plan::{Plan, planned};
 use crate::program::{Lengths, Outcome, play};
+use crate::text::write_text;
 use dsp_blocks::BlockUnit;
 use dsp_host::Piece;
 use std::alloc::Global;
@@ -32,6 +34,16 @@ pub extern "C" fn tozbirem_version() -> u32
     ensures { result ≡ MAJOR * 2 ^ 16 + MINOR * 2 ^ 8 + PATCH }
 {
     (MAJOR << 16) + (MINOR << 8) + PATCH
+}
+
+/// Says in one line of text what a status and the numbers beside it mean, and answers how many bytes the line
+/// has. Where the buffer has less room than that it stays as it is.
+#[unsafe(no_mangle)]
+pub extern "C" fn tozbirem_explain(status: u32, answer: &Answer, text: &mut [u8]) -> u64
+    ensures length { result ≡ length (text_of status answer.now) }
+    ensures bytes { Writes (text_of status answer.now) text.old text.new }
+{
+    write_text(status, answer, text)
 }
 
 /// Says what a script is, and what a run of it over so many frames does.
@@ -178,24 +190,35 @@ pub extern "C" fn tozbirem_finish(
         }
     }
 }
+
 /// Does what the words of the program `dspfx` say, over bytes in memory in place of files, and answers its
-/// exit status. No other file is there.
+/// exit status. `other` is the other file that a command reads.
 #[unsafe(no_mangle)]
 pub extern "C" fn tozbirem_program(
     alloc: Global,
     words: &[u8],
     script: &[u8],
     input: &[u8],
+    other: &[u8],
     output: &mut [u8],
     report: &mut [u8],
     lengths: &mut Lengths,
 ) -> u32
     // The top call of these words over these bytes ended with this status, and what it wrote stands in the
     // buffers; or memory was wanting for the copies of the bytes, and nothing was written.
-    ensures { Played words.now script.now input.now output.old output.new report.old report.new
-        result lengths.new ⊎ NotPlayed output.old output.new report.old report.new result lengths.new }
+    ensures { Played words.now script.now input.now other.now output.old output.new report.old
+        report.new result lengths.new ⊎ NotPlayed output.old output.new report.old report.new result lengths.new }
 {
-    match play::<BlockUnit, Brand>(alloc, words, script, input, output, report, Blank::new(2)) {
+    match play::<BlockUnit, Brand>(
+        alloc,
+        words,
+        script,
+        input,
+        other,
+        output,
+        report,
+        Blank::new(2),
+    ) {
         Ok(
             Outcome {
                 status,

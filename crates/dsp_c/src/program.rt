@@ -58,12 +58,13 @@ pub struct Outcome {
 }
 
 /// Runs the program that the words ask for over bytes in memory, and writes what it wrote to the front of the
-/// output and of the report.
+/// output and of the report. `other` is the other file that a command reads.
 pub fn play<U: AnyUnit + Drop, L: Ledger>(
     alloc: Global,
     words: &[u8],
     script: &[u8],
     input: &[u8],
+    other: &[u8],
     output: &mut [u8],
     report: &mut [u8],
     blank: Blank,
@@ -71,8 +72,8 @@ pub fn play<U: AnyUnit + Drop, L: Ledger>(
     requires name { blank.name ≡ L.name }
     requires parts { blank.parts ≡ 2 }
     requires ledger_parts { L.parts ≡ 2 }
-    ensures ok { IfOk result (λ outcome. Played words.now script.now input.now output.old output.new
-        report.old report.new outcome.status outcome.lengths) }
+    ensures ok { IfOk result (λ outcome. Played words.now script.now input.now other.now output.old
+        output.new report.old report.new outcome.status outcome.lengths) }
     ensures err { IfErr result (λ _. (output.new ≡ output.old) × (report.new ≡ report.old)) }
 {
     let words = words_of(alloc, words)?;
@@ -80,7 +81,7 @@ pub fn play<U: AnyUnit + Drop, L: Ledger>(
     let mut input = CleanSource::new(alloc, input, PIECE)?;
     let mut written = MemSink::new(alloc, output.len(), PIECE, &[])?;
     let mut told = MemSink::new(alloc, report.len(), PIECE, &[])?;
-    let mut other = CleanSource::new(alloc, &[], PIECE)?;
+    let mut other = CleanSource::new(alloc, other, PIECE)?;
     let mut steps: Steps<L> = Steps::new(blank);
     let status = run::<U, _, _, _, _, _, _>(
         alloc,

@@ -13,6 +13,7 @@ use Rattle.dsp_defs.specs.KeptOfScript.{kept, kept_count}
 use Rattle.dsp_session.specs.Session.{Holds, StandsFor, call_room, input_coding, signal}
 use Rattle.dsp_session.specs.SessionState.{SessionState}
 use Rattle.dsp_session.proofs.FeedLaws.{feed_out}
+use Rattle.dsp_host.specs.Ongoing.{IsKeptOf, Pushed}
 use Rattle.dsp_host.specs.Opening.{asked}
 use Rattle.dsp_host.specs.Pieces.{Accepts, FailsToGoOn, Fed, GoesOn, GoesOnBehind, IsReopened, Refuses, frames_of, piece_room}
 use Rattle.dsp_host.specs.declared.refusal.Refusal.{Refusal}
@@ -59,6 +60,7 @@ module _ (text : List ℕ) (block frames : ℕ) (numbers : List ℤ) (s : Sessio
   goes_not refusal.State bytes room kept_room r = absurd r
   goes_not (refusal.KeptRoom wanted) bytes room kept_room r = absurd r
   goes_not (refusal.Window end full) bytes room kept_room r = absurd r
+  goes_not (refusal.Full samples) bytes room kept_room r = absurd r
   goes_not (refusal.Frames frame) bytes room kept_room r = record { script = script; may = opened.may; cause = refuses_as (refusal.Frames frame) bytes room r }
   goes_not (refusal.Length most) bytes room kept_room r = record { script = script; may = opened.may; cause = refuses_as (refusal.Length most) bytes room r }
   goes_not (refusal.Input limit) bytes room kept_room r = record { script = script; may = opened.may; cause = refuses_as (refusal.Input limit) bytes room r }
@@ -110,3 +112,26 @@ module _ (text : List ℕ) (block frames : ℕ) (numbers : List ℤ) (s : Sessio
           leaves (x ++ signal s.script s.coding bytes) (fed.fed.stands x (behind.stands x long behind_x))
           ∙ (λ i. kept (script_new i) (x ++ signal (behind.script_is i) (behind.coding_is i) bytes));
     }
+
+  -- ---- a signal that is held
+
+  pub held_goes : (new : SessionState) (bytes : List ℕ) (space kept_room : ℕ) (given : List ℕ) (after : List ℤ) → Pushed s new bytes space given → IsKeptOf new after
+      → length after ≤ kept_room → GoesOn text block frames numbers bytes space kept_room given after
+  held_goes new bytes space kept_room given after pushed left few =
+      let script_new : new.script ≡ script = pushed.same.script ∙ behind.script_is in
+      let frames_new : new.chain.frames ≡ frames + frames_of script (input_coding script) bytes = pushed.counted ∙ all_as bytes in
+      record {
+        script = script;
+        may = opened.may;
+        accepts = accepts_as bytes space pushed.accepts;
+        not_full = subst (λ n. n ≤ MAX_GATHERED) (λ i. gathered (behind.script_is i).blocks (all_as bytes i)) pushed.not_full;
+        counted = left.count ∙ (λ i. kept_count (script_new i) (frames_new i));
+        kept_few = few;
+        gives = λ x long behind_x.
+            (λ i. live_bytes (sym behind.script_is i) (x ++ signal (sym behind.script_is i) (sym behind.coding_is i) bytes))
+            ∙ pushed.gives x (behind.stands x long behind_x)
+            ∙ (λ i. live_bytes (behind.script_is i) x ++ given);
+        leaves = λ x long behind_x.
+            left.leaves (x ++ signal s.script s.coding bytes) (pushed.stands x (behind.stands x long behind_x))
+            ∙ (λ i. kept (script_new i) (x ++ signal (behind.script_is i) (behind.coding_is i) bytes));
+      }

@@ -1,3 +1,4 @@
+pub mod Ongoing
 pub mod Opening
 pub mod Pieces
 pub mod Tail

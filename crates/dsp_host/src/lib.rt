@@ -3,11 +3,13 @@
 //! be freed, and no two calls share anything.
 #![tactic(auto)]
 
+mod ongoing;
 mod opening;
 mod pieces;
 mod refusal;
 mod tail;
 
+pub use ongoing::{Ongoing, held_is_text};
 pub use opening::open;
 pub use pieces::{Piece, feed, feed_piece, judge, reopen, save};
 pub use refusal::{OpenFault, Refusal};

@@ -120,7 +120,7 @@ pub fn judge<U: AnyUnit + Drop>(
 }
 
 /// Feeds a session with bytes that were judged, and writes what they give to the front of the output.
-fn feed_judged<U: AnyUnit + Drop, L: Ledger>(
+pub(crate) fn feed_judged<U: AnyUnit + Drop, L: Ledger>(
     session: &mut Session<U>,
     bytes: &[u8],
     out: &mut [u8],

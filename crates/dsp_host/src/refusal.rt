@@ -41,6 +41,9 @@ pub enum Refusal {
     /// A correlation holds so many samples of a channel, and so many more are too many.
     #[error("{held} gathered samples and {more} more")]
     Gather { held: u64, more: u64 },
+    /// A correlation would hold so many samples of a channel, which are too many.
+    #[error("{samples} gathered samples")]
+    Full { samples: u64 },
     /// The window of a partial convolution ends past it.
     #[error("a window to {end} of {length} values")]
     Window { end: u64, length: u64 },

@@ -4,12 +4,12 @@ _dspfx() {
     local word=${COMP_WORDS[COMP_CWORD]} command=${COMP_WORDS[1]} place=$COMP_CWORD
     COMPREPLY=()
     if [ "$place" = 1 ]; then
-        COMPREPLY=($(compgen -W 'run bank gen print convert resume prove test help --help --version' -- "$word"))
+        COMPREPLY=($(compgen -W 'run bank gen print convert resume check prove test help --help --version' -- "$word"))
         return
     fi
     [ "$command" != resume ] || [ "$place" = 2 ] || command=${COMP_WORDS[2]}
     case $command:$place in
-    run:[234] | bank:[234] | gen:[45] | print:2 | convert:[45] | stop:[456] | go:[345])
+    run:[234] | bank:[234] | check:[234] | gen:[45] | print:2 | convert:[45] | stop:[456] | go:[345])
         compopt -o filenames
         mapfile -t COMPREPLY < <(compgen -f -- "$word")
         ;;

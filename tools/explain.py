@@ -4,7 +4,8 @@
     tools/explain.py PROGRAM STATUS WORD..
 
 PROGRAM is the program that ran with these words, and STATUS its exit status. Nothing is run again but `print` after
-a fault in a script, which tells where it is. One or two lines are written, and after a fault in a script also its
+a fault in a script, which tells where it is, and the script of a check after a difference (tools/differs.py). One or
+two lines are written, and after a fault in a script also its
 place as compilers show it: file, line, column and kind, the line, and a caret.
 """
 import difflib
@@ -15,6 +16,7 @@ import subprocess
 import sys
 from math import gcd, lcm
 
+import differs
 import language
 import state
 
@@ -30,11 +32,13 @@ COMMANDS = {
     "print": "SCRIPT",
     "convert": "wave au IN OUT, or convert au wave IN OUT",
     "resume": "stop K SCRIPT IN OUT, or resume go STATE IN OUT",
+    "check": "SCRIPT IN OUT",
 }
-# Which words of a command are its script or state, its input and its output, counted from the first.
+# Which words of a command are its script or state, its input, its output and another file that it reads, counted from
+# the first.
 PLACES = {
-    "run": (1, 2, 3), "bank": (1, 2, 3), "gen": (3, None, 4), "print": (1, None, None), "convert": (None, 3, 4),
-    "resume stop": (3, 4, 5), "resume go": (2, 3, 4),
+    "run": (1, 2, 3, None), "bank": (1, 2, 3, None), "gen": (3, None, 4, None), "print": (1, None, None, None),
+    "convert": (None, 3, 4, None), "resume stop": (3, 4, 5, None), "resume go": (2, 3, 4, None), "check": (1, 2, None, 3),
 }  # fmt: skip
 OF_WRAPPER = ("prove", "test", "help", "--help", "-h", "--version")
 TAGS = {2: "ADPCM", 3: "floating point", 6: "A-law", 7: "mu-law", 17: "ADPCM", 80: "MPEG", 85: "MP3"}
@@ -52,9 +56,9 @@ class Words:
         self.command = words[0] if words else None
         if self.command == "resume" and words[1:2] in (["stop"], ["go"]):
             self.command = " ".join(words[:2])
-        self.script, self.input, self.output = (
+        self.script, self.input, self.output, self.other = (
             words[place] if place is not None and place < len(words) else None
-            for place in PLACES.get(self.command, (None, None, None))
+            for place in PLACES.get(self.command, (None,) * 4)
         )
         self.first = "state" if self.command == "resume go" else "script"
 
@@ -92,12 +96,12 @@ def words_fault(words):
         return f"word {words.index('', 1)} after {name} is empty (a variable that is not set?)"
     option = next((word for word in rest if re.match(r"--?[a-z]", word)), None)
     usage = f"{name} {COMMANDS[name]}"
-    taken = {"run": 3, "bank": 3, "gen": 4, "print": 1, "convert": 4, "resume": 4 if rest[:1] == ["go"] else 5}
+    taken = {"run": 3, "bank": 3, "gen": 4, "print": 1, "convert": 4, "resume": 4 if rest[:1] == ["go"] else 5, "check": 3}
     if option and len(rest) != taken[name]:
         more = "; a block length is `block N` at the end" if "block" in option else ""
         return f"there are no options, and {option} is one: {usage}{more}"
     faults = {"run": run_fault, "bank": run_fault, "gen": gen_fault, "print": print_fault, "convert": convert_fault,
-              "resume": resume_fault}  # fmt: skip
+              "resume": resume_fault, "check": check_fault}  # fmt: skip
     return faults[name](rest, usage)
 
 
@@ -109,6 +113,10 @@ def run_fault(rest, usage):
     elif len(rest) != 3:
         return f"{usage.split()[0]} takes 3 words, or 5 with `block N`, and here are {len(rest)}: {usage}"
     return same_words(rest[0], rest[1], rest[2])
+
+
+def check_fault(rest, usage):
+    return f"check takes 3 words, and here are {len(rest)}: {usage}" if len(rest) != 3 else None
 
 
 def gen_fault(rest, usage):
@@ -411,7 +419,7 @@ def explain_block(words, _):
     script = sound_script(words)
     unit = unit_of(script)
     given = words.words[5:6] if words.command in ("run", "bank") else []
-    length = int(given[0]) if given and given[0].isdigit() else None
+    length = int(given[0]) if given and given[0].isdigit() else script.block if script else None
     if unit is None:
         yield f"a block length is 1 to {MOST_BLOCK}, and a multiple of the unit that the report names"
     elif unit > MOST_BLOCK:
@@ -498,13 +506,15 @@ def wave_hints(of_file, data, script, length):
 
 
 def explain_lengths(words, _):
-    if words.first == "state":
+    if words.command == "check":
+        yield "where the report has `check size`, a place of the script has more than 16,777,216 samples, all channels together: check a shorter part, or compare with the file of a run"
+    elif words.first == "state":
         yield "where the report has `resume at`, the input has fewer frames than the state has taken: is it another, or cut?"
     elif words.command == "resume stop":
         yield "where the report has `resume at`, the input has fewer than K frames: name a smaller K"
     script = sound_script(words)
     found = {block.word for block in script.blocks} if script else set()
-    if "correlate" in found:
+    if "correlate" in found and words.command != "check":
         yield "a correlation holds at most 1,048,576 samples of a channel: correlate a shorter part of the recording, or decimate before it"
     if "conv_partial" in found:
         yield "a window of conv_partial that ends past the convolution (`window end E, length L`) takes a smaller first or count"
@@ -530,9 +540,9 @@ def fault_of_reading(path):
         return reason_of(error.errno)
 
 
-def explain_reading(of_input):
+def explain_reading(name):
     def lines(words, _):
-        what, path = ("input", words.input) if of_input else (words.first, words.script)
+        what, path = {"script": (words.first, words.script), "input": ("input", words.input), "other": ("OUT", words.other)}[name]
         if path:
             fault = fault_of_reading(path)
             yield f"{what} {named(path)}: {fault}" if fault else f"{what} {named(path)} can be opened now, but a read failed"
@@ -584,11 +594,20 @@ def explain_writing(words, _):
 
 
 def explain_report(words, _):
-    yield "standard output cannot be written (closed, or a full disk), so the report is not whole; the output is complete"
+    rest = "nothing else was to be written" if words.command == "check" else "the output is complete"
+    yield f"standard output cannot be written (closed, or a full disk), so the report is not whole; {rest}"
 
 
 def explain_memory(words, _):
-    yield "out of memory: a run takes room for its block length at each place, so a small `block N` needs less"
+    if words.command == "check":
+        yield "out of memory: a check holds the signal before and after a block whole, so a shorter input needs less"
+    else:
+        yield "out of memory: a run takes room for its block length at each place, so a small `block N` needs less"
+
+
+def explain_difference(words, program):
+    yield from differs.told(program, words.script, words.input, words.other)
+    yield "`./dspfx run SCRIPT IN NEW` writes the right file, and tools/compare.py NEW OUT lists the samples that differ"
 
 
 def explain_state(words, _):
@@ -610,12 +629,14 @@ EXPLAINED = {
     3: explain_block,
     4: explain_header,
     5: explain_lengths,
-    6: explain_reading(False),
-    7: explain_reading(True),
+    6: explain_reading("script"),
+    7: explain_reading("input"),
     8: explain_writing,
     9: explain_report,
     10: explain_memory,
+    11: explain_difference,
     13: explain_state,
+    14: explain_reading("other"),
 }
 
 

@@ -1,7 +1,7 @@
 #!/usr/bin/env bash
-# Refuses each allocation of `print`, of a run, a bank, a gen and of both parts of a run in turn, by a small library in front of the C
-# library's `malloc`: each must end with status 10, its line, and an output that was never made; the first
-# number that no allocation is left for must be done. It is no part of the gate, and needs gcc.
+# Refuses each allocation of `print`, of a run, a bank, a gen, both parts of a run and a check in turn, by a small library
+# in front of the C library's `malloc`: each must end with status 10, its line, and an output that was never made; the
+# first number that no allocation is left for must be done. It is no part of the gate, and needs gcc.
 # DSPFX names another built program.
 set -u
 top=$(cd "$(dirname "$(readlink -f "${BASH_SOURCE[0]}")")/.." && pwd) || exit 70
@@ -95,3 +95,7 @@ refused_in_turn gen gen 7 1000 "$folder/script.txt" "$folder/out.wav" || exit 1
 refused_in_turn "resume stop" resume stop 100 "$folder/script.txt" "$folder/in.raw" "$folder/out.wav" || exit 1
 cp "$folder/report" "$folder/saved"
 refused_in_turn "resume go" resume go "$folder/saved" "$folder/in.raw" "$folder/out.wav" || exit 1
+# (a check takes memory for each block, and some blocks for each sample)
+head -c 400 "$folder/in.raw" >"$folder/short.raw"
+"$program" run "$folder/script.txt" "$folder/short.raw" "$folder/wanted.wav" >/dev/null || exit 1
+refused_in_turn check check "$folder/script.txt" "$folder/short.raw" "$folder/wanted.wav" || exit 1

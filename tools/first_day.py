@@ -1,8 +1,8 @@
 #!/usr/bin/env python3
 """Tests of what a first day with the program stumbled over: aliases, faults, pictures, comparisons, coefficients.
 
-    tools/first_day.py [CLASS ..]      Aliases, Faults, Reading, Comparing, Coefficients, Pictures, Wrapper,
-                                       Installing, Machines
+    tools/first_day.py [CLASS ..]      Aliases, Faults, Checking, Reading, Comparing, Coefficients, Pictures,
+                                       Wrapper, Installing, Machines
 
 Each case calls a command as a user does, and compares numbers and texts with what is worked out here. DSPFX_PROGRAM
 names another program for ./dspfx. Pictures are left out where matplotlib is not there.
@@ -263,6 +263,9 @@ class Faults(Case):
         self.write("in.raw", bytes(100))
         self.ends(self.dspfx("run", "s.txt", "in.raw", "o", "block", "100"), 3, "multiple of 6 frames", "96 and 102")
         self.ends(self.dspfx("run", "s.txt", "in.raw", "o", "block", "65537"), 3, "nearest to 65537: 65532")
+        self.write("s.txt", "dspfx 1 input raw q15 1 8000 block 5 decimate 2 {1} output raw")
+        for words in (["run", "s.txt", "in.raw", "o"], ["check", "s.txt", "in.raw", "in.raw"]):
+            self.ends(self.dspfx(*words), 3, "block length 5, unit 2", "multiple of 2 frames", "nearest to 5: 4 and 6")
 
     def test_headers(self):
         self.write("s.txt", "dspfx 1 input wave q15 1 output wave")
@@ -316,6 +319,102 @@ class Faults(Case):
             self.assertEqual(running.wait(10), -15)
             with self.assertRaises(BrokenPipeError):
                 pipe.write(bytes(4))
+
+
+class Checking(Case):
+    """A file against the output of a script: what the report says, and what the wrapper adds."""
+
+    HALVES = "dspfx 1 input wave q15 2 fir {16384} output wave"
+
+    def setUp(self):
+        super().setUp()
+        self.write("s.txt", self.HALVES)
+        self.write("in.wav", wave_file(16, 2, [1000, -1000, 3, -3, 32767, -32768]))
+        self.right = wave_file(16, 2, [500, -500, 1, -2, 16383, -16384])
+        self.write("right.wav", self.right)
+
+    def checked(self, data, status, *texts):
+        """A check of these bytes, which leaves all files as they are, and none behind."""
+        self.write("out.wav", data)
+        before = {name: self.content(name) for name in os.listdir(self.folder)}
+        self.ends(self.dspfx("check", "s.txt", "in.wav", "out.wav"), status, *texts)
+        self.assertEqual({name: self.content(name) for name in os.listdir(self.folder)}, before)
+
+    def changed(self, place):
+        return self.right[:place] + bytes([self.right[place] ^ 1]) + self.right[place + 1 :]
+
+    def test_the_right_file(self):
+        ran = self.dspfx("check", "s.txt", "in.wav", "right.wav")
+        self.assertEqual((ran.status, ran.out), (0, "dspfx: same\nbytes 56\n"))
+
+    def test_another_sample(self):
+        self.checked(self.changed(50), 11, "dspfx: differs at 50\n", "dspfx: byte 50 is of frame 1 channel 1: wanted -2, found -1\n",
+                     "dspfx: 1 of 6 samples differ\n")  # fmt: skip
+        # (the high byte of a sample is its second one)
+        self.checked(self.changed(45), 11, "dspfx: differs at 45\n", "byte 45 is of frame 0 channel 0: wanted 500, found 244\n")
+        self.checked(self.right[:44] + bytes(12), 11, "differs at 44", "6 of 6 samples differ\n")
+
+    def test_other_headers_and_lengths(self):
+        self.checked(self.changed(24), 11, "dspfx: differs at 24\n", "byte 24, in the header: wanted 64, found 65\n", "0 of 6 samples differ\n")
+        self.checked(self.right[:51], 11, "differs at 51", "byte 51 is of frame 1 channel 1: wanted -2, found the end\n",
+                     "0 of 3 samples differ; the output has 56 bytes, and the file 51\n")  # fmt: skip
+        self.checked(b"", 11, "differs at 0", "byte 0, in the header: wanted 82, found the end\n")
+        self.checked(self.right + b"more", 11, "differs at 56", "the output has ended at byte 56, and the file has 4 bytes more\n")
+
+    def test_bytes_and_pads(self):
+        """Samples of 8 bits are unsigned in a WAVE file and signed in a raw one, and an odd number of bytes has a pad byte."""
+        self.write("s.txt", "dspfx 1 input wave q7 1 output wave")
+        self.right = wave_file(8, 1, [-128, 5, 127])
+        self.right = self.right[:4] + struct.pack("<I", 40) + self.right[8:]
+        self.write("in.wav", self.right)
+        self.checked(self.right, 0, "bytes 48")
+        self.checked(self.changed(45), 11, "byte 45 is of frame 1 channel 0: wanted 5, found 4\n")
+        self.checked(self.changed(47), 11, "the pad byte, byte 47: wanted 0, found 1\n", "0 of 3 samples differ\n")
+        self.write("s.txt", "dspfx 1 input wave q7 1 output raw")
+        self.checked(b"\x80\x05\x7e", 11, "byte 2 is of frame 2 channel 0: wanted 127, found 126\n")
+
+    def test_no_output(self):
+        self.write("s.txt", "dspfx 1 input wave q15 2 decimate 7 {1} output raw")
+        self.checked(b"", 0, "bytes 0")
+        self.checked(b"x", 11, "the output has ended at byte 0, and the file has 1 bytes more\n")
+
+    def test_the_same_file_twice(self):
+        """A file may be checked that is the input."""
+        self.write("s.txt", "dspfx 1 input wave q15 2 output wave")
+        self.ends(self.dspfx("check", "s.txt", "in.wav", "in.wav"), 0, "bytes 56")
+        self.write("s.txt", self.HALVES)
+        self.ends(self.dspfx("check", "s.txt", "in.wav", "./in.wav"), 11, "differs at 44", "wanted 500, found 1000")
+        self.ends(self.dspfx("check", "s.txt", "in.wav", "s.txt"), 11, "differs at 0")
+
+    def test_what_cannot_be_said(self):
+        """An input that is read once, and a run that does not end well."""
+        self.write("raw.txt", "dspfx 1 input raw q15 1 8000 output raw")
+        self.write("out.raw", words16(1, 2, 4))
+        ran = Ran(self.folder, [DSPFX, "check", "raw.txt", "/dev/stdin", "out.raw"], words16(1, 2, 3))
+        self.ends(ran, 11, "differs at 4", "which sample that is cannot be said: /dev/stdin is no file that can be read twice")
+        # (a run holds 1,048,576 samples of a correlation, and a check more)
+        self.write("raw.txt", "dspfx 1 input raw q7 1 8000 correlate {64} output raw")
+        self.write("in.raw", bytes(1048577))
+        self.write("out.raw", bytes(2097152))
+        self.ends(self.dspfx("check", "raw.txt", "in.raw", "out.raw"), 11, "differs at 2097152",
+                  "cannot be said: a run of this script ends with status 5")  # fmt: skip
+
+    def test_files(self):
+        os.mkdir(self.path("folder"))
+        self.ends(self.dspfx("check", "s.txt", "in.wav", "none"), 14, "dspfx: other input not read\n", "OUT none: no such file or directory")
+        self.ends(self.dspfx("check", "s.txt", "in.wav", "folder"), 14, "OUT folder: is a folder")
+        self.ends(self.dspfx("check", "s.txt", "none", "right.wav"), 7, "input none: no such file")
+        self.ends(self.dspfx("check", "none", "in.wav", "right.wav"), 6, "script none: no such file")
+
+    def test_words(self):
+        self.ends(self.dspfx("check", "s.txt", "in.wav"), 1, "check takes 3 words, and here are 2: check SCRIPT IN OUT")
+        self.ends(self.dspfx("check", "s.txt", "in.wav", "right.wav", "block", "2"), 1, "check takes 3 words, and here are 5")
+
+    def test_lengths(self):
+        self.write("raw.txt", "dspfx 1 input raw q7 1 8000 output raw")
+        with open(self.path("long.raw"), "wb") as file:
+            file.truncate(16777217)
+        self.ends(self.dspfx("check", "raw.txt", "long.raw", "none"), 5, "dspfx: lengths: check size 16777217, limit 16777216\n", "check a shorter part")
 
 
 class Reading(Case):
@@ -646,10 +745,12 @@ class Installing(Case):
             return Ran(self.folder, ["bash", "-c", script]).out.split()
 
         self.write("script.txt", COPY)
-        self.assertEqual(completed("dspfx", "r"), ["run"])
+        self.assertEqual(completed("dspfx", "ru"), ["run"])
         self.assertEqual(completed("dspfx", "run", "scr"), ["script.txt"])
         self.assertEqual(completed("dspfx", "run", "a", "b", "c", "bl"), ["block"])
         self.assertEqual(completed("dspfx", "bank", "scr"), ["script.txt"])
+        self.assertEqual(completed("dspfx", "che"), ["check"])
+        self.assertEqual(completed("dspfx", "check", "a", "b", "scr"), ["script.txt"])
         self.assertEqual(completed("dspfx", "convert", "au", "''"), ["wave"])
         self.assertEqual(completed("dspfx", "gen", "7", "s"), [])
         self.assertEqual(completed("dspfx", "convert", "au", "w"), ["wave"])
@@ -724,8 +825,10 @@ class Wrapper(Case):
 
         for less, status in ((0, 0), (1, 0), (0, 1)):
             def tried(crate, *words, given):
-                count = sum(len(line.split(b"|")[0].split(b",")) for line in given.splitlines())
-                return status == 0, f"{count - less} cases agree\n", ""
+                fields = [line.split(b"|") for line in given.splitlines()]
+                count = sum(len(it[0].split(b",")) for it in fields)
+                found = sum(it[3] == b"0" and any(word.startswith(b"run ") for word in it[0].split(b",")) for it in fields)
+                return status == 0, f"{count - less} cases agree\n{found} outputs are found by a check, and a changed byte in each\n", ""
 
             with unittest.mock.patch.object(wrapper, "tried", tried):
                 is_well, _, note = wrapper.cases()

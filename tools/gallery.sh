@@ -1,6 +1,6 @@
 #!/usr/bin/env bash
-# Runs the uses of examples/ and compares what they write with what is expected there, byte by byte;
-# and makes the gallery anew by examples/make.py, where python is installed, and compares that with what
+# Runs the uses of examples/ and compares what they write with what is expected there, byte by byte, by cmp and
+# by a check; and makes the gallery anew by examples/make.py, where python is installed, and compares that with what
 # stands in the repository. It is no part of the gate. DSPFX names another program.
 . "$(dirname "$(readlink -f "${BASH_SOURCE[0]}")")/checking.sh"
 
@@ -9,6 +9,7 @@ use() {
     local use=$top/examples/$1
     check "$1 runs" "$program" "${4-run}" "$use/script.txt" "$use/$2" "$folder/out.$3"
     check "$1 gives what is expected" cmp "$folder/out.$3" "$use/expected.$3"
+    check "$1 has what a check expects" "$program" check "$use/script.txt" "$use/$2" "$use/expected.$3"
     rm -f "$folder/out.$3"
 }
 

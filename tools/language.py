@@ -39,9 +39,9 @@ class Block:
 
 
 class Script:
-    def __init__(self, container, form, channels, rate, tables, blocks, output):
+    def __init__(self, container, form, channels, rate, block, tables, blocks, output):
         self.container, self.form, self.channels, self.rate = container, form, channels, rate
-        self.tables, self.blocks, self.output = tables, blocks, output
+        self.block, self.tables, self.blocks, self.output = block, tables, blocks, output
 
 
 def read_list(tokens, tables):
@@ -74,7 +74,8 @@ def read_script(text):
         FORMATS[form]
         rate = int(tokens[6]) if container == "raw" else None
         del tokens[: 7 if container == "raw" else 6]
-        if tokens[0] == "block":
+        block = int(tokens[1]) if tokens[0] == "block" else None
+        if block is not None:
             del tokens[:2]
         tables = {}
         while tokens[0] == "table":
@@ -82,6 +83,6 @@ def read_script(text):
             del tokens[:2]
             tables[name] = read_list(tokens, tables)
         blocks = read_blocks(tokens, tables, form)
-        return Script(container, form, int(channels), rate, tables, blocks, tokens[1])
+        return Script(container, form, int(channels), rate, block, tables, blocks, tokens[1])
     except (IndexError, KeyError, ValueError) as error:
         raise ValueError("no sound script: ./dspfx print SCRIPT says where its fault is") from error

@@ -1,5 +1,6 @@
 #!/usr/bin/env python3
-"""Runs random sound scripts at three block lengths each, in a bank, and in two sittings, and compares what they write.
+"""Runs random sound scripts at three block lengths each, in a bank, and in two sittings, compares what they write, and
+checks it.
 
     soak.py [COUNT [SEED]]
 
@@ -8,7 +9,8 @@ in blocks of two other lengths over a pipe that gives the same bytes in pieces o
 must end with the same status, report and output; where a window of a convolution ends past it, the output depends
 on the block length, and the rest is compared. A run that is done is also stopped after a random frame, and goes on
 from its state: both outputs together and the last report must be those of one run, and tools/state.py must read the
-state. DSPFX names another built program. It is no part of the gate.
+state. Its output is checked: `check` must find it, and must name the place of a byte that was changed; where a window
+ends past its convolution a check ends as the run does. DSPFX names another built program. It is no part of the gate.
 """
 import os
 import random
@@ -230,6 +232,25 @@ def in_two_sittings(folder, whole, rng):
     return None
 
 
+def checked(folder, whole, rng):
+    """What is wrong with a check of what a run wrote, or None."""
+    status, line, written = whole[0], whole[1], bytearray(whole[2] or b"")
+    if status not in (0, 5):
+        return None
+    wanted = [(written, 0, b"dspfx: same\nbytes %d\n" % len(written))] if status == 0 else [(written, 5, line)]
+    if status == 0:
+        place = rng.randrange(len(written) + 1)
+        other = written + b"\0" if place == len(written) else written[:place] + bytes([written[place] ^ 1 << rng.randrange(8)]) + written[place + 1 :]
+        wanted.append((other, 11, b"dspfx: differs at %d\n" % place))
+    for data, answer, report in wanted:
+        with open(f"{folder}/other", "wb") as file:
+            file.write(data)
+        found = ran(folder, ["check", "s", "in", "other"], "o")
+        if found != (answer, report, None):
+            return f"{found}, wanted {answer} {report!r}"
+    return None
+
+
 def unit_of(folder):
     """The number that divides each legal block length, by the program's own word."""
     status, report, _ = ran(folder, ["run", "s", "in", "o", "block", "65537"], "o")
@@ -269,6 +290,10 @@ def main():
             if fault:
                 differ += 1
                 print(f"differ in two sittings:\n{script}\n{fault}\n{content.hex()}", flush=True)
+            fault = checked(folder, whole, rng)
+            if fault:
+                differ += 1
+                print(f"differ by a check:\n{script}\n{fault}\n{content.hex()}", flush=True)
             compared += 1
             statuses[whole[0]] = statuses.get(whole[0], 0) + 1
     told = ", ".join(f"{number} ended with {status}" for status, number in sorted(statuses.items()))

@@ -13,7 +13,7 @@ for place in $(seq $#); do
     command=${1-}
     [ "$command" != resume ] || command=${2-}
     case $command:$place in
-    run:[234] | bank:[234] | gen:[45] | print:2 | convert:[45] | stop:[456] | go:[345]) [[ -z $word || $word = /* ]] || word=$PWD/$word ;;
+    run:[234] | bank:[234] | check:[234] | gen:[45] | print:2 | convert:[45] | stop:[456] | go:[345]) [[ -z $word || $word = /* ]] || word=$PWD/$word ;;
     esac
     words+=("$word")
 done

@@ -142,6 +142,7 @@ class Functions(unittest.TestCase):
         found = tozbirem.arm_lms_q15([0], 16384, 0, [2000, 4000], [1000, 3000])
         self.assertEqual((flat(found.output), flat(found.error), flat(found.taps)), ([0, y], [1000, error], [second]))
         self.assertEqual(flat(tozbirem.arm_lms_q31([3, 4], 1, 0, [], []).taps), [3, 4])
+        self.assertEqual(flat(tozbirem.arm_lms_q31([3, 4], 1, 0, [0], [0]).taps), [3, 4])
 
     def test_help(self):
         for name, function in tozbirem._functions().items():

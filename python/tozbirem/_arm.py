@@ -238,9 +238,9 @@ def result_of(row: Row, chain: Chain, given, arguments: Dict[str, Any]):
         (measure,) = chain.measures()
         return Extreme(measure.value, measure.index) if measure.kind in ("max", "min") else measure.value
     if row.name == "lms":
-        # (its kept numbers are T-1 samples, and then the taps)
+        # (its kept numbers are T-1 samples, and then the taps from w[0] to w[T-1])
         kept = chain.state.numbers
-        taps = kept[len(kept) // 2 :] if kept else arguments["taps"]
+        taps = kept[len(kept) // 2 :][::-1] if kept else arguments["taps"]
         return Lms(_arrays.column(given, 0, 2), _arrays.column(given, 1, 2), _arrays.words(taps, BITS[chain.format]))
     return _arrays.flat(given)
 

@@ -203,7 +203,7 @@ static void test_texts(void)
 /* A signal that is held gives, call by call, what its text gives, and leaves the same numbers. */
 static void test_handles(void)
 {
-    int16_t input[64], by_text[64], by_handle[64];
+    int16_t input[64] = {0}, by_text[64], by_handle[64];
     int64_t kept[2][NUMBERS], numbers[NUMBERS];
     struct tozbirem_answer answer, other;
     struct tozbirem_handle handle = TOZBIREM_EMPTY_HANDLE, second = TOZBIREM_EMPTY_HANDLE;
@@ -247,7 +247,7 @@ static void test_full(void)
     enum { BLOCK = 65536 };
     struct tozbirem_answer answer;
     struct tozbirem_handle handle = TOZBIREM_EMPTY_HANDLE;
-    int64_t none[1];
+    int64_t none[1] = {0};
     char *input = (char *)calloc(BLOCK, 1), *output = (char *)calloc(BLOCK, 1);
     CHECK(tozbirem_hold(LONG, strlen(LONG), BLOCK, 0, none, 0, &handle, &answer) == TOZBIREM_OK);
     for (int call = 0; call < 15; call++) CHECK(tozbirem_push(&handle, input, BLOCK, output, BLOCK, &answer) == TOZBIREM_OK);

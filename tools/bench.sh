@@ -1,11 +1,13 @@
 #!/usr/bin/env bash
-# Measures whole runs of the built program, file to file: every block that is built with typical
-# parameters, time against frames and against taps, the start, and the parsing of a long script.
-# Prints the tables of docs/PERFORMANCE.md. It is no part of the gate, and needs python.
+# Measures whole runs of the built program: every block with typical parameters, its output on the null
+# device and on a file, and file to file time against frames and against taps, the start, and the
+# parsing of a long script. Prints the tables of docs/PERFORMANCE.md. It is no part of the gate, and
+# needs python.
 #
 #   DSPFX    another program to be measured
-#   PEER     a program that takes the same words, to be measured beside it in the same passes; its
-#            output must be the same. Without it the last two columns are empty
+#   NEWER    the same program built for another processor, to be measured beside it in the same passes
+#   PEER     a program that takes the same words, to be measured beside them; all outputs must be the
+#            same. What is not named leaves its columns empty
 #   FRAMES   frames of a run (4000000), PASSES how often each is measured (7; the least counts)
 #   ONLY     only the rows whose name has this text, and nothing else
 #
@@ -57,6 +59,7 @@ if gcc -O1 -static -o "$folder/launch" "$folder/launch.c" 2>/dev/null; then LAUN
 
 FOLDER=$folder python3 - <<'PYTHON'
 import filecmp
+import math
 import os
 import random
 import resource
@@ -66,6 +69,7 @@ import wave
 
 folder = os.environ["FOLDER"]
 program = os.environ["PROGRAM"]
+newer = os.environ.get("NEWER", "")
 peer = os.environ.get("PEER", "")
 launch = os.environ["LAUNCH"]
 frames = int(os.environ.get("FRAMES", "4000000"))
@@ -202,21 +206,22 @@ def made(form, channels, count):
     return inputs[key]
 
 
-def least(form, channels, blocks, count, programs, rounds):
-    """The runs of the least processor time, a program each, measured in turns."""
+def least(form, channels, blocks, count, programs, rounds, output=None):
+    """The runs of the least processor time, a program each, measured in turns: to a file each, or to this one."""
     source = made(form, channels, count)
     path = script(form, channels, blocks)
     best = [None] * len(programs)
     for _ in range(rounds):
         for place, name in enumerate(programs):
-            run = Run([name, "run", path, source, f"{folder}/out-{place}.raw"])
+            run = Run([name, "run", path, source, output or f"{folder}/out-{place}.raw"])
             if run.status != 0:
                 best[place] = run
             elif best[place] is None or run.spent < best[place].spent:
                 best[place] = run
-    if len(programs) > 1 and best[0].status == best[1].status == 0:
-        if not filecmp.cmp(f"{folder}/out-0.raw", f"{folder}/out-1.raw", shallow=False):
-            raise SystemExit(f"the outputs differ: {form} {channels} {blocks}")
+    if not output and all(run.status == 0 for run in best):
+        for place in range(1, len(programs)):
+            if not filecmp.cmp(f"{folder}/out-0.raw", f"{folder}/out-{place}.raw", shallow=False):
+                raise SystemExit(f"the outputs differ: {form} {channels} {blocks}")
     return best
 
 
@@ -224,23 +229,45 @@ def shown(value, digits=1):
     return "" if value is None else f"{value:.{digits}f}"
 
 
-def table_of_blocks(programs):
-    print(f"| block | format | ns per frame | products per ns | peak KiB | peer, ns per frame | ratio |")
-    print("|---|---|---|---|---|---|---|")
+class Column:
+    """A column of numbers: what is shown of each, and the geometric mean of all."""
+
+    def __init__(self):
+        self.all = []
+
+    def shown(self, value):
+        if value is None:
+            return ""
+        self.all.append(value)
+        return f"{value:.2f}"
+
+    def mean(self):
+        return f"{math.exp(sum(map(math.log, self.all)) / len(self.all)):.2f}" if self.all else ""
+
+
+def table_of_blocks():
+    """For each block ns per frame of ours, of the newer build and of the peer, with ratios: to the null device, then
+    to a file."""
+    names = [name for name in (program, newer, peer) if name]
+    ratios = [Column() for _ in range(4)]
+    print("| block | format | null device | newer | peer | ratio | newer | file | newer | peer | ratio | newer | KiB |")
+    print("|" + "---|" * 13)
     for name, forms, channels, text, *most in BLOCKS:
         if only not in name:
             continue
         count = min([frames] + most)
         for form in forms:
-            runs = least(form, channels, text(form), count, programs, passes)
-            if runs[0].status != 0:
-                print(f"| {name} | {form} | status {runs[0].status} | | | | |", flush=True)
-                continue
-            ours, products = runs[0].spent / count, runs[0].multiplies()
-            theirs = runs[1].spent / count if len(runs) > 1 and runs[1].status == 0 else None
-            rate = products / runs[0].spent if products else None
-            ratio = ours / theirs if theirs else None
-            print(f"| {name} | {form} | {ours:.1f} | {shown(rate, 2)} | {shown(runs[0].peak, 0)} | {shown(theirs)} | {shown(ratio, 2)} |", flush=True)
+            cells = []
+            for place, output in enumerate(("/dev/null", None)):
+                runs = dict(zip(names, least(form, channels, text(form), count, names, passes, output)))
+                spent = {it: run.spent / count for it, run in runs.items() if run.status == 0}
+                cells += [f"{spent[it]:.2f}" if it in spent else "" for it in (program, newer, peer)]
+                for at, it in enumerate((program, newer)):
+                    both = it in spent and peer in spent
+                    cells.append(ratios[2 * place + at].shown(spent[it] / spent[peer] if both else None))
+            print(f"| {name} | {form} | {' | '.join(cells)} | {shown(runs[program].peak, 0)} |", flush=True)
+    means = [it.mean() for it in ratios]
+    print(f"| geometric mean | | | | | {means[0]} | {means[1]} | | | | {means[2]} | {means[3]} | |")
 
 
 def against_frames(programs):
@@ -312,7 +339,7 @@ def start_and_scripts(programs):
 
 
 programs = [program] + ([peer] if peer else [])
-table_of_blocks(programs)
+table_of_blocks()
 if not only:
     against_frames(programs)
     against_taps(programs)

@@ -1,8 +1,10 @@
 #!/usr/bin/env python3
 """Builds build/dspfx, which proves all crates that it is made of first.
 
-    tools/build.py            builds it
-    tools/build.py --time     says how long that takes here, by the times of docs/TESTING.md
+    tools/build.py             builds it
+    tools/build.py --time      says how long that takes here, by the times of docs/TESTING.md
+    tools/build.py --sum       prints the sum of the sources
+    tools/build.py --take SUM  takes the program that a gate which has passed left, if the sources had that sum and have it
 
 A crate is begun as soon as those below it are proved, and of several that could be begun the one on the longest way
 to the program comes first, by the times of docs/TESTING.md. Each has one processor, or more where some would idle.
@@ -10,7 +12,11 @@ What is proved is kept in crates/*/out: a build that was stopped goes on where i
 crates are being proved and for how long: in a live line on a terminal, else in a line a crate. rt's own words go to
 build/log.
 
+The program is built for x86-64-v3, with AVX2, where this machine's processor has it, and for x86-64-v2 elsewhere; in
+build/ it stands beside the name of what it is built for, and ./dspfx runs it where the processor is such a one alone.
+
     JOBS    how many processors; those of this machine, with 2 GB of free memory each, where it is not set
+    CPU     x86-64-v2 or x86-64-v3, for a program that other machines are to run too
 """
 import contextlib
 import fcntl
@@ -31,6 +37,10 @@ PROGRAM = "dspfx"
 
 
 class Failed(Exception):
+    pass
+
+
+class Wrong(Exception):
     pass
 
 
@@ -76,6 +86,14 @@ def processors():
     return max(1, min(len(os.sched_getaffinity(0)), free))
 
 
+def processor():
+    """What the program is built for."""
+    wanted = os.environ.get("CPU") or (sources.NEWER if sources.is_newer() else sources.OLDER)
+    if wanted not in (sources.OLDER, sources.NEWER):
+        raise Wrong(f"CPU is {wanted}, and not {sources.OLDER} or {sources.NEWER}")
+    return wanted
+
+
 def share(free, ready):
     """How many processors the next crate has: one, or more where others would idle."""
     return max(1, free // max(1, ready))
@@ -107,11 +125,13 @@ def clock(seconds):
 class Run:
     """A run of rt in a crate's folder, and what it said."""
 
-    def __init__(self, name, jobs):
+    def __init__(self, name, jobs, cpu):
         self.name, self.jobs, self.begin, self.said = name, jobs, time.time(), b""
-        word = "run" if name == PROGRAM else "lib"
+        # (x86-64-v2 is what rt builds for where nothing is said)
+        newer = [f"--cpu={cpu}"] if cpu != sources.OLDER else []
+        words = ["run", *newer] if name == PROGRAM else ["lib"]
         self.process = subprocess.Popen(
-            ["rt", word, "--jobs", str(jobs)], cwd=f"{TOP}/crates/{name}", stdin=subprocess.DEVNULL,
+            ["rt", *words, "--jobs", str(jobs)], cwd=f"{TOP}/crates/{name}", stdin=subprocess.DEVNULL,
             stdout=subprocess.PIPE, stderr=subprocess.STDOUT, start_new_session=True,
         )  # fmt: skip
 
@@ -134,8 +154,8 @@ class Run:
 
 
 class Build:
-    def __init__(self):
-        self.below = crates_needed()
+    def __init__(self, cpu):
+        self.below, self.cpu = crates_needed(), cpu
         self.ways = longest_ways(self.below, minutes_of_crates(self.below))
         self.left, self.done, self.running = list(self.below), set(), []
         self.count = self.free = int(os.environ.get("JOBS") or processors())
@@ -153,7 +173,7 @@ class Build:
             name = ready.pop(0)
             self.left.remove(name)
             self.free -= jobs
-            self.running.append(Run(name, jobs))
+            self.running.append(Run(name, jobs, self.cpu))
 
     def end(self, run):
         """Takes a run that has ended off the list."""
@@ -187,14 +207,23 @@ class Build:
         finally:
             for run in self.running:
                 run.stop()
-        self.say(f"proved and built in {clock(time.time() - self.begin)}")
+        self.say(f"proved, and built for {self.cpu}, in {clock(time.time() - self.begin)}")
 
 
-def keep(made_of):
+def keep(made_of, cpu):
     """Puts the program into build/."""
     part = f"{FOLDER}/{PROGRAM}.part"
     shutil.copy(f"{TOP}/crates/{PROGRAM}/out/{PROGRAM}", part)
-    sources.keep(PROGRAM, part, made_of)
+    sources.keep(PROGRAM, part, made_of, cpu)
+
+
+def take(made_of):
+    """Puts the program that the gate built into build/, where none is there of these sources. It is for x86-64-v2."""
+    if not sources.is_current(PROGRAM) and sources.total() == made_of:
+        os.makedirs(FOLDER, exist_ok=True)
+        keep(made_of, sources.OLDER)
+        print("dspfx: the program that the gate has proved is build/dspfx", file=sys.stderr)
+    return 0
 
 
 def stop(*_):
@@ -215,16 +244,16 @@ def build():
         except BlockingIOError:
             print("dspfx: another call is building; waiting for it", file=sys.stderr)
             fcntl.flock(lock, fcntl.LOCK_EX)
-        made_of = sources.total()
-        if sources.is_current(PROGRAM):
+        made_of, cpu = sources.total(), processor()
+        if sources.is_current(PROGRAM) and sources.built_for(PROGRAM) == cpu:
             os.utime(f"{FOLDER}/{PROGRAM}")
-            print("dspfx: the proved program is built", file=sys.stderr)
+            print(f"dspfx: the proved program is built, for {cpu}", file=sys.stderr)
             return 0
-        Build().run()
+        Build(cpu).run()
         if sources.total() != made_of:
             print("dspfx: sources changed meanwhile: `./dspfx prove` proves what did", file=sys.stderr)
             return 70
-        keep(made_of)
+        keep(made_of, cpu)
     return 0
 
 
@@ -233,6 +262,11 @@ def main(words):
         below, count = crates_needed(), processors()
         print(f"about {expected(below, minutes_of_crates(below), count):.0f} minutes on {count} processors")
         return 0
+    if words == ["--sum"]:
+        print(sources.total())
+        return 0
+    if len(words) == 2 and words[0] == "--take":
+        return take(words[1])
     if words:
         print(f"build: {' '.join(words)}: there is no such option", file=sys.stderr)
         return 70
@@ -241,6 +275,9 @@ def main(words):
     except KeyboardInterrupt:
         print("\ndspfx: stopped; the next call goes on where this one did", file=sys.stderr)
         return 130
+    except Wrong as wrong:
+        print(f"dspfx: not built: {wrong}", file=sys.stderr)
+        return 70
     except Failed as failed:
         with open(f"{FOLDER}/log", errors="replace") as log:
             lines = [line for line in log.read().splitlines() if not line.startswith(("statements ", "logic "))]

@@ -30,4 +30,6 @@ for file in $files; do mkdir -p -- "$(dirname -- "$prefix/$file")"; done
 install -m 755 -- "$program" "$prefix/bin/dspfx"
 "$top/tools/man.py" >"$prefix/share/man/man1/dspfx.1"
 install -m 644 -- "$top/tools/completion.bash" "$prefix/share/bash-completion/completions/dspfx"
-echo "install: dspfx $(cat "$top/VERSION") is in $prefix"
+built_for=
+[ -n "${DSPFX_PROGRAM-}" ] || built_for=$(sed 's/.*/ for &/' "$top/build/dspfx.cpu" 2>/dev/null || true)
+echo "install: dspfx $(cat "$top/VERSION")$built_for is in $prefix"

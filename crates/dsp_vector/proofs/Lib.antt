@@ -1,1 +1,2 @@
 pub mod ListedChannels
+mod Numbers

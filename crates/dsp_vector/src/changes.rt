@@ -1,14 +1,16 @@
-ghost use Rattle.std.specs.Prelude.{◌≡◌, ◌≤◌, ◌*◌, ◌≤ℤ◌, ℕ, ℤ, All, FitsSigned, length, map, take};
+ghost use Rattle.std.specs.Prelude.{◌≡◌, ◌≤◌, ◌*◌, ◌^◌, ◌-◌, ◌≤ℤ◌, ℕ, ℤ, pos, All, FitsSigned, length, map, take};
 ghost use Rattle.dsp_defs.specs.Counts.{Rises};
 ghost use Rattle.dsp_defs.specs.Elementwise.{abs, add, clip, convert, negate, scale, shift, IsScaleShift, IsShift};
-ghost use Rattle.dsp_defs.specs.Formats.{word};
+ghost use Rattle.dsp_defs.specs.Formats.{word, word_bits};
 
 use crate::conversions::converted;
 use dsp_defs::Steps;
 use dsp_sat::Sample;
 use std::sync::ledger::Ledger;
 
-/// An operation on one sample, whose parameters are numbers of its format.
+/// An operation on one sample, which is a number of the format of T as its parameters are, and becomes
+/// one of the format of U. Numbers stay in their 32 bits where they can: the compiler puts four of them
+/// into a vector as they are.
 pub(crate) trait Change<T: Sample, U: Sample>: Copy {
     ghost CanChange: { Self → Type 0 };
 
@@ -17,10 +19,20 @@ pub(crate) trait Change<T: Sample, U: Sample>: Copy {
     // The products of a change.
     ghost price: { ℕ };
 
-    fn change<L: Ledger>(self, x: T, steps: &mut Steps<L>) -> U
-        requires { CanChange self }
-        ensures value { U.number result ≡ value self (T.number x) }
+    fn change<L: Ledger>(self, x: i32, steps: &mut Steps<L>) -> i32
+        requires can { CanChange self }
+        requires in_format { FitsSigned (word T.format) x }
+        ensures value { result ≡ value self x }
+        ensures fits { FitsSigned (word U.format) result }
         ensures steps { Rises steps.old steps.new price price };
+}
+
+/// The greatest number of a format.
+#[inline(always)]
+fn greatest<T: Sample>() -> i32
+    ensures { result ≡ pos (2 ^ (word_bits T.format - 1) - 1) }
+{
+    i32::MAX >> (32 - T::WORD_BITS)
 }
 
 /// Adds a constant.
@@ -36,8 +48,8 @@ impl<T: Sample> Change<T, T> for Offset {
 
     ghost price = { 0 };
 
-    fn change<L: Ledger>(self, x: T, _steps: &mut Steps<L>) -> T {
-        T::add(x, T::of_number(self.value))
+    fn change<L: Ledger>(self, x: i32, _steps: &mut Steps<L>) -> i32 {
+        T::add(T::of_number(x), T::of_number(self.value)).number()
     }
 }
 
@@ -52,8 +64,8 @@ impl<T: Sample> Change<T, T> for Negate {
 
     ghost price = { 0 };
 
-    fn change<L: Ledger>(self, x: T, _steps: &mut Steps<L>) -> T {
-        T::negate(x)
+    fn change<L: Ledger>(self, x: i32, _steps: &mut Steps<L>) -> i32 {
+        -x.max(-greatest::<T>())
     }
 }
 
@@ -68,8 +80,8 @@ impl<T: Sample> Change<T, T> for Abs {
 
     ghost price = { 0 };
 
-    fn change<L: Ledger>(self, x: T, _steps: &mut Steps<L>) -> T {
-        T::abs(x)
+    fn change<L: Ledger>(self, x: i32, _steps: &mut Steps<L>) -> i32 {
+        x.max(-greatest::<T>()).abs()
     }
 }
 
@@ -88,8 +100,8 @@ impl<T: Sample> Change<T, T> for Scale {
 
     ghost price = { 1 };
 
-    fn change<L: Ledger>(self, x: T, steps: &mut Steps<L>) -> T {
-        T::scale(x, T::of_number(self.fract), self.shift, steps)
+    fn change<L: Ledger>(self, x: i32, steps: &mut Steps<L>) -> i32 {
+        T::scale(T::of_number(x), T::of_number(self.fract), self.shift, steps).number()
     }
 }
 
@@ -106,8 +118,8 @@ impl<T: Sample> Change<T, T> for Shift {
 
     ghost price = { 0 };
 
-    fn change<L: Ledger>(self, x: T, _steps: &mut Steps<L>) -> T {
-        T::shift(x, self.shift)
+    fn change<L: Ledger>(self, x: i32, _steps: &mut Steps<L>) -> i32 {
+        T::shift(T::of_number(x), self.shift).number()
     }
 }
 
@@ -126,8 +138,8 @@ impl<T: Sample> Change<T, T> for Clip {
 
     ghost price = { 0 };
 
-    fn change<L: Ledger>(self, x: T, _steps: &mut Steps<L>) -> T {
-        T::clip(x, T::of_number(self.low), T::of_number(self.high))
+    fn change<L: Ledger>(self, x: i32, _steps: &mut Steps<L>) -> i32 {
+        x.max(self.low).min(self.high)
     }
 }
 
@@ -142,8 +154,8 @@ impl<T: Sample, U: Sample> Change<T, U> for Convert {
 
     ghost price = { 0 };
 
-    fn change<L: Ledger>(self, x: T, _steps: &mut Steps<L>) -> U {
-        converted(x)
+    fn change<L: Ledger>(self, x: i32, _steps: &mut Steps<L>) -> i32 {
+        converted::<T, U>(T::of_number(x)).number()
     }
 }
 
@@ -165,7 +177,7 @@ pub(crate) fn change_each<T: Sample, U: Sample, O: Change<T, U>, L: Ledger>(
         (length samples.now * O.price) }
 {
     for (i, sample) in samples.iter().enumerate() {
-        out[i] = operation.change(T::of_number(*sample), steps).number();
+        out[i] = operation.change(*sample, steps);
     }
     samples.len()
 }

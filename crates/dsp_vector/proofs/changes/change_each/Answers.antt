@@ -11,14 +11,16 @@ loop-i-preserved g c =
     let samples = c.args.samples.now in
     let f = g.O.Change.value c.args.operation in
     let room : i < length out = omega arith in
-    let v = to_z w32 (of_z w32 c.number.result) in
-    let fits : SFits w32 c.number.result = search rules in
+    let x = to_z w32 (of_z w32 (sample samples i)) in
     let fits_taken : SFits w32 (sample samples i) = search rules in
-    let made : v ≡ c.number.result = to_z-of_z fits in
+    let fits : SFits w32 c.change.result = search rules in
+    let taken : x ≡ sample samples i = to_z-of_z fits_taken in
+    let made : to_z w32 (of_z w32 c.change.result) ≡ c.change.result = to_z-of_z fits in
     record {
-      values = map-more f i out samples v room c.loop-i-test.true c.loop-i.invariant.values
-          (made ∙ c.number.ensures.value ∙ c.change.ensures.value ∙ ap f (c.of_number.ensures ∙ to_z-of_z fits_taken));
-      fits = fits-more (word g.U.Sample.format) i out v room c.loop-i.invariant.fits (subst (FitsSigned (word g.U.Sample.format)) (sym made) c.number.ensures.fits);
+      values = map-more f i out samples (to_z w32 (of_z w32 c.change.result)) room c.loop-i-test.true c.loop-i.invariant.values
+          (made ∙ c.change.ensures.value ∙ ap f taken);
+      fits = fits-more (word g.U.Sample.format) i out (to_z w32 (of_z w32 c.change.result)) room c.loop-i.invariant.fits
+          (subst (FitsSigned (word g.U.Sample.format)) (sym made) c.change.ensures.fits);
       steps = record {
         multiplies_rise = omega (arith, c.loop-i.invariant.steps, c.change.ensures.steps);
         turns_rise = omega (arith, c.loop-i.invariant.steps, c.change.ensures.steps);

@@ -1,8 +1,8 @@
 use Rattle.std.proofs.Common.{rules}
 use Rattle.dsp_vector.proofs.changes.ClipChange.change.Goals as goal
 
-pub clip-requires : goal.clip-requires
-clip-requires g c = search rules
-
 pub returns-clause-value : goal.returns-clause-value
 returns-clause-value g c = search rules
+
+pub returns-clause-fits : goal.returns-clause-fits
+returns-clause-fits g c = search rules

@@ -100,8 +100,15 @@ python_tests() {
 python() {
     local python=${PYTHON:-python3}
     check 'Python' python_tests "$python" -m unittest
-    if has py:numpy; then
+    if "$python" -c 'import numpy' 2>/dev/null; then
         check 'Python, without numpy' python_tests "$python" -c 'import sys; sys.modules["numpy"] = None; import unittest; unittest.main(module=None, argv=["tests", "discover"])'
+    else
+        echo "skipped: no numpy"
+    fi
+    if "$python" -c 'import scipy' 2>/dev/null; then
+        check 'calls beside numpy and scipy' python_tests "$python" "$top/tools/library/calls.py" 1
+    else
+        echo "skipped: no scipy"
     fi
     check 'pip install ./python' installed "$python"
 }

@@ -21,6 +21,27 @@ except ImportError:
     numpy = None
 
 
+# Takes samples while the process may get no more address space, and once more when it may.
+WANTING = """
+import array, resource, tozbirem
+chain, other = (tozbirem.Chain("correlate {1 2}", channels=16) for _ in range(2))
+samples = array.array("h", [n * 7919 % 20001 - 10000 for n in range(16 * 8192)])
+chain.process(samples[:16])
+other.process(samples[:16])
+with open("/proc/self/statm") as file:
+    size = int(file.read().split()[0]) * resource.getpagesize()
+most = resource.getrlimit(resource.RLIMIT_AS)
+resource.setrlimit(resource.RLIMIT_AS, (size, most[1]))
+try:
+    chain.process(samples)
+except MemoryError as error:
+    print(error)
+status = tozbirem.program("run s i o", "dspfx 1 input raw q15 16 8000 correlate {1 2} output raw", bytes(32)).status
+resource.setrlimit(resource.RLIMIT_AS, most)
+print(status, chain.frames, bytes(chain.run(samples)) == bytes(other.run(samples)))
+"""
+
+
 class Chains(unittest.TestCase):
     def test_a_filter_a_tail_and_a_measure(self):
         chain = Chain("fir {16384} conv {16384 0 16384 8192} power", format="q15", channels=1)
@@ -233,6 +254,24 @@ class Faults(unittest.TestCase):
         """A command that reads no other file does the same with one."""
         script, data = "dspfx 1 input raw q15 1 8000 negate output raw", b"\1\0\2\0"
         self.assertEqual(tozbirem.program("run s i o", script, data, b"other"), tozbirem.program("run s i o", script, data=data))
+
+    def test_a_check_of_another_file(self):
+        """It reads the whole input and the other file where they are, and tells the first byte that differs."""
+        script, data = "dspfx 1 input raw q15 1 8000 negate output raw", bytes(range(200)) * 1000
+        output = tozbirem.program("run s i o", script, data).output
+        same = tozbirem.program("check s i o", script, data, output)
+        self.assertEqual((same.status, same.output), (0, b""))
+        wrong = output[:150000] + bytes([output[150000] ^ 1]) + output[150001:]
+        for form in bytes, bytearray, memoryview:
+            self.assertEqual(tozbirem.program("check s i o", script, form(data), form(output)), same)
+            self.assertEqual(tozbirem.program("check s i o", script, form(data), form(wrong)).status, 11)
+        self.assertEqual(tozbirem.program("check s i o", script, data, output[:-1]).status, 11)
+
+    def test_out_of_memory(self):
+        """Where the library gets no memory it is a MemoryError, and the chain goes on when there is some again."""
+        ran = subprocess.run([sys.executable, "-c", WANTING], stdout=subprocess.PIPE, text=True, check=True,
+                             env=dict(os.environ, PYTHONPATH=f"{TOP}/python"))  # fmt: skip
+        self.assertEqual(ran.stdout, "out of memory\n10 1 True\n")
 
     def test_samples(self):
         chain = Chain("fir {16384 16384}")

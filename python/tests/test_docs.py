@@ -49,14 +49,23 @@ class Page(unittest.TestCase):
             if not re.match(r"arm_q\d+_to_", name):
                 self.assertRegex(table, rf"`{re.sub(r'_q(7|15|31)$', '', name)}_(\*|q15|q31)")
 
-    @unittest.skipIf(lacking(["numpy", "scipy", "matplotlib"]), "no numpy, scipy and matplotlib")
+    @unittest.skipIf(lacking(["numpy", "scipy"]), "no numpy and scipy")
     def test_the_design(self):
+        """It draws in letters, and a picture where matplotlib is here."""
         with tempfile.TemporaryDirectory() as folder:
-            ran = subprocess.run([sys.executable, f"{TOP}/examples/library/design.py", f"{folder}/x.png"], stdout=subprocess.PIPE,
-                                 text=True, env=dict(os.environ, PYTHONPATH=f"{TOP}/python"))  # fmt: skip
-            self.assertEqual(ran.returncode, 0)
-            self.assertGreater(float(re.fullmatch(r"signal to noise: ([\d.]+) dB\n", ran.stdout)[1]), 70)
-            self.assertTrue(os.path.exists(f"{folder}/x.png"))
+            picture = f"{folder}/x.png"
+            for words in [], [picture]:
+                ran = subprocess.run([sys.executable, f"{TOP}/examples/library/design.py", *words], stdout=subprocess.PIPE,
+                                     text=True, env=dict(os.environ, PYTHONPATH=f"{TOP}/python"))  # fmt: skip
+                self.assertEqual(ran.returncode, 0)
+                said, *lines = ran.stdout.splitlines()
+                self.assertGreater(float(re.fullmatch(r"signal to noise: ([\d.]+) dB", said)[1]), 70)
+                is_drawn = bool(words) and is_here("matplotlib")
+                self.assertEqual((os.path.exists(picture), len(lines)), (is_drawn, 0 if is_drawn else 54))
+                self.assertTrue(all("*" in line for line in lines))
+            if is_here("matplotlib"):
+                with open(picture, "rb") as file:
+                    self.assertEqual(file.read(8), b"\x89PNG\r\n\x1a\n")
 
 
 if __name__ == "__main__":

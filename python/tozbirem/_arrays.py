@@ -43,14 +43,25 @@ def _numpy_words(samples, bits, channels):
         raise ValueError(f"samples of the shape {found.shape}, where frames of {channels} channels are needed")
     kind = numpy.dtype(NAMES[bits])
     if found.dtype != kind:
-        if found.size and found.dtype.kind == "O" and all(isinstance(it, int) for it in found.reshape(-1).tolist()):
-            raise out_of_range(bits)
         if found.size and found.dtype.kind not in "iu":
-            raise no_whole_numbers(found.dtype)
+            found = _whole_numbers(samples, found, bits)
         if found.size and (found.min() < -(1 << bits) or found.max() > (1 << bits) - 1):
             raise out_of_range(bits)
         found = found.astype(kind)
     return numpy.ascontiguousarray(found).reshape(-1)
+
+
+def _whole_numbers(samples, found, bits):
+    """Whole numbers that are in an array of objects, or that numpy has no type of whole numbers for, as int64."""
+    if found.dtype.kind != "O" and (found.dtype.kind != "f" or hasattr(samples, "dtype")):
+        raise no_whole_numbers(found.dtype)
+    objects = numpy.asarray(samples, object)
+    for it in objects.reshape(-1).tolist():
+        if isinstance(it, bool) or not hasattr(it, "__index__"):
+            raise no_whole_numbers(type(it).__name__)
+        if not -(1 << bits) <= it < 1 << bits:
+            raise out_of_range(bits)
+    return objects.astype("int64")
 
 
 def _plain_words(samples, bits, channels):

@@ -4,6 +4,7 @@ import array
 import re
 import weakref
 from ctypes import byref
+from operator import index
 from typing import Any, List, NamedTuple, Optional, Sequence, Tuple, Union
 
 from . import _arrays
@@ -155,7 +156,7 @@ class Chain:
 
     def _plan(self, block: int, frames: int = 0):
         plan, answer = Plan(), Answer()
-        status = LIBRARY.tozbirem_plan(self._script, len(self._script), block, frames, byref(plan), byref(answer))
+        status = LIBRARY.tozbirem_plan(self._script, len(self._script), block, index(frames), byref(plan), byref(answer))
         judge(status, answer, self._script, self._own)
         return plan
 
@@ -302,7 +303,7 @@ class Chain:
 
     @state.setter
     def state(self, state: Tuple[int, Sequence[int]]) -> None:
-        frames, numbers = state
+        frames, numbers = index(state[0]), state[1]
         if not 0 <= frames <= 1 << 40:
             raise TozbiremError(26, "a signal has 0 to 2^40 frames")
         before, ended = self._now(), self._measures

@@ -7,6 +7,7 @@ from ._library import LIBRARY, Lengths
 
 MOST = 1 << 32  # bytes of an output
 MOST_STATE = 1 << 30  # and of a saved state
+REPORT = 1 << 17  # enough for the lines of 64 measures on 16 channels
 
 
 class Ran(NamedTuple):
@@ -38,9 +39,11 @@ def program(words: str, script: Union[str, bytes] = b"", data: bytes = b"", othe
     """
     text = script.encode() if isinstance(script, str) else bytes(script)
     said, data, other = words.encode(), bytes(data), bytes(other)
-    room, told = max(1 << 16, 8 * len(data)), ctypes.create_string_buffer(1 << 20)
+    room, told = max(1 << 16, 8 * len(data)), ctypes.create_string_buffer(REPORT)
     if said.startswith(b"print"):
         told = ctypes.create_string_buffer(2 * len(text) + (1 << 16))
+    if said.startswith(b"resume"):
+        told = ctypes.create_string_buffer(1 << 20)
     while True:
         output, lengths = ctypes.create_string_buffer(room), Lengths()
         status = LIBRARY.tozbirem_program(
@@ -53,5 +56,5 @@ def program(words: str, script: Union[str, bytes] = b"", data: bytes = b"", othe
         elif status == 9 and len(told) < MOST_STATE:
             told = ctypes.create_string_buffer(min(8 * len(told), MOST_STATE))
         else:
-            printed = told.raw[: lengths.report]
-            return Ran(status, output.raw[: lengths.output], printed.decode("utf-8", "replace"), printed)
+            printed = ctypes.string_at(told, lengths.report)
+            return Ran(status, ctypes.string_at(output, lengths.output), printed.decode("utf-8", "replace"), printed)

@@ -92,6 +92,9 @@ static void test_ends(void)
     CHECK(tozbirem_finish(WINDOW, strlen(WINDOW), 2, 2, kept, (size_t)answer.kept, output, ROOM, measures, 0, &answer) ==
           TOZBIREM_WINDOW);
     CHECK(answer.first == 4 && answer.second == 3);
+    kept[0] = (int64_t)1 << 31;
+    CHECK(tozbirem_finish(WINDOW, strlen(WINDOW), 2, 2, kept, 1, output, ROOM, measures, 0, &answer) == TOZBIREM_STATE);
+    CHECK(tozbirem_finish(WINDOW, strlen(WINDOW), 2, 2, kept, 0, output, ROOM, measures, 0, &answer) == TOZBIREM_STATE);
     CHECK(tozbirem_finish(LONG, strlen(LONG), 1, 1 << 20, many, 1 << 20, output, ROOM, measures, 0, &answer) ==
           TOZBIREM_ROOM);
     CHECK(answer.first == (1 << 21) - 1);
@@ -159,6 +162,7 @@ static void test_chains(void)
     saved[0] = 40000;
     CHECK(tozbirem_resume(&chain, 1, saved, 4) == TOZBIREM_OK);
     CHECK(tozbirem_process(&chain, input + 2, 1, output, 100, &given) == TOZBIREM_STATE && chain.frames == 1);
+    CHECK(tozbirem_end(&chain, output, 100, &given, measures, 2) == TOZBIREM_STATE && !chain.has_ended);
 }
 
 /* The line of a status with its numbers, which is compared with what is wanted. */
@@ -277,23 +281,41 @@ static void test_programs(void)
     CHECK(PROGRAM(wrong, ROOM, ROOM) == 1);
     CHECK(PROGRAM(print, 0, ROOM) == 0 && lengths.output == 0 && !memcmp(report, "dspfx 1\ninput raw q15 1 8000\nfir {16384}\n", 41));
 #undef PROGRAM
+    /* The other file is read where it is, up to the first byte that differs, and no output is written. */
+    const char *compare = "check s i o";
+    unsigned char other[6];
+    memset(output, 7, sizeof output);
+    for (int wrong = 0; wrong < 2; wrong++) {
+        memcpy(other, wanted, 6);
+        other[4] ^= (unsigned char)wrong;
+        CHECK(tozbirem_program(compare, strlen(compare), script, strlen(script), input, 6, other, 6, output, ROOM, report, ROOM,
+                               &lengths) == (wrong ? 11U : 0U));
+        CHECK(lengths.output == 0 && output[0] == 7);
+    }
+    CHECK(tozbirem_program(run, strlen(run), script, strlen(script), input, 0, script, 0, output, 0, report, ROOM, &lengths) == 0);
+    CHECK(lengths.output == 0 && output[0] == 7);
 }
 
-/* A filter over 20,000 samples of its own, in pieces of 100: the sum of the output in out[1]. */
+/* A filter over 20,000 samples of its own, in pieces of 100, by its text and by a handle: the sum of the output in out[1]. */
 static void *work(void *argument)
 {
     int64_t *out = (int64_t *)argument, kept[4];
-    int16_t input[100], output[100];
+    int16_t input[100], output[100], by_handle[100];
     struct tozbirem chain;
+    struct tozbirem_answer answer;
+    struct tozbirem_handle handle = TOZBIREM_EMPTY_HANDLE;
     size_t given;
     const char *script = "dspfx 1 input raw q15 1 8000 fir {16384 16384} output raw";
     if (tozbirem_open(&chain, script, 100, kept, 4) != TOZBIREM_OK) return NULL;
+    if (tozbirem_hold(script, strlen(script), 100, 0, kept, 0, &handle, &answer) != TOZBIREM_OK) return NULL;
     for (int piece = 0; piece < 200; piece++) {
         for (int i = 0; i < 100; i++) input[i] = (int16_t)(2 * (out[0] * piece + i));
         if (tozbirem_process(&chain, input, 100, output, sizeof output, &given) != TOZBIREM_OK || given != 100) return NULL;
+        if (tozbirem_push(&handle, input, sizeof input, by_handle, sizeof by_handle, &answer) != TOZBIREM_OK) return NULL;
+        if (memcmp(output, by_handle, sizeof output)) return NULL;
         for (int i = 0; i < 100; i++) out[1] += output[i];
     }
-    return out;
+    return tozbirem_let_go(&handle) == TOZBIREM_OK ? out : NULL;
 }
 
 static void test_threads(void)

@@ -37,13 +37,24 @@ void __wrap_free(void *p)
 static const char *TEXT = "dspfx 2 input raw q15 2 8000 table t {1 2 3 4} fir t decimate 2 t sparse {1 2} {0 5} "
                           "biquad 0 {16384 0 0 0 0 0} conv t lms 0 100 t mat_add 2 2 t max power correlate t output raw";
 
+static int16_t input[16], output[4096], spare[4096];
+static size_t written; /* bytes of the output of a run, which a check finds */
+
+/* The program into a buffer, with that many bytes of the output as the other file. */
+static uint32_t program(const char *words, void *into, size_t other)
+{
+    static char report[4096];
+    struct tozbirem_lengths lengths;
+    uint32_t status = tozbirem_program(words, strlen(words), TEXT, strlen(TEXT), input, sizeof input, output, other, into,
+                                       sizeof spare, report, sizeof report, &lengths);
+    if (status == 0 && into == output) written = (size_t)lengths.output;
+    return status;
+}
+
 static uint32_t call(int which)
 {
-    static int16_t input[16], output[4096];
     static int64_t none[1], kept[8192];
-    static char report[4096];
     static struct tozbirem_measure measures[64];
-    static struct tozbirem_lengths lengths;
     struct tozbirem_plan plan;
     struct tozbirem_answer answer;
     struct tozbirem_handle handle = TOZBIREM_EMPTY_HANDLE;
@@ -58,15 +69,15 @@ static uint32_t call(int which)
         tozbirem_let_go(&handle);
         return status;
     }
-    default:
-        return tozbirem_program("run s i o block 8", 17, TEXT, n, input, 32, input, 32, output, sizeof output, report,
-                                sizeof report, &lengths);
+    case 4: return program("run s i o block 8", output, 0);
+    case 5: return program("check s i o", spare, written);
+    default: return program("resume stop 4 s i o", spare, 0);
     }
 }
 
 int main(void)
 {
-    for (int which = 0; which < 5; which++) {
+    for (int which = 0; which < 7; which++) {
         refused = 0;
         calls = 0;
         uint32_t sound = call(which);

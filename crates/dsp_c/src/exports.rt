@@ -205,7 +205,7 @@ pub extern "C" fn tozbirem_program(
     lengths: &mut Lengths,
 ) -> u32
     // The top call of these words over these bytes ended with this status, and what it wrote stands in the
-    // buffers; or memory was wanting for the copies of the bytes, and nothing was written.
+    // buffers; or memory was wanting for the words or for what is written, and nothing was written.
     ensures { Played words.now script.now input.now other.now output.old output.new report.old
         report.new result lengths.new ⊎ NotPlayed output.old output.new report.old report.new result lengths.new }
 {

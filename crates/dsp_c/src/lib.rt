@@ -7,6 +7,7 @@ mod exports;
 mod handles;
 mod held;
 mod hidden;
+mod lent;
 mod loose;
 mod measures;
 mod pieces;

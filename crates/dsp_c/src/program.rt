@@ -1,10 +1,10 @@
-ghost use Rattle.std.specs.Prelude.{◌≡◌, ◌++◌, IfErr, IfOk, length, take, drop, map};
-ghost use Rattle.std.specs.List.{slice_split};
+ghost use Rattle.std.specs.Prelude.{◌≡◌, ◌++◌, IfErr, IfOk, length, take, drop};
 ghost use Rattle.dsp_c.specs.Program.{AreWords, Played, words_in};
 
+use crate::lent::LentSource;
 use dsp_cli::{Words, run};
 use dsp_defs::Steps;
-use dsp_ports::{CleanSource, MemSink};
+use dsp_ports::MemSink;
 use dsp_stage::AnyUnit;
 use std::alloc::{AllocError, Global};
 use std::sync::ledger::{Blank, Ledger};
@@ -17,7 +17,7 @@ pub struct Lengths {
     pub report: u64,
 }
 
-/// How many bytes a port passes at a time.
+/// How many bytes a sink takes at a time.
 const PIECE: usize = 1 << 16;
 
 /// The words of a text, apart by single spaces.
@@ -77,11 +77,13 @@ pub fn play<U: AnyUnit + Drop, L: Ledger>(
     ensures err { IfErr result (λ _. (output.new ≡ output.old) × (report.new ≡ report.old)) }
 {
     let words = words_of(alloc, words)?;
-    let mut script = CleanSource::new(alloc, script, PIECE)?;
-    let mut input = CleanSource::new(alloc, input, PIECE)?;
+    let mut script = LentSource::new(script);
+    let mut input = LentSource::new(input);
+    let mut other = LentSource::new(other);
+
+    // A port tells the bytes that it took, and not where they are: so a sink owns them, and they are copied out.
     let mut written = MemSink::new(alloc, output.len(), PIECE, &[])?;
     let mut told = MemSink::new(alloc, report.len(), PIECE, &[])?;
-    let mut other = CleanSource::new(alloc, other, PIECE)?;
     let mut steps: Steps<L> = Steps::new(blank);
     let status = run::<U, _, _, _, _, _, _>(
         alloc,

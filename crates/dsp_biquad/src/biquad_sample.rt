@@ -1,10 +1,15 @@
-ghost use Rattle.std.specs.Prelude.{◌≡◌, ℕ, ◌+ℤ◌, refl};
+ghost use Rattle.std.specs.Prelude.{◌≡◌, ℕ, refl};
 ghost use Rattle.dsp_defs.specs.Biquad.{section_close};
+ghost use Rattle.dsp_defs.specs.Counts.{Rises};
 ghost use Rattle.dsp_defs.specs.Parameters.{greatest_biquad_shift};
+ghost use Rattle.dsp_lanes.specs.SectionWaves.{AreSections, LanesTurn};
 ghost use Rattle.dsp_biquad.specs.Sections.{size_in};
 
-use crate::closing::{close15, exact_sum, fraction31, wrapped_five};
-use dsp_sat::{Sample, WideSample};
+use crate::closing::fraction31;
+use dsp_defs::Steps;
+use dsp_lanes::{WaveLanes, turn_sections};
+use dsp_sat::{Sample, WideSample, sat16};
+use std::sync::ledger::Ledger;
 
 /// The samples of a cascade.
 pub trait BiquadSample: WideSample {
@@ -17,18 +22,17 @@ pub trait BiquadSample: WideSample {
 
     ghost GREATEST_SHIFT: { ℕ };
 
-    /// A section's output from its products: of b0, b1 and b2, and of a1 and a2.
-    fn closed(
-        newest: Self::Wide,
-        second: Self::Wide,
-        third: Self::Wide,
-        fourth: Self::Wide,
-        fifth: Self::Wide,
-        post_shift: u8,
-    ) -> Self
-        ensures { Self.number result ≡ section_close Self.format post_shift
-            (Self.wide newest +ℤ Self.wide second +ℤ Self.wide third +ℤ
-            (Self.wide fourth +ℤ Self.wide fifth)) };
+    /// A section's output from the sum of its products, which have the post shift in their coefficients.
+    fn closed(sum: i64) -> Self
+        ensures { Self.number result ≡ section_close Self.format 0 sum };
+
+    /// A turn of four sections in lanes: gives the first x, and each other what was given to it, and counts
+    /// the five products of each. The value is the output of the last.
+    fn turn<L: Ledger>(lanes: &mut WaveLanes, x: Self, steps: &mut Steps<L>) -> Self
+        requires { AreSections Self.format lanes.old }
+        ensures whole { AreSections Self.format lanes.new }
+        ensures turn { LanesTurn Self.format lanes.old lanes.new (Self.number x) (Self.number result) }
+        ensures steps { Rises steps.old steps.new 20 20 };
 
     ghost has_size: { SIZE ≡ size_in Self.format };
 
@@ -49,15 +53,13 @@ impl BiquadSample for i16 {
     ghost has_shift = { refl };
 
     #[inline(always)]
-    fn closed(
-        newest: i32,
-        second: i32,
-        third: i32,
-        fourth: i32,
-        fifth: i32,
-        post_shift: u8,
-    ) -> i16 {
-        close15(exact_sum(newest, second, third, fourth, fifth), post_shift)
+    fn closed(sum: i64) -> i16 {
+        sat16(sum >> 15)
+    }
+
+    #[inline(always)]
+    fn turn<L: Ledger>(lanes: &mut WaveLanes, x: i16, steps: &mut Steps<L>) -> i16 {
+        turn_sections(lanes, x, steps)
     }
 }
 
@@ -75,17 +77,12 @@ impl BiquadSample for i32 {
     ghost has_shift = { refl };
 
     #[inline(always)]
-    fn closed(
-        newest: i64,
-        second: i64,
-        third: i64,
-        fourth: i64,
-        fifth: i64,
-        post_shift: u8,
-    ) -> i32 {
-        fraction31(
-            wrapped_five(newest, second, third, fourth, fifth),
-            post_shift,
-        )
+    fn closed(sum: i64) -> i32 {
+        fraction31(sum, 0)
+    }
+
+    #[inline(always)]
+    fn turn<L: Ledger>(lanes: &mut WaveLanes, x: i32, steps: &mut Steps<L>) -> i32 {
+        turn_sections(lanes, x, steps)
     }
 }

@@ -8,10 +8,10 @@ ghost use Rattle.dsp_defs.specs.declared.script.Block.{Block};
 ghost use Rattle.dsp_biquad.specs.Sections.{AreParameters, IsCascade, block_acts, coefficients_of, post_shift_of};
 
 use dsp_sat::Sample;
-use dsp_unit::Machine;
+use dsp_unit::WaveMachine;
 
 /// A section of a cascade, from its numbers in a list, with four numbers that it keeps.
-pub trait CascadeSection<T: Sample>: Machine<T> + Copy {
+pub trait CascadeSection<T: Sample>: WaveMachine<T> {
     // How many numbers it has in a list.
     const SIZE: usize;
 

@@ -1,32 +1,9 @@
 //! Sums of five products, and how a section closes them.
-ghost use Rattle.std.specs.Prelude.{◌≡◌, ◌+◌, ◌-◌, ◌^◌, ◌≤◌, ◌+ℤ◌, ◌*ℤ◌, pos};
+ghost use Rattle.std.specs.Prelude.{◌≡◌, ◌+◌, ◌-◌, ◌^◌, ◌≤◌, ◌+ℤ◌, pos};
 ghost use Rattle.dsp_defs.specs.Numbers.{floor_shift, wrap, w32, w64};
-ghost use Rattle.dsp_defs.specs.Biquad.{section_close, fed_back};
-ghost use Rattle.dsp_defs.specs.declared.format.Fmt.TheVariants.{Q15, Q31};
+ghost use Rattle.dsp_defs.specs.Biquad.{fed_back};
 
-use dsp_sat::{low_word, sat16};
-
-#[inline(always)]
-fn sum_of_two(first: i32, second: i32) -> i64
-    ensures { result ≡ first +ℤ second }
-{
-    i64::from(first) + i64::from(second)
-}
-
-#[inline(always)]
-fn sum_of_three(first: i32, second: i32, third: i32) -> i64
-    ensures { result ≡ first +ℤ second +ℤ third }
-{
-    i64::from(first) + i64::from(second) + i64::from(third)
-}
-
-/// The sum, the last two added to each other.
-#[inline(always)]
-pub(crate) fn exact_sum(first: i32, second: i32, third: i32, fourth: i32, fifth: i32) -> i64
-    ensures { result ≡ first +ℤ second +ℤ third +ℤ (fourth +ℤ fifth) }
-{
-    sum_of_three(first, second, third) + sum_of_two(fourth, fifth)
-}
+use dsp_sat::low_word;
 
 /// The sum of three numbers, wrapped.
 #[inline(always)]
@@ -36,22 +13,15 @@ fn wrapped_sum(first: i64, second: i64, third: i64) -> i64
     first.wrapping_add(second).wrapping_add(third)
 }
 
-/// The sum of five numbers, wrapped.
+/// The sum of five numbers, wrapped. The fourth is added last: it is the product of the last output,
+/// which the next output waits for.
 #[inline(always)]
 pub(crate) fn wrapped_five(first: i64, second: i64, third: i64, fourth: i64, fifth: i64) -> i64
     ensures paired { result ≡ wrap w64 (first +ℤ second +ℤ third +ℤ (fourth +ℤ fifth)) }
     ensures in_turn { result ≡ wrap w64 (first +ℤ second +ℤ third +ℤ fourth +ℤ fifth) }
 {
-    let forward = wrapped_sum(first, second, third);
-    wrapped_sum(forward, fourth, fifth)
-}
-
-/// A section's output in Q15.
-#[inline(always)]
-pub(crate) fn close15(sum: i64, post_shift: u8) -> i16
-    ensures { result ≡ section_close Q15 post_shift sum }
-{
-    sat16(sum >> 15u32.saturating_sub(u32::from(post_shift)))
+    let past = wrapped_sum(second, third, fifth);
+    wrapped_sum(first, past, fourth)
 }
 
 /// A sum as a fraction, wrapped.

@@ -1,53 +1,72 @@
-ghost use Rattle.std.specs.Prelude.{◌≡◌, ◌<◌};
+ghost use Rattle.std.specs.Prelude.{◌≡◌, ◌≤◌, ◌<◌, ◌^◌, ◌*ℤ◌, pos, FitsSigned};
 ghost use Rattle.dsp_defs.specs.Formats.{word};
-ghost use Rattle.dsp_defs.specs.Signal.{sample};
-ghost use Rattle.dsp_defs.specs.Kept.{Each, IsOfKind, in_words};
+ghost use Rattle.dsp_defs.specs.Parameters.{greatest_biquad_shift};
+ghost use Rattle.dsp_lanes.specs.SectionWaves.{AreSections, low};
+ghost use Rattle.dsp_biquad.specs.Scaled.{IsScaled};
 
-use crate::{BiquadSample, CascadeSection};
+use crate::closing::wrapped_five;
+use crate::lane_numbers::{in_lanes, number_in, plain_in_lanes};
+use crate::{BiquadSample, CascadeSection, FourSections};
 use dsp_defs::Steps;
-use dsp_sat::{Sample, product};
-use dsp_unit::{Machine, are_samples, number_of, write_four};
+use dsp_lanes::{WaveLanes, wrapped_product};
+use dsp_unit::{InFlight, Machine, WaveMachine, are_samples, write_four};
+use std::alloc::AllocError;
+use std::marker::PhantomData;
 use std::sync::ledger::Ledger;
 
-/// A section: its coefficients, its last two samples and its last two outputs.
-#[derive(Clone, Copy)]
-pub struct Section<T> {
-    b0: T,
-    b1: T,
-    b2: T,
-    a1: T,
-    a2: T,
-    x1: T,
-    x2: T,
-    y1: T,
-    y2: T,
+/// A section: its coefficients times 2^post_shift, its last two samples and its last two outputs, all
+/// of them in 64 bits, so that a step widens its sample alone and shifts by a constant.
+pub struct Section<T: BiquadSample> {
+    b0: i64,
+    b1: i64,
+    b2: i64,
+    a1: i64,
+    a2: i64,
+    x1: i64,
+    x2: i64,
+    y1: i64,
+    y2: i64,
     post_shift: u8,
+    sample: PhantomData<T>,
+    ghost shift: { post_shift ≤ greatest_biquad_shift T.format },
+    ghost b0_fits: { IsScaled T.format post_shift b0 },
+    ghost b1_fits: { IsScaled T.format post_shift b1 },
+    ghost b2_fits: { IsScaled T.format post_shift b2 },
+    ghost a1_fits: { IsScaled T.format post_shift a1 },
+    ghost a2_fits: { IsScaled T.format post_shift a2 },
+    ghost x1_fits: { FitsSigned (word T.format) x1 },
+    ghost x2_fits: { FitsSigned (word T.format) x2 },
+    ghost y1_fits: { FitsSigned (word T.format) y1 },
+    ghost y2_fits: { FitsSigned (word T.format) y2 },
 }
 
-/// One of the four kept numbers, as a sample.
-fn kept_sample<T: Sample>(numbers: &[i64], place: usize) -> T
-    requires numbers { Each IsOfKind (in_words (word T.format) 4) numbers.now }
-    requires inside { place < 4 }
-    ensures { T.number result ≡ sample numbers.now place }
+impl<T: BiquadSample> Clone for Section<T> {
+    fn clone(&self) -> Result<Self, AllocError> {
+        Ok(*self)
+    }
+}
+
+impl<T: BiquadSample> Copy for Section<T> {}
+
+/// A coefficient times 2^post_shift.
+fn scaled<T: BiquadSample>(coefficient: T, post_shift: u8) -> i64
+    requires { post_shift ≤ greatest_biquad_shift T.format }
+    ensures value { result ≡ T.number coefficient *ℤ pos (2 ^ post_shift) }
+    ensures fits { IsScaled T.format post_shift result }
 {
-    T::of_number(numbers[place] as i32)
+    i64::from(coefficient.number()) << post_shift
 }
 
 impl<T: BiquadSample> Machine<T> for Section<T> {
     ghost use Rattle.std.specs.Prelude.{◌∷◌, [], refl};
     ghost use Rattle.dsp_biquad.specs.Sections.{section_acts};
 
+    // The post shift is in the coefficients.
     ghost acts = { λ s.
-        section_acts T.format s.post_shift
-        (record {
-          b0 = T.number s.b0;
-          b1 = T.number s.b1;
-          b2 = T.number s.b2;
-          a1 = T.number s.a1;
-          a2 = T.number s.a2;
-        }) };
+        section_acts T.format 0
+        (record { b0 = s.b0; b1 = s.b1; b2 = s.b2; a1 = s.a1; a2 = s.a2 }) };
 
-    ghost kept = { λ s. T.number s.x1 ∷ T.number s.x2 ∷ T.number s.y1 ∷ T.number s.y2 ∷ [] };
+    ghost kept = { λ s. s.x1 ∷ s.x2 ∷ s.y1 ∷ s.y2 ∷ [] };
 
     ghost price = { 5 };
 
@@ -55,17 +74,106 @@ impl<T: BiquadSample> Machine<T> for Section<T> {
 
     #[inline(always)]
     fn step<L: Ledger>(&mut self, x: T, steps: &mut Steps<L>) -> T {
-        let newest = product(self.b0, x, steps);
-        let second = product(self.b1, self.x1, steps);
-        let third = product(self.b2, self.x2, steps);
-        let fourth = product(self.a1, self.y1, steps);
-        let fifth = product(self.a2, self.y2, steps);
-        let y = T::closed(newest, second, third, fourth, fifth, self.post_shift);
+        let x0 = i64::from(x.number());
+        let newest = wrapped_product(self.b0, x0, steps);
+        let second = wrapped_product(self.b1, self.x1, steps);
+        let third = wrapped_product(self.b2, self.x2, steps);
+        let fourth = wrapped_product(self.a1, self.y1, steps);
+        let fifth = wrapped_product(self.a2, self.y2, steps);
+        let y = T::closed(wrapped_five(newest, second, third, fourth, fifth));
         self.x2 = self.x1;
-        self.x1 = x;
+        self.x1 = x0;
         self.y2 = self.y1;
-        self.y1 = y;
+        self.y1 = i64::from(y.number());
         y
+    }
+}
+
+/// The section of a lane.
+fn section_in<T: BiquadSample>(lanes: &WaveLanes, lane: usize) -> Section<T>
+    requires whole { AreSections T.format lanes.now }
+    requires inside { lane < 4 }
+    ensures b0 { result.b0 ≡ low lanes.now.b0 lane *ℤ pos (2 ^ lanes.now.post_shift) }
+    ensures b1 { result.b1 ≡ low lanes.now.b1 lane *ℤ pos (2 ^ lanes.now.post_shift) }
+    ensures b2 { result.b2 ≡ low lanes.now.b2 lane *ℤ pos (2 ^ lanes.now.post_shift) }
+    ensures a1 { result.a1 ≡ low lanes.now.a1 lane *ℤ pos (2 ^ lanes.now.post_shift) }
+    ensures a2 { result.a2 ≡ low lanes.now.a2 lane *ℤ pos (2 ^ lanes.now.post_shift) }
+    ensures x1 { result.x1 ≡ low lanes.now.x1 lane }
+    ensures x2 { result.x2 ≡ low lanes.now.x2 lane }
+    ensures y1 { result.y1 ≡ low lanes.now.y1 lane }
+    ensures y2 { result.y2 ≡ low lanes.now.y2 lane }
+{
+    let post_shift = lanes.post_shift;
+    Section {
+        b0: number_in(lanes.b0, lane) << post_shift,
+        b1: number_in(lanes.b1, lane) << post_shift,
+        b2: number_in(lanes.b2, lane) << post_shift,
+        a1: number_in(lanes.a1, lane) << post_shift,
+        a2: number_in(lanes.a2, lane) << post_shift,
+        x1: number_in(lanes.x1, lane),
+        x2: number_in(lanes.x2, lane),
+        y1: number_in(lanes.y1, lane),
+        y2: number_in(lanes.y2, lane),
+        post_shift,
+        sample: PhantomData,
+    }
+}
+
+impl<T: BiquadSample> WaveMachine<T> for Section<T> {
+    type Lanes = FourSections<T>;
+
+    ghost use Rattle.std.specs.Prelude.{refl};
+
+    ghost same_price = { refl };
+
+    fn pack(machines: &InFlight<T, Self>) -> Option<FourSections<T>> {
+        let InFlight {
+            first: a,
+            second: b,
+            third: c,
+            fourth: d,
+            to_second,
+            to_third,
+            to_fourth,
+        } = *machines;
+        let p = a.post_shift;
+        if b.post_shift != p || c.post_shift != p || d.post_shift != p {
+            return None;
+        }
+        Some(FourSections {
+            lanes: WaveLanes {
+                b0: plain_in_lanes(a.b0, b.b0, c.b0, d.b0, p),
+                b1: plain_in_lanes(a.b1, b.b1, c.b1, d.b1, p),
+                b2: plain_in_lanes(a.b2, b.b2, c.b2, d.b2, p),
+                a1: plain_in_lanes(a.a1, b.a1, c.a1, d.a1, p),
+                a2: plain_in_lanes(a.a2, b.a2, c.a2, d.a2, p),
+                x1: in_lanes(a.x1, b.x1, c.x1, d.x1),
+                x2: in_lanes(a.x2, b.x2, c.x2, d.x2),
+                y1: in_lanes(a.y1, b.y1, c.y1, d.y1),
+                y2: in_lanes(a.y2, b.y2, c.y2, d.y2),
+                given: in_lanes(
+                    i64::from(to_second.number()),
+                    i64::from(to_third.number()),
+                    i64::from(to_fourth.number()),
+                    0,
+                ),
+                post_shift: p,
+            },
+            sample: PhantomData,
+        })
+    }
+
+    fn unpack(lanes: &FourSections<T>) -> InFlight<T, Self> {
+        let given = lanes.lanes.given;
+        InFlight {
+            first: section_in(&lanes.lanes, 0),
+            second: section_in(&lanes.lanes, 1),
+            third: section_in(&lanes.lanes, 2),
+            fourth: section_in(&lanes.lanes, 3),
+            to_second: T::of_number(number_in(given, 0) as i32),
+            to_third: T::of_number(number_in(given, 1) as i32),
+            to_fourth: T::of_number(number_in(given, 2) as i32),
+        }
     }
 }
 
@@ -128,27 +236,22 @@ impl<T: BiquadSample> CascadeSection<T> for Section<T> {
 
     fn new(post_shift: u8, numbers: &[T]) -> Self {
         Section {
-            b0: numbers[0],
-            b1: numbers[T::SIZE - 4],
-            b2: numbers[T::SIZE - 3],
-            a1: numbers[T::SIZE - 2],
-            a2: numbers[T::SIZE - 1],
-            x1: T::zero(),
-            x2: T::zero(),
-            y1: T::zero(),
-            y2: T::zero(),
+            b0: scaled(numbers[0], post_shift),
+            b1: scaled(numbers[T::SIZE - 4], post_shift),
+            b2: scaled(numbers[T::SIZE - 3], post_shift),
+            a1: scaled(numbers[T::SIZE - 2], post_shift),
+            a2: scaled(numbers[T::SIZE - 1], post_shift),
+            x1: 0,
+            x2: 0,
+            y1: 0,
+            y2: 0,
             post_shift,
+            sample: PhantomData,
         }
     }
 
     fn keep(&self, out: &mut [i64]) {
-        write_four(
-            out,
-            number_of(self.x1),
-            number_of(self.x2),
-            number_of(self.y1),
-            number_of(self.y2),
-        );
+        write_four(out, self.x1, self.x2, self.y1, self.y2);
     }
 
     fn fits(numbers: &[i64]) -> bool {
@@ -156,9 +259,9 @@ impl<T: BiquadSample> CascadeSection<T> for Section<T> {
     }
 
     fn restore(&mut self, numbers: &[i64]) {
-        self.x1 = kept_sample(numbers, 0);
-        self.x2 = kept_sample(numbers, 1);
-        self.y1 = kept_sample(numbers, 2);
-        self.y2 = kept_sample(numbers, 3);
+        self.x1 = numbers[0];
+        self.x2 = numbers[1];
+        self.y1 = numbers[2];
+        self.y2 = numbers[3];
     }
 }

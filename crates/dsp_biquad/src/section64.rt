@@ -4,7 +4,7 @@ use crate::CascadeSection;
 use crate::closing::{fed_back, fraction31, wrapped_five};
 use dsp_defs::Steps;
 use dsp_sat::{mult32x64, product};
-use dsp_unit::{Machine, are_samples, write_four};
+use dsp_unit::{InFlight, Machine, WaveMachine, are_samples, write_four};
 use std::sync::ledger::Ledger;
 
 /// A section in Q31 with its feedback in 64 bits: its coefficients, its last two samples and the last
@@ -50,6 +50,23 @@ impl Machine<i32> for Section64 {
         self.y2 = self.y1;
         self.y1 = fed_back(sum, self.post_shift);
         fraction31(sum, self.post_shift)
+    }
+}
+
+// The lanes of a vector have no products of 64 bits.
+impl WaveMachine<i32> for Section64 {
+    type Lanes = InFlight<i32, Section64>;
+
+    ghost use Rattle.std.specs.Prelude.{refl};
+
+    ghost same_price = { refl };
+
+    fn pack(_machines: &InFlight<i32, Section64>) -> Option<InFlight<i32, Section64>> {
+        None
+    }
+
+    fn unpack(lanes: &InFlight<i32, Section64>) -> InFlight<i32, Section64> {
+        *lanes
     }
 }
 

@@ -21,13 +21,13 @@ use Rattle.dsp_lanes.proofs.LaneClosings.{Castable, down_in}
 -- ---- one product
 
 -- the floor of a division by 2^15 or 2^16
-floored : (z : ℤ) (m : ℕ) → 0 < m → (r : ℕ) × (r < m) × (z ≡ shr_z z m *ℤ pos m +ℤ pos r)
+pub floored : (z : ℤ) (m : ℕ) → 0 < m → (r : ℕ) × (r < m) × (z ≡ shr_z z m *ℤ pos m +ℤ pos r)
 floored (pos a) m some = (a % m, mod_below a m some, omega (arith, ints, div-add-mod' a m))
 floored (negsuc a) m some =
     let small = mod_below a m some in
     (m - 1 - a % m, omega (arith, small), omega (arith, ints, small, div-add-mod' a m))
 
-fits_16 : (z : ℤ) → negsuc 32767 ≤ℤ z → z ≤ℤ pos 32767 → SFits w16 z
+pub fits_16 : (z : ℤ) → negsuc 32767 ≤ℤ z → z ≤ℤ pos 32767 → SFits w16 z
 fits_16 (pos n) low high = record { sfits = omega (arith, ints, high) }
 fits_16 (negsuc n) low high = record { sfits = omega (arith, ints, low) }
 
@@ -84,7 +84,7 @@ module _ (k u s x : ℤ) (double : u +ℤ s *ℤ pos 65536 ≡ pos 2 *ℤ k) (fi
       let doubled = times x u s k double ∙ ap (λ z. pos 2 *ℤ z) (*ℤ_comm x k) in
       parts (x *ℤ u) (x *ℤ s) product (shr_z (x *ℤ u) 65536) (shr_z product 32768) h.0 q.0 doubled h.1 h.2 q.1 q.2
 
-  fraction_fits : SFits w16 (shr_z product 32768)
+  pub fraction_fits : SFits w16 (shr_z product 32768)
   fraction_fits =
       let size : unsigned_abs product ≤ 32767 * 32768 =
       rw (unsigned_abs-mul k x) (mul-le-mul (abs_apart k fits_k apart) (abs_within w16 x fits_x)) in
@@ -94,7 +94,7 @@ module _ (k u s x : ℤ) (double : u +ℤ s *ℤ pos 65536 ≡ pos 2 *ℤ k) (fi
       (omega (arith, ints, range.0, range.1, q.1, q.2))
 
   -- a sum that is the fraction
-  fraction_of : (z : ℤ) → z ≡ shr_z (x *ℤ u) 65536 +ℤ x *ℤ s → int_wrap w16 z ≡ shr_z product 32768
+  pub fraction_of : (z : ℤ) → z ≡ shr_z (x *ℤ u) 65536 +ℤ x *ℤ s → int_wrap w16 z ≡ shr_z product 32768
   fraction_of z is = ap (int_wrap w16) (is ∙ fraction_is) ∙ int_wrap_fits w16 (shr_z product 32768) fraction_fits
 
 fits_between : (z : ℤ) → negsuc 65535 ≤ℤ z → z ≤ℤ pos 65535 → SFits w32 z
@@ -202,7 +202,7 @@ module _ (k u : ℤ) (fits_k : SFits w16 k) (apart : k ≢ negsuc 32767) where
       (made.0 ∙ ap (λ l. zip2 (λ h x. int_wrap w16 (h -ℤ x)) l xs) are ∙ lessened_fractions double xs g, made.1)
 
 -- the multiple of 2^16 in twice the coefficient
-word_range : (z : ℤ) → SFits w16 z → (negsuc 32767 ≤ℤ z) × (z ≤ℤ pos 32767)
+pub word_range : (z : ℤ) → SFits w16 z → (negsuc 32767 ≤ℤ z) × (z ≤ℤ pos 32767)
 word_range (pos n) f = let h : n < 32768 = f.sfits in (omega (arith, ints), omega (arith, ints, h))
 word_range (negsuc n) f = let h : n < 32768 = f.sfits in (omega (arith, ints, h), omega (arith, ints))
 

@@ -21,6 +21,11 @@ pub mod DotSums
 pub mod NarrowSums
 pub mod SectionChannels
 mod LaneValues
-mod FloorShifts
+pub mod FloorShifts
 mod SectionHalves
 pub mod SectionLanes
+pub mod LadderLanes
+pub mod LadderProducts
+pub mod LadderSections
+pub mod ScaledShifts
+pub mod FourSections

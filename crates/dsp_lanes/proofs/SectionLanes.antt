@@ -113,7 +113,7 @@ in_turn p0 p1 p2 p3 p4 =
     order : (p0 p1 p2 p3 p4 : ℤ) → p0 +ℤ p1 +ℤ p2 +ℤ p4 +ℤ p3 ≡ p0 +ℤ p1 +ℤ p2 +ℤ (p3 +ℤ p4)
     order p0 p1 p2 p3 p4 = omega (arith, ints)
 
-abbrev and_in : ℕ → ℕ → ℕ
+abbrev pub and_in : ℕ → ℕ → ℕ
 and_in = act2 bit_and (s_int w64) (s_int w64) (s_int w64)
 
 and_lane : (a : ℕ) → and_in a 4294967295 ≡ a % 2 ^ 32
@@ -121,7 +121,7 @@ and_lane a = and_mask a 32
 
 module _ (n : ℕ) where
   -- lanes of which the low word stays
-  masks : {A : List ℕ} {f : ℕ → ℤ} → AreValues w64 n A f
+  pub masks : {A : List ℕ} {f : ℕ → ℤ} → AreValues w64 n A f
       → AreValues w64 n (zip2 and_in A (replicate n 4294967295)) (λ i. pos (of_z w64 (f i) % 2 ^ 32))
   masks {f = f} a = record {
     are = ap (λ l. zip2 and_in l (replicate n 4294967295)) (a.are ∙ map-map (of_z w64) f (range_with_len 0 n))

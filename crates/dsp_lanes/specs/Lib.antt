@@ -7,3 +7,5 @@ pub mod Reflected
 pub mod HighSums
 pub mod Rows
 pub mod Sections
+pub mod Ladders
+pub mod SectionWaves

@@ -67,7 +67,7 @@ fn fractions<L: Ledger>(k: i16, samples: i16x8, steps: &mut Steps<L>) -> i16x8
 
 /// The saturated sums.
 #[inline(always)]
-fn saturated_sums(x: i16x8, y: i16x8) -> i16x8
+pub(crate) fn saturated_sums(x: i16x8, y: i16x8) -> i16x8
     requires long_x { length x ≡ 8 }
     requires long_y { length y ≡ 8 }
     requires fit_x { Each1 (FitsSigned w16) x }

@@ -9,7 +9,8 @@ use dsp_sat::{Sample, product};
 use std::sync::ledger::Ledger;
 
 /// The output for the next sample. The coefficients stand from the last section to the first, and the
-/// values g of the sections and, behind them, of the input of the first.
+/// values g of the sections and, behind them, of the input of the first. Groups of sections go in lanes,
+/// and what is left one after another.
 #[inline(always)]
 pub(crate) fn ladder_step<T: LatticeSample, L: Ledger>(
     reflections: &[T],
@@ -31,10 +32,11 @@ pub(crate) fn ladder_step<T: LatticeSample, L: Ledger>(
 {
     // The proof has from this that the sample is a number of the format.
     let _number = x.number();
-    let mut f = x;
-    let mut sum = T::empty();
     let last = reflections.len();
-    for m in 0..last {
+    let groups = T::ladder_groups(reflections, ladder, backward, x, steps);
+    let mut f = groups.f;
+    let mut sum = groups.sum;
+    for m in groups.at..last {
         let k = reflections[m];
         let before = backward[m + 1];
         let down = product(k, before, steps);

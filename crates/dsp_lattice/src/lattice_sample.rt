@@ -9,12 +9,12 @@ ghost use Rattle.dsp_defs.specs.declared.format.Fmt.TheVariants.{Q15};
 ghost use Rattle.dsp_lattice.specs.LatticeState.{HasLattice, reflection, section_kept};
 
 use dsp_defs::Steps;
-use dsp_lanes::reflect;
-use dsp_sat::{Sample, WideSample, low_word};
+use dsp_lanes::{LadderSample, reflect};
+use dsp_sat::{Sample, low_word};
 use std::sync::ledger::Ledger;
 
 /// The samples of a lattice.
-pub trait LatticeSample: WideSample {
+pub trait LatticeSample: LadderSample {
     /// A value less a product of it and a reflection coefficient, saturated.
     fn lowered(f: Self, reflected: Self::Wide) -> Self
         ensures { Self.number result ≡ saturate (word_bits Self.format)

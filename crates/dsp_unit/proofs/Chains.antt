@@ -1,7 +1,8 @@
 -- Machines one after another, in pieces.
-use Rattle.std.proofs.Common.{◌≡◌, ◌∙◌, ap, ap₂, sym, subst, refl, ℕ, ◌+◌, ◌<◌, ℤ, List, [], ◌∷◌, ◌++◌, map, flat_map, length, take, drop, set, get_or, arith, length-set}
+use Rattle.std.proofs.Common.{◌≡◌, ◌∙◌, ap, ap₂, sym, subst, refl, ℕ, ◌+◌, ◌*◌, ◌<◌, ◌≤◌, ℤ, List, [], ◌∷◌, ◌++◌, map, flat_map, length, take, drop, set, get_or, arith, length-set}
 use Rattle.std.proofs.lemmas.List.{append_assoc, append-nil, map-append, take_more, take_more_set, get_or-drop, drop-set-lt, drop-drop}
 use Rattle.std.proofs.lemmas.Grind.{flat_map-append}
+use Rattle.dsp_defs.specs.Counts.{Counts, Rises}
 use Rattle.dsp_defs.specs.Streaming.{Behaviour, GoesOn, then, chained}
 use Rattle.dsp_stage.proofs.GoingOn.{goes-chain, chained-append, chained-one, chained-two, then-size}
 
@@ -40,6 +41,20 @@ module _ {X : Type 0} (olds news : List X) (at : ℕ) (rest : drop at news ≡ d
   pub two-behind : (p q : X) → drop (at + 2) (set (set news at p) (at + 1) q) ≡ drop (at + 2) olds
   two-behind p q =
       drop-set-lt (at + 2) (set news at p) (at + 1) q (omega arith) ∙ drop-set-lt (at + 2) news at p (omega arith) ∙ behind 2
+
+  -- what was read of a place that was not written yet
+  pub there-yet : (k : ℕ) (p q x : X) → x ≡ get_or news (at + 2 + k) x → x ≡ get_or (set (set news at p) (at + 1) q) (at + 2 + k) x
+  there-yet k p q x read =
+      let written = set (set news at p) (at + 1) q in
+      read ∙ sym (get_or-drop (at + 2) news k x) ∙ ap (λ l. get_or l k x) (behind 2 ∙ sym (two-behind p q)) ∙ get_or-drop (at + 2) written k x
+
+-- the machines before `at` gave what stands in the samples
+pub record HaveRun {X S : Type 0} (does : X → Behaviour) (keeps : X → List ℤ) (number : S → ℤ) (price : ℕ) (olds news : List X) (at : ℕ) (xs ys : List S) (before after : Counts) : Type 0 where
+  pub inside : at ≤ length olds
+  pub acts : chained (map does (take at news)) ≡ chained (map does (take at olds))
+  pub goes : GoesOn (chained (map does (take at olds))).gives (chained (map does (take at olds))).keeps (flat_map keeps (take at olds)) (flat_map keeps (take at news)) (map number xs) (map number ys)
+  pub rest : drop at news ≡ drop at olds
+  pub steps : Rises before after (length xs * (at * price)) (length xs * (at * price))
 
 module _ {X : Type 0} (acts : X → Behaviour) (kept : X → List ℤ) (size : (m : X) (x : List ℤ) → length (kept m) ≡ length ((acts m).keeps x)) where
   abbrev pub all_act : List X → Behaviour
@@ -114,3 +129,58 @@ module _ {X : Type 0} (acts : X → Behaviour) (kept : X → List ℤ) (size : (
       one-more-goes x p first inside inside' goes =
           rw (one-read olds news at rest x first inside, take_more_set news at p inside')
           (chain-more (take at olds) (take at news) (x ∷ []) (p ∷ []) xs ys zs so_far (one-goes x p ys zs goes))
+
+  -- ---- four machines of a chain that worked side by side
+
+  module _ (olds news : List X) (at : ℕ) (inside : at + 3 < length olds) (inside' : at + 3 < length news)
+      (x y z w p q r t : X) (first : x ≡ get_or news at x) (second : y ≡ get_or news (at + 1) y)
+      (third : z ≡ get_or news (at + 2) z) (fourth : w ≡ get_or news (at + 3) w) where
+    abbrev half : List X
+    half = set (set news at p) (at + 1) q
+
+    abbrev pub four_written : List X
+    four_written = set (set (set (set news at p) (at + 1) q) (at + 2) r) (at + 3) t
+
+    long : length half ≡ length news
+    long = length-set (set news at p) (at + 1) q ∙ length-set news at p
+
+    one-on : at + 2 + 1 ≡ at + 3
+    one-on = omega arith
+
+    two-on : at + 2 + 2 ≡ at + 4
+    two-on = omega arith
+
+    module _ (rest : drop at news ≡ drop at olds) where
+      third' : z ≡ get_or half (at + 2) z
+      third' =
+          let none : at + 2 + 0 ≡ at + 2 = omega arith in
+          subst (λ k. z ≡ get_or half k z) none (there-yet olds news at rest 0 p q z (subst (λ k. z ≡ get_or news k z) (sym none) third))
+
+      fourth' : w ≡ get_or half (at + 2 + 1) w
+      fourth' = there-yet olds news at rest 1 p q w (subst (λ k. w ≡ get_or news k w) (sym one-on) fourth)
+
+      pub four-behind : drop (at + 4) four_written ≡ drop (at + 4) olds
+      four-behind =
+          (λ i. drop (sym two-on i) (set (set half (at + 2) r) (sym one-on i) t))
+          ∙ two-behind olds half (at + 2) (two-behind olds news at rest p q) r t
+          ∙ ap (λ k. drop k olds) two-on
+
+      module _ (before : all_act (take at news) ≡ all_act (take at olds)) (same : then (acts p) (acts q) ≡ then (acts x) (acts y)) where
+        half-acts : all_act (take (at + 2) half) ≡ all_act (take (at + 2) olds)
+        half-acts = two-more-act olds news at rest before x y p q first second (omega (arith, inside)) (omega (arith, inside')) same
+
+        pub four-more-act : then (acts r) (acts t) ≡ then (acts z) (acts w) → all_act (take (at + 4) four_written) ≡ all_act (take (at + 4) olds)
+        four-more-act same' =
+            (λ i. all_act (take (sym two-on i) (set (set half (at + 2) r) (sym one-on i) t)))
+            ∙ two-more-act olds half (at + 2) (two-behind olds news at rest p q) half-acts z w r t third' fourth' (omega (arith, inside)) (omega (arith, inside', long)) same'
+            ∙ ap (λ k. all_act (take k olds)) two-on
+
+        pub four-more-go : (xs ys two zs : List ℤ) → GoesOn (all_act (take at olds)).gives (all_act (take at olds)).keeps (all_kept (take at olds)) (all_kept (take at news)) xs ys →
+            GoesOn (then (acts x) (acts y)).gives (then (acts x) (acts y)).keeps (kept x ++ kept y) (kept p ++ kept q) ys two →
+            GoesOn (then (acts z) (acts w)).gives (then (acts z) (acts w)).keeps (kept z ++ kept w) (kept r ++ kept t) two zs →
+            GoesOn (all_act (take (at + 4) olds)).gives (all_act (take (at + 4) olds)).keeps (all_kept (take (at + 4) olds)) (all_kept (take (at + 4) four_written)) xs zs
+        four-more-go xs ys two zs so_far goes goes' =
+            let so_far' = two-more-go olds news at rest before xs ys two so_far x y p q first second (omega (arith, inside)) (omega (arith, inside')) goes in
+            let all = two-more-go olds half (at + 2) (two-behind olds news at rest p q) half-acts xs two zs so_far' z w r t third' fourth' (omega (arith, inside)) (omega (arith, inside', long)) goes' in
+            subst (λ k. GoesOn (all_act (take k olds)).gives (all_act (take k olds)).keeps (all_kept (take k olds)) (all_kept (take k four_written)) xs zs) two-on
+            (subst (λ k. GoesOn (all_act (take (at + 2 + 2) olds)).gives (all_act (take (at + 2 + 2) olds)).keeps (all_kept (take (at + 2 + 2) olds)) (all_kept (take (at + 2 + 2) (set (set half (at + 2) r) k t))) xs zs) one-on all)

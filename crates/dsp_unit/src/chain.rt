@@ -2,7 +2,8 @@ ghost use Rattle.std.specs.Prelude.{◌≡◌, ◌+◌, ◌*◌, length, map, fl
 ghost use Rattle.dsp_defs.specs.Counts.{Rises};
 ghost use Rattle.dsp_defs.specs.Streaming.{GoesOn, chained};
 
-use crate::{Machine, run_machine};
+use crate::wave::run_four;
+use crate::{InFlight, Machine, WaveMachine, run_machine};
 use dsp_defs::Steps;
 use dsp_sat::Sample;
 use std::sync::ledger::Ledger;
@@ -35,9 +36,9 @@ impl<T: Sample, A: Machine<T>, B: Machine<T>> Machine<T> for Pair<A, B> {
     }
 }
 
-/// Writes over each sample the value that the machines give for it, one after another. Two of them
-/// work side by side, since each has to wait for its own last value.
-pub fn run_chain<T: Sample, M: Machine<T> + Copy, L: Ledger>(
+/// Writes over each sample the value that the machines give for it, one after another. Four of them
+/// work side by side, or two, since each has to wait for its own last value.
+pub fn run_chain<T: Sample, M: WaveMachine<T>, L: Ledger>(
     machines: &mut [M],
     samples: &mut [T],
     steps: &mut Steps<L>,
@@ -50,6 +51,23 @@ pub fn run_chain<T: Sample, M: Machine<T> + Copy, L: Ledger>(
         (length samples.old * (length machines.old * M.price)) }
 {
     let mut at = 0;
+    'fours: while samples.len() >= 3 && machines.len() - at >= 4 {
+        let mut four = InFlight {
+            first: machines[at],
+            second: machines[at + 1],
+            third: machines[at + 2],
+            fourth: machines[at + 3],
+            to_second: T::zero(),
+            to_third: T::zero(),
+            to_fourth: T::zero(),
+        };
+        run_four(&mut four, samples, steps);
+        machines[at] = four.first;
+        machines[at + 1] = four.second;
+        machines[at + 2] = four.third;
+        machines[at + 3] = four.fourth;
+        at += 4;
+    }
     'pairs: while machines.len() - at >= 2 {
         let mut pair = Pair {
             first: machines[at],

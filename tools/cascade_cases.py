@@ -1,5 +1,5 @@
 #!/usr/bin/env python3
-"""Makes cases of `biquad` for dsp_vectors: cascades of 3, 4, 5 and 8 sections in blocks of 1 to 8 frames, so that
+"""Makes cases of `biquad` for dsp_replay: cascades of 3, 4, 5 and 8 sections in blocks of 1 to 8 frames, so that
 four sections side by side begin, go on and end in every way; with numbers of every size, and with extremes alone.
 
     tools/cascade_cases.py [SEED]   writes the cases; those that are stored have the seed 20261130

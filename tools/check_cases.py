@@ -1,5 +1,5 @@
 #!/usr/bin/env python3
-"""Lines for crates/dsp_vectors/stdin: files that a check compares with the output of a script.
+"""Lines for crates/dsp_replay/stdin: files that a check compares with the output of a script.
 
 A stereo file through two sections, beside its output with each byte changed and cut at each byte; the scripts of
 tools/port_cases.py, with one call of one port that fails, for each number of a call that there is; inputs at fault;

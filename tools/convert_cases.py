@@ -1,5 +1,5 @@
 #!/usr/bin/env python3
-"""Makes cases of `convert` for dsp_vectors: WAVE and Sun AU files of 8 to 32 bits both ways, files that are cut
+"""Makes cases of `convert` for dsp_replay: WAVE and Sun AU files of 8 to 32 bits both ways, files that are cut
 or wrong in one place, lengths that are not known, and ports that fail.
 
     tools/convert_cases.py COUNT [SEED]   writes the cases that are named here, and COUNT random ones

@@ -1,5 +1,5 @@
 #!/usr/bin/env python3
-"""Makes cases of WAVE files for dsp_vectors: headers with an extension and without, samples of 8 to 32 bits,
+"""Makes cases of WAVE files for dsp_replay: headers with an extension and without, samples of 8 to 32 bits,
 files that are cut or wrong in one place, and headers that are written.
 
     tools/header_cases.py COUNT [SEED]   writes the cases that are named here, and COUNT random ones

@@ -1,5 +1,5 @@
 #!/usr/bin/env python3
-"""Makes cases of `lattice_iir` for dsp_vectors: as many sections as fill groups of four and of eight, one more
+"""Makes cases of `lattice_iir` for dsp_replay: as many sections as fill groups of four and of eight, one more
 and one less, with numbers of every size, extremes, and reflection coefficients of -1.
 
     tools/ladder_cases.py [SEED]   writes the cases

@@ -1,5 +1,5 @@
 #!/usr/bin/env python3
-"""Lines for crates/dsp_vectors/stdin: each port fails at each place.
+"""Lines for crates/dsp_replay/stdin: each port fails at each place.
 
 Four scripts in blocks of two frames over six samples, raw and as a WAVE file. One call of one port fails,
 for each number of a call that there is, and each line says what must then be answered, reported and written.

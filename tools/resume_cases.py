@@ -1,5 +1,5 @@
 #!/usr/bin/env python3
-"""Lines for crates/dsp_vectors/stdin: runs that are stopped after a frame and go on, and states at fault.
+"""Lines for crates/dsp_replay/stdin: runs that are stopped after a frame and go on, and states at fault.
 
 The scripts of tools/port_cases.py in blocks of two frames over its six samples, raw and as a WAVE file. Each is stopped
 after every number of frames and goes on; in the middle, one call of one port fails, for each number of a call that

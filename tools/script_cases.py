@@ -1,5 +1,5 @@
 #!/usr/bin/env python3
-"""Makes cases of scripts for dsp_vectors: what `print` answers to texts of both versions of the language.
+"""Makes cases of scripts for dsp_replay: what `print` answers to texts of both versions of the language.
 
     tools/script_cases.py COUNT [SEED]   writes the cases that are named here, and COUNT random ones
 

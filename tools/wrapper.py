@@ -79,13 +79,13 @@ def has_output(case):
 
 
 def cases():
-    """Runs the cases of dsp_vectors that are not long, as `tests` does."""
-    with open(f"{TOP}/crates/dsp_vectors/stdin") as file:
+    """Runs the cases of dsp_replay that are not long, as `tests` does."""
+    with open(f"{TOP}/crates/dsp_replay/stdin") as file:
         lines = [line for line in file if not line.startswith("#")]
     taken = [line for line in lines if not is_long(line)]
     count, left_out = count_of(taken), count_of(lines) - count_of(taken)
     found = sum(map(has_output, taken))
-    is_well, said, fault = tried("dsp_vectors", given="".join(taken).encode())
+    is_well, said, fault = tried("dsp_replay", given="".join(taken).encode())
     is_well = is_well and said == f"{count} cases agree\n{found} outputs are found by a check, and a changed byte in each\n"
     return is_well, said + fault, f"{count} of {count + left_out} cases; {left_out} that takes minutes is left to `.ci/run`"
 
@@ -102,7 +102,7 @@ def has_tests(crate):
 
 def test():
     """Runs the tests of all crates, and the cases, without proofs, side by side. 1 where one fails."""
-    tasks = {"cases of dsp_vectors": cases}
+    tasks = {"cases of dsp_replay": cases}
     for crate in sorted(filter(has_tests, os.listdir(f"{TOP}/crates"))):
         tasks[f"tests of {crate}"] = functools.partial(tests, crate)
     begin, failed = time.monotonic(), 0

@@ -1,10 +1,10 @@
-"""The cases of crates/dsp_vectors/stdin: runs with what an independent implementation says of them."""
+"""The cases of crates/dsp_replay/stdin: runs with what an independent implementation says of them."""
 
 import os
 import sys
 
 TOP = os.path.dirname(os.path.dirname(os.path.dirname(os.path.abspath(__file__))))
-CASES = os.path.join(TOP, "crates", "dsp_vectors", "stdin")
+CASES = os.path.join(TOP, "crates", "dsp_replay", "stdin")
 sys.path.insert(0, f"{TOP}/tools")
 import language  # noqa: E402
 

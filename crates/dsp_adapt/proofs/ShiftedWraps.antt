@@ -1,5 +1,6 @@
 -- A sum in 64 bits that is shifted and then wrapped to 32: it does not matter whether it was wrapped before.
-use Rattle.std.proofs.Common.{◌≡◌, ◌∙◌, ap, sym, ℕ, suc, ◌+◌, ◌-◌, ◌*◌, ◌/◌, ◌%◌, ◌^◌, ◌<◌, ◌≤◌, ℤ, pos, negsuc, ◌+ℤ◌, arith, to_z, ⊎_elim}
+use Rattle.std.proofs.Common.{◌≡◌, ◌∙◌, ap, sym, ℕ, suc, ◌+◌, ◌-◌, ◌*◌, ◌/◌, ◌%◌, ◌^◌, ◌<◌, ◌≤◌, ℤ, pos, negsuc, ◌+ℤ◌}
+use Rattle.std.proofs.Common.{arith, to_z, ⊎_elim}
 use Rattle.std.specs.Int.{w32, w64, int_wrap}
 use Rattle.std.specs.Int.Signed.{shr_z}
 use Rattle.std.proofs.lemmas.Int.{ints, int_wrap-add_right}
@@ -22,7 +23,8 @@ residue n below =
     (1, omega (arith, ints, read)))
     (cases_lt n 9223372036854775808)
 
-apart : (s : ℤ) → (j : ℕ) × (k : ℕ) × (int_wrap w64 s +ℤ pos (j * 18446744073709551616) ≡ s +ℤ pos (k * 18446744073709551616))
+apart : (s : ℤ) → (j : ℕ) × (k : ℕ) × (int_wrap w64 s +ℤ pos (j * 18446744073709551616) ≡ s +ℤ pos
+    (k * 18446744073709551616))
 unfolding int_wrap
 apart (pos a) =
     let r = residue (a % 18446744073709551616) (mod_below a 18446744073709551616 (omega arith)) in
@@ -48,7 +50,8 @@ shr-more (negsuc a) m q some =
     let parts : q ≡ a / m + 1 + d = omega (arith, count) in
     let times : q * m ≡ (a / m + 1 + d) * m = ap (λ n. n * m) parts in
     let whole : q * m - 1 - a ≡ d * m + (m - 1 - a % m) = omega (arith, small, times, div-add-mod' a m) in
-    ap (λ t. shr_z t m) sum ∙ ap (λ n. pos (n / m)) whole ∙ ap pos (div-mul-add d m (m - 1 - a % m) (omega (arith, small))) ∙ omega (arith, ints, parts))
+    ap (λ t. shr_z t m) sum ∙ ap (λ n. pos (n / m)) whole ∙
+    ap pos (div-mul-add d m (m - 1 - a % m) (omega (arith, small))) ∙ omega (arith, ints, parts))
     (λ (after : q * m ≤ a).
     let sum : negsuc a +ℤ pos (q * m) ≡ negsuc (a - q * m) = omega (arith, ints) in
     let count : q < a / m + 1 = below q (a / m + 1) m 0 (omega (arith, after, small, div-add-mod' a m)) in
@@ -56,19 +59,22 @@ shr-more (negsuc a) m q some =
     let parts : a / m ≡ q + d = omega (arith, count) in
     let times : a / m * m ≡ (q + d) * m = ap (λ n. n * m) parts in
     let whole : a - q * m ≡ d * m + a % m = omega (arith, times, div-add-mod' a m) in
-    ap (λ t. shr_z t m) sum ∙ ap (λ n. negsuc (n / m)) whole ∙ ap negsuc (div-mul-add d m (a % m) small) ∙ omega (arith, ints, parts))
+    ap (λ t. shr_z t m) sum ∙ ap (λ n. negsuc (n / m)) whole ∙ ap negsuc (div-mul-add d m (a % m) small) ∙
+    omega (arith, ints, parts))
     (cases_lt a (q * m))
   where
     -- a smaller multiple is of fewer
     below : (x y n r : ℕ) → x * n + r < y * n → x < y
     below x y n r h =
-        ⊎_elim (λ (less : x < y). less) (λ (more : y ≤ x). absurd (omega (arith, h, mul-le y n x n more (omega arith)))) (cases_lt x y)
+        ⊎_elim (λ (less : x < y). less) (λ (more : y ≤ x). absurd
+        (omega (arith, h, mul-le y n x n more (omega arith)))) (cases_lt x y)
 
 -- a multiple of 2^32
 multiple : (q : ℕ) → int_wrap w32 (pos (q * 4294967296)) ≡ pos 0
 unfolding int_wrap
 multiple q =
-    let none : q * 4294967296 % 4294967296 ≡ 0 = ap (λ n. n % 4294967296) (omega arith) ∙ mod-mul-add q 4294967296 0 (omega arith) in
+    let none : q * 4294967296 % 4294967296 ≡ 0 = ap (λ n. n % 4294967296) (omega arith) ∙
+    mod-mul-add q 4294967296 0 (omega arith) in
     ap (λ n. to_z w32 n) none
 
 wrap-more : (z : ℤ) (q : ℕ) → int_wrap w32 (z +ℤ pos (q * 4294967296)) ≡ int_wrap w32 z
@@ -86,7 +92,8 @@ shifted-wrap s k small =
     let all : 32 - k + k ≡ 32 = omega arith in
     let parts : c * m ≡ 4294967296 = sym (pow-add 2 (32 - k) k) ∙ ap (λ n. 2 ^ n) all in
     let power : 18446744073709551616 ≡ c * 4294967296 * m = sym (ap (λ n. n * 4294967296) parts) ∙ omega arith in
-    let scaled : (n : ℕ) → n * 18446744073709551616 ≡ n * c * 4294967296 * m = λ n. ap (λ t. n * t) power ∙ omega arith in
+    let scaled : (n : ℕ) → n * 18446744073709551616 ≡ n * c * 4294967296 * m = λ n. ap (λ t. n * t) power ∙
+    omega arith in
     let moved : shr_z (int_wrap w64 s) m +ℤ pos (j * c * 4294967296) ≡ shr_z s m +ℤ pos (i * c * 4294967296) =
     sym (shr-more (int_wrap w64 s) m (j * c * 4294967296) some)
     ∙ ap (λ t. shr_z (int_wrap w64 s +ℤ pos t) m) (sym (scaled j))

@@ -1,10 +1,11 @@
 -- What a contract sees of an LMS filter.
-use Rattle.std.specs.Prelude.{ℕ, ◌-◌, ◌≡◌, ℤ, pos, List, ◌++◌, length, map, reverse, replicate, Option, Some, None, nat_le, if◌then◌else◌}
+use Rattle.std.specs.Prelude.{ℕ, ◌-◌, ◌≡◌, ℤ, pos, List, ◌++◌, length, map, reverse, replicate, Option, Some, None}
+use Rattle.std.specs.Prelude.{nat_le, if◌then◌else◌}
 use Rattle.std.specs.Option.{option_or}
 use Rattle.dsp_defs.specs.Adaptive.{lms, weights_before, outputs_of, errors_of}
 use Rattle.dsp_defs.specs.Signal.{sample, values}
 use Rattle.dsp_defs.specs.Streaming.{last_of}
-use Rattle.dsp_unit.specs.Making.{block_fault, taps_fault}
+use Rattle.dsp_filter.specs.Making.{block_fault, taps_fault}
 use Rattle.dsp_defs.specs.declared.format.Fmt.{Fmt}
 use Rattle.dsp_defs.specs.declared.fault.MakeFault.{MakeFault}
 use Rattle.dsp_defs.specs.declared.fault.MakeFault.TheVariants.{Range}
@@ -66,9 +67,11 @@ pub record StandsFor (format : Fmt) (s : LmsState) (x : List (ℤ × ℤ)) : Typ
   pub weights_are : s.weights ≡ weights_after format s.post_shift s.mu s.taps x
 
 -- after x the filter took more, gave these outputs and errors, and has these weights
-pub record Adapts (format : Fmt) (p : ℕ) (mu : ℤ) (taps : List ℤ) (x more : List (ℤ × ℤ)) (weights outputs errors : List ℤ) : Type 0 where
+pub record Adapts (format : Fmt) (p : ℕ) (mu : ℤ) (taps : List ℤ) (x more : List (ℤ × ℤ))
+    (weights outputs errors : List ℤ) : Type 0 where
   pub weights_are : weights ≡ weights_after format p mu taps (x ++ more)
-  pub outputs_are : map outputs_of (lms format p mu taps (x ++ more)) ≡ map outputs_of (lms format p mu taps x) ++ outputs
+  pub outputs_are : map outputs_of (lms format p mu taps (x ++ more)) ≡ map outputs_of (lms format p mu taps x) ++
+      outputs
   pub errors_are : map errors_of (lms format p mu taps (x ++ more)) ≡ map errors_of (lms format p mu taps x) ++ errors
 
 -- ---- faults
@@ -79,4 +82,5 @@ shift_fault greatest post_shift = if nat_le post_shift greatest then None else S
 
 -- the first fault of so many taps, such a post shift and such a block
 abbrev pub lms_fault : ℕ → ℕ → ℕ → ℕ → Option MakeFault
-lms_fault greatest post_shift taps block = option_or (taps_fault taps) (option_or (shift_fault greatest post_shift) (block_fault block))
+lms_fault greatest post_shift taps block = option_or (taps_fault taps)
+    (option_or (shift_fault greatest post_shift) (block_fault block))

@@ -4,8 +4,8 @@ use Rattle.dsp_defs.specs.Adaptive.{Adapted, lms}
 use Rattle.dsp_defs.specs.Block.{Frame}
 use Rattle.dsp_defs.specs.Formats.{word}
 use Rattle.dsp_defs.specs.Parameters.{greatest_lms_shift}
-use Rattle.dsp_stage.specs.Unit.{UnitState}
-use Rattle.dsp_unit.specs.Making.{AreTaps}
+use Rattle.dsp_unit.specs.Unit.{UnitState}
+use Rattle.dsp_filter.specs.Making.{AreTaps}
 use Rattle.dsp_defs.specs.declared.format.Fmt.{Fmt}
 use Rattle.dsp_defs.specs.declared.limits.TheConstants.{MAX_SAMPLES}
 use Rattle.dsp_defs.specs.declared.script.Block.{Block}
@@ -37,7 +37,8 @@ pub record HasRows (s : LmsState) (inputs references outputs errors : ℕ) : Typ
 
 -- the block is an LMS filter of the format
 abbrev pub IsLmsIn : Fmt → Block → Type 0
-IsLmsIn format (Lms post_shift mu taps) = (post_shift ≤ greatest_lms_shift format) × FitsSigned (word format) mu × AreTaps format taps
+IsLmsIn format (Lms post_shift mu taps) = (post_shift ≤ greatest_lms_shift format) × FitsSigned (word format) mu ×
+    AreTaps format taps
 IsLmsIn format block = ⊥
 
 -- the frames of outputs and errors of a signal of pairs

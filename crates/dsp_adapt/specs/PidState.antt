@@ -5,10 +5,10 @@ use Rattle.dsp_defs.specs.Adaptive.{Gains, pid_output}
 use Rattle.dsp_defs.specs.Signal.{outputs}
 use Rattle.dsp_defs.specs.Streaming.{Behaviour}
 use Rattle.dsp_defs.specs.Kept.{latest}
-use Rattle.dsp_stage.specs.Filter.{IsSteady, IsStepwise}
+use Rattle.dsp_unit.specs.Filter.{IsSteady, IsStepwise}
 use Rattle.dsp_defs.proofs.KeptLaws.{kept_of_channel-place}
-use Rattle.dsp_stage.proofs.ChannelKept.{words-placed}
-use Rattle.dsp_unit.proofs.Units.{less-scaled}
+use Rattle.dsp_unit.proofs.ChannelKept.{words-placed}
+use Rattle.dsp_filter.proofs.Units.{less-scaled}
 use Rattle.dsp_defs.specs.Formats.{word}
 use Rattle.dsp_defs.specs.declared.format.Fmt.{Fmt}
 use Rattle.dsp_defs.specs.declared.script.Block.{Block}

@@ -5,8 +5,8 @@ use crate::LmsSample;
 use crate::adapting::adapt_block;
 use crate::weights::{keep_reversed, restore_parts};
 use dsp_defs::{MAX_TAPS, MakeFault, Steps};
+use dsp_filter::{are_samples, check_block, check_taps};
 use dsp_lanes::LaneSample;
-use dsp_unit::{are_samples, check_block, check_taps};
 use dsp_window::Window;
 use std::alloc::Global;
 use std::marker::Model;
@@ -65,11 +65,13 @@ impl<T: LmsSample + LaneSample<L>, const L: usize> Model for Lms<T, L> {
 }
 
 impl<T: LmsSample + LaneSample<L>, const L: usize> Lms<T, L> {
-    ghost use Rattle.std.specs.Prelude.{◌≡◌, ◌≤◌, ◌+◌, ◌-◌, ◌*◌, ◌++◌, ◌↔◌, ℤ, List, [], length, map, IfOk, IfErr, IsTrue, MatchOption};
+    ghost use Rattle.std.specs.Prelude.{◌≡◌, ◌≤◌, ◌+◌, ◌-◌, ◌*◌, ◌++◌, ◌↔◌, ℤ, List, [], length, map, IfOk};
+    ghost use Rattle.std.specs.Prelude.{IfErr, IsTrue, MatchOption};
     ghost use Rattle.dsp_defs.specs.Formats.{word};
     ghost use Rattle.dsp_defs.specs.Streaming.{Continues};
     ghost use Rattle.dsp_defs.specs.Kept.{Each, IsOfKind, in_words, lms_kept};
-    ghost use Rattle.dsp_adapt.specs.LmsState.{StandsFor, kept, lms_errors, lms_fault, lms_outputs, new_lms, pairs};
+    ghost use Rattle.dsp_adapt.specs.LmsState.{StandsFor, kept, lms_errors, lms_fault, lms_outputs, new_lms};
+    ghost use Rattle.dsp_adapt.specs.LmsState.{pairs};
 
     /// A filter that has taken nothing, from its first weights in time-reversed order, `w[T-1]` to
     /// `w[0]`, for blocks of at most `block` samples. `Length` where the weights are not 1..`MAX_TAPS`, then

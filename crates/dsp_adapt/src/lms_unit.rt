@@ -1,10 +1,10 @@
 use crate::pairs::feed_pairs;
 use crate::{Lms, LmsSample};
 use dsp_defs::{Block, MAX_SAMPLES, MakeFault, Measure, Steps};
+use dsp_filter::samples_of;
 use dsp_lanes::LaneSample;
 use dsp_sat::Sample;
-use dsp_stage::Stage;
-use dsp_unit::samples_of;
+use dsp_unit::Unit;
 use std::alloc::{AllocError, Global};
 use std::marker::Model;
 use std::sync::ledger::Ledger;
@@ -23,7 +23,7 @@ pub struct LmsUnit<T: LmsSample + LaneSample<L>, const L: usize> {
 
 impl<T: LmsSample + LaneSample<L>, const L: usize> Model for LmsUnit<T, L> {
     ghost use Rattle.std.specs.Prelude.{◌≡◌, ◌≤◌, ◌*◌, length, vec_len};
-    ghost use Rattle.dsp_stage.specs.Unit.{UnitState};
+    ghost use Rattle.dsp_unit.specs.Unit.{UnitState};
     ghost use Rattle.dsp_defs.specs.declared.limits.TheConstants.{MAX_SAMPLES, MAX_TAPS};
     ghost use Rattle.dsp_adapt.specs.LmsUnit.{HasRows, unit_of_lms};
 
@@ -37,7 +37,7 @@ impl<T: LmsSample + LaneSample<L>, const L: usize> Model for LmsUnit<T, L> {
 
 impl<T: LmsSample + LaneSample<L>, const L: usize> LmsUnit<T, L> {
     ghost use Rattle.std.specs.Prelude.{◌≤◌, ◌*◌, IfOk};
-    ghost use Rattle.dsp_stage.specs.Unit.{IsNew};
+    ghost use Rattle.dsp_unit.specs.Unit.{IsNew};
     ghost use Rattle.dsp_defs.specs.declared.limits.TheConstants.{MAX_SAMPLES};
     ghost use Rattle.dsp_adapt.specs.LmsUnit.{IsLmsIn};
 
@@ -74,7 +74,7 @@ impl<T: LmsSample + LaneSample<L>, const L: usize> LmsUnit<T, L> {
     }
 }
 
-impl<T: LmsSample + LaneSample<L>, const L: usize> Stage for LmsUnit<T, L> {
+impl<T: LmsSample + LaneSample<L>, const L: usize> Unit for LmsUnit<T, L> {
     ghost unit = { λ u. u };
 
     fn feed<M: Ledger>(&mut self, frames: &[i32], out: &mut [i32], steps: &mut Steps<M>) -> usize {

@@ -1,11 +1,12 @@
-ghost use Rattle.std.specs.Prelude.{◌≡◌, ◌≤◌, ◌+◌, ◌*◌, ◌/◌, ◌++◌, ℤ, List, All, FitsSigned, length, map, take};
+ghost use Rattle.std.specs.Prelude.{◌≡◌, ◌≤◌, ◌+◌, ◌*◌, ◌/◌, ◌++◌, ℤ, List, All, FitsSigned, length, map};
+ghost use Rattle.std.specs.Prelude.{take};
 ghost use Rattle.dsp_defs.specs.Block.{input_pairs, pair_frame};
 ghost use Rattle.dsp_defs.specs.Formats.{word};
 ghost use Rattle.dsp_defs.specs.Signal.{sample, values};
 ghost use Rattle.dsp_defs.specs.Streaming.{Continues};
 ghost use Rattle.dsp_adapt.specs.LmsState.{StandsFor, kept};
 ghost use Rattle.dsp_adapt.specs.LmsUnit.{lms_frames};
-ghost use Rattle.dsp_stage.specs.Unit.{frames_in};
+ghost use Rattle.dsp_unit.specs.Unit.{frames_in};
 
 use crate::{Lms, LmsSample};
 use dsp_defs::Steps;

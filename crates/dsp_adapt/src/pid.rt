@@ -1,7 +1,7 @@
 use crate::{PidSample, PidWork};
 use dsp_defs::{MakeFault, Steps};
+use dsp_filter::{StepFilter, check_block};
 use dsp_sat::Sample;
-use dsp_unit::{StepFilter, check_block};
 use std::sync::ledger::Ledger;
 
 /// A PID controller on one channel (`arm_pid_q15`, `arm_pid_q31`).
@@ -20,11 +20,12 @@ pub type Pid15 = Pid<i16>;
 pub type Pid31 = Pid<i32>;
 
 impl<T: PidSample> Pid<T> {
-    ghost use Rattle.std.specs.Prelude.{◌≡◌, ◌≤◌, ◌+◌, ◌*◌, ◌↔◌, true, IfOk, IsFalse, IsTrue, MatchOption, IsOk, length, map, take, drop};
+    ghost use Rattle.std.specs.Prelude.{◌≡◌, ◌≤◌, ◌+◌, ◌*◌, ◌↔◌, true, IfOk, IsFalse, IsTrue, MatchOption};
+    ghost use Rattle.std.specs.Prelude.{IsOk, length, map, take, drop};
     ghost use Rattle.dsp_defs.specs.Adaptive.{pid_gains};
-    ghost use Rattle.dsp_stage.specs.Filter.{FilterFeeds, FilterRestores, IsNewFilter};
+    ghost use Rattle.dsp_unit.specs.Filter.{FilterFeeds, FilterRestores, IsNewFilter};
     ghost use Rattle.dsp_defs.specs.Kept.{kinds_by, Each, IsOfKind};
-    ghost use Rattle.dsp_unit.specs.Making.{block_fault};
+    ghost use Rattle.dsp_filter.specs.Making.{block_fault};
     ghost use Rattle.dsp_defs.specs.declared.script.Block.TheVariants.{Pid as PidBlock};
 
     /// A controller that has taken nothing, from its gains, for blocks of at most `block` samples.

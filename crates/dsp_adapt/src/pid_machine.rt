@@ -1,7 +1,7 @@
 use crate::PidSample;
 use dsp_defs::Steps;
+use dsp_filter::Machine;
 use dsp_sat::{Sample, product};
-use dsp_unit::Machine;
 use std::sync::ledger::Ledger;
 
 /// The steps of a controller: its gains A0, A1 and A2, the last two samples, and the last output.

@@ -1,8 +1,8 @@
 use crate::PidSample;
 use crate::pid_machine::PidMachine;
 use dsp_defs::{Block, Steps};
+use dsp_filter::{Stepwise, are_samples, number_of, run_machine, write_three};
 use dsp_sat::Sample;
-use dsp_unit::{Stepwise, are_samples, number_of, run_machine, write_three};
 use std::alloc::{AllocError, Global};
 use std::marker::Model;
 use std::sync::ledger::Ledger;

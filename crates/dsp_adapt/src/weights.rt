@@ -1,8 +1,8 @@
 ghost use Rattle.std.specs.Prelude.{◌≡◌, ◌+◌, All, FitsSigned, drop, length, map, reverse, take};
 ghost use Rattle.dsp_defs.specs.Formats.{word};
 
+use dsp_filter::number_of;
 use dsp_sat::Sample;
-use dsp_unit::number_of;
 use dsp_window::Window;
 
 /// Writes the numbers of weights, the last one first.

@@ -1,5 +1,8 @@
 -- A conversion goes on block by block.
-use Rattle.std.proofs.Common.{◌≡◌, ℕ, suc, ◌+◌, ◌-◌, ◌*◌, ◌/◌, ◌^◌, ◌<◌, ◌≤◌, List, [], ◌++◌, length, take, drop, Option, Some, None, Result, Ok, Err, Bool, true, nat_lt, if◌then◌else◌, IfSome, ℤ, refl, sym, ap, ap₂, ◌∙◌, subst, arith, append_assoc, append-nil, length-append, length-drop, inl, inr}
+use Rattle.std.proofs.Common.{◌≡◌, ℕ, suc, ◌+◌, ◌-◌, ◌*◌, ◌/◌, ◌^◌, ◌<◌, ◌≤◌, List, [], ◌++◌, length, take, drop}
+use Rattle.std.proofs.Common.{Option, Some, None, Result, Ok, Err, Bool, true, nat_lt, if◌then◌else◌, IfSome, ℤ, refl}
+use Rattle.std.proofs.Common.{sym, ap, ap₂, ◌∙◌, subst, arith, append_assoc, append-nil, length-append, length-drop}
+use Rattle.std.proofs.Common.{inl, inr}
 use Rattle.std.specs.List.{flat_map}
 use Rattle.std.specs.Option.{option_map, unwrap_or}
 use Rattle.std.specs.Io.KnownBytes.{IsAtEnd, append_known}
@@ -14,13 +17,18 @@ use Rattle.dsp_defs.specs.Bytes.{width}
 use Rattle.dsp_defs.specs.Open.{IsOpenGood}
 use Rattle.dsp_defs.specs.Output.{sample_bytes_at}
 use Rattle.dsp_defs.specs.Streaming.{Begins}
-use Rattle.dsp_defs.specs.Au.{au_header_of, form_bytes_of, form_coded, form_header, form_sample_of, form_samples, open_frame_bytes, source_form, source_signal, target_form, target_of_signal}
+use Rattle.dsp_defs.specs.Au.{au_header_of, form_bytes_of, form_coded, form_header, form_sample_of, form_samples}
+use Rattle.dsp_defs.specs.Au.{open_frame_bytes, source_form, source_signal, target_form, target_of_signal}
 use Rattle.dsp_defs.specs.declared.au.Direction.{Direction}
 use Rattle.dsp_defs.specs.declared.wave.OpenHeader.{OpenHeader}
 use Rattle.dsp_defs.proofs.CodingLemmas.{width-some}
-use Rattle.dsp_defs.proofs.SampleLaws.{length-samples_by, samples_by-nil, samples_by-append, samples_by-whole, count-whole_by}
+use Rattle.dsp_defs.proofs.SampleLaws.{length-samples_by, samples_by-nil, samples_by-append, samples_by-whole}
+use Rattle.dsp_defs.proofs.SampleLaws.{count-whole_by}
 use Rattle.dsp_au.specs.Exchange.{exchanged}
-use Rattle.dsp_au.specs.Convert.{AreAll, Begun, BlockRead, CountsFault, EndsShort, HasFault, HasWritten, InDeclared, IsCause, IsShort, IsSource, IsFree, IsUnread, Unread, WroteBlocks, Blocks, short_at, source_fault, LagsByOne, Passed, Stopped, block_bytes, block_frames, declared_bytes, in_whole_frames, target_blocks}
+use Rattle.dsp_au.specs.Convert.{AreAll, Begun, BlockRead, CountsFault, EndsShort, HasFault, HasWritten, InDeclared}
+use Rattle.dsp_au.specs.Convert.{IsCause, IsShort, IsSource, IsFree, IsUnread, Unread, WroteBlocks, Blocks, short_at}
+use Rattle.dsp_au.specs.Convert.{source_fault, LagsByOne, Passed, Stopped, block_bytes, block_frames, declared_bytes}
+use Rattle.dsp_au.specs.Convert.{in_whole_frames, target_blocks}
 use Rattle.dsp_au.specs.declared.fault.ConvertFault.{ConvertFault}
 use Rattle.dsp_au.specs.declared.fault.ConvertFault.TheVariants as fault
 use Rattle.dsp_defs.specs.Open.{open_header_of}
@@ -67,18 +75,23 @@ module _ (direction : Direction) (header : OpenHeader) (good : IsOpenGood header
   pub length-signal : (bytes : List ℕ) → length (signal bytes) ≡ length bytes / frame
   length-signal bytes = length-samples_by read (width header.coding) header.channels bytes
 
-  pub signal-append : (heard more : List ℕ) (n : ℕ) → length heard ≡ n * frame → signal (heard ++ more) ≡ signal heard ++ signal more
-  signal-append heard more n whole = samples_by-append read (width header.coding) header.channels n heard more some whole
+  pub signal-append : (heard more : List ℕ) (n : ℕ) → length heard ≡ n * frame →
+      signal (heard ++ more) ≡ signal heard ++ signal more
+  signal-append heard more n whole = samples_by-append read (width header.coding) header.channels n heard more some
+      whole
 
   pub frames-whole : (bytes : List ℕ) (n : ℕ) → length bytes ≡ n * frame → length (signal bytes) ≡ n
-  frames-whole bytes n whole = length-signal bytes ∙ count-whole_by read (width header.coding) header.channels n bytes [] some whole
+  frames-whole bytes n whole = length-signal bytes ∙ count-whole_by read (width header.coding) header.channels n bytes
+      [] some whole
 
   -- a rest that is no whole frame
   pub signal-whole : (bytes : List ℕ) → signal (take (length bytes / frame * frame) bytes) ≡ signal bytes
-  signal-whole bytes = samples_by-whole read (width header.coding) header.channels (length bytes / frame) bytes some refl
+  signal-whole bytes = samples_by-whole read (width header.coding) header.channels (length bytes / frame) bytes some
+      refl
 
   pub coded-append : (x y : List Frame) → coded (x ++ y) ≡ coded x ++ coded y
-  coded-append x y = flat_map-append (λ (x : Frame). flat_map (form_bytes_of (target_form direction) header.coding) x) x y
+  coded-append x y = flat_map-append (λ (x : Frame). flat_map (form_bytes_of (target_form direction) header.coding) x)
+      x y
 
   -- what is written of a block: its whole frames in the other form
   pub exchanged-is : (block : List ℕ) (count n : ℕ) → Small block → count ≤ length block → n ≡ count / frame
@@ -86,11 +99,14 @@ module _ (direction : Direction) (header : OpenHeader) (good : IsOpenGood header
   exchanged-is block count n small within is =
       let long : length (take count block) ≡ count = length-take-le count block within in
       let bound : n * frame ≤ count = rw is (floor_within count frame) in
-      let whole : length (take (n * frame) block) ≡ n * frame = length-take-le (n * frame) block (omega (arith, bound, within)) in
+      let whole : length (take (n * frame) block) ≡ n * frame =
+      length-take-le (n * frame) block (omega (arith, bound, within)) in
       let same : take (length (take count block) / frame * frame) (take count block) ≡ take (n * frame) block =
-      ap (λ k. take (k / frame * frame) (take count block)) long ∙ ap (λ k. take (k * frame) (take count block)) (sym is) ∙ take-take (n * frame) count block bound in
+      ap (λ k. take (k / frame * frame) (take count block)) long ∙
+      ap (λ k. take (k * frame) (take count block)) (sym is) ∙ take-take (n * frame) count block bound in
       sym (ap coded (sym (signal-whole (take count block)) ∙ ap signal same)
-      ∙ exchanged-signal direction header.coding header.channels n (take (n * frame) block) good.wave (small-take (n * frame) block small) some (width-some header.coding) whole)
+      ∙ exchanged-signal direction header.coding header.channels n (take (n * frame) block) good.wave
+      (small-take (n * frame) block small) some (width-some header.coding) whole)
 
   -- ---- behind the header
 
@@ -101,14 +117,17 @@ module _ (direction : Direction) (header : OpenHeader) (good : IsOpenGood header
     by_size : (bytes : List ℕ) (size : Option ℕ) → InDeclared (option_map (in_whole_frames header) size) (length bytes)
         → sample_bytes_at header.start size (first ++ bytes) ≡ bytes
     by_size bytes None declared = dropped bytes
-    by_size bytes (Some size) declared = ap (take size) (dropped bytes) ∙ take_all size bytes (omega (arith, declared, floor_within size frame))
+    by_size bytes (Some size) declared = ap (take size) (dropped bytes) ∙
+        take_all size bytes (omega (arith, declared, floor_within size frame))
 
-    pub signal_is : (bytes : List ℕ) → InDeclared (declared_bytes header) (length bytes) → source_signal direction header (first ++ bytes) ≡ signal bytes
+    pub signal_is : (bytes : List ℕ) → InDeclared (declared_bytes header) (length bytes) →
+        source_signal direction header (first ++ bytes) ≡ signal bytes
     signal_is bytes declared = ap signal (by_size bytes header.size declared)
 
 -- ---- the blocks so far
 
-pub record Going (direction : Direction) (header : OpenHeader) (taken : ℕ) (input now : SourceState) (sink after : SinkState) : Type 0 where
+pub record Going (direction : Direction) (header : OpenHeader) (taken : ℕ) (input now : SourceState)
+    (sink after : SinkState) : Type 0 where
   pub heard : List ℕ
   pub blocks : ℕ
   pub blocks_heard : length heard ≡ blocks * block_bytes header
@@ -116,7 +135,8 @@ pub record Going (direction : Direction) (header : OpenHeader) (taken : ℕ) (in
   pub declared : InDeclared (declared_bytes header) taken
   pub in_limit : header.start + taken ≤ 2 ^ 40
   pub gave : Gave input now heard
-  pub took : Took sink after (form_coded (target_form direction) header.coding (form_samples (source_form direction) header.coding header.channels heard))
+  pub took : Took sink after (form_coded (target_form direction) header.coding
+      (form_samples (source_form direction) header.coding header.channels heard))
   pub no_input_fault : now.faults ≡ input.faults
   pub no_output_fault : after.faults ≡ sink.faults
 
@@ -126,9 +146,11 @@ module _ (direction : Direction) (header : OpenHeader) (good : IsOpenGood header
   nothing_declared (Some size) = omega arith
 
   -- at the start no block has passed
-  pub starts : (input : SourceState) (sink : SinkState) → header.start ≤ 2 ^ 40 → Going direction header 0 input input sink sink
+  pub starts : (input : SourceState) (sink : SinkState) → header.start ≤ 2 ^ 40 →
+      Going direction header 0 input input sink sink
   starts input sink limit =
-      let nothing : coded direction header good (signal direction header good []) ≡ [] = ap (coded direction header good) (signal-nil direction header good) in
+      let nothing : coded direction header good (signal direction header good []) ≡ [] =
+      ap (coded direction header good) (signal-nil direction header good) in
       record {
         heard = [];
         blocks = 0;
@@ -142,21 +164,26 @@ module _ (direction : Direction) (header : OpenHeader) (good : IsOpenGood header
         no_output_fault = refl;
       }
 
-  frames_of_blocks : (blocks count : ℕ) → count ≡ blocks * block_bytes header → count ≡ blocks * block_frames header * open_frame_bytes header
+  frames_of_blocks : (blocks count : ℕ) → count ≡ blocks * block_bytes header →
+      count ≡ blocks * block_frames header * open_frame_bytes header
   frames_of_blocks blocks count is = is ∙ flat blocks (block_frames header) (open_frame_bytes header)
     where
       flat : (a b c : ℕ) → a * (b * c) ≡ a * b * c
       flat a b c = omega arith
 
-  module _ (taken : ℕ) (input mid now : SourceState) (sink between after : SinkState) (going : Going direction header taken input mid sink between)
-      (block : List ℕ) (count n : ℕ) (small : Small block) (size : length block ≡ block_bytes header) (read : BlockRead header taken block count mid now)
+  module _ (taken : ℕ) (input mid now : SourceState) (sink between after : SinkState)
+      (going : Going direction header taken input mid sink between)
+      (block : List ℕ) (count n : ℕ) (small : Small block) (size : length block ≡ block_bytes header)
+      (read : BlockRead header taken block count mid now)
       (n_is : n ≡ count / open_frame_bytes header) where
     abbrev new : List ℕ
     new = take count block
 
     -- what the bytes so far are
-    all_signal : signal direction header good (going.heard ++ new) ≡ signal direction header good going.heard ++ signal direction header good new
-    all_signal = signal-append direction header good going.heard new (going.blocks * block_frames header) (frames_of_blocks going.blocks (length going.heard) going.blocks_heard)
+    all_signal : signal direction header good (going.heard ++ new) ≡ signal direction header good going.heard ++
+        signal direction header good new
+    all_signal = signal-append direction header good going.heard new (going.blocks * block_frames header)
+        (frames_of_blocks going.blocks (length going.heard) going.blocks_heard)
 
     new_long : length new ≡ count
     new_long = length-take-le count block read.within
@@ -168,15 +195,20 @@ module _ (direction : Direction) (header : OpenHeader) (good : IsOpenGood header
     all_gave = Gave-append input mid now going.heard new going.gave read.gave
 
     -- what is written of them
-    given_is : exchanged (width header.coding) (take (n * open_frame_bytes header) block) ≡ coded direction header good (signal direction header good new)
+    given_is : exchanged (width header.coding) (take (n * open_frame_bytes header) block) ≡ coded direction header
+        good (signal direction header good new)
     given_is = exchanged-is direction header good block count n small read.within n_is
 
-    module _ (took : Took between after (exchanged (width header.coding) (take (n * open_frame_bytes header) block))) (clean : after.faults ≡ between.faults) where
+    module _ (took : Took between after (exchanged (width header.coding) (take (n * open_frame_bytes header) block)))
+        (clean : after.faults ≡ between.faults) where
       all_took : Took sink after (coded direction header good (signal direction header good (going.heard ++ new)))
       all_took =
-          let whole : coded direction header good (signal direction header good going.heard) ++ exchanged (width header.coding) (take (n * open_frame_bytes header) block) ≡ coded direction header good (signal direction header good (going.heard ++ new)) =
+          let whole : coded direction header good (signal direction header good going.heard) ++ exchanged
+          (width header.coding) (take (n * open_frame_bytes header) block) ≡ coded direction header good
+          (signal direction header good (going.heard ++ new)) =
           ap (λ xs. coded direction header good (signal direction header good going.heard) ++ xs) given_is
-          ∙ sym (coded-append direction header good (signal direction header good going.heard) (signal direction header good new))
+          ∙ sym (coded-append direction header good (signal direction header good going.heard)
+          (signal direction header good new))
           ∙ ap (coded direction header good) (sym all_signal) in
           subst (Took sink after) whole (Took-append sink between after _ _ going.took took)
 
@@ -187,7 +219,14 @@ module _ (direction : Direction) (header : OpenHeader) (good : IsOpenGood header
           record {
             heard = going.heard ++ new;
             blocks = suc going.blocks;
-            blocks_heard = omega (arith, all_long, going.taken_is, going.blocks_heard, all, next going.blocks (block_bytes header));
+            blocks_heard = omega (
+              arith,
+              all_long,
+              going.taken_is,
+              going.blocks_heard,
+              all,
+              next going.blocks (block_bytes header),
+            );
             taken_is = sym all_long;
             declared = read.declared;
             in_limit = omega (arith, read.in_limit);
@@ -202,35 +241,49 @@ module _ (direction : Direction) (header : OpenHeader) (good : IsOpenGood header
 
 -- ---- a short source
 
-ok_of : {E : Type 0} (said : Result OpenHeader E) (header : OpenHeader) → result_ok said ≡ Some header → said ≡ Ok header
+ok_of : {E : Type 0} (said : Result OpenHeader E) (header : OpenHeader) → result_ok said ≡ Some header →
+    said ≡ Ok header
 ok_of (Ok other) header e = ap Ok (ap (λ (o : Option OpenHeader). unwrap_or o header) e)
 ok_of (Err fault) header e = absurd cc
 
-short_is : (header : OpenHeader) (declared count : ℕ) → header.size ≡ Some declared → count < header.start + in_whole_frames header declared
+short_is : (header : OpenHeader) (declared count : ℕ) → header.size ≡ Some declared →
+    count < header.start + in_whole_frames header declared
     → short_at header count ≡ Some (declared, count - header.start)
 short_is header declared count is cut =
-    ap (λ (size : Option ℕ). elim size [ Some declared ↦ if nat_lt count (header.start + in_whole_frames header declared) then Some (declared, count - header.start) else None | None ↦ None ]) is
-    ∙ (let less : nat_lt count (header.start + in_whole_frames header declared) ≡ true = grind (arith, common_steps, cut) in
+    ap (λ (size : Option ℕ). elim size [
+      | Some declared ↦ if nat_lt count
+          (header.start + in_whole_frames header declared) then Some (declared, count - header.start) else
+          None
+      | None ↦ None
+    ]) is
+    ∙ (let less : nat_lt count (header.start + in_whole_frames header declared) ≡ true =
+    grind (arith, common_steps, cut) in
     ap (λ (b : Bool). if b then Some (declared, count - header.start) else None) less)
 
-short_fault : (direction : Direction) (given : List ℕ) (header : OpenHeader) → IsSource direction given header → (declared taken : ℕ) (error : ConvertFault) → header.size ≡ Some declared
-    → length given ≡ header.start + taken → taken < in_whole_frames header declared → IsShort direction error declared taken (header.start + taken) → source_fault direction given ≡ Some error
+short_fault : (direction : Direction) (given : List ℕ) (header : OpenHeader) → IsSource direction given header →
+    (declared taken : ℕ) (error : ConvertFault) → header.size ≡ Some declared
+    → length given ≡ header.start + taken → taken < in_whole_frames header declared →
+    IsShort direction error declared taken (header.start + taken) → source_fault direction given ≡ Some error
 short_fault WaveToAu given header has declared taken error is long cut error_is =
     let got : length given - header.start ≡ taken = omega (arith, long) in
     ap (λ (said : Result OpenHeader (HeaderFault × ℕ)). elim said [
       | Err said ↦ Some (fault.Wave said.0 said.1)
-      | Ok header ↦ option_map (λ short. fault.Wave (wave_fault.Short short.0 short.1) (length given)) (short_at header (length given))
+      | Ok header ↦ option_map (λ short. fault.Wave (wave_fault.Short short.0 short.1) (length given))
+          (short_at header (length given))
     ]) (ok_of (open_header_of given) header has)
-    ∙ ap (λ (short : Option (ℕ × ℕ)). option_map (λ short. fault.Wave (wave_fault.Short short.0 short.1) (length given)) short) (short_is header declared (length given) is (omega (arith, long, cut)))
+    ∙ ap (λ (short : Option (ℕ × ℕ)). option_map (λ short. fault.Wave (wave_fault.Short short.0 short.1)
+    (length given)) short) (short_is header declared (length given) is (omega (arith, long, cut)))
     ∙ ap₂ (λ (n total : ℕ). Some (fault.Wave (wave_fault.Short declared n) total)) got long
     ∙ ap Some (sym error_is)
 short_fault AuToWave given header has declared taken error is long cut error_is =
     let got : length given - header.start ≡ taken = omega (arith, long) in
     ap (λ (said : Result OpenHeader (AuFault × ℕ)). elim said [
       | Err said ↦ Some (fault.Au said.0 said.1)
-      | Ok header ↦ option_map (λ short. fault.Au (au_fault.Short short.0 short.1) (length given)) (short_at header (length given))
+      | Ok header ↦ option_map (λ short. fault.Au (au_fault.Short short.0 short.1) (length given))
+          (short_at header (length given))
     ]) (ok_of (au_header_of given) header has)
-    ∙ ap (λ (short : Option (ℕ × ℕ)). option_map (λ short. fault.Au (au_fault.Short short.0 short.1) (length given)) short) (short_is header declared (length given) is (omega (arith, long, cut)))
+    ∙ ap (λ (short : Option (ℕ × ℕ)). option_map (λ short. fault.Au (au_fault.Short short.0 short.1) (length given))
+    short) (short_is header declared (length given) is (omega (arith, long, cut)))
     ∙ ap₂ (λ (n total : ℕ). Some (fault.Au (au_fault.Short declared n) total)) got long
     ∙ ap Some (sym error_is)
 
@@ -239,30 +292,36 @@ short_fault AuToWave given header has declared taken error is long cut error_is 
 abbrev pub IsTakenAll : Option ℕ → ℕ → ℕ → SourceState → Type 0
 IsTakenAll declared start total now = elim declared [ Some size ↦ total ≡ start + size | None ↦ IsAtEnd now.left ]
 
-taken_whole : (declared : Option ℕ) (start count total : ℕ) (now : SourceState) → total ≡ start + count → AreAll declared count now
+taken_whole : (declared : Option ℕ) (start count total : ℕ) (now : SourceState) → total ≡ start + count →
+    AreAll declared count now
     → IsTakenAll declared start total now
-taken_whole (Some size) start count total now is all = (let same : total ≡ start + size = is ∙ ap (λ n. start + n) all in same)
+taken_whole (Some size) start count total now is all =
+    (let same : total ≡ start + size = is ∙ ap (λ n. start + n) all in same)
 taken_whole None start count total now is all = all
 
 in_declared : (declared : Option ℕ) (n m : ℕ) → n ≡ m → InDeclared declared n → InDeclared declared m
 in_declared declared n m same within = subst (InDeclared declared) same within
 
-module _ (direction : Direction) (header : OpenHeader) (good : IsOpenGood header) (before input : SourceState) (empty sink : SinkState) (begun : Begun direction header before input empty sink) where
+module _ (direction : Direction) (header : OpenHeader) (good : IsOpenGood header) (before input : SourceState)
+    (empty sink : SinkState) (begun : Begun direction header before input empty sink) where
   abbrev first : List ℕ
   first = begun.opened.first
 
   abbrev head : List ℕ
   head = form_header (target_form direction) header
 
-  source_is : (bytes : List ℕ) → InDeclared (declared_bytes header) (length bytes) → source_signal direction header (first ++ bytes) ≡ signal direction header good bytes
+  source_is : (bytes : List ℕ) → InDeclared (declared_bytes header) (length bytes) →
+      source_signal direction header (first ++ bytes) ≡ signal direction header good bytes
   source_is bytes declared = signal_is direction header good first begun.opened.start bytes declared
 
   given_long : (bytes : List ℕ) → length (first ++ bytes) ≡ header.start + length bytes
   given_long bytes = omega (arith, length-append first bytes, begun.opened.start)
 
   -- some blocks, and at most one more
-  module _ (taken : ℕ) (mid : SourceState) (between : SinkState) (going : Going direction header taken input mid sink between) (bytes : List ℕ)
-      (declared : InDeclared (declared_bytes header) (taken + length bytes)) (short : length bytes ≤ block_bytes header) where
+  module _ (taken : ℕ) (mid : SourceState) (between : SinkState)
+      (going : Going direction header taken input mid sink between) (bytes : List ℕ)
+      (declared : InDeclared (declared_bytes header) (taken + length bytes))
+      (short : length bytes ≤ block_bytes header) where
     abbrev given : List ℕ
     given = first ++ (going.heard ++ bytes)
 
@@ -272,24 +331,32 @@ module _ (direction : Direction) (header : OpenHeader) (good : IsOpenGood header
     total : length given ≡ header.start + (taken + length bytes)
     total = omega (arith, given_long (going.heard ++ bytes), behind_long)
 
-    pub given_signal : source_signal direction header given ≡ signal direction header good going.heard ++ signal direction header good bytes
+    pub given_signal : source_signal direction header given ≡ signal direction header good going.heard ++ signal
+        direction header good bytes
     given_signal =
         source_is (going.heard ++ bytes) (in_declared (declared_bytes header) _ _ (sym behind_long) declared)
-        ∙ signal-append direction header good going.heard bytes (going.blocks * block_frames header) (frames_of_blocks direction header good going.blocks (length going.heard) going.blocks_heard)
+        ∙ signal-append direction header good going.heard bytes (going.blocks * block_frames header)
+        (frames_of_blocks direction header good going.blocks (length going.heard) going.blocks_heard)
 
     heard_frames : length (signal direction header good going.heard) ≡ going.blocks * block_frames header
-    heard_frames = frames-whole direction header good going.heard (going.blocks * block_frames header) (frames_of_blocks direction header good going.blocks (length going.heard) going.blocks_heard)
+    heard_frames = frames-whole direction header good going.heard (going.blocks * block_frames header)
+        (frames_of_blocks direction header good going.blocks (length going.heard) going.blocks_heard)
 
     -- the blocks so far
-    pub blocks_are : take (going.blocks * block_frames header) (source_signal direction header given) ≡ signal direction header good going.heard
-    blocks_are = ap (take (going.blocks * block_frames header)) given_signal ∙ take_at (signal direction header good going.heard) (signal direction header good bytes) (going.blocks * block_frames header) heard_frames
+    pub blocks_are : take (going.blocks * block_frames header) (source_signal direction header given) ≡ signal
+        direction header good going.heard
+    blocks_are = ap (take (going.blocks * block_frames header)) given_signal ∙
+        take_at (signal direction header good going.heard) (signal direction header good bytes)
+        (going.blocks * block_frames header) heard_frames
 
-    pub lags : (written : List ℕ) → Begins (head ++ coded direction header good (signal direction header good going.heard)) written → LagsByOne direction header given written
+    pub lags : (written : List ℕ) → Begins (head ++ coded direction header good
+        (signal direction header good going.heard)) written → LagsByOne direction header given written
     lags written begins =
         record {
           blocks = going.blocks;
           taken = omega (arith, total, going.taken_is, going.blocks_heard);
-          wrote = inr (subst (λ (x : List Frame). Begins (target_of_signal direction header x) written) (sym blocks_are) begins);
+          wrote = inr (subst (λ (x : List Frame). Begins (target_of_signal direction header x) written)
+              (sym blocks_are) begins);
           one = omega (arith, total, going.taken_is, going.blocks_heard, short, next going.blocks (block_bytes header));
         }
       where
@@ -299,27 +366,42 @@ module _ (direction : Direction) (header : OpenHeader) (good : IsOpenGood header
     pub gave_given : (now : SourceState) → Gave input now (going.heard ++ bytes) → Gave before now given
     gave_given now gave = Gave-append before input now first (going.heard ++ bytes) begun.opened.gave gave
 
-    pub kept_declared : (other : OpenHeader) → IsSource direction given other → IfSome (declared_bytes other) (λ size. length given ≤ other.start + size)
+    pub kept_declared : (other : OpenHeader) → IsSource direction given other →
+        IfSome (declared_bytes other) (λ size. length given ≤ other.start + size)
     kept_declared other is =
-        let same : header ≡ other = ap (λ (o : Option OpenHeader). unwrap_or o header) (sym (begun.opened.said (going.heard ++ bytes)) ∙ is) in
-        subst (λ (h : OpenHeader). IfSome (declared_bytes h) (λ size. length given ≤ h.start + size)) same (by_size (declared_bytes header) declared)
+        let same : header ≡ other = ap (λ (o : Option OpenHeader). unwrap_or o header)
+        (sym (begun.opened.said (going.heard ++ bytes)) ∙ is) in
+        subst (λ (h : OpenHeader). IfSome (declared_bytes h) (λ size. length given ≤ h.start + size)) same
+        (by_size (declared_bytes header) declared)
       where
-        by_size : (size : Option ℕ) → InDeclared size (taken + length bytes) → IfSome size (λ size. length given ≤ header.start + size)
+        by_size : (size : Option ℕ) → InDeclared size (taken + length bytes) →
+            IfSome size (λ size. length given ≤ header.start + size)
         by_size None within = tt
         by_size (Some size) within = omega (arith, total, within)
 
-    pub lags_of : (written : List ℕ) → Begins (head ++ coded direction header good (signal direction header good going.heard)) written → (other : OpenHeader) → IsSource direction given other → LagsByOne direction other given written
+    pub lags_of : (written : List ℕ) → Begins (head ++ coded direction header good
+        (signal direction header good going.heard)) written → (other : OpenHeader) → IsSource direction given other →
+        LagsByOne direction other given written
     lags_of written begins other is =
-        let same : header ≡ other = ap (λ (o : Option OpenHeader). unwrap_or o header) (sym (begun.opened.said (going.heard ++ bytes)) ∙ is) in
+        let same : header ≡ other = ap (λ (o : Option OpenHeader). unwrap_or o header)
+        (sym (begun.opened.said (going.heard ++ bytes)) ∙ is) in
         subst (λ (h : OpenHeader). LagsByOne direction h given written) same (lags written begins)
 
     -- where less than a block came, exactly the blocks before it stand in the output
-    pub blocks_stand : length bytes < block_bytes header → target_blocks direction header given ≡ head ++ coded direction header good (signal direction header good going.heard)
+    pub blocks_stand : length bytes < block_bytes header →
+        target_blocks direction header given ≡ head ++ coded direction header good
+        (signal direction header good going.heard)
     blocks_stand less =
         let x = source_signal direction header given in
-        let rest : length (signal direction header good bytes) < block_frames header = rw (length-signal direction header good bytes) (div_less (length bytes) (block_frames header) (open_frame_bytes header) (some_frame header good) less) in
-        let all : length x ≡ going.blocks * block_frames header + length (signal direction header good bytes) = ap length given_signal ∙ length-append (signal direction header good going.heard) (signal direction header good bytes) ∙ ap (λ n. n + length (signal direction header good bytes)) heard_frames in
-        let count : length x / block_frames header ≡ going.blocks = ap (λ n. n / block_frames header) all ∙ div-mul-add going.blocks (block_frames header) (length (signal direction header good bytes)) rest in
+        let rest : length (signal direction header good bytes) < block_frames header =
+        rw (length-signal direction header good bytes) (div_less (length bytes) (block_frames header)
+        (open_frame_bytes header) (some_frame header good) less) in
+        let all : length x ≡ going.blocks * block_frames header + length (signal direction header good bytes) =
+        ap length given_signal ∙ length-append (signal direction header good going.heard)
+        (signal direction header good bytes) ∙ ap (λ n. n + length (signal direction header good bytes))
+        heard_frames in
+        let count : length x / block_frames header ≡ going.blocks = ap (λ n. n / block_frames header) all ∙
+        div-mul-add going.blocks (block_frames header) (length (signal direction header good bytes)) rest in
         ap (λ n. target_of_signal direction header (take (n * block_frames header) x)) count
         ∙ ap (target_of_signal direction header) blocks_are
       where
@@ -328,8 +410,10 @@ module _ (direction : Direction) (header : OpenHeader) (good : IsOpenGood header
 
   -- ---- the samples have ended
 
-  module _ (taken : ℕ) (mid now : SourceState) (between after : SinkState) (going : Going direction header taken input mid sink between)
-      (block : List ℕ) (count n : ℕ) (small : Small block) (size : length block ≡ block_bytes header) (read : BlockRead header taken block count mid now)
+  module _ (taken : ℕ) (mid now : SourceState) (between after : SinkState)
+      (going : Going direction header taken input mid sink between)
+      (block : List ℕ) (count n : ℕ) (small : Small block) (size : length block ≡ block_bytes header)
+      (read : BlockRead header taken block count mid now)
       (n_is : n ≡ count / open_frame_bytes header) where
     abbrev last : List ℕ
     last = take count block
@@ -347,142 +431,218 @@ module _ (direction : Direction) (header : OpenHeader) (good : IsOpenGood header
     taken_bytes = first ++ (going.heard ++ last)
 
     -- all that they give stands behind what the blocks before give
-    whole_coded : target_of_signal direction header (source_signal direction header taken_bytes) ≡ head ++ coded direction header good (signal direction header good going.heard) ++ coded direction header good (signal direction header good last)
+    whole_coded : target_of_signal direction header (source_signal direction header taken_bytes) ≡ head ++ coded
+        direction header good (signal direction header good going.heard) ++ coded direction header good
+        (signal direction header good last)
     whole_coded =
         ap (target_of_signal direction header) (given_signal taken mid between going last last_declared last_short)
-        ∙ ap (λ xs. head ++ xs) (coded-append direction header good (signal direction header good going.heard) (signal direction header good last))
-        ∙ sym (append_assoc head (coded direction header good (signal direction header good going.heard)) (coded direction header good (signal direction header good last)))
+        ∙ ap (λ xs. head ++ xs) (coded-append direction header good (signal direction header good going.heard)
+        (signal direction header good last))
+        ∙ sym (append_assoc head (coded direction header good (signal direction header good going.heard))
+        (coded direction header good (signal direction header good last)))
 
     -- the sink has failed within the block
-    pub unwritten : (k : ℕ) → k < length (exchanged (width header.coding) (take (n * open_frame_bytes header) block)) → Took between after (take k (exchanged (width header.coding) (take (n * open_frame_bytes header) block))) → after.faults ≡ one_more between.faults
+    pub unwritten : (k : ℕ) → k < length (exchanged (width header.coding) (take (n * open_frame_bytes header) block))
+        → Took between after (take k (exchanged (width header.coding) (take (n * open_frame_bytes header) block))) →
+        after.faults ≡ one_more between.faults
         → Stopped direction fault.Write before now empty after
     unwritten k less took faulty =
         let part = take k (exchanged (width header.coding) (take (n * open_frame_bytes header) block)) in
         let written = head ++ coded direction header good (signal direction header good going.heard) ++ part in
-        let is : exchanged (width header.coding) (take (n * open_frame_bytes header) block) ≡ coded direction header good (signal direction header good last) = given_is direction header good taken input mid now sink between after going block count n small size read n_is in
+        let is : exchanged (width header.coding) (take (n * open_frame_bytes header) block) ≡ coded direction header
+        good (signal direction header good last) = given_is direction header good taken input mid now sink between
+        after going block count n small size read n_is in
         let rest = drop k (exchanged (width header.coding) (take (n * open_frame_bytes header) block)) in
-        let split : part ++ rest ≡ coded direction header good (signal direction header good last) = take-append-drop k _ ∙ is in
+        let split : part ++ rest ≡ coded direction header good (signal direction header good last) =
+        take-append-drop k _ ∙ is in
         let front : target_of_signal direction header (source_signal direction header taken_bytes) ≡ written ++ rest =
         whole_coded
         ∙ ap (λ xs. head ++ coded direction header good (signal direction header good going.heard) ++ xs) (sym split)
-        ∙ sym (append_assoc (head ++ coded direction header good (signal direction header good going.heard)) part rest) in
+        ∙ sym (append_assoc (head ++ coded direction header good (signal direction header good going.heard)) part
+        rest) in
         record {
           given = taken_bytes;
           written = written;
-          gave = gave_given taken mid between going last last_declared last_short now (Gave-append input mid now going.heard last going.gave read.gave);
-          in_limit = omega (arith, total taken mid between going last last_declared last_short, last_long, read.in_limit);
+          gave = gave_given taken mid between going last last_declared last_short now
+              (Gave-append input mid now going.heard last going.gave read.gave);
+          in_limit = omega (
+            arith,
+            total taken mid between going last last_declared last_short,
+            last_long,
+            read.in_limit,
+          );
           unflushed = tt;
-          put = took.put ∙ ap (λ known. append_known known part) (going.took.put ∙ ap (λ known. append_known known (coded direction header good (signal direction header good going.heard))) begun.took.put ∙ sym (append_known-append empty.put head (coded direction header good (signal direction header good going.heard))))
-              ∙ sym (append_known-append empty.put (head ++ coded direction header good (signal direction header good going.heard)) part);
+          put = took.put ∙ ap (λ known. append_known known part)
+              (going.took.put ∙ ap (λ known. append_known known
+              (coded direction header good (signal direction header good going.heard))) begun.took.put ∙
+              sym (append_known-append empty.put head (coded direction header good
+              (signal direction header good going.heard))))
+              ∙ sym (append_known-append empty.put (head ++ coded direction header good
+              (signal direction header good going.heard)) part);
           cause = (header, begun.opened.said (going.heard ++ last));
           wrote = (
             header,
             begun.opened.said (going.heard ++ last),
             inl (
               (rest, front),
-              omega (arith, less, ap length front, length-append written rest, length-drop k (exchanged (width header.coding) (take (n * open_frame_bytes header) block))),
+              omega (
+                arith,
+                less,
+                ap length front,
+                length-append written rest,
+                length-drop k (exchanged (width header.coding) (take (n * open_frame_bytes header) block)),
+              ),
             ),
           );
-          faults = (read.no_fault ∙ going.no_input_fault ∙ begun.opened.no_fault, faulty ∙ ap one_more (going.no_output_fault ∙ begun.no_fault));
+          faults = (
+            read.no_fault ∙ going.no_input_fault ∙ begun.opened.no_fault,
+            faulty ∙
+                ap one_more (going.no_output_fault ∙ begun.no_fault),
+          );
           in_declared = kept_declared taken mid between going last last_declared last_short;
           lag = lags_of taken mid between going last last_declared last_short written (part, refl);
           hinders = always_fails before.left (IsFree direction) fault.Write tt;
         }
 
-    module _ (took : Took between after (exchanged (width header.coding) (take (n * open_frame_bytes header) block))) (clean : after.faults ≡ between.faults) (short : count < length block) where
+    module _ (took : Took between after (exchanged (width header.coding) (take (n * open_frame_bytes header) block)))
+        (clean : after.faults ≡ between.faults) (short : count < length block) where
       pub ends : Passed direction header (taken + count) before now empty after
       ends =
-          let all : length taken_bytes ≡ header.start + (taken + count) = total taken mid between going last last_declared last_short ∙ ap (λ n. header.start + (taken + n)) last_long in
-          let written : head ++ coded direction header good (signal direction header good (going.heard ++ last)) ≡ target_of_signal direction header (source_signal direction header taken_bytes) =
-          ap (λ (x : List Frame). target_of_signal direction header x) (sym (source_is (going.heard ++ last) (in_declared (declared_bytes header) _ _ (sym (behind_long taken mid between going last last_declared last_short)) last_declared))) in
+          let all : length taken_bytes ≡ header.start + (taken + count) =
+          total taken mid between going last last_declared last_short ∙
+          ap (λ n. header.start + (taken + n)) last_long in
+          let written : head ++ coded direction header good (signal direction header good (going.heard ++ last)) ≡
+          target_of_signal direction header (source_signal direction header taken_bytes) =
+          ap (λ (x : List Frame). target_of_signal direction header x)
+          (sym (source_is (going.heard ++ last) (in_declared (declared_bytes header) _ _
+          (sym (behind_long taken mid between going last last_declared last_short)) last_declared))) in
           record {
             given = taken_bytes;
-            gave = gave_given taken mid between going last last_declared last_short now (Gave-append input mid now going.heard last going.gave read.gave);
+            gave = gave_given taken mid between going last last_declared last_short now
+                (Gave-append input mid now going.heard last going.gave read.gave);
             has = begun.opened.said (going.heard ++ last);
-            stays = λ more. subst (λ bytes. IsSource direction bytes header) (sym (append_assoc first (going.heard ++ last) more)) (begun.opened.said ((going.heard ++ last) ++ more));
+            stays = λ more. subst (λ bytes. IsSource direction bytes header)
+                (sym (append_assoc first (going.heard ++ last) more))
+                (begun.opened.said ((going.heard ++ last) ++ more));
             good = good;
             in_limit = omega (arith, all, read.in_limit);
             room_left = λ none. omega (arith, all, read.room_left short none);
-            whole = taken_whole (declared_bytes header) header.start (taken + count) (length taken_bytes) now all (read.end short);
+            whole = taken_whole (declared_bytes header) header.start (taken + count) (length taken_bytes) now all
+                (read.end short);
             count_is = sym all;
-            frames = sym (ap length (source_is (going.heard ++ last) (in_declared (declared_bytes header) _ _ (sym (behind_long taken mid between going last last_declared last_short)) last_declared))
+            frames = sym (ap length (source_is (going.heard ++ last)
+                (in_declared (declared_bytes header) _ _ (sym (behind_long taken mid between going last last_declared
+                last_short)) last_declared))
                 ∙ length-signal direction header good (going.heard ++ last)
-                ∙ ap (λ n. n / open_frame_bytes header) (behind_long taken mid between going last last_declared last_short ∙ ap (λ n. taken + n) last_long));
+                ∙ ap (λ n. n / open_frame_bytes header) (behind_long taken mid between going last last_declared
+                last_short ∙ ap (λ n. taken + n) last_long));
             fits = begun.fits;
-            took = subst (Took empty after) written (Took-append empty sink after head _ begun.took (all_took direction header good taken input mid now sink between after going block count n small size read n_is took clean));
+            took = subst (Took empty after) written (Took-append empty sink after head _ begun.took
+                (all_took direction header good taken input mid now sink between after going block count n small size
+                read n_is took clean));
             no_input_fault = read.no_fault ∙ going.no_input_fault ∙ begun.opened.no_fault;
             no_output_fault = clean ∙ going.no_output_fault ∙ begun.no_fault;
-            lag = lags taken mid between going last last_declared last_short _ (coded direction header good (signal direction header good last), whole_coded);
+            lag = lags taken mid between going last last_declared last_short _
+                (coded direction header good (signal direction header good last), whole_coded);
           }
 
   -- ---- a block did not come
 
-  module _ (taken : ℕ) (mid now : SourceState) (between : SinkState) (going : Going direction header taken input mid sink between) (size : ℕ) (size_is : size ≡ block_bytes header) where
-    module _ (bytes : List ℕ) (gave : Gave mid now bytes) (short : length bytes < size) (limit : header.start + taken + length bytes ≤ 2 ^ 40) (declared : InDeclared (declared_bytes header) (taken + length bytes)) where
-      few : length bytes < block_bytes header
-      few = omega (arith, short, size_is)
+  module _ (taken : ℕ) (mid now : SourceState) (between : SinkState)
+      (going : Going direction header taken input mid sink between) (size : ℕ) (size_is : size ≡ block_bytes header)
+    where
+      module _ (bytes : List ℕ) (gave : Gave mid now bytes) (short : length bytes < size)
+          (limit : header.start + taken + length bytes ≤ 2 ^ 40)
+          (declared : InDeclared (declared_bytes header) (taken + length bytes)) where
+        few : length bytes < block_bytes header
+        few = omega (arith, short, size_is)
 
-      less : length bytes ≤ block_bytes header
-      less = omega (arith, few)
+        less : length bytes ≤ block_bytes header
+        less = omega (arith, few)
 
-      abbrev came : List ℕ
-      came = first ++ (going.heard ++ bytes)
+        abbrev came : List ℕ
+        came = first ++ (going.heard ++ bytes)
 
-      came_long : length came ≡ header.start + (taken + length bytes)
-      came_long = total taken mid between going bytes declared less
+        came_long : length came ≡ header.start + (taken + length bytes)
+        came_long = total taken mid between going bytes declared less
 
-      said : IsSource direction came header
-      said = begun.opened.said (going.heard ++ bytes)
+        said : IsSource direction came header
+        said = begun.opened.said (going.heard ++ bytes)
 
-      abbrev stands : List ℕ
-      stands = head ++ coded direction header good (signal direction header good going.heard)
+        abbrev stands : List ℕ
+        stands = head ++ coded direction header good (signal direction header good going.heard)
 
-      stops : (error : ConvertFault) → IsCause error direction came now → HasWritten error direction came stands now empty between → CountsFault error before now empty between
-          → Stopped direction error before now empty between
-      stops error cause wrote faults =
-          record {
-            given = came;
-            written = stands;
-            gave = gave_given taken mid between going bytes declared less now (Gave-append input mid now going.heard bytes going.gave gave);
-            in_limit = omega (arith, came_long, limit);
-            put = (Took-append empty sink between head (coded direction header good (signal direction header good going.heard)) begun.took going.took).put;
-            unflushed = unflushed_by error empty between stands (Took-append empty sink between head (coded direction header good (signal direction header good going.heard)) begun.took going.took).settled;
-            cause = cause;
-            wrote = wrote;
-            faults = faults;
-            in_declared = kept_declared taken mid between going bytes declared less;
-            lag = lags_of taken mid between going bytes declared less stands ([], sym (append-nil stands));
-            hinders = hindered direction error came before now (gave_given taken mid between going bytes declared less now (Gave-append input mid now going.heard bytes going.gave gave)) cause;
-          }
+        stops : (error : ConvertFault) → IsCause error direction came now →
+            HasWritten error direction came stands now empty between → CountsFault error before now empty between
+            → Stopped direction error before now empty between
+        stops error cause wrote faults =
+            record {
+              given = came;
+              written = stands;
+              gave = gave_given taken mid between going bytes declared less now
+                  (Gave-append input mid now going.heard bytes going.gave gave);
+              in_limit = omega (arith, came_long, limit);
+              put = (Took-append empty sink between head (coded direction header good
+                  (signal direction header good going.heard)) begun.took going.took).put;
+              unflushed = unflushed_by error empty between stands
+                  (Took-append empty sink between head (coded direction header good
+                  (signal direction header good going.heard)) begun.took going.took).settled;
+              cause = cause;
+              wrote = wrote;
+              faults = faults;
+              in_declared = kept_declared taken mid between going bytes declared less;
+              lag = lags_of taken mid between going bytes declared less stands ([], sym (append-nil stands));
+              hinders = hindered direction error came before now
+                  (gave_given taken mid between going bytes declared less now
+                  (Gave-append input mid now going.heard bytes going.gave gave)) cause;
+            }
 
-      wrote_blocks : WroteBlocks direction came stands empty between
-      wrote_blocks = Blocks header said (sym (blocks_stand taken mid between going bytes declared less few))
+        wrote_blocks : WroteBlocks direction came stands empty between
+        wrote_blocks = Blocks header said (sym (blocks_stand taken mid between going bytes declared less few))
 
-      unfailed : between.faults ≡ empty.faults
-      unfailed = going.no_output_fault ∙ begun.no_fault
+        unfailed : between.faults ≡ empty.faults
+        unfailed = going.no_output_fault ∙ begun.no_fault
 
-      clean : now.faults ≡ mid.faults → now.faults ≡ before.faults
-      clean same = same ∙ going.no_input_fault ∙ begun.opened.no_fault
+        clean : now.faults ≡ mid.faults → now.faults ≡ before.faults
+        clean same = same ∙ going.no_input_fault ∙ begun.opened.no_fault
 
-      has_short : (error : ConvertFault) → EndsShort direction error header (taken + length bytes) mid now → HasFault direction came now error × (now.faults ≡ mid.faults)
-      has_short error (declares, is, error_is, end, same, cut) =
-          (inr (end, short_fault direction came header said declares (taken + length bytes) error is came_long cut error_is), same)
+        has_short : (error : ConvertFault) → EndsShort direction error header (taken + length bytes) mid now →
+            HasFault direction came now error × (now.faults ≡ mid.faults)
+        has_short error (declares, is, error_is, end, same, cut) = (
+          inr (
+            end,
+            short_fault direction came header said declares (taken + length bytes) error is came_long cut
+                error_is,
+          ),
+          same,
+        )
 
-      further : (size : Option ℕ) → IfSome size (λ size. taken + length bytes < size) → IfSome size (λ size. length came < header.start + size)
-      further None cut = tt
-      further (Some size) cut = omega (arith, came_long, cut)
+        further : (size : Option ℕ) → IfSome size (λ size. taken + length bytes < size) →
+            IfSome size (λ size. length came < header.start + size)
+        further None cut = tt
+        further (Some size) cut = omega (arith, came_long, cut)
 
-      by_cause : (error : ConvertFault) → IsUnread direction error header (taken + length bytes) mid now → Stopped direction error before now empty between
-      by_cause fault.Read (faulty, limit) = stops fault.Read (omega (arith, came_long, limit)) wrote_blocks (faulty ∙ ap one_more (going.no_input_fault ∙ begun.opened.no_fault), unfailed)
-      by_cause (fault.Input told most) (full, told_is, most_is, same, cut) =
-          stops (fault.Input told most) (omega (arith, came_long, full), told_is, most_is, inr (header, said, further (declared_bytes header) cut)) wrote_blocks (clean same, unfailed)
-      by_cause (fault.Wave f offset) ends = let (has, same) = has_short (fault.Wave f offset) ends in stops (fault.Wave f offset) has wrote_blocks (clean same, unfailed)
-      by_cause (fault.Au f offset) ends = let (has, same) = has_short (fault.Au f offset) ends in stops (fault.Au f offset) has wrote_blocks (clean same, unfailed)
-      by_cause (fault.Riff size limit) cause = absurd cause
-      by_cause fault.Write cause = absurd cause
+        by_cause : (error : ConvertFault) → IsUnread direction error header (taken + length bytes) mid now →
+            Stopped direction error before now empty between
+        by_cause fault.Read (faulty, limit) = stops fault.Read (omega (arith, came_long, limit)) wrote_blocks
+            (faulty ∙ ap one_more (going.no_input_fault ∙ begun.opened.no_fault), unfailed)
+        by_cause (fault.Input told most) (full, told_is, most_is, same, cut) =
+            stops (fault.Input told most) (
+              omega (arith, came_long, full),
+              told_is,
+              most_is,
+              inr (header, said, further (declared_bytes header) cut),
+            ) wrote_blocks (clean same, unfailed)
+        by_cause (fault.Wave f offset) ends = let (has, same) = has_short (fault.Wave f offset) ends in
+            stops (fault.Wave f offset) has wrote_blocks (clean same, unfailed)
+        by_cause (fault.Au f offset) ends = let (has, same) = has_short (fault.Au f offset) ends in
+            stops (fault.Au f offset) has wrote_blocks (clean same, unfailed)
+        by_cause (fault.Riff size limit) cause = absurd cause
+        by_cause fault.Write cause = absurd cause
 
-    pub stops_unread : (error : ConvertFault) → Unread direction header taken size error mid now → Stopped direction error before now empty between
-    stops_unread error u = by_cause u.bytes u.gave u.short u.in_limit u.declared error u.cause
+      pub stops_unread : (error : ConvertFault) → Unread direction header taken size error mid now →
+          Stopped direction error before now empty between
+      stops_unread error u = by_cause u.bytes u.gave u.short u.in_limit u.declared error u.cause
 
 -- ---- whole samples
 
@@ -495,7 +655,9 @@ whole_width n channels w some = grind (arith, product n channels w, count (n * c
     count : (k w : ℕ) → 0 < w → k * w / w ≡ k
     count k w some = grind arith
 
-pub whole_samples : (n channels w frame width : ℕ) (bytes : List ℕ) → frame ≡ channels * w → width ≡ w → 0 < w → n * frame ≤ length bytes → length (take (n * frame) bytes) / width * width ≡ length (take (n * frame) bytes)
+pub whole_samples : (n channels w frame width : ℕ) (bytes : List ℕ) → frame ≡ channels * w → width ≡ w → 0 < w →
+    n * frame ≤ length bytes → length (take (n * frame) bytes) / width * width ≡ length (take (n * frame) bytes)
 whole_samples n channels w frame width bytes is width_is some within =
-    let long : length (take (n * frame) bytes) ≡ n * (channels * w) = length-take-le (n * frame) bytes within ∙ ap (λ f. n * f) is in
+    let long : length (take (n * frame) bytes) ≡ n * (channels * w) = length-take-le (n * frame) bytes within ∙
+    ap (λ f. n * f) is in
     rw (long, width_is) (whole_width n channels w some)

@@ -1,5 +1,7 @@
 -- Samples in the other form of file: the bytes that are exchanged are those of the same samples.
-use Rattle.std.proofs.Common.{◌≡◌, ℕ, zero, suc, ◌+◌, ◌*◌, ◌/◌, ◌%◌, ◌^◌, ◌<◌, ◌≤◌, ℤ, pos, List, [], ◌∷◌, ◌++◌, length, take, drop, get_or, refl, sym, ap, ap₂, ◌∙◌, arith, append-nil, to_z, of_z, w8, w16, w32, length-drop, length-take-le, nat_abs, ◌+ℤ◌, ◌-ℤ◌}
+use Rattle.std.proofs.Common.{◌≡◌, ℕ, zero, suc, ◌+◌, ◌*◌, ◌/◌, ◌%◌, ◌^◌, ◌<◌, ◌≤◌, ℤ, pos, List, [], ◌∷◌, ◌++◌}
+use Rattle.std.proofs.Common.{length, take, drop, get_or, refl, sym, ap, ap₂, ◌∙◌, arith, append-nil, to_z, of_z, w8}
+use Rattle.std.proofs.Common.{w16, w32, length-drop, length-take-le, nat_abs, ◌+ℤ◌, ◌-ℤ◌}
 use Rattle.std.specs.List.{flat_map}
 use Rattle.std.specs.Int.{to_le_bytes, from_le_bytes, to_be_bytes, from_be_bytes}
 use Rattle.std.proofs.lemmas.Grind.{flat_map-append}
@@ -47,20 +49,23 @@ of_one P p [] h = absurd (omega (arith, h.0))
 of_one P p (a ∷ []) h = p a (h.1 0)
 of_one P p (a ∷ b ∷ bytes) h = absurd (omega (arith, h.0))
 
-pub of_two : (P : List ℕ → Type 0) → ((a b : ℕ) → a < 256 → b < 256 → P (a ∷ b ∷ [])) → (bytes : List ℕ) → AreBytes 2 bytes → P bytes
+pub of_two : (P : List ℕ → Type 0) → ((a b : ℕ) → a < 256 → b < 256 → P (a ∷ b ∷ [])) → (bytes : List ℕ) →
+    AreBytes 2 bytes → P bytes
 of_two P p [] h = absurd (omega (arith, h.0))
 of_two P p (a ∷ []) h = absurd (omega (arith, h.0))
 of_two P p (a ∷ b ∷ []) h = p a b (h.1 0) (h.1 1)
 of_two P p (a ∷ b ∷ c ∷ bytes) h = absurd (omega (arith, h.0))
 
-pub of_three : (P : List ℕ → Type 0) → ((a b c : ℕ) → a < 256 → b < 256 → c < 256 → P (a ∷ b ∷ c ∷ [])) → (bytes : List ℕ) → AreBytes 3 bytes → P bytes
+pub of_three : (P : List ℕ → Type 0) → ((a b c : ℕ) → a < 256 → b < 256 → c < 256 → P (a ∷ b ∷ c ∷ [])) →
+    (bytes : List ℕ) → AreBytes 3 bytes → P bytes
 of_three P p [] h = absurd (omega (arith, h.0))
 of_three P p (a ∷ []) h = absurd (omega (arith, h.0))
 of_three P p (a ∷ b ∷ []) h = absurd (omega (arith, h.0))
 of_three P p (a ∷ b ∷ c ∷ []) h = p a b c (h.1 0) (h.1 1) (h.1 2)
 of_three P p (a ∷ b ∷ c ∷ d ∷ bytes) h = absurd (omega (arith, h.0))
 
-pub of_four : (P : List ℕ → Type 0) → ((a b c d : ℕ) → a < 256 → b < 256 → c < 256 → d < 256 → P (a ∷ b ∷ c ∷ d ∷ [])) → (bytes : List ℕ) → AreBytes 4 bytes → P bytes
+pub of_four : (P : List ℕ → Type 0) → ((a b c d : ℕ) → a < 256 → b < 256 → c < 256 → d < 256 → P (a ∷ b ∷ c ∷ d ∷ []))
+    → (bytes : List ℕ) → AreBytes 4 bytes → P bytes
 of_four P p [] h = absurd (omega (arith, h.0))
 of_four P p (a ∷ []) h = absurd (omega (arith, h.0))
 of_four P p (a ∷ b ∷ []) h = absurd (omega (arith, h.0))
@@ -71,7 +76,8 @@ of_four P p (a ∷ b ∷ c ∷ d ∷ e ∷ bytes) h = absurd (omega (arith, h.0)
 -- ---- one sample
 
 one_out : (b : ℕ) → b < 256 → to_be_bytes w8 (of_z w8 (pos b -ℤ pos 128)) ≡ (b + 128) % 256 ∷ []
-one_out b h = let same : of_z w8 (pos b -ℤ pos 128) % 256 ≡ (b + 128) % 256 = omega (arith, ints) in ap (λ n. n ∷ []) same
+one_out b h = let same : of_z w8 (pos b -ℤ pos 128) % 256 ≡ (b + 128) % 256 = omega (arith, ints) in
+    ap (λ n. n ∷ []) same
 
 one_in : (b : ℕ) → b < 256 → nat_abs (to_z w8 (from_be_bytes w8 (b ∷ [])) +ℤ pos 128) ∷ [] ≡ (b + 128) % 256 ∷ []
 one_in b h =
@@ -79,19 +85,23 @@ one_in b h =
     let same : nat_abs (to_z w8 b +ℤ pos 128) ≡ (b + 128) % 256 = omega (arith, ints, of_z-to_z w8 b h) in
     ap (λ n. nat_abs (to_z w8 n +ℤ pos 128) ∷ []) value ∙ ap (λ n. n ∷ []) same
 
-two_out : (a b : ℕ) → a < 256 → b < 256 → to_be_bytes w16 (of_z w16 (to_z w16 (from_le_bytes w16 (a ∷ b ∷ [])))) ≡ b ∷ a ∷ []
+two_out : (a b : ℕ) → a < 256 → b < 256 → to_be_bytes w16 (of_z w16 (to_z w16 (from_le_bytes w16 (a ∷ b ∷ [])))) ≡ b ∷
+    a ∷ []
 two_out a b ha hb =
     let n = from_le_bytes w16 (a ∷ b ∷ []) in
     let few : n < 2 ^ 16 = omega arith in
     let same : n ≡ from_be_bytes w16 (b ∷ a ∷ []) = omega arith in
-    be_bytes_2 (b ∷ a ∷ []) _ refl (small-cons b (a ∷ []) hb (small-cons a [] ha small-nil)) (of_z-to_z w16 n few ∙ same)
+    be_bytes_2 (b ∷ a ∷ []) _ refl (small-cons b (a ∷ []) hb (small-cons a [] ha small-nil))
+    (of_z-to_z w16 n few ∙ same)
 
-two_in : (a b : ℕ) → a < 256 → b < 256 → to_le_bytes w16 (of_z w16 (to_z w16 (from_be_bytes w16 (a ∷ b ∷ [])))) ≡ b ∷ a ∷ []
+two_in : (a b : ℕ) → a < 256 → b < 256 → to_le_bytes w16 (of_z w16 (to_z w16 (from_be_bytes w16 (a ∷ b ∷ [])))) ≡ b ∷
+    a ∷ []
 two_in a b ha hb =
     let n = from_be_bytes w16 (a ∷ b ∷ []) in
     let few : n < 2 ^ 16 = omega arith in
     let same : n ≡ from_le_bytes w16 (b ∷ a ∷ []) = omega arith in
-    le_bytes_2 (b ∷ a ∷ []) _ refl (small-cons b (a ∷ []) hb (small-cons a [] ha small-nil)) (of_z-to_z w16 n few ∙ same)
+    le_bytes_2 (b ∷ a ∷ []) _ refl (small-cons b (a ∷ []) hb (small-cons a [] ha small-nil))
+    (of_z-to_z w16 n few ∙ same)
 
 four_out : (a b c d : ℕ) → a < 256 → b < 256 → c < 256 → d < 256
     → to_be_bytes w32 (of_z w32 (to_z w32 (from_le_bytes w32 (a ∷ b ∷ c ∷ d ∷ [])))) ≡ d ∷ c ∷ b ∷ a ∷ []
@@ -99,7 +109,9 @@ four_out a b c d ha hb hc hd =
     let n = from_le_bytes w32 (a ∷ b ∷ c ∷ d ∷ []) in
     let few : n < 2 ^ 32 = omega arith in
     let same : n ≡ from_be_bytes w32 (d ∷ c ∷ b ∷ a ∷ []) = omega arith in
-    be_bytes_4 (d ∷ c ∷ b ∷ a ∷ []) _ refl (small-cons d (c ∷ b ∷ a ∷ []) hd (small-cons c (b ∷ a ∷ []) hc (small-cons b (a ∷ []) hb (small-cons a [] ha small-nil)))) (of_z-to_z w32 n few ∙ same)
+    be_bytes_4 (d ∷ c ∷ b ∷ a ∷ []) _ refl (small-cons d (c ∷ b ∷ a ∷ []) hd
+    (small-cons c (b ∷ a ∷ []) hc (small-cons b (a ∷ []) hb (small-cons a [] ha small-nil))))
+    (of_z-to_z w32 n few ∙ same)
 
 four_in : (a b c d : ℕ) → a < 256 → b < 256 → c < 256 → d < 256
     → to_le_bytes w32 (of_z w32 (to_z w32 (from_be_bytes w32 (a ∷ b ∷ c ∷ d ∷ [])))) ≡ d ∷ c ∷ b ∷ a ∷ []
@@ -107,7 +119,9 @@ four_in a b c d ha hb hc hd =
     let n = from_be_bytes w32 (a ∷ b ∷ c ∷ d ∷ []) in
     let few : n < 2 ^ 32 = omega arith in
     let same : n ≡ from_le_bytes w32 (d ∷ c ∷ b ∷ a ∷ []) = omega arith in
-    le_bytes_4 (d ∷ c ∷ b ∷ a ∷ []) _ refl (small-cons d (c ∷ b ∷ a ∷ []) hd (small-cons c (b ∷ a ∷ []) hc (small-cons b (a ∷ []) hb (small-cons a [] ha small-nil)))) (of_z-to_z w32 n few ∙ same)
+    le_bytes_4 (d ∷ c ∷ b ∷ a ∷ []) _ refl (small-cons d (c ∷ b ∷ a ∷ []) hd
+    (small-cons c (b ∷ a ∷ []) hc (small-cons b (a ∷ []) hb (small-cons a [] ha small-nil))))
+    (of_z-to_z w32 n few ∙ same)
 
 none : 0 < 256
 none = omega arith
@@ -115,16 +129,20 @@ none = omega arith
 -- the bytes in the other form, of the sample that the bytes are
 abbrev Exchanges : Direction → Coding → List ℕ → Type 0
 Exchanges direction coding bytes =
-    form_bytes_of (target_form direction) coding (form_sample_of (source_form direction) coding bytes) ≡ exchanged_sample bytes
+    form_bytes_of (target_form direction) coding (form_sample_of (source_form direction) coding bytes) ≡
+    exchanged_sample bytes
 
-pub exchanges : (direction : Direction) (coding : Coding) (bytes : List ℕ) → IsWave coding → AreBytes (width coding) bytes → Exchanges direction coding bytes
+pub exchanges : (direction : Direction) (coding : Coding) (bytes : List ℕ) → IsWave coding →
+    AreBytes (width coding) bytes → Exchanges direction coding bytes
 exchanges WaveToAu Wave7 bytes wave h = of_one (Exchanges WaveToAu Wave7) one_out bytes h
 exchanges WaveToAu Wave15 bytes wave h = of_two (Exchanges WaveToAu Wave15) two_out bytes h
-exchanges WaveToAu Wave24 bytes wave h = of_three (Exchanges WaveToAu Wave24) (λ a b c ha hb hc. ap (take 3) (four_out 0 a b c none ha hb hc)) bytes h
+exchanges WaveToAu Wave24 bytes wave h = of_three (Exchanges WaveToAu Wave24)
+    (λ a b c ha hb hc. ap (take 3) (four_out 0 a b c none ha hb hc)) bytes h
 exchanges WaveToAu Wave31 bytes wave h = of_four (Exchanges WaveToAu Wave31) four_out bytes h
 exchanges AuToWave Wave7 bytes wave h = of_one (Exchanges AuToWave Wave7) one_in bytes h
 exchanges AuToWave Wave15 bytes wave h = of_two (Exchanges AuToWave Wave15) two_in bytes h
-exchanges AuToWave Wave24 bytes wave h = of_three (Exchanges AuToWave Wave24) (λ a b c ha hb hc. ap (drop 1) (four_in a b c 0 ha hb hc none)) bytes h
+exchanges AuToWave Wave24 bytes wave h = of_three (Exchanges AuToWave Wave24)
+    (λ a b c ha hb hc. ap (drop 1) (four_in a b c 0 ha hb hc none)) bytes h
 exchanges AuToWave Wave31 bytes wave h = of_four (Exchanges AuToWave Wave31) four_in bytes h
 exchanges direction Raw7 bytes wave h = absurd wave
 exchanges direction Raw15 bytes wave h = absurd wave
@@ -132,14 +150,16 @@ exchanges direction Raw31 bytes wave h = absurd wave
 
 -- ---- one sample after another
 
-pub more_values : {A : Type 0} (f : A → List ℕ) (h : ℕ → A) (n : ℕ) → flat_map f (values (n + 1) h) ≡ flat_map f (values n h) ++ f (h n)
+pub more_values : {A : Type 0} (f : A → List ℕ) (h : ℕ → A) (n : ℕ) →
+    flat_map f (values (n + 1) h) ≡ flat_map f (values n h) ++ f (h n)
 more_values f h n =
     let here : n + 0 ≡ n = omega arith in
     ap (flat_map f) (values-add n 1 h)
     ∙ flat_map-append f (values n h) (values 1 (λ i. h (n + i)))
     ∙ ap (λ ys. flat_map f (values n h) ++ ys) (append-nil (f (h (n + 0))) ∙ ap (λ k. f (h k)) here)
 
-flat_values : {A B : Type 0} (f : A → List ℕ) (h : ℕ → A) (e : B → List ℕ) (p : ℕ → B) (n : ℕ) → ((i : ℕ) → i < n → f (h i) ≡ e (p i))
+flat_values : {A B : Type 0} (f : A → List ℕ) (h : ℕ → A) (e : B → List ℕ) (p : ℕ → B) (n : ℕ) →
+    ((i : ℕ) → i < n → f (h i) ≡ e (p i))
     → flat_map f (values n h) ≡ flat_map e (values n p)
 flat_values f h e p zero same = refl
 flat_values f h e p (suc n) same =
@@ -154,9 +174,11 @@ pub sample_within : (i n w : ℕ) → i < n → i * w + w ≤ n * w
 sample_within i n w h = grind arith
 
 -- the bytes of whole frames in the other form are those of the same signal
-pub exchanged-signal : (direction : Direction) (coding : Coding) (channels n : ℕ) (bytes : List ℕ) → IsWave coding → Small bytes
+pub exchanged-signal : (direction : Direction) (coding : Coding) (channels n : ℕ) (bytes : List ℕ) → IsWave coding →
+    Small bytes
     → 0 < channels * width coding → 0 < width coding → length bytes ≡ n * (channels * width coding)
-    → form_coded (target_form direction) coding (form_samples (source_form direction) coding channels bytes) ≡ exchanged (width coding) bytes
+    → form_coded (target_form direction) coding (form_samples (source_form direction) coding channels bytes) ≡
+    exchanged (width coding) bytes
 exchanged-signal direction coding channels n bytes wave small some some_width whole =
     let w = width coding in
     let g = form_bytes_of (target_form direction) coding in
@@ -169,7 +191,10 @@ exchanged-signal direction coding channels n bytes wave small some some_width wh
     ∙ flat_values g h exchanged_sample (λ i. take w (drop (i * w) bytes)) (n * channels)
     (λ i below.
     let room : i * w + w ≤ length bytes = omega (arith, sample_within i (n * channels) w below, size) in
-    exchanges direction coding (take w (drop (i * w) bytes)) wave (length-take-le w (drop (i * w) bytes) (omega (arith, room, length-drop (i * w) bytes)), small-take w (drop (i * w) bytes) (small-drop (i * w) bytes small)))
+    exchanges direction coding (take w (drop (i * w) bytes)) wave (
+      length-take-le w (drop (i * w) bytes) (omega (arith, room, length-drop (i * w) bytes)),
+      small-take w (drop (i * w) bytes) (small-drop (i * w) bytes small),
+    ))
     ∙ ap (λ (k : ℕ). exchanged_first k w bytes) (sym samples)
   where
     flat : (n channels w : ℕ) → n * (channels * w) ≡ n * channels * w
@@ -181,7 +206,8 @@ exchanged-signal direction coding channels n bytes wave small some some_width wh
 -- ---- one sample more, in place
 
 pub one_more_sample : (i w n : ℕ) (old now out : List ℕ) → i < n → length now ≡ length old → n * w ≤ length old
-    → take (i * w) now ≡ exchanged_first i w old → drop (i * w) now ≡ drop (i * w) old → length out ≡ w → out ≡ exchanged_sample (take w (drop (i * w) now))
+    → take (i * w) now ≡ exchanged_first i w old → drop (i * w) now ≡ drop (i * w) old → length out ≡ w →
+    out ≡ exchanged_sample (take w (drop (i * w) now))
     → take ((i + 1) * w) (put_mid (i * w) w now out) ≡ exchanged_first (i + 1) w old
 one_more_sample i w n old now out below same room front rest long is =
     let bound = sample_within i n w below in
@@ -190,7 +216,8 @@ one_more_sample i w n old now out below same room front rest long is =
     ∙ ap₂ (λ xs ys. xs ++ ys) front (is ∙ ap (λ xs. exchanged_sample (take w xs)) rest)
     ∙ sym (more_values exchanged_sample (λ i. take w (drop (i * w) old)) i)
 
-pub rest_stays : (i w n : ℕ) (old now out : List ℕ) → i < n → length now ≡ length old → n * w ≤ length old → drop (i * w) now ≡ drop (i * w) old → length out ≡ w
+pub rest_stays : (i w n : ℕ) (old now out : List ℕ) → i < n → length now ≡ length old → n * w ≤ length old →
+    drop (i * w) now ≡ drop (i * w) old → length out ≡ w
     → drop ((i + 1) * w) (put_mid (i * w) w now out) ≡ drop ((i + 1) * w) old
 rest_stays i w n old now out below same room rest long =
     let bound = sample_within i n w below in

@@ -1,5 +1,7 @@
 -- Samples that are written are read back, in both forms of file.
-use Rattle.std.proofs.Common.{◌≡◌, ℕ, zero, suc, ◌+◌, ◌*◌, ◌/◌, ◌%◌, ◌^◌, ◌<◌, ℤ, pos, ◌*ℤ◌, List, [], ◌∷◌, ◌++◌, length, take, drop, refl, sym, ap, ap₂, ◌∙◌, subst, arith, length-append, SFits, to_z, of_z, to_z-of_z, w8, w16, w32}
+use Rattle.std.proofs.Common.{◌≡◌, ℕ, zero, suc, ◌+◌, ◌*◌, ◌/◌, ◌%◌, ◌^◌, ◌<◌, ℤ, pos, ◌*ℤ◌, List, [], ◌∷◌, ◌++◌}
+use Rattle.std.proofs.Common.{length, take, drop, refl, sym, ap, ap₂, ◌∙◌, subst, arith, length-append, SFits, to_z}
+use Rattle.std.proofs.Common.{of_z, to_z-of_z, w8, w16, w32}
 use Rattle.std.specs.Int.{from_le_bytes, to_be_bytes, from_be_bytes}
 use Rattle.std.specs.List.{flat_map}
 use Rattle.std.proofs.lemmas.Int.{ints}
@@ -47,19 +49,22 @@ four_back x h = ap (to_z w32) (from_be_bytes-to_be_bytes_4 (of_z w32 x) (word_fi
 lowest_byte : (x n : ℤ) → SFits w32 x → x ≡ n *ℤ pos (2 ^ 8) → of_z w32 x % 256 ≡ 0
 lowest_byte x n h e = omega (arith, ints)
 
-lowest_last : (x n : ℤ) → SFits w32 x → x ≡ n *ℤ pos (2 ^ 8) → take 3 (to_be_bytes w32 (of_z w32 x)) ++ 0 ∷ [] ≡ to_be_bytes w32 (of_z w32 x)
+lowest_last : (x n : ℤ) → SFits w32 x → x ≡ n *ℤ pos (2 ^ 8) →
+    take 3 (to_be_bytes w32 (of_z w32 x)) ++ 0 ∷ [] ≡ to_be_bytes w32 (of_z w32 x)
 lowest_last x n h e = ap (λ byte. take 3 (to_be_bytes w32 (of_z w32 x)) ++ byte ∷ []) (sym (lowest_byte x n h e))
 
 au_back : (coding : Coding) (x : ℤ) → IsWave coding → IsValue coding x → au_sample_of coding (au_bytes_of coding x) ≡ x
 au_back Wave7 x wave h = one_back x h
 au_back Wave15 x wave h = two_back x h
-au_back Wave24 x wave (fits, n, e) = ap (λ bytes. to_z w32 (from_be_bytes w32 bytes)) (lowest_last x n fits e) ∙ four_back x fits
+au_back Wave24 x wave (fits, n, e) = ap (λ bytes. to_z w32 (from_be_bytes w32 bytes)) (lowest_last x n fits e) ∙
+    four_back x fits
 au_back Wave31 x wave h = four_back x h
 au_back Raw7 x wave h = absurd wave
 au_back Raw15 x wave h = absurd wave
 au_back Raw31 x wave h = absurd wave
 
-pub sample_back : (form : Form) (coding : Coding) (x : ℤ) → IsWave coding → IsValue coding x → form_sample_of form coding (form_bytes_of form coding x) ≡ x
+pub sample_back : (form : Form) (coding : Coding) (x : ℤ) → IsWave coding → IsValue coding x →
+    form_sample_of form coding (form_bytes_of form coding x) ≡ x
 sample_back WaveForm coding x wave h = sample_of-bytes_of coding x h
 sample_back AuForm coding x wave h = au_back coding x wave h
 
@@ -74,7 +79,8 @@ au_wide Raw7 x wave = absurd wave
 au_wide Raw15 x wave = absurd wave
 au_wide Raw31 x wave = absurd wave
 
-pub form_wide : (form : Form) (coding : Coding) (x : ℤ) → IsWave coding → length (form_bytes_of form coding x) ≡ width coding
+pub form_wide : (form : Form) (coding : Coding) (x : ℤ) → IsWave coding →
+    length (form_bytes_of form coding x) ≡ width coding
 form_wide WaveForm coding x wave = length-bytes_of coding x
 form_wide AuForm coding x wave = au_wide coding x wave
 
@@ -82,24 +88,35 @@ form_wide AuForm coding x wave = au_wide coding x wave
 one_value : (a : ℕ) → a < 256 → IsValue Wave7 (au_sample_of Wave7 (a ∷ []))
 one_value a ha =
     let same : from_be_bytes w8 (a ∷ []) ≡ from_le_bytes w8 (a ∷ []) = omega arith in
-    subst (λ n. IsValue Raw7 (to_z w8 n)) (sym same) (sample_of-IsValue Raw7 (a ∷ []) (refl, small-cons a [] ha small-nil))
+    subst (λ n. IsValue Raw7 (to_z w8 n)) (sym same) (sample_of-IsValue Raw7 (a ∷ [])
+    (refl, small-cons a [] ha small-nil))
 
 two_value : (a b : ℕ) → a < 256 → b < 256 → IsValue Wave15 (au_sample_of Wave15 (a ∷ b ∷ []))
 two_value a b ha hb =
     let same : from_be_bytes w16 (a ∷ b ∷ []) ≡ from_le_bytes w16 (b ∷ a ∷ []) = omega arith in
-    subst (λ n. IsValue Wave15 (to_z w16 n)) (sym same) (sample_of-IsValue Wave15 (b ∷ a ∷ []) (refl, small-cons b (a ∷ []) hb (small-cons a [] ha small-nil)))
+    subst (λ n. IsValue Wave15 (to_z w16 n)) (sym same)
+    (sample_of-IsValue Wave15 (b ∷ a ∷ []) (refl, small-cons b (a ∷ []) hb (small-cons a [] ha small-nil)))
 
 three_value : (a b c : ℕ) → a < 256 → b < 256 → c < 256 → IsValue Wave24 (au_sample_of Wave24 (a ∷ b ∷ c ∷ []))
 three_value a b c ha hb hc =
     let same : from_be_bytes w32 (a ∷ b ∷ c ∷ 0 ∷ []) ≡ from_le_bytes w32 (0 ∷ c ∷ b ∷ a ∷ []) = omega arith in
     subst (λ n. IsValue Wave24 (to_z w32 n)) (sym same)
-    (sample_of-IsValue Wave24 (c ∷ b ∷ a ∷ []) (refl, small-cons c (b ∷ a ∷ []) hc (small-cons b (a ∷ []) hb (small-cons a [] ha small-nil))))
+    (sample_of-IsValue Wave24 (c ∷ b ∷ a ∷ []) (
+      refl,
+      small-cons c (b ∷ a ∷ []) hc
+          (small-cons b (a ∷ []) hb (small-cons a [] ha small-nil)),
+    ))
 
-four_value : (a b c d : ℕ) → a < 256 → b < 256 → c < 256 → d < 256 → IsValue Wave31 (au_sample_of Wave31 (a ∷ b ∷ c ∷ d ∷ []))
+four_value : (a b c d : ℕ) → a < 256 → b < 256 → c < 256 → d < 256 →
+    IsValue Wave31 (au_sample_of Wave31 (a ∷ b ∷ c ∷ d ∷ []))
 four_value a b c d ha hb hc hd =
     let same : from_be_bytes w32 (a ∷ b ∷ c ∷ d ∷ []) ≡ from_le_bytes w32 (d ∷ c ∷ b ∷ a ∷ []) = omega arith in
     subst (λ n. IsValue Wave31 (to_z w32 n)) (sym same)
-    (sample_of-IsValue Wave31 (d ∷ c ∷ b ∷ a ∷ []) (refl, small-cons d (c ∷ b ∷ a ∷ []) hd (small-cons c (b ∷ a ∷ []) hc (small-cons b (a ∷ []) hb (small-cons a [] ha small-nil)))))
+    (sample_of-IsValue Wave31 (d ∷ c ∷ b ∷ a ∷ []) (
+      refl,
+      small-cons d (c ∷ b ∷ a ∷ []) hd (small-cons c (b ∷ a ∷ []) hc
+          (small-cons b (a ∷ []) hb (small-cons a [] ha small-nil))),
+    ))
 
 abbrev AuValue : Coding → List ℕ → Type 0
 AuValue coding bytes = IsValue coding (au_sample_of coding bytes)
@@ -113,7 +130,8 @@ au_value Raw7 bytes wave h = absurd wave
 au_value Raw15 bytes wave h = absurd wave
 au_value Raw31 bytes wave h = absurd wave
 
-pub sample_value : (form : Form) (coding : Coding) (bytes : List ℕ) → IsWave coding → AreBytes (width coding) bytes → IsValue coding (form_sample_of form coding bytes)
+pub sample_value : (form : Form) (coding : Coding) (bytes : List ℕ) → IsWave coding → AreBytes (width coding) bytes →
+    IsValue coding (form_sample_of form coding bytes)
 sample_value WaveForm coding bytes wave h = sample_of-IsValue coding bytes h
 sample_value AuForm coding bytes wave h = au_value coding bytes wave h
 
@@ -149,7 +167,8 @@ module _ (write : ℤ → List ℕ) (w : ℕ) (wide : (z : ℤ) → length (writ
       ∙ piece xs k (omega (arith, below))
 
   -- and of so many values
-  pub piece_of_values : (h : ℕ → ℤ) (m k : ℕ) → k < m → take w (drop (k * w) (flat_map write (values m h))) ≡ write (h k)
+  pub piece_of_values : (h : ℕ → ℤ) (m k : ℕ) → k < m →
+      take w (drop (k * w) (flat_map write (values m h))) ≡ write (h k)
   piece_of_values h m k below =
       piece (values m h) k (omega (arith, below, length-map-range_with_len h 0 m))
       ∙ ap write (get_or-map-range_with_len h 0 m k k (pos 0) below (omega arith))
@@ -169,7 +188,8 @@ size_of n channels w = omega arith
 count_of : (n size k : ℕ) → 0 < k → size ≡ n * k → size / k ≡ n
 count_of n size k some is = grind arith
 
-module _ (read : List ℕ → ℤ) (write : ℤ → List ℕ) (w channels n : ℕ) (h : ℕ → ℤ) (wide : (z : ℤ) → length (write z) ≡ w) where
+module _ (read : List ℕ → ℤ) (write : ℤ → List ℕ) (w channels n : ℕ) (h : ℕ → ℤ)
+    (wide : (z : ℤ) → length (write z) ≡ w) where
   -- the bytes, sample after sample
   pub coded_flat : coded_by write (frames_by h channels n) ≡ flat_map write (values (n * channels) h)
   coded_flat = flat_rows write h channels n
@@ -185,9 +205,11 @@ module _ (read : List ℕ → ℤ) (write : ℤ → List ℕ) (w channels n : �
       → samples_by read w channels (coded_by write (frames_by h channels n)) ≡ frames_by h channels n
   signal_back some back =
       let bytes = flat_map write (values (n * channels) h) in
-      let count : length bytes / (channels * w) ≡ n = count_of n (length bytes) (channels * w) some (ap length (sym coded_flat) ∙ coded_long) in
+      let count : length bytes / (channels * w) ≡ n = count_of n (length bytes) (channels * w) some
+      (ap length (sym coded_flat) ∙ coded_long) in
       ap (samples_by read w channels) coded_flat
       ∙ ap (λ (m : ℕ). values m (λ i. values channels (λ c. read (take w (drop ((i * channels + c) * w) bytes))))) count
       ∙ values_cong n _ _ (λ i below. values_cong channels _ _ (λ c inside.
       let within = place_within i c n channels below inside in
-      ap read (piece_of_values write w wide h (n * channels) (i * channels + c) within) ∙ back (i * channels + c) within))
+      ap read (piece_of_values write w wide h (n * channels) (i * channels + c) within) ∙
+      back (i * channels + c) within))

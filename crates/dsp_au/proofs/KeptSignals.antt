@@ -1,5 +1,8 @@
 -- A conversion keeps the signal, and back gives it again.
-use Rattle.std.proofs.Common.{◌≡◌, ◌≢◌, ℕ, zero, suc, ◌+◌, ◌-◌, ◌*◌, ◌/◌, ◌^◌, ◌<◌, ◌≤◌, ℤ, Bool, true, false, not, if◌then◌else◌, List, [], ◌∷◌, ◌++◌, codes, length, take, drop, nat_le, nat_lt, ◌&&◌, Option, Some, None, IfSome, Result, Ok, Err, refl, sym, ap, ◌∙◌, subst, arith, append-nil, append_assoc, length-append, length-drop, length-take-le, w32}
+use Rattle.std.proofs.Common.{◌≡◌, ◌≢◌, ℕ, zero, suc, ◌+◌, ◌-◌, ◌*◌, ◌/◌, ◌^◌, ◌<◌, ◌≤◌, ℤ, Bool, true, false, not}
+use Rattle.std.proofs.Common.{if◌then◌else◌, List, [], ◌∷◌, ◌++◌, codes, length, take, drop, nat_le, nat_lt, ◌&&◌}
+use Rattle.std.proofs.Common.{Option, Some, None, IfSome, Result, Ok, Err, refl, sym, ap, ◌∙◌, subst, arith}
+use Rattle.std.proofs.Common.{append-nil, append_assoc, length-append, length-drop, length-take-le, w32}
 use Rattle.std.specs.Int.{from_be_bytes}
 use Rattle.std.specs.Option.{option_map, unwrap_or}
 use Rattle.std.specs.Result.{result_ok, result_unwrap_or}
@@ -7,12 +10,16 @@ use Rattle.std.specs.Str.{bytes_eq}
 use Rattle.std.proofs.lemmas.Grind.{common_steps}
 use Rattle.std.proofs.lemmas.List.{take-append-le, take_all, length-take}
 use Rattle.std.proofs.Math.Seq.{drop-append_seam}
-use Rattle.dsp_defs.specs.Au.{Form, WaveForm, AuForm, HasSignal, KeepsSignal, au_header_of, au_said, au_whole, big_u32_at, coding_of_encoding, form_bytes_of, form_coded, form_header, form_header_of, form_pad, form_sample_of, form_samples, form_signal, form_written, open_declared_frames, open_frame_bytes, source_header, source_signal, target, target_form}
+use Rattle.dsp_defs.specs.Au.{Form, WaveForm, AuForm, HasSignal, KeepsSignal, au_header_of, au_said, au_whole}
+use Rattle.dsp_defs.specs.Au.{big_u32_at, coding_of_encoding, form_bytes_of, form_coded, form_header, form_header_of}
+use Rattle.dsp_defs.specs.Au.{form_pad, form_sample_of, form_samples, form_signal, form_written, open_declared_frames}
+use Rattle.dsp_defs.specs.Au.{open_frame_bytes, source_header, source_signal, target, target_form}
 use Rattle.dsp_defs.specs.Block.{Frame}
 use Rattle.dsp_defs.specs.Bytes.{AreBytes, IsValue, width}
 use Rattle.dsp_defs.specs.Open.{IsOpenGood, OpenFits, closed, open_header_of}
 use Rattle.dsp_defs.specs.Output.{sample_bytes_at}
-use Rattle.dsp_defs.specs.Wave.{Chunk, chunk_at, chunks, chunks_behind, data_bytes, declared_size, format_fault, has_id, header_in, header_of, pad_of_width, padded, sampling, u32_at, unless}
+use Rattle.dsp_defs.specs.Wave.{Chunk, chunk_at, chunks, chunks_behind, data_bytes, declared_size, format_fault}
+use Rattle.dsp_defs.specs.Wave.{has_id, header_in, header_of, pad_of_width, padded, sampling, u32_at, unless}
 use Rattle.dsp_defs.specs.declared.au.AuFault.{AuFault}
 use Rattle.dsp_defs.specs.declared.au.AuFault.TheVariants.{NotAu, Offset, Encoding, Channels, Ended}
 use Rattle.dsp_defs.specs.declared.au.Direction.{Direction}
@@ -24,12 +31,14 @@ use Rattle.dsp_defs.specs.declared.wave.HeaderFault.TheVariants.{NotRiff, NotWav
 use Rattle.dsp_defs.specs.declared.wave.OpenHeader.{OpenHeader}
 use Rattle.dsp_defs.specs.declared.wave.Sampling.{Sampling}
 use Rattle.dsp_defs.specs.declared.wave.Wanted.{Wanted}
-use Rattle.dsp_defs.proofs.AuLaws.{au_header_of-au_header, au_said-good, open_header-good, open_header_of-open_wave_header}
+use Rattle.dsp_defs.proofs.AuLaws.{au_header_of-au_header, au_said-good, open_header-good}
+use Rattle.dsp_defs.proofs.AuLaws.{open_header_of-open_wave_header}
 use Rattle.dsp_defs.proofs.CodingLemmas.{width-some}
 use Rattle.dsp_defs.proofs.WaveLemmas.{no_header}
 use Rattle.dsp_au.proofs.ExchangeLaws.{Small, of_four, small-drop, small-take}
 use Rattle.dsp_au.proofs.WholeLaws.{target_is}
-use Rattle.dsp_au.proofs.KeptSamples.{coded_flat, coded_long, form_wide, frames_by, piece_of_values, sample_back, sample_value, signal_back}
+use Rattle.dsp_au.proofs.KeptSamples.{coded_flat, coded_long, form_wide, frames_by, piece_of_values, sample_back}
+use Rattle.dsp_au.proofs.KeptSamples.{sample_value, signal_back}
 
 -- ---- the rate of a header has 32 bits
 
@@ -48,7 +57,8 @@ chunks_small zero offset (b ∷ bytes) h =
     (small-take (u32_at (b ∷ bytes) 4) (drop 8 (b ∷ bytes)) (small-drop 8 (b ∷ bytes) h))
     (chunks_small (7 + padded c.size) (offset + 1) bytes (λ i. h (suc i)))
   where
-    by : (c : Chunk) (cs : List Chunk) (short : Bool) → Small c.body → AllSmall cs → AllSmall (if short then [] else (c ∷ cs))
+    by : (c : Chunk) (cs : List Chunk) (short : Bool) → Small c.body → AllSmall cs →
+        AllSmall (if short then [] else (c ∷ cs))
     by c cs true first later = tt
     by c cs false first later = (first, later)
 
@@ -68,20 +78,30 @@ module _ (wanted : Wanted) (total : ℕ) (header : Header) where
   at_known : (known : Sampling) (c : Chunk) (cs : List Chunk) → Says (Some known) cs → Says (Some known) (c ∷ cs)
   at_known known c cs later small e = by (has_id (codes "data") c) e
     where
-      by : (is : Bool) → (if is then Ok (record { rate = known.rate; start = c.offset + 8; size = declared_size c.size; coding = known.coding }) else header_in wanted total (Some known) cs) ≡ Ok header
+      by : (is : Bool) → (if is then Ok (record {
+        rate = known.rate;
+        start = c.offset + 8;
+        size =
+            declared_size c.size;
+        coding = known.coding;
+      }) else header_in wanted total (Some known) cs) ≡ Ok header
           → header.rate < 2 ^ 32
       by true e = subst (λ rate. rate < 2 ^ 32) (ap (λ r. (result_unwrap_or r header).rate) e) small
       by false e = later small e
 
-  at_none : (c : Chunk) (cs : List Chunk) → Small c.body → ((known : Option Sampling) → Says known cs) → Says None (c ∷ cs)
+  at_none : (c : Chunk) (cs : List Chunk) → Small c.body → ((known : Option Sampling) → Says known cs) →
+      Says None (c ∷ cs)
   at_none c cs body later small e = by (has_id (codes "data") c) (has_id (codes "fmt ") c) e
     where
-      at_fault : (fault : Option (HeaderFault × ℕ)) → unless fault (header_in wanted total (Some (sampling wanted c)) cs) ≡ Ok header → header.rate < 2 ^ 32
+      at_fault : (fault : Option (HeaderFault × ℕ)) → unless fault
+          (header_in wanted total (Some (sampling wanted c)) cs) ≡ Ok header → header.rate < 2 ^ 32
       at_fault (Some f) e = no_header f header e
       at_fault None e = later (Some (sampling wanted c)) (u32_small c.body 4 body) e
 
       by : (is is' : Bool)
-          → (if is then Err (NoFormat, c.offset) else (if is' then unless (format_fault wanted total c) (header_in wanted total (Some (sampling wanted c)) cs) else header_in wanted total None cs)) ≡ Ok header
+          → (if is then Err (NoFormat, c.offset) else (if is' then
+          unless (format_fault wanted total c) (header_in wanted total (Some (sampling wanted c)) cs) else
+          header_in wanted total None cs)) ≡ Ok header
           → header.rate < 2 ^ 32
       by true is' e = no_header _ header e
       by false true e = at_fault (format_fault wanted total c) e
@@ -93,22 +113,36 @@ module _ (wanted : Wanted) (total : ℕ) (header : Header) where
   rate_in (c ∷ cs) small (Some known) h e = at_known known c cs (rate_in cs small.1 (Some known)) h e
   rate_in (c ∷ cs) small None h e = at_none c cs small.0 (rate_in cs small.1) h e
 
-wave_rate : (bytes : List ℕ) (wanted : Wanted) (header : Header) → Small bytes → header_of bytes wanted ≡ Ok header → header.rate < 2 ^ 32
-wave_rate bytes wanted header small e = by (not (bytes_eq (take 4 bytes) (codes "RIFF"))) (not (bytes_eq (take 4 (drop 8 bytes)) (codes "WAVE"))) e
+wave_rate : (bytes : List ℕ) (wanted : Wanted) (header : Header) → Small bytes → header_of bytes wanted ≡ Ok header →
+    header.rate < 2 ^ 32
+wave_rate bytes wanted header small e = by (not (bytes_eq (take 4 bytes) (codes "RIFF")))
+    (not (bytes_eq (take 4 (drop 8 bytes)) (codes "WAVE"))) e
   where
-    by : (r w : Bool) → (if r then Err (NotRiff, 0) else (if w then Err (NotWave, 8) else header_in wanted (length bytes) None (chunks bytes))) ≡ Ok header → header.rate < 2 ^ 32
+    by : (r w : Bool) → (if r then Err (NotRiff, 0) else
+        (if w then Err (NotWave, 8) else header_in wanted (length bytes) None (chunks bytes))) ≡ Ok header →
+        header.rate < 2 ^ 32
     by true w e = no_header _ header e
     by false true e = no_header _ header e
-    by false false e = rate_in wanted (length bytes) header (chunks bytes) (chunks_small 0 12 (drop 12 bytes) (small-drop 12 bytes small)) None tt e
+    by false false e = rate_in wanted (length bytes) header (chunks bytes)
+        (chunks_small 0 12 (drop 12 bytes) (small-drop 12 bytes small)) None tt e
 
 au_rate : (fields : List ℕ) (header : OpenHeader) → au_said fields ≡ Ok header → header.rate ≡ big_u32_at fields 16
-au_rate fields header e = by (nat_lt (big_u32_at fields 4) 24) (coding_of_encoding (big_u32_at fields 12)) (nat_le 1 (big_u32_at fields 20) && nat_le (big_u32_at fields 20) 16) e
+au_rate fields header e = by (nat_lt (big_u32_at fields 4) 24) (coding_of_encoding (big_u32_at fields 12))
+    (nat_le 1 (big_u32_at fields 20) && nat_le (big_u32_at fields 20) 16) e
   where
     by : (low : Bool) (known : Option Coding) (few : Bool)
         → let at_start : AuFault × ℕ = (Offset (big_u32_at fields 4), 4) in
         let at_channels : AuFault × ℕ = (Channels (big_u32_at fields 20), 20) in
         let said : Result OpenHeader (AuFault × ℕ) = elim known [
-          | Some coding ↦ if few then Ok (record { rate = big_u32_at fields 16; start = big_u32_at fields 4; size = declared_size (big_u32_at fields 8); coding = coding; channels = big_u32_at fields 20 }) else Err at_channels
+          | Some coding ↦ if few then Ok (record {
+            rate = big_u32_at fields 16;
+            start = big_u32_at fields 4;
+            size =
+                declared_size (big_u32_at fields 8);
+            coding = coding;
+            channels = big_u32_at fields 20;
+          }) else
+              Err at_channels
           | None ↦ Err (Encoding (big_u32_at fields 12), 12)
         ] in
         let all : Result OpenHeader (AuFault × ℕ) = if low then Err at_start else said in
@@ -122,45 +156,57 @@ big_small : (bytes : List ℕ) → AreBytes 4 bytes → from_be_bytes w32 bytes 
 big_small bytes h = of_four (λ bytes. from_be_bytes w32 bytes < 2 ^ 32) (λ a b c d ha hb hc hd. omega arith) bytes h
 
 -- of a whole header the fields say so
-au_whole_said : (bytes : List ℕ) (header : OpenHeader) → au_header_of bytes ≡ Ok header → (24 ≤ length bytes) × (au_said (take 24 bytes) ≡ Ok header)
+au_whole_said : (bytes : List ℕ) (header : OpenHeader) → au_header_of bytes ≡ Ok header → (24 ≤ length bytes) ×
+    (au_said (take 24 bytes) ≡ Ok header)
 au_whole_said bytes header e = by (not (bytes_eq (take 4 bytes) (codes ".snd"))) (nat_lt (length bytes) 24) refl e
   where
-    whole : 24 ≤ length bytes → (said : Result OpenHeader (AuFault × ℕ)) → au_said (take 24 bytes) ≡ said → au_whole (length bytes) said ≡ Ok header → (24 ≤ length bytes) × (au_said (take 24 bytes) ≡ Ok header)
+    whole : 24 ≤ length bytes → (said : Result OpenHeader (AuFault × ℕ)) → au_said (take 24 bytes) ≡ said →
+        au_whole (length bytes) said ≡ Ok header → (24 ≤ length bytes) × (au_said (take 24 bytes) ≡ Ok header)
     whole enough (Err fault) is e = absurd cc
     whole enough (Ok found) is e = by_end (nat_lt (length bytes) found.start) e
       where
-        by_end : (cut : Bool) → let fault : AuFault × ℕ = (Ended, length bytes) in let all : Result OpenHeader (AuFault × ℕ) = if cut then Err fault else Ok found in
+        by_end : (cut : Bool) → let fault : AuFault × ℕ = (Ended, length bytes) in
+            let all : Result OpenHeader (AuFault × ℕ) = if cut then Err fault else Ok found in
             all ≡ Ok header → (24 ≤ length bytes) × (au_said (take 24 bytes) ≡ Ok header)
         by_end true e = absurd cc
         by_end false e = (enough, is ∙ e)
 
     by : (other short : Bool) → nat_lt (length bytes) 24 ≡ short
         → let at_mark : AuFault × ℕ = (NotAu, 0) in let at_end : AuFault × ℕ = (Ended, length bytes) in
-        let all : Result OpenHeader (AuFault × ℕ) = if other then Err at_mark else (if short then Err at_end else au_whole (length bytes) (au_said (take 24 bytes))) in
+        let all : Result OpenHeader (AuFault × ℕ) = if other then Err at_mark else
+        (if short then Err at_end else au_whole (length bytes) (au_said (take 24 bytes))) in
         all ≡ Ok header → (24 ≤ length bytes) × (au_said (take 24 bytes) ≡ Ok header)
     by true short is e = absurd cc
     by false true is e = absurd cc
     by false false is e = whole (grind (arith, common_steps, is)) (au_said (take 24 bytes)) refl e
 
-au_rate_small : (bytes : List ℕ) (header : OpenHeader) → Small bytes → au_header_of bytes ≡ Ok header → header.rate < 2 ^ 32
+au_rate_small : (bytes : List ℕ) (header : OpenHeader) → Small bytes → au_header_of bytes ≡ Ok header →
+    header.rate < 2 ^ 32
 au_rate_small bytes header small e =
     let (enough, said) = au_whole_said bytes header e in
     let long : length (take 24 bytes) ≡ 24 = length-take-le 24 bytes enough in
-    let piece : length (take 4 (drop 16 (take 24 bytes))) ≡ 4 = length-take-le 4 (drop 16 (take 24 bytes)) (omega (arith, long, length-drop 16 (take 24 bytes))) in
+    let piece : length (take 4 (drop 16 (take 24 bytes))) ≡ 4 =
+    length-take-le 4 (drop 16 (take 24 bytes)) (omega (arith, long, length-drop 16 (take 24 bytes))) in
     subst (λ rate. rate < 2 ^ 32) (sym (au_rate (take 24 bytes) header said))
-    (big_small (take 4 (drop 16 (take 24 bytes))) (piece, small-take 4 _ (small-drop 16 (take 24 bytes) (small-take 24 bytes small))))
+    (big_small (take 4 (drop 16 (take 24 bytes))) (
+      piece,
+      small-take 4 _ (small-drop 16 (take 24 bytes) (small-take 24 bytes small)),
+    ))
 
-form_rate : (form : Form) (bytes : List ℕ) (header : OpenHeader) → Small bytes → form_header_of form bytes ≡ Some header → header.rate < 2 ^ 32
+form_rate : (form : Form) (bytes : List ℕ) (header : OpenHeader) → Small bytes →
+    form_header_of form bytes ≡ Some header → header.rate < 2 ^ 32
 form_rate WaveForm bytes header small e = by (open_header_of bytes) refl e
   where
-    by : (said : Result OpenHeader (HeaderFault × ℕ)) → open_header_of bytes ≡ said → result_ok said ≡ Some header → header.rate < 2 ^ 32
+    by : (said : Result OpenHeader (HeaderFault × ℕ)) → open_header_of bytes ≡ said → result_ok said ≡ Some header →
+        header.rate < 2 ^ 32
     by (Err fault) is e = absurd cc
     by (Ok found) is e =
         let same : found ≡ header = ap (λ o. unwrap_or o header) e in
         wave_rate bytes _ (closed header) small (open_header-good bytes header (is ∙ ap (λ h. Ok h) same)).1
 form_rate AuForm bytes header small e = by (au_header_of bytes) refl e
   where
-    by : (said : Result OpenHeader (AuFault × ℕ)) → au_header_of bytes ≡ said → result_ok said ≡ Some header → header.rate < 2 ^ 32
+    by : (said : Result OpenHeader (AuFault × ℕ)) → au_header_of bytes ≡ said → result_ok said ≡ Some header →
+        header.rate < 2 ^ 32
     by (Err fault) is e = absurd cc
     by (Ok found) is e =
         let same : found ≡ header = ap (λ o. unwrap_or o header) e in
@@ -169,15 +215,19 @@ form_rate AuForm bytes header small e = by (au_header_of bytes) refl e
 -- ---- a written file is read back
 
 -- the header of a file in a form, and bytes behind it
-form_read : (form : Form) (header : OpenHeader) (rest : List ℕ) → IsOpenGood header → header.rate < 2 ^ 32 → OpenFits header.coding header.channels (open_declared_frames header)
+form_read : (form : Form) (header : OpenHeader) (rest : List ℕ) → IsOpenGood header → header.rate < 2 ^ 32 →
+    OpenFits header.coding header.channels (open_declared_frames header)
     → form_header_of form (form_header form header ++ rest) ≡ Some (form_written form header)
 form_read WaveForm header rest good small fits =
-    ap result_ok (open_header_of-open_wave_header header.coding good.wave header.channels header.rate (open_declared_frames header) rest good.some good.few small fits)
+    ap result_ok (open_header_of-open_wave_header header.coding good.wave header.channels header.rate
+    (open_declared_frames header) rest good.some good.few small fits)
 form_read AuForm header rest good small fits =
-    ap result_ok (au_header_of-au_header header.channels header.rate (open_declared_frames header) rest good.some good.few small header.coding good.wave
+    ap result_ok (au_header_of-au_header header.channels header.rate (open_declared_frames header) rest good.some
+    good.few small header.coding good.wave
     (au_fits (open_declared_frames header) fits))
   where
-    au_fits : (frames : Option ℕ) → OpenFits header.coding header.channels frames → IfSome frames (λ n. data_bytes (width header.coding) header.channels (Some n) < 2 ^ 32 - 1)
+    au_fits : (frames : Option ℕ) → OpenFits header.coding header.channels frames →
+        IfSome frames (λ n. data_bytes (width header.coding) header.channels (Some n) < 2 ^ 32 - 1)
     au_fits None h = tt
     au_fits (Some n) h = omega (arith, h)
 
@@ -194,10 +244,12 @@ record IsSound (form : Form) (header : OpenHeader) (bytes : List ℕ) : Type 0 w
   has : form_header_of form bytes ≡ Some header
   good : IsOpenGood header
   rate : header.rate < 2 ^ 32
-  whole : IfSome header.size (λ size. header.start + size / open_frame_bytes header * open_frame_bytes header ≤ length bytes)
+  whole : IfSome header.size (λ size. header.start + size / open_frame_bytes header * open_frame_bytes header ≤ length
+      bytes)
   fits : OpenFits header.coding header.channels (open_declared_frames header)
   values_are : let from = sample_bytes_at header.start header.size bytes in
-      (k : ℕ) → k < length from / open_frame_bytes header * header.channels → IsValue header.coding (sample_at form header from k)
+      (k : ℕ) → k < length from / open_frame_bytes header * header.channels →
+      IsValue header.coding (sample_at form header from k)
 
 -- ---- numbers of bytes
 
@@ -228,8 +280,13 @@ piece_within k n channels w size below room = grind (arith, rise k (n * channels
     rise : (k m w : ℕ) → k < m → k * w + w ≤ m * w
     rise k m w h = grind arith
 
-take_long : {A : Type 0} (size : ℕ) (xs : List A) → (length (take size xs) ≤ size) × (length (take size xs) ≤ length xs) × ((n : ℕ) → n ≤ size → n ≤ length xs → n ≤ length (take size xs))
-take_long size xs = let is = length-take size xs in (omega (arith, is), omega (arith, is), λ n few room. omega (arith, is, few, room))
+take_long : {A : Type 0} (size : ℕ) (xs : List A) → (length (take size xs) ≤ size) ×
+    (length (take size xs) ≤ length xs) × ((n : ℕ) → n ≤ size → n ≤ length xs → n ≤ length (take size xs))
+take_long size xs = let is = length-take size xs in (
+  omega (arith, is),
+  omega (arith, is),
+  λ n few room. omega (arith, is, few, room),
+)
 
 -- ---- the file in a form that has the signal of a source
 
@@ -278,28 +335,35 @@ module _ (source form : Form) (header : OpenHeader) (bytes : List ℕ) (sound : 
   wide : (z : ℤ) → length (form_bytes_of form header.coding z) ≡ w
   wide z = form_wide form header.coding z sound.good.wave
 
-  sample_is : (k : ℕ) → k < n * header.channels → form_sample_of form header.coding (form_bytes_of form header.coding (h k)) ≡ h k
+  sample_is : (k : ℕ) → k < n * header.channels → form_sample_of form header.coding
+      (form_bytes_of form header.coding (h k)) ≡ h k
   sample_is k below = sample_back form header.coding (h k) sound.good.wave (sound.values_are k below)
 
   signal_is : form_samples form header.coding header.channels body ≡ x
-  signal_is = signal_back (form_sample_of form header.coding) (form_bytes_of form header.coding) w header.channels n h wide some sample_is
+  signal_is = signal_back (form_sample_of form header.coding) (form_bytes_of form header.coding) w header.channels n h
+      wide some sample_is
 
   body_long : length body ≡ n * (header.channels * w)
-  body_long = coded_long (form_sample_of form header.coding) (form_bytes_of form header.coding) w header.channels n h wide
+  body_long = coded_long (form_sample_of form header.coding) (form_bytes_of form header.coding) w header.channels n h
+      wide
 
   -- the frames are those that are declared
-  counted : (size : Option ℕ) → IfSome size (λ size. header.start + size / open_frame_bytes header * open_frame_bytes header ≤ length bytes)
-      → IfSome (option_map (λ size. size / open_frame_bytes header) size) (λ m. length (sample_bytes_at header.start size bytes) / open_frame_bytes header ≡ m)
+  counted : (size : Option ℕ) → IfSome size (λ size. header.start + size / open_frame_bytes header * open_frame_bytes
+      header ≤ length bytes)
+      → IfSome (option_map (λ size. size / open_frame_bytes header) size)
+      (λ m. length (sample_bytes_at header.start size bytes) / open_frame_bytes header ≡ m)
   counted None room = tt
   counted (Some size) room =
       let (few, within, front) = take_long size (drop header.start bytes) in
       same_quotient size (length (take size (drop header.start bytes))) (open_frame_bytes header) some few
-      (front (size / open_frame_bytes header * open_frame_bytes header) (floor_within size (open_frame_bytes header) some) (omega (arith, room, length-drop header.start bytes)))
+      (front (size / open_frame_bytes header * open_frame_bytes header)
+      (floor_within size (open_frame_bytes header) some) (omega (arith, room, length-drop header.start bytes)))
 
   body_known : IfSome frames (λ m. length body ≡ data_bytes w header.channels (Some m))
   body_known = by frames (counted header.size sound.whole)
     where
-      by : (frames : Option ℕ) → IfSome frames (λ m. n ≡ m) → IfSome frames (λ m. length body ≡ data_bytes w header.channels (Some m))
+      by : (frames : Option ℕ) → IfSome frames (λ m. n ≡ m) →
+          IfSome frames (λ m. length body ≡ data_bytes w header.channels (Some m))
       by None is = tt
       by (Some m) is = body_long ∙ ap (λ k. k * (header.channels * w)) is ∙ regroup m header.channels w
 
@@ -308,9 +372,12 @@ module _ (source form : Form) (header : OpenHeader) (bytes : List ℕ) (sound : 
   no_pad WaveForm is = ap (pad_of_width w header.channels) is
   no_pad AuForm is = refl
 
-  taken_by : (frames : Option ℕ) (head pad : List ℕ) → IfSome frames (λ m. length body ≡ data_bytes w header.channels (Some m)) → (frames ≡ None → pad ≡ [])
-      → sample_bytes_at (length head) (option_map (λ m. data_bytes w header.channels (Some m)) frames) (head ++ (body ++ pad)) ≡ body
-  taken_by None head pad is none = drop-append_seam head (body ++ pad) ∙ ap (λ pad. body ++ pad) (none refl) ∙ append-nil body
+  taken_by : (frames : Option ℕ) (head pad : List ℕ) →
+      IfSome frames (λ m. length body ≡ data_bytes w header.channels (Some m)) → (frames ≡ None → pad ≡ [])
+      → sample_bytes_at (length head) (option_map (λ m. data_bytes w header.channels (Some m)) frames)
+      (head ++ (body ++ pad)) ≡ body
+  taken_by None head pad is none = drop-append_seam head (body ++ pad) ∙ ap (λ pad. body ++ pad) (none refl) ∙
+      append-nil body
   taken_by (Some m) head pad is none =
       let size = data_bytes w header.channels (Some m) in
       ap (take size) (drop-append_seam head (body ++ pad))
@@ -324,16 +391,20 @@ module _ (source form : Form) (header : OpenHeader) (bytes : List ℕ) (sound : 
   file_signal = ap (form_samples form header.coding header.channels) taken ∙ signal_is
 
   file_has : form_header_of form file ≡ Some (said_of form header)
-  file_has = form_read form header (body ++ form_pad form header) sound.good sound.rate sound.fits ∙ ap (λ (h : OpenHeader). Some h) (said_is form header)
+  file_has = form_read form header (body ++ form_pad form header) sound.good sound.rate sound.fits ∙
+      ap (λ (h : OpenHeader). Some h) (said_is form header)
 
   -- ---- it is a sound file itself
 
-  sizes_small : (frames : Option ℕ) → OpenFits header.coding header.channels frames → IfSome (option_map (λ m. data_bytes w header.channels (Some m)) frames) (λ size. size ≢ 2 ^ 32 - 1)
+  sizes_small : (frames : Option ℕ) → OpenFits header.coding header.channels frames →
+      IfSome (option_map (λ m. data_bytes w header.channels (Some m)) frames) (λ size. size ≢ 2 ^ 32 - 1)
   sizes_small None fits = tt
   sizes_small (Some m) fits = λ is. omega (arith, fits, is)
 
   room_in : (frames : Option ℕ) → IfSome frames (λ m. length body ≡ data_bytes w header.channels (Some m))
-      → IfSome (option_map (λ m. data_bytes w header.channels (Some m)) frames) (λ size. length (form_header form header) + size / open_frame_bytes header * open_frame_bytes header ≤ length file)
+      → IfSome (option_map (λ m. data_bytes w header.channels (Some m)) frames)
+      (λ size. length (form_header form header) + size / open_frame_bytes header * open_frame_bytes header ≤ length
+      file)
   room_in None is = tt
   room_in (Some m) is =
       omega (
@@ -344,16 +415,21 @@ module _ (source form : Form) (header : OpenHeader) (bytes : List ℕ) (sound : 
         length-append body (form_pad form header),
       )
 
-  declares_same : (frames : Option ℕ) → option_map (λ size. size / open_frame_bytes header) (option_map (λ m. data_bytes w header.channels (Some m)) frames) ≡ frames
+  declares_same : (frames : Option ℕ) → option_map (λ size. size / open_frame_bytes header)
+      (option_map (λ m. data_bytes w header.channels (Some m)) frames) ≡ frames
   declares_same None = refl
   declares_same (Some m) = ap (λ k. Some k) (whole_quotient m header.channels w some)
 
-  body_value : (k : ℕ) → k < length body / open_frame_bytes header * header.channels → IsValue header.coding (sample_at form header body k)
+  body_value : (k : ℕ) → k < length body / open_frame_bytes header * header.channels →
+      IsValue header.coding (sample_at form header body k)
   body_value k below =
-      let within : k < n * header.channels = subst (λ m. k < m * header.channels) (count_body (length body) n (header.channels * w) some body_long) below in
+      let within : k < n * header.channels = subst (λ m. k < m * header.channels)
+      (count_body (length body) n (header.channels * w) some body_long) below in
       let is : sample_at form header body k ≡ h k =
-      ap (λ bytes. sample_at form header bytes k) (coded_flat (form_sample_of form header.coding) (form_bytes_of form header.coding) w header.channels n h wide)
-      ∙ ap (form_sample_of form header.coding) (piece_of_values (form_bytes_of form header.coding) w wide h (n * header.channels) k within)
+      ap (λ bytes. sample_at form header bytes k) (coded_flat (form_sample_of form header.coding)
+      (form_bytes_of form header.coding) w header.channels n h wide)
+      ∙ ap (form_sample_of form header.coding) (piece_of_values (form_bytes_of form header.coding) w wide h
+      (n * header.channels) k within)
       ∙ sample_is k within in
       subst (IsValue header.coding) (sym is) (sound.values_are k within)
     where
@@ -363,11 +439,18 @@ module _ (source form : Form) (header : OpenHeader) (bytes : List ℕ) (sound : 
   file_sound : IsSound form (said_of form header) file
   file_sound = record {
     has = file_has;
-    good = record { wave = sound.good.wave; some = sound.good.some; few = sound.good.few; size = sizes_small frames sound.fits };
+    good = record {
+      wave = sound.good.wave;
+      some = sound.good.some;
+      few = sound.good.few;
+      size =
+          sizes_small frames sound.fits;
+    };
     rate = sound.rate;
     whole = room_in frames body_known;
     fits = subst (OpenFits header.coding header.channels) (sym (declares_same frames)) sound.fits;
-    values_are = subst (λ from. (k : ℕ) → k < length from / open_frame_bytes header * header.channels → IsValue header.coding (sample_at form header from k)) (sym taken) body_value;
+    values_are = subst (λ from. (k : ℕ) → k < length from / open_frame_bytes header * header.channels →
+        IsValue header.coding (sample_at form header from k)) (sym taken) body_value;
   }
 
 -- ---- a source of bytes is sound
@@ -375,15 +458,18 @@ module _ (source form : Form) (header : OpenHeader) (bytes : List ℕ) (sound : 
 au_good : (bytes : List ℕ) (header : OpenHeader) → au_header_of bytes ≡ Ok header → IsOpenGood header
 au_good bytes header e = (au_said-good (take 24 bytes) header (au_whole_said bytes header e).1).0
 
-form_good : (form : Form) (bytes : List ℕ) (header : OpenHeader) → form_header_of form bytes ≡ Some header → IsOpenGood header
+form_good : (form : Form) (bytes : List ℕ) (header : OpenHeader) → form_header_of form bytes ≡ Some header →
+    IsOpenGood header
 form_good WaveForm bytes header e = by (open_header_of bytes) refl e
   where
-    by : (said : Result OpenHeader (HeaderFault × ℕ)) → open_header_of bytes ≡ said → result_ok said ≡ Some header → IsOpenGood header
+    by : (said : Result OpenHeader (HeaderFault × ℕ)) → open_header_of bytes ≡ said → result_ok said ≡ Some header →
+        IsOpenGood header
     by (Err fault) is e = absurd cc
     by (Ok found) is e = (open_header-good bytes header (is ∙ ap (λ h. Ok h) (ap (λ o. unwrap_or o header) e))).0
 form_good AuForm bytes header e = by (au_header_of bytes) refl e
   where
-    by : (said : Result OpenHeader (AuFault × ℕ)) → au_header_of bytes ≡ said → result_ok said ≡ Some header → IsOpenGood header
+    by : (said : Result OpenHeader (AuFault × ℕ)) → au_header_of bytes ≡ said → result_ok said ≡ Some header →
+        IsOpenGood header
     by (Err fault) is e = absurd cc
     by (Ok found) is e = au_good bytes header (is ∙ ap (λ h. Ok h) (ap (λ o. unwrap_or o header) e))
 
@@ -391,13 +477,16 @@ small_samples : (start : ℕ) (size : Option ℕ) (bytes : List ℕ) → Small b
 small_samples start None bytes small = small-drop start bytes small
 small_samples start (Some size) bytes small = small-take size (drop start bytes) (small-drop start bytes small)
 
-sound_source : (form : Form) (header : OpenHeader) (bytes : List ℕ) → Small bytes → form_header_of form bytes ≡ Some header
-    → IfSome header.size (λ size. header.start + size / open_frame_bytes header * open_frame_bytes header ≤ length bytes)
+sound_source : (form : Form) (header : OpenHeader) (bytes : List ℕ) → Small bytes →
+    form_header_of form bytes ≡ Some header
+    → IfSome header.size (λ size. header.start + size / open_frame_bytes header * open_frame_bytes header ≤ length
+    bytes)
     → OpenFits header.coding header.channels (open_declared_frames header) → IsSound form header bytes
 sound_source form header bytes small has whole fits =
     let good = form_good form bytes header has in
     let from = sample_bytes_at header.start header.size bytes in
-    let some : 0 < header.channels * width header.coding = product_some header.channels (width header.coding) good.some (width-some header.coding) in
+    let some : 0 < header.channels * width header.coding =
+    product_some header.channels (width header.coding) good.some (width-some header.coding) in
     record {
       has = has;
       good = good;
@@ -406,19 +495,28 @@ sound_source form header bytes small has whole fits =
       fits = fits;
       values_are = λ k below.
           let w = width header.coding in
-          let room = piece_within k (length from / open_frame_bytes header) header.channels w (length from) below (floor_within (length from) (open_frame_bytes header) some) in
-          sample_value form header.coding (piece_at header from k) good.wave
-          (length-take-le w (drop (k * w) from) (omega (arith, room, length-drop (k * w) from)), small-take w (drop (k * w) from) (small-drop (k * w) from (small_samples header.start header.size bytes small)));
+          let room = piece_within k (length from / open_frame_bytes header) header.channels w (length from) below
+          (floor_within (length from) (open_frame_bytes header) some) in
+          sample_value form header.coding (piece_at header from k) good.wave (
+            length-take-le w (drop (k * w) from) (omega (arith, room, length-drop (k * w) from)),
+            small-take w (drop (k * w) from) (small-drop (k * w) from
+                (small_samples header.start header.size bytes small)),
+          );
     }
 
 -- ---- there and back
 
 -- the file in the other form, its header and its samples written one after the other
-target_file : (direction : Direction) (header : OpenHeader) (bytes : List ℕ) → source_header direction bytes ≡ Some header
-    → target direction bytes ≡ form_header (target_form direction) header ++ (form_coded (target_form direction) header.coding (source_signal direction header bytes) ++ form_pad (target_form direction) header)
+target_file : (direction : Direction) (header : OpenHeader) (bytes : List ℕ) →
+    source_header direction bytes ≡ Some header
+    → target direction bytes ≡ form_header (target_form direction) header ++
+    (form_coded (target_form direction) header.coding (source_signal direction header bytes) ++ form_pad
+    (target_form direction) header)
 target_file direction header bytes has =
     target_is direction bytes header has
-    ∙ append_assoc (form_header (target_form direction) header) (form_coded (target_form direction) header.coding (source_signal direction header bytes)) (form_pad (target_form direction) header)
+    ∙ append_assoc (form_header (target_form direction) header)
+    (form_coded (target_form direction) header.coding (source_signal direction header bytes))
+    (form_pad (target_form direction) header)
 
 pub keeps_signal : (direction : Direction) → KeepsSignal direction
 keeps_signal WaveToAu header bytes c =
@@ -426,20 +524,30 @@ keeps_signal WaveToAu header bytes c =
     let there = file WaveForm AuForm header bytes sound in
     let said = said_of AuForm header in
     let again = file_sound WaveForm AuForm header bytes sound in
-    subst (λ t. HasSignal AuToWave said t (form_signal WaveForm header bytes) × HasSignal WaveToAu (said_of WaveForm said) (target AuToWave t) (form_signal WaveForm header bytes))
+    subst (λ t. HasSignal AuToWave said t (form_signal WaveForm header bytes) ×
+    HasSignal WaveToAu (said_of WaveForm said) (target AuToWave t) (form_signal WaveForm header bytes))
     (sym (target_file WaveToAu header bytes c.has)) (
       (file_has WaveForm AuForm header bytes sound, file_signal WaveForm AuForm header bytes sound),
-      subst (λ t. HasSignal WaveToAu (said_of WaveForm said) t (form_signal WaveForm header bytes)) (sym (target_file AuToWave said there (file_has WaveForm AuForm header bytes sound)))
-          (file_has AuForm WaveForm said there again, file_signal AuForm WaveForm said there again ∙ file_signal WaveForm AuForm header bytes sound),
+      subst (λ t. HasSignal WaveToAu (said_of WaveForm said) t (form_signal WaveForm header bytes))
+          (sym (target_file AuToWave said there (file_has WaveForm AuForm header bytes sound))) (
+            file_has AuForm WaveForm said there again,
+            file_signal AuForm WaveForm said there again ∙
+                file_signal WaveForm AuForm header bytes sound,
+          ),
     )
 keeps_signal AuToWave header bytes c =
     let sound = sound_source AuForm header bytes c.are_bytes c.has c.whole c.fits in
     let there = file AuForm WaveForm header bytes sound in
     let said = said_of WaveForm header in
     let again = file_sound AuForm WaveForm header bytes sound in
-    subst (λ t. HasSignal WaveToAu said t (form_signal AuForm header bytes) × HasSignal AuToWave (said_of AuForm said) (target WaveToAu t) (form_signal AuForm header bytes))
+    subst (λ t. HasSignal WaveToAu said t (form_signal AuForm header bytes) ×
+    HasSignal AuToWave (said_of AuForm said) (target WaveToAu t) (form_signal AuForm header bytes))
     (sym (target_file AuToWave header bytes c.has)) (
       (file_has AuForm WaveForm header bytes sound, file_signal AuForm WaveForm header bytes sound),
-      subst (λ t. HasSignal AuToWave (said_of AuForm said) t (form_signal AuForm header bytes)) (sym (target_file WaveToAu said there (file_has AuForm WaveForm header bytes sound)))
-          (file_has WaveForm AuForm said there again, file_signal WaveForm AuForm said there again ∙ file_signal AuForm WaveForm header bytes sound),
+      subst (λ t. HasSignal AuToWave (said_of AuForm said) t (form_signal AuForm header bytes))
+          (sym (target_file WaveToAu said there (file_has AuForm WaveForm header bytes sound))) (
+            file_has WaveForm AuForm said there again,
+            file_signal WaveForm AuForm said there again ∙
+                file_signal AuForm WaveForm header bytes sound,
+          ),
     )

@@ -1,5 +1,7 @@
 -- Reading the header of an AU file.
-use Rattle.std.proofs.Common.{◌≡◌, ◌⊎◌, ℕ, zero, suc, ◌+◌, ◌-◌, ◌<◌, ◌≤◌, ◌^◌, Bool, true, false, List, [], ◌∷◌, ◌++◌, length, take, codes, Result, Ok, Err, refl, sym, ap, ap₂, ◌∙◌, arith, length-append, append_assoc, append-nil, subst, inl, inr, ⊎_elim}
+use Rattle.std.proofs.Common.{◌≡◌, ◌⊎◌, ℕ, zero, suc, ◌+◌, ◌-◌, ◌<◌, ◌≤◌, ◌^◌, Bool, true, false, List, [], ◌∷◌, ◌++◌}
+use Rattle.std.proofs.Common.{length, take, codes, Result, Ok, Err, refl, sym, ap, ap₂, ◌∙◌, arith, length-append}
+use Rattle.std.proofs.Common.{append_assoc, append-nil, subst, inl, inr, ⊎_elim}
 use Rattle.std.proofs.lemmas.Grind.{common_steps}
 use Rattle.std.proofs.lemmas.List.{take-append-le, take-take, take_all, take_at, length-take-le}
 use Rattle.std.proofs.lemmas.Bool.{cases_lt}
@@ -24,7 +26,9 @@ use Rattle.dsp_au.specs.Reading.{AuCame, AuHeaded, AuMissing, AuStopped, HasAuCa
 pub nothing_came : (place : ℕ) (now : SourceState) → AuCame place 0 now now []
 nothing_came place now = record { long = refl; gave = Gave-nil now; no_fault = refl }
 
-pub both_came : (place first second : ℕ) (old mid now : SourceState) (front back : List ℕ) → AuCame place first old mid front → AuCame (place + first) second mid now back → AuCame place (first + second) old now (front ++ back)
+pub both_came : (place first second : ℕ) (old mid now : SourceState) (front back : List ℕ) →
+    AuCame place first old mid front → AuCame (place + first) second mid now back →
+    AuCame place (first + second) old now (front ++ back)
 both_came place first second old mid now front back a b =
     record {
       long = omega (arith, length-append front back, a.long, b.long);
@@ -37,13 +41,16 @@ both_came place first second old mid now front back a b =
 pub not_au : (bytes : List ℕ) → bytes_eq (take 4 bytes) (codes ".snd") ≡ false → au_header_of bytes ≡ Err (NotAu, 0)
 not_au bytes h = grind (arith, common_steps, h)
 
-pub fields_cut : (bytes : List ℕ) → bytes_eq (take 4 bytes) (codes ".snd") ≡ true → length bytes < 24 → au_header_of bytes ≡ Err (Ended, length bytes)
+pub fields_cut : (bytes : List ℕ) → bytes_eq (take 4 bytes) (codes ".snd") ≡ true → length bytes < 24 →
+    au_header_of bytes ≡ Err (Ended, length bytes)
 fields_cut bytes h short = grind (arith, common_steps, h, short)
 
-pub fields_said : (bytes : List ℕ) → bytes_eq (take 4 bytes) (codes ".snd") ≡ true → 24 ≤ length bytes → au_header_of bytes ≡ au_whole (length bytes) (au_said (take 24 bytes))
+pub fields_said : (bytes : List ℕ) → bytes_eq (take 4 bytes) (codes ".snd") ≡ true → 24 ≤ length bytes →
+    au_header_of bytes ≡ au_whole (length bytes) (au_said (take 24 bytes))
 fields_said bytes h enough = grind (arith, common_steps, h, enough)
 
-pub whole_short : (total : ℕ) (header : OpenHeader) → total < header.start → au_whole total (Ok header) ≡ Err (Ended, total)
+pub whole_short : (total : ℕ) (header : OpenHeader) → total < header.start →
+    au_whole total (Ok header) ≡ Err (Ended, total)
 whole_short total header h = grind (arith, common_steps, h)
 
 pub whole_good : (total : ℕ) (header : OpenHeader) → header.start ≤ total → au_whole total (Ok header) ≡ Ok header
@@ -79,11 +86,13 @@ fails_fields old now u =
       cause = (u.cause.0, omega (arith, u.cause.1), short_file u.bytes u.short);
     }
 
-pub fails_any : (old now : SourceState) (size room : ℕ) (fault : FillFault) → size ≡ 24 → room ≡ 2 ^ 40 → Unfilled old now size room fault → AuStopped old now Read
+pub fails_any : (old now : SourceState) (size room : ℕ) (fault : FillFault) → size ≡ 24 → room ≡ 2 ^ 40 →
+    Unfilled old now size room fault → AuStopped old now Read
 fails_any old now size room Failed all_size all u = fails_fields old now (rw (all_size, all) at u)
 fails_any old now size room LimitReached all_size all u = absurd (omega (arith, all_size, all, u.short, u.cause.1))
 
-module _ (old now : SourceState) (block : List ℕ) (count : ℕ) (size : length block ≡ 24) (filled : Filled old now block (2 ^ 40) count) where
+module _ (old now : SourceState) (block : List ℕ) (count : ℕ) (size : length block ≡ 24)
+    (filled : Filled old now block (2 ^ 40) count) where
   abbrev first : List ℕ
   first = take count block
 
@@ -91,14 +100,19 @@ module _ (old now : SourceState) (block : List ℕ) (count : ℕ) (size : length
   first_long = length-take-le count block filled.within
 
   -- a fault that the first bytes have, where nothing comes behind them or there are 24
-  stops_with : (fault : AuFault) (offset : ℕ) → ((more : List ℕ) → (count ≡ 24) ⊎ (more ≡ []) → au_header_of (first ++ more) ≡ Err (fault, offset)) → AuStopped old now (Fault fault offset)
+  stops_with : (fault : AuFault) (offset : ℕ) → ((more : List ℕ) → (count ≡ 24) ⊎ (more ≡ []) →
+      au_header_of (first ++ more) ≡ Err (fault, offset)) → AuStopped old now (Fault fault offset)
   stops_with fault offset said =
       record {
         bytes = first;
         gave = filled.gave;
         in_limit = omega (arith, first_long, filled.in_room);
         cause = (
-          ⊎_elim (λ less. inr (filled.end (omega (arith, less, size)), ap au_header_of (sym (append-nil first)) ∙ said [] (inr refl)))
+          ⊎_elim (λ less. inr (
+            filled.end (omega (arith, less, size)),
+            ap au_header_of (sym (append-nil first)) ∙
+                said [] (inr refl),
+          ))
               (λ all. inl (λ more. said more (inl (omega (arith, all, filled.within, size))))) (cases_lt count 24),
           filled.no_fault,
         );
@@ -109,13 +123,16 @@ module _ (old now : SourceState) (block : List ℕ) (count : ℕ) (size : length
   alone less more (inr none) = ap (λ xs. first ++ xs) none ∙ append-nil first
 
   same_begin : 4 ≤ count → (more : List ℕ) → take 4 (first ++ more) ≡ take 4 block
-  same_begin enough more = take-append-le 4 first more (omega (arith, enough, first_long)) ∙ take-take 4 count block enough
+  same_begin enough more = take-append-le 4 first more (omega (arith, enough, first_long)) ∙
+      take-take 4 count block enough
 
   pub begin_cut : count < 4 → AuStopped old now (Fault NotAu 0)
-  begin_cut less = stops_with NotAu 0 (λ more h. ap au_header_of (alone (omega (arith, less)) more h) ∙ not_au first (differs (take 4 first) (codes ".snd") (omega (arith, take-no_longer 4 first, first_long, less))))
+  begin_cut less = stops_with NotAu 0 (λ more h. ap au_header_of (alone (omega (arith, less)) more h) ∙
+      not_au first (differs (take 4 first) (codes ".snd") (omega (arith, take-no_longer 4 first, first_long, less))))
 
   pub begin_other : 4 ≤ count → bytes_eq (take 4 block) (codes ".snd") ≡ false → AuStopped old now (Fault NotAu 0)
-  begin_other enough other = stops_with NotAu 0 (λ more h. not_au (first ++ more) (ap (λ xs. bytes_eq xs (codes ".snd")) (same_begin enough more) ∙ other))
+  begin_other enough other = stops_with NotAu 0 (λ more h. not_au (first ++ more)
+      (ap (λ xs. bytes_eq xs (codes ".snd")) (same_begin enough more) ∙ other))
 
   module _ (enough : 4 ≤ count) (begins : bytes_eq (take 4 block) (codes ".snd") ≡ true) where
     is_au : (more : List ℕ) → bytes_eq (take 4 (first ++ more)) (codes ".snd") ≡ true
@@ -124,7 +141,8 @@ module _ (old now : SourceState) (block : List ℕ) (count : ℕ) (size : length
     pub ends_in_fields : count < 24 → AuStopped old now (Fault Ended count)
     ends_in_fields less =
         stops_with Ended count (λ more h. ap au_header_of (alone less more h)
-        ∙ fields_cut first (ap (λ xs. bytes_eq (take 4 xs) (codes ".snd")) (sym (append-nil first)) ∙ is_au []) (omega (arith, first_long, less))
+        ∙ fields_cut first (ap (λ xs. bytes_eq (take 4 xs) (codes ".snd")) (sym (append-nil first)) ∙ is_au [])
+        (omega (arith, first_long, less))
         ∙ ap (λ (n : ℕ). Err (Ended, n)) first_long)
 
     module _ (all : 24 ≤ count) where
@@ -135,31 +153,42 @@ module _ (old now : SourceState) (block : List ℕ) (count : ℕ) (size : length
       pub said_by : (more : List ℕ) → au_header_of (block ++ more) ≡ au_whole (24 + length more) (au_said block)
       said_by more =
           let total : length (block ++ more) ≡ 24 + length more = omega (arith, size, length-append block more) in
-          fields_said (block ++ more) (ap (λ xs. bytes_eq (take 4 (xs ++ more)) (codes ".snd")) (sym whole_first) ∙ is_au more) (omega (arith, total))
+          fields_said (block ++ more) (ap (λ xs. bytes_eq (take 4 (xs ++ more)) (codes ".snd")) (sym whole_first) ∙
+          is_au more) (omega (arith, total))
           ∙ ap₂ (λ n xs. au_whole n (au_said xs)) total (take_at block more 24 size)
 
       pub fields_came : AuCame 0 24 old now block
-      fields_came = record { long = size; gave = subst (λ xs. Gave old now xs) whole_first filled.gave; no_fault = filled.no_fault }
+      fields_came = record {
+        long = size;
+        gave = subst (λ xs. Gave old now xs) whole_first filled.gave;
+        no_fault =
+            filled.no_fault;
+      }
 
-      pub wrong_fields : (fault : AuFault) (offset : ℕ) → au_said block ≡ Err (fault, offset) → AuStopped old now (Fault fault offset)
+      pub wrong_fields : (fault : AuFault) (offset : ℕ) → au_said block ≡ Err (fault, offset) →
+          AuStopped old now (Fault fault offset)
       wrong_fields fault offset is =
-          stops_with fault offset (λ more h. ap (λ xs. au_header_of (xs ++ more)) whole_first ∙ said_by more ∙ ap (au_whole (24 + length more)) is)
+          stops_with fault offset (λ more h. ap (λ xs. au_header_of (xs ++ more)) whole_first ∙ said_by more ∙
+          ap (au_whole (24 + length more)) is)
 
 -- ---- behind the fields
 
 -- what is missing before the samples, and where they begin
-module _ (old mid now : SourceState) (block : List ℕ) (came : AuCame 0 24 old mid block) (header : OpenHeader) (good : IsOpenGood header) (start : 24 ≤ header.start) (few : header.start < 2 ^ 32)
+module _ (old mid now : SourceState) (block : List ℕ) (came : AuCame 0 24 old mid block) (header : OpenHeader)
+    (good : IsOpenGood header) (start : 24 ≤ header.start) (few : header.start < 2 ^ 32)
     (said : (more : List ℕ) → au_header_of (block ++ more) ≡ au_whole (24 + length more) (Ok header)) where
   pub headed : (rest : List ℕ) → AuCame 24 (header.start - 24) mid now rest → AuHeaded old now header
   headed rest second =
-      let total : length (block ++ rest) ≡ header.start = omega (arith, length-append block rest, came.long, second.long, start) in
+      let total : length (block ++ rest) ≡ header.start =
+      omega (arith, length-append block rest, came.long, second.long, start) in
       record {
         bytes = block ++ rest;
         gave = Gave-append old mid now block rest came.gave second.gave;
         in_limit = omega (arith, total, few);
         said = λ more.
             ap au_header_of (append_assoc block rest more) ∙ said (rest ++ more)
-            ∙ whole_good (24 + length (rest ++ more)) header (omega (arith, length-append rest more, second.long, start));
+            ∙ whole_good (24 + length (rest ++ more)) header
+            (omega (arith, length-append rest more, second.long, start));
         start = sym total;
         good = good;
         no_fault = second.no_fault ∙ came.no_fault;
@@ -168,10 +197,21 @@ module _ (old mid now : SourceState) (block : List ℕ) (came : AuCame 0 24 old 
   cut : (rest : List ℕ) → length rest < header.start - 24 → au_header_of (block ++ rest) ≡ Err (Ended, 24 + length rest)
   cut rest short = said rest ∙ whole_short (24 + length rest) header (omega (arith, short))
 
-  missed : (error : AuOr) (rest : List ℕ) → length rest < header.start - 24 → IsAuMissed error 24 mid now rest → HasAuCause error old now (block ++ rest)
-  missed (Fault fault offset) rest short m =
-      (inr (m.2, cut rest short ∙ ap₂ {C = Result OpenHeader (AuFault × ℕ)} (λ (f : AuFault) (o : ℕ). Err (f, o)) (sym m.0) (sym m.1)), m.3 ∙ came.no_fault)
-  missed Read rest short m = (m ∙ ap one_more came.no_fault, omega (arith, length-append block rest, came.long, short, few), subst IsErr (sym (cut rest short)) refl)
+  missed : (error : AuOr) (rest : List ℕ) → length rest < header.start - 24 → IsAuMissed error 24 mid now rest →
+      HasAuCause error old now (block ++ rest)
+  missed (Fault fault offset) rest short m = (
+    inr (
+      m.2,
+      cut rest short ∙ ap₂ {C = Result OpenHeader (AuFault × ℕ)} (λ (f : AuFault) (o : ℕ). Err (f, o))
+          (sym m.0) (sym m.1),
+    ),
+    m.3 ∙ came.no_fault,
+  )
+  missed Read rest short m = (
+    m ∙ ap one_more came.no_fault,
+    omega (arith, length-append block rest, came.long, short, few),
+    subst IsErr (sym (cut rest short)) refl,
+  )
   missed Long rest short m = absurd m
 
   pub stopped : (error : AuOr) → AuMissing 24 (header.start - 24) mid now error → AuStopped old now error
@@ -185,14 +225,18 @@ module _ (old mid now : SourceState) (block : List ℕ) (came : AuCame 0 24 old 
 
 -- ---- the whole header
 
-module _ (old mid now : SourceState) (block : List ℕ) (count : ℕ) (size : length block ≡ 24) (filled : Filled old mid block (2 ^ 40) count)
+module _ (old mid now : SourceState) (block : List ℕ) (count : ℕ) (size : length block ≡ 24)
+    (filled : Filled old mid block (2 ^ 40) count)
     (enough : 4 ≤ count) (begins : bytes_eq (take 4 block) (codes ".snd") ≡ true) (all : 24 ≤ count)
-    (header : OpenHeader) (good : IsOpenGood header) (start : 24 ≤ header.start) (few : header.start < 2 ^ 32) (is : au_said block ≡ Ok header) where
+    (header : OpenHeader) (good : IsOpenGood header) (start : 24 ≤ header.start) (few : header.start < 2 ^ 32)
+    (is : au_said block ≡ Ok header) where
   says : (more : List ℕ) → au_header_of (block ++ more) ≡ au_whole (24 + length more) (Ok header)
   says more = said_by old mid block count size filled enough begins all more ∙ ap (au_whole (24 + length more)) is
 
   pub headed_behind : (rest : List ℕ) → AuCame 24 (header.start - 24) mid now rest → AuHeaded old now header
-  headed_behind rest came = headed old mid now block (fields_came old mid block count size filled enough begins all) header good start few says rest came
+  headed_behind rest came = headed old mid now block (fields_came old mid block count size filled enough begins all)
+      header good start few says rest came
 
   pub stopped_behind : (error : AuOr) → AuMissing 24 (header.start - 24) mid now error → AuStopped old now error
-  stopped_behind error missing = stopped old mid now block (fields_came old mid block count size filled enough begins all) header good start few says error missing
+  stopped_behind error missing = stopped old mid now block
+      (fields_came old mid block count size filled enough begins all) header good start few says error missing

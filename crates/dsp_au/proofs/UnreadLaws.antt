@@ -23,13 +23,15 @@ named direction cause.LimitReached = fault.Input (2 ^ 40) (2 ^ 40)
 named WaveToAu (cause.Short declared got offset) = fault.Wave (wave_fault.Short declared got) offset
 named AuToWave (cause.Short declared got offset) = fault.Au (au_fault.Short declared got) offset
 
-pub short_is : (direction : Direction) (error : ConvertFault) (declared got offset : ℕ) → IsShort direction error declared got offset
+pub short_is : (direction : Direction) (error : ConvertFault) (declared got offset : ℕ) →
+    IsShort direction error declared got offset
     → error ≡ named direction (cause.Short declared got offset)
 short_is WaveToAu error declared got offset is = is
 short_is AuToWave error declared got offset is = is
 
 module _ (direction : Direction) (header : OpenHeader) (input now : SourceState) where
-  names : (found : SampleFault) (n : ℕ) → samples.IsUnread found (stored header) n input now → IsUnread direction (named direction found) header n input now
+  names : (found : SampleFault) (n : ℕ) → samples.IsUnread found (stored header) n input now →
+      IsUnread direction (named direction found) header n input now
   names cause.Failed n is = (is.0, is.1)
   names cause.LimitReached n is = (is.0, refl, refl, is.1, is.2)
   names (cause.Short declared got offset) n is = in_direction direction

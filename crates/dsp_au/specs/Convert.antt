@@ -1,9 +1,11 @@
 -- How the bytes that a conversion took and the bytes that it wrote stand to each other at each of its ends.
-use Rattle.std.specs.Prelude.{◌≡◌, ◌⊎◌, ℕ, ◌+◌, ◌-◌, ◌*◌, ◌/◌, ◌^◌, ◌<◌, ◌≤◌, nat_lt, if◌then◌else◌, List, ◌++◌, length, take, Option, Some, None, Result, Ok, Err, IfSome, MatchResult}
+use Rattle.std.specs.Prelude.{◌≡◌, ◌⊎◌, ℕ, ◌+◌, ◌-◌, ◌*◌, ◌/◌, ◌^◌, ◌<◌, ◌≤◌, nat_lt, if◌then◌else◌, List, ◌++◌}
+use Rattle.std.specs.Prelude.{length, take, Option, Some, None, Result, Ok, Err, IfSome, MatchResult}
 use Rattle.std.specs.Io.KnownBytes.{IsAtEnd, append_known}
 use Rattle.std.specs.Option.{option_map}
 use Rattle.dsp_ports.specs.Ports.{SourceState, SinkState, one_more, Gave, Took, IsSettled, settled_after}
-use Rattle.dsp_defs.specs.Au.{FormFits, au_header_of, form_header, open_declared_frames, open_frame_bytes, source_header, source_signal, target, target_form, target_of_signal, target_with}
+use Rattle.dsp_defs.specs.Au.{FormFits, au_header_of, form_header, open_declared_frames, open_frame_bytes}
+use Rattle.dsp_defs.specs.Au.{source_header, source_signal, target, target_form, target_of_signal, target_with}
 use Rattle.dsp_defs.specs.Bytes.{width}
 use Rattle.dsp_defs.specs.Open.{IsOpenGood, open_header_of}
 use Rattle.dsp_defs.specs.Streaming.{Begins}
@@ -37,15 +39,18 @@ in_whole_frames header size = samples.in_whole_frames (open_frame_bytes header) 
 abbrev pub declared_bytes : OpenHeader → Option ℕ
 declared_bytes header = samples.declared_bytes (stored header)
 
--- of so many bytes that were taken all samples are there: those that the header declares, or all to the end of the input
+-- of so many bytes that were taken all samples are there: those that the header declares, or all to the end of the
+-- input
 abbrev pub IsTakenWhole : OpenHeader → ℕ → SourceState → Type 0
-IsTakenWhole header count now = elim (declared_bytes header) [ Some size ↦ count ≡ header.start + size | None ↦ IsAtEnd now.left ]
+IsTakenWhole header count now = elim (declared_bytes header)
+    [ Some size ↦ count ≡ header.start + size | None ↦ IsAtEnd now.left ]
 
 -- where so many bytes end before all declared whole frames: what is declared, and the bytes behind the header
 abbrev pub short_at : OpenHeader → ℕ → Option (ℕ × ℕ)
 short_at header count =
     elim header.size [
-      | Some declared ↦ if nat_lt count (header.start + in_whole_frames header declared) then Some (declared, count - header.start) else None
+      | Some declared ↦ if nat_lt count (header.start + in_whole_frames header declared) then
+          Some (declared, count - header.start) else None
       | None ↦ None
     ]
 
@@ -54,18 +59,21 @@ abbrev pub source_fault : Direction → List ℕ → Option ConvertFault
 source_fault WaveToAu bytes =
     elim (open_header_of bytes) [
       | Err said ↦ Some (fault.Wave said.0 said.1)
-      | Ok header ↦ option_map (λ short. fault.Wave (wave_fault.Short short.0 short.1) (length bytes)) (short_at header (length bytes))
+      | Ok header ↦ option_map (λ short. fault.Wave (wave_fault.Short short.0 short.1) (length bytes))
+          (short_at header (length bytes))
     ]
 source_fault AuToWave bytes =
     elim (au_header_of bytes) [
       | Err said ↦ Some (fault.Au said.0 said.1)
-      | Ok header ↦ option_map (λ short. fault.Au (au_fault.Short short.0 short.1) (length bytes)) (short_at header (length bytes))
+      | Ok header ↦ option_map (λ short. fault.Au (au_fault.Short short.0 short.1) (length bytes))
+          (short_at header (length bytes))
     ]
 
 -- the bytes that were taken have this fault whatever comes behind them, or have it and are all there is
 abbrev pub HasFault : Direction → List ℕ → SourceState → ConvertFault → Type 0
 HasFault direction given now error =
-    ((more : List ℕ) → source_fault direction (given ++ more) ≡ Some error) ⊎ (IsAtEnd now.left × (source_fault direction given ≡ Some error))
+    ((more : List ℕ) → source_fault direction (given ++ more) ≡ Some error) ⊎
+    (IsAtEnd now.left × (source_fault direction given ≡ Some error))
 
 -- the bytes have this good header
 abbrev pub IsSource : Direction → List ℕ → OpenHeader → Type 0
@@ -89,14 +97,18 @@ pub record Opened (direction : Direction) (header : OpenHeader) (input now : Sou
 -- a further byte is wanted: the header is cut there and has no other fault, or declared samples are still to come
 abbrev pub WantsMore : Direction → List ℕ → Type 0
 WantsMore direction given =
-    (IsUnheaded direction given × (source_fault direction given ≡ Some (fault.Wave wave_fault.NoSamples (length given))))
-    ⊎ ((header : OpenHeader) × IsSource direction given header × IfSome (declared_bytes header) (λ size. length given < header.start + size))
+    (IsUnheaded direction given × (source_fault direction given ≡ Some
+    (fault.Wave wave_fault.NoSamples (length given))))
+    ⊎ ((header : OpenHeader) × IsSource direction given header ×
+    IfSome (declared_bytes header) (λ size. length given < header.start + size))
 
 -- the cause of an end without a header, where these bytes were taken
 abbrev pub IsUnopened : ConvertFault → Direction → List ℕ → SourceState → SourceState → Type 0
-IsUnopened fault.Read direction given input now = (now.faults ≡ one_more input.faults) × (length given < 2 ^ 40) × IsUnheaded direction given
+IsUnopened fault.Read direction given input now = (now.faults ≡ one_more input.faults) × (length given < 2 ^ 40) ×
+    IsUnheaded direction given
 IsUnopened (fault.Input taken limit) direction given input now =
-    (length given ≡ 2 ^ 40) × (taken ≡ 2 ^ 40) × (limit ≡ 2 ^ 40) × (now.faults ≡ input.faults) × IsUnheaded direction given
+    (length given ≡ 2 ^ 40) × (taken ≡ 2 ^ 40) × (limit ≡ 2 ^ 40) × (now.faults ≡ input.faults) ×
+    IsUnheaded direction given
     × (source_fault direction given ≡ Some (fault.Wave wave_fault.NoSamples (length given)))
 IsUnopened (fault.Wave said offset) direction given input now =
     HasFault direction given now (fault.Wave said offset) × (now.faults ≡ input.faults) × IsUnheaded direction given
@@ -124,7 +136,8 @@ abbrev pub TooLong : Direction → OpenHeader → ConvertFault → Type 0
 TooLong direction header (fault.Riff size limit) = IsTooLong direction header size × (limit ≡ MAX_RIFF_SIZE)
 TooLong direction header error = ⊥
 
-pub record Begun (direction : Direction) (header : OpenHeader) (input now : SourceState) (sink after : SinkState) : Type 0 where
+pub record Begun (direction : Direction) (header : OpenHeader) (input now : SourceState) (sink after : SinkState) :
+    Type 0 where
   pub opened : Opened direction header input now
   pub took : Took sink after (form_header (target_form direction) header)
   pub no_fault : after.faults ≡ sink.faults
@@ -152,16 +165,21 @@ IsShort AuToWave error declared got offset = error ≡ fault.Au (au_fault.Short 
 -- the input ended before the declared whole frames
 abbrev pub EndsShort : Direction → ConvertFault → OpenHeader → ℕ → SourceState → SourceState → Type 0
 EndsShort direction error header taken input now =
-    (declared : ℕ) × (header.size ≡ Some declared) × IsShort direction error declared taken (header.start + taken) × IsAtEnd now.left
+    (declared : ℕ) × (header.size ≡ Some declared) × IsShort direction error declared taken (header.start + taken) ×
+    IsAtEnd now.left
     × (now.faults ≡ input.faults) × (taken < in_whole_frames header declared)
 
 -- why it did not come
 abbrev pub IsUnread : Direction → ConvertFault → OpenHeader → ℕ → SourceState → SourceState → Type 0
-IsUnread direction fault.Read header taken input now = (now.faults ≡ one_more input.faults) × (header.start + taken < 2 ^ 40)
+IsUnread direction fault.Read header taken input now = (now.faults ≡ one_more input.faults) ×
+    (header.start + taken < 2 ^ 40)
 IsUnread direction (fault.Input told most) header taken input now =
-    (header.start + taken ≡ 2 ^ 40) × (told ≡ 2 ^ 40) × (most ≡ 2 ^ 40) × (now.faults ≡ input.faults) × IfSome (declared_bytes header) (λ size. taken < size)
-IsUnread direction (fault.Wave said offset) header taken input now = EndsShort direction (fault.Wave said offset) header taken input now
-IsUnread direction (fault.Au said offset) header taken input now = EndsShort direction (fault.Au said offset) header taken input now
+    (header.start + taken ≡ 2 ^ 40) × (told ≡ 2 ^ 40) × (most ≡ 2 ^ 40) × (now.faults ≡ input.faults) ×
+    IfSome (declared_bytes header) (λ size. taken < size)
+IsUnread direction (fault.Wave said offset) header taken input now =
+    EndsShort direction (fault.Wave said offset) header taken input now
+IsUnread direction (fault.Au said offset) header taken input now =
+    EndsShort direction (fault.Au said offset) header taken input now
 IsUnread direction error header taken input now = ⊥
 
 -- less than a block came
@@ -179,11 +197,13 @@ target_blocks direction header given =
 pub record LagsByOne (direction : Direction) (header : OpenHeader) (given written : List ℕ) : Type 0 where
   pub blocks : ℕ
   pub taken : header.start + blocks * block_bytes header ≤ length given
-  pub wrote : (blocks ≡ 0) ⊎ Begins (target_of_signal direction header (take (blocks * block_frames header) (source_signal direction header given))) written
+  pub wrote : (blocks ≡ 0) ⊎ Begins (target_of_signal direction header
+      (take (blocks * block_frames header) (source_signal direction header given))) written
   pub one : length given ≤ header.start + (blocks + 1) * block_bytes header
 
 -- all samples came, and were written behind the header
-pub record Passed (direction : Direction) (header : OpenHeader) (count : ℕ) (input now : SourceState) (sink after : SinkState) : Type 0 where
+pub record Passed (direction : Direction) (header : OpenHeader) (count : ℕ) (input now : SourceState)
+    (sink after : SinkState) : Type 0 where
   pub given : List ℕ
   pub gave : Gave input now given
   pub has : IsSource direction given header
@@ -212,17 +232,22 @@ Closed result bytes sink after =
 abbrev pub IsCause : ConvertFault → Direction → List ℕ → SourceState → Type 0
 IsCause fault.Read direction given now = length given < 2 ^ 40
 IsCause fault.Write direction given now = (header : OpenHeader) × IsSource direction given header
-IsCause (fault.Input taken limit) direction given now = (length given ≡ 2 ^ 40) × (taken ≡ 2 ^ 40) × (limit ≡ 2 ^ 40) × WantsMore direction given
+IsCause (fault.Input taken limit) direction given now = (length given ≡ 2 ^ 40) × (taken ≡ 2 ^ 40) ×
+    (limit ≡ 2 ^ 40) × WantsMore direction given
 IsCause (fault.Riff size limit) direction given now =
-    (header : OpenHeader) × ((more : List ℕ) → IsSource direction (given ++ more) header) × (length given ≡ header.start) × IsTooLong direction header size × (limit ≡ MAX_RIFF_SIZE)
+    (header : OpenHeader) × ((more : List ℕ) → IsSource direction (given ++ more) header) ×
+    (length given ≡ header.start) × IsTooLong direction header size × (limit ≡ MAX_RIFF_SIZE)
 IsCause error direction given now = HasFault direction given now error
 
--- nothing was written since the header of the input isn't there; or exactly the header and the whole blocks were written
+-- nothing was written since the header of the input isn't there; or exactly the header and the whole blocks were
+-- written
 pub data WroteBlocks (direction : Direction) (given written : List ℕ) (sink after : SinkState) : Type 0 where
   Nothing : IsUnheaded direction given → after ≡ sink → WroteBlocks direction given written sink after
-  Blocks : (header : OpenHeader) → IsSource direction given header → written ≡ target_blocks direction header given → WroteBlocks direction given written sink after
+  Blocks : (header : OpenHeader) → IsSource direction given header → written ≡ target_blocks direction header given →
+      WroteBlocks direction given written sink after
 
--- what was written: less than what is given by the frames that came, or a front of it with the pad byte where all came, where the output has failed;
+-- what was written: less than what is given by the frames that came, or a front of it with the pad byte where all
+-- came, where the output has failed;
 -- nothing, where it would be too long; and else the whole blocks
 abbrev pub HasWritten : ConvertFault → Direction → List ℕ → List ℕ → SourceState → SinkState → SinkState → Type 0
 HasWritten fault.Write direction given written now sink after =
@@ -238,7 +263,8 @@ abbrev pub EndsWithin : Option ℕ → ℕ → ℕ → Type 0
 EndsWithin (Some size) start count = start + size ≤ 2 ^ 40
 EndsWithin None start count = count < 2 ^ 40
 
--- nothing stands in the way of a conversion of all bytes of an input: no fault is in them, their header and all samples that it
+-- nothing stands in the way of a conversion of all bytes of an input: no fault is in them, their header and all
+-- samples that it
 -- declares stand within the limit, and the target fits its sizes
 pub record IsFree (direction : Direction) (bytes : List ℕ) : Type 0 where
   pub header : OpenHeader
@@ -266,7 +292,8 @@ IsUnflushed fault.Write sink after written = Unit {0}
 IsUnflushed error sink after written = after.settled ≡ settled_after sink.settled (length written)
 
 -- the conversion stopped before its end; `given` and `written` are all bytes that were taken and that were written
-pub record Stopped (direction : Direction) (error : ConvertFault) (input now : SourceState) (sink after : SinkState) : Type 0 where
+pub record Stopped (direction : Direction) (error : ConvertFault) (input now : SourceState) (sink after : SinkState) :
+    Type 0 where
   pub given : List ℕ
   pub written : List ℕ
   pub gave : Gave input now given
@@ -276,7 +303,8 @@ pub record Stopped (direction : Direction) (error : ConvertFault) (input now : S
   pub cause : IsCause error direction given now
   pub wrote : HasWritten error direction given written now sink after
   pub faults : CountsFault error input now sink after
-  pub in_declared : (header : OpenHeader) → IsSource direction given header → IfSome (declared_bytes header) (λ size. length given ≤ header.start + size)
+  pub in_declared : (header : OpenHeader) → IsSource direction given header →
+      IfSome (declared_bytes header) (λ size. length given ≤ header.start + size)
   pub lag : (header : OpenHeader) → IsSource direction given header → LagsByOne direction header given written
   -- where the input tells its bytes and nothing stands in the way of them, a port has failed
   pub hinders : IfSome input.left (λ bytes. IsFree direction bytes → IsPortFault error)
@@ -284,7 +312,8 @@ pub record Stopped (direction : Direction) (error : ConvertFault) (input now : S
 -- ---- the end
 
 -- all samples were taken, exactly the file in the other form was written, and what was answered is said of it
-pub record Done (direction : Direction) (converted : Converted) (input now : SourceState) (sink after : SinkState) : Type 0 where
+pub record Done (direction : Direction) (converted : Converted) (input now : SourceState) (sink after : SinkState) :
+    Type 0 where
   pub given : List ℕ
   pub header : OpenHeader
   pub gave : Gave input now given

@@ -12,13 +12,16 @@ use Rattle.dsp_au.specs.declared.fault.AuOr.TheVariants.{Fault, Read, Long}
 
 -- the bytes have this fault whatever comes behind them, or they have it and are all there is
 abbrev pub IsAuSure : SourceState → List ℕ → AuFault × ℕ → Type 0
-IsAuSure now bytes fault = ((more : List ℕ) → au_header_of (bytes ++ more) ≡ Err fault) ⊎ (IsAtEnd now.left × (au_header_of bytes ≡ Err fault))
+IsAuSure now bytes fault = ((more : List ℕ) → au_header_of (bytes ++ more) ≡ Err fault) ⊎
+    (IsAtEnd now.left × (au_header_of bytes ≡ Err fault))
 
--- the cause of an end without a header: a fault that the bytes have, or a source that has failed behind bytes that head no file.
+-- the cause of an end without a header: a fault that the bytes have, or a source that has failed behind bytes that
+-- head no file.
 -- No header is so long that too many bytes were taken
 abbrev pub HasAuCause : AuOr → SourceState → SourceState → List ℕ → Type 0
 HasAuCause (Fault fault offset) old now bytes = IsAuSure now bytes (fault, offset) × (now.faults ≡ old.faults)
-HasAuCause Read old now bytes = (now.faults ≡ one_more old.faults) × (length bytes < 2 ^ 40) × IsErr (au_header_of bytes)
+HasAuCause Read old now bytes = (now.faults ≡ one_more old.faults) × (length bytes < 2 ^ 40) ×
+    IsErr (au_header_of bytes)
 HasAuCause Long old now bytes = ⊥
 
 -- no header came: what was taken, and why
@@ -48,7 +51,8 @@ pub record AuCame (place count : ℕ) (old now : SourceState) (bytes : List ℕ)
 
 -- why fewer came: the file has ended, or the source has failed
 abbrev pub IsAuMissed : AuOr → ℕ → SourceState → SourceState → List ℕ → Type 0
-IsAuMissed (Fault fault offset) place old now bytes = (fault ≡ Ended) × (offset ≡ place + length bytes) × IsAtEnd now.left × (now.faults ≡ old.faults)
+IsAuMissed (Fault fault offset) place old now bytes = (fault ≡ Ended) × (offset ≡ place + length bytes) ×
+    IsAtEnd now.left × (now.faults ≡ old.faults)
 IsAuMissed Read place old now bytes = now.faults ≡ one_more old.faults
 IsAuMissed Long place old now bytes = ⊥
 

@@ -2,7 +2,8 @@
 
 ghost use Rattle.std.specs.Prelude.{◌≡◌, ◌+◌, ◌*◌, ◌<◌, ◌≤◌, ◌^◌, ℕ, length, get_or, IfOk, IfErr};
 ghost use Rattle.dsp_defs.specs.Au.{open_frame_bytes};
-ghost use Rattle.dsp_au.specs.Convert.{BlockRead, InDeclared, IsShort, Opened, Unopened, Unread, declared_bytes};
+ghost use Rattle.dsp_au.specs.Convert.{BlockRead, InDeclared, IsShort, Opened, Unopened, Unread};
+ghost use Rattle.dsp_au.specs.Convert.{declared_bytes};
 
 use crate::fault::{AuOr, ConvertFault};
 use crate::reader::read_au;

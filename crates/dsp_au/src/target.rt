@@ -1,8 +1,10 @@
 //! The file that is written: its header, and what stands behind its samples.
 
-ghost use Rattle.std.specs.Prelude.{◌≡◌, ◌≢◌, ◌*◌, ◌/◌, ◌-◌, ◌^◌, ◌<◌, ◌≤◌, ℕ, length, take, MatchResult, IfSome, IsNone};
+ghost use Rattle.std.specs.Prelude.{◌≡◌, ◌≢◌, ◌*◌, ◌/◌, ◌-◌, ◌^◌, ◌<◌, ◌≤◌, ℕ, length, take, MatchResult};
+ghost use Rattle.std.specs.Prelude.{IfSome, IsNone};
 ghost use Rattle.dsp_ports.specs.Ports.{CountsFaults, Took, IsSettled};
-ghost use Rattle.dsp_defs.specs.Au.{FormFits, form_header, form_pad, open_declared_frames, open_frame_bytes, target_form};
+ghost use Rattle.dsp_defs.specs.Au.{FormFits, form_header, form_pad, open_declared_frames, open_frame_bytes};
+ghost use Rattle.dsp_defs.specs.Au.{target_form};
 ghost use Rattle.dsp_defs.specs.Open.{IsOpenGood};
 ghost use Rattle.dsp_au.specs.Convert.{Closed, TooLong};
 

@@ -7,11 +7,11 @@ use Rattle.dsp_defs.specs.Counts.{Counts}
 use Rattle.dsp_defs.specs.Formats.{lanes}
 use Rattle.dsp_defs.specs.declared.format.Fmt.{Fmt}
 use Rattle.dsp_defs.specs.declared.format.Fmt.TheVariants.{Q7, Q15, Q31}
-use Rattle.dsp_stage.specs.Channels.{AreFed, numbers_in, samples_in}
-use Rattle.dsp_stage.specs.Filter.{FilterState, FilterFeeds, filter_at, no_filter, steady_filter}
-use Rattle.dsp_stage.proofs.ChannelFrames.{length-samples_in}
-use Rattle.dsp_stage.proofs.ChannelKept.{length-numbers_in}
-use Rattle.dsp_stage.proofs.SteadyFilters.{steady-fed}
+use Rattle.dsp_unit.specs.Channels.{AreFed, numbers_in, samples_in}
+use Rattle.dsp_unit.specs.Filter.{FilterState, FilterFeeds, filter_at, no_filter, steady_filter}
+use Rattle.dsp_unit.proofs.ChannelFrames.{length-samples_in}
+use Rattle.dsp_unit.proofs.ChannelKept.{length-numbers_in}
+use Rattle.dsp_unit.proofs.SteadyFilters.{steady-fed}
 use Rattle.dsp_lanes.specs.Turns.{RisesWithin, lane_turns}
 use Rattle.dsp_biquad.specs.Blocks.{biquad-steady}
 use Rattle.dsp_biquad.specs.Sections.{block_acts}

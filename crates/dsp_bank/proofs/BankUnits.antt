@@ -1,5 +1,6 @@
 -- Units of banks.
-use Rattle.std.proofs.Common.{◌≡◌, ◌∙◌, ap, refl, sym, subst, ℕ, zero, suc, ◌+◌, ◌-◌, ◌*◌, ◌/◌, ◌<◌, ◌≤◌, ℤ, pos, Bool, false, List, [], ◌∷◌, ◌++◌, length, take, replicate, flat_map, arith}
+use Rattle.std.proofs.Common.{◌≡◌, ◌∙◌, ap, refl, sym, subst, ℕ, zero, suc, ◌+◌, ◌-◌, ◌*◌, ◌/◌, ◌<◌, ◌≤◌, ℤ, pos}
+use Rattle.std.proofs.Common.{Bool, false, List, [], ◌∷◌, ◌++◌, length, take, replicate, flat_map, arith}
 use Rattle.std.specs.List.{range_with_len}
 use Rattle.std.specs.Prelude.{All, FitsSigned}
 use Rattle.std.proofs.lemmas.List.{append-nil, length-replicate, replicate-append-replicate}
@@ -12,17 +13,20 @@ use Rattle.dsp_defs.specs.declared.format.Fmt.{Fmt}
 use Rattle.dsp_defs.specs.declared.script.Block.{Block}
 use Rattle.dsp_defs.specs.declared.script.Block.TheVariants.{Biquad}
 use Rattle.dsp_defs.proofs.FrameLemmas.{length-frames_in}
-use Rattle.dsp_stage.specs.Channels.{AreFed, numbers_in, unit_of_filters}
-use Rattle.dsp_stage.specs.Filter.{FilterState, FilterCounts, IsByChannel, IsLike, AreFilters, filter_at, no_filter, kept_of_all, tails_of}
-use Rattle.dsp_defs.specs.Kept.{Each, IsOfKind, IsPlace, HasPlace, Fits, FitsAfter, InWord, in_words, kept_kinds, kept_numbers, kept_of_channel, sections_kept}
-use Rattle.dsp_stage.specs.Unit.{UnitState, StandsFor, CountsFrames, Feeds, Restores, IsOutput, frames_in}
-use Rattle.dsp_stage.proofs.ChannelFrames.{get_or-default, kept-places}
-use Rattle.dsp_stage.proofs.ChannelKept.{length-numbers_in, numbers-in_pieces, pieces-same, words-placed}
-use Rattle.dsp_stage.proofs.ChannelLaws.{counts-took, length-unit_tail, live-by, whole-by}
-use Rattle.dsp_stage.proofs.ChannelOutput.{unit-fed}
-use Rattle.dsp_stage.proofs.SteadyFilters.{steady-size}
+use Rattle.dsp_unit.specs.Channels.{AreFed, numbers_in, unit_of_filters}
+use Rattle.dsp_unit.specs.Filter.{FilterState, FilterCounts, IsByChannel, IsLike, AreFilters, filter_at, no_filter}
+use Rattle.dsp_unit.specs.Filter.{kept_of_all, tails_of}
+use Rattle.dsp_defs.specs.Kept.{Each, IsOfKind, IsPlace, HasPlace, Fits, FitsAfter, InWord, in_words, kept_kinds}
+use Rattle.dsp_defs.specs.Kept.{kept_numbers, kept_of_channel, sections_kept}
+use Rattle.dsp_unit.specs.Unit.{UnitState, StandsFor, CountsFrames, Feeds, Restores, IsOutput, frames_in}
+use Rattle.dsp_unit.proofs.ChannelFrames.{get_or-default, kept-places}
+use Rattle.dsp_unit.proofs.ChannelKept.{length-numbers_in, numbers-in_pieces, pieces-same, words-placed}
+use Rattle.dsp_unit.proofs.ChannelLaws.{counts-took, length-unit_tail, live-by, whole-by}
+use Rattle.dsp_unit.proofs.ChannelOutput.{unit-fed}
+use Rattle.dsp_unit.proofs.SteadyFilters.{steady-size}
 use Rattle.dsp_biquad.specs.Blocks.{biquad-steady}
-use Rattle.dsp_bank.specs.Bank.{BankState, IsNewBank, IsNewBanked, IsWholeBank, bank_block, bank_filters, sections_of, unit_of_bank}
+use Rattle.dsp_bank.specs.Bank.{BankState, IsNewBank, IsNewBanked, IsWholeBank, bank_block, bank_filters, sections_of}
+use Rattle.dsp_bank.specs.Bank.{unit_of_bank}
 use Rattle.dsp_bank.proofs.BankFed.{filter-of, length-filters}
 
 -- ---- equal pieces

@@ -1,12 +1,13 @@
 -- The frames of a call among rows that have two frames more.
-use Rattle.std.proofs.Common.{◌≡◌, ◌∙◌, ap, sym, ℕ, ◌+◌, ◌-◌, ◌*◌, ◌<◌, ℤ, List, length, map, take, drop, slice_range, arith, length-drop, length-take-le}
+use Rattle.std.proofs.Common.{◌≡◌, ◌∙◌, ap, sym, ℕ, ◌+◌, ◌-◌, ◌*◌, ◌<◌, ℤ, List, length, map, take, drop, slice_range}
+use Rattle.std.proofs.Common.{arith, length-drop, length-take-le}
 use Rattle.std.proofs.lemmas.Nat.{mul-add-lt}
 use Rattle.std.proofs.lemmas.Slice.{between-put_mid}
 use borrow.Rule.Slice.PartMut.{put_mid, same_len_mid}
 use Rattle.dsp_defs.specs.Signal.{sample}
 use Rattle.dsp_defs.proofs.Signal.{values_cong}
-use Rattle.dsp_stage.specs.Channels.{samples_in}
-use Rattle.dsp_unit.proofs.Slices.{sample-piece}
+use Rattle.dsp_unit.specs.Channels.{samples_in}
+use Rattle.dsp_filter.proofs.Slices.{sample-piece}
 use Rattle.dsp_bank.specs.Rows.{channel_after}
 
 -- rows whose frames after the first two were written have their length

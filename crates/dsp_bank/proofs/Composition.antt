@@ -1,12 +1,13 @@
 -- Sections one after another, on one channel of a bank.
-use Rattle.std.proofs.Common.{◌≡◌, ◌∙◌, ap, ap₂, refl, sym, subst, ℕ, zero, suc, ◌+◌, ◌*◌, ◌<◌, ◌≤◌, ℤ, List, [], ◌∷◌, ◌++◌, map, flat_map, length, drop, arith}
+use Rattle.std.proofs.Common.{◌≡◌, ◌∙◌, ap, ap₂, refl, sym, subst, ℕ, zero, suc, ◌+◌, ◌*◌, ◌<◌, ◌≤◌, ℤ, List, [], ◌∷◌}
+use Rattle.std.proofs.Common.{◌++◌, map, flat_map, length, drop, arith}
 use Rattle.std.specs.List.{range_with_len}
 use Rattle.std.proofs.lemmas.List.{append-nil, append_assoc}
 use Rattle.std.proofs.lemmas.List.FromFn.{map-range_with_len_more}
 use Rattle.dsp_defs.specs.Streaming.{Behaviour, GoesOn, then, chained}
 use Rattle.dsp_defs.specs.declared.format.Fmt.{Fmt}
 use Rattle.dsp_defs.specs.declared.script.Block.TheVariants.{Biquad}
-use Rattle.dsp_stage.proofs.GoingOn.{chained-append, chained-one, goes-chain, then-size}
+use Rattle.dsp_unit.proofs.GoingOn.{chained-append, chained-one, goes-chain, then-size}
 use Rattle.dsp_biquad.specs.Sections.{block_acts, section_acts, section_of, size_in}
 use Rattle.dsp_biquad.specs.Blocks.{cascade-at, empty-at}
 use Rattle.dsp_biquad.proofs.Cascades.{next-section, all-sections}

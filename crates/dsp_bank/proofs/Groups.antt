@@ -1,12 +1,14 @@
 -- Groups of four numbers in a list.
-use Rattle.std.proofs.Common.{◌≡◌, ◌≢◌, ◌∙◌, ap, refl, sym, ℕ, ◌+◌, ◌-◌, ◌*◌, ◌<◌, ◌≤◌, ℤ, List, [], ◌∷◌, length, map, take, drop, get_or, set, flat_map, slice_range, arith, ⊎_elim, length-drop, length-take-le}
+use Rattle.std.proofs.Common.{◌≡◌, ◌≢◌, ◌∙◌, ap, refl, sym, ℕ, ◌+◌, ◌-◌, ◌*◌, ◌<◌, ◌≤◌, ℤ, List, [], ◌∷◌, length, map}
+use Rattle.std.proofs.Common.{take, drop, get_or, set, flat_map, slice_range, arith, ⊎_elim, length-drop}
+use Rattle.std.proofs.Common.{length-take-le}
 use Rattle.std.specs.List.{range_with_len}
 use Rattle.std.proofs.lemmas.Bool.{cases_lt}
 use Rattle.std.proofs.lemmas.List.{take-map, drop-map, drop-drop, drop-take, take-take}
 use Rattle.std.proofs.lemmas.Slice.{between-put_mid, take-put_mid_below, drop-put_mid}
 use borrow.Rule.Slice.PartMut.{put_mid}
-use Rattle.dsp_stage.specs.Channels.{numbers_in}
-use Rattle.dsp_stage.proofs.ChannelKept.{length-numbers_in, numbers-in_pieces, pieces-same}
+use Rattle.dsp_unit.specs.Channels.{numbers_in}
+use Rattle.dsp_unit.proofs.ChannelKept.{length-numbers_in, numbers-in_pieces, pieces-same}
 use Rattle.dsp_bank.specs.Rows.{four_at}
 
 module _ {X : Type 0} (number : X → ℤ) where

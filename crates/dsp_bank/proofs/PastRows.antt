@@ -1,7 +1,7 @@
 -- What a section keeps, in the first two frames of rows.
 use Rattle.std.proofs.Common.{◌≡◌, ◌≢◌, ◌∙◌, ap, ℕ, ◌+◌, ◌*◌, ◌<◌, ◌≤◌, ℤ, List, [], ◌∷◌, arith}
 use Rattle.dsp_defs.specs.Signal.{sample}
-use Rattle.dsp_lanes.specs.Sections.{cell}
+use Rattle.dsp_sections.specs.Sections.{cell}
 use Rattle.dsp_bank.specs.Rows.{PutsPast, past}
 
 first-cell : (row : ℕ) (xs : List ℤ) (i : ℕ) → cell row xs 0 i ≡ sample xs i

@@ -1,13 +1,14 @@
 -- A channel of rows that a section has written goes on as the section does.
-use Rattle.std.proofs.Common.{◌≡◌, ◌∙◌, ap, sym, subst, ℕ, zero, suc, ◌+◌, ◌*◌, ◌<◌, ◌≤◌, ℤ, ◌+ℤ◌, ◌*ℤ◌, List, [], ◌∷◌, ◌++◌, arith}
+use Rattle.std.proofs.Common.{◌≡◌, ◌∙◌, ap, sym, subst, ℕ, zero, suc, ◌+◌, ◌*◌, ◌<◌, ◌≤◌, ℤ, ◌+ℤ◌, ◌*ℤ◌, List, []}
+use Rattle.std.proofs.Common.{◌∷◌, ◌++◌, arith}
 use Rattle.std.proofs.Math.Nat.{mul-le-mul_right}
 use Rattle.dsp_defs.specs.Biquad.{Section, section_close}
 use Rattle.dsp_defs.specs.Signal.{values}
 use Rattle.dsp_defs.specs.Streaming.{GoesOn}
 use Rattle.dsp_defs.proofs.Signal.{values-add, values_cong}
 use Rattle.dsp_defs.specs.declared.format.Fmt.{Fmt}
-use Rattle.dsp_stage.proofs.GoingOn.{goes-nothing, goes-twice}
-use Rattle.dsp_lanes.specs.Sections.{cell, Follows, Stays}
+use Rattle.dsp_unit.proofs.GoingOn.{goes-nothing, goes-twice}
+use Rattle.dsp_sections.specs.Sections.{cell, Follows, Stays}
 use Rattle.dsp_biquad.specs.Sections.{section_acts}
 use Rattle.dsp_biquad.proofs.SectionSteps.{section-step}
 use Rattle.dsp_bank.specs.Rows.{channel_after, past, four_at, Loaded, Saved, SectionGoes}

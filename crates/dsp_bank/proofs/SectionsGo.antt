@@ -4,8 +4,8 @@ use Rattle.std.proofs.lemmas.Nat.{mul-add-lt}
 use Rattle.dsp_defs.specs.Streaming.{Behaviour, GoesOn}
 use Rattle.dsp_defs.specs.declared.format.Fmt.{Fmt}
 use Rattle.dsp_defs.specs.declared.script.Block.TheVariants.{Biquad}
-use Rattle.dsp_stage.specs.Channels.{numbers_in}
-use Rattle.dsp_stage.proofs.ChannelKept.{pieces-same}
+use Rattle.dsp_unit.specs.Channels.{numbers_in}
+use Rattle.dsp_unit.proofs.ChannelKept.{pieces-same}
 use Rattle.dsp_biquad.specs.Sections.{block_acts, size_in}
 use Rattle.dsp_bank.specs.Rows.{acts_at, channel_after, four_at, SectionGoes, ChannelsGo}
 use Rattle.dsp_bank.proofs.Groups.{channel-groups, length-four}

@@ -5,9 +5,9 @@ use Rattle.dsp_defs.specs.Signal.{values}
 use Rattle.dsp_defs.specs.declared.format.Fmt.{Fmt}
 use Rattle.dsp_defs.specs.declared.script.Block.{Block}
 use Rattle.dsp_defs.specs.declared.script.Block.TheVariants.{Biquad}
-use Rattle.dsp_stage.specs.Channels.{numbers_in}
-use Rattle.dsp_stage.specs.Filter.{FilterState, steady_filter}
-use Rattle.dsp_stage.specs.Unit.{UnitState, StandsFor, CountsFrames, most_kept}
+use Rattle.dsp_unit.specs.Channels.{numbers_in}
+use Rattle.dsp_unit.specs.Filter.{FilterState, steady_filter}
+use Rattle.dsp_unit.specs.Unit.{UnitState, StandsFor, CountsFrames, most_kept}
 
 -- what a contract sees of a bank: what it was made of, the most frames of a call, and the numbers that it keeps,
 -- channel after

@@ -4,7 +4,7 @@ use Rattle.std.specs.Option.{option_or}
 use Rattle.dsp_defs.specs.declared.limits.TheConstants.{MAX_CHANNELS}
 use Rattle.dsp_defs.specs.declared.fault.MakeFault.{MakeFault}
 use Rattle.dsp_defs.specs.declared.fault.MakeFault.TheVariants.{Range}
-use Rattle.dsp_unit.specs.Making.{block_fault}
+use Rattle.dsp_filter.specs.Making.{block_fault}
 use Rattle.dsp_biquad.specs.Making.{coefficients_fault, shift_fault}
 
 -- the fault of so many channels

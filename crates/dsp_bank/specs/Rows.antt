@@ -4,9 +4,9 @@ use Rattle.dsp_defs.specs.Biquad.{Section}
 use Rattle.dsp_defs.specs.Signal.{sample, values}
 use Rattle.dsp_defs.specs.Streaming.{Behaviour, GoesOn}
 use Rattle.dsp_defs.specs.declared.format.Fmt.{Fmt}
-use Rattle.dsp_stage.specs.Channels.{numbers_in, samples_in}
+use Rattle.dsp_unit.specs.Channels.{numbers_in, samples_in}
 use Rattle.dsp_biquad.specs.Sections.{section_acts, section_of}
-use Rattle.dsp_lanes.specs.Sections.{cell}
+use Rattle.dsp_sections.specs.Sections.{cell}
 
 -- ---- rows of samples
 

@@ -4,9 +4,9 @@ use crate::kept::{keep_samples, restore_samples, zeros};
 use crate::making::check_channels;
 use dsp_biquad::{check_coefficients, check_shift};
 use dsp_defs::{MakeFault, Steps};
+use dsp_filter::{are_samples, check_block};
 use dsp_lanes::FormatLanes;
 use dsp_sat::Sample;
-use dsp_unit::{are_samples, check_block};
 use std::alloc::{AllocError, Global};
 use std::marker::Model;
 use std::sync::ledger::Ledger;
@@ -56,10 +56,11 @@ impl<T: BankSample + FormatLanes<L>, const L: usize> Model for Bank<T, L> {
 }
 
 impl<T: BankSample + FormatLanes<L>, const L: usize> Bank<T, L> {
-    ghost use Rattle.std.specs.Prelude.{◌≡◌, ◌≤◌, ◌+◌, ◌*◌, ◌/◌, ◌%◌, ◌↔◌, IfOk, IfErr, IsTrue, MatchOption, false, length, map};
+    ghost use Rattle.std.specs.Prelude.{◌≡◌, ◌≤◌, ◌+◌, ◌*◌, ◌/◌, ◌%◌, ◌↔◌, IfOk, IfErr, IsTrue, MatchOption};
+    ghost use Rattle.std.specs.Prelude.{false, length, map};
     ghost use Rattle.dsp_defs.specs.Formats.{word};
     ghost use Rattle.dsp_lanes.specs.Turns.{lane_turns};
-    ghost use Rattle.dsp_stage.specs.Channels.{AreFed};
+    ghost use Rattle.dsp_unit.specs.Channels.{AreFed};
     ghost use Rattle.dsp_defs.specs.Kept.{Each, IsOfKind, in_words};
     ghost use Rattle.dsp_defs.specs.declared.limits.TheConstants.{MAX_SAMPLES};
     ghost use Rattle.dsp_bank.specs.Bank.{BankState, IsNewBank, bank_filters, sections_of};

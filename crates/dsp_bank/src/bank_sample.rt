@@ -2,7 +2,7 @@ ghost use Rattle.std.specs.Prelude.{◌*◌, ◌<◌, ◌^◌};
 ghost use Rattle.std.specs.Mem.{type_size};
 
 use dsp_biquad::BiquadSample;
-use dsp_lanes::SectionSample;
+use dsp_sections::SectionSample;
 
 /// The samples of a bank.
 pub trait BankSample: BiquadSample + SectionSample {

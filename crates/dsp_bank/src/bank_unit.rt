@@ -1,16 +1,16 @@
 ghost use Rattle.std.specs.Prelude.{◌≡◌, ◌≤◌, ◌+◌, ◌*◌, ◌/◌, ◌%◌, All, FitsSigned, false, length, take};
 ghost use Rattle.dsp_defs.specs.Formats.{word};
 ghost use Rattle.dsp_lanes.specs.Turns.{lane_turns};
-ghost use Rattle.dsp_stage.specs.Channels.{AreFed};
+ghost use Rattle.dsp_unit.specs.Channels.{AreFed};
 ghost use Rattle.dsp_bank.specs.Bank.{bank_filters, sections_of};
 
 use crate::numbers::{put_numbers, take_numbers};
 use crate::{Bank, BankSample};
 use dsp_defs::{Block, MAX_SAMPLES, Measure, Steps};
+use dsp_filter::samples_of;
 use dsp_lanes::FormatLanes;
 use dsp_sat::Sample;
-use dsp_stage::Stage;
-use dsp_unit::samples_of;
+use dsp_unit::Unit;
 use std::alloc::{AllocError, Global};
 use std::marker::Model;
 use std::sync::ledger::Ledger;
@@ -26,7 +26,7 @@ pub struct BankUnit<T: BankSample + FormatLanes<L>, const L: usize> {
 
 impl<T: BankSample + FormatLanes<L>, const L: usize> Model for BankUnit<T, L> {
     ghost use Rattle.std.specs.Prelude.{◌≡◌, ◌≤◌, ◌*◌, length};
-    ghost use Rattle.dsp_stage.specs.Unit.{UnitState};
+    ghost use Rattle.dsp_unit.specs.Unit.{UnitState};
     ghost use Rattle.dsp_defs.specs.declared.limits.TheConstants.{MAX_SAMPLES};
     ghost use Rattle.dsp_bank.specs.Bank.{IsWholeBank, unit_of_bank};
 
@@ -144,7 +144,7 @@ impl<T: BankSample + FormatLanes<L>, const L: usize> BankUnit<T, L> {
     }
 }
 
-impl<T: BankSample + FormatLanes<L>, const L: usize> Stage for BankUnit<T, L> {
+impl<T: BankSample + FormatLanes<L>, const L: usize> Unit for BankUnit<T, L> {
     ghost unit = { λ u. u };
 
     fn feed<M: Ledger>(&mut self, frames: &[i32], out: &mut [i32], steps: &mut Steps<M>) -> usize {

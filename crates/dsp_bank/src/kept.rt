@@ -4,8 +4,8 @@ ghost use Rattle.dsp_defs.specs.Formats.{word};
 ghost use Rattle.dsp_defs.specs.Signal.{sample};
 ghost use Rattle.dsp_defs.specs.Kept.{Each, IsOfKind, in_words};
 
+use dsp_filter::number_of;
 use dsp_sat::Sample;
-use dsp_unit::number_of;
 use std::alloc::{AllocError, Global};
 
 /// A list of zeros.

@@ -3,7 +3,7 @@ ghost use Rattle.std.specs.Prelude.{◌≡◌, ◌+◌, ◌*◌, ◌/◌, ◌%�
 ghost use Rattle.dsp_defs.specs.Formats.{lanes};
 ghost use Rattle.dsp_defs.specs.Parameters.{greatest_biquad_shift};
 ghost use Rattle.dsp_defs.specs.declared.script.Block.TheVariants.{Biquad};
-ghost use Rattle.dsp_lanes.specs.Sections.{five_of};
+ghost use Rattle.dsp_sections.specs.Sections.{five_of};
 ghost use Rattle.dsp_lanes.specs.Turns.{RisesWithin, lane_turns};
 ghost use Rattle.dsp_biquad.specs.Sections.{block_acts, section_acts};
 ghost use Rattle.dsp_bank.specs.Rows.{ChannelsGo, SectionGoes, section_at};

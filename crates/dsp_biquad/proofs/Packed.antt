@@ -1,5 +1,6 @@
 -- The numbers of four sections in lanes, and out of them.
-use Rattle.std.proofs.Common.{◌≡◌, ◌∙◌, ap, sym, refl, subst, ℕ, zero, suc, ◌≤◌, ◌^◌, ℤ, pos, ◌*ℤ◌, List, [], ◌∷◌, map, SFits, to_z, of_z, to_z-of_z, arith}
+use Rattle.std.proofs.Common.{◌≡◌, ◌∙◌, ap, sym, refl, subst, ℕ, zero, suc, ◌≤◌, ◌^◌, ℤ, pos, ◌*ℤ◌, List, [], ◌∷◌}
+use Rattle.std.proofs.Common.{map, SFits, to_z, of_z, to_z-of_z, arith}
 use Rattle.std.specs.Int.{w32, w64, int_wrap}
 use Rattle.std.specs.Simd.Lanes.{Each1}
 use Rattle.std.proofs.lemmas.Int.{int_wrap_fits}
@@ -8,8 +9,8 @@ use Rattle.dsp_defs.specs.Numbers.{◌>>◌}
 use Rattle.dsp_defs.specs.Parameters.{greatest_biquad_shift}
 use Rattle.dsp_defs.specs.declared.format.Fmt.{Fmt}
 use Rattle.dsp_sat.proofs.WideProducts.{word-in-32}
-use Rattle.dsp_lanes.specs.SectionWaves.{low, AreWords}
-use Rattle.dsp_lanes.proofs.FourSections.{back, words_back}
+use Rattle.dsp_sections.specs.SectionWaves.{low, AreWords}
+use Rattle.dsp_sections.proofs.FourSections.{back, words_back}
 use Rattle.dsp_biquad.specs.Scaled.{IsScaled}
 use Rattle.dsp_biquad.specs.Sections.{section_acts}
 use Rattle.dsp_biquad.proofs.Scaled.{acts_scaled}
@@ -35,7 +36,8 @@ module _ (format : Fmt) (lanes : List ℤ) (a b c d : ℤ) (f : AreFour format l
   words (suc zero) = subst (SFits (word format)) (sym (word-is format b f.second)) f.second
   words (suc (suc zero)) = subst (SFits (word format)) (sym (word-is format c f.third)) f.third
   words (suc (suc (suc zero))) = subst (SFits (word format)) (sym (word-is format d f.fourth)) f.fourth
-  words (suc (suc (suc (suc i)))) = subst (SFits (word format)) (sym (word-is format (pos 0) (nothing-fits format))) (nothing-fits format)
+  words (suc (suc (suc (suc i)))) = subst (SFits (word format)) (sym (word-is format (pos 0) (nothing-fits format)))
+      (nothing-fits format)
 
   whole : AreWords format (a ∷ b ∷ c ∷ d ∷ [])
   whole = record { four = refl; wide = subst (λ (l : List ℤ). Each1 (SFits w64) l) f.is f.wide; words = words }
@@ -60,11 +62,20 @@ module _ (format : Fmt) (lanes : List ℤ) (a b c d : ℤ) (f : AreFour format l
 
 -- a section whose coefficients have the post shift in them, by those that do not
 pub plain-acts : (format : Fmt) (p : ℕ) → p ≤ greatest_biquad_shift format → (b0 b1 b2 a1 a2 l0 l1 l2 l3 l4 : ℤ)
-    → b0 ≡ l0 *ℤ pos (2 ^ p) → b1 ≡ l1 *ℤ pos (2 ^ p) → b2 ≡ l2 *ℤ pos (2 ^ p) → a1 ≡ l3 *ℤ pos (2 ^ p) → a2 ≡ l4 *ℤ pos (2 ^ p)
-    → section_acts format p (record { b0 = l0; b1 = l1; b2 = l2; a1 = l3; a2 = l4 }) ≡ section_acts format 0 (record { b0 = b0; b1 = b1; b2 = b2; a1 = a1; a2 = a2 })
+    → b0 ≡ l0 *ℤ pos (2 ^ p) → b1 ≡ l1 *ℤ pos (2 ^ p) → b2 ≡ l2 *ℤ pos (2 ^ p) → a1 ≡ l3 *ℤ pos (2 ^ p) →
+    a2 ≡ l4 *ℤ pos (2 ^ p)
+    → section_acts format p (record { b0 = l0; b1 = l1; b2 = l2; a1 = l3; a2 = l4 }) ≡ section_acts format 0
+    (record { b0 = b0; b1 = b1; b2 = b2; a1 = a1; a2 = a2 })
 plain-acts format p few b0 b1 b2 a1 a2 l0 l1 l2 l3 l4 e0 e1 e2 e3 e4 =
     sym (acts_scaled format p (record { b0 = l0; b1 = l1; b2 = l2; a1 = l3; a2 = l4 }) few)
-    ∙ (λ i. section_acts format 0 (record { b0 = sym e0 i; b1 = sym e1 i; b2 = sym e2 i; a1 = sym e3 i; a2 = sym e4 i }))
+    ∙ (λ i. section_acts format 0 (record {
+      b0 = sym e0 i;
+      b1 = sym e1 i;
+      b2 = sym e2 i;
+      a1 = sym e3 i;
+      a2 =
+          sym e4 i;
+    }))
 
 -- a coefficient of another section with the same post shift
 pub moved : (format : Fmt) (p q : ℕ) (b : ℤ) → q ≡ p → IsScaled format q b → IsScaled format p b
@@ -74,9 +85,11 @@ shifted : (p : ℕ) (b : ℤ) → SFits w64 b → (to_z w64 (of_z w64 b) >> p) �
 shifted p b f = ap (λ z. z >> p) (to_z-of_z f)
 
 -- coefficients of four sections without the post shift
-pub coefficients : (format : Fmt) (p : ℕ) (lanes : List ℤ) (a b c d : ℤ) → SFits w64 a → SFits w64 b → SFits w64 c → SFits w64 d
+pub coefficients : (format : Fmt) (p : ℕ) (lanes : List ℤ) (a b c d : ℤ) → SFits w64 a → SFits w64 b → SFits w64 c →
+    SFits w64 d
     → IsScaled format p a → IsScaled format p b → IsScaled format p c → IsScaled format p d → Each1 (SFits w64) lanes
-    → lanes ≡ (to_z w64 (of_z w64 a) >> p) ∷ (to_z w64 (of_z w64 b) >> p) ∷ (to_z w64 (of_z w64 c) >> p) ∷ (to_z w64 (of_z w64 d) >> p) ∷ []
+    → lanes ≡ (to_z w64 (of_z w64 a) >> p) ∷ (to_z w64 (of_z w64 b) >> p) ∷ (to_z w64 (of_z w64 c) >> p) ∷
+    (to_z w64 (of_z w64 d) >> p) ∷ []
     → AreFour format lanes (a >> p) (b >> p) (c >> p) (d >> p)
 coefficients format p lanes a b c d fa fb fc fd sa sb sc sd wide is = record {
   wide = wide;
@@ -89,7 +102,8 @@ coefficients format p lanes a b c d fa fb fc fd sa sb sc sd wide is = record {
 
 -- numbers of four sections
 pub numbers : (format : Fmt) (lanes : List ℤ) (a b c d : ℤ) → SFits w64 a → SFits w64 b → SFits w64 c → SFits w64 d
-    → SFits (word format) a → SFits (word format) b → SFits (word format) c → SFits (word format) d → Each1 (SFits w64) lanes
+    → SFits (word format) a → SFits (word format) b → SFits (word format) c → SFits (word format) d →
+    Each1 (SFits w64) lanes
     → lanes ≡ to_z w64 (of_z w64 a) ∷ to_z w64 (of_z w64 b) ∷ to_z w64 (of_z w64 c) ∷ to_z w64 (of_z w64 d) ∷ []
     → AreFour format lanes a b c d
 numbers format lanes a b c d fa fb fc fd wa wb wc wd wide is = record {
@@ -102,17 +116,22 @@ numbers format lanes a b c d fa fb fc fd wa wb wc wd wide is = record {
 }
 
 -- a sample in 64 bits
-pub read : (format : Fmt) (m n z : ℤ) → SFits (word format) n → SFits w64 m → m ≡ to_z w32 (of_z w32 n) → n ≡ z → to_z w64 (of_z w64 m) ≡ z
+pub read : (format : Fmt) (m n z : ℤ) → SFits (word format) n → SFits w64 m → m ≡ to_z w32 (of_z w32 n) → n ≡ z →
+    to_z w64 (of_z w64 m) ≡ z
 read format m n z fits wide is is_z = to_z-of_z wide ∙ is ∙ to_z-of_z (word-in-32 format n fits) ∙ is_z
 
 -- what three sections give to the next
-pub given : (format : Fmt) (lanes : List ℤ) (m0 m1 m2 n0 n1 n2 z0 z1 z2 : ℤ) → SFits w64 m0 → SFits w64 m1 → SFits w64 m2
-    → SFits (word format) n0 → SFits (word format) n1 → SFits (word format) n2 → m0 ≡ to_z w32 (of_z w32 n0) → m1 ≡ to_z w32 (of_z w32 n1) → m2 ≡ to_z w32 (of_z w32 n2)
+pub given : (format : Fmt) (lanes : List ℤ) (m0 m1 m2 n0 n1 n2 z0 z1 z2 : ℤ) → SFits w64 m0 → SFits w64 m1 →
+    SFits w64 m2
+    → SFits (word format) n0 → SFits (word format) n1 → SFits (word format) n2 → m0 ≡ to_z w32 (of_z w32 n0) →
+    m1 ≡ to_z w32 (of_z w32 n1) → m2 ≡ to_z w32 (of_z w32 n2)
     → n0 ≡ z0 → n1 ≡ z1 → n2 ≡ z2 → Each1 (SFits w64) lanes
-    → lanes ≡ to_z w64 (of_z w64 m0) ∷ to_z w64 (of_z w64 m1) ∷ to_z w64 (of_z w64 m2) ∷ pos 0 ∷ [] → AreFour format lanes z0 z1 z2 (pos 0)
+    → lanes ≡ to_z w64 (of_z w64 m0) ∷ to_z w64 (of_z w64 m1) ∷ to_z w64 (of_z w64 m2) ∷ pos 0 ∷ [] →
+    AreFour format lanes z0 z1 z2 (pos 0)
 given format lanes m0 m1 m2 n0 n1 n2 z0 z1 z2 w0 w1 w2 f0 f1 f2 e0 e1 e2 i0 i1 i2 wide is = record {
   wide = wide;
-  is = is ∙ (λ i. read format m0 n0 z0 f0 w0 e0 i0 i ∷ read format m1 n1 z1 f1 w1 e1 i1 i ∷ read format m2 n2 z2 f2 w2 e2 i2 i ∷ pos 0 ∷ []);
+  is = is ∙ (λ i. read format m0 n0 z0 f0 w0 e0 i0 i ∷ read format m1 n1 z1 f1 w1 e1 i1 i ∷ read format m2 n2 z2 f2 w2
+      e2 i2 i ∷ pos 0 ∷ []);
   first = subst (SFits (word format)) i0 f0;
   second = subst (SFits (word format)) i1 f1;
   third = subst (SFits (word format)) i2 f2;
@@ -120,11 +139,13 @@ given format lanes m0 m1 m2 n0 n1 n2 z0 z1 z2 w0 w1 w2 f0 f1 f2 e0 e1 e2 i0 i1 i
 }
 
 -- a number that is taken out of its lane
-pub number-is : (format : Fmt) (lanes : List ℤ) (lane : ℕ) (m : ℤ) → AreWords format lanes → m ≡ low (map (to_z w64) (map (of_z w64) lanes)) lane → m ≡ low lanes lane
+pub number-is : (format : Fmt) (lanes : List ℤ) (lane : ℕ) (m : ℤ) → AreWords format lanes →
+    m ≡ low (map (to_z w64) (map (of_z w64) lanes)) lane → m ≡ low lanes lane
 number-is format lanes lane m words is = is ∙ ap (λ (l : List ℤ). low l lane) (back lanes words.wide)
 
 -- and is a sample
-module _ (format : Fmt) (lanes : List ℤ) (lane : ℕ) (m : ℤ) (words : AreWords format lanes) (wide : SFits w64 m) (is : m ≡ low (map (to_z w64) (map (of_z w64) lanes)) lane) where
+module _ (format : Fmt) (lanes : List ℤ) (lane : ℕ) (m : ℤ) (words : AreWords format lanes) (wide : SFits w64 m)
+    (is : m ≡ low (map (to_z w64) (map (of_z w64) lanes)) lane) where
   sample-is : to_z w64 (of_z w64 m) ≡ low lanes lane
   sample-is = to_z-of_z wide ∙ number-is format lanes lane m words is
 

@@ -1,16 +1,20 @@
--- The post shift of a section in its coefficients: the sum of its products is 2^p times as large, and shifted by a constant.
-use Rattle.std.proofs.Common.{◌≡◌, ◌∙◌, ap, sym, refl, ℕ, zero, suc, ◌+◌, ◌-◌, ◌*◌, ◌<◌, ◌≤◌, ◌^◌, ℤ, pos, negsuc, ◌+ℤ◌, ◌*ℤ◌, List, [], ◌∷◌, subst, ◌%◌, SFits, to_z, of_z, lit<, pow_mono, arith}
+-- The post shift of a section in its coefficients: the sum of its products is 2^p times as large, and shifted by a
+-- constant.
+use Rattle.std.proofs.Common.{◌≡◌, ◌∙◌, ap, sym, refl, ℕ, zero, suc, ◌+◌, ◌-◌, ◌*◌, ◌<◌, ◌≤◌, ◌^◌, ℤ, pos, negsuc}
+use Rattle.std.proofs.Common.{◌+ℤ◌, ◌*ℤ◌, List, [], ◌∷◌, subst, ◌%◌, SFits, to_z, of_z, lit<, pow_mono, arith}
 use Rattle.std.specs.Prelude.{neg_ℤ, nat_abs}
 use Rattle.std.specs.Int.{Width, w8, w16, w32, w64, int_wrap}
 use Rattle.std.proofs.Math.Nat.{mul_comm, mul-le-mul}
 use Rattle.std.proofs.lemmas.Nat.{pow-add}
-use Rattle.std.proofs.lemmas.Int.{ints, int_wrap_fits, SFits-int_wrap, int_wrap-mul_left, int_wrap-add_left, int_wrap-add_right, int_wrap-add_same, unsigned_abs-mul, fits_signed_mul, wrapping_mul_is}
+use Rattle.std.proofs.lemmas.Int.{ints, int_wrap_fits, SFits-int_wrap, int_wrap-mul_left, int_wrap-add_left}
+use Rattle.std.proofs.lemmas.Int.{int_wrap-add_right, int_wrap-add_same, unsigned_abs-mul, fits_signed_mul}
+use Rattle.std.proofs.lemmas.Int.{wrapping_mul_is}
 use lib.IntN.{*ℤ-negsuc, neg_ℤ-+ℤ, suc_ℤ-*ℤ, zero-*ℤ, *ℤ_comm}
 use lib.Pow.{pow_pos}
 use lib.Signed.{shr_z}
 use Rattle.dsp_sat.proofs.Words.{abs_within}
-use Rattle.dsp_lanes.proofs.FloorShifts.{times_times, sum_times, floor_is, upper_word}
-use Rattle.dsp_lanes.proofs.ScaledShifts.{shift_scaled}
+use Rattle.dsp_sections.proofs.FloorShifts.{times_times, sum_times, floor_is, upper_word}
+use Rattle.dsp_sections.proofs.ScaledShifts.{shift_scaled}
 use Rattle.dsp_defs.specs.Biquad.{Section, section_close, section_output}
 use Rattle.dsp_defs.specs.Formats.{word}
 use Rattle.dsp_defs.specs.Kept.{latest}
@@ -39,12 +43,14 @@ up_32 z p f few =
     let small : 2 ^ p ≤ 2 ^ 30 = pow_mono few in
     fits_signed_mul w64 z (pos (2 ^ p)) (2 ^ 31) (2 ^ 30) (abs_within w32 z f) small (lit< tt)
 
-scaled-fits : (format : Fmt) (z : ℤ) (p : ℕ) → SFits (word format) z → p ≤ greatest_biquad_shift format → SFits (scaled_word format) (z *ℤ pos (2 ^ p))
+scaled-fits : (format : Fmt) (z : ℤ) (p : ℕ) → SFits (word format) z → p ≤ greatest_biquad_shift format →
+    SFits (scaled_word format) (z *ℤ pos (2 ^ p))
 scaled-fits Q7 z p f few = up_16 z p (record { sfits = omega (arith, f.sfits) }) few
 scaled-fits Q15 z p f few = up_16 z p f few
 scaled-fits Q31 z p f few = up_32 z p f few
 
-pub of_scaled : (format : Fmt) (p : ℕ) (b : ℤ) → IsScaled format p b → p ≤ greatest_biquad_shift format → SFits (scaled_word format) b
+pub of_scaled : (format : Fmt) (p : ℕ) (b : ℤ) → IsScaled format p b → p ≤ greatest_biquad_shift format →
+    SFits (scaled_word format) b
 of_scaled format p b is few = subst (SFits (scaled_word format)) (sym is.1) (scaled-fits format (b >> p) p is.0 few)
 
 pub shift-few : (format : Fmt) (p : ℕ) → p ≤ greatest_biquad_shift format → p ≤ 30
@@ -64,7 +70,8 @@ is_scaled format p z r f is =
     (subst (SFits (word format)) (sym q) f, is ∙ ap (λ v. v *ℤ pos (2 ^ p)) (sym q))
 
 -- a number of 32 bits that is shifted up in 64 bits
-pub shifted_up : (m z : ℤ) (p : ℕ) → SFits w64 m → m ≡ z → SFits w32 z → p ≤ 30 → to_z w64 (of_z w64 m * 2 ^ p % 18446744073709551616) ≡ z *ℤ pos (2 ^ p)
+pub shifted_up : (m z : ℤ) (p : ℕ) → SFits w64 m → m ≡ z → SFits w32 z → p ≤ 30 →
+    to_z w64 (of_z w64 m * 2 ^ p % 18446744073709551616) ≡ z *ℤ pos (2 ^ p)
 shifted_up m z p g is f few =
     let small : 2 ^ p ≤ 2 ^ 30 = pow_mono few in
     let power : SFits w64 (pos (2 ^ p)) = record { sfits = omega (arith, small) } in
@@ -75,7 +82,8 @@ shifted_up m z p g is f few =
 -- ---- shifts
 -- sums that wrap at 64 bits, of which the low word is taken
 wrapped_scaled : (s : ℤ) (p : ℕ) → p ≤ 30
-    → int_wrap w32 (shr_z (int_wrap w64 (s *ℤ pos (2 ^ p))) (2 ^ 31)) ≡ int_wrap w32 (shr_z (int_wrap w64 s) (2 ^ (31 - p)))
+    → int_wrap w32 (shr_z (int_wrap w64 (s *ℤ pos (2 ^ p))) (2 ^ 31)) ≡ int_wrap w32
+    (shr_z (int_wrap w64 s) (2 ^ (31 - p)))
 wrapped_scaled s p few =
     let e = 2 ^ (p + 1) in
     let all : 31 - p + (p + 1) ≡ 32 = omega (arith, few) in
@@ -107,11 +115,13 @@ product_scaled b n (pos k) = sym (times_times b n k) ∙ ap (λ m. b *ℤ pos m)
 product_scaled b n (negsuc k) =
     let z = b *ℤ pos (suc k) in
     *ℤ-negsuc (b *ℤ pos n) k
-    ∙ ap neg_ℤ (sym (times_times b n (suc k)) ∙ ap (λ m. b *ℤ pos m) (mul_comm n (suc k)) ∙ times_times b (suc k) n ∙ *ℤ_comm z (pos n))
+    ∙ ap neg_ℤ (sym (times_times b n (suc k)) ∙ ap (λ m. b *ℤ pos m) (mul_comm n (suc k)) ∙ times_times b (suc k) n ∙
+    *ℤ_comm z (pos n))
     ∙ sym (ap (λ v. v *ℤ pos n) (*ℤ-negsuc b k) ∙ *ℤ_comm (neg_ℤ z) (pos n) ∙ negated n z)
 
 five_scaled : (n : ℕ) (p0 p1 p2 p3 p4 : ℤ)
-    → p0 *ℤ pos n +ℤ p1 *ℤ pos n +ℤ p2 *ℤ pos n +ℤ (p3 *ℤ pos n +ℤ p4 *ℤ pos n) ≡ (p0 +ℤ p1 +ℤ p2 +ℤ (p3 +ℤ p4)) *ℤ pos n
+    → p0 *ℤ pos n +ℤ p1 *ℤ pos n +ℤ p2 *ℤ pos n +ℤ (p3 *ℤ pos n +ℤ p4 *ℤ pos n) ≡ (p0 +ℤ p1 +ℤ p2 +ℤ (p3 +ℤ p4)) *ℤ
+    pos n
 five_scaled n p0 p1 p2 p3 p4 =
     (λ i. sym (sum_times p0 p1 n) i +ℤ p2 *ℤ pos n +ℤ sym (sum_times p3 p4 n) i)
     ∙ ap (λ v. v +ℤ (p3 +ℤ p4) *ℤ pos n) (sym (sum_times (p0 +ℤ p1) p2 n))
@@ -119,7 +129,14 @@ five_scaled n p0 p1 p2 p3 p4 =
 
 -- the coefficients of a section, each times 2^p
 abbrev pub scaled_by : ℕ → Section → Section
-scaled_by p c = record { b0 = c.b0 *ℤ pos (2 ^ p); b1 = c.b1 *ℤ pos (2 ^ p); b2 = c.b2 *ℤ pos (2 ^ p); a1 = c.a1 *ℤ pos (2 ^ p); a2 = c.a2 *ℤ pos (2 ^ p) }
+scaled_by p c = record {
+  b0 = c.b0 *ℤ pos (2 ^ p);
+  b1 = c.b1 *ℤ pos (2 ^ p);
+  b2 = c.b2 *ℤ pos (2 ^ p);
+  a1 =
+      c.a1 *ℤ pos (2 ^ p);
+  a2 = c.a2 *ℤ pos (2 ^ p);
+}
 
 -- with these it does without a post shift what it does with one
 pub acts_scaled : (format : Fmt) (p : ℕ) (c : Section) → p ≤ greatest_biquad_shift format
@@ -141,7 +158,8 @@ acts_scaled format p c few = ap acts same
         let p3 = c.a1 *ℤ sample ys 0 in
         let p4 = c.a2 *ℤ sample ys 1 in
         (ap (section_close format 0)
-        ((λ t. product_scaled c.b0 n (sample xs 0) t +ℤ product_scaled c.b1 n (sample xs 1) t +ℤ product_scaled c.b2 n (sample xs 2) t +ℤ (product_scaled c.a1 n (sample ys 0) t +ℤ product_scaled c.a2 n (sample ys 1) t))
+        ((λ t. product_scaled c.b0 n (sample xs 0) t +ℤ product_scaled c.b1 n (sample xs 1) t +ℤ product_scaled c.b2 n
+        (sample xs 2) t +ℤ (product_scaled c.a1 n (sample ys 0) t +ℤ product_scaled c.a2 n (sample ys 1) t))
         ∙ five_scaled n p0 p1 p2 p3 p4)
         ∙ close_scaled format p (p0 +ℤ p1 +ℤ p2 +ℤ (p3 +ℤ p4)) few) i
 
@@ -153,7 +171,8 @@ within : (z : ℤ) → nat_abs z ≤ 2 ^ 62 → SFits w64 z
 within (pos n) small = record { sfits = omega (arith, small) }
 within (negsuc n) small = record { sfits = omega (arith, small) }
 
-five_fit : (p0 p1 p2 p3 p4 : ℤ) → nat_abs p0 ≤ 2 ^ 46 → nat_abs p1 ≤ 2 ^ 46 → nat_abs p2 ≤ 2 ^ 46 → nat_abs p3 ≤ 2 ^ 46 → nat_abs p4 ≤ 2 ^ 46
+five_fit : (p0 p1 p2 p3 p4 : ℤ) → nat_abs p0 ≤ 2 ^ 46 → nat_abs p1 ≤ 2 ^ 46 → nat_abs p2 ≤ 2 ^ 46 →
+    nat_abs p3 ≤ 2 ^ 46 → nat_abs p4 ≤ 2 ^ 46
     → SFits w64 (p0 +ℤ p1 +ℤ p2 +ℤ (p3 +ℤ p4))
 five_fit p0 p1 p2 p3 p4 h0 h1 h2 h3 h4 =
     let two = abs_sum p0 p1 in
@@ -170,8 +189,10 @@ byte_fits z f = record { sfits = omega (arith, f.sfits) }
 
 -- a sum of products that was wrapped is closed as the sum is
 pub close_wrapped : (format : Fmt) (b0 b1 b2 a1 a2 x x1 x2 y1 y2 : ℤ)
-    → SFits (scaled_word format) b0 → SFits (scaled_word format) b1 → SFits (scaled_word format) b2 → SFits (scaled_word format) a1 → SFits (scaled_word format) a2
-    → SFits (word format) x → SFits (word format) x1 → SFits (word format) x2 → SFits (word format) y1 → SFits (word format) y2
+    → SFits (scaled_word format) b0 → SFits (scaled_word format) b1 → SFits (scaled_word format) b2 →
+    SFits (scaled_word format) a1 → SFits (scaled_word format) a2
+    → SFits (word format) x → SFits (word format) x1 → SFits (word format) x2 → SFits (word format) y1 →
+    SFits (word format) y2
     → section_close format 0 (wrap w64 (b0 *ℤ x +ℤ b1 *ℤ x1 +ℤ b2 *ℤ x2 +ℤ (a1 *ℤ y1 +ℤ a2 *ℤ y2)))
     ≡ section_close format 0 (b0 *ℤ x +ℤ b1 *ℤ x1 +ℤ b2 *ℤ x2 +ℤ (a1 *ℤ y1 +ℤ a2 *ℤ y2))
 close_wrapped Q7 b0 b1 b2 a1 a2 x x1 x2 y1 y2 f0 f1 f2 f3 f4 g0 g1 g2 g3 g4 =
@@ -188,13 +209,15 @@ close_wrapped Q31 b0 b1 b2 a1 a2 x x1 x2 y1 y2 f0 f1 f2 f3 f4 g0 g1 g2 g3 g4 =
     ap (λ v. int_wrap w32 (shr_z v (2 ^ 31))) (int_wrap_fits w64 (int_wrap w64 sum) (SFits-int_wrap w64 sum))
 
 -- the wrapped sum of wrapped numbers
-pub five_wrapped : (p0 p1 p2 p3 p4 : ℤ) → int_wrap w64 (int_wrap w64 p0 +ℤ int_wrap w64 p1 +ℤ int_wrap w64 p2 +ℤ (int_wrap w64 p3 +ℤ int_wrap w64 p4))
+pub five_wrapped : (p0 p1 p2 p3 p4 : ℤ) → int_wrap w64
+    (int_wrap w64 p0 +ℤ int_wrap w64 p1 +ℤ int_wrap w64 p2 +ℤ (int_wrap w64 p3 +ℤ int_wrap w64 p4))
     ≡ int_wrap w64 (p0 +ℤ p1 +ℤ p2 +ℤ (p3 +ℤ p4))
 five_wrapped p0 p1 p2 p3 p4 =
     let front = int_wrap-add_same w64 (int_wrap w64 p0 +ℤ int_wrap w64 p1) (p0 +ℤ p1) (int_wrap w64 p2) (two p0 p1) in
     let three : int_wrap w64 (int_wrap w64 p0 +ℤ int_wrap w64 p1 +ℤ int_wrap w64 p2) ≡ int_wrap w64 (p0 +ℤ p1 +ℤ p2) =
     front ∙ int_wrap-add_right w64 (p0 +ℤ p1) p2 in
-    int_wrap-add_same w64 (int_wrap w64 p0 +ℤ int_wrap w64 p1 +ℤ int_wrap w64 p2) (p0 +ℤ p1 +ℤ p2) (int_wrap w64 p3 +ℤ int_wrap w64 p4) three
+    int_wrap-add_same w64 (int_wrap w64 p0 +ℤ int_wrap w64 p1 +ℤ int_wrap w64 p2) (p0 +ℤ p1 +ℤ p2)
+    (int_wrap w64 p3 +ℤ int_wrap w64 p4) three
     ∙ sym (int_wrap-add_right w64 (p0 +ℤ p1 +ℤ p2) (int_wrap w64 p3 +ℤ int_wrap w64 p4))
     ∙ ap (λ v. int_wrap w64 (p0 +ℤ p1 +ℤ p2 +ℤ v)) (two p3 p4)
     ∙ int_wrap-add_right w64 (p0 +ℤ p1 +ℤ p2) (p3 +ℤ p4)

@@ -2,9 +2,9 @@
 use Rattle.std.proofs.Common.{◌≡◌, ap, sym, subst, ℕ, ◌<◌, ℤ, List, [], ◌∷◌, lit<}
 use Rattle.dsp_defs.specs.Streaming.{GoesOn}
 use Rattle.dsp_defs.specs.declared.format.Fmt.{Fmt}
-use Rattle.dsp_lanes.specs.SectionWaves.{low, lane_section, LanesTurn}
-use Rattle.dsp_lanes.specs.declared.wave_lanes.WaveLanes.{WaveLanes}
-use Rattle.dsp_unit.specs.Waves.{Works, Turns}
+use Rattle.dsp_sections.specs.SectionWaves.{low, lane_section, LanesTurn}
+use Rattle.dsp_sections.specs.declared.wave_lanes.WaveLanes.{WaveLanes}
+use Rattle.dsp_filter.specs.Waves.{Works, Turns}
 use Rattle.dsp_biquad.specs.Sections.{section_acts}
 use Rattle.dsp_biquad.specs.Waves.{lane_part, wave_in}
 use Rattle.dsp_biquad.proofs.SectionSteps.{section-step}
@@ -23,14 +23,18 @@ module _ (format : Fmt) (old new : WaveLanes) (x z : ℤ) (e : LanesTurn format 
         acts = λ k. section_acts format (e.post_shift k) (e.sections i k);
         goes = subst (λ (l : List ℤ). GoesOn acts.gives acts.keeps kept l (taken ∷ []) (given ∷ []))
             (λ k. low new.x1 i ∷ sym before k ∷ low new.y1 i ∷ sym past k ∷ [])
-            (subst (λ (v : ℤ). GoesOn acts.gives acts.keeps kept (low new.x1 i ∷ low old.x1 i ∷ low new.y1 i ∷ low old.y1 i ∷ []) (v ∷ []) (given ∷ [])) is_taken
-            (subst (λ (v : ℤ). GoesOn acts.gives acts.keeps kept (low new.x1 i ∷ low old.x1 i ∷ low new.y1 i ∷ low old.y1 i ∷ []) (low new.x1 i ∷ []) (v ∷ [])) is_given step));
+            (subst (λ (v : ℤ). GoesOn acts.gives acts.keeps kept
+            (low new.x1 i ∷ low old.x1 i ∷ low new.y1 i ∷ low old.y1 i ∷ []) (v ∷ []) (given ∷ [])) is_taken
+            (subst (λ (v : ℤ). GoesOn acts.gives acts.keeps kept
+            (low new.x1 i ∷ low old.x1 i ∷ low new.y1 i ∷ low old.y1 i ∷ []) (low new.x1 i ∷ []) (v ∷ [])) is_given
+            step));
       }
 
   pub turns : Turns (wave_in format old) (wave_in format new) x z
   turns = record {
     first = works 0 (lit< tt) x (low new.given 0) e.first (sym (ap (λ (l : List ℤ). low l 0) e.given));
-    second = works 1 (lit< tt) (low old.given 0) (low new.given 1) e.second (sym (ap (λ (l : List ℤ). low l 1) e.given));
+    second = works 1 (lit< tt) (low old.given 0) (low new.given 1) e.second
+        (sym (ap (λ (l : List ℤ). low l 1) e.given));
     third = works 2 (lit< tt) (low old.given 1) (low new.given 2) e.third (sym (ap (λ (l : List ℤ). low l 2) e.given));
     fourth = works 3 (lit< tt) (low old.given 2) z e.fourth (sym e.last);
   }

@@ -1,23 +1,25 @@
 -- Cascades work on samples one by one.
-use Rattle.std.specs.Prelude.{⊤, ◌≡◌, ℕ, zero, suc, ◌+◌, ◌-◌, ◌*◌, ◌/◌, ◌≤◌, ℤ, List, [], ◌∷◌, ◌++◌, length, flat_map, replicate, refl}
+use Rattle.std.specs.Prelude.{⊤, ◌≡◌, ℕ, zero, suc, ◌+◌, ◌-◌, ◌*◌, ◌/◌, ◌≤◌, ℤ, List, [], ◌∷◌, ◌++◌, length, flat_map}
+use Rattle.std.specs.Prelude.{replicate, refl}
 use Rattle.std.specs.List.{range_with_len}
 use Rattle.std.proofs.Common.{◌∙◌, ap, sym, subst, arith}
 use Rattle.std.proofs.lemmas.List.{length-replicate}
 use Rattle.dsp_defs.specs.Numbers.{Width, w32, w64}
 use Rattle.dsp_defs.specs.Formats.{word}
 use Rattle.dsp_defs.specs.Cost.{section_count}
-use Rattle.dsp_stage.specs.Filter.{IsSteady, IsStepwise}
+use Rattle.dsp_unit.specs.Filter.{IsSteady, IsStepwise}
 use Rattle.dsp_defs.specs.Kept.{Kind, InWord, Fixed, Below, Each, IsPlace, kinds_by, in_words}
-use Rattle.dsp_stage.proofs.ChannelKept.{words-placed}
+use Rattle.dsp_unit.proofs.ChannelKept.{words-placed}
 use Rattle.dsp_defs.proofs.KeptLaws.{kept_of_channel-place}
-use Rattle.dsp_unit.proofs.Units.{scaled, less-scaled}
+use Rattle.dsp_filter.proofs.Units.{scaled, less-scaled}
 use Rattle.dsp_defs.specs.declared.format.Fmt.{Fmt}
 use Rattle.dsp_defs.specs.declared.format.Fmt.TheVariants.{Q7, Q15, Q31}
 use Rattle.dsp_defs.specs.declared.script.Block.{Block}
 use Rattle.dsp_defs.specs.declared.script.Block.TheVariants.{Biquad, Biquad64}
 use Rattle.dsp_defs.specs.Parameters.{greatest_biquad_shift}
 use Rattle.dsp_defs.specs.Streaming.{chained}
-use Rattle.dsp_biquad.specs.Sections.{AreParameters, IsCascade, block_acts, section_acts, section_of, is-cascade, IsBiquadIn, IsBiquad64, coefficients_of, post_shift_of, size_in}
+use Rattle.dsp_biquad.specs.Sections.{AreParameters, IsCascade, block_acts, section_acts, section_of, is-cascade}
+use Rattle.dsp_biquad.specs.Sections.{IsBiquadIn, IsBiquad64, coefficients_of, post_shift_of, size_in}
 
 -- ---- kinds
 
@@ -28,7 +30,8 @@ AreWords (InWord width ∷ kinds) = AreWords kinds
 AreWords (kind ∷ kinds) = ⊥
 
 -- as many of them are at any place
-placed : (kinds : List Kind) (numbers : List ℤ) → AreWords kinds → length numbers ≡ length kinds → Each IsPlace kinds numbers
+placed : (kinds : List Kind) (numbers : List ℤ) → AreWords kinds → length numbers ≡ length kinds →
+    Each IsPlace kinds numbers
 unfolding AreWords
 placed [] [] words size = tt
 placed [] (z ∷ zs) words size = absurd (omega (arith, size))
@@ -46,19 +49,22 @@ wide-words zero a = tt
 wide-words (suc n) a = wide-words n (a + 1)
 
 -- the words of each section, one after another
-pub words-of_sections : (width : Width) (n a : ℕ) → in_words width (4 * n) ≡ flat_map (λ (_ : ℕ). in_words width 4) (range_with_len a n)
+pub words-of_sections : (width : Width) (n a : ℕ) → in_words width (4 * n) ≡ flat_map (λ (_ : ℕ). in_words width 4)
+    (range_with_len a n)
 words-of_sections width zero a = refl
 words-of_sections width (suc n) a =
     let more : 4 * suc n ≡ suc (suc (suc (suc (4 * n)))) = omega arith in
     let rest = words-of_sections width n (a + 1) in
-    ap (λ k. replicate k (InWord width)) more ∙ ap (λ l. InWord width ∷ InWord width ∷ InWord width ∷ InWord width ∷ l) rest
+    ap (λ k. replicate k (InWord width)) more ∙ ap (λ l. InWord width ∷ InWord width ∷ InWord width ∷ InWord width ∷
+    l) rest
 
 -- ---- blocks
 
 one : (n a : ℕ) → 1 * n * a ≡ n * a
 one n a = omega arith
 
-pub biquad-steady : (format : Fmt) (p : ℕ) (numbers : List ℤ) → IsSteady format (Biquad p numbers) (5 * section_count format numbers)
+pub biquad-steady : (format : Fmt) (p : ℕ) (numbers : List ℤ) →
+    IsSteady format (Biquad p numbers) (5 * section_count format numbers)
 biquad-steady format p numbers = record {
   by_channel = record {
     live_is = refl;
@@ -79,14 +85,16 @@ biquad-steady format p numbers = record {
   live_same = λ n. refl;
   whole_same = λ n. refl;
   kinds_same = λ n. refl;
-  placed = λ zs size. words-placed (word format) (4 * section_count format numbers) zs (size ∙ length-replicate (4 * section_count format numbers) (InWord (word format)));
+  placed = λ zs size. words-placed (word format) (4 * section_count format numbers) zs
+      (size ∙ length-replicate (4 * section_count format numbers) (InWord (word format)));
   live_cost = λ n. one n (5 * section_count format numbers);
 }
 
 less-one : (m n a : ℕ) → 1 * n * a - 1 * m * a ≡ n * a - m * a
 less-one m n a = (λ i. one n a i - one m a i)
 
-pub biquad-stepwise : (format : Fmt) (block : Block) → IsBiquadIn format block → IsStepwise format block (5 * section_count format (coefficients_of block))
+pub biquad-stepwise : (format : Fmt) (block : Block) → IsBiquadIn format block →
+    IsStepwise format block (5 * section_count format (coefficients_of block))
 biquad-stepwise format (Biquad p numbers) is = record {
   steady = biquad-steady format p numbers;
   turns = λ m n. less-one m n (5 * section_count format numbers);
@@ -120,7 +128,8 @@ biquad64-steady p numbers = record {
   live_cost = λ n. one n (5 * section_count Q31 numbers);
 }
 
-pub biquad64-stepwise : (block : Block) → IsBiquad64 block → IsStepwise Q31 block (5 * section_count Q31 (coefficients_of block))
+pub biquad64-stepwise : (block : Block) → IsBiquad64 block →
+    IsStepwise Q31 block (5 * section_count Q31 (coefficients_of block))
 biquad64-stepwise (Biquad64 p numbers) is = record {
   steady = biquad64-steady p numbers;
   turns = λ m n. less-one m n (5 * section_count Q31 numbers);
@@ -136,7 +145,8 @@ count-is Q7 numbers = refl
 count-is Q15 numbers = refl
 count-is Q31 numbers = refl
 
-pub is-biquad : (format : Fmt) (block : Block) → IsBiquadIn format block → block ≡ Biquad (post_shift_of block) (coefficients_of block)
+pub is-biquad : (format : Fmt) (block : Block) → IsBiquadIn format block →
+    block ≡ Biquad (post_shift_of block) (coefficients_of block)
 is-biquad format (Biquad p numbers) is = refl
 is-biquad format block is = absurd is
 
@@ -154,21 +164,28 @@ empty-at Q7 p = refl
 empty-at Q15 p = refl
 empty-at Q31 p = refl
 
-pub cascade-at : (format : Fmt) (size : ℕ) → size ≡ size_in format → (p : ℕ) → IsCascade format (Biquad p) size (λ numbers. section_acts format p (section_of size numbers))
-cascade-at format size is p = subst (λ (n : ℕ). IsCascade format (Biquad p) n (λ numbers. section_acts format p (section_of n numbers))) (sym is) (is-cascade format p)
+pub cascade-at : (format : Fmt) (size : ℕ) → size ≡ size_in format → (p : ℕ) →
+    IsCascade format (Biquad p) size (λ numbers. section_acts format p (section_of size numbers))
+cascade-at format size is p = subst (λ (n : ℕ). IsCascade format (Biquad p) n
+    (λ numbers. section_acts format p (section_of n numbers))) (sym is) (is-cascade format p)
 
-pub count-at : (format : Fmt) (size : ℕ) → size ≡ size_in format → (numbers : List ℤ) → section_count format numbers ≡ length numbers / size
+pub count-at : (format : Fmt) (size : ℕ) → size ≡ size_in format → (numbers : List ℤ) →
+    section_count format numbers ≡ length numbers / size
 count-at format size is numbers = count-is format numbers ∙ ap (λ n. length numbers / n) (sym is)
 
 pub one-le-five : 1 ≤ 5
 one-le-five = omega arith
 
-pub parameters-at : (format : Fmt) (greatest size : ℕ) → greatest ≡ greatest_biquad_shift format → size ≡ size_in format → (block : Block) → IsBiquadIn format block → AreParameters format greatest size (post_shift_of block) (coefficients_of block)
+pub parameters-at : (format : Fmt) (greatest size : ℕ) → greatest ≡ greatest_biquad_shift format →
+    size ≡ size_in format → (block : Block) → IsBiquadIn format block →
+    AreParameters format greatest size (post_shift_of block) (coefficients_of block)
 parameters-at format greatest size is is' (Biquad p numbers) fits =
-    subst (λ (g : ℕ). AreParameters format g size p numbers) (sym is) (subst (λ (n : ℕ). AreParameters format (greatest_biquad_shift format) n p numbers) (sym is') fits)
+    subst (λ (g : ℕ). AreParameters format g size p numbers) (sym is)
+    (subst (λ (n : ℕ). AreParameters format (greatest_biquad_shift format) n p numbers) (sym is') fits)
 parameters-at format greatest size is is' block fits = absurd fits
 
-pub parameters64 : (block : Block) → IsBiquad64 block → AreParameters Q31 30 5 (post_shift_of block) (coefficients_of block)
+pub parameters64 : (block : Block) → IsBiquad64 block →
+    AreParameters Q31 30 5 (post_shift_of block) (coefficients_of block)
 parameters64 (Biquad64 p numbers) fits = fits
 parameters64 block fits = absurd fits
 
@@ -180,6 +197,9 @@ few-size Q7 size is = omega (arith, is)
 few-size Q15 size is = omega (arith, is)
 few-size Q31 size is = omega (arith, is)
 
-pub of-numbers : (format : Fmt) (greatest size : ℕ) → greatest ≡ greatest_biquad_shift format → size ≡ size_in format → (p : ℕ) (numbers : List ℤ) → AreParameters format greatest size p numbers → IsBiquadIn format (Biquad p numbers)
+pub of-numbers : (format : Fmt) (greatest size : ℕ) → greatest ≡ greatest_biquad_shift format →
+    size ≡ size_in format → (p : ℕ) (numbers : List ℤ) → AreParameters format greatest size p numbers →
+    IsBiquadIn format (Biquad p numbers)
 of-numbers format greatest size is is' p numbers fits =
-    subst (λ (g : ℕ). AreParameters format g (size_in format) p numbers) is (subst (λ (n : ℕ). AreParameters format greatest n p numbers) is' fits)
+    subst (λ (g : ℕ). AreParameters format g (size_in format) p numbers) is
+    (subst (λ (n : ℕ). AreParameters format greatest n p numbers) is' fits)

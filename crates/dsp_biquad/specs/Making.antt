@@ -1,7 +1,7 @@
 -- The faults of what a cascade is made of.
 use Rattle.std.specs.Prelude.{ℕ, ◌*◌, pos, Option, Some, None, nat_le, if◌then◌else◌}
 use Rattle.std.specs.Option.{option_or}
-use Rattle.dsp_unit.specs.Making.{block_fault, multiple_fault}
+use Rattle.dsp_filter.specs.Making.{block_fault, multiple_fault}
 use Rattle.dsp_defs.specs.declared.limits.TheConstants.{MAX_SECTIONS}
 use Rattle.dsp_defs.specs.declared.fault.MakeFault.{MakeFault}
 use Rattle.dsp_defs.specs.declared.fault.MakeFault.TheVariants.{Range}
@@ -16,4 +16,5 @@ shift_fault greatest post_shift = if nat_le post_shift greatest then None else S
 
 -- the first fault
 abbrev pub cascade_fault : ℕ → ℕ → ℕ → ℕ → ℕ → Option MakeFault
-cascade_fault size greatest count post_shift block = option_or (coefficients_fault size count) (option_or (shift_fault greatest post_shift) (block_fault block))
+cascade_fault size greatest count post_shift block = option_or (coefficients_fault size count)
+    (option_or (shift_fault greatest post_shift) (block_fault block))

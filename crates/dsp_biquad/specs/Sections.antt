@@ -6,7 +6,7 @@ use Rattle.dsp_defs.specs.Signal.{sample, outputs}
 use Rattle.dsp_defs.specs.Biquad.{Section, biquad_section, biquad64_section, fed_back, wide_output}
 use Rattle.dsp_defs.specs.Parameters.{greatest_biquad_shift}
 use Rattle.dsp_defs.specs.Kept.{latest, kept_of_channel}
-use Rattle.dsp_stage.specs.Filter.{of_channel}
+use Rattle.dsp_unit.specs.Filter.{of_channel}
 use Rattle.dsp_defs.specs.Streaming.{Behaviour, then}
 use Rattle.dsp_defs.specs.declared.format.Fmt.{Fmt}
 use Rattle.dsp_defs.specs.declared.format.Fmt.TheVariants.{Q7, Q15, Q31}
@@ -19,14 +19,16 @@ use Rattle.dsp_defs.specs.declared.script.Block.TheVariants.{Biquad, Biquad64}
 abbrev pub section_acts : Fmt → ℕ → Section → Behaviour
 section_acts format p c = record {
   gives = λ x. biquad_section format p x c;
-  keeps = λ x. latest x 0 ∷ latest x 1 ∷ latest (biquad_section format p x c) 0 ∷ latest (biquad_section format p x c) 1 ∷ [];
+  keeps = λ x. latest x 0 ∷ latest x 1 ∷ latest (biquad_section format p x c) 0 ∷ latest (biquad_section format p x c)
+      1 ∷ [];
 }
 
 -- with the wide feedback it keeps x1, x2, Y1, Y2
 abbrev pub wide_acts : ℕ → Section → Behaviour
 wide_acts p c = record {
   gives = λ x. biquad64_section p x c;
-  keeps = λ x. latest x 0 ∷ latest x 1 ∷ latest (map (fed_back p) (outputs (wide_output p c) x)) 0 ∷ latest (map (fed_back p) (outputs (wide_output p c) x)) 1 ∷ [];
+  keeps = λ x. latest x 0 ∷ latest x 1 ∷ latest (map (fed_back p) (outputs (wide_output p c) x)) 0 ∷ latest
+      (map (fed_back p) (outputs (wide_output p c) x)) 1 ∷ [];
 }
 
 -- how many numbers a section has in a list: b0, 0, b1, b2, a1, a2 in Q15, else b0, b1, b2, a1, a2
@@ -36,7 +38,14 @@ size_in format = 5
 
 -- the section of so many numbers
 abbrev pub section_of : ℕ → List ℤ → Section
-section_of size numbers = record { b0 = sample numbers 0; b1 = sample numbers (size - 4); b2 = sample numbers (size - 3); a1 = sample numbers (size - 2); a2 = sample numbers (size - 1) }
+section_of size numbers = record {
+  b0 = sample numbers 0;
+  b1 = sample numbers (size - 4);
+  b2 =
+      sample numbers (size - 3);
+  a1 = sample numbers (size - 2);
+  a2 = sample numbers (size - 1);
+}
 
 -- ---- a block
 
@@ -46,9 +55,11 @@ block_acts format block = record { gives = of_channel format block; keeps = kept
 
 -- a block of sections is the section of its first numbers, and then the block of the rest
 abbrev pub IsCascade : Fmt → (List ℤ → Block) → ℕ → (List ℤ → Behaviour) → Type 0
-IsCascade format block size section = (front rest : List ℤ) → length front ≡ size → block_acts format (block (front ++ rest)) ≡ then (section front) (block_acts format (block rest))
+IsCascade format block size section = (front rest : List ℤ) → length front ≡ size →
+    block_acts format (block (front ++ rest)) ≡ then (section front) (block_acts format (block rest))
 
-five-cascade : (P : List ℤ → Type 0) → ((a b c d e : ℤ) → P (a ∷ b ∷ c ∷ d ∷ e ∷ [])) → (front : List ℤ) → length front ≡ 5 → P front
+five-cascade : (P : List ℤ → Type 0) → ((a b c d e : ℤ) → P (a ∷ b ∷ c ∷ d ∷ e ∷ [])) → (front : List ℤ) →
+    length front ≡ 5 → P front
 five-cascade P five (a ∷ b ∷ c ∷ d ∷ e ∷ []) size = five a b c d e
 five-cascade P five [] size = absurd (omega (arith, size))
 five-cascade P five (a ∷ []) size = absurd (omega (arith, size))
@@ -57,17 +68,24 @@ five-cascade P five (a ∷ b ∷ c ∷ []) size = absurd (omega (arith, size))
 five-cascade P five (a ∷ b ∷ c ∷ d ∷ []) size = absurd (omega (arith, size))
 five-cascade P five (a ∷ b ∷ c ∷ d ∷ e ∷ f ∷ front) size = absurd (omega (arith, size))
 
-six-cascade : (P : List ℤ → Type 0) → ((a b c d e f : ℤ) → P (a ∷ b ∷ c ∷ d ∷ e ∷ f ∷ [])) → (front : List ℤ) → length front ≡ 6 → P front
-six-cascade P six (a ∷ front) size = five-cascade (λ l. P (a ∷ l)) (λ b c d e f. six a b c d e f) front (omega (arith, size))
+six-cascade : (P : List ℤ → Type 0) → ((a b c d e f : ℤ) → P (a ∷ b ∷ c ∷ d ∷ e ∷ f ∷ [])) → (front : List ℤ) →
+    length front ≡ 6 → P front
+six-cascade P six (a ∷ front) size = five-cascade (λ l. P (a ∷ l)) (λ b c d e f. six a b c d e f) front
+    (omega (arith, size))
 six-cascade P six [] size = absurd (omega (arith, size))
 
-pub is-cascade : (format : Fmt) (p : ℕ) → IsCascade format (Biquad p) (size_in format) (λ numbers. section_acts format p (section_of (size_in format) numbers))
-is-cascade Q7 p front rest size = five-cascade (λ l. block_acts Q7 (Biquad p (l ++ rest)) ≡ then (section_acts Q7 p (section_of 5 l)) (block_acts Q7 (Biquad p rest))) (λ a b c d e. refl) front size
-is-cascade Q15 p front rest size = six-cascade (λ l. block_acts Q15 (Biquad p (l ++ rest)) ≡ then (section_acts Q15 p (section_of 6 l)) (block_acts Q15 (Biquad p rest))) (λ a b c d e f. refl) front size
-is-cascade Q31 p front rest size = five-cascade (λ l. block_acts Q31 (Biquad p (l ++ rest)) ≡ then (section_acts Q31 p (section_of 5 l)) (block_acts Q31 (Biquad p rest))) (λ a b c d e. refl) front size
+pub is-cascade : (format : Fmt) (p : ℕ) → IsCascade format (Biquad p) (size_in format)
+    (λ numbers. section_acts format p (section_of (size_in format) numbers))
+is-cascade Q7 p front rest size = five-cascade (λ l. block_acts Q7 (Biquad p (l ++ rest)) ≡ then
+    (section_acts Q7 p (section_of 5 l)) (block_acts Q7 (Biquad p rest))) (λ a b c d e. refl) front size
+is-cascade Q15 p front rest size = six-cascade (λ l. block_acts Q15 (Biquad p (l ++ rest)) ≡ then
+    (section_acts Q15 p (section_of 6 l)) (block_acts Q15 (Biquad p rest))) (λ a b c d e f. refl) front size
+is-cascade Q31 p front rest size = five-cascade (λ l. block_acts Q31 (Biquad p (l ++ rest)) ≡ then
+    (section_acts Q31 p (section_of 5 l)) (block_acts Q31 (Biquad p rest))) (λ a b c d e. refl) front size
 
 pub is-cascade64 : (p : ℕ) → IsCascade Q31 (Biquad64 p) 5 (λ numbers. wide_acts p (section_of 5 numbers))
-is-cascade64 p front rest size = five-cascade (λ l. block_acts Q31 (Biquad64 p (l ++ rest)) ≡ then (wide_acts p (section_of 5 l)) (block_acts Q31 (Biquad64 p rest))) (λ a b c d e. refl) front size
+is-cascade64 p front rest size = five-cascade (λ l. block_acts Q31 (Biquad64 p (l ++ rest)) ≡ then
+    (wide_acts p (section_of 5 l)) (block_acts Q31 (Biquad64 p rest))) (λ a b c d e. refl) front size
 
 -- ---- the parameters of a block
 

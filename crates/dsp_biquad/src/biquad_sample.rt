@@ -2,13 +2,13 @@ ghost use Rattle.std.specs.Prelude.{◌≡◌, ℕ, refl};
 ghost use Rattle.dsp_defs.specs.Biquad.{section_close};
 ghost use Rattle.dsp_defs.specs.Counts.{Rises};
 ghost use Rattle.dsp_defs.specs.Parameters.{greatest_biquad_shift};
-ghost use Rattle.dsp_lanes.specs.SectionWaves.{AreSections, LanesTurn};
+ghost use Rattle.dsp_sections.specs.SectionWaves.{AreSections, LanesTurn};
 ghost use Rattle.dsp_biquad.specs.Sections.{size_in};
 
 use crate::closing::fraction31;
 use dsp_defs::Steps;
-use dsp_lanes::{WaveLanes, turn_sections};
 use dsp_sat::{Sample, WideSample, sat16};
+use dsp_sections::{WaveLanes, turn_sections};
 use std::sync::ledger::Ledger;
 
 /// The samples of a cascade.

@@ -1,8 +1,8 @@
 use crate::making::{check_coefficients, check_shift};
 use crate::{Cascade, CascadeSection, Section, Section64};
 use dsp_defs::{MakeFault, Steps};
+use dsp_filter::{StepFilter, all_fit, check_block};
 use dsp_sat::Sample;
-use dsp_unit::{StepFilter, all_fit, check_block};
 use std::alloc::Global;
 use std::sync::ledger::Ledger;
 
@@ -22,9 +22,10 @@ pub type Biquad31 = Biquads<i32, Section<i32>>;
 pub type Biquad64 = Biquads<i32, Section64>;
 
 impl<T: Sample, S: CascadeSection<T>> Biquads<T, S> {
-    ghost use Rattle.std.specs.Prelude.{◌≡◌, ◌≤◌, ◌+◌, ◌*◌, ◌↔◌, true, IfOk, IfErr, IsFalse, IsTrue, MatchOption, length, map, take, drop};
+    ghost use Rattle.std.specs.Prelude.{◌≡◌, ◌≤◌, ◌+◌, ◌*◌, ◌↔◌, true, IfOk, IfErr, IsFalse, IsTrue};
+    ghost use Rattle.std.specs.Prelude.{MatchOption, length, map, take, drop};
     ghost use Rattle.dsp_defs.specs.Cost.{section_count};
-    ghost use Rattle.dsp_stage.specs.Filter.{FilterFeeds, FilterRestores, IsNewFilter};
+    ghost use Rattle.dsp_unit.specs.Filter.{FilterFeeds, FilterRestores, IsNewFilter};
     ghost use Rattle.dsp_defs.specs.Kept.{kinds_by, Each, IsOfKind};
     ghost use Rattle.dsp_biquad.specs.Making.{cascade_fault};
     ghost use Rattle.dsp_biquad.specs.Sections.{coefficients_of};

@@ -1,14 +1,15 @@
 ghost use Rattle.std.specs.Prelude.{◌≡◌, ◌≤◌, ◌*◌, ◌/◌, ◌↔◌, ℕ, ℤ, List, [], length, map, flat_map, IsTrue};
 ghost use Rattle.std.specs.List.{range_with_len};
 ghost use Rattle.dsp_defs.specs.Cost.{section_count};
-ghost use Rattle.dsp_stage.specs.Filter.{IsStepwise};
+ghost use Rattle.dsp_unit.specs.Filter.{IsStepwise};
 ghost use Rattle.dsp_defs.specs.Kept.{Kind, kinds_by, Each, IsOfKind};
 ghost use Rattle.dsp_defs.specs.Streaming.{Behaviour, chained};
 ghost use Rattle.dsp_defs.specs.declared.script.Block.{Block};
-ghost use Rattle.dsp_biquad.specs.Sections.{AreParameters, IsCascade, block_acts, coefficients_of, post_shift_of};
+ghost use Rattle.dsp_biquad.specs.Sections.{AreParameters, IsCascade, block_acts, coefficients_of};
+ghost use Rattle.dsp_biquad.specs.Sections.{post_shift_of};
 
+use dsp_filter::WaveMachine;
 use dsp_sat::Sample;
-use dsp_unit::WaveMachine;
 
 /// A section of a cascade, from its numbers in a list, with four numbers that it keeps.
 pub trait CascadeSection<T: Sample>: WaveMachine<T> {

@@ -1,8 +1,8 @@
 //! Four sections side by side, in lanes.
 use crate::BiquadSample;
 use dsp_defs::Steps;
-use dsp_lanes::WaveLanes;
-use dsp_unit::Turning;
+use dsp_filter::Turning;
+use dsp_sections::WaveLanes;
 use std::marker::PhantomData;
 use std::sync::ledger::Ledger;
 
@@ -14,7 +14,7 @@ pub struct FourSections<T> {
 }
 
 impl<T: BiquadSample> Turning<T> for FourSections<T> {
-    ghost use Rattle.dsp_lanes.specs.SectionWaves.{AreSections};
+    ghost use Rattle.dsp_sections.specs.SectionWaves.{AreSections};
     ghost use Rattle.dsp_biquad.specs.Waves.{wave_in};
 
     ghost wave = { λ f. wave_in T.format f.lanes };

@@ -3,7 +3,7 @@ ghost use Rattle.std.specs.Prelude.{◌≡◌, ◌≤◌, ◌<◌, ◌∷◌, []
 ghost use Rattle.std.specs.Int.{w64};
 ghost use Rattle.std.specs.Simd.Lanes.{Each1};
 ghost use Rattle.dsp_defs.specs.Numbers.{floor_shift};
-ghost use Rattle.dsp_lanes.specs.SectionWaves.{low};
+ghost use Rattle.dsp_sections.specs.SectionWaves.{low};
 
 use dsp_sat::low_word;
 use std::simd::prelude::*;

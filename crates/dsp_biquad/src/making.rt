@@ -2,7 +2,7 @@ ghost use Rattle.std.specs.Prelude.{◌≡◌, ◌≤◌, Err, Ok, MatchOption};
 ghost use Rattle.dsp_biquad.specs.Making.{coefficients_fault, shift_fault};
 
 use dsp_defs::{MAX_SECTIONS, MakeFault};
-use dsp_unit::check_multiple;
+use dsp_filter::check_multiple;
 
 /// Refuses a count of numbers that is not that of 1..64 sections of `size`.
 pub fn check_coefficients(count: usize, size: usize) -> Result<(), MakeFault>

@@ -1,15 +1,15 @@
 ghost use Rattle.std.specs.Prelude.{◌≡◌, ◌≤◌, ◌<◌, ◌^◌, ◌*ℤ◌, pos, FitsSigned};
 ghost use Rattle.dsp_defs.specs.Formats.{word};
 ghost use Rattle.dsp_defs.specs.Parameters.{greatest_biquad_shift};
-ghost use Rattle.dsp_lanes.specs.SectionWaves.{AreSections, low};
+ghost use Rattle.dsp_sections.specs.SectionWaves.{AreSections, low};
 ghost use Rattle.dsp_biquad.specs.Scaled.{IsScaled};
 
 use crate::closing::wrapped_five;
 use crate::lane_numbers::{in_lanes, number_in, plain_in_lanes};
 use crate::{BiquadSample, CascadeSection, FourSections};
 use dsp_defs::Steps;
-use dsp_lanes::{WaveLanes, wrapped_product};
-use dsp_unit::{InFlight, Machine, WaveMachine, are_samples, write_four};
+use dsp_filter::{InFlight, Machine, WaveMachine, are_samples, write_four};
+use dsp_sections::{WaveLanes, wrapped_product};
 use std::alloc::AllocError;
 use std::marker::PhantomData;
 use std::sync::ledger::Ledger;
@@ -187,7 +187,9 @@ impl<T: BiquadSample> CascadeSection<T> for Section<T> {
     ghost use Rattle.dsp_defs.specs.Kept.{in_words};
     ghost use Rattle.dsp_defs.specs.declared.script.Block.TheVariants.{Biquad};
     ghost use Rattle.dsp_biquad.specs.Sections.{IsBiquadIn, section_acts, section_of};
-    ghost use Rattle.dsp_biquad.specs.Blocks.{some-size, few-size, of-numbers, empty-at, cascade-at, count-at, parameters-at, words-of_sections, is-biquad, biquad-stepwise};
+    ghost use Rattle.dsp_biquad.specs.Blocks.{some-size, few-size, of-numbers, empty-at, cascade-at};
+    ghost use Rattle.dsp_biquad.specs.Blocks.{count-at, parameters-at, words-of_sections, is-biquad};
+    ghost use Rattle.dsp_biquad.specs.Blocks.{biquad-stepwise};
     ghost use Rattle.dsp_defs.specs.Cost.{section_count};
 
     ghost SIZE = { T.SIZE };

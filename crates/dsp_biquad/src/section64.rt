@@ -3,8 +3,8 @@ ghost use Rattle.std.specs.Prelude.{◌≤◌};
 use crate::CascadeSection;
 use crate::closing::{fed_back, fraction31, wrapped_five};
 use dsp_defs::Steps;
+use dsp_filter::{InFlight, Machine, WaveMachine, are_samples, write_four};
 use dsp_sat::{mult32x64, product};
-use dsp_unit::{InFlight, Machine, WaveMachine, are_samples, write_four};
 use std::sync::ledger::Ledger;
 
 /// A section in Q31 with its feedback in 64 bits: its coefficients, its last two samples and the last
@@ -78,7 +78,8 @@ impl CascadeSection<i32> for Section64 {
     ghost use Rattle.std.specs.Prelude.{refl};
     ghost use Rattle.dsp_defs.specs.declared.script.Block.TheVariants.{Biquad64};
     ghost use Rattle.dsp_biquad.specs.Sections.{IsBiquad64, wide_acts, section_of, is-cascade64};
-    ghost use Rattle.dsp_biquad.specs.Blocks.{wide_kinds, one-le-five, five-le-six, parameters64, is-biquad64, biquad64-stepwise};
+    ghost use Rattle.dsp_biquad.specs.Blocks.{wide_kinds, one-le-five, five-le-six, parameters64};
+    ghost use Rattle.dsp_biquad.specs.Blocks.{is-biquad64, biquad64-stepwise};
 
     ghost SIZE = { 5 };
 

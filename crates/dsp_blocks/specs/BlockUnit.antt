@@ -1,5 +1,5 @@
 -- What a contract sees of the unit of any block.
-use Rattle.dsp_stage.specs.Unit.{UnitState}
+use Rattle.dsp_unit.specs.Unit.{UnitState}
 use Rattle.dsp_blocks.specs.declared.block_unit.BlockUnit.{BlockUnit}
 use Rattle.dsp_blocks.specs.declared.block_unit.BlockUnit.TheVariants as unit
 

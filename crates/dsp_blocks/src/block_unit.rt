@@ -6,12 +6,12 @@ use dsp_biquad::{Cascade, Section, Section64};
 use dsp_complex::ComplexUnit;
 use dsp_conv::{Convolution, Correlate};
 use dsp_defs::{Measure, Steps};
+use dsp_filter::{EachChannel, StepFilter};
 use dsp_fir::WindowFilter;
 use dsp_lattice::{FirLatticeWork, IirLatticeWork};
 use dsp_matrix::{Grouped, GroupedMult};
 use dsp_rate::{Decimate, Interpolate};
-use dsp_stage::Stage;
-use dsp_unit::{EachChannel, StepFilter};
+use dsp_unit::Unit;
 use dsp_vector::VectorUnit;
 use std::sync::ledger::Ledger;
 
@@ -58,7 +58,7 @@ pub enum BlockUnit {
     Matrix15(EachChannel<i16, Grouped<i16>>),
     Matrix31(EachChannel<i32, Grouped<i32>>),
     MatMult15(EachChannel<i16, GroupedMult>),
-    Measure(dsp_measure::Unit),
+    Measure(dsp_measure::MeasureUnit),
 }
 
 /// Evaluates the same expression for whichever unit is there.
@@ -100,7 +100,7 @@ macro_rules! for_unit {
     };
 }
 
-impl Stage for BlockUnit {
+impl Unit for BlockUnit {
     ghost unit = { state_of };
 
     fn feed<L: Ledger>(&mut self, frames: &[i32], out: &mut [i32], steps: &mut Steps<L>) -> usize {

@@ -1,5 +1,5 @@
 ghost use Rattle.std.specs.Prelude.{◌≤◌, ◌≢◌, ◌*◌, IfOk, true};
-ghost use Rattle.dsp_stage.specs.Unit.{IsMade, IsNew, most_frames, most_room};
+ghost use Rattle.dsp_unit.specs.Unit.{IsMade, IsNew, most_frames, most_room};
 ghost use Rattle.dsp_defs.specs.Grammar.{Suits};
 ghost use Rattle.dsp_defs.specs.declared.format.Fmt.TheVariants.{Q7, Q15, Q31};
 ghost use Rattle.dsp_fir.specs.ByChannel.{IsWindowIn};
@@ -16,7 +16,7 @@ use crate::BlockUnit;
 use dsp_adapt::LmsUnit;
 use dsp_bank::BankUnit;
 use dsp_defs::{Block, Fmt, MAX_SAMPLES};
-use dsp_unit::EachChannel;
+use dsp_filter::EachChannel;
 use std::alloc::{AllocError, Global};
 
 /// A FIR or sparse filter for each channel.

@@ -1,12 +1,12 @@
 ghost use Rattle.std.specs.Prelude.{◌≤◌, ◌*◌, IfOk};
 ghost use Rattle.dsp_defs.specs.Grammar.{Suits};
-ghost use Rattle.dsp_stage.specs.Unit.{IsNew};
+ghost use Rattle.dsp_unit.specs.Unit.{IsNew};
 ghost use Rattle.dsp_blocks.specs.BlockUnit.{state_of};
 
 use crate::{BlockUnit, makers};
 use dsp_complex::ComplexUnit;
 use dsp_defs::{Block, Fmt, MAX_SAMPLES};
-use dsp_stage::AnyUnit;
+use dsp_unit::AnyUnit;
 use dsp_vector::VectorUnit;
 use std::alloc::{AllocError, Global};
 
@@ -62,7 +62,9 @@ fn plain(
         | Block::MatTrans { .. } => makers::matrix(alloc, block, format, channels, frames),
         Block::MatMult { .. } => makers::product(alloc, block, channels, frames),
         Block::Power | Block::Dot | Block::CmplxDot | Block::Max | Block::Min => {
-            Ok(BlockUnit::Measure(dsp_measure::Unit::new(alloc, block, format, channels, frames)?))
+            Ok(BlockUnit::Measure(dsp_measure::MeasureUnit::new(
+                alloc, block, format, channels, frames,
+            )?))
         }
     }
 }

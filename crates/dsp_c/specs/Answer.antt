@@ -40,10 +40,30 @@ kind_parts kind.NameTaken = (12, pos 0, pos 0)
 
 -- an answer of two numbers, and one with what a script's fault has
 abbrev pub numbers : ℕ → ℕ → Answer
-numbers first second = record { given = 0; kept = 0; first = first; second = second; low = pos 0; high = pos 0; kind = 0; unused = 0 }
+numbers first second = record {
+  given = 0;
+  kept = 0;
+  first = first;
+  second = second;
+  low = pos 0;
+  high = pos 0;
+  kind =
+      0;
+  unused = 0;
+}
 
 abbrev pub fault_parts : ℕ → ℕ × ℤ × ℤ → Answer
-fault_parts offset parts = record { given = 0; kept = 0; first = offset; second = 0; low = parts.1; high = parts.2; kind = parts.0; unused = 0 }
+fault_parts offset parts = record {
+  given = 0;
+  kept = 0;
+  first = offset;
+  second = 0;
+  low = parts.1;
+  high =
+      parts.2;
+  kind = parts.0;
+  unused = 0;
+}
 
 -- a text that gives no session
 abbrev pub unopened_status : OpenFault → ℕ

@@ -6,12 +6,29 @@ use Rattle.dsp_c.specs.Answer.{field}
 use Rattle.dsp_c.specs.declared.measures.MeasureRow.{MeasureRow}
 
 abbrev pub sum_row : ℕ → ℕ → ℕ → ℤ → ℤ → MeasureRow
-sum_row kind number channel value other = record { kind = kind; number = number; channel = channel; found = 1; value = value; other = other }
+sum_row kind number channel value other = record {
+  kind = kind;
+  number = number;
+  channel = channel;
+  found = 1;
+  value =
+      value;
+  other = other;
+}
 
 -- the extreme and its index, where there was a sample
 abbrev pub extreme_row : ℕ → ℕ → ℕ → Option (ℤ × ℕ) → MeasureRow
-extreme_row kind number channel (Some found) = record { kind = kind; number = number; channel = channel; found = 1; value = found.0; other = field found.1 }
-extreme_row kind number channel None = record { kind = kind; number = number; channel = channel; found = 0; value = pos 0; other = pos 0 }
+extreme_row kind number channel (Some found) = record
+    { kind = kind; number = number; channel = channel; found = 1; value = found.0; other = field found.1 }
+extreme_row kind number channel None = record {
+  kind = kind;
+  number = number;
+  channel = channel;
+  found = 0;
+  value =
+      pos 0;
+  other = pos 0;
+}
 
 abbrev pub row_of : Measure → MeasureRow
 row_of (Power number channel value) = sum_row 1 number channel value (pos 0)

@@ -6,7 +6,7 @@ use Rattle.dsp_defs.specs.Shape.{frames_given, is_legal, unit}
 use Rattle.dsp_defs.specs.declared.limits.TheConstants.{MAX_INPUT}
 use Rattle.dsp_defs.specs.declared.script.Script.{Script}
 use Rattle.dsp_defs.specs.KeptOfScript.{kept_count}
-use Rattle.dsp_chain.specs.Row.{measure_counts}
+use Rattle.dsp_chain.specs.Line.{measure_counts}
 use Rattle.dsp_session.specs.Session.{cost_of, frame_bytes, given_bytes, input_coding}
 use Rattle.dsp_host.specs.Opening.{FailsToOpen, asked}
 use Rattle.dsp_host.specs.Pieces.{piece_room}

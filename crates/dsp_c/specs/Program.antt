@@ -25,8 +25,10 @@ empty = record { put = Some []; settled = Some false; faults = 0 }
 abbrev pub Holds : List ℕ → List ℕ → List ℕ → Type 0
 Holds bytes old new = new ≡ take (length old) bytes ++ drop (length bytes) old
 
--- the top call of these words ended so over the script's bytes, the input's and the other file's; and what it wrote stands in the buffers
-pub record Played (words script input other output output_new report report_new : List ℕ) (status : ℕ) (lengths : Lengths) : Type 0 where
+-- the top call of these words ended so over the script's bytes, the input's and the other file's; and what it wrote
+-- stands in the buffers
+pub record Played (words script input other output output_new report report_new : List ℕ) (status : ℕ)
+    (lengths : Lengths) : Type 0 where
   pub asked : List (List ℕ)
   pub words_are : AreWords words asked
   pub read : SourceState
@@ -35,7 +37,8 @@ pub record Played (words script input other output output_new report report_new 
   pub seen : SourceState
   pub told : SinkState
   pub counts : Counts
-  pub ended : Ended (call asked (source script) read (source input) later empty after (source other) seen (record { multiplies = 0; turns = 0 }) counts) status empty told
+  pub ended : Ended (call asked (source script) read (source input) later empty after (source other) seen
+      (record { multiplies = 0; turns = 0 }) counts) status empty told
   pub written : List ℕ
   pub written_is : after.put ≡ Some written
   pub held : Holds written output output_new

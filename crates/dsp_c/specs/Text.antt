@@ -1,5 +1,6 @@
 -- What a status and its numbers say, as a line of text.
-use Rattle.std.specs.Prelude.{◌≡◌, ℕ, ◌-◌, ◌<◌, ◌≤◌, ◌^◌, ◌==◌, cond, min, ℤ, pos, negsuc, List, ◌++◌, codes, length, take, drop}
+use Rattle.std.specs.Prelude.{◌≡◌, ℕ, ◌-◌, ◌<◌, ◌≤◌, ◌^◌, ◌==◌, cond, min, ℤ, pos, negsuc, List, ◌++◌, codes, length}
+use Rattle.std.specs.Prelude.{take, drop}
 use Rattle.std.specs.Fmt.{decimal}
 use Rattle.dsp_command.specs.Report.{block_length_line, gather_line, memory_line, script_line, window_line}
 use Rattle.dsp_defs.specs.declared.format.Fmt.{Fmt}
@@ -74,7 +75,8 @@ text_of status answer =
 
 -- a text at the front of a buffer, which is as it was where there is too little room
 abbrev pub Writes : List ℕ → List ℕ → List ℕ → Type 0
-Writes text old new = (length old < length text → new ≡ old) × ((length old < length text → ⊥) → new ≡ text ++ drop (length text) old)
+Writes text old new = (length old < length text → new ≡ old) ×
+    ((length old < length text → ⊥) → new ≡ text ++ drop (length text) old)
 
 -- the fields of a kind are within their types
 abbrev pub IsNarrow : ScriptKind → Type 0

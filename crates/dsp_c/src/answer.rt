@@ -1,5 +1,6 @@
 ghost use Rattle.std.specs.Prelude.{◌≡◌, ◌≢◌, ◌^◌, ◌-◌, pos, min};
-ghost use Rattle.dsp_c.specs.Answer.{answer_of, format_number, kind_parts, status_of, unopened_answer, unopened_status};
+ghost use Rattle.dsp_c.specs.Answer.{answer_of, format_number, kind_parts, status_of, unopened_answer};
+ghost use Rattle.dsp_c.specs.Answer.{unopened_status};
 
 use dsp_defs::{Fmt, ScriptFault, ScriptKind};
 use dsp_host::{OpenFault, Refusal};

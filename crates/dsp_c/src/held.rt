@@ -1,6 +1,7 @@
 //! A signal that C holds from call to call.
 
-ghost use Rattle.std.specs.Prelude.{◌≡◌, ◌≤◌, ◌++◌, length, take, drop, IfOk, IfErr, IfSome, IfNone, Some, None, is_some};
+ghost use Rattle.std.specs.Prelude.{◌≡◌, ◌≤◌, ◌++◌, length, take, drop, IfOk, IfErr, IfSome, IfNone, Some};
+ghost use Rattle.std.specs.Prelude.{None, is_some};
 ghost use Rattle.dsp_host.specs.Ongoing.{FailsToPush, Pushed};
 
 use crate::hidden::Hidden;

@@ -1,11 +1,11 @@
 ghost use Rattle.std.specs.Prelude.{◌≡◌, ◌^◌, ◌-◌, ◌++◌, length, map, min, take, drop};
-ghost use Rattle.dsp_chain.specs.Row.{measure_counts};
+ghost use Rattle.dsp_chain.specs.Line.{measure_counts};
 ghost use Rattle.dsp_session.specs.Session.{measured};
 ghost use Rattle.dsp_c.specs.Measures.{extreme_row, row_of};
 
 use dsp_defs::Measure;
 use dsp_session::Session;
-use dsp_stage::AnyUnit;
+use dsp_unit::AnyUnit;
 
 /// A measure, as C sees it.
 #[repr(C)]

@@ -5,7 +5,7 @@ ghost use Rattle.dsp_c.specs.Pieces.{EndsWith, FailsToEnd};
 use crate::measures::{MeasureRow, write_measures};
 use dsp_defs::Steps;
 use dsp_host::{Piece, Refusal, feed_piece, finish, reopen};
-use dsp_stage::AnyUnit;
+use dsp_unit::AnyUnit;
 use std::alloc::Global;
 use std::sync::ledger::{Blank, Ledger};
 

@@ -7,7 +7,7 @@ use dsp_defs::MAX_INPUT;
 use dsp_host::{Refusal, open};
 use dsp_script::{cost, frames_given, output_flow, unit};
 use dsp_session::Session;
-use dsp_stage::AnyUnit;
+use dsp_unit::AnyUnit;
 use std::alloc::Global;
 
 /// What a script is, and what a run of it does.

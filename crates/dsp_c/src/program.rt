@@ -5,7 +5,7 @@ use crate::lent::LentSource;
 use dsp_cli::{Words, run};
 use dsp_defs::Steps;
 use dsp_ports::MemSink;
-use dsp_stage::AnyUnit;
+use dsp_unit::AnyUnit;
 use std::alloc::{AllocError, Global};
 use std::sync::ledger::{Blank, Ledger};
 

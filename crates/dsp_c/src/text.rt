@@ -1,6 +1,7 @@
 ghost use Rattle.std.specs.Prelude.{◌≡◌, ◌≤◌, length};
 ghost use Rattle.dsp_cli.specs.Fault.{fault_line};
-ghost use Rattle.dsp_c.specs.Text.{NamesTheFault, Writes, bare, channels_of, count_of, counted, fault_of, format_of, kind_of, text_of};
+ghost use Rattle.dsp_c.specs.Text.{NamesTheFault, Writes, bare, channels_of, count_of, counted, fault_of};
+ghost use Rattle.dsp_c.specs.Text.{format_of, kind_of, text_of};
 
 use crate::answer::{
     Answer, BLOCK, EMPTY, FRAMES, FULL, GATHER, INPUT, KEPT_ROOM, LENGTH, MEMORY, OK, ROOM, SCRIPT,

@@ -1,17 +1,20 @@
 -- The rules of a chain's blocks count the frames that the blocks count.
-use Rattle.std.proofs.Common.{◌≡◌, ◌∙◌, ap, refl, sym, subst, ℕ, ◌*◌, ◌/◌, ◌^◌, ◌<◌, ◌≤◌, Bool, true, false, cond, List, [], ◌∷◌, Option, Some, None, IfSome, arith}
+use Rattle.std.proofs.Common.{◌≡◌, ◌∙◌, ap, refl, sym, subst, ℕ, ◌*◌, ◌/◌, ◌^◌, ◌<◌, ◌≤◌, Bool, true, false, cond}
+use Rattle.std.proofs.Common.{List, [], ◌∷◌, Option, Some, None, IfSome, arith}
 use Rattle.dsp_defs.specs.Grammar.{Suits, IsChain}
 use Rattle.dsp_defs.specs.Table.{flow_after}
-use Rattle.dsp_defs.specs.Shape.{group_of, groups_after, correlation_length, frames_behind, whole_frames, live_frames, gathered, held, window_end, window_at}
-use Rattle.dsp_stage.specs.Row.{AllFew}
+use Rattle.dsp_defs.specs.Shape.{group_of, groups_after, correlation_length, frames_behind, whole_frames, live_frames}
+use Rattle.dsp_defs.specs.Shape.{gathered, held, window_end, window_at}
+use Rattle.dsp_unit.specs.Line.{AllFew}
 use Rattle.dsp_defs.specs.declared.flow.Flow.{Flow}
 use Rattle.dsp_defs.specs.declared.script.Block.{Block}
 use Rattle.dsp_defs.specs.declared.script.Block.TheVariants.{Interpolate, Conv, ConvPartial, Correlate}
-use Rattle.dsp_stage.proofs.ChainPlaces.{takes_some, takes_and_gives}
-use Rattle.dsp_stage.proofs.CostLaws.{quotient_more, full_more}
+use Rattle.dsp_unit.proofs.ChainPlaces.{takes_some, takes_and_gives}
+use Rattle.dsp_unit.proofs.CostLaws.{quotient_more, full_more}
 use Rattle.std.proofs.Math.Nat.{mul-le-mul_right}
 use Rattle.std.proofs.lemmas.Grind.{common_steps}
-use Rattle.dsp_chain.specs.FrameRule.{group_rule, rule_of, rules_of, whole_by, live_by, gathers, frames_by, frames_gathered, window_of, window_by, IsRule, AreFew}
+use Rattle.dsp_chain.specs.FrameRule.{group_rule, rule_of, rules_of, whole_by, live_by, gathers, frames_by}
+use Rattle.dsp_chain.specs.FrameRule.{frames_gathered, window_of, window_by, IsRule, AreFew}
 use Rattle.dsp_chain.specs.declared.frame_rule.FrameRule.{FrameRule}
 use Rattle.dsp_chain.specs.declared.frame_rule.FrameRule.TheVariants as rule
 
@@ -46,31 +49,47 @@ group-is (Some g) h = h
 pub is-rule : (flow : Flow) (b : Block) → Suits flow b → IsRule (rule_of b)
 is-rule flow (Interpolate factor taps) s = omega arith
 is-rule flow (Conv taps) s = s.parameters.0.limit
-is-rule flow (ConvPartial first count taps) s = (omega (arith, s.parameters.1), omega (arith, s.parameters.2.1), s.parameters.2.2.0.limit)
+is-rule flow (ConvPartial first count taps) s = (
+  omega (arith, s.parameters.1),
+  omega (arith, s.parameters.2.1),
+  s.parameters.2.2.0.limit,
+)
 is-rule flow (Correlate taps) s = s.parameters.0.limit
 is-rule flow b s = group-is (group_of b) (takes_some (group_of b) (takes_and_gives flow b s))
 
 -- ---- a chain
 
-pub rules-few : (flow : Flow) (blocks : List Block) (n : ℕ) → IsChain flow blocks → AllFew blocks n → AreFew (rules_of blocks) n
+pub rules-few : (flow : Flow) (blocks : List Block) (n : ℕ) → IsChain flow blocks → AllFew blocks n →
+    AreFew (rules_of blocks) n
 rules-few flow [] n chain few = few
-rules-few flow (b ∷ blocks) n chain few = (few.0, is-rule flow b chain.0, subst (AreFew (rules_of blocks)) (sym (whole-rule b n)) (rules-few (flow_after b flow) blocks (whole_frames b n) chain.1 few.1))
+rules-few flow (b ∷ blocks) n chain few = (
+  few.0,
+  is-rule flow b chain.0,
+  subst (AreFew (rules_of blocks)) (sym (whole-rule b n))
+      (rules-few (flow_after b flow) blocks (whole_frames b n) chain.1 few.1),
+)
 
 pub rules-gathered : (blocks : List Block) (n : ℕ) → frames_gathered whole_by (rules_of blocks) n ≡ gathered blocks n
 rules-gathered [] n = refl
 rules-gathered (Correlate taps ∷ blocks) n = refl
-rules-gathered (Interpolate factor taps ∷ blocks) n = ap (frames_gathered whole_by (rules_of blocks)) (whole-rule (Interpolate factor taps) n) ∙ rules-gathered blocks (whole_frames (Interpolate factor taps) n)
+rules-gathered (Interpolate factor taps ∷ blocks) n =
+    ap (frames_gathered whole_by (rules_of blocks)) (whole-rule (Interpolate factor taps) n) ∙
+    rules-gathered blocks (whole_frames (Interpolate factor taps) n)
 rules-gathered (Conv taps ∷ blocks) n = rules-gathered blocks (whole_frames (Conv taps) n)
-rules-gathered (ConvPartial first count taps ∷ blocks) n = rules-gathered blocks (whole_frames (ConvPartial first count taps) n)
-rules-gathered (b ∷ blocks) n = ap (frames_gathered whole_by (rules_of blocks)) (whole-rule b n) ∙ rules-gathered blocks (whole_frames b n)
+rules-gathered (ConvPartial first count taps ∷ blocks) n =
+    rules-gathered blocks (whole_frames (ConvPartial first count taps) n)
+rules-gathered (b ∷ blocks) n = ap (frames_gathered whole_by (rules_of blocks)) (whole-rule b n) ∙
+    rules-gathered blocks (whole_frames b n)
 
 pub rules-held : (blocks : List Block) (n : ℕ) → frames_gathered live_by (rules_of blocks) n ≡ held blocks n
 rules-held [] n = refl
 rules-held (Correlate taps ∷ blocks) n = refl
-rules-held (Interpolate factor taps ∷ blocks) n = ap (frames_gathered live_by (rules_of blocks)) (live-rule (Interpolate factor taps) n) ∙ rules-held blocks (live_frames (Interpolate factor taps) n)
+rules-held (Interpolate factor taps ∷ blocks) n = ap (frames_gathered live_by (rules_of blocks))
+    (live-rule (Interpolate factor taps) n) ∙ rules-held blocks (live_frames (Interpolate factor taps) n)
 rules-held (Conv taps ∷ blocks) n = rules-held blocks (live_frames (Conv taps) n)
 rules-held (ConvPartial first count taps ∷ blocks) n = rules-held blocks (live_frames (ConvPartial first count taps) n)
-rules-held (b ∷ blocks) n = ap (frames_gathered live_by (rules_of blocks)) (live-rule b n) ∙ rules-held blocks (live_frames b n)
+rules-held (b ∷ blocks) n = ap (frames_gathered live_by (rules_of blocks)) (live-rule b n) ∙
+    rules-held blocks (live_frames b n)
 
 group-window : (group : Option (ℕ × ℕ)) (n : ℕ) → window_of (group_rule group) n ≡ None
 group-window None n = refl
@@ -112,30 +131,43 @@ live-fewer (rule.Correlate taps) n = omega arith
 
 pub fewer : (rules : List FrameRule) (n m : ℕ) → n ≤ m → AreFew rules m → AreFew rules n
 fewer [] n m h few = omega (arith, h, few)
-fewer (r ∷ rules) n m h few = (omega (arith, h, few.0), few.1, fewer rules (whole_by r n) (whole_by r m) (whole-fewer r n m h) few.2)
+fewer (r ∷ rules) n m h few = (
+  omega (arith, h, few.0),
+  few.1,
+  fewer rules (whole_by r n) (whole_by r m) (whole-fewer r n m h) few.2,
+)
 
 pub few-live : (r : FrameRule) (rules : List FrameRule) (n : ℕ) → AreFew (r ∷ rules) n → AreFew rules (live_by r n)
 few-live r rules n few = fewer rules (live_by r n) (whole_by r n) (live-fewer r n) few.2
 
-held-within : (gathered_here : Bool) (n m held all : ℕ) → n ≤ m → held ≤ all → cond gathered_here n held ≤ cond gathered_here m all
+held-within : (gathered_here : Bool) (n m held all : ℕ) → n ≤ m → held ≤ all →
+    cond gathered_here n held ≤ cond gathered_here m all
 held-within true n m held all h k = h
 held-within false n m held all h k = k
 
-pub held-fewer : (rules : List FrameRule) (n m : ℕ) → n ≤ m → frames_gathered live_by rules n ≤ frames_gathered whole_by rules m
+pub held-fewer : (rules : List FrameRule) (n m : ℕ) → n ≤ m →
+    frames_gathered live_by rules n ≤ frames_gathered whole_by rules m
 held-fewer [] n m h = omega arith
-held-fewer (r ∷ rules) n m h = held-within (gathers r) n m _ _ h (held-fewer rules (live_by r n) (whole_by r m) (let live = live-fewer r n in let more = whole-fewer r n m h in omega (arith, live, more)))
+held-fewer (r ∷ rules) n m h = held-within (gathers r) n m _ _ h
+    (held-fewer rules (live_by r n) (whole_by r m) (let live = live-fewer r n in let more = whole-fewer r n m h in
+    omega (arith, live, more)))
 
 -- a tail has no fewer frames than none
 pub live-within : (rules : List FrameRule) (n m : ℕ) → n ≤ m → frames_by live_by rules n ≤ frames_by whole_by rules m
 live-within [] n m h = h
-live-within (r ∷ rules) n m h = live-within rules (live_by r n) (whole_by r m) (let live = live-fewer r n in let more = whole-fewer r n m h in omega (arith, live, more))
+live-within (r ∷ rules) n m h = live-within rules (live_by r n) (whole_by r m)
+    (let live = live-fewer r n in let more = whole-fewer r n m h in omega (arith, live, more))
 
 -- ---- the frames behind a chain
 
-pub rules-whole : (blocks : List Block) (n : ℕ) → frames_by whole_by (rules_of blocks) n ≡ frames_behind whole_frames blocks n
+pub rules-whole : (blocks : List Block) (n : ℕ) → frames_by whole_by (rules_of blocks) n ≡ frames_behind whole_frames
+    blocks n
 rules-whole [] n = refl
-rules-whole (b ∷ blocks) n = ap (frames_by whole_by (rules_of blocks)) (whole-rule b n) ∙ rules-whole blocks (whole_frames b n)
+rules-whole (b ∷ blocks) n = ap (frames_by whole_by (rules_of blocks)) (whole-rule b n) ∙
+    rules-whole blocks (whole_frames b n)
 
-pub rules-live : (blocks : List Block) (n : ℕ) → frames_by live_by (rules_of blocks) n ≡ frames_behind live_frames blocks n
+pub rules-live : (blocks : List Block) (n : ℕ) → frames_by live_by (rules_of blocks) n ≡ frames_behind live_frames
+    blocks n
 rules-live [] n = refl
-rules-live (b ∷ blocks) n = ap (frames_by live_by (rules_of blocks)) (live-rule b n) ∙ rules-live blocks (live_frames b n)
+rules-live (b ∷ blocks) n = ap (frames_by live_by (rules_of blocks)) (live-rule b n) ∙
+    rules-live blocks (live_frames b n)

@@ -3,25 +3,27 @@ use Rattle.std.proofs.Common.{◌≡◌, ◌∙◌, ap, ap₂, refl, sym, ℕ, s
 use Rattle.dsp_defs.specs.Block.{Frame, live}
 use Rattle.dsp_defs.specs.Shape.{live_frames}
 use Rattle.dsp_defs.specs.Kept.{IsPlace, kept_count, kept_kinds, kept_numbers, kept_of_chain, kept_count_of_chain}
-use Rattle.dsp_stage.specs.Unit.{UnitState}
-use Rattle.dsp_stage.specs.Row.{Place, place_after, blocks_of, InRow, AllCount, AllStand}
-use Rattle.dsp_stage.proofs.ChannelKept.{each-length}
+use Rattle.dsp_unit.specs.Unit.{UnitState}
+use Rattle.dsp_unit.specs.Line.{Place, place_after, blocks_of, InLine, AllCount, AllStand}
+use Rattle.dsp_unit.proofs.ChannelKept.{each-length}
 use Rattle.dsp_chain.specs.FrameRule.{rule_of, rules_of, live_by, AreFew}
 use Rattle.dsp_chain.specs.KeptRule.{unit_rule, unit_rules, count_by, counts_by}
 use Rattle.dsp_chain.specs.Restored.{kept_by}
 use Rattle.dsp_chain.proofs.FrameRules.{few-live, live-rule}
 use Rattle.dsp_chain.proofs.KeptRules.{count-rule}
 
--- the rules of a row count what its blocks keep
-pub counts-chain : (p : Place) (us : List UnitState) (n : ℕ) → InRow p us → AreFew (rules_of (blocks_of us)) n
+-- the rules of a line count what its blocks keep
+pub counts-chain : (p : Place) (us : List UnitState) (n : ℕ) → InLine p us → AreFew (rules_of (blocks_of us)) n
     → counts_by (rules_of (blocks_of us)) (unit_rules us) n ≡ kept_count_of_chain p.format p.channels (blocks_of us) n
-counts-chain p [] n row few = refl
-counts-chain p (u ∷ us) n row few =
+counts-chain p [] n line few = refl
+counts-chain p (u ∷ us) n line few =
     let here : count_by (unit_rule u) n ≡ kept_count p.format p.channels u.block n =
-    sym (count-rule u.format u.channels u.block n few.0) ∙ (λ i. kept_count (row.0.format i) (row.0.channels i) u.block n) in
+    sym (count-rule u.format u.channels u.block n few.0) ∙
+    (λ i. kept_count (line.0.format i) (line.0.channels i) u.block n) in
     let q = place_after p u.block in
-    let behind : counts_by (rules_of (blocks_of us)) (unit_rules us) (live_by (rule_of u.block) n) ≡ kept_count_of_chain q.format q.channels (blocks_of us) (live_frames u.block n) =
-    counts-chain q us (live_by (rule_of u.block) n) row.1 (few-live (rule_of u.block) (rules_of (blocks_of us)) n few)
+    let behind : counts_by (rules_of (blocks_of us)) (unit_rules us) (live_by (rule_of u.block) n) ≡
+    kept_count_of_chain q.format q.channels (blocks_of us) (live_frames u.block n) =
+    counts-chain q us (live_by (rule_of u.block) n) line.1 (few-live (rule_of u.block) (rules_of (blocks_of us)) n few)
     ∙ ap (kept_count_of_chain q.format q.channels (blocks_of us)) (live-rule u.block n) in
     λ i. here i + behind i
 
@@ -29,17 +31,23 @@ pub length-rules : (us : List UnitState) → length (unit_rules us) ≡ length (
 length-rules [] = refl
 length-rules (u ∷ us) = ap suc (length-rules us)
 
--- a row that counts the frames keeps so many
-pub counted-kept : (p : Place) (us : List UnitState) (n : ℕ) → InRow p us → AllCount us n → length (kept_by us) ≡ kept_count_of_chain p.format p.channels (blocks_of us) n
-counted-kept p [] n row counts = refl
-counted-kept p (u ∷ us) n row counts =
+-- a line that counts the frames keeps so many
+pub counted-kept : (p : Place) (us : List UnitState) (n : ℕ) → InLine p us → AllCount us n →
+    length (kept_by us) ≡ kept_count_of_chain p.format p.channels (blocks_of us) n
+counted-kept p [] n line counts = refl
+counted-kept p (u ∷ us) n line counts =
     let here : length u.kept ≡ kept_count p.format p.channels u.block n =
-    each-length IsPlace (kept_kinds u.format u.channels u.block n) u.kept counts.0.place ∙ (λ i. kept_count (row.0.format i) (row.0.channels i) u.block n) in
-    length-append u.kept (kept_by us) ∙ ap₂ (λ a b. a + b) here (counted-kept (place_after p u.block) us (live_frames u.block n) row.1 counts.1)
+    each-length IsPlace (kept_kinds u.format u.channels u.block n) u.kept counts.0.place ∙
+    (λ i. kept_count (line.0.format i) (line.0.channels i) u.block n) in
+    length-append u.kept (kept_by us) ∙ ap₂ (λ a b. a + b) here
+    (counted-kept (place_after p u.block) us (live_frames u.block n) line.1 counts.1)
 
--- a row that stands for a signal keeps the numbers of it
-pub stands-kept : (p : Place) (us : List UnitState) (x : List Frame) → InRow p us → AllStand p.format p.channels us x → kept_by us ≡ kept_of_chain p.format p.channels (blocks_of us) x
-stands-kept p [] x row stands = refl
-stands-kept p (u ∷ us) x row stands =
-    let here : u.kept ≡ kept_numbers p.format p.channels u.block x = stands.0.keeps ∙ (λ i. kept_numbers (row.0.format i) (row.0.channels i) u.block x) in
-    ap₂ {C = List ℤ} (λ a b. a ++ b) here (stands-kept (place_after p u.block) us (live p.format p.channels u.block x) row.1 stands.1)
+-- a line that stands for a signal keeps the numbers of it
+pub stands-kept : (p : Place) (us : List UnitState) (x : List Frame) → InLine p us →
+    AllStand p.format p.channels us x → kept_by us ≡ kept_of_chain p.format p.channels (blocks_of us) x
+stands-kept p [] x line stands = refl
+stands-kept p (u ∷ us) x line stands =
+    let here : u.kept ≡ kept_numbers p.format p.channels u.block x = stands.0.keeps ∙
+    (λ i. kept_numbers (line.0.format i) (line.0.channels i) u.block x) in
+    ap₂ {C = List ℤ} (λ a b. a ++ b) here (stands-kept (place_after p u.block) us (live p.format p.channels u.block x)
+    line.1 stands.1)

@@ -7,5 +7,5 @@ pub mod FrameRules
 pub mod NewChain
 pub mod Restored
 pub mod KeptRules
-pub mod KeptRows
+pub mod KeptLines
 pub mod KeptCounts

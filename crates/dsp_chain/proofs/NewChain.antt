@@ -1,18 +1,19 @@
 -- A new chain.
-use Rattle.std.proofs.Common.{◌≡◌, ◌∙◌, ap, refl, sym, ℕ, ◌*◌, ◌/◌, ◌≤◌, Bool, false, List, [], ◌∷◌, ◌++◌, take, length, Option, Some, None, arith}
+use Rattle.std.proofs.Common.{◌≡◌, ◌∙◌, ap, refl, sym, ℕ, ◌*◌, ◌/◌, ◌≤◌, Bool, false, List, [], ◌∷◌, ◌++◌, take}
+use Rattle.std.proofs.Common.{length, Option, Some, None, arith}
 use Rattle.std.proofs.lemmas.List.{map-append}
 use Rattle.dsp_defs.specs.Grammar.{IsChain, correlates}
 use Rattle.dsp_defs.specs.Cost.{chain_turns}
 use Rattle.dsp_defs.specs.Shape.{group_of, groups_after, whole_frames, gathered}
-use Rattle.dsp_stage.specs.Unit.{UnitState}
-use Rattle.dsp_stage.specs.Row.{Place, blocks_of, InRow, AllNew, AllCount}
+use Rattle.dsp_unit.specs.Unit.{UnitState}
+use Rattle.dsp_unit.specs.Line.{Place, blocks_of, InLine, AllNew, AllCount}
 use Rattle.dsp_defs.specs.declared.limits.TheConstants.{MAX_BLOCKS, MAX_CHANNELS, MAX_CORRELATES}
 use Rattle.dsp_defs.specs.declared.script.Block.{Block}
 use Rattle.dsp_defs.specs.declared.script.Block.TheVariants.{Interpolate, Conv, ConvPartial, Correlate}
-use Rattle.dsp_stage.proofs.ChainPlaces.{AllOpen, flow_at}
-use Rattle.dsp_stage.proofs.NewRow.{new-stand, new-count, new-turns}
-use Rattle.dsp_stage.proofs.TailLaws.{count-took}
-use Rattle.dsp_stage.proofs.FewFrames.{few_places, few-taken}
+use Rattle.dsp_unit.proofs.ChainPlaces.{AllOpen, flow_at}
+use Rattle.dsp_unit.proofs.NewLine.{new-stand, new-count, new-turns}
+use Rattle.dsp_unit.proofs.TailLaws.{count-took}
+use Rattle.dsp_unit.proofs.FewFrames.{few_places, few-taken}
 use Rattle.dsp_chain.specs.Chain.{ChainState, IsWhole, IsNewChain}
 use Rattle.dsp_chain.specs.FrameRule.{rule_of, rules_of}
 use Rattle.dsp_chain.specs.declared.frame_rule.FrameRule.{FrameRule}
@@ -40,7 +41,9 @@ gathered-nothing (b ∷ blocks) = ap (gathered blocks) (whole-nothing b) ∙ gat
 -- ---- the chain
 
 -- one rule more
-pub rules-more : (rules : List FrameRule) (r : FrameRule) (b : Block) (blocks : List Block) (i j : ℕ) → take j blocks ≡ take i blocks ++ b ∷ [] → r ≡ rule_of b → rules ≡ rules_of (take i blocks) → rules ++ r ∷ [] ≡ rules_of (take j blocks)
+pub rules-more : (rules : List FrameRule) (r : FrameRule) (b : Block) (blocks : List Block) (i j : ℕ) →
+    take j blocks ≡ take i blocks ++ b ∷ [] → r ≡ rule_of b → rules ≡ rules_of (take i blocks) →
+    rules ++ r ∷ [] ≡ rules_of (take j blocks)
 rules-more rules r b blocks i j more is so_far =
     (λ k. so_far k ++ is k ∷ []) ∙ sym (map-append rule_of (take i blocks) (b ∷ [])) ∙ ap rules_of (sym more)
 
@@ -48,14 +51,17 @@ rules-more rules r b blocks i j more is so_far =
 abbrev pub made : Place → List UnitState → ChainState
 made p us = record { input = p; units = us; frames = 0; ended = false; failed = None }
 
-pub new-whole : (banked : Bool) (p : Place) (us : List UnitState) (blocks : List Block) → blocks_of us ≡ blocks → InRow p us → AllNew banked us → IsChain (flow_at p) blocks → 1 ≤ p.channels → p.channels ≤ MAX_CHANNELS → length blocks ≤ MAX_BLOCKS → correlates blocks ≤ MAX_CORRELATES → AllOpen p blocks → IsWhole (made p us)
-new-whole banked p us blocks are row fresh chain some few many one opens =
+pub new-whole : (banked : Bool) (p : Place) (us : List UnitState) (blocks : List Block) → blocks_of us ≡ blocks →
+    InLine p us → AllNew banked us → IsChain (flow_at p) blocks → 1 ≤ p.channels → p.channels ≤ MAX_CHANNELS →
+    length blocks ≤ MAX_BLOCKS → correlates blocks ≤ MAX_CORRELATES → AllOpen p blocks → IsWhole (made p us)
+new-whole banked p us blocks are line fresh chain some few many one opens =
     let counts : AllCount us 0 = new-count banked us fresh in
     record {
-      row = row;
+      line = line;
       took = count-took us 0 counts;
       counts = λ _. counts;
-      taken = rw are (few-taken blocks 0 one (omega (arith, gathered-nothing blocks)) (few_places p blocks 0 opens many one (omega arith)));
+      taken = rw are (few-taken blocks 0 one (omega (arith, gathered-nothing blocks))
+          (few_places p blocks 0 opens many one (omega arith)));
       chain = rw are chain;
       channels = some;
       few_channels = rw are (few-places (flow_at p) blocks chain few);
@@ -64,11 +70,18 @@ new-whole banked p us blocks are row fresh chain some few many one opens =
       few_frames = rw are (λ n fits. few_places p blocks n opens many one fits);
     }
 
-pub new-chain : (banked : Bool) (p : Place) (us : List UnitState) (blocks : List Block) → blocks_of us ≡ blocks → InRow p us → AllNew banked us → IsNewChain banked p blocks (made p us)
-new-chain banked p us blocks are row fresh = record {
+pub new-chain : (banked : Bool) (p : Place) (us : List UnitState) (blocks : List Block) → blocks_of us ≡ blocks →
+    InLine p us → AllNew banked us → IsNewChain banked p blocks (made p us)
+new-chain banked p us blocks are line fresh = record {
   input = refl;
   blocks_are = are;
-  stands = record { running = refl; works = refl; counted = refl; units = new-stand banked p.format p.channels us fresh };
-  live = chain-live (made p us) row (new-count banked us fresh);
-  turns = λ m n. new-turns banked p us m n row fresh ∙ ap (λ bs. chain_turns banked p.format p.channels bs m n) are;
+  stands = record {
+    running = refl;
+    works = refl;
+    counted = refl;
+    units =
+        new-stand banked p.format p.channels us fresh;
+  };
+  live = chain-live (made p us) line (new-count banked us fresh);
+  turns = λ m n. new-turns banked p us m n line fresh ∙ ap (λ bs. chain_turns banked p.format p.channels bs m n) are;
 }

@@ -1,5 +1,7 @@
--- A row whose units keep numbers that they can keep counts the frames, and stands for each signal that gives the numbers.
-use Rattle.std.proofs.Common.{◌≡◌, ◌∙◌, ap, ap₂, refl, sym, subst, ℕ, zero, suc, ◌+◌, ◌<◌, ◌≤◌, ℤ, List, [], ◌∷◌, ◌++◌, length, arith}
+-- A line whose units keep numbers that they can keep counts the frames, and stands for each signal that gives the
+-- numbers.
+use Rattle.std.proofs.Common.{◌≡◌, ◌∙◌, ap, ap₂, refl, sym, subst, ℕ, zero, suc, ◌+◌, ◌<◌, ◌≤◌, ℤ, List, [], ◌∷◌}
+use Rattle.std.proofs.Common.{◌++◌, length, arith}
 use Rattle.dsp_defs.specs.Block.{Frame, live}
 use Rattle.dsp_defs.specs.Grammar.{IsChain}
 use Rattle.dsp_defs.specs.Shape.{live_frames, HasChannels}
@@ -8,10 +10,11 @@ use Rattle.dsp_defs.specs.declared.script.Block.{Block}
 use Rattle.dsp_defs.specs.declared.script.Block.TheVariants.{Decimate, MatAdd, MatSub, MatScale, MatTrans, MatMult}
 use Rattle.dsp_defs.specs.declared.flow.Flow.{Flow}
 use Rattle.dsp_defs.proofs.FrameLaws.{length-live}
-use Rattle.dsp_defs.specs.Kept.{Each, IsPlace, IsOfKind, kept_kinds, kept_count, kept_numbers, kept_of_chain, FitsBlocks}
-use Rattle.dsp_stage.specs.Unit.{UnitState, turns_of}
-use Rattle.dsp_stage.specs.Row.{Place, place_after, blocks_of, InRow, AllCount, AllStand, row_turns}
-use Rattle.dsp_stage.proofs.ChannelKept.{append-apart, each-length, kinds-place}
+use Rattle.dsp_defs.specs.Kept.{Each, IsPlace, IsOfKind, kept_kinds, kept_count, kept_numbers, kept_of_chain}
+use Rattle.dsp_defs.specs.Kept.{FitsBlocks}
+use Rattle.dsp_unit.specs.Unit.{UnitState, turns_of}
+use Rattle.dsp_unit.specs.Line.{Place, place_after, blocks_of, InLine, AllCount, AllStand, line_turns}
+use Rattle.dsp_unit.proofs.ChannelKept.{append-apart, each-length, kinds-place}
 use Rattle.dsp_defs.proofs.KeptLaws.{kept_numbers-place}
 use Rattle.dsp_chain.specs.FrameRule.{rule_of, IsRule}
 use Rattle.dsp_chain.specs.KeptRule.{kept_rule, unit_rule, unit_rules, HaveGroups}
@@ -20,28 +23,43 @@ use Rattle.dsp_chain.proofs.FrameRules.{is-rule}
 
 -- ---- units in their places
 
-pub fits-blocks : (p : Place) (us : List UnitState) (n : ℕ) (numbers : List ℤ) → InRow p us → FitsUnits us n numbers → FitsBlocks p.format p.channels (blocks_of us) n numbers
-fits-blocks p [] n numbers row fits = fits
-fits-blocks p (u ∷ us) n numbers row (here, later, split, fits, rest) =
-    (here, later, split, rw (row.0.format, row.0.channels) at fits, fits-blocks (place_after p u.block) us (live_frames u.block n) later row.1 rest)
+pub fits-blocks : (p : Place) (us : List UnitState) (n : ℕ) (numbers : List ℤ) → InLine p us →
+    FitsUnits us n numbers → FitsBlocks p.format p.channels (blocks_of us) n numbers
+fits-blocks p [] n numbers line fits = fits
+fits-blocks p (u ∷ us) n numbers line (here, later, split, fits, rest) = (
+  here,
+  later,
+  split,
+  rw (line.0.format, line.0.channels) at fits,
+  fits-blocks (place_after p u.block) us (live_frames u.block n) later line.1 rest,
+)
 
-pub fits-units : (p : Place) (us : List UnitState) (n : ℕ) (numbers : List ℤ) → InRow p us → FitsBlocks p.format p.channels (blocks_of us) n numbers → FitsUnits us n numbers
-fits-units p [] n numbers row fits = fits
-fits-units p (u ∷ us) n numbers row (here, later, split, fits, rest) =
-    (here, later, split, rw (row.0.format, row.0.channels) fits, fits-units (place_after p u.block) us (live_frames u.block n) later row.1 rest)
+pub fits-units : (p : Place) (us : List UnitState) (n : ℕ) (numbers : List ℤ) → InLine p us →
+    FitsBlocks p.format p.channels (blocks_of us) n numbers → FitsUnits us n numbers
+fits-units p [] n numbers line fits = fits
+fits-units p (u ∷ us) n numbers line (here, later, split, fits, rest) = (
+  here,
+  later,
+  split,
+  rw (line.0.format, line.0.channels) fits,
+  fits-units (place_after p u.block) us (live_frames u.block n) later line.1 rest,
+)
 
 -- the rules of units are those of their blocks at their places
-pub same-rules : (p : Place) (us vs : List UnitState) → InRow p us → InRow p vs → blocks_of vs ≡ blocks_of us → unit_rules vs ≡ unit_rules us
-same-rules p [] [] row later blocks = refl
-same-rules p [] (v ∷ vs) row later blocks = absurd (let bad = ap length blocks in omega (arith, bad))
-same-rules p (u ∷ us) [] row later blocks = absurd (let bad = ap length blocks in omega (arith, bad))
-same-rules p (u ∷ us) (v ∷ vs) row later blocks =
+pub same-rules : (p : Place) (us vs : List UnitState) → InLine p us → InLine p vs → blocks_of vs ≡ blocks_of us →
+    unit_rules vs ≡ unit_rules us
+same-rules p [] [] line later blocks = refl
+same-rules p [] (v ∷ vs) line later blocks = absurd (let bad = ap length blocks in omega (arith, bad))
+same-rules p (u ∷ us) [] line later blocks = absurd (let bad = ap length blocks in omega (arith, bad))
+same-rules p (u ∷ us) (v ∷ vs) line later blocks =
     let block : v.block ≡ u.block = cc blocks in
     let behind : blocks_of vs ≡ blocks_of us = cc blocks in
-    let format : v.format ≡ u.format = later.0.format ∙ sym row.0.format in
-    let channels : v.channels ≡ u.channels = later.0.channels ∙ sym row.0.channels in
-    let here : unit_rule v ≡ unit_rule u = λ i. kept_rule (kept_count (format i) (channels i) (block i) 0) (channels i) (block i) in
-    let rest : unit_rules vs ≡ unit_rules us = same-rules (place_after p u.block) us vs row.1 (subst (λ b. InRow (place_after p b) vs) block later.1) behind in
+    let format : v.format ≡ u.format = later.0.format ∙ sym line.0.format in
+    let channels : v.channels ≡ u.channels = later.0.channels ∙ sym line.0.channels in
+    let here : unit_rule v ≡ unit_rule u = λ i. kept_rule (kept_count (format i) (channels i) (block i) 0)
+    (channels i) (block i) in
+    let rest : unit_rules vs ≡ unit_rules us = same-rules (place_after p u.block) us vs line.1
+    (subst (λ b. InLine (place_after p b) vs) block later.1) behind in
     λ i. here i ∷ rest i
 
 some-group : (fixed channels : ℕ) (b : Block) → IsRule (rule_of b) → 0 < (kept_rule fixed channels b).period
@@ -56,7 +74,11 @@ some-group fixed channels b is = omega arith
 -- each group of a chain has a frame
 pub have-groups : (flow : Flow) (us : List UnitState) → IsChain flow (blocks_of us) → HaveGroups (unit_rules us)
 have-groups flow [] chain = tt
-have-groups flow (u ∷ us) chain = (some-group (kept_count u.format u.channels u.block 0) u.channels u.block (is-rule flow u.block chain.0), have-groups (flow_after u.block flow) us chain.1)
+have-groups flow (u ∷ us) chain = (
+  some-group (kept_count u.format u.channels u.block 0) u.channels u.block
+      (is-rule flow u.block chain.0),
+  have-groups (flow_after u.block flow) us chain.1,
+)
 
 -- ---- units that were restored
 
@@ -66,18 +88,27 @@ restored-counts [] [] n numbers restored = tt
 restored-counts [] (v ∷ vs) n numbers restored = absurd restored
 restored-counts (u ∷ us) [] n numbers restored = absurd restored
 restored-counts (u ∷ us) (v ∷ vs) n numbers (here, later, cut, fits, one, rest) =
-    let place : Each IsPlace (kept_kinds u.format u.channels u.block n) here = kinds-place _ here fits.1 in
-    (one.counts n place, subst (λ b. AllCount vs (live_frames b n)) (sym one.made.block) (restored-counts us vs (live_frames u.block n) later rest))
+    let place : Each IsPlace (kept_kinds u.format u.channels u.block n) here = kinds-place _ here fits.1 in (
+      one.counts n place,
+      subst (λ b. AllCount vs (live_frames b n)) (sym one.made.block)
+          (restored-counts us vs (live_frames u.block n) later rest),
+    )
 
--- the row keeps the numbers, is in its places and has the same blocks
-pub restored-row : (p : Place) (us vs : List UnitState) (n : ℕ) (numbers : List ℤ) → InRow p us → AllRestores us vs n numbers → InRow p vs × (blocks_of vs ≡ blocks_of us) × (kept_by vs ≡ numbers)
-restored-row p [] [] n numbers row restored = (tt, refl, sym restored)
-restored-row p [] (v ∷ vs) n numbers row restored = absurd restored
-restored-row p (u ∷ us) [] n numbers row restored = absurd restored
-restored-row p (u ∷ us) (v ∷ vs) n numbers row (here, later, cut, fits, one, rest) =
-    let behind = restored-row (place_after p u.block) us vs (live_frames u.block n) later row.1 rest in (
+-- the line keeps the numbers, is in its places and has the same blocks
+pub restored-line : (p : Place) (us vs : List UnitState) (n : ℕ) (numbers : List ℤ) → InLine p us →
+    AllRestores us vs n numbers → InLine p vs × (blocks_of vs ≡ blocks_of us) × (kept_by vs ≡ numbers)
+restored-line p [] [] n numbers line restored = (tt, refl, sym restored)
+restored-line p [] (v ∷ vs) n numbers line restored = absurd restored
+restored-line p (u ∷ us) [] n numbers line restored = absurd restored
+restored-line p (u ∷ us) (v ∷ vs) n numbers line (here, later, cut, fits, one, rest) =
+    let behind = restored-line (place_after p u.block) us vs (live_frames u.block n) later line.1 rest in (
       (
-        record { format = one.made.format ∙ row.0.format; channels = one.made.channels ∙ row.0.channels; capacity = one.made.capacity ∙ row.0.capacity },
+        record {
+          format = one.made.format ∙ line.0.format;
+          channels = one.made.channels ∙ line.0.channels;
+          capacity =
+              one.made.capacity ∙ line.0.capacity;
+        },
         rw one.made.block behind.0,
       ),
       ap₂ (λ b bs. b ∷ bs) one.made.block behind.1,
@@ -85,32 +116,41 @@ restored-row p (u ∷ us) (v ∷ vs) n numbers row (here, later, cut, fits, one,
     )
 
 -- its bound on turns stays
-pub restored-turns : (us vs : List UnitState) (n : ℕ) (numbers : List ℤ) → AllRestores us vs n numbers → (from to : ℕ) → row_turns vs from to ≡ row_turns us from to
+pub restored-turns : (us vs : List UnitState) (n : ℕ) (numbers : List ℤ) → AllRestores us vs n numbers →
+    (from to : ℕ) → line_turns vs from to ≡ line_turns us from to
 restored-turns [] [] n numbers restored from to = refl
 restored-turns [] (v ∷ vs) n numbers restored from to = absurd restored
 restored-turns (u ∷ us) [] n numbers restored from to = absurd restored
 restored-turns (u ∷ us) (v ∷ vs) n numbers (here, later, cut, fits, one, rest) from to =
-    rw (one.made.block, one.made.format, one.made.channels, one.made.banked) (ap (λ turns. turns_of u from to + turns) (restored-turns us vs (live_frames u.block n) later rest (live_frames u.block from) (live_frames u.block to)))
+    rw (one.made.block, one.made.format, one.made.channels, one.made.banked)
+    (ap (λ turns. turns_of u from to + turns) (restored-turns us vs (live_frames u.block n) later rest
+    (live_frames u.block from) (live_frames u.block to)))
 
 -- the live frames of a signal on at least one channel
-some-live : (channels : ℕ) (u : UnitState) (x : List Frame) → 1 ≤ channels → u.channels ≡ channels → length (live u.format u.channels u.block x) ≡ live_frames u.block (length x)
+some-live : (channels : ℕ) (u : UnitState) (x : List Frame) → 1 ≤ channels → u.channels ≡ channels →
+    length (live u.format u.channels u.block x) ≡ live_frames u.block (length x)
 some-live (suc channels) u x some is = rw is (length-live u.format channels u.block x)
 some-live zero u x some is = absurd (omega (arith, some))
 
--- the row stands for each signal whose numbers they are
-pub restored-stand : (p : Place) (us vs : List UnitState) (n : ℕ) (numbers : List ℤ) (x : List Frame) → InRow p us → HasChannels p.channels (blocks_of us) → AllRestores us vs n numbers → length x ≡ n
+-- the line stands for each signal whose numbers they are
+pub restored-stand : (p : Place) (us vs : List UnitState) (n : ℕ) (numbers : List ℤ) (x : List Frame) → InLine p us →
+    HasChannels p.channels (blocks_of us) → AllRestores us vs n numbers → length x ≡ n
     → numbers ≡ kept_of_chain p.format p.channels (blocks_of us) x → AllStand p.format p.channels vs x
-restored-stand p [] [] n numbers x row some restored long is = tt
-restored-stand p [] (v ∷ vs) n numbers x row some restored long is = absurd restored
-restored-stand p (u ∷ us) [] n numbers x row some restored long is = absurd restored
-restored-stand p (u ∷ us) (v ∷ vs) n numbers x row some (here, later, cut, fits, one, rest) long is =
+restored-stand p [] [] n numbers x line some restored long is = tt
+restored-stand p [] (v ∷ vs) n numbers x line some restored long is = absurd restored
+restored-stand p (u ∷ us) [] n numbers x line some restored long is = absurd restored
+restored-stand p (u ∷ us) (v ∷ vs) n numbers x line some (here, later, cut, fits, one, rest) long is =
     let q = place_after p u.block in
     let kept = kept_numbers u.format u.channels u.block x in
     let behind = kept_of_chain q.format q.channels (blocks_of us) (live u.format u.channels u.block x) in
-    let whole : numbers ≡ kept ++ behind = rw (row.0.format, row.0.channels) is in
-    let place : Each IsPlace (kept_kinds u.format u.channels u.block n) kept = subst (λ k. Each IsPlace (kept_kinds u.format u.channels u.block k) kept) long (kept_numbers-place u.format u.channels u.block x) in
-    let size : length here ≡ length kept = each-length IsOfKind _ here fits.1 ∙ sym (each-length IsPlace _ kept place) in
+    let whole : numbers ≡ kept ++ behind = rw (line.0.format, line.0.channels) is in
+    let place : Each IsPlace (kept_kinds u.format u.channels u.block n) kept =
+    subst (λ k. Each IsPlace (kept_kinds u.format u.channels u.block k) kept) long
+    (kept_numbers-place u.format u.channels u.block x) in
+    let size : length here ≡ length kept = each-length IsOfKind _ here fits.1 ∙
+    sym (each-length IsPlace _ kept place) in
     let apart = append-apart here kept later behind size (sym cut ∙ whole) in
-    let live_long = some-live p.channels u x some.0 row.0.channels ∙ ap (live_frames u.block) long in
-    let stand = restored-stand q us vs (live_frames u.block n) later (live u.format u.channels u.block x) row.1 some.1 rest live_long apart.1 in
-    (one.stands x apart.0, rw one.made.block (rw (row.0.format, row.0.channels) at stand))
+    let live_long = some-live p.channels u x some.0 line.0.channels ∙ ap (live_frames u.block) long in
+    let stand = restored-stand q us vs (live_frames u.block n) later (live u.format u.channels u.block x) line.1
+    some.1 rest live_long apart.1 in
+    (one.stands x apart.0, rw one.made.block (rw (line.0.format, line.0.channels) at stand))

@@ -1,77 +1,94 @@
--- The room that a row of units needs.
-use Rattle.std.proofs.Common.{◌≡◌, ◌∙◌, ap, refl, sym, subst, false, ℕ, ◌*◌, ◌≤◌, ℤ, List, [], ◌∷◌, ◌++◌, length, take, drop, arith}
+-- The room that a line of units needs.
+use Rattle.std.proofs.Common.{◌≡◌, ◌∙◌, ap, refl, sym, subst, false, ℕ, ◌*◌, ◌≤◌, ℤ, List, [], ◌∷◌, ◌++◌, length}
+use Rattle.std.proofs.Common.{take, drop, arith}
 use Rattle.std.proofs.lemmas.List.{take-append-le, take_all}
-use Rattle.dsp_stage.specs.Unit.{UnitState, frames_in, most_frames, Accepts, IsOutput, Feeds}
+use Rattle.dsp_unit.specs.Unit.{UnitState, frames_in, most_frames, Accepts, IsOutput, Feeds}
 use Rattle.dsp_defs.specs.Block.{channels_after}
-use Rattle.dsp_stage.specs.Row.{Place, place_after, place_behind, place_room, Passes, blocks_of, InRow, AllRun, AllAccept, IsFed}
+use Rattle.dsp_unit.specs.Line.{Place, place_after, place_behind, place_room, Passes, blocks_of, InLine, AllRun}
+use Rattle.dsp_unit.specs.Line.{AllAccept, IsFed}
 use Rattle.dsp_defs.specs.Counts.{Counts}
-use Rattle.dsp_stage.proofs.RowLaws.{fed-none, fed-then, output-passes, accepts-first, accepts-behind}
-use Rattle.dsp_chain.specs.Row.{MayTake}
+use Rattle.dsp_unit.proofs.LineLaws.{fed-none, fed-then, output-passes, accepts-first, accepts-behind}
+use Rattle.dsp_chain.specs.Line.{MayTake}
 
 -- the samples that pass a place have room there
 pub passing-room : (p : Place) (samples : List ℤ) → Passes p samples → length samples ≤ place_room p
 passing-room p samples h =
-    let bound : length (frames_in p.channels samples) * p.channels ≤ p.capacity * p.channels = grind (arith, h.at_most) in
+    let bound : length (frames_in p.channels samples) * p.channels ≤ p.capacity * p.channels =
+    grind (arith, h.at_most) in
     omega (arith, bound, h.signal.whole_frames)
 
 pub no-units : (us : List UnitState) → length us ≡ 0 → us ≡ []
 no-units [] e = refl
 no-units (u ∷ us) e = absurd (omega (arith, e))
 
-pub last-room : (us : List UnitState) (p : Place) (frames : List ℤ) (size : ℕ) → length us ≡ 0 → Passes p frames → place_room (place_behind p (blocks_of us)) ≤ size → length frames ≤ size
+pub last-room : (us : List UnitState) (p : Place) (frames : List ℤ) (size : ℕ) → length us ≡ 0 → Passes p frames →
+    place_room (place_behind p (blocks_of us)) ≤ size → length frames ≤ size
 last-room us p frames size none passes room =
     let here : place_room p ≤ size = rw (no-units us none) at room in
     omega (arith, passing-room p frames passes, here)
 
-pub last-fed : (us : List UnitState) (p : Place) (frames : List ℤ) (counts : Counts) → length us ≡ 0 → Passes p frames → IsFed p us us frames frames counts counts
+pub last-fed : (us : List UnitState) (p : Place) (frames : List ℤ) (counts : Counts) → length us ≡ 0 →
+    Passes p frames → IsFed p us us frames frames counts counts
 last-fed us p frames counts none passes = rw (no-units us none) (fed-none p frames counts passes)
 
--- a unit at the front of the links, and the row behind it
+-- a unit at the front of the links, and the line behind it
 pub first-fed :
-    (p : Place) (links : List UnitState) (link u v : UnitState) (behind after : List UnitState) (frames piece given : List ℤ) (before between later : Counts) →
+    (p : Place) (links : List UnitState) (link u v : UnitState) (behind after : List UnitState)
+    (frames piece given : List ℤ) (before between later : Counts) →
     links ≡ link ∷ behind → u ≡ link → v.ended ≡ false → IsOutput u (most_frames u.block u.capacity) piece →
     Feeds u v (frames_in u.channels frames) (frames_in (channels_after u.channels u.block) piece) before between →
-    ((q : Place) → InRow q behind → Passes q piece → IsFed q behind after piece given between later) →
-    InRow p links → IsFed p links (v ∷ after) frames given before later
-first-fed p links link u v behind after frames piece given before between later is_first same runs output one rest row =
+    ((q : Place) → InLine q behind → Passes q piece → IsFed q behind after piece given between later) →
+    InLine p links → IsFed p links (v ∷ after) frames given before later
+first-fed p links link u v behind after frames piece given before between later is_first same runs output one rest
+    line =
     let e : links ≡ u ∷ behind = is_first ∙ ap (λ f. f ∷ behind) (sym same) in
-    let here : InRow p (u ∷ behind) = subst (InRow p) e row in
+    let here : InLine p (u ∷ behind) = subst (InLine p) e line in
     subst (λ us. IsFed p us (v ∷ after) frames given before later) (sym e)
     (fed-then p u v behind after frames piece given before between later here.0 runs one
     (rest (place_after p u.block) here.1 (output-passes p u piece here.0 output)))
 
--- the first unit can take what the row may be fed with
+-- the first unit can take what the line may be fed with
 pub first-accepts :
-    (links : List UnitState) (link u : UnitState) (behind : List UnitState) (frames : List ℤ) (size : ℕ) → links ≡ link ∷ behind → u ≡ link → MayTake links frames size → Accepts u (length (frames_in u.channels frames))
+    (links : List UnitState) (link u : UnitState) (behind : List UnitState) (frames : List ℤ) (size : ℕ) →
+    links ≡ link ∷ behind → u ≡ link → MayTake links frames size → Accepts u (length (frames_in u.channels frames))
 first-accepts links link u behind frames size is_first same may =
     let e : links ≡ u ∷ behind = is_first ∙ ap (λ f. f ∷ behind) (sym same) in
-    let here : InRow may.place (u ∷ behind) = subst (InRow may.place) e may.row in
+    let here : InLine may.place (u ∷ behind) = subst (InLine may.place) e may.line in
     subst (λ c. Accepts u (length (frames_in c frames))) (sym here.0.channels)
-    (accepts-first u behind (length (frames_in may.place.channels frames)) (subst (λ us. AllAccept us (length (frames_in may.place.channels frames))) e may.accepts))
+    (accepts-first u behind (length (frames_in may.place.channels frames))
+    (subst (λ us. AllAccept us (length (frames_in may.place.channels frames))) e may.accepts))
 
--- and the row behind it may be fed with what it gives
+-- and the line behind it may be fed with what it gives
 pub behind-takes :
-    (links : List UnitState) (link u v : UnitState) (behind : List UnitState) (frames piece : List ℤ) (size : ℕ) (before between : Counts) → links ≡ link ∷ behind → u ≡ link →
-    IsOutput u (most_frames u.block u.capacity) piece → Feeds u v (frames_in u.channels frames) (frames_in (channels_after u.channels u.block) piece) before between → MayTake links frames size → MayTake behind piece size
+    (links : List UnitState) (link u v : UnitState) (behind : List UnitState) (frames piece : List ℤ) (size : ℕ)
+    (before between : Counts) → links ≡ link ∷ behind → u ≡ link →
+    IsOutput u (most_frames u.block u.capacity) piece →
+    Feeds u v (frames_in u.channels frames) (frames_in (channels_after u.channels u.block) piece) before between →
+    MayTake links frames size → MayTake behind piece size
 behind-takes links link u v behind frames piece size before between is_first same output one may =
     let e : links ≡ u ∷ behind = is_first ∙ ap (λ f. f ∷ behind) (sym same) in
     let p = may.place in
-    let here : InRow p (u ∷ behind) = subst (InRow p) e may.row in
-    let one' = subst (λ c. Feeds u v (frames_in c frames) (frames_in (channels_after c u.block) piece) before between) here.0.channels one in
+    let here : InLine p (u ∷ behind) = subst (InLine p) e may.line in
+    let one' = subst (λ c. Feeds u v (frames_in c frames) (frames_in (channels_after c u.block) piece) before between)
+    here.0.channels one in
     record {
       place = place_after p u.block;
-      row = here.1;
+      line = here.1;
       passes = output-passes p u piece here.0 output;
-      accepts = accepts-behind u v behind (frames_in p.channels frames) (frames_in (channels_after p.channels u.block) piece) before between one' (subst (λ us. AllAccept us (length (frames_in p.channels frames))) e may.accepts);
+      accepts = accepts-behind u v behind (frames_in p.channels frames)
+          (frames_in (channels_after p.channels u.block) piece) before between one'
+          (subst (λ us. AllAccept us (length (frames_in p.channels frames))) e may.accepts);
       room = subst (λ us. place_room (place_behind p (blocks_of us)) ≤ size) e may.room;
     }
 
-pub behind-runs : (links : List UnitState) (link u : UnitState) (behind : List UnitState) → links ≡ link ∷ behind → u ≡ link → AllRun links → AllRun behind
+pub behind-runs : (links : List UnitState) (link u : UnitState) (behind : List UnitState) → links ≡ link ∷ behind →
+    u ≡ link → AllRun links → AllRun behind
 behind-runs links link u behind is_first same runs = (subst AllRun is_first runs).1
 
--- a row that was written whole
-pub written-row : {X : Type 0} → (size : ℕ) (new old : List X) → length new ≡ size → take size (new ++ drop (length new) old) ≡ new
-written-row size new old e =
+-- a line that was written whole
+pub written-line : {X : Type 0} → (size : ℕ) (new old : List X) → length new ≡ size →
+    take size (new ++ drop (length new) old) ≡ new
+written-line size new old e =
     let fits : size ≤ length new = omega arith in
     let full : length new ≤ size = omega arith in
     take-append-le size new (drop (length new) old) fits ∙ take_all size new full

@@ -1,5 +1,6 @@
 -- What a contract sees of a chain.
-use Rattle.std.specs.Prelude.{◌≡◌, ℕ, ◌+◌, ◌≤◌, ◌<◌, ◌^◌, ◌⊎◌, ℤ, Bool, true, false, List, [], ◌++◌, length, Option, Some, None, is_some, IsTrue}
+use Rattle.std.specs.Prelude.{◌≡◌, ℕ, ◌+◌, ◌≤◌, ◌<◌, ◌^◌, ◌⊎◌, ℤ, Bool, true, false, List, [], ◌++◌, length, Option}
+use Rattle.std.specs.Prelude.{Some, None, is_some, IsTrue}
 use Rattle.dsp_defs.specs.Streaming.{Continues, Begins}
 use Rattle.dsp_defs.specs.Block.{Frame, live_chain, whole_chain}
 use Rattle.dsp_defs.specs.Counts.{Counts}
@@ -7,16 +8,18 @@ use Rattle.dsp_defs.specs.Cost.{live_cost, chain_turns}
 use Rattle.dsp_defs.specs.Grammar.{IsChain, correlates}
 use Rattle.dsp_defs.specs.Measure as measure
 use Rattle.dsp_defs.specs.Shape.{whole_frames, live_frames, frames_behind, gathered}
-use Rattle.dsp_stage.specs.Unit.{UnitState, frames_in}
-use Rattle.dsp_stage.specs.Row.{chain_products, Place, place_behind, Passes, blocks_of, InRow, AllStand, AllCount, AllTaken, AllFew, AllTook, AllGave, row_given, row_made, row_turns, measured_by}
+use Rattle.dsp_unit.specs.Unit.{UnitState, frames_in}
+use Rattle.dsp_unit.specs.Line.{chain_products, Place, place_behind, Passes, blocks_of, InLine, AllStand, AllCount}
+use Rattle.dsp_unit.specs.Line.{AllTaken, AllFew, AllTook, AllGave, line_given, line_made, line_turns, measured_by}
 use Rattle.dsp_defs.specs.declared.fault.GatherFull.{GatherFull}
 use Rattle.dsp_defs.specs.declared.limits.TheConstants.{MAX_BLOCKS, MAX_CORRELATES, MAX_GATHERED}
-use Rattle.dsp_chain.specs.Row.{FewChannels}
+use Rattle.dsp_chain.specs.Line.{FewChannels}
 use Rattle.dsp_defs.specs.declared.measure.Measure.{Measure}
 use Rattle.dsp_defs.specs.declared.script.Block.{Block}
 use Rattle.dsp_defs.specs.declared.script.Script.{Script}
 
--- the place of its input, its units, the frames that were fed, whether its tail was begun, and the fault that it answered
+-- the place of its input, its units, the frames that were fed, whether its tail was begun, and the fault that it
+-- answered
 pub record ChainState : Type 0 where
   pub input : Place
   pub units : List UnitState
@@ -31,10 +34,10 @@ output_of c = place_behind c.input (blocks_of c.units)
 
 -- the frames that it has given, and the multiplies that it has made for them
 abbrev pub given_of : ChainState → ℕ
-given_of c = row_given c.units c.frames
+given_of c = line_given c.units c.frames
 
 abbrev pub made_of : ChainState → ℕ
-made_of c = row_made c.units c.frames
+made_of c = line_made c.units c.frames
 
 -- what it gives of a signal while that goes on, and of a whole one
 abbrev pub live_of : ChainState → List Frame → List Frame
@@ -80,7 +83,7 @@ pub record IsSpent (c : ChainState) : Type 0 where
 pub record SameChain (old new : ChainState) : Type 0 where
   pub input : new.input ≡ old.input
   pub blocks : blocks_of new.units ≡ blocks_of old.units
-  pub turns : (m n : ℕ) → row_turns new.units m n ≡ row_turns old.units m n
+  pub turns : (m n : ℕ) → line_turns new.units m n ≡ line_turns old.units m n
 
 -- the call took frames and gave the next live ones
 pub record FeedsChain (old new : ChainState) (frames given : List ℤ) (before after : Counts) : Type 0 where
@@ -89,14 +92,16 @@ pub record FeedsChain (old new : ChainState) (frames given : List ℤ) (before a
   pub works : new.failed ≡ None
   pub counted : new.frames ≡ old.frames + length (frames_in old.input.channels frames)
   pub passes : Passes (output_of old) given
-  pub values : (x : List Frame) → ChainStandsFor old x → Continues (live_of old) x (frames_in old.input.channels frames) (frames_in (output_of old).channels given)
+  pub values : (x : List Frame) → ChainStandsFor old x →
+      Continues (live_of old) x (frames_in old.input.channels frames) (frames_in (output_of old).channels given)
   pub stands : (x : List Frame) → ChainStandsFor old x → ChainStandsFor new (x ++ frames_in old.input.channels frames)
   pub gives : given_of new ≡ given_of old + length (frames_in (output_of old).channels given)
   pub multiplies : made_of new + before.multiplies ≡ made_of old + after.multiplies
-  pub turns : after.turns ≤ before.turns + row_turns old.units old.frames new.frames
+  pub turns : after.turns ≤ before.turns + line_turns old.units old.frames new.frames
   pub live : IsLive new
 
--- the call would have gathered too much, or one before it would: nothing changed, but that the chain answers the same fault from now on
+-- the call would have gathered too much, or one before it would: nothing changed, but that the chain answers the same
+-- fault from now on
 pub record FailsChain (old new : ChainState) (fault : GatherFull) (before after : Counts) : Type 0 where
   pub same : new ≡ record old { failed = Some fault }
   pub again : (earlier : GatherFull) → old.failed ≡ Some earlier → fault ≡ earlier
@@ -106,7 +111,8 @@ pub record FailsChain (old new : ChainState) (fault : GatherFull) (before after 
 abbrev pub IsTooMuch : ChainState → ℕ → Type 0
 IsTooMuch c more = (MAX_GATHERED < gathered (blocks_of c.units) (c.frames + more)) ⊎ IsTrue (is_some c.failed)
 
--- the call gave the next frames of the tail, and none only where it is spent or the chain has failed; a turn of a loop makes a product at least
+-- the call gave the next frames of the tail, and none only where it is spent or the chain has failed; a turn of a
+-- loop makes a product at least
 pub record FinishesChain (old new : ChainState) (given : List ℤ) (before after : Counts) : Type 0 where
   pub same : SameChain old new
   pub ended : new.ended ≡ true
@@ -132,13 +138,14 @@ pub record IsNewChain (banked : Bool) (p : Place) (blocks : List Block) (c : Cha
   pub blocks_are : blocks_of c.units ≡ blocks
   pub stands : ChainStandsFor c []
   pub live : IsLive c
-  pub turns : (m n : ℕ) → row_turns c.units m n ≡ chain_turns banked p.format p.channels blocks m n
+  pub turns : (m n : ℕ) → line_turns c.units m n ≡ chain_turns banked p.format p.channels blocks m n
 
 -- ---- what holds of each chain
 
--- its units are in their places where its frames lead them, they could take these, and each place has few frames of any input that it may have
+-- its units are in their places where its frames lead them, they could take these, and each place has few frames of
+-- any input that it may have
 pub record IsWhole (c : ChainState) : Type 0 where
-  pub row : InRow c.input c.units
+  pub line : InLine c.input c.units
   pub took : AllTook c.units c.frames
   pub counts : c.ended ≡ false → AllCount c.units c.frames
   pub taken : AllTaken (blocks_of c.units) c.frames

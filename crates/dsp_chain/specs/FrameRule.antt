@@ -1,5 +1,6 @@
 -- How the blocks of a chain count frames.
-use Rattle.std.specs.Prelude.{ℕ, ◌+◌, ◌-◌, ◌*◌, ◌/◌, ◌^◌, ◌<◌, ◌≤◌, min, nat_lt, Bool, true, false, if◌then◌else◌, List, [], ◌∷◌, length, map, Option, Some, None}
+use Rattle.std.specs.Prelude.{ℕ, ◌+◌, ◌-◌, ◌*◌, ◌/◌, ◌^◌, ◌<◌, ◌≤◌, min, nat_lt, Bool, true, false, if◌then◌else◌}
+use Rattle.std.specs.Prelude.{List, [], ◌∷◌, length, map, Option, Some, None}
 use Rattle.dsp_defs.specs.Sums.{full_length}
 use Rattle.dsp_defs.specs.Shape.{group_of, correlation_length}
 use Rattle.dsp_defs.specs.declared.limits.TheConstants.{MAX_TAPS}
@@ -54,7 +55,8 @@ frames_by gives (rule ∷ rules) n = frames_by gives rules (gives rule n)
 
 -- a window that ends past its convolution: its end, and the length of that
 abbrev pub window_of : FrameRule → ℕ → Option (ℕ × ℕ)
-window_of (ConvPartial first count taps) n = if nat_lt (full_length n taps) (first + count) then Some (first + count, full_length n taps) else None
+window_of (ConvPartial first count taps) n = if nat_lt (full_length n taps) (first + count) then
+    Some (first + count, full_length n taps) else None
 window_of rule n = None
 
 -- the first such window

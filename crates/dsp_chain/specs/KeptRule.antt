@@ -1,9 +1,10 @@
 -- How many numbers the blocks of a chain keep.
 use Rattle.std.specs.Prelude.{ℕ, ◌+◌, ◌*◌, ◌%◌, ◌^◌, ◌<◌, min, List, [], ◌∷◌, map}
 use Rattle.dsp_defs.specs.Kept.{kept_count}
-use Rattle.dsp_stage.specs.Unit.{UnitState}
+use Rattle.dsp_unit.specs.Unit.{UnitState}
 use Rattle.dsp_defs.specs.declared.script.Block.{Block}
-use Rattle.dsp_defs.specs.declared.script.Block.TheVariants.{Decimate, Conv, ConvPartial, Correlate, MatAdd, MatSub, MatScale, MatTrans, MatMult, Max, Min}
+use Rattle.dsp_defs.specs.declared.script.Block.TheVariants.{Decimate, Conv, ConvPartial, Correlate, MatAdd, MatSub}
+use Rattle.dsp_defs.specs.declared.script.Block.TheVariants.{MatScale, MatTrans, MatMult, Max, Min}
 use Rattle.dsp_chain.specs.FrameRule.{live_by}
 use Rattle.dsp_chain.specs.declared.frame_rule.FrameRule.{FrameRule}
 use Rattle.dsp_chain.specs.declared.kept_rule.KeptRule.{KeptRule}
@@ -16,13 +17,19 @@ endless = 2 ^ 62
 abbrev pub kept_rule : ℕ → ℕ → Block → KeptRule
 kept_rule fixed channels (Decimate factor taps) = record { fixed = fixed; each = 0; period = factor; limit = endless }
 kept_rule fixed channels (Conv taps) = record { fixed = fixed; each = 0; period = endless; limit = 1 }
-kept_rule fixed channels (ConvPartial first count taps) = record { fixed = fixed; each = 0; period = endless; limit = first + count }
+kept_rule fixed channels (ConvPartial first count taps) =
+    record { fixed = fixed; each = 0; period = endless; limit = first + count }
 kept_rule fixed channels (Correlate taps) = record { fixed = fixed; each = channels; period = endless; limit = endless }
-kept_rule fixed channels (MatAdd rows columns matrix) = record { fixed = fixed; each = channels; period = rows * columns; limit = endless }
-kept_rule fixed channels (MatSub rows columns matrix) = record { fixed = fixed; each = channels; period = rows * columns; limit = endless }
-kept_rule fixed channels (MatScale rows columns fract shift) = record { fixed = fixed; each = channels; period = rows * columns; limit = endless }
-kept_rule fixed channels (MatTrans rows columns) = record { fixed = fixed; each = channels; period = rows * columns; limit = endless }
-kept_rule fixed channels (MatMult rows columns given matrix) = record { fixed = fixed; each = channels; period = rows * columns; limit = endless }
+kept_rule fixed channels (MatAdd rows columns matrix) =
+    record { fixed = fixed; each = channels; period = rows * columns; limit = endless }
+kept_rule fixed channels (MatSub rows columns matrix) =
+    record { fixed = fixed; each = channels; period = rows * columns; limit = endless }
+kept_rule fixed channels (MatScale rows columns fract shift) =
+    record { fixed = fixed; each = channels; period = rows * columns; limit = endless }
+kept_rule fixed channels (MatTrans rows columns) = record
+    { fixed = fixed; each = channels; period = rows * columns; limit = endless }
+kept_rule fixed channels (MatMult rows columns given matrix) =
+    record { fixed = fixed; each = channels; period = rows * columns; limit = endless }
 kept_rule fixed channels Max = record { fixed = fixed; each = 0; period = endless; limit = endless }
 kept_rule fixed channels Min = record { fixed = fixed; each = 0; period = endless; limit = endless }
 kept_rule fixed channels block = record { fixed = fixed; each = 0; period = endless; limit = 0 }
@@ -42,7 +49,7 @@ unit_rule u = kept_rule (kept_count u.format u.channels u.block 0) u.channels u.
 abbrev pub unit_rules : List UnitState → List KeptRule
 unit_rules us = map unit_rule us
 
--- the numbers that a row keeps where n frames come to it, each block of the live frames at its place
+-- the numbers that a line keeps where n frames come to it, each block of the live frames at its place
 abbrev pub counts_by : List FrameRule → List KeptRule → ℕ → ℕ
 counts_by (rule ∷ rules) (kept ∷ kepts) n = count_by kept n + counts_by rules kepts (live_by rule n)
 counts_by rules kepts n = 0

@@ -3,8 +3,8 @@ use Rattle.std.specs.Prelude.{◌≡◌, ℕ, ◌≤◌, ◌^◌, ℤ, false, Li
 use Rattle.dsp_defs.specs.Block.{Frame}
 use Rattle.dsp_defs.specs.Kept.{FitsAfter, FitsBlocks, kept_of_chain}
 use Rattle.dsp_defs.specs.Shape.{live_frames, gathered}
-use Rattle.dsp_stage.specs.Unit.{UnitState, Restores}
-use Rattle.dsp_stage.specs.Row.{blocks_of}
+use Rattle.dsp_unit.specs.Unit.{UnitState, Restores}
+use Rattle.dsp_unit.specs.Line.{blocks_of}
 use Rattle.dsp_defs.specs.declared.limits.TheConstants.{MAX_GATHERED}
 use Rattle.dsp_chain.specs.Chain.{ChainState, ChainStandsFor, SameChain, IsLive}
 use Rattle.dsp_chain.specs.FrameRule.{rules_of, AreFew}
@@ -29,7 +29,8 @@ pub record FitsChain (c : ChainState) (frames : ℕ) (numbers : List ℤ) : Type
 abbrev pub FitsUnits : List UnitState → ℕ → List ℤ → Type 0
 FitsUnits [] n numbers = numbers ≡ []
 FitsUnits (u ∷ us) n numbers =
-    (here later : List ℤ) × (numbers ≡ here ++ later) × FitsAfter u.format u.channels u.block n here × FitsUnits us (live_frames u.block n) later
+    (here later : List ℤ) × (numbers ≡ here ++ later) × FitsAfter u.format u.channels u.block n here ×
+    FitsUnits us (live_frames u.block n) later
 
 -- each unit keeps its numbers from now on, which it can keep of the live frames at its place
 abbrev pub AllRestores : List UnitState → List UnitState → ℕ → List ℤ → Type 0
@@ -39,7 +40,7 @@ AllRestores (u ∷ us) (v ∷ vs) n numbers =
     × AllRestores us vs (live_frames u.block n) later
 AllRestores us vs n numbers = ⊥
 
--- the rules are those of the row, and each of its places has few frames
+-- the rules are those of the line, and each of its places has few frames
 pub record HasRules (us : List UnitState) (rules : List FrameRule) (kept : List KeptRule) (n : ℕ) : Type 0 where
   pub frames : rules ≡ rules_of (blocks_of us)
   pub numbers : kept ≡ unit_rules us
@@ -54,4 +55,5 @@ pub record RestoresChain (old new : ChainState) (frames : ℕ) (numbers : List �
   pub counted : new.frames ≡ frames
   pub kept : kept_of new ≡ numbers
   pub live : IsLive new
-  pub stands : (x : List Frame) → length x ≡ frames → numbers ≡ kept_of_chain old.input.format old.input.channels (blocks_of old.units) x → ChainStandsFor new x
+  pub stands : (x : List Frame) → length x ≡ frames → numbers ≡ kept_of_chain old.input.format old.input.channels
+      (blocks_of old.units) x → ChainStandsFor new x

@@ -1,18 +1,18 @@
 use crate::frame_rule::{FrameRule, gather_fault, gathered, tail_frames, window_fault};
-use crate::keeping::{count_kept, count_row, fits_row, keep_row, restore_row};
+use crate::keeping::{count_kept, count_line, fits_line, keep_line, restore_line};
 use crate::kept_rule::KeptRule;
-use crate::row::{Link, count_measures, feed_row, find_measure, finish_row};
+use crate::line::{Link, count_measures, feed_line, find_measure, finish_line};
 use dsp_defs::{
     Flow, Fmt, GatherFull, Input, MAX_GATHERED, MAX_INPUT, Measure, Script, Steps, WindowFault,
 };
-use dsp_stage::{AnyUnit, Stage, most_frames};
+use dsp_unit::{AnyUnit, Unit, most_frames};
 use std::alloc::{AllocError, Global};
 use std::marker::Model;
 use std::sync::ledger::Ledger;
 
 /// The units of a script.
 #[derive(Drop)]
-pub struct Chain<U: Stage + Drop> {
+pub struct Chain<U: Unit + Drop> {
     links: Vec<Link<U>>,
     rules: Vec<FrameRule>,
     kept: Vec<KeptRule>,
@@ -25,9 +25,9 @@ pub struct Chain<U: Stage + Drop> {
     failed: Option<GatherFull>,
 }
 
-impl<U: Stage + Drop> Model for Chain<U> {
+impl<U: Unit + Drop> Model for Chain<U> {
     ghost use Rattle.std.specs.Prelude.{◌≡◌};
-    ghost use Rattle.dsp_stage.specs.Row.{blocks_of, place_room};
+    ghost use Rattle.dsp_unit.specs.Line.{blocks_of, place_room};
     ghost use Rattle.dsp_chain.specs.Chain.{ChainState, IsWhole, output_of};
     ghost use Rattle.dsp_chain.specs.FrameRule.{rules_of};
     ghost use Rattle.dsp_chain.specs.KeptRule.{unit_rules};
@@ -72,19 +72,22 @@ impl<U: Stage + Drop> Model for Chain<U> {
 }
 
 impl<U: AnyUnit + Drop> Chain<U> {
-    ghost use Rattle.std.specs.Prelude.{◌≡◌, ◌≤◌, ◌<◌, ◌+◌, ◌^◌, ◌↔◌, List, true, false, IsTrue, IsFalse, IfOk, IfErr, IsErr, None, Some, length, take, slice_get};
+    ghost use Rattle.std.specs.Prelude.{◌≡◌, ◌≤◌, ◌<◌, ◌+◌, ◌^◌, ◌↔◌, List, true, false, IsTrue, IsFalse};
+    ghost use Rattle.std.specs.Prelude.{IfOk, IfErr, IsErr, None, Some, length, take, slice_get};
     ghost use Rattle.std.specs.Option.{option_map};
-    ghost use Rattle.dsp_defs.specs.Shape.{frames_behind, gathered, held, live_frames, whole_frames, window_at, is_legal};
+    ghost use Rattle.dsp_defs.specs.Shape.{frames_behind, gathered, held, live_frames, whole_frames};
+    ghost use Rattle.dsp_defs.specs.Shape.{window_at, is_legal};
     ghost use Rattle.dsp_defs.specs.Grammar.{IsChain, correlates, input_flow};
     ghost use Rattle.dsp_defs.specs.declared.fault.GatherFull.{GatherFull};
     ghost use Rattle.dsp_defs.specs.declared.fault.WindowFault.{WindowFault};
-    ghost use Rattle.dsp_stage.specs.Row.{Passes, place_room, blocks_of, measured_by};
-    ghost use Rattle.dsp_stage.specs.Unit.{frames_in};
+    ghost use Rattle.dsp_unit.specs.Line.{Passes, place_room, blocks_of, measured_by};
+    ghost use Rattle.dsp_unit.specs.Unit.{frames_in};
     ghost use Rattle.dsp_chain.specs.Restored.{kept_of, FitsChain, RestoresChain};
-    ghost use Rattle.dsp_chain.specs.Row.{measure_counts};
+    ghost use Rattle.dsp_chain.specs.Line.{measure_counts};
     ghost use Rattle.dsp_defs.specs.Block.{Frame};
     ghost use Rattle.dsp_defs.specs.Kept.{kept_of_chain, kept_count_of_chain};
-    ghost use Rattle.dsp_chain.specs.Chain.{ChainState, ChainStandsFor, output_of, IsTooMuch, FeedsChain, FailsChain, FinishesChain, input_place, IsNewChain};
+    ghost use Rattle.dsp_chain.specs.Chain.{ChainState, ChainStandsFor, output_of, IsTooMuch, FeedsChain};
+    ghost use Rattle.dsp_chain.specs.Chain.{FailsChain, FinishesChain, input_place, IsNewChain};
     ghost use Rattle.dsp_defs.specs.declared.limits.TheConstants.{MAX_BLOCKS, MAX_CHANNELS, MAX_CORRELATES};
 
     /// The chain of a script, for a legal block length, the most frames of a call. All memory of the
@@ -193,7 +196,7 @@ impl<U: AnyUnit + Drop> Chain<U> {
             return Err(fault);
         }
         self.frames = fed;
-        Ok(feed_row(self.links.as_mut_slice(), frames, out, steps))
+        Ok(feed_line(self.links.as_mut_slice(), frames, out, steps))
     }
 
     /// How many frames were fed.
@@ -253,7 +256,7 @@ impl<U: AnyUnit + Drop> Chain<U> {
         if self.failed.is_some() {
             return 0;
         }
-        finish_row(self.links.as_mut_slice(), out, steps)
+        finish_line(self.links.as_mut_slice(), out, steps)
     }
 
     /// How many measures the chain has: in the order of the script, then by channel.
@@ -294,7 +297,7 @@ impl<U: AnyUnit + Drop> Chain<U> {
         ensures stands { (x : List Frame) → ChainStandsFor self.now x → out.new ≡ kept_of_chain
             self.now.input.format self.now.input.channels (blocks_of self.now.units) x }
     {
-        keep_row(&self.links, out);
+        keep_line(&self.links, out);
     }
 
     /// How many numbers a chain of these blocks keeps of so many frames.
@@ -303,7 +306,7 @@ impl<U: AnyUnit + Drop> Chain<U> {
         ensures { result ≡ kept_count_of_chain self.now.input.format self.now.input.channels
             (blocks_of self.now.units) frames }
     {
-        count_row(&self.rules, &self.kept, frames)
+        count_line(&self.rules, &self.kept, frames)
     }
 
     /// The samples of a channel that the correlation would gather where so many frames are the whole
@@ -326,7 +329,7 @@ impl<U: AnyUnit + Drop> Chain<U> {
         if gathered(&self.rules, frames) > MAX_GATHERED as u64 {
             return false;
         }
-        fits_row(&self.links, &self.rules, &self.kept, frames, numbers)
+        fits_line(&self.links, &self.rules, &self.kept, frames, numbers)
     }
 
     /// Gives a new chain these numbers, and counts so many frames as fed: it goes on as one that was fed
@@ -338,7 +341,7 @@ impl<U: AnyUnit + Drop> Chain<U> {
         requires fits { FitsChain self.old frames numbers.now }
         ensures { RestoresChain self.old self.new frames numbers.now }
     {
-        restore_row(
+        restore_line(
             self.links.as_mut_slice(),
             &self.rules,
             &self.kept,

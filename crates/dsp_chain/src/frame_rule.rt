@@ -4,7 +4,8 @@ ghost use Rattle.dsp_defs.specs.Sums.{full_length};
 ghost use Rattle.dsp_defs.specs.declared.fault.GatherFull.{GatherFull};
 ghost use Rattle.dsp_defs.specs.declared.fault.WindowFault.{WindowFault};
 ghost use Rattle.dsp_defs.specs.declared.limits.TheConstants.{MAX_GATHERED, MAX_TAPS};
-ghost use Rattle.dsp_chain.specs.FrameRule.{rule_of, whole_by, live_by, gathers, frames_by, frames_gathered, window_of, window_by, IsRule, AreFew};
+ghost use Rattle.dsp_chain.specs.FrameRule.{rule_of, whole_by, live_by, gathers, frames_by, frames_gathered};
+ghost use Rattle.dsp_chain.specs.FrameRule.{window_of, window_by, IsRule, AreFew};
 
 use dsp_defs::{Block, GatherFull, MAX_GATHERED, WindowFault};
 

@@ -1,18 +1,18 @@
 ghost use Rattle.std.specs.Prelude.{◌≡◌, ◌≤◌, ◌*◌, ◌^◌, ◌↔◌, IsTrue, length};
 ghost use Rattle.dsp_defs.specs.declared.limits.TheConstants.{MAX_BLOCKS};
-ghost use Rattle.dsp_stage.specs.Unit.{most_kept};
-ghost use Rattle.dsp_stage.specs.Row.{AllRun};
+ghost use Rattle.dsp_unit.specs.Unit.{most_kept};
+ghost use Rattle.dsp_unit.specs.Line.{AllRun};
 ghost use Rattle.dsp_chain.specs.FrameRule.{AreFew};
 ghost use Rattle.dsp_chain.specs.KeptRule.{HaveGroups, counts_by};
 ghost use Rattle.dsp_chain.specs.Restored.{kept_by, FitsUnits, AllRestores, HasRules};
 
 use crate::frame_rule::FrameRule;
 use crate::kept_rule::KeptRule;
-use crate::row::Link;
-use dsp_stage::Stage;
+use crate::line::Link;
+use dsp_unit::Unit;
 
-/// How many numbers the units of a row keep.
-pub fn count_kept<S: Stage + Drop>(links: &[Link<S>]) -> usize
+/// How many numbers the units of a line keep.
+pub fn count_kept<S: Unit + Drop>(links: &[Link<S>]) -> usize
     requires few { length links.now ≤ MAX_BLOCKS }
     ensures count { result ≡ length (kept_by links.now) }
     ensures few { result ≤ most_kept * length links.now }
@@ -20,11 +20,11 @@ pub fn count_kept<S: Stage + Drop>(links: &[Link<S>]) -> usize
     let Some((link, behind)) = links.split_first() else {
         return 0;
     };
-    link.stage.kept_count() + count_kept(behind)
+    link.unit.kept_count() + count_kept(behind)
 }
 
-/// How many numbers the units of a row keep of so many frames that come to it.
-pub fn count_row(rules: &[FrameRule], kept: &[KeptRule], frames: u64) -> u128
+/// How many numbers the units of a line keep of so many frames that come to it.
+pub fn count_line(rules: &[FrameRule], kept: &[KeptRule], frames: u64) -> u128
     requires rules { AreFew rules.now frames }
     requires groups { HaveGroups kept.now }
     requires few { length kept.now ≤ MAX_BLOCKS }
@@ -37,11 +37,11 @@ pub fn count_row(rules: &[FrameRule], kept: &[KeptRule], frames: u64) -> u128
     ) else {
         return 0;
     };
-    kept_here.count(frames) + count_row(rules_behind, kept_behind, rule.live(frames))
+    kept_here.count(frames) + count_line(rules_behind, kept_behind, rule.live(frames))
 }
 
-/// Writes the numbers that the units of a row keep, one after another.
-pub fn keep_row<S: Stage + Drop>(links: &[Link<S>], out: &mut [i64])
+/// Writes the numbers that the units of a line keep, one after another.
+pub fn keep_line<S: Unit + Drop>(links: &[Link<S>], out: &mut [i64])
     requires running { AllRun links.now }
     requires length { length out.old ≡ length (kept_by links.now) }
     ensures { out.new ≡ kept_by links.now }
@@ -49,13 +49,13 @@ pub fn keep_row<S: Stage + Drop>(links: &[Link<S>], out: &mut [i64])
     let Some((link, behind)) = links.split_first() else {
         return;
     };
-    let (here, later) = out.split_at_mut(link.stage.kept_count());
-    link.stage.keep(here);
-    keep_row(behind, later);
+    let (here, later) = out.split_at_mut(link.unit.kept_count());
+    link.unit.keep(here);
+    keep_line(behind, later);
 }
 
-/// Whether the units of a row can keep these numbers, one after another, where so many frames come to the row.
-pub fn fits_row<S: Stage + Drop>(
+/// Whether the units of a line can keep these numbers, one after another, where so many frames come to the line.
+pub fn fits_line<S: Unit + Drop>(
     links: &[Link<S>],
     rules: &[FrameRule],
     kept: &[KeptRule],
@@ -79,13 +79,13 @@ pub fn fits_row<S: Stage + Drop>(
         return false;
     }
     let (here, later) = numbers.split_at(count as usize);
-    let Some(place) = link.stage.place(here) else {
+    let Some(place) = link.unit.place(here) else {
         return false;
     };
     if place != kept_here.place(frames) {
         return false;
     }
-    fits_row(
+    fits_line(
         links_behind,
         rules_behind,
         kept_behind,
@@ -94,8 +94,8 @@ pub fn fits_row<S: Stage + Drop>(
     )
 }
 
-/// Gives the units of a row these numbers, one after another, where so many frames came to the row.
-pub fn restore_row<S: Stage + Drop>(
+/// Gives the units of a line these numbers, one after another, where so many frames came to the line.
+pub fn restore_line<S: Unit + Drop>(
     links: &mut [Link<S>],
     rules: &[FrameRule],
     kept: &[KeptRule],
@@ -121,8 +121,8 @@ pub fn restore_row<S: Stage + Drop>(
         unreachable!()
     }
     let (here, later) = numbers.split_at(count as usize);
-    link.stage.restore(here);
-    restore_row(
+    link.unit.restore(here);
+    restore_line(
         links_behind,
         rules_behind,
         kept_behind,

@@ -7,7 +7,8 @@ use Rattle.dsp_defs.specs.Sums.{correlate}
 use Rattle.dsp_defs.specs.declared.format.Fmt.{Fmt}
 use Rattle.dsp_defs.proofs.Signal.{values_cong}
 
-pub correlation-is : (format : Fmt) (b x sums : List ℤ) (m : ℕ) → nat_eq (length x) 0 ≡ false → m ≡ max (length x) (length b)
+pub correlation-is : (format : Fmt) (b x sums : List ℤ) (m : ℕ) → nat_eq (length x) 0 ≡ false →
+    m ≡ max (length x) (length b)
     → length sums ≡ 2 * m - 1
     → ((n : ℕ) → n < 2 * m - 1 → sample sums n ≡ sum_below (length x) (λ k. sample x k *ℤ delayed b (k + m - 1) n))
     → values (length sums) (λ n. close format (sample sums n)) ≡ correlate format b x

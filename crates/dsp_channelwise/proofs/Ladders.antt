@@ -1,5 +1,6 @@
--- The stages of a lattice, one after another.
-use Rattle.std.proofs.Common.{◌≡◌, ◌∙◌, ap, sym, ℕ, ◌+◌, ◌<◌, ℤ, pos, ◌+ℤ◌, ◌-ℤ◌, List, [], ◌∷◌, ◌++◌, length, drop, get_or, append_assoc, add-one, drop-cons, arith}
+-- The sections of a lattice, one after another.
+use Rattle.std.proofs.Common.{◌≡◌, ◌∙◌, ap, sym, ℕ, ◌+◌, ◌<◌, ℤ, pos, ◌+ℤ◌, ◌-ℤ◌, List, [], ◌∷◌, ◌++◌, length, drop}
+use Rattle.std.proofs.Common.{get_or, append_assoc, add-one, drop-cons, arith}
 use Rattle.std.proofs.lemmas.List.{drop-drop, get_or-drop}
 use Rattle.dsp_defs.specs.Numbers.{saturate}
 use Rattle.dsp_defs.specs.Formats.{word_bits}
@@ -13,7 +14,7 @@ lower-of format f k g = saturate (word_bits format) (f -ℤ reflected format k g
 upper-of : Fmt → ℤ → ℤ → ℤ → ℤ
 upper-of format k lower g = saturate (word_bits format) (reflected format k lower +ℤ g)
 
--- one stage
+-- one section
 back-one : (format : Fmt) (f k g : ℤ) (ks before : List ℤ) → sample before 0 ≡ g
     → backward_values format f (k ∷ ks) before ≡ upper-of format k (lower-of format f k g) g ∷ backward_values format
     (lower-of format f k g) ks (drop 1 before)

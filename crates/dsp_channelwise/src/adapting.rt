@@ -1,6 +1,8 @@
 //! The adaptive filter.
-ghost use Rattle.std.specs.Prelude.{◌≡◌, ◌≢◌, ◌+◌, ◌*◌, ◌≤◌, ◌*ℤ◌, ℕ, All, FitsSigned, IfOk, length, map, reverse};
-ghost use Rattle.dsp_defs.specs.Adaptive.{adapted, errors_of, lms, lms_close, outputs_of, step_size, weight_after};
+ghost use Rattle.std.specs.Prelude.{◌≡◌, ◌≢◌, ◌+◌, ◌*◌, ◌≤◌, ◌*ℤ◌, ℕ, All, FitsSigned, IfOk, length, map};
+ghost use Rattle.std.specs.Prelude.{reverse};
+ghost use Rattle.dsp_defs.specs.Adaptive.{adapted, errors_of, lms, lms_close, outputs_of, step_size};
+ghost use Rattle.dsp_defs.specs.Adaptive.{weight_after};
 ghost use Rattle.dsp_defs.specs.Formats.{word};
 ghost use Rattle.dsp_defs.specs.Grammar.{Suits};
 ghost use Rattle.dsp_defs.specs.Signal.{sample};

@@ -1,5 +1,6 @@
 //! The correlation.
-ghost use Rattle.std.specs.Prelude.{◌≡◌, ◌+◌, ◌*◌, ◌<◌, ◌≤◌, ◌^◌, ◌+ℤ◌, ◌*ℤ◌, ℕ, pos, All, FitsSigned, IfOk, length, nat_abs};
+ghost use Rattle.std.specs.Prelude.{◌≡◌, ◌+◌, ◌*◌, ◌<◌, ◌≤◌, ◌^◌, ◌+ℤ◌, ◌*ℤ◌, ℕ, pos, All, FitsSigned, IfOk};
+ghost use Rattle.std.specs.Prelude.{length, nat_abs};
 ghost use Rattle.dsp_defs.specs.Formats.{close, word};
 ghost use Rattle.dsp_defs.specs.Signal.{delayed, sample};
 ghost use Rattle.dsp_defs.specs.Sums.{correlate};

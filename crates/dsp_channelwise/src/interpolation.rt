@@ -1,5 +1,6 @@
 //! The interpolator.
-ghost use Rattle.std.specs.Prelude.{◌≡◌, ◌+◌, ◌*◌, ◌/◌, ◌%◌, ◌<◌, ◌≤◌, ◌^◌, ◌*ℤ◌, All, FitsSigned, IfOk, length};
+ghost use Rattle.std.specs.Prelude.{◌≡◌, ◌+◌, ◌*◌, ◌/◌, ◌%◌, ◌<◌, ◌≤◌, ◌^◌, ◌*ℤ◌, All, FitsSigned, IfOk};
+ghost use Rattle.std.specs.Prelude.{length};
 ghost use Rattle.dsp_defs.specs.Formats.{close, word};
 ghost use Rattle.dsp_defs.specs.Signal.{delayed, sample};
 ghost use Rattle.dsp_defs.specs.Sums.{convolution_at, interpolate, phase_taps};

@@ -1,5 +1,6 @@
 //! The lattice with feedback and a ladder.
-ghost use Rattle.std.specs.Prelude.{◌≡◌, ◌≢◌, ◌+◌, ◌*◌, ◌≤◌, ◌^◌, ◌+ℤ◌, ◌-ℤ◌, ◌*ℤ◌, All, FitsSigned, IfOk, drop, length, nat_abs};
+ghost use Rattle.std.specs.Prelude.{◌≡◌, ◌≢◌, ◌+◌, ◌*◌, ◌≤◌, ◌^◌, ◌+ℤ◌, ◌-ℤ◌, ◌*ℤ◌, All, FitsSigned, IfOk};
+ghost use Rattle.std.specs.Prelude.{drop, length, nat_abs};
 ghost use Rattle.dsp_defs.specs.Formats.{word, word_bits};
 ghost use Rattle.dsp_defs.specs.Numbers.{saturate};
 ghost use Rattle.dsp_defs.specs.Lattice.{backward_values, ladder_close, lattice_iir, reflected};

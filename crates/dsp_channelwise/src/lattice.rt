@@ -1,5 +1,6 @@
 //! The lattice without feedback, one whole signal after another.
-ghost use Rattle.std.specs.Prelude.{◌≡◌, ◌+◌, ◌*◌, ◌≤◌, ℤ, pos, All, FitsSigned, IfOk, get_or, length, map, reverse};
+ghost use Rattle.std.specs.Prelude.{◌≡◌, ◌+◌, ◌*◌, ◌≤◌, ℤ, pos, All, FitsSigned, IfOk, get_or, length, map};
+ghost use Rattle.std.specs.Prelude.{reverse};
 ghost use Rattle.dsp_defs.specs.Formats.{word};
 ghost use Rattle.dsp_defs.specs.Lattice.{lattice_fir, lattice_output};
 ghost use Rattle.dsp_defs.specs.declared.format.Fmt.TheVariants.{Q15};
@@ -11,11 +12,11 @@ use std::sync::ledger::Ledger;
 
 /// f_m(n) and g_m(n) from f_{m-1}(n), g_{m-1}(n-1).
 #[derive(Clone, Copy)]
-struct LatticeStage {
+struct LatticeSection {
     k: i32,
 }
 
-impl Recurrence for LatticeStage {
+impl Recurrence for LatticeSection {
     type In = (i32, i32);
 
     type Out = (i32, i32);
@@ -54,7 +55,7 @@ fn newest(x: &[(i32, i32)], k: usize) -> (i32, i32)
     }
 }
 
-/// The stages k_1 to k_S one after another, from f_0(n) = g_0(n) = x(n), as many values as x has samples;
+/// The sections k_1 to k_S one after another, from f_0(n) = g_0(n) = x(n), as many values as x has samples;
 /// each in Q15. The source is `arm_fir_lattice_q15` of CMSIS-DSP.
 pub fn lattice_fir<L: Ledger>(
     alloc: Global,
@@ -68,8 +69,13 @@ pub fn lattice_fir<L: Ledger>(
     ensures products { steps.new.multiplies ≤ steps.old.multiplies + length x.now * (2 * length k.now) }
 {
     let mut pairs = paired(alloc, x)?;
-    for stage in k {
-        pairs = outputs(alloc, &LatticeStage { k: *stage }, pairs.as_slice(), steps)?;
+    for section in k {
+        pairs = outputs(
+            alloc,
+            &LatticeSection { k: *section },
+            pairs.as_slice(),
+            steps,
+        )?;
     }
     firsts(alloc, pairs.as_slice())
 }

@@ -1,5 +1,6 @@
 //! A channel in groups, each of which becomes a matrix.
-ghost use Rattle.std.specs.Prelude.{IfSome, ◌^◌, ◌≡◌, ◌≢◌, ◌+◌, ◌*◌, ◌/◌, ◌%◌, ◌<◌, ◌≤◌, ◌*ℤ◌, ℕ, All, FitsSigned, IfOk, length, take, drop};
+ghost use Rattle.std.specs.Prelude.{IfSome, ◌^◌, ◌≡◌, ◌≢◌, ◌+◌, ◌*◌, ◌/◌, ◌%◌, ◌<◌, ◌≤◌, ◌*ℤ◌, ℕ, All};
+ghost use Rattle.std.specs.Prelude.{FitsSigned, IfOk, length, take, drop};
 ghost use Rattle.dsp_defs.specs.Formats.{word};
 ghost use Rattle.dsp_defs.specs.Signal.{sample};
 ghost use Rattle.dsp_defs.specs.Block.{whole_channel};

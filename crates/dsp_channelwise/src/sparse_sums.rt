@@ -1,5 +1,6 @@
 //! The sparse filter.
-ghost use Rattle.std.specs.Prelude.{◌≡◌, ◌+◌, ◌*◌, ◌<◌, ◌≤◌, ◌^◌, All, FitsSigned, IfOk, get_or, length, map, nat_abs};
+ghost use Rattle.std.specs.Prelude.{◌≡◌, ◌+◌, ◌*◌, ◌<◌, ◌≤◌, ◌^◌, All, FitsSigned, IfOk, get_or, length, map};
+ghost use Rattle.std.specs.Prelude.{nat_abs};
 ghost use Rattle.dsp_defs.specs.Formats.{word};
 ghost use Rattle.dsp_defs.specs.Signal.{delayed, sample, sum_below};
 ghost use Rattle.dsp_defs.specs.Sums.{sparse, sparse_close, sparse_term};

@@ -1,5 +1,6 @@
 //! Filters and whole-signal operations that are sums of products.
-ghost use Rattle.std.specs.Prelude.{◌≡◌, ◌+◌, ◌*◌, ◌/◌, ◌<◌, ◌≤◌, ◌^◌, ◌*ℤ◌, ℕ, All, FitsSigned, IfOk, length, reverse};
+ghost use Rattle.std.specs.Prelude.{◌≡◌, ◌+◌, ◌*◌, ◌/◌, ◌<◌, ◌≤◌, ◌^◌, ◌*ℤ◌, ℕ, All, FitsSigned, IfOk};
+ghost use Rattle.std.specs.Prelude.{length, reverse};
 ghost use Rattle.dsp_defs.specs.Formats.{close, word};
 ghost use Rattle.dsp_defs.specs.Signal.{delayed, sample};
 ghost use Rattle.dsp_defs.specs.Sums.{conv, conv_partial, convolution_at, decimate, fir, full_length};

@@ -1,4 +1,5 @@
--- How the bytes that a check took of its input, and those of the file beside it, stand to each other at each of its ends.
+-- How the bytes that a check took of its input, and those of the file beside it, stand to each other at each of its
+-- ends.
 use Rattle.std.specs.Prelude.{◌≡◌, ◌⊎◌, ℕ, ◌+◌, ◌*◌, ◌/◌, ◌^◌, ◌<◌, ◌≤◌, List, length, Some, None}
 use Rattle.dsp_ports.specs.Ports.{SourceState, one_more, Gave}
 use Rattle.dsp_defs.specs.Cost.{cost}
@@ -9,7 +10,8 @@ use Rattle.dsp_defs.specs.Sizes.{IsSmall, size_at}
 use Rattle.dsp_defs.specs.declared.limits.TheConstants.{MAX_CHECKED, MAX_RIFF_SIZE}
 use Rattle.dsp_defs.specs.declared.script.Script.{Script}
 use Rattle.dsp_defs.specs.declared.wave.Header.{Header}
-use Rattle.dsp_input.specs.Taking.{AwaitsDeclared, Fits, HasFault, InLimit, IsInDeclared, IsTakenWhole, IsTooLong, WantsMore, frame_bytes, frames_in_bytes, input_fault}
+use Rattle.dsp_input.specs.Taking.{AwaitsDeclared, Fits, HasFault, InLimit, IsInDeclared, IsTakenWhole, IsTooLong}
+use Rattle.dsp_input.specs.Taking.{WantsMore, frame_bytes, frames_in_bytes, input_fault}
 use Rattle.dsp_input.specs.declared.fault.InputFault.{InputFault}
 use Rattle.dsp_input.specs.declared.fault.InputFault.TheVariants as input_fault
 use Rattle.dsp_check.specs.Comparing.{HasAll, Mismatches}
@@ -31,7 +33,8 @@ of_mismatch mismatch.Failed = fault.Other
 
 -- ---- limits
 
--- a script may be checked over so many frames: no window ends past its convolution, the output fits its header, and at no place
+-- a script may be checked over so many frames: no window ends past its convolution, the output fits its header, and
+-- at no place
 -- there are too many samples
 pub record KeepsLimits (script : Script) (header : Header) (frames : ℕ) : Type 0 where
   pub no_window : window_at script.blocks frames ≡ None
@@ -44,29 +47,32 @@ frames_past_limit script = MAX_CHECKED / script.input.channels + 1
 
 -- the products are at most those of the script for so many frames
 abbrev pub CostsFew : Script → ℕ → Counts → Counts → Type 0
-CostsFew script frames before counts = counts.multiplies ≤ before.multiplies + cost script.input.format script.input.channels script.blocks frames
+CostsFew script frames before counts = counts.multiplies ≤ before.multiplies + cost script.input.format
+    script.input.channels script.blocks frames
 
 -- ---- the file is the output
 
 -- the input was taken whole, and the file had exactly the output of the script, of so many bytes
-pub record Done (script : Script) (size : ℕ) (input now other seen : SourceState) (before counts : Counts) : Type 0 where
-  pub given : List ℕ
-  pub gave : Gave input now given
-  pub in_limit : length given ≤ 2 ^ 40
-  pub has : HasHeader script given
-  pub whole : IsTakenWhole script given now
-  pub limits : KeepsLimits script (input_header script given) (frames_in_bytes script given)
-  pub all : HasAll (output script given) other seen
-  pub size_is : size ≡ length (output script given)
-  pub no_fault : now.faults ≡ input.faults
-  pub cost : CostsFew script (frames_in_bytes script given) before counts
+pub record Done (script : Script) (size : ℕ) (input now other seen : SourceState) (before counts : Counts) : Type 0
+  where
+    pub given : List ℕ
+    pub gave : Gave input now given
+    pub in_limit : length given ≤ 2 ^ 40
+    pub has : HasHeader script given
+    pub whole : IsTakenWhole script given now
+    pub limits : KeepsLimits script (input_header script given) (frames_in_bytes script given)
+    pub all : HasAll (output script given) other seen
+    pub size_is : size ≡ length (output script given)
+    pub no_fault : now.faults ≡ input.faults
+    pub cost : CostsFew script (frames_in_bytes script given) before counts
 
 -- ---- it is not, or that is not known
 
 -- just the frame was taken that is the first past the limit, and so many samples are those up to it
 pub record IsPastLimit (script : Script) (given : List ℕ) (size : ℕ) : Type 0 where
   pub frames : frames_in_bytes script given ≡ frames_past_limit script
-  pub alone : length given ≡ (input_header script given).start + frames_past_limit script * frame_bytes script (input_header script given).coding
+  pub alone : length given ≡ (input_header script given).start + frames_past_limit script * frame_bytes script
+      (input_header script given).coding
   pub size_is : size ≡ frames_past_limit script * script.input.channels
 
 -- so many samples are those of the first place that has too many, of so many frames of input
@@ -83,17 +89,22 @@ pub record IsLong (script : Script) (header : Header) (frames size : ℕ) : Type
 -- why it stopped, from the bytes that were taken
 abbrev pub IsCause : CheckFault → Script → List ℕ → SourceState → Type 0
 IsCause (fault.Header said offset) script given now = HasFault script given now (said, offset)
-IsCause (fault.Input taken limit) script given now = (length given ≡ 2 ^ 40) × (taken ≡ 2 ^ 40) × (limit ≡ 2 ^ 40) × WantsMore script given
+IsCause (fault.Input taken limit) script given now = (length given ≡ 2 ^ 40) × (taken ≡ 2 ^ 40) × (limit ≡ 2 ^ 40) ×
+    WantsMore script given
 IsCause (fault.Window end full) script given now =
-    HasHeader script given × IsTakenWhole script given now × (window_at script.blocks (frames_in_bytes script given) ≡ Some (end, full))
+    HasHeader script given × IsTakenWhole script given now ×
+    (window_at script.blocks (frames_in_bytes script given) ≡ Some (end, full))
 IsCause (fault.Riff size limit) script given now =
-    HasHeader script given × IsTakenWhole script given now × IsLong script (input_header script given) (frames_in_bytes script given) size × (limit ≡ MAX_RIFF_SIZE)
+    HasHeader script given × IsTakenWhole script given now ×
+    IsLong script (input_header script given) (frames_in_bytes script given) size × (limit ≡ MAX_RIFF_SIZE)
 IsCause (fault.Size size limit) script given now =
     HasHeader script given × (limit ≡ MAX_CHECKED)
-    × (IsPastLimit script given size ⊎ (IsTakenWhole script given now × IsPlaceFull script (input_header script given) (frames_in_bytes script given) size))
+    × (IsPastLimit script given size ⊎ (IsTakenWhole script given now ×
+    IsPlaceFull script (input_header script given) (frames_in_bytes script given) size))
 IsCause fault.Read script given now = (length given < 2 ^ 40) × AwaitsDeclared script given
 IsCause fault.Memory script given now = HasHeader script given
-IsCause fault script given now = HasHeader script given × IsTakenWhole script given now × KeepsLimits script (input_header script given) (frames_in_bytes script given)
+IsCause fault script given now = HasHeader script given × IsTakenWhole script given now ×
+    KeepsLimits script (input_header script given) (frames_in_bytes script given)
 
 -- no more samples were taken than may be checked, but for the frame of a size, or where memory was wanting for it
 abbrev pub TookFew : CheckFault → Script → List ℕ → Type 0
@@ -113,7 +124,8 @@ CountsFault fault.Read input now = now.faults ≡ one_more input.faults
 CountsFault fault input now = now.faults ≡ input.faults
 
 -- `given` are all bytes that were taken of the input
-pub record Stopped (script : Script) (fault : CheckFault) (input now other seen : SourceState) (before counts : Counts) : Type 0 where
+pub record Stopped (script : Script) (fault : CheckFault) (input now other seen : SourceState)
+    (before counts : Counts) : Type 0 where
   pub given : List ℕ
   pub gave : Gave input now given
   pub in_limit : length given ≤ 2 ^ 40

@@ -19,7 +19,8 @@ IsDecided offset wanted seen new =
 
 -- why, by all bytes that were read
 abbrev pub IsSeen : Mismatch → List ℕ → List ℕ → SourceState → SourceState → Type 0
-IsSeen (Differs offset) wanted seen old new = (offset ≤ length wanted) × IsDecided offset wanted seen new × (new.faults ≡ old.faults)
+IsSeen (Differs offset) wanted seen old new = (offset ≤ length wanted) × IsDecided offset wanted seen new ×
+    (new.faults ≡ old.faults)
 IsSeen Failed wanted seen old new = (seen ≡ take (length seen) wanted) × (new.faults ≡ one_more old.faults)
 
 -- the port gave these bytes, which show that it does not have exactly those wanted, or it failed behind them

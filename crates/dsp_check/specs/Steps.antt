@@ -19,8 +19,10 @@ bytes_past_limit script header = frames_past_limit script * frame_bytes script h
 
 -- the samples were not read to that: the input gave no more, or memory was wanting for what it gave
 pub data Unread (script : Script) (header : Header) (stop : CheckFault) (input now : SourceState) : Type 0 where
-  NoInput : (error : InputFault) → stop ≡ of_input error → PartLost script header (bytes_past_limit script header) error input now → Unread script header stop input now
-  NoRoom : (bytes : List ℕ) → stop ≡ fault.Memory → TakenSoFar script header (bytes_past_limit script header) bytes input now → Unread script header stop input now
+  NoInput : (error : InputFault) → stop ≡ of_input error →
+      PartLost script header (bytes_past_limit script header) error input now → Unread script header stop input now
+  NoRoom : (bytes : List ℕ) → stop ≡ fault.Memory → TakenSoFar script header (bytes_past_limit script header) bytes
+      input now → Unread script header stop input now
 
 -- a length of so many frames is past its limit: none before it is
 abbrev pub IsLengthFault : CheckFault → Script → Header → ℕ → Type 0
@@ -28,11 +30,14 @@ IsLengthFault (fault.Size size limit) script header frames =
     (limit ≡ MAX_CHECKED)
     × (((frames ≡ frames_past_limit script) × (size ≡ frames * script.input.channels))
     ⊎ ((frames < frames_past_limit script) × IsPlaceFull script header frames size))
-IsLengthFault (fault.Window end full) script header frames = (frames < frames_past_limit script) × (window_at script.blocks frames ≡ Some (end, full))
-IsLengthFault (fault.Riff size limit) script header frames = (frames < frames_past_limit script) × IsLong script header frames size × (limit ≡ MAX_RIFF_SIZE)
+IsLengthFault (fault.Window end full) script header frames = (frames < frames_past_limit script) ×
+    (window_at script.blocks frames ≡ Some (end, full))
+IsLengthFault (fault.Riff size limit) script header frames = (frames < frames_past_limit script) ×
+    IsLong script header frames size × (limit ≡ MAX_RIFF_SIZE)
 IsLengthFault error script header frames = ⊥
 
 -- the output for the samples that stand in these bytes
 abbrev pub output_of : Script → Header → List ℕ → List ℕ
 output_of script header bytes =
-    output_header script header ++ whole_bytes script (samples header.coding script.input.channels bytes) ++ output_pad script header
+    output_header script header ++ whole_bytes script (samples header.coding script.input.channels bytes) ++
+    output_pad script header

@@ -1,6 +1,8 @@
 //! A whole signal, channel by channel.
-ghost use Rattle.std.specs.Prelude.{◌≡◌, ◌≤◌, ◌<◌, ◌-◌, ℤ, List, [], ◌∷◌, ◌++◌, length, map, take, get_or, IfOk, OnOk, OnErr};
-ghost use Rattle.dsp_check.specs.Channels.{AreChannels, frame_at, frame_count, no_frames, with_frame, without_last};
+ghost use Rattle.std.specs.Prelude.{◌≡◌, ◌≤◌, ◌<◌, ◌-◌, ℤ, List, [], ◌∷◌, ◌++◌, length, map, take, get_or};
+ghost use Rattle.std.specs.Prelude.{IfOk, OnOk, OnErr};
+ghost use Rattle.dsp_check.specs.Channels.{AreChannels, frame_at, frame_count, no_frames, with_frame};
+ghost use Rattle.dsp_check.specs.Channels.{without_last};
 
 use dsp_exact::sample;
 use std::alloc::{AllocError, Global};

@@ -1,5 +1,7 @@
 -- A generated input is whole, within the limit, and of as many frames as were asked for.
-use Rattle.std.proofs.Common.{◌≡◌, ℕ, ◌+◌, ◌-◌, ◌*◌, ◌/◌, ◌^◌, ◌<◌, ◌≤◌, nat_lt, Bool, false, if◌then◌else◌, List, ◌++◌, length, take, drop, Some, None, Ok, Err, refl, sym, ap, ◌∙◌, subst, arith, append_assoc, length-append}
+use Rattle.std.proofs.Common.{◌≡◌, ℕ, ◌+◌, ◌-◌, ◌*◌, ◌/◌, ◌^◌, ◌<◌, ◌≤◌, nat_lt, Bool, false, if◌then◌else◌, List}
+use Rattle.std.proofs.Common.{◌++◌, length, take, drop, Some, None, Ok, Err, refl, sym, ap, ◌∙◌, subst, arith}
+use Rattle.std.proofs.Common.{append_assoc, length-append}
 use Rattle.std.proofs.lemmas.Bool.Decides.{nat_tests}
 use Rattle.std.proofs.lemmas.List.{take_all, length-take, length-drop}
 use Rattle.std.proofs.lemmas.Nat.{div-mul-add}
@@ -24,7 +26,8 @@ use Rattle.dsp_defs.proofs.CodingLemmas.{width-coding_of}
 use Rattle.dsp_defs.proofs.WaveLaws.{header_of-wave_header}
 use Rattle.dsp_wave.proofs.GeneratorLemmas.{data_small, header_fits, generated-made, generated_bytes-small, length-made}
 use Rattle.dsp_session.specs.Session.{frame_bytes}
-use Rattle.dsp_session.specs.Stream.{declared_bytes, frames_in_bytes, in_whole_frames, input_fault, short_fault, wave_fault}
+use Rattle.dsp_session.specs.Stream.{declared_bytes, frames_in_bytes, in_whole_frames, input_fault, short_fault}
+use Rattle.dsp_session.specs.Stream.{wave_fault}
 use Rattle.dsp_input.specs.Taking.{InLimit}
 use Rattle.dsp_input.proofs.InputLaws.{frame_in, frames_of_bytes, good_header}
 
@@ -35,13 +38,15 @@ floor_within : (n f : ℕ) → n / f * f ≤ n
 floor_within n f = grind (arith)
 
 -- all declared bytes are there
-not_short : (script : Script) (coding : Coding) (rate declared count : ℕ) → 44 + declared ≤ count → short_fault script (record { rate = rate; start = 44; size = Some declared; coding = coding }) count ≡ None
+not_short : (script : Script) (coding : Coding) (rate declared count : ℕ) → 44 + declared ≤ count →
+    short_fault script (record { rate = rate; start = 44; size = Some declared; coding = coding }) count ≡ None
 not_short script coding rate declared count all =
     let floor = floor_within declared (frame_bytes script coding) in
     let test : nat_lt count (44 + in_whole_frames script coding declared) ≡ false = grind (arith, nat_tests) in
     ap (λ (b : Bool). if b then Some (Short declared (count - 44), count) else None) test
 
-module _ (script : Script) (seed frames : ℕ) (few : (1 ≤ script.input.channels) × (script.input.channels ≤ MAX_CHANNELS)) (short : frames ≤ MAX_GENERATED) where
+module _ (script : Script) (seed frames : ℕ) (few : (1 ≤ script.input.channels) ×
+    (script.input.channels ≤ MAX_CHANNELS)) (short : frames ≤ MAX_GENERATED) where
   abbrev bytes : List ℕ
   bytes = generated_bytes script.input seed frames
 
@@ -51,12 +56,16 @@ module _ (script : Script) (seed frames : ℕ) (few : (1 ≤ script.input.channe
   small : size ≤ MAX_GENERATED * MAX_CHANNELS * word_bytes Q31
   small = data_small script.input.format script.input.channels frames few.1 short
 
-  samples_size : (c : Container) → length (coded (coding_of c script.input.format) (generated script.input.format script.input.channels seed frames)) ≡ size
+  samples_size : (c : Container) → length (coded (coding_of c script.input.format)
+      (generated script.input.format script.input.channels seed frames)) ≡ size
   samples_size c =
-      ap length (generated-made c script.input.format script.input.channels seed frames) ∙ length-made c script.input.format seed (frames * script.input.channels)
+      ap length (generated-made c script.input.format script.input.channels seed frames) ∙
+      length-made c script.input.format seed (frames * script.input.channels)
 
-  of_kind : (k : InputKind) → script.input.kind ≡ k → bytes ≡ generated_bytes (record { kind = k; format = script.input.format; channels = script.input.channels }) seed frames
-  of_kind k is = ap (λ (k : InputKind). generated_bytes (record { kind = k; format = script.input.format; channels = script.input.channels }) seed frames) is
+  of_kind : (k : InputKind) → script.input.kind ≡ k → bytes ≡ generated_bytes
+      (record { kind = k; format = script.input.format; channels = script.input.channels }) seed frames
+  of_kind k is = ap (λ (k : InputKind). generated_bytes
+      (record { kind = k; format = script.input.format; channels = script.input.channels }) seed frames) is
 
   -- ---- a WAVE input
 
@@ -64,27 +73,46 @@ module _ (script : Script) (seed frames : ℕ) (few : (1 ≤ script.input.channe
   head = wave_header container.Wave script.input.format script.input.channels GENERATED_RATE (Some frames)
 
   abbrev behind : List ℕ
-  behind = coded (coding_of container.Wave script.input.format) (generated script.input.format script.input.channels seed frames) ++ pad script.input.format script.input.channels (Some frames)
+  behind = coded (coding_of container.Wave script.input.format)
+      (generated script.input.format script.input.channels seed frames) ++ pad script.input.format script.input.channels
+      (Some frames)
 
   wave_bytes : script.input.kind ≡ kind.Wave → bytes ≡ head ++ behind
   wave_bytes is =
       of_kind kind.Wave is
-      ∙ append_assoc head (coded (coding_of container.Wave script.input.format) (generated script.input.format script.input.channels seed frames)) (pad script.input.format script.input.channels (Some frames))
+      ∙ append_assoc head (coded (coding_of container.Wave script.input.format)
+      (generated script.input.format script.input.channels seed frames))
+      (pad script.input.format script.input.channels (Some frames))
 
   abbrev header : Header
-  header = record { rate = GENERATED_RATE; start = 44; size = Some size; coding = coding_of container.Wave script.input.format }
+  header = record {
+    rate = GENERATED_RATE;
+    start = 44;
+    size = Some size;
+    coding =
+        coding_of container.Wave script.input.format;
+  }
 
   wave_header_of : script.input.kind ≡ kind.Wave → header_of bytes (wanted_of script) ≡ Ok header
   wave_header_of is =
       ap (λ bytes. header_of bytes (wanted_of script)) (wave_bytes is)
-      ∙ header_of-wave_header script.input.format script.input.channels GENERATED_RATE (Some frames) behind few.1 (omega arith) container.Wave (header_fits script.input.format script.input.channels frames few.1 short)
+      ∙ header_of-wave_header script.input.format script.input.channels GENERATED_RATE (Some frames) behind few.1
+      (omega arith) container.Wave (header_fits script.input.format script.input.channels frames few.1 short)
 
   wave_length : script.input.kind ≡ kind.Wave → 44 + size ≤ length bytes
   wave_length is =
-      let samples = coded (coding_of container.Wave script.input.format) (generated script.input.format script.input.channels seed frames) in
+      let samples = coded (coding_of container.Wave script.input.format)
+      (generated script.input.format script.input.channels seed frames) in
       let last = pad script.input.format script.input.channels (Some frames) in
       let first : length head ≡ 44 = refl in
-      omega (arith, ap length (wave_bytes is), length-append head behind, length-append samples last, samples_size container.Wave, first)
+      omega (
+        arith,
+        ap length (wave_bytes is),
+        length-append head behind,
+        length-append samples last,
+        samples_size container.Wave,
+        first,
+      )
 
   -- ---- all inputs
 
@@ -95,16 +123,31 @@ module _ (script : Script) (seed frames : ℕ) (few : (1 ≤ script.input.channe
       by (kind.Raw rate) is = ap (λ k. elim k [ kind.Raw rate ↦ None | kind.Wave ↦ wave_fault script bytes ]) is
       by kind.Wave is =
           ap (λ k. elim k [ kind.Raw rate ↦ None | kind.Wave ↦ wave_fault script bytes ]) is
-          ∙ ap (λ r. elim r [ Err fault ↦ Some fault | Ok header ↦ short_fault script header (length bytes) ]) (wave_header_of is)
-          ∙ not_short script (coding_of container.Wave script.input.format) GENERATED_RATE size (length bytes) (wave_length is)
+          ∙ ap (λ r. elim r [ Err fault ↦ Some fault | Ok header ↦ short_fault script header (length bytes) ])
+          (wave_header_of is)
+          ∙ not_short script (coding_of container.Wave script.input.format) GENERATED_RATE size (length bytes)
+          (wave_length is)
 
-  raw_header_is : (rate : ℕ) → script.input.kind ≡ kind.Raw rate → input_header script bytes ≡ record { rate = rate; start = 0; size = None; coding = coding_of container.Raw script.input.format }
+  raw_header_is : (rate : ℕ) → script.input.kind ≡ kind.Raw rate →
+      input_header script bytes ≡ record {
+        rate = rate;
+        start = 0;
+        size = None;
+        coding =
+            coding_of container.Raw script.input.format;
+      }
   raw_header_is rate is = ap (λ k. header_by k (wanted_of script) bytes) is
 
   wave_header_is : script.input.kind ≡ kind.Wave → input_header script bytes ≡ header
   wave_header_is is =
       ap (λ k. header_by k (wanted_of script) bytes) is
-      ∙ ap (λ r. result_unwrap_or r (record { rate = 0; start = length bytes; size = None; coding = coding_of container.Wave script.input.format })) (wave_header_of is)
+      ∙ ap (λ r. result_unwrap_or r (record {
+        rate = 0;
+        start = length bytes;
+        size = None;
+        coding =
+            coding_of container.Wave script.input.format;
+      })) (wave_header_of is)
 
   raw_length : (rate : ℕ) → script.input.kind ≡ kind.Raw rate → length bytes ≡ size
   raw_length rate is = ap length (of_kind (kind.Raw rate) is) ∙ samples_size container.Raw
@@ -116,7 +159,11 @@ module _ (script : Script) (seed frames : ℕ) (few : (1 ≤ script.input.channe
   all_bytes = generated_bytes-small script.input seed frames few.1 short
 
   abbrev EndsWithin : Header → Type 0
-  EndsWithin h = elim (declared_bytes script h) [ Some size ↦ HasHeader script (take (2 ^ 40) bytes) × (h.start + size ≤ 2 ^ 40) | None ↦ length bytes < 2 ^ 40 ]
+  EndsWithin h = elim (declared_bytes script h) [
+    | Some size ↦ HasHeader script (take (2 ^ 40) bytes) ×
+        (h.start + size ≤ 2 ^ 40)
+    | None ↦ length bytes < 2 ^ 40
+  ]
 
   pub generated_in_limit : InLimit script bytes
   generated_in_limit = by script.input.kind refl
@@ -127,7 +174,15 @@ module _ (script : Script) (seed frames : ℕ) (few : (1 ≤ script.input.channe
       by : (k : InputKind) → script.input.kind ≡ k → EndsWithin (input_header script bytes)
       by (kind.Raw rate) is = subst EndsWithin (sym (raw_header_is rate is)) (omega (arith, raw_length rate is, small))
       by kind.Wave is =
-          subst EndsWithin (sym (wave_header_is is)) (has, omega (arith, small, floor_within size (frame_bytes script (coding_of container.Wave script.input.format))))
+          subst EndsWithin (sym (wave_header_is is)) (
+            has,
+            omega (
+              arith,
+              small,
+              floor_within size (frame_bytes script
+                  (coding_of container.Wave script.input.format)),
+            ),
+          )
 
   -- as many frames as were asked for
   some : 0 < script.input.channels * word_bytes script.input.format
@@ -156,9 +211,12 @@ module _ (script : Script) (seed frames : ℕ) (few : (1 ≤ script.input.channe
   frame_is : frame_in script bytes ≡ script.input.channels * word_bytes script.input.format
   frame_is = by script.input.kind refl
     where
-      by : (k : InputKind) → script.input.kind ≡ k → frame_in script bytes ≡ script.input.channels * word_bytes script.input.format
-      by (kind.Raw rate) is = ap (λ (h : Header). script.input.channels * width h.coding) (raw_header_is rate is) ∙ ap (λ w. script.input.channels * w) (width-coding_of container.Raw script.input.format)
-      by kind.Wave is = ap (λ (h : Header). script.input.channels * width h.coding) (wave_header_is is) ∙ ap (λ w. script.input.channels * w) (width-coding_of container.Wave script.input.format)
+      by : (k : InputKind) → script.input.kind ≡ k → frame_in script bytes ≡ script.input.channels * word_bytes
+          script.input.format
+      by (kind.Raw rate) is = ap (λ (h : Header). script.input.channels * width h.coding) (raw_header_is rate is) ∙
+          ap (λ w. script.input.channels * w) (width-coding_of container.Raw script.input.format)
+      by kind.Wave is = ap (λ (h : Header). script.input.channels * width h.coding) (wave_header_is is) ∙
+          ap (λ w. script.input.channels * w) (width-coding_of container.Wave script.input.format)
 
   pub generated_frames : frames_in_bytes script bytes ≡ frames
   generated_frames = frames_of_bytes script bytes ∙ (λ i. sample_count i / frame_is i) ∙ whole

@@ -1,5 +1,6 @@
 -- What a run comes to for the words that ask for it.
-use Rattle.std.proofs.Common.{◌≡◌, ◌≤◌, ℕ, Bool, List, length, ◌++◌, Option, None, Some, IsTrue, IsFalse, refl, sym, ap, ◌∙◌, subst, flat_map, codes, inl, inr}
+use Rattle.std.proofs.Common.{◌≡◌, ◌≤◌, ℕ, Bool, List, length, ◌++◌, Option, None, Some, IsTrue, IsFalse, refl, sym}
+use Rattle.std.proofs.Common.{ap, ◌∙◌, subst, flat_map, codes, inl, inr}
 use Rattle.dsp_ports.specs.Ports.{SourceState, SinkState}
 use Rattle.dsp_defs.specs.Counts.{Counts}
 use Rattle.dsp_defs.specs.Output.{format_of, channels_of, input_signal}
@@ -23,29 +24,39 @@ use Rattle.dsp_session.specs.Session.{cost_of}
 use Rattle.dsp_session.specs.Stream.{Done, Stopped as StreamStopped}
 use Rattle.dsp_session.specs.declared.fault.StreamFault.{StreamFault}
 use Rattle.dsp_cli.specs.Fault.{summary_text}
-use Rattle.dsp_cli.specs.Call.{Call, call, Untouched, Streams, Went, Saved, Resumed, Checked, Stopped, OfText, OfState, OfBytes, OfScript, InFirst, InRest, Happened}
-use Rattle.dsp_cli.specs.Perform.{NotBegun, Compared, FailsToCompare, ReadsAs, Ran, RanGenerated, Made, FailsToLoad, FailsToRun, FailsToGenerate, LoadsState, FailsToLoadState, RanFirst, FailsToStop, RanRest, FailsToGoOn}
+use Rattle.dsp_cli.specs.Call.{Call, call, Untouched, Streams, Went, Saved, Resumed, Checked, Stopped, OfText}
+use Rattle.dsp_cli.specs.Call.{OfState, OfBytes, OfScript, InFirst, InRest, Happened}
+use Rattle.dsp_cli.specs.Perform.{NotBegun, Compared, FailsToCompare, ReadsAs, Ran, RanGenerated, Made, FailsToLoad}
+use Rattle.dsp_cli.specs.Perform.{FailsToRun, FailsToGenerate, LoadsState, FailsToLoadState, RanFirst, FailsToStop}
+use Rattle.dsp_cli.specs.Perform.{RanRest, FailsToGoOn}
 use Rattle.dsp_cli.specs.Run.{HasSource, HasText, HasBlocks, IsStream, IsReading, read_from}
 use Rattle.dsp_cli.specs.Script.{named_by, banked_by, chosen, chosen_block, is_banked, is_legal_for}
 use Rattle.dsp_cli.specs.declared.fault.Fault.{Fault}
-use Rattle.dsp_cli.specs.declared.fault.Fault.TheVariants.{ScriptRead, Script as BadText, BlockLength, Memory, Stream, State, Part, Comparison}
+use Rattle.dsp_cli.specs.declared.fault.Fault.TheVariants.{ScriptRead, Script as BadText, BlockLength, Memory, Stream}
+use Rattle.dsp_cli.specs.declared.fault.Fault.TheVariants.{State, Part, Comparison}
 use Rattle.dsp_cli.proofs.StatusLaws.{stream_blocks, stream_text, text_source}
 use Rattle.dsp_cli.specs.declared.report.Summary.{Summary}
 
 -- the stream of a session of the script, in blocks of the chosen length, has done this
-pub done_by : (banked same_banked : Bool) (script same : Script) (block same_block frames : ℕ) (input now : SourceState) (sink after : SinkState) (before counts : Counts) (found measured : List Measure)
+pub done_by : (banked same_banked : Bool) (script same : Script) (block same_block frames : ℕ)
+    (input now : SourceState) (sink after : SinkState) (before counts : Counts) (found measured : List Measure)
     → same_banked ≡ banked → same ≡ script → same_block ≡ block → found ≡ measured
-    → Done same_banked same same_block frames input now sink after before counts measured → Done banked script block frames input now sink after before counts found
-done_by banked same_banked script same block same_block frames input now sink after before counts found measured k s b f done =
+    → Done same_banked same same_block frames input now sink after before counts measured →
+    Done banked script block frames input now sink after before counts found
+done_by banked same_banked script same block same_block frames input now sink after before counts found measured k s b
+    f done =
     subst (λ t. Done t script block frames input now sink after before counts found) k
     (subst (λ (t : Script). Done same_banked t block frames input now sink after before counts found) s
     (subst (λ n. Done same_banked same n frames input now sink after before counts found) b
     (subst (λ m. Done same_banked same same_block frames input now sink after before counts m) (sym f) done)))
 
 -- and its summary is the report of just that
-pub text_by : (script : Script) (summary : Summary) → summary.input ≡ record { format = script.input.format; channels = script.input.channels }
-    → summary.output ≡ record { format = format_of script; channels = channels_of script } → summary.totals.frames_given ≡ frames_given script.blocks summary.totals.frames_taken
-    → summary.totals.multiplies ≡ cost_of script summary.totals.frames_taken → summary_text summary ≡ report_text script summary.totals.frames_taken summary.measures.items
+pub text_by : (script : Script) (summary : Summary) →
+    summary.input ≡ record { format = script.input.format; channels = script.input.channels }
+    → summary.output ≡ record { format = format_of script; channels = channels_of script } →
+    summary.totals.frames_given ≡ frames_given script.blocks summary.totals.frames_taken
+    → summary.totals.multiplies ≡ cost_of script summary.totals.frames_taken →
+    summary_text summary ≡ report_text script summary.totals.frames_taken summary.measures.items
 text_by script summary came went given made =
     λ i. done_line ++ frames_line (codes "in") summary.totals.frames_taken (came i).channels (came i).format
     ++ frames_line (codes "out") (given i) (went i).channels (went i).format
@@ -53,13 +64,18 @@ text_by script summary came went given made =
 
 -- ---- what a command comes to
 
-module _ (words : List (List ℕ)) (source read port later : SourceState) (sink after : SinkState) (other : SourceState) (before counts : Counts) (script : Script) (loaded : ReadsAs source read script) where
+module _ (words : List (List ℕ)) (source read port later : SourceState) (sink after : SinkState) (other : SourceState)
+    (before counts : Counts) (script : Script) (loaded : ReadsAs source read script) where
   abbrev called : Call
   called = call words source read port later sink after other other before counts
 
   -- the words are a run or a gen, and its stream was begun
-  module _ (command : Command) (is : command_of words ≡ Some command) (stream : IsStream words) (now : SourceState) (reading : IsReading (Some command) port later now) where
-    streams : (Did : ℕ → SourceState → SourceState → Type 0) → IsTrue (is_legal_for script (chosen (named_by (Some command)) script)) → Did (chosen (named_by (Some command)) script) (read_from (Some command) script.input port) now → Streams script Did called
+  module _ (command : Command) (is : command_of words ≡ Some command) (stream : IsStream words) (now : SourceState)
+      (reading : IsReading (Some command) port later now) where
+    streams : (Did : ℕ → SourceState → SourceState → Type 0) →
+        IsTrue (is_legal_for script (chosen (named_by (Some command)) script)) →
+        Did (chosen (named_by (Some command)) script) (read_from (Some command) script.input port) now →
+        Streams script Did called
     streams Did legal did =
         record {
           stream = stream;
@@ -67,7 +83,8 @@ module _ (words : List (List ℕ)) (source read port later : SourceState) (sink 
           legal = subst (λ command. IsTrue (is_legal_for script (chosen (named_by command) script))) (sym is) legal;
           now = now;
           reading = subst (λ command. IsReading command port later now) (sym is) reading;
-          did = subst (λ command. Did (chosen (named_by command) script) (read_from command script.input port) now) (sym is) did;
+          did = subst (λ command. Did (chosen (named_by command) script) (read_from command script.input port) now)
+              (sym is) did;
           other_same = refl;
         }
 
@@ -77,19 +94,23 @@ module _ (words : List (List ℕ)) (source read port later : SourceState) (sink 
 
     abbrev WentBy : Bool → Summary → Type 0
     WentBy banked summary =
-        Done banked script (chosen (named_by (Some command)) script) summary.totals.frames_taken (read_from (Some command) script.input port) now sink after
+        Done banked script (chosen (named_by (Some command)) script) summary.totals.frames_taken
+        (read_from (Some command) script.input port) now sink after
         before counts summary.measures.items
 
     abbrev StopsBy : Bool → StreamFault → Type 0
     StopsBy banked fault =
-        StreamStopped banked script (chosen (named_by (Some command)) script) fault (read_from (Some command) script.input port) now sink after before counts
+        StreamStopped banked script (chosen (named_by (Some command)) script) fault
+        (read_from (Some command) script.input port) now sink after before counts
 
-    went : (summary : Summary) → Ran (named_by (Some command)) (banked_by (Some command)) script summary (read_from (Some command) script.input port) now sink after before counts → Made (summary_text summary) called
+    went : (summary : Summary) → Ran (named_by (Some command)) (banked_by (Some command)) script summary
+        (read_from (Some command) script.input port) now sink after before counts → Made (summary_text summary) called
     went summary ran =
         record {
           ending = Went script summary.totals.frames_taken summary.measures.items;
           happened = streams
-              (λ block input now. Done (is_banked words) script block summary.totals.frames_taken input now sink after before counts summary.measures.items)
+              (λ block input now. Done (is_banked words) script block summary.totals.frames_taken input now sink after
+              before counts summary.measures.items)
               ran.legal (subst (λ banked. WentBy banked summary) flag ran.done);
           whole = tt;
           text_is = ran.text;
@@ -97,53 +118,93 @@ module _ (words : List (List ℕ)) (source read port later : SourceState) (sink 
 
     module _ (left : (now ≡ read_from (Some command) script.input port) → later ≡ port) where
       left_alone : NotBegun (read_from (Some command) script.input port) now sink after before counts → Untouched called
-      left_alone not_begun = record { input_same = left not_begun.input_same; output_same = not_begun.output_same; other_same = refl; counts_same = not_begun.counts_same }
+      left_alone not_begun = record {
+        input_same = left not_begun.input_same;
+        output_same =
+            not_begun.output_same;
+        other_same = refl;
+        counts_same = not_begun.counts_same;
+      }
 
-      stops : (fault : Fault) → FailsToRun fault (named_by (Some command)) (banked_by (Some command)) script (read_from (Some command) script.input port) now sink after before counts → Happened (Stopped fault) called
+      stops : (fault : Fault) → FailsToRun fault (named_by (Some command)) (banked_by (Some command)) script
+          (read_from (Some command) script.input port) now sink after before counts → Happened (Stopped fault) called
       stops (BlockLength block divisor) (length, untouched) =
-          let chosen_is : chosen (named_by (Some command)) script ≡ chosen_block words script = ap (λ command. chosen (named_by command) script) (sym is) in
-          let illegal : IsFalse (is_legal_for script block) = subst (λ n. IsFalse (is_legal_for script n)) (sym length.block_is) length.illegal in (
+          let chosen_is : chosen (named_by (Some command)) script ≡ chosen_block words script =
+          ap (λ command. chosen (named_by command) script) (sym is) in
+          let illegal : IsFalse (is_legal_for script block) =
+          subst (λ n. IsFalse (is_legal_for script n)) (sym length.block_is) length.illegal in (
             OfText (stream_blocks words stream)
-                (record { text = loaded.text; read = loaded.read; holds = (script, loaded.holds, illegal, length.block_is ∙ chosen_is, length.divisor_is) }),
+                (record {
+                  text = loaded.text;
+                  read = loaded.read;
+                  holds =
+                      (script, loaded.holds, illegal, length.block_is ∙ chosen_is, length.divisor_is);
+                }),
             left_alone untouched,
           )
       stops Memory untouched = (text_source (command_of words) (stream_text words stream), left_alone untouched)
       stops (Stream fault) stop = (
         script,
-        streams (λ block input now. StreamStopped (is_banked words) script block fault input now sink after before counts) stop.legal
+        streams (λ block input now. StreamStopped (is_banked words) script block fault input now sink after before
+            counts) stop.legal
             (subst (λ banked. StopsBy banked fault) flag stop.stopped),
       )
       stops fault none = absurd none
 
   -- a run
   module _ (named : Option ℕ) (banked : Bool) (is : command_of words ≡ Some (Run named banked)) where
-    pub run_went : (summary : Summary) → Ran named banked script summary port later sink after before counts → Made (summary_text summary) called
+    pub run_went : (summary : Summary) → Ran named banked script summary port later sink after before counts →
+        Made (summary_text summary) called
     run_went summary ran = went (Run named banked) is (inl (named, banked, is)) later refl summary ran
 
-    pub run_stops : (fault : Fault) → FailsToRun fault named banked script port later sink after before counts → Happened (Stopped fault) called
+    pub run_stops : (fault : Fault) → FailsToRun fault named banked script port later sink after before counts →
+        Happened (Stopped fault) called
     run_stops fault fails = stops (Run named banked) is (inl (named, banked, is)) later refl (λ same. same) fault fails
 
 -- a gen leaves the port of the input alone
-module _ (words : List (List ℕ)) (source read port : SourceState) (sink after : SinkState) (other : SourceState) (before counts : Counts) (script : Script) (loaded : ReadsAs source read script) (seed frames : ℕ) (is : command_of words ≡ Some (Gen seed frames)) where
-  pub gen_went : (summary : Summary) → RanGenerated seed frames script summary sink after before counts → Made (summary_text summary) (call words source read port port sink after other other before counts)
+module _ (words : List (List ℕ)) (source read port : SourceState) (sink after : SinkState) (other : SourceState)
+    (before counts : Counts) (script : Script) (loaded : ReadsAs source read script) (seed frames : ℕ)
+    (is : command_of words ≡ Some (Gen seed frames)) where
+  pub gen_went : (summary : Summary) → RanGenerated seed frames script summary sink after before counts →
+      Made (summary_text summary) (call words source read port port sink after other other before counts)
   gen_went summary made =
-      went words source read port port sink after other before counts script loaded (Gen seed frames) is (inr (seed, frames, is)) made.now (refl, made.clean) summary made.ran
+      went words source read port port sink after other before counts script loaded (Gen seed frames) is
+      (inr (seed, frames, is)) made.now (refl, made.clean) summary made.ran
 
-  pub gen_stops : (fault : Fault) → FailsToGenerate fault seed frames script sink after before counts → Happened (Stopped fault) (call words source read port port sink after other other before counts)
+  pub gen_stops : (fault : Fault) → FailsToGenerate fault seed frames script sink after before counts →
+      Happened (Stopped fault) (call words source read port port sink after other other before counts)
   gen_stops fault made =
-      stops words source read port port sink after other before counts script loaded (Gen seed frames) is (inr (seed, frames, is)) made.now (refl, made.clean) (λ _. refl) fault made.fails
+      stops words source read port port sink after other before counts script loaded (Gen seed frames) is
+      (inr (seed, frames, is)) made.now (refl, made.clean) (λ _. refl) fault made.fails
 
 -- a script isn't loaded
-pub load_stops : (words : List (List ℕ)) (source read port : SourceState) (sink : SinkState) (other : SourceState) (counts : Counts) → HasText (command_of words) → (fault : Fault) → FailsToLoad fault source read
+pub load_stops : (words : List (List ℕ)) (source read port : SourceState) (sink : SinkState) (other : SourceState)
+    (counts : Counts) → HasText (command_of words) → (fault : Fault) → FailsToLoad fault source read
     → Happened (Stopped fault) (call words source read port port sink sink other other counts counts)
-load_stops words source read port sink other counts some ScriptRead fails = ((text_source (command_of words) some, fails), record { input_same = refl; output_same = refl; other_same = refl; counts_same = refl })
-load_stops words source read port sink other counts some (BadText fault) fails = ((some, fails), record { input_same = refl; output_same = refl; other_same = refl; counts_same = refl })
-load_stops words source read port sink other counts some Memory fails = (text_source (command_of words) some, record { input_same = refl; output_same = refl; other_same = refl; counts_same = refl })
+load_stops words source read port sink other counts some ScriptRead fails = (
+  (text_source (command_of words) some, fails),
+  record
+      { input_same = refl; output_same = refl; other_same = refl; counts_same = refl },
+)
+load_stops words source read port sink other counts some (BadText fault) fails =
+    ((some, fails), record { input_same = refl; output_same = refl; other_same = refl; counts_same = refl })
+load_stops words source read port sink other counts some Memory fails = (
+  text_source (command_of words) some,
+  record {
+    input_same = refl;
+    output_same = refl;
+    other_same =
+        refl;
+    counts_same = refl;
+  },
+)
 load_stops words source read port sink other counts some fault none = absurd none
 
 -- a run that was stopped has done this, and its state is that of the first frames
-pub first_by : (script : Script) (at : ℕ) (state : List ℕ) (old new : ResumeState) (input now : SourceState) (sink after : SinkState) (before counts : Counts)
-    → old.session.script ≡ script → old.frames ≡ at → state ≡ new.state → IsTrue (is_legal_for script (chosen None script)) → length (canon script) ≤ MAX_SCRIPT
+pub first_by : (script : Script) (at : ℕ) (state : List ℕ) (old new : ResumeState) (input now : SourceState)
+    (sink after : SinkState) (before counts : Counts)
+    → old.session.script ≡ script → old.frames ≡ at → state ≡ new.state →
+    IsTrue (is_legal_for script (chosen None script)) → length (canon script) ≤ MAX_SCRIPT
     → FirstDone old.session.script old.frames new.session input now sink after before counts → Saves old new
     → RanFirst at script state input now sink after before counts
 first_by script at state old new input now sink after before counts script_is at_is state_is legal short done saves =
@@ -157,89 +218,145 @@ first_by script at state old new input now sink after before counts script_is at
       session = new.session;
       done = own;
       state_is =
-          state_is ∙ saves.state x own.stands (sym own.frame_count ∙ sym at_is) ∙ (λ i. state_of (script_is i) (at_is i) (kept (script_is i) x));
+          state_is ∙ saves.state x own.stands (sym own.frame_count ∙ sym at_is) ∙
+          (λ i. state_of (script_is i) (at_is i) (kept (script_is i) x));
     }
 
 -- and one that went on has done that
-pub rest_by : (script same : Script) (start : SessionState) (at same_at frames : ℕ) (input now : SourceState) (sink after : SinkState) (before counts : Counts)
+pub rest_by : (script same : Script) (start : SessionState) (at same_at frames : ℕ) (input now : SourceState)
+    (sink after : SinkState) (before counts : Counts)
     (found measured : List Measure) → same ≡ script → same_at ≡ at → found ≡ measured
-    → RestDone same start same_at frames input now sink after before counts measured → RestDone script start at frames input now sink after before counts found
+    → RestDone same start same_at frames input now sink after before counts measured →
+    RestDone script start at frames input now sink after before counts found
 rest_by script same start at same_at frames input now sink after before counts found measured s a f done =
     subst (λ (t : Script). RestDone t start at frames input now sink after before counts found) s
     (subst (λ n. RestDone same start n frames input now sink after before counts found) a
     (subst (λ m. RestDone same start same_at frames input now sink after before counts m) (sym f) done))
 
 -- or has stopped
-pub first_stopped_by : (script same : Script) (block same_block at same_at : ℕ) (stop : PartFault) (input now : SourceState) (sink after : SinkState)
+pub first_stopped_by : (script same : Script) (block same_block at same_at : ℕ) (stop : PartFault)
+    (input now : SourceState) (sink after : SinkState)
     (before counts : Counts) → same ≡ script → same_block ≡ block → same_at ≡ at
-    → FirstStopped same same_block same_at stop input now sink after before counts → FirstStopped script block at stop input now sink after before counts
+    → FirstStopped same same_block same_at stop input now sink after before counts →
+    FirstStopped script block at stop input now sink after before counts
 first_stopped_by script same block same_block at same_at stop input now sink after before counts s b a stopped =
     subst (λ (t : Script). FirstStopped t block at stop input now sink after before counts) s
     (subst (λ n. FirstStopped same n at stop input now sink after before counts) b
     (subst (λ n. FirstStopped same same_block n stop input now sink after before counts) a stopped))
 
-pub rest_stopped_by : (script same : Script) (block same_block : ℕ) (start : SessionState) (at same_at : ℕ) (stop : PartFault) (input now : SourceState)
+pub rest_stopped_by : (script same : Script) (block same_block : ℕ) (start : SessionState) (at same_at : ℕ)
+    (stop : PartFault) (input now : SourceState)
     (sink after : SinkState) (before counts : Counts) → same ≡ script → same_block ≡ block → same_at ≡ at
-    → RestStopped same same_block start same_at stop input now sink after before counts → RestStopped script block start at stop input now sink after before counts
+    → RestStopped same same_block start same_at stop input now sink after before counts →
+    RestStopped script block start at stop input now sink after before counts
 rest_stopped_by script same block same_block start at same_at stop input now sink after before counts s b a stopped =
     subst (λ (t : Script). RestStopped t block start at stop input now sink after before counts) s
     (subst (λ n. RestStopped same n start at stop input now sink after before counts) b
     (subst (λ n. RestStopped same same_block start n stop input now sink after before counts) a stopped))
 
 -- a state isn't loaded
-pub state_stops : (words : List (List ℕ)) (source read port : SourceState) (sink : SinkState) (other : SourceState) (counts : Counts)
+pub state_stops : (words : List (List ℕ)) (source read port : SourceState) (sink : SinkState) (other : SourceState)
+    (counts : Counts)
     → command_of words ≡ Some Go → (fault : Fault) → FailsToLoadState fault source read
     → Happened (Stopped fault) (call words source read port port sink sink other other counts counts)
-state_stops words source read port sink other counts go ScriptRead fails =
-    ((subst HasSource (sym go) tt, fails), record { input_same = refl; output_same = refl; other_same = refl; counts_same = refl })
+state_stops words source read port sink other counts go ScriptRead fails = (
+  (subst HasSource (sym go) tt, fails),
+  record {
+    input_same = refl;
+    output_same = refl;
+    other_same =
+        refl;
+    counts_same = refl;
+  },
+)
 state_stops words source read port sink other counts go (State kind offset) fails =
     (OfBytes go fails, record { input_same = refl; output_same = refl; other_same = refl; counts_same = refl })
-state_stops words source read port sink other counts go Memory fails =
-    (subst HasSource (sym go) tt, record { input_same = refl; output_same = refl; other_same = refl; counts_same = refl })
+state_stops words source read port sink other counts go Memory fails = (
+  subst HasSource (sym go) tt,
+  record {
+    input_same = refl;
+    output_same = refl;
+    other_same = refl;
+    counts_same =
+        refl;
+  },
+)
 state_stops words source read port sink other counts go fault none = absurd none
 
-module _ (words : List (List ℕ)) (source read port later : SourceState) (sink after : SinkState) (other : SourceState) (before counts : Counts) where
+module _ (words : List (List ℕ)) (source read port later : SourceState) (sink after : SinkState) (other : SourceState)
+    (before counts : Counts) where
   abbrev asked : Call
   asked = call words source read port later sink after other other before counts
 
   alone : NotBegun port later sink after before counts → Untouched asked
-  alone not_begun = record { input_same = not_begun.input_same; output_same = not_begun.output_same; other_same = refl; counts_same = not_begun.counts_same }
+  alone not_begun = record {
+    input_same = not_begun.input_same;
+    output_same = not_begun.output_same;
+    other_same =
+        refl;
+    counts_same = not_begun.counts_same;
+  }
 
   -- a run that is to be stopped
-  module _ (script : Script) (loaded : ReadsAs source read script) (at : ℕ) (is : command_of words ≡ Some (Stop at)) where
-    pub first_ran : (state : List ℕ) → RanFirst at script state port later sink after before counts → Made state asked
-    first_ran state ran = record {
-      ending = Saved script at (input_signal script ran.done.given);
-      happened = record {
-        asked = is;
-        read = loaded;
-        legal = ran.legal;
-        short = ran.short;
-        did = (ran.session, ran.done, refl);
-        other_same = refl;
-      };
-      whole = tt;
-      text_is = ran.state_is;
-    }
+  module _ (script : Script) (loaded : ReadsAs source read script) (at : ℕ) (is : command_of words ≡ Some (Stop at))
+    where
+      pub first_ran : (state : List ℕ) → RanFirst at script state port later sink after before counts → Made state asked
+      first_ran state ran = record {
+        ending = Saved script at (input_signal script ran.done.given);
+        happened = record {
+          asked = is;
+          read = loaded;
+          legal = ran.legal;
+          short = ran.short;
+          did = (ran.session, ran.done, refl);
+          other_same = refl;
+        };
+        whole = tt;
+        text_is = ran.state_is;
+      }
 
-    pub first_stops : (fault : Fault) → FailsToStop fault at script port later sink after before counts → Happened (Stopped fault) asked
-    first_stops (BlockLength block divisor) (length, untouched) =
-        let chosen_is : chosen None script ≡ chosen_block words script = ap (λ command. chosen (named_by command) script) (sym is) in
-        let illegal : IsFalse (is_legal_for script block) = subst (λ n. IsFalse (is_legal_for script n)) (sym length.block_is) length.illegal in (
-          OfText (subst HasBlocks (sym is) tt)
-              (record { text = loaded.text; read = loaded.read; holds = (script, loaded.holds, illegal, length.block_is ∙ chosen_is, length.divisor_is) }),
-          alone untouched,
-        )
-    first_stops (State kind offset) (text, untouched) =
-        (OfScript at is (record { text = loaded.text; read = loaded.read; holds = (script, loaded.holds, text.legal, text.long, text.kind_is, text.offset_is) }), alone untouched)
-    first_stops Memory untouched = (subst HasSource (sym is) tt, alone untouched)
-    first_stops (Part fault) stop =
-        InFirst script at (record { asked = is; read = loaded; legal = stop.legal; short = stop.short; did = stop.stopped; other_same = refl })
-    first_stops fault none = absurd none
+      pub first_stops : (fault : Fault) → FailsToStop fault at script port later sink after before counts →
+          Happened (Stopped fault) asked
+      first_stops (BlockLength block divisor) (length, untouched) =
+          let chosen_is : chosen None script ≡ chosen_block words script =
+          ap (λ command. chosen (named_by command) script) (sym is) in
+          let illegal : IsFalse (is_legal_for script block) =
+          subst (λ n. IsFalse (is_legal_for script n)) (sym length.block_is) length.illegal in (
+            OfText (subst HasBlocks (sym is) tt)
+                (record {
+                  text = loaded.text;
+                  read = loaded.read;
+                  holds =
+                      (script, loaded.holds, illegal, length.block_is ∙ chosen_is, length.divisor_is);
+                }),
+            alone untouched,
+          )
+      first_stops (State kind offset) (text, untouched) = (
+        OfScript at is (record {
+          text = loaded.text;
+          read = loaded.read;
+          holds =
+              (script, loaded.holds, text.legal, text.long, text.kind_is, text.offset_is);
+        }),
+        alone untouched,
+      )
+      first_stops Memory untouched = (subst HasSource (sym is) tt, alone untouched)
+      first_stops (Part fault) stop =
+          InFirst script at (record {
+            asked = is;
+            read = loaded;
+            legal = stop.legal;
+            short = stop.short;
+            did =
+                stop.stopped;
+            other_same = refl;
+          })
+      first_stops fault none = absurd none
 
   -- a run that goes on
   module _ (saved : SavedState) (loaded : LoadsState source read saved) (go : command_of words ≡ Some Go) where
-    pub rest_ran : (summary : Summary) → RanRest saved summary port later sink after before counts → Made (summary_text summary) asked
+    pub rest_ran : (summary : Summary) → RanRest saved summary port later sink after before counts →
+        Made (summary_text summary) asked
     rest_ran summary ran = record {
       ending = Resumed saved.script summary.totals.frames_taken summary.measures.items;
       happened = record {
@@ -258,10 +375,19 @@ module _ (words : List (List ℕ)) (source read port later : SourceState) (sink 
       text_is = ran.text;
     }
 
-    pub rest_stops : (fault : Fault) → FailsToGoOn fault saved port later sink after before counts → Happened (Stopped fault) asked
+    pub rest_stops : (fault : Fault) → FailsToGoOn fault saved port later sink after before counts →
+        Happened (Stopped fault) asked
     rest_stops (BlockLength block divisor) (length, untouched) =
-        let illegal : IsFalse (is_legal_for saved.script block) = subst (λ n. IsFalse (is_legal_for saved.script n)) (sym length.block_is) length.illegal in
-        (OfState go (record { text = loaded.text; read = loaded.read; holds = (saved.script, saved.frames, saved.numbers, loaded.holds, illegal, length.block_is, length.divisor_is) }), alone untouched)
+        let illegal : IsFalse (is_legal_for saved.script block) =
+        subst (λ n. IsFalse (is_legal_for saved.script n)) (sym length.block_is) length.illegal in (
+          OfState go (record {
+            text = loaded.text;
+            read = loaded.read;
+            holds =
+                (saved.script, saved.frames, saved.numbers, loaded.holds, illegal, length.block_is, length.divisor_is);
+          }),
+          alone untouched,
+        )
     rest_stops Memory untouched = (subst HasSource (sym go) tt, alone untouched)
     rest_stops (Part fault) stop = InRest saved.script (record {
       asked = go;
@@ -278,11 +404,14 @@ module _ (words : List (List ℕ)) (source read port later : SourceState) (sink 
     rest_stops fault none = absurd none
 
 -- a check leaves the output alone
-module _ (words : List (List ℕ)) (source read port later : SourceState) (sink : SinkState) (other seen : SourceState) (before counts : Counts) (script : Script) (loaded : ReadsAs source read script) (is : command_of words ≡ Some Check) where
+module _ (words : List (List ℕ)) (source read port later : SourceState) (sink : SinkState) (other seen : SourceState)
+    (before counts : Counts) (script : Script) (loaded : ReadsAs source read script)
+    (is : command_of words ≡ Some Check) where
   abbrev checking : Call
   checking = call words source read port later sink sink other seen before counts
 
-  pub check_went : (size : ℕ) → Compared script size port later other seen before counts → Made (same_text size) checking
+  pub check_went : (size : ℕ) → Compared script size port later other seen before counts →
+      Made (same_text size) checking
   check_went size compared = record {
     ending = Checked script size;
     happened = record { asked = is; read = loaded; legal = compared.legal; did = compared.done; output_same = refl };
@@ -290,13 +419,31 @@ module _ (words : List (List ℕ)) (source read port later : SourceState) (sink 
     text_is = refl;
   }
 
-  pub check_stops : (fault : Fault) → FailsToCompare fault script port later other seen before counts → Happened (Stopped fault) checking
+  pub check_stops : (fault : Fault) → FailsToCompare fault script port later other seen before counts →
+      Happened (Stopped fault) checking
   check_stops (BlockLength block divisor) (length, alone) =
-      let chosen_is : chosen None script ≡ chosen_block words script = ap (λ command. chosen (named_by command) script) (sym is) in
-      let illegal : IsFalse (is_legal_for script block) = subst (λ n. IsFalse (is_legal_for script n)) (sym length.block_is) length.illegal in (
+      let chosen_is : chosen None script ≡ chosen_block words script =
+      ap (λ command. chosen (named_by command) script) (sym is) in
+      let illegal : IsFalse (is_legal_for script block) =
+      subst (λ n. IsFalse (is_legal_for script n)) (sym length.block_is) length.illegal in (
         OfText (subst HasBlocks (sym is) tt)
-            (record { text = loaded.text; read = loaded.read; holds = (script, loaded.holds, illegal, length.block_is ∙ chosen_is, length.divisor_is) }),
-        record { input_same = alone.input_same; output_same = refl; other_same = alone.other_same; counts_same = alone.counts_same },
+            (record {
+              text = loaded.text;
+              read = loaded.read;
+              holds =
+                  (script, loaded.holds, illegal, length.block_is ∙ chosen_is, length.divisor_is);
+            }),
+        record {
+          input_same = alone.input_same;
+          output_same = refl;
+          other_same = alone.other_same;
+          counts_same =
+              alone.counts_same;
+        },
       )
-  check_stops (Comparison fault) stop = (script, record { asked = is; read = loaded; legal = stop.legal; did = stop.stopped; output_same = refl })
+  check_stops (Comparison fault) stop = (
+    script,
+    record
+        { asked = is; read = loaded; legal = stop.legal; did = stop.stopped; output_same = refl },
+  )
   check_stops fault none = absurd none

@@ -1,5 +1,6 @@
 -- The commands, and the statuses that they may end with.
-use Rattle.std.proofs.Common.{◌≡◌, ◌≢◌, ◌⊎◌, ℕ, ◌≤◌, Bool, List, refl, sym, ◌∙◌, subst, arith, inl, inr, None, Some, Option, IsSome}
+use Rattle.std.proofs.Common.{◌≡◌, ◌≢◌, ◌⊎◌, ℕ, ◌≤◌, Bool, List, refl, sym, ◌∙◌, subst, arith, inl, inr, None, Some}
+use Rattle.std.proofs.Common.{Option, IsSome}
 use Rattle.dsp_ports.specs.Ports.{SinkState}
 use Rattle.dsp_command.specs.Words.{command_of}
 use Rattle.dsp_command.specs.declared.command.Command.{Command}
@@ -9,9 +10,11 @@ use Rattle.dsp_session.specs.declared.fault.PartFault.TheVariants as part_fault
 use Rattle.dsp_session.specs.declared.fault.StreamFault.{StreamFault}
 use Rattle.dsp_session.specs.declared.fault.StreamFault.TheVariants.{Header, Input, Output, Lengths}
 use Rattle.dsp_cli.specs.Fault.{status_of, stream_status}
-use Rattle.dsp_cli.specs.Run.{HasSource, HasText, HasBlocks, HasOutput, IsStream, IsGen, IsPrint, IsDone, IsRefusal, IsRefused, IsAnswer, ReportsText}
+use Rattle.dsp_cli.specs.Run.{HasSource, HasText, HasBlocks, HasOutput, IsStream, IsGen, IsPrint, IsDone, IsRefusal}
+use Rattle.dsp_cli.specs.Run.{IsRefused, IsAnswer, ReportsText}
 use Rattle.dsp_cli.specs.declared.fault.Fault.{Fault}
-use Rattle.dsp_cli.specs.declared.fault.Fault.TheVariants.{Usage, ScriptRead, Script as BadText, BlockLength, Memory, Stream, State, Part, Conversion, Comparison}
+use Rattle.dsp_cli.specs.declared.fault.Fault.TheVariants.{Usage, ScriptRead, Script as BadText, BlockLength, Memory}
+use Rattle.dsp_cli.specs.declared.fault.Fault.TheVariants.{Stream, State, Part, Conversion, Comparison}
 use Rattle.dsp_au.specs.declared.fault.ConvertFault.{ConvertFault}
 use Rattle.dsp_au.specs.declared.fault.ConvertFault.TheVariants as convert_fault
 use Rattle.dsp_check.specs.declared.fault.CheckFault.{CheckFault}
@@ -27,17 +30,22 @@ stream_some words (inl (named, banked, is)) = subst IsSome (sym is) refl
 stream_some words (inr (seed, frames, is)) = subst IsSome (sym is) refl
 
 pub stream_or_print : (words : List (List ℕ)) → IsStream words → IsPrint words → ⊥
-stream_or_print words (inl (named, banked, is)) print = let same : Some (Run named banked) ≡ Some Print = sym is ∙ print in cc
-stream_or_print words (inr (seed, frames, is)) print = let same : Some (Gen seed frames) ≡ Some Print = sym is ∙ print in cc
+stream_or_print words (inl (named, banked, is)) print = let same : Some (Run named banked) ≡ Some Print = sym is ∙
+    print in cc
+stream_or_print words (inr (seed, frames, is)) print = let same : Some (Gen seed frames) ≡ Some Print = sym is ∙
+    print in cc
 
 pub no_stop : (words : List (List ℕ)) → IsStream words → (at : ℕ) → command_of words ≡ Some (Stop at) → ⊥
-no_stop words (inl (named, banked, is)) at stop = let same : Some (Run named banked) ≡ Some (Stop at) = sym is ∙ stop in cc
-no_stop words (inr (seed, frames, is)) at stop = let same : Some (Gen seed frames) ≡ Some (Stop at) = sym is ∙ stop in cc
+no_stop words (inl (named, banked, is)) at stop = let same : Some (Run named banked) ≡ Some (Stop at) = sym is ∙
+    stop in cc
+no_stop words (inr (seed, frames, is)) at stop = let same : Some (Gen seed frames) ≡ Some (Stop at) = sym is ∙ stop in
+    cc
 
 -- what holds of a run and of a gen holds of the words of a stream
 pub of_stream : (words : List (List ℕ)) (P : Option Command → Type 0) → IsStream words
     → ((named : Option ℕ) (banked : Bool) → command_of words ≡ Some (Run named banked) → P (Some (Run named banked)))
-    → ((seed frames : ℕ) → command_of words ≡ Some (Gen seed frames) → P (Some (Gen seed frames))) → P (command_of words)
+    → ((seed frames : ℕ) → command_of words ≡ Some (Gen seed frames) → P (Some (Gen seed frames))) →
+    P (command_of words)
 of_stream words P (inl (named, banked, is)) run gen = subst P (sym is) (run named banked is)
 of_stream words P (inr (seed, frames, is)) run gen = subst P (sym is) (gen seed frames is)
 
@@ -77,7 +85,8 @@ stream_output words stream = of_stream words HasOutput stream (λ named banked i
 -- ---- statuses
 
 -- those of a conversion that stops
-pub conversion_status : (fault : ConvertFault) → (status_of (Conversion fault) ≡ 4) ⊎ (status_of (Conversion fault) ≡ 5) ⊎ (status_of (Conversion fault) ≡ 7) ⊎ (status_of (Conversion fault) ≡ 8)
+pub conversion_status : (fault : ConvertFault) → (status_of (Conversion fault) ≡ 4) ⊎
+    (status_of (Conversion fault) ≡ 5) ⊎ (status_of (Conversion fault) ≡ 7) ⊎ (status_of (Conversion fault) ≡ 8)
 conversion_status (convert_fault.Wave fault offset) = inl refl
 conversion_status (convert_fault.Au fault offset) = inl refl
 conversion_status (convert_fault.Input taken limit) = inr (inl refl)
@@ -100,17 +109,20 @@ comparison_status (check_fault.Differs offset) = inr (inr (inr (inr (inl refl)))
 comparison_status check_fault.Other = inr (inr (inr (inr (inr refl))))
 
 -- those of a stream that stops, over a whole input or a part of it
-pub stream_statuses : (fault : StreamFault) → (stream_status fault ≡ 4) ⊎ (stream_status fault ≡ 5) ⊎ (stream_status fault ≡ 7) ⊎ (stream_status fault ≡ 8)
+pub stream_statuses : (fault : StreamFault) → (stream_status fault ≡ 4) ⊎ (stream_status fault ≡ 5) ⊎
+    (stream_status fault ≡ 7) ⊎ (stream_status fault ≡ 8)
 stream_statuses (Header fault offset) = inl refl
 stream_statuses (Lengths fault) = inr (inl refl)
 stream_statuses Input = inr (inr (inl refl))
 stream_statuses Output = inr (inr (inr refl))
 
-pub part_status : (fault : PartFault) → (status_of (Part fault) ≡ 4) ⊎ (status_of (Part fault) ≡ 5) ⊎ (status_of (Part fault) ≡ 7) ⊎ (status_of (Part fault) ≡ 8)
+pub part_status : (fault : PartFault) → (status_of (Part fault) ≡ 4) ⊎ (status_of (Part fault) ≡ 5) ⊎
+    (status_of (Part fault) ≡ 7) ⊎ (status_of (Part fault) ≡ 8)
 part_status (part_fault.Behind at got) = inr (inl refl)
 part_status (part_fault.Stream fault) = stream_statuses fault
 
-pub reports_done : {text : List ℕ} {status : ℕ} {report told : SinkState} → ReportsText text status report told → IsDone status
+pub reports_done : {text : List ℕ} {status : ℕ} {report told : SinkState} → ReportsText text status report told →
+    IsDone status
 reports_done (inl way) = inl way.0
 reports_done (inr way) = inr way.0
 
@@ -142,31 +154,45 @@ pub stream_not_refused : (fault : StreamFault) → IsRefusal (status_of (Stream 
 stream_not_refused fault refused = omega (arith, stream_statuses fault, refused)
 
 -- a stream that was not begun was refused
-pub stream_refused : (words : List (List ℕ)) (status : ℕ) → IsStream words → IsRefused (command_of words) status → IsRefusal status
+pub stream_refused : (words : List (List ℕ)) (status : ℕ) → IsStream words → IsRefused (command_of words) status →
+    IsRefusal status
 stream_refused words status (inl (named, banked, is)) refused = subst (λ command. IsRefused command status) is refused
 stream_refused words status (inr (seed, frames, is)) refused = subst (λ command. IsRefused command status) is refused
 
 -- ---- which may come
 
 -- what any command may end with
-pub any_answers : (command : Option Command) (status : ℕ) → HasText command → (status ≡ 2) ⊎ (status ≡ 6) ⊎ (status ≡ 10) → IsAnswer command status
+pub any_answers : (command : Option Command) (status : ℕ) → HasText command →
+    (status ≡ 2) ⊎ (status ≡ 6) ⊎ (status ≡ 10) → IsAnswer command status
 any_answers None status some is = absurd some
 any_answers (Some (Run named banked)) status some (inl two) = (omega (arith, two), λ e. omega (arith, two, e))
 any_answers (Some (Run named banked)) status some (inr (inl six)) = (omega (arith, six), λ e. omega (arith, six, e))
 any_answers (Some (Run named banked)) status some (inr (inr ten)) = (omega (arith, ten), λ e. omega (arith, ten, e))
-any_answers (Some (Gen seed frames)) status some (inl two) = (omega (arith, two), λ e. omega (arith, two, e), λ e. omega (arith, two, e), λ e. omega (arith, two, e))
-any_answers (Some (Gen seed frames)) status some (inr (inl six)) = (omega (arith, six), λ e. omega (arith, six, e), λ e. omega (arith, six, e), λ e. omega (arith, six, e))
-any_answers (Some (Gen seed frames)) status some (inr (inr ten)) = (omega (arith, ten), λ e. omega (arith, ten, e), λ e. omega (arith, ten, e), λ e. omega (arith, ten, e))
+any_answers (Some (Gen seed frames)) status some (inl two) =
+    (omega (arith, two), λ e. omega (arith, two, e), λ e. omega (arith, two, e), λ e. omega (arith, two, e))
+any_answers (Some (Gen seed frames)) status some (inr (inl six)) =
+    (omega (arith, six), λ e. omega (arith, six, e), λ e. omega (arith, six, e), λ e. omega (arith, six, e))
+any_answers (Some (Gen seed frames)) status some (inr (inr ten)) =
+    (omega (arith, ten), λ e. omega (arith, ten, e), λ e. omega (arith, ten, e), λ e. omega (arith, ten, e))
 any_answers (Some Print) status some is = inr is
 any_answers (Some (Stop at)) status some is = (inl (omega (arith, is)), λ e. omega (arith, is, e))
 any_answers (Some Go) status some is = absurd some
 any_answers (Some (Convert direction)) status some is = absurd some
-any_answers (Some Check) status some is = (inl (omega (arith, is)), λ e. omega (arith, is, e), λ e. omega (arith, is, e))
+any_answers (Some Check) status some is = (
+  inl (omega (arith, is)),
+  λ e. omega (arith, is, e),
+  λ e. omega (arith, is, e),
+)
 
 -- and what reads a script or a state
-pub source_answers : (command : Option Command) (status : ℕ) → HasSource command → (status ≡ 6) ⊎ (status ≡ 10) → IsAnswer command status
+pub source_answers : (command : Option Command) (status : ℕ) → HasSource command → (status ≡ 6) ⊎ (status ≡ 10) →
+    IsAnswer command status
 source_answers None status some is = absurd some
-source_answers (Some Go) status some is = (inl (omega (arith, is)), λ e. omega (arith, is, e), λ e. omega (arith, is, e))
+source_answers (Some Go) status some is = (
+  inl (omega (arith, is)),
+  λ e. omega (arith, is, e),
+  λ e. omega (arith, is, e),
+)
 source_answers (Some (Convert direction)) status some is = absurd some
 source_answers (Some (Run named banked)) status some is = any_answers (Some (Run named banked)) status tt (inr is)
 source_answers (Some (Gen seed frames)) status some is = any_answers (Some (Gen seed frames)) status tt (inr is)
@@ -183,18 +209,29 @@ length_answers (Some (Stop at)) blocks = (inl (omega arith), λ e. omega (arith,
 length_answers (Some (Convert direction)) blocks = absurd blocks
 length_answers (Some Check) blocks = (inl (omega arith), λ e. omega (arith, e), λ e. omega (arith, e))
 length_answers (Some (Run named banked)) blocks = (omega arith, λ e. omega (arith, e))
-length_answers (Some (Gen seed frames)) blocks = (omega arith, λ e. omega (arith, e), λ e. omega (arith, e), λ e. omega (arith, e))
+length_answers (Some (Gen seed frames)) blocks = (
+  omega arith,
+  λ e. omega (arith, e),
+  λ e. omega (arith, e),
+  λ e. omega (arith, e),
+)
 
 -- what a run and a gen may end with
-pub stream_answers : (words : List (List ℕ)) (status : ℕ) → IsStream words → status ≤ 10 → status ≢ 1 → (IsGen words → (status ≢ 4) × (status ≢ 7)) → IsAnswer (command_of words) status
-stream_answers words status (inl (named, banked, is)) few other never = subst (λ command. IsAnswer command status) (sym is) (few, other)
-stream_answers words status (inr gen) few other never = subst (λ command. IsAnswer command status) (sym gen.2) (few, other, (never gen).0, (never gen).1)
+pub stream_answers : (words : List (List ℕ)) (status : ℕ) → IsStream words → status ≤ 10 → status ≢ 1 →
+    (IsGen words → (status ≢ 4) × (status ≢ 7)) → IsAnswer (command_of words) status
+stream_answers words status (inl (named, banked, is)) few other never =
+    subst (λ command. IsAnswer command status) (sym is) (few, other)
+stream_answers words status (inr gen) few other never =
+    subst (λ command. IsAnswer command status) (sym gen.2) (few, other, (never gen).0, (never gen).1)
 
 -- what a run that is stopped and one that goes on may end with
-pub part_answers : (fault : PartFault) → ((at : ℕ) → IsAnswer (Some (Stop at)) (status_of (Part fault))) × IsAnswer (Some Go) (status_of (Part fault))
+pub part_answers : (fault : PartFault) → ((at : ℕ) → IsAnswer (Some (Stop at)) (status_of (Part fault))) ×
+    IsAnswer (Some Go) (status_of (Part fault))
 part_answers fault =
-    let status = part_status fault in
-    (λ at. (inl (omega (arith, status)), λ e. omega (arith, status, e)), (inl (omega (arith, status)), λ e. omega (arith, status, e), λ e. omega (arith, status, e)))
+    let status = part_status fault in (
+      λ at. (inl (omega (arith, status)), λ e. omega (arith, status, e)),
+      (inl (omega (arith, status)), λ e. omega (arith, status, e), λ e. omega (arith, status, e)),
+    )
 
 -- what a check may end with
 pub comparison_answers : (fault : CheckFault) → IsAnswer (Some Check) (status_of (Comparison fault))

@@ -1,10 +1,12 @@
 -- The words of a command, and what a command keeps to.
-use Rattle.std.proofs.Common.{◌≡◌, ℕ, ◌≤◌, List, [], ◌∷◌, length, Option, Some, None, IfSome, Bool, true, false, if◌then◌else◌, nat_le, ◌&&◌, slice_get, refl, subst, arith}
+use Rattle.std.proofs.Common.{◌≡◌, ℕ, ◌≤◌, List, [], ◌∷◌, length, Option, Some, None, IfSome, Bool, true, false}
+use Rattle.std.proofs.Common.{if◌then◌else◌, nat_le, ◌&&◌, slice_get, refl, subst, arith}
 use Rattle.std.specs.Prelude.{codes}
 use Rattle.std.specs.Option.{option_map, option_and_then}
 use Rattle.std.specs.Str.{bytes_eq}
 use Rattle.std.proofs.lemmas.Bool.Decides.{nat_tests}
-use Rattle.dsp_command.specs.Words.{count_of, is_name, are_run_names, are_gen_names, generating, running, direction_of, command_of}
+use Rattle.dsp_command.specs.Words.{count_of, is_name, are_run_names, are_gen_names, generating, running}
+use Rattle.dsp_command.specs.Words.{direction_of, command_of}
 use Rattle.dsp_defs.specs.declared.au.Direction.{Direction}
 use Rattle.dsp_command.specs.declared.command.Command.{Command}
 use Rattle.dsp_command.specs.declared.command.Command.TheVariants.{Run, Gen, Print, Stop, Go, Convert, Check}
@@ -12,7 +14,8 @@ use Rattle.dsp_defs.specs.declared.limits.TheConstants.{MAX_GENERATED}
 use Rattle.dsp_cli.specs.Run.{MakesFew}
 
 -- six words are these
-pub six_words : (words : List (List ℕ)) (a b c d e f : List ℕ) → length words ≡ 6 → slice_get words 0 ≡ Some a → slice_get words 1 ≡ Some b → slice_get words 2 ≡ Some c → slice_get words 3 ≡ Some d
+pub six_words : (words : List (List ℕ)) (a b c d e f : List ℕ) → length words ≡ 6 → slice_get words 0 ≡ Some a →
+    slice_get words 1 ≡ Some b → slice_get words 2 ≡ Some c → slice_get words 3 ≡ Some d
     → slice_get words 4 ≡ Some e → slice_get words 5 ≡ Some f → words ≡ a ∷ b ∷ c ∷ d ∷ e ∷ f ∷ []
 six_words [] a b c d e f size p q r s t u = absurd (omega (arith, size))
 six_words (v ∷ []) a b c d e f size p q r s t u = absurd (omega (arith, size))
@@ -24,7 +27,8 @@ six_words (v ∷ w ∷ x ∷ y ∷ z ∷ last ∷ []) a b c d e f size p q r s t
 six_words (v ∷ w ∷ x ∷ y ∷ z ∷ last ∷ more ∷ words) a b c d e f size p q r s t u = absurd (omega (arith, size))
 
 -- five words are these
-pub five_words : (words : List (List ℕ)) (a b c d e : List ℕ) → length words ≡ 5 → slice_get words 0 ≡ Some a → slice_get words 1 ≡ Some b → slice_get words 2 ≡ Some c → slice_get words 3 ≡ Some d
+pub five_words : (words : List (List ℕ)) (a b c d e : List ℕ) → length words ≡ 5 → slice_get words 0 ≡ Some a →
+    slice_get words 1 ≡ Some b → slice_get words 2 ≡ Some c → slice_get words 3 ≡ Some d
     → slice_get words 4 ≡ Some e → words ≡ a ∷ b ∷ c ∷ d ∷ e ∷ []
 five_words [] a b c d e size p q r s t = absurd (omega (arith, size))
 five_words (v ∷ []) a b c d e size p q r s t = absurd (omega (arith, size))
@@ -36,15 +40,18 @@ five_words (v ∷ w ∷ x ∷ y ∷ z ∷ last ∷ words) a b c d e size p q r s
 
 -- ---- a gen makes no more frames than may be generated
 
-by_test : (test : Bool) (command : Option Command) → IfSome command MakesFew → IfSome (if test then command else None) MakesFew
+by_test : (test : Bool) (command : Option Command) → IfSome command MakesFew →
+    IfSome (if test then command else None) MakesFew
 by_test true command within = within
 by_test false command within = tt
 
-by_either : (test : Bool) (first second : Option Command) → IfSome first MakesFew → IfSome second MakesFew → IfSome (if test then first else second) MakesFew
+by_either : (test : Bool) (first second : Option Command) → IfSome first MakesFew → IfSome second MakesFew →
+    IfSome (if test then first else second) MakesFew
 by_either true first second within later = within
 by_either false first second within later = later
 
-made_within : (seed frames : ℕ) (test : Bool) → nat_le frames MAX_GENERATED ≡ test → IfSome (if test then Some (Gen seed frames) else None) MakesFew
+made_within : (seed frames : ℕ) (test : Bool) → nat_le frames MAX_GENERATED ≡ test →
+    IfSome (if test then Some (Gen seed frames) else None) MakesFew
 made_within seed frames true is = grind (arith, nat_tests)
 made_within seed frames false is = tt
 
@@ -55,7 +62,8 @@ generating_within (Some seed) (Some frames) = made_within seed frames (nat_le fr
 
 running_within : (verb : List ℕ) (named : Option ℕ) → IfSome (running verb named) MakesFew
 running_within verb named =
-    by_either (bytes_eq verb (codes "run")) (Some (Run named false)) (if bytes_eq verb (codes "bank") then Some (Run named true) else None) tt
+    by_either (bytes_eq verb (codes "run")) (Some (Run named false))
+    (if bytes_eq verb (codes "bank") then Some (Run named true) else None) tt
     (by_test (bytes_eq verb (codes "bank")) (Some (Run named true)) tt)
 
 stopping_within : (count : Option ℕ) → IfSome (option_map (λ n. Stop n) count) MakesFew
@@ -83,15 +91,19 @@ commands_within (a ∷ b ∷ c ∷ d ∷ e ∷ []) =
     let goes = bytes_eq a (codes "resume") && bytes_eq b (codes "go") && are_run_names c d e in
     let converts = bytes_eq a (codes "convert") && are_gen_names d e in
     let converted = if converts then option_map (λ d. Convert d) (direction_of b c) else None in
-    by_either (bytes_eq a (codes "gen") && are_gen_names d e) (generating (count_of b) (count_of c)) (if goes then Some Go else converted)
+    by_either (bytes_eq a (codes "gen") && are_gen_names d e) (generating (count_of b) (count_of c))
+    (if goes then Some Go else converted)
     (generating_within (count_of b) (count_of c))
-    (by_either goes (Some Go) converted tt (by_test converts (option_map (λ d. Convert d) (direction_of b c)) (direction_within (direction_of b c))))
+    (by_either goes (Some Go) converted tt (by_test converts (option_map (λ d. Convert d) (direction_of b c))
+    (direction_within (direction_of b c))))
 commands_within (a ∷ b ∷ c ∷ d ∷ e ∷ f ∷ []) =
     let blocks = are_run_names b c d && bytes_eq e (codes "block") in
-    by_either (bytes_eq a (codes "resume") && bytes_eq b (codes "stop") && are_run_names d e f) (option_map (λ n. Stop n) (count_of c))
+    by_either (bytes_eq a (codes "resume") && bytes_eq b (codes "stop") && are_run_names d e f)
+    (option_map (λ n. Stop n) (count_of c))
     (if blocks then option_and_then (λ n. running a (Some n)) (count_of f) else None) (stopping_within (count_of c))
     (by_test blocks (option_and_then (λ n. running a (Some n)) (count_of f)) (named_within a (count_of f)))
 commands_within (a ∷ b ∷ c ∷ d ∷ e ∷ f ∷ g ∷ words) = tt
 
-pub gen_makes_few : (words : List (List ℕ)) (seed frames : ℕ) → command_of words ≡ Some (Gen seed frames) → frames ≤ MAX_GENERATED
+pub gen_makes_few : (words : List (List ℕ)) (seed frames : ℕ) → command_of words ≡ Some (Gen seed frames) →
+    frames ≤ MAX_GENERATED
 gen_makes_few words seed frames is = subst (λ command. IfSome command MakesFew) is (commands_within words)

@@ -1,4 +1,5 @@
--- What the top call was given and what it left, and how it ended: one fact, from which all other clauses of `run` follow.
+-- What the top call was given and what it left, and how it ended: one fact, from which all other clauses of `run`
+-- follow.
 use Rattle.std.specs.Prelude.{◌≡◌, ◌≤◌, ◌<◌, ◌++◌, ℕ, ℤ, List, length, Option, Some, None, IfSome, IsTrue, IsFalse}
 use Rattle.dsp_ports.specs.Ports.{SourceState, SinkState, one_more}
 use Rattle.dsp_defs.specs.Canon.{canon}
@@ -27,10 +28,13 @@ use Rattle.dsp_session.specs.SessionState.{SessionState}
 use Rattle.dsp_session.specs.Stream.{Done, Stopped as StreamStopped}
 use Rattle.dsp_session.specs.declared.fault.PartFault.{PartFault}
 use Rattle.dsp_cli.specs.Fault.{status_of, fault_line}
-use Rattle.dsp_cli.specs.Run.{HasSource, HasText, HasBlocks, IsStream, IsPrint, IsReading, IfWhole, Tells, ReportsText, Wrote, read_from}
-use Rattle.dsp_cli.specs.Script.{ReadsText, ReadsBytes, IfScript, IfState, chosen, chosen_block, is_banked, is_legal_for}
+use Rattle.dsp_cli.specs.Run.{HasSource, HasText, HasBlocks, IsStream, IsPrint, IsReading, IfWhole, Tells}
+use Rattle.dsp_cli.specs.Run.{ReportsText, Wrote, read_from}
+use Rattle.dsp_cli.specs.Script.{ReadsText, ReadsBytes, IfScript, IfState, chosen, chosen_block, is_banked}
+use Rattle.dsp_cli.specs.Script.{is_legal_for}
 use Rattle.dsp_cli.specs.declared.fault.Fault.{Fault}
-use Rattle.dsp_cli.specs.declared.fault.Fault.TheVariants.{Usage, ScriptRead, Script as BadText, BlockLength, Memory, Stream, State, Part, Conversion, Comparison}
+use Rattle.dsp_cli.specs.declared.fault.Fault.TheVariants.{Usage, ScriptRead, Script as BadText, BlockLength, Memory}
+use Rattle.dsp_cli.specs.declared.fault.Fault.TheVariants.{Stream, State, Part, Conversion, Comparison}
 use Rattle.dsp_defs.specs.Au.{target}
 use Rattle.dsp_au.specs.Convert.{Done as ConvertDone, Stopped as ConvertStopped}
 use Rattle.dsp_au.specs.declared.conversion.Converted.{Converted}
@@ -57,7 +61,8 @@ pub record Call : Type 0 where
   pub counts : Counts
 
 -- a call from its parts
-abbrev pub call : List (List ℕ) → SourceState → SourceState → SourceState → SourceState → SinkState → SinkState → SourceState → SourceState → Counts → Counts → Call
+abbrev pub call : List (List ℕ) → SourceState → SourceState → SourceState → SourceState → SinkState → SinkState →
+    SourceState → SourceState → Counts → Counts → Call
 call words source read port later sink after other seen before counts = record {
   words = words;
   source = source;
@@ -92,28 +97,35 @@ Spares (Some (Convert direction)) c = SparesScript c
 Spares (Some Check) c = c.after ≡ c.sink
 Spares command c = c.seen ≡ c.other
 
--- for each signal whose kept numbers a state has, what was written is what its whole signal has beyond its live values: the
+-- for each signal whose kept numbers a state has, what was written is what its whole signal has beyond its live
+-- values: the
 -- signal goes on with the frames of the input behind as many as the state has taken
 abbrev pub GoesOnRight : SourceState → List ℕ → SinkState → SinkState → Type 0
 GoesOnRight source bytes sink after = IfState source.left (λ script at numbers.
     (x : List Frame) → length x ≡ at → numbers ≡ kept script x → (written : List ℕ) × Wrote written sink after
-    × (live_bytes script x ++ written ≡ whole_bytes script (x ++ later_frames script at bytes) ++ output_pad script (input_header script bytes)))
+    × (live_bytes script x ++ written ≡ whole_bytes script (x ++ later_frames script at bytes) ++ output_pad script
+    (input_header script bytes)))
 
--- what is so once a command is done, where the ports tell their bytes: exactly the output of the script was written, for all
+-- what is so once a command is done, where the ports tell their bytes: exactly the output of the script was written,
+-- for all
 -- the input, or for a part of it, or the file in the other form; or the other file is exactly the output of the script
 abbrev pub HasDone : Option Command → Call → Type 0
 HasDone None c = Unit {0}
 HasDone (Some Print) c = Unit {0}
-HasDone (Some (Stop at)) c = IfScript c.source.left (λ s. IfSome c.port.left (λ bytes. Wrote (first_output s at bytes) c.sink c.after))
+HasDone (Some (Stop at)) c = IfScript c.source.left (λ s. IfSome c.port.left
+    (λ bytes. Wrote (first_output s at bytes) c.sink c.after))
 HasDone (Some Go) c = IfSome c.port.left (λ bytes. GoesOnRight c.source bytes c.sink c.after)
 HasDone (Some (Convert direction)) c = IfSome c.port.left (λ bytes. Wrote (target direction bytes) c.sink c.after)
-HasDone (Some Check) c = IfScript c.source.left (λ s. IfSome c.port.left (λ bytes. IfSome c.other.left (λ file. file ≡ output s bytes)))
+HasDone (Some Check) c = IfScript c.source.left (λ s. IfSome c.port.left
+    (λ bytes. IfSome c.other.left (λ file. file ≡ output s bytes)))
 HasDone command c = IfWhole command c.source.left c.port (λ s bytes. Wrote (output s bytes) c.sink c.after)
 
 -- ---- how it ended
 
--- a script went over a whole input of so many frames, with these measures; the text of a script was made; a script was stopped
--- behind so many frames, which are these; it went on to the end of so many, with these measures; a file was written in the other
+-- a script went over a whole input of so many frames, with these measures; the text of a script was made; a script
+-- was stopped
+-- behind so many frames, which are these; it went on to the end of so many, with these measures; a file was written
+-- in the other
 -- form; the other file is the output of a script, of so many bytes; or a fault stopped it
 pub data Ending : Type 0 where
   Went : Script → ℕ → List Measure → Ending
@@ -135,7 +147,8 @@ pub record Streams (script : Script) (Did : ℕ → SourceState → SourceState 
   pub did : Did (chosen_block c.words script) (read_from (command_of c.words) script.input c.port) now
   pub other_same : c.seen ≡ c.other
 
--- the words ask to stop this script behind so many frames, and in blocks of the chosen length this was done; the other file was
+-- the words ask to stop this script behind so many frames, and in blocks of the chosen length this was done; the
+-- other file was
 -- left alone
 pub record StopsAt (script : Script) (at : ℕ) (Did : ℕ → Type 0) (c : Call) : Type 0 where
   pub asked : command_of c.words ≡ Some (Stop at)
@@ -145,7 +158,8 @@ pub record StopsAt (script : Script) (at : ℕ) (Did : ℕ → Type 0) (c : Call
   pub did : Did (chosen None script)
   pub other_same : c.seen ≡ c.other
 
--- the words ask to go on, from the state of this script behind so many frames, and in blocks of the chosen length this was done by
+-- the words ask to go on, from the state of this script behind so many frames, and in blocks of the chosen length
+-- this was done by
 -- a session that stood for each signal with its numbers; the other file was left alone
 pub record GoesOn (script : Script) (Did : ℕ → SessionState → ℕ → Type 0) (c : Call) : Type 0 where
   pub asked : command_of c.words ≡ Some Go
@@ -177,24 +191,31 @@ pub record Checks (script : Script) (Did : Type 0) (c : Call) : Type 0 where
 -- the chosen block length isn't legal: of a script that was read, or of the script of a state
 pub data RefusesLength (block divisor : ℕ) (c : Call) : Type 0 where
   OfText : HasBlocks (command_of c.words) → ReadsText c.source c.read (λ text. (script : Script) × Reads text script
-      × IsFalse (is_legal_for script block) × (block ≡ chosen_block c.words script) × (divisor ≡ unit script.input.channels script.blocks))
+      × IsFalse (is_legal_for script block) × (block ≡ chosen_block c.words script) ×
+      (divisor ≡ unit script.input.channels script.blocks))
       → RefusesLength block divisor c
-  OfState : command_of c.words ≡ Some Go → ReadsBytes c.source c.read (λ bytes. (script : Script) × (at : ℕ) × (numbers : List ℤ)
-      × IsState bytes script at numbers × IsFalse (is_legal_for script block) × (block ≡ chosen None script) × (divisor ≡ unit script.input.channels script.blocks))
+  OfState : command_of c.words ≡ Some Go → ReadsBytes c.source c.read
+      (λ bytes. (script : Script) × (at : ℕ) × (numbers : List ℤ)
+      × IsState bytes script at numbers × IsFalse (is_legal_for script block) × (block ≡ chosen None script) ×
+      (divisor ≡ unit script.input.channels script.blocks))
       → RefusesLength block divisor c
 
 -- the bytes are no state; or the text of a script that is to be stopped is too long for one
 pub data RefusesState (kind : StateKind) (offset : ℕ) (c : Call) : Type 0 where
-  OfBytes : command_of c.words ≡ Some Go → ReadsBytes c.source c.read (λ bytes. HasStateFault kind offset bytes) → RefusesState kind offset c
-  OfScript : (at : ℕ) → command_of c.words ≡ Some (Stop at) → ReadsText c.source c.read (λ text. (script : Script) × Reads text script
-      × IsTrue (is_legal_for script (chosen None script)) × (MAX_SCRIPT < length (canon script)) × (kind ≡ LongText (length (canon script))) × (offset ≡ 0))
+  OfBytes : command_of c.words ≡ Some Go → ReadsBytes c.source c.read (λ bytes. HasStateFault kind offset bytes) →
+      RefusesState kind offset c
+  OfScript : (at : ℕ) → command_of c.words ≡ Some (Stop at) →
+      ReadsText c.source c.read (λ text. (script : Script) × Reads text script
+      × IsTrue (is_legal_for script (chosen None script)) × (MAX_SCRIPT < length (canon script)) ×
+      (kind ≡ LongText (length (canon script))) × (offset ≡ 0))
       → RefusesState kind offset c
 
 -- why no stream was begun
 abbrev pub Refuses : Fault → Call → Type 0
 Refuses Usage c = (command_of c.words ≡ None) × (c.read ≡ c.source)
 Refuses ScriptRead c = HasSource (command_of c.words) × (c.read.faults ≡ one_more c.source.faults)
-Refuses (BadText fault) c = HasText (command_of c.words) × ReadsText c.source c.read (λ text. first_fault text ≡ Some fault)
+Refuses (BadText fault) c = HasText (command_of c.words) ×
+    ReadsText c.source c.read (λ text. first_fault text ≡ Some fault)
 Refuses (BlockLength block divisor) c = RefusesLength block divisor c
 Refuses (State kind offset) c = RefusesState kind offset c
 Refuses Memory c = HasSource (command_of c.words)
@@ -203,27 +224,35 @@ Refuses fault c = ⊥
 -- the stream over the first frames stopped before their end, or that over the rest
 pub data StopsInPart (fault : PartFault) (c : Call) : Type 0 where
   InFirst : (script : Script) (at : ℕ)
-      → StopsAt script at (λ block. FirstStopped script block at fault c.port c.later c.sink c.after c.before c.counts) c → StopsInPart fault c
+      → StopsAt script at (λ block. FirstStopped script block at fault c.port c.later c.sink c.after c.before
+      c.counts) c → StopsInPart fault c
   InRest : (script : Script)
-      → GoesOn script (λ block start at. RestStopped script block start at fault c.port c.later c.sink c.after c.before c.counts) c → StopsInPart fault c
+      → GoesOn script (λ block start at. RestStopped script block start at fault c.port c.later c.sink c.after
+      c.before c.counts) c → StopsInPart fault c
 
 -- what was done
 abbrev pub Happened : Ending → Call → Type 0
 Happened (Went script frames found) c =
-    Streams script (λ block input now. Done (is_banked c.words) script block frames input now c.sink c.after c.before c.counts found) c
+    Streams script (λ block input now. Done (is_banked c.words) script block frames input now c.sink c.after c.before
+    c.counts found) c
 Happened (Printed script) c =
     IsPrint c.words × ReadsText c.source c.read (λ text. Reads text script) × Untouched c
 Happened (Saved script at x) c = StopsAt script at (λ block.
-    (session : SessionState) × (done : FirstDone script at session c.port c.later c.sink c.after c.before c.counts) × (x ≡ input_signal script done.given)) c
+    (session : SessionState) × (done : FirstDone script at session c.port c.later c.sink c.after c.before c.counts) ×
+    (x ≡ input_signal script done.given)) c
 Happened (Resumed script frames found) c =
-    GoesOn script (λ block start at. RestDone script start at frames c.port c.later c.sink c.after c.before c.counts found) c
+    GoesOn script (λ block start at. RestDone script start at frames c.port c.later c.sink c.after c.before c.counts
+    found) c
 Happened (Turned totals) c = Converts (λ direction. ConvertDone direction totals c.port c.later c.sink c.after) c
-Happened (Checked script size) c = Checks script (CheckDone script size c.port c.later c.other c.seen c.before c.counts) c
-Happened (Stopped (Conversion fault)) c = Converts (λ direction. ConvertStopped direction fault c.port c.later c.sink c.after) c
+Happened (Checked script size) c = Checks script (CheckDone script size c.port c.later c.other c.seen c.before
+    c.counts) c
+Happened (Stopped (Conversion fault)) c = Converts (λ direction. ConvertStopped direction fault c.port c.later c.sink
+    c.after) c
 Happened (Stopped (Comparison fault)) c =
     (script : Script) × Checks script (CheckStopped script fault c.port c.later c.other c.seen c.before c.counts) c
 Happened (Stopped (Stream fault)) c =
-    (script : Script) × Streams script (λ block input now. StreamStopped (is_banked c.words) script block fault input now c.sink c.after c.before c.counts) c
+    (script : Script) × Streams script (λ block input now. StreamStopped (is_banked c.words) script block fault input
+    now c.sink c.after c.before c.counts) c
 Happened (Stopped (Part fault)) c = StopsInPart fault c
 Happened (Stopped fault) c = Refuses fault c × Untouched c
 

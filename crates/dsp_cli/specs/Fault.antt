@@ -1,8 +1,12 @@
 -- What a run answers: a status, and the lines of its report.
 use Rattle.std.specs.Prelude.{ℕ, List, ◌++◌, codes, flat_map}
-use Rattle.dsp_command.specs.Report.{usage_line, script_line, block_length_line, header_line, input_limit_line, behind_line, state_line, gather_line, window_line, riff_line, check_size_line, au_line, differs_line, other_read_line, script_read_line, input_read_line, output_line, memory_line, done_line, frames_line, multiplies_line, measure_line}
+use Rattle.dsp_command.specs.Report.{usage_line, script_line, block_length_line, header_line, input_limit_line}
+use Rattle.dsp_command.specs.Report.{behind_line, state_line, gather_line, window_line, riff_line, check_size_line}
+use Rattle.dsp_command.specs.Report.{au_line, differs_line, other_read_line, script_read_line, input_read_line}
+use Rattle.dsp_command.specs.Report.{output_line, memory_line, done_line, frames_line, multiplies_line, measure_line}
 use Rattle.dsp_cli.specs.declared.fault.Fault.{Fault}
-use Rattle.dsp_cli.specs.declared.fault.Fault.TheVariants.{Usage, ScriptRead, Script, BlockLength, Memory, Stream, State, Part, Conversion, Comparison}
+use Rattle.dsp_cli.specs.declared.fault.Fault.TheVariants.{Usage, ScriptRead, Script, BlockLength, Memory, Stream}
+use Rattle.dsp_cli.specs.declared.fault.Fault.TheVariants.{State, Part, Conversion, Comparison}
 use Rattle.dsp_au.specs.declared.fault.ConvertFault.TheVariants as convert_fault
 use Rattle.dsp_check.specs.declared.fault.CheckFault.TheVariants as check_fault
 use Rattle.dsp_cli.specs.declared.report.Summary.{Summary}
@@ -94,7 +98,8 @@ abbrev pub head_text : Summary → List ℕ
 head_text summary =
     let totals = summary.totals in
     done_line ++ frames_line (codes "in") totals.frames_taken summary.input.channels summary.input.format
-    ++ frames_line (codes "out") totals.frames_given summary.output.channels summary.output.format ++ multiplies_line totals.multiplies
+    ++ frames_line (codes "out") totals.frames_given summary.output.channels summary.output.format ++ multiplies_line
+    totals.multiplies
 
 -- its head, and a line for each measure
 abbrev pub summary_text : Summary → List ℕ

@@ -1,5 +1,6 @@
 -- What the parts of the top call do: a script is loaded, goes over an input, and is reported.
-use Rattle.std.specs.Prelude.{◌≡◌, ◌≤◌, ◌<◌, ℕ, Bool, false, List, length, Option, None, Some, IsTrue, IsFalse, Result, Ok, Err}
+use Rattle.std.specs.Prelude.{◌≡◌, ◌≤◌, ◌<◌, ℕ, Bool, false, List, length, Option, None, Some, IsTrue, IsFalse}
+use Rattle.std.specs.Prelude.{Result, Ok, Err}
 use Rattle.dsp_ports.specs.Ports.{SourceState, SinkState, one_more}
 use Rattle.dsp_defs.specs.Counts.{Counts}
 use Rattle.dsp_defs.specs.Grammar.{Reads}
@@ -30,7 +31,8 @@ use Rattle.dsp_cli.specs.Fault.{status_of, fault_line, summary_text}
 use Rattle.dsp_cli.specs.Script.{ReadsText, ReadsBytes, chosen, is_legal_for}
 use Rattle.dsp_cli.specs.Run.{generated_source, Tells, ReportsText}
 use Rattle.dsp_cli.specs.declared.fault.Fault.{Fault}
-use Rattle.dsp_cli.specs.declared.fault.Fault.TheVariants.{ScriptRead, Script as BadText, BlockLength, Memory, Stream, State, Part, Comparison}
+use Rattle.dsp_cli.specs.declared.fault.Fault.TheVariants.{ScriptRead, Script as BadText, BlockLength, Memory, Stream}
+use Rattle.dsp_cli.specs.declared.fault.Fault.TheVariants.{State, Part, Comparison}
 use Rattle.dsp_cli.specs.declared.report.Summary.{Summary}
 use Rattle.dsp_cli.specs.declared.top.Outcome.{Outcome}
 use Rattle.dsp_cli.specs.declared.top.Outcome.TheVariants as outcome
@@ -57,9 +59,11 @@ pub record NotBegun (input now : SourceState) (output after : SinkState) (before
   pub counts_same : counts ≡ before
 
 -- the run went over the whole input, and its summary is the report of just that
-pub record Ran (named : Option ℕ) (banked : Bool) (script : Script) (summary : Summary) (input now : SourceState) (output after : SinkState) (before counts : Counts) : Type 0 where
+pub record Ran (named : Option ℕ) (banked : Bool) (script : Script) (summary : Summary) (input now : SourceState)
+    (output after : SinkState) (before counts : Counts) : Type 0 where
   pub legal : IsTrue (is_legal_for script (chosen named script))
-  pub done : Done banked script (chosen named script) summary.totals.frames_taken input now output after before counts summary.measures.items
+  pub done : Done banked script (chosen named script) summary.totals.frames_taken input now output after before counts
+      summary.measures.items
   pub text : summary_text summary ≡ report_text script summary.totals.frames_taken summary.measures.items
 
 -- the chosen block length isn't legal
@@ -69,28 +73,36 @@ pub record StopsAtLength (block divisor : ℕ) (named : Option ℕ) (script : Sc
   pub divisor_is : divisor ≡ unit script.input.channels script.blocks
 
 -- the stream stopped
-pub record StopsInStream (fault : StreamFault) (named : Option ℕ) (banked : Bool) (script : Script) (input now : SourceState) (output after : SinkState) (before counts : Counts) : Type 0 where
+pub record StopsInStream (fault : StreamFault) (named : Option ℕ) (banked : Bool) (script : Script)
+    (input now : SourceState) (output after : SinkState) (before counts : Counts) : Type 0 where
   pub legal : IsTrue (is_legal_for script (chosen named script))
   pub stopped : StreamStopped banked script (chosen named script) fault input now output after before counts
 
 -- why a script does not run, and what was called by then
-abbrev pub FailsToRun : Fault → Option ℕ → Bool → Script → SourceState → SourceState → SinkState → SinkState → Counts → Counts → Type 0
-FailsToRun (BlockLength block divisor) named banked script input now output after before counts = StopsAtLength block divisor named script × NotBegun input now output after before counts
-FailsToRun Memory named banked script input now output after before counts = NotBegun input now output after before counts
-FailsToRun (Stream fault) named banked script input now output after before counts = StopsInStream fault named banked script input now output after before counts
+abbrev pub FailsToRun : Fault → Option ℕ → Bool → Script → SourceState → SourceState → SinkState → SinkState →
+    Counts → Counts → Type 0
+FailsToRun (BlockLength block divisor) named banked script input now output after before counts =
+    StopsAtLength block divisor named script × NotBegun input now output after before counts
+FailsToRun Memory named banked script input now output after before counts =
+    NotBegun input now output after before counts
+FailsToRun (Stream fault) named banked script input now output after before counts =
+    StopsInStream fault named banked script input now output after before counts
 FailsToRun fault named banked script input now output after before counts = ⊥
 
 -- the run went over a whole generated input
-pub record RanGenerated (seed frames : ℕ) (script : Script) (summary : Summary) (output after : SinkState) (before counts : Counts) : Type 0 where
+pub record RanGenerated (seed frames : ℕ) (script : Script) (summary : Summary) (output after : SinkState)
+    (before counts : Counts) : Type 0 where
   pub now : SourceState
   pub clean : now.faults ≡ 0
   pub ran : Ran None false script summary (generated_source script.input seed frames) now output after before counts
 
 -- a run over a generated input stops
-pub record FailsToGenerate (fault : Fault) (seed frames : ℕ) (script : Script) (output after : SinkState) (before counts : Counts) : Type 0 where
+pub record FailsToGenerate (fault : Fault) (seed frames : ℕ) (script : Script) (output after : SinkState)
+    (before counts : Counts) : Type 0 where
   pub now : SourceState
   pub clean : now.faults ≡ 0
-  pub fails : FailsToRun fault None false script (generated_source script.input seed frames) now output after before counts
+  pub fails : FailsToRun fault None false script (generated_source script.input seed frames) now output after before
+      counts
 
 -- ---- a part of it
 
@@ -106,7 +118,8 @@ FailsToLoadState Memory source now = Unit {0}
 FailsToLoadState fault source now = ⊥
 
 -- the script was stopped behind so many frames, and the bytes are the state of just these
-pub record RanFirst (at : ℕ) (script : Script) (state : List ℕ) (input now : SourceState) (output after : SinkState) (before counts : Counts) : Type 0 where
+pub record RanFirst (at : ℕ) (script : Script) (state : List ℕ) (input now : SourceState) (output after : SinkState)
+    (before counts : Counts) : Type 0 where
   pub legal : IsTrue (is_legal_for script (chosen None script))
   pub short : length (canon script) ≤ MAX_SCRIPT
   pub session : SessionState
@@ -121,18 +134,22 @@ pub record StopsAtText (kind : StateKind) (offset : ℕ) (script : Script) : Typ
   pub offset_is : offset ≡ 0
 
 -- the stream over the first frames stopped
-pub record StopsInFirst (fault : PartFault) (at : ℕ) (script : Script) (input now : SourceState) (output after : SinkState) (before counts : Counts) : Type 0 where
+pub record StopsInFirst (fault : PartFault) (at : ℕ) (script : Script) (input now : SourceState)
+    (output after : SinkState) (before counts : Counts) : Type 0 where
   pub legal : IsTrue (is_legal_for script (chosen None script))
   pub short : length (canon script) ≤ MAX_SCRIPT
   pub stopped : FirstStopped script (chosen None script) at fault input now output after before counts
 
 -- why a script is not stopped behind so many frames, and what was called by then
-abbrev pub FailsToStop : Fault → ℕ → Script → SourceState → SourceState → SinkState → SinkState → Counts → Counts → Type 0
+abbrev pub FailsToStop : Fault → ℕ → Script → SourceState → SourceState → SinkState → SinkState → Counts → Counts →
+    Type 0
 FailsToStop (BlockLength block divisor) at script input now output after before counts =
     StopsAtLength block divisor None script × NotBegun input now output after before counts
-FailsToStop (State kind offset) at script input now output after before counts = StopsAtText kind offset script × NotBegun input now output after before counts
+FailsToStop (State kind offset) at script input now output after before counts = StopsAtText kind offset script ×
+    NotBegun input now output after before counts
 FailsToStop Memory at script input now output after before counts = NotBegun input now output after before counts
-FailsToStop (Part fault) at script input now output after before counts = StopsInFirst fault at script input now output after before counts
+FailsToStop (Part fault) at script input now output after before counts =
+    StopsInFirst fault at script input now output after before counts
 FailsToStop fault at script input now output after before counts = ⊥
 
 -- a session of the script of a state, that stands for each signal with its numbers
@@ -142,35 +159,43 @@ pub record Continues (saved : SavedState) (start : SessionState) : Type 0 where
   pub stands : (x : List Frame) → length x ≡ saved.frames → saved.numbers ≡ kept saved.script x → StandsFor start x
 
 -- the run went on to the end of the input, and its summary is the report of just that
-pub record RanRest (saved : SavedState) (summary : Summary) (input now : SourceState) (output after : SinkState) (before counts : Counts) : Type 0 where
+pub record RanRest (saved : SavedState) (summary : Summary) (input now : SourceState) (output after : SinkState)
+    (before counts : Counts) : Type 0 where
   pub start : SessionState
   pub continues : Continues saved start
-  pub done : RestDone saved.script start saved.frames summary.totals.frames_taken input now output after before counts summary.measures.items
+  pub done : RestDone saved.script start saved.frames summary.totals.frames_taken input now output after before counts
+      summary.measures.items
   pub text : summary_text summary ≡ report_text saved.script summary.totals.frames_taken summary.measures.items
 
 -- the stream over the rest stopped
-pub record StopsInRest (fault : PartFault) (saved : SavedState) (input now : SourceState) (output after : SinkState) (before counts : Counts) : Type 0 where
+pub record StopsInRest (fault : PartFault) (saved : SavedState) (input now : SourceState) (output after : SinkState)
+    (before counts : Counts) : Type 0 where
   pub start : SessionState
   pub continues : Continues saved start
-  pub stopped : RestStopped saved.script (chosen None saved.script) start saved.frames fault input now output after before counts
+  pub stopped : RestStopped saved.script (chosen None saved.script) start saved.frames fault input now output after
+      before counts
 
 -- why a run does not go on, and what was called by then
-abbrev pub FailsToGoOn : Fault → SavedState → SourceState → SourceState → SinkState → SinkState → Counts → Counts → Type 0
+abbrev pub FailsToGoOn : Fault → SavedState → SourceState → SourceState → SinkState → SinkState → Counts → Counts →
+    Type 0
 FailsToGoOn (BlockLength block divisor) saved input now output after before counts =
     StopsAtLength block divisor None saved.script × NotBegun input now output after before counts
 FailsToGoOn Memory saved input now output after before counts = NotBegun input now output after before counts
-FailsToGoOn (Part fault) saved input now output after before counts = StopsInRest fault saved input now output after before counts
+FailsToGoOn (Part fault) saved input now output after before counts =
+    StopsInRest fault saved input now output after before counts
 FailsToGoOn fault saved input now output after before counts = ⊥
 
 -- ---- a check
 
 -- the other file is the output of the script, of so many bytes
-pub record Compared (script : Script) (size : ℕ) (input now other seen : SourceState) (before counts : Counts) : Type 0 where
+pub record Compared (script : Script) (size : ℕ) (input now other seen : SourceState) (before counts : Counts) : Type
+    0 where
   pub legal : IsTrue (is_legal_for script (chosen None script))
   pub done : CheckDone script size input now other seen before counts
 
 -- it was not found to be
-pub record StopsComparing (fault : CheckFault) (script : Script) (input now other seen : SourceState) (before counts : Counts) : Type 0 where
+pub record StopsComparing (fault : CheckFault) (script : Script) (input now other seen : SourceState)
+    (before counts : Counts) : Type 0 where
   pub legal : IsTrue (is_legal_for script (chosen None script))
   pub stopped : CheckStopped script fault input now other seen before counts
 
@@ -181,10 +206,12 @@ pub record NotCompared (input now other seen : SourceState) (before counts : Cou
   pub counts_same : counts ≡ before
 
 -- why it was not, and what was called by then
-abbrev pub FailsToCompare : Fault → Script → SourceState → SourceState → SourceState → SourceState → Counts → Counts → Type 0
+abbrev pub FailsToCompare : Fault → Script → SourceState → SourceState → SourceState → SourceState → Counts → Counts →
+    Type 0
 FailsToCompare (BlockLength block divisor) script input now other seen before counts =
     StopsAtLength block divisor None script × NotCompared input now other seen before counts
-FailsToCompare (Comparison fault) script input now other seen before counts = StopsComparing fault script input now other seen before counts
+FailsToCompare (Comparison fault) script input now other seen before counts =
+    StopsComparing fault script input now other seen before counts
 FailsToCompare fault script input now other seen before counts = ⊥
 
 -- ---- what the words ask for

@@ -1,5 +1,6 @@
 -- What the words ask for, what is read for them, and what is written.
-use Rattle.std.specs.Prelude.{◌≡◌, ◌≢◌, ◌⊎◌, ◌+◌, ◌*◌, ◌^◌, ℕ, ◌≤◌, min, Bool, List, length, take, Option, Some, None, IfSome, IsTrue}
+use Rattle.std.specs.Prelude.{◌≡◌, ◌≢◌, ◌⊎◌, ◌+◌, ◌*◌, ◌^◌, ℕ, ◌≤◌, min, Bool, List, length, take, Option, Some, None}
+use Rattle.std.specs.Prelude.{IfSome, IsTrue}
 use Rattle.std.specs.Io.KnownBytes.{append_known}
 use Rattle.dsp_ports.specs.Ports.{SourceState, SinkState, Rose, one_more, IsSettled}
 use Rattle.dsp_defs.specs.Generator.{generated_bytes}
@@ -79,13 +80,15 @@ IsDone status = (status ≡ 0) ⊎ (status ≡ 9)
 abbrev pub IsRefusal : ℕ → Type 0
 IsRefusal status = (status ≡ 1) ⊎ (status ≡ 2) ⊎ (status ≡ 3) ⊎ (status ≡ 6) ⊎ (status ≡ 10) ⊎ (status ≡ 13)
 
--- the input and the output were not begun: a print never does, and a check may want memory for an input that it has taken
+-- the input and the output were not begun: a print never does, and a check may want memory for an input that it has
+-- taken
 abbrev pub IsRefused : Option Command → ℕ → Type 0
 IsRefused (Some Print) status = Unit {0}
 IsRefused (Some Check) status = IsRefusal status × (status ≢ 10)
 IsRefused command status = IsRefusal status
 
--- the statuses that a command may end with: 1 alone where there is none; a gen has no fault of its input, a run that goes on
+-- the statuses that a command may end with: 1 alone where there is none; a gen has no fault of its input, a run that
+-- goes on
 -- reads no text, and a check writes no output
 abbrev pub IsAnswer : Option Command → ℕ → Type 0
 IsAnswer None status = status ≡ 1
@@ -149,13 +152,15 @@ pub record IsFree (command : Option Command) (script : Script) (block : ℕ) (by
   pub no_window : window_at script.blocks (frames_in_bytes script bytes) ≡ None
   pub limits : KeepsLimits script (input_header script bytes) (frames_in_bytes script bytes)
 
--- nothing stands in the way of stopping a script behind so many frames of an input of these bytes: they are there, and declared
+-- nothing stands in the way of stopping a script behind so many frames of an input of these bytes: they are there,
+-- and declared
 -- where a size is
 pub record IsStoppable (script : Script) (at : ℕ) (bytes : List ℕ) : Type 0 where
   pub legal : IsTrue (is_legal_for script (chosen None script))
   pub short : length (canon script) ≤ MAX_SCRIPT
   pub good : HasHeader script (take (2 ^ 40) bytes)
-  pub reached : (input_header script bytes).start + at * frame_bytes script (input_header script bytes).coding ≤ min (length bytes) (2 ^ 40)
+  pub reached : (input_header script bytes).start + at * frame_bytes script (input_header script bytes).coding ≤ min
+      (length bytes) (2 ^ 40)
   pub declared : IfSome (declared_frames script (input_header script bytes)) (λ frames. at ≤ frames)
   pub limits : KeepsLimits script (input_header script bytes) at
 

@@ -43,7 +43,8 @@ IfScript left P = IfSome left (λ text. (script : Script) → Reads text script 
 
 -- where the source tells its bytes and they are a state, P holds of its script, frames and numbers
 abbrev pub IfState : Option (List ℕ) → (Script → ℕ → List ℤ → Type 0) → Type 0
-IfState left P = IfSome left (λ bytes. (script : Script) (at : ℕ) (numbers : List ℤ) → IsState bytes script at numbers → P script at numbers)
+IfState left P = IfSome left (λ bytes. (script : Script) (at : ℕ) (numbers : List ℤ) →
+    IsState bytes script at numbers → P script at numbers)
 
 -- ---- its block length, and whether it is banked
 

@@ -1,5 +1,6 @@
 ghost use Rattle.std.specs.Prelude.{◌≡◌, [], ◌∷◌};
-ghost use Rattle.dsp_command.specs.Words.{are_gen_names, are_run_names, command_of, count_of, direction_of, generating, of_six, places_of, running};
+ghost use Rattle.dsp_command.specs.Words.{are_gen_names, are_run_names, command_of, count_of, direction_of};
+ghost use Rattle.dsp_command.specs.Words.{generating, of_six, places_of, running};
 ghost use Rattle.std.specs.Char.{is_ascii_digit};
 ghost use Rattle.std.specs.List.{list_all};
 

@@ -1,7 +1,9 @@
 //! The exit status and the one line of a run that isn't done.
 ghost use Rattle.std.specs.Prelude.{◌≡◌, ◌+◌, ◌≤◌, ◌++◌, [], length};
 ghost use Rattle.arrayvec.specs.ArrayVec.{array_vec_len};
-ghost use Rattle.dsp_command.specs.Report.{output_line, au_line, au_text, block_length_line, differs_line, header_line, header_text, kind_text, lengths_line, located, script_line, state_line, state_text};
+ghost use Rattle.dsp_command.specs.Report.{output_line, au_line, au_text, block_length_line, differs_line};
+ghost use Rattle.dsp_command.specs.Report.{header_line, header_text, kind_text, lengths_line, located};
+ghost use Rattle.dsp_command.specs.Report.{script_line, state_line, state_text};
 ghost use Rattle.dsp_cli.specs.Fault.{fault_line, length_fault_line, status_of, stream_line, stream_status};
 
 use crate::fault::Fault;

@@ -1,8 +1,9 @@
 //! The report of a run that is done. It is built in place and takes no memory.
 ghost use Rattle.std.specs.Prelude.{◌≡◌, ◌+◌, ◌≤◌, ◌++◌, [], length, vec_capacity};
 ghost use Rattle.arrayvec.specs.ArrayVec.{array_vec_len};
-ghost use Rattle.dsp_command.specs.Report.{bytes_line, converted_line, converted_text, frames_line, multiplies_line, same_text};
-ghost use Rattle.dsp_chain.specs.Row.{measure_counts};
+ghost use Rattle.dsp_command.specs.Report.{bytes_line, converted_line, converted_text, frames_line};
+ghost use Rattle.dsp_command.specs.Report.{multiplies_line, same_text};
+ghost use Rattle.dsp_chain.specs.Line.{measure_counts};
 ghost use Rattle.dsp_session.specs.Session.{measured};
 ghost use Rattle.dsp_cli.specs.Fault.{head_text};
 
@@ -12,7 +13,7 @@ use dsp_au::Converted;
 use dsp_defs::{Flow, Measure};
 use dsp_line::{natural, text, wide_natural};
 use dsp_session::{Session, Totals};
-use dsp_stage::AnyUnit;
+use dsp_unit::AnyUnit;
 
 /// The bytes of a report at most.
 const REPORT: usize = 1024;

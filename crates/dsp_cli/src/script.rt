@@ -19,7 +19,8 @@ pub fn read_whole<P: Source>(
     source: &mut P,
 ) -> Result<Vec<u8>, ReadFault>
     requires { limit < 2 ^ 40 }
-    ensures read { IfOk result (λ text. IsReadWhole limit (P.state source.old) (P.state source.new) text.items) }
+    ensures read { IfOk result (λ text. IsReadWhole limit (P.state source.old) (P.state source.new)
+        text.items) }
     ensures taken { (P.state source.new).taken ≤ (P.state source.old).taken + limit + 1 }
     ensures failed { IsErrOf result ReadFault.Failed
         → (P.state source.new).faults ≡ one_more (P.state source.old).faults }

@@ -12,7 +12,10 @@ ghost use Rattle.dsp_cli.specs.Call.{Ended, Happened, HasDone, Spares, Stopped, 
 ghost use Rattle.dsp_cli.specs.Causes.{Causes, Completes};
 ghost use Rattle.dsp_cli.specs.Fault.{summary_text};
 ghost use Rattle.dsp_cli.specs.Script.{chosen, most_of_script, IfScript};
-ghost use Rattle.dsp_cli.specs.Perform.{Compared, FailsToCompare, ReadsAs, Ran, RanGenerated, Performed, FailsToLoad, FailsToRun, FailsToGenerate, LoadsState, FailsToLoadState, RanFirst, FailsToStop, RanRest, FailsToGoOn, HasStatus};
+ghost use Rattle.dsp_cli.specs.Perform.{Compared, FailsToCompare, ReadsAs, Ran, RanGenerated, Performed};
+ghost use Rattle.dsp_cli.specs.Perform.{FailsToLoad, FailsToRun, FailsToGenerate, LoadsState};
+ghost use Rattle.dsp_cli.specs.Perform.{FailsToLoadState, RanFirst, FailsToStop, RanRest, FailsToGoOn};
+ghost use Rattle.dsp_cli.specs.Perform.{HasStatus};
 ghost use Rattle.dsp_cli.specs.Run.{HasOutput, Wrote, Tells, ReportsText, IsDone, IsRefused};
 
 use crate::command::command;
@@ -30,8 +33,8 @@ use dsp_ports::{Failed, Sink, Source, write_all};
 use dsp_resume::Resume;
 use dsp_script::{ParseFault, default_block, legal, output_flow, parse, print, unit};
 use dsp_session::{Session, stream};
-use dsp_stage::AnyUnit;
 use dsp_state::{LoadFault, NewFault, Saved, load};
+use dsp_unit::AnyUnit;
 use dsp_wave::GenSource;
 use std::alloc::{AllocError, Global};
 use std::sync::ledger::Ledger;

@@ -7,11 +7,14 @@ use Rattle.dsp_defs.specs.declared.measure.Measure.TheVariants.{Power, Dot, Cmpl
 use Rattle.dsp_defs.specs.declared.script.Script.{Script}
 use Rattle.dsp_defs.specs.declared.script_fault.ScriptFault.{ScriptFault}
 use Rattle.dsp_defs.specs.declared.script_fault.ScriptKind.{ScriptKind}
-use Rattle.dsp_defs.specs.declared.script_fault.ScriptKind.TheVariants.{TooLong, BadByte, UnknownWord, BadNumber, OutOfRange, Missing, NoSuchForm, ChannelsHere, Length, TooMany, BadName, NameTaken}
+use Rattle.dsp_defs.specs.declared.script_fault.ScriptKind.TheVariants.{TooLong, BadByte, UnknownWord, BadNumber}
+use Rattle.dsp_defs.specs.declared.script_fault.ScriptKind.TheVariants.{OutOfRange, Missing, NoSuchForm, ChannelsHere}
+use Rattle.dsp_defs.specs.declared.script_fault.ScriptKind.TheVariants.{Length, TooMany, BadName, NameTaken}
 use Rattle.dsp_defs.specs.declared.state_kind.StateKind.{StateKind}
 use Rattle.dsp_defs.specs.declared.state_kind.StateKind.TheVariants as state
 use Rattle.dsp_defs.specs.declared.wave.HeaderFault.{HeaderFault}
-use Rattle.dsp_defs.specs.declared.wave.HeaderFault.TheVariants.{NotRiff, NotWave, NoFormat, FormatSize, Tag, Bits, Channels, Align, NoSamples, Short}
+use Rattle.dsp_defs.specs.declared.wave.HeaderFault.TheVariants.{NotRiff, NotWave, NoFormat, FormatSize, Tag, Bits}
+use Rattle.dsp_defs.specs.declared.wave.HeaderFault.TheVariants.{Channels, Align, NoSamples, Short}
 use Rattle.dsp_defs.specs.declared.au.AuFault.{AuFault}
 use Rattle.dsp_defs.specs.declared.au.AuFault.TheVariants as au
 use Rattle.dsp_defs.specs.Canon.{line}
@@ -36,7 +39,10 @@ kind_text TooLong = (codes "TooLong", [])
 kind_text BadByte = (codes "BadByte", [])
 kind_text UnknownWord = (codes "UnknownWord", [])
 kind_text BadNumber = (codes "BadNumber", [])
-kind_text (OutOfRange low high) = (codes "OutOfRange", field (codes "low") (signed_decimal low) ++ field (codes "high") (signed_decimal high))
+kind_text (OutOfRange low high) = (
+  codes "OutOfRange",
+  field (codes "low") (signed_decimal low) ++ field (codes "high") (signed_decimal high),
+)
 kind_text Missing = (codes "Missing", [])
 kind_text (NoSuchForm format) = (codes "NoSuchForm", field (codes "format") (format_name format))
 kind_text (ChannelsHere got wanted) = (codes "ChannelsHere", fields (codes "got") got (codes "wanted") wanted)
@@ -84,7 +90,8 @@ located text offset = text.0 ++ codes " at " ++ decimal offset ++ text.1
 
 -- the words are no command
 abbrev pub usage_line : List ℕ
-usage_line = line (codes "dspfx: usage: run SCRIPT IN OUT [block N], gen SEED FRAMES SCRIPT OUT, print SCRIPT, resume stop K SCRIPT IN OUT, resume go STATE IN OUT, bank SCRIPT IN OUT [block N], convert wave au IN OUT, convert au wave IN OUT, check SCRIPT IN OUT")
+usage_line = line (codes
+    "dspfx: usage: run SCRIPT IN OUT [block N], gen SEED FRAMES SCRIPT OUT, print SCRIPT, resume stop K SCRIPT IN OUT, resume go STATE IN OUT, bank SCRIPT IN OUT [block N], convert wave au IN OUT, convert au wave IN OUT, check SCRIPT IN OUT")
 
 -- `dspfx: script: ` and the fault where it stands
 abbrev pub script_line : ScriptFault → List ℕ
@@ -92,7 +99,8 @@ script_line fault = line (codes "dspfx: script: " ++ located (kind_text fault.ki
 
 -- `dspfx: block length N, unit U`
 abbrev pub block_length_line : ℕ → ℕ → List ℕ
-block_length_line block unit = line (codes "dspfx: block length " ++ decimal block ++ field (codes "unit") (decimal unit))
+block_length_line block unit = line (codes "dspfx: block length " ++ decimal block ++ field (codes "unit")
+    (decimal unit))
 
 -- `dspfx: header: ` and the fault where it stands
 abbrev pub header_line : HeaderFault → ℕ → List ℕ
@@ -108,7 +116,8 @@ state_line kind offset = line (codes "dspfx: state: " ++ located (state_text kin
 
 -- `dspfx: lengths: ` and two numbers with their names
 abbrev pub lengths_line : List ℕ → ℕ → List ℕ → ℕ → List ℕ
-lengths_line first a second b = line (codes "dspfx: lengths: " ++ first ++ codes " " ++ decimal a ++ field second (decimal b))
+lengths_line first a second b = line (codes "dspfx: lengths: " ++ first ++ codes " " ++ decimal a ++ field second
+    (decimal b))
 
 -- `input taken T, limit L`
 abbrev pub input_limit_line : ℕ → ℕ → List ℕ
@@ -167,7 +176,8 @@ done_line = line (codes "dspfx: done")
 -- `WORD N frames of C channels FORMAT`
 abbrev pub frames_line : List ℕ → ℕ → ℕ → Fmt → List ℕ
 frames_line word frames channels format =
-    line (word ++ codes " " ++ decimal frames ++ codes " frames of " ++ decimal channels ++ codes " channels " ++ format_name format)
+    line (word ++ codes " " ++ decimal frames ++ codes " frames of " ++ decimal channels ++ codes " channels " ++
+    format_name format)
 
 -- `multiplies COST`
 abbrev pub multiplies_line : ℕ → List ℕ
@@ -175,7 +185,8 @@ multiplies_line multiplies = line (codes "multiplies " ++ decimal multiplies)
 
 -- `WORD B channel C = `
 abbrev pub channel_text : List ℕ → ℕ → ℕ → List ℕ
-channel_text word number channel = word ++ codes " " ++ decimal number ++ codes " channel " ++ decimal channel ++ codes " = "
+channel_text word number channel = word ++ codes " " ++ decimal number ++ codes " channel " ++ decimal channel ++
+    codes " = "
 
 -- `V at I`, or `none`
 abbrev pub found_text : Option (ℤ × ℕ) → List ℕ
@@ -193,7 +204,8 @@ second_text None = []
 
 -- `WORD B = V`, or `WORD B = RE IM`
 abbrev pub sums_line : List ℕ → ℕ → ℤ → Option ℤ → List ℕ
-sums_line word number first second = line (word ++ codes " " ++ decimal number ++ codes " = " ++ signed_decimal first ++ second_text second)
+sums_line word number first second = line (word ++ codes " " ++ decimal number ++ codes " = " ++ signed_decimal first
+    ++ second_text second)
 
 -- the line of a measure
 abbrev pub measure_line : Measure → List ℕ
@@ -206,7 +218,8 @@ measure_line (Min number channel found) = extreme_line (codes "min") number chan
 -- `N frames of C channels, W bits`
 abbrev pub converted_line : ℕ → ℕ → ℕ → List ℕ
 converted_line frames channels bits =
-    line (decimal frames ++ codes " frames of " ++ decimal channels ++ codes " channels, " ++ decimal bits ++ codes " bits")
+    line (decimal frames ++ codes " frames of " ++ decimal channels ++ codes " channels, " ++ decimal bits ++ codes
+    " bits")
 
 -- what a conversion reports
 abbrev pub converted_text : ℕ → ℕ → ℕ → List ℕ

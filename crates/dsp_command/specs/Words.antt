@@ -1,5 +1,6 @@
 -- Which words are a command, and where they name its script, its input, its output and another file that it reads.
-use Rattle.std.specs.Prelude.{ℕ, ◌-◌, ◌^◌, Bool, true, false, not, ◌&&◌, nat_eq, nat_le, List, [], ◌∷◌, length, Option, Some, None, codes, if◌then◌else◌}
+use Rattle.std.specs.Prelude.{ℕ, ◌-◌, ◌^◌, Bool, true, false, not, ◌&&◌, nat_eq, nat_le, List, [], ◌∷◌, length}
+use Rattle.std.specs.Prelude.{Option, Some, None, codes, if◌then◌else◌}
 use Rattle.std.specs.Option.{option_map, option_and_then}
 use Rattle.std.specs.Char.{is_ascii_digit}
 use Rattle.std.specs.List.{list_all}
@@ -15,7 +16,8 @@ use Rattle.dsp_defs.specs.declared.limits.TheConstants.{MAX_GENERATED}
 -- a count: one to ten digits, of at most 2^32 - 1
 abbrev pub count_of : List ℕ → Option ℕ
 count_of word =
-    if nat_le 1 (length word) && nat_le (length word) 10 && list_all is_ascii_digit word && nat_le (digits_value 10 word) (2 ^ 32 - 1)
+    if nat_le 1 (length word) && nat_le (length word) 10 && list_all is_ascii_digit word && nat_le
+    (digits_value 10 word) (2 ^ 32 - 1)
     then Some (digits_value 10 word) else None
 
 -- a name is a text that isn't empty
@@ -58,8 +60,10 @@ of_four verb script input output =
 abbrev pub of_five : List ℕ → List ℕ → List ℕ → List ℕ → List ℕ → Option Command
 of_five verb second third fourth output =
     if bytes_eq verb (codes "gen") && are_gen_names fourth output then generating (count_of second) (count_of third)
-    else (if bytes_eq verb (codes "resume") && bytes_eq second (codes "go") && are_run_names third fourth output then Some Go
-    else (if bytes_eq verb (codes "convert") && are_gen_names fourth output then option_map (λ d. Convert d) (direction_of second third)
+    else (if bytes_eq verb (codes "resume") && bytes_eq second (codes "go") && are_run_names third fourth output then
+    Some Go
+    else (if bytes_eq verb (codes "convert") && are_gen_names fourth output then
+    option_map (λ d. Convert d) (direction_of second third)
     else None))
 
 -- six words: a run that is to be stopped, and a run with its block length
@@ -70,7 +74,8 @@ of_six verb second third fourth fifth last =
     else (if are_run_names second third fourth && bytes_eq fifth (codes "block")
     then option_and_then (λ n. running verb (Some n)) (count_of last) else None)
 
--- `print SCRIPT`, `run SCRIPT IN OUT`, `run SCRIPT IN OUT block N`, `gen SEED FRAMES SCRIPT OUT`, `resume stop K SCRIPT IN OUT`,
+-- `print SCRIPT`, `run SCRIPT IN OUT`, `run SCRIPT IN OUT block N`, `gen SEED FRAMES SCRIPT OUT`, `resume stop K
+-- SCRIPT IN OUT`,
 -- `resume go STATE IN OUT`, `convert FROM TO IN OUT` and `check SCRIPT IN OUT`; `bank` stands where `run` does
 abbrev pub command_of : List (List ℕ) → Option Command
 command_of (verb ∷ script ∷ []) = if bytes_eq verb (codes "print") && is_name script then Some Print else None

@@ -1,11 +1,13 @@
 -- One more complex number that a loop writes.
-use Rattle.std.proofs.Common.{◌≡◌, ◌∙◌, ap, sym, ℕ, zero, suc, ◌+◌, ◌*◌, ◌<◌, ℤ, List, [], ◌∷◌, ◌++◌, set, take, length, length-set, arith}
+use Rattle.std.proofs.Common.{◌≡◌, ◌∙◌, ap, sym, ℕ, zero, suc, ◌+◌, ◌*◌, ◌<◌, ℤ, List, [], ◌∷◌, ◌++◌, set, take}
+use Rattle.std.proofs.Common.{length, length-set, arith}
 use Rattle.std.specs.List.{flat_map, range_with_len}
 use Rattle.std.proofs.lemmas.List.{append-nil, append_assoc, take_more_set}
 use Rattle.dsp_defs.specs.Block.{pair_frame}
 use Rattle.dsp_complex.specs.Pairs.{interleaved}
 
-range-more : (f : ℕ → List ℤ) (a n : ℕ) → flat_map f (range_with_len a (suc n)) ≡ flat_map f (range_with_len a n) ++ f (a + n)
+range-more : (f : ℕ → List ℤ) (a n : ℕ) → flat_map f (range_with_len a (suc n)) ≡ flat_map f (range_with_len a n) ++ f
+    (a + n)
 range-more f a zero = let here : a ≡ a + 0 = omega arith in append-nil (f a) ∙ ap f here
 range-more f a (suc n) =
     let place : a + 1 + n ≡ a + suc n = omega arith in
@@ -13,7 +15,8 @@ range-more f a (suc n) =
     ∙ sym (append_assoc (f a) (flat_map f (range_with_len (a + 1) n)) (f (a + 1 + n)))
     ∙ ap (λ k. flat_map f (range_with_len a (suc n)) ++ f k) place
 
-pub pair-more : (f : ℕ → ℤ × ℤ) (n : ℕ) (out : List ℤ) (u v : ℤ) → n * 2 + 1 < length out → take (n * 2) out ≡ interleaved n f → u ≡ (f n).0 → v ≡ (f n).1 →
+pub pair-more : (f : ℕ → ℤ × ℤ) (n : ℕ) (out : List ℤ) (u v : ℤ) → n * 2 + 1 < length out →
+    take (n * 2) out ≡ interleaved n f → u ≡ (f n).0 → v ≡ (f n).1 →
     take ((n + 1) * 2) (set (set out (n * 2) u) (n * 2 + 1) v) ≡ interleaved (n + 1) f
 pair-more f n out u v room done re_is im_is =
     let long = length-set out (n * 2) u in

@@ -1,10 +1,10 @@
 -- The blocks of this crate.
 use Rattle.std.proofs.Common.{◌≡◌, refl, ℕ, arith}
 use Rattle.dsp_defs.specs.Block.{given_frame}
-use Rattle.dsp_stage.specs.Unit.{most_frames}
-use Rattle.dsp_stage.proofs.MemorylessLaws.{IsMemoryless}
+use Rattle.dsp_unit.specs.Unit.{most_frames}
+use Rattle.dsp_unit.proofs.MemorylessLaws.{IsMemoryless}
 use Rattle.dsp_defs.specs.declared.format.Fmt.{Fmt}
-use Rattle.dsp_frames.specs.Memoryless.{price}
+use Rattle.dsp_filter.specs.Memoryless.{price}
 use Rattle.dsp_defs.specs.declared.script.Block.{Block}
 use Rattle.dsp_defs.specs.declared.script.Block.TheVariants.{Conj, CmplxMult, CmplxMultReal, MagSquared}
 use Rattle.dsp_complex.specs.declared.operation.Operation.{Operation}
@@ -26,7 +26,8 @@ IsComplexBlock MagSquared = Unit {0}
 IsComplexBlock _ = ⊥
 
 -- each frame gives one frame, of itself alone
-pub gives-frames : (format : Fmt) (channels : ℕ) (o : Operation) → IsMemoryless format channels (block_of o) (price (block_of o) channels) (given_frame format (block_of o))
+pub gives-frames : (format : Fmt) (channels : ℕ) (o : Operation) →
+    IsMemoryless format channels (block_of o) (price (block_of o) channels) (given_frame format (block_of o))
 gives-frames format channels operation.Conj = record {
   live_is = λ x. refl;
   whole_is = λ x. refl;

@@ -1,13 +1,13 @@
 ghost use Rattle.std.specs.Prelude.{◌≡◌, ◌≤◌, ◌+◌, ◌*◌, length, take};
 ghost use Rattle.dsp_defs.specs.Block.{frames_in, channels_after};
 ghost use Rattle.dsp_defs.specs.Grammar.{Suits};
-ghost use Rattle.dsp_stage.specs.Unit.{IsSignal};
-ghost use Rattle.dsp_frames.specs.Memoryless.{Gives, price};
+ghost use Rattle.dsp_unit.specs.Unit.{IsSignal};
+ghost use Rattle.dsp_filter.specs.Memoryless.{Gives, price};
 
 use crate::frames::{Conjugate, Product, RealProduct, SquaredMagnitude, give_frames};
 use crate::scalars::ComplexSample;
 use dsp_defs::{Block, Fmt, Steps};
-use dsp_frames::FrameWork;
+use dsp_filter::FrameWork;
 use std::alloc::{AllocError, Global};
 use std::sync::ledger::Ledger;
 

@@ -1,5 +1,5 @@
 use crate::Operation;
-use dsp_frames::Memoryless;
+use dsp_filter::Memoryless;
 
 /// A block of this crate at its place, on all channels of a frame.
 pub type ComplexUnit = Memoryless<Operation>;

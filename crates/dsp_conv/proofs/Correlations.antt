@@ -11,7 +11,7 @@ use Rattle.dsp_defs.specs.Sums.{correlate}
 use Rattle.dsp_defs.specs.Shape.{correlation_length}
 use Rattle.dsp_defs.specs.Cost.{correlation_products}
 use Rattle.dsp_defs.proofs.Signal.{values_cong, values-add}
-use Rattle.dsp_stage.proofs.CostLaws.{correlation_whole}
+use Rattle.dsp_unit.proofs.CostLaws.{correlation_whole}
 use Rattle.dsp_conv.specs.Sums.{correlation_at}
 
 some-test : (n : ℕ) → 1 ≤ n → nat_eq n 0 ≡ false
@@ -21,8 +21,10 @@ some-test n some = grind (arith, nat_tests)
 pub correlation-some : (n t : ℕ) → 1 ≤ n → correlation_length n t ≡ 2 * max n t - 1
 correlation-some n t some = ap (λ (b : Bool). if b then 0 else (2 * max n t - 1)) (some-test n some)
 
-pub correlate-values : (format : Fmt) (b x : List ℤ) → 1 ≤ length x → correlate format b x ≡ values (2 * max (length x) (length b) - 1) (λ n. close format (correlation_at b x n))
-correlate-values format b x some = ap (λ k. values k (λ n. close format (correlation_at b x n))) (correlation-some (length x) (length b) some)
+pub correlate-values : (format : Fmt) (b x : List ℤ) → 1 ≤ length x →
+    correlate format b x ≡ values (2 * max (length x) (length b) - 1) (λ n. close format (correlation_at b x n))
+correlate-values format b x some = ap (λ k. values k (λ n. close format (correlation_at b x n)))
+    (correlation-some (length x) (length b) some)
 
 -- all of them together have n * t products
 pub all-products : (n t : ℕ) → 1 ≤ n → correlation_products n t (2 * max n t - 1) ≡ n * t
@@ -37,14 +39,16 @@ dropped n k f within =
     ∙ drop_at (values k f) (values (n - k) (λ i. f (k + i))) k (length-map-range_with_len f 0 k)
 
 -- a piece of those that are left, and the others
-pub piece-given : (n k count : ℕ) (f : ℕ → ℤ) → k + count ≤ n → drop k (values n f) ≡ values count (λ i. f (k + i)) ++ drop (k + count) (values n f)
+pub piece-given : (n k count : ℕ) (f : ℕ → ℤ) → k + count ≤ n →
+    drop k (values n f) ≡ values count (λ i. f (k + i)) ++ drop (k + count) (values n f)
 piece-given n k count f within =
     let whole : n - k ≡ count + (n - (k + count)) = omega (arith, within) in
     dropped n k f (omega (arith, within))
     ∙ ap (λ m. values m (λ i. f (k + i))) whole
     ∙ values-add count (n - (k + count)) (λ i. f (k + i))
     ∙ ap (λ l. values count (λ i. f (k + i)) ++ l)
-    (values_cong (n - (k + count)) _ _ (λ i _. let place : k + (count + i) ≡ k + count + i = omega arith in ap f place) ∙ sym (dropped n (k + count) f within))
+    (values_cong (n - (k + count)) _ _ (λ i _. let place : k + (count + i) ≡ k + count + i = omega arith in
+    ap f place) ∙ sym (dropped n (k + count) f within))
 
 pub length-dropped : (n k : ℕ) (f : ℕ → ℤ) → k ≤ n → length (drop k (values n f)) ≡ n - k
 length-dropped n k f within = ap length (dropped n k f within) ∙ length-map-range_with_len (λ i. f (k + i)) 0 (n - k)

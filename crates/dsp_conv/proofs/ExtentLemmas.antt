@@ -1,5 +1,6 @@
 -- The places of a stream, and the values that come with a call and behind it.
-use Rattle.std.proofs.Common.{◌≡◌, ◌∙◌, ap, sym, refl, ℕ, zero, suc, ◌+◌, ◌-◌, ◌*◌, ◌<◌, ◌≤◌, List, [], ◌∷◌, ◌++◌, ℤ, pos, length, arith}
+use Rattle.std.proofs.Common.{◌≡◌, ◌∙◌, ap, sym, refl, ℕ, zero, suc, ◌+◌, ◌-◌, ◌*◌, ◌<◌, ◌≤◌, List, [], ◌∷◌, ◌++◌, ℤ}
+use Rattle.std.proofs.Common.{pos, length, arith}
 use Rattle.std.proofs.lemmas.Grind.{common_steps}
 use Rattle.dsp_defs.specs.declared.format.Fmt.{Fmt}
 use Rattle.dsp_defs.specs.Formats.{word}
@@ -7,11 +8,12 @@ use Rattle.dsp_defs.specs.Sums.{full_length}
 use Rattle.dsp_defs.specs.Shape.{whole_frames, live_frames}
 use Rattle.dsp_defs.specs.Cost.{live_block_cost, cost_so_far}
 use Rattle.dsp_defs.specs.Kept.{Fixed, flag, in_words, kinds_by, kept_of_channel}
-use Rattle.dsp_stage.specs.Unit.{most_frames}
+use Rattle.dsp_unit.specs.Unit.{most_frames}
 use Rattle.dsp_defs.specs.Streaming.{last_of}
 use Rattle.dsp_conv.specs.declared.extent.Extent.{Extent}
 use Rattle.dsp_conv.specs.declared.extent.Extent.TheVariants.{Full, Within}
-use Rattle.dsp_conv.specs.Extent.{block_of, first_of, live_end, whole_end, place_in, greatest_place, place_after, start_in, given_in, zeros_behind}
+use Rattle.dsp_conv.specs.Extent.{block_of, first_of, live_end, whole_end, place_in, greatest_place, place_after}
+use Rattle.dsp_conv.specs.Extent.{start_in, given_in, zeros_behind}
 
 -- ---- flags
 
@@ -63,12 +65,14 @@ no-place (Within first count) = omega arith
 -- ---- the values of a call
 
 -- they are those that the samples add
-pub more-given : (e : Extent) (place n m : ℕ) → place ≡ place_in e n → live_end e (n + m) - first_of e ≡ (live_end e n - first_of e) + given_in e place m
+pub more-given : (e : Extent) (place n m : ℕ) → place ≡ place_in e n →
+    live_end e (n + m) - first_of e ≡ (live_end e n - first_of e) + given_in e place m
 more-given Full place n m is = omega arith
 more-given (Within first count) place n m is = omega (arith, is)
 
 -- and stand behind the samples that have their indexes
-pub given-index : (e : Extent) (place n m i : ℕ) → place ≡ place_in e n → i < given_in e place m → first_of e + ((live_end e n - first_of e) + i) ≡ n + (start_in e place m + i)
+pub given-index : (e : Extent) (place n m i : ℕ) → place ≡ place_in e n → i < given_in e place m →
+    first_of e + ((live_end e n - first_of e) + i) ≡ n + (start_in e place m + i)
 given-index Full place n m i is inside = omega arith
 given-index (Within first count) place n m i is inside = omega (arith, is, inside)
 
@@ -77,7 +81,8 @@ live-within Full n = omega arith
 live-within (Within first count) n = omega arith
 
 -- the whole convolution ends as if zeros came behind the signal
-pub whole-end : (e : Extent) (place n t : ℕ) → 0 < t → place ≡ place_in e n → whole_end e n t - first_of e ≡ live_end e (n + zeros_behind place t) - first_of e
+pub whole-end : (e : Extent) (place n t : ℕ) → 0 < t → place ≡ place_in e n →
+    whole_end e n t - first_of e ≡ live_end e (n + zeros_behind place t) - first_of e
 whole-end Full zero n t some is = ap (λ k. k - 0) (full-is n t some ∙ nothing n (sym is))
   where
     nothing : (n : ℕ) → flag n ≡ 0 → n + flag n * (t - 1) ≡ n + 0
@@ -95,11 +100,13 @@ whole-end (Within first count) (suc place) (suc n) t some is = omega (arith, ful
 
 -- ---- frames
 
-pub live-frames : (e : Extent) (b : List ℤ) (n : ℕ) → 0 < length b → live_frames (block_of e b) n ≡ live_end e n - first_of e
+pub live-frames : (e : Extent) (b : List ℤ) (n : ℕ) → 0 < length b →
+    live_frames (block_of e b) n ≡ live_end e n - first_of e
 live-frames Full b n some = omega (arith, full-is n (length b) some)
 live-frames (Within first count) b n some = omega (arith, full-is n (length b) some)
 
-pub whole-frames : (e : Extent) (b : List ℤ) (n : ℕ) → whole_frames (block_of e b) n ≡ whole_end e n (length b) - first_of e
+pub whole-frames : (e : Extent) (b : List ℤ) (n : ℕ) →
+    whole_frames (block_of e b) n ≡ whole_end e n (length b) - first_of e
 whole-frames Full b n = omega arith
 whole-frames (Within first count) b n = omega arith
 
@@ -109,20 +116,24 @@ most-same (Within first count) b n = refl
 
 -- ---- costs
 
-pub live-cost : (e : Extent) (format : Fmt) (b : List ℤ) (n : ℕ) → live_block_cost format 1 (block_of e b) n ≡ live_frames (block_of e b) n * length b
+pub live-cost : (e : Extent) (format : Fmt) (b : List ℤ) (n : ℕ) →
+    live_block_cost format 1 (block_of e b) n ≡ live_frames (block_of e b) n * length b
 live-cost Full format b n = omega arith
 live-cost (Within first count) format b n = omega arith
 
-pub cost-so-far : (e : Extent) (format : Fmt) (b : List ℤ) (n given : ℕ) → cost_so_far format 1 (block_of e b) n n given ≡ given * length b
+pub cost-so-far : (e : Extent) (format : Fmt) (b : List ℤ) (n given : ℕ) →
+    cost_so_far format 1 (block_of e b) n n given ≡ given * length b
 cost-so-far Full format b n given = omega arith
 cost-so-far (Within first count) format b n given = omega arith
 
 -- ---- kept numbers
 
-pub kinds-are : (e : Extent) (format : Fmt) (b : List ℤ) (n : ℕ) → kinds_by format (block_of e b) n ≡ in_words (word format) (length b - 1) ++ Fixed (place_in e n) ∷ []
+pub kinds-are : (e : Extent) (format : Fmt) (b : List ℤ) (n : ℕ) →
+    kinds_by format (block_of e b) n ≡ in_words (word format) (length b - 1) ++ Fixed (place_in e n) ∷ []
 kinds-are Full format b n = refl
 kinds-are (Within first count) format b n = refl
 
-pub kept-are : (e : Extent) (format : Fmt) (b x : List ℤ) → kept_of_channel format (block_of e b) x ≡ last_of (length b - 1) x ++ pos (place_in e (length x)) ∷ []
+pub kept-are : (e : Extent) (format : Fmt) (b x : List ℤ) →
+    kept_of_channel format (block_of e b) x ≡ last_of (length b - 1) x ++ pos (place_in e (length x)) ∷ []
 kept-are Full format b x = refl
 kept-are (Within first count) format b x = refl

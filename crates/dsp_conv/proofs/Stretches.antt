@@ -1,5 +1,6 @@
 -- Stretches of values: pieces behind one another, and those that are sums over all of the shorter list.
-use Rattle.std.proofs.Common.{◌≡◌, ◌∙◌, ap, ap₂, sym, ℕ, zero, suc, ◌+◌, ◌-◌, ◌*◌, ◌/◌, ◌≤◌, ℤ, ◌*ℤ◌, List, ◌++◌, length, map, reverse, pos, take, drop, slice_range, arith}
+use Rattle.std.proofs.Common.{◌≡◌, ◌∙◌, ap, ap₂, sym, ℕ, zero, suc, ◌+◌, ◌-◌, ◌*◌, ◌/◌, ◌≤◌, ℤ, ◌*ℤ◌, List, ◌++◌}
+use Rattle.std.proofs.Common.{length, map, reverse, pos, take, drop, slice_range, arith}
 use Rattle.std.proofs.Math.IntN.{*ℤ_comm}
 use Rattle.std.proofs.Math.Nat.{mul-suc, mul-le-mul_left}
 use Rattle.std.proofs.lemmas.Nat.{div-add-mod'}
@@ -10,23 +11,27 @@ use Rattle.dsp_defs.specs.Streaming.{rows}
 use Rattle.dsp_defs.specs.Sums.{convolution_at}
 use Rattle.dsp_defs.specs.Cost.{correlation_products}
 use Rattle.dsp_defs.specs.declared.format.Fmt.{Fmt}
-use Rattle.dsp_defs.proofs.Signal.{values_cong, values-add, sum_below_cong, sum_below_reversed, delayed_before, delayed_after}
+use Rattle.dsp_defs.proofs.Signal.{values_cong, values-add, sum_below_cong, sum_below_reversed, delayed_before}
+use Rattle.dsp_defs.proofs.Signal.{delayed_after}
 use Rattle.dsp_lanes.specs.Turns.{lane_turns}
-use Rattle.dsp_unit.proofs.Slices.{sample-piece}
+use Rattle.dsp_filter.proofs.Slices.{sample-piece}
 use Rattle.dsp_conv.specs.Sums.{convolution_stretch, correlation_at, correlation_stretch, correlation_terms}
 use Rattle.dsp_conv.proofs.SliceSums.{correlation-part, correlation-more, part-sum, piece, times-zero, zero-times}
 
 -- ---- pieces behind one another
 
-stretch-add : (f : ℕ → ℤ) (first p q : ℕ) → values (p + q) (λ i. f (first + i)) ≡ values p (λ i. f (first + i)) ++ values q (λ i. f (first + p + i))
+stretch-add : (f : ℕ → ℤ) (first p q : ℕ) → values (p + q) (λ i. f (first + i)) ≡ values p (λ i. f (first + i)) ++
+    values q (λ i. f (first + p + i))
 stretch-add f first p q =
     values-add p q (λ i. f (first + i))
-    ∙ ap (λ l. values p (λ i. f (first + i)) ++ l) (values_cong q _ _ (λ i _. let place : first + (p + i) ≡ first + p + i = omega arith in ap f place))
+    ∙ ap (λ l. values p (λ i. f (first + i)) ++ l) (values_cong q _ _
+    (λ i _. let place : first + (p + i) ≡ first + p + i = omega arith in ap f place))
 
 -- three pieces that were written
 pub three-written :
     {X : Type 0} (number : X → ℤ) (f : ℕ → ℤ) (first p q r n : ℕ) (before inside behind : List X) → n ≡ p + (q + r) →
-    map number before ≡ values p (λ i. f (first + i)) → map number inside ≡ values q (λ i. f (first + p + i)) → map number behind ≡ values r (λ i. f (first + (p + q) + i)) →
+    map number before ≡ values p (λ i. f (first + i)) → map number inside ≡ values q (λ i. f (first + p + i)) →
+    map number behind ≡ values r (λ i. f (first + (p + q) + i)) →
     map number (before ++ (inside ++ behind)) ≡ values n (λ i. f (first + i))
 three-written number f first p q r n before inside behind whole is_before is_inside is_behind =
     let place : first + (p + q) ≡ first + p + q = omega arith in
@@ -40,27 +45,34 @@ three-written number f first p q r n before inside behind whole is_before is_ins
 
 -- ---- sums over all of the shorter list
 
-middle-value : (a b : List ℤ) (d : ℕ) → 1 ≤ length b → d + length b ≤ length a → correlation_at b a (length a - 1 + d) ≡ sum_below (length b) (λ k. sample b k *ℤ sample a (d + k))
+middle-value : (a b : List ℤ) (d : ℕ) → 1 ≤ length b → d + length b ≤ length a →
+    correlation_at b a (length a - 1 + d) ≡ sum_below (length b) (λ k. sample b k *ℤ sample a (d + k))
 middle-value a b d taps inside =
     let t = length b in
     let size : d + t - d ≡ t = omega arith in
-    correlation-part a b (length a - 1 + d) d (d + t) 0 (length a) (omega (arith, taps, inside)) taps (omega (arith, inside)) (omega (arith, taps, inside)) (omega (arith, taps, inside)) (omega (arith, taps, inside))
+    correlation-part a b (length a - 1 + d) d (d + t) 0 (length a) (omega (arith, taps, inside)) taps
+    (omega (arith, inside)) (omega (arith, taps, inside)) (omega (arith, taps, inside))
+    (omega (arith, taps, inside))
     ∙ ap (λ m. sum_below m (λ k. sample (take m (drop d a)) k *ℤ sample (take m (drop 0 b)) k)) size
     ∙ sum_below_cong t _ _
     (λ j below.
     let place : 0 + j ≡ j = omega arith in
-    ap₂ (λ p q. p *ℤ q) (piece a d t j below) (piece b 0 t j below ∙ ap (sample b) place) ∙ *ℤ_comm (sample a (d + j)) (sample b j))
+    ap₂ (λ p q. p *ℤ q) (piece a d t j below) (piece b 0 t j below ∙ ap (sample b) place) ∙
+    *ℤ_comm (sample a (d + j)) (sample b j))
 
 pub middle-stretch :
-    {X : Type 0} (format : Fmt) (number : X → ℤ) (xs : List X) (b : List ℤ) (first count start end : ℕ) → 1 ≤ length b → 1 ≤ count → length xs ≤ first + 1 → first + count + length b ≤ 2 * length xs →
+    {X : Type 0} (format : Fmt) (number : X → ℤ) (xs : List X) (b : List ℤ) (first count start end : ℕ) →
+    1 ≤ length b → 1 ≤ count → length xs ≤ first + 1 → first + count + length b ≤ 2 * length xs →
     start ≡ first - (length xs - 1) → end ≡ start + (count - 1) + length b →
-    rows format b (map number (slice_range xs start end)) count ≡ correlation_stretch format b (map number xs) first count
+    rows format b (map number (slice_range xs start end)) count ≡ correlation_stretch format b (map number xs) first
+    count
 middle-stretch format number xs b first count start end taps some from inside is_start is_end =
     let t = length b in
     let long : length (map number xs) ≡ length xs = length-map xs number in
     values_cong count _ _
     (λ i below.
-    let place : length (map number xs) - 1 + (start + i) ≡ first + i = omega (arith, long, from, is_start, taps, inside) in
+    let place : length (map number xs) - 1 + (start + i) ≡ first + i =
+    omega (arith, long, from, is_start, taps, inside) in
     ap (close format)
     (sum_below_cong t _ _
     (λ j under.
@@ -74,8 +86,10 @@ middle-stretch format number xs b first count start end taps some from inside is
     ∙ ap (correlation_at b (map number xs)) place))
 
 -- each has a product for each of its samples
-pub middle-products : (n t first count : ℕ) → 1 ≤ n → 1 ≤ t → n ≤ first + 1 → first + count + t ≤ 2 * n → correlation_products n t (first + count) ≡ correlation_products n t first + t * count
-middle-products n t first zero some taps from inside = (let same : first + 0 ≡ first = omega arith in ap (correlation_products n t) same ∙ omega arith)
+pub middle-products : (n t first count : ℕ) → 1 ≤ n → 1 ≤ t → n ≤ first + 1 → first + count + t ≤ 2 * n →
+    correlation_products n t (first + count) ≡ correlation_products n t first + t * count
+middle-products n t first zero some taps from inside =
+    (let same : first + 0 ≡ first = omega arith in ap (correlation_products n t) same ∙ omega arith)
 middle-products n t first (suc c) some taps from inside =
     let next : first + suc c ≡ first + (c + 1) = omega arith in
     let more = correlation-more n t first c in
@@ -84,7 +98,8 @@ middle-products n t first (suc c) some taps from inside =
     ap (correlation_products n t) next ∙ omega (arith, more, terms, before)
 
 -- the same of the full convolution, which reads one list from its end
-convolution-value : (a b : List ℤ) (n : ℕ) → 1 ≤ length b → length b ≤ n + 1 → convolution_at b a n ≡ sum_below (length b) (λ j. sample (reverse b) j *ℤ sample a (n + 1 - length b + j))
+convolution-value : (a b : List ℤ) (n : ℕ) → 1 ≤ length b → length b ≤ n + 1 →
+    convolution_at b a n ≡ sum_below (length b) (λ j. sample (reverse b) j *ℤ sample a (n + 1 - length b + j))
 convolution-value a b n taps inside =
     let t = length b in
     sum_below_reversed t (λ k. sample b k *ℤ delayed a n k) (λ j. sample (reverse b) j *ℤ sample a (n + 1 - t + j))
@@ -95,9 +110,11 @@ convolution-value a b n taps inside =
     (ap (sample a) place ∙ sym (delayed_after a n (t - suc j) (omega (arith, below, inside)))))
 
 pub convolution-middle :
-    {X : Type 0} (format : Fmt) (number : X → ℤ) (xs : List X) (b : List ℤ) (first count start end : ℕ) → 1 ≤ length b → length b ≤ first + 1 →
+    {X : Type 0} (format : Fmt) (number : X → ℤ) (xs : List X) (b : List ℤ) (first count start end : ℕ) →
+    1 ≤ length b → length b ≤ first + 1 →
     start ≡ first - (length b - 1) → end ≡ first + count →
-    rows format (reverse b) (map number (slice_range xs start end)) count ≡ convolution_stretch format b (map number xs) first count
+    rows format (reverse b) (map number (slice_range xs start end)) count ≡ convolution_stretch format b
+    (map number xs) first count
 convolution-middle format number xs b first count start end taps from is_start is_end =
     let t = length b in
     let long : length (reverse b) ≡ t = length-reverse b in
@@ -132,9 +149,12 @@ all-terms a b n =
     let f : ℕ → ℤ = λ k. sample b k *ℤ delayed a n k in
     let from : (k : ℕ) → f (0 + k) ≡ f k = λ k. let same : 0 + k ≡ k = omega arith in ap f same in
     sum_below_cong t _ _ (λ k _. sym (from k))
-    ∙ sym (part-sum (t + (n + 1)) 0 t f (omega arith) (λ k below. absurd (omega (arith, below))) (λ k past _. zero-times (sample b k) (delayed a n k) (get_or_past b k (pos 0) (omega (arith, past)))))
-    ∙ part-sum (t + (n + 1)) 0 (n + 1) f (omega arith) (λ k below. absurd (omega (arith, below))) (λ k past _. times-zero (sample b k) (delayed a n k) (delayed_before a n k (omega (arith, past))))
-    ∙ sum_below_cong (n + 1) _ _ (λ k below. from k ∙ ap (λ z. sample b k *ℤ z) (delayed_after a n k (omega (arith, below))))
+    ∙ sym (part-sum (t + (n + 1)) 0 t f (omega arith) (λ k below. absurd (omega (arith, below)))
+    (λ k past _. zero-times (sample b k) (delayed a n k) (get_or_past b k (pos 0) (omega (arith, past)))))
+    ∙ part-sum (t + (n + 1)) 0 (n + 1) f (omega arith) (λ k below. absurd (omega (arith, below)))
+    (λ k past _. times-zero (sample b k) (delayed a n k) (delayed_before a n k (omega (arith, past))))
+    ∙ sum_below_cong (n + 1) _ _ (λ k below. from k ∙ ap (λ z. sample b k *ℤ z)
+    (delayed_after a n k (omega (arith, below))))
 
 swapped-at : (a b : List ℤ) (n : ℕ) → convolution_at b a n ≡ convolution_at a b n
 swapped-at a b n =
@@ -147,5 +167,6 @@ swapped-at a b n =
     ∙ sym (all-terms b a n)
 
 -- a convolution is the same with both lists exchanged
-pub swapped : (format : Fmt) (a b : List ℤ) (first count : ℕ) → convolution_stretch format a b first count ≡ convolution_stretch format b a first count
+pub swapped : (format : Fmt) (a b : List ℤ) (first count : ℕ) →
+    convolution_stretch format a b first count ≡ convolution_stretch format b a first count
 swapped format a b first count = values_cong count _ _ (λ i _. ap (close format) (sym (swapped-at a b (first + i))))

@@ -3,10 +3,10 @@ use Rattle.std.specs.Prelude.{⊤, ℕ, ◌-◌, ◌<◌, min, ℤ, List, [], le
 use Rattle.dsp_defs.specs.Sums.{full_length}
 use Rattle.dsp_defs.specs.Cost.{lane_turns, correlation_products}
 use Rattle.dsp_defs.specs.Shape.{group_of}
-use Rattle.dsp_stage.specs.Filter.{IsByChannel}
+use Rattle.dsp_unit.specs.Filter.{IsByChannel}
 use Rattle.dsp_defs.proofs.KeptLaws.{kept_of_channel-place}
-use Rattle.dsp_unit.specs.Making.{AreTaps}
-use Rattle.dsp_unit.proofs.Units.{scaled, scaled-one, scaled-none, less-scaled, less-none}
+use Rattle.dsp_filter.specs.Making.{AreTaps}
+use Rattle.dsp_filter.proofs.Units.{scaled, scaled-one, scaled-none, less-scaled, less-none}
 use Rattle.dsp_defs.specs.declared.format.Fmt.{Fmt}
 use Rattle.dsp_defs.specs.declared.script.Block.{Block}
 use Rattle.dsp_defs.specs.declared.script.Block.TheVariants.{Conv, ConvPartial, Correlate}
@@ -50,7 +50,8 @@ conv-by-channel format (Conv taps) is = record {
   no_measures = λ c number kept. refl;
   live_cost = λ c n. scaled c (min n (full_length n (length taps))) (length taps);
   so_far = λ c n taken given. scaled c given (length taps);
-  turns = λ c m n. scaled c (length taps) (lane_turns format (min n (full_length n (length taps)) - min m (full_length m (length taps))));
+  turns = λ c m n. scaled c (length taps) (lane_turns format
+      (min n (full_length n (length taps)) - min m (full_length m (length taps))));
 }
 conv-by-channel format (ConvPartial first count taps) is =
     let live = λ (n : ℕ). min (n - first) (min count (full_length n (length taps) - first)) in
@@ -100,6 +101,7 @@ correlate-by-channel format (Correlate taps) is = record {
 correlate-by-channel format block is = absurd is
 
 -- and not on groups
-pub correlate-groups : (format : Fmt) (block : Block) → IsCorrelateIn format block → IfSome (group_of block) (λ g. 0 < g.0)
+pub correlate-groups : (format : Fmt) (block : Block) → IsCorrelateIn format block →
+    IfSome (group_of block) (λ g. 0 < g.0)
 correlate-groups format (Correlate taps) is = tt
 correlate-groups format block is = absurd is

@@ -1,18 +1,20 @@
 -- What a contract sees of a convolution.
-use Rattle.std.specs.Prelude.{ℕ, ◌-◌, ◌+◌, ◌≡◌, ◌<◌, ◌≤◌, ◌^◌, ℤ, pos, ◌≤ℤ◌, Bool, false, List, [], ◌∷◌, ◌++◌, length, take, drop, replicate, reverse, All, FitsSigned}
+use Rattle.std.specs.Prelude.{ℕ, ◌-◌, ◌+◌, ◌≡◌, ◌<◌, ◌≤◌, ◌^◌, ℤ, pos, ◌≤ℤ◌, Bool, false, List, [], ◌∷◌, ◌++◌, length}
+use Rattle.std.specs.Prelude.{take, drop, replicate, reverse, All, FitsSigned}
 use Rattle.dsp_defs.specs.Formats.{word}
 use Rattle.dsp_defs.specs.Signal.{sample}
 use Rattle.dsp_defs.specs.Streaming.{last_of, rows}
 use Rattle.dsp_defs.specs.Shape.{whole_frames, live_frames}
 use Rattle.dsp_defs.specs.Kept.{kept_of_channel}
-use Rattle.dsp_stage.specs.Filter.{FilterState, of_channel, of_whole_channel}
+use Rattle.dsp_unit.specs.Filter.{FilterState, of_channel, of_whole_channel}
 use Rattle.dsp_window.specs.Rolling.{Rolling}
 use Rattle.dsp_defs.specs.declared.limits.TheConstants.{MAX_TAPS}
 use Rattle.dsp_defs.specs.declared.format.Fmt.{Fmt}
 use Rattle.dsp_conv.specs.declared.extent.Extent.{Extent}
 use Rattle.dsp_conv.specs.Extent.{block_of, place_in, greatest_place, start_in, given_in, zeros_behind}
 
--- which values it gives, its taps as they were given, the last numbers that it took, its place, the values that it still
+-- which values it gives, its taps as they were given, the last numbers that it took, its place, the values that it
+-- still
 -- has to give once the signal ends, the greatest length of a block, and whether `finish` was called
 pub record ConvState : Type 0 where
   pub extent : Extent
@@ -57,7 +59,8 @@ tail_behind format extent taps past place =
     let zeros = zeros_behind place (length taps) in
     rows format (reverse taps) (drop (start_in extent place zeros) past) (given_in extent place zeros)
 
--- the convolution has taken the signal x, and no `finish` was called: it keeps the last T-1 numbers of x, with zeros before,
+-- the convolution has taken the signal x, and no `finish` was called: it keeps the last T-1 numbers of x, with zeros
+-- before,
 -- and the place of x; and its tail is what the whole convolution of x has behind what it gave so far
 pub record StandsFor (format : Fmt) (c : ConvState) (x : List ℤ) : Type 0 where
   pub running : c.ended ≡ false
@@ -65,7 +68,8 @@ pub record StandsFor (format : Fmt) (c : ConvState) (x : List ℤ) : Type 0 wher
   pub place_is : c.place ≡ place_in c.extent (length x)
   pub tail_is : of_whole_channel format (block_of c.extent c.taps) x ≡ live_of format c x ++ c.tail
 
--- it counts n samples, whatever its other numbers are, and its tail has as many values as the whole convolution of n samples has behind them
+-- it counts n samples, whatever its other numbers are, and its tail has as many values as the whole convolution of n
+-- samples has behind them
 pub record CountsFor (c : ConvState) (n : ℕ) : Type 0 where
   pub running : c.ended ≡ false
   pub place_is : c.place ≡ place_in c.extent n
@@ -89,7 +93,8 @@ conv_channel format c = record {
   ended = c.ended;
 }
 
--- what stands between calls, for so many taps and such blocks: the window's past, the zeros that can be pushed, what is left of the tail, and the place
+-- what stands between calls, for so many taps and such blocks: the window's past, the zeros that can be pushed, what
+-- is left of the tail, and the place
 pub record IsSound (taps block : ℕ) (window : Rolling) (zeros : List ℤ) (skip left place greatest : ℕ) : Type 0 where
   pub past : window.past + 1 ≡ taps
   pub few : taps ≤ MAX_TAPS

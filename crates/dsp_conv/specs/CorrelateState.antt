@@ -6,9 +6,10 @@ use Rattle.dsp_defs.specs.Shape.{correlation_length}
 use Rattle.dsp_defs.specs.declared.limits.TheConstants.{MAX_GATHERED, MAX_SAMPLES, MAX_TAPS}
 use Rattle.dsp_defs.specs.declared.format.Fmt.{Fmt}
 use Rattle.dsp_defs.specs.declared.script.Block.TheVariants.{Correlate}
-use Rattle.dsp_stage.specs.Filter.{FilterState}
+use Rattle.dsp_unit.specs.Filter.{FilterState}
 
--- its taps as they were given, the samples that came, how many values were given, the most values of a call where a unit
+-- its taps as they were given, the samples that came, how many values were given, the most values of a call where a
+-- unit
 -- calls it, and whether `finish` was called
 pub record CorrelateState : Type 0 where
   pub taps : List ℤ
@@ -40,7 +41,8 @@ correlate_channel format c = record {
   ended = c.ended;
 }
 
--- what stands between calls, for so many taps and samples: no more values were given than there are, and none before `finish`
+-- what stands between calls, for so many taps and samples: no more values were given than there are, and none before
+-- `finish`
 pub record IsGathered (taps samples given block : ℕ) (ended : Bool) : Type 0 where
   pub some : 1 ≤ taps
   pub few : taps ≤ MAX_TAPS

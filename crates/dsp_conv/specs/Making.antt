@@ -1,7 +1,7 @@
 -- The faults of what a partial convolution is made of.
 use Rattle.std.specs.Prelude.{ℕ, ◌^◌, pos, Option, Some, None, nat_le, nat_lt, ◌&&◌, if◌then◌else◌}
 use Rattle.std.specs.Option.{option_or}
-use Rattle.dsp_unit.specs.Making.{block_fault, taps_fault}
+use Rattle.dsp_filter.specs.Making.{block_fault, taps_fault}
 use Rattle.dsp_defs.specs.declared.fault.MakeFault.{MakeFault}
 use Rattle.dsp_defs.specs.declared.fault.MakeFault.TheVariants.{Range}
 
@@ -15,4 +15,5 @@ count_fault count = if nat_le 1 count && nat_lt count (2 ^ 32) then None else So
 
 -- the first fault
 abbrev pub partial_fault : ℕ → ℕ → ℕ → ℕ → Option MakeFault
-partial_fault taps first count block = option_or (taps_fault taps) (option_or (first_fault first) (option_or (count_fault count) (block_fault block)))
+partial_fault taps first count block = option_or (taps_fault taps)
+    (option_or (first_fault first) (option_or (count_fault count) (block_fault block)))

@@ -1,8 +1,8 @@
 use crate::Convolution;
 use crate::extent::Extent;
 use dsp_defs::MakeFault;
+use dsp_filter::{check_block, check_taps};
 use dsp_lanes::LaneSample;
-use dsp_unit::{check_block, check_taps};
 use std::alloc::Global;
 
 /// Says that a convolution gives all its values.
@@ -15,7 +15,7 @@ pub type Conv<T, const L: usize> = Convolution<T, L, Everything>;
 
 impl<T: LaneSample<L>, const L: usize> Convolution<T, L, Everything> {
     ghost use Rattle.std.specs.Prelude.{◌≡◌, ◌≤◌, [], length, map, IfOk, OnOk, IfErr, MatchOption};
-    ghost use Rattle.dsp_unit.specs.Making.{filter_fault};
+    ghost use Rattle.dsp_filter.specs.Making.{filter_fault};
     ghost use Rattle.dsp_conv.specs.declared.extent.Extent.TheVariants.{Full};
     ghost use Rattle.dsp_conv.specs.ConvState.{StandsFor, new_conv};
 

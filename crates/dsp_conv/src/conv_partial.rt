@@ -2,8 +2,8 @@ use crate::Convolution;
 use crate::extent::Extent;
 use crate::making::{check_count, check_first};
 use dsp_defs::MakeFault;
+use dsp_filter::{check_block, check_taps};
 use dsp_lanes::LaneSample;
-use dsp_unit::{check_block, check_taps};
 use std::alloc::Global;
 
 /// Says that a convolution gives a part of its values.

@@ -1,8 +1,8 @@
 use crate::extent::Extent;
 use crate::making::{reversed, taps_of, zeros};
 use dsp_defs::{Block, Steps};
+use dsp_filter::{Filter, samples_of};
 use dsp_lanes::{FormatLanes, LaneSample, Lanes};
-use dsp_unit::{Filter, samples_of};
 use dsp_window::Window;
 use std::alloc::{AllocError, Global};
 use std::marker::{Model, PhantomData};
@@ -51,12 +51,14 @@ impl<T: LaneSample<L>, const L: usize, K: Copy> Model for Convolution<T, L, K> {
 }
 
 impl<T: LaneSample<L>, const L: usize, K: Copy> Convolution<T, L, K> {
-    ghost use Rattle.std.specs.Prelude.{◌≡◌, ◌≤◌, ◌<◌, ◌+◌, ◌*◌, ◌++◌, ℕ, List, [], ℤ, true, min, length, map, take, drop, IfOk, IsFalse, IsTrue, ◌↔◌};
+    ghost use Rattle.std.specs.Prelude.{◌≡◌, ◌≤◌, ◌<◌, ◌+◌, ◌*◌, ◌++◌, ℕ, List, [], ℤ, true, min, length};
+    ghost use Rattle.std.specs.Prelude.{map, take, drop, IfOk, IsFalse, IsTrue, ◌↔◌};
     ghost use Rattle.dsp_defs.specs.Streaming.{Continues};
     ghost use Rattle.dsp_defs.specs.declared.limits.TheConstants.{MAX_TAPS, MAX_SAMPLES};
     ghost use Rattle.dsp_lanes.specs.Turns.{lane_turns};
     ghost use Rattle.dsp_conv.specs.Extent.{place_in};
-    ghost use Rattle.dsp_conv.specs.ConvState.{StandsFor, CountsFor, Fits, kept, kept_of, live_count, live_of, new_conv, tail_behind};
+    ghost use Rattle.dsp_conv.specs.ConvState.{StandsFor, CountsFor, Fits, kept, kept_of, live_count};
+    ghost use Rattle.dsp_conv.specs.ConvState.{live_of, new_conv, tail_behind};
 
     /// A convolution that has taken nothing. All its memory is taken here.
     pub(crate) fn of_taps(

@@ -2,8 +2,8 @@ use crate::Gather;
 use crate::making::taps_of;
 use crate::sums::correlation_values;
 use dsp_defs::{Block, GatherFull, MAX_GATHERED, MAX_SAMPLES, MakeFault, Steps};
+use dsp_filter::{Filter, are_samples, check_taps, samples_of};
 use dsp_lanes::OwnLanes;
-use dsp_unit::{Filter, are_samples, check_taps, samples_of};
 use std::alloc::{AllocError, Global};
 use std::marker::Model;
 use std::sync::ledger::Ledger;
@@ -39,8 +39,9 @@ impl<T: OwnLanes> Model for Correlate<T> {
 }
 
 impl<T: OwnLanes> Correlate<T> {
-    ghost use Rattle.std.specs.Prelude.{◌≡◌, ◌≤◌, ◌<◌, ◌+◌, ◌++◌, ◌↔◌, [], true, min, length, map, take, drop, IfOk, OnOk, IfErr, IsErr, IsFalse, IsTrue, MatchOption};
-    ghost use Rattle.dsp_unit.specs.Making.{taps_fault};
+    ghost use Rattle.std.specs.Prelude.{◌≡◌, ◌≤◌, ◌<◌, ◌+◌, ◌++◌, ◌↔◌, [], true, min, length, map, take};
+    ghost use Rattle.std.specs.Prelude.{drop, IfOk, OnOk, IfErr, IsErr, IsFalse, IsTrue, MatchOption};
+    ghost use Rattle.dsp_filter.specs.Making.{taps_fault};
     ghost use Rattle.dsp_defs.specs.declared.fault.GatherFull.{GatherFull};
     ghost use Rattle.dsp_defs.specs.declared.limits.TheConstants.{MAX_GATHERED, MAX_TAPS};
     ghost use Rattle.dsp_defs.specs.Formats.{word};

@@ -34,7 +34,8 @@ impl<T: Sample> Model for Gather<T> {
 }
 
 impl<T: Sample> Gather<T> {
-    ghost use Rattle.std.specs.Prelude.{◌≡◌, ◌<◌, ◌≤◌, ◌+◌, ◌++◌, ◌↔◌, [], length, map, IfOk, OnOk, IfErr, IsErr, All, FitsSigned};
+    ghost use Rattle.std.specs.Prelude.{◌≡◌, ◌<◌, ◌≤◌, ◌+◌, ◌++◌, ◌↔◌, [], length, map, IfOk, OnOk, IfErr};
+    ghost use Rattle.std.specs.Prelude.{IsErr, All, FitsSigned};
     ghost use Rattle.dsp_defs.specs.Formats.{word};
     ghost use Rattle.dsp_defs.specs.declared.fault.GatherFull.{GatherFull};
     ghost use Rattle.dsp_defs.specs.declared.limits.TheConstants.{MAX_GATHERED};

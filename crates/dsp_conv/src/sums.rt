@@ -4,7 +4,8 @@ ghost use Rattle.dsp_defs.specs.Counts.{Rises};
 ghost use Rattle.dsp_defs.specs.Signal.{sample, sum_below, values};
 ghost use Rattle.dsp_defs.specs.Sums.{convolution_at};
 ghost use Rattle.dsp_lanes.specs.Turns.{RisesWithin};
-ghost use Rattle.dsp_conv.specs.Sums.{convolution_stretch, correlation_at, correlation_stretch, correlation_terms, CorrelationRises, RisesAtMost};
+ghost use Rattle.dsp_conv.specs.Sums.{convolution_stretch, correlation_at, correlation_stretch};
+ghost use Rattle.dsp_conv.specs.Sums.{correlation_terms, CorrelationRises, RisesAtMost};
 
 use dsp_defs::Steps;
 use dsp_lanes::OwnLanes;

@@ -70,7 +70,8 @@ IsValue-fits Wave24 x h = h.0
 IsValue-fits coding x h = h
 
 -- in a container all samples of the format are values
-pub IsValue-coding_of : (container : Container) (format : Fmt) (x : ℤ) → SFits (word format) x → IsValue (coding_of container format) x
+pub IsValue-coding_of : (container : Container) (format : Fmt) (x : ℤ) → SFits (word format) x →
+    IsValue (coding_of container format) x
 IsValue-coding_of Raw Q7 x h = h
 IsValue-coding_of Raw Q15 x h = h
 IsValue-coding_of Raw Q31 x h = h

@@ -1,5 +1,7 @@
--- Samples and bytes by whole frames: what is read of bytes that follow one another, and what a slice of samples is as frames and as bytes.
-use Rattle.std.proofs.Common.{◌≡◌, ℕ, zero, suc, ◌+◌, ◌-◌, ◌*◌, ◌/◌, ◌<◌, ◌≤◌, ℤ, pos, List, [], ◌++◌, length, take, drop, sym, ap, ap₂, ◌∙◌, arith, append-nil, length-append, zero-add, add_comm}
+-- Samples and bytes by whole frames: what is read of bytes that follow one another, and what a slice of samples is as
+-- frames and as bytes.
+use Rattle.std.proofs.Common.{◌≡◌, ℕ, zero, suc, ◌+◌, ◌-◌, ◌*◌, ◌/◌, ◌<◌, ◌≤◌, ℤ, pos, List, [], ◌++◌, length, take}
+use Rattle.std.proofs.Common.{drop, sym, ap, ap₂, ◌∙◌, arith, append-nil, length-append, zero-add, add_comm}
 use Rattle.std.specs.List.{flat_map}
 use Rattle.std.proofs.lemmas.Grind.{flat_map-append}
 use Rattle.std.proofs.lemmas.List.{drop-append-le, take-append-le, length-drop, length-take-le, take-append-drop}
@@ -52,7 +54,8 @@ module _ (read : List ℕ → ℤ) (w channels : ℕ) where
   module _ (n : ℕ) (bytes more : List ℕ) (some : zero < channels * w) (whole : length bytes ≡ n * (channels * w)) where
     frames : length (bytes ++ more) / (channels * w) ≡ n + length more / (channels * w)
     frames =
-        let total : length (bytes ++ more) ≡ length more + n * (channels * w) = omega (arith, length-append bytes more) in
+        let total : length (bytes ++ more) ≡ length more + n * (channels * w) =
+        omega (arith, length-append bytes more) in
         let split = add-mul-div_right (length more) n some in
         ap (λ k. k / (channels * w)) total ∙ split ∙ add_comm (length more / (channels * w)) n
 
@@ -61,27 +64,32 @@ module _ (read : List ℕ → ℤ) (w channels : ℕ) where
         let exact : length bytes ≡ n * (channels * w) + 0 = omega (arith, whole) in
         ap (λ k. k / (channels * w)) exact ∙ div-mul-add n (channels * w) 0 some
 
-    front : (i c : ℕ) → i < n → c < channels → take w (drop ((i * channels + c) * w) (bytes ++ more)) ≡ take w (drop ((i * channels + c) * w) bytes)
+    front : (i c : ℕ) → i < n → c < channels → take w (drop ((i * channels + c) * w) (bytes ++ more)) ≡ take w
+        (drop ((i * channels + c) * w) bytes)
     front i c below inside =
         let start = (i * channels + c) * w in
         let fits : start + w ≤ length bytes = rw whole (sample_inside i n channels c w below inside) in
         let room : w ≤ length (drop start bytes) = omega (arith, length-drop start bytes) in
         ap (take w) (drop-append-le start bytes more (omega arith)) ∙ take-append-le w (drop start bytes) more room
 
-    back : (i c : ℕ) → take w (drop (((n + i) * channels + c) * w) (bytes ++ more)) ≡ take w (drop ((i * channels + c) * w) more)
+    back : (i c : ℕ) → take w (drop (((n + i) * channels + c) * w) (bytes ++ more)) ≡ take w
+        (drop ((i * channels + c) * w) more)
     back i c =
         let start = (i * channels + c) * w in
-        let place : ((n + i) * channels + c) * w ≡ length bytes + start = sample_behind i n channels c w ∙ ap (λ k. k + start) (sym whole) in
+        let place : ((n + i) * channels + c) * w ≡ length bytes + start = sample_behind i n channels c w ∙
+        ap (λ k. k + start) (sym whole) in
         ap (λ k. take w (drop k (bytes ++ more))) place ∙ ap (take w) (drop-append-add bytes more start)
 
     -- the signal of both is the signal of the one and then of the other
-    pub samples_by-append : samples_by read w channels (bytes ++ more) ≡ samples_by read w channels bytes ++ samples_by read w channels more
+    pub samples_by-append : samples_by read w channels (bytes ++ more) ≡ samples_by read w channels bytes ++
+        samples_by read w channels more
     samples_by-append =
         let later = length more / (channels * w) in
         ap (λ k. values k (frame_of (bytes ++ more))) frames
         ∙ values-add n later (frame_of (bytes ++ more))
         ∙ ap₂ (λ xs ys. xs ++ ys)
-        (values_cong n _ (frame_of bytes) (λ i below. values_cong channels _ _ (λ c inside. ap read (front i c below inside)))
+        (values_cong n _ (frame_of bytes) (λ i below. values_cong channels _ _
+        (λ c inside. ap read (front i c below inside)))
         ∙ ap (λ k. values k (frame_of bytes)) (sym count-whole_by))
         (values_cong later _ (frame_of more) (λ i _. values_cong channels _ _ (λ c _. ap read (back i c))))
 
@@ -97,27 +105,35 @@ module _ (read : List ℕ → ℤ) (w channels : ℕ) where
       let short : length rest < size = omega (arith, length-drop (n * size) bytes, bounds.1) in
       sym (ap (samples_by read w channels) (sym (take-append-drop (n * size) bytes))
       ∙ samples_by-append n front rest some long
-      ∙ ap (λ (later : List Frame). samples_by read w channels front ++ later) (no_frames rest (small_quotient (length rest) size short))
+      ∙ ap (λ (later : List Frame). samples_by read w channels front ++ later)
+      (no_frames rest (small_quotient (length rest) size short))
       ∙ append-nil (samples_by read w channels front))
 
 -- in a coding
 
-pub length-samples : (coding : Coding) (channels : ℕ) (bytes : List ℕ) → length (samples coding channels bytes) ≡ length bytes / (channels * width coding)
+pub length-samples : (coding : Coding) (channels : ℕ) (bytes : List ℕ) →
+    length (samples coding channels bytes) ≡ length bytes / (channels * width coding)
 length-samples coding channels bytes = length-samples_by (sample_of coding) (width coding) channels bytes
 
 pub samples-nil : (coding : Coding) (channels : ℕ) → samples coding channels [] ≡ []
 samples-nil coding channels = samples_by-nil (sample_of coding) (width coding) channels
 
-pub count-whole : (coding : Coding) (channels n : ℕ) (bytes more : List ℕ) → zero < channels * width coding → length bytes ≡ n * (channels * width coding) → length bytes / (channels * width coding) ≡ n
-count-whole coding channels n bytes more some whole = count-whole_by (sample_of coding) (width coding) channels n bytes more some whole
+pub count-whole : (coding : Coding) (channels n : ℕ) (bytes more : List ℕ) → zero < channels * width coding →
+    length bytes ≡ n * (channels * width coding) → length bytes / (channels * width coding) ≡ n
+count-whole coding channels n bytes more some whole =
+    count-whole_by (sample_of coding) (width coding) channels n bytes more some whole
 
-pub samples-append : (coding : Coding) (channels n : ℕ) (bytes more : List ℕ) → zero < channels * width coding → length bytes ≡ n * (channels * width coding)
+pub samples-append : (coding : Coding) (channels n : ℕ) (bytes more : List ℕ) → zero < channels * width coding →
+    length bytes ≡ n * (channels * width coding)
     → samples coding channels (bytes ++ more) ≡ samples coding channels bytes ++ samples coding channels more
-samples-append coding channels n bytes more some whole = samples_by-append (sample_of coding) (width coding) channels n bytes more some whole
+samples-append coding channels n bytes more some whole =
+    samples_by-append (sample_of coding) (width coding) channels n bytes more some whole
 
-pub samples-whole : (coding : Coding) (channels n : ℕ) (bytes : List ℕ) → 0 < channels * width coding → n ≡ length bytes / (channels * width coding)
+pub samples-whole : (coding : Coding) (channels n : ℕ) (bytes : List ℕ) → 0 < channels * width coding →
+    n ≡ length bytes / (channels * width coding)
     → samples coding channels (take (n * (channels * width coding)) bytes) ≡ samples coding channels bytes
-samples-whole coding channels n bytes some is = samples_by-whole (sample_of coding) (width coding) channels n bytes some is
+samples-whole coding channels n bytes some is = samples_by-whole (sample_of coding) (width coding) channels n bytes
+    some is
 
 -- ---- samples of a slice
 
@@ -125,27 +141,34 @@ frame_bytes : (n channels w : ℕ) → n * channels * w ≡ n * (channels * w)
 frame_bytes n channels w = omega arith
 
 -- samples that were read one after another are the signal, frame by frame
-pub decoded : (coding : Coding) (channels n count : ℕ) (bytes : List ℕ) → 0 < channels → length bytes ≡ count * width coding → count ≡ n * channels
-    → frames_in channels (values count (λ i. sample_of coding (take (width coding) (drop (i * width coding) bytes)))) ≡ samples coding channels bytes
+pub decoded : (coding : Coding) (channels n count : ℕ) (bytes : List ℕ) → 0 < channels →
+    length bytes ≡ count * width coding → count ≡ n * channels
+    → frames_in channels (values count (λ i. sample_of coding (take (width coding) (drop (i * width coding) bytes))))
+    ≡ samples coding channels bytes
 unfolding frames_in
 decoded coding channels n count bytes some long is =
     let w = width coding in
     let one : ℕ → ℤ = λ i. sample_of coding (take w (drop (i * w) bytes)) in
-    let quotient : length (values count one) / channels ≡ n = ap (λ (k : ℕ). k / channels) (length-values count one ∙ is) ∙ mul-div_cancel n some in
+    let quotient : length (values count one) / channels ≡ n =
+    ap (λ (k : ℕ). k / channels) (length-values count one ∙ is) ∙ mul-div_cancel n some in
     let size_some : 0 < channels * w = product-some channels w some (width-some coding) in
     let whole : length bytes ≡ n * (channels * w) = long ∙ ap (λ (k : ℕ). k * w) is ∙ frame_bytes n channels w in
     ap (λ (k : ℕ). values k (λ i. values channels (λ c. sample (values count one) (i * channels + c)))) quotient
     ∙ values_cong n _ _ (λ i below. values_cong channels _ _ (λ c inside.
     let bound = mul-add-lt i channels c n below inside in
     let within : i * channels + c < count = omega (arith, is, bound) in
-    get_or-map-range_with_len one 0 count (i * channels + c) (i * channels + c) (pos 0) within (zero-add (i * channels + c))))
-    ∙ ap (λ (k : ℕ). values k (λ i. values channels (λ c. one (i * channels + c)))) (sym (count-whole coding channels n bytes [] size_some whole))
+    get_or-map-range_with_len one 0 count (i * channels + c) (i * channels + c) (pos 0) within
+    (zero-add (i * channels + c))))
+    ∙ ap (λ (k : ℕ). values k (λ i. values channels (λ c. one (i * channels + c))))
+    (sym (count-whole coding channels n bytes [] size_some whole))
   where
     product-some : (a b : ℕ) → 0 < a → 0 < b → 0 < a * b
     product-some a b h k = grind arith
 
 -- rows of values, one after another
-pub flat_rows : {B : Type 0} (g : ℤ → List B) (h : ℕ → ℤ) (channels n : ℕ) → flat_map (flat_map g) (values n (λ i. values channels (λ c. h (i * channels + c)))) ≡ flat_map g (values (n * channels) h)
+pub flat_rows : {B : Type 0} (g : ℤ → List B) (h : ℕ → ℤ) (channels n : ℕ) →
+    flat_map (flat_map g) (values n (λ i. values channels (λ c. h (i * channels + c)))) ≡ flat_map g
+    (values (n * channels) h)
 flat_rows g h channels zero = ap (λ (k : ℕ). flat_map g (values k h)) (none channels)
   where
     none : (k : ℕ) → 0 ≡ 0 * k
@@ -158,7 +181,8 @@ flat_rows g h channels (suc n) =
     ap (λ (k : ℕ). flat_map (flat_map g) (values k row)) next
     ∙ ap (flat_map (flat_map g)) (values-add n 1 row)
     ∙ flat_map-append (flat_map g) (values n row) (values 1 (λ i. row (n + i)))
-    ∙ ap₂ (λ xs ys. xs ++ ys) (flat_rows g h channels n) (append-nil (flat_map g (row (n + 0))) ∙ ap (λ (k : ℕ). flat_map g (row k)) here)
+    ∙ ap₂ (λ xs ys. xs ++ ys) (flat_rows g h channels n)
+    (append-nil (flat_map g (row (n + 0))) ∙ ap (λ (k : ℕ). flat_map g (row k)) here)
     ∙ sym (flat_map-append g (values (n * channels) h) (row n))
     ∙ ap (flat_map g) (sym (values-add (n * channels) channels h))
     ∙ ap (λ (k : ℕ). flat_map g (values k h)) size
@@ -166,7 +190,8 @@ flat_rows g h channels (suc n) =
 values_of : (xs : List ℤ) → values (length xs) (sample xs) ≡ xs
 values_of xs =
     same_numbers (values (length xs) (sample xs)) xs (length-values (length xs) (sample xs))
-    (λ i h. get_or-map-range_with_len (sample xs) 0 (length xs) i i (pos 0) (omega (arith, length-values (length xs) (sample xs))) (zero-add i))
+    (λ i h. get_or-map-range_with_len (sample xs) 0 (length xs) i i (pos 0)
+    (omega (arith, length-values (length xs) (sample xs))) (zero-add i))
 
 -- samples of whole frames that were written one after another are the bytes of the frames
 pub encoded : (coding : Coding) (channels : ℕ) (xs : List ℤ) → length xs ≡ length (frames_in channels xs) * channels

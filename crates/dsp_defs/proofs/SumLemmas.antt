@@ -1,5 +1,6 @@
 -- Sums of products that are wrapped on the way, and numbers that are read from and written to slices.
-use Rattle.std.proofs.Common.{◌≡◌, ◌∙◌, ap, sym, ℕ, suc, ◌+◌, ◌<◌, ℤ, pos, ◌+ℤ◌, ◌*ℤ◌, List, length, map, get_or, set, ◌≢◌, arith, get_or-set_same}
+use Rattle.std.proofs.Common.{◌≡◌, ◌∙◌, ap, sym, ℕ, suc, ◌+◌, ◌<◌, ℤ, pos, ◌+ℤ◌, ◌*ℤ◌, List, length, map, get_or, set}
+use Rattle.std.proofs.Common.{◌≢◌, arith, get_or-set_same}
 use Rattle.std.proofs.lemmas.List.{get_or-map, map-set, get_or-set_other, length-map, same_lists, get_or_default}
 use Rattle.std.proofs.lemmas.Int.{int_wrap-add_left}
 use Rattle.dsp_defs.specs.Numbers.{Width, wrap}
@@ -22,12 +23,14 @@ wrapped_sum-more w n m xs ys a b sum more next is_a is_b summed added =
 
 -- an element that was read, as a number
 pub sample-map :
-    {X : Type 0} → (f : X → ℤ) (xs : List X) (k : ℕ) (x : X) → k < length xs → x ≡ get_or xs k x → f x ≡ sample (map f xs) k
+    {X : Type 0} → (f : X → ℤ) (xs : List X) (k : ℕ) (x : X) → k < length xs → x ≡ get_or xs k x →
+    f x ≡ sample (map f xs) k
 sample-map f xs k x within read = ap f read ∙ sym (get_or-map f xs k x (pos 0) within)
 
 -- a slice that is written, as numbers
 pub sample-map-set_other :
-    {X : Type 0} → (f : X → ℤ) (xs : List X) (i k : ℕ) (v : X) → k ≢ i → sample (map f (set xs i v)) k ≡ sample (map f xs) k
+    {X : Type 0} → (f : X → ℤ) (xs : List X) (i k : ℕ) (v : X) → k ≢ i →
+    sample (map f (set xs i v)) k ≡ sample (map f xs) k
 sample-map-set_other f xs i k v other =
     ap (λ l. sample l k) (map-set f xs i v) ∙ get_or-set_other (map f xs) i k (f v) (pos 0) other
 
@@ -38,7 +41,9 @@ sample-map-set_same f xs i v within =
     ∙ get_or-set_same (map f xs) i (f v) (pos 0) (omega (arith, length-map xs f))
 
 -- two lists of numbers that read alike
-pub same_numbers : (xs ys : List ℤ) → length xs ≡ length ys → ((i : ℕ) → i < length xs → sample xs i ≡ sample ys i) → xs ≡ ys
+pub same_numbers : (xs ys : List ℤ) → length xs ≡ length ys → ((i : ℕ) → i < length xs → sample xs i ≡ sample ys i) →
+    xs ≡ ys
 same_numbers xs ys len same =
     same_lists xs ys len
-    (λ k d within. get_or_default xs k d (pos 0) within ∙ same k within ∙ sym (get_or_default ys k d (pos 0) (omega arith)))
+    (λ k d within. get_or_default xs k d (pos 0) within ∙ same k within ∙
+    sym (get_or_default ys k d (pos 0) (omega arith)))

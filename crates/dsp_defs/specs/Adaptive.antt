@@ -27,13 +27,19 @@ abbrev pub weight_after : Fmt → ℤ → ℤ → ℤ → ℤ
 weight_after Q31 alpha w x = saturate 32 (w +ℤ wrap w32 (pos 2 *ℤ (alpha *ℤ x >> 32)))
 weight_after format alpha w x = saturate 16 (w +ℤ (alpha *ℤ x >> 15))
 
--- from the weights w before sample n and the inputs x(n), x(n-1), ..: y = the sum of w_k*x(n-k), e = wrap_n(reference - y)
+-- from the weights w before sample n and the inputs x(n), x(n-1), ..: y = the sum of w_k*x(n-k), e = wrap_n(reference
+-- - y)
 abbrev pub adapted : Fmt → ℕ → ℤ → List ℤ → List ℤ → ℤ → Adapted
 adapted format p mu w xs reference =
     let y = lms_close format p (sum_below (length w) (λ k. sample w k *ℤ sample xs k)) in
     let e = wrap (word format) (reference -ℤ y) in
     let alpha = step_size format mu e in
-    record { output = y; error = e; weights = values (length w) (λ k. weight_after format alpha (sample w k) (sample xs k)) }
+    record {
+      output = y;
+      error = e;
+      weights = values (length w)
+          (λ k. weight_after format alpha (sample w k) (sample xs k));
+    }
 
 -- the weights before sample n, from what was given before it
 abbrev pub weights_before : List ℤ → List Adapted → List ℤ
@@ -54,7 +60,8 @@ errors_of a = a.error
 
 -- what is given of sample n, from the samples up to it and what was given before
 abbrev pub lms_output : Fmt → ℕ → ℤ → List ℤ → List (ℤ × ℤ) → List Adapted → Adapted
-lms_output format p mu first samples earlier = adapted format p mu (weights_before first earlier) (map (λ (s : ℤ × ℤ). s.0) samples) (reference_now samples)
+lms_output format p mu first samples earlier = adapted format p mu (weights_before first earlier)
+    (map (λ (s : ℤ × ℤ). s.0) samples) (reference_now samples)
 
 -- of pairs of an input and its reference; the taps stand from w_{T-1}(0) to w_0(0)
 abbrev pub lms : Fmt → ℕ → ℤ → List ℤ → List (ℤ × ℤ) → List Adapted
@@ -86,7 +93,8 @@ pid_close format s y1 = saturate 16 (s +ℤ y1 *ℤ pos 32768 >> 15)
 
 -- y from A0*x + A1*x1 + A2*x2 and y1
 abbrev pub pid_output : Fmt → Gains → List ℤ → List ℤ → ℤ
-pid_output format g xs ys = pid_close format (g.a0 *ℤ sample xs 0 +ℤ g.a1 *ℤ sample xs 1 +ℤ g.a2 *ℤ sample xs 2) (sample ys 0)
+pid_output format g xs ys = pid_close format (g.a0 *ℤ sample xs 0 +ℤ g.a1 *ℤ sample xs 1 +ℤ g.a2 *ℤ sample xs 2)
+    (sample ys 0)
 
 -- the controller of a whole signal
 abbrev pub pid : Fmt → ℤ → ℤ → ℤ → List ℤ → List ℤ

@@ -1,6 +1,9 @@
--- Sun AU files, and the file in the other form that has the signal of a WAVE or an AU file. All numbers of an AU file are
+-- Sun AU files, and the file in the other form that has the signal of a WAVE or an AU file. All numbers of an AU file
+-- are
 -- big-endian. A coding stands for its number of bits: `Wave7`, `Wave15`, `Wave24` and `Wave31` for 8, 16, 24 and 32.
-use Rattle.std.specs.Prelude.{◌≡◌, ℕ, ◌+◌, ◌*◌, ◌/◌, ◌-◌, ◌^◌, ◌<◌, ◌≤◌, ℤ, not, ◌&&◌, nat_eq, nat_le, nat_lt, if◌then◌else◌, List, [], ◌∷◌, ◌++◌, length, take, drop, get_or, codes, Option, Some, None, IfSome, Result, Ok, Err}
+use Rattle.std.specs.Prelude.{◌≡◌, ℕ, ◌+◌, ◌*◌, ◌/◌, ◌-◌, ◌^◌, ◌<◌, ◌≤◌, ℤ, not, ◌&&◌, nat_eq, nat_le, nat_lt}
+use Rattle.std.specs.Prelude.{if◌then◌else◌, List, [], ◌∷◌, ◌++◌, length, take, drop, get_or, codes, Option, Some}
+use Rattle.std.specs.Prelude.{None, IfSome, Result, Ok, Err}
 use Rattle.std.specs.Int.{to_be_bytes, from_be_bytes, cast_unsigned, cast_signed}
 use Rattle.std.specs.Option.{option_map}
 use Rattle.std.specs.Str.{bytes_eq}
@@ -21,7 +24,8 @@ use Rattle.dsp_defs.specs.declared.au.AuFault.TheVariants.{NotAu, Offset, Encodi
 use Rattle.dsp_defs.specs.declared.au.Direction.{Direction}
 use Rattle.dsp_defs.specs.declared.au.Direction.TheVariants.{WaveToAu, AuToWave}
 
--- ---- the header of an AU file: `.snd`, and five numbers of 32 bits: where the samples begin, their bytes, the encoding,
+-- ---- the header of an AU file: `.snd`, and five numbers of 32 bits: where the samples begin, their bytes, the
+-- encoding,
 -- the rate, the channels; then bytes that say nothing
 
 -- the bytes of those fields
@@ -45,7 +49,14 @@ abbrev pub au_channels_said : List ℕ → Coding → Result OpenHeader (AuFault
 au_channels_said fields coding =
     let channels = big_u32_at fields 20 in
     if nat_le 1 channels && nat_le channels MAX_CHANNELS
-    then Ok (record { rate = big_u32_at fields 16; start = big_u32_at fields 4; size = declared_size (big_u32_at fields 8); coding = coding; channels = channels })
+    then Ok (record {
+      rate = big_u32_at fields 16;
+      start = big_u32_at fields 4;
+      size =
+          declared_size (big_u32_at fields 8);
+      coding = coding;
+      channels = channels;
+    })
     else Err (Channels channels, 20)
 
 -- what the fields behind `.snd` say
@@ -54,7 +65,11 @@ au_said fields =
     let start = big_u32_at fields 4 in
     let encoding = big_u32_at fields 12 in
     if nat_lt start au_fields then Err (Offset start, 4) else
-    elim (coding_of_encoding encoding) [ Some coding ↦ au_channels_said fields coding | None ↦ Err (Encoding encoding, 12) ]
+    elim (coding_of_encoding encoding) [
+      | Some coding ↦ au_channels_said fields coding
+      | None ↦ Err
+          (Encoding encoding, 12)
+    ]
 
 -- a header whose samples begin behind the end of the file is cut
 abbrev pub au_whole : ℕ → Result OpenHeader (AuFault × ℕ) → Result OpenHeader (AuFault × ℕ)
@@ -162,9 +177,11 @@ open_declared_frames header = option_map (λ size. size / open_frame_bytes heade
 
 -- the signal of a file with this header
 abbrev pub form_signal : Form → OpenHeader → List ℕ → List Frame
-form_signal form header bytes = form_samples form header.coding header.channels (sample_bytes_at header.start header.size bytes)
+form_signal form header bytes = form_samples form header.coding header.channels
+    (sample_bytes_at header.start header.size bytes)
 
--- the bytes before the samples of a file of a form, with the rate, the channels, the coding and the length that a header says
+-- the bytes before the samples of a file of a form, with the rate, the channels, the coding and the length that a
+-- header says
 abbrev pub form_header : Form → OpenHeader → List ℕ
 form_header WaveForm header = open_wave_header header.coding header.channels header.rate (open_declared_frames header)
 form_header AuForm header = au_header header.coding header.channels header.rate (open_declared_frames header)
@@ -191,9 +208,11 @@ source_signal direction header bytes = form_signal (source_form direction) heade
 
 -- the header of the target and the samples of a signal
 abbrev pub target_of_signal : Direction → OpenHeader → List Frame → List ℕ
-target_of_signal direction header x = form_header (target_form direction) header ++ form_coded (target_form direction) header.coding x
+target_of_signal direction header x = form_header (target_form direction) header ++ form_coded (target_form direction)
+    header.coding x
 
--- the file in the other form: the header with the rate, the channels and the length of the source, the same signal in as many
+-- the file in the other form: the header with the rate, the channels and the length of the source, the same signal in
+-- as many
 -- bits, and the pad byte
 abbrev pub target_with : Direction → OpenHeader → List ℕ → List ℕ
 target_with direction header bytes =
@@ -201,25 +220,29 @@ target_with direction header bytes =
 
 -- of a source with a good header; any other has no file in the other form
 abbrev pub target : Direction → List ℕ → List ℕ
-target direction bytes = elim (source_header direction bytes) [ Some header ↦ target_with direction header bytes | None ↦ [] ]
+target direction bytes = elim (source_header direction bytes)
+    [ Some header ↦ target_with direction header bytes | None ↦ [] ]
 
 -- ---- what a conversion keeps
 
 -- what the header of the file in a form says, for a source of this header
 abbrev pub form_written : Form → OpenHeader → OpenHeader
-form_written WaveForm header = open_written_header header.coding header.channels header.rate (open_declared_frames header)
+form_written WaveForm header = open_written_header header.coding header.channels header.rate
+    (open_declared_frames header)
 form_written AuForm header = au_written_header header.coding header.channels header.rate (open_declared_frames header)
 
 -- bytes with this good header and all whole frames that it declares, whose length is not known or fits a WAVE file
 pub record IsConvertible (direction : Direction) (header : OpenHeader) (bytes : List ℕ) : Type 0 where
   pub are_bytes : (i : ℕ) → get_or bytes i 0 < 256
   pub has : source_header direction bytes ≡ Some header
-  pub whole : IfSome header.size (λ size. header.start + size / open_frame_bytes header * open_frame_bytes header ≤ length bytes)
+  pub whole : IfSome header.size (λ size. header.start + size / open_frame_bytes header * open_frame_bytes header ≤
+      length bytes)
   pub fits : OpenFits header.coding header.channels (open_declared_frames header)
 
 -- these bytes have this header, and their signal is x
 abbrev pub HasSignal : Direction → OpenHeader → List ℕ → List Frame → Type 0
-HasSignal direction header bytes x = (source_header direction bytes ≡ Some header) × (source_signal direction header bytes ≡ x)
+HasSignal direction header bytes x = (source_header direction bytes ≡ Some header) ×
+    (source_signal direction header bytes ≡ x)
 
 -- the signal of the target is the signal of the source, and converting back gives it again
 abbrev pub KeepsSignal : Direction → Type 0
@@ -228,4 +251,5 @@ KeepsSignal direction =
     let x = source_signal direction header bytes in
     let there = target direction bytes in
     let said = form_written (target_form direction) header in
-    HasSignal (back direction) said there x × HasSignal direction (form_written (source_form direction) said) (target (back direction) there) x
+    HasSignal (back direction) said there x × HasSignal direction (form_written (source_form direction) said)
+    (target (back direction) there) x

@@ -15,9 +15,11 @@ pub record Section : Type 0 where
 
 -- a section is written b0, 0, b1, b2, a1, a2 in Q15, where the second number is not used, and b0, b1, b2, a1, a2 in Q31
 abbrev pub sections : Fmt → List ℤ → List Section
-sections Q15 (b0 ∷ unused ∷ b1 ∷ b2 ∷ a1 ∷ a2 ∷ later) = record { b0 = b0; b1 = b1; b2 = b2; a1 = a1; a2 = a2 } ∷ sections Q15 later
+sections Q15 (b0 ∷ unused ∷ b1 ∷ b2 ∷ a1 ∷ a2 ∷ later) =
+    record { b0 = b0; b1 = b1; b2 = b2; a1 = a1; a2 = a2 } ∷ sections Q15 later
 sections Q15 _ = []
-sections format (b0 ∷ b1 ∷ b2 ∷ a1 ∷ a2 ∷ later) = record { b0 = b0; b1 = b1; b2 = b2; a1 = a1; a2 = a2 } ∷ sections format later
+sections format (b0 ∷ b1 ∷ b2 ∷ a1 ∷ a2 ∷ later) = record { b0 = b0; b1 = b1; b2 = b2; a1 = a1; a2 = a2 } ∷ sections
+    format later
 sections format _ = []
 
 -- b0*x + b1*x1 + b2*x2
@@ -31,7 +33,8 @@ section_close format p s = saturate 16 (s >> (15 - p))
 
 -- y = close(b0*x + b1*x1 + b2*x2 + a1*y1 + a2*y2)
 abbrev pub section_output : Fmt → ℕ → Section → List ℤ → List ℤ → ℤ
-section_output format p c xs ys = section_close format p (forward_sum c xs +ℤ (c.a1 *ℤ sample ys 0 +ℤ c.a2 *ℤ sample ys 1))
+section_output format p c xs ys = section_close format p
+    (forward_sum c xs +ℤ (c.a1 *ℤ sample ys 0 +ℤ c.a2 *ℤ sample ys 1))
 
 -- one section of a whole signal
 abbrev pub biquad_section : Fmt → ℕ → List ℤ → Section → List ℤ
@@ -47,7 +50,8 @@ fed_back p acc = wrap w64 (acc *ℤ pos (2 ^ (p + 1)))
 
 -- acc = wrap_64(b0*x + b1*x1 + b2*x2 + (a1*Y1 >> 32) + (a2*Y2 >> 32))
 abbrev pub wide_output : ℕ → Section → List ℤ → List ℤ → ℤ
-wide_output p c xs accs = wrap w64 (forward_sum c xs +ℤ (c.a1 *ℤ fed_back p (sample accs 0) >> 32) +ℤ (c.a2 *ℤ fed_back p (sample accs 1) >> 32))
+wide_output p c xs accs = wrap w64 (forward_sum c xs +ℤ (c.a1 *ℤ fed_back p (sample accs 0) >> 32) +ℤ
+    (c.a2 *ℤ fed_back p (sample accs 1) >> 32))
 
 -- y = wrap_32(acc >> (31-p))
 abbrev pub biquad64_section : ℕ → List ℤ → Section → List ℤ

@@ -1,5 +1,6 @@
 -- What a block and a chain give of a signal: of the whole one, and while it goes on.
-use Rattle.std.specs.Prelude.{ℕ, ◌+◌, ◌-◌, ◌*◌, ◌/◌, ℤ, List, [], ◌∷◌, map, length, take, get_or, nat_abs, Option, Some, None}
+use Rattle.std.specs.Prelude.{ℕ, ◌+◌, ◌-◌, ◌*◌, ◌/◌, ℤ, List, [], ◌∷◌, map, length, take, get_or, nat_abs, Option}
+use Rattle.std.specs.Prelude.{Some, None}
 use Rattle.dsp_defs.specs.Signal.{sample, values}
 use Rattle.dsp_defs.specs.Elementwise
 use Rattle.dsp_defs.specs.Complex.{cmplx_conj, cmplx_mult, cmplx_mult_real, cmplx_mag_squared}
@@ -10,7 +11,12 @@ use Rattle.dsp_defs.specs.Adaptive.{Adapted, lms, pid}
 use Rattle.dsp_defs.specs.Matrix.{mat_add, mat_sub, mat_scale, mat_trans, mat_mult}
 use Rattle.dsp_defs.specs.declared.format.Fmt.{Fmt}
 use Rattle.dsp_defs.specs.declared.script.Block.{Block}
-use Rattle.dsp_defs.specs.declared.script.Block.TheVariants.{Offset, Negate, Abs, Scale, Shift, Clip, To, Add, Sub, Mult, Conj, CmplxMult, CmplxMultReal, MagSquared, Fir, Sparse, Decimate, Interpolate, LatticeFir, LatticeIir, Biquad, Biquad64, Conv, ConvPartial, Correlate, Lms, Pid, MatAdd, MatSub, MatScale, MatTrans, MatMult, Power, Dot, CmplxDot, Max, Min, Route}
+use Rattle.dsp_defs.specs.declared.script.Block.TheVariants.{Offset, Negate, Abs, Scale, Shift, Clip, To, Add, Sub}
+use Rattle.dsp_defs.specs.declared.script.Block.TheVariants.{Mult, Conj, CmplxMult, CmplxMultReal, MagSquared, Fir}
+use Rattle.dsp_defs.specs.declared.script.Block.TheVariants.{Sparse, Decimate, Interpolate, LatticeFir, LatticeIir}
+use Rattle.dsp_defs.specs.declared.script.Block.TheVariants.{Biquad, Biquad64, Conv, ConvPartial, Correlate, Lms, Pid}
+use Rattle.dsp_defs.specs.declared.script.Block.TheVariants.{MatAdd, MatSub, MatScale, MatTrans, MatMult, Power, Dot}
+use Rattle.dsp_defs.specs.declared.script.Block.TheVariants.{CmplxDot, Max, Min, Route}
 
 -- a frame has one sample of each channel, and a signal is the list of its frames
 abbrev pub Frame : Type 0
@@ -26,7 +32,8 @@ frames_of channels = values (length (get_or channels 0 [])) (λ n. map (λ sampl
 
 -- the frames of samples that stand frame by frame
 unfoldable pub frames_in : ℕ → List ℤ → List Frame
-frames_in channels samples = values (length samples / channels) (λ n. values channels (λ c. sample samples (n * channels + c)))
+frames_in channels samples = values (length samples / channels)
+    (λ n. values channels (λ c. sample samples (n * channels + c)))
 
 -- one function for each channel
 abbrev pub each_channel : ℕ → (List ℤ → List ℤ) → List Frame → List Frame
@@ -91,7 +98,8 @@ whole_channel format (MatTrans rows columns) = Some (mat_trans rows columns)
 whole_channel format (MatMult rows columns given matrix) = Some (mat_mult rows columns given matrix)
 whole_channel format _ = None
 
--- what it has given of a channel that may go on: the same, but that convolutions give what has an index below n, and a correlation nothing
+-- what it has given of a channel that may go on: the same, but that convolutions give what has an index below n, and
+-- a correlation nothing
 abbrev pub live_channel : Fmt → Block → Option (List ℤ → List ℤ)
 live_channel format (Conv taps) = Some (live_conv format taps)
 live_channel format (ConvPartial first count taps) = Some (live_conv_partial format first count taps)
@@ -119,7 +127,8 @@ given_frame format _ f = f
 
 -- what a block gives that works on whole frames; a measure passes them on
 abbrev pub by_frames : Fmt → Block → List Frame → List Frame
-by_frames format (Lms post_shift mu taps) x = map (λ (a : Adapted). a.output ∷ a.error ∷ []) (lms format post_shift mu taps (input_pairs x))
+by_frames format (Lms post_shift mu taps) x = map (λ (a : Adapted). a.output ∷ a.error ∷ [])
+    (lms format post_shift mu taps (input_pairs x))
 by_frames format Power x = x
 by_frames format Dot x = x
 by_frames format CmplxDot x = x

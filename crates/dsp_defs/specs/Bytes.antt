@@ -1,5 +1,7 @@
--- Samples as bytes, little-endian. Samples are two's complement, but that a WAVE sample of 8 bits is its byte minus 128.
-use Rattle.std.specs.Prelude.{◌≡◌, ◌<◌, ℕ, ◌+◌, ◌*◌, ◌/◌, ◌^◌, ℤ, pos, ◌+ℤ◌, ◌-ℤ◌, ◌*ℤ◌, nat_abs, FitsSigned, List, [], ◌∷◌, length, take, drop, get_or, flat_map}
+-- Samples as bytes, little-endian. Samples are two's complement, but that a WAVE sample of 8 bits is its byte minus
+-- 128.
+use Rattle.std.specs.Prelude.{◌≡◌, ◌<◌, ℕ, ◌+◌, ◌*◌, ◌/◌, ◌^◌, ℤ, pos, ◌+ℤ◌, ◌-ℤ◌, ◌*ℤ◌, nat_abs, FitsSigned, List}
+use Rattle.std.specs.Prelude.{[], ◌∷◌, length, take, drop, get_or, flat_map}
 use Rattle.std.specs.Int.{to_le_bytes, from_le_bytes, cast_unsigned, cast_signed}
 use Rattle.dsp_defs.specs.Numbers.{w32}
 use Rattle.dsp_defs.specs.Formats.{word}
@@ -73,7 +75,8 @@ AreBytes n bytes = (length bytes ≡ n) × ((i : ℕ) → get_or bytes i 0 < 256
 abbrev pub coded_by : (ℤ → List ℕ) → List Frame → List ℕ
 coded_by write frames = flat_map (λ frame. flat_map write frame) frames
 
--- the signal of all whole frames of the bytes, where each sample is read of so many bytes; a rest that is no whole frame is dropped
+-- the signal of all whole frames of the bytes, where each sample is read of so many bytes; a rest that is no whole
+-- frame is dropped
 abbrev pub samples_by : (List ℕ → ℤ) → ℕ → ℕ → List ℕ → List Frame
 samples_by read width channels bytes =
     values (length bytes / (channels * width))

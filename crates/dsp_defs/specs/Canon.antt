@@ -3,7 +3,8 @@ use Rattle.std.specs.Prelude.{ℕ, List, [], ◌∷◌, ◌++◌, codes}
 use Rattle.std.specs.Fmt.{signed_decimal}
 use Rattle.std.specs.List.{flat_map, join_by}
 use Rattle.dsp_defs.specs.declared.script.Script.{Script}
-use Rattle.dsp_defs.specs.Grammar.{Symbol, Name, Numeral, OpenBrace, CloseBrace, Whole, version_symbols, input_symbols, length_symbols, block_symbols, output_symbols}
+use Rattle.dsp_defs.specs.Grammar.{Symbol, Name, Numeral, OpenBrace, CloseBrace, Whole, version_symbols}
+use Rattle.dsp_defs.specs.Grammar.{input_symbols, length_symbols, block_symbols, output_symbols}
 
 -- text and a line feed
 abbrev pub line : List ℕ → List ℕ

@@ -7,7 +7,10 @@ use Rattle.dsp_defs.specs.Shape.{given_frames, live_frames}
 use Rattle.dsp_defs.specs.declared.format.Fmt.{Fmt}
 use Rattle.dsp_defs.specs.declared.format.Fmt.TheVariants.{Q15}
 use Rattle.dsp_defs.specs.declared.script.Block.{Block}
-use Rattle.dsp_defs.specs.declared.script.Block.TheVariants.{Scale, Mult, CmplxMult, CmplxMultReal, MagSquared, Fir, Sparse, Decimate, Interpolate, LatticeFir, LatticeIir, Biquad, Biquad64, Conv, ConvPartial, Correlate, Lms, Pid, MatScale, MatMult, Power, Dot, CmplxDot}
+use Rattle.dsp_defs.specs.declared.script.Block.TheVariants.{Scale, Mult, CmplxMult, CmplxMultReal, MagSquared, Fir}
+use Rattle.dsp_defs.specs.declared.script.Block.TheVariants.{Sparse, Decimate, Interpolate, LatticeFir, LatticeIir}
+use Rattle.dsp_defs.specs.declared.script.Block.TheVariants.{Biquad, Biquad64, Conv, ConvPartial, Correlate, Lms, Pid}
+use Rattle.dsp_defs.specs.declared.script.Block.TheVariants.{MatScale, MatMult, Power, Dot, CmplxDot}
 
 -- the number of sections in a list of biquad coefficients
 abbrev pub section_count : Fmt → List ℤ → ℕ
@@ -54,17 +57,20 @@ live_block_cost format c block n = block_cost format c block n (live_frames bloc
 abbrev pub cost : Fmt → ℕ → List Block → ℕ → ℕ
 cost format c [] n = 0
 cost format c (block ∷ blocks) n =
-    whole_block_cost format c block n + cost (format_after format block) (channels_after c block) blocks (given_frames block n)
+    whole_block_cost format c block n + cost (format_after format block) (channels_after c block) blocks
+    (given_frames block n)
 
 -- and for n frames of one that may go on
 abbrev pub live_cost : Fmt → ℕ → List Block → ℕ → ℕ
 live_cost format c [] n = 0
 live_cost format c (block ∷ blocks) n =
-    live_block_cost format c block n + live_cost (format_after format block) (channels_after c block) blocks (live_frames block n)
+    live_block_cost format c block n + live_cost (format_after format block) (channels_after c block) blocks
+    (live_frames block n)
 
 -- ---- what is left to do
 
--- the products in the values c(0), .., c(given-1) of a correlation of n and t numbers: the places k < n with 0 <= k-(i-(m-1)) < t
+-- the products in the values c(0), .., c(given-1) of a correlation of n and t numbers: the places k < n with 0 <=
+-- k-(i-(m-1)) < t
 abbrev pub correlation_products : ℕ → ℕ → ℕ → ℕ
 correlation_products n t zero = 0
 correlation_products n t (suc i) =
@@ -94,14 +100,16 @@ lane_turns format n = n / lanes format + n % lanes format
 abbrev pub block_turns : Fmt → ℕ → Block → ℕ → ℕ → ℕ
 block_turns format c (Fir taps) m n = c * length taps * lane_turns format (n - m)
 block_turns format c (Sparse taps delays) m n = c * length taps * lane_turns format (n - m)
-block_turns format c (Conv taps) m n = c * length taps * lane_turns format (live_frames (Conv taps) n - live_frames (Conv taps) m)
+block_turns format c (Conv taps) m n = c * length taps * lane_turns format
+    (live_frames (Conv taps) n - live_frames (Conv taps) m)
 block_turns format c (Interpolate factor taps) m n = c * length taps * lane_turns format (n - m)
 block_turns format c (Decimate factor taps) m n = c * (n / factor - m / factor) * lane_turns format (length taps)
 block_turns format c block m n = live_block_cost format c block n - live_block_cost format c block m
 
 -- the same of a unit, which may be banked: a bank of biquads works on all channels of a frame at once
 abbrev pub unit_turns : Bool → Fmt → ℕ → Block → ℕ → ℕ → ℕ
-unit_turns true format c (Biquad post_shift coefficients) m n = 5 * section_count format coefficients * (n - m) * lane_turns format c
+unit_turns true format c (Biquad post_shift coefficients) m n =
+    5 * section_count format coefficients * (n - m) * lane_turns format c
 unit_turns banked format c block m n = block_turns format c block m n
 
 -- the turn bound of a call in which a chain, banked or not, goes from m to n input frames: the sum over its blocks
@@ -109,14 +117,17 @@ abbrev pub chain_turns : Bool → Fmt → ℕ → List Block → ℕ → ℕ →
 chain_turns banked format c [] m n = 0
 chain_turns banked format c (block ∷ blocks) m n =
     unit_turns banked format c block m n
-    + chain_turns banked (format_after format block) (channels_after c block) blocks (live_frames block m) (live_frames block n)
+    + chain_turns banked (format_after format block) (channels_after c block) blocks (live_frames block m)
+    (live_frames block n)
 
 -- the sum over the first calls of a run of n frames, each of `size` frames but for a shorter last one
 abbrev pub turns_of_calls : Bool → Fmt → ℕ → List Block → ℕ → ℕ → ℕ → ℕ
 turns_of_calls banked format c blocks size n zero = 0
 turns_of_calls banked format c blocks size n (suc i) =
-    turns_of_calls banked format c blocks size n i + chain_turns banked format c blocks (i * size) (min (suc i * size) n)
+    turns_of_calls banked format c blocks size n i + chain_turns banked format c blocks (i * size)
+    (min (suc i * size) n)
 
 -- the turn bound of a whole run of n frames by calls of `size` frames
 abbrev pub turns : Bool → Fmt → ℕ → List Block → ℕ → ℕ → ℕ
-turns banked format c blocks size n = rest format c blocks n + turns_of_calls banked format c blocks size n (div_ceil n size)
+turns banked format c blocks size n = rest format c blocks n + turns_of_calls banked format c blocks size n
+    (div_ceil n size)

@@ -1,5 +1,6 @@
 -- The grammar: a text reads as a script where its tokens spell the script, and the script fits.
-use Rattle.std.specs.Prelude.{◌≡◌, ℕ, ℤ, pos, ◌+◌, ◌≤◌, IsTrue, List, [], ◌∷◌, ◌++◌, length, map, Option, Some, None, IfSome, codes, if◌then◌else◌}
+use Rattle.std.specs.Prelude.{◌≡◌, ℕ, ℤ, pos, ◌+◌, ◌≤◌, IsTrue, List, [], ◌∷◌, ◌++◌, length, map, Option, Some, None}
+use Rattle.std.specs.Prelude.{IfSome, codes, if◌then◌else◌}
 use Rattle.std.specs.List.{flat_map}
 use Rattle.dsp_defs.specs.declared.format.Container.{Container}
 use Rattle.dsp_defs.specs.declared.format.Container.TheVariants as container
@@ -12,7 +13,8 @@ use Rattle.dsp_defs.specs.declared.script.Script.{Script}
 use Rattle.dsp_defs.specs.declared.flow.Flow.{Flow}
 use Rattle.dsp_defs.specs.declared.word.Word.{Word}
 use Rattle.dsp_defs.specs.declared.word.Word.TheVariants as words
-use Rattle.dsp_defs.specs.declared.limits.TheConstants.{MAX_SCRIPT, MAX_BLOCKS, MAX_CORRELATES, MAX_BLOCK_LENGTH, MAX_CHANNELS, MAX_VERSION}
+use Rattle.dsp_defs.specs.declared.limits.TheConstants.{MAX_SCRIPT, MAX_BLOCKS, MAX_CORRELATES, MAX_BLOCK_LENGTH}
+use Rattle.dsp_defs.specs.declared.limits.TheConstants.{MAX_CHANNELS, MAX_VERSION}
 use Rattle.dsp_defs.specs.Token.{Token, Open, Close, Run, Item, items}
 use Rattle.dsp_defs.specs.Numeral.{value_of}
 use Rattle.dsp_defs.specs.Parameters.{Argument, Number, Listed, Format, Fits}
@@ -29,7 +31,8 @@ pub data Symbol : Type 0 where
   CloseBrace : Symbol
   Whole : List ℤ → Symbol
 
--- What token writes a symbol, or is the first to: a word is written in one way, a number by any of its numerals, and a whole list in braces, or by the name of a table that has its numbers.
+-- What token writes a symbol, or is the first to: a word is written in one way, a number by any of its numerals, and
+-- a whole list in braces, or by the name of a table that has its numbers.
 abbrev pub IsWritten : List Named → Token → Symbol → Type 0
 IsWritten tables (Run run) (Name name) = run ≡ name
 IsWritten tables (Run run) (Numeral n) = value_of run ≡ Some n
@@ -47,7 +50,8 @@ unwritten symbol token = []
 -- the items write the symbols, one after another, and there are as many
 abbrev pub Spells : List Named → List Item → List Symbol → Type 0
 Spells tables [] [] = Unit {0}
-Spells tables (item ∷ items) (symbol ∷ symbols) = IsWritten tables item.token symbol × Spells tables items (unwritten symbol item.token ++ symbols)
+Spells tables (item ∷ items) (symbol ∷ symbols) = IsWritten tables item.token symbol ×
+    Spells tables items (unwritten symbol item.token ++ symbols)
 Spells tables items symbols = ⊥
 
 -- ---- blocks
@@ -87,9 +91,15 @@ written (block.Lms post_shift mu taps) = (words.Lms, natural post_shift ∷ Numb
 written (block.Pid kp ki kd) = (words.Pid, Number kp ∷ Number ki ∷ Number kd ∷ [])
 written (block.MatAdd rows columns matrix) = (words.MatAdd, natural rows ∷ natural columns ∷ Listed matrix ∷ [])
 written (block.MatSub rows columns matrix) = (words.MatSub, natural rows ∷ natural columns ∷ Listed matrix ∷ [])
-written (block.MatScale rows columns fract shift) = (words.MatScale, natural rows ∷ natural columns ∷ Number fract ∷ Number shift ∷ [])
+written (block.MatScale rows columns fract shift) = (
+  words.MatScale,
+  natural rows ∷ natural columns ∷ Number fract ∷ Number shift ∷ [],
+)
 written (block.MatTrans rows columns) = (words.MatTrans, natural rows ∷ natural columns ∷ [])
-written (block.MatMult rows columns given matrix) = (words.MatMult, natural rows ∷ natural columns ∷ natural given ∷ Listed matrix ∷ [])
+written (block.MatMult rows columns given matrix) = (
+  words.MatMult,
+  natural rows ∷ natural columns ∷ natural given ∷ Listed matrix ∷ [],
+)
 written block.Power = (words.Power, [])
 written block.Dot = (words.Dot, [])
 written block.CmplxDot = (words.CmplxDot, [])
@@ -145,7 +155,8 @@ rate_symbols (kind.Raw rate) = Numeral (pos rate) ∷ []
 
 -- input CONTAINER FORMAT CHANNELS, and RATE where it is raw
 abbrev pub input_symbols : Input → List Symbol
-input_symbols input = Name (codes "input") ∷ Name (container_name (container_of input.kind)) ∷ Name (format_name input.format) ∷ Numeral (pos input.channels) ∷ rate_symbols input.kind
+input_symbols input = Name (codes "input") ∷ Name (container_name (container_of input.kind)) ∷ Name
+    (format_name input.format) ∷ Numeral (pos input.channels) ∷ rate_symbols input.kind
 
 -- block FRAMES, if the script names a length
 abbrev pub length_symbols : Option ℕ → List Symbol

@@ -1,5 +1,7 @@
 -- Kept numbers: all that a filter or a measure needs of the signal so far, in one order, and which numbers can be such.
-use Rattle.std.specs.Prelude.{◌≡◌, ℕ, zero, suc, ◌+◌, ◌-◌, ◌*◌, ◌/◌, ◌%◌, ◌^◌, ◌≤◌, min, max, ℤ, pos, ◌≤ℤ◌, ◌<ℤ◌, FitsSigned, nat_abs, List, [], ◌∷◌, ◌++◌, map, fold, reverse, replicate, length, drop, flat_map, get_or, Option, Some, None, IfSome}
+use Rattle.std.specs.Prelude.{◌≡◌, ℕ, zero, suc, ◌+◌, ◌-◌, ◌*◌, ◌/◌, ◌%◌, ◌^◌, ◌≤◌, min, max, ℤ, pos, ◌≤ℤ◌, ◌<ℤ◌}
+use Rattle.std.specs.Prelude.{FitsSigned, nat_abs, List, [], ◌∷◌, ◌++◌, map, fold, reverse, replicate, length, drop}
+use Rattle.std.specs.Prelude.{flat_map, get_or, Option, Some, None, IfSome}
 use Rattle.std.specs.List.{range_with_len}
 use Rattle.dsp_defs.specs.Numbers.{Width, w32, w64}
 use Rattle.dsp_defs.specs.Formats.{word, accumulator}
@@ -18,7 +20,10 @@ use Rattle.dsp_defs.specs.declared.format.Fmt.TheVariants.{Q31}
 use Rattle.dsp_defs.specs.declared.measure.Measure.{Measure}
 use Rattle.dsp_defs.specs.declared.measure.Measure.TheVariants as Measures
 use Rattle.dsp_defs.specs.declared.script.Block.{Block}
-use Rattle.dsp_defs.specs.declared.script.Block.TheVariants.{Fir, Sparse, Decimate, Interpolate, LatticeFir, LatticeIir, Biquad, Biquad64, Conv, ConvPartial, Correlate, Lms, Pid, MatAdd, MatSub, MatScale, MatTrans, MatMult, Power, Dot, CmplxDot, Max, Min}
+use Rattle.dsp_defs.specs.declared.script.Block.TheVariants.{Fir, Sparse, Decimate, Interpolate, LatticeFir}
+use Rattle.dsp_defs.specs.declared.script.Block.TheVariants.{LatticeIir, Biquad, Biquad64, Conv, ConvPartial}
+use Rattle.dsp_defs.specs.declared.script.Block.TheVariants.{Correlate, Lms, Pid, MatAdd, MatSub, MatScale, MatTrans}
+use Rattle.dsp_defs.specs.declared.script.Block.TheVariants.{MatMult, Power, Dot, CmplxDot, Max, Min}
 
 -- ---- what is kept
 
@@ -46,7 +51,8 @@ lattice_kept (k ∷ ks) pairs = latest (map (λ (w : ℤ × ℤ). w.1) pairs) 0 
 
 -- g_0, .., g_{S-1} at the last place of x
 abbrev pub ladder_kept : Fmt → List ℤ → List ℤ → List ℤ
-ladder_kept format k x = reverse (drop 1 (get_or (reverse (outputs (ladder_output format k) x)) 0 (replicate (suc (length k)) (pos 0))))
+ladder_kept format k x = reverse (drop 1 (get_or (reverse (outputs (ladder_output format k) x)) 0
+    (replicate (suc (length k)) (pos 0))))
 
 -- x1, x2, y1, y2 of each section
 abbrev pub sections_kept : Fmt → ℕ → List Section → List ℤ → List ℤ
@@ -70,7 +76,8 @@ extreme_kept (Some best) count = pos 1 ∷ best.0 ∷ pos best.1 ∷ pos count �
 -- the last T-1 inputs, and w_0, .., w_{T-1} after them
 abbrev pub lms_kept : Fmt → ℕ → ℤ → List ℤ → List (ℤ × ℤ) → List ℤ
 lms_kept format p mu taps pairs =
-    last_of (length taps - 1) (map (λ (s : ℤ × ℤ). s.0) pairs) ++ weights_before (reverse taps) (reverse (lms format p mu taps pairs))
+    last_of (length taps - 1) (map (λ (s : ℤ × ℤ). s.0) pairs) ++ weights_before (reverse taps)
+    (reverse (lms format p mu taps pairs))
 
 -- what a filter or a measure of a block keeps of its channel x, from the oldest sample to the newest;
 -- a phase, a flag or a length stands last
@@ -84,7 +91,8 @@ kept_of_channel format (LatticeIir k v) x = ladder_kept format k x
 kept_of_channel format (Biquad p coefficients) x = sections_kept format p (sections format coefficients) x
 kept_of_channel format (Biquad64 p coefficients) x = wide_sections_kept p (sections Q31 coefficients) x
 kept_of_channel format (Conv taps) x = last_of (length taps - 1) x ++ pos (flag (length x)) ∷ []
-kept_of_channel format (ConvPartial first count taps) x = last_of (length taps - 1) x ++ pos (min (length x) (first + count)) ∷ []
+kept_of_channel format (ConvPartial first count taps) x =
+    last_of (length taps - 1) x ++ pos (min (length x) (first + count)) ∷ []
 kept_of_channel format (Correlate taps) x = x
 kept_of_channel format (Pid kp ki kd) x = latest x 0 ∷ latest x 1 ∷ latest (pid format kp ki kd x) 0 ∷ []
 kept_of_channel format (MatAdd rows columns matrix) x = open_group (rows * columns) x
@@ -104,17 +112,20 @@ kept_numbers format channels Dot x = dot format (channel 0 x) (channel 1 x) ∷ 
 kept_numbers format channels CmplxDot x =
     let sums = cmplx_dot_sums format (channel 0 x) (channel 1 x) (channel 2 x) (channel 3 x) in
     sums.0 ∷ sums.1 ∷ []
-kept_numbers format channels block x = flat_map (λ c. kept_of_channel format block (channel c x)) (range_with_len 0 channels)
+kept_numbers format channels block x = flat_map (λ c. kept_of_channel format block (channel c x))
+    (range_with_len 0 channels)
 
 -- what a chain keeps of the frames x, block after block
 abbrev pub kept_of_chain : Fmt → ℕ → List Block → List Frame → List ℤ
 kept_of_chain format channels [] x = []
 kept_of_chain format channels (block ∷ blocks) x =
-    kept_numbers format channels block x ++ kept_of_chain (format_after format block) (channels_after channels block) blocks (live format channels block x)
+    kept_numbers format channels block x ++ kept_of_chain (format_after format block) (channels_after channels block)
+    blocks (live format channels block x)
 
 -- ---- which numbers can be kept
 
--- a kept number is one of a width; or it is the phase, flag, length or count that the number of frames gives; or an index below that number
+-- a kept number is one of a width; or it is the phase, flag, length or count that the number of frames gives; or an
+-- index below that number
 pub data Kind : Type 0 where
   InWord : Width → Kind
   Fixed : ℕ → Kind
@@ -158,7 +169,8 @@ kinds_by format (Biquad p coefficients) n = in_words (word format) (4 * section_
 kinds_by format (Biquad64 p coefficients) n =
     flat_map (λ (_ : ℕ). in_words w32 2 ++ in_words w64 2) (range_with_len 0 (section_count Q31 coefficients))
 kinds_by format (Conv taps) n = in_words (word format) (length taps - 1) ++ Fixed (flag n) ∷ []
-kinds_by format (ConvPartial first count taps) n = in_words (word format) (length taps - 1) ++ Fixed (min n (first + count)) ∷ []
+kinds_by format (ConvPartial first count taps) n = in_words (word format) (length taps - 1) ++ Fixed
+    (min n (first + count)) ∷ []
 kinds_by format (Correlate taps) n = in_words (word format) n
 kinds_by format (Lms p mu taps) n = in_words (word format) (length taps - 1 + length taps)
 kinds_by format (Pid kp ki kd) n = in_words (word format) 3
@@ -189,7 +201,8 @@ kept_count format channels block n = length (kept_kinds format channels block n)
 abbrev pub HasPlace : Fmt → ℕ → Block → ℕ → List ℤ → Type 0
 HasPlace format channels block n numbers = Each IsPlace (kept_kinds format channels block n) numbers
 
--- the most frames that a block can take, if it has a limit: a correlation gathers so many, and an extreme is found among so many
+-- the most frames that a block can take, if it has a limit: a correlation gathers so many, and an extreme is found
+-- among so many
 abbrev pub limit_of : Block → Option ℕ
 limit_of (Correlate taps) = Some MAX_GATHERED
 limit_of Max = Some (2 ^ 62 - 1)
@@ -212,7 +225,8 @@ Fits format channels block numbers = (n : ℕ) × FitsAfter format channels bloc
 abbrev pub kept_count_of_chain : Fmt → ℕ → List Block → ℕ → ℕ
 kept_count_of_chain format channels [] n = 0
 kept_count_of_chain format channels (block ∷ blocks) n =
-    kept_count format channels block n + kept_count_of_chain (format_after format block) (channels_after channels block) blocks (live_frames block n)
+    kept_count format channels block n + kept_count_of_chain (format_after format block)
+    (channels_after channels block) blocks (live_frames block n)
 
 -- the numbers are such that the blocks can keep them of n frames, each of the live frames at its place
 abbrev pub FitsBlocks : Fmt → ℕ → List Block → ℕ → List ℤ → Type 0
@@ -251,7 +265,10 @@ kept_extreme _ = None
 abbrev pub kept_measures : Fmt → ℕ → ℕ → Block → List ℤ → List Measure
 kept_measures format channels number Power kept = values channels (λ c. Measures.Power number c (sample kept c))
 kept_measures format channels number Dot kept = Measures.Dot number (sample kept 0) ∷ []
-kept_measures format channels number CmplxDot kept = Measures.CmplxDot number (cmplx_dot_close format (sample kept 0)) (cmplx_dot_close format (sample kept 1)) ∷ []
-kept_measures format channels number Max kept = values channels (λ c. Measures.Max number c (kept_extreme (drop (4 * c) kept)))
-kept_measures format channels number Min kept = values channels (λ c. Measures.Min number c (kept_extreme (drop (4 * c) kept)))
+kept_measures format channels number CmplxDot kept = Measures.CmplxDot number (cmplx_dot_close format (sample kept 0))
+    (cmplx_dot_close format (sample kept 1)) ∷ []
+kept_measures format channels number Max kept = values channels
+    (λ c. Measures.Max number c (kept_extreme (drop (4 * c) kept)))
+kept_measures format channels number Min kept = values channels
+    (λ c. Measures.Min number c (kept_extreme (drop (4 * c) kept)))
 kept_measures format channels number block kept = []

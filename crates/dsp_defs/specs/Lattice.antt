@@ -1,4 +1,4 @@
--- Lattice filters, recursions on n and on the stage m.
+-- Lattice filters, recursions on n and on the section m.
 use Rattle.std.specs.Prelude.{ℤ, pos, ◌+ℤ◌, ◌-ℤ◌, ◌*ℤ◌, List, [], ◌∷◌, map, length, get_or, drop, fold}
 use Rattle.dsp_defs.specs.Numbers.{◌>>◌, saturate, wrap, w32, w64}
 use Rattle.dsp_defs.specs.Formats.{word_bits}
@@ -6,18 +6,19 @@ use Rattle.dsp_defs.specs.Signal.{sample, sum_below, outputs}
 use Rattle.dsp_defs.specs.declared.format.Fmt.{Fmt}
 use Rattle.dsp_defs.specs.declared.format.Fmt.TheVariants.{Q31}
 
--- f_m(n) = sat_16((k_m*g_{m-1}(n-1) >> 15) + f_{m-1}(n)) and g_m(n) = sat_16((k_m*f_{m-1}(n) >> 15) + g_{m-1}(n-1)), as a pair
+-- f_m(n) = sat_16((k_m*g_{m-1}(n-1) >> 15) + f_{m-1}(n)) and g_m(n) = sat_16((k_m*f_{m-1}(n) >> 15) + g_{m-1}(n-1)),
+-- as a pair
 abbrev pub lattice_output : ℤ → List (ℤ × ℤ) → List (ℤ × ℤ) → ℤ × ℤ
 lattice_output k before earlier =
     let f = (get_or before 0 (pos 0, pos 0)).0 in
     let g = (get_or before 1 (pos 0, pos 0)).1 in
     (saturate 16 ((k *ℤ g >> 15) +ℤ f), saturate 16 ((k *ℤ f >> 15) +ℤ g))
 
--- one stage of a whole signal of pairs
+-- one section of a whole signal of pairs
 abbrev pub lattice_stage : List (ℤ × ℤ) → ℤ → List (ℤ × ℤ)
 lattice_stage before k = outputs (lattice_output k) before
 
--- y = f_S: the stages k_1 to k_S one after another, from f_0(n) = g_0(n) = x(n)
+-- y = f_S: the sections k_1 to k_S one after another, from f_0(n) = g_0(n) = x(n)
 abbrev pub lattice_fir : List ℤ → List ℤ → List ℤ
 lattice_fir ks x = map (λ (w : ℤ × ℤ). w.0) (fold lattice_stage (map (λ a. (a, a)) x) ks)
 
@@ -26,7 +27,8 @@ abbrev pub reflected : Fmt → ℤ → ℤ → ℤ
 reflected Q31 k g = wrap w32 (k *ℤ g >> 31)
 reflected format k g = k *ℤ g >> 15
 
--- g_S(n), .., g_0(n) from f_S(n), k_S .. k_1 and g_{S-1}(n-1), .., g_0(n-1): f_{m-1} = sat(f_m - k_m*g_{m-1}(n-1)), g_m = sat(k_m*f_{m-1} + g_{m-1}(n-1)), g_0 = f_0
+-- g_S(n), .., g_0(n) from f_S(n), k_S .. k_1 and g_{S-1}(n-1), .., g_0(n-1): f_{m-1} = sat(f_m - k_m*g_{m-1}(n-1)),
+-- g_m = sat(k_m*f_{m-1} + g_{m-1}(n-1)), g_0 = f_0
 abbrev pub backward_values : Fmt → ℤ → List ℤ → List ℤ → List ℤ
 backward_values format f [] before = f ∷ []
 backward_values format f (k ∷ ks) before =

@@ -1,4 +1,5 @@
--- Matrices: a channel is cut into groups, each whole group becomes its result, and a last group that is not whole gives nothing.
+-- Matrices: a channel is cut into groups, each whole group becomes its result, and a last group that is not whole
+-- gives nothing.
 use Rattle.std.specs.Prelude.{ℕ, ◌+◌, ◌*◌, ◌/◌, ◌%◌, ℤ, ◌*ℤ◌, List, length, take, drop}
 use Rattle.dsp_defs.specs.Formats.{close}
 use Rattle.dsp_defs.specs.Signal.{sample, values, sum_below}

@@ -1,5 +1,6 @@
 -- The measures of a whole signal, and those of a chain.
-use Rattle.std.specs.Prelude.{ℕ, ◌+◌, ℤ, ◌+ℤ◌, ◌-ℤ◌, ◌*ℤ◌, List, [], ◌∷◌, ◌++◌, length, Option, Some, None, Bool, int_lt, if◌then◌else◌}
+use Rattle.std.specs.Prelude.{ℕ, ◌+◌, ℤ, ◌+ℤ◌, ◌-ℤ◌, ◌*ℤ◌, List, [], ◌∷◌, ◌++◌, length, Option, Some, None, Bool}
+use Rattle.std.specs.Prelude.{int_lt, if◌then◌else◌}
 use Rattle.dsp_defs.specs.Numbers.{◌>>◌, wrap, w32}
 use Rattle.dsp_defs.specs.Formats.{accumulator}
 use Rattle.dsp_defs.specs.Signal.{sample, values, sum_below}
@@ -19,7 +20,8 @@ measured_product Q31 a b = a *ℤ b >> 14
 
 -- the sum of the products, wrapped to the accumulator
 abbrev pub dot : Fmt → List ℤ → List ℤ → ℤ
-dot format a b = wrap (accumulator format) (sum_below (length a) (λ n. measured_product format (sample a n) (sample b n)))
+dot format a b = wrap (accumulator format) (sum_below (length a)
+    (λ n. measured_product format (sample a n) (sample b n)))
 
 -- the sum of the squares
 abbrev pub power : Fmt → List ℤ → ℤ
@@ -29,8 +31,10 @@ power format x = dot format x x
 abbrev pub cmplx_dot_sums : Fmt → List ℤ → List ℤ → List ℤ → List ℤ → ℤ × ℤ
 cmplx_dot_sums format a b c d =
     let p : ℤ → ℤ → ℤ = measured_product format in (
-      wrap (accumulator format) (sum_below (length a) (λ n. p (sample a n) (sample c n) -ℤ p (sample b n) (sample d n))),
-      wrap (accumulator format) (sum_below (length a) (λ n. p (sample a n) (sample d n) +ℤ p (sample b n) (sample c n))),
+      wrap (accumulator format) (sum_below (length a) (λ n. p (sample a n) (sample c n) -ℤ p (sample b n)
+          (sample d n))),
+      wrap (accumulator format) (sum_below (length a) (λ n. p (sample a n) (sample d n) +ℤ p (sample b n)
+          (sample c n))),
     )
 
 -- a kept sum as a result: wrap_32(sum >> 6) in Q15
@@ -63,7 +67,8 @@ minimum (x ∷ xs) = Some (better_of (λ a b. int_lt a b) x (minimum xs))
 
 -- the measures of one block, by channel; `number` is its place in the script
 abbrev pub block_measures : Fmt → ℕ → ℕ → Block → List Frame → List Measure
-block_measures format channels number Power x = values channels (λ c. Measures.Power number c (power format (channel c x)))
+block_measures format channels number Power x = values channels
+    (λ c. Measures.Power number c (power format (channel c x)))
 block_measures format channels number Dot x = Measures.Dot number (dot format (channel 0 x) (channel 1 x)) ∷ []
 block_measures format channels number CmplxDot x =
     let sums = cmplx_dot format (channel 0 x) (channel 1 x) (channel 2 x) (channel 3 x) in
@@ -77,4 +82,5 @@ abbrev pub measures : Fmt → ℕ → ℕ → List Block → List Frame → List
 measures format channels number [] x = []
 measures format channels number (block ∷ blocks) x =
     block_measures format channels number block x
-    ++ measures (format_after format block) (channels_after channels block) (number + 1) blocks (whole format channels block x)
+    ++ measures (format_after format block) (channels_after channels block) (number + 1) blocks
+    (whole format channels block x)

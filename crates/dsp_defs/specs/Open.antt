@@ -1,5 +1,6 @@
 -- WAVE files of which nothing is wanted: a header is judged by what its own `fmt ` chunk says.
-use Rattle.std.specs.Prelude.{◌≢◌, ℕ, ◌-◌, ◌^◌, ◌≤◌, ◌&&◌, nat_eq, nat_le, if◌then◌else◌, List, [], ◌∷◌, codes, Option, Some, IfSome, Result}
+use Rattle.std.specs.Prelude.{◌≢◌, ℕ, ◌-◌, ◌^◌, ◌≤◌, ◌&&◌, nat_eq, nat_le, if◌then◌else◌, List, [], ◌∷◌, codes}
+use Rattle.std.specs.Prelude.{Option, Some, IfSome, Result}
 use Rattle.std.specs.Option.{option_map}
 use Rattle.std.specs.Result.{result_map_both}
 use Rattle.dsp_defs.specs.Bytes.{width}
@@ -25,7 +26,8 @@ format_of_bits bits = if nat_eq bits 8 then Q7 else (if nat_eq bits 16 then Q15 
 abbrev pub channels_in_limit : ℕ → ℕ
 channels_in_limit channels = if nat_le 1 channels && nat_le channels MAX_CHANNELS then channels else MAX_CHANNELS
 
--- what the body of a `fmt ` chunk wants of its own samples: its bits are wrong exactly where they are none of 8, 16, 24 and 32,
+-- what the body of a `fmt ` chunk wants of its own samples: its bits are wrong exactly where they are none of 8, 16,
+-- 24 and 32,
 -- and its channels exactly where they are not 1 to 16
 abbrev pub own_wanted : List ℕ → Wanted
 own_wanted body = record { format = format_of_bits (u16_at body 14); channels = channels_in_limit (u16_at body 2) }
@@ -43,7 +45,14 @@ wanted_by bytes = wanted_in (chunks bytes)
 
 -- what a header says, with the channels of the file
 abbrev pub opened : Wanted → Header → OpenHeader
-opened wanted header = record { rate = header.rate; start = header.start; size = header.size; coding = header.coding; channels = wanted.channels }
+opened wanted header = record {
+  rate = header.rate;
+  start = header.start;
+  size = header.size;
+  coding =
+      header.coding;
+  channels = wanted.channels;
+}
 
 -- the same without them
 abbrev pub closed : OpenHeader → Header
@@ -69,7 +78,8 @@ pub record IsOpenGood (header : OpenHeader) : Type 0 where
   pub few : header.channels ≤ MAX_CHANNELS
   pub size : IfSome header.size (λ size. size ≢ 2 ^ 32 - 1)
 
--- the sizes in the header of a WAVE file of so many frames in a coding stand in 32 bits, below the number that stands for none
+-- the sizes in the header of a WAVE file of so many frames in a coding stand in 32 bits, below the number that stands
+-- for none
 abbrev pub OpenFits : Coding → ℕ → Option ℕ → Type 0
 OpenFits coding channels frames = WidthFits Wave (width coding) channels frames
 

@@ -23,9 +23,21 @@ wanted_of script = record { format = script.input.format; channels = script.inpu
 
 -- where the samples stand in an input: raw samples are all of it, and without a good header there are none
 abbrev pub header_by : InputKind → Wanted → List ℕ → Header
-header_by (Raw rate) wanted bytes = record { rate = rate; start = 0; size = None; coding = coding_of Containers.Raw wanted.format }
+header_by (Raw rate) wanted bytes = record {
+  rate = rate;
+  start = 0;
+  size = None;
+  coding =
+      coding_of Containers.Raw wanted.format;
+}
 header_by Wave wanted bytes =
-    result_unwrap_or (header_of bytes wanted) (record { rate = 0; start = length bytes; size = None; coding = coding_of Containers.Wave wanted.format })
+    result_unwrap_or (header_of bytes wanted) (record {
+      rate = 0;
+      start = length bytes;
+      size = None;
+      coding =
+          coding_of Containers.Wave wanted.format;
+    })
 
 -- of a script
 abbrev pub input_header : Script → List ℕ → Header
@@ -78,11 +90,13 @@ output_coding script = coding_of script.output (format_of script)
 
 -- the bytes of what the chain has given of a signal that may go on
 abbrev pub live_bytes : Script → List Frame → List ℕ
-live_bytes script x = coded (output_coding script) (live_chain script.input.format script.input.channels script.blocks x)
+live_bytes script x = coded (output_coding script) (live_chain script.input.format script.input.channels script.blocks
+    x)
 
 -- and of what it gives of a whole one
 abbrev pub whole_bytes : Script → List Frame → List ℕ
-whole_bytes script x = coded (output_coding script) (whole_chain script.input.format script.input.channels script.blocks x)
+whole_bytes script x = coded (output_coding script) (whole_chain script.input.format script.input.channels
+    script.blocks x)
 
 -- the frames that the output is to have, where the input declares its own
 abbrev pub known_frames : Script → Header → Option ℕ
@@ -92,7 +106,8 @@ known_frames script header = option_map (frames_given script.blocks) (declared_f
 abbrev pub output_header : Script → Header → List ℕ
 output_header script header = elim script.output [
   | Containers.Raw ↦ []
-  | _ ↦ wave_header script.output (format_of script) (channels_of script) (rate_of script header.rate) (known_frames script header)
+  | _ ↦ wave_header script.output (format_of script) (channels_of script) (rate_of script header.rate)
+      (known_frames script header)
 ]
 
 -- the pad byte behind them, if there is one
@@ -112,7 +127,9 @@ output script bytes =
 abbrev pub whole_blocks : ℕ → List Frame → List Frame
 whole_blocks block x = take (length x / block * block) x
 
--- what stands in the output when these bytes were taken: the header, and the samples of the live values of the whole blocks
+-- what stands in the output when these bytes were taken: the header, and the samples of the live values of the whole
+-- blocks
 abbrev pub part : Script → ℕ → List ℕ → List ℕ
 part script block bytes =
-    output_header script (input_header script bytes) ++ live_bytes script (whole_blocks block (input_signal script bytes))
+    output_header script (input_header script bytes) ++ live_bytes script
+    (whole_blocks block (input_signal script bytes))

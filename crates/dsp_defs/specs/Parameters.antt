@@ -1,7 +1,9 @@
 -- What a block's word is followed by: numbers in their ranges, lists under their rules, formats.
-use Rattle.std.specs.Prelude.{◌≡◌, ◌≢◌, ℕ, ℤ, pos, negsuc, ◌-◌, ◌*◌, ◌%◌, ◌==◌, ◌&&◌, ◌≤◌, ◌≤ℤ◌, nat_le, Bool, IsTrue, List, [], ◌∷◌, length}
+use Rattle.std.specs.Prelude.{◌≡◌, ◌≢◌, ℕ, ℤ, pos, negsuc, ◌-◌, ◌*◌, ◌%◌, ◌==◌, ◌&&◌, ◌≤◌, ◌≤ℤ◌, nat_le, Bool, IsTrue}
+use Rattle.std.specs.Prelude.{List, [], ◌∷◌, length}
 use Rattle.std.specs.List.{AllByRecursion}
-use Rattle.dsp_defs.specs.declared.limits.TheConstants.{MAX_TAPS, MAX_SECTIONS, MAX_STAGES, MAX_DELAY, MAX_FACTOR, MAX_MATRIX_SIDE, MAX_CHANNELS}
+use Rattle.dsp_defs.specs.declared.limits.TheConstants.{MAX_TAPS, MAX_SECTIONS, MAX_LATTICE_SECTIONS, MAX_DELAY}
+use Rattle.dsp_defs.specs.declared.limits.TheConstants.{MAX_FACTOR, MAX_MATRIX_SIDE, MAX_CHANNELS}
 use Rattle.dsp_defs.specs.declared.format.Fmt.{Fmt}
 use Rattle.dsp_defs.specs.declared.format.Fmt.TheVariants.{Q7, Q15, Q31}
 use Rattle.dsp_defs.specs.declared.script.Block.{Block}
@@ -58,7 +60,13 @@ pub record IsWithin (rule : ListRule) (numbers : List ℤ) : Type 0 where
 
 -- numbers of the format's word
 abbrev pub coefficients : Flow → ℕ → Count → ListRule
-coefficients flow limit count = record { low = least flow.format; high = greatest flow.format; limit = limit; count = count }
+coefficients flow limit count = record {
+  low = least flow.format;
+  high = greatest flow.format;
+  limit = limit;
+  count =
+      count;
+}
 
 -- some taps, as many as a multiple
 abbrev pub taps : Flow → ℕ → ListRule
@@ -79,11 +87,12 @@ section_length f = 6
 
 -- some sections, up to 64
 abbrev pub section_numbers : Flow → ListRule
-section_numbers flow = coefficients flow (MAX_SECTIONS * section_length flow.format) (MultipleOf (section_length flow.format))
+section_numbers flow = coefficients flow (MAX_SECTIONS * section_length flow.format)
+    (MultipleOf (section_length flow.format))
 
 -- some reflection coefficients, up to 255
 abbrev pub reflections : Flow → ListRule
-reflections flow = coefficients flow MAX_STAGES (MultipleOf 1)
+reflections flow = coefficients flow MAX_LATTICE_SECTIONS (MultipleOf 1)
 
 -- so many numbers
 abbrev pub exactly : Flow → ℕ → ListRule
@@ -95,7 +104,8 @@ routes flow = record { low = pos 0; high = pos (flow.channels - 1); limit = MAX_
 
 -- ---- forms
 
--- the parameters of a block, in their order, each in a range that may depend on those before it, and the block that they make
+-- the parameters of a block, in their order, each in a range that may depend on those before it, and the block that
+-- they make
 pub data Form : Type 0 where
   Done : Block → Form
   Integer : (low high : ℤ) → (ℤ → Form) → Form

@@ -1,8 +1,11 @@
 -- What each place of a text wants, and the fault where another thing stands there.
-use Rattle.std.specs.Prelude.{ℕ, ℤ, zero, suc, pos, ◌+◌, ◌&&◌, ◌==◌, ⊤, is_some, Bool, false, List, [], ◌∷◌, Option, Some, None, Result, Ok, Err, nat_le, int_le, unsigned_abs, codes, ◌++◌, if◌then◌else◌}
+use Rattle.std.specs.Prelude.{ℕ, ℤ, zero, suc, pos, ◌+◌, ◌&&◌, ◌==◌, ⊤, is_some, Bool, false, List, [], ◌∷◌, Option}
+use Rattle.std.specs.Prelude.{Some, None, Result, Ok, Err, nat_le, int_le, unsigned_abs, codes, ◌++◌, if◌then◌else◌}
 use Rattle.std.specs.Str.{bytes_eq}
 use Rattle.dsp_defs.specs.declared.script_fault.ScriptKind.{ScriptKind}
-use Rattle.dsp_defs.specs.declared.script_fault.ScriptKind.TheVariants.{BadByte, UnknownWord, BadNumber, OutOfRange, Missing, NoSuchForm, Length, TooMany, BadName, NameTaken}
+use Rattle.dsp_defs.specs.declared.script_fault.ScriptKind.TheVariants.{BadByte, UnknownWord, BadNumber, OutOfRange}
+use Rattle.dsp_defs.specs.declared.script_fault.ScriptKind.TheVariants.{Missing, NoSuchForm, Length, TooMany, BadName}
+use Rattle.dsp_defs.specs.declared.script_fault.ScriptKind.TheVariants.{NameTaken}
 use Rattle.dsp_defs.specs.declared.script_fault.ScriptFault.{ScriptFault}
 use Rattle.dsp_defs.specs.declared.format.Fmt.{Fmt}
 use Rattle.dsp_defs.specs.declared.limits.TheConstants.{MAX_TABLES}
@@ -32,7 +35,11 @@ or_fault offset kind None = fault offset kind
 -- the first item, which must be there and no bad byte, and what is left behind it
 unfoldable pub first_of : ℕ → List Item → Result (Item × Rest) ScriptFault
 first_of end [] = fault end Missing
-first_of end (item ∷ items) = elim item.token [ Bad ↦ fault item.offset BadByte | _ ↦ Ok (item, record { items = items; end = end }) ]
+first_of end (item ∷ items) = elim item.token [
+  | Bad ↦ fault item.offset BadByte
+  | _ ↦ Ok
+      (item, record { items = items; end = end })
+]
 
 -- what a token at an offset is, or its fault, where a place wants it.
 abbrev pub Judge : Type 0 → Type 0
@@ -79,11 +86,13 @@ natural_at low high rest = next_at (number (pos low) (pos high)) rest >>= λ n. 
 
 -- n as the next number of a list that has count numbers, at an offset
 abbrev pub next_number : ListRule → ℕ → ℕ → ℤ → Result ℤ ScriptFault
-next_number rule count offset n = if nat_le rule.limit count then fault offset (TooMany rule.limit) else in_range offset rule.low rule.high n
+next_number rule count offset n = if nat_le rule.limit count then fault offset (TooMany rule.limit) else
+    in_range offset rule.low rule.high n
 
 -- the end of a list that has count numbers, at an offset
 abbrev pub list_end : ListRule → ℕ → ℕ → Result ⊤ ScriptFault
-list_end rule count offset = if is_complete rule.count count then Ok tt else fault offset (Length count (factor_of rule.count))
+list_end rule count offset = if is_complete rule.count count then Ok tt else
+    fault offset (Length count (factor_of rule.count))
 
 -- numbers as a list's, after count of them, up to its end, all at one offset
 unfoldable pub judged : ListRule → ℕ → ℕ → List ℤ → Result ⊤ ScriptFault
@@ -106,7 +115,8 @@ opening tables rule offset token = fault offset Missing
 -- the next number of a list that has count numbers, or its end
 abbrev pub entry : ListRule → ℕ → Judge (Option ℤ)
 entry rule count offset Close = list_end rule count offset >>= λ _. Ok None
-entry rule count offset token = or_fault offset BadNumber (meaning_of value_of token) >>= λ n. next_number rule count offset n >>= λ _. Ok (Some n)
+entry rule count offset token = or_fault offset BadNumber (meaning_of value_of token) >>= λ n. next_number rule count
+    offset n >>= λ _. Ok (Some n)
 
 -- the numbers of a list up to its end, after count of them
 unfoldable pub entries_at : ListRule → ℕ → ℕ → List Item → Result (List ℤ × Rest) ScriptFault
@@ -131,11 +141,13 @@ list_at tables rule rest = do
 
 -- the word `table`, where so many more may come
 abbrev pub table_word : ℕ → Judge ⊤
-table_word left offset token = choice (named (codes "table")) offset token >>= λ _. if left == 0 then fault offset (TooMany MAX_TABLES) else Ok tt
+table_word left offset token = choice (named (codes "table")) offset token >>= λ _. if left == 0 then
+    fault offset (TooMany MAX_TABLES) else Ok tt
 
 -- a name that none of these tables has
 abbrev pub new_name : List Named → Judge (List ℕ)
-new_name tables offset (Run run) = if is_table_name run then (if is_some (numbers_of tables run) then fault offset NameTaken else Ok run) else fault offset BadName
+new_name tables offset (Run run) = if is_table_name run then
+    (if is_some (numbers_of tables run) then fault offset NameTaken else Ok run) else fault offset BadName
 new_name tables offset token = fault offset BadName
 
 -- a table next, behind these, where so many more may come: its word, its name, its numbers in braces
@@ -148,14 +160,16 @@ table_at left tables rest = do
 
 -- these tables, and those that come next, of which so many may come
 unfoldable pub tables_at : ℕ → List Named → Rest → Result (List Named × Rest) ScriptFault
-tables_at zero tables rest = if begins_with (codes "table") rest.items then (table_at 0 tables rest >>= λ t. Ok (tables, t.1)) else Ok (tables, rest)
+tables_at zero tables rest = if begins_with (codes "table") rest.items then
+    (table_at 0 tables rest >>= λ t. Ok (tables, t.1)) else Ok (tables, rest)
 tables_at (suc left) tables rest = if begins_with (codes "table") rest.items
     then (table_at (suc left) tables rest >>= λ t. tables_at left (tables ++ t.0 ∷ []) t.1)
     else Ok (tables, rest)
 
 -- the tables next, in a version that has them
 unfoldable pub environment_at : ℕ → Rest → Result (Environment × Rest) ScriptFault
-environment_at version rest = if version == 1 then Ok (None, rest) else (tables_at MAX_TABLES [] rest >>= λ t. Ok (Some t.0, t.1))
+environment_at version rest = if version == 1 then Ok (None, rest) else
+    (tables_at MAX_TABLES [] rest >>= λ t. Ok (Some t.0, t.1))
 
 -- ---- conversions
 

@@ -1,9 +1,12 @@
--- Reading a text from left to right: the script, or the first item, or the end, that can't stand after the items before it.
-use Rattle.std.specs.Prelude.{ℕ, zero, suc, ◌==◌, ◌&&◌, ◌||◌, ⊤, Bool, false, List, [], ◌∷◌, length, Option, Some, None, Result, Ok, nat_lt, if◌then◌else◌, codes}
+-- Reading a text from left to right: the script, or the first item, or the end, that can't stand after the items
+-- before it.
+use Rattle.std.specs.Prelude.{ℕ, zero, suc, ◌==◌, ◌&&◌, ◌||◌, ⊤, Bool, false, List, [], ◌∷◌, length, Option, Some}
+use Rattle.std.specs.Prelude.{None, Result, Ok, nat_lt, if◌then◌else◌, codes}
 use Rattle.std.specs.Str.{bytes_eq}
 use Rattle.std.specs.Option.{option_map}
 use Rattle.std.specs.Result.{result_err}
-use Rattle.dsp_defs.specs.declared.script_fault.ScriptKind.TheVariants.{TooLong, BadByte, UnknownWord, NoSuchForm, ChannelsHere, TooMany}
+use Rattle.dsp_defs.specs.declared.script_fault.ScriptKind.TheVariants.{TooLong, BadByte, UnknownWord, NoSuchForm}
+use Rattle.dsp_defs.specs.declared.script_fault.ScriptKind.TheVariants.{ChannelsHere, TooMany}
 use Rattle.dsp_defs.specs.declared.script_fault.ScriptFault.{ScriptFault}
 use Rattle.dsp_defs.specs.declared.format.Container.{Container}
 use Rattle.dsp_defs.specs.declared.format.Container.TheVariants as container
@@ -14,12 +17,15 @@ use Rattle.dsp_defs.specs.declared.script.Block.{Block}
 use Rattle.dsp_defs.specs.declared.script.Script.{Script}
 use Rattle.dsp_defs.specs.declared.flow.Flow.{Flow}
 use Rattle.dsp_defs.specs.declared.word.Word.{Word}
-use Rattle.dsp_defs.specs.declared.limits.TheConstants.{MAX_SCRIPT, MAX_BLOCKS, MAX_CORRELATES, MAX_BLOCK_LENGTH, MAX_CHANNELS, MAX_VERSION}
+use Rattle.dsp_defs.specs.declared.limits.TheConstants.{MAX_SCRIPT, MAX_BLOCKS, MAX_CORRELATES, MAX_BLOCK_LENGTH}
+use Rattle.dsp_defs.specs.declared.limits.TheConstants.{MAX_CHANNELS, MAX_VERSION}
 use Rattle.dsp_defs.specs.Token.{Bad, Item, Rest, rest_of}
 use Rattle.dsp_defs.specs.Parameters.{Form, Done, Integer, Natural, Numbers, Conversion}
-use Rattle.dsp_defs.specs.Table.{row_of, by_name, every_word, name_of, every_format, format_name, container_name, has_form, is_correlate, flow_after, input_containers, output_containers}
+use Rattle.dsp_defs.specs.Table.{row_of, by_name, every_word, name_of, every_format, format_name, container_name}
+use Rattle.dsp_defs.specs.Table.{has_form, is_correlate, flow_after, input_containers, output_containers}
 use Rattle.dsp_defs.specs.Grammar.{input_flow}
-use Rattle.dsp_defs.specs.Places.{◌>>=◌, fault, Judge, next_at, choice, named, begins_with, number, natural_at, Environment, list_at, environment_at, conversion}
+use Rattle.dsp_defs.specs.Places.{◌>>=◌, fault, Judge, next_at, choice, named, begins_with, number, natural_at}
+use Rattle.dsp_defs.specs.Places.{Environment, list_at, environment_at, conversion}
 
 -- ---- blocks
 
@@ -28,8 +34,10 @@ unfoldable pub block_at : Environment → Form → Rest → Result (Block × Res
 block_at tables (Done made) rest = Ok (made, rest)
 block_at tables (Integer low high next) rest = next_at (number low high) rest >>= λ n. block_at tables (next n.0) n.1
 block_at tables (Natural low high next) rest = natural_at low high rest >>= λ n. block_at tables (next n.0) n.1
-block_at tables (Numbers rule next) rest = list_at tables rule rest >>= λ numbers. block_at tables (next numbers.0) numbers.1
-block_at tables (Conversion from next) rest = next_at (conversion from) rest >>= λ format. block_at tables (next format.0) format.1
+block_at tables (Numbers rule next) rest = list_at tables rule rest >>= λ numbers. block_at tables (next numbers.0)
+    numbers.1
+block_at tables (Conversion from next) rest = next_at (conversion from) rest >>= λ format. block_at tables
+    (next format.0) format.1
 
 -- the word of a block, or none where a text is the output's
 unfoldable pub place_of : List ℕ → Option (Option Word)
@@ -65,7 +73,8 @@ blocks_at tables (suc left) correlated flow rest = do
   next ← next_at (next_block (suc left) correlated flow) rest
   elim next.0 [
     | None ↦ Ok ([], next.1)
-    | Some w ↦ (block_at tables ((row_of w).parameters flow) next.1 >>= λ b. blocks_at tables left (correlated || is_correlate w) (flow_after b.0 flow) b.1 >>= λ more. Ok (b.0 ∷ more.0, more.1))
+    | Some w ↦ (block_at tables ((row_of w).parameters flow) next.1 >>= λ b. blocks_at tables left
+        (correlated || is_correlate w) (flow_after b.0 flow) b.1 >>= λ more. Ok (b.0 ∷ more.0, more.1))
   ]
 
 -- ---- scripts
@@ -73,7 +82,8 @@ blocks_at tables (suc left) correlated flow rest = do
 -- the block length, if there is one
 unfoldable pub length_at : Rest → Result (Option ℕ × Rest) ScriptFault
 length_at rest = if begins_with (codes "block") rest.items
-    then (next_at (choice (named (codes "block"))) rest >>= λ name. natural_at 1 MAX_BLOCK_LENGTH name.1 >>= λ frames. Ok (Some frames.0, frames.1))
+    then (next_at (choice (named (codes "block"))) rest >>= λ name. natural_at 1 MAX_BLOCK_LENGTH name.1 >>= λ frames.
+    Ok (Some frames.0, frames.1))
     else Ok (None, rest)
 
 -- the end of the text

@@ -1,11 +1,13 @@
 -- The shape of a chain: its frames, its output rate, its unit and its legal block lengths.
-use Rattle.std.specs.Prelude.{ℕ, zero, suc, ◌+◌, ◌-◌, ◌*◌, ◌/◌, ◌%◌, ◌^◌, ◌<◌, max, min, Bool, ◌&&◌, nat_eq, nat_lt, nat_le, if◌then◌else◌, List, [], ◌∷◌, length, Option, Some, None, IfSome, fold, ◌≡◌}
+use Rattle.std.specs.Prelude.{ℕ, zero, suc, ◌+◌, ◌-◌, ◌*◌, ◌/◌, ◌%◌, ◌^◌, ◌<◌, max, min, Bool, ◌&&◌, nat_eq, nat_lt}
+use Rattle.std.specs.Prelude.{nat_le, if◌then◌else◌, List, [], ◌∷◌, length, Option, Some, None, IfSome, fold, ◌≡◌}
 use Rattle.std.specs.Int.{div_ceil}
 use Rattle.dsp_defs.specs.Sums.{full_length}
 use Rattle.dsp_defs.specs.Block.{channels_after}
 use Rattle.dsp_defs.specs.declared.limits.TheConstants.{MAX_BLOCK_LENGTH, MAX_SAMPLES, DEFAULT_BLOCK_LENGTH}
 use Rattle.dsp_defs.specs.declared.script.Block.{Block}
-use Rattle.dsp_defs.specs.declared.script.Block.TheVariants.{Decimate, Interpolate, Conv, ConvPartial, Correlate, MatAdd, MatSub, MatScale, MatTrans, MatMult}
+use Rattle.dsp_defs.specs.declared.script.Block.TheVariants.{Decimate, Interpolate, Conv, ConvPartial, Correlate}
+use Rattle.dsp_defs.specs.declared.script.Block.TheVariants.{MatAdd, MatSub, MatScale, MatTrans, MatMult}
 
 -- ---- groups
 
@@ -26,7 +28,8 @@ groups_after (Some g) n = n / g.0 * g.1
 
 -- ---- frames
 
--- the frames that a block gives of n frames, where `conv`, `conv_partial` and `correlate` count as giving as many as they take:
+-- the frames that a block gives of n frames, where `conv`, `conv_partial` and `correlate` count as giving as many as
+-- they take:
 -- n*L of an interpolator, whole groups of a decimator or a matrix block, and n of every other
 abbrev pub steady_frames : Block → ℕ → ℕ
 steady_frames (Interpolate factor taps) n = n * factor
@@ -36,7 +39,8 @@ steady_frames block n = groups_after (group_of block) n
 abbrev pub correlation_length : ℕ → ℕ → ℕ
 correlation_length n t = if nat_eq n 0 then 0 else (2 * max n t - 1)
 
--- the frames that a block is to give of n frames: N+T-1 of `conv`, `count` of `conv_partial`, 2*max(N,T)-1 of `correlate`
+-- the frames that a block is to give of n frames: N+T-1 of `conv`, `count` of `conv_partial`, 2*max(N,T)-1 of
+-- `correlate`
 abbrev pub given_frames : Block → ℕ → ℕ
 given_frames (Conv taps) n = full_length n (length taps)
 given_frames (ConvPartial first count taps) n = count
@@ -48,7 +52,8 @@ abbrev pub whole_frames : Block → ℕ → ℕ
 whole_frames (ConvPartial first count taps) n = min count (full_length n (length taps) - first)
 whole_frames block n = given_frames block n
 
--- the length of what it has given of a signal that may go on: the values of a convolution with index below n, and none of a correlation
+-- the length of what it has given of a signal that may go on: the values of a convolution with index below n, and
+-- none of a correlation
 abbrev pub live_frames : Block → ℕ → ℕ
 live_frames (Conv taps) n = min n (whole_frames (Conv taps) n)
 live_frames (ConvPartial first count taps) n = min (n - first) (whole_frames (ConvPartial first count taps) n)
@@ -88,7 +93,8 @@ window_end _ n = None
 -- the first such window of a chain
 abbrev pub window_at : List Block → ℕ → Option (ℕ × ℕ)
 window_at [] n = None
-window_at (block ∷ blocks) n = elim (window_end block n) [ Some w ↦ Some w | None ↦ window_at blocks (whole_frames block n) ]
+window_at (block ∷ blocks) n = elim (window_end block n)
+    [ Some w ↦ Some w | None ↦ window_at blocks (whole_frames block n) ]
 
 -- there are channels at each place
 abbrev pub HasChannels : ℕ → List Block → Type 0
@@ -162,7 +168,8 @@ fits_everywhere channels (block ∷ blocks) n =
 -- in 1..65,536, a multiple of the unit, and within the limit of samples at each place
 abbrev pub is_legal : ℕ → List Block → ℕ → Bool
 is_legal channels blocks length =
-    nat_le 1 length && nat_le length MAX_BLOCK_LENGTH && nat_eq (length % whole_unit blocks) 0 && fits_everywhere channels blocks length
+    nat_le 1 length && nat_le length MAX_BLOCK_LENGTH && nat_eq (length % whole_unit blocks) 0 && fits_everywhere
+    channels blocks length
 
 -- the unit, or 0 where no block length is legal
 abbrev pub unit : ℕ → List Block → ℕ

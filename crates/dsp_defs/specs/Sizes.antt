@@ -13,4 +13,5 @@ IsSmall samples = samples ≤ MAX_CHECKED
 abbrev pub size_at : ℕ → List Block → ℕ → Option ℕ
 size_at channels [] n = if nat_le (n * channels) MAX_CHECKED then None else Some (n * channels)
 size_at channels (block ∷ blocks) n =
-    if nat_le (n * channels) MAX_CHECKED then size_at (channels_after channels block) blocks (whole_frames block n) else Some (n * channels)
+    if nat_le (n * channels) MAX_CHECKED then size_at (channels_after channels block) blocks (whole_frames block n)
+    else Some (n * channels)

@@ -18,10 +18,12 @@ number_bytes z = to_le_bytes w64 (cast_unsigned w64 z)
 abbrev pub number_of : List ℕ → ℤ
 number_of bytes = cast_signed w64 (from_le_bytes w64 bytes)
 
--- all that stands before the numbers: the mark, the version 1, the length of the canonical text, that text, and the frames
+-- all that stands before the numbers: the mark, the version 1, the length of the canonical text, that text, and the
+-- frames
 abbrev pub state_head : Script → ℕ → List ℕ
 state_head script frames =
-    codes "DSPSTATE" ++ (to_le_bytes w32 1 ++ (to_le_bytes w32 (length (canon script)) ++ (canon script ++ to_le_bytes w32 frames)))
+    codes "DSPSTATE" ++ (to_le_bytes w32 1 ++ (to_le_bytes w32 (length (canon script)) ++
+    (canon script ++ to_le_bytes w32 frames)))
 
 -- a state
 abbrev pub state_of : Script → ℕ → List ℤ → List ℕ
@@ -33,7 +35,8 @@ pub record CanRun (script : Script) : Type 0 where
   pub block : ℕ
   pub legal : IsTrue (is_legal script.input.channels script.blocks block)
 
--- the bytes are the state of a script that can run, whose blocks can keep these numbers, each of 64 bits, of so many frames
+-- the bytes are the state of a script that can run, whose blocks can keep these numbers, each of 64 bits, of so many
+-- frames
 pub record IsState (bytes : List ℕ) (script : Script) (frames : ℕ) (numbers : List ℤ) : Type 0 where
   pub bytes_are : bytes ≡ state_of script frames numbers
   pub runs : CanRun script

@@ -10,7 +10,8 @@ use Rattle.dsp_defs.specs.Wave.{u32_at}
 use Rattle.dsp_defs.specs.declared.limits.TheConstants.{MAX_SCRIPT, MAX_GATHERED, MAX_STATE}
 use Rattle.dsp_defs.specs.declared.script.Script.{Script}
 use Rattle.dsp_defs.specs.declared.state_kind.StateKind.{StateKind}
-use Rattle.dsp_defs.specs.declared.state_kind.StateKind.TheVariants.{NotState, Version, Text, Cut, Value, Extra, TooLong, LongText}
+use Rattle.dsp_defs.specs.declared.state_kind.StateKind.TheVariants.{NotState, Version, Text, Cut, Value, Extra}
+use Rattle.dsp_defs.specs.declared.state_kind.StateKind.TheVariants.{TooLong, LongText}
 
 -- ---- where the fields stand
 
@@ -97,23 +98,28 @@ pub data IsCut (bytes : List ℕ) : Type 0 where
 -- the length of the text is past the limit, or the text is the canonical one of no script that can run
 pub data HasNoText (bytes : List ℕ) : Type 0 where
   LongSize : HasVersion bytes → 16 ≤ length bytes → MAX_SCRIPT < text_size bytes → HasNoText bytes
-  OtherText : HasLength bytes → frames_place bytes ≤ length bytes → ((script : Script) → HasText bytes script → ⊥) → HasNoText bytes
+  OtherText : HasLength bytes → frames_place bytes ≤ length bytes → ((script : Script) → HasText bytes script → ⊥) →
+      HasNoText bytes
 
 -- the frames are too many for a correlation, or the blocks cannot keep the numbers of so many
 pub data HasNoValue (bytes : List ℕ) (offset : ℕ) : Type 0 where
-  ManyFrames : (script : Script) → HasText bytes script → numbers_place bytes ≤ length bytes → MAX_GATHERED < gathered script.blocks (frames_in_state bytes)
+  ManyFrames : (script : Script) → HasText bytes script → numbers_place bytes ≤ length bytes →
+      MAX_GATHERED < gathered script.blocks (frames_in_state bytes)
       → offset ≡ frames_place bytes → HasNoValue bytes offset
   OtherNumbers : (script : Script) → HasFrames bytes script → state_end bytes script ≤ length bytes
-      → (Fits script (frames_in_state bytes) (numbers_in bytes (count_in bytes script)) → ⊥) → offset ≡ numbers_place bytes → HasNoValue bytes offset
+      → (Fits script (frames_in_state bytes) (numbers_in bytes (count_in bytes script)) → ⊥) →
+      offset ≡ numbers_place bytes → HasNoValue bytes offset
 
 -- the bytes have this fault at the offset
 abbrev pub IsStateFault : StateKind → ℕ → List ℕ → Type 0
 IsStateFault NotState offset bytes = (HasMark bytes → ⊥) × (offset ≡ 0)
-IsStateFault (Version got) offset bytes = HasMark bytes × (12 ≤ length bytes) × (got ≡ u32_at bytes 8) × (got ≢ 1) × (offset ≡ 8)
+IsStateFault (Version got) offset bytes = HasMark bytes × (12 ≤ length bytes) × (got ≡ u32_at bytes 8) × (got ≢ 1) ×
+    (offset ≡ 8)
 IsStateFault Text offset bytes = HasNoText bytes × (offset ≡ 16)
 IsStateFault Cut offset bytes = IsCut bytes × (offset ≡ length bytes)
 IsStateFault Value offset bytes = HasNoValue bytes offset
-IsStateFault Extra offset bytes = (script : Script) × HasNumbers bytes script × (state_end bytes script < length bytes) × (offset ≡ state_end bytes script)
+IsStateFault Extra offset bytes = (script : Script) × HasNumbers bytes script ×
+    (state_end bytes script < length bytes) × (offset ≡ state_end bytes script)
 IsStateFault TooLong offset bytes = (MAX_STATE < length bytes) × (offset ≡ MAX_STATE)
 IsStateFault (LongText size) offset bytes = ⊥
 

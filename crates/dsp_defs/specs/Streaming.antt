@@ -26,12 +26,15 @@ last_of count x = drop (length x) (replicate count (pos 0) ++ x)
 
 -- the outputs of a filter over a window of the past and the block: out[i] = close(sum over j of taps[j] * window[i+j])
 abbrev pub rows : Fmt → List ℤ → List ℤ → ℕ → List ℤ
-rows format taps window n = values n (λ i. close format (sum_below (length taps) (λ j. sample taps j *ℤ sample window (i + j))))
+rows format taps window n = values n (λ i. close format
+    (sum_below (length taps) (λ j. sample taps j *ℤ sample window (i + j))))
 
 -- ---- what is kept between calls
 
--- Where `old` is kept of a signal, a call takes `taken`, gives what f gives of it next, and keeps `new`, what is kept of the longer signal.
-pub record GoesOn {S A B : Type 0} (f : List A → List B) (kept : List A → S) (old new : S) (taken : List A) (given : List B) : Type 0 where
+-- Where `old` is kept of a signal, a call takes `taken`, gives what f gives of it next, and keeps `new`, what is kept
+-- of the longer signal.
+pub record GoesOn {S A B : Type 0} (f : List A → List B) (kept : List A → S) (old new : S) (taken : List A)
+    (given : List B) : Type 0 where
   pub values : (x : List A) → old ≡ kept x → Continues f x taken given
   pub stands : (x : List A) → old ≡ kept x → new ≡ kept (x ++ taken)
 

@@ -1,5 +1,6 @@
 -- Filters and whole-signal operations that are sums of products.
-use Rattle.std.specs.Prelude.{ℕ, ◌-◌, ◌+◌, ◌*◌, ◌/◌, ◌%◌, max, min, ℤ, pos, ◌*ℤ◌, List, length, reverse, get_or, nat_eq, if◌then◌else◌}
+use Rattle.std.specs.Prelude.{ℕ, ◌-◌, ◌+◌, ◌*◌, ◌/◌, ◌%◌, max, min, ℤ, pos, ◌*ℤ◌, List, length, reverse, get_or}
+use Rattle.std.specs.Prelude.{nat_eq, if◌then◌else◌}
 use Rattle.dsp_defs.specs.Numbers.{◌>>◌, saturate, wrap, w32}
 use Rattle.dsp_defs.specs.Formats.{close}
 use Rattle.dsp_defs.specs.Signal.{sample, delayed, values, sum_below}
@@ -26,7 +27,8 @@ phase_taps factor b p = values (length b / factor) (λ k. sample b (factor * k +
 -- y(n*L+p) = close(sum over k < T/L of b[L*k+p] * x(n-k)) for n < N, p < L
 abbrev pub interpolate : Fmt → ℕ → List ℤ → List ℤ → List ℤ
 interpolate format factor taps x =
-    values (length x * factor) (λ i. close format (convolution_at (phase_taps factor (reverse taps) (i % factor)) x (i / factor)))
+    values (length x * factor) (λ i. close format (convolution_at (phase_taps factor (reverse taps) (i % factor)) x
+    (i / factor)))
 
 -- one product of the sparse filter: b*x, and b*x >> 32 in Q31
 abbrev pub sparse_term : Fmt → ℤ → ℤ → ℤ
@@ -43,7 +45,8 @@ sparse_close Q31 s = wrap w32 (pos 2 *ℤ s)
 -- y(n) from the sum over k < T of b[k] * x(n-d[k])
 abbrev pub sparse : Fmt → List ℤ → List ℕ → List ℤ → List ℤ
 sparse format b delays x =
-    values (length x) (λ n. sparse_close format (sum_below (length b) (λ k. sparse_term format (sample b k) (delayed x n (get_or delays k 0)))))
+    values (length x) (λ n. sparse_close format (sum_below (length b)
+    (λ k. sparse_term format (sample b k) (delayed x n (get_or delays k 0)))))
 
 -- the values of a full convolution of N and T numbers: N+T-1, or 0 where N is 0
 abbrev pub full_length : ℕ → ℕ → ℕ
@@ -62,4 +65,5 @@ conv_partial format first count b x =
 abbrev pub correlate : Fmt → List ℤ → List ℤ → List ℤ
 correlate format b x =
     let m = max (length x) (length b) in
-    values (if nat_eq (length x) 0 then 0 else (2 * m - 1)) (λ n. close format (sum_below (length x) (λ k. sample x k *ℤ delayed b (k + m - 1) n)))
+    values (if nat_eq (length x) 0 then 0 else (2 * m - 1))
+    (λ n. close format (sum_below (length x) (λ k. sample x k *ℤ delayed b (k + m - 1) n)))

@@ -1,5 +1,8 @@
--- WAVE files: their chunks, what a header says, its faults, and the header that is written. All numbers are little-endian.
-use Rattle.std.specs.Prelude.{◌≡◌, ℕ, zero, suc, ◌+◌, ◌*◌, ◌%◌, ◌-◌, ◌^◌, ◌≤◌, Bool, not, ◌||◌, nat_eq, nat_le, nat_lt, if◌then◌else◌, List, [], ◌∷◌, ◌++◌, length, take, drop, codes, Option, Some, None, IfSome, Result, Ok, Err}
+-- WAVE files: their chunks, what a header says, its faults, and the header that is written. All numbers are
+-- little-endian.
+use Rattle.std.specs.Prelude.{◌≡◌, ℕ, zero, suc, ◌+◌, ◌*◌, ◌%◌, ◌-◌, ◌^◌, ◌≤◌, Bool, not, ◌||◌, nat_eq, nat_le}
+use Rattle.std.specs.Prelude.{nat_lt, if◌then◌else◌, List, [], ◌∷◌, ◌++◌, length, take, drop, codes, Option, Some}
+use Rattle.std.specs.Prelude.{None, IfSome, Result, Ok, Err}
 use Rattle.std.specs.Int.{to_le_bytes, from_le_bytes}
 use Rattle.std.specs.Option.{option_map}
 use Rattle.std.specs.Str.{bytes_eq}
@@ -17,7 +20,8 @@ use Rattle.dsp_defs.specs.declared.wave.Sampling.{Sampling}
 use Rattle.dsp_defs.specs.declared.wave.Wanted.{Wanted}
 use Rattle.dsp_defs.specs.declared.wave.Header.{Header}
 use Rattle.dsp_defs.specs.declared.wave.HeaderFault.{HeaderFault}
-use Rattle.dsp_defs.specs.declared.wave.HeaderFault.TheVariants.{NotRiff, NotWave, NoFormat, FormatSize, Tag, Bits, Channels, Align, NoSamples}
+use Rattle.dsp_defs.specs.declared.wave.HeaderFault.TheVariants.{NotRiff, NotWave, NoFormat, FormatSize, Tag, Bits}
+use Rattle.dsp_defs.specs.declared.wave.HeaderFault.TheVariants.{Channels, Align, NoSamples}
 
 -- ---- chunks
 
@@ -38,7 +42,13 @@ pub record Chunk : Type 0 where
 
 -- the chunk with which the bytes from an offset on begin: four bytes id, four bytes size, the body
 abbrev pub chunk_at : ℕ → List ℕ → Chunk
-chunk_at offset bytes = record { offset = offset; id = take 4 bytes; size = u32_at bytes 4; body = take (u32_at bytes 4) (drop 8 bytes) }
+chunk_at offset bytes = record {
+  offset = offset;
+  id = take 4 bytes;
+  size = u32_at bytes 4;
+  body =
+      take (u32_at bytes 4) (drop 8 bytes);
+}
 
 -- a size with the pad byte of an odd one
 abbrev pub padded : ℕ → ℕ
@@ -81,7 +91,8 @@ pcm_subformat = 1 ∷ 0 ∷ 0 ∷ 0 ∷ 0 ∷ 0 ∷ 16 ∷ 0 ∷ 128 ∷ 0 ∷ 0
 abbrev pub extensible_tag : ℕ
 extensible_tag = 65534
 
--- the chunk is whole, and says linear PCM: by the tag 1, or by the tag 0xFFFE and the extension of 24 bytes behind the first
+-- the chunk is whole, and says linear PCM: by the tag 1, or by the tag 0xFFFE and the extension of 24 bytes behind
+-- the first
 -- 16, whose other fields are not tested. The file has `total` bytes
 abbrev pub pcm_tests : ℕ → Chunk → List Test
 pcm_tests total chunk =
@@ -93,10 +104,16 @@ pcm_tests total chunk =
     ∷ record { holds = nat_eq tag 1 || nat_eq tag extensible_tag; fault = Tag tag; offset = body }
     ∷ record { holds = plain || nat_le 40 chunk.size; fault = FormatSize chunk.size; offset = chunk.offset + 4 }
     ∷ record { holds = plain || nat_le 40 (length chunk.body); fault = NoSamples; offset = total }
-    ∷ record { holds = plain || bytes_eq (take 16 (drop 24 chunk.body)) pcm_subformat; fault = Tag (u16_at chunk.body 24); offset = body + 24 }
+    ∷ record {
+      holds = plain || bytes_eq (take 16 (drop 24 chunk.body)) pcm_subformat;
+      fault =
+          Tag (u16_at chunk.body 24);
+      offset = body + 24;
+    }
     ∷ []
 
--- how samples of a format stand, where a file says so many bits: Q31 may have 24, else the bits are to be those of the word
+-- how samples of a format stand, where a file says so many bits: Q31 may have 24, else the bits are to be those of
+-- the word
 abbrev pub file_coding : Fmt → ℕ → Coding
 file_coding Q31 bits = if nat_eq bits 24 then Wave24 else Wave31
 file_coding format bits = coding_of Wave format
@@ -115,7 +132,12 @@ sample_tests wanted chunk =
     let bytes = width (sampling wanted chunk).coding in
     record { holds = nat_eq channels wanted.channels; fault = Channels channels wanted.channels; offset = body + 2 }
     ∷ record { holds = nat_eq bits (8 * bytes); fault = Bits bits (8 * bytes); offset = body + 14 }
-    ∷ record { holds = nat_eq align (wanted.channels * bytes); fault = Align align (wanted.channels * bytes); offset = body + 12 }
+    ∷ record {
+      holds = nat_eq align (wanted.channels * bytes);
+      fault = Align align (wanted.channels * bytes);
+      offset =
+          body + 12;
+    }
     ∷ []
 
 -- what is at fault in the first `fmt ` chunk of a file of `total` bytes
@@ -133,7 +155,8 @@ unless None said = said
 abbrev pub declared_size : ℕ → Option ℕ
 declared_size size = if nat_eq size (2 ^ 32 - 1) then None else Some size
 
--- what the chunks say, one after another: the first `fmt ` chunk counts, and the samples begin with the first `data` chunk.
+-- what the chunks say, one after another: the first `fmt ` chunk counts, and the samples begin with the first `data`
+-- chunk.
 -- `known` is what the `fmt ` chunk said, if it came
 abbrev pub header_in : Wanted → ℕ → Option Sampling → List Chunk → Result Header (HeaderFault × ℕ)
 header_in wanted total known [] = Err (NoSamples, total)
@@ -144,7 +167,13 @@ header_in wanted total None (chunk ∷ chunks) =
     else header_in wanted total None chunks)
 header_in wanted total (Some known) (chunk ∷ chunks) =
     if has_id (codes "data") chunk
-    then Ok (record { rate = known.rate; start = chunk.offset + 8; size = declared_size chunk.size; coding = known.coding })
+    then Ok (record {
+      rate = known.rate;
+      start = chunk.offset + 8;
+      size = declared_size chunk.size;
+      coding =
+          known.coding;
+    })
     else header_in wanted total (Some known) chunks
 
 -- what a file's header says: `RIFF`, a size that is not tested, `WAVE`, and the chunks
@@ -168,7 +197,8 @@ cut_fault n = if nat_lt n 4 then (NotRiff, 0) else (if nat_lt n 12 then (NotWave
 
 -- ---- writing
 
--- the bytes of the samples of a file of so many frames, whose samples have so many bytes each, and 2^32 - 1 where the number of
+-- the bytes of the samples of a file of so many frames, whose samples have so many bytes each, and 2^32 - 1 where the
+-- number of
 -- frames is not known
 abbrev pub data_bytes : ℕ → ℕ → Option ℕ → ℕ
 data_bytes width channels None = 2 ^ 32 - 1
@@ -190,7 +220,8 @@ header_size container = 28 + format_size container
 -- all behind the first eight bytes: the rest of the header, the sample bytes and the pad byte
 abbrev pub riff_bytes : Container → ℕ → ℕ → Option ℕ → ℕ
 riff_bytes container width channels None = 2 ^ 32 - 1
-riff_bytes container width channels (Some frames) = 20 + format_size container + padded (data_bytes width channels (Some frames))
+riff_bytes container width channels (Some frames) = 20 + format_size container + padded
+    (data_bytes width channels (Some frames))
 
 -- of samples of a format
 abbrev pub riff_size : Container → Fmt → ℕ → Option ℕ → ℕ
@@ -198,7 +229,8 @@ riff_size container format channels frames = riff_bytes container (word_bytes fo
 
 -- the sizes of a known length stand in 32 bits, below the number that stands for none
 abbrev pub WidthFits : Container → ℕ → ℕ → Option ℕ → Type 0
-WidthFits container width channels frames = IfSome frames (λ n. riff_bytes container width channels (Some n) ≤ MAX_RIFF_SIZE)
+WidthFits container width channels frames = IfSome frames
+    (λ n. riff_bytes container width channels (Some n) ≤ MAX_RIFF_SIZE)
 
 -- of samples of a format
 abbrev pub HeaderFits : Container → Fmt → ℕ → Option ℕ → Type 0
@@ -214,13 +246,15 @@ abbrev pub extension : Container → ℕ → List ℕ
 extension Wavex bits = to_le_bytes w16 22 ++ to_le_bytes w16 bits ++ to_le_bytes w32 0 ++ pcm_subformat
 extension _ bits = []
 
--- the bytes before the samples of a file whose samples have so many bytes each; the byte rate is rate * align modulo 2^32
+-- the bytes before the samples of a file whose samples have so many bytes each; the byte rate is rate * align modulo
+-- 2^32
 abbrev pub header_of_width : Container → ℕ → ℕ → ℕ → Option ℕ → List ℕ
 header_of_width container width channels rate frames =
     let align = channels * width in
     let bits = 8 * width in
     codes "RIFF" ++ to_le_bytes w32 (riff_bytes container width channels frames) ++ codes "WAVE"
-    ++ codes "fmt " ++ to_le_bytes w32 (format_size container) ++ to_le_bytes w16 (format_tag container) ++ to_le_bytes w16 channels
+    ++ codes "fmt " ++ to_le_bytes w32 (format_size container) ++ to_le_bytes w16 (format_tag container) ++
+    to_le_bytes w16 channels
     ++ to_le_bytes w32 rate ++ to_le_bytes w32 (rate * align % 2 ^ 32) ++ to_le_bytes w16 align ++ to_le_bytes w16 bits
     ++ extension container bits ++ codes "data" ++ to_le_bytes w32 (data_bytes width channels frames)
 
@@ -240,7 +274,8 @@ written_header container format channels rate frames = record {
 -- the byte 0 behind samples of an odd number of bytes, where their number is known
 abbrev pub pad_of_width : ℕ → ℕ → Option ℕ → List ℕ
 pad_of_width width channels None = []
-pad_of_width width channels (Some frames) = if nat_eq (data_bytes width channels (Some frames) % 2) 0 then [] else (0 ∷ [])
+pad_of_width width channels (Some frames) = if nat_eq (data_bytes width channels (Some frames) % 2) 0 then [] else
+    (0 ∷ [])
 
 -- of samples of a format
 abbrev pub pad : Fmt → ℕ → Option ℕ → List ℕ

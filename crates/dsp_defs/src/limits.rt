@@ -6,8 +6,8 @@ pub const MAX_TAPS: usize = 16_384;
 /// The greatest number of sections of a biquad cascade.
 pub const MAX_SECTIONS: usize = 64;
 
-/// The greatest number of stages of a lattice.
-pub const MAX_STAGES: usize = 255;
+/// The greatest number of sections of a lattice.
+pub const MAX_LATTICE_SECTIONS: usize = 255;
 
 /// The greatest delay of a sparse filter, in samples.
 pub const MAX_DELAY: u32 = 65_535;

@@ -1,5 +1,6 @@
 -- Exact numbers, as 128 bits hold them: their sums, differences and floor shifts.
-use Rattle.std.proofs.Common.{refl, zero, suc, ◌*ℤ◌, ◌≡◌, ◌∙◌, ap, sym, subst, ℕ, ◌+◌, ◌*◌, ◌^◌, ◌<◌, ◌≤◌, ℤ, pos, negsuc, ◌+ℤ◌, ◌-ℤ◌, to_z, of_z, SFits, arith}
+use Rattle.std.proofs.Common.{refl, zero, suc, ◌*ℤ◌, ◌≡◌, ◌∙◌, ap, sym, subst, ℕ, ◌+◌, ◌*◌, ◌^◌, ◌<◌, ◌≤◌, ℤ, pos}
+use Rattle.std.proofs.Common.{negsuc, ◌+ℤ◌, ◌-ℤ◌, to_z, of_z, SFits, arith}
 use Rattle.std.specs.Prelude.{nat_abs, neg_ℤ}
 use Rattle.std.specs.Int.{w32, w64, w128}
 use Rattle.std.proofs.lemmas.Nat.{pow_pos}

@@ -35,7 +35,13 @@ abbrev pub ports_at : List (List ℕ) → Places → PortStates
 ports_at words places = record {
   script = new_input (name_at words places.script);
   input = new_input (name_at words places.input);
-  output = record { path = name_at words places.output; script = name_at words places.script; input = name_at words places.input; faults = 0 };
+  output = record {
+    path = name_at words places.output;
+    script = name_at words places.script;
+    input =
+        name_at words places.input;
+    faults = 0;
+  };
   other = new_input (name_at words places.other);
   report = new_sink;
 }
@@ -54,7 +60,8 @@ no_counts = record { multiplies = 0; turns = 0 }
 abbrev pub IsStopped : ℕ → Type 0
 IsStopped status = (status ≡ 4) ⊎ (status ≡ 5) ⊎ (status ≡ 7) ⊎ (status ≡ 8)
 
--- the status of a call that ended so; or 8, where it stopped and what it had accepted could not be written; or 9, where it was done
+-- the status of a call that ended so; or 8, where it stopped and what it had accepted could not be written; or 9,
+-- where it was done
 -- and could not report it
 abbrev pub Answers : ℕ → ℕ → Type 0
 Answers ended status = (status ≡ ended) ⊎ ((status ≡ 8) × IsStopped ended) ⊎ ((status ≡ 9) × (ended ≡ 0))
@@ -64,6 +71,8 @@ pub record RanOver (words : List (List ℕ)) (old new : PortStates) (status : �
   pub ended : ℕ
   pub counts : Counts
   pub told : SinkState
-  pub run : Ended (call words (input_state old.script) (input_state new.script) (input_state old.input) (input_state new.input)
-      (output_state old.output) (output_state new.output) (input_state old.other) (input_state new.other) no_counts counts) ended old.report told
+  pub run : Ended (call words (input_state old.script) (input_state new.script) (input_state old.input)
+      (input_state new.input)
+      (output_state old.output) (output_state new.output) (input_state old.other) (input_state new.other) no_counts
+      counts) ended old.report told
   pub answers : Answers ended status

@@ -6,7 +6,7 @@ use crate::report::OutSink;
 use dsp_cli::{Places, Words, output_line, places, run};
 use dsp_defs::Steps;
 use dsp_ports::Sink;
-use dsp_stage::AnyUnit;
+use dsp_unit::AnyUnit;
 use std::alloc::{AllocError, Global};
 use std::fs::Files;
 use std::io::Print;
@@ -34,7 +34,14 @@ impl<'a, R: Files + Print> Model for FilePorts<'a, R> {
 
     ghost Value = { PortStates };
 
-    ghost view = { λ s. record { script = s.script; input = s.input; output = s.output; other = s.other; report = s.report } };
+    ghost view = { λ s. record {
+      script = s.script;
+      input = s.input;
+      output = s.output;
+      other =
+          s.other;
+      report = s.report;
+    } };
 }
 
 /// The word that names a place, or an empty name where none does.

@@ -164,7 +164,13 @@ impl<'a, R: Files> Model for FileSink<'a, R> {
 
     ghost Value = { FileOutput };
 
-    ghost view = { λ s. record { path = s.path.now; script = s.script.now; input = s.input.now; faults = s.faults } };
+    ghost view = { λ s. record {
+      path = s.path.now;
+      script = s.script.now;
+      input = s.input.now;
+      faults =
+          s.faults;
+    } };
 }
 
 impl<'a, R: Files> FileSink<'a, R> {

@@ -1,5 +1,7 @@
 -- Delays of a sparse filter, and the sums that its taps add to.
-use Rattle.std.proofs.Common.{◌≡◌, ◌∙◌, ap, sym, subst, refl, ℕ, zero, suc, ◌+◌, ◌-◌, ◌*◌, ◌<◌, ◌≤◌, ℤ, pos, ◌+ℤ◌, List, [], ◌∷◌, ◌++◌, length, map, get_or, slice_range, None, Some, true, false, drop, length-take-le, length-drop, arith, ⊎_elim}
+use Rattle.std.proofs.Common.{◌≡◌, ◌∙◌, ap, sym, subst, refl, ℕ, zero, suc, ◌+◌, ◌-◌, ◌*◌, ◌<◌, ◌≤◌, ℤ, pos, ◌+ℤ◌}
+use Rattle.std.proofs.Common.{List, [], ◌∷◌, ◌++◌, length, map, get_or, slice_range, None, Some, true, false, drop}
+use Rattle.std.proofs.Common.{length-take-le, length-drop, arith, ⊎_elim}
 use Rattle.std.specs.Prelude.{◌≤ℤ◌, All, fold, max, find, nat_abs, nat_lt, cond, Option, MatchOption, Result, Ok, Err}
 use Rattle.std.specs.Option.{option_map}
 use Rattle.std.specs.Simd.Lanes.{zip2}
@@ -28,7 +30,7 @@ use Rattle.dsp_fir.specs.ByChannel.{IsWindowIn}
 use Rattle.dsp_defs.specs.declared.script.Block.TheVariants.{Sparse}
 use Rattle.dsp_defs.specs.declared.fault.MakeFault.{MakeFault}
 use Rattle.dsp_defs.specs.declared.fault.MakeFault.TheVariants.{Range}
-use Rattle.dsp_unit.proofs.Slices.{sample-piece}
+use Rattle.dsp_filter.proofs.Slices.{sample-piece}
 use Rattle.dsp_defs.specs.declared.format.Fmt.{Fmt}
 use Rattle.dsp_defs.specs.declared.format.Fmt.TheVariants.{Q7, Q15, Q31}
 
@@ -58,7 +60,8 @@ greatest-named delays = ap greatest_delay (delays-named delays)
 pub delays-some : (delays : List ℕ) → All (λ d. pos 0 ≤ℤ d) (map pos delays)
 delays-some delays = All-map (λ d. pos 0 ≤ℤ d) pos delays (λ k e h. omega (arith, ints))
 
-none-over : (delays : List ℕ) → find (λ d. nat_lt MAX_DELAY d) delays ≡ None → All (λ d. d ≤ℤ pos MAX_DELAY) (map pos delays)
+none-over : (delays : List ℕ) → find (λ d. nat_lt MAX_DELAY d) delays ≡ None →
+    All (λ d. d ≤ℤ pos MAX_DELAY) (map pos delays)
 none-over [] none = All-nil (λ d. d ≤ℤ pos MAX_DELAY)
 none-over (d ∷ delays) none =
     ⊎_elim
@@ -73,21 +76,27 @@ none-over (d ∷ delays) none =
     some_is_some e = cc e
 
 pub delays-fit :
-    (delays : List ℕ) (u : Unit {0}) → MatchOption (delays_fault delays) (◌≡◌ {A = Result (Unit {0}) MakeFault} (Ok u) (Ok tt)) (λ e. ◌≡◌ {A = Result (Unit {0}) MakeFault} (Ok u) (Err e)) →
+    (delays : List ℕ) (u : Unit {0}) → MatchOption (delays_fault delays)
+    (◌≡◌ {A = Result (Unit {0}) MakeFault} (Ok u) (Ok tt))
+    (λ e. ◌≡◌ {A = Result (Unit {0}) MakeFault} (Ok u) (Err e)) →
     All (λ d. d ≤ℤ pos MAX_DELAY) (map pos delays)
 delays-fit delays u answer = none-over delays (none (find (λ d. nat_lt MAX_DELAY d) delays) answer)
   where
-    none : (found : Option ℕ) → MatchOption (option_map (λ d. Range (pos d)) found) (◌≡◌ {A = Result (Unit {0}) MakeFault} (Ok u) (Ok tt)) (λ e. ◌≡◌ {A = Result (Unit {0}) MakeFault} (Ok u) (Err e)) → found ≡ None
+    none : (found : Option ℕ) → MatchOption (option_map (λ d. Range (pos d)) found)
+        (◌≡◌ {A = Result (Unit {0}) MakeFault} (Ok u) (Ok tt))
+        (λ e. ◌≡◌ {A = Result (Unit {0}) MakeFault} (Ok u) (Err e)) → found ≡ None
     none None answer = refl
     none (Some d) answer = absurd (cc answer)
 
 -- ---- the sums
 
 pub taps-more :
-    {X : Type 0} → (number : X → ℤ) (format : Fmt) (taps : List ℤ) (delays : List ℕ) (past : ℕ) (window : List X) (sums new : List ℤ) (n k m d : ℕ) (t : ℤ) →
+    {X : Type 0} → (number : X → ℤ) (format : Fmt) (taps : List ℤ) (delays : List ℕ) (past : ℕ) (window : List X)
+    (sums new : List ℤ) (n k m d : ℕ) (t : ℤ) →
     m ≡ k + 1 → t ≡ sample taps k → d ≡ get_or delays k 0 → d ≤ past → length window ≡ past + n →
     sums ≡ values n (λ i. wrap w32 (delayed_sum format taps delays past (map number window) k i)) →
-    new ≡ zip2 (λ s x. wrap w32 (s +ℤ sparse_term format t x)) sums (map number (slice_range window (past - d) (past - d + n))) →
+    new ≡ zip2 (λ s x. wrap w32 (s +ℤ sparse_term format t x)) sums
+    (map number (slice_range window (past - d) (past - d + n))) →
     new ≡ values n (λ i. wrap w32 (delayed_sum format taps delays past (map number window) m i))
 taps-more number format taps delays past window sums new n k m d t next is_tap is_delay within long summed added =
     fill_by_all (λ i. wrap w32 (delayed_sum format taps delays past (map number window) m i)) new n (pos 0) size each
@@ -99,7 +108,9 @@ taps-more number format taps delays past window sums new n k m d t next is_tap i
     piece = map number (slice_range window (past - d) (past - d + n))
 
     piece_long : length piece ≡ n
-    piece_long = length-map (slice_range window (past - d) (past - d + n)) number ∙ length-take-le (past - d + n - (past - d)) (drop (past - d) window) (omega (arith, length-drop (past - d) window)) ∙ omega arith
+    piece_long = length-map (slice_range window (past - d) (past - d + n)) number ∙
+        length-take-le (past - d + n - (past - d)) (drop (past - d) window)
+        (omega (arith, length-drop (past - d) window)) ∙ omega arith
 
     sums_long : length sums ≡ n
     sums_long = ap length summed ∙ length-map-range_with_len _ 0 n
@@ -111,13 +122,18 @@ taps-more number format taps delays past window sums new n k m d t next is_tap i
     each i h =
         let s = delayed_sum format taps delays past (map number window) k i in
         let place : past - d + i ≡ i + (past - get_or delays k 0) = omega (arith, is_delay) in
-        let x : sample piece i ≡ sample (map number window) (i + (past - get_or delays k 0)) = sample-piece number window (past - d) n i h ∙ ap (sample (map number window)) place in
-        let sum : sample sums i ≡ wrap w32 s = ap (λ l. sample l i) summed ∙ get_or-map-range_with_len (λ i. wrap w32 (delayed_sum format taps delays past (map number window) k i)) 0 n i i (pos 0) h (omega arith) in
+        let x : sample piece i ≡ sample (map number window) (i + (past - get_or delays k 0)) =
+        sample-piece number window (past - d) n i h ∙ ap (sample (map number window)) place in
+        let sum : sample sums i ≡ wrap w32 s = ap (λ l. sample l i) summed ∙
+        get_or-map-range_with_len (λ i. wrap w32 (delayed_sum format taps delays past (map number window) k i)) 0 n
+        i i (pos 0) h (omega arith) in
         let step : m ≡ suc k = omega arith in
         ap (λ l. sample l i) added
-        ∙ get_or-zip2 f sums piece i (pos 0) (pos 0) (pos 0) (omega (arith, h, sums_long)) (omega (arith, h, piece_long))
+        ∙ get_or-zip2 f sums piece i (pos 0) (pos 0) (pos 0) (omega (arith, h, sums_long))
+        (omega (arith, h, piece_long))
         ∙ (λ j. wrap w32 (sum j +ℤ sparse_term format (is_tap j) (x j)))
-        ∙ int_wrap-add_left w32 s (sparse_term format (sample taps k) (sample (map number window) (i + (past - get_or delays k 0))))
+        ∙ int_wrap-add_left w32 s (sparse_term format (sample taps k)
+        (sample (map number window) (i + (past - get_or delays k 0))))
         ∙ ap (λ c. wrap w32 (delayed_sum format taps delays past (map number window) c i)) (sym step)
 
 -- closing takes the wrap away
@@ -128,19 +144,22 @@ sparse_close-wrap Q31 sum = int_wrap-mul_right w32 (pos 2) sum
 
 -- closed sums are the rows
 pub sums-close :
-    (format : Fmt) (taps : List ℤ) (delays : List ℕ) (past : ℕ) (window sums out : List ℤ) (n count : ℕ) → count ≡ length taps →
+    (format : Fmt) (taps : List ℤ) (delays : List ℕ) (past : ℕ) (window sums out : List ℤ) (n count : ℕ) →
+    count ≡ length taps →
     sums ≡ values n (λ i. wrap w32 (delayed_sum format taps delays past window count i)) →
     out ≡ values n (λ i. sparse_close format (sample sums i)) → out ≡ sparse_rows format taps delays past window n
 sums-close format taps delays past window sums out n count all summed closed =
     closed
     ∙ values_cong n _ _
     (λ i h. ap (sparse_close format)
-    (ap (λ l. sample l i) summed ∙ get_or-map-range_with_len (λ i. wrap w32 (delayed_sum format taps delays past window count i)) 0 n i i (pos 0) h (omega arith))
+    (ap (λ l. sample l i) summed ∙ get_or-map-range_with_len
+    (λ i. wrap w32 (delayed_sum format taps delays past window count i)) 0 n i i (pos 0) h (omega arith))
     ∙ sparse_close-wrap format (delayed_sum format taps delays past window count i)
     ∙ ap (λ c. sparse_close format (delayed_sum format taps delays past window c i)) all)
 
 -- one tap more is counted
-pub tap-counted : (a b c : Counts) (k m n t p q : ℕ) → m ≡ k + 1 → p ≡ n → q ≡ t → RisesWithin a b (k * n) (k * t) → RisesWithin b c p q → RisesWithin a c (m * n) (m * t)
+pub tap-counted : (a b c : Counts) (k m n t p q : ℕ) → m ≡ k + 1 → p ≡ n → q ≡ t → RisesWithin a b (k * n) (k * t) →
+    RisesWithin b c p q → RisesWithin a c (m * n) (m * t)
 tap-counted a b c k m n t p q next same same' first second =
     let products : m * n ≡ k * n + n = ap (λ j. j * n) next ∙ omega arith in
     let turns : m * t ≡ k * t + t = ap (λ j. j * t) next ∙ omega arith in
@@ -153,8 +172,10 @@ tap-counted a b c k m n t p q next same same' first second =
 
 -- the rows of the window go on where the filter's values for x end
 pub sparse-values :
-    (format : Fmt) (taps : List ℤ) (delays : List ℕ) (past : ℕ) (x block window out : List ℤ) (count : ℕ) → ((k : ℕ) → k < length taps → get_or delays k 0 ≤ past) →
-    window ≡ last_of past x ++ block → count ≡ length block → out ≡ sparse_rows format taps delays past window count → Continues (sparse format taps delays) x block out
+    (format : Fmt) (taps : List ℤ) (delays : List ℕ) (past : ℕ) (x block window out : List ℤ) (count : ℕ) →
+    ((k : ℕ) → k < length taps → get_or delays k 0 ≤ past) →
+    window ≡ last_of past x ++ block → count ≡ length block → out ≡ sparse_rows format taps delays past window count →
+    Continues (sparse format taps delays) x block out
 sparse-values format taps delays past x block window out count within shows same is =
     rw (length-append x block)
     (values-add (length x) (length block) output)
@@ -166,28 +187,39 @@ sparse-values format taps delays past x block window out count within shows same
     ∙ sym is)
   where
     output : ℕ → ℤ
-    output n = sparse_close format (sum_below (length taps) (λ k. sparse_term format (sample taps k) (delayed (x ++ block) n (get_or delays k 0))))
+    output n = sparse_close format (sum_below (length taps)
+        (λ k. sparse_term format (sample taps k) (delayed (x ++ block) n (get_or delays k 0))))
 
-    before : (n : ℕ) → n < length x → output n ≡ sparse_close format (sum_below (length taps) (λ k. sparse_term format (sample taps k) (delayed x n (get_or delays k 0))))
-    before n h = ap (sparse_close format) (sum_below_cong (length taps) _ _ (λ k _. ap (sparse_term format (sample taps k)) (delayed-append x block n (get_or delays k 0) h)))
+    before : (n : ℕ) → n < length x → output n ≡ sparse_close format
+        (sum_below (length taps) (λ k. sparse_term format (sample taps k) (delayed x n (get_or delays k 0))))
+    before n h = ap (sparse_close format) (sum_below_cong (length taps) _ _
+        (λ k _. ap (sparse_term format (sample taps k)) (delayed-append x block n (get_or delays k 0) h)))
 
-    after : (i : ℕ) → i < length block → output (length x + i) ≡ sparse_close format (delayed_sum format taps delays past (last_of past x ++ block) (length taps) i)
+    after : (i : ℕ) → i < length block → output (length x + i) ≡ sparse_close format
+        (delayed_sum format taps delays past (last_of past x ++ block) (length taps) i)
     after i _ = ap (sparse_close format)
         (sum_below_cong (length taps) _ _
         (λ k h. let near = within k h in
-        ap (sparse_term format (sample taps k)) (sym (window_at x block past i (past - get_or delays k 0) (get_or delays k 0) (omega (arith, near))))))
+        ap (sparse_term format (sample taps k)) (sym (window_at x block past i (past - get_or delays k 0)
+        (get_or delays k 0) (omega (arith, near))))))
 
 -- the same of delays as a block names them
-pub within-past : (past : ℕ) (delays : List ℕ) (k e : ℕ) → past ≡ greatest (map pos delays) → k < length delays → get_or delays k e ≤ past
+pub within-past : (past : ℕ) (delays : List ℕ) (k e : ℕ) → past ≡ greatest (map pos delays) → k < length delays →
+    get_or delays k e ≤ past
 within-past past delays k e depth h =
     let near = delays-within delays k e h in
     let named = greatest-named delays in
     omega (arith, near, named, depth)
 
 pub named-values :
-    (format : Fmt) (taps : List ℤ) (delays : List ℕ) (past : ℕ) (x block window out : List ℤ) (count : ℕ) → IsWindowIn format (Sparse taps (map pos delays)) → past ≡ greatest (map pos delays) →
-    window ≡ last_of (greatest (map pos delays)) x ++ block → length block ≡ count → out ≡ sparse_rows format taps delays past window count → Continues (sparse format taps (map nat_abs (map pos delays))) x block out
+    (format : Fmt) (taps : List ℤ) (delays : List ℕ) (past : ℕ) (x block window out : List ℤ) (count : ℕ) →
+    IsWindowIn format (Sparse taps (map pos delays)) → past ≡ greatest (map pos delays) →
+    window ≡ last_of (greatest (map pos delays)) x ++ block → length block ≡ count →
+    out ≡ sparse_rows format taps delays past window count →
+    Continues (sparse format taps (map nat_abs (map pos delays))) x block out
 named-values format taps delays past x block window out count is depth shows size is_rows =
     let as_many : length delays ≡ length taps = sym (length-map delays pos) ∙ is.1 in
     subst (λ ds. Continues (sparse format taps ds) x block out) (sym (delays-named delays))
-    (sparse-values format taps delays past x block window out count (λ k h. within-past past delays k 0 depth (omega (arith, h, as_many))) (shows ∙ ap (λ n. last_of n x ++ block) (sym depth)) (sym size) is_rows)
+    (sparse-values format taps delays past x block window out count
+    (λ k h. within-past past delays k 0 depth (omega (arith, h, as_many)))
+    (shows ∙ ap (λ n. last_of n x ++ block) (sym depth)) (sym size) is_rows)

@@ -1,14 +1,15 @@
 -- The blocks whose filters are FIR and sparse filters.
-use Rattle.std.specs.Prelude.{ℕ, suc, ◌-◌, ◌*◌, ◌≡◌, ◌≤◌, max, ℤ, pos, ◌≤ℤ◌, nat_abs, List, [], ◌∷◌, length, map, fold, All, refl}
+use Rattle.std.specs.Prelude.{ℕ, suc, ◌-◌, ◌*◌, ◌≡◌, ◌≤◌, max, ℤ, pos, ◌≤ℤ◌, nat_abs, List, [], ◌∷◌, length, map}
+use Rattle.std.specs.Prelude.{fold, All, refl}
 use Rattle.std.proofs.Common.{arith}
 use Rattle.std.proofs.lemmas.Int.{ints}
 use Rattle.std.proofs.Math.Nat.{max-le}
 use Rattle.dsp_defs.specs.Kept.{greatest}
 use Rattle.dsp_defs.specs.declared.limits.TheConstants.{MAX_DELAY}
-use Rattle.dsp_unit.specs.Making.{AreTaps}
+use Rattle.dsp_filter.specs.Making.{AreTaps}
 use Rattle.dsp_defs.specs.Cost.{lane_turns}
 use Rattle.dsp_defs.proofs.KeptLaws.{kept_of_channel-place}
-use Rattle.dsp_unit.proofs.Units.{scaled}
+use Rattle.dsp_filter.proofs.Units.{scaled}
 use Rattle.dsp_fir.specs.WindowState.{IsWindowBlock}
 use Rattle.dsp_defs.specs.declared.format.Fmt.{Fmt}
 use Rattle.dsp_defs.specs.declared.script.Block.{Block}
@@ -18,19 +19,23 @@ use Rattle.dsp_defs.specs.declared.script.Block.TheVariants.{Fir, Sparse}
 abbrev pub IsWindowIn : Fmt → Block → Type 0
 IsWindowIn format (Fir taps) = AreTaps format taps
 IsWindowIn format (Sparse taps delays) =
-    (2 ≤ length taps) × (length delays ≡ length taps) × AreTaps format taps × All (λ d. pos 0 ≤ℤ d) delays × All (λ d. d ≤ℤ pos MAX_DELAY) delays
+    (2 ≤ length taps) × (length delays ≡ length taps) × AreTaps format taps × All (λ d. pos 0 ≤ℤ d) delays ×
+    All (λ d. d ≤ℤ pos MAX_DELAY) delays
 IsWindowIn format block = ⊥
 
 -- such delays are within the greatest one
-fold-few : (bound most : ℕ) (delays : List ℤ) → most ≤ bound → All (λ d. pos 0 ≤ℤ d) delays → All (λ d. d ≤ℤ pos bound) delays → fold max most (map nat_abs delays) ≤ bound
+fold-few : (bound most : ℕ) (delays : List ℤ) → most ≤ bound → All (λ d. pos 0 ≤ℤ d) delays →
+    All (λ d. d ≤ℤ pos bound) delays → fold max most (map nat_abs delays) ≤ bound
 fold-few bound most [] h low high = h
 fold-few bound most (d ∷ delays) h low high =
     let some : pos 0 ≤ℤ d = low 0 (pos 0) (omega arith) in
     let little : d ≤ℤ pos bound = high 0 (pos 0) (omega arith) in
     let first : nat_abs d ≤ bound = omega (arith, ints, some, little) in
-    fold-few bound (max most (nat_abs d)) delays (max-le h first) (λ k e g. low (suc k) e (omega (arith, g))) (λ k e g. high (suc k) e (omega (arith, g)))
+    fold-few bound (max most (nat_abs d)) delays (max-le h first) (λ k e g. low (suc k) e (omega (arith, g)))
+    (λ k e g. high (suc k) e (omega (arith, g)))
 
-greatest-few : (delays : List ℤ) → All (λ d. pos 0 ≤ℤ d) delays → All (λ d. d ≤ℤ pos MAX_DELAY) delays → greatest delays ≤ MAX_DELAY
+greatest-few : (delays : List ℤ) → All (λ d. pos 0 ≤ℤ d) delays → All (λ d. d ≤ℤ pos MAX_DELAY) delays →
+    greatest delays ≤ MAX_DELAY
 greatest-few delays low high = fold-few MAX_DELAY 0 delays (omega arith) low high
 
 once : (a b : ℕ) → 1 * a * b ≡ a * b
@@ -67,7 +72,8 @@ fir-windowed format taps is = record {
   no_group = tt;
 }
 
-sparse-windowed : (format : Fmt) (taps delays : List ℤ) → IsWindowIn format (Sparse taps delays) → IsWindowBlock format (Sparse taps delays)
+sparse-windowed : (format : Fmt) (taps delays : List ℤ) → IsWindowIn format (Sparse taps delays) →
+    IsWindowBlock format (Sparse taps delays)
 sparse-windowed format taps delays is = record {
   samples = record {
     by_channel = record {

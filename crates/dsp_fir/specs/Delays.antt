@@ -1,9 +1,10 @@
 -- The delays of a sparse filter, its faults, and what it gives.
-use Rattle.std.specs.Prelude.{ℕ, ◌-◌, ◌+◌, ℤ, pos, List, length, fold, max, find, get_or, Option, Some, nat_le, nat_lt, nat_eq, ◌&&◌, if◌then◌else◌}
+use Rattle.std.specs.Prelude.{ℕ, ◌-◌, ◌+◌, ℤ, pos, List, length, fold, max, find, get_or, Option, Some, nat_le}
+use Rattle.std.specs.Prelude.{nat_lt, nat_eq, ◌&&◌, if◌then◌else◌}
 use Rattle.std.specs.Option.{option_map, option_or}
 use Rattle.dsp_defs.specs.Signal.{sample, values, sum_below}
 use Rattle.dsp_defs.specs.Sums.{sparse_term, sparse_close}
-use Rattle.dsp_unit.specs.Making.{block_fault}
+use Rattle.dsp_filter.specs.Making.{block_fault}
 use Rattle.dsp_defs.specs.declared.format.Fmt.{Fmt}
 use Rattle.dsp_defs.specs.declared.limits.TheConstants.{MAX_DELAY, MAX_TAPS}
 use Rattle.dsp_defs.specs.declared.fault.MakeFault.{MakeFault}
@@ -23,7 +24,8 @@ delays_fault delays = option_map (λ d. Range (pos d)) (find (λ d. nat_lt MAX_D
 abbrev pub sparse_fault : ℕ → List ℕ → ℕ → Option MakeFault
 sparse_fault taps delays block =
     if nat_le 2 taps && nat_le taps MAX_TAPS
-    then (if nat_eq (length delays) taps then option_or (delays_fault delays) (block_fault block) else Some (Length (length delays) taps))
+    then (if nat_eq (length delays) taps then option_or (delays_fault delays) (block_fault block) else
+    Some (Length (length delays) taps))
     else Some (Length taps 2)
 
 -- ---- values
@@ -35,4 +37,5 @@ delayed_sum format taps delays past window count i =
 
 -- the outputs over a window of the past and the block
 abbrev pub sparse_rows : Fmt → List ℤ → List ℕ → ℕ → List ℤ → ℕ → List ℤ
-sparse_rows format taps delays past window n = values n (λ i. sparse_close format (delayed_sum format taps delays past window (length taps) i))
+sparse_rows format taps delays past window n = values n
+    (λ i. sparse_close format (delayed_sum format taps delays past window (length taps) i))

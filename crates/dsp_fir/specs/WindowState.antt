@@ -1,12 +1,13 @@
 -- What a contract sees of a filter over a window, FIR or sparse.
-use Rattle.std.specs.Prelude.{ℕ, ◌-◌, ◌*◌, ◌<◌, ◌≤◌, ◌≡◌, ℤ, pos, Bool, false, List, length, map, replicate, Option, None, Some, IfSome}
+use Rattle.std.specs.Prelude.{ℕ, ◌-◌, ◌*◌, ◌<◌, ◌≤◌, ◌≡◌, ℤ, pos, Bool, false, List, length, map, replicate, Option}
+use Rattle.std.specs.Prelude.{None, Some, IfSome}
 use Rattle.dsp_defs.specs.Cost.{block_turns, lane_turns}
 use Rattle.dsp_defs.specs.Shape.{group_of}
 use Rattle.dsp_defs.specs.Streaming.{last_of}
 use Rattle.dsp_defs.specs.declared.limits.TheConstants.{MAX_DELAY}
-use Rattle.dsp_stage.specs.Filter.{FilterState, steady_filter}
+use Rattle.dsp_unit.specs.Filter.{FilterState, steady_filter}
 use Rattle.dsp_defs.specs.Kept.{greatest, kept_of_channel}
-use Rattle.dsp_stage.proofs.SampleFilters.{IsSampleBlock}
+use Rattle.dsp_unit.proofs.SampleFilters.{IsSampleBlock}
 use Rattle.dsp_defs.specs.declared.format.Fmt.{Fmt}
 use Rattle.dsp_defs.specs.declared.script.Block.{Block}
 use Rattle.dsp_defs.specs.declared.script.Block.TheVariants.{Fir, Sparse}
@@ -30,7 +31,13 @@ pub record WindowState : Type 0 where
 
 -- a filter that has taken nothing, and reads so many samples of the past
 abbrev pub new_filter : Block → ℕ → ℕ → WindowState
-new_filter block past capacity = record { block = block; past = replicate past (pos 0); capacity = capacity; ended = false }
+new_filter block past capacity = record {
+  block = block;
+  past = replicate past (pos 0);
+  capacity = capacity;
+  ended =
+      false;
+}
 
 -- the filter has taken the signal x: it keeps the last numbers of it that its block reads, with zeros before
 abbrev pub StandsFor : Fmt → WindowState → List ℤ → Type 0

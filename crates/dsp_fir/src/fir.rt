@@ -1,7 +1,7 @@
 use crate::WindowFilter;
 use dsp_defs::MakeFault;
+use dsp_filter::{all_fit, check_block, check_taps};
 use dsp_lanes::LaneSample;
-use dsp_unit::{all_fit, check_block, check_taps};
 use std::alloc::Global;
 
 /// Says that each tap of a filter reads the sample next to that of the one before.
@@ -14,7 +14,7 @@ pub type Fir<T, const L: usize> = WindowFilter<T, L, Dense>;
 
 impl<T: LaneSample<L>, const L: usize> WindowFilter<T, L, Dense> {
     ghost use Rattle.std.specs.Prelude.{◌≡◌, ◌-◌, [], length, map, IfOk, IfErr, MatchOption};
-    ghost use Rattle.dsp_unit.specs.Making.{filter_fault};
+    ghost use Rattle.dsp_filter.specs.Making.{filter_fault};
     ghost use Rattle.dsp_defs.specs.declared.script.Block.TheVariants.{Fir};
     ghost use Rattle.dsp_fir.specs.WindowState.{StandsFor, new_filter};
 

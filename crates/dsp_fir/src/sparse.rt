@@ -2,8 +2,8 @@ use crate::WindowFilter;
 use crate::making::check_delays;
 use crate::window_rows::Delays;
 use dsp_defs::{MAX_TAPS, MakeFault};
+use dsp_filter::{all_fit, check_block};
 use dsp_lanes::LaneSample;
-use dsp_unit::{all_fit, check_block};
 use std::alloc::Global;
 
 /// Says that each tap of a filter has a delay of its own.

@@ -1,8 +1,8 @@
 use crate::making::delays_of;
 use crate::window_rows::{Delays, past_of, window_rows};
 use dsp_defs::{Block, MAX_SAMPLES, Steps};
+use dsp_filter::{Filter, samples_of};
 use dsp_lanes::{FormatLanes, LaneSample};
-use dsp_unit::{Filter, samples_of};
 use dsp_window::Window;
 use std::alloc::{AllocError, Global};
 use std::marker::{Model, PhantomData};
@@ -43,13 +43,15 @@ impl<T: LaneSample<L>, const L: usize, K: Copy> Model for WindowFilter<T, L, K> 
 }
 
 impl<T: LaneSample<L>, const L: usize, K: Copy> WindowFilter<T, L, K> {
-    ghost use Rattle.std.specs.Prelude.{◌≡◌, ◌≤◌, ◌+◌, ◌*◌, ◌++◌, List, [], ℤ, true, length, map, take, drop, IfOk, IfSome, IsFalse, IsTrue, ◌↔◌, All, FitsSigned};
+    ghost use Rattle.std.specs.Prelude.{◌≡◌, ◌≤◌, ◌+◌, ◌*◌, ◌++◌, List, [], ℤ, true, length, map, take, drop};
+    ghost use Rattle.std.specs.Prelude.{IfOk, IfSome, IsFalse, IsTrue, ◌↔◌, All, FitsSigned};
     ghost use Rattle.dsp_defs.specs.Formats.{word};
     ghost use Rattle.dsp_defs.specs.Streaming.{Continues};
     ghost use Rattle.dsp_lanes.specs.Turns.{lane_turns};
-    ghost use Rattle.dsp_stage.specs.Filter.{IsNewFilter, of_channel};
+    ghost use Rattle.dsp_unit.specs.Filter.{IsNewFilter, of_channel};
     ghost use Rattle.dsp_fir.specs.ByChannel.{IsWindowIn};
-    ghost use Rattle.dsp_fir.specs.WindowState.{StandsFor, block_of, channel_state, new_filter, past_count, tap_count};
+    ghost use Rattle.dsp_fir.specs.WindowState.{StandsFor, block_of, channel_state, new_filter, past_count};
+    ghost use Rattle.dsp_fir.specs.WindowState.{tap_count};
 
     /// A filter that has taken nothing, of taps, and of their delays if it has any. All its memory is
     /// taken here.

@@ -1,7 +1,7 @@
 ghost use Rattle.std.specs.Prelude.{◌≡◌, ◌≤◌, ◌+◌, ◌*◌, ◌++◌, ℤ, List, length, map, IfOk, IfSome};
 ghost use Rattle.dsp_defs.specs.Streaming.{Continues};
 ghost use Rattle.dsp_lanes.specs.Turns.{RisesWithin, lane_turns};
-ghost use Rattle.dsp_stage.specs.Filter.{of_channel};
+ghost use Rattle.dsp_unit.specs.Filter.{of_channel};
 ghost use Rattle.dsp_defs.specs.Kept.{kept_of_channel};
 ghost use Rattle.dsp_fir.specs.ByChannel.{IsWindowIn};
 ghost use Rattle.dsp_fir.specs.WindowState.{block_of, past_count, tap_count};

@@ -1,7 +1,9 @@
 -- Blocks that give a frame for each frame alone.
 use Rattle.std.specs.Prelude.{ℕ}
 use Rattle.dsp_defs.specs.declared.script.Block.{Block}
-use Rattle.dsp_defs.specs.declared.script.Block.TheVariants.{Offset, Negate, Abs, Scale, Shift, Clip, To, Add, Sub, Mult, Conj, CmplxMult, CmplxMultReal, MagSquared, Power, Dot, CmplxDot, Max, Min, Route}
+use Rattle.dsp_defs.specs.declared.script.Block.TheVariants.{Offset, Negate, Abs, Scale, Shift, Clip, To, Add, Sub}
+use Rattle.dsp_defs.specs.declared.script.Block.TheVariants.{Mult, Conj, CmplxMult, CmplxMultReal, MagSquared, Power}
+use Rattle.dsp_defs.specs.declared.script.Block.TheVariants.{Dot, CmplxDot, Max, Min, Route}
 
 -- the block is one of these; a measure passes its frames on
 abbrev pub IsFramewise : Block → Type 0

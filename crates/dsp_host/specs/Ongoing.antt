@@ -1,4 +1,5 @@
--- A signal that a host holds from call to call: what a call adds to it, the numbers that it leaves, and why a call does nothing.
+-- A signal that a host holds from call to call: what a call adds to it, the numbers that it leaves, and why a call
+-- does nothing.
 use Rattle.std.specs.Prelude.{◌≡◌, ℕ, ◌+◌, ◌<◌, ◌≤◌, ℤ, List, ◌++◌, length}
 use Rattle.dsp_defs.specs.Block.{Frame}
 use Rattle.dsp_defs.specs.KeptOfScript.{kept, kept_count}
@@ -17,14 +18,16 @@ pub record IsOngoing (s : SessionState) : Type 0 where
   pub runs : Runs s
   pub few : s.chain.frames ≤ MAX_INPUT
 
--- the frames of the bytes were taken: what they add to the output of each signal that it stood for is what was given, and it stands for that signal
+-- the frames of the bytes were taken: what they add to the output of each signal that it stood for is what was given,
+-- and it stands for that signal
 -- with them
 pub record Pushed (old new : SessionState) (bytes : List ℕ) (space : ℕ) (given : List ℕ) : Type 0 where
   pub accepts : Accepts old.script old.coding old.block old.chain.frames bytes space
   pub not_full : gathered old.script.blocks (old.chain.frames + frames_of old.script old.coding bytes) ≤ MAX_GATHERED
   pub same : SameSession old new
   pub counted : new.chain.frames ≡ old.chain.frames + frames_of old.script old.coding bytes
-  pub gives : (x : List Frame) → StandsFor old x → live_bytes old.script (x ++ signal old.script old.coding bytes) ≡ live_bytes old.script x ++ given
+  pub gives : (x : List Frame) → StandsFor old x → live_bytes old.script (x ++ signal old.script old.coding bytes) ≡
+      live_bytes old.script x ++ given
   pub stands : (x : List Frame) → StandsFor old x → StandsFor new (x ++ signal old.script old.coding bytes)
 
 -- why they are not taken
@@ -47,6 +50,8 @@ FailsToSave why s space = ⊥
 -- a signal that is held goes on as its text does from the numbers that were left
 abbrev pub HeldIsText : Type 0
 HeldIsText =
-    (text : List ℕ) (block frames : ℕ) (numbers : List ℤ) (old new : SessionState) (bytes : List ℕ) (space kept_room : ℕ) (given : List ℕ) (after : List ℤ)
-    → IsReopened text block frames numbers old → Pushed old new bytes space given → IsKeptOf new after → length after ≤ kept_room
+    (text : List ℕ) (block frames : ℕ) (numbers : List ℤ) (old new : SessionState) (bytes : List ℕ)
+    (space kept_room : ℕ) (given : List ℕ) (after : List ℤ)
+    → IsReopened text block frames numbers old → Pushed old new bytes space given → IsKeptOf new after →
+    length after ≤ kept_room
     → GoesOn text block frames numbers bytes space kept_room given after

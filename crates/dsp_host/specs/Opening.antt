@@ -14,7 +14,8 @@ abbrev pub asked : ℕ → Script → ℕ
 asked zero script = unwrap_or script.block (default_block script.input.channels script.blocks)
 asked (suc n) script = suc n
 
--- the text reads as a script, and the session is a new one of it, in blocks of the length that is asked for, which is legal
+-- the text reads as a script, and the session is a new one of it, in blocks of the length that is asked for, which is
+-- legal
 pub record IsOpened (text : List ℕ) (block : ℕ) (s : SessionState) : Type 0 where
   pub script : Script
   pub reads : Reads text script

@@ -1,4 +1,5 @@
--- A signal in pieces: sessions that go on behind a piece by the numbers that it left, what a piece gives, and why it is refused.
+-- A signal in pieces: sessions that go on behind a piece by the numbers that it left, what a piece gives, and why it
+-- is refused.
 use Rattle.std.specs.Prelude.{◌≡◌, ◌⊎◌, ℕ, ◌+◌, ◌*◌, ◌<◌, ◌≤◌, ℤ, List, [], ◌++◌, length, drop, IsTrue}
 use Rattle.dsp_defs.specs.Block.{Frame}
 use Rattle.dsp_defs.specs.Bytes.{width}
@@ -9,7 +10,7 @@ use Rattle.dsp_defs.specs.Shape.{gathered, held, is_legal}
 use Rattle.dsp_defs.specs.declared.format.Coding.{Coding}
 use Rattle.dsp_defs.specs.declared.limits.TheConstants.{MAX_GATHERED, MAX_INPUT}
 use Rattle.dsp_defs.specs.declared.script.Script.{Script}
-use Rattle.dsp_stage.specs.Row.{place_behind, place_room}
+use Rattle.dsp_unit.specs.Line.{place_behind, place_room}
 use Rattle.dsp_chain.specs.Chain.{input_place}
 use Rattle.dsp_defs.specs.KeptOfScript.{Fits, kept, kept_count}
 use Rattle.dsp_session.specs.Advancing.{Runs}
@@ -55,7 +56,8 @@ pub record IsReopened (text : List ℕ) (block frames : ℕ) (numbers : List ℤ
   pub may : MayGoOn text block frames numbers script
   pub behind : GoesOnBehind script (asked block script) frames numbers s
 
--- the text reads as a script that runs in blocks of the length, and whose blocks cannot keep the numbers of so many frames
+-- the text reads as a script that runs in blocks of the length, and whose blocks cannot keep the numbers of so many
+-- frames
 pub record IsUnfit (text : List ℕ) (block frames : ℕ) (numbers : List ℤ) : Type 0 where
   pub script : Script
   pub reads : Reads text script
@@ -80,7 +82,8 @@ AreWhole script coding bytes = length bytes ≡ frames_of script coding bytes * 
 
 -- the bytes that a call gives at most
 abbrev pub piece_room : Script → ℕ → ℕ
-piece_room script block = place_room (place_behind (input_place script block) script.blocks) * width (output_coding script)
+piece_room script block = place_room (place_behind (input_place script block) script.blocks) * width
+    (output_coding script)
 
 -- what a call may be given behind so many frames, with so much room for what it gives
 pub record Accepts (script : Script) (coding : Coding) (block frames : ℕ) (bytes : List ℕ) (space : ℕ) : Type 0 where
@@ -97,11 +100,16 @@ pub record IsFull (script : Script) (before frames told more : ℕ) : Type 0 whe
 
 -- why a call is not accepted, with the number that it is about
 abbrev pub Refuses : Refusal → Script → Coding → ℕ → ℕ → List ℕ → ℕ → Type 0
-Refuses (refusal.Frames frame) script coding block frames bytes room = (frame ≡ frame_bytes script coding) × (AreWhole script coding bytes → ⊥)
-Refuses (refusal.Length most) script coding block frames bytes room = (most ≡ block) × (block < frames_of script coding bytes)
-Refuses (refusal.Input limit) script coding block frames bytes room = (limit ≡ MAX_INPUT) × (MAX_INPUT < frames + frames_of script coding bytes)
-Refuses (refusal.Room wanted) script coding block frames bytes room = (wanted ≡ piece_room script block) × (room < piece_room script block)
-Refuses (refusal.Gather told more) script coding block frames bytes room = IsFull script frames (frames + frames_of script coding bytes) told more
+Refuses (refusal.Frames frame) script coding block frames bytes room = (frame ≡ frame_bytes script coding) ×
+    (AreWhole script coding bytes → ⊥)
+Refuses (refusal.Length most) script coding block frames bytes room = (most ≡ block) ×
+    (block < frames_of script coding bytes)
+Refuses (refusal.Input limit) script coding block frames bytes room = (limit ≡ MAX_INPUT) ×
+    (MAX_INPUT < frames + frames_of script coding bytes)
+Refuses (refusal.Room wanted) script coding block frames bytes room = (wanted ≡ piece_room script block) ×
+    (room < piece_room script block)
+Refuses (refusal.Gather told more) script coding block frames bytes room =
+    IsFull script frames (frames + frames_of script coding bytes) told more
 Refuses why script coding block frames bytes room = ⊥
 
 -- the session took the frames of the bytes; what they add stands at the front of the output, whose rest is as it was
@@ -115,11 +123,13 @@ pub record Fed (old new : SessionState) (given : ℕ) (bytes out after : List �
 
 -- it is as it was, but that where a correlation was full it answers that from now on
 abbrev pub Stays : Refusal → SessionState → SessionState → Counts → Counts → Type 0
-Stays (refusal.Gather told more) old new before counts = Fails old new (record { held = told; more = more }) before counts
+Stays (refusal.Gather told more) old new before counts =
+    Fails old new (record { held = told; more = more }) before counts
 Stays why old new before counts = new ≡ old
 
 -- it took nothing, and nothing was written
-pub record NotFed (why : Refusal) (old new : SessionState) (bytes out after : List ℕ) (before counts : Counts) : Type 0 where
+pub record NotFed (why : Refusal) (old new : SessionState) (bytes out after : List ℕ) (before counts : Counts) : Type
+    0 where
   pub cause : Refuses why old.script old.coding old.block old.chain.frames bytes (length out)
   pub stays : Stays why old new before counts
   pub unwritten : after ≡ out
@@ -127,9 +137,11 @@ pub record NotFed (why : Refusal) (old new : SessionState) (bytes out after : Li
 
 -- ---- a piece from text to numbers
 
--- behind each signal of so many frames that left the numbers, the bytes of further frames add the bytes that were given to
+-- behind each signal of so many frames that left the numbers, the bytes of further frames add the bytes that were
+-- given to
 -- the output, and leave the numbers behind
-pub record GoesOn (text : List ℕ) (block frames : ℕ) (numbers : List ℤ) (bytes : List ℕ) (room kept_room : ℕ) (given : List ℕ) (after : List ℤ) : Type 0 where
+pub record GoesOn (text : List ℕ) (block frames : ℕ) (numbers : List ℤ) (bytes : List ℕ) (room kept_room : ℕ)
+    (given : List ℕ) (after : List ℤ) : Type 0 where
   pub script : Script
   pub may : MayGoOn text block frames numbers script
   pub accepts : Accepts script (input_coding script) (asked block script) frames bytes room
@@ -144,11 +156,14 @@ pub record GoesOn (text : List ℕ) (block frames : ℕ) (numbers : List ℤ) (b
 -- the piece itself is why
 abbrev pub RefusesPiece : Refusal → Script → ℕ → ℕ → List ℕ → ℕ → ℕ → Type 0
 RefusesPiece (refusal.KeptRoom wanted) script block frames bytes room kept_room =
-    let all = kept_count script (frames + frames_of script (input_coding script) bytes) in (wanted ≡ all) × (kept_room < all)
-RefusesPiece why script block frames bytes room kept_room = Refuses why script (input_coding script) block frames bytes room
+    let all = kept_count script (frames + frames_of script (input_coding script) bytes) in (wanted ≡ all) ×
+    (kept_room < all)
+RefusesPiece why script block frames bytes room kept_room =
+    Refuses why script (input_coding script) block frames bytes room
 
 -- a text that can go on, and a piece that is refused
-pub record IsRefused (why : Refusal) (text : List ℕ) (block frames : ℕ) (numbers : List ℤ) (bytes : List ℕ) (room kept_room : ℕ) : Type 0 where
+pub record IsRefused (why : Refusal) (text : List ℕ) (block frames : ℕ) (numbers : List ℤ) (bytes : List ℕ)
+    (room kept_room : ℕ) : Type 0 where
   pub script : Script
   pub may : MayGoOn text block frames numbers script
   pub cause : RefusesPiece why script (asked block script) frames bytes room kept_room
@@ -157,4 +172,5 @@ pub record IsRefused (why : Refusal) (text : List ℕ) (block frames : ℕ) (num
 abbrev pub FailsToGoOn : Refusal → List ℕ → ℕ → ℕ → List ℤ → List ℕ → ℕ → ℕ → Type 0
 FailsToGoOn (refusal.Open fault) text block frames numbers bytes room kept_room = FailsToOpen fault text block
 FailsToGoOn refusal.State text block frames numbers bytes room kept_room = IsUnfit text block frames numbers
-FailsToGoOn why text block frames numbers bytes room kept_room = IsRefused why text block frames numbers bytes room kept_room
+FailsToGoOn why text block frames numbers bytes room kept_room =
+    IsRefused why text block frames numbers bytes room kept_room

@@ -9,7 +9,8 @@ use Rattle.dsp_session.specs.SessionState.{SessionState}
 use Rattle.dsp_host.specs.declared.refusal.Refusal.{Refusal}
 use Rattle.dsp_host.specs.declared.refusal.Refusal.TheVariants as refusal
 
--- the whole tail stands at the front of the output, whose rest is as it was: for each signal that the session stood for it is what the whole output
+-- the whole tail stands at the front of the output, whose rest is as it was: for each signal that the session stood
+-- for it is what the whole output
 -- has behind the live one; and the session has the measures of the whole signal
 pub record Finished (old new : SessionState) (given : ℕ) (out after : List ℕ) : Type 0 where
   pub no_window : window_at old.script.blocks old.chain.frames ≡ None
@@ -24,12 +25,14 @@ pub record Finished (old new : SessionState) (given : ℕ) (out after : List ℕ
 -- a window ends past its convolution, or the output has less room than the tail
 abbrev pub FailsToFinish : Refusal → SessionState → ℕ → Type 0
 FailsToFinish (refusal.Window end full) s room = window_at s.script.blocks s.chain.frames ≡ Some (end, full)
-FailsToFinish (refusal.Room wanted) s room = (wanted ≡ tail_bytes s.script s.chain.frames) × (room < tail_bytes s.script s.chain.frames)
+FailsToFinish (refusal.Room wanted) s room = (wanted ≡ tail_bytes s.script s.chain.frames) ×
+    (room < tail_bytes s.script s.chain.frames)
 FailsToFinish why s room = ⊥
 
 -- then nothing was given, and nothing has changed
-pub record NotFinished (why : Refusal) (old new : SessionState) (out after : List ℕ) (before counts : Counts) : Type 0 where
-  pub cause : FailsToFinish why old (length out)
-  pub stays : new ≡ old
-  pub unwritten : after ≡ out
-  pub no_steps : counts ≡ before
+pub record NotFinished (why : Refusal) (old new : SessionState) (out after : List ℕ) (before counts : Counts) : Type 0
+  where
+    pub cause : FailsToFinish why old (length out)
+    pub stays : new ≡ old
+    pub unwritten : after ≡ out
+    pub no_steps : counts ≡ before

@@ -6,7 +6,7 @@ use crate::pieces::{feed_judged, judge, reopen, save};
 use crate::refusal::Refusal;
 use dsp_defs::{MAX_GATHERED, Steps};
 use dsp_session::Session;
-use dsp_stage::AnyUnit;
+use dsp_unit::AnyUnit;
 use std::alloc::Global;
 use std::marker::Model;
 use std::sync::ledger::Ledger;

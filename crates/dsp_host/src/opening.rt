@@ -6,7 +6,7 @@ use crate::refusal::OpenFault;
 use dsp_defs::Script;
 use dsp_script::{ParseFault, default_block, legal, parse, unit};
 use dsp_session::Session;
-use dsp_stage::AnyUnit;
+use dsp_unit::AnyUnit;
 use std::alloc::Global;
 
 /// The block length that is asked for: 0 is the script's own, or the default where it names none.

@@ -1,17 +1,19 @@
-ghost use Rattle.std.specs.Prelude.{◌≡◌, ◌+◌, ◌*◌, ◌^◌, ◌<◌, ◌≤◌, ◌↔◌, ◌++◌, ℕ, List, [], length, take, drop, IfOk, IfErr, IfSome, IfNone, IsFalse, IsTrue};
+ghost use Rattle.std.specs.Prelude.{◌≡◌, ◌+◌, ◌*◌, ◌^◌, ◌<◌, ◌≤◌, ◌↔◌, ◌++◌, ℕ, List, [], length, take, drop};
+ghost use Rattle.std.specs.Prelude.{IfOk, IfErr, IfSome, IfNone, IsFalse, IsTrue};
 ghost use Rattle.dsp_defs.specs.Block.{Frame};
 ghost use Rattle.dsp_defs.specs.declared.fault.GatherFull.{GatherFull};
 ghost use Rattle.dsp_defs.specs.KeptOfScript.{kept, kept_count};
 ghost use Rattle.dsp_input.specs.Taking.{frame_bytes};
 ghost use Rattle.dsp_session.specs.Advancing.{Runs};
 ghost use Rattle.dsp_session.specs.Session.{StandsFor, Feeds, Fails, SameSession, signal};
-ghost use Rattle.dsp_host.specs.Pieces.{Accepts, AreWhole, FailsToGoOn, FailsToReopen, Fed, GoesOn, IsFirst, IsFull, IsReopened, NotFed, Refuses, frames_of};
+ghost use Rattle.dsp_host.specs.Pieces.{Accepts, AreWhole, FailsToGoOn, FailsToReopen, Fed, GoesOn, IsFirst};
+ghost use Rattle.dsp_host.specs.Pieces.{IsFull, IsReopened, NotFed, Refuses, frames_of};
 
 use crate::opening::open;
 use crate::refusal::Refusal;
 use dsp_defs::{GatherFull, MAX_INPUT, Steps};
 use dsp_session::Session;
-use dsp_stage::AnyUnit;
+use dsp_unit::AnyUnit;
 use std::alloc::Global;
 use std::sync::ledger::Ledger;
 

@@ -5,7 +5,7 @@ ghost use Rattle.dsp_host.specs.Tail.{Finished, NotFinished};
 use crate::refusal::Refusal;
 use dsp_defs::{MAX_INPUT, Steps, WindowFault};
 use dsp_session::Session;
-use dsp_stage::AnyUnit;
+use dsp_unit::AnyUnit;
 use std::sync::ledger::Ledger;
 
 /// Ends the input of a session, writes the bytes of its whole tail to the front of the output, and answers

@@ -1,14 +1,17 @@
 -- A part of the samples is taken, piece by piece.
-use Rattle.std.proofs.Common.{◌≡◌, ◌⊎◌, ℕ, ◌+◌, ◌^◌, ◌<◌, ◌≤◌, List, [], ◌++◌, length, take, Option, Some, None, refl, sym, ◌∙◌, subst, arith, length-append}
+use Rattle.std.proofs.Common.{◌≡◌, ◌⊎◌, ℕ, ◌+◌, ◌^◌, ◌<◌, ◌≤◌, List, [], ◌++◌, length, take, Option, Some, None, refl}
+use Rattle.std.proofs.Common.{sym, ◌∙◌, subst, arith, length-append}
 use Rattle.std.proofs.lemmas.List.{length-take-le}
 use Rattle.dsp_ports.specs.Ports.{SourceState, Gave}
 use Rattle.dsp_ports.proofs.Moved.{Gave-nil, Gave-append}
 use Rattle.dsp_defs.specs.declared.script.Script.{Script}
 use Rattle.dsp_defs.specs.declared.wave.Header.{Header}
 use Rattle.dsp_input.specs.declared.fault.InputFault.{InputFault}
-use Rattle.dsp_input.specs.Taking.{AreAll, InDeclared, IsUnread, PartLost, PartRead, PartTaken, PartUnread, TakenSoFar, declared_bytes, in_whole_frames}
+use Rattle.dsp_input.specs.Taking.{AreAll, InDeclared, IsUnread, PartLost, PartRead, PartTaken, PartUnread}
+use Rattle.dsp_input.specs.Taking.{TakenSoFar, declared_bytes, in_whole_frames}
 
-pub part_starts : (script : Script) (header : Header) (end : ℕ) (input : SourceState) → header.start ≤ 2 ^ 40 → TakenSoFar script header end [] input input
+pub part_starts : (script : Script) (header : Header) (end : ℕ) (input : SourceState) → header.start ≤ 2 ^ 40 →
+    TakenSoFar script header end [] input input
 part_starts script header end input limit = record {
   gave = Gave-nil input;
   in_part = omega arith;
@@ -17,12 +20,15 @@ part_starts script header end input limit = record {
   no_fault = refl;
 }
   where
-    none_declared : (size : Option ℕ) → InDeclared (elim size [ Some s ↦ Some (in_whole_frames script header.coding s) | None ↦ None ]) 0
+    none_declared : (size : Option ℕ) → InDeclared (elim size
+        [ Some s ↦ Some (in_whole_frames script header.coding s) | None ↦ None ]) 0
     none_declared None = tt
     none_declared (Some size) = omega arith
 
-module _ (script : Script) (header : Header) (end : ℕ) (bytes : List ℕ) (input now : SourceState) (so_far : TakenSoFar script header end bytes input now) where
-  module _ (piece : List ℕ) (count : ℕ) (later : SourceState) (read : PartRead script header end (length bytes) piece count now later) where
+module _ (script : Script) (header : Header) (end : ℕ) (bytes : List ℕ) (input now : SourceState)
+    (so_far : TakenSoFar script header end bytes input now) where
+  module _ (piece : List ℕ) (count : ℕ) (later : SourceState)
+      (read : PartRead script header end (length bytes) piece count now later) where
     pub part_longer : length (bytes ++ take count piece) ≡ length bytes + count
     part_longer = omega (arith, length-take-le count piece read.within, length-append bytes (take count piece))
 
@@ -41,12 +47,18 @@ module _ (script : Script) (header : Header) (end : ℕ) (bytes : List ℕ) (inp
       in_part = part_goes_on.in_part;
       declared = part_goes_on.declared;
       in_limit = part_goes_on.in_limit;
-      ended = subst (λ n. (n ≡ end) ⊎ AreAll (declared_bytes script header) n later) (sym part_longer) (read.ended short);
-      room_left = λ none before. omega (arith, part_longer, read.room_left short none (omega (arith, part_longer, before)));
+      ended = subst (λ n. (n ≡ end) ⊎ AreAll (declared_bytes script header) n later) (sym part_longer)
+          (read.ended short);
+      room_left = λ none before. omega (
+        arith,
+        part_longer,
+        read.room_left short none (omega (arith, part_longer, before)),
+      );
       no_fault = part_goes_on.no_fault;
     }
 
-  pub part_fails : (size : ℕ) (error : InputFault) (later : SourceState) → PartUnread script header end (length bytes) size error now later → PartLost script header end error input later
+  pub part_fails : (size : ℕ) (error : InputFault) (later : SourceState) →
+      PartUnread script header end (length bytes) size error now later → PartLost script header end error input later
   part_fails size error later unread =
       let rest = unread.unread.bytes in
       let all : length bytes + length rest ≡ length (bytes ++ rest) = sym (length-append bytes rest) in

@@ -20,7 +20,8 @@ named cause.LimitReached = fault.Limit (2 ^ 40) (2 ^ 40)
 named (cause.Short declared got offset) = fault.Header (Short declared got) offset
 
 module _ (script : Script) (header : Header) (input now : SourceState) where
-  names : (found : SampleFault) (n : ℕ) → samples.IsUnread found (stored script header) n input now → IsUnread (named found) script header n input now
+  names : (found : SampleFault) (n : ℕ) → samples.IsUnread found (stored script header) n input now →
+      IsUnread (named found) script header n input now
   names cause.Failed n is = is
   names cause.LimitReached n is = (is.0, refl, refl, is.1, is.2)
   names (cause.Short declared got offset) n is = (declared, is.0, ap (Short declared) is.1, is.2, is.3, is.4, is.5)

@@ -7,5 +7,7 @@ use Rattle.dsp_wave.proofs.SampleReads as reads
 use Rattle.dsp_input.specs.Taking.{BlockRead, PartRead, stored}
 
 pub whole_read : (script : Script) (header : Header) (taken : ℕ) (block : List ℕ) (count : ℕ) (input now : SourceState)
-    → PartRead script header (2 ^ 64 - 1) taken block count input now → BlockRead script header taken block count input now
-whole_read script header taken block count input now read = reads.whole_read (stored script header) taken block count input now read
+    → PartRead script header (2 ^ 64 - 1) taken block count input now →
+    BlockRead script header taken block count input now
+whole_read script header taken block count input now read =
+    reads.whole_read (stored script header) taken block count input now read

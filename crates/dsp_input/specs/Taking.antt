@@ -1,9 +1,11 @@
 -- What is taken of an input: its header, its samples, and why it stopped.
-use Rattle.std.specs.Prelude.{◌≡◌, ◌≢◌, ◌⊎◌, ℕ, ◌+◌, ◌-◌, ◌*◌, ◌^◌, ◌<◌, ◌≤◌, nat_lt, if◌then◌else◌, List, ◌++◌, length, take, Option, Some, None, Ok, Err, IfSome}
+use Rattle.std.specs.Prelude.{◌≡◌, ◌≢◌, ◌⊎◌, ℕ, ◌+◌, ◌-◌, ◌*◌, ◌^◌, ◌<◌, ◌≤◌, nat_lt, if◌then◌else◌, List, ◌++◌}
+use Rattle.std.specs.Prelude.{length, take, Option, Some, None, Ok, Err, IfSome}
 use Rattle.std.specs.Io.KnownBytes.{IsAtEnd}
 use Rattle.dsp_ports.specs.Ports.{SourceState, one_more, Gave}
 use Rattle.dsp_defs.specs.Bytes.{width}
-use Rattle.dsp_defs.specs.Output.{HasHeader, input_header, input_signal, wanted_of, known_frames, format_of, channels_of}
+use Rattle.dsp_defs.specs.Output.{HasHeader, input_header, input_signal, wanted_of, known_frames, format_of}
+use Rattle.dsp_defs.specs.Output.{channels_of}
 use Rattle.dsp_defs.specs.Wave.{header_of, riff_size, HeaderFits}
 use Rattle.dsp_defs.specs.declared.format.Coding.{Coding}
 use Rattle.dsp_defs.specs.declared.format.Container.TheVariants as container
@@ -72,11 +74,14 @@ pub record IsUnheaded (script : Script) (given : List ℕ) : Type 0 where
 
 -- the cause of an end without a header, where these bytes were taken
 abbrev pub IsUnopened : InputFault → Script → List ℕ → SourceState → SourceState → Type 0
-IsUnopened fault.Failed script given input now = (now.faults ≡ one_more input.faults) × (length given < 2 ^ 40) × (HasHeader script given → ⊥)
+IsUnopened fault.Failed script given input now = (now.faults ≡ one_more input.faults) × (length given < 2 ^ 40) ×
+    (HasHeader script given → ⊥)
 IsUnopened (fault.Header fault offset) script given input now =
-    (script.input.kind ≡ kind.Wave) × IsSure (λ bytes. header_of bytes (wanted_of script)) now given (Err (fault, offset)) × (now.faults ≡ input.faults)
+    (script.input.kind ≡ kind.Wave) × IsSure (λ bytes. header_of bytes (wanted_of script)) now given
+    (Err (fault, offset)) × (now.faults ≡ input.faults)
 IsUnopened (fault.Limit taken limit) script given input now =
-    (length given ≡ 2 ^ 40) × (taken ≡ 2 ^ 40) × (limit ≡ 2 ^ 40) × IsUnheaded script given × (now.faults ≡ input.faults)
+    (length given ≡ 2 ^ 40) × (taken ≡ 2 ^ 40) × (limit ≡ 2 ^ 40) × IsUnheaded script given ×
+    (now.faults ≡ input.faults)
 
 pub record Unopened (script : Script) (fault : InputFault) (input now : SourceState) : Type 0 where
   pub given : List ℕ
@@ -95,26 +100,33 @@ pub record IsTooLong (script : Script) (count : Option ℕ) (size : ℕ) : Type 
 -- the sizes in the output's header are within its limit
 abbrev pub Fits : Script → Header → Type 0
 Fits script header =
-    script.output ≢ container.Raw → HeaderFits script.output (format_of script) (channels_of script) (known_frames script header)
+    script.output ≢ container.Raw → HeaderFits script.output (format_of script) (channels_of script)
+    (known_frames script header)
 
 -- ---- the samples
 
--- behind `taken` bytes of samples the front of the block came, and all of it unless the samples have ended, or the part of them that ends at `end`
+-- behind `taken` bytes of samples the front of the block came, and all of it unless the samples have ended, or the
+-- part of them that ends at `end`
 abbrev pub PartRead : Script → Header → (end taken : ℕ) → List ℕ → ℕ → SourceState → SourceState → Type 0
-PartRead script header end taken block count input now = samples.PartRead (stored script header) end taken block count input now
+PartRead script header end taken block count input now =
+    samples.PartRead (stored script header) end taken block count input now
 
 -- the same of all samples, which no part ends
 abbrev pub BlockRead : Script → Header → (taken : ℕ) → List ℕ → ℕ → SourceState → SourceState → Type 0
-BlockRead script header taken block count input now = samples.BlockRead (stored script header) taken block count input now
+BlockRead script header taken block count input now =
+    samples.BlockRead (stored script header) taken block count input now
 
 -- why it did not come
 abbrev pub IsUnread : InputFault → Script → Header → ℕ → SourceState → SourceState → Type 0
 IsUnread fault.Failed script header taken input now =
-    (now.faults ≡ one_more input.faults) × (header.start + taken < 2 ^ 40) × IfSome (declared_bytes script header) (λ size. taken < size)
+    (now.faults ≡ one_more input.faults) × (header.start + taken < 2 ^ 40) ×
+    IfSome (declared_bytes script header) (λ size. taken < size)
 IsUnread (fault.Limit told most) script header taken input now =
-    (header.start + taken ≡ 2 ^ 40) × (told ≡ 2 ^ 40) × (most ≡ 2 ^ 40) × (now.faults ≡ input.faults) × IfSome (declared_bytes script header) (λ size. taken < size)
+    (header.start + taken ≡ 2 ^ 40) × (told ≡ 2 ^ 40) × (most ≡ 2 ^ 40) × (now.faults ≡ input.faults) ×
+    IfSome (declared_bytes script header) (λ size. taken < size)
 IsUnread (fault.Header fault offset) script header taken input now =
-    (declared : ℕ) × (header.size ≡ Some declared) × (fault ≡ Short declared taken) × (offset ≡ header.start + taken) × IsAtEnd now.left × (now.faults ≡ input.faults)
+    (declared : ℕ) × (header.size ≡ Some declared) × (fault ≡ Short declared taken) ×
+    (offset ≡ header.start + taken) × IsAtEnd now.left × (now.faults ≡ input.faults)
     × (taken < in_whole_frames script header.coding declared)
 
 -- less than a block came
@@ -128,7 +140,8 @@ PartUnread script header end taken size fault input now =
     samples.PartUnread (stored script header) end taken size (λ n. IsUnread fault script header n input now) input now
 
 -- these bytes of the part that ends at `end` bytes were taken so far
-pub record TakenSoFar (script : Script) (header : Header) (end : ℕ) (bytes : List ℕ) (input now : SourceState) : Type 0 where
+pub record TakenSoFar (script : Script) (header : Header) (end : ℕ) (bytes : List ℕ) (input now : SourceState) : Type
+    0 where
   pub gave : Gave input now bytes
   pub in_part : length bytes ≤ end
   pub declared : InDeclared (declared_bytes script header) (length bytes)
@@ -136,17 +149,19 @@ pub record TakenSoFar (script : Script) (header : Header) (end : ℕ) (bytes : L
   pub no_fault : now.faults ≡ input.faults
 
 -- it was taken piece by piece, to its end or to that of the samples
-pub record PartTaken (script : Script) (header : Header) (end : ℕ) (bytes : List ℕ) (input now : SourceState) : Type 0 where
-  pub gave : Gave input now bytes
-  pub in_part : length bytes ≤ end
-  pub declared : InDeclared (declared_bytes script header) (length bytes)
-  pub in_limit : header.start + length bytes ≤ 2 ^ 40
-  pub ended : (length bytes ≡ end) ⊎ AreAll (declared_bytes script header) (length bytes) now
-  pub room_left : header.size ≡ None → length bytes < end → header.start + length bytes < 2 ^ 40
-  pub no_fault : now.faults ≡ input.faults
+pub record PartTaken (script : Script) (header : Header) (end : ℕ) (bytes : List ℕ) (input now : SourceState) : Type 0
+  where
+    pub gave : Gave input now bytes
+    pub in_part : length bytes ≤ end
+    pub declared : InDeclared (declared_bytes script header) (length bytes)
+    pub in_limit : header.start + length bytes ≤ 2 ^ 40
+    pub ended : (length bytes ≡ end) ⊎ AreAll (declared_bytes script header) (length bytes) now
+    pub room_left : header.size ≡ None → length bytes < end → header.start + length bytes < 2 ^ 40
+    pub no_fault : now.faults ≡ input.faults
 
 -- it was not, and this is why the byte behind those that came did not
-pub record PartLost (script : Script) (header : Header) (end : ℕ) (error : InputFault) (input now : SourceState) : Type 0 where
+pub record PartLost (script : Script) (header : Header) (end : ℕ) (error : InputFault) (input now : SourceState) :
+    Type 0 where
   pub bytes : List ℕ
   pub gave : Gave input now bytes
   pub in_part : length bytes < end
@@ -169,7 +184,8 @@ short_fault script header count =
 
 -- what is at fault in a WAVE input of these bytes, and where: its header, or its end
 abbrev pub wave_fault : Script → List ℕ → Option (HeaderFault × ℕ)
-wave_fault script bytes = elim (header_of bytes (wanted_of script)) [ Err fault ↦ Some fault | Ok header ↦ short_fault script header (length bytes) ]
+wave_fault script bytes = elim (header_of bytes (wanted_of script))
+    [ Err fault ↦ Some fault | Ok header ↦ short_fault script header (length bytes) ]
 
 -- in the input of a script; raw samples have no fault
 abbrev pub input_fault : Script → List ℕ → Option (HeaderFault × ℕ)
@@ -178,12 +194,14 @@ input_fault script bytes = elim script.input.kind [ kind.Raw rate ↦ None | kin
 -- the bytes that were taken have this fault whatever comes behind them, or have it and are all there is
 abbrev pub HasFault : Script → List ℕ → SourceState → HeaderFault × ℕ → Type 0
 HasFault script given now fault =
-    ((more : List ℕ) → input_fault script (given ++ more) ≡ Some fault) ⊎ (IsAtEnd now.left × (input_fault script given ≡ Some fault))
+    ((more : List ℕ) → input_fault script (given ++ more) ≡ Some fault) ⊎
+    (IsAtEnd now.left × (input_fault script given ≡ Some fault))
 
 -- where the header is there and declares its samples, some are still to come
 abbrev pub AwaitsDeclared : Script → List ℕ → Type 0
 AwaitsDeclared script given =
-    HasHeader script given → IfSome (declared_bytes script (input_header script given)) (λ size. length given < (input_header script given).start + size)
+    HasHeader script given → IfSome (declared_bytes script (input_header script given))
+    (λ size. length given < (input_header script given).start + size)
 
 -- a further byte is wanted: the header is cut there and has no other fault, or declared samples are still to come
 pub record WantsMore (script : Script) (given : List ℕ) : Type 0 where
@@ -193,7 +211,8 @@ pub record WantsMore (script : Script) (given : List ℕ) : Type 0 where
 -- why the input stopped, from the bytes that were taken of it
 abbrev pub IsInputCause : InputFault → Script → List ℕ → SourceState → Type 0
 IsInputCause fault.Failed script given now = (length given < 2 ^ 40) × AwaitsDeclared script given
-IsInputCause (fault.Limit taken limit) script given now = (length given ≡ 2 ^ 40) × (taken ≡ 2 ^ 40) × (limit ≡ 2 ^ 40) × WantsMore script given
+IsInputCause (fault.Limit taken limit) script given now = (length given ≡ 2 ^ 40) × (taken ≡ 2 ^ 40) ×
+    (limit ≡ 2 ^ 40) × WantsMore script given
 IsInputCause (fault.Header said offset) script given now = HasFault script given now (said, offset)
 
 -- ---- limits

@@ -1,5 +1,6 @@
 -- Sums of products that are known up to a multiple of a width.
-use Rattle.std.proofs.Common.{ℕ, ◌≡◌, ◌<◌, ◌+◌, ◌-◌, ◌*◌, ◌^◌, w32, w64, suc, List, length, map, ℤ, ◌+ℤ◌, ◌*ℤ◌, sym, ap, ◌∙◌, arith, slice_range, take, drop, set, pos}
+use Rattle.std.proofs.Common.{ℕ, ◌≡◌, ◌<◌, ◌+◌, ◌-◌, ◌*◌, ◌^◌, w32, w64, suc, List, length, map, ℤ, ◌+ℤ◌, ◌*ℤ◌, sym}
+use Rattle.std.proofs.Common.{ap, ◌∙◌, arith, slice_range, take, drop, set, pos}
 use Rattle.std.proofs.lemmas.Int.{int_wrap-add_left, int_wrap_fits, SFits-int_wrap, to_z-of_z}
 use Rattle.std.proofs.lemmas.List.{length-map, get_or-take, get_or-drop, take-map, drop-map, map-set}
 use Rattle.std.specs.Int.{int_wrap}
@@ -31,7 +32,8 @@ group-more w at n m taps window new old next is so_far =
     ∙ ap (λ k. int_wrap w (sum_below k f)) (sym next)
 
 -- a product more, wrapped to a width that shows in w
-pub product-more : (w v : Width) → ((z : ℤ) → int_wrap w (int_wrap v z) ≡ int_wrap w z) → (at m : ℕ) (taps window : List ℤ) (new old t x : ℤ) → m ≡ at + 1
+pub product-more : (w v : Width) → ((z : ℤ) → int_wrap w (int_wrap v z) ≡ int_wrap w z) →
+    (at m : ℕ) (taps window : List ℤ) (new old t x : ℤ) → m ≡ at + 1
     → new ≡ int_wrap v (old +ℤ (t *ℤ x)) → t ≡ sample taps at → x ≡ sample window at
     → int_wrap w old ≡ int_wrap w (sum_below at (λ k. sample taps k *ℤ sample window k))
     → int_wrap w new ≡ int_wrap w (sum_below m (λ k. sample taps k *ℤ sample window k))
@@ -46,15 +48,20 @@ product-more w v narrows at m taps window new old t x next is t_is x_is so_far =
     ∙ ap (λ k. int_wrap w (sum_below k f)) more
 
 -- a window that is a piece of another
-pub piece-row : {X : Type 0} (number : X → ℤ) (taps window : List X) (start count end : ℕ) → count ≡ length taps → end ≡ start + count
-    → sum_below count (λ k. sample (map number taps) k *ℤ sample (map number (slice_range window start end)) k) ≡ row_at (map number taps) (map number window) start
+pub piece-row : {X : Type 0} (number : X → ℤ) (taps window : List X) (start count end : ℕ) → count ≡ length taps →
+    end ≡ start + count
+    → sum_below count (λ k. sample (map number taps) k *ℤ sample (map number (slice_range window start end)) k) ≡
+    row_at (map number taps) (map number window) start
 piece-row number taps window start count end count_is end_is =
     let products : ℕ → ℤ = λ k. sample (map number taps) k *ℤ sample (map number window) (start + k) in
-    sum_below_cong count (λ k. sample (map number taps) k *ℤ sample (map number (slice_range window start end)) k) products
-    (λ k h. ap (λ v. sample (map number taps) k *ℤ v) (ap (λ e. sample (map number (slice_range window start e)) k) end_is ∙ piece-sample number window start count k h))
+    sum_below_cong count (λ k. sample (map number taps) k *ℤ sample (map number (slice_range window start end)) k)
+    products
+    (λ k h. ap (λ v. sample (map number taps) k *ℤ v) (ap (λ e. sample (map number (slice_range window start e)) k)
+    end_is ∙ piece-sample number window start count k h))
     ∙ ap (λ n. sum_below n products) (count_is ∙ sym (length-map taps number))
   where
-    piece-sample : {X : Type 0} → (number : X → ℤ) (xs : List X) (i m j : ℕ) → j < m → sample (map number (slice_range xs i (i + m))) j ≡ sample (map number xs) (i + j)
+    piece-sample : {X : Type 0} → (number : X → ℤ) (xs : List X) (i m j : ℕ) → j < m →
+        sample (map number (slice_range xs i (i + m))) j ≡ sample (map number xs) (i + j)
     piece-sample number xs i m j below =
         let size : i + m - i ≡ m = omega arith in
         ap (λ k. sample (map number (take k (drop i xs))) j) size
@@ -64,29 +71,48 @@ piece-row number taps window start count end count_is end_is =
         ∙ get_or-drop i (map number xs) j (pos 0)
 
 -- four groups, and four products, that were counted
-pub four_groups : (a b c d e : Counts) (n : ℕ) → Rises a b n 1 → Rises b c n 1 → Rises c d n 1 → Rises d e n 1 → RisesWithin a e (4 * n) 4
-four_groups a b c d e n f g h i = record { multiplies_rise = omega (arith, f, g, h, i); turns_within = omega (arith, f, g, h, i) }
+pub four_groups : (a b c d e : Counts) (n : ℕ) → Rises a b n 1 → Rises b c n 1 → Rises c d n 1 → Rises d e n 1 →
+    RisesWithin a e (4 * n) 4
+four_groups a b c d e n f g h i = record {
+  multiplies_rise = omega (arith, f, g, h, i);
+  turns_within =
+      omega (arith, f, g, h, i);
+}
 
 pub four_products : (a b c d e : Counts) → Rises a b 1 1 → Rises b c 1 1 → Rises c d 1 1 → Rises d e 1 1 → Rises a e 4 4
-four_products a b c d e f g h i = record { multiplies_rise = omega (arith, f, g, h, i); turns_rise = omega (arith, f, g, h, i) }
+four_products a b c d e f g h i = record {
+  multiplies_rise = omega (arith, f, g, h, i);
+  turns_rise =
+      omega (arith, f, g, h, i);
+}
 
 -- ---- values that are written
-pub write-one : {X : Type 0} (number : X → ℤ) (f : ℕ → ℤ) (at m : ℕ) (out : List X) (v : X) → m ≡ at + 1 → at < length out → take at (map number out) ≡ values at f → number v ≡ f at → take m (map number (set out at v)) ≡ values m f
+pub write-one : {X : Type 0} (number : X → ℤ) (f : ℕ → ℤ) (at m : ℕ) (out : List X) (v : X) → m ≡ at + 1 →
+    at < length out → take at (map number out) ≡ values at f → number v ≡ f at →
+    take m (map number (set out at v)) ≡ values m f
 write-one number f at m out v next room before is =
-    ap (take m) (map-set number out at v) ∙ rows-one f at m (map number out) (number v) next (omega (arith, room, length-map out number)) before is
+    ap (take m) (map-set number out at v) ∙ rows-one f at m (map number out) (number v) next
+    (omega (arith, room, length-map out number)) before is
 
-pub counted-more : (a b c : Counts) (i k m p q : ℕ) → m ≡ i + k → RisesWithin a b (i * p) (i * q) → RisesWithin b c (k * p) (k * q) → RisesWithin a c (m * p) (m * q)
+pub counted-more : (a b c : Counts) (i k m p q : ℕ) → m ≡ i + k → RisesWithin a b (i * p) (i * q) →
+    RisesWithin b c (k * p) (k * q) → RisesWithin a c (m * p) (m * q)
 counted-more a b c i k m p q next before more =
     let products : m * p ≡ i * p + k * p = ap (λ j. j * p) next ∙ omega arith in
     let turns : m * q ≡ i * q + k * q = ap (λ j. j * q) next ∙ omega arith in
-    record { multiplies_rise = omega (arith, before, more, products); turns_within = omega (arith, before, more, turns) }
+    record {
+      multiplies_rise = omega (arith, before, more, products);
+      turns_within =
+          omega (arith, before, more, turns);
+    }
 
 pub one-row : (b c : Counts) (p q : ℕ) → RisesWithin b c p q → RisesWithin b c (1 * p) (1 * q)
 one-row b c p q h = record { multiplies_rise = omega (arith, h); turns_within = omega (arith, h) }
 
 -- ---- a sum by narrow taps, read from its low word
-pub low_read : (z low from row : ℤ) → SFits w64 z → low ≡ int_wrap w32 (to_z w64 (of_z w64 z)) → from ≡ to_z w32 (of_z w32 low) → mag from < 2 ^ 63 → mag low < 2 ^ 31
-    → int_wrap w32 z ≡ int_wrap w32 row → int_wrap w32 row ≡ int_wrap w64 row → to_z w64 (of_z w64 from) ≡ int_wrap w64 row
+pub low_read : (z low from row : ℤ) → SFits w64 z → low ≡ int_wrap w32 (to_z w64 (of_z w64 z)) →
+    from ≡ to_z w32 (of_z w32 low) → mag from < 2 ^ 63 → mag low < 2 ^ 31
+    → int_wrap w32 z ≡ int_wrap w32 row → int_wrap w32 row ≡ int_wrap w64 row →
+    to_z w64 (of_z w64 from) ≡ int_wrap w64 row
 low_read z low from row fits low_is from_is from_fits low_fits is narrow =
     to_z-of_z w64 from (record { sfits = from_fits })
     ∙ from_is

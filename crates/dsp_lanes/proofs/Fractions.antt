@@ -1,5 +1,6 @@
 -- Products of 16-bit samples and a coefficient as fractions, in lanes of 16 bits.
-use Rattle.std.proofs.Common.{ℕ, ◌≡◌, ◌≢◌, ◌<◌, ◌≤◌, ◌-◌, ◌*◌, ◌%◌, zero, suc, List, [], ◌∷◌, length, map, replicate, refl, sym, ap, ap₂, subst, ◌∙◌, arith, w16, w32, lit<, ◌≤ℤ◌, ◌<ℤ◌}
+use Rattle.std.proofs.Common.{ℕ, ◌≡◌, ◌≢◌, ◌<◌, ◌≤◌, ◌-◌, ◌*◌, ◌%◌, zero, suc, List, [], ◌∷◌, length, map, replicate}
+use Rattle.std.proofs.Common.{refl, sym, ap, ap₂, subst, ◌∙◌, arith, w16, w32, lit<, ◌≤ℤ◌, ◌<ℤ◌}
 use Rattle.std.proofs.lemmas.Int.{ints, int_wrap_fits, unsigned_abs-mul}
 use Rattle.std.proofs.lemmas.Nat.{div-add-mod', mod_below}
 use Rattle.std.proofs.lemmas.Simd.{length-zip2, Each1-replicate, zip2_splat}
@@ -14,7 +15,9 @@ use Rattle.dsp_sat.proofs.Words.{product_shift_fits, abs_within}
 use borrow.Table.Row.{s_int}
 use borrow.Rule.Simd.Lanes.{act2}
 use mir.Syntax.{Width, wrap_sub}
-use Rattle.dsp_lanes.proofs.LaneOps.{bits_of, splat_bits, cast_lanes, widened, casts_asked, casts_are, added, subtracted, each_widens, each_pair, Each1-map, zip2-same, map-zip2, shifted, narrowed, narrow_asked, narrow_is, saturated_fits}
+use Rattle.dsp_lanes.proofs.LaneOps.{bits_of, splat_bits, cast_lanes, widened, casts_asked, casts_are, added}
+use Rattle.dsp_lanes.proofs.LaneOps.{subtracted, each_widens, each_pair, Each1-map, zip2-same, map-zip2, shifted}
+use Rattle.dsp_lanes.proofs.LaneOps.{narrowed, narrow_asked, narrow_is, saturated_fits}
 use Rattle.dsp_lanes.proofs.LaneSums.{plus_in, times_in, products_in, lanes_read, raised, raised_fit, summed_fit}
 use Rattle.dsp_lanes.proofs.LaneClosings.{Castable, down_in}
 

@@ -1,5 +1,6 @@
 -- The high 32 bits of products of 32-bit samples, in lanes of 64 bits.
-use Rattle.std.proofs.Common.{ℕ, zero, suc, ◌≡◌, ◌≤◌, ◌+◌, ◌-◌, ◌^◌, List, [], ◌∷◌, length, map, replicate, refl, sym, ap, subst, ◌∙◌, arith, w32, w64, lit<, pow_mono}
+use Rattle.std.proofs.Common.{ℕ, zero, suc, ◌≡◌, ◌≤◌, ◌+◌, ◌-◌, ◌^◌, List, [], ◌∷◌, length, map, replicate, refl, sym}
+use Rattle.std.proofs.Common.{ap, subst, ◌∙◌, arith, w32, w64, lit<, pow_mono}
 use Rattle.std.proofs.lemmas.Int.{ints, int_wrap_fits, fits_signed_mul}
 use Rattle.std.proofs.lemmas.Simd.{length-chunk, length-zip2, zip2_splat, map-map, Each1-replicate, length-replicate}
 use Rattle.std.specs.Prelude.{ℤ, pos, negsuc, ◌+ℤ◌, ◌*ℤ◌}
@@ -9,7 +10,10 @@ use lib.Lanes.{zip2, chunk, Each1}
 use lib.Signed.{shr_z}
 use mir.Val.{SFits, to_z, of_z}
 use Rattle.dsp_sat.proofs.Words.{product_shift_fits, abs_within}
-use Rattle.dsp_lanes.proofs.LaneOps.{splat_bits, bits_of, ints_of_bits, cast_lanes, widened, casts_asked, casts_are, each_widens, each_pair, group_fits, lesser, greater, saturates_to, narrowed, narrow_asked, narrow_is, shifted, shifted_up, added, each_shift_fits, Each1-map, map-same, map-zip2, length-map}
+use Rattle.dsp_lanes.proofs.LaneOps.{splat_bits, bits_of, ints_of_bits, cast_lanes, widened, casts_asked, casts_are}
+use Rattle.dsp_lanes.proofs.LaneOps.{each_widens, each_pair, group_fits, lesser, greater, saturates_to, narrowed}
+use Rattle.dsp_lanes.proofs.LaneOps.{narrow_asked, narrow_is, shifted, shifted_up, added, each_shift_fits, Each1-map}
+use Rattle.dsp_lanes.proofs.LaneOps.{map-same, map-zip2, length-map}
 use Rattle.dsp_lanes.proofs.LaneSums.{map-self, plus_in, times_in, products_in}
 use Rattle.dsp_lanes.proofs.LaneClosings.{Castable, down_in, up_in, low_lanes, low_lanes_are, words_fit}
 
@@ -39,20 +43,25 @@ pub casts_down : (lanes : List ℕ) (xs : List ℤ) → lanes ≡ bits_of w64 xs
 casts_down lanes xs e f =
     let wide = each_widens w32 w64 (omega arith) xs f in (
       subst (λ (l : List ℕ). Castable w64 w32 l) (sym e) (casts_asked w64 w32 xs wide f),
-      ap (λ l. map (to_z w32) (cast_lanes w64 w32 l)) e ∙ ap (map (to_z w32)) (casts_are w64 w32 xs wide) ∙ ints_of_bits w32 xs f,
+      ap (λ l. map (to_z w32) (cast_lanes w64 w32 l)) e ∙ ap (map (to_z w32)) (casts_are w64 w32 xs wide) ∙
+          ints_of_bits w32 xs f,
     )
 
 -- ---- closing
 pub closes_31 : (n : ℕ) (xs : List ℤ) → length xs ≡ n → Each1 (SFits w64) xs
     → Castable w64 w32 (low_lanes n (zip2 (down_in w64) (bits_of w64 xs) (replicate n 31)))
-    × (map (to_z w32) (cast_lanes w64 w32 (low_lanes n (zip2 (down_in w64) (bits_of w64 xs) (replicate n 31)))) ≡ map (λ x. int_wrap w32 (shr_z (int_wrap w64 x) (2 ^ 31))) xs)
+    × (map (to_z w32) (cast_lanes w64 w32 (low_lanes n (zip2 (down_in w64) (bits_of w64 xs) (replicate n 31)))) ≡ map
+    (λ x. int_wrap w32 (shr_z (int_wrap w64 x) (2 ^ 31))) xs)
 closes_31 n xs long f =
     let down : ℤ → ℤ = λ x. shr_z x (2 ^ 31) in
     let moved = map down xs in
-    let low = low_lanes_are n (zip2 (down_in w64) (bits_of w64 xs) (replicate n 31)) moved (shifted w64 n 31 xs long f) (length-map down xs ∙ long) (each_shift_fits w64 31 xs f) in
+    let low = low_lanes_are n (zip2 (down_in w64) (bits_of w64 xs) (replicate n 31)) moved
+    (shifted w64 n 31 xs long f) (length-map down xs ∙ long) (each_shift_fits w64 31 xs f) in
     let cast = casts_down _ (map (int_wrap w32) moved) low (words_fit moved) in (
       cast.0,
-      cast.1 ∙ map-map (int_wrap w32) down xs ∙ map-same (SFits w64) (λ x. int_wrap w32 (down x)) (λ x. int_wrap w32 (down (int_wrap w64 x))) (λ x h. ap (λ z. int_wrap w32 (down z)) (sym (int_wrap_fits w64 x h))) xs f,
+      cast.1 ∙ map-map (int_wrap w32) down xs ∙ map-same (SFits w64) (λ x. int_wrap w32 (down x))
+          (λ x. int_wrap w32 (down (int_wrap w64 x))) (λ x h. ap (λ z. int_wrap w32 (down z))
+          (sym (int_wrap_fits w64 x h))) xs f,
     )
 
 -- ---- `mult`
@@ -85,7 +94,8 @@ each_saturated (x ∷ xs) = (fits_30 x, each_saturated xs)
     fits_30 (negsuc n) = grind (arith, ints)
 
 abbrev pub limited : ℕ → List ℕ → List ℕ
-limited n lanes = greater w32 (lesser w32 lanes (replicate n (of_z w32 (pos (2 ^ 30 - 1))))) (replicate n (of_z w32 (negsuc (2 ^ 30 - 1))))
+limited n lanes = greater w32 (lesser w32 lanes (replicate n (of_z w32 (pos (2 ^ 30 - 1)))))
+    (replicate n (of_z w32 (negsuc (2 ^ 30 - 1))))
 
 abbrev pub doubled_lanes : ℕ → List ℕ → List ℕ
 doubled_lanes n lanes = zip2 (plus_in w32) (limited n lanes) (limited n lanes)
@@ -94,15 +104,20 @@ doubles : (n : ℕ) (lanes : List ℕ) (xs : List ℤ) → lanes ≡ bits_of w32
     → doubled_lanes n lanes ≡ bits_of w32 (map (λ h. pos 2 *ℤ saturate_to_bits 30 h) xs)
 doubles n lanes xs e long f =
     let kept = map (saturate_to_bits 30) xs in
-    let is : limited n lanes ≡ bits_of w32 kept = ap (limited n) e ∙ saturates_to w32 30 n xs long f (omega (arith, ints)) (omega (arith, ints)) in
+    let is : limited n lanes ≡ bits_of w32 kept = ap (limited n) e ∙
+    saturates_to w32 30 n xs long f (omega (arith, ints)) (omega (arith, ints)) in
     (λ i. zip2 (plus_in w32) (is i) (is i))
     ∙ added w32 kept kept (each_saturated xs) (each_saturated xs)
-    ∙ ap (bits_of w32) (zip2-self (λ a b. int_wrap w32 (a +ℤ b)) kept ∙ map-map (λ z. int_wrap w32 (z +ℤ z)) (saturate_to_bits 30) xs ∙ map-same (SFits w32) (λ h. int_wrap w32 (saturate_to_bits 30 h +ℤ saturate_to_bits 30 h)) (λ h. pos 2 *ℤ saturate_to_bits 30 h) (λ h q. doubled_is h) xs f)
+    ∙ ap (bits_of w32) (zip2-self (λ a b. int_wrap w32 (a +ℤ b)) kept ∙
+    map-map (λ z. int_wrap w32 (z +ℤ z)) (saturate_to_bits 30) xs ∙
+    map-same (SFits w32) (λ h. int_wrap w32 (saturate_to_bits 30 h +ℤ saturate_to_bits 30 h))
+    (λ h. pos 2 *ℤ saturate_to_bits 30 h) (λ h q. doubled_is h) xs f)
 
 pub mult_31 : (at n : ℕ) (a b : List ℤ) → All (SFits w32) a → All (SFits w32) b → at + n ≤ length a → at + n ≤ length b
     → Castable w64 w32 (high_lanes n (chunk at n a) (chunk at n b))
     × (map (to_z w32) (doubled_lanes n (cast_lanes w64 w32 (high_lanes n (chunk at n a) (chunk at n b))))
-    ≡ zip2 (λ x y. pos 2 *ℤ saturate_to_bits 30 (shr_z (x *ℤ y) (2 ^ 32))) (chunk at n (map (λ x. x) a)) (chunk at n (map (λ x. x) b)))
+    ≡ zip2 (λ x y. pos 2 *ℤ saturate_to_bits 30 (shr_z (x *ℤ y) (2 ^ 32))) (chunk at n (map (λ x. x) a))
+    (chunk at n (map (λ x. x) b)))
 mult_31 at n a b f g room_a room_b =
     let xs = chunk at n a in
     let ys = chunk at n b in
@@ -112,24 +127,28 @@ mult_31 at n a b f g room_a room_b =
     let hs = zip2 high xs ys in
     let long : length hs ≡ n = length-zip2 high xs ys (omega arith) ∙ long_x in
     let wide = each_widens w32 w64 (omega arith) hs made.1 in
-    let cast : cast_lanes w64 w32 (high_lanes n xs ys) ≡ bits_of w32 hs = ap (cast_lanes w64 w32) made.0 ∙ casts_are w64 w32 hs wide in
+    let cast : cast_lanes w64 w32 (high_lanes n xs ys) ≡ bits_of w32 hs = ap (cast_lanes w64 w32) made.0 ∙
+    casts_are w64 w32 hs wide in
     let twice = map (λ h. pos 2 *ℤ saturate_to_bits 30 h) hs in (
       (casts_down (high_lanes n xs ys) hs made.0 made.1).0,
       ap (map (to_z w32)) (doubles n (cast_lanes w64 w32 (high_lanes n xs ys)) hs cast long made.1)
           ∙ ints_of_bits w32 twice (each_doubled hs)
           ∙ map-zip2 (λ h. pos 2 *ℤ saturate_to_bits 30 h) high xs ys
-          ∙ (λ i. zip2 (λ x y. pos 2 *ℤ saturate_to_bits 30 (high x y)) (chunk at n (sym (map-self a) i)) (chunk at n (sym (map-self b) i))),
+          ∙ (λ i. zip2 (λ x y. pos 2 *ℤ saturate_to_bits 30 (high x y)) (chunk at n (sym (map-self a) i))
+          (chunk at n (sym (map-self b) i))),
     )
 
 -- ---- `scale`
 abbrev pub scaled_highs : ℕ → List ℤ → ℤ → List ℕ
-scaled_highs n xs t = zip2 (down_in w64) (zip2 (times_in w64) (widened w32 w64 xs) (cast_lanes w32 w64 (replicate n (of_z w32 t)))) (replicate n 32)
+scaled_highs n xs t = zip2 (down_in w64) (zip2 (times_in w64) (widened w32 w64 xs)
+    (cast_lanes w32 w64 (replicate n (of_z w32 t)))) (replicate n 32)
 
 scaled_highs_are : (n : ℕ) (xs : List ℤ) (t : ℤ) → length xs ≡ n → Each1 (SFits w32) xs → SFits w32 t
     → (scaled_highs n xs t ≡ bits_of w64 (map (λ x. high x t) xs)) × Each1 (SFits w32) (map (λ x. high x t) xs)
 scaled_highs_are n xs t long f g =
     let made = highs_are n xs (replicate n t) long (length-replicate n t) f (Each1-replicate (SFits w32) n t g) in (
-      ap (λ l. zip2 (down_in w64) (zip2 (times_in w64) (widened w32 w64 xs) (cast_lanes w32 w64 l)) (replicate n 32)) (splat_bits w32 n t)
+      ap (λ l. zip2 (down_in w64) (zip2 (times_in w64) (widened w32 w64 xs) (cast_lanes w32 w64 l)) (replicate n 32))
+          (splat_bits w32 n t)
           ∙ made.0
           ∙ ap (bits_of w64) (zip2_splat high xs n t long),
       Each1-map (SFits w32) (SFits w32) (λ x. high x t) (λ x h. high_fits x t h g) xs f,
@@ -140,9 +159,11 @@ grown_fits k h few f =
     let power : 2 ^ k ≤ 2 ^ 31 = pow_mono few in
     fits_signed_mul w64 h (pos (2 ^ k)) (2 ^ 31) (2 ^ 31) (abs_within w32 h f) power (omega arith)
 
-pub scale_up_31 : (at n k places : ℕ) (a : List ℤ) (t : ℤ) → k ≡ places → places ≤ 31 → All (SFits w32) a → SFits w32 t → at + n ≤ length a
+pub scale_up_31 : (at n k places : ℕ) (a : List ℤ) (t : ℤ) → k ≡ places → places ≤ 31 → All (SFits w32) a →
+    SFits w32 t → at + n ≤ length a
     → Castable w64 w32 (narrowed w64 w32 n (zip2 (up_in w64) (scaled_highs n (chunk at n a) t) (replicate n k)))
-    × (map (to_z w32) (cast_lanes w64 w32 (narrowed w64 w32 n (zip2 (up_in w64) (scaled_highs n (chunk at n a) t) (replicate n k))))
+    × (map (to_z w32) (cast_lanes w64 w32 (narrowed w64 w32 n
+    (zip2 (up_in w64) (scaled_highs n (chunk at n a) t) (replicate n k))))
     ≡ map (λ x. saturate_to_bits 31 (shr_z (x *ℤ t) (2 ^ 32) *ℤ pos (2 ^ places))) (chunk at n (map (λ x. x) a)))
 scale_up_31 at n k places a t same few f g room_a =
     let xs = chunk at n a in
@@ -158,10 +179,13 @@ scale_up_31 at n k places a t same few f g room_a =
     let up : zip2 (up_in w64) (scaled_highs n xs t) (replicate n k) ≡ bits_of w64 grown =
     ap (λ l. zip2 (up_in w64) l (replicate n k)) made.0
     ∙ shifted_up w64 n k hs long_h wide fit_power refl
-    ∙ ap (bits_of w64) (map-same (SFits w32) (λ h. int_wrap w64 (h *ℤ pos (2 ^ k))) (λ h. h *ℤ pos (2 ^ k)) (λ h q. int_wrap_fits w64 (h *ℤ pos (2 ^ k)) (grown_fits k h few_k q)) hs made.1) in
-    let fit : Each1 (SFits w64) grown = Each1-map (SFits w32) (SFits w64) (λ h. h *ℤ pos (2 ^ k)) (λ h q. grown_fits k h few_k q) hs made.1 in
+    ∙ ap (bits_of w64) (map-same (SFits w32) (λ h. int_wrap w64 (h *ℤ pos (2 ^ k))) (λ h. h *ℤ pos (2 ^ k))
+    (λ h q. int_wrap_fits w64 (h *ℤ pos (2 ^ k)) (grown_fits k h few_k q)) hs made.1) in
+    let fit : Each1 (SFits w64) grown = Each1-map (SFits w32) (SFits w64) (λ h. h *ℤ pos (2 ^ k))
+    (λ h q. grown_fits k h few_k q) hs made.1 in
     let long_g : length grown ≡ n = length-map (λ h. h *ℤ pos (2 ^ k)) hs ∙ long_h in (
-      subst (λ (l : List ℕ). Castable w64 w32 (narrowed w64 w32 n l)) (sym up) (narrow_asked w64 w32 (omega arith) n grown long_g fit),
+      subst (λ (l : List ℕ). Castable w64 w32 (narrowed w64 w32 n l)) (sym up)
+          (narrow_asked w64 w32 (omega arith) n grown long_g fit),
       ap (λ l. map (to_z w32) (cast_lanes w64 w32 (narrowed w64 w32 n l))) up
           ∙ narrow_is w64 w32 (omega arith) n grown long_g fit
           ∙ map-map (saturate_to_bits 31) (λ h. h *ℤ pos (2 ^ k)) hs
@@ -169,7 +193,8 @@ scale_up_31 at n k places a t same few f g room_a =
           ∙ (λ i. map (λ x. saturate_to_bits 31 (high x t *ℤ pos (2 ^ same i))) (chunk at n (sym (map-self a) i))),
     )
 
-pub scale_down_31 : (at n k places : ℕ) (a : List ℤ) (t : ℤ) → k ≡ places → All (SFits w32) a → SFits w32 t → at + n ≤ length a
+pub scale_down_31 : (at n k places : ℕ) (a : List ℤ) (t : ℤ) → k ≡ places → All (SFits w32) a → SFits w32 t →
+    at + n ≤ length a
     → Castable w64 w32 (zip2 (down_in w64) (scaled_highs n (chunk at n a) t) (replicate n k))
     × (map (to_z w32) (cast_lanes w64 w32 (zip2 (down_in w64) (scaled_highs n (chunk at n a) t) (replicate n k)))
     ≡ map (λ x. shr_z (shr_z (x *ℤ t) (2 ^ 32)) (2 ^ places)) (chunk at n (map (λ x. x) a)))
@@ -180,7 +205,8 @@ scale_down_31 at n k places a t same f g room_a =
     let hs = map (λ x. high x t) xs in
     let long_h : length hs ≡ n = length-map (λ x. high x t) xs ∙ long in
     let down : zip2 (down_in w64) (scaled_highs n xs t) (replicate n k) ≡ bits_of w64 (map (λ h. shr_z h (2 ^ k)) hs) =
-    ap (λ l. zip2 (down_in w64) l (replicate n k)) made.0 ∙ shifted w64 n k hs long_h (each_widens w32 w64 (omega arith) hs made.1) in
+    ap (λ l. zip2 (down_in w64) l (replicate n k)) made.0 ∙
+    shifted w64 n k hs long_h (each_widens w32 w64 (omega arith) hs made.1) in
     let cast = casts_down _ _ down (each_shift_fits w32 k hs made.1) in (
       cast.0,
       cast.1
@@ -190,21 +216,28 @@ scale_down_31 at n k places a t same f g room_a =
 
 -- ---- the sparse filter
 abbrev pub delay_lanes : ℕ → List ℤ → ℤ → List ℤ → List ℕ
-delay_lanes n ss t xs = zip2 (plus_in w64) (bits_of w64 ss) (zip2 (down_in w64) (zip2 (times_in w64) (cast_lanes w32 w64 (replicate n (of_z w32 t))) (widened w32 w64 xs)) (replicate n 32))
+delay_lanes n ss t xs = zip2 (plus_in w64) (bits_of w64 ss)
+    (zip2 (down_in w64) (zip2 (times_in w64) (cast_lanes w32 w64 (replicate n (of_z w32 t))) (widened w32 w64 xs))
+    (replicate n 32))
 
-raised_highs : (n : ℕ) (t : ℤ) (ss xs : List ℤ) → length xs ≡ n → zip2 (λ s p. int_wrap w64 (s +ℤ p)) ss (zip2 high (replicate n t) xs) ≡ zip2 (λ s x. int_wrap w64 (s +ℤ high t x)) ss xs
+raised_highs : (n : ℕ) (t : ℤ) (ss xs : List ℤ) → length xs ≡ n →
+    zip2 (λ s p. int_wrap w64 (s +ℤ p)) ss (zip2 high (replicate n t) xs) ≡ zip2 (λ s x. int_wrap w64 (s +ℤ high t x))
+    ss xs
 raised_highs n t [] xs e = refl
 raised_highs zero t (s ∷ ss) [] e = refl
 raised_highs zero t (s ∷ ss) (x ∷ xs) e = absurd (omega (arith, e))
 raised_highs (suc n) t (s ∷ ss) [] e = absurd (omega (arith, e))
-raised_highs (suc n) t (s ∷ ss) (x ∷ xs) e = ap (λ l. int_wrap w64 (s +ℤ high t x) ∷ l) (raised_highs n t ss xs (omega arith))
+raised_highs (suc n) t (s ∷ ss) (x ∷ xs) e = ap (λ l. int_wrap w64 (s +ℤ high t x) ∷ l)
+    (raised_highs n t ss xs (omega arith))
 
-pub delay_31 : (n : ℕ) (ss : List ℤ) (t : ℤ) (xs : List ℤ) → length xs ≡ n → Each1 (SFits w64) ss → SFits w32 t → Each1 (SFits w32) xs
+pub delay_31 : (n : ℕ) (ss : List ℤ) (t : ℤ) (xs : List ℤ) → length xs ≡ n → Each1 (SFits w64) ss → SFits w32 t →
+    Each1 (SFits w32) xs
     → delay_lanes n ss t xs ≡ bits_of w64 (zip2 (λ s x. int_wrap w64 (s +ℤ shr_z (t *ℤ x) (2 ^ 32))) ss xs)
 delay_31 n ss t xs long h f g =
     let ts = replicate n t in
     let made = highs_are n ts xs (length-replicate n t) long (Each1-replicate (SFits w32) n t f) g in
-    ap (λ l. zip2 (plus_in w64) (bits_of w64 ss) (zip2 (down_in w64) (zip2 (times_in w64) (cast_lanes w32 w64 l) (widened w32 w64 xs)) (replicate n 32))) (splat_bits w32 n t)
+    ap (λ l. zip2 (plus_in w64) (bits_of w64 ss) (zip2 (down_in w64)
+    (zip2 (times_in w64) (cast_lanes w32 w64 l) (widened w32 w64 xs)) (replicate n 32))) (splat_bits w32 n t)
     ∙ ap (zip2 (plus_in w64) (bits_of w64 ss)) made.0
     ∙ added w64 ss (zip2 high ts xs) h (each_widens w32 w64 (omega arith) (zip2 high ts xs) made.1)
     ∙ ap (bits_of w64) (raised_highs n t ss xs long)

@@ -10,9 +10,11 @@ use Rattle.dsp_lanes.proofs.LaneSums.{map-self, summed_fit}
 use Rattle.dsp_lanes.proofs.LaneClosings.{stored, low_lanes, low_lanes_are, wrap-narrow, words_fit}
 
 -- sums that were taken in 64 bits, wrapped to 32 and stored
-pub delays_stored : (f : ℤ → ℤ → ℤ) (at n : ℕ) (sums window : List ℤ) (lanes : List ℕ) → at + n ≤ length sums → at + n ≤ length window
+pub delays_stored : (f : ℤ → ℤ → ℤ) (at n : ℕ) (sums window : List ℤ) (lanes : List ℕ) → at + n ≤ length sums →
+    at + n ≤ length window
     → lanes ≡ bits_of w64 (zip2 (λ s x. int_wrap w64 (f s x)) (chunk at n sums) (chunk at n window))
-    → map (λ s. s) (put_chunk at sums (map (to_z w64) (low_lanes n lanes))) ≡ put_chunk at (map (λ s. s) sums) (zip2 (λ s x. int_wrap w32 (f s x)) (chunk at n (map (λ s. s) sums)) (chunk at n (map (λ x. x) window)))
+    → map (λ s. s) (put_chunk at sums (map (to_z w64) (low_lanes n lanes))) ≡ put_chunk at (map (λ s. s) sums)
+    (zip2 (λ s x. int_wrap w32 (f s x)) (chunk at n (map (λ s. s) sums)) (chunk at n (map (λ x. x) window)))
 delays_stored f at n sums window lanes room_s room_w e =
     let ss = chunk at n sums in
     let xs = chunk at n window in
@@ -22,12 +24,15 @@ delays_stored f at n sums window lanes room_s room_w e =
     let long : length raised ≡ n = length-zip2 (λ s x. int_wrap w64 (f s x)) ss xs (omega arith) ∙ long_s in
     stored at sums _ _
     (ap (map (to_z w64)) (low_lanes_are n lanes raised e long (summed_fit w64 f ss xs))
-    ∙ ints_of_bits w64 (map (int_wrap w32) raised) (each_widens w32 w64 (omega arith) (map (int_wrap w32) raised) (words_fit raised))
+    ∙ ints_of_bits w64 (map (int_wrap w32) raised) (each_widens w32 w64 (omega arith) (map (int_wrap w32) raised)
+    (words_fit raised))
     ∙ map-zip2 (int_wrap w32) (λ s x. int_wrap w64 (f s x)) ss xs
     ∙ narrowed ss xs
-    ∙ (λ i. zip2 (λ s x. int_wrap w32 (f s x)) (chunk at n (sym (map-self sums) i)) (chunk at n (sym (map-self window) i))))
+    ∙ (λ i. zip2 (λ s x. int_wrap w32 (f s x)) (chunk at n (sym (map-self sums) i))
+    (chunk at n (sym (map-self window) i))))
   where
-    narrowed : (ss xs : List ℤ) → zip2 (λ s x. int_wrap w32 (int_wrap w64 (f s x))) ss xs ≡ zip2 (λ s x. int_wrap w32 (f s x)) ss xs
+    narrowed : (ss xs : List ℤ) → zip2 (λ s x. int_wrap w32 (int_wrap w64 (f s x))) ss xs ≡ zip2
+        (λ s x. int_wrap w32 (f s x)) ss xs
     narrowed [] xs = refl
     narrowed (s ∷ ss) [] = refl
     narrowed (s ∷ ss) (x ∷ xs) = (λ i. wrap-narrow (f s x) i ∷ narrowed ss xs i)

@@ -1,5 +1,6 @@
 -- Sums of products by lanes, in the words of filters.
-use Rattle.std.proofs.Common.{ℕ, ◌≡◌, ◌<◌, ◌≤◌, ◌+◌, zero, suc, List, [], ◌∷◌, ◌++◌, length, take, replicate, set, ℤ, pos, ◌+ℤ◌, ◌*ℤ◌, refl, sym, ap, ◌∙◌, arith}
+use Rattle.std.proofs.Common.{ℕ, ◌≡◌, ◌<◌, ◌≤◌, ◌+◌, zero, suc, List, [], ◌∷◌, ◌++◌, length, take, replicate, set, ℤ}
+use Rattle.std.proofs.Common.{pos, ◌+ℤ◌, ◌*ℤ◌, refl, sym, ap, ◌∙◌, arith}
 use Rattle.std.proofs.lemmas.Int.{ints, int_wrap_fits, int_wrap-add_left, int_wrap-add_right}
 use Rattle.std.proofs.lemmas.List.{take_more_set, drop_more}
 use Rattle.std.proofs.lemmas.List.FromFn.{length-map-range_with_len, get_or-map-range_with_len}
@@ -17,18 +18,21 @@ use Rattle.dsp_lanes.specs.Regrouped.{list_sum}
 pub chunk-values : (p n : ℕ) (xs : List ℤ) → p + n ≤ length xs → chunk p n xs ≡ values n (λ i. sample xs (p + i))
 chunk-values p n xs room =
     let long : length (chunk p n xs) ≡ n = length-chunk p n xs room in
-    let wide : length (values n (λ i. sample xs (p + i))) ≡ n = length-map-range_with_len (λ i. sample xs (p + i)) 0 n in
+    let wide : length (values n (λ i. sample xs (p + i))) ≡ n =
+    length-map-range_with_len (λ i. sample xs (p + i)) 0 n in
     same_numbers (chunk p n xs) (values n (λ i. sample xs (p + i))) (long ∙ sym wide)
     (λ i lt.
     let below : i < n = omega arith in
-    get_or-chunk p n xs i (pos 0) below ∙ sym (get_or-map-range_with_len (λ i. sample xs (p + i)) 0 n i i (pos 0) below (omega arith)))
+    get_or-chunk p n xs i (pos 0) below ∙ sym (get_or-map-range_with_len (λ i. sample xs (p + i)) 0 n i i (pos 0)
+    below (omega arith)))
 
 zip2-values : (f : ℤ → ℤ → ℤ) (n : ℕ) (a b : ℕ → ℤ) → zip2 f (values n a) (values n b) ≡ values n (λ i. f (a i) (b i))
 zip2-values f n a b = zip2-map f a b (range_with_len 0 n)
 
 pub values-zero : (n : ℕ) → replicate n (pos 0) ≡ values n (λ i. pos 0)
 values-zero n =
-    same_numbers (replicate n (pos 0)) (values n (λ i. pos 0)) (length-replicate n (pos 0) ∙ sym (length-map-range_with_len (λ i. pos 0) 0 n))
+    same_numbers (replicate n (pos 0)) (values n (λ i. pos 0))
+    (length-replicate n (pos 0) ∙ sym (length-map-range_with_len (λ i. pos 0) 0 n))
     (λ i lt. let long : length (replicate n (pos 0)) ≡ n = length-replicate n (pos 0) in
     zeros n i ∙ sym (get_or-map-range_with_len (λ i. pos 0) 0 n i i (pos 0) (omega arith) (omega arith)))
   where
@@ -50,13 +54,18 @@ abbrev pub row : List ℤ → List ℤ → ℕ → ℕ → ℤ
 row taps window j place = sum_below j (λ m. sample taps m *ℤ sample window (place + m))
 
 -- one tap more, in each lane
-pub row_lanes-more : (w : Width) (at n j m : ℕ) (taps window : List ℤ) (t : ℤ) → m ≡ j + 1 → t ≡ sample taps j → at + j + n ≤ length window
-    → zip2 (λ s x. int_wrap w (s +ℤ (t *ℤ x))) (values n (λ i. int_wrap w (row taps window j (at + i)))) (chunk (at + j) n window) ≡ values n (λ i. int_wrap w (row taps window m (at + i)))
+pub row_lanes-more : (w : Width) (at n j m : ℕ) (taps window : List ℤ) (t : ℤ) → m ≡ j + 1 → t ≡ sample taps j →
+    at + j + n ≤ length window
+    → zip2 (λ s x. int_wrap w (s +ℤ (t *ℤ x))) (values n (λ i. int_wrap w (row taps window j (at + i))))
+    (chunk (at + j) n window) ≡ values n (λ i. int_wrap w (row taps window m (at + i)))
 row_lanes-more w at n j m taps window t next is room =
     let step : m ≡ suc j = omega arith in
-    ap (zip2 (λ s x. int_wrap w (s +ℤ (t *ℤ x))) (values n (λ i. int_wrap w (row taps window j (at + i))))) (chunk-values (at + j) n window room)
-    ∙ zip2-values (λ s x. int_wrap w (s +ℤ (t *ℤ x))) n (λ i. int_wrap w (row taps window j (at + i))) (λ i. sample window (at + j + i))
-    ∙ values_cong n (λ i. int_wrap w (int_wrap w (row taps window j (at + i)) +ℤ (t *ℤ sample window (at + j + i)))) (λ i. int_wrap w (row taps window m (at + i)))
+    ap (zip2 (λ s x. int_wrap w (s +ℤ (t *ℤ x))) (values n (λ i. int_wrap w (row taps window j (at + i)))))
+    (chunk-values (at + j) n window room)
+    ∙ zip2-values (λ s x. int_wrap w (s +ℤ (t *ℤ x))) n (λ i. int_wrap w (row taps window j (at + i)))
+    (λ i. sample window (at + j + i))
+    ∙ values_cong n (λ i. int_wrap w (int_wrap w (row taps window j (at + i)) +ℤ (t *ℤ sample window (at + j + i))))
+    (λ i. int_wrap w (row taps window m (at + i)))
     (λ i lt.
     let place : at + j + i ≡ at + i + j = omega arith in
     int_wrap-add_left w (row taps window j (at + i)) (t *ℤ sample window (at + j + i))
@@ -64,8 +73,10 @@ row_lanes-more w at n j m taps window t next is room =
     ∙ ap (λ k. int_wrap w (row taps window k (at + i))) (sym step))
 
 -- one tap more, in a sum
-pub row-more : (w : Width) (at j m : ℕ) (taps window : List ℤ) (t x sum more : ℤ) → m ≡ j + 1 → t ≡ sample taps j → x ≡ sample window (at + j)
-    → sum ≡ int_wrap w (row taps window j at) → more ≡ int_wrap w (sum +ℤ t *ℤ x) → more ≡ int_wrap w (row taps window m at)
+pub row-more : (w : Width) (at j m : ℕ) (taps window : List ℤ) (t x sum more : ℤ) → m ≡ j + 1 → t ≡ sample taps j →
+    x ≡ sample window (at + j)
+    → sum ≡ int_wrap w (row taps window j at) → more ≡ int_wrap w (sum +ℤ t *ℤ x) →
+    more ≡ int_wrap w (row taps window m at)
 row-more w at j m taps window t x sum more next is_t is_x summed added =
     let step : m ≡ suc j = omega arith in
     added
@@ -75,7 +86,8 @@ row-more w at j m taps window t x sum more next is_t is_x summed added =
     ∙ ap (λ k. int_wrap w (row taps window k at)) (sym step)
 
 -- the next group of outputs
-pub rows-group : (f : ℕ → ℤ) (at n : ℕ) (new old : List ℤ) → at + n ≤ length old → take at old ≡ values at f → new ≡ put_chunk at old (values n (λ i. f (at + i))) → take (at + n) new ≡ values (at + n) f
+pub rows-group : (f : ℕ → ℤ) (at n : ℕ) (new old : List ℤ) → at + n ≤ length old → take at old ≡ values at f →
+    new ≡ put_chunk at old (values n (λ i. f (at + i))) → take (at + n) new ≡ values (at + n) f
 rows-group f at n new old room done is =
     let ys = values n (λ i. f (at + i)) in
     let long : length ys ≡ n = length-map-range_with_len (λ i. f (at + i)) 0 n in
@@ -85,7 +97,8 @@ rows-group f at n new old room done is =
     ∙ sym (values-add at n f)
 
 -- the next output
-pub rows-one : (f : ℕ → ℤ) (at m : ℕ) (old : List ℤ) (v : ℤ) → m ≡ at + 1 → at < length old → take at old ≡ values at f → v ≡ f at → take m (set old at v) ≡ values m f
+pub rows-one : (f : ℕ → ℤ) (at m : ℕ) (old : List ℤ) (v : ℤ) → m ≡ at + 1 → at < length old →
+    take at old ≡ values at f → v ≡ f at → take m (set old at v) ≡ values m f
 rows-one f at m old v next room done is =
     let here : at + 0 ≡ at = omega arith in
     ap (λ k. take k (set old at v)) next
@@ -95,7 +108,8 @@ rows-one f at m old v next room done is =
     ∙ ap (λ k. values k f) (sym next)
 
 -- ---- a sum by lanes
-pub list_sum-wraps : (w : Width) (lanes ps : List ℤ) → length lanes ≡ length ps → int_wrap w (list_sum (zip2 (λ s p. int_wrap w (s +ℤ p)) lanes ps)) ≡ int_wrap w (list_sum lanes +ℤ list_sum ps)
+pub list_sum-wraps : (w : Width) (lanes ps : List ℤ) → length lanes ≡ length ps →
+    int_wrap w (list_sum (zip2 (λ s p. int_wrap w (s +ℤ p)) lanes ps)) ≡ int_wrap w (list_sum lanes +ℤ list_sum ps)
 list_sum-wraps w [] [] e = refl
 list_sum-wraps w [] (p ∷ ps) e = absurd (omega (arith, e))
 list_sum-wraps w (s ∷ lanes) [] e = absurd (omega (arith, e))
@@ -113,14 +127,17 @@ list_sum-zeros (suc n) = +ℤ_idl (list_sum (replicate n (pos 0))) ∙ list_sum-
 
 -- the products of a group, in order
 pub products-chunk : (at n : ℕ) (xs ys : List ℤ) → at + n ≤ length xs → at + n ≤ length ys
-    → list_sum (zip2 (λ x y. x *ℤ y) (chunk at n xs) (chunk at n ys)) ≡ sum_below n (λ k. sample xs (at + k) *ℤ sample ys (at + k))
+    → list_sum (zip2 (λ x y. x *ℤ y) (chunk at n xs) (chunk at n ys)) ≡ sum_below n
+    (λ k. sample xs (at + k) *ℤ sample ys (at + k))
 products-chunk at zero xs ys room_x room_y = refl
 products-chunk at (suc n) xs ys room_x room_y =
     let f : ℕ → ℤ = λ k. sample xs (at + k) *ℤ sample ys (at + k) in
     let here : at ≡ at + 0 = omega arith in
-    (λ i. list_sum (zip2 (λ x y. x *ℤ y) (take (suc n) (drop_more xs at (pos 0) (omega arith) i)) (take (suc n) (drop_more ys at (pos 0) (omega arith) i))))
+    (λ i. list_sum (zip2 (λ x y. x *ℤ y) (take (suc n) (drop_more xs at (pos 0) (omega arith) i))
+    (take (suc n) (drop_more ys at (pos 0) (omega arith) i))))
     ∙ ap (λ z. (sample xs at *ℤ sample ys at) +ℤ z) (products-chunk (at + 1) n xs ys (omega arith) (omega arith))
-    ∙ ap (λ z. (sample xs at *ℤ sample ys at) +ℤ z) (sum_below_cong n (λ k. sample xs (at + 1 + k) *ℤ sample ys (at + 1 + k)) (λ k. f (suc k))
+    ∙ ap (λ z. (sample xs at *ℤ sample ys at) +ℤ z) (sum_below_cong n
+    (λ k. sample xs (at + 1 + k) *ℤ sample ys (at + 1 + k)) (λ k. f (suc k))
     (λ k lt. let e : at + 1 + k ≡ at + suc k = omega arith in ap (λ p. sample xs p *ℤ sample ys p) e))
     ∙ ap (λ p. (sample xs p *ℤ sample ys p) +ℤ sum_below n (λ k. f (suc k))) here
     ∙ sym (sum_below-front n f)

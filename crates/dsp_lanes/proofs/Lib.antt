@@ -13,19 +13,8 @@ pub mod ProductPairs
 pub mod PairSums
 pub mod RowProducts
 pub mod Fractions
-pub mod ReflectedGroups
 pub mod WeightLanes
 pub mod HighSums
 pub mod HighRows
 pub mod DotSums
 pub mod NarrowSums
-pub mod SectionChannels
-mod LaneValues
-pub mod FloorShifts
-mod SectionHalves
-pub mod SectionLanes
-pub mod LadderLanes
-pub mod LadderProducts
-pub mod LadderSections
-pub mod ScaledShifts
-pub mod FourSections

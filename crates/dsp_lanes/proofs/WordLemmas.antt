@@ -1,5 +1,6 @@
 -- To wrap on the way changes nothing.
-use Rattle.std.proofs.Common.{ℕ, ◌≡◌, ◌<◌, ◌≤◌, ◌+◌, ◌-◌, ◌*◌, ◌/◌, ◌%◌, ◌^◌, suc, Bool, true, false, refl, sym, ap, ◌∙◌, arith}
+use Rattle.std.proofs.Common.{ℕ, ◌≡◌, ◌<◌, ◌≤◌, ◌+◌, ◌-◌, ◌*◌, ◌/◌, ◌%◌, ◌^◌, suc, Bool, true, false, refl, sym, ap}
+use Rattle.std.proofs.Common.{◌∙◌, arith}
 use Rattle.std.proofs.lemmas.Int.{ints, int_rem_euclid_is}
 use Rattle.std.specs.Prelude.{ℤ, pos, negsuc, ◌+ℤ◌, ◌-ℤ◌, nat_lt, if◌then◌else◌, unsigned_abs}
 use Rattle.std.specs.Int.{int_wrap, cast_signed, int_rem_euclid}
@@ -12,7 +13,8 @@ use mir.Val.{bits}
 use Rattle.dsp_lanes.specs.Regrouped.{wrap_bits, signed_word, width_bits}
 
 -- numbers that differ by a multiple of 2^n
-pub wrap_bits-congruent : (n : ℕ) (a b : ℤ) (j k : ℕ) → a +ℤ pos (j * 2 ^ n) ≡ b +ℤ pos (k * 2 ^ n) → wrap_bits n a ≡ wrap_bits n b
+pub wrap_bits-congruent : (n : ℕ) (a b : ℤ) (j k : ℕ) → a +ℤ pos (j * 2 ^ n) ≡ b +ℤ pos (k * 2 ^ n) →
+    wrap_bits n a ≡ wrap_bits n b
 unfolding wrap_bits
 wrap_bits-congruent n a b j k e =
     let m = 2 ^ n in
@@ -20,14 +22,16 @@ wrap_bits-congruent n a b j k e =
     let t = down a + down b in
     let far : t * 1 ≤ t * m = mul-le-mul_left t some in
     let r = up a + (j + t) * m - down a in
-    let from : (z : ℤ) (i : ℕ) → z +ℤ pos ((i + t) * m) ≡ pos r → wrap_bits n z ≡ signed_word n (r % m) = λ z i h. ap (λ q. signed_word n (unsigned_abs q)) (int_rem_euclid_is z (pos m) m (i + t) r some refl h) in
+    let from : (z : ℤ) (i : ℕ) → z +ℤ pos ((i + t) * m) ≡ pos r → wrap_bits n z ≡ signed_word n (r % m) =
+    λ z i h. ap (λ q. signed_word n (unsigned_abs q)) (int_rem_euclid_is z (pos m) m (i + t) r some refl h) in
     from a j (omega (arith, ints)) ∙ sym (from b k (omega (arith, ints)))
 
 -- how many times 2^n the word's number lies below r
 read : (n r : ℕ) → (j : ℕ) × (signed_word n r +ℤ pos (j * 2 ^ n) ≡ pos r)
 read n r = by (nat_lt r (2 ^ (n - 1))) refl
   where
-    by : (t : Bool) → nat_lt r (2 ^ (n - 1)) ≡ t → (j : ℕ) × ((if t then pos r else (pos r -ℤ pos (2 ^ n))) +ℤ pos (j * 2 ^ n) ≡ pos r)
+    by : (t : Bool) → nat_lt r (2 ^ (n - 1)) ≡ t → (j : ℕ) ×
+        ((if t then pos r else (pos r -ℤ pos (2 ^ n))) +ℤ pos (j * 2 ^ n) ≡ pos r)
     by true e = (0, omega (arith, ints))
     by false e = (1, omega (arith, ints))
 
@@ -45,7 +49,8 @@ left n (negsuc a) =
     (r.0, a / m + 1, omega (arith, same_in, same_out, sum_is_lem, r.1, div-add-mod' a m))
 
 pub wrap_bits-add_left : (n : ℕ) (a b : ℤ) → wrap_bits n (wrap_bits n a +ℤ b) ≡ wrap_bits n (a +ℤ b)
-wrap_bits-add_left n a b = let l = left n a in wrap_bits-congruent n (wrap_bits n a +ℤ b) (a +ℤ b) l.0 l.1 (omega (arith, same_in, same_out, sum_is_lem, l.2))
+wrap_bits-add_left n a b = let l = left n a in wrap_bits-congruent n (wrap_bits n a +ℤ b) (a +ℤ b) l.0 l.1
+    (omega (arith, same_in, same_out, sum_is_lem, l.2))
 
 pub wrap_bits-add_right : (n : ℕ) (a b : ℤ) → wrap_bits n (a +ℤ wrap_bits n b) ≡ wrap_bits n (a +ℤ b)
 wrap_bits-add_right n a b = ap (wrap_bits n) (+ℤ_comm a _) ∙ wrap_bits-add_left n b a ∙ ap (wrap_bits n) (+ℤ_comm b a)

@@ -3,9 +3,5 @@ pub mod Regrouped
 pub mod Narrow
 pub mod Pairs
 pub mod MatrixRows
-pub mod Reflected
 pub mod HighSums
 pub mod Rows
-pub mod Sections
-pub mod Ladders
-pub mod SectionWaves

@@ -9,7 +9,8 @@ column_of matrix columns given l = values columns (λ k. sample matrix (k * give
 
 -- the sum of the products of `columns` elements from `start` on with column l of it
 abbrev pub column_sum : List ℤ → List ℤ → ℕ → ℕ → ℕ → ℕ → ℤ
-column_sum rows matrix columns given start l = sum_below columns (λ k. sample rows (start + k) *ℤ sample matrix (k * given + l))
+column_sum rows matrix columns given start l = sum_below columns
+    (λ k. sample rows (start + k) *ℤ sample matrix (k * given + l))
 
 -- a sum that fits 32 bits, as a sample: sat_16(s >> 15)
 abbrev pub shut : ℤ → ℤ

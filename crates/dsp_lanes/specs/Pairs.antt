@@ -5,7 +5,8 @@ use Rattle.dsp_defs.specs.Signal.{sample}
 
 -- what the taps j and j+1 give to the sum whose window begins at a place
 abbrev pub pair_sum : List ℤ → List ℤ → ℕ → ℕ → ℤ
-pair_sum taps window j place = wrap w32 ((sample window place *ℤ sample taps j) +ℤ (sample window (place + 1) *ℤ sample taps (j + 1)))
+pair_sum taps window j place = wrap w32 ((sample window place *ℤ sample taps j) +ℤ
+    (sample window (place + 1) *ℤ sample taps (j + 1)))
 
 -- the values at four places that lie two apart
 abbrev pub four : (ℕ → ℤ) → ℕ → List ℤ

@@ -1,5 +1,6 @@
 -- Sums in words of n bits, taken one after another or by lanes.
-use Rattle.std.specs.Prelude.{ℕ, suc, zero, ◌-◌, ◌*◌, ◌/◌, ◌^◌, ℤ, pos, ◌+ℤ◌, ◌-ℤ◌, List, [], ◌∷◌, take, drop, replicate, length, nat_lt, if◌then◌else◌, unsigned_abs}
+use Rattle.std.specs.Prelude.{ℕ, suc, zero, ◌-◌, ◌*◌, ◌/◌, ◌^◌, ℤ, pos, ◌+ℤ◌, ◌-ℤ◌, List, [], ◌∷◌, take, drop}
+use Rattle.std.specs.Prelude.{replicate, length, nat_lt, if◌then◌else◌, unsigned_abs}
 use Rattle.std.specs.Int.{int_rem_euclid}
 use Rattle.std.specs.Simd.Lanes.{zip2}
 use Rattle.dsp_defs.specs.Numbers.{Width, w8, w16, w32, w64, w128}

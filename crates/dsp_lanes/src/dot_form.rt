@@ -5,7 +5,7 @@ ghost use Rattle.dsp_defs.specs.Signal.{sample, sum_below};
 use dsp_sat::Sample;
 
 /// How a sum of products takes a group of them.
-pub(crate) trait DotForm<T: Sample> {
+pub trait DotForm<T: Sample> {
     /// The sum so far, in parts.
     type Sums: Copy;
 

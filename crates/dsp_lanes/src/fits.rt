@@ -13,8 +13,9 @@ pub(crate) fn q7_fit(samples: &[i8])
     }
 }
 
+/// For samples in Q15.
 #[inline(always)]
-pub(crate) fn q15_fit(samples: &[i16])
+pub fn q15_fit(samples: &[i16])
     ensures { All (FitsSigned w16) samples.now }
 {
     for sample in samples {
@@ -24,7 +25,7 @@ pub(crate) fn q15_fit(samples: &[i16])
 
 /// For samples in Q31, and for sums in Q7.
 #[inline(always)]
-pub(crate) fn q31_fit(samples: &[i32])
+pub fn q31_fit(samples: &[i32])
     ensures { All (FitsSigned w32) samples.now }
 {
     for sample in samples {

@@ -4,12 +4,12 @@ use crate::fits::q15_fit;
 use std::simd::prelude::*;
 
 /// Eight products.
-pub(crate) struct PairDots;
+pub struct PairDots;
 
 /// Sums of pairs of products, each pair less 1: two products come to at most 2^31, which is one more
 /// than a lane of 32 bits holds. And how many pairs there are.
 #[derive(Clone, Copy)]
-pub(crate) struct DotSums {
+pub struct DotSums {
     less: i64x4,
     pairs: i64,
 }

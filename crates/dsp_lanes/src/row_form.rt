@@ -1,4 +1,5 @@
-ghost use Rattle.std.specs.Prelude.{◌≡◌, ◌+◌, ◌^◌, ◌<◌, ◌≤◌, ℕ, ℤ, List, pos, ◌+ℤ◌, ◌*ℤ◌, length, map, replicate};
+ghost use Rattle.std.specs.Prelude.{◌≡◌, ◌+◌, ◌^◌, ◌<◌, ◌≤◌, ℕ, ℤ, List, pos, ◌+ℤ◌, ◌*ℤ◌, length, map};
+ghost use Rattle.std.specs.Prelude.{replicate};
 ghost use Rattle.std.specs.Simd.Lanes.{zip2, chunk, put_chunk};
 ghost use Rattle.dsp_defs.specs.Numbers.{wrap, Width};
 ghost use Rattle.dsp_defs.specs.Formats.{close};

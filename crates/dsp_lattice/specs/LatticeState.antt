@@ -6,11 +6,11 @@ use Rattle.dsp_defs.specs.Numbers.{◌>>◌, wrap, w32}
 use Rattle.dsp_defs.specs.Formats.{word}
 use Rattle.dsp_defs.specs.Lattice.{lattice_stage}
 use Rattle.dsp_defs.specs.Kept.{InWord, latest, lattice_kept, ladder_kept}
-use Rattle.dsp_stage.specs.Filter.{IsSteady, IsStepwise}
+use Rattle.dsp_unit.specs.Filter.{IsSteady, IsStepwise}
 use Rattle.dsp_defs.proofs.KeptLaws.{kept_of_channel-place}
-use Rattle.dsp_stage.proofs.ChannelKept.{words-placed}
-use Rattle.dsp_unit.proofs.Units.{scaled, less-scaled}
-use Rattle.dsp_defs.specs.declared.limits.TheConstants.{MAX_STAGES}
+use Rattle.dsp_unit.proofs.ChannelKept.{words-placed}
+use Rattle.dsp_filter.proofs.Units.{scaled, less-scaled}
+use Rattle.dsp_defs.specs.declared.limits.TheConstants.{MAX_LATTICE_SECTIONS}
 use Rattle.dsp_defs.specs.declared.format.Fmt.{Fmt}
 use Rattle.dsp_defs.specs.declared.format.Fmt.TheVariants.{Q7, Q31}
 use Rattle.dsp_defs.specs.declared.script.Block.{Block}
@@ -86,7 +86,7 @@ coefficients_of block = []
 -- 1 to 255 coefficients of the format
 pub record AreReflections (format : Fmt) (k : List ℤ) : Type 0 where
   pub in_format : All (FitsSigned (word format)) k
-  pub few : length k ≤ MAX_STAGES
+  pub few : length k ≤ MAX_LATTICE_SECTIONS
 
 -- and one more of the ladder
 pub record AreLadder (format : Fmt) (k v : List ℤ) : Type 0 where
@@ -129,11 +129,13 @@ fir-steady format k = record {
   live_same = λ n. refl;
   whole_same = λ n. refl;
   kinds_same = λ n. refl;
-  placed = λ numbers size. words-placed (word format) (length k) numbers (size ∙ length-replicate (length k) (InWord (word format)));
+  placed = λ numbers size. words-placed (word format) (length k) numbers
+      (size ∙ length-replicate (length k) (InWord (word format)));
   live_cost = λ n. one n (2 * length k);
 }
 
-pub fir-stepwise : (format : Fmt) (block : Block) → IsFirLatticeIn format block → IsStepwise format block (2 * length (coefficients_of block))
+pub fir-stepwise : (format : Fmt) (block : Block) → IsFirLatticeIn format block →
+    IsStepwise format block (2 * length (coefficients_of block))
 fir-stepwise format (LatticeFir k) is = record {
   steady = fir-steady format k;
   turns = λ m n. less-one m n (2 * length k);
@@ -163,11 +165,13 @@ iir-steady format k v = record {
   live_same = λ n. refl;
   whole_same = λ n. refl;
   kinds_same = λ n. refl;
-  placed = λ numbers size. words-placed (word format) (length k) numbers (size ∙ length-replicate (length k) (InWord (word format)));
+  placed = λ numbers size. words-placed (word format) (length k) numbers
+      (size ∙ length-replicate (length k) (InWord (word format)));
   live_cost = λ n. one n (3 * length k + 1);
 }
 
-pub iir-stepwise : (format : Fmt) (block : Block) → IsIirLatticeIn format block → IsStepwise format block (3 * length (coefficients_of block) + 1)
+pub iir-stepwise : (format : Fmt) (block : Block) → IsIirLatticeIn format block →
+    IsStepwise format block (3 * length (coefficients_of block) + 1)
 iir-stepwise format (LatticeIir k v) is = record {
   steady = iir-steady format k v;
   turns = λ m n. less-one m n (3 * length k + 1);

@@ -1,8 +1,8 @@
 use crate::making::check_reflections;
 use crate::{FirLatticeWork, NarrowSample};
 use dsp_defs::{MakeFault, Steps};
+use dsp_filter::{StepFilter, all_fit, check_block};
 use dsp_sat::Sample;
-use dsp_unit::{StepFilter, all_fit, check_block};
 use std::alloc::Global;
 use std::sync::ledger::Ledger;
 
@@ -16,8 +16,9 @@ pub struct FirLattice<T: NarrowSample> {
 pub type FirLattice15 = FirLattice<i16>;
 
 impl<T: NarrowSample> FirLattice<T> {
-    ghost use Rattle.std.specs.Prelude.{◌≡◌, ◌≤◌, ◌+◌, ◌*◌, ◌↔◌, true, IfOk, IfErr, IsFalse, IsTrue, MatchOption, length, map, take, drop};
-    ghost use Rattle.dsp_stage.specs.Filter.{FilterFeeds, FilterRestores, IsNewFilter};
+    ghost use Rattle.std.specs.Prelude.{◌≡◌, ◌≤◌, ◌+◌, ◌*◌, ◌↔◌, true, IfOk, IfErr, IsFalse, IsTrue};
+    ghost use Rattle.std.specs.Prelude.{MatchOption, length, map, take, drop};
+    ghost use Rattle.dsp_unit.specs.Filter.{FilterFeeds, FilterRestores, IsNewFilter};
     ghost use Rattle.dsp_defs.specs.Kept.{kinds_by, Each, IsOfKind};
     ghost use Rattle.dsp_defs.specs.declared.script.Block.TheVariants.{LatticeFir};
     ghost use Rattle.dsp_lattice.specs.LatticeState.{coefficients_of};

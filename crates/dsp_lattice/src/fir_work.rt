@@ -2,8 +2,8 @@ use crate::NarrowSample;
 use crate::fir_sections::run_lattice;
 use crate::numbers::{read_numbers, write_numbers, zeros};
 use dsp_defs::{Block, Steps};
+use dsp_filter::{Stepwise, are_samples, samples_of};
 use dsp_sat::Sample;
-use dsp_unit::{Stepwise, are_samples, samples_of};
 use std::alloc::{AllocError, Global};
 use std::marker::Model;
 use std::sync::ledger::Ledger;
@@ -53,7 +53,8 @@ impl<T: NarrowSample> FirLatticeWork<T> {
 
 impl<T: NarrowSample> Stepwise<T> for FirLatticeWork<T> {
     ghost use Rattle.std.specs.Prelude.{◌*◌, length};
-    ghost use Rattle.dsp_lattice.specs.LatticeState.{fir_block_of, fir_kept_of, IsFirLatticeIn, coefficients_of, fir-stepwise};
+    ghost use Rattle.dsp_lattice.specs.LatticeState.{fir_block_of, fir_kept_of, IsFirLatticeIn};
+    ghost use Rattle.dsp_lattice.specs.LatticeState.{coefficients_of, fir-stepwise};
 
     ghost block = { fir_block_of };
 

@@ -2,8 +2,8 @@ use crate::LatticeSample;
 use crate::ladder::ladder_step;
 use crate::numbers::{read_reversed, write_numbers, zeros};
 use dsp_defs::{Block, Steps};
+use dsp_filter::{Stepwise, are_samples, samples_of};
 use dsp_sat::Sample;
-use dsp_unit::{Stepwise, are_samples, samples_of};
 use std::alloc::{AllocError, Global};
 use std::marker::Model;
 use std::sync::ledger::Ledger;
@@ -61,7 +61,8 @@ impl<T: LatticeSample> IirLatticeWork<T> {
 
 impl<T: LatticeSample> Stepwise<T> for IirLatticeWork<T> {
     ghost use Rattle.std.specs.Prelude.{◌*◌, ◌+◌, length};
-    ghost use Rattle.dsp_lattice.specs.LatticeState.{iir_block_of, iir_kept_of, IsIirLatticeIn, coefficients_of, iir-stepwise};
+    ghost use Rattle.dsp_lattice.specs.LatticeState.{iir_block_of, iir_kept_of, IsIirLatticeIn};
+    ghost use Rattle.dsp_lattice.specs.LatticeState.{coefficients_of, iir-stepwise};
 
     ghost block = { iir_block_of };
 

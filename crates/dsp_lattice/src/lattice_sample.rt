@@ -9,8 +9,8 @@ ghost use Rattle.dsp_defs.specs.declared.format.Fmt.TheVariants.{Q15};
 ghost use Rattle.dsp_lattice.specs.LatticeState.{HasLattice, reflection, section_kept};
 
 use dsp_defs::Steps;
-use dsp_lanes::{LadderSample, reflect};
 use dsp_sat::{Sample, low_word};
+use dsp_sections::{LadderSample, reflect};
 use std::sync::ledger::Ledger;
 
 /// The samples of a lattice.

@@ -1,9 +1,10 @@
 //! The numbers that a lattice keeps.
-ghost use Rattle.std.specs.Prelude.{◌≡◌, ◌+◌, length, map, replicate, reverse, drop, pos, All, FitsSigned, IfOk};
+ghost use Rattle.std.specs.Prelude.{◌≡◌, ◌+◌, length, map, replicate, reverse, drop, pos, All, FitsSigned};
+ghost use Rattle.std.specs.Prelude.{IfOk};
 ghost use Rattle.dsp_defs.specs.Formats.{word};
 
+use dsp_filter::number_of;
 use dsp_sat::Sample;
-use dsp_unit::number_of;
 use std::alloc::{AllocError, Global};
 
 /// So many zeros.

@@ -10,12 +10,14 @@ use Rattle.dsp_defs.specs.declared.script.Script.{Script}
 use Rattle.dsp_command.specs.declared.command.Command.TheVariants.{Print, Stop, Check}
 use Rattle.dsp_session.specs.declared.fault.PartFault.TheVariants as part_fault
 use Rattle.dsp_session.specs.declared.fault.StreamFault.TheVariants.{Header, Input, Output, Lengths}
-use Rattle.dsp_cli.specs.Call.{Call, Ending, Went, Printed, Saved, Resumed, Turned, Checked, Stopped, Streams, Happened, Reported, Ended}
+use Rattle.dsp_cli.specs.Call.{Call, Ending, Went, Printed, Saved, Resumed, Turned, Checked, Stopped, Streams}
+use Rattle.dsp_cli.specs.Call.{Happened, Reported, Ended}
 use Rattle.dsp_cli.specs.Fault.{status_of, fault_line}
 use Rattle.dsp_cli.specs.Run.{HasText, HasBlocks, HasOutput, IsPrint, IsDone, Wrote, Tells, read_from}
 use Rattle.dsp_cli.specs.Script.{IfScript}
 use Rattle.dsp_cli.specs.declared.fault.Fault.{Fault}
-use Rattle.dsp_cli.specs.declared.fault.Fault.TheVariants.{Usage, ScriptRead, Script as BadText, BlockLength, Memory, Stream, State, Part, Conversion, Comparison}
+use Rattle.dsp_cli.specs.declared.fault.Fault.TheVariants.{Usage, ScriptRead, Script as BadText, BlockLength, Memory}
+use Rattle.dsp_cli.specs.declared.fault.Fault.TheVariants.{Stream, State, Part, Conversion, Comparison}
 use Rattle.dsp_au.specs.declared.fault.ConvertFault.TheVariants as convert_fault
 use Rattle.dsp_check.specs.declared.fault.CheckFault.TheVariants as check_fault
 use Rattle.dsp_cli.proofs.StatusLaws.{reports_done, fault_not_done, stream_or_print, stream_output}
@@ -41,7 +43,8 @@ port_kept streams same =
 module _ (c : Call) (status : ℕ) (report told : SinkState) where
   -- ---- the texts
 
-  clean : (ending : Ending) → Happened ending c → Reported ending status report told → status ≡ 0 → IsClean c report told
+  clean : (ending : Ending) → Happened ending c → Reported ending status report told → status ≡ 0 →
+      IsClean c report told
   clean (Went script frames found) went reported zero = record {
     script_kept = went.read.read.no_fault;
     input_kept = port_kept went went.did.no_input_fault;
@@ -96,23 +99,29 @@ module _ (c : Call) (status : ℕ) (report told : SinkState) where
   settled (Stopped fault) happened reported zero = absurd (fault_not_done fault (subst IsDone reported.0 (inl zero)))
 
   -- what a print has done with its text, and whether it is all
-  print_told : (ending : Ending) → Happened ending c → Reported ending status report told → IsPrint c.words → IsDone status
+  print_told : (ending : Ending) → Happened ending c → Reported ending status report told → IsPrint c.words →
+      IsDone status
       → IfScript c.source.left (λ s. Tells (canon s) report told × (status ≡ 0 → Wrote (canon s) report told))
   print_told (Went script frames found) went reported print done = absurd (stream_or_print c.words went.stream print)
   print_told (Printed script) printed reported print done =
-      told_script c.source c.read script (λ s. Tells (canon s) report told × (status ≡ 0 → Wrote (canon s) report told)) printed.1
+      told_script c.source c.read script (λ s. Tells (canon s) report told ×
+      (status ≡ 0 → Wrote (canon s) report told)) printed.1
       (text_told reported, text_wrote reported)
-  print_told (Saved script at x) saved reported print done = absurd (let same : Some Print ≡ Some (Stop at) = sym print ∙ saved.asked in cc)
-  print_told (Resumed script frames found) resumed reported print done = absurd (subst HasText (sym print ∙ resumed.asked) tt)
+  print_told (Saved script at x) saved reported print done =
+      absurd (let same : Some Print ≡ Some (Stop at) = sym print ∙ saved.asked in cc)
+  print_told (Resumed script frames found) resumed reported print done =
+      absurd (subst HasText (sym print ∙ resumed.asked) tt)
   print_told (Turned totals) turned reported print done = absurd (subst HasText (sym print ∙ turned.asked) tt)
   print_told (Checked script size) checked reported print done = absurd (subst HasBlocks (sym checked.asked ∙ print) tt)
   print_told (Stopped fault) happened reported print done = absurd (fault_not_done fault (subst IsDone reported.0 done))
 
   -- what a check has said of a file that is the output, and whether it is all
   abbrev SameTold : Type 0
-  SameTold = IfSome c.other.left (λ file. Tells (same_text (length file)) report told × (status ≡ 0 → Wrote (same_text (length file)) report told))
+  SameTold = IfSome c.other.left (λ file. Tells (same_text (length file)) report told ×
+      (status ≡ 0 → Wrote (same_text (length file)) report told))
 
-  same_told : (script : Script) (size : ℕ) → Happened (Checked script size) c → Reported (Checked script size) status report told → SameTold
+  same_told : (script : Script) (size : ℕ) → Happened (Checked script size) c →
+      Reported (Checked script size) status report told → SameTold
   same_told script size checked reported =
       let did = checked.did in
       IfSome-map c.other.left (λ file. file ≡ output script did.given) _
@@ -123,11 +132,14 @@ module _ (c : Call) (status : ℕ) (report told : SinkState) where
       ))
       (told_whole c.other.left c.seen.left (output script did.given) did.all.gave.front did.all.end)
 
-  check_told : (ending : Ending) → Happened ending c → Reported ending status report told → command_of c.words ≡ Some Check → IsDone status → SameTold
-  check_told (Went script frames found) went reported check done = absurd (subst HasOutput check (stream_output c.words went.stream))
+  check_told : (ending : Ending) → Happened ending c → Reported ending status report told →
+      command_of c.words ≡ Some Check → IsDone status → SameTold
+  check_told (Went script frames found) went reported check done =
+      absurd (subst HasOutput check (stream_output c.words went.stream))
   check_told (Printed script) printed reported check done = absurd (subst HasBlocks (sym check ∙ printed.0) tt)
   check_told (Saved script at x) saved reported check done = absurd (subst HasOutput (sym saved.asked ∙ check) tt)
-  check_told (Resumed script frames found) resumed reported check done = absurd (subst HasOutput (sym resumed.asked ∙ check) tt)
+  check_told (Resumed script frames found) resumed reported check done =
+      absurd (subst HasOutput (sym resumed.asked ∙ check) tt)
   check_told (Turned totals) turned reported check done = absurd (subst HasOutput (sym turned.asked ∙ check) tt)
   check_told (Checked script size) checked reported check done = same_told script size checked reported
   check_told (Stopped fault) happened reported check done = absurd (fault_not_done fault (subst IsDone reported.0 done))
@@ -174,22 +186,28 @@ module _ (c : Call) (status : ℕ) (report told : SinkState) where
   line_told (Checked script size) reported = done_line (reports_done reported)
   line_told (Stopped fault) (is, tells) = subst LineTold (sym is) (fault_told fault tells)
 
-  text_fault : Ended c status report told → status ≡ 2 → IfFault c.source.left (λ fault. Tells (script_line fault) report told)
+  text_fault : Ended c status report told → status ≡ 2 →
+      IfFault c.source.left (λ fault. Tells (script_line fault) report told)
   text_fault end is =
-      let (fault, refuses, tells) = of_text c report told (stopped c report told status 2 end is (λ done. omega (arith, done))) in
+      let (fault, refuses, tells) = of_text c report told
+      (stopped c report told status 2 end is (λ done. omega (arith, done))) in
       IfSome-map c.source.left (λ all. first_fault all ≡ Some fault) _
-      (λ all first other found. let same : fault ≡ other = cc in subst (λ fault. Tells (script_line fault) report told) same tells)
+      (λ all first other found. let same : fault ≡ other = cc in
+      subst (λ fault. Tells (script_line fault) report told) same tells)
       (told_first c.source c.read fault refuses.1)
 
   pub reports : Ended c status report told → Reports c status report told
   reports end = record {
     clean = clean end.ending end.happened end.reported;
     settled = settled end.ending end.happened end.reported;
-    printed = λ print zero. IfSome-map c.source.left _ _ (λ text all s reads. (all s reads).1 zero) (print_told end.ending end.happened end.reported print (inl zero));
-    unprinted = λ print nine. IfSome-map c.source.left _ _ (λ text all s reads. (all s reads).0) (print_told end.ending end.happened end.reported print (inr nine));
+    printed = λ print zero. IfSome-map c.source.left _ _ (λ text all s reads. (all s reads).1 zero)
+        (print_told end.ending end.happened end.reported print (inl zero));
+    unprinted = λ print nine. IfSome-map c.source.left _ _ (λ text all s reads. (all s reads).0)
+        (print_told end.ending end.happened end.reported print (inr nine));
     checked = check_told end.ending end.happened end.reported;
     tells = line_told end.ending end.reported;
     tells_fault = text_fault end;
     tells_length = λ blocks is.
-        IfSome-map c.source.left _ _ (λ text all s reads. (all s reads).1) (of_length c report told blocks (stopped c report told status 3 end is (λ done. omega (arith, done))));
+        IfSome-map c.source.left _ _ (λ text all s reads. (all s reads).1)
+        (of_length c report told blocks (stopped c report told status 3 end is (λ done. omega (arith, done))));
   }

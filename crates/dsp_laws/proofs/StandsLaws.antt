@@ -10,16 +10,21 @@ use Rattle.dsp_defs.specs.declared.limits.TheConstants.{MAX_GATHERED}
 use Rattle.dsp_defs.specs.declared.measure.Measure.{Measure}
 use Rattle.dsp_defs.specs.declared.script.Script.{Script}
 use Rattle.dsp_session.specs.Session.{cost_of, run_turns}
-use Rattle.dsp_session.specs.Stream.{Stopped as StreamStopped, Nothing, Part, WrotePart as StreamWrote, KeepsLimits, IsTakenWhole, frames_in_bytes}
+use Rattle.dsp_session.specs.Stream.{Stopped as StreamStopped, Nothing, Part, WrotePart as StreamWrote, KeepsLimits}
+use Rattle.dsp_session.specs.Stream.{IsTakenWhole, frames_in_bytes}
 use Rattle.dsp_session.specs.declared.fault.StreamFault.{StreamFault}
 use Rattle.dsp_session.specs.declared.fault.StreamFault.TheVariants.{Header, Input, Output, Lengths}
-use Rattle.dsp_cli.specs.Call.{Call, Ending, Went, Printed, Turned, Checked, Stopped, Streams, Happened, Reported, Ended, Saved, Resumed, InFirst, InRest}
+use Rattle.dsp_cli.specs.Call.{Call, Ending, Went, Printed, Turned, Checked, Stopped, Streams, Happened, Reported}
+use Rattle.dsp_cli.specs.Call.{Ended, Saved, Resumed, InFirst, InRest}
 use Rattle.dsp_cli.specs.Fault.{status_of, fault_line}
 use Rattle.dsp_cli.specs.Run.{HasText, HasOutput, IsStream, IsDone, Tells, ReportsText, read_from}
 use Rattle.dsp_cli.specs.Script.{chosen_block, is_banked}
-use Rattle.dsp_cli.specs.declared.fault.Fault.TheVariants.{Usage, ScriptRead, Script as BadText, BlockLength, Memory, Stream, Conversion, State, Part, Comparison}
-use Rattle.dsp_cli.proofs.StatusLaws.{stream_text, stream_output, reports_done, fault_not_done, stream_or_print, no_stop}
-use Rattle.dsp_laws.specs.Stands.{IsBroken, IsStopped, Stands, Taken, Gather, Window, Riff, TellsLength, WroteFront, WrotePart}
+use Rattle.dsp_cli.specs.declared.fault.Fault.TheVariants.{Usage, ScriptRead, Script as BadText, BlockLength, Memory}
+use Rattle.dsp_cli.specs.declared.fault.Fault.TheVariants.{Stream, Conversion, State, Part, Comparison}
+use Rattle.dsp_cli.proofs.StatusLaws.{stream_text, stream_output, reports_done, fault_not_done, stream_or_print}
+use Rattle.dsp_cli.proofs.StatusLaws.{no_stop}
+use Rattle.dsp_laws.specs.Stands.{IsBroken, IsStopped, Stands, Taken, Gather, Window, Riff, TellsLength, WroteFront}
+use Rattle.dsp_laws.specs.Stands.{WrotePart}
 use Rattle.dsp_laws.proofs.TextLaws.{text_told, text_wrote}
 use Rattle.dsp_laws.proofs.TakenLaws.{reader, for_script, for_given, for_taken, within_most, took_frames}
 use Rattle.dsp_session.specs.declared.fault.LengthFault.TheVariants as length_fault
@@ -33,14 +38,16 @@ module _ (c : Call) (status : ℕ) (report told : SinkState) where
   went_stands script frames found went reported =
       let d = went.did in
       let is_done = reports_done reported in
-      let exact : c.counts.multiplies ≡ c.before.multiplies + cost_of script (frames_in_bytes script d.given) = d.cost ∙ ap (λ n. c.before.multiplies + cost_of script n) d.frame_count in
+      let exact : c.counts.multiplies ≡ c.before.multiplies + cost_of script (frames_in_bytes script d.given) =
+      d.cost ∙ ap (λ n. c.before.multiplies + cost_of script n) d.frame_count in
       record {
         input = read_from (command_of c.words) script.input c.port;
         now = went.now;
         reader = reader went;
         ended = λ _. for_taken went _ d.gave (d.has, d.whole);
         in_limits = λ _. for_taken went _ d.gave
-            (subst (λ n. KeepsLimits script (input_header script d.given) n × (window_at script.blocks n ≡ None)) d.frame_count (d.limits, d.no_window));
+            (subst (λ n. KeepsLimits script (input_header script d.given) n × (window_at script.blocks n ≡ None))
+            d.frame_count (d.limits, d.no_window));
         part = λ is. absurd (omega (arith, is_done, is));
         unflushed = λ is. absurd (omega (arith, is_done, is));
         front = λ is. absurd (omega (arith, is_done, is));
@@ -50,25 +57,38 @@ module _ (c : Call) (status : ℕ) (report told : SinkState) where
         most = for_script went _ (within_most went d.gave (omega (arith, exact)));
         exact_cost = λ _. for_script went _ (frames, took_frames went d.gave d.frame_count, d.cost);
         turns = for_taken went _ d.gave
-            (subst (λ n. c.counts.turns ≤ c.before.turns + run_turns (is_banked c.words) script (chosen_block c.words script) n) d.frame_count d.turns);
-        reported = λ _. for_script went _ (frames, found, took_frames went d.gave d.frame_count, for_given went _ d.gave d.measures, text_told reported, text_wrote reported);
+            (subst (λ n. c.counts.turns ≤ c.before.turns + run_turns (is_banked c.words) script
+            (chosen_block c.words script) n) d.frame_count d.turns);
+        reported = λ _. for_script went _ (
+          frames,
+          found,
+          took_frames went d.gave d.frame_count,
+          for_given went _ d.gave d.measures,
+          text_told reported,
+          text_wrote reported,
+        );
       }
 
   -- what was written by a stream that has stopped
-  part_written : {script : Script} {block worked : ℕ} {given written : List ℕ} → c.after.put ≡ append_known c.sink.put written
-      → StreamWrote script block worked given written c.sink c.after c.before c.counts → WrotePart script block given c.sink c.after
+  part_written : {script : Script} {block worked : ℕ} {given written : List ℕ} →
+      c.after.put ≡ append_known c.sink.put written
+      → StreamWrote script block worked given written c.sink c.after c.before c.counts →
+      WrotePart script block given c.sink c.after
   part_written put (Nothing none same) = inr (inl none, same)
   part_written put (Part has is limits made) = inl (has, put ∙ ap (append_known c.sink.put) is)
 
   -- a stream of this script was stopped by this fault
   abbrev Stops : Script → StreamFault → Type 0
-  Stops script fault = Streams script (λ block input now. StreamStopped (is_banked c.words) script block fault input now c.sink c.after c.before c.counts) c
+  Stops script fault = Streams script (λ block input now. StreamStopped (is_banked c.words) script block fault input
+      now c.sink c.after c.before c.counts) c
 
-  module _ {script : Script} {fault : StreamFault} (stop : Stops script fault) (is : status ≡ status_of (Stream fault)) where
+  module _ {script : Script} {fault : StreamFault} (stop : Stops script fault)
+      (is : status ≡ status_of (Stream fault)) where
     abbrev source_input : SourceState
     source_input = read_from (command_of c.words) script.input c.port
 
-    abbrev s : StreamStopped (is_banked c.words) script (chosen_block c.words script) fault source_input stop.now c.sink c.after c.before c.counts
+    abbrev s : StreamStopped (is_banked c.words) script (chosen_block c.words script) fault source_input stop.now
+        c.sink c.after c.before c.counts
     s = stop.did
 
     abbrev Parts : Type 0
@@ -76,7 +96,8 @@ module _ (c : Call) (status : ℕ) (report told : SinkState) where
 
     abbrev Fronts : Type 0
     Fronts = status ≡ 8 → HasHeader script s.given
-        × (WroteFront (part script (chosen_block c.words script) s.given) c.sink c.after ⊎ (WroteFront (output script s.given) c.sink c.after × IsTakenWhole script s.given stop.now))
+        × (WroteFront (part script (chosen_block c.words script) s.given) c.sink c.after ⊎
+        (WroteFront (output script s.given) c.sink c.after × IsTakenWhole script s.given stop.now))
 
     abbrev LengthsTold : Type 0
     LengthsTold = status ≡ 5 → TellsLength c source_input stop.now report told
@@ -105,14 +126,24 @@ module _ (c : Call) (status : ℕ) (report told : SinkState) where
       → Tells (fault_line (Stream fault)) report told → Standing
   stop_stands script Input stop is tells =
       let s = stop.did in
-      stopped_stands stop is (λ _. part_written s.put s.wrote) (λ _. s.faults.1) (λ e. absurd (omega (arith, is, e))) (λ e. absurd (omega (arith, is, e)))
+      stopped_stands stop is (λ _. part_written s.put s.wrote) (λ _. s.faults.1) (λ e. absurd (omega (arith, is, e)))
+      (λ e. absurd (omega (arith, is, e)))
   stop_stands script Output stop is tells =
       let s = stop.did in
-      stopped_stands stop is (λ broken. absurd (omega (arith, is, broken))) (λ broken. absurd (omega (arith, is, broken)))
-      (λ _. (s.cause, elim s.wrote.1 [ inl front ↦ inl (s.written, s.put, front.0) | inr front ↦ inr ((s.written, s.put, front.0), front.1) ])) (λ e. absurd (omega (arith, is, e)))
+      stopped_stands stop is (λ broken. absurd (omega (arith, is, broken)))
+      (λ broken. absurd (omega (arith, is, broken)))
+      (λ _. (
+        s.cause,
+        elim s.wrote.1 [
+          | inl front ↦ inl (s.written, s.put, front.0)
+          | inr front ↦ inr
+              ((s.written, s.put, front.0), front.1)
+        ],
+      )) (λ e. absurd (omega (arith, is, e)))
   stop_stands script (Header fault offset) stop is tells =
       let s = stop.did in
-      stopped_stands stop is (λ _. part_written s.put s.wrote) (λ _. s.faults.1) (λ e. absurd (omega (arith, is, e))) (λ e. absurd (omega (arith, is, e)))
+      stopped_stands stop is (λ _. part_written s.put s.wrote) (λ _. s.faults.1) (λ e. absurd (omega (arith, is, e)))
+      (λ e. absurd (omega (arith, is, e)))
   stop_stands script (Lengths (length_fault.Input taken limit)) stop is tells =
       let s = stop.did in
       stopped_stands stop is (λ _. part_written s.put s.wrote) (λ _. s.faults.1) (λ e. absurd (omega (arith, is, e)))
@@ -123,7 +154,8 @@ module _ (c : Call) (status : ℕ) (report told : SinkState) where
       stopped_stands stop is (λ _. part_written s.put s.wrote) (λ _. s.faults.1) (λ e. absurd (omega (arith, is, e)))
       (λ _. Gather has more (for_taken stop _ s.gave (s.cause.0, (kept s.wrote s.cause.0, s.cause.1))) tells)
     where
-      kept : {given written : List ℕ} {worked : ℕ} → StreamWrote script (chosen_block c.words script) worked given written c.sink c.after c.before c.counts
+      kept : {given written : List ℕ} {worked : ℕ} → StreamWrote script (chosen_block c.words script) worked given
+          written c.sink c.after c.before c.counts
           → HasHeader script given → gathered script.blocks worked ≤ MAX_GATHERED
       kept (Nothing none same) has = absurd (none has)
       kept (Part has is limits made) _ = limits.not_full
@@ -134,7 +166,8 @@ module _ (c : Call) (status : ℕ) (report told : SinkState) where
   stop_stands script (Lengths (length_fault.Riff size limit)) stop is tells =
       let s = stop.did in
       let (has, alone, long, at) = s.cause in
-      stopped_stands stop is (λ _. inr (inr (size, long), s.wrote)) (λ _. s.faults.1) (λ e. absurd (omega (arith, is, e)))
+      stopped_stands stop is (λ _. inr (inr (size, long), s.wrote)) (λ _. s.faults.1)
+      (λ e. absurd (omega (arith, is, e)))
       (λ _. Riff size (for_taken stop _ s.gave (has, alone, long))
       s.wrote (subst (λ n. Tells (riff_line size n) report told) at tells))
 
@@ -145,13 +178,16 @@ module _ (c : Call) (status : ℕ) (report told : SinkState) where
       by (Went script frames found) went reported = went_stands script frames found went reported
       by (Printed script) printed reported = absurd (stream_or_print c.words stream printed.0)
       by (Saved script at x) saved reported = absurd (no_stop c.words stream at saved.asked)
-      by (Resumed script frames found) resumed reported = absurd (subst HasText resumed.asked (stream_text c.words stream))
+      by (Resumed script frames found) resumed reported =
+          absurd (subst HasText resumed.asked (stream_text c.words stream))
       by (Stopped (Part fault)) (InFirst script at stop) reported = absurd (no_stop c.words stream at stop.asked)
-      by (Stopped (Part fault)) (InRest script stop) reported = absurd (subst HasText stop.asked (stream_text c.words stream))
+      by (Stopped (Part fault)) (InRest script stop) reported =
+          absurd (subst HasText stop.asked (stream_text c.words stream))
       by (Stopped (State kind offset)) happened (is, tells) = absurd (omega (arith, is, begun))
       by (Turned totals) turned reported = absurd (subst HasText turned.asked (stream_text c.words stream))
       by (Checked script size) checked reported = absurd (subst HasOutput checked.asked (stream_output c.words stream))
-      by (Stopped (Comparison fault)) (script, stop) reported = absurd (subst HasOutput stop.asked (stream_output c.words stream))
+      by (Stopped (Comparison fault)) (script, stop) reported =
+          absurd (subst HasOutput stop.asked (stream_output c.words stream))
       by (Stopped (Conversion fault)) stop reported = absurd (subst HasText stop.asked (stream_text c.words stream))
       by (Stopped (Stream fault)) (script, stop) (is, tells) = stop_stands script fault stop is tells
       by (Stopped Usage) happened (is, tells) = absurd (omega (arith, is, begun))

@@ -1,5 +1,6 @@
 -- Where each exit status of the top call comes from.
-use Rattle.std.specs.Prelude.{◌≡◌, ◌≢◌, ◌⊎◌, ◌↔◌, ◌+◌, ◌^◌, ◌<◌, ℕ, List, length, take, slice_get, None, Some, IfSome, IsNone, IsSome, IsFalse}
+use Rattle.std.specs.Prelude.{◌≡◌, ◌≢◌, ◌⊎◌, ◌↔◌, ◌+◌, ◌^◌, ◌<◌, ℕ, List, length, take, slice_get, None, Some, IfSome}
+use Rattle.std.specs.Prelude.{IsNone, IsSome, IsFalse}
 use Rattle.dsp_ports.specs.Ports.{SinkState, one_more}
 use Rattle.dsp_defs.specs.Output.{input_header, output}
 use Rattle.dsp_defs.specs.Reading.{first_fault}
@@ -37,10 +38,12 @@ MayEndAtLimit c status =
 -- a state is at fault, or the text of a script is too long for one, and the line says it
 pub data BadState (c : Call) (report told : SinkState) : Type 0 where
   OfBytes : command_of c.words ≡ Some Go
-      → IfSome c.source.left (λ bytes. (kind : StateKind) × (offset : ℕ) × HasStateFault kind offset bytes × Tells (state_line kind offset) report told)
+      → IfSome c.source.left (λ bytes. (kind : StateKind) × (offset : ℕ) × HasStateFault kind offset bytes ×
+      Tells (state_line kind offset) report told)
       → BadState c report told
   OfScript : (at : ℕ) → command_of c.words ≡ Some (Stop at)
-      → IfScript c.source.left (λ s. (MAX_SCRIPT < length (canon s)) × Tells (state_line (LongText (length (canon s))) 0) report told)
+      → IfScript c.source.left (λ s. (MAX_SCRIPT < length (canon s)) ×
+      Tells (state_line (LongText (length (canon s))) 0) report told)
       → BadState c report told
 
 -- up to this place both have the same bytes, and there they differ, or only one of them has ended
@@ -69,13 +72,15 @@ pub record Origins (c : Call) (status : ℕ) (report told : SinkState) : Type 0 
   -- 2: the script has a first fault
   pub bad_script : status ≡ 2 → IfSome c.source.left (λ text. IsSome (first_fault text))
   -- 3: the chosen block length isn't legal
-  pub bad_length : HasBlocks (command_of c.words) → status ≡ 3 → IfScript c.source.left (λ s. IsFalse (is_legal_for s (chosen_block c.words s)))
+  pub bad_length : HasBlocks (command_of c.words) → status ≡ 3 →
+      IfScript c.source.left (λ s. IsFalse (is_legal_for s (chosen_block c.words s)))
   -- and of a run that goes on, that of the script of its state
   pub bad_state_length : command_of c.words ≡ Some Go → status ≡ 3
       → IfState c.source.left (λ s at numbers. IsFalse (is_legal_for s (chosen None s)))
   -- 4 of a run or a gen: a fault of the input's header, or its end before all declared frames
   pub header : IsStream c.words → status ≡ 4 → TellsHeader c report told
-  -- 5 of a run or a gen: also where as many bytes were taken as may be, unless a fault was found there or the declared samples end there
+  -- 5 of a run or a gen: also where as many bytes were taken as may be, unless a fault was found there or the
+  -- declared samples end there
   pub limited : IsStream c.words → c.later.taken ≡ c.port.taken + 2 ^ 40
       → (status ≡ 5) ⊎ (status ≡ 8) ⊎ MayEndAtLimit c status
   -- 6 to 9: a port has failed, once

@@ -3,7 +3,8 @@ use Rattle.std.specs.Prelude.{◌≡◌, ◌==◌, if◌then◌else◌, ℕ, Lis
 use Rattle.dsp_ports.specs.Ports.{SinkState, IsSettled}
 use Rattle.dsp_defs.specs.Canon.{canon}
 use Rattle.dsp_defs.specs.Reading.{first_fault}
-use Rattle.dsp_command.specs.Report.{block_length_line, input_read_line, memory_line, other_read_line, output_line, same_text, script_line, script_read_line, usage_line}
+use Rattle.dsp_command.specs.Report.{block_length_line, input_read_line, memory_line, other_read_line, output_line}
+use Rattle.dsp_command.specs.Report.{same_text, script_line, script_read_line, usage_line}
 use Rattle.dsp_defs.specs.Shape.{unit}
 use Rattle.dsp_defs.specs.declared.script_fault.ScriptFault.{ScriptFault}
 use Rattle.dsp_cli.specs.Call.{Call}

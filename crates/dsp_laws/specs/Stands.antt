@@ -11,7 +11,8 @@ use Rattle.dsp_defs.specs.declared.measure.Measure.{Measure}
 use Rattle.dsp_defs.specs.declared.script.Script.{Script}
 use Rattle.dsp_session.specs.Opening.{IsTooLong}
 use Rattle.dsp_session.specs.Session.{cost_of, run_turns}
-use Rattle.dsp_session.specs.Stream.{IsOverfull, IsTakenWhole, KeepsLimits, LagsByOne, WantsMore, frames_in_bytes, in_whole_blocks}
+use Rattle.dsp_session.specs.Stream.{IsOverfull, IsTakenWhole, KeepsLimits, LagsByOne, WantsMore, frames_in_bytes}
+use Rattle.dsp_session.specs.Stream.{in_whole_blocks}
 use Rattle.dsp_cli.specs.Call.{Call}
 use Rattle.dsp_cli.specs.Run.{IsDone, Tells, Wrote}
 use Rattle.dsp_cli.specs.Script.{IfScript, chosen_block, is_banked}
@@ -36,7 +37,8 @@ WroteFront bytes old new = (written : List ℕ) × Wrote written old new × Begi
 -- nothing can be written: the header of the input isn't all there, or the output would be too long
 abbrev pub IsUnwritten : Script → List ℕ → Type 0
 IsUnwritten script given =
-    (HasHeader script given → ⊥) ⊎ ((size : ℕ) × IsTooLong script (known_frames script (input_header script given)) size)
+    (HasHeader script given → ⊥) ⊎ ((size : ℕ) × IsTooLong script (known_frames script (input_header script given))
+    size)
 
 -- when these bytes were taken exactly the part output was written, or nothing could be
 abbrev pub WrotePart : Script → ℕ → List ℕ → SinkState → SinkState → Type 0
@@ -80,7 +82,8 @@ pub record Stands (c : Call) (status : ℕ) (report told : SinkState) : Type 0 w
   -- all samples were taken, and every length was kept
   pub ended : IsDone status → IfTaken c input now (λ s given. HasHeader s given × IsTakenWhole s given now)
   pub in_limits : IsDone status → IfTaken c input now (λ s given.
-      KeepsLimits s (input_header s given) (frames_in_bytes s given) × (window_at s.blocks (frames_in_bytes s given) ≡ None))
+      KeepsLimits s (input_header s given) (frames_in_bytes s given) ×
+      (window_at s.blocks (frames_in_bytes s given) ≡ None))
   -- the input, or a length, has stopped the stream: exactly the output of the whole blocks that were taken was written
   pub part : IsBroken status → IfTaken c input now (λ s given.
       WrotePart s (chosen_block c.words s) given c.sink c.after)
@@ -92,7 +95,8 @@ pub record Stands (c : Call) (status : ℕ) (report told : SinkState) : Type 0 w
       ⊎ (WroteFront (output s given) c.sink c.after × IsTakenWhole s given now)))
   -- at most one block was taken beyond what was written
   pub lag : IfTaken c input now (λ s given.
-      (written : List ℕ) × Wrote written c.sink c.after × (HasHeader s given → LagsByOne s (chosen_block c.words s) given written))
+      (written : List ℕ) × Wrote written c.sink c.after ×
+      (HasHeader s given → LagsByOne s (chosen_block c.words s) given written))
   -- a length is past its limit
   pub lengths : status ≡ 5 → TellsLength c input now report told
   -- the multiplies, for the whole frames that were taken
@@ -104,7 +108,8 @@ pub record Stands (c : Call) (status : ℕ) (report told : SinkState) : Type 0 w
       (frames : ℕ) × TookFrames s frames input now × (c.counts.multiplies ≡ c.before.multiplies + cost_of s frames))
   -- the turns of its loops, for these frames
   pub turns : IfTaken c input now (λ s given.
-      c.counts.turns ≤ c.before.turns + run_turns (is_banked c.words) s (chosen_block c.words s) (frames_in_bytes s given))
+      c.counts.turns ≤ c.before.turns + run_turns (is_banked c.words) s (chosen_block c.words s)
+      (frames_in_bytes s given))
   -- what a stream that went over its whole input says of itself
   pub reported : IsDone status → IfScript c.source.left (λ s. (frames : ℕ) × (found : List Measure)
       × TookFrames s frames input now × FoundMeasures s found input now

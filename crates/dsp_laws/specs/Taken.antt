@@ -52,7 +52,8 @@ narrowest_coding input =
 abbrev pub least_frame_bytes : Script → ℕ
 least_frame_bytes script = frame_bytes script (narrowest_coding script.input)
 
--- so many whole frames were taken: those in the bytes that are told, and for raw samples those in as many bytes as were taken
+-- so many whole frames were taken: those in the bytes that are told, and for raw samples those in as many bytes as
+-- were taken
 pub record TookFrames (script : Script) (frames : ℕ) (old new : SourceState) : Type 0 where
   pub told : IfSome (bytes_taken old new) (λ given. frames ≡ frames_in_bytes script given)
   pub most : frames ≤ count_taken old new / least_frame_bytes script

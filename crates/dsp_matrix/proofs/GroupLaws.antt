@@ -1,5 +1,7 @@
 -- Groups of a signal that goes on.
-use Rattle.std.proofs.Common.{◌≡◌, ◌∙◌, ap, ap₂, sym, ℕ, ◌+◌, ◌-◌, ◌*◌, ◌/◌, ◌%◌, ◌<◌, ◌≤◌, ℤ, List, [], ◌++◌, length, map, take, drop, arith, length-append, length-drop, length-take-le, append_assoc, take_all, min, ⊎_elim}
+use Rattle.std.proofs.Common.{◌≡◌, ◌∙◌, ap, ap₂, sym, ℕ, ◌+◌, ◌-◌, ◌*◌, ◌/◌, ◌%◌, ◌<◌, ◌≤◌, ℤ, List, [], ◌++◌, length}
+use Rattle.std.proofs.Common.{map, take, drop, arith, length-append, length-drop, length-take-le, append_assoc}
+use Rattle.std.proofs.Common.{take_all, min, ⊎_elim}
 use Rattle.std.proofs.lemmas.Bool.{cases_lt}
 use Rattle.std.specs.Int.{div_ceil}
 use Rattle.std.proofs.lemmas.Grind.{div_ceil_times}
@@ -80,21 +82,25 @@ module _ (t g : ℕ) (result : List ℤ → ℕ → ℤ) (some : 0 < t) where
     -- behind whole groups others begin
     pub whole-open : open_group t (x ++ y) ≡ open_group t y
     whole-open =
-        let place : length (x ++ y) / t * t ≡ length x + length y / t * t = (ap (λ n. n * t) long ∙ omega (arith, whole)) in
+        let place : length (x ++ y) / t * t ≡ length x + length y / t * t =
+        (ap (λ n. n * t) long ∙ omega (arith, whole)) in
         ap (λ n. drop n (x ++ y)) place ∙ drop-append-add x y (length y / t * t)
 
-    before : (i : ℕ) → i < q * g → result (take t (drop (i / g * t) (x ++ y))) (i % g) ≡ result (take t (drop (i / g * t) x)) (i % g)
+    before : (i : ℕ) → i < q * g → result (take t (drop (i / g * t) (x ++ y))) (i % g) ≡ result
+        (take t (drop (i / g * t) x)) (i % g)
     before i h =
         let group : i / g < q = div_below i g q (omega-some i h) h in
         let rows : (i / g + 1) * t ≤ q * t = mul-le (i / g + 1) t q t (omega arith) (omega arith) in
         let start : i / g * t ≤ length x = omega (arith, rows, whole) in
         let room : t ≤ length (drop (i / g * t) x) = omega (arith, length-drop (i / g * t) x, rows, whole) in
-        ap (λ a. result a (i % g)) (ap (take t) (drop-append-le (i / g * t) x y start) ∙ take-append-le t (drop (i / g * t) x) y room)
+        ap (λ a. result a (i % g)) (ap (take t) (drop-append-le (i / g * t) x y start) ∙
+        take-append-le t (drop (i / g * t) x) y room)
       where
         omega-some : (i : ℕ) → i < q * g → 0 < g
         omega-some i h = grind (arith, h)
 
-    behind : (i : ℕ) → i < length y / t * g → result (take t (drop ((q * g + i) / g * t) (x ++ y))) ((q * g + i) % g) ≡ result (take t (drop (i / g * t) y)) (i % g)
+    behind : (i : ℕ) → i < length y / t * g → result (take t (drop ((q * g + i) / g * t) (x ++ y))) ((q * g + i) % g)
+        ≡ result (take t (drop (i / g * t) y)) (i % g)
     behind i h =
         let size : 0 < g = some-given (length y / t) i h in
         let place : (q * g + i) / g ≡ q + i / g = mul-add-div_right size q i in
@@ -149,7 +155,8 @@ module _ (t g : ℕ) (result : List ℤ → ℕ → ℤ) (some : 0 < t) where
     longer more = ap (λ l. l ++ more) parts ∙ append_assoc (take (length x / t * t) x) (open_group t x) more
 
     -- what the groups of a longer signal become, from the open group on
-    pub gives-more : (more : List ℤ) → Continues (each_group t g result) x more (each_group t g result (open_group t x ++ more))
+    pub gives-more : (more : List ℤ) → Continues (each_group t g result) x more
+        (each_group t g result (open_group t x ++ more))
     gives-more more =
         ap (each_group t g result) (longer more)
         ∙ whole-gives (take (length x / t * t) x) (open_group t x ++ more) (length x / t) fronts
@@ -157,17 +164,20 @@ module _ (t g : ℕ) (result : List ℤ → ℕ → ℤ) (some : 0 < t) where
 
     -- and what is left of it
     pub stays-open : (more : List ℤ) → open_group t (x ++ more) ≡ open_group t (open_group t x ++ more)
-    stays-open more = ap (open_group t) (longer more) ∙ whole-open (take (length x / t * t) x) (open_group t x ++ more) (length x / t) fronts
+    stays-open more = ap (open_group t) (longer more) ∙
+        whole-open (take (length x / t * t) x) (open_group t x ++ more) (length x / t) fronts
 
 -- ---- an open group and the samples that follow it
 
 module _ (of : Group) (some : 0 < of.taken) (old more : List ℤ) where
   -- they may be fewer than a group has
   pub still-gives : length old + length more < of.taken → given_groups of (old ++ more) ≡ []
-  still-gives short = short-gives of.taken of.given of.result some (old ++ more) (omega (arith, short, length-append old more))
+  still-gives short = short-gives of.taken of.given of.result some (old ++ more)
+      (omega (arith, short, length-append old more))
 
   pub still-open : length old + length more < of.taken → left_open of (old ++ more) ≡ old ++ more
-  still-open short = short-open of.taken of.given of.result some (old ++ more) (omega (arith, short, length-append old more))
+  still-open short = short-open of.taken of.given of.result some (old ++ more)
+      (omega (arith, short, length-append old more))
 
   pub still-none : length old + length more < of.taken → (length old + length more) / of.taken ≡ 0
   still-none short = ap (λ k. k / of.taken) (omega arith) ∙ div-mul-add 0 of.taken (length old + length more) short
@@ -182,15 +192,19 @@ module _ (of : Group) (some : 0 < of.taken) (old more : List ℤ) where
 
     pub whole-group : given_groups of (old ++ first) ≡ given_group of (old ++ first)
     whole-group =
-        let one : length (old ++ first) / of.taken ≡ 1 = (ap (λ n. n / of.taken) (whole ∙ omega arith) ∙ div-mul-add 1 of.taken 0 some) in
-        let count : length (old ++ first) / of.taken * of.given ≡ of.given = (ap (λ n. n * of.given) one ∙ omega arith) in
+        let one : length (old ++ first) / of.taken ≡ 1 = (ap (λ n. n / of.taken) (whole ∙ omega arith) ∙
+        div-mul-add 1 of.taken 0 some) in
+        let count : length (old ++ first) / of.taken * of.given ≡ of.given =
+        (ap (λ n. n * of.given) one ∙ omega arith) in
         let long : length (old ++ first) ≡ of.taken = (length-append old first ∙ full) in
-        ap (λ n. values n (λ i. of.result (take of.taken (drop (i / of.given * of.taken) (old ++ first))) (i % of.given))) count
+        ap (λ n. values n (λ i. of.result (take of.taken (drop (i / of.given * of.taken) (old ++ first)))
+        (i % of.given))) count
         ∙ values_cong of.given _ _
         (λ i h.
         let front : i / of.given * of.taken ≡ 0 = (ap (λ q. q * of.taken) (no-group i of.given h) ∙ omega arith) in
         let place : i % of.given ≡ i = mod-eq_of_lt h in
-        ap₂ (λ a k. of.result a k) (ap (λ n. take of.taken (drop n (old ++ first))) front ∙ take_all of.taken (old ++ first) (omega (arith, long))) place)
+        ap₂ (λ a k. of.result a k) (ap (λ n. take of.taken (drop n (old ++ first))) front ∙
+        take_all of.taken (old ++ first) (omega (arith, long))) place)
       where
         no-group : (i n : ℕ) → i < n → i / n ≡ 0
         no-group i n h = ap (λ k. k / n) (omega arith) ∙ div-mul-add 0 n i h
@@ -206,11 +220,14 @@ module _ (of : Group) (some : 0 < of.taken) (old more : List ℤ) where
 
     pub completed-count : (length old + length more) / of.taken ≡ 1 + length rest / of.taken
     completed-count =
-        let long : length old + length more ≡ 1 * of.taken + length rest = omega (arith, ap length parts, length-append first rest, full) in
+        let long : length old + length more ≡ 1 * of.taken + length rest =
+        omega (arith, ap length parts, length-append first rest, full) in
         ap (λ n. n / of.taken) long ∙ mul-add-div_right some 1 (length rest)
 
 -- what is left behind the whole groups of some samples
-pub left-behind : {X : Type 0} (number : X → ℤ) (of : Group) (xs : List X) (place gap : ℕ) → place ≡ length xs / of.taken * of.taken → gap ≡ length xs - place → map number (take gap (drop place xs)) ≡ left_open of (map number xs)
+pub left-behind : {X : Type 0} (number : X → ℤ) (of : Group) (xs : List X) (place gap : ℕ) →
+    place ≡ length xs / of.taken * of.taken → gap ≡ length xs - place →
+    map number (take gap (drop place xs)) ≡ left_open of (map number xs)
 left-behind number of xs place gap start size =
     let all : length (drop place xs) ≤ gap = omega (arith, length-drop place xs, size) in
     ap (map number) (take_all gap (drop place xs) all)
@@ -220,9 +237,11 @@ left-behind number of xs place gap start size =
 -- ---- an open group that is filled
 
 -- it has taken all samples, or has become whole
-pub fill-short : (size p m start : ℕ) → p < size → start ≡ min (size - p) m → ((p + start ≡ size) → ⊥) → (start ≡ m) × (p + m < size)
+pub fill-short : (size p m start : ℕ) → p < size → start ≡ min (size - p) m → ((p + start ≡ size) → ⊥) → (start ≡ m) ×
+    (p + m < size)
 fill-short size p m start below is no_whole =
     ⊎_elim
     (λ (short : p + m < size). (omega (arith, short, is), short))
-    (λ (enough : size ≤ p + m). let whole : p + start ≡ size = omega (arith, enough, is, below) in absurd (no_whole whole))
+    (λ (enough : size ≤ p + m). let whole : p + start ≡ size = omega (arith, enough, is, below) in
+    absurd (no_whole whole))
     (cases_lt (p + m) size)

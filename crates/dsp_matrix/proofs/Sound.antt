@@ -1,5 +1,6 @@
 -- What has no fault is sound.
-use Rattle.std.proofs.Common.{◌≡◌, ◌∙◌, ◌≢◌, refl, sym, ℕ, zero, suc, ◌*◌, ℤ, List, [], ◌∷◌, length, Option, Some, None, Result, Ok, Err, MatchOption, arith}
+use Rattle.std.proofs.Common.{◌≡◌, ◌∙◌, ◌≢◌, refl, sym, ℕ, zero, suc, ◌*◌, ℤ, List, [], ◌∷◌, length, Option, Some}
+use Rattle.std.proofs.Common.{None, Result, Ok, Err, MatchOption, arith}
 use Rattle.std.specs.Prelude.{All, FitsSigned}
 use Rattle.std.specs.Option.{option_or}
 use Rattle.std.proofs.lemmas.Int.{ints}
@@ -12,11 +13,13 @@ use Rattle.dsp_defs.specs.declared.format.Fmt.{Fmt}
 use Rattle.dsp_defs.specs.declared.format.Fmt.TheVariants.{Q7, Q15, Q31}
 use Rattle.dsp_matrix.specs.declared.grouped.GroupOp.{GroupOp}
 use Rattle.dsp_matrix.specs.declared.grouped.GroupOp.TheVariants.{Add, Sub, Scale, Trans}
-use Rattle.dsp_matrix.specs.Faults.{side_fault, sides_fault, count_fault, number_fault, numbers_fault, shift_fault, scale_fault, matrix_fault, op_fault, block_of_op}
+use Rattle.dsp_matrix.specs.Faults.{side_fault, sides_fault, count_fault, number_fault, numbers_fault, shift_fault}
+use Rattle.dsp_matrix.specs.Faults.{scale_fault, matrix_fault, op_fault, block_of_op}
 use Rattle.dsp_matrix.specs.Matrices.{IsSide, IsMatrix, IsElementwiseIn}
 
 -- a test that passed found no fault
-pub no-fault : (o : Option MakeFault) (r : Result (Unit {0}) MakeFault) → MatchOption o (r ≡ Ok tt) (λ e. r ≡ Err e) → r ≡ Ok tt → o ≡ None
+pub no-fault : (o : Option MakeFault) (r : Result (Unit {0}) MakeFault) → MatchOption o (r ≡ Ok tt) (λ e. r ≡ Err e) →
+    r ≡ Ok tt → o ≡ None
 no-fault None r told ok = refl
 no-fault (Some e) r told ok = absurd (differ e (sym told ∙ ok))
   where
@@ -57,20 +60,24 @@ sound-numbers format (z ∷ zs) none =
     let (first, others) = both (number_fault format z) (numbers_fault format zs) none in
     all-cons (FitsSigned (word format)) z zs (sound-number format z first) (sound-numbers format zs others)
 
-sound-shift : (format : Fmt) (places : ℤ) → format ≢ Q7 → shift_fault format places ≡ None → IsMatrixScaleShift format places
+sound-shift : (format : Fmt) (places : ℤ) → format ≢ Q7 → shift_fault format places ≡ None →
+    IsMatrixScaleShift format places
 sound-shift Q7 places wide none = absurd (wide refl)
 sound-shift Q15 places wide none = (grind (arith, common_steps, ints), grind (arith, common_steps, ints))
 sound-shift Q31 places wide none = (grind (arith, common_steps, ints), grind (arith, common_steps, ints))
 
-sound-matrix : (format : Fmt) (rows columns : ℕ) (list : List ℤ) → matrix_fault format rows columns list ≡ None → IsSide rows × IsSide columns × IsMatrix format (rows * columns) list
+sound-matrix : (format : Fmt) (rows columns : ℕ) (list : List ℤ) → matrix_fault format rows columns list ≡ None →
+    IsSide rows × IsSide columns × IsMatrix format (rows * columns) list
 sound-matrix format rows columns list none =
-    let (sides, rest) = both (sides_fault rows columns) (option_or (count_fault (rows * columns) (length list)) (numbers_fault format list)) none in
+    let (sides, rest) = both (sides_fault rows columns)
+    (option_or (count_fault (rows * columns) (length list)) (numbers_fault format list)) none in
     let (count, numbers) = both (count_fault (rows * columns) (length list)) (numbers_fault format list) rest in
     let (r, c) = sound-sides rows columns sides in
     (r, c, (sound-count (rows * columns) (length list) count, sound-numbers format list numbers))
 
 -- so the block of an operation is
-pub sound-op : (format : Fmt) (op : GroupOp) → format ≢ Q7 → op_fault format op ≡ None → IsElementwiseIn format (block_of_op op)
+pub sound-op : (format : Fmt) (op : GroupOp) → format ≢ Q7 → op_fault format op ≡ None →
+    IsElementwiseIn format (block_of_op op)
 sound-op format (Add rows columns list) wide none = sound-matrix format rows columns list none
 sound-op format (Sub rows columns list) wide none = sound-matrix format rows columns list none
 sound-op format (Scale rows columns fract shift) wide none =

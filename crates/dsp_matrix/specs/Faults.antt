@@ -1,9 +1,10 @@
 -- The faults of what a matrix block is made of.
-use Rattle.std.specs.Prelude.{◌≢◌, ℕ, ◌*◌, ℤ, pos, Bool, ◌&&◌, int_le, nat_eq, nat_le, List, [], ◌∷◌, length, Option, Some, None, if◌then◌else◌}
+use Rattle.std.specs.Prelude.{◌≢◌, ℕ, ◌*◌, ℤ, pos, Bool, ◌&&◌, int_le, nat_eq, nat_le, List, [], ◌∷◌, length, Option}
+use Rattle.std.specs.Prelude.{Some, None, if◌then◌else◌}
 use Rattle.std.specs.Option.{option_or}
 use Rattle.dsp_defs.specs.Elementwise.{least_matrix_shift, greatest_matrix_shift}
 use Rattle.dsp_defs.specs.Parameters.{least, greatest}
-use Rattle.dsp_unit.specs.Making.{block_fault}
+use Rattle.dsp_filter.specs.Making.{block_fault}
 use Rattle.dsp_defs.specs.declared.limits.TheConstants.{MAX_MATRIX_SIDE}
 use Rattle.dsp_defs.specs.declared.format.Fmt.{Fmt}
 use Rattle.dsp_defs.specs.declared.format.Fmt.TheVariants.{Q7, Q15, Q31}
@@ -55,7 +56,8 @@ scale_fault format fract places = option_or (number_fault format fract) (shift_f
 
 -- the first fault of a matrix of such sides
 abbrev pub matrix_fault : Fmt → ℕ → ℕ → List ℤ → Option MakeFault
-matrix_fault format rows columns list = option_or (sides_fault rows columns) (option_or (count_fault (rows * columns) (length list)) (numbers_fault format list))
+matrix_fault format rows columns list = option_or (sides_fault rows columns)
+    (option_or (count_fault (rows * columns) (length list)) (numbers_fault format list))
 
 -- the first fault of an operation
 abbrev pub op_fault : Fmt → GroupOp → Option MakeFault
@@ -71,7 +73,8 @@ grouped_fault format op block = option_or (op_fault format op) (block_fault bloc
 -- the first fault of a product of matrices
 abbrev pub product_fault : ℕ → ℕ → ℕ → ℕ → ℕ → Option MakeFault
 product_fault rows columns given count block =
-    option_or (sides_fault rows columns) (option_or (side_fault given) (option_or (count_fault (columns * given) count) (block_fault block)))
+    option_or (sides_fault rows columns) (option_or (side_fault given)
+    (option_or (count_fault (columns * given) count) (block_fault block)))
 
 -- ---- the block of an operation
 

@@ -2,7 +2,7 @@
 use Rattle.std.proofs.Common.{◌≡◌, ◌∙◌, ap, refl, sym, ℕ, ◌-◌, ◌*◌, ◌/◌, ◌<◌, ◌≤◌, List, ℤ, arith}
 use Rattle.std.proofs.lemmas.Nat.{mul-le}
 use Rattle.std.proofs.Math.Nat.{mul-sub}
-use Rattle.dsp_stage.specs.Filter.{IsByChannel}
+use Rattle.dsp_unit.specs.Filter.{IsByChannel}
 use Rattle.dsp_defs.proofs.KeptLaws.{kept_of_channel-place}
 use Rattle.dsp_defs.specs.declared.limits.TheConstants.{MAX_MATRIX_SIDE}
 use Rattle.dsp_defs.specs.declared.format.Fmt.{Fmt}
@@ -72,7 +72,8 @@ one-scale c n = ap (λ k. c * k) (omega arith)
 less-scale : (c m n : ℕ) → c * n - c * m ≡ c * (1 * n - 1 * m)
 less-scale c m n = sym (mul-sub c n m) ∙ ap (λ k. c * k) (omega arith)
 
-scale-by-channel : (format : Fmt) (rows columns : ℕ) (fract shift : ℤ) → IsByChannel format (MatScale rows columns fract shift)
+scale-by-channel : (format : Fmt) (rows columns : ℕ) (fract shift : ℤ) →
+    IsByChannel format (MatScale rows columns fract shift)
 scale-by-channel format rows columns fract shift = record {
   live_is = refl;
   whole_is = refl;
@@ -91,9 +92,11 @@ one-product : (c q r k g : ℕ) → c * q * r * k * g ≡ c * (1 * q * r * k * g
 one-product c q r k g = omega arith
 
 less-product : (c p q r k g : ℕ) → c * q * r * k * g - c * p * r * k * g ≡ c * (1 * q * r * k * g - 1 * p * r * k * g)
-less-product c p q r k g = (λ i. one-product c q r k g i - one-product c p r k g i) ∙ sym (mul-sub c (1 * q * r * k * g) (1 * p * r * k * g))
+less-product c p q r k g = (λ i. one-product c q r k g i - one-product c p r k g i) ∙
+    sym (mul-sub c (1 * q * r * k * g) (1 * p * r * k * g))
 
-mult-by-channel : (format : Fmt) (rows columns given : ℕ) (matrix : List ℤ) → IsByChannel format (MatMult rows columns given matrix)
+mult-by-channel : (format : Fmt) (rows columns given : ℕ) (matrix : List ℤ) →
+    IsByChannel format (MatMult rows columns given matrix)
 mult-by-channel format rows columns given matrix = record {
   live_is = refl;
   whole_is = refl;
@@ -113,7 +116,8 @@ group-product q r k g = omega arith
 
 -- ---- the blocks
 
-pub elementwise-grouped : (format : Fmt) (block : Block) → IsElementwiseIn format block → IsGrouped format block (group format block)
+pub elementwise-grouped : (format : Fmt) (block : Block) → IsElementwiseIn format block →
+    IsGrouped format block (group format block)
 elementwise-grouped format (MatAdd rows columns matrix) is = record {
   some = some-elements rows columns is.0 is.1;
   few_taken = few-elements rows columns is.0 is.1;
@@ -188,7 +192,8 @@ elementwise-grouped format (MatTrans rows columns) is = record {
 }
 elementwise-grouped format block is = absurd is
 
-pub product-grouped : (format : Fmt) (block : Block) → IsProductIn format block → IsGrouped format block (group format block)
+pub product-grouped : (format : Fmt) (block : Block) → IsProductIn format block →
+    IsGrouped format block (group format block)
 product-grouped format (MatMult rows columns given matrix) is = record {
   some = some-elements rows columns is.0 is.1;
   few_taken = few-elements rows columns is.0 is.1;

@@ -11,8 +11,8 @@ use Rattle.dsp_defs.specs.Shape.{group_of, live_frames, whole_frames}
 use Rattle.dsp_defs.specs.Cost.{live_block_cost, block_turns}
 use Rattle.dsp_defs.specs.Counts.{Counts}
 use Rattle.dsp_lanes.specs.Turns.{RisesWithin}
-use Rattle.dsp_stage.specs.Unit.{most_frames}
-use Rattle.dsp_stage.specs.Filter.{IsByChannel, of_channel, of_whole_channel}
+use Rattle.dsp_unit.specs.Unit.{most_frames}
+use Rattle.dsp_unit.specs.Filter.{IsByChannel, of_channel, of_whole_channel}
 use Rattle.dsp_defs.specs.declared.format.Fmt.{Fmt}
 use Rattle.dsp_defs.specs.declared.script.Block.{Block}
 
@@ -47,7 +47,8 @@ given_groups g x = each_group g.taken g.given g.result x
 abbrev pub left_open : Group → List ℤ → List ℤ
 left_open g x = open_group g.taken x
 
--- the filter of the block works so on each channel: it keeps the open group, has no tail, and makes as many products for each whole group
+-- the filter of the block works so on each channel: it keeps the open group, has no tail, and makes as many products
+-- for each whole group
 pub record IsGrouped (format : Fmt) (block : Block) (g : Group) : Type 0 where
   pub some : 0 < g.taken
   pub few_taken : g.taken ≤ MAX_MATRIX_SIDE * MAX_MATRIX_SIDE
@@ -64,7 +65,8 @@ pub record IsGrouped (format : Fmt) (block : Block) (g : Group) : Type 0 where
   pub live : (n : ℕ) → live_frames block n ≡ n / g.taken * g.given
   pub whole : (n : ℕ) → whole_frames block n ≡ n / g.taken * g.given
   pub live_cost : (n : ℕ) → live_block_cost format 1 block n ≡ n / g.taken * g.products
-  pub turns : (m n : ℕ) → block_turns format 1 block m n ≡ live_block_cost format 1 block n - live_block_cost format 1 block m
+  pub turns : (m n : ℕ) → block_turns format 1 block m n ≡ live_block_cost format 1 block n - live_block_cost format 1
+      block m
 
 -- the samples of an open group, and of a whole one
 pub record OpenState : Type 0 where
@@ -76,5 +78,6 @@ abbrev pub IsBegun : Group → OpenState → Type 0
 IsBegun g o = (o.size ≡ g.taken) × (length o.numbers < o.size)
 
 -- a group has at least one sample
-pub has-groups : (format : Fmt) (block : Block) (g : Group) → IsGrouped format block g → IfSome (group_of block) (λ k. 0 < k.0)
+pub has-groups : (format : Fmt) (block : Block) (g : Group) → IsGrouped format block g →
+    IfSome (group_of block) (λ k. 0 < k.0)
 has-groups format block g is = subst (λ (o : Option (ℕ × ℕ)). IfSome o (λ k. 0 < k.0)) (sym is.group) is.some

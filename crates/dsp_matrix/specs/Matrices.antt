@@ -18,11 +18,36 @@ use Rattle.dsp_matrix.specs.declared.matrix_work.MatrixWork.TheVariants.{Add, Su
 
 -- what a block of matrices does with a group
 abbrev pub group : Fmt → Block → Group
-group format (MatAdd rows columns matrix) = record { taken = rows * columns; given = rows * columns; result = added format matrix; products = 0 }
-group format (MatSub rows columns matrix) = record { taken = rows * columns; given = rows * columns; result = subtracted format matrix; products = 0 }
-group format (MatScale rows columns fract shift) = record { taken = rows * columns; given = rows * columns; result = scaled format fract shift; products = rows * columns }
-group format (MatTrans rows columns) = record { taken = rows * columns; given = rows * columns; result = transposed rows columns; products = 0 }
-group format (MatMult rows columns given matrix) = record { taken = rows * columns; given = rows * given; result = multiplied columns given matrix; products = rows * columns * given }
+group format (MatAdd rows columns matrix) = record {
+  taken = rows * columns;
+  given = rows * columns;
+  result =
+      added format matrix;
+  products = 0;
+}
+group format (MatSub rows columns matrix) = record {
+  taken = rows * columns;
+  given = rows * columns;
+  result =
+      subtracted format matrix;
+  products = 0;
+}
+group format (MatScale rows columns fract shift) = record
+    { taken = rows * columns; given = rows * columns; result = scaled format fract shift; products = rows * columns }
+group format (MatTrans rows columns) = record {
+  taken = rows * columns;
+  given = rows * columns;
+  result =
+      transposed rows columns;
+  products = 0;
+}
+group format (MatMult rows columns given matrix) = record {
+  taken = rows * columns;
+  given = rows * given;
+  result = multiplied columns given matrix;
+  products =
+      rows * columns * given;
+}
 group format block = record { taken = 1; given = 1; result = sample; products = 0 }
 
 -- ---- sound blocks
@@ -37,15 +62,19 @@ IsMatrix format count matrix = (length matrix ≡ count) × All (FitsSigned (wor
 
 -- the block works on the elements of a group, and its numbers are those of the format
 abbrev pub IsElementwiseIn : Fmt → Block → Type 0
-IsElementwiseIn format (MatAdd rows columns matrix) = IsSide rows × IsSide columns × IsMatrix format (rows * columns) matrix
-IsElementwiseIn format (MatSub rows columns matrix) = IsSide rows × IsSide columns × IsMatrix format (rows * columns) matrix
-IsElementwiseIn format (MatScale rows columns fract shift) = IsSide rows × IsSide columns × FitsSigned (word format) fract × IsMatrixScaleShift format shift
+IsElementwiseIn format (MatAdd rows columns matrix) = IsSide rows × IsSide columns ×
+    IsMatrix format (rows * columns) matrix
+IsElementwiseIn format (MatSub rows columns matrix) = IsSide rows × IsSide columns ×
+    IsMatrix format (rows * columns) matrix
+IsElementwiseIn format (MatScale rows columns fract shift) = IsSide rows × IsSide columns ×
+    FitsSigned (word format) fract × IsMatrixScaleShift format shift
 IsElementwiseIn format (MatTrans rows columns) = IsSide rows × IsSide columns
 IsElementwiseIn format block = ⊥
 
 -- the block is a product of matrices
 abbrev pub IsProductIn : Fmt → Block → Type 0
-IsProductIn format (MatMult rows columns given matrix) = IsSide rows × IsSide columns × IsSide given × IsMatrix format (columns * given) matrix
+IsProductIn format (MatMult rows columns given matrix) = IsSide rows × IsSide columns × IsSide given ×
+    IsMatrix format (columns * given) matrix
 IsProductIn format block = ⊥
 
 -- ---- the block of a work
@@ -81,11 +110,14 @@ pub record IsPaired (rows columns given : ℕ) (matrix : List ℤ) : Type 0 wher
   pub fours : given % 4 ≡ 0
   pub narrow : (l : ℕ) → l < given → IsNarrow (column_of matrix columns given l)
 
--- the sum of the products of a row and column l of a matrix (columns by given), which stands in some order: `place` says where
+-- the sum of the products of a row and column l of a matrix (columns by given), which stands in some order: `place`
+-- says where
 abbrev pub row_times : (ℕ → ℕ → ℕ → ℕ → ℕ) → ℕ → ℕ → List ℤ → List ℤ → ℕ → ℤ
-row_times place columns given row matrix l = sum_below columns (λ k. sample row k *ℤ sample matrix (place columns given k l))
+row_times place columns given row matrix l = sum_below columns
+    (λ k. sample row k *ℤ sample matrix (place columns given k l))
 
 -- an element of the product of a and a matrix (columns by given), which stands in some order: `place` says where
 abbrev pub product_element : Fmt → (ℕ → ℕ → ℕ → ℕ → ℕ) → ℕ → ℕ → List ℤ → List ℤ → ℕ → ℤ
 product_element format place columns given a matrix i =
-    close format (sum_below columns (λ k. sample a (i / given * columns + k) *ℤ sample matrix (place columns given k (i % given))))
+    close format (sum_below columns (λ k. sample a (i / given * columns + k) *ℤ sample matrix
+    (place columns given k (i % given))))

@@ -8,4 +8,5 @@ IsTurned rows columns a out i j = sample out (j * rows + i) ≡ sample a (i * co
 
 -- all that stood so in one matrix does in another
 abbrev pub StaysTurned : ℕ → ℕ → List ℤ → List ℤ → List ℤ → Type 0
-StaysTurned rows columns a old new = (i j : ℕ) → i < rows → IsTurned rows columns a old i j → IsTurned rows columns a new i j
+StaysTurned rows columns a old new = (i j : ℕ) → i < rows → IsTurned rows columns a old i j →
+    IsTurned rows columns a new i j

@@ -1,13 +1,14 @@
 ghost use Rattle.std.specs.Prelude.{◌≡◌, ◌≤◌, ◌<◌, ◌+◌, ◌*◌, ◌/◌, ◌++◌, ◌↔◌, IsTrue, length, map, take, drop};
 ghost use Rattle.dsp_defs.specs.Formats.{word};
 ghost use Rattle.dsp_defs.specs.Kept.{Each, IsOfKind, in_words};
-ghost use Rattle.dsp_matrix.specs.Groups.{given_group, given_groups, left_open, RisesJust, given_count, product_count};
+ghost use Rattle.dsp_matrix.specs.Groups.{given_group, given_groups, left_open, RisesJust, given_count};
+ghost use Rattle.dsp_matrix.specs.Groups.{product_count};
 
 use crate::GroupWork;
 use crate::open_group::OpenGroup;
 use dsp_defs::{Block, MAX_MATRIX_SIDE, MAX_SAMPLES, Steps};
+use dsp_filter::{Filter, are_samples};
 use dsp_sat::Sample;
-use dsp_unit::{Filter, are_samples};
 use std::alloc::{AllocError, Global};
 use std::marker::Model;
 use std::sync::ledger::Ledger;
@@ -24,7 +25,7 @@ pub struct GroupFilter<T: Sample, W: GroupWork<T> + Drop> {
 impl<T: Sample, W: GroupWork<T> + Drop> Model for GroupFilter<T, W> {
     ghost use Rattle.std.specs.Prelude.{◌≤◌};
     ghost use Rattle.dsp_defs.specs.declared.limits.TheConstants.{MAX_SAMPLES};
-    ghost use Rattle.dsp_stage.specs.Filter.{FilterState, steady_filter};
+    ghost use Rattle.dsp_unit.specs.Filter.{FilterState, steady_filter};
     ghost use Rattle.dsp_matrix.specs.Groups.{IsBegun};
 
     ghost Value = { FilterState };
@@ -189,10 +190,11 @@ fn are_open<T: Sample, W: GroupWork<T>>(work: &W, numbers: &[i64]) -> bool
 }
 
 impl<T: Sample, W: GroupWork<T> + Drop> GroupFilter<T, W> {
-    ghost use Rattle.std.specs.Prelude.{◌≡◌, ◌≤◌, ◌<◌, ◌+◌, ◌*◌, ◌/◌, ◌++◌, ◌↔◌, ℕ, [], true, IfOk, IsFalse, IsTrue, length, map, take, drop};
-    ghost use Rattle.dsp_stage.specs.Filter.{FilterFeeds, FilterFinishes, FilterRestores, IsNewFilter};
+    ghost use Rattle.std.specs.Prelude.{◌≡◌, ◌≤◌, ◌<◌, ◌+◌, ◌*◌, ◌/◌, ◌++◌, ◌↔◌, ℕ, [], true, IfOk, IsFalse};
+    ghost use Rattle.std.specs.Prelude.{IsTrue, length, map, take, drop};
+    ghost use Rattle.dsp_unit.specs.Filter.{FilterFeeds, FilterFinishes, FilterRestores, IsNewFilter};
     ghost use Rattle.dsp_defs.specs.Kept.{FitsChannel};
-    ghost use Rattle.dsp_stage.specs.Unit.{most_frames};
+    ghost use Rattle.dsp_unit.specs.Unit.{most_frames};
     ghost use Rattle.dsp_matrix.specs.Groups.{given_count, given_groups, left_open, product_count};
 
     /// A filter that has taken nothing, for at most `capacity` samples a call. All its memory is taken

@@ -4,7 +4,7 @@ ghost use Rattle.dsp_matrix.specs.Faults.{block_of_op};
 use crate::making::{check_count, check_op, check_side, check_sides};
 use crate::{GroupFilter, MatrixSample, MatrixWork, ProductWork};
 use dsp_defs::{Block, List, MakeFault};
-use dsp_unit::{Filter, all_fit, check_block};
+use dsp_filter::{Filter, all_fit, check_block};
 use std::alloc::Global;
 
 /// What becomes of the elements of each group of `rows` rows and `columns` columns. A list has an element
@@ -83,7 +83,7 @@ fn block_of(op: GroupOp) -> Block
 
 impl<T: MatrixSample> GroupFilter<T, MatrixWork<T>> {
     ghost use Rattle.std.specs.Prelude.{◌≡◌, IfOk, IfErr, MatchOption};
-    ghost use Rattle.dsp_stage.specs.Filter.{IsNewFilter};
+    ghost use Rattle.dsp_unit.specs.Filter.{IsNewFilter};
     ghost use Rattle.dsp_matrix.specs.Faults.{block_of_op, grouped_fault};
 
     /// A filter that has taken nothing, from its operation, for blocks of at most `block` samples.
@@ -107,7 +107,7 @@ impl<T: MatrixSample> GroupFilter<T, MatrixWork<T>> {
 
 impl GroupFilter<i16, ProductWork> {
     ghost use Rattle.std.specs.Prelude.{◌≡◌, IfOk, IfErr, MatchOption, length, map};
-    ghost use Rattle.dsp_stage.specs.Filter.{IsNewFilter};
+    ghost use Rattle.dsp_unit.specs.Filter.{IsNewFilter};
     ghost use Rattle.dsp_defs.specs.declared.format.Fmt.TheVariants.{Q15};
     ghost use Rattle.dsp_defs.specs.declared.script.Block.TheVariants.{MatMult};
     ghost use Rattle.dsp_matrix.specs.Faults.{product_fault};

@@ -1,5 +1,6 @@
 ghost use Rattle.std.specs.Prelude.{◌≡◌, Err, Ok, MatchOption, length};
-ghost use Rattle.dsp_matrix.specs.Faults.{side_fault, sides_fault, count_fault, number_fault, numbers_fault, shift_fault, scale_fault, matrix_fault, op_fault};
+ghost use Rattle.dsp_matrix.specs.Faults.{side_fault, sides_fault, count_fault, number_fault, numbers_fault};
+ghost use Rattle.dsp_matrix.specs.Faults.{shift_fault, scale_fault, matrix_fault, op_fault};
 
 use crate::{GroupOp, MatrixSample};
 use dsp_defs::{MAX_MATRIX_SIDE, MakeFault};

@@ -3,8 +3,8 @@ ghost use Rattle.dsp_matrix.specs.Matrices.{block_of, sides_of};
 
 use crate::{GroupWork, MatrixSample, mat_add, mat_scale, mat_sub, mat_trans};
 use dsp_defs::{Block, Steps};
+use dsp_filter::samples_of;
 use dsp_sat::Sample;
-use dsp_unit::samples_of;
 use std::alloc::{AllocError, Global};
 use std::sync::ledger::Ledger;
 

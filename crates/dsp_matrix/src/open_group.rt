@@ -36,7 +36,8 @@ fn write_at<T: Copy>(samples: &mut [T], at: usize, block: &[T])
 }
 
 impl<T: Sample> OpenGroup<T> {
-    ghost use Rattle.std.specs.Prelude.{◌≡◌, ◌≤◌, ◌-◌, ◌++◌, ◌↔◌, [], min, length, map, take, IfOk, IsTrue, All, FitsSigned};
+    ghost use Rattle.std.specs.Prelude.{◌≡◌, ◌≤◌, ◌-◌, ◌++◌, ◌↔◌, [], min, length, map, take, IfOk, IsTrue};
+    ghost use Rattle.std.specs.Prelude.{All, FitsSigned};
     ghost use Rattle.dsp_defs.specs.Formats.{word};
 
     /// A group of so many samples, of which there are none yet. All its memory is taken here.

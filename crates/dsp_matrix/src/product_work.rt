@@ -2,7 +2,7 @@ use crate::paired_products::{are_paired, multiply_in_pairs};
 use crate::products::{ByColumns, multiply};
 use crate::{GroupWork, mat_trans};
 use dsp_defs::{Block, Steps};
-use dsp_unit::samples_of;
+use dsp_filter::samples_of;
 use std::alloc::{AllocError, Global};
 use std::marker::Model;
 use std::sync::ledger::Ledger;

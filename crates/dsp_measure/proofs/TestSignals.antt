@@ -9,10 +9,12 @@ use Rattle.dsp_defs.specs.declared.script.Block.{Block}
 use Rattle.dsp_defs.specs.declared.script.Block.TheVariants.{Max}
 use Rattle.dsp_defs.proofs.FrameLemmas.{length-frames_in}
 use Rattle.dsp_defs.specs.Kept.{limit_of}
-use Rattle.dsp_stage.specs.Unit.{Accepts, CountsFrames, IsNew, IsSignal, UnitState, frames_in}
+use Rattle.dsp_unit.specs.Unit.{Accepts, CountsFrames, IsNew, IsSignal, UnitState, frames_in}
 
-module _ (b : Block) (format : Fmt) (channels frames : ℕ) (u : UnitState) (samples : List ℤ) (is : IsNew b format channels frames u) where
-  pub new-signal : length samples ≡ length samples / channels * channels → AllByRecursion (FitsSigned (word format)) samples → IsSignal u.format u.channels samples
+module _ (b : Block) (format : Fmt) (channels frames : ℕ) (u : UnitState) (samples : List ℤ)
+    (is : IsNew b format channels frames u) where
+  pub new-signal : length samples ≡ length samples / channels * channels →
+      AllByRecursion (FitsSigned (word format)) samples → IsSignal u.format u.channels samples
   new-signal whole fits = rw (is.format, is.channels) (record {
     whole_frames = whole ∙ ap (λ n. n * channels) (sym (length-frames_in channels samples));
     in_format = All-from_recursion (FitsSigned (word format)) samples fits;
@@ -22,6 +24,8 @@ module _ (b : Block) (format : Fmt) (channels frames : ℕ) (u : UnitState) (sam
   new-capacity few = rw (is.channels, is.capacity, length-frames_in channels samples) few
 
 -- a new unit of `max` takes few frames
-pub new-accepts : (format : Fmt) (channels frames more : ℕ) (u : UnitState) → IsNew Max format channels frames u → more ≤ 1000 → Accepts u more
+pub new-accepts : (format : Fmt) (channels frames more : ℕ) (u : UnitState) → IsNew Max format channels frames u →
+    more ≤ 1000 → Accepts u more
 new-accepts format channels frames more u is few =
-    subst (λ b. IfSome (limit_of b) (λ limit. (n : ℕ) × CountsFrames u n × (n + more ≤ limit))) (sym is.block) (0, is.counts, omega (arith, few))
+    subst (λ b. IfSome (limit_of b) (λ limit. (n : ℕ) × CountsFrames u n × (n + more ≤ limit))) (sym is.block)
+    (0, is.counts, omega (arith, few))

@@ -1,5 +1,6 @@
 -- Extremes by an order: which sample is the best, and its first index.
-use Rattle.std.specs.Prelude.{◌≡◌, ℕ, ◌<◌, ℤ, List, [], ◌∷◌, length, Option, Some, None, Bool, true, false, int_lt, if◌then◌else◌, FitsSigned}
+use Rattle.std.specs.Prelude.{◌≡◌, ℕ, ◌<◌, ℤ, List, [], ◌∷◌, length, Option, Some, None, Bool, true, false, int_lt}
+use Rattle.std.specs.Prelude.{if◌then◌else◌, FitsSigned}
 use Rattle.dsp_defs.specs.Formats.{word}
 use Rattle.dsp_defs.specs.Measure.{better_of}
 use Rattle.dsp_defs.specs.declared.format.Fmt.{Fmt}

@@ -1,4 +1,5 @@
--- The blocks of this crate. Each has a measure for each channel, or one in all: a part keeps the numbers of one measure.
+-- The blocks of this crate. Each has a measure for each channel, or one in all: a part keeps the numbers of one
+-- measure.
 use Rattle.std.specs.Prelude.{◌≡◌, ℕ, ◌+◌, ◌*◌, ◌/◌, ◌<◌, ◌≤◌, ℤ, List, [], ◌∷◌, ◌++◌, length}
 use Rattle.dsp_defs.specs.declared.limits.TheConstants.{MAX_SAMPLES}
 use Rattle.dsp_defs.specs.Block.{Frame, channel}
@@ -8,7 +9,7 @@ use Rattle.dsp_defs.specs.declared.format.Fmt.{Fmt}
 use Rattle.dsp_defs.specs.declared.script.Block.{Block}
 use Rattle.dsp_defs.specs.declared.script.Block.TheVariants.{Power, Dot, CmplxDot, Max, Min}
 use Rattle.dsp_defs.specs.Kept.{Each, IsOfKind, IsTaken, kinds_by, kept_kinds, kept_numbers, kept_of_channel, Fits}
-use Rattle.dsp_stage.specs.Unit.{frames_in}
+use Rattle.dsp_unit.specs.Unit.{frames_in}
 use Rattle.dsp_measure.specs.declared.measure_block.MeasureBlock.{MeasureBlock}
 use Rattle.dsp_measure.specs.declared.measure_block.MeasureBlock.TheVariants as measure
 
@@ -69,21 +70,27 @@ part_kept format measure.Min part x = kept_of_channel format Min (channel part x
 
 -- the numbers are those of some number of frames, after which it can take so many more
 abbrev pub CanTake : Fmt → MeasureBlock → ℕ → List ℤ → Type 0
-CanTake format m more numbers = (n : ℕ) × Each IsOfKind (kinds_by format (block_of m) n) numbers × IsTaken (block_of m) (n + more)
+CanTake format m more numbers = (n : ℕ) × Each IsOfKind (kinds_by format (block_of m) n) numbers ×
+    IsTaken (block_of m) (n + more)
 
 -- the same of the numbers of all
 abbrev pub AllCanTake : Fmt → ℕ → MeasureBlock → ℕ → List ℤ → Type 0
-AllCanTake format channels m more numbers = (n : ℕ) × Each IsOfKind (kept_kinds format channels (block_of m) n) numbers × IsTaken (block_of m) (n + more)
+AllCanTake format channels m more numbers = (n : ℕ) ×
+    Each IsOfKind (kept_kinds format channels (block_of m) n) numbers × IsTaken (block_of m) (n + more)
 
 -- one of them took the frames of a slice
 pub record PartFeeds (format : Fmt) (m : MeasureBlock) (channels part : ℕ) (frames old new : List ℤ) : Type 0 where
-  pub stands : (x : List Frame) → old ≡ part_kept format m part x → new ≡ part_kept format m part (x ++ frames_in channels frames)
-  pub kinds : (n : ℕ) → Each IsOfKind (kinds_by format (block_of m) n) old → Each IsOfKind (kinds_by format (block_of m) (n + length frames / channels)) new
+  pub stands : (x : List Frame) → old ≡ part_kept format m part x →
+      new ≡ part_kept format m part (x ++ frames_in channels frames)
+  pub kinds : (n : ℕ) → Each IsOfKind (kinds_by format (block_of m) n) old →
+      Each IsOfKind (kinds_by format (block_of m) (n + length frames / channels)) new
 
 -- all of them did
 pub record PartsFeed (format : Fmt) (m : MeasureBlock) (channels : ℕ) (frames old new : List ℤ) : Type 0 where
-  pub stands : (x : List Frame) → old ≡ kept_numbers format channels (block_of m) x → new ≡ kept_numbers format channels (block_of m) (x ++ frames_in channels frames)
-  pub kinds : (n : ℕ) → Each IsOfKind (kept_kinds format channels (block_of m) n) old → Each IsOfKind (kept_kinds format channels (block_of m) (n + length frames / channels)) new
+  pub stands : (x : List Frame) → old ≡ kept_numbers format channels (block_of m) x →
+      new ≡ kept_numbers format channels (block_of m) (x ++ frames_in channels frames)
+  pub kinds : (n : ℕ) → Each IsOfKind (kept_kinds format channels (block_of m) n) old →
+      Each IsOfKind (kept_kinds format channels (block_of m) (n + length frames / channels)) new
 
 -- a unit has the channels that its block measures, at most 255, few samples a call, and keeps numbers as its block can
 pub record IsWhole (format : Fmt) (m : MeasureBlock) (channels capacity : ℕ) (kept : List ℤ) : Type 0 where

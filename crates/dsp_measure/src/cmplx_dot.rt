@@ -27,7 +27,8 @@ impl<T: MeasureSample + WideSample> Model for CmplxDot<T> {
 }
 
 impl<T: MeasureSample + WideSample> CmplxDot<T> {
-    ghost use Rattle.std.specs.Prelude.{◌≡◌, ◌++◌, ◌↔◌, ◌∷◌, ◌*◌, ◌/◌, ◌%◌, [], ℤ, pos, List, length, map, IsTrue};
+    ghost use Rattle.std.specs.Prelude.{◌≡◌, ◌++◌, ◌↔◌, ◌∷◌, ◌*◌, ◌/◌, ◌%◌, [], ℤ, pos, List, length, map};
+    ghost use Rattle.std.specs.Prelude.{IsTrue};
     ghost use Rattle.dsp_defs.specs.Counts.{Rises};
     ghost use Rattle.dsp_defs.specs.Formats.{accumulator};
     ghost use Rattle.dsp_defs.specs.Measure.{cmplx_dot_close};

@@ -1,5 +1,6 @@
 //! Sums of complex products that go on, of samples wherever they stand.
-ghost use Rattle.std.specs.Prelude.{◌≡◌, ◌+◌, ◌*◌, ◌/◌, ◌<◌, ◌≤◌, ℕ, ℤ, ◌+ℤ◌, ◌-ℤ◌, All, FitsSigned, List, length, map, get_or};
+ghost use Rattle.std.specs.Prelude.{◌≡◌, ◌+◌, ◌*◌, ◌/◌, ◌<◌, ◌≤◌, ℕ, ℤ, ◌+ℤ◌, ◌-ℤ◌, All, FitsSigned, List};
+ghost use Rattle.std.specs.Prelude.{length, map, get_or};
 ghost use Rattle.dsp_defs.specs.Counts.{Rises};
 ghost use Rattle.dsp_defs.specs.Formats.{accumulator, word};
 ghost use Rattle.dsp_defs.specs.Measure.{measured_product};

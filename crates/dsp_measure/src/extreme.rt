@@ -90,10 +90,11 @@ impl<T: MeasureSample, O: Order> Model for Extreme<T, O> {
 }
 
 impl<T: MeasureSample, O: Order> Extreme<T, O> {
-    ghost use Rattle.std.specs.Prelude.{◌≡◌, ◌+◌, ◌++◌, ◌*◌, ◌<◌, ◌/◌, ◌↔◌, [], ℕ, ℤ, List, Some, length, map, get_or, All, FitsSigned, IfSome, IsTrue};
+    ghost use Rattle.std.specs.Prelude.{◌≡◌, ◌+◌, ◌++◌, ◌*◌, ◌<◌, ◌/◌, ◌↔◌, [], ℕ, ℤ, List, Some, length};
+    ghost use Rattle.std.specs.Prelude.{map, get_or, All, FitsSigned, IfSome, IsTrue};
     ghost use Rattle.dsp_defs.specs.Formats.{word};
     ghost use Rattle.dsp_defs.specs.Signal.{sample};
-    ghost use Rattle.dsp_stage.specs.Channels.{samples_in};
+    ghost use Rattle.dsp_unit.specs.Channels.{samples_in};
     ghost use Rattle.dsp_defs.specs.Kept.{extreme_kept};
     ghost use Rattle.dsp_measure.specs.Extremes.{ExtremeState, extreme_of, IsFew, KeepsExtreme};
 

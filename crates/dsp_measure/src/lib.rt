@@ -22,4 +22,4 @@ pub use extreme::{Extreme, Max, Min};
 pub use measured::MeasureSample;
 pub use order::{Greatest, Least, Order};
 pub use power::Power;
-pub use unit::Unit;
+pub use unit::MeasureUnit;

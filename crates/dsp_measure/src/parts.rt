@@ -1,12 +1,14 @@
 //! What the measures of a unit do with the numbers that they keep, one after another.
-ghost use Rattle.std.specs.Prelude.{◌≡◌, ◌+◌, ◌++◌, ◌*◌, ◌/◌, ◌<◌, ◌≤◌, ◌∷◌, [], ℕ, ℤ, All, FitsSigned, List, length};
-ghost use Rattle.dsp_stage.specs.Channels.{samples_in};
+ghost use Rattle.std.specs.Prelude.{◌≡◌, ◌+◌, ◌++◌, ◌*◌, ◌/◌, ◌<◌, ◌≤◌, ◌∷◌, [], ℕ, ℤ, All, FitsSigned, List};
+ghost use Rattle.std.specs.Prelude.{length};
+ghost use Rattle.dsp_unit.specs.Channels.{samples_in};
 ghost use Rattle.dsp_defs.specs.Kept.{Each, IsOfKind, extreme_kept, extreme_kinds, in_words};
 ghost use Rattle.dsp_defs.specs.Counts.{Rises};
 ghost use Rattle.dsp_defs.specs.Formats.{accumulator, word};
 ghost use Rattle.dsp_defs.specs.Signal.{sample};
 ghost use Rattle.dsp_measure.specs.Extremes.{extreme, IsFew, KeepsExtreme};
-ghost use Rattle.dsp_measure.specs.Measures.{AllCanTake, CanTake, PartFeeds, PartsFeed, RisesFor, channels_of, parts_of, price_of};
+ghost use Rattle.dsp_measure.specs.Measures.{AllCanTake, CanTake, PartFeeds, PartsFeed, RisesFor};
+ghost use Rattle.dsp_measure.specs.Measures.{channels_of, parts_of, price_of};
 ghost use Rattle.dsp_measure.specs.Sums.{with_channels, with_complex_channels};
 
 use crate::complex_products::add_complex_channels;

@@ -1,6 +1,7 @@
 //! Which numbers the measures of a unit can keep.
-ghost use Rattle.std.specs.Prelude.{◌≡◌, ◌+◌, ◌*◌, ◌≤◌, ◌↔◌, ℕ, Some, All, FitsSigned, IfSome, IsTrue, length};
-ghost use Rattle.dsp_stage.specs.Channels.{numbers_in};
+ghost use Rattle.std.specs.Prelude.{◌≡◌, ◌+◌, ◌*◌, ◌≤◌, ◌↔◌, ℕ, Some, All, FitsSigned, IfSome, IsTrue};
+ghost use Rattle.std.specs.Prelude.{length};
+ghost use Rattle.dsp_unit.specs.Channels.{numbers_in};
 ghost use Rattle.dsp_defs.specs.Kept.{Each, FitsAfter, FitsChannel, IsOfKind, in_words, place_of};
 ghost use Rattle.dsp_defs.specs.Formats.{accumulator};
 ghost use Rattle.dsp_measure.specs.Measures.{block_of, channels_of, size_of};

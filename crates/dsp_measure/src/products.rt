@@ -1,5 +1,6 @@
 //! Sums of products that go on, of samples wherever they stand.
-ghost use Rattle.std.specs.Prelude.{◌≡◌, ◌+◌, ◌*◌, ◌/◌, ◌<◌, ◌≤◌, ℕ, ℤ, All, FitsSigned, List, length, map, get_or};
+ghost use Rattle.std.specs.Prelude.{◌≡◌, ◌+◌, ◌*◌, ◌/◌, ◌<◌, ◌≤◌, ℕ, ℤ, All, FitsSigned, List, length, map};
+ghost use Rattle.std.specs.Prelude.{get_or};
 ghost use Rattle.dsp_defs.specs.Counts.{Rises};
 ghost use Rattle.dsp_defs.specs.Formats.{accumulator, word};
 ghost use Rattle.dsp_defs.specs.Signal.{sample};

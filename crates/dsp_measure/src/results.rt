@@ -3,7 +3,7 @@ ghost use Rattle.std.specs.Prelude.{◌≡◌, ◌+◌, ◌*◌, ◌<◌, ◌≤
 ghost use Rattle.dsp_defs.specs.Measure.{cmplx_dot_close};
 ghost use Rattle.dsp_defs.specs.Kept.{Each, FitsAfter, IsOfKind, extreme_kinds, kept_extreme, kept_measures};
 ghost use Rattle.dsp_defs.specs.declared.format.Fmt.TheVariants.{Q31};
-ghost use Rattle.dsp_stage.specs.Channels.{numbers_in};
+ghost use Rattle.dsp_unit.specs.Channels.{numbers_in};
 ghost use Rattle.dsp_measure.specs.Extremes.{KeepsExtreme};
 ghost use Rattle.dsp_measure.specs.Measures.{block_of, channels_of, parts_of};
 

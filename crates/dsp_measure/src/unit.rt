@@ -5,14 +5,14 @@ use crate::parts::feed_parts;
 use crate::places::place_parts;
 use crate::results::result_of;
 use dsp_defs::{Block, Fmt, MAX_SAMPLES, Measure, Steps};
-use dsp_stage::Stage;
+use dsp_unit::Unit;
 use std::alloc::{AllocError, Global};
 use std::marker::Model;
 use std::sync::ledger::Ledger;
 
 /// A measure at its place, on all channels of a frame. It gives the frames as it takes them.
 #[derive(Drop)]
-pub struct Unit {
+pub struct MeasureUnit {
     measure: MeasureBlock,
     format: Fmt,
     channels: u8,
@@ -21,9 +21,9 @@ pub struct Unit {
     ended: bool,
 }
 
-impl Model for Unit {
+impl Model for MeasureUnit {
     ghost use Rattle.std.specs.Prelude.{[], false};
-    ghost use Rattle.dsp_stage.specs.Unit.{UnitState};
+    ghost use Rattle.dsp_unit.specs.Unit.{UnitState};
     ghost use Rattle.dsp_measure.specs.Measures.{IsWhole, block_of};
 
     ghost Value = { UnitState };
@@ -51,10 +51,10 @@ fn zeros(alloc: Global, count: usize) -> Result<Vec<i64>, AllocError>
     Ok(numbers)
 }
 
-impl Unit {
+impl MeasureUnit {
     ghost use Rattle.std.specs.Prelude.{◌≤◌, ◌*◌, IfOk};
     ghost use Rattle.dsp_defs.specs.Grammar.{Suits};
-    ghost use Rattle.dsp_stage.specs.Unit.{IsNew};
+    ghost use Rattle.dsp_unit.specs.Unit.{IsNew};
     ghost use Rattle.dsp_measure.specs.Measures.{IsMeasureBlock};
 
     /// A unit that has taken nothing, of a block that measures and suits its place, for at most
@@ -65,7 +65,7 @@ impl Unit {
         format: Fmt,
         channels: u8,
         frames: usize,
-    ) -> Result<Unit, AllocError>
+    ) -> Result<MeasureUnit, AllocError>
         requires block { IsMeasureBlock block.now }
         requires suits { Suits (record { format = format; channels = channels }) block.now }
         requires channels { 1 ≤ channels }
@@ -75,7 +75,7 @@ impl Unit {
         let measure = MeasureBlock::of(block);
         let count = measure.parts(usize::from(channels)) * measure.size();
         let kept = zeros(alloc, count)?;
-        Ok(Unit {
+        Ok(MeasureUnit {
             measure,
             format,
             channels,
@@ -86,7 +86,7 @@ impl Unit {
     }
 }
 
-impl Stage for Unit {
+impl Unit for MeasureUnit {
     ghost unit = { λ u. u };
 
     fn feed<L: Ledger>(&mut self, frames: &[i32], out: &mut [i32], steps: &mut Steps<L>) -> usize {

@@ -1,5 +1,6 @@
 -- Bytes that are skipped, piece after piece.
-use Rattle.std.proofs.Common.{◌≡◌, ℕ, ◌+◌, ◌-◌, ◌≤◌, ◌∙◌, List, ◌++◌, ap, arith, length, take, length-append, length-take-le}
+use Rattle.std.proofs.Common.{◌≡◌, ℕ, ◌+◌, ◌-◌, ◌≤◌, ◌∙◌, List, ◌++◌, ap, arith, length, take, length-append}
+use Rattle.std.proofs.Common.{length-take-le}
 use Rattle.dsp_ports.specs.Fill.{Filled, HasFillCause, Unfilled}
 use Rattle.dsp_ports.specs.Ports.{SourceState, Gave, one_more}
 use Rattle.dsp_ports.specs.declared.filling.FillFault.{FillFault}
@@ -7,7 +8,8 @@ use Rattle.dsp_ports.specs.declared.filling.FillFault.TheVariants.{Failed, Limit
 use Rattle.dsp_ports.proofs.Moved.{Gave-append}
 
 -- the front, and what came of a piece behind it
-pub piece_skipped : (skipped : ℕ) (old mid now : SourceState) (front : List ℕ) → length front ≡ skipped → Gave old mid front
+pub piece_skipped : (skipped : ℕ) (old mid now : SourceState) (front : List ℕ) → length front ≡ skipped →
+    Gave old mid front
     → (block : List ℕ) (room count : ℕ) → Filled mid now block room count
     → (length (front ++ take count block) ≡ skipped + count) × Gave old now (front ++ take count block)
 piece_skipped skipped old mid now front said gave block room count filled = (
@@ -16,11 +18,13 @@ piece_skipped skipped old mid now front said gave block room count filled = (
 )
 
 -- a fault within a piece
-pub piece_unskipped : (skipped count room : ℕ) (old mid now : SourceState) (front : List ℕ) → length front ≡ skipped → Gave old mid front
+pub piece_unskipped : (skipped count room : ℕ) (old mid now : SourceState) (front : List ℕ) → length front ≡ skipped →
+    Gave old mid front
     → mid.faults ≡ old.faults → skipped ≤ room → (size : ℕ) → skipped + size ≤ count → (fault : FillFault)
     → Unfilled mid now size (room - skipped) fault → Unfilled old now count room fault
 piece_unskipped skipped count room old mid now front said gave clean few size within fault u =
-    let whole : length (front ++ u.bytes) ≡ skipped + length u.bytes = omega (arith, length-append front u.bytes, said) in
+    let whole : length (front ++ u.bytes) ≡ skipped + length u.bytes =
+    omega (arith, length-append front u.bytes, said) in
     record {
       bytes = front ++ u.bytes;
       gave = Gave-append old mid now front u.bytes gave u.gave;
@@ -29,7 +33,8 @@ piece_unskipped skipped count room old mid now front said gave clean few size wi
       cause = cause_of fault u.cause whole;
     }
   where
-    cause_of : (fault : FillFault) → HasFillCause fault mid now (length u.bytes) (room - skipped) → length (front ++ u.bytes) ≡ skipped + length u.bytes
+    cause_of : (fault : FillFault) → HasFillCause fault mid now (length u.bytes) (room - skipped) →
+        length (front ++ u.bytes) ≡ skipped + length u.bytes
         → HasFillCause fault old now (length (front ++ u.bytes)) room
     cause_of Failed (risen, left) whole = (risen ∙ ap one_more clean, omega (arith, whole, left, few))
     cause_of LimitReached (same, all) whole = (same ∙ clean, omega (arith, whole, all, few))

@@ -41,7 +41,8 @@ pub record Skipped (old new : SourceState) (count room came : ℕ) : Type 0 wher
 -- so many bytes came by reads of a port, each of which asked for all that was still missing and gave something
 pub data Asked {S : Type 0} (Reads : S → ℕ → S → Type 0) (taken : S → ℕ) (want : ℕ) (start : S) : ℕ → S → Type 0 where
   Begun : Asked Reads taken want start 0 start
-  Read : (came count : ℕ) (before after : S) → Asked Reads taken want start came before → Reads before (want - came) after
+  Read : (came count : ℕ) (before after : S) → Asked Reads taken want start came before →
+      Reads before (want - came) after
       → 0 < count → taken after ≡ taken before + count → Asked Reads taken want start (came + count) after
 
 -- all that was missing was asked for at each read, where something was, and none came behind a read that gave nothing

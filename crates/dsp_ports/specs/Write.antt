@@ -1,7 +1,9 @@
--- What a write of a whole piece offers to its port: nothing but all that is left, again and again, and never an empty piece.
+-- What a write of a whole piece offers to its port: nothing but all that is left, again and again, and never an empty
+-- piece.
 use Rattle.std.specs.Prelude.{◌≡◌, ◌⊎◌, ℕ, ◌+◌, ◌-◌, ◌<◌}
 
--- writes of all that was left of a piece of so many bytes led from one state of the port to another, and so many bytes were
+-- writes of all that was left of a piece of so many bytes led from one state of the port to another, and so many
+-- bytes were
 -- accepted, some by each
 pub data Offered {S : Type 0} (Writes : S → ℕ → S → Type 0) (want : ℕ) (start : S) : ℕ → S → Type 0 where
   Begun : Offered Writes want start 0 start

@@ -1,5 +1,6 @@
 -- The values of a decimator, over the window of its past and a block.
-use Rattle.std.proofs.Common.{◌≡◌, ◌∙◌, ap, ap₂, sym, ℕ, suc, ◌+◌, ◌-◌, ◌*◌, ◌/◌, ◌%◌, ◌<◌, ◌≤◌, ℤ, pos, ◌*ℤ◌, List, [], ◌∷◌, ◌++◌, length, take, drop, reverse, arith, length-append, take_all, ⊎_elim}
+use Rattle.std.proofs.Common.{◌≡◌, ◌∙◌, ap, ap₂, sym, ℕ, suc, ◌+◌, ◌-◌, ◌*◌, ◌/◌, ◌%◌, ◌<◌, ◌≤◌, ℤ, pos, ◌*ℤ◌, List}
+use Rattle.std.proofs.Common.{[], ◌∷◌, ◌++◌, length, take, drop, reverse, arith, length-append, take_all, ⊎_elim}
 use Rattle.std.specs.Prelude.{◌≤ℤ◌, negsuc, nat_abs}
 use Rattle.std.proofs.lemmas.Int.{ints}
 use Rattle.std.proofs.lemmas.Bool.{cases_lt}
@@ -13,7 +14,8 @@ use Rattle.dsp_defs.specs.Formats.{close}
 use Rattle.dsp_defs.specs.Signal.{sample, delayed, values, sum_below}
 use Rattle.dsp_defs.specs.Streaming.{Continues, last_of}
 use Rattle.dsp_defs.specs.Sums.{convolution_at, decimate}
-use Rattle.dsp_defs.proofs.Signal.{values_cong, values-add, sum_below_cong, sum_below_reversed, delayed-append, delayed_before, delayed_after}
+use Rattle.dsp_defs.proofs.Signal.{values_cong, values-add, sum_below_cong, sum_below_reversed, delayed-append}
+use Rattle.dsp_defs.proofs.Signal.{delayed_before, delayed_after}
 use Rattle.dsp_defs.proofs.Streaming.{window_at}
 use Rattle.dsp_lanes.specs.Turns.{RisesWithin}
 use Rattle.dsp_window.specs.Rolling.{Rolling, last_samples}
@@ -73,73 +75,95 @@ delayed-shift s n k a =
     delayed_after s (n + a) (k + a) (omega arith) ∙ ap (sample s) place ∙ sym (delayed_after s n k after))
     (cases_lt n k)
 
-module _ (format : Fmt) (factor : ℕ) (taps x more : List ℤ) (phase count : ℕ) (some : 0 < factor) (taken : 0 < length taps) (begun : phase ≡ length x % factor) (counted : count ≡ (phase + length more) / factor) where
-  -- a sample that a value needs, in the window
-  window-place : (i j : ℕ) → j < length taps → sample (last_of (past_length factor (length taps)) x ++ more) (factor - 1 - phase + i * factor + j) ≡ delayed (x ++ more) ((length x / factor + i) * factor) (length taps - suc j)
-  window-place i j within =
-      let window = last_of (past_length factor (length taps)) x ++ more in
-      let first = factor - 1 - phase in
-      let below : phase < factor = omega (arith, mod_below (length x) factor some) in
-      let long : length x ≡ length x / factor * factor + phase = omega (arith, div-add-mod' (length x) factor) in
-      let place : first + i * factor + j ≡ i * factor + j + first = omega arith in
-      let deep : past_length factor (length taps) ≡ first + (length taps - 1 + phase) = omega arith in
-      let time : length x + (i * factor + j) ≡ (length x / factor + i) * factor + (phase + j) = omega (arith, long) in
-      let back : length taps - 1 + phase ≡ length taps - suc j + (phase + j) = omega arith in
-      ap (sample window) place
-      ∙ window_at x more (past_length factor (length taps)) (i * factor + j) first (length taps - 1 + phase) deep
-      ∙ ap₂ (delayed (x ++ more)) time back
-      ∙ delayed-shift (x ++ more) ((length x / factor + i) * factor) (length taps - suc j) (phase + j)
+module _ (format : Fmt) (factor : ℕ) (taps x more : List ℤ) (phase count : ℕ) (some : 0 < factor)
+    (taken : 0 < length taps) (begun : phase ≡ length x % factor) (counted : count ≡ (phase + length more) / factor)
+  where
+    -- a sample that a value needs, in the window
+    window-place : (i j : ℕ) → j < length taps → sample (last_of (past_length factor (length taps)) x ++ more)
+        (factor - 1 - phase + i * factor + j) ≡ delayed (x ++ more) ((length x / factor + i) * factor)
+        (length taps - suc j)
+    window-place i j within =
+        let window = last_of (past_length factor (length taps)) x ++ more in
+        let first = factor - 1 - phase in
+        let below : phase < factor = omega (arith, mod_below (length x) factor some) in
+        let long : length x ≡ length x / factor * factor + phase = omega (arith, div-add-mod' (length x) factor) in
+        let place : first + i * factor + j ≡ i * factor + j + first = omega arith in
+        let deep : past_length factor (length taps) ≡ first + (length taps - 1 + phase) = omega arith in
+        let time : length x + (i * factor + j) ≡ (length x / factor + i) * factor + (phase + j) = omega (arith, long) in
+        let back : length taps - 1 + phase ≡ length taps - suc j + (phase + j) = omega arith in
+        ap (sample window) place
+        ∙ window_at x more (past_length factor (length taps)) (i * factor + j) first (length taps - 1 + phase) deep
+        ∙ ap₂ (delayed (x ++ more)) time back
+        ∙ delayed-shift (x ++ more) ((length x / factor + i) * factor) (length taps - suc j) (phase + j)
 
-  -- the sum of a value
-  value-sum : (i : ℕ) → convolution_at (reverse taps) (x ++ more) ((length x / factor + i) * factor) ≡ sum_below (length taps) (λ j. sample taps j *ℤ sample (last_of (past_length factor (length taps)) x ++ more) (factor - 1 - phase + i * factor + j))
-  value-sum i =
-      let window = last_of (past_length factor (length taps)) x ++ more in
-      let time = (length x / factor + i) * factor in
-      rw (length-reverse taps)
-      (sum_below_reversed (length taps) (λ k. sample (reverse taps) k *ℤ delayed (x ++ more) time k) (λ j. sample taps j *ℤ sample window (factor - 1 - phase + i * factor + j))
-      (λ j h.
-      let back : length taps - 1 - (length taps - suc j) ≡ j = omega arith in
-      let inside : length taps - suc j < length taps = omega arith in
-      let tap : sample (reverse taps) (length taps - suc j) ≡ sample taps j = get_or-reverse taps (length taps - suc j) (pos 0) inside ∙ ap (sample taps) back in
-      let read : sample window (factor - 1 - phase + i * factor + j) ≡ delayed (x ++ more) time (length taps - suc j) = window-place i j h in
-      ap₂ (λ a b. a *ℤ b) (sym tap) read))
+    -- the sum of a value
+    value-sum : (i : ℕ) → convolution_at (reverse taps) (x ++ more) ((length x / factor + i) * factor) ≡ sum_below
+        (length taps) (λ j. sample taps j *ℤ sample (last_of (past_length factor (length taps)) x ++ more)
+        (factor - 1 - phase + i * factor + j))
+    value-sum i =
+        let window = last_of (past_length factor (length taps)) x ++ more in
+        let time = (length x / factor + i) * factor in
+        rw (length-reverse taps)
+        (sum_below_reversed (length taps) (λ k. sample (reverse taps) k *ℤ delayed (x ++ more) time k)
+        (λ j. sample taps j *ℤ sample window (factor - 1 - phase + i * factor + j))
+        (λ j h.
+        let back : length taps - 1 - (length taps - suc j) ≡ j = omega arith in
+        let inside : length taps - suc j < length taps = omega arith in
+        let tap : sample (reverse taps) (length taps - suc j) ≡ sample taps j =
+        get_or-reverse taps (length taps - suc j) (pos 0) inside ∙ ap (sample taps) back in
+        let read : sample window (factor - 1 - phase + i * factor + j) ≡ delayed (x ++ more) time (length taps - suc j)
+        = window-place i j h in
+        ap₂ (λ a b. a *ℤ b) (sym tap) read))
 
-  -- the values of the groups that a block makes whole come from the window
-  pub decimate-append : Continues (decimate format factor taps) x more (strided_rows format taps (last_of (past_length factor (length taps)) x ++ more) (factor - 1 - phase) factor count)
-  decimate-append =
-      let window = last_of (past_length factor (length taps)) x ++ more in
-      let groups = length x / factor in
-      let value : List ℤ → ℕ → ℤ = λ s j. close format (convolution_at (reverse taps) s (j * factor)) in
-      let long : length (x ++ more) ≡ length x + length more = length-append x more in
-      let whole : length (x ++ more) / factor ≡ groups + count = ap (λ n. n / factor) long ∙ sym (groups-more (length x) (length more) phase factor some begun) ∙ ap (λ n. groups + n) (sym counted) in
-      ap (λ n. values n (value (x ++ more))) whole
-      ∙ values-add groups count (value (x ++ more))
-      ∙ ap₂ (λ a b. a ++ b)
-      (values_cong groups (value (x ++ more)) (value x)
-      (λ j h. let early : j * factor < length x = omega (arith, group-fits (length x) factor j h) in
-      ap (close format) (sum_below_cong (length (reverse taps)) _ _ (λ k _. ap (λ v. sample (reverse taps) k *ℤ v) (delayed-append x more (j * factor) k early)))))
-      (values_cong count (λ i. value (x ++ more) (groups + i)) (λ i. close format (sum_below (length taps) (λ j. sample taps j *ℤ sample window (factor - 1 - phase + i * factor + j))))
-      (λ i h. ap (close format) (value-sum i)))
+    -- the values of the groups that a block makes whole come from the window
+    pub decimate-append : Continues (decimate format factor taps) x more
+        (strided_rows format taps (last_of (past_length factor (length taps)) x ++ more) (factor - 1 - phase) factor
+        count)
+    decimate-append =
+        let window = last_of (past_length factor (length taps)) x ++ more in
+        let groups = length x / factor in
+        let value : List ℤ → ℕ → ℤ = λ s j. close format (convolution_at (reverse taps) s (j * factor)) in
+        let long : length (x ++ more) ≡ length x + length more = length-append x more in
+        let whole : length (x ++ more) / factor ≡ groups + count = ap (λ n. n / factor) long ∙
+        sym (groups-more (length x) (length more) phase factor some begun) ∙ ap (λ n. groups + n) (sym counted) in
+        ap (λ n. values n (value (x ++ more))) whole
+        ∙ values-add groups count (value (x ++ more))
+        ∙ ap₂ (λ a b. a ++ b)
+        (values_cong groups (value (x ++ more)) (value x)
+        (λ j h. let early : j * factor < length x = omega (arith, group-fits (length x) factor j h) in
+        ap (close format) (sum_below_cong (length (reverse taps)) _ _
+        (λ k _. ap (λ v. sample (reverse taps) k *ℤ v) (delayed-append x more (j * factor) k early)))))
+        (values_cong count (λ i. value (x ++ more) (groups + i))
+        (λ i. close format (sum_below (length taps) (λ j. sample taps j *ℤ sample window
+        (factor - 1 - phase + i * factor + j))))
+        (λ i h. ap (close format) (value-sum i)))
 
 -- the values, over the window that was lent
 pub decimate-values :
-    (format : Fmt) (factor : ℕ) (taps x block window out : List ℤ) (phase count : ℕ) → 0 < factor → 0 < length taps → phase ≡ length x % factor → count ≡ (phase + length block) / factor →
-    window ≡ last_of (past_length factor (length taps)) x ++ block → out ≡ strided_rows format taps window (factor - 1 - phase) factor count → Continues (decimate format factor taps) x block out
+    (format : Fmt) (factor : ℕ) (taps x block window out : List ℤ) (phase count : ℕ) → 0 < factor → 0 < length taps →
+    phase ≡ length x % factor → count ≡ (phase + length block) / factor →
+    window ≡ last_of (past_length factor (length taps)) x ++ block →
+    out ≡ strided_rows format taps window (factor - 1 - phase) factor count →
+    Continues (decimate format factor taps) x block out
 decimate-values format factor taps x block window out phase count some taken begun counted shows is =
     decimate-append format factor taps x block phase count some taken begun counted
-    ∙ ap (λ l. decimate format factor taps x ++ l) (ap (λ w. strided_rows format taps w (factor - 1 - phase) factor count) (sym shows) ∙ sym is)
+    ∙ ap (λ l. decimate format factor taps x ++ l) (ap (λ w. strided_rows format taps w (factor - 1 - phase) factor
+    count) (sym shows) ∙ sym is)
 
 -- ---- kept numbers
 
 -- a decimator that keeps what is kept of a signal stands for it
-pub kept-stands : (format : Fmt) (d : DecimateState) (numbers x : List ℤ) → kept d ≡ numbers → numbers ≡ kept_of format d.factor d.taps x → StandsFor d x
+pub kept-stands : (format : Fmt) (d : DecimateState) (numbers x : List ℤ) → kept d ≡ numbers →
+    numbers ≡ kept_of format d.factor d.taps x → StandsFor d x
 kept-stands format d numbers x keeps is =
-    let parts = same_from_push d.past (last_of (past_length d.factor (length d.taps)) x) (pos d.phase) (pos (length x % d.factor)) (keeps ∙ is) in
+    let parts = same_from_push d.past (last_of (past_length d.factor (length d.taps)) x) (pos d.phase)
+    (pos (length x % d.factor)) (keeps ∙ is) in
     let last : pos d.phase ≡ pos (length x % d.factor) = parts.1 in
     record { past_is = parts.0; phase_is = cc }
 
 -- one more value is counted
-pub value-counted : (a b c : Counts) (i m p q : ℕ) → m ≡ i + 1 → RisesWithin a b (i * p) (i * q) → RisesWithin b c p q → RisesWithin a c (m * p) (m * q)
+pub value-counted : (a b c : Counts) (i m p q : ℕ) → m ≡ i + 1 → RisesWithin a b (i * p) (i * q) →
+    RisesWithin b c p q → RisesWithin a c (m * p) (m * q)
 value-counted a b c i m p q next first second =
     let products : m * p ≡ i * p + p = ap (λ j. j * p) next ∙ omega arith in
     let turns : m * q ≡ i * q + q = ap (λ j. j * q) next ∙ omega arith in
@@ -151,14 +175,17 @@ value-counted a b c i m p q next first second =
 -- ---- the window
 
 -- it is filled as far as it was, and by the block
-pub pushed-filled : (old new : Rolling) (block : List ℤ) → new ≡ record old { samples = last_samples old.past old.samples ++ block } → old.past ≤ length old.samples → length new.samples ≡ old.past + length block
+pub pushed-filled : (old new : Rolling) (block : List ℤ) →
+    new ≡ record old { samples = last_samples old.past old.samples ++ block } → old.past ≤ length old.samples →
+    length new.samples ≡ old.past + length block
 pushed-filled old new block rolls filled =
     ap (λ (w : Rolling). length w.samples) rolls
     ∙ length-append (last_samples old.past old.samples) block
     ∙ ap (λ k. k + length block) (length-last_samples old.past old.samples filled)
 
 -- what it keeps once it was restored
-pub restored-past : (old new : Rolling) (numbers : List ℤ) → new ≡ record old { samples = numbers } → length numbers ≡ old.past → last_samples new.past new.samples ≡ numbers
+pub restored-past : (old new : Rolling) (numbers : List ℤ) → new ≡ record old { samples = numbers } →
+    length numbers ≡ old.past → last_samples new.past new.samples ≡ numbers
 restored-past old new numbers is long =
     let none : length numbers - old.past ≡ 0 = omega (arith, long) in
     ap (λ (w : Rolling). last_samples w.past w.samples) is ∙ ap (λ k. drop k numbers) none
@@ -171,5 +198,7 @@ phase-read read (pos k) is low = ap (λ t. pos (nat_abs t)) is
 phase-read read (negsuc k) is low = absurd (omega (arith, ints, low))
 
 -- and behind the others
-pub with-last : (numbers : List ℤ) (last : ℕ) → length numbers ≡ last + 1 → take last numbers ++ sample numbers last ∷ [] ≡ numbers
-with-last numbers last whole = sym (take_more numbers last (pos 0) (omega (arith, whole))) ∙ take_all (last + 1) numbers (omega (arith, whole))
+pub with-last : (numbers : List ℤ) (last : ℕ) → length numbers ≡ last + 1 →
+    take last numbers ++ sample numbers last ∷ [] ≡ numbers
+with-last numbers last whole = sym (take_more numbers last (pos 0) (omega (arith, whole))) ∙
+    take_all (last + 1) numbers (omega (arith, whole))

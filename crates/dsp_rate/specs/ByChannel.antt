@@ -2,10 +2,10 @@
 use Rattle.std.specs.Prelude.{◌-◌, ◌*◌, ◌/◌, ◌%◌, ◌<◌, ◌≡◌, ◌≤◌, length, IfSome, refl}
 use Rattle.dsp_defs.specs.Cost.{lane_turns}
 use Rattle.dsp_defs.specs.Shape.{group_of}
-use Rattle.dsp_stage.specs.Filter.{IsByChannel}
+use Rattle.dsp_unit.specs.Filter.{IsByChannel}
 use Rattle.dsp_defs.proofs.KeptLaws.{kept_of_channel-place}
-use Rattle.dsp_unit.specs.Making.{AreTaps}
-use Rattle.dsp_unit.proofs.Units.{scaled}
+use Rattle.dsp_filter.specs.Making.{AreTaps}
+use Rattle.dsp_filter.proofs.Units.{scaled}
 use Rattle.dsp_defs.specs.declared.format.Fmt.{Fmt}
 use Rattle.dsp_defs.specs.declared.script.Block.{Block}
 use Rattle.dsp_defs.specs.declared.script.Block.TheVariants.{Decimate, Interpolate}
@@ -35,7 +35,8 @@ decimate-by-channel format (Decimate factor taps) is = record {
 decimate-by-channel format block is = absurd is
 
 -- in groups of one frame and more
-pub decimate-groups : (format : Fmt) (block : Block) → IsDecimateIn format block → IfSome (group_of block) (λ g. 0 < g.0)
+pub decimate-groups : (format : Fmt) (block : Block) → IsDecimateIn format block →
+    IfSome (group_of block) (λ g. 0 < g.0)
 decimate-groups format (Decimate factor taps) is = is.0
 decimate-groups format block is = absurd is
 
@@ -43,7 +44,8 @@ decimate-groups format block is = absurd is
 
 -- the block is an interpolator that no maker refuses
 abbrev pub IsInterpolateIn : Fmt → Block → Type 0
-IsInterpolateIn format (Interpolate factor taps) = (1 ≤ factor) × (factor ≤ 255) × (length taps % factor ≡ 0) × AreTaps format taps
+IsInterpolateIn format (Interpolate factor taps) = (1 ≤ factor) × (factor ≤ 255) × (length taps % factor ≡ 0) ×
+    AreTaps format taps
 IsInterpolateIn format block = ⊥
 
 -- it works on each channel by itself
@@ -64,6 +66,7 @@ interpolate-by-channel format (Interpolate factor taps) is = record {
 interpolate-by-channel format block is = absurd is
 
 -- and not on groups
-pub interpolate-groups : (format : Fmt) (block : Block) → IsInterpolateIn format block → IfSome (group_of block) (λ g. 0 < g.0)
+pub interpolate-groups : (format : Fmt) (block : Block) → IsInterpolateIn format block →
+    IfSome (group_of block) (λ g. 0 < g.0)
 interpolate-groups format (Interpolate factor taps) is = tt
 interpolate-groups format block is = absurd is

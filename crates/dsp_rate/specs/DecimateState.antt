@@ -1,12 +1,13 @@
 -- What a contract sees of a decimator.
-use Rattle.std.specs.Prelude.{ℕ, ◌-◌, ◌+◌, ◌*◌, ◌%◌, ◌≡◌, ℤ, pos, ◌*ℤ◌, ◌≤ℤ◌, ◌<ℤ◌, Bool, false, List, [], ◌∷◌, ◌++◌, length, take, replicate, All, FitsSigned, Option, Some, None, nat_eq, if◌then◌else◌}
+use Rattle.std.specs.Prelude.{ℕ, ◌-◌, ◌+◌, ◌*◌, ◌%◌, ◌≡◌, ℤ, pos, ◌*ℤ◌, ◌≤ℤ◌, ◌<ℤ◌, Bool, false, List, [], ◌∷◌, ◌++◌}
+use Rattle.std.specs.Prelude.{length, take, replicate, All, FitsSigned, Option, Some, None, nat_eq, if◌then◌else◌}
 use Rattle.std.specs.Option.{option_or}
 use Rattle.dsp_defs.specs.Formats.{word, close}
 use Rattle.dsp_defs.specs.Signal.{sample, values, sum_below}
 use Rattle.dsp_defs.specs.Streaming.{last_of}
-use Rattle.dsp_stage.specs.Filter.{FilterState}
+use Rattle.dsp_unit.specs.Filter.{FilterState}
 use Rattle.dsp_defs.specs.Kept.{kept_of_channel}
-use Rattle.dsp_unit.specs.Making.{block_fault, taps_fault}
+use Rattle.dsp_filter.specs.Making.{block_fault, taps_fault}
 use Rattle.dsp_defs.specs.declared.format.Fmt.{Fmt}
 use Rattle.dsp_defs.specs.declared.script.Block.TheVariants as Block
 use Rattle.dsp_defs.specs.declared.fault.MakeFault.{MakeFault}
@@ -45,7 +46,8 @@ kept d = d.past ++ pos d.phase ∷ []
 abbrev pub kept_of : Fmt → ℕ → List ℤ → List ℤ → List ℤ
 kept_of format factor taps x = kept_of_channel format (Block.Decimate factor taps) x
 
--- the decimator has taken the signal x: it keeps the last T+M-2 numbers of it, with zeros before, and its length modulo M
+-- the decimator has taken the signal x: it keeps the last T+M-2 numbers of it, with zeros before, and its length
+-- modulo M
 pub record StandsFor (d : DecimateState) (x : List ℤ) : Type 0 where
   pub past_is : d.past ≡ last_of (past_length d.factor (length d.taps)) x
   pub phase_is : d.phase ≡ length x % d.factor

@@ -1,12 +1,13 @@
 -- What a contract sees of an interpolator.
-use Rattle.std.specs.Prelude.{ℕ, ◌-◌, ◌+◌, ◌*◌, ◌/◌, ◌%◌, ◌≡◌, ◌≤◌, ℤ, pos, ◌*ℤ◌, Bool, false, List, [], length, max, replicate, Option}
+use Rattle.std.specs.Prelude.{ℕ, ◌-◌, ◌+◌, ◌*◌, ◌/◌, ◌%◌, ◌≡◌, ◌≤◌, ℤ, pos, ◌*ℤ◌, Bool, false, List, [], length, max}
+use Rattle.std.specs.Prelude.{replicate, Option}
 use Rattle.std.specs.Option.{option_or}
 use Rattle.dsp_defs.specs.Formats.{close}
 use Rattle.dsp_defs.specs.Signal.{sample, values, sum_below}
 use Rattle.dsp_defs.specs.Streaming.{last_of}
-use Rattle.dsp_stage.specs.Filter.{FilterState}
+use Rattle.dsp_unit.specs.Filter.{FilterState}
 use Rattle.dsp_window.specs.Rolling.{Rolling}
-use Rattle.dsp_unit.specs.Making.{block_fault, multiple_fault}
+use Rattle.dsp_filter.specs.Making.{block_fault, multiple_fault}
 use Rattle.dsp_rate.specs.DecimateState.{factor_fault}
 use Rattle.dsp_defs.specs.declared.format.Fmt.{Fmt}
 use Rattle.dsp_defs.specs.declared.limits.TheConstants.{MAX_SAMPLES, MAX_TAPS}
@@ -76,7 +77,8 @@ unsorted factor phases =
 abbrev pub phase_rows : Fmt → ℕ → List ℤ → List ℤ → ℕ → List ℤ
 phase_rows format factor phases window n =
     let count = length phases / factor in
-    values n (λ i. close format (sum_below count (λ j. sample phases (i % factor * count + j) *ℤ sample window (i / factor + j))))
+    values n (λ i. close format (sum_below count (λ j. sample phases (i % factor * count + j) *ℤ sample window
+    (i / factor + j))))
 
 -- what an interpolator is made of: phases of equally many taps, and a window that is one shorter than they are
 pub record IsPhased (factor : ℕ) (phases : List ℤ) (window : Rolling) : Type 0 where

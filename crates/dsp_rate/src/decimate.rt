@@ -1,7 +1,7 @@
 use dsp_defs::{Block, MAX_TAPS, MakeFault, Steps};
+use dsp_filter::{Filter, check_block, check_taps, samples_of};
 use dsp_lanes::{FormatLanes, LaneSample, Lanes};
 use dsp_sat::WideSample;
-use dsp_unit::{Filter, check_block, check_taps, samples_of};
 use dsp_window::Window;
 use std::alloc::{AllocError, Global};
 use std::marker::Model;
@@ -43,12 +43,14 @@ impl<T: LaneSample<L> + WideSample, const L: usize> Model for Decimate<T, L> {
 }
 
 impl<T: LaneSample<L> + WideSample, const L: usize> Decimate<T, L> {
-    ghost use Rattle.std.specs.Prelude.{◌≡◌, ◌≤◌, ◌+◌, ◌*◌, ◌/◌, ◌++◌, ℕ, List, [], ℤ, true, length, map, take, drop, IfOk, OnOk, IfErr, IsFalse, IsTrue, ◌↔◌, MatchOption};
+    ghost use Rattle.std.specs.Prelude.{◌≡◌, ◌≤◌, ◌+◌, ◌*◌, ◌/◌, ◌++◌, ℕ, List, [], ℤ, true, length, map};
+    ghost use Rattle.std.specs.Prelude.{take, drop, IfOk, OnOk, IfErr, IsFalse, IsTrue, ◌↔◌, MatchOption};
     ghost use Rattle.std.specs.Int.{div_ceil};
     ghost use Rattle.dsp_defs.specs.Streaming.{Continues};
     ghost use Rattle.dsp_defs.specs.Sums.{decimate};
     ghost use Rattle.dsp_lanes.specs.Turns.{lane_turns};
-    ghost use Rattle.dsp_rate.specs.DecimateState.{StandsFor, CountsFor, Fits, kept, kept_of, new_decimate, decimate_fault};
+    ghost use Rattle.dsp_rate.specs.DecimateState.{StandsFor, CountsFor, Fits, kept, kept_of, new_decimate};
+    ghost use Rattle.dsp_rate.specs.DecimateState.{decimate_fault};
 
     /// A decimator that has taken nothing, from its factor M and the taps in time-reversed order,
     /// `b[T-1]` to `b[0]`, for blocks of at most `block` samples. `Length` where the taps are not

@@ -1,8 +1,8 @@
 use crate::phases::{phase_rows, sort_by_phase};
 use dsp_defs::{Block, MAX_TAPS, MakeFault, Steps};
+use dsp_filter::{Filter, check_block, check_multiple, samples_of};
 use dsp_lanes::{FormatLanes, LaneSample};
 use dsp_sat::WideSample;
-use dsp_unit::{Filter, check_block, check_multiple, samples_of};
 use dsp_window::Window;
 use std::alloc::{AllocError, Global};
 use std::marker::Model;
@@ -40,7 +40,9 @@ impl<T: LaneSample<L> + WideSample, const L: usize> Model for Interpolate<T, L> 
 }
 
 impl<T: LaneSample<L> + WideSample, const L: usize> Interpolate<T, L> {
-    ghost use Rattle.std.specs.Prelude.{◌≡◌, ◌≤◌, ◌+◌, ◌*◌, ◌++◌, List, [], ℤ, true, length, map, take, drop, IfOk, OnOk, IfErr, IsFalse, IsTrue, ◌↔◌, All, FitsSigned, MatchOption};
+    ghost use Rattle.std.specs.Prelude.{◌≡◌, ◌≤◌, ◌+◌, ◌*◌, ◌++◌, List, [], ℤ, true, length, map, take, drop};
+    ghost use Rattle.std.specs.Prelude.{IfOk, OnOk, IfErr, IsFalse, IsTrue, ◌↔◌, All, FitsSigned};
+    ghost use Rattle.std.specs.Prelude.{MatchOption};
     ghost use Rattle.dsp_defs.specs.Formats.{word};
     ghost use Rattle.dsp_defs.specs.Streaming.{Continues};
     ghost use Rattle.dsp_defs.specs.Sums.{interpolate};

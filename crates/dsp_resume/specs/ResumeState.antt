@@ -12,7 +12,8 @@ use Rattle.dsp_session.specs.SessionState.{SessionState}
 use Rattle.dsp_session.specs.Advancing.{Runs}
 use Rattle.dsp_state.specs.SavedState.{SavedState}
 
--- the session, the frame after which it stops or goes on, whether it is to be stopped, and the bytes of its state so far
+-- the session, the frame after which it stops or goes on, whether it is to be stopped, and the bytes of its state so
+-- far
 pub record ResumeState : Type 0 where
   pub session : SessionState
   pub frames : ℕ
@@ -50,7 +51,8 @@ pub record Saves (old new : ResumeState) : Type 0 where
   pub script : SameScript old.session new.session
   pub frames : new.frames ≡ old.frames
   pub over : new.stops ≡ false
-  pub state : (x : List Frame) → StandsFor new.session x → length x ≡ old.frames → new.state ≡ state_of old.session.script old.frames (kept old.session.script x)
+  pub state : (x : List Frame) → StandsFor new.session x → length x ≡ old.frames →
+      new.state ≡ state_of old.session.script old.frames (kept old.session.script x)
 
 -- no number was added to its state
 pub record SavesNothing (old new : ResumeState) : Type 0 where
@@ -61,7 +63,9 @@ pub record SavesNothing (old new : ResumeState) : Type 0 where
 
 -- ---- memory
 
--- while it is to be stopped, there is room for the numbers that are kept, and for their bytes after the head of the state
+-- while it is to be stopped, there is room for the numbers that are kept, and for their bytes after the head of the
+-- state
 pub record HasRoom (r : ResumeState) (numbers room : ℕ) : Type 0 where
-  pub counted : r.stops ≡ true → gathered r.session.script.blocks r.frames ≤ MAX_GATHERED → numbers ≡ kept_count r.session.script r.frames
+  pub counted : r.stops ≡ true → gathered r.session.script.blocks r.frames ≤ MAX_GATHERED →
+      numbers ≡ kept_count r.session.script r.frames
   pub enough : r.stops ≡ true → length r.state + 8 * numbers ≤ room

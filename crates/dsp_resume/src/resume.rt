@@ -1,5 +1,6 @@
-ghost use Rattle.std.specs.Prelude.{◌≡◌, ◌<◌, ◌≤◌, ◌^◌, ℕ, [], length, Some, IfOk, IfErr, IsTrue, IsFalse, slice_get};
-ghost use Rattle.dsp_chain.specs.Row.{measure_counts};
+ghost use Rattle.std.specs.Prelude.{◌≡◌, ◌<◌, ◌≤◌, ◌^◌, ℕ, [], length, Some, IfOk, IfErr, IsTrue, IsFalse};
+ghost use Rattle.std.specs.Prelude.{slice_get};
+ghost use Rattle.dsp_chain.specs.Line.{measure_counts};
 ghost use Rattle.dsp_defs.specs.KeptOfScript.{kept_count};
 ghost use Rattle.dsp_defs.specs.Shape.{frames_given, gathered, is_legal};
 ghost use Rattle.dsp_defs.specs.StateBytes.{state_head};
@@ -13,15 +14,15 @@ ghost use Rattle.dsp_resume.specs.ResumeState.{IsNewResume, IsResumed, Saves, Sa
 use dsp_defs::{MAX_GATHERED, Measure, Script, Steps};
 use dsp_ports::{Sink, Source};
 use dsp_session::{PartFault, Session, Totals, stream_first, stream_rest};
-use dsp_stage::{AnyUnit, Stage};
 use dsp_state::{NewFault, Saved, append_numbers, begin_state};
+use dsp_unit::{AnyUnit, Unit};
 use std::alloc::{AllocError, Global};
 use std::marker::Model;
 use std::sync::ledger::Ledger;
 
 /// A run of a script that is stopped after a frame, or that goes on from there.
 #[derive(Drop)]
-pub struct Resume<U: Stage + Drop> {
+pub struct Resume<U: Unit + Drop> {
     session: Session<U>,
     frames: u32,
     /// It is to be stopped.
@@ -30,13 +31,19 @@ pub struct Resume<U: Stage + Drop> {
     state: Vec<u8>,
 }
 
-impl<U: Stage + Drop> Model for Resume<U> {
+impl<U: Unit + Drop> Model for Resume<U> {
     ghost use Rattle.std.specs.Prelude.{vec_len, vec_capacity};
     ghost use Rattle.dsp_resume.specs.ResumeState.{ResumeState, HasRoom};
 
     ghost Value = { ResumeState };
 
-    ghost view = { λ r. record { session = r.session; frames = r.frames; stops = r.stops; state = r.state.items } };
+    ghost view = { λ r. record {
+      session = r.session;
+      frames = r.frames;
+      stops = r.stops;
+      state =
+          r.state.items;
+    } };
 
     ghost invariant = { λ r. HasRoom
         (record { session = r.session; frames = r.frames; stops = r.stops; state = r.state.items })

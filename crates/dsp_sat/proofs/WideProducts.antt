@@ -9,7 +9,8 @@ use Rattle.dsp_defs.specs.Formats.{word, word_bits}
 use Rattle.dsp_defs.specs.declared.format.Fmt.{Fmt}
 use Rattle.dsp_defs.specs.declared.format.Fmt.TheVariants.{Q7, Q15, Q31}
 
-pub product-small : (format : Fmt) (a b : ℤ) → FitsSigned (word format) a → FitsSigned (word format) b → nat_abs (a *ℤ b) ≤ 2 ^ (2 * word_bits format - 2)
+pub product-small : (format : Fmt) (a b : ℤ) → FitsSigned (word format) a → FitsSigned (word format) b →
+    nat_abs (a *ℤ b) ≤ 2 ^ (2 * word_bits format - 2)
 product-small Q7 a b f g = rw unsigned_abs-mul (mul-le-mul (abs_within w8 a f) (abs_within w8 b g))
 product-small Q15 a b f g = rw unsigned_abs-mul (mul-le-mul (abs_within w16 a f) (abs_within w16 b g))
 product-small Q31 a b f g = rw unsigned_abs-mul (mul-le-mul (abs_within w32 a f) (abs_within w32 b g))

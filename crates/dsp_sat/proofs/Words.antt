@@ -1,7 +1,9 @@
 -- Numbers of a width: their products and shifts, and wrapping by a Euclidean remainder.
-use Rattle.std.proofs.Common.{◌≡◌, pow_mono, ◌∙◌, ap, refl, sym, subst, ℕ, ◌%◌, ◌≤ℤ◌, ◌+◌, ◌*◌, ◌≤◌, ◌<◌, ℤ, pos, negsuc, ◌^◌, ◌*ℤ◌, to_z, of_z, SFits, unsigned_abs, arith}
+use Rattle.std.proofs.Common.{◌≡◌, pow_mono, ◌∙◌, ap, refl, sym, subst, ℕ, ◌%◌, ◌≤ℤ◌, ◌+◌, ◌*◌, ◌≤◌, ◌<◌, ℤ, pos}
+use Rattle.std.proofs.Common.{negsuc, ◌^◌, ◌*ℤ◌, to_z, of_z, SFits, unsigned_abs, arith}
 use Rattle.std.specs.Int.{Width, int_wrap, int_rem_euclid, int_min, int_max}
-use Rattle.std.proofs.lemmas.Int.{to_z-of_z, fits_signed_mul, unsigned_abs-mul, wrapping_mul_is, int_wrap_fits, ints, clamps}
+use Rattle.std.proofs.lemmas.Int.{to_z-of_z, fits_signed_mul, unsigned_abs-mul, wrapping_mul_is, int_wrap_fits, ints}
+use Rattle.std.proofs.lemmas.Int.{clamps}
 use Rattle.std.proofs.Math.Pow.{shr_lt}
 use Rattle.std.proofs.Math.Nat.{mul-le-mul}
 use mir.Val.{bits as bits_of, hbits}
@@ -18,7 +20,8 @@ unfolding int_wrap
 remainder_wraps w u v r s fits_v fits_r fits_s remainder word =
     to_z-of_z w s fits_s
     ∙ word
-    ∙ ap (λ t. to_z w (unsigned_abs t)) (to_z-of_z u r fits_r ∙ remainder ∙ ap (λ t. int_rem_euclid t (pos (2 ^ bits_of w))) (to_z-of_z u v fits_v))
+    ∙ ap (λ t. to_z w (unsigned_abs t)) (to_z-of_z u r fits_r ∙ remainder ∙
+    ap (λ t. int_rem_euclid t (pos (2 ^ bits_of w))) (to_z-of_z u v fits_v))
 
 pub abs_within : (w : Width) (z : ℤ) → SFits w z → unsigned_abs z ≤ 2 ^ hbits w
 abs_within w (pos n) fits = omega (arith, fits.sfits)
@@ -51,7 +54,8 @@ product_shift_fits w u v a b k fits_a fits_b room =
 -- a number that is shifted up at a wide type, and saturated
 pub shift_up-is :
     (w u : Width) (bits most amount : ℕ) (x z places r : ℤ) → SFits u x → SFits w x → z ≡ to_z u (of_z u x) →
-    amount ≡ of_z w places → pos 0 ≤ℤ places → places ≤ℤ pos most → 2 ^ most < 2 ^ hbits w → 2 ^ hbits u * 2 ^ most < 2 ^ hbits w →
+    amount ≡ of_z w places → pos 0 ≤ℤ places → places ≤ℤ pos most → 2 ^ most < 2 ^ hbits w →
+    2 ^ hbits u * 2 ^ most < 2 ^ hbits w →
     r ≡ saturate bits (to_z w (of_z w z * 2 ^ amount % 2 ^ bits_of w)) → r ≡ shift_in bits x places
 shift_up-is w u bits most amount x z (pos k) r fits_x wide is_x is_places up within small room is =
     let few : k ≤ most = omega (arith, ints) in
@@ -62,8 +66,10 @@ shift_up-is w u bits most amount x z (pos k) r fits_x wide is_x is_places up wit
     is
     ∙ ap (λ t. saturate bits (to_z w (of_z w t * 2 ^ amount % 2 ^ bits_of w))) (is_x ∙ to_z-of_z u x fits_x)
     ∙ ap (λ t. saturate bits (to_z w (of_z w x * 2 ^ t % 2 ^ bits_of w))) is_places
-    ∙ ap (saturate bits) (wrapping_mul_is w x (pos (2 ^ k)) wide fits_power ∙ int_wrap_fits w (x *ℤ pos (2 ^ k)) fits_product)
-shift_up-is w u bits most amount x z (negsuc k) r fits_x wide is_x is_places up within small room is = absurd (omega (arith, ints))
+    ∙ ap (saturate bits) (wrapping_mul_is w x (pos (2 ^ k)) wide fits_power ∙
+    int_wrap_fits w (x *ℤ pos (2 ^ k)) fits_product)
+shift_up-is w u bits most amount x z (negsuc k) r fits_x wide is_x is_places up within small room is =
+    absurd (omega (arith, ints))
 
 -- a floor shift stays in the width
 pub shift_down_fits : (w : Width) (z : ℤ) (m : ℕ) → SFits w z → SFits w (shr_z z m)
@@ -85,20 +91,24 @@ widened w u n z fits_z fits_n is = to_z-of_z w n fits_n ∙ is ∙ to_z-of_z u z
 
 -- the product of two numbers, each read at a wider width
 pub wide_fits :
-    (w u v : Width) (m n a b : ℤ) → to_z w (of_z w m) ≡ a → to_z w (of_z w n) ≡ b → SFits u a → SFits v b → 2 ^ hbits u * 2 ^ hbits v < 2 ^ hbits w →
+    (w u v : Width) (m n a b : ℤ) → to_z w (of_z w m) ≡ a → to_z w (of_z w n) ≡ b → SFits u a → SFits v b →
+    2 ^ hbits u * 2 ^ hbits v < 2 ^ hbits w →
     SFits w (to_z w (of_z w m) *ℤ to_z w (of_z w n))
 wide_fits w u v m n a b is_a is_b fits_a fits_b room =
     subst (SFits w) (λ i. sym is_a i *ℤ sym is_b i) (product_fits w u v a b fits_a fits_b room)
 
 pub wide-is :
-    (w u v : Width) (m n a b : ℤ) → to_z w (of_z w m) ≡ a → to_z w (of_z w n) ≡ b → SFits u a → SFits v b → 2 ^ hbits u * 2 ^ hbits v < 2 ^ hbits w →
+    (w u v : Width) (m n a b : ℤ) → to_z w (of_z w m) ≡ a → to_z w (of_z w n) ≡ b → SFits u a → SFits v b →
+    2 ^ hbits u * 2 ^ hbits v < 2 ^ hbits w →
     to_z w (of_z w (to_z w (of_z w m) *ℤ to_z w (of_z w n))) ≡ a *ℤ b
 wide-is w u v m n a b is_a is_b fits_a fits_b room =
-    ap (λ z. to_z w (of_z w z)) (λ i. is_a i *ℤ is_b i) ∙ to_z-of_z w (a *ℤ b) (product_fits w u v a b fits_a fits_b room)
+    ap (λ z. to_z w (of_z w z)) (λ i. is_a i *ℤ is_b i) ∙
+    to_z-of_z w (a *ℤ b) (product_fits w u v a b fits_a fits_b room)
 
 -- a sum of a width, shifted down to be closed
 pub sum_shift-is :
-    (w : Width) (sum : ℤ) (k : ℕ) → SFits w sum → to_z w (of_z w (shr_z (to_z w (of_z w sum)) (2 ^ k))) ≡ (wrap w sum >> k)
+    (w : Width) (sum : ℤ) (k : ℕ) → SFits w sum → to_z w (of_z w (shr_z (to_z w (of_z w sum)) (2 ^ k))) ≡
+    (wrap w sum >> k)
 sum_shift-is w sum k fits = shift_down-is w sum (wrap w sum) k k fits (sym (int_wrap_fits w sum fits)) refl
 
 -- the high word of a product of two words of 32 bits is at least -2^30
@@ -116,14 +126,16 @@ int_max-comm x y = omega (arith, ints, clamps)
 -- `x.max(low).min(high)` at a width
 pub clip-is :
     (w : Width) (x low high most least : ℤ) → SFits w x → SFits w low → SFits w high → SFits w most → SFits w least →
-    most ≡ int_max (to_z w (of_z w x)) (to_z w (of_z w low)) → least ≡ int_min (to_z w (of_z w most)) (to_z w (of_z w high)) →
+    most ≡ int_max (to_z w (of_z w x)) (to_z w (of_z w low)) →
+    least ≡ int_min (to_z w (of_z w most)) (to_z w (of_z w high)) →
     to_z w (of_z w least) ≡ int_min high (int_max low x)
 clip-is w x low high most least fits_x fits_low fits_high fits_most fits_least is_most is_least =
     to_z-of_z w least fits_least
     ∙ is_least
     ∙ (λ i. int_min (to_z-of_z w most fits_most i) (to_z-of_z w high fits_high i))
     ∙ int_min-comm most high
-    ∙ ap (int_min high) (is_most ∙ (λ i. int_max (to_z-of_z w x fits_x i) (to_z-of_z w low fits_low i)) ∙ int_max-comm x low)
+    ∙ ap (int_min high) (is_most ∙ (λ i. int_max (to_z-of_z w x fits_x i) (to_z-of_z w low fits_low i)) ∙
+    int_max-comm x low)
 
 -- the product of two numbers of a width, shifted down at a wider one
 pub product_shift-is :

@@ -1,7 +1,8 @@
 ghost use Rattle.std.specs.Prelude.{◌≡◌, refl, ℕ, ℤ, pos, ◌+ℤ◌, ◌*ℤ◌, ◌≤ℤ◌, FitsSigned};
 ghost use Rattle.dsp_defs.specs.Numbers.{wrap, w8, w16, w32};
 ghost use Rattle.dsp_defs.specs.Formats.{word, word_bits, accumulator, close};
-ghost use Rattle.dsp_defs.specs.Elementwise.{add, sub, clip, mult, scale, IsScaleShift, shift, IsShift, negate, abs};
+ghost use Rattle.dsp_defs.specs.Elementwise.{add, sub, clip, mult, scale, IsScaleShift, shift, IsShift};
+ghost use Rattle.dsp_defs.specs.Elementwise.{negate, abs};
 ghost use Rattle.dsp_defs.specs.Sums.{sparse_term, sparse_close};
 ghost use Rattle.dsp_defs.specs.Counts.{Rises};
 ghost use Rattle.dsp_defs.specs.declared.format.Fmt.{Fmt};

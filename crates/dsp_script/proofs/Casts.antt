@@ -20,4 +20,5 @@ pub read_back_64 : (m n : ℤ) → m ≡ to_z w32 (of_z w32 n) → FitsSigned w3
 read_back_64 m n e f = ap (λ (z : ℤ). to_z w64 (of_z w64 z)) (e ∙ to_z-of_z w32 n f) ∙ to_z-of_z w64 n (fits_64 n f)
 
 pub read_back_128 : (m n : ℤ) → m ≡ to_z w32 (of_z w32 n) → FitsSigned w32 n → to_z w128 (of_z w128 m) ≡ n
-read_back_128 m n e f = ap (λ (z : ℤ). to_z w128 (of_z w128 z)) (e ∙ to_z-of_z w32 n f) ∙ to_z-of_z w128 n (fits_128 n f)
+read_back_128 m n e f = ap (λ (z : ℤ). to_z w128 (of_z w128 z)) (e ∙ to_z-of_z w32 n f) ∙
+    to_z-of_z w128 n (fits_128 n f)

@@ -13,7 +13,8 @@ use Rattle.dsp_defs.specs.declared.format.InputKind.TheVariants as kind
 use Rattle.dsp_defs.specs.declared.word.Word.{Word}
 use Rattle.dsp_defs.specs.declared.word.Word.TheVariants as words
 use Rattle.dsp_defs.specs.Token.{is_run_byte}
-use Rattle.dsp_defs.specs.Table.{by_name, every_word, name_of, every_format, format_name, container_name, input_containers, output_containers}
+use Rattle.dsp_defs.specs.Table.{by_name, every_word, name_of, every_format, format_name, container_name}
+use Rattle.dsp_defs.specs.Table.{input_containers, output_containers}
 use Rattle.dsp_defs.specs.Grammar.{container_of}
 use Rattle.dsp_defs.specs.Places.{named}
 use Rattle.dsp_defs.specs.Reading.{place_of}
@@ -23,7 +24,8 @@ other_than name run = if bytes_eq run name then false else true
 
 -- a run of bytes that is none of `output`, `block` and `table`
 abbrev is_plain : List ℕ → Bool
-is_plain run = list_all is_run_byte run && nat_lt 0 (length run) && other_than (codes "output") run && other_than (codes "block") run && other_than (codes "table") run
+is_plain run = list_all is_run_byte run && nat_lt 0 (length run) && other_than (codes "output") run && other_than
+    (codes "block") run && other_than (codes "table") run
 
 abbrev IsWellNamed : Word → Type 0
 IsWellNamed w = (by_name name_of every_word (name_of w) ≡ Some w) × (is_plain (name_of w) ≡ true)
@@ -87,11 +89,21 @@ record IsPlain (run : List ℕ) : Type 0 where
 
 plain_parts : (run : List ℕ) → is_plain run ≡ true → IsPlain run
 plain_parts run e =
-    let d = both_true (list_all is_run_byte run && nat_lt 0 (length run) && other_than (codes "output") run && other_than (codes "block") run) (other_than (codes "table") run) e in
-    let c = both_true (list_all is_run_byte run && nat_lt 0 (length run) && other_than (codes "output") run) (other_than (codes "block") run) d.0 in
+    let d = both_true (list_all is_run_byte run && nat_lt 0 (length run) && other_than (codes "output") run &&
+    other_than (codes "block") run) (other_than (codes "table") run) e in
+    let c = both_true (list_all is_run_byte run && nat_lt 0 (length run) && other_than (codes "output") run)
+    (other_than (codes "block") run) d.0 in
     let b = both_true (list_all is_run_byte run && nat_lt 0 (length run)) (other_than (codes "output") run) c.0 in
     let a = both_true (list_all is_run_byte run) (nat_lt 0 (length run)) b.0 in
-    record { bytes = a.0; some = grind (arith, nat_tests, a.1); no_output = other (bytes_eq run (codes "output")) b.1; no_length = other (bytes_eq run (codes "block")) c.1; no_table = other (bytes_eq run (codes "table")) d.1 }
+    record {
+      bytes = a.0;
+      some = grind (arith, nat_tests, a.1);
+      no_output =
+          other (bytes_eq run (codes "output")) b.1;
+      no_length = other (bytes_eq run (codes "block")) c.1;
+      no_table =
+          other (bytes_eq run (codes "table")) d.1;
+    }
 
 name_parts : (w : Word) → IsPlain (name_of w)
 name_parts w = plain_parts (name_of w) (well_named w).1
@@ -136,7 +148,8 @@ container_again Wave = refl
 container_again Wavex = refl
 container_again Raw = refl
 
-pub input_container_again : (k : InputKind) → by_name container_name input_containers (container_name (container_of k)) ≡ Some (container_of k)
+pub input_container_again : (k : InputKind) → by_name container_name input_containers
+    (container_name (container_of k)) ≡ Some (container_of k)
 unfolding by_name
 input_container_again kind.Wave = refl
 input_container_again (kind.Raw rate) = refl

@@ -5,7 +5,8 @@ use Rattle.std.specs.List.{flat_map}
 use Rattle.dsp_defs.specs.declared.script.Script.{Script}
 use Rattle.dsp_defs.specs.Token.{Token, Open, Close, Run, Item}
 use Rattle.dsp_defs.specs.Tables.{Named}
-use Rattle.dsp_defs.specs.Grammar.{Symbol, Whole, unwritten, version_symbols, input_symbols, length_symbols, table_symbols, block_symbols, output_symbols}
+use Rattle.dsp_defs.specs.Grammar.{Symbol, Whole, unwritten, version_symbols, input_symbols, length_symbols}
+use Rattle.dsp_defs.specs.Grammar.{table_symbols, block_symbols, output_symbols}
 
 -- what stands before the tables of a script: the version, the input, the block length
 abbrev pub front_symbols : Script → List Symbol
@@ -30,10 +31,12 @@ in_place symbol token = token ∷ []
 
 -- the tokens of items that write these symbols, with the numbers of each list in its place
 abbrev pub in_full : List Item → List Symbol → List Token
-in_full (item ∷ items) (symbol ∷ symbols) = in_place symbol item.token ++ in_full items (unwritten symbol item.token ++ symbols)
+in_full (item ∷ items) (symbol ∷ symbols) = in_place symbol item.token ++ in_full items
+    (unwritten symbol item.token ++ symbols)
 in_full items symbols = []
 
--- the tokens of a text that reads as a script with these tables, which are left out, and each name of one replaced by its numbers
+-- the tokens of a text that reads as a script with these tables, which are left out, and each name of one replaced by
+-- its numbers
 abbrev pub plain_tokens : List Named → List Item → Script → List Token
 plain_tokens tables items s =
     let front = length (front_symbols s) in

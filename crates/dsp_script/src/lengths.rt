@@ -2,7 +2,9 @@
 
 ghost use Rattle.std.specs.Prelude.{◌≡◌, ℕ, ◌*◌, ◌/◌, ◌<◌, ◌≤◌, ◌^◌, false, length, IfSome, IfNone};
 ghost use Rattle.dsp_defs.specs.Grammar.{IsSound};
-ghost use Rattle.dsp_defs.specs.Shape.{gcd, group_of, correlation_length, steady_frames, given_frames, frames_given, grouped_pace, pace_after, whole_unit, fits_everywhere, is_legal, unit, default_block};
+ghost use Rattle.dsp_defs.specs.Shape.{gcd, group_of, correlation_length, steady_frames, given_frames};
+ghost use Rattle.dsp_defs.specs.Shape.{frames_given, grouped_pace, pace_after, whole_unit, fits_everywhere};
+ghost use Rattle.dsp_defs.specs.Shape.{is_legal, unit, default_block};
 ghost use Rattle.dsp_defs.specs.Sums.{full_length};
 ghost use Rattle.dsp_defs.specs.Cost.{section_count, block_cost, cost};
 ghost use Rattle.dsp_script.specs.Lengths.{HasLegalBlock, IsGroup, IsSmall, is_small};

@@ -3,7 +3,8 @@
 ghost use Rattle.std.specs.Prelude.{◌≡◌, ◌≤◌, ◌≤ℤ◌, ◌<◌, IfOk, IfSome};
 ghost use Rattle.std.specs.Option.{option_map};
 ghost use Rattle.dsp_defs.specs.Parameters.{least, greatest};
-ghost use Rattle.dsp_defs.specs.Places.{next_at, choice, named, number, natural_at, next_number, list_end, judged, opening, entry, entries_at, list_at, conversion};
+ghost use Rattle.dsp_defs.specs.Places.{next_at, choice, named, number, natural_at, next_number, list_end};
+ghost use Rattle.dsp_defs.specs.Places.{judged, opening, entry, entries_at, list_at, conversion};
 ghost use Rattle.dsp_defs.specs.Reading.{next_block};
 ghost use Rattle.dsp_defs.specs.Table.{by_name, every_format, format_name, container_name};
 ghost use Rattle.dsp_script.specs.Answers.{Gives, GivesUnlessMemory};

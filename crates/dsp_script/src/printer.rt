@@ -5,7 +5,8 @@ ghost use Rattle.std.specs.String.{string_bytes};
 ghost use Rattle.std.specs.Fmt.{signed_decimal};
 ghost use Rattle.std.specs.List.{flat_map, join_by};
 ghost use Rattle.dsp_defs.specs.Table.{format_name};
-ghost use Rattle.dsp_defs.specs.Grammar.{Name, Numeral, Whole, argument_symbol, arguments, block_symbols, rate_symbols, input_symbols, length_symbols, output_symbols};
+ghost use Rattle.dsp_defs.specs.Grammar.{Name, Numeral, Whole, argument_symbol, arguments, block_symbols};
+ghost use Rattle.dsp_defs.specs.Grammar.{rate_symbols, input_symbols, length_symbols, output_symbols};
 ghost use Rattle.dsp_defs.specs.Canon.{symbol_text, line_of, canon};
 ghost use Rattle.dsp_script.specs.Printed.{behind_spaces};
 

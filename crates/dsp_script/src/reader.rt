@@ -5,7 +5,8 @@ ghost use Rattle.dsp_defs.specs.declared.script.Script.{Script};
 ghost use Rattle.dsp_defs.specs.declared.script_fault.ScriptFault.{ScriptFault};
 ghost use Rattle.dsp_defs.specs.Table.{is_correlate};
 ghost use Rattle.dsp_defs.specs.Grammar.{input_flow, Reads};
-ghost use Rattle.dsp_defs.specs.Reading.{block_at, blocks_at, length_at, kind_at, input_at, script_at, reading, first_fault};
+ghost use Rattle.dsp_defs.specs.Reading.{block_at, blocks_at, length_at, kind_at, input_at, script_at};
+ghost use Rattle.dsp_defs.specs.Reading.{reading, first_fault};
 ghost use Rattle.dsp_script.specs.Answers.{Gives, GivesUnlessMemory, parameters};
 
 use crate::fault::ParseFault;

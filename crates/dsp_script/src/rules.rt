@@ -2,12 +2,16 @@
 
 ghost use Rattle.std.specs.Prelude.{◌≡◌, pos, negsuc};
 ghost use Rattle.dsp_defs.specs.Numbers.{neg};
-ghost use Rattle.dsp_defs.specs.Elementwise.{greatest_scale, greatest_shift, least_matrix_shift, greatest_matrix_shift};
-ghost use Rattle.dsp_defs.specs.Parameters.{least, greatest, greatest_biquad_shift, greatest_lms_shift, is_complete, factor_of, coefficients, taps, sparse_taps, delays, section_numbers, reflections, exactly, routes};
+ghost use Rattle.dsp_defs.specs.Elementwise.{greatest_scale, greatest_shift, least_matrix_shift};
+ghost use Rattle.dsp_defs.specs.Elementwise.{greatest_matrix_shift};
+ghost use Rattle.dsp_defs.specs.Parameters.{least, greatest, greatest_biquad_shift, greatest_lms_shift};
+ghost use Rattle.dsp_defs.specs.Parameters.{is_complete, factor_of, coefficients, taps, sparse_taps, delays};
+ghost use Rattle.dsp_defs.specs.Parameters.{section_numbers, reflections, exactly, routes};
 ghost use Rattle.dsp_defs.specs.Tables.{table_rule};
 
 use dsp_defs::{
-    Count, Flow, Fmt, ListRule, MAX_CHANNELS, MAX_DELAY, MAX_SECTIONS, MAX_STAGES, MAX_TAPS,
+    Count, Flow, Fmt, ListRule, MAX_CHANNELS, MAX_DELAY, MAX_LATTICE_SECTIONS, MAX_SECTIONS,
+    MAX_TAPS,
 };
 
 // ---- ranges
@@ -206,7 +210,7 @@ pub fn sections(flow: Flow) -> ListRule
 pub fn reflections(flow: Flow) -> ListRule
     ensures { result ≡ reflections flow }
 {
-    coefficients(flow, MAX_STAGES as u64, Count::MultipleOf(1))
+    coefficients(flow, MAX_LATTICE_SECTIONS as u64, Count::MultipleOf(1))
 }
 
 /// So many numbers.

@@ -1,7 +1,8 @@
 //! The table of blocks: their words, and where they may stand.
 
 ghost use Rattle.std.specs.Prelude.{◌≡◌};
-ghost use Rattle.dsp_defs.specs.Table.{row_of, by_name, every_word, name_of, every_format, format_name, container_name, admits, is_correlate, flow_after};
+ghost use Rattle.dsp_defs.specs.Table.{row_of, by_name, every_word, name_of, every_format, format_name};
+ghost use Rattle.dsp_defs.specs.Table.{container_name, admits, is_correlate, flow_after};
 ghost use Rattle.dsp_defs.specs.Grammar.{word_of, input_flow};
 ghost use Rattle.dsp_script.specs.Answers.{HasFewChannels};
 

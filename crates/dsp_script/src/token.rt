@@ -1,6 +1,7 @@
 //! A place in a text, and the tokens from there on.
 
-ghost use Rattle.std.specs.Prelude.{◌≡◌, ◌<◌, ◌≤◌, ◌+◌, ℕ, Bool, true, false, IsTrue, length, take, drop, slice_index, List, [], ◌∷◌, IfOk};
+ghost use Rattle.std.specs.Prelude.{◌≡◌, ◌<◌, ◌≤◌, ◌+◌, ℕ, Bool, true, false, IsTrue, length, take, drop};
+ghost use Rattle.std.specs.Prelude.{slice_index, List, [], ◌∷◌, IfOk};
 ghost use Rattle.dsp_defs.specs.Token.{items_from, is_white, is_run_byte, rest_of, Rest};
 ghost use Rattle.dsp_script.specs.View.{item_view};
 ghost use Rattle.dsp_script.specs.Answers.{Gives};

@@ -1,5 +1,7 @@
 -- The samples have ended: the last of them, the tail, and what that makes of the whole stream.
-use Rattle.std.proofs.Common.{◌≡◌, ℕ, suc, ◌+◌, ◌-◌, ◌*◌, ◌/◌, ◌^◌, ◌<◌, ◌≤◌, Bool, List, [], ◌++◌, length, take, Option, Some, None, Result, Ok, Err, sym, ap, ◌∙◌, subst, arith, append_assoc, append-nil, length-append, inl, inr}
+use Rattle.std.proofs.Common.{◌≡◌, ℕ, suc, ◌+◌, ◌-◌, ◌*◌, ◌/◌, ◌^◌, ◌<◌, ◌≤◌, Bool, List, [], ◌++◌, length, take}
+use Rattle.std.proofs.Common.{Option, Some, None, Result, Ok, Err, sym, ap, ◌∙◌, subst, arith, append_assoc}
+use Rattle.std.proofs.Common.{append-nil, length-append, inl, inr}
 use Rattle.std.proofs.lemmas.Bool.{cases_lt}
 use Rattle.std.proofs.lemmas.List.{length-take-le}
 use Rattle.std.specs.Io.KnownBytes.{IsAtEnd, append_known}
@@ -7,7 +9,8 @@ use Rattle.dsp_ports.specs.Ports.{SourceState, SinkState, one_more, IsSettled}
 use Rattle.dsp_ports.proofs.Moved.{append_known-append}
 use Rattle.dsp_defs.specs.Block.{Frame}
 use Rattle.dsp_defs.specs.Counts.{Counts}
-use Rattle.dsp_defs.specs.Output.{HasHeader, input_header, input_signal, output_header, output_pad, output_coding, live_bytes, whole_bytes, output, part}
+use Rattle.dsp_defs.specs.Output.{HasHeader, input_header, input_signal, output_header, output_pad, output_coding}
+use Rattle.dsp_defs.specs.Output.{live_bytes, whole_bytes, output, part}
 use Rattle.dsp_defs.specs.Shape.{frames_given, gathered, held, window_at}
 use Rattle.dsp_defs.specs.Streaming.{Begins}
 use Rattle.dsp_defs.specs.declared.limits.TheConstants.{MAX_GATHERED}
@@ -15,22 +18,25 @@ use Rattle.dsp_defs.specs.declared.measure.Measure.{Measure}
 use Rattle.dsp_defs.specs.declared.script.Script.{Script}
 use Rattle.dsp_defs.specs.declared.wave.Header.{Header}
 use Rattle.dsp_defs.proofs.ChainLaws.{whole_chain_begins}
-use Rattle.dsp_stage.proofs.ChainPlaces.{has_channels}
-use Rattle.dsp_stage.proofs.CostLaws.{live_cost_within, products_are_cost}
+use Rattle.dsp_unit.proofs.ChainPlaces.{has_channels}
+use Rattle.dsp_unit.proofs.CostLaws.{live_cost_within, products_are_cost}
 use Rattle.dsp_defs.proofs.FrameLaws.{length-whole_chain, frames_are_given}
 use Rattle.dsp_defs.proofs.OutputLaws.{coded_begins}
 use Rattle.dsp_input.specs.Taking.{AreAll, Fits, InDeclared, IsTakenWhole, declared_bytes, frame_bytes, frames_in_bytes}
 use Rattle.dsp_session.specs.SessionState.{SessionState}
-use Rattle.dsp_session.specs.Session.{IsReady, StandsFor, SameSession, signal, whole_values, cost_of, live_cost_of, products_of, turns_of, run_turns, measures_of}
+use Rattle.dsp_session.specs.Session.{IsReady, StandsFor, SameSession, signal, whole_values, cost_of, live_cost_of}
+use Rattle.dsp_session.specs.Session.{products_of, turns_of, run_turns, measures_of}
 use Rattle.dsp_session.specs.Stream.{Stopped, Done, Part, KeepsLimits, LagsByOne, IsInDeclared, in_whole_blocks}
 use Rattle.dsp_session.specs.Passing.{PassCosts, Passes, FailsToPass, Passed, WritesRest, TailCosts}
 use Rattle.dsp_session.specs.declared.fault.LengthFault.TheVariants as length_fault
 use Rattle.dsp_session.specs.declared.fault.StreamFault.{StreamFault}
 use Rattle.dsp_session.specs.declared.fault.StreamFault.TheVariants as fault
 use Rattle.dsp_session.specs.declared.streaming.Last.{Last}
-use Rattle.dsp_session.proofs.OpeningLaws.{some_frame, floor_within, front_signal, frames_of_blocks, length-signal, signal-append, frames-whole, signal_is, frames_are, output_is, part_blocks}
+use Rattle.dsp_session.proofs.OpeningLaws.{some_frame, floor_within, front_signal, frames_of_blocks, length-signal}
+use Rattle.dsp_session.proofs.OpeningLaws.{signal-append, frames-whole, signal_is, frames_are, output_is, part_blocks}
 use Rattle.dsp_session.proofs.OpenLaws.{none_behind}
-use Rattle.dsp_session.proofs.PassingLaws.{in_declared, lags, frames_between, block_some, in_blocks, blocks_keep, whole_blocks_are}
+use Rattle.dsp_session.proofs.PassingLaws.{in_declared, lags, frames_between, block_some, in_blocks, blocks_keep}
+use Rattle.dsp_session.proofs.PassingLaws.{whole_blocks_are}
 use Rattle.dsp_session.proofs.TurnLaws.{turns_before, turns_behind, turns_end}
 
 quotient_within : (n f : ℕ) → n / f ≤ n
@@ -40,10 +46,13 @@ pub same_frames : (s t : Script) (n : ℕ) → s ≡ t → frames_given s.blocks
 same_frames s t n same = ap (λ (s : Script). frames_given s.blocks n) same
 
 -- a whole signal has the frames that are given
-pub whole_length : (script : Script) (block : ℕ) → IsReady script block → (x : List Frame) → window_at script.blocks (length x) ≡ None → length (whole_values script x) ≡ frames_given script.blocks (length x)
+pub whole_length : (script : Script) (block : ℕ) → IsReady script block → (x : List Frame) →
+    window_at script.blocks (length x) ≡ None → length (whole_values script x) ≡ frames_given script.blocks (length x)
 whole_length script block ready x window =
     let fit = ready.sound.1.fit in
-    length-whole_chain script.input.format script.input.channels script.blocks x (has_channels (record { format = script.input.format; channels = script.input.channels }) script.blocks fit.chain fit.channels.0)
+    length-whole_chain script.input.format script.input.channels script.blocks x
+    (has_channels (record { format = script.input.format; channels = script.input.channels }) script.blocks
+    fit.chain fit.channels.0)
     ∙ frames_are_given script.blocks (length x) window
 
 live_front : (script : Script) (x : List Frame) → Begins (live_bytes script x) (whole_bytes script x)
@@ -51,7 +60,8 @@ live_front script x =
     let (rest, split) = whole_chain_begins script.input.format script.input.channels script.blocks x [] in
     coded_begins (output_coding script) _ _ (rest, ap (whole_values script) (sym (append-nil x)) ∙ split)
 
-module _ (script : Script) (block : ℕ) (ready : IsReady script block) (session : SessionState) (header : Header) (piece : List ℕ) (last : Last) (input now : SourceState) (sink then : SinkState) (before counts : Counts)
+module _ (script : Script) (block : ℕ) (ready : IsReady script block) (session : SessionState) (header : Header)
+    (piece : List ℕ) (last : Last) (input now : SourceState) (sink then : SinkState) (before counts : Counts)
     (passed : Passed script block session header piece last input now sink then before counts) where
   frame : 0 < frame_bytes script header.coding
   frame = some_frame script header.coding block ready
@@ -95,13 +105,16 @@ module _ (script : Script) (block : ℕ) (ready : IsReady script block) (session
 
   all_signal : signal script header.coding (heard ++ rest) ≡ x ++ signal script header.coding fed_bytes
   all_signal =
-      signal-append script header.coding frame heard rest (passed.blocks * block) (frames_of_blocks script header.coding block passed.blocks (length heard) passed.blocks_heard) ∙ ap (λ y. x ++ y) fed_signal
+      signal-append script header.coding frame heard rest (passed.blocks * block)
+      (frames_of_blocks script header.coding block passed.blocks (length heard) passed.blocks_heard) ∙
+      ap (λ y. x ++ y) fed_signal
 
   given_length : length (heard ++ rest) ≡ last.before + last.count
   given_length = omega (arith, passed.heard_count, rest_length, length-append heard rest)
 
   declared : InDeclared (declared_bytes script header) (length (heard ++ rest))
-  declared = in_declared (declared_bytes script header) (last.before + last.count) (length (heard ++ rest)) (sym given_length) passed.declared
+  declared = in_declared (declared_bytes script header) (last.before + last.count) (length (heard ++ rest))
+      (sym given_length) passed.declared
 
   behind : IsInDeclared script given
   behind = none_behind script header passed.first passed.opens (heard ++ rest) declared
@@ -113,14 +126,23 @@ module _ (script : Script) (block : ℕ) (ready : IsReady script block) (session
   signal_all : input_signal script given ≡ x ++ signal script header.coding fed_bytes
   signal_all = signal_is script header frame passed.first passed.opens (heard ++ rest) declared ∙ all_signal
 
-  pub frames_taken : length (x ++ signal script header.coding fed_bytes) ≡ (last.before + last.count) / frame_bytes script header.coding
-  frames_taken = ap length (sym all_signal) ∙ length-signal script header.coding frame (heard ++ rest) ∙ ap (λ n. n / frame_bytes script header.coding) given_length
+  pub frames_taken : length (x ++ signal script header.coding fed_bytes) ≡ (last.before + last.count) / frame_bytes
+      script header.coding
+  frames_taken = ap length (sym all_signal) ∙ length-signal script header.coding frame (heard ++ rest) ∙
+      ap (λ n. n / frame_bytes script header.coding) given_length
 
   -- its frames are not too many
   pub few_frames : (frames : ℕ) → frames ≡ length x → frames + count ≤ 2 ^ 40
   few_frames frames is =
-      let sum : length (x ++ signal script header.coding fed_bytes) ≡ frames + count = length-append x (signal script header.coding fed_bytes) ∙ omega (arith, is, fed_frames) in
-      omega (arith, sum, frames_taken, quotient_within (last.before + last.count) (frame_bytes script header.coding), passed.in_limit)
+      let sum : length (x ++ signal script header.coding fed_bytes) ≡ frames + count =
+      length-append x (signal script header.coding fed_bytes) ∙ omega (arith, is, fed_frames) in
+      omega (
+        arith,
+        sum,
+        frames_taken,
+        quotient_within (last.before + last.count) (frame_bytes script header.coding),
+        passed.in_limit,
+      )
 
   few_left : count < block
   few_left = less last.count block (frame_bytes script header.coding) frame (omega (arith, passed.short, passed.size))
@@ -141,13 +163,15 @@ module _ (script : Script) (block : ℕ) (ready : IsReady script block) (session
   IsWhole declared header = elim declared [ Some size ↦ length given ≡ header.start + size | None ↦ IsAtEnd now.left ]
 
   is_whole : IsTakenWhole script given now
-  is_whole = subst (λ (h : Header). IsWhole (declared_bytes script h) h) (sym (passed.opens.said (heard ++ rest))) (by_declared (declared_bytes script header) passed.ended)
+  is_whole = subst (λ (h : Header). IsWhole (declared_bytes script h) h) (sym (passed.opens.said (heard ++ rest)))
+      (by_declared (declared_bytes script header) passed.ended)
     where
       by_declared : (size : Option ℕ) → AreAll size (last.before + last.count) now → IsWhole size header
       by_declared None end = end
       by_declared (Some size) all = omega (arith, given_all, all)
 
-  output_all : output script given ≡ head ++ (whole_bytes script (x ++ signal script header.coding fed_bytes) ++ output_pad script header)
+  output_all : output script given ≡ head ++ (whole_bytes script (x ++ signal script header.coding fed_bytes) ++
+      output_pad script header)
   output_all =
       output_is script header frame passed.first passed.opens (heard ++ rest) declared
       ∙ ap (λ y. head ++ whole_bytes script y ++ output_pad script header) all_signal
@@ -155,59 +179,80 @@ module _ (script : Script) (block : ℕ) (ready : IsReady script block) (session
 
   lag : (written : List ℕ) → LagsByOne script block given (head ++ live_bytes script x ++ written)
   lag written =
-      lags script block ready header passed.first passed.opens passed.blocks heard rest written (prefix_declared (declared_bytes script header) passed.declared) passed.blocks_heard (omega (arith, rest_length, passed.short, passed.size))
+      lags script block ready header passed.first passed.opens passed.blocks heard rest written
+      (prefix_declared (declared_bytes script header) passed.declared) passed.blocks_heard
+      (omega (arith, rest_length, passed.short, passed.size))
     where
       prefix_declared : (size : Option ℕ) → InDeclared size (last.before + last.count) → InDeclared size (length heard)
       prefix_declared None within = tt
       prefix_declared (Some size) within = omega (arith, within, passed.heard_count)
 
-  cost_so_far : (multiplied frames : ℕ) → frames ≤ length (x ++ signal script header.coding fed_bytes) → multiplied ≡ before.multiplies + live_cost_of script frames → multiplied ≤ before.multiplies + cost_of script (frames_in_bytes script given)
+  cost_so_far : (multiplied frames : ℕ) → frames ≤ length (x ++ signal script header.coding fed_bytes) →
+      multiplied ≡ before.multiplies + live_cost_of script frames →
+      multiplied ≤ before.multiplies + cost_of script (frames_in_bytes script given)
   cost_so_far multiplied frames fewer cost =
-      let products = live_cost_within script.input.format script.input.channels script.blocks frames (length (x ++ signal script header.coding fed_bytes)) fewer in
+      let products = live_cost_within script.input.format script.input.channels script.blocks frames
+      (length (x ++ signal script header.coding fed_bytes)) fewer in
       rw frames_is (omega (arith, products, cost))
 
   -- what was written is the part output of it
   parted : head ++ live_bytes script x ≡ part script block given
-  parted = sym (part_blocks script header frame passed.first passed.opens block passed.blocks heard rest passed.blocks_heard (omega (arith, rest_length, passed.short, passed.size)) declared)
+  parted = sym (part_blocks script header frame passed.first passed.opens block passed.blocks heard rest
+      passed.blocks_heard (omega (arith, rest_length, passed.short, passed.size)) declared)
 
   fed_all : session.chain.frames + count ≡ length (x ++ signal script header.coding fed_bytes)
-  fed_all = ap (λ n. n + count) passed.stands.chain.counted ∙ ap (λ n. length x + n) (sym fed_frames) ∙ sym (length-append x (signal script header.coding fed_bytes))
+  fed_all = ap (λ n. n + count) passed.stands.chain.counted ∙ ap (λ n. length x + n) (sym fed_frames) ∙
+      sym (length-append x (signal script header.coding fed_bytes))
 
   frames_heard : length x ≡ passed.blocks * block
-  frames_heard = frames-whole script header.coding frame heard (passed.blocks * block) (frames_of_blocks script header.coding block passed.blocks (length heard) passed.blocks_heard)
+  frames_heard = frames-whole script header.coding frame heard (passed.blocks * block)
+      (frames_of_blocks script header.coding block passed.blocks (length heard) passed.blocks_heard)
 
   abbrev low : passed.blocks * block ≤ frames_in_bytes script given
-  low = (frames_between script block ready header passed.first passed.opens passed.blocks heard rest declared passed.blocks_heard (omega (arith, rest_length, passed.short, passed.size))).0
+  low = (frames_between script block ready header passed.first passed.opens passed.blocks heard rest declared
+      passed.blocks_heard (omega (arith, rest_length, passed.short, passed.size))).0
 
   abbrev high : frames_in_bytes script given ≤ suc passed.blocks * block
-  high = (frames_between script block ready header passed.first passed.opens passed.blocks heard rest declared passed.blocks_heard (omega (arith, rest_length, passed.short, passed.size))).1
+  high = (frames_between script block ready header passed.first passed.opens passed.blocks heard rest declared
+      passed.blocks_heard (omega (arith, rest_length, passed.short, passed.size))).1
 
   whole_blocks : in_whole_blocks block (frames_in_bytes script given) ≡ passed.blocks * block
-  whole_blocks = whole_blocks_are script block ready header passed.first passed.opens passed.blocks heard rest declared passed.blocks_heard (omega (arith, rest_length, passed.short, passed.size))
+  whole_blocks = whole_blocks_are script block ready header passed.first passed.opens passed.blocks heard rest
+      declared passed.blocks_heard (omega (arith, rest_length, passed.short, passed.size))
 
   limits : KeepsLimits script (input_header script given) (in_whole_blocks block (frames_in_bytes script given))
-  limits = blocks_keep script block header given (passed.opens.said (heard ++ rest)) passed.fits whole_blocks passed.not_full
+  limits = blocks_keep script block header given (passed.opens.said (heard ++ rest)) passed.fits whole_blocks
+      passed.not_full
 
   early_turns : counts.turns ≤ before.turns + run_turns session.banked script block (frames_in_bytes script given)
-  early_turns = turns_before session.banked script block passed.blocks (frames_in_bytes script given) before.turns counts.turns (block_some script block ready) low high passed.turned
+  early_turns = turns_before session.banked script block passed.blocks (frames_in_bytes script given) before.turns
+      counts.turns (block_some script block ready) low high passed.turned
 
-  fed_turns : (after : Counts) → PassCosts session.banked script header.coding x fed_bytes counts after → after.turns ≤ counts.turns + turns_of session.banked script (passed.blocks * block) (frames_in_bytes script given)
-  fed_turns after costs = subst (λ n. after.turns ≤ counts.turns + n) (λ i. turns_of session.banked script (frames_heard i) (sym frames_is i)) costs.turned
+  fed_turns : (after : Counts) → PassCosts session.banked script header.coding x fed_bytes counts after →
+      after.turns ≤ counts.turns + turns_of session.banked script (passed.blocks * block) (frames_in_bytes script given)
+  fed_turns after costs = subst (λ n. after.turns ≤ counts.turns + n)
+      (λ i. turns_of session.banked script (frames_heard i) (sym frames_is i)) costs.turned
 
   -- where the last samples were too many, some came
-  frames_between_strictly : MAX_GATHERED < gathered script.blocks (length (x ++ signal script header.coding fed_bytes)) → passed.blocks * block < frames_in_bytes script given
+  frames_between_strictly : MAX_GATHERED < gathered script.blocks
+      (length (x ++ signal script header.coding fed_bytes)) → passed.blocks * block < frames_in_bytes script given
   frames_between_strictly over =
       elim (cases_lt (passed.blocks * block) (frames_in_bytes script given)) [
         | inl more ↦ more
         | inr fewer ↦
-            let same : length (x ++ signal script header.coding fed_bytes) ≡ passed.blocks * block = omega (arith, fewer, low, frames_is) in
+            let same : length (x ++ signal script header.coding fed_bytes) ≡ passed.blocks * block =
+            omega (arith, fewer, low, frames_is) in
             absurd (omega (arith, passed.not_full, subst (λ n. MAX_GATHERED < gathered script.blocks n) same over))
       ]
 
   -- a window ends past its convolution
-  pub stops_window : (end full : ℕ) → window_at script.blocks (session.chain.frames + count) ≡ Some (end, full) → Stopped session.banked script block (fault.Lengths (length_fault.Window end full)) input now sink then before counts
+  pub stops_window : (end full : ℕ) → window_at script.blocks (session.chain.frames + count) ≡ Some (end, full) →
+      Stopped session.banked script block (fault.Lengths (length_fault.Window end full)) input now sink then
+      before counts
   stops_window end full window =
-      let frames : session.chain.frames + count ≡ frames_in_bytes script given = sym (frames_is ∙ length-append x (signal script header.coding fed_bytes) ∙ omega (arith, passed.stands.chain.counted, fed_frames)) in
+      let frames : session.chain.frames + count ≡ frames_in_bytes script given =
+      sym (frames_is ∙ length-append x (signal script header.coding fed_bytes) ∙
+      omega (arith, passed.stands.chain.counted, fed_frames)) in
       record {
         given = given;
         written = head ++ live_bytes script x;
@@ -216,28 +261,36 @@ module _ (script : Script) (block : ℕ) (ready : IsReady script block) (session
         put = passed.took.put;
         unflushed = passed.took.settled;
         cause = (has, is_whole, ap (window_at script.blocks) (sym frames) ∙ window);
-        wrote = Part has parted limits (passed.cost ∙ ap (λ n. before.multiplies + live_cost_of script n) (frames_heard ∙ sym whole_blocks));
+        wrote = Part has parted limits (passed.cost ∙ ap (λ n. before.multiplies + live_cost_of script n)
+            (frames_heard ∙ sym whole_blocks));
         faults = (passed.no_input_fault, passed.no_output_fault);
         in_declared = λ _. behind;
         lag = λ _. subst (LagsByOne script block given) (append-nil (head ++ live_bytes script x)) (lag []);
-        cost = cost_so_far counts.multiplies (length x) (omega (arith, length-append x (signal script header.coding fed_bytes))) passed.cost;
+        cost = cost_so_far counts.multiplies (length x) (omega
+            (arith, length-append x (signal script header.coding fed_bytes))) passed.cost;
         turns = early_turns;
       }
 
   -- the output failed within the values of the last samples
-  pub stops_unpassed : None ≡ window_at script.blocks (session.chain.frames + count) → (stop : StreamFault) (final : SinkState) (after : Counts) → FailsToPass stop session.banked script header.coding x fed_bytes then final counts after → Stopped session.banked script block stop input now sink final before after
+  pub stops_unpassed : None ≡ window_at script.blocks (session.chain.frames + count) →
+      (stop : StreamFault) (final : SinkState) (after : Counts) →
+      FailsToPass stop session.banked script header.coding x fed_bytes then final counts after →
+      Stopped session.banked script block stop input now sink final before after
   stops_unpassed window fault.Output final after (added, written, is, (back, split), less, put, risen, costs, kept) =
       let y = x ++ signal script header.coding fed_bytes in
       let (tail, whole) = live_front script y in
-      let begins : output script given ≡ (head ++ live_bytes script x ++ written) ++ (back ++ (tail ++ output_pad script header)) =
-      output_all ∙ ap (λ xs. head ++ (xs ++ output_pad script header)) (whole ∙ ap (λ xs. xs ++ tail) (is ∙ ap (λ xs. live_bytes script x ++ xs) split))
+      let begins : output script given ≡ (head ++ live_bytes script x ++ written) ++
+      (back ++ (tail ++ output_pad script header)) =
+      output_all ∙ ap (λ xs. head ++ (xs ++ output_pad script header))
+      (whole ∙ ap (λ xs. xs ++ tail) (is ∙ ap (λ xs. live_bytes script x ++ xs) split))
       ∙ regroup head (live_bytes script x) written back tail (output_pad script header) in
       record {
         given = given;
         written = head ++ live_bytes script x ++ written;
         gave = passed.gave;
         in_limit = omega (arith, given_all, passed.in_limit);
-        put = put ∙ ap (λ known. append_known known written) passed.took.put ∙ sym (append_known-append sink.put (head ++ live_bytes script x) written);
+        put = put ∙ ap (λ known. append_known known written) passed.took.put ∙
+            sym (append_known-append sink.put (head ++ live_bytes script x) written);
         unflushed = tt;
         cause = has;
         wrote = (
@@ -253,17 +306,22 @@ module _ (script : Script) (block : ℕ) (ready : IsReady script block) (session
         in_declared = λ _. behind;
         lag = λ _. lag written;
         cost = cost_so_far after.multiplies (length y) (omega arith) (omega (arith, costs.rise, passed.cost));
-        turns = turns_behind session.banked script block passed.blocks (frames_in_bytes script given) before.turns counts.turns after.turns (block_some script block ready) low high passed.turned (fed_turns after costs);
+        turns = turns_behind session.banked script block passed.blocks (frames_in_bytes script given) before.turns
+            counts.turns after.turns (block_some script block ready) low high passed.turned (fed_turns after costs);
       }
     where
       regroup : (a b c d e f : List ℕ) → a ++ (((b ++ (c ++ d)) ++ e) ++ f) ≡ (a ++ b ++ c) ++ (d ++ (e ++ f))
       regroup a b c d e f =
-          ap (λ xs. a ++ xs) (ap (λ xs. (xs ++ e) ++ f) (sym (append_assoc b c d)) ∙ append_assoc ((b ++ c) ++ d) e f ∙ append_assoc (b ++ c) d (e ++ f))
+          ap (λ xs. a ++ xs) (ap (λ xs. (xs ++ e) ++ f) (sym (append_assoc b c d)) ∙
+          append_assoc ((b ++ c) ++ d) e f ∙ append_assoc (b ++ c) d (e ++ f))
           ∙ sym (append_assoc a (b ++ c) (d ++ (e ++ f))) ∙ ap (λ xs. xs ++ (d ++ (e ++ f))) (sym (append_assoc a b c))
-  stops_unpassed window (fault.Lengths (length_fault.Gather told more)) final after (over, held_is, more_is, same, still) =
+  stops_unpassed window (fault.Lengths (length_fault.Gather told more)) final after
+      (over, held_is, more_is, same, still) =
       let blocks_before : in_whole_blocks block (frames_in_bytes script given - 1) ≡ passed.blocks * block =
-      in_blocks passed.blocks block (frames_in_bytes script given - 1) (block_some script block ready) (omega (arith, frames_between_strictly over)) (omega (arith, high, block_some script block ready)) in
-      let worked : length x ≡ in_whole_blocks block (frames_in_bytes script given - 1) = frames_heard ∙ sym blocks_before in
+      in_blocks passed.blocks block (frames_in_bytes script given - 1) (block_some script block ready)
+      (omega (arith, frames_between_strictly over)) (omega (arith, high, block_some script block ready)) in
+      let worked : length x ≡ in_whole_blocks block (frames_in_bytes script given - 1) = frames_heard ∙
+      sym blocks_before in
       record {
         given = given;
         written = head ++ live_bytes script x;
@@ -285,12 +343,16 @@ module _ (script : Script) (block : ℕ) (ready : IsReady script block) (session
               fits = subst (Fits script) (sym (passed.opens.said (heard ++ rest))) passed.fits;
               not_full = subst (λ n. gathered script.blocks n ≤ MAX_GATHERED) (sym blocks_before) passed.not_full;
             })
-            (ap (λ (c : Counts). c.multiplies) still ∙ passed.cost ∙ ap (λ n. before.multiplies + live_cost_of script n) worked);
+            (ap (λ (c : Counts). c.multiplies) still ∙ passed.cost ∙
+            ap (λ n. before.multiplies + live_cost_of script n) worked);
         faults = (passed.no_input_fault, ap (λ (s : SinkState). s.faults) same ∙ passed.no_output_fault);
         in_declared = λ _. behind;
         lag = λ _. subst (LagsByOne script block given) (append-nil (head ++ live_bytes script x)) (lag []);
-        cost = cost_so_far after.multiplies (length x) (omega (arith, length-append x (signal script header.coding fed_bytes))) (ap (λ (c : Counts). c.multiplies) still ∙ passed.cost);
-        turns = subst (λ (c : Counts). c.turns ≤ before.turns + run_turns session.banked script block (frames_in_bytes script given)) (sym still) early_turns;
+        cost = cost_so_far after.multiplies (length x) (omega
+            (arith, length-append x (signal script header.coding fed_bytes)))
+            (ap (λ (c : Counts). c.multiplies) still ∙ passed.cost);
+        turns = subst (λ (c : Counts). c.turns ≤ before.turns + run_turns session.banked script block
+            (frames_in_bytes script given)) (sym still) early_turns;
       }
   stops_unpassed window _ final after none = absurd none
 
@@ -299,63 +361,101 @@ module _ (script : Script) (block : ℕ) (ready : IsReady script block) (session
     no_window : window_at script.blocks (length (x ++ signal script header.coding fed_bytes)) ≡ None
     no_window = ap (window_at script.blocks) (sym fed_all) ∙ sym window
 
-    products_are : products_of script (length (x ++ signal script header.coding fed_bytes)) ≡ cost_of script (length (x ++ signal script header.coding fed_bytes))
-    products_are = products_are_cost script.input.format script.input.channels script.blocks (length (x ++ signal script header.coding fed_bytes)) no_window
+    products_are : products_of script (length (x ++ signal script header.coding fed_bytes)) ≡ cost_of script
+        (length (x ++ signal script header.coding fed_bytes))
+    products_are = products_are_cost script.input.format script.input.channels script.blocks
+        (length (x ++ signal script header.coding fed_bytes)) no_window
 
     -- a whole signal has so many frames
-    pub tail_few : (fed : SessionState) → SameSession session fed → StandsFor fed (x ++ signal script header.coding fed_bytes) → (frames : ℕ) → frames ≡ frames_given script.blocks ((last.before + last.count) / frame_bytes script header.coding) → (z : List Frame) → StandsFor fed z → length (whole_values fed.script z) ≤ frames
+    pub tail_few : (fed : SessionState) → SameSession session fed →
+        StandsFor fed (x ++ signal script header.coding fed_bytes) → (frames : ℕ) →
+        frames ≡ frames_given script.blocks ((last.before + last.count) / frame_bytes script header.coding) →
+        (z : List Frame) → StandsFor fed z → length (whole_values fed.script z) ≤ frames
     tail_few fed same fed_stands frames is z stands =
-        let long : length z ≡ length (x ++ signal script header.coding fed_bytes) = sym stands.chain.counted ∙ fed_stands.chain.counted in
+        let long : length z ≡ length (x ++ signal script header.coding fed_bytes) = sym stands.chain.counted ∙
+        fed_stands.chain.counted in
         let all : length (whole_values fed.script z) ≡ frames =
-        ap (λ (s : Script). length (whole_values s z)) (same.script ∙ passed.script_is) ∙ whole_length script block ready z (ap (window_at script.blocks) long ∙ no_window) ∙ ap (frames_given script.blocks) (long ∙ frames_taken) ∙ sym is in
+        ap (λ (s : Script). length (whole_values s z)) (same.script ∙ passed.script_is) ∙
+        whole_length script block ready z (ap (window_at script.blocks) long ∙ no_window) ∙
+        ap (frames_given script.blocks) (long ∙ frames_taken) ∙ sym is in
         omega (arith, all)
 
     -- the last samples have passed
-    module _ (fed : SessionState) (mid : SinkState) (fed_counts : Counts) (same : SameSession session fed) (passes : Passes session.banked script header.coding x fed_bytes fed then mid counts fed_counts) where
+    module _ (fed : SessionState) (mid : SinkState) (fed_counts : Counts) (same : SameSession session fed)
+        (passes : Passes session.banked script header.coding x fed_bytes fed then mid counts fed_counts) where
       abbrev y : List Frame
       y = x ++ signal script header.coding fed_bytes
 
       fed_script : fed.script ≡ script
       fed_script = same.script ∙ passed.script_is
 
-      put_all : (final : SinkState) (written : List ℕ) → final.put ≡ append_known mid.put written → final.put ≡ append_known sink.put (head ++ live_bytes script x ++ (fed.out ++ written))
+      put_all : (final : SinkState) (written : List ℕ) → final.put ≡ append_known mid.put written →
+          final.put ≡ append_known sink.put (head ++ live_bytes script x ++ (fed.out ++ written))
       put_all final written put =
-          put ∙ ap (λ known. append_known known written) passes.took.put ∙ sym (append_known-append then.put fed.out written)
-          ∙ ap (λ known. append_known known (fed.out ++ written)) passed.took.put ∙ sym (append_known-append sink.put (head ++ live_bytes script x) (fed.out ++ written))
+          put ∙ ap (λ known. append_known known written) passes.took.put ∙
+          sym (append_known-append then.put fed.out written)
+          ∙ ap (λ known. append_known known (fed.out ++ written)) passed.took.put ∙
+          sym (append_known-append sink.put (head ++ live_bytes script x) (fed.out ++ written))
 
-      written_is : (written : List ℕ) → head ++ live_bytes script x ++ (fed.out ++ written) ≡ head ++ (live_bytes script y ++ written)
+      written_is : (written : List ℕ) → head ++ live_bytes script x ++ (fed.out ++ written) ≡ head ++
+          (live_bytes script y ++ written)
       written_is written =
           append_assoc head (live_bytes script x) (fed.out ++ written)
-          ∙ ap (λ xs. head ++ xs) (sym (append_assoc (live_bytes script x) fed.out written) ∙ ap (λ xs. xs ++ written) (sym passes.out))
+          ∙ ap (λ xs. head ++ xs) (sym (append_assoc (live_bytes script x) fed.out written) ∙
+          ap (λ xs. xs ++ written) (sym passes.out))
 
-      late_turns : (spent : Counts) → spent.multiplies + live_cost_of script (length y) ≤ fed_counts.multiplies + products_of script (length y) → spent.turns + fed_counts.multiplies ≤ fed_counts.turns + spent.multiplies → spent.turns ≤ before.turns + run_turns session.banked script block (frames_in_bytes script given)
+      late_turns : (spent : Counts) → spent.multiplies + live_cost_of script (length y) ≤ fed_counts.multiplies +
+          products_of script (length y) → spent.turns + fed_counts.multiplies ≤ fed_counts.turns + spent.multiplies →
+          spent.turns ≤ before.turns + run_turns session.banked script block (frames_in_bytes script given)
       late_turns spent limit turned =
-          let all : spent.multiplies + live_cost_of script (length y) ≤ fed_counts.multiplies + cost_of script (length y) = omega (arith, limit, products_are) in
-          turns_end session.banked script block passed.blocks (frames_in_bytes script given) before.turns counts.turns fed_counts.turns spent.turns fed_counts.multiplies spent.multiplies (block_some script block ready) low high passed.turned (fed_turns fed_counts passes.costs) turned
-          (subst (λ n. spent.multiplies + live_cost_of script n ≤ fed_counts.multiplies + cost_of script n) (sym frames_is) all)
+          let all : spent.multiplies + live_cost_of script (length y) ≤ fed_counts.multiplies + cost_of script
+          (length y) = omega (arith, limit, products_are) in
+          turns_end session.banked script block passed.blocks (frames_in_bytes script given) before.turns counts.turns
+          fed_counts.turns spent.turns fed_counts.multiplies spent.multiplies (block_some script block ready) low
+          high passed.turned (fed_turns fed_counts passes.costs) turned
+          (subst (λ n. spent.multiplies + live_cost_of script n ≤ fed_counts.multiplies + cost_of script n)
+          (sym frames_is) all)
 
-      cost_all : (more : ℕ) → more + live_cost_of script (length y) ≤ fed_counts.multiplies + products_of script (length y) → more ≤ before.multiplies + cost_of script (length y)
+      cost_all : (more : ℕ) → more + live_cost_of script (length y) ≤ fed_counts.multiplies + products_of script
+          (length y) → more ≤ before.multiplies + cost_of script (length y)
       cost_all more limit = omega (arith, limit, products_are, passes.costs.rise, passed.cost)
 
-      module _ {E : Type 0} (result : Result (Unit {0}) E) (final : SinkState) (spent : Counts) (writes : WritesRest result (live_bytes fed.script y) (whole_bytes fed.script y ++ output_pad fed.script header) mid final) (costs : TailCosts result fed.script (length y) fed_counts spent) where
-        tail_writes : WritesRest result (live_bytes script y) (whole_bytes script y ++ output_pad script header) mid final
-        tail_writes = subst (λ (s : Script). WritesRest result (live_bytes s y) (whole_bytes s y ++ output_pad s header) mid final) fed_script writes
+      module _ {E : Type 0} (result : Result (Unit {0}) E) (final : SinkState) (spent : Counts)
+          (writes : WritesRest result (live_bytes fed.script y)
+          (whole_bytes fed.script y ++ output_pad fed.script header) mid final)
+          (costs : TailCosts result fed.script (length y) fed_counts spent) where
+        tail_writes : WritesRest result (live_bytes script y) (whole_bytes script y ++ output_pad script header) mid
+            final
+        tail_writes = subst (λ (s : Script). WritesRest result (live_bytes s y)
+            (whole_bytes s y ++ output_pad s header) mid final) fed_script writes
 
         tail_costs : TailCosts result script (length y) fed_counts spent
         tail_costs = subst (λ (s : Script). TailCosts result s (length y) fed_counts spent) fed_script costs
 
-      pub stream_done : {E : Type 0} (final : SinkState) (spent : Counts) (frames : ℕ) → WritesRest {T = Unit {0}} {E = E} (Ok tt) (live_bytes fed.script y) (whole_bytes fed.script y ++ output_pad fed.script header) mid final → TailCosts {T = Unit {0}} {E = E} (Ok tt) fed.script (length y) fed_counts spent
-          → IsSettled final → final.faults ≡ mid.faults → frames ≡ (last.before + last.count) / frame_bytes script header.coding → (found : List Measure) → found ≡ measures_of fed.script y → Done session.banked script block frames input now sink final before spent found
+      pub stream_done : {E : Type 0} (final : SinkState) (spent : Counts) (frames : ℕ) →
+          WritesRest {T = Unit {0}} {E = E} (Ok tt) (live_bytes fed.script y)
+          (whole_bytes fed.script y ++ output_pad fed.script header) mid final →
+          TailCosts {T = Unit {0}} {E = E} (Ok tt) fed.script (length y) fed_counts spent
+          → IsSettled final → final.faults ≡ mid.faults → frames ≡ (last.before + last.count) / frame_bytes script
+          header.coding → (found : List Measure) → found ≡ measures_of fed.script y →
+          Done session.banked script block frames input now sink final before spent found
       stream_done {E} final spent frames writes costs settled faults is found measured =
           let tail = tail_writes {E = E} (Ok tt) final spent writes costs in
-          let all : head ++ live_bytes script x ++ (fed.out ++ tail.written) ≡ output script given = written_is tail.written ∙ ap (λ xs. head ++ xs) tail.whole ∙ sym output_all in
-          let exact : spent.multiplies + live_cost_of script (length y) ≡ fed_counts.multiplies + products_of script (length y) = (tail_costs {E = E} (Ok tt) final spent writes costs).exact in
+          let all : head ++ live_bytes script x ++ (fed.out ++ tail.written) ≡ output script given =
+          written_is tail.written ∙ ap (λ xs. head ++ xs) tail.whole ∙ sym output_all in
+          let exact : spent.multiplies + live_cost_of script (length y) ≡ fed_counts.multiplies + products_of script
+          (length y) = (tail_costs {E = E} (Ok tt) final spent writes costs).exact in
           record {
             given = given;
             gave = passed.gave;
             has = has;
             in_limit = omega (arith, given_all, passed.in_limit);
-            room_left = λ none. omega (arith, given_all, passed.room_left (ap (λ (h : Header). h.size) (sym (passed.opens.said (heard ++ rest))) ∙ none));
+            room_left = λ none. omega (
+              arith,
+              given_all,
+              passed.room_left
+                  (ap (λ (h : Header). h.size) (sym (passed.opens.said (heard ++ rest))) ∙ none),
+            );
             whole = is_whole;
             limits = record {
               fits = subst (Fits script) (sym (passed.opens.said (heard ++ rest))) passed.fits;
@@ -368,19 +468,29 @@ module _ (script : Script) (block : ℕ) (ready : IsReady script block) (session
             no_input_fault = passed.no_input_fault;
             no_output_fault = faults ∙ passes.no_fault ∙ passed.no_output_fault;
             frame_count = is ∙ sym (frames_is ∙ frames_taken);
-            cost = (let sum : spent.multiplies ≡ before.multiplies + cost_of script (length y) = omega (arith, exact, products_are, passes.costs.rise, passed.cost) in sum ∙ ap (λ n. before.multiplies + cost_of script n) (frames_taken ∙ sym is));
-            turns = subst (λ n. spent.turns ≤ before.turns + run_turns session.banked script block n) (frames_is ∙ frames_taken ∙ sym is) (late_turns spent (omega (arith, exact)) (tail_costs {E = E} (Ok tt) final spent writes costs).turned);
-            measures = measured ∙ ap (λ (s : Script). measures_of s y) fed_script ∙ ap (measures_of script) (sym signal_all);
+            cost = (let sum : spent.multiplies ≡ before.multiplies + cost_of script (length y) =
+                omega (arith, exact, products_are, passes.costs.rise, passed.cost) in sum ∙
+                ap (λ n. before.multiplies + cost_of script n) (frames_taken ∙ sym is));
+            turns = subst (λ n. spent.turns ≤ before.turns + run_turns session.banked script block n)
+                (frames_is ∙ frames_taken ∙ sym is) (late_turns spent (omega (arith, exact))
+                (tail_costs {E = E} (Ok tt) final spent writes costs).turned);
+            measures = measured ∙ ap (λ (s : Script). measures_of s y) fed_script ∙
+                ap (measures_of script) (sym signal_all);
           }
 
-      pub stream_unfinished : {E : Type 0} (error : E) (final : SinkState) (spent : Counts) → WritesRest {T = Unit {0}} (Err error) (live_bytes fed.script y) (whole_bytes fed.script y ++ output_pad fed.script header) mid final → TailCosts {T = Unit {0}} (Err error) fed.script (length y) fed_counts spent
-          → final.faults ≡ one_more mid.faults → Stopped session.banked script block fault.Output input now sink final before spent
+      pub stream_unfinished : {E : Type 0} (error : E) (final : SinkState) (spent : Counts) →
+          WritesRest {T = Unit {0}} (Err error) (live_bytes fed.script y)
+          (whole_bytes fed.script y ++ output_pad fed.script header) mid final →
+          TailCosts {T = Unit {0}} (Err error) fed.script (length y) fed_counts spent
+          → final.faults ≡ one_more mid.faults → Stopped session.banked script block fault.Output input now sink final
+          before spent
       stream_unfinished error final spent writes costs failed =
           let tail = tail_writes (Err error) final spent writes costs in
           let (back, split) = tail.begins in
           let limit = (tail_costs (Err error) final spent writes costs).limit in
           let begins : output script given ≡ (head ++ live_bytes script x ++ (fed.out ++ tail.written)) ++ back =
-          output_all ∙ ap (λ xs. head ++ xs) split ∙ sym (append_assoc head (live_bytes script y ++ tail.written) back) ∙ ap (λ xs. xs ++ back) (sym (written_is tail.written)) in
+          output_all ∙ ap (λ xs. head ++ xs) split ∙ sym (append_assoc head (live_bytes script y ++ tail.written)
+          back) ∙ ap (λ xs. xs ++ back) (sym (written_is tail.written)) in
           record {
             given = given;
             written = head ++ live_bytes script x ++ (fed.out ++ tail.written);
@@ -406,20 +516,27 @@ module _ (script : Script) (block : ℕ) (ready : IsReady script block) (session
           }
 
 -- the same of equal scripts and block lengths
-pub passed_as : (script same_script : Script) (block same_block : ℕ) (session : SessionState) (header : Header) (piece same_piece : List ℕ) (last : Last) (input now : SourceState) (sink then : SinkState) (before counts : Counts) →
-    same_script ≡ script → same_block ≡ block → same_piece ≡ piece → Passed script block session header piece last input now sink then before counts → Passed same_script same_block session header same_piece last input now sink then before counts
-passed_as script same_script block same_block session header piece same_piece last input now sink then before counts s b p passed =
+pub passed_as : (script same_script : Script) (block same_block : ℕ) (session : SessionState) (header : Header)
+    (piece same_piece : List ℕ) (last : Last) (input now : SourceState) (sink then : SinkState) (before counts : Counts)
+    →
+    same_script ≡ script → same_block ≡ block → same_piece ≡ piece →
+    Passed script block session header piece last input now sink then before counts →
+    Passed same_script same_block session header same_piece last input now sink then before counts
+passed_as script same_script block same_block session header piece same_piece last input now sink then
+    before counts s b p passed =
     subst (λ (t : Script). Passed t same_block session header same_piece last input now sink then before counts) (sym s)
     (subst (λ n. Passed script n session header same_piece last input now sink then before counts) (sym b)
     (subst (λ xs. Passed script block session header xs last input now sink then before counts) (sym p) passed))
 
 pub done_as :
-    (banked same_banked : Bool) (script same_script : Script) (block same_block frames same_frames : ℕ) (input now : SourceState) (sink then : SinkState)
+    (banked same_banked : Bool) (script same_script : Script) (block same_block frames same_frames : ℕ)
+    (input now : SourceState) (sink then : SinkState)
     (before counts : Counts) (found : List Measure) →
     banked ≡ same_banked → script ≡ same_script → block ≡ same_block → frames ≡ same_frames
     → Done banked script block frames input now sink then before counts found
     → Done same_banked same_script same_block same_frames input now sink then before counts found
-done_as banked same_banked script same_script block same_block frames same_frames input now sink then before counts found k s b f done =
+done_as banked same_banked script same_script block same_block frames same_frames input now sink then
+    before counts found k s b f done =
     subst (λ t. Done t same_script same_block same_frames input now sink then before counts found) k
     (subst (λ (t : Script). Done banked t same_block same_frames input now sink then before counts found) s
     (subst (λ n. Done banked script n same_frames input now sink then before counts found) b

@@ -1,5 +1,6 @@
 -- What the end of a stream asks of its calls, from any state.
-use Rattle.std.proofs.Common.{◌≡◌, ℕ, ◌+◌, ◌*◌, ◌/◌, ◌%◌, ◌^◌, ◌<◌, ◌≤◌, List, length, Option, None, sym, ap, ◌∙◌, arith}
+use Rattle.std.proofs.Common.{◌≡◌, ℕ, ◌+◌, ◌*◌, ◌/◌, ◌%◌, ◌^◌, ◌<◌, ◌≤◌, List, length, Option, None, sym, ap, ◌∙◌}
+use Rattle.std.proofs.Common.{arith}
 use Rattle.std.proofs.lemmas.List.{length-take-le}
 use Rattle.std.proofs.lemmas.Nat.{div-mul-add}
 use Rattle.dsp_defs.specs.Block.{Frame}
@@ -11,7 +12,8 @@ use Rattle.dsp_session.specs.SessionState.{SessionState}
 use Rattle.dsp_ports.specs.Ports.{SinkState}
 use Rattle.dsp_defs.specs.Counts.{Counts}
 use Rattle.dsp_chain.specs.Chain.{made_of}
-use Rattle.dsp_session.specs.Session.{StandsFor, SameSession, signal, block_bytes, live_cost_of, products_of, whole_values}
+use Rattle.dsp_session.specs.Session.{StandsFor, SameSession, signal, block_bytes, live_cost_of, products_of}
+use Rattle.dsp_session.specs.Session.{whole_values}
 use Rattle.dsp_session.specs.Advancing.{Runs, PassesOn, count_of, whole_front}
 use Rattle.dsp_session.proofs.AdvanceLaws.{passed_runs, made_runs}
 use Rattle.dsp_session.specs.declared.streaming.Last.{Last}
@@ -37,9 +39,11 @@ quotient a n f some =
 floor_less : (n f : ℕ) → 0 < f → n / f ≤ n
 floor_less n f some = grind arith
 
-module _ (session : SessionState) (runs : Runs session) (header : Header) (block : List ℕ) (last : Last) (coding : session.coding ≡ header.coding)
+module _ (session : SessionState) (runs : Runs session) (header : Header) (block : List ℕ) (last : Last)
+    (coding : session.coding ≡ header.coding)
     (size : length block ≡ block_bytes session.script header.coding session.block) (short : last.count < length block)
-    (frames : session.chain.frames * frame_bytes session.script header.coding ≡ last.before) (limit : last.before + last.count ≤ 2 ^ 40) where
+    (frames : session.chain.frames * frame_bytes session.script header.coding ≡ last.before)
+    (limit : last.before + last.count ≤ 2 ^ 40) where
   abbrev frame : ℕ
   frame = frame_bytes session.script header.coding
 
@@ -53,7 +57,8 @@ module _ (session : SessionState) (runs : Runs session) (header : Header) (block
   bytes = whole_front session.script header last.count block
 
   pub bytes_long : length bytes ≡ count * frame
-  bytes_long = length-take-le (count * frame) block (let within = floor_within last.count frame in omega (arith, within, short))
+  bytes_long = length-take-le (count * frame) block (let within = floor_within last.count frame in
+      omega (arith, within, short))
 
   fed_frames : length (signal session.script header.coding bytes) ≡ count
   fed_frames = frames-whole session.script header.coding some bytes count bytes_long
@@ -65,7 +70,8 @@ module _ (session : SessionState) (runs : Runs session) (header : Header) (block
   fed_whole = bytes_long ∙ (λ i. sym fed_count i * frame_bytes session.script (sym coding i))
 
   pub fed_in_block : count_of session bytes ≤ session.block
-  fed_in_block = (let fewer = less last.count session.block frame some (omega (arith, short, size)) in omega (arith, fewer, fed_count))
+  fed_in_block = (let fewer = less last.count session.block frame some (omega (arith, short, size)) in
+      omega (arith, fewer, fed_count))
 
   pub taken_is : (last.before + last.count) / frame ≡ session.chain.frames + count
   taken_is = ap (λ n. (n + last.count) / frame) (sym frames) ∙ quotient session.chain.frames last.count frame some
@@ -76,27 +82,37 @@ module _ (session : SessionState) (runs : Runs session) (header : Header) (block
   pub fed_few : session.chain.frames + count_of session bytes ≤ 2 ^ 40
   fed_few = omega (arith, few, fed_count)
 
-  pub window : (found : Option (ℕ × ℕ)) → window_at session.script.blocks (session.chain.frames + count) ≡ found → window_at session.script.blocks (session.chain.frames + count_of session bytes) ≡ found
+  pub window : (found : Option (ℕ × ℕ)) → window_at session.script.blocks (session.chain.frames + count) ≡ found →
+      window_at session.script.blocks (session.chain.frames + count_of session bytes) ≡ found
   window found is = ap (λ n. window_at session.script.blocks (session.chain.frames + n)) fed_count ∙ is
 
   -- a whole signal of so many frames has those that are given
-  pub tail_few : window_at session.script.blocks (session.chain.frames + count) ≡ None → (fed : SessionState) → SameSession session fed → fed.chain.frames ≡ session.chain.frames + count_of session bytes
-      → (given : ℕ) → given ≡ frames_given session.script.blocks ((last.before + last.count) / frame) → (x : List Frame) → StandsFor fed x → length (whole_values fed.script x) ≤ given
+  pub tail_few : window_at session.script.blocks (session.chain.frames + count) ≡ None → (fed : SessionState) →
+      SameSession session fed → fed.chain.frames ≡ session.chain.frames + count_of session bytes
+      → (given : ℕ) → given ≡ frames_given session.script.blocks ((last.before + last.count) / frame) →
+      (x : List Frame) → StandsFor fed x → length (whole_values fed.script x) ≤ given
   tail_few none fed same counted given is x stands =
-      let all : length x ≡ session.chain.frames + count = sym stands.chain.counted ∙ counted ∙ ap (λ n. session.chain.frames + n) fed_count in
+      let all : length x ≡ session.chain.frames + count = sym stands.chain.counted ∙ counted ∙
+      ap (λ n. session.chain.frames + n) fed_count in
       let whole : length (whole_values session.script x) ≡ frames_given session.script.blocks (length x) =
       whole_length session.script session.block runs.holds.ready x (ap (window_at session.script.blocks) all ∙ none) in
-      let given_is : frames_given session.script.blocks (length x) ≡ given = ap (frames_given session.script.blocks) (all ∙ sym taken_is) ∙ sym is in
-      let script : length (whole_values fed.script x) ≡ length (whole_values session.script x) = ap (λ (s : Script). length (whole_values s x)) same.script in
+      let given_is : frames_given session.script.blocks (length x) ≡ given =
+      ap (frames_given session.script.blocks) (all ∙ sym taken_is) ∙ sym is in
+      let script : length (whole_values fed.script x) ≡ length (whole_values session.script x) =
+      ap (λ (s : Script). length (whole_values s x)) same.script in
       omega (arith, whole, given_is, script)
 
-pub runs_behind : (old new : SessionState) (bytes : List ℕ) (sink after : SinkState) (before counts : Counts) → PassesOn old new bytes sink after before counts → Runs new
+pub runs_behind : (old new : SessionState) (bytes : List ℕ) (sink after : SinkState) (before counts : Counts) →
+    PassesOn old new bytes sink after before counts → Runs new
 runs_behind = passed_runs
 
 -- the multiplies of the tail, by the frames
-pub limit_is : (session fed : SessionState) → SameSession session fed → Runs fed → (made counts : ℕ) → counts + made_of fed.chain ≤ made + products_of fed.script fed.chain.frames
+pub limit_is : (session fed : SessionState) → SameSession session fed → Runs fed → (made counts : ℕ) →
+    counts + made_of fed.chain ≤ made + products_of fed.script fed.chain.frames
     → counts + live_cost_of session.script fed.chain.frames ≤ made + products_of session.script fed.chain.frames
 limit_is session fed same runs made counts limit =
-    let live : made_of fed.chain ≡ live_cost_of session.script fed.chain.frames = made_runs fed runs ∙ ap (λ (s : Script). live_cost_of s fed.chain.frames) same.script in
-    let products : products_of fed.script fed.chain.frames ≡ products_of session.script fed.chain.frames = ap (λ (s : Script). products_of s fed.chain.frames) same.script in
+    let live : made_of fed.chain ≡ live_cost_of session.script fed.chain.frames = made_runs fed runs ∙
+    ap (λ (s : Script). live_cost_of s fed.chain.frames) same.script in
+    let products : products_of fed.script fed.chain.frames ≡ products_of session.script fed.chain.frames =
+    ap (λ (s : Script). products_of s fed.chain.frames) same.script in
     omega (arith, limit, live, products)

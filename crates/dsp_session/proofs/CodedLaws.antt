@@ -23,51 +23,68 @@ module _ (s : SessionState) (coding : Coding) where
   stands_coded x stands = record { holds = holds_coded stands.holds; chain = stands.chain; live = stands.live }
 
   pub runs_coded : Runs s → Runs coded
-  runs_coded runs = record { holds = holds_coded runs.holds; running = runs.running; works = runs.works; live = runs.live; not_full = runs.not_full }
+  runs_coded runs = record {
+    holds = holds_coded runs.holds;
+    running = runs.running;
+    works = runs.works;
+    live =
+        runs.live;
+    not_full = runs.not_full;
+  }
 
-  lag_coded : (script : Script) (block from : ℕ) (given written : List ℕ) → LaterLagsByOne script block coded from given written → LaterLagsByOne script block s from given written
+  lag_coded : (script : Script) (block from : ℕ) (given written : List ℕ) →
+      LaterLagsByOne script block coded from given written → LaterLagsByOne script block s from given written
   lag_coded script block from given written lag = record {
     blocks = lag.blocks;
-    wrote = elim lag.wrote [ inl none ↦ inl none | inr some ↦ inr (some.0, λ x stands. some.1 x (stands_coded x stands)) ];
+    wrote = elim lag.wrote [
+      | inl none ↦ inl none
+      | inr some ↦ inr
+          (some.0, λ x stands. some.1 x (stands_coded x stands))
+    ];
     one = lag.one;
   }
 
-  module _ (script : Script) (from : ℕ) (input now : SourceState) (sink after : SinkState) (before counts : Counts) where
-    pub rest_done_coded : (frames : ℕ) (found : List Measure) → RestDone script coded from frames input now sink after before counts found → RestDone script s from frames input now sink after before counts found
-    rest_done_coded frames found done = record {
-      given = done.given;
-      written = done.written;
-      gave = done.gave;
-      has = done.has;
-      in_limit = done.in_limit;
-      room_left = done.room_left;
-      whole = done.whole;
-      frame_count = done.frame_count;
-      enough = done.enough;
-      limits = done.limits;
-      no_window = done.no_window;
-      put = done.put;
-      lag = lag_coded script s.block from done.given done.written done.lag;
-      output = λ x stands. done.output x (stands_coded x stands);
-      settled = done.settled;
-      no_input_fault = done.no_input_fault;
-      no_output_fault = done.no_output_fault;
-      cost = done.cost;
-      exact = λ x stands. done.exact x (stands_coded x stands);
-      measures = λ x stands. done.measures x (stands_coded x stands);
-    }
+  module _ (script : Script) (from : ℕ) (input now : SourceState) (sink after : SinkState) (before counts : Counts)
+    where
+      pub rest_done_coded : (frames : ℕ) (found : List Measure) →
+          RestDone script coded from frames input now sink after before counts found →
+          RestDone script s from frames input now sink after before counts found
+      rest_done_coded frames found done = record {
+        given = done.given;
+        written = done.written;
+        gave = done.gave;
+        has = done.has;
+        in_limit = done.in_limit;
+        room_left = done.room_left;
+        whole = done.whole;
+        frame_count = done.frame_count;
+        enough = done.enough;
+        limits = done.limits;
+        no_window = done.no_window;
+        put = done.put;
+        lag = lag_coded script s.block from done.given done.written done.lag;
+        output = λ x stands. done.output x (stands_coded x stands);
+        settled = done.settled;
+        no_input_fault = done.no_input_fault;
+        no_output_fault = done.no_output_fault;
+        cost = done.cost;
+        exact = λ x stands. done.exact x (stands_coded x stands);
+        measures = λ x stands. done.measures x (stands_coded x stands);
+      }
 
-    pub rest_stopped_coded : (block : ℕ) (stop : PartFault) → RestStopped script block coded from stop input now sink after before counts → RestStopped script block s from stop input now sink after before counts
-    rest_stopped_coded block stop stopped = record {
-      given = stopped.given;
-      written = stopped.written;
-      gave = stopped.gave;
-      in_limit = stopped.in_limit;
-      put = stopped.put;
-      cause = stopped.cause;
-      idle = stopped.idle;
-      wrote = λ x stands. stopped.wrote x (stands_coded x stands);
-      lag = λ has. lag_coded script block from stopped.given stopped.written (stopped.lag has);
-      faults = stopped.faults;
-      cost = stopped.cost;
-    }
+      pub rest_stopped_coded : (block : ℕ) (stop : PartFault) →
+          RestStopped script block coded from stop input now sink after before counts →
+          RestStopped script block s from stop input now sink after before counts
+      rest_stopped_coded block stop stopped = record {
+        given = stopped.given;
+        written = stopped.written;
+        gave = stopped.gave;
+        in_limit = stopped.in_limit;
+        put = stopped.put;
+        cause = stopped.cause;
+        idle = stopped.idle;
+        wrote = λ x stands. stopped.wrote x (stands_coded x stands);
+        lag = λ has. lag_coded script block from stopped.given stopped.written (stopped.lag has);
+        faults = stopped.faults;
+        cost = stopped.cost;
+      }

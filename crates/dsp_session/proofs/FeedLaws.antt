@@ -1,5 +1,6 @@
 -- What one call of a session gives, and where it is refused.
-use Rattle.std.proofs.Common.{◌≡◌, ℕ, zero, suc, ◌+◌, ◌<◌, ◌≤◌, true, false, List, [], ◌∷◌, ◌++◌, length, None, refl, sym, ap, ◌∙◌, subst, arith, length-append, inl, inr}
+use Rattle.std.proofs.Common.{◌≡◌, ℕ, zero, suc, ◌+◌, ◌<◌, ◌≤◌, true, false, List, [], ◌∷◌, ◌++◌, length, None, refl}
+use Rattle.std.proofs.Common.{sym, ap, ◌∙◌, subst, arith, length-append, inl, inr}
 use Rattle.std.specs.Prelude.{is_some}
 use Rattle.std.proofs.lemmas.Bool.{cases_lt}
 use Rattle.dsp_ports.specs.Ports.{SinkState, Took}
@@ -14,12 +15,13 @@ use Rattle.dsp_defs.specs.declared.limits.TheConstants.{MAX_GATHERED}
 use Rattle.dsp_defs.specs.declared.script.Block.{Block}
 use Rattle.dsp_defs.specs.declared.script.Block.TheVariants.{Correlate}
 use Rattle.dsp_defs.specs.declared.script.Script.{Script}
-use Rattle.dsp_stage.proofs.ChainPlaces.{live_chain-nil, has_channels}
+use Rattle.dsp_unit.proofs.ChainPlaces.{live_chain-nil, has_channels}
 use Rattle.dsp_defs.proofs.FrameLaws.{length-live}
 use Rattle.dsp_defs.proofs.SampleLaws.{coded-append}
 use Rattle.dsp_chain.specs.Chain.{made_of}
 use Rattle.dsp_session.specs.SessionState.{SessionState}
-use Rattle.dsp_session.specs.Session.{IsReady, StandsFor, SameSession, Feeds, Fails, IsTooMuch, signal, output_bytes, live_values, live_cost_of, turns_of}
+use Rattle.dsp_session.specs.Session.{IsReady, StandsFor, SameSession, Feeds, Fails, IsTooMuch, signal, output_bytes}
+use Rattle.dsp_session.specs.Session.{live_values, live_cost_of, turns_of}
 use Rattle.dsp_session.specs.Stream.{StaysRefused}
 use Rattle.dsp_session.specs.Passing.{PassCosts, Passes, FailsToPass}
 use Rattle.dsp_session.specs.Advancing.{FailsToPassOn}
@@ -31,57 +33,91 @@ no_frames : (y : List Frame) → length y ≡ 0 → y ≡ []
 no_frames [] none = refl
 no_frames (f ∷ y) none = absurd (omega (arith, none))
 
-quiet_chain : (format : Fmt) (channels : ℕ) (blocks : List Block) (n : ℕ) → HasChannels channels blocks → 0 < gathered blocks n → (x : List Frame) → live_chain format channels blocks x ≡ []
+quiet_chain : (format : Fmt) (channels : ℕ) (blocks : List Block) (n : ℕ) → HasChannels channels blocks →
+    0 < gathered blocks n → (x : List Frame) → live_chain format channels blocks x ≡ []
 quiet_chain format channels [] n has some x = absurd (omega (arith, some))
 quiet_chain format zero (block ∷ blocks) n has some x = absurd (omega (arith, has.0))
 quiet_chain format (suc channels) (Correlate taps ∷ blocks) n has some x =
-    ap (live_chain (format_after format (Correlate taps)) (channels_after (suc channels) (Correlate taps)) blocks) (no_frames _ (length-live format channels (Correlate taps) x))
+    ap (live_chain (format_after format (Correlate taps)) (channels_after (suc channels) (Correlate taps)) blocks)
+    (no_frames _ (length-live format channels (Correlate taps) x))
     ∙ live_chain-nil (format_after format (Correlate taps)) (channels_after (suc channels) (Correlate taps)) blocks
-quiet_chain format (suc channels) (block ∷ blocks) n has some x = quiet_chain (format_after format block) (channels_after (suc channels) block) blocks (whole_frames block n) has.1 some (live format (suc channels) block x)
+quiet_chain format (suc channels) (block ∷ blocks) n has some x =
+    quiet_chain (format_after format block) (channels_after (suc channels) block) blocks (whole_frames block n) has.1
+    some (live format (suc channels) block x)
 
-pub quiet_script : (script : Script) (block : ℕ) → IsReady script block → (n : ℕ) → 0 < gathered script.blocks n → (x : List Frame) → live_bytes script x ≡ []
+pub quiet_script : (script : Script) (block : ℕ) → IsReady script block → (n : ℕ) → 0 < gathered script.blocks n →
+    (x : List Frame) → live_bytes script x ≡ []
 quiet_script script block ready n some x =
     let fit = ready.sound.1.fit in
-    ap (output_bytes script) (quiet_chain script.input.format script.input.channels script.blocks n (has_channels (record { format = script.input.format; channels = script.input.channels }) script.blocks fit.chain fit.channels.0) some x)
+    ap (output_bytes script) (quiet_chain script.input.format script.input.channels script.blocks n
+    (has_channels (record { format = script.input.format; channels = script.input.channels }) script.blocks
+    fit.chain fit.channels.0) some x)
 
 -- what a session that stands for x has made
 pub made_live : (s : SessionState) (x : List Frame) → StandsFor s x → made_of s.chain ≡ live_cost_of s.script (length x)
-made_live s x stands = stands.live.made ∙ (λ i. live_cost (stands.holds.input i).format (stands.holds.input i).channels (stands.holds.blocks i) (stands.chain.counted i))
+made_live s x stands = stands.live.made ∙ (λ i. live_cost (stands.holds.input i).format
+    (stands.holds.input i).channels (stands.holds.blocks i) (stands.chain.counted i))
 
-module _ (s next : SessionState) (bytes : List ℕ) (before after : Counts) (same : SameSession s next) (fed : Feeds s next bytes before after) (x : List Frame) (stands : StandsFor s x) where
+module _ (s next : SessionState) (bytes : List ℕ) (before after : Counts) (same : SameSession s next)
+    (fed : Feeds s next bytes before after) (x : List Frame) (stands : StandsFor s x) where
   pub feed_out : live_bytes s.script (x ++ signal s.script s.coding bytes) ≡ live_bytes s.script x ++ next.out
   feed_out =
-      ap (output_bytes s.script) (fed.values x stands) ∙ coded-append (output_coding s.script) (live_values s.script x) fed.given ∙ ap (λ z. live_bytes s.script x ++ z) (sym fed.frames.out)
+      ap (output_bytes s.script) (fed.values x stands) ∙
+      coded-append (output_coding s.script) (live_values s.script x) fed.given ∙
+      ap (λ z. live_bytes s.script x ++ z) (sym fed.frames.out)
 
   pub feed_costs : PassCosts s.banked s.script s.coding x bytes before after
   feed_costs =
       let old = made_live s x stands in
       let after_is = fed.stands x stands in
-      let new : made_of next.chain ≡ live_cost_of s.script (length (x ++ signal s.script s.coding bytes)) = made_live next (x ++ signal s.script s.coding bytes) after_is ∙ ap (λ (t : Script). live_cost_of t (length (x ++ signal s.script s.coding bytes))) same.script in
+      let new : made_of next.chain ≡ live_cost_of s.script (length (x ++ signal s.script s.coding bytes)) =
+      made_live next (x ++ signal s.script s.coding bytes) after_is ∙
+      ap (λ (t : Script). live_cost_of t (length (x ++ signal s.script s.coding bytes))) same.script in
       record {
         rise = omega (arith, fed.multiplies, old, new);
-        turned = subst (λ m. after.turns ≤ before.turns + turns_of s.banked s.script m (length (x ++ signal s.script s.coding bytes))) stands.chain.counted
-            (subst (λ n. after.turns ≤ before.turns + turns_of s.banked s.script s.chain.frames n) after_is.chain.counted fed.turns);
+        turned = subst (λ m. after.turns ≤ before.turns + turns_of s.banked s.script m
+            (length (x ++ signal s.script s.coding bytes))) stands.chain.counted
+            (subst (λ n. after.turns ≤ before.turns + turns_of s.banked s.script s.chain.frames n)
+            after_is.chain.counted fed.turns);
       }
 
   -- it was not refused, so it has gathered no more than it may
-  pub feed_fits : (IsTooMuch s (length (signal s.script s.coding bytes)) → ⊥) → gathered s.script.blocks (length (x ++ signal s.script s.coding bytes)) ≤ MAX_GATHERED
+  pub feed_fits : (IsTooMuch s (length (signal s.script s.coding bytes)) → ⊥) →
+      gathered s.script.blocks (length (x ++ signal s.script s.coding bytes)) ≤ MAX_GATHERED
   feed_fits taken =
-      let all = ap (λ n. n + length (signal s.script s.coding bytes)) stands.chain.counted ∙ sym (length-append x (signal s.script s.coding bytes)) in
-      elim (cases_lt MAX_GATHERED (gathered s.script.blocks (s.chain.frames + length (signal s.script s.coding bytes)))) [
+      let all = ap (λ n. n + length (signal s.script s.coding bytes)) stands.chain.counted ∙
+      sym (length-append x (signal s.script s.coding bytes)) in
+      elim (cases_lt MAX_GATHERED (gathered s.script.blocks
+      (s.chain.frames + length (signal s.script s.coding bytes)))) [
         | inl over ↦ absurd (taken (inl over))
         | inr within ↦ subst (λ n. gathered s.script.blocks n ≤ MAX_GATHERED) all within
       ]
 
-  pub feed_passes : (sink last : SinkState) → Took sink last next.out → last.faults ≡ sink.faults → (IsTooMuch s (length (signal s.script s.coding bytes)) → ⊥) → Passes s.banked s.script s.coding x bytes next sink last before after
-  feed_passes sink last took faults taken = record { stands = fed.stands x stands; out = feed_out; costs = feed_costs; not_full = feed_fits taken; took = took; no_fault = faults }
+  pub feed_passes : (sink last : SinkState) → Took sink last next.out → last.faults ≡ sink.faults →
+      (IsTooMuch s (length (signal s.script s.coding bytes)) → ⊥) →
+      Passes s.banked s.script s.coding x bytes next sink last before after
+  feed_passes sink last took faults taken = record {
+    stands = fed.stands x stands;
+    out = feed_out;
+    costs =
+        feed_costs;
+    not_full = feed_fits taken;
+    took = took;
+    no_fault = faults;
+  }
 
 -- the call was refused
-pub feed_refused : (s : SessionState) (x : List Frame) (bytes : List ℕ) (full : GatherFull) (sink last : SinkState) (before after : Counts) → StandsFor s x → IsTooMuch s (length (signal s.script s.coding bytes))
-    → (full.held ≡ held s.script.blocks s.chain.frames) × (full.held + full.more ≡ gathered s.script.blocks (s.chain.frames + length (signal s.script s.coding bytes))) → last ≡ sink → after ≡ before
-    → FailsToPass (fault.Lengths (length_fault.Gather full.held full.more)) s.banked s.script s.coding x bytes sink last before after
+pub feed_refused : (s : SessionState) (x : List Frame) (bytes : List ℕ) (full : GatherFull) (sink last : SinkState)
+    (before after : Counts) → StandsFor s x → IsTooMuch s (length (signal s.script s.coding bytes))
+    → (full.held ≡ held s.script.blocks s.chain.frames) ×
+    (full.held + full.more ≡ gathered s.script.blocks (s.chain.frames + length (signal s.script s.coding bytes))) →
+    last ≡ sink → after ≡ before
+    → FailsToPass (fault.Lengths (length_fault.Gather full.held full.more)) s.banked s.script s.coding x bytes sink
+    last before after
 feed_refused s x bytes full sink last before after stands too_much (held_is, sum_is) same steps =
-    let all : s.chain.frames + length (signal s.script s.coding bytes) ≡ length (x ++ signal s.script s.coding bytes) = ap (λ n. n + length (signal s.script s.coding bytes)) stands.chain.counted ∙ sym (length-append x (signal s.script s.coding bytes)) in
+    let all : s.chain.frames + length (signal s.script s.coding bytes) ≡ length (x ++ signal s.script s.coding bytes)
+    = ap (λ n. n + length (signal s.script s.coding bytes)) stands.chain.counted ∙
+    sym (length-append x (signal s.script s.coding bytes)) in
     let sum : full.more + full.held ≡ full.held + full.more = omega arith in (
       subst (λ n. MAX_GATHERED < gathered s.script.blocks n) all (over too_much),
       held_is ∙ ap (held s.script.blocks) stands.chain.counted,
@@ -90,20 +126,29 @@ feed_refused s x bytes full sink last before after stands too_much (held_is, sum
       steps,
     )
   where
-    over : IsTooMuch s (length (signal s.script s.coding bytes)) → MAX_GATHERED < gathered s.script.blocks (s.chain.frames + length (signal s.script s.coding bytes))
+    over : IsTooMuch s (length (signal s.script s.coding bytes)) →
+        MAX_GATHERED < gathered s.script.blocks (s.chain.frames + length (signal s.script s.coding bytes))
     over (inl many) = many
     over (inr failed) = absurd (let e : true ≡ false = sym failed ∙ ap is_some stands.chain.works in cc)
 
 -- and it will be refused again
-pub refused_again : (s next : SessionState) (x : List Frame) (full : GatherFull) (more : ℕ) (before after : Counts) → StandsFor s x → Fails s next full before after
-    → (s.chain.failed ≡ None → (full.held ≡ held s.script.blocks s.chain.frames) × (full.held + full.more ≡ gathered s.script.blocks (s.chain.frames + more))) → StaysRefused (fault.Lengths (length_fault.Gather full.held full.more)) next
-refused_again s next x full more before after stands fails numbers =
-    (ap (λ (t : SessionState). t.chain.failed) fails.same, (numbers stands.chain.works).0 ∙ ap (λ (t : SessionState). held t.script.blocks t.chain.frames) (sym fails.same))
+pub refused_again : (s next : SessionState) (x : List Frame) (full : GatherFull) (more : ℕ) (before after : Counts) →
+    StandsFor s x → Fails s next full before after
+    → (s.chain.failed ≡ None → (full.held ≡ held s.script.blocks s.chain.frames) ×
+    (full.held + full.more ≡ gathered s.script.blocks (s.chain.frames + more))) →
+    StaysRefused (fault.Lengths (length_fault.Gather full.held full.more)) next
+refused_again s next x full more before after stands fails numbers = (
+  ap (λ (t : SessionState). t.chain.failed) fails.same,
+  (numbers stands.chain.works).0 ∙
+      ap (λ (t : SessionState). held t.script.blocks t.chain.frames) (sym fails.same),
+)
 
 -- ---- from any state
 
 -- a call that was not refused has gathered no more than it may
-pub fits_on : (s next : SessionState) (bytes : List ℕ) (before after : Counts) → Feeds s next bytes before after → (IsTooMuch s (length (signal s.script s.coding bytes)) → ⊥) → gathered s.script.blocks next.chain.frames ≤ MAX_GATHERED
+pub fits_on : (s next : SessionState) (bytes : List ℕ) (before after : Counts) → Feeds s next bytes before after →
+    (IsTooMuch s (length (signal s.script s.coding bytes)) → ⊥) →
+    gathered s.script.blocks next.chain.frames ≤ MAX_GATHERED
 fits_on s next bytes before after fed taken =
     elim (cases_lt MAX_GATHERED (gathered s.script.blocks (s.chain.frames + length (signal s.script s.coding bytes)))) [
       | inl over ↦ absurd (taken (inl over))
@@ -111,12 +156,17 @@ fits_on s next bytes before after fed taken =
     ]
 
 -- one that was, of a session whose calls were not refused before
-pub refused_now : (s next : SessionState) (bytes : List ℕ) (full : GatherFull) (sink last : SinkState) (before after : Counts) → s.chain.failed ≡ None → Fails s next full before after → IsTooMuch s (length (signal s.script s.coding bytes))
-    → (full.held ≡ held s.script.blocks s.chain.frames) × (full.held + full.more ≡ gathered s.script.blocks (s.chain.frames + length (signal s.script s.coding bytes))) → last ≡ sink
+pub refused_now : (s next : SessionState) (bytes : List ℕ) (full : GatherFull) (sink last : SinkState)
+    (before after : Counts) → s.chain.failed ≡ None → Fails s next full before after →
+    IsTooMuch s (length (signal s.script s.coding bytes))
+    → (full.held ≡ held s.script.blocks s.chain.frames) ×
+    (full.held + full.more ≡ gathered s.script.blocks (s.chain.frames + length (signal s.script s.coding bytes))) →
+    last ≡ sink
     → FailsToPassOn (fault.Lengths (length_fault.Gather full.held full.more)) s next bytes sink last before after
 refused_now s next bytes full sink last before after works fails too_much (held_is, sum_is) same =
     (fails, over too_much, held_is, sum_is, same)
   where
-    over : IsTooMuch s (length (signal s.script s.coding bytes)) → MAX_GATHERED < gathered s.script.blocks (s.chain.frames + length (signal s.script s.coding bytes))
+    over : IsTooMuch s (length (signal s.script s.coding bytes)) →
+        MAX_GATHERED < gathered s.script.blocks (s.chain.frames + length (signal s.script s.coding bytes))
     over (inl many) = many
     over (inr failed) = absurd (let e : true ≡ false = sym failed ∙ ap is_some works in cc)

@@ -8,7 +8,8 @@ inside : (i k w : ℕ) → i < k → i * w + w ≤ k * w
 inside i k w h = grind arith
 
 -- the samples of whole ones among some bytes
-pub whole_pieces : (f : List ℕ → ℤ) (w k : ℕ) (bytes : List ℕ) → values k (λ i. f (take w (drop (i * w) (take (k * w) bytes)))) ≡ values k (λ i. f (take w (drop (i * w) bytes)))
+pub whole_pieces : (f : List ℕ → ℤ) (w k : ℕ) (bytes : List ℕ) →
+    values k (λ i. f (take w (drop (i * w) (take (k * w) bytes)))) ≡ values k (λ i. f (take w (drop (i * w) bytes)))
 whole_pieces f w k bytes =
     values_cong k _ _
     (λ i h.
@@ -19,7 +20,8 @@ whole_pieces f w k bytes =
     ∙ ap f (take-take w rest (drop (i * w) bytes) (omega (arith, inside i k w h))))
 
 -- what was written to the front of a row
-pub at_front : {A : Type 0} (count : ℕ) (front row : List A) → length front ≡ count → take count (front ++ drop count row) ≡ front
+pub at_front : {A : Type 0} (count : ℕ) (front row : List A) → length front ≡ count →
+    take count (front ++ drop count row) ≡ front
 at_front count front row long = take_at front (drop count row) count long
 
 pub div_within : (n m w : ℕ) → 0 < w → n ≤ m * w → n / w ≤ m

@@ -1,5 +1,6 @@
 -- The ends of a stream over the rest of an input before its first frame.
-use Rattle.std.proofs.Common.{◌≡◌, ℕ, ◌+◌, ◌*◌, ◌/◌, ◌^◌, ◌<◌, ◌≤◌, List, [], ◌++◌, length, Option, Some, None, IfSome, refl, sym, ap, ◌∙◌, subst, arith, append-nil, length-append, inl, inr}
+use Rattle.std.proofs.Common.{◌≡◌, ℕ, ◌+◌, ◌*◌, ◌/◌, ◌^◌, ◌<◌, ◌≤◌, List, [], ◌++◌, length, Option, Some, None}
+use Rattle.std.proofs.Common.{IfSome, refl, sym, ap, ◌∙◌, subst, arith, append-nil, length-append, inl, inr}
 use Rattle.std.specs.Io.KnownBytes.{IsAtEnd}
 use Rattle.std.specs.Option.{option_map}
 use Rattle.dsp_ports.specs.Ports.{SourceState, SinkState, Gave}
@@ -11,13 +12,15 @@ use Rattle.dsp_defs.specs.Streaming.{Begins}
 use Rattle.dsp_defs.specs.declared.limits.TheConstants.{MAX_RIFF_SIZE}
 use Rattle.dsp_defs.specs.declared.script.Script.{Script}
 use Rattle.dsp_defs.specs.declared.wave.Header.{Header}
-use Rattle.dsp_stage.proofs.CostLaws.{live_cost_within}
+use Rattle.dsp_unit.proofs.CostLaws.{live_cost_within}
 use Rattle.dsp_input.specs.declared.fault.InputFault.{InputFault}
-use Rattle.dsp_input.specs.Taking.{AreAll, InDeclared, Opened, PartLost, declared_bytes, frame_bytes, frames_in_bytes, in_whole_frames}
+use Rattle.dsp_input.specs.Taking.{AreAll, InDeclared, Opened, PartLost, declared_bytes, frame_bytes, frames_in_bytes}
+use Rattle.dsp_input.specs.Taking.{in_whole_frames}
 use Rattle.dsp_session.specs.SessionState.{SessionState}
 use Rattle.dsp_session.specs.Session.{IsReady, block_bytes}
 use Rattle.dsp_session.specs.Opening.{Untaken, NoHeader, LongOutput, of_input}
-use Rattle.dsp_session.specs.Resuming.{IsRestCause, CountsPartFault, RestStopped, RestWritten, Skipped, later_blocks_end, later_frames}
+use Rattle.dsp_session.specs.Resuming.{IsRestCause, CountsPartFault, RestStopped, RestWritten, Skipped}
+use Rattle.dsp_session.specs.Resuming.{later_blocks_end, later_frames}
 use Rattle.dsp_session.specs.declared.fault.LengthFault.TheVariants as length_fault
 use Rattle.dsp_session.specs.declared.fault.StreamFault.{StreamFault}
 use Rattle.dsp_session.specs.declared.fault.StreamFault.TheVariants as fault
@@ -33,14 +36,18 @@ less n b f some h = grind arith
 fewer_bytes : (k q f : ℕ) → k ≤ q → k * f ≤ q * f
 fewer_bytes k q f h = grind arith
 
-module _ (script : Script) (block : ℕ) (ready : IsReady script block) (start : SessionState) (from : ℕ) (input : SourceState) (sink : SinkState) (before : Counts) where
+module _ (script : Script) (block : ℕ) (ready : IsReady script block) (start : SessionState) (from : ℕ)
+    (input : SourceState) (sink : SinkState) (before : Counts) where
   -- nothing was written
   front : (x : List Frame) (given : List ℕ) (now : SourceState) → RestWritten script x from given [] now
   front x given now =
-      inl (subst (λ xs. Begins xs (live_bytes script (x ++ later_frames script from given))) (sym (append-nil (live_bytes script x))) (live_goes_on script x (later_frames script from given)))
+      inl (subst (λ xs. Begins xs (live_bytes script (x ++ later_frames script from given)))
+      (sym (append-nil (live_bytes script x))) (live_goes_on script x (later_frames script from given)))
 
-  pub nothing_done : (stop : PartFault) (given : List ℕ) (now : SourceState) → Gave input now given → length given ≤ 2 ^ 40
-      → (HasHeader script given → length given ≤ later_blocks_end script block from (input_header script given) 1) → IsRestCause stop script block from given now → CountsPartFault stop input now sink sink
+  pub nothing_done : (stop : PartFault) (given : List ℕ) (now : SourceState) → Gave input now given →
+      length given ≤ 2 ^ 40
+      → (HasHeader script given → length given ≤ later_blocks_end script block from (input_header script given) 1) →
+      IsRestCause stop script block from given now → CountsPartFault stop input now sink sink
       → RestStopped script block start from stop input now sink sink before before
   nothing_done stop given now gave limit lag cause faults = record {
     given = given;
@@ -53,25 +60,36 @@ module _ (script : Script) (block : ℕ) (ready : IsReady script block) (start :
     wrote = λ x is. front x given now;
     lag = λ has. record { blocks = 0; wrote = inl refl; one = lag has };
     faults = faults;
-    cost = λ enough. (let within = live_cost_within script.input.format script.input.channels script.blocks from (frames_in_bytes script given) enough in omega (arith, within));
+    cost = λ enough. (let within = live_cost_within script.input.format script.input.channels script.blocks from
+        (frames_in_bytes script given) enough in omega (arith, within));
   }
 
   -- the bytes of the first frames, or of some of them, are no block ahead
-  within_one : (header : Header) (mid : SourceState) (opened : Opened script header input mid) (bytes : List ℕ) → length bytes ≤ from * frame_bytes script header.coding
-      → (given : List ℕ) → given ≡ opened.first ++ bytes → length given ≤ later_blocks_end script block from (input_header script given) 1
+  within_one : (header : Header) (mid : SourceState) (opened : Opened script header input mid) (bytes : List ℕ) →
+      length bytes ≤ from * frame_bytes script header.coding
+      → (given : List ℕ) → given ≡ opened.first ++ bytes →
+      length given ≤ later_blocks_end script block from (input_header script given) 1
   within_one header mid opened bytes few given is =
-      let ends : later_blocks_end script block from (input_header script given) 1 ≡ header.start + 1 * block_bytes script header.coding block + from * frame_bytes script header.coding =
-      ap (λ (h : Header). later_blocks_end script block from h 1) (ap (input_header script) is ∙ opened.opens.said bytes) in
+      let ends : later_blocks_end script block from (input_header script given) 1 ≡ header.start + 1 * block_bytes
+      script header.coding block + from * frame_bytes script header.coding =
+      ap (λ (h : Header). later_blocks_end script block from h 1)
+      (ap (input_header script) is ∙ opened.opens.said bytes) in
       omega (arith, ends, few, opened.opens.start, ap length is, length-append opened.first bytes)
 
-  pub rest_untaken : (stop : StreamFault) (now : SourceState) → Untaken script stop input now → RestStopped script block start from (part_fault.Stream stop) input now sink sink before before
+  pub rest_untaken : (stop : StreamFault) (now : SourceState) → Untaken script stop input now →
+      RestStopped script block start from (part_fault.Stream stop) input now sink sink before before
   rest_untaken stop now (NoHeader error is u) =
       subst (λ f. RestStopped script block start from (part_fault.Stream f) input now sink sink before before) (sym is)
-      (nothing_done (part_fault.Stream (of_input error)) u.given now u.gave u.in_limit (λ has. absurd (unopened_none error script u.given input now u.cause has)) (input_rest error script block from u.given now (unopened_cause error script block u.given input now u.cause)) (unopened_faults error script u.given input now sink u.cause))
+      (nothing_done (part_fault.Stream (of_input error)) u.given now u.gave u.in_limit
+      (λ has. absurd (unopened_none error script u.given input now u.cause has))
+      (input_rest error script block from u.given now (unopened_cause error script block u.given input now u.cause))
+      (unopened_faults error script u.given input now sink u.cause))
   rest_untaken stop now (LongOutput header size opened is long) =
       subst (λ f. RestStopped script block start from (part_fault.Stream f) input now sink sink before before) (sym is)
-      (nothing_done (part_fault.Stream (fault.Lengths (length_fault.Riff size MAX_RIFF_SIZE))) opened.first now opened.gave opened.opens.in_limit
-      (λ _. within_one header now opened [] (omega arith) (opened.first) (sym (append-nil opened.first))) (long_cause script block before ready header input now sink opened size long) (opened.no_fault, refl))
+      (nothing_done (part_fault.Stream (fault.Lengths (length_fault.Riff size MAX_RIFF_SIZE))) opened.first now
+      opened.gave opened.opens.in_limit
+      (λ _. within_one header now opened [] (omega arith) (opened.first) (sym (append-nil opened.first)))
+      (long_cause script block before ready header input now sink opened size long) (opened.no_fault, refl))
 
   module _ (header : Header) (mid : SourceState) (opened : Opened script header input mid) where
     abbrev frame : ℕ
@@ -85,29 +103,50 @@ module _ (script : Script) (block : ℕ) (ready : IsReady script block) (start :
 
     -- so many frames are declared, or came
     abbrev Counted : ℕ → List ℕ → SourceState → Option ℕ → Type 0
-    Counted got bytes now size = elim size [ Some declared ↦ got ≡ declared | None ↦ (got ≡ frames_in_bytes script bytes) × IsAtEnd now.left ]
+    Counted got bytes now size = elim size [
+      | Some declared ↦ got ≡ declared
+      | None ↦
+          (got ≡ frames_in_bytes script bytes) × IsAtEnd now.left
+    ]
 
     -- the bytes of the whole frames that are declared
     abbrev whole : Option ℕ → Option ℕ
     whole size = elim size [ Some s ↦ Some (in_whole_frames script header.coding s) | None ↦ None ]
 
-    behind : (got : ℕ) (bytes : List ℕ) (now : SourceState) → got < from → Gave mid now bytes → header.start + length bytes ≤ 2 ^ 40 → length bytes ≤ from * frame → now.faults ≡ mid.faults → Counted got (given bytes) now (declared_frames script header)
+    behind : (got : ℕ) (bytes : List ℕ) (now : SourceState) → got < from → Gave mid now bytes →
+        header.start + length bytes ≤ 2 ^ 40 → length bytes ≤ from * frame → now.faults ≡ mid.faults →
+        Counted got (given bytes) now (declared_frames script header)
         → RestStopped script block start from (part_fault.Behind from got) input now sink sink before before
     behind got bytes now fewer gave limit few clean counted =
-        nothing_done (part_fault.Behind from got) (given bytes) now (Gave-append input mid now opened.first bytes opened.gave gave)
-        (omega (arith, limit, opened.opens.start, length-append opened.first bytes)) (λ _. within_one header mid opened bytes few (given bytes) refl)
-        (opened.opens.has bytes, refl, fewer, subst (λ (h : Header). Counted got (given bytes) now (declared_frames script h)) (sym (opened.opens.said bytes)) counted)
+        nothing_done (part_fault.Behind from got) (given bytes) now
+        (Gave-append input mid now opened.first bytes opened.gave gave)
+        (omega (arith, limit, opened.opens.start, length-append opened.first bytes))
+        (λ _. within_one header mid opened bytes few (given bytes) refl) (
+          opened.opens.has bytes,
+          refl,
+          fewer,
+          subst (λ (h : Header). Counted got (given bytes) now
+              (declared_frames script h)) (sym (opened.opens.said bytes)) counted,
+        )
         (clean ∙ opened.no_fault, refl)
 
     -- the header declares fewer frames than are passed over
-    pub declares_fewer : (got : ℕ) → got < from → declared_frames script header ≡ Some got → RestStopped script block start from (part_fault.Behind from got) input mid sink sink before before
-    declares_fewer got fewer declared = behind got [] mid fewer (Gave-nil mid) (omega (arith, opened.opens.start, opened.opens.in_limit)) (omega arith) refl (subst (Counted got (given []) mid) (sym declared) refl)
+    pub declares_fewer : (got : ℕ) → got < from → declared_frames script header ≡ Some got →
+        RestStopped script block start from (part_fault.Behind from got) input mid sink sink before before
+    declares_fewer got fewer declared = behind got [] mid fewer (Gave-nil mid)
+        (omega (arith, opened.opens.start, opened.opens.in_limit)) (omega arith) refl
+        (subst (Counted got (given []) mid) (sym declared) refl)
 
     -- the samples have ended before the rest begins
-    pub ends_before : (end skipped : ℕ) (now : SourceState) → end ≡ from * frame → Skipped script header end skipped mid now → skipped < end → IfSome (declared_frames script header) (λ got. from ≤ got)
-        → RestStopped script block start from (part_fault.Behind from (skipped / frame)) input now sink sink before before
+    pub ends_before : (end skipped : ℕ) (now : SourceState) → end ≡ from * frame →
+        Skipped script header end skipped mid now → skipped < end →
+        IfSome (declared_frames script header) (λ got. from ≤ got)
+        → RestStopped script block start from (part_fault.Behind from (skipped / frame)) input now sink sink before
+        before
     ends_before end skipped now end_is skips cut enough =
-        behind (skipped / frame) skips.bytes now (less skipped from frame some (omega (arith, cut, end_is))) skips.gave (omega (arith, skips.in_limit, skips.long)) (omega (arith, skips.in_part, skips.long, end_is)) skips.no_fault (by_size header.size enough ended)
+        behind (skipped / frame) skips.bytes now (less skipped from frame some (omega (arith, cut, end_is)))
+        skips.gave (omega (arith, skips.in_limit, skips.long)) (omega (arith, skips.in_part, skips.long, end_is))
+        skips.no_fault (by_size header.size enough ended)
       where
         ended : AreAll (declared_bytes script header) skipped now
         ended = elim skips.ended [ inl is ↦ absurd (omega (arith, is, cut)) | inr all ↦ all ]
@@ -116,17 +155,27 @@ module _ (script : Script) (block : ℕ) (ready : IsReady script block) (start :
         declared = subst (InDeclared (declared_bytes script header)) (sym skips.long) skips.declared
 
         came : skipped / frame ≡ frames_in_bytes script (given skips.bytes)
-        came = sym (frames_are script header some opened.first opened.opens skips.bytes declared ∙ length-signal script header.coding some skips.bytes ∙ ap (λ n. n / frame) skips.long)
+        came = sym (frames_are script header some opened.first opened.opens skips.bytes declared ∙
+            length-signal script header.coding some skips.bytes ∙ ap (λ n. n / frame) skips.long)
 
-        by_size : (size : Option ℕ) → IfSome (option_map (λ s. s / frame) size) (λ got. from ≤ got) → AreAll (whole size) skipped now
+        by_size : (size : Option ℕ) → IfSome (option_map (λ s. s / frame) size) (λ got. from ≤ got) →
+            AreAll (whole size) skipped now
             → Counted (skipped / frame) (given skips.bytes) now (option_map (λ s. s / frame) size)
         by_size None enough at_end = (came, at_end)
-        by_size (Some size) enough is = absurd (let more = fewer_bytes from (size / frame) frame enough in omega (arith, more, is, cut, end_is))
+        by_size (Some size) enough is = absurd (let more = fewer_bytes from (size / frame) frame enough in
+            omega (arith, more, is, cut, end_is))
 
     -- or they did not come
-    pub unskipped : (end : ℕ) (error : InputFault) (now : SourceState) → end ≡ from * frame → PartLost script header end error mid now → RestStopped script block start from (part_fault.Stream (of_input error)) input now sink sink before before
+    pub unskipped : (end : ℕ) (error : InputFault) (now : SourceState) → end ≡ from * frame →
+        PartLost script header end error mid now → RestStopped script block start from
+        (part_fault.Stream (of_input error)) input now sink sink before before
     unskipped end error now end_is u =
-        nothing_done (part_fault.Stream (of_input error)) (given u.bytes) now (Gave-append input mid now opened.first u.bytes opened.gave u.gave)
-        (omega (arith, u.in_limit, opened.opens.start, length-append opened.first u.bytes)) (λ _. within_one header mid opened u.bytes (omega (arith, u.in_part, end_is)) (given u.bytes) refl)
-        (input_rest error script block from (given u.bytes) now (unread_cause script block header opened.first opened.opens u.bytes (length u.bytes) refl u.between now error u.cause))
-        (unread_faults error script header (length u.bytes) input u.between now sink sink u.cause (u.no_fault ∙ opened.no_fault) refl)
+        nothing_done (part_fault.Stream (of_input error)) (given u.bytes) now
+        (Gave-append input mid now opened.first u.bytes opened.gave u.gave)
+        (omega (arith, u.in_limit, opened.opens.start, length-append opened.first u.bytes))
+        (λ _. within_one header mid opened u.bytes (omega (arith, u.in_part, end_is)) (given u.bytes) refl)
+        (input_rest error script block from (given u.bytes) now
+        (unread_cause script block header opened.first opened.opens u.bytes (length u.bytes) refl u.between now
+        error u.cause))
+        (unread_faults error script header (length u.bytes) input u.between now sink sink u.cause
+        (u.no_fault ∙ opened.no_fault) refl)

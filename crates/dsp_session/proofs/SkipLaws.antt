@@ -1,5 +1,6 @@
 -- Samples are passed over, piece by piece.
-use Rattle.std.proofs.Common.{◌≡◌, ℕ, ◌+◌, ◌^◌, ◌<◌, ◌≤◌, List, [], ◌++◌, length, take, refl, sym, ◌∙◌, subst, arith, ◌⊎◌}
+use Rattle.std.proofs.Common.{◌≡◌, ℕ, ◌+◌, ◌^◌, ◌<◌, ◌≤◌, List, [], ◌++◌, length, take, refl, sym, ◌∙◌, subst, arith}
+use Rattle.std.proofs.Common.{◌⊎◌}
 use Rattle.dsp_ports.specs.Ports.{SourceState}
 use Rattle.dsp_defs.specs.declared.script.Script.{Script}
 use Rattle.dsp_defs.specs.declared.wave.Header.{Header}
@@ -14,16 +15,29 @@ pub record Skipping (script : Script) (header : Header) (end taken : ℕ) (input
   pub long : length bytes ≡ taken
   pub so_far : TakenSoFar script header end bytes input now
 
-pub skip_starts : (script : Script) (header : Header) (end : ℕ) (input : SourceState) → header.start ≤ 2 ^ 40 → Skipping script header end 0 input input
-skip_starts script header end input limit = record { bytes = []; long = refl; so_far = part_starts script header end input limit }
+pub skip_starts : (script : Script) (header : Header) (end : ℕ) (input : SourceState) → header.start ≤ 2 ^ 40 →
+    Skipping script header end 0 input input
+skip_starts script header end input limit = record {
+  bytes = [];
+  long = refl;
+  so_far =
+      part_starts script header end input limit;
+}
 
-module _ (script : Script) (header : Header) (end taken : ℕ) (input now : SourceState) (skipping : Skipping script header end taken input now) where
-  module _ (piece : List ℕ) (count : ℕ) (later : SourceState) (read : PartRead script header end taken piece count now later) where
+module _ (script : Script) (header : Header) (end taken : ℕ) (input now : SourceState)
+    (skipping : Skipping script header end taken input now) where
+  module _ (piece : List ℕ) (count : ℕ) (later : SourceState)
+      (read : PartRead script header end taken piece count now later) where
     here : PartRead script header end (length skipping.bytes) piece count now later
     here = subst (λ n. PartRead script header end n piece count now later) (sym skipping.long) read
 
     longer : length (skipping.bytes ++ take count piece) ≡ taken + count
-    longer = omega (arith, skipping.long, part_longer script header end skipping.bytes input now skipping.so_far piece count later here)
+    longer = omega (
+      arith,
+      skipping.long,
+      part_longer script header end skipping.bytes input now skipping.so_far piece
+          count later here,
+    )
 
     pub skip_more : Skipping script header end (taken + count) input later
     skip_more = record {
@@ -47,7 +61,8 @@ module _ (script : Script) (header : Header) (end taken : ℕ) (input now : Sour
           no_fault = part.no_fault;
         }
 
-  pub skip_fails : (size : ℕ) (error : InputFault) (later : SourceState) → PartUnread script header end taken size error now later → PartLost script header end error input later
+  pub skip_fails : (size : ℕ) (error : InputFault) (later : SourceState) →
+      PartUnread script header end taken size error now later → PartLost script header end error input later
   skip_fails size error later unread =
       part_fails script header end skipping.bytes input now skipping.so_far size error later
       (subst (λ n. PartUnread script header end n size error now later) (sym skipping.long) unread)

@@ -1,14 +1,17 @@
 -- What the calls of a chain make of bytes.
-use Rattle.std.proofs.Common.{◌≡◌, ℕ, suc, ◌+◌, ◌*◌, ◌/◌, ◌^◌, ◌<◌, ◌≤◌, ℤ, Bool, List, [], ◌∷◌, ◌++◌, length, take, drop, fold, flat_map, length-append, All, FitsSigned, refl, sym, ap, ◌∙◌, subst, arith, inl, inr}
+use Rattle.std.proofs.Common.{◌≡◌, ℕ, suc, ◌+◌, ◌*◌, ◌/◌, ◌^◌, ◌<◌, ◌≤◌, ℤ, Bool, List, [], ◌∷◌, ◌++◌, length, take}
+use Rattle.std.proofs.Common.{drop, fold, flat_map, length-append, All, FitsSigned, refl, sym, ap, ◌∙◌, subst, arith}
+use Rattle.std.proofs.Common.{inl, inr}
 use Rattle.std.proofs.lemmas.List.Concat.{flat_map-cons}
 use Rattle.dsp_defs.specs.Block.{Frame, format_after, channels_after}
 use Rattle.dsp_defs.specs.Bytes.{IsValue, format_in, width, bytes_of, sample_of}
 use Rattle.dsp_defs.specs.Counts.{Counts}
 use Rattle.dsp_defs.specs.Formats.{word}
 use Rattle.dsp_defs.specs.Output.{channels_of, format_of, output_coding}
-use Rattle.dsp_stage.specs.Row.{Place, Passes, place_after, place_behind, place_room, blocks_of, chain_products, row_turns}
+use Rattle.dsp_unit.specs.Line.{Place, Passes, place_after, place_behind, place_room, blocks_of, chain_products}
+use Rattle.dsp_unit.specs.Line.{line_turns}
 use Rattle.dsp_defs.specs.Signal.{values}
-use Rattle.dsp_stage.specs.Unit.{frames_in}
+use Rattle.dsp_unit.specs.Unit.{frames_in}
 use Rattle.dsp_defs.specs.declared.limits.TheConstants.{MAX_SAMPLES, MAX_GATHERED}
 use Rattle.dsp_defs.specs.declared.format.Coding.{Coding}
 use Rattle.dsp_defs.specs.declared.format.Coding.TheVariants.{Raw7, Raw15, Raw31, Wave7, Wave15, Wave24, Wave31}
@@ -16,18 +19,21 @@ use Rattle.std.proofs.lemmas.Nat.{mul-le}
 use Rattle.dsp_defs.specs.declared.script.Block.{Block}
 use Rattle.dsp_defs.specs.declared.script.Script.{Script}
 use Rattle.dsp_defs.proofs.BlockLaws.{length-values}
-use Rattle.dsp_stage.proofs.ChainPlaces.{legal_is_open, open_behind}
+use Rattle.dsp_unit.proofs.ChainPlaces.{legal_is_open, open_behind}
 use Rattle.dsp_defs.proofs.CodingLemmas.{width-some, length-bytes_of, IsValue-coding_of, IsValue-fits}
 use Rattle.dsp_defs.proofs.SampleLaws.{decoded, encoded}
 use Rattle.std.proofs.lemmas.List.Elements.{All-weaker}
 use Rattle.dsp_defs.specs.Shape.{frames_behind, gathered, held, whole_frames}
 use Rattle.dsp_defs.specs.declared.fault.GatherFull.{GatherFull}
 use Rattle.dsp_chain.proofs.Room.{written-row}
-use Rattle.dsp_chain.specs.Chain.{ChainState, ChainStandsFor, SameChain, FeedsChain, FailsChain, FinishesChain, IsNewChain, IsTooMuch as chain_too_much, given_of, live_of, output_of, input_place, made_of}
+use Rattle.dsp_chain.specs.Chain.{ChainState, ChainStandsFor, SameChain, FeedsChain, FailsChain, FinishesChain}
+use Rattle.dsp_chain.specs.Chain.{IsNewChain, IsTooMuch as chain_too_much, given_of, live_of, output_of, input_place}
+use Rattle.dsp_chain.specs.Chain.{made_of}
 use Rattle.dsp_input.specs.Taking.{frame_bytes}
 use Rattle.dsp_session.specs.SessionState.{SessionState}
 use Rattle.dsp_session.specs.Working.{IsWorking}
-use Rattle.dsp_session.specs.Session.{IsReady, Holds, IsNew, Feeds, Fails, IsTooMuch, Ends, given_bytes, input_coding, signal, live_values, products_of, turns_of}
+use Rattle.dsp_session.specs.Session.{IsReady, Holds, IsNew, Feeds, Fails, IsTooMuch, Ends, given_bytes, input_coding}
+use Rattle.dsp_session.specs.Session.{signal, live_values, products_of, turns_of}
 
 -- the format behind the blocks
 format_behind : (p : Place) (blocks : List Block) → (place_behind p blocks).format ≡ fold format_after p.format blocks
@@ -35,7 +41,8 @@ format_behind p [] = refl
 format_behind p (block ∷ blocks) = format_behind (place_after p block) blocks
 
 -- the channels behind the blocks
-channels_behind : (p : Place) (blocks : List Block) → (place_behind p blocks).channels ≡ fold channels_after p.channels blocks
+channels_behind : (p : Place) (blocks : List Block) →
+    (place_behind p blocks).channels ≡ fold channels_after p.channels blocks
 channels_behind p [] = refl
 channels_behind p (block ∷ blocks) = channels_behind (place_after p block) blocks
 
@@ -68,7 +75,8 @@ few_width Wave31 = omega arith
 -- samples without bytes are none
 pub none_written : (ys : List ℤ) (w answer : ℕ) → 0 < w → answer ≡ length ys * w → answer ≡ 0 → ys ≡ []
 none_written [] w answer some is zero = refl
-none_written (y ∷ ys) w answer some is zero = absurd (some_product (length (y ∷ ys)) w (omega arith) some (sym is ∙ zero))
+none_written (y ∷ ys) w answer some is zero = absurd (some_product (length (y ∷ ys)) w (omega arith) some
+    (sym is ∙ zero))
   where
     some_product : (n w : ℕ) → 0 < n → 0 < w → n * w ≡ 0 → ⊥
     some_product n w a b none = grind arith
@@ -78,21 +86,26 @@ module _ (script : Script) (block : ℕ) (ready : IsReady script block) where
   pub few_samples : place_room (place_behind (input_place script block) script.blocks) ≤ MAX_SAMPLES
   few_samples =
       let fit = ready.sound.1.fit in
-      (open_behind (input_place script block) script.blocks (legal_is_open (input_place script block) script.blocks fit.chain fit.channels.0 ready.legal)).samples
+      (open_behind (input_place script block) script.blocks
+      (legal_is_open (input_place script block) script.blocks fit.chain fit.channels.0 ready.legal)).samples
 
   -- and their bytes
   pub few_bytes :
       (banked : Bool) (chain : ChainState) → IsNewChain banked (input_place script block) script.blocks chain →
       (coding : Coding) (room w : ℕ) → room ≡ place_room (output_of chain) → w ≡ width coding → room * w < 2 ^ 64
   few_bytes banked chain new coding room w room_is w_is =
-      let same : place_room (output_of chain) ≡ place_room (place_behind (input_place script block) script.blocks) = (λ i. place_room (place_behind (new.input i) (new.blocks_are i))) in
-      let bytes = mul-le room w MAX_SAMPLES 4 (omega (arith, room_is, same, few_samples)) (omega (arith, w_is, few_width coding)) in
+      let same : place_room (output_of chain) ≡ place_room (place_behind (input_place script block) script.blocks) =
+      (λ i. place_room (place_behind (new.input i) (new.blocks_are i))) in
+      let bytes = mul-le room w MAX_SAMPLES 4 (omega (arith, room_is, same, few_samples))
+      (omega (arith, w_is, few_width coding)) in
       omega (arith, bytes)
 
   -- ---- the samples of bytes
 
-  module _ (coding : Coding) (bytes : List ℕ) (xs : List ℤ) (whole : length bytes ≡ length (signal script coding bytes) * frame_bytes script coding)
-      (read : xs ≡ values (length bytes / width coding) (λ i. sample_of coding (take (width coding) (drop (i * width coding) bytes)))) where
+  module _ (coding : Coding) (bytes : List ℕ) (xs : List ℤ)
+      (whole : length bytes ≡ length (signal script coding bytes) * frame_bytes script coding)
+      (read : xs ≡ values (length bytes / width coding) (λ i. sample_of coding
+      (take (width coding) (drop (i * width coding) bytes)))) where
     abbrev n : ℕ
     n = length (signal script coding bytes)
 
@@ -112,51 +125,68 @@ module _ (script : Script) (block : ℕ) (ready : IsReady script block) where
         quotient a m w some e = grind arith
 
     pub frames_are : frames_in c xs ≡ signal script coding bytes
-    frames_are = ap (frames_in c) read ∙ decoded coding c n (length bytes / w) bytes ready.sound.1.fit.channels.0 (bytes_are ∙ ap (λ m. m * w) (sym count)) count
+    frames_are = ap (frames_in c) read ∙ decoded coding c n (length bytes / w) bytes ready.sound.1.fit.channels.0
+        (bytes_are ∙ ap (λ m. m * w) (sym count)) count
 
     pub passes : All (FitsSigned (word script.input.format)) xs → n ≤ block → Passes (input_place script block) xs
     passes fits few = record {
       signal = record {
-        whole_frames = ap length read ∙ length-values (length bytes / w) _ ∙ count ∙ ap (λ m. m * c) (sym (ap length frames_are));
+        whole_frames = ap length read ∙ length-values (length bytes / w) _ ∙ count ∙
+            ap (λ m. m * c) (sym (ap length frames_are));
         in_format = fits;
       };
       at_most = rw frames_are few;
     }
 
   -- the samples that were read to the front of a row
-  pub read_row : (coding : Coding) (count len : ℕ) (bytes : List ℕ) (row new old : List ℤ) → length new ≡ len → row ≡ take len (new ++ drop (length new) old)
-      → take count new ≡ values (length bytes / width coding) (λ i. sample_of coding (take (width coding) (drop (i * width coding) bytes)))
-      → take count row ≡ values (length bytes / width coding) (λ i. sample_of coding (take (width coding) (drop (i * width coding) bytes)))
+  pub read_row : (coding : Coding) (count len : ℕ) (bytes : List ℕ) (row new old : List ℤ) → length new ≡ len →
+      row ≡ take len (new ++ drop (length new) old)
+      → take count new ≡ values (length bytes / width coding)
+      (λ i. sample_of coding (take (width coding) (drop (i * width coding) bytes)))
+      → take count row ≡ values (length bytes / width coding)
+      (λ i. sample_of coding (take (width coding) (drop (i * width coding) bytes)))
   read_row coding count len bytes row new old long is read = ap (take count) (is ∙ written-row len new old long) ∙ read
 
   -- the bytes that were written to the front of a row
-  pub write_row : (coding : Coding) (count len : ℕ) (ys : List ℤ) (new old : List ℕ) → coding ≡ output_coding script → length new ≡ len → take count new ≡ flat_map (bytes_of coding) ys
+  pub write_row : (coding : Coding) (count len : ℕ) (ys : List ℤ) (new old : List ℕ) → coding ≡ output_coding script →
+      length new ≡ len → take count new ≡ flat_map (bytes_of coding) ys
       → take count (take len (new ++ drop (length new) old)) ≡ flat_map (bytes_of (output_coding script)) ys
-  write_row coding count len ys new old is long written = ap (take count) (written-row len new old long) ∙ written ∙ ap (λ (c : Coding). flat_map (bytes_of c) ys) is
+  write_row coding count len ys new old is long written = ap (take count) (written-row len new old long) ∙ written ∙
+      ap (λ (c : Coding). flat_map (bytes_of c) ys) is
 
   -- what the chain gives are values of the output's coding
-  pub gives_values : (coding : Coding) (ys : List ℤ) → coding ≡ output_coding script → All (FitsSigned (word (format_of script))) ys → All (IsValue coding) ys
+  pub gives_values : (coding : Coding) (ys : List ℤ) → coding ≡ output_coding script →
+      All (FitsSigned (word (format_of script))) ys → All (IsValue coding) ys
   gives_values coding ys is fits =
       subst (λ (c : Coding). All (IsValue c) ys) (sym is)
-      (All-weaker (FitsSigned (word (format_of script))) (IsValue (output_coding script)) (IsValue-coding_of script.output (format_of script)) ys fits)
+      (All-weaker (FitsSigned (word (format_of script))) (IsValue (output_coding script))
+      (IsValue-coding_of script.output (format_of script)) ys fits)
 
   -- what was read are samples of the coding's format
-  pub read_values : (coding : Coding) (xs : List ℤ) → All (IsValue coding) xs → All (FitsSigned (word (format_in coding))) xs
-  read_values coding xs values = All-weaker (IsValue coding) (FitsSigned (word (format_in coding))) (IsValue-fits coding) xs values
+  pub read_values : (coding : Coding) (xs : List ℤ) → All (IsValue coding) xs →
+      All (FitsSigned (word (format_in coding))) xs
+  read_values coding xs values = All-weaker (IsValue coding) (FitsSigned (word (format_in coding)))
+      (IsValue-fits coding) xs values
 
   -- ---- calls of the chain
 
-  module _ (old new : ChainState) (input : old.input ≡ input_place script block) (blocks : blocks_of old.units ≡ script.blocks) where
+  module _ (old new : ChainState) (input : old.input ≡ input_place script block)
+      (blocks : blocks_of old.units ≡ script.blocks) where
     -- the format of what it gives
     pub gives_format : (output_of old).format ≡ format_of script
-    gives_format = ap (λ (p : Place). (place_behind p (blocks_of old.units)).format) input ∙ ap (λ bs. (place_behind (input_place script block) bs).format) blocks ∙ format_behind (input_place script block) script.blocks
+    gives_format = ap (λ (p : Place). (place_behind p (blocks_of old.units)).format) input ∙
+        ap (λ bs. (place_behind (input_place script block) bs).format) blocks ∙
+        format_behind (input_place script block) script.blocks
 
     -- and its channels
     gives_channels : (output_of old).channels ≡ channels_of script
-    gives_channels = ap (λ (p : Place). (place_behind p (blocks_of old.units)).channels) input ∙ ap (λ bs. (place_behind (input_place script block) bs).channels) blocks ∙ channels_behind (input_place script block) script.blocks
+    gives_channels = ap (λ (p : Place). (place_behind p (blocks_of old.units)).channels) input ∙
+        ap (λ bs. (place_behind (input_place script block) bs).channels) blocks ∙
+        channels_behind (input_place script block) script.blocks
 
     -- the bytes of frames that it gives
-    size_is : (ys : List ℤ) (out : List ℕ) → out ≡ flat_map (bytes_of (output_coding script)) ys → length ys ≡ length (frames_in (output_of old).channels ys) * (output_of old).channels
+    size_is : (ys : List ℤ) (out : List ℕ) → out ≡ flat_map (bytes_of (output_coding script)) ys →
+        length ys ≡ length (frames_in (output_of old).channels ys) * (output_of old).channels
         → length out ≡ length (frames_in (output_of old).channels ys) * given_bytes script
     size_is ys out given whole =
         ap length given ∙ length-written (output_coding script) ys ∙ ap (λ n. n * width (output_coding script)) whole
@@ -169,7 +199,8 @@ module _ (script : Script) (block : ℕ) (ready : IsReady script block) where
     live_is : (x : List Frame) → live_of old x ≡ live_values script x
     live_is x = rw (input, blocks) refl
 
-    module _ (banked : Bool) (turns : (m n : ℕ) → row_turns old.units m n ≡ turns_of banked script m n) (coding : Coding) (earlier out : List ℕ) where
+    module _ (banked : Bool) (turns : (m n : ℕ) → line_turns old.units m n ≡ turns_of banked script m n)
+        (coding : Coding) (earlier out : List ℕ) where
       abbrev first : SessionState
       first = record { script = script; banked = banked; block = block; coding = coding; chain = old; out = earlier }
 
@@ -178,9 +209,16 @@ module _ (script : Script) (block : ℕ) (ready : IsReady script block) where
 
       -- its chain is still that of the script
       holds_again : SameChain old new → Holds next
-      holds_again same = record { ready = ready; input = same.input ∙ input; blocks = same.blocks ∙ blocks; turns = λ m n. same.turns m n ∙ turns m n }
+      holds_again same = record {
+        ready = ready;
+        input = same.input ∙ input;
+        blocks = same.blocks ∙ blocks;
+        turns =
+            λ m n. same.turns m n ∙ turns m n;
+      }
 
-      module _ (xs ys : List ℤ) (bytes : List ℕ) (same : frames_in script.input.channels xs ≡ signal script coding bytes) (given : out ≡ flat_map (bytes_of (output_coding script)) ys)
+      module _ (xs ys : List ℤ) (bytes : List ℕ) (same : frames_in script.input.channels xs ≡ signal script coding
+          bytes) (given : out ≡ flat_map (bytes_of (output_coding script)) ys)
           (before after : Counts) (fed : FeedsChain old new xs ys before after) where
         taken : frames_in old.input.channels xs ≡ signal script coding bytes
         taken = ap (λ (p : Place). frames_in p.channels xs) input ∙ same
@@ -188,8 +226,10 @@ module _ (script : Script) (block : ℕ) (ready : IsReady script block) where
         abbrev live : List Frame
         live = frames_in (output_of old).channels ys
 
-        more_live : (x : List Frame) → ChainStandsFor old x → live_values script (x ++ signal script coding bytes) ≡ live_values script x ++ live
-        more_live x stands = sym (live_is (x ++ signal script coding bytes)) ∙ ap (λ z. live_of old (x ++ z)) (sym taken) ∙ fed.values x stands ∙ ap (λ z. z ++ live) (live_is x)
+        more_live : (x : List Frame) → ChainStandsFor old x →
+            live_values script (x ++ signal script coding bytes) ≡ live_values script x ++ live
+        more_live x stands = sym (live_is (x ++ signal script coding bytes)) ∙
+            ap (λ z. live_of old (x ++ z)) (sym taken) ∙ fed.values x stands ∙ ap (λ z. z ++ live) (live_is x)
 
         pub feeds : Feeds first next bytes before after
         feeds = record {
@@ -198,20 +238,33 @@ module _ (script : Script) (block : ℕ) (ready : IsReady script block) where
           works = fed.works;
           counted = fed.counted ∙ ap (λ (z : List Frame). old.frames + length z) taken;
           given = live;
-          frames = record { out = given ∙ encoded (output_coding script) (output_of old).channels ys fed.passes.signal.whole_frames; long = size_is ys out given fed.passes.signal.whole_frames; gives = fed.gives };
+          frames = record {
+            out = given ∙ encoded (output_coding script) (output_of old).channels ys
+                fed.passes.signal.whole_frames;
+            long = size_is ys out given fed.passes.signal.whole_frames;
+            gives =
+                fed.gives;
+          };
           values = λ x stands. more_live x stands.chain;
-          stands = λ x stands. record { holds = holds_again fed.same; chain = subst (λ z. ChainStandsFor new (x ++ z)) taken (fed.stands x stands.chain); live = fed.live };
+          stands = λ x stands. record {
+            holds = holds_again fed.same;
+            chain =
+                subst (λ z. ChainStandsFor new (x ++ z)) taken (fed.stands x stands.chain);
+            live = fed.live;
+          };
           multiplies = fed.multiplies;
           turns = subst (λ n. after.turns ≤ before.turns + n) (turns old.frames new.frames) fed.turns;
           live = fed.live;
         }
 
-      module _ (ys : List ℤ) (given : out ≡ flat_map (bytes_of (output_coding script)) ys) (answer w : ℕ) (some : 0 < w) (answer_is : answer ≡ length ys * w)
+      module _ (ys : List ℤ) (given : out ≡ flat_map (bytes_of (output_coding script)) ys) (answer w : ℕ)
+          (some : 0 < w) (answer_is : answer ≡ length ys * w)
           (before after : Counts) (finished : FinishesChain old new ys before after) where
         abbrev piece : List Frame
         piece = frames_in (output_of old).channels ys
 
-        products_are : (n : ℕ) → chain_products new.input.format new.input.channels (blocks_of new.units) n ≡ products_of script n
+        products_are : (n : ℕ) → chain_products new.input.format new.input.channels (blocks_of new.units) n ≡
+            products_of script n
         products_are n = rw (finished.same.input, finished.same.blocks, input, blocks) refl
 
         no_answer : ys ≡ [] → answer ≡ 0
@@ -224,54 +277,134 @@ module _ (script : Script) (block : ℕ) (ready : IsReady script block) where
           failed = finished.failed;
           counted = finished.counted;
           given = piece;
-          frames = record { out = given ∙ encoded (output_coding script) (output_of old).channels ys finished.passes.signal.whole_frames; long = size_is ys out given finished.passes.signal.whole_frames; gives = finished.gives };
+          frames = record {
+            out = given ∙ encoded (output_coding script) (output_of old).channels ys
+                finished.passes.signal.whole_frames;
+            long = size_is ys out given finished.passes.signal.whole_frames;
+            gives = finished.gives;
+          };
           gave = λ x ys gave. record { holds = holds_again finished.same; chain = finished.gave x ys gave.chain };
           multiplies = finished.multiplies;
           turns = finished.turns;
-          few = subst (λ bs. given_of new ≤ frames_behind whole_frames bs new.frames) (finished.same.blocks ∙ blocks) finished.few;
+          few = subst (λ bs. given_of new ≤ frames_behind whole_frames bs new.frames) (finished.same.blocks ∙ blocks)
+              finished.few;
           within = subst (λ n. made_of new ≤ n) (products_are new.frames) finished.within;
           spent = λ zero works. finished.spent (none_written ys w answer some answer_is zero) works;
-          refused = λ failed. (let (nothing, units, steps) = finished.refused failed in (no_answer nothing, units, steps));
+          refused = λ failed. (let (nothing, units, steps) = finished.refused failed in
+              (no_answer nothing, units, steps));
         }
 
     -- a call that is refused leaves all but the fault
-    pub fails : (banked : Bool) (coding : Coding) (earlier : List ℕ) (fault : GatherFull) (before after : Counts) → FailsChain old new fault before after
-        → Fails (record { script = script; banked = banked; block = block; coding = coding; chain = old; out = earlier }) (record { script = script; banked = banked; block = block; coding = coding; chain = new; out = [] }) fault before after
+    pub fails : (banked : Bool) (coding : Coding) (earlier : List ℕ) (fault : GatherFull) (before after : Counts) →
+        FailsChain old new fault before after
+        → Fails (record {
+          script = script;
+          banked = banked;
+          block = block;
+          coding = coding;
+          chain = old;
+          out =
+              earlier;
+        }) (record {
+          script = script;
+          banked = banked;
+          block = block;
+          coding = coding;
+          chain = new;
+          out =
+              [];
+        }) fault before after
     fails banked coding earlier fault before after failed = record {
-      same = λ i. record { script = script; banked = banked; block = block; coding = coding; chain = failed.same i; out = [] };
+      same = λ i. record {
+        script = script;
+        banked = banked;
+        block = block;
+        coding = coding;
+        chain =
+            failed.same i;
+        out = [];
+      };
       again = failed.again;
       no_steps = failed.no_steps;
     }
 
     -- where it is refused
-    pub too_much : (banked : Bool) (coding : Coding) (earlier : List ℕ) (n m : ℕ) → n ≡ m → chain_too_much old n → IsTooMuch (record { script = script; banked = banked; block = block; coding = coding; chain = old; out = earlier }) m
-    too_much banked coding earlier n m same (inl many) = inl (subst (λ k. MAX_GATHERED < k) (λ i. gathered (blocks i) (old.frames + same i)) many)
+    pub too_much : (banked : Bool) (coding : Coding) (earlier : List ℕ) (n m : ℕ) → n ≡ m → chain_too_much old n →
+        IsTooMuch (record {
+          script = script;
+          banked = banked;
+          block = block;
+          coding = coding;
+          chain = old;
+          out =
+              earlier;
+        }) m
+    too_much banked coding earlier n m same (inl many) =
+        inl (subst (λ k. MAX_GATHERED < k) (λ i. gathered (blocks i) (old.frames + same i)) many)
     too_much banked coding earlier n m same (inr failed) = inr failed
 
-    pub chain_much : (banked : Bool) (coding : Coding) (earlier : List ℕ) (n m : ℕ) → n ≡ m → IsTooMuch (record { script = script; banked = banked; block = block; coding = coding; chain = old; out = earlier }) m → chain_too_much old n
-    chain_much banked coding earlier n m same (inl many) = inl (subst (λ k. MAX_GATHERED < k) (sym (λ i. gathered (blocks i) (old.frames + same i))) many)
+    pub chain_much : (banked : Bool) (coding : Coding) (earlier : List ℕ) (n m : ℕ) → n ≡ m →
+        IsTooMuch (record {
+          script = script;
+          banked = banked;
+          block = block;
+          coding = coding;
+          chain = old;
+          out =
+              earlier;
+        }) m → chain_too_much old n
+    chain_much banked coding earlier n m same (inl many) =
+        inl (subst (λ k. MAX_GATHERED < k) (sym (λ i. gathered (blocks i) (old.frames + same i))) many)
     chain_much banked coding earlier n m same (inr failed) = inr failed
 
-    pub numbers : (fault : GatherFull) (n m : ℕ) → n ≡ m → (fault.held ≡ held (blocks_of old.units) old.frames) × (fault.held + fault.more ≡ gathered (blocks_of old.units) (old.frames + n))
-        → (fault.held ≡ held script.blocks old.frames) × (fault.held + fault.more ≡ gathered script.blocks (old.frames + m))
-    numbers fault n m same (held_is, sum) = (held_is ∙ ap (λ bs. held bs old.frames) blocks, sum ∙ (λ i. gathered (blocks i) (old.frames + same i)))
+    pub numbers : (fault : GatherFull) (n m : ℕ) → n ≡ m → (fault.held ≡ held (blocks_of old.units) old.frames) ×
+        (fault.held + fault.more ≡ gathered (blocks_of old.units) (old.frames + n))
+        → (fault.held ≡ held script.blocks old.frames) × (fault.held + fault.more ≡ gathered script.blocks
+        (old.frames + m))
+    numbers fault n m same (held_is, sum) = (
+      held_is ∙ ap (λ bs. held bs old.frames) blocks,
+      sum ∙
+          (λ i. gathered (blocks i) (old.frames + same i)),
+    )
 
   -- a new worker
-  pub is_new : (banked : Bool) (c : ChainState) → IsNewChain banked (input_place script block) script.blocks c → IsNew banked script block (record { script = script; banked = banked; block = block; coding = input_coding script; chain = c; out = [] })
+  pub is_new : (banked : Bool) (c : ChainState) → IsNewChain banked (input_place script block) script.blocks c →
+      IsNew banked script block (record {
+        script = script;
+        banked = banked;
+        block = block;
+        coding =
+            input_coding script;
+        chain = c;
+        out = [];
+      })
   is_new banked c is = record {
     script_is = refl;
     banked_is = refl;
     block_is = refl;
     coding_is = refl;
-    stands = record { holds = record { ready = ready; input = is.input; blocks = is.blocks_are; turns = is.turns }; chain = is.stands; live = is.live };
+    stands = record {
+      holds = record { ready = ready; input = is.input; blocks = is.blocks_are; turns = is.turns };
+      chain = is.stands;
+      live = is.live;
+    };
     empty = refl;
   }
 
 -- what holds of a worker holds of it with another state of its chain, and other bytes within its room
 pub still_works :
-    (s : SessionState) (chain : ChainState) (out : List ℕ) (coding : Coding) (samples_room values_room bytes_room given later : ℕ) →
+    (s : SessionState) (chain : ChainState) (out : List ℕ) (coding : Coding)
+    (samples_room values_room bytes_room given later : ℕ) →
     IsWorking s coding samples_room values_room bytes_room given → SameChain s.chain chain → later ≤ bytes_room →
-    IsWorking (record { script = s.script; banked = s.banked; block = s.block; coding = s.coding; chain = chain; out = out }) coding samples_room values_room bytes_room later
+    IsWorking (record {
+      script = s.script;
+      banked = s.banked;
+      block = s.block;
+      coding = s.coding;
+      chain = chain;
+      out =
+          out;
+    }) coding samples_room values_room bytes_room later
 still_works s chain out coding samples_room values_room bytes_room given later is same within = record {
   holds = record {
     ready = is.holds.ready;

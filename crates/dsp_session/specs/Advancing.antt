@@ -1,5 +1,7 @@
--- How a session goes on from any state that it is in, whatever it has taken before: by a call, by whole blocks, and to its end.
-use Rattle.std.specs.Prelude.{◌≡◌, ℕ, zero, suc, ◌+◌, ◌*◌, ◌/◌, ◌^◌, ◌<◌, ◌≤◌, false, Bool, List, ◌++◌, length, take, Some, None, Ok, Err}
+-- How a session goes on from any state that it is in, whatever it has taken before: by a call, by whole blocks, and
+-- to its end.
+use Rattle.std.specs.Prelude.{◌≡◌, ℕ, zero, suc, ◌+◌, ◌*◌, ◌/◌, ◌^◌, ◌<◌, ◌≤◌, false, Bool, List, ◌++◌, length, take}
+use Rattle.std.specs.Prelude.{Some, None, Ok, Err}
 use Rattle.dsp_ports.specs.Ports.{SourceState, SinkState, one_more, Gave, Took, IsSettled}
 use Rattle.dsp_ports.specs.declared.source.Failed.{Failed}
 use Rattle.dsp_defs.specs.Block.{Frame}
@@ -14,7 +16,8 @@ use Rattle.dsp_input.specs.declared.fault.InputFault.{InputFault}
 use Rattle.dsp_input.specs.Taking.{InDeclared, PartRead, PartUnread, declared_bytes, frame_bytes}
 use Rattle.dsp_session.specs.Opening.{of_input}
 use Rattle.dsp_session.specs.SessionState.{SessionState}
-use Rattle.dsp_session.specs.Session.{Holds, StandsFor, SameSession, Feeds, Fails, signal, block_bytes, live_cost_of, products_of, turns_of, measured, measures_of}
+use Rattle.dsp_session.specs.Session.{Holds, StandsFor, SameSession, Feeds, Fails, signal, block_bytes, live_cost_of}
+use Rattle.dsp_session.specs.Session.{products_of, turns_of, measured, measures_of}
 use Rattle.dsp_session.specs.Passing.{WritesTail, TailCosts}
 use Rattle.dsp_session.specs.declared.fault.LengthFault.TheVariants as length_fault
 use Rattle.dsp_session.specs.declared.fault.StreamFault.{StreamFault}
@@ -22,7 +25,8 @@ use Rattle.dsp_session.specs.declared.fault.StreamFault.TheVariants as fault
 use Rattle.dsp_session.specs.declared.streaming.Last.{Last}
 use Rattle.dsp_session.specs.declared.streaming.Span.{Span}
 
--- it can take more: nothing of its tail was given, no call was refused, and a correlation has gathered no more than it may
+-- it can take more: nothing of its tail was given, no call was refused, and a correlation has gathered no more than
+-- it may
 pub record Runs (s : SessionState) : Type 0 where
   pub holds : Holds s
   pub running : s.chain.ended ≡ false
@@ -37,7 +41,8 @@ count_of s bytes = length (signal s.script s.coding bytes)
 -- ---- one call
 
 -- the frames of the bytes were worked on, and what they add was written
-pub record PassesOn (old new : SessionState) (bytes : List ℕ) (sink after : SinkState) (before counts : Counts) : Type 0 where
+pub record PassesOn (old new : SessionState) (bytes : List ℕ) (sink after : SinkState) (before counts : Counts) : Type
+    0 where
   pub same : SameSession old new
   pub fed : Feeds old new bytes before counts
   pub not_full : gathered old.script.blocks new.chain.frames ≤ MAX_GATHERED
@@ -45,9 +50,11 @@ pub record PassesOn (old new : SessionState) (bytes : List ℕ) (sink after : Si
   pub no_fault : after.faults ≡ sink.faults
 
 -- they were, and the sink has failed within what they add; or a correlation would gather too many
-abbrev pub FailsToPassOn : StreamFault → SessionState → SessionState → List ℕ → SinkState → SinkState → Counts → Counts → Type 0
+abbrev pub FailsToPassOn : StreamFault → SessionState → SessionState → List ℕ → SinkState → SinkState → Counts →
+    Counts → Type 0
 FailsToPassOn fault.Output old new bytes sink after before counts =
-    (count : ℕ) × (count < length new.out) × SameSession old new × Feeds old new bytes before counts × (gathered old.script.blocks new.chain.frames ≤ MAX_GATHERED)
+    (count : ℕ) × (count < length new.out) × SameSession old new × Feeds old new bytes before counts ×
+    (gathered old.script.blocks new.chain.frames ≤ MAX_GATHERED)
     × Took sink after (take count new.out) × (after.faults ≡ one_more sink.faults)
 FailsToPassOn (fault.Lengths (length_fault.Gather told more)) old new bytes sink after before counts =
     Fails old new (record { held = told; more = more }) before counts
@@ -61,10 +68,13 @@ FailsToPassOn fault old new bytes sink after before counts = ⊥
 -- the turn bound of so many calls of `size` frames each, from m frames on
 abbrev pub turns_from : Bool → Script → ℕ → ℕ → ℕ → ℕ
 turns_from banked script size m zero = 0
-turns_from banked script size m (suc calls) = turns_from banked script size m calls + turns_of banked script (m + calls * size) (m + suc calls * size)
+turns_from banked script size m (suc calls) = turns_from banked script size m calls + turns_of banked script
+    (m + calls * size) (m + suc calls * size)
 
--- from `start` on so many blocks have passed, which have these bytes: what they add to the live values was written, for the multiplies of just these
-pub record Advances (start session : SessionState) (blocks : ℕ) (bytes : List ℕ) (sink after : SinkState) (before counts : Counts) : Type 0 where
+-- from `start` on so many blocks have passed, which have these bytes: what they add to the live values was written,
+-- for the multiplies of just these
+pub record Advances (start session : SessionState) (blocks : ℕ) (bytes : List ℕ) (sink after : SinkState)
+    (before counts : Counts) : Type 0 where
   pub same : SameSession start session
   pub runs : Runs session
   pub long : length bytes ≡ blocks * block_bytes start.script start.coding start.block
@@ -72,15 +82,19 @@ pub record Advances (start session : SessionState) (blocks : ℕ) (bytes : List 
   pub written : List ℕ
   pub took : Took sink after written
   pub no_fault : after.faults ≡ sink.faults
-  pub values : (x : List Frame) → StandsFor start x → live_bytes start.script (x ++ signal start.script start.coding bytes) ≡ live_bytes start.script x ++ written
+  pub values : (x : List Frame) → StandsFor start x → live_bytes start.script
+      (x ++ signal start.script start.coding bytes) ≡ live_bytes start.script x ++ written
   pub stands : (x : List Frame) → StandsFor start x → StandsFor session (x ++ signal start.script start.coding bytes)
-  pub multiplies : counts.multiplies + live_cost_of start.script start.chain.frames ≡ before.multiplies + live_cost_of start.script session.chain.frames
+  pub multiplies : counts.multiplies + live_cost_of start.script start.chain.frames ≡ before.multiplies + live_cost_of
+      start.script session.chain.frames
   pub turned : counts.turns ≤ before.turns + turns_from start.banked start.script start.block start.chain.frames blocks
 
 -- ---- a part of an input
 
--- what a stream took of the samples in whole blocks, and wrote of them; it has begun behind `span.from` bytes of samples
-pub record Going (start session : SessionState) (header : Header) (span : Span) (taken : ℕ) (input now : SourceState) (sink after : SinkState) (before counts : Counts) : Type 0 where
+-- what a stream took of the samples in whole blocks, and wrote of them; it has begun behind `span.from` bytes of
+-- samples
+pub record Going (start session : SessionState) (header : Header) (span : Span) (taken : ℕ) (input now : SourceState)
+    (sink after : SinkState) (before counts : Counts) : Type 0 where
   pub heard : List ℕ
   pub blocks : ℕ
   pub advances : Advances start session blocks heard sink after before counts
@@ -92,7 +106,8 @@ pub record Going (start session : SessionState) (header : Header) (span : Span) 
   pub no_fault : now.faults ≡ input.faults
 
 -- the samples have ended within a block, or the part of them has, and all the blocks before it have passed
-pub record Reached (start session : SessionState) (header : Header) (span : Span) (block : List ℕ) (last : Last) (input now : SourceState) (sink after : SinkState) (before counts : Counts) : Type 0 where
+pub record Reached (start session : SessionState) (header : Header) (span : Span) (block : List ℕ) (last : Last)
+    (input now : SourceState) (sink after : SinkState) (before counts : Counts) : Type 0 where
   pub between : SourceState
   pub going : Going start session header span last.before input between sink after before counts
   pub size : length block ≡ block_bytes start.script start.coding start.block
@@ -100,14 +115,21 @@ pub record Reached (start session : SessionState) (header : Header) (span : Span
   pub read : PartRead start.script header span.end last.before block last.count between now
 
 -- the next block did not come, or it did not pass
-pub data Breaks (session new : SessionState) (header : Header) (end taken : ℕ) (stop : StreamFault) (input now : SourceState) (sink after : SinkState) (before counts : Counts) : Type 0 where
-  NotRead : (error : InputFault) → stop ≡ of_input error → PartUnread session.script header end taken (block_bytes session.script session.coding session.block) error input now
-      → new ≡ session → after ≡ sink → counts ≡ before → Breaks session new header end taken stop input now sink after before counts
-  NotPassed : (piece : List ℕ) → length piece ≡ block_bytes session.script session.coding session.block → PartRead session.script header end taken piece (length piece) input now
-      → FailsToPassOn stop session new piece sink after before counts → Breaks session new header end taken stop input now sink after before counts
+pub data Breaks (session new : SessionState) (header : Header) (end taken : ℕ) (stop : StreamFault)
+    (input now : SourceState) (sink after : SinkState) (before counts : Counts) : Type 0 where
+  NotRead : (error : InputFault) → stop ≡ of_input error →
+      PartUnread session.script header end taken (block_bytes session.script session.coding session.block) error input
+      now
+      → new ≡ session → after ≡ sink → counts ≡ before →
+      Breaks session new header end taken stop input now sink after before counts
+  NotPassed : (piece : List ℕ) → length piece ≡ block_bytes session.script session.coding session.block →
+      PartRead session.script header end taken piece (length piece) input now
+      → FailsToPassOn stop session new piece sink after before counts →
+      Breaks session new header end taken stop input now sink after before counts
 
 -- and all the blocks before it have passed
-pub record Broke (start new : SessionState) (header : Header) (span : Span) (stop : StreamFault) (input now : SourceState) (sink after : SinkState) (before counts : Counts) : Type 0 where
+pub record Broke (start new : SessionState) (header : Header) (span : Span) (stop : StreamFault)
+    (input now : SourceState) (sink after : SinkState) (before counts : Counts) : Type 0 where
   pub session : SessionState
   pub taken : ℕ
   pub between : SourceState
@@ -120,31 +142,40 @@ pub record Broke (start new : SessionState) (header : Header) (span : Span) (sto
 
 -- the bytes of the whole frames among the first ones of a block
 abbrev pub whole_front : Script → Header → ℕ → List ℕ → List ℕ
-whole_front script header count block = take (count / frame_bytes script header.coding * frame_bytes script header.coding) block
+whole_front script header count block = take (count / frame_bytes script header.coding * frame_bytes script
+    header.coding) block
 
 -- the frames of the last bytes were worked on, and the tail and the pad byte were written and made sure of
-pub record Closed (old new : SessionState) (header : Header) (bytes : List ℕ) (sink after : SinkState) (before counts : Counts) : Type 0 where
+pub record Closed (old new : SessionState) (header : Header) (bytes : List ℕ) (sink after : SinkState)
+    (before counts : Counts) : Type 0 where
   pub no_window : window_at old.script.blocks (old.chain.frames + count_of old bytes) ≡ None
   pub fed : SessionState
   pub then : SinkState
   pub made : Counts
   pub passes : PassesOn old fed bytes sink then before made
   pub writes : WritesTail {T = Unit {0}} {E = Failed} (Ok tt) fed (output_pad fed.script header) then after
-  pub costs : (x : List Frame) → StandsFor fed x → TailCosts {T = Unit {0}} {E = Failed} (Ok tt) fed.script (length x) made counts
+  pub costs : (x : List Frame) → StandsFor fed x → TailCosts {T = Unit {0}} {E = Failed} (Ok tt) fed.script (length x)
+      made counts
   pub measures : (x : List Frame) → StandsFor fed x → measured new ≡ measures_of fed.script x
-  pub limit : counts.multiplies + live_cost_of old.script fed.chain.frames ≤ made.multiplies + products_of old.script fed.chain.frames
+  pub limit : counts.multiplies + live_cost_of old.script fed.chain.frames ≤ made.multiplies + products_of old.script
+      fed.chain.frames
   pub settled : IsSettled after
   pub no_fault : after.faults ≡ then.faults
 
 -- a window ends past its convolution; or the last frames did not pass; or the output failed behind them
-pub data FailsToClose (old new : SessionState) (header : Header) (bytes : List ℕ) (stop : StreamFault) (sink after : SinkState) (before counts : Counts) : Type 0 where
-  Windowed : (end full : ℕ) → stop ≡ fault.Lengths (length_fault.Window end full) → window_at old.script.blocks (old.chain.frames + count_of old bytes) ≡ Some (end, full)
+pub data FailsToClose (old new : SessionState) (header : Header) (bytes : List ℕ) (stop : StreamFault)
+    (sink after : SinkState) (before counts : Counts) : Type 0 where
+  Windowed : (end full : ℕ) → stop ≡ fault.Lengths (length_fault.Window end full) →
+      window_at old.script.blocks (old.chain.frames + count_of old bytes) ≡ Some (end, full)
       → after ≡ sink → counts ≡ before → FailsToClose old new header bytes stop sink after before counts
-  Unpassed : window_at old.script.blocks (old.chain.frames + count_of old bytes) ≡ None → FailsToPassOn stop old new bytes sink after before counts
+  Unpassed : window_at old.script.blocks (old.chain.frames + count_of old bytes) ≡ None →
+      FailsToPassOn stop old new bytes sink after before counts
       → FailsToClose old new header bytes stop sink after before counts
-  Unfinished : (fed : SessionState) (then : SinkState) (made : Counts) (error : Failed) → stop ≡ fault.Output → window_at old.script.blocks (old.chain.frames + count_of old bytes) ≡ None
+  Unfinished : (fed : SessionState) (then : SinkState) (made : Counts) (error : Failed) → stop ≡ fault.Output →
+      window_at old.script.blocks (old.chain.frames + count_of old bytes) ≡ None
       → PassesOn old fed bytes sink then before made
       → WritesTail {T = Unit {0}} (Err error) fed (output_pad fed.script header) then after
       → ((x : List Frame) → StandsFor fed x → TailCosts {T = Unit {0}} (Err error) fed.script (length x) made counts)
-      → counts.multiplies + live_cost_of old.script fed.chain.frames ≤ made.multiplies + products_of old.script fed.chain.frames
+      → counts.multiplies + live_cost_of old.script fed.chain.frames ≤ made.multiplies + products_of old.script
+      fed.chain.frames
       → after.faults ≡ one_more then.faults → FailsToClose old new header bytes stop sink after before counts

@@ -6,7 +6,8 @@ use Rattle.dsp_defs.specs.KeptOfScript.{kept}
 use Rattle.dsp_session.specs.SessionState.{SessionState}
 use Rattle.dsp_session.specs.Session.{Holds, StandsFor, SameSession}
 
--- the session keeps these numbers from now on, and so many frames count as taken: it stands for each signal of so many frames that has the numbers
+-- the session keeps these numbers from now on, and so many frames count as taken: it stands for each signal of so
+-- many frames that has the numbers
 pub record Restores (old new : SessionState) (frames : ℕ) (numbers : List ℤ) : Type 0 where
   pub same : SameSession old new
   pub holds : Holds new

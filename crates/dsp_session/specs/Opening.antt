@@ -25,8 +25,10 @@ of_input input_fault.Failed = fault.Input
 
 -- no header came, or it came and the output would be too long
 pub data Untaken (script : Script) (stop : StreamFault) (input now : SourceState) : Type 0 where
-  NoHeader : (error : InputFault) → stop ≡ of_input error → Unopened script error input now → Untaken script stop input now
-  LongOutput : (header : Header) (size : ℕ) → Opened script header input now → stop ≡ fault.Lengths (length_fault.Riff size MAX_RIFF_SIZE)
+  NoHeader : (error : InputFault) → stop ≡ of_input error → Unopened script error input now →
+      Untaken script stop input now
+  LongOutput : (header : Header) (size : ℕ) → Opened script header input now →
+      stop ≡ fault.Lengths (length_fault.Riff size MAX_RIFF_SIZE)
       → IsTooLong script (known_frames script header) size → Untaken script stop input now
 
 -- the input's header was taken, and the output's was written

@@ -22,12 +22,16 @@ use Rattle.dsp_session.specs.declared.streaming.Last.{Last}
 -- ---- working and writing
 
 -- the steps of a call that adds the frames of these bytes to x
-pub record PassCosts (banked : Bool) (script : Script) (coding : Coding) (x : List Frame) (bytes : List ℕ) (before counts : Counts) : Type 0 where
-  pub rise : counts.multiplies + live_cost_of script (length x) ≡ before.multiplies + live_cost_of script (length (x ++ signal script coding bytes))
-  pub turned : counts.turns ≤ before.turns + turns_of banked script (length x) (length (x ++ signal script coding bytes))
+pub record PassCosts (banked : Bool) (script : Script) (coding : Coding) (x : List Frame) (bytes : List ℕ)
+    (before counts : Counts) : Type 0 where
+  pub rise : counts.multiplies + live_cost_of script (length x) ≡ before.multiplies + live_cost_of script
+      (length (x ++ signal script coding bytes))
+  pub turned : counts.turns ≤ before.turns + turns_of banked script (length x)
+      (length (x ++ signal script coding bytes))
 
 -- the frames were worked on, and their live values were written
-pub record Passes (banked : Bool) (script : Script) (coding : Coding) (x : List Frame) (bytes : List ℕ) (new : SessionState) (sink after : SinkState) (before counts : Counts) : Type 0 where
+pub record Passes (banked : Bool) (script : Script) (coding : Coding) (x : List Frame) (bytes : List ℕ)
+    (new : SessionState) (sink after : SinkState) (before counts : Counts) : Type 0 where
   pub stands : StandsFor new (x ++ signal script coding bytes)
   pub out : live_bytes script (x ++ signal script coding bytes) ≡ live_bytes script x ++ new.out
   pub costs : PassCosts banked script coding x bytes before counts
@@ -36,20 +40,26 @@ pub record Passes (banked : Bool) (script : Script) (coding : Coding) (x : List 
   pub no_fault : after.faults ≡ sink.faults
 
 -- the frames were worked on, and the sink has failed within their values; or a correlation would gather too many
-abbrev pub FailsToPass : StreamFault → Bool → Script → Coding → List Frame → List ℕ → SinkState → SinkState → Counts → Counts → Type 0
+abbrev pub FailsToPass : StreamFault → Bool → Script → Coding → List Frame → List ℕ → SinkState → SinkState → Counts →
+    Counts → Type 0
 FailsToPass fault.Output banked script coding x bytes sink after before counts =
-    (given written : List ℕ) × (live_bytes script (x ++ signal script coding bytes) ≡ live_bytes script x ++ given) × Begins written given
-    × (length written < length given) × (after.put ≡ append_known sink.put written) × (after.faults ≡ one_more sink.faults) × PassCosts banked script coding x bytes before counts
+    (given written : List ℕ) × (live_bytes script (x ++ signal script coding bytes) ≡ live_bytes script x ++ given) ×
+    Begins written given
+    × (length written < length given) × (after.put ≡ append_known sink.put written) ×
+    (after.faults ≡ one_more sink.faults) × PassCosts banked script coding x bytes before counts
     × (gathered script.blocks (length (x ++ signal script coding bytes)) ≤ MAX_GATHERED)
 FailsToPass (fault.Lengths (length_fault.Gather told more)) banked script coding x bytes sink after before counts =
-    (MAX_GATHERED < gathered script.blocks (length (x ++ signal script coding bytes))) × (told ≡ held script.blocks (length x))
-    × (more + told ≡ gathered script.blocks (length (x ++ signal script coding bytes))) × (after ≡ sink) × (counts ≡ before)
+    (MAX_GATHERED < gathered script.blocks (length (x ++ signal script coding bytes))) ×
+    (told ≡ held script.blocks (length x))
+    × (more + told ≡ gathered script.blocks (length (x ++ signal script coding bytes))) × (after ≡ sink) ×
+    (counts ≡ before)
 FailsToPass fault banked script coding x bytes sink after before counts = ⊥
 
 -- ---- the blocks so far
 
 -- the samples ended within a block, and all the blocks before it have passed
-pub record Passed (script : Script) (frames : ℕ) (session : SessionState) (header : Header) (block : List ℕ) (last : Last) (input now : SourceState) (sink after : SinkState) (before counts : Counts) : Type 0 where
+pub record Passed (script : Script) (frames : ℕ) (session : SessionState) (header : Header) (block : List ℕ)
+    (last : Last) (input now : SourceState) (sink after : SinkState) (before counts : Counts) : Type 0 where
   pub first : List ℕ
   pub heard : List ℕ
   pub blocks : ℕ
@@ -78,7 +88,9 @@ pub record Passed (script : Script) (frames : ℕ) (session : SessionState) (hea
 -- some input has led the session to this
 abbrev pub HasPassed : SessionState → Header → List ℕ → Last → Type 0
 HasPassed session header block last =
-    (before : SourceState) × (now : SourceState) × (empty : SinkState) × (after : SinkState) × (start : Counts) × (counts : Counts) × Passed session.script session.block session header block last before now empty after start counts
+    (before : SourceState) × (now : SourceState) × (empty : SinkState) × (after : SinkState) × (start : Counts) ×
+    (counts : Counts) × Passed session.script session.block session header block last before now empty after start
+    counts
 
 -- ---- the end
 
@@ -89,15 +101,21 @@ pub record WritesRest {T E : Type 0} (result : Result T E) (front all : List ℕ
   pub begins : Begins (front ++ written) all
   pub whole : OnOk result (front ++ written ≡ all)
 
--- the same of each signal that the session stands for, by the same bytes: they are what is to come of it as a whole signal, and what stands behind that
-pub record WritesTail {T E : Type 0} (result : Result T E) (session : SessionState) (behind : List ℕ) (sink after : SinkState) : Type 0 where
+-- the same of each signal that the session stands for, by the same bytes: they are what is to come of it as a whole
+-- signal, and what stands behind that
+pub record WritesTail {T E : Type 0} (result : Result T E) (session : SessionState) (behind : List ℕ)
+    (sink after : SinkState) : Type 0 where
   pub written : List ℕ
   pub put : after.put ≡ append_known sink.put written
-  pub begins : (x : List Frame) → StandsFor session x → Begins (live_bytes session.script x ++ written) (whole_bytes session.script x ++ behind)
-  pub whole : (x : List Frame) → StandsFor session x → OnOk result (live_bytes session.script x ++ written ≡ whole_bytes session.script x ++ behind)
+  pub begins : (x : List Frame) → StandsFor session x →
+      Begins (live_bytes session.script x ++ written) (whole_bytes session.script x ++ behind)
+  pub whole : (x : List Frame) → StandsFor session x →
+      OnOk result (live_bytes session.script x ++ written ≡ whole_bytes session.script x ++ behind)
 
--- the multiplies are at most those of a whole signal of n frames, and exactly those where all was written; a turn of a loop makes one at least
-pub record TailCosts {T E : Type 0} (result : Result T E) (script : Script) (n : ℕ) (before counts : Counts) : Type 0 where
-  pub limit : counts.multiplies + live_cost_of script n ≤ before.multiplies + products_of script n
-  pub exact : OnOk result (counts.multiplies + live_cost_of script n ≡ before.multiplies + products_of script n)
-  pub turned : counts.turns + before.multiplies ≤ before.turns + counts.multiplies
+-- the multiplies are at most those of a whole signal of n frames, and exactly those where all was written; a turn of
+-- a loop makes one at least
+pub record TailCosts {T E : Type 0} (result : Result T E) (script : Script) (n : ℕ) (before counts : Counts) : Type 0
+  where
+    pub limit : counts.multiplies + live_cost_of script n ≤ before.multiplies + products_of script n
+    pub exact : OnOk result (counts.multiplies + live_cost_of script n ≡ before.multiplies + products_of script n)
+    pub turned : counts.turns + before.multiplies ≤ before.turns + counts.multiplies

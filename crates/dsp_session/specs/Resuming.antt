@@ -1,10 +1,12 @@
--- How the bytes that a stream over a part of an input took, and those that it wrote, stand to each other at each of its ends. A part is the first frames, up to a place, or all frames behind them.
+-- How the bytes that a stream over a part of an input took, and those that it wrote, stand to each other at each of
+-- its ends. A part is the first frames, up to a place, or all frames behind them.
 use Rattle.std.specs.Prelude.{◌≡◌, ◌⊎◌, ℕ, ◌+◌, ◌-◌, ◌*◌, ◌^◌, ◌<◌, ◌≤◌, List, ◌++◌, length, take, drop, Some, None}
 use Rattle.std.specs.Io.KnownBytes.{IsAtEnd, append_known}
 use Rattle.dsp_ports.specs.Ports.{SourceState, SinkState, Gave, IsSettled}
 use Rattle.dsp_defs.specs.Block.{Frame}
 use Rattle.dsp_defs.specs.Counts.{Counts}
-use Rattle.dsp_defs.specs.Output.{HasHeader, declared_frames, input_header, input_signal, live_bytes, output_header, output_pad, whole_bytes}
+use Rattle.dsp_defs.specs.Output.{HasHeader, declared_frames, input_header, input_signal, live_bytes, output_header}
+use Rattle.dsp_defs.specs.Output.{output_pad, whole_bytes}
 use Rattle.dsp_defs.specs.Shape.{gathered, held, window_at}
 use Rattle.dsp_defs.specs.declared.limits.TheConstants.{MAX_GATHERED}
 use Rattle.dsp_defs.specs.Streaming.{Begins}
@@ -12,10 +14,12 @@ use Rattle.dsp_defs.specs.declared.measure.Measure.{Measure}
 use Rattle.dsp_defs.specs.declared.script.Script.{Script}
 use Rattle.dsp_defs.specs.declared.wave.Header.{Header}
 use Rattle.dsp_input.specs.declared.fault.InputFault.{InputFault}
-use Rattle.dsp_input.specs.Taking.{AreAll, InDeclared, IsTakenWhole, IsUnread, declared_bytes, frame_bytes, frames_in_bytes}
+use Rattle.dsp_input.specs.Taking.{AreAll, InDeclared, IsTakenWhole, IsUnread, declared_bytes, frame_bytes}
+use Rattle.dsp_input.specs.Taking.{frames_in_bytes}
 use Rattle.dsp_session.specs.Session.{StandsFor, cost_of, live_cost_of, measures_of}
 use Rattle.dsp_session.specs.SessionState.{SessionState}
-use Rattle.dsp_session.specs.Stream.{KeepsLimits, IsOverfull, IsCause, CountsFault, LagsByOne, blocks_end, in_whole_blocks}
+use Rattle.dsp_session.specs.Stream.{KeepsLimits, IsOverfull, IsCause, CountsFault, LagsByOne, blocks_end}
+use Rattle.dsp_session.specs.Stream.{in_whole_blocks}
 use Rattle.dsp_session.specs.Advancing.{Runs}
 use Rattle.dsp_session.specs.declared.fault.LengthFault.TheVariants as length_fault
 use Rattle.dsp_session.specs.declared.fault.StreamFault.{StreamFault}
@@ -27,7 +31,8 @@ use Rattle.dsp_session.specs.declared.fault.PartFault.TheVariants as part_fault
 
 -- what is written of the first frames: the header of the output, and their live values
 abbrev pub first_output : Script → ℕ → List ℕ → List ℕ
-first_output script frames bytes = output_header script (input_header script bytes) ++ live_bytes script (take frames (input_signal script bytes))
+first_output script frames bytes = output_header script (input_header script bytes) ++ live_bytes script
+    (take frames (input_signal script bytes))
 
 -- the frames behind them
 abbrev pub later_frames : Script → ℕ → List ℕ → List Frame
@@ -35,14 +40,17 @@ later_frames script frames bytes = drop frames (input_signal script bytes)
 
 -- where the first blocks of the later frames end
 abbrev pub later_blocks_end : Script → ℕ → ℕ → Header → ℕ → ℕ
-later_blocks_end script block from header blocks = blocks_end script block header blocks + from * frame_bytes script header.coding
+later_blocks_end script block from header blocks = blocks_end script block header blocks + from * frame_bytes script
+    header.coding
 
 -- beyond the first frames and the blocks of the later ones whose live values were written, at most one block was taken
-pub record LaterLagsByOne (script : Script) (block : ℕ) (start : SessionState) (from : ℕ) (given written : List ℕ) : Type 0 where
+pub record LaterLagsByOne (script : Script) (block : ℕ) (start : SessionState) (from : ℕ) (given written : List ℕ) :
+    Type 0 where
   pub blocks : ℕ
   pub wrote : (blocks ≡ 0) ⊎ ((later_blocks_end script block from (input_header script given) blocks ≤ length given)
       × ((x : List Frame) → StandsFor start x → Begins
-      (live_bytes script (x ++ later_frames script from (take (later_blocks_end script block from (input_header script given) blocks) given)))
+      (live_bytes script (x ++ later_frames script from (take
+      (later_blocks_end script block from (input_header script given) blocks) given)))
       (live_bytes script x ++ written)))
   pub one : length given ≤ later_blocks_end script block from (input_header script given) (blocks + 1)
 
@@ -51,18 +59,21 @@ pub record LaterLagsByOne (script : Script) (block : ℕ) (start : SessionState)
 -- the input has so many frames: those declared, or, where none are, those that came before its end
 abbrev pub HasFrames : Script → List ℕ → SourceState → ℕ → Type 0
 HasFrames script given now count =
-    elim (declared_frames script (input_header script given)) [ Some declared ↦ count ≡ declared | None ↦ (count ≡ frames_in_bytes script given) × IsAtEnd now.left ]
+    elim (declared_frames script (input_header script given))
+    [ Some declared ↦ count ≡ declared | None ↦ (count ≡ frames_in_bytes script given) × IsAtEnd now.left ]
 
 -- why a stream from so many frames on stopped: as any stream, but that its blocks are counted from there
 abbrev pub IsCauseFrom : ℕ → StreamFault → Script → ℕ → List ℕ → SourceState → Type 0
 IsCauseFrom from (fault.Lengths (length_fault.Gather has more)) script block given now =
     let frames = frames_in_bytes script given in
-    HasHeader script given × (from < frames) × IsOverfull script block frames (from + in_whole_blocks block (frames - from - 1)) has more given now
+    HasHeader script given × (from < frames) × IsOverfull script block frames
+    (from + in_whole_blocks block (frames - from - 1)) has more given now
 IsCauseFrom from stop script block given now = IsCause stop script block given now
 
 -- the input ends before the place at which the part ends or begins
 abbrev pub IsBehind : ℕ → ℕ → ℕ → Script → List ℕ → SourceState → Type 0
-IsBehind frames at got script given now = HasHeader script given × (at ≡ frames) × (got < frames) × HasFrames script given now got
+IsBehind frames at got script given now = HasHeader script given × (at ≡ frames) × (got < frames) ×
+    HasFrames script given now got
 
 -- a correlation would gather too many samples of so many frames, and holds so many of those before the last block
 pub record IsFull (script : Script) (frames before has more : ℕ) : Type 0 where
@@ -86,7 +97,8 @@ IsRestCause (part_fault.Stream stop) script block frames given now = IsCauseFrom
 
 -- the port that has failed has counted one fault, and no other port has
 abbrev pub CountsPartFault : PartFault → SourceState → SourceState → SinkState → SinkState → Type 0
-CountsPartFault (part_fault.Behind at got) input now sink after = (now.faults ≡ input.faults) × (after.faults ≡ sink.faults)
+CountsPartFault (part_fault.Behind at got) input now sink after = (now.faults ≡ input.faults) ×
+    (after.faults ≡ sink.faults)
 CountsPartFault (part_fault.Stream stop) input now sink after = CountsFault stop input now sink after
 
 -- the input stopped it, and the output did not
@@ -98,12 +110,15 @@ IsOfInput stop = ⊥
 
 -- ---- the first frames
 
--- exactly the header and the first frames were taken, the first output was written, and the session stands for these frames
-pub record FirstDone (script : Script) (frames : ℕ) (session : SessionState) (input now : SourceState) (sink after : SinkState) (before counts : Counts) : Type 0 where
+-- exactly the header and the first frames were taken, the first output was written, and the session stands for these
+-- frames
+pub record FirstDone (script : Script) (frames : ℕ) (session : SessionState) (input now : SourceState)
+    (sink after : SinkState) (before counts : Counts) : Type 0 where
   pub given : List ℕ
   pub gave : Gave input now given
   pub has : HasHeader script given
-  pub exact : length given ≡ (input_header script given).start + frames * frame_bytes script (input_header script given).coding
+  pub exact : length given ≡ (input_header script given).start + frames * frame_bytes script
+      (input_header script given).coding
   pub frame_count : frames ≡ frames_in_bytes script given
   pub in_limit : length given ≤ 2 ^ 40
   pub stands : StandsFor session (input_signal script given)
@@ -116,14 +131,18 @@ pub record FirstDone (script : Script) (frames : ℕ) (session : SessionState) (
   pub no_output_fault : after.faults ≡ sink.faults
   pub cost : counts.multiplies ≡ before.multiplies + live_cost_of script frames
 
--- nothing was written since the header is not there or the output would be too long; or a front of the first output of the frames that came
+-- nothing was written since the header is not there or the output would be too long; or a front of the first output
+-- of the frames that came
 abbrev pub FirstWritten : PartFault → Script → List ℕ → List ℕ → SinkState → SinkState → Type 0
-FirstWritten (part_fault.Stream (fault.Lengths (length_fault.Riff size limit))) script given written sink after = after ≡ sink
+FirstWritten (part_fault.Stream (fault.Lengths (length_fault.Riff size limit))) script given written sink after =
+    after ≡ sink
 FirstWritten stop script given written sink after =
-    ((HasHeader script given → ⊥) × (after ≡ sink)) ⊎ Begins written (first_output script (frames_in_bytes script given) given)
+    ((HasHeader script given → ⊥) × (after ≡ sink)) ⊎ Begins written
+    (first_output script (frames_in_bytes script given) given)
 
 -- the stream over the first frames stopped before their end
-pub record FirstStopped (script : Script) (block frames : ℕ) (stop : PartFault) (input now : SourceState) (sink after : SinkState) (before counts : Counts) : Type 0 where
+pub record FirstStopped (script : Script) (block frames : ℕ) (stop : PartFault) (input now : SourceState)
+    (sink after : SinkState) (before counts : Counts) : Type 0 where
   pub given : List ℕ
   pub written : List ℕ
   pub gave : Gave input now given
@@ -140,9 +159,11 @@ pub record FirstStopped (script : Script) (block frames : ℕ) (stop : PartFault
 
 -- ---- the rest
 
--- all samples were taken; for each signal x that the session stood for, what it gives of x and the later frames beyond what it had given of x was written, and the pad byte;
+-- all samples were taken; for each signal x that the session stood for, what it gives of x and the later frames
+-- beyond what it had given of x was written, and the pad byte;
 -- and the measures found are those of all these frames
-pub record RestDone (script : Script) (start : SessionState) (from frames : ℕ) (input now : SourceState) (sink after : SinkState) (before counts : Counts) (found : List Measure) : Type 0 where
+pub record RestDone (script : Script) (start : SessionState) (from frames : ℕ) (input now : SourceState)
+    (sink after : SinkState) (before counts : Counts) (found : List Measure) : Type 0 where
   pub given : List ℕ
   pub written : List ℕ
   pub gave : Gave input now given
@@ -157,23 +178,28 @@ pub record RestDone (script : Script) (start : SessionState) (from frames : ℕ)
   pub put : after.put ≡ append_known sink.put written
   pub lag : LaterLagsByOne script start.block start from given written
   pub output : (x : List Frame) → StandsFor start x
-      → live_bytes script x ++ written ≡ whole_bytes script (x ++ later_frames script from given) ++ output_pad script (input_header script given)
+      → live_bytes script x ++ written ≡ whole_bytes script (x ++ later_frames script from given) ++ output_pad script
+      (input_header script given)
   pub settled : IsSettled after
   pub no_input_fault : now.faults ≡ input.faults
   pub no_output_fault : after.faults ≡ sink.faults
   pub cost : counts.multiplies + live_cost_of script from ≤ before.multiplies + cost_of script frames
-  pub exact : (x : List Frame) → StandsFor start x → counts.multiplies + live_cost_of script from ≡ before.multiplies + cost_of script frames
+  pub exact : (x : List Frame) → StandsFor start x → counts.multiplies + live_cost_of script from ≡ before.multiplies
+      + cost_of script frames
   pub measures : (x : List Frame) → StandsFor start x → found ≡ measures_of script (x ++ later_frames script from given)
 
--- a front was written of what the later frames that came add to the live values, or, once the input has ended, of all that was to come
+-- a front was written of what the later frames that came add to the live values, or, once the input has ended, of all
+-- that was to come
 abbrev pub RestWritten : Script → List Frame → ℕ → List ℕ → List ℕ → SourceState → Type 0
 RestWritten script x from given written now =
     let all = x ++ later_frames script from given in
     Begins (live_bytes script x ++ written) (live_bytes script all)
-    ⊎ (IsTakenWhole script given now × Begins (live_bytes script x ++ written) (whole_bytes script all ++ output_pad script (input_header script given)))
+    ⊎ (IsTakenWhole script given now × Begins (live_bytes script x ++ written)
+    (whole_bytes script all ++ output_pad script (input_header script given)))
 
 -- the stream over the rest stopped before its end; where the input ends before the rest begins nothing was worked on
-pub record RestStopped (script : Script) (block : ℕ) (start : SessionState) (from : ℕ) (stop : PartFault) (input now : SourceState) (sink after : SinkState) (before counts : Counts) : Type 0 where
+pub record RestStopped (script : Script) (block : ℕ) (start : SessionState) (from : ℕ) (stop : PartFault)
+    (input now : SourceState) (sink after : SinkState) (before counts : Counts) : Type 0 where
   pub given : List ℕ
   pub written : List ℕ
   pub gave : Gave input now given
@@ -184,7 +210,8 @@ pub record RestStopped (script : Script) (block : ℕ) (start : SessionState) (f
   pub wrote : (x : List Frame) → StandsFor start x → RestWritten script x from given written now
   pub lag : HasHeader script given → LaterLagsByOne script block start from given written
   pub faults : CountsPartFault stop input now sink after
-  pub cost : from ≤ frames_in_bytes script given → counts.multiplies + live_cost_of script from ≤ before.multiplies + cost_of script (frames_in_bytes script given)
+  pub cost : from ≤ frames_in_bytes script given → counts.multiplies + live_cost_of script from ≤ before.multiplies +
+      cost_of script (frames_in_bytes script given)
 
 -- ---- passing over samples
 

@@ -1,5 +1,6 @@
 -- What the calls of a session give, for every signal that it has taken.
-use Rattle.std.specs.Prelude.{◌≡◌, ◌⊎◌, ℕ, ◌+◌, ◌-◌, ◌*◌, ◌<◌, ◌≤◌, Bool, true, false, List, [], ◌++◌, length, Some, None, is_some, IsTrue}
+use Rattle.std.specs.Prelude.{◌≡◌, ◌⊎◌, ℕ, ◌+◌, ◌-◌, ◌*◌, ◌<◌, ◌≤◌, Bool, true, false, List, [], ◌++◌, length, Some}
+use Rattle.std.specs.Prelude.{None, is_some, IsTrue}
 use Rattle.dsp_defs.specs.Block.{Frame, live_chain, whole_chain}
 use Rattle.dsp_defs.specs.Bytes.{coding_of, coded, samples, width}
 use Rattle.dsp_defs.specs.Cost.{cost, live_cost, chain_turns, turns_of_calls, turns}
@@ -7,8 +8,8 @@ use Rattle.dsp_defs.specs.Counts.{Counts}
 use Rattle.dsp_defs.specs.Measure as measure
 use Rattle.dsp_defs.specs.Grammar.{IsSound, container_of}
 use Rattle.dsp_defs.specs.Output.{channels_of, output_coding}
-use Rattle.dsp_stage.specs.Row as row
-use Rattle.dsp_stage.specs.Row.{blocks_of, chain_products, place_room, row_turns}
+use Rattle.dsp_unit.specs.Line as row
+use Rattle.dsp_unit.specs.Line.{blocks_of, chain_products, place_room, line_turns}
 use Rattle.dsp_defs.specs.Shape.{frames_behind, gathered, is_legal, live_frames, whole_frames}
 use Rattle.dsp_defs.specs.declared.fault.GatherFull.{GatherFull}
 use Rattle.dsp_defs.specs.declared.format.Coding.{Coding}
@@ -52,7 +53,8 @@ cost_of script n = cost script.input.format script.input.channels script.blocks 
 abbrev pub live_cost_of : Script → ℕ → ℕ
 live_cost_of script n = live_cost script.input.format script.input.channels script.blocks n
 
--- the multiplies that its blocks make for a whole signal of n frames: its cost, where no window ends past the full convolution
+-- the multiplies that its blocks make for a whole signal of n frames: its cost, where no window ends past the full
+-- convolution
 abbrev pub products_of : Script → ℕ → ℕ
 products_of script n = chain_products script.input.format script.input.channels script.blocks n
 
@@ -62,7 +64,8 @@ turns_of banked script m n = chain_turns banked script.input.format script.input
 
 -- the turn bound of the first calls of a run of n frames in blocks of this length, and of the whole run
 abbrev pub calls_turns : Bool → Script → ℕ → ℕ → ℕ → ℕ
-calls_turns banked script block n calls = turns_of_calls banked script.input.format script.input.channels script.blocks block n calls
+calls_turns banked script block n calls = turns_of_calls banked script.input.format script.input.channels
+    script.blocks block n calls
 
 -- the turn bound of a whole run of n frames
 abbrev pub run_turns : Bool → Script → ℕ → ℕ → ℕ
@@ -84,7 +87,7 @@ pub record Holds (s : SessionState) : Type 0 where
   pub ready : IsReady s.script s.block
   pub input : s.chain.input ≡ input_place s.script s.block
   pub blocks : blocks_of s.chain.units ≡ s.script.blocks
-  pub turns : (m n : ℕ) → row_turns s.chain.units m n ≡ turns_of s.banked s.script m n
+  pub turns : (m n : ℕ) → line_turns s.chain.units m n ≡ turns_of s.banked s.script m n
 
 -- it has taken the frames x, can take more, and nothing of its tail was given
 pub record StandsFor (s : SessionState) (x : List Frame) : Type 0 where
@@ -125,7 +128,8 @@ given_bytes script = channels_of script * width (output_coding script)
 
 -- the bytes of the tail of a signal of n frames
 abbrev pub tail_bytes : Script → ℕ → ℕ
-tail_bytes script n = (frames_behind whole_frames script.blocks n - frames_behind live_frames script.blocks n) * given_bytes script
+tail_bytes script n = (frames_behind whole_frames script.blocks n - frames_behind live_frames script.blocks n) *
+    given_bytes script
 
 -- the bytes that a call gives at most
 abbrev pub call_room : SessionState → ℕ
@@ -141,7 +145,8 @@ pub record GivesFrames (old new : SessionState) (given : List Frame) : Type 0 wh
   pub long : length new.out ≡ length given * given_bytes old.script
   pub gives : given_of new.chain ≡ given_of old.chain + length given
 
--- fed with bytes, it has taken their frames too, and gave what they add to the live values, for the multiplies that these have
+-- fed with bytes, it has taken their frames too, and gave what they add to the live values, for the multiplies that
+-- these have
 pub record Feeds (old new : SessionState) (bytes : List ℕ) (before after : Counts) : Type 0 where
   pub holds : Holds new
   pub running : new.chain.ended ≡ false
@@ -149,13 +154,15 @@ pub record Feeds (old new : SessionState) (bytes : List ℕ) (before after : Cou
   pub counted : new.chain.frames ≡ old.chain.frames + length (signal old.script old.coding bytes)
   pub given : List Frame
   pub frames : GivesFrames old new given
-  pub values : (x : List Frame) → StandsFor old x → live_values old.script (x ++ signal old.script old.coding bytes) ≡ live_values old.script x ++ given
+  pub values : (x : List Frame) → StandsFor old x → live_values old.script (x ++ signal old.script old.coding bytes) ≡
+      live_values old.script x ++ given
   pub stands : (x : List Frame) → StandsFor old x → StandsFor new (x ++ signal old.script old.coding bytes)
   pub multiplies : made_of new.chain + before.multiplies ≡ made_of old.chain + after.multiplies
   pub turns : after.turns ≤ before.turns + turns_of old.banked old.script old.chain.frames new.chain.frames
   pub live : IsLive new.chain
 
--- it would have gathered too much, or a call before it would: nothing was given, and the session answers the same fault from now on
+-- it would have gathered too much, or a call before it would: nothing was given, and the session answers the same
+-- fault from now on
 pub record Fails (old new : SessionState) (fault : GatherFull) (before after : Counts) : Type 0 where
   pub same : new ≡ record old { chain = record old.chain { failed = Some fault }; out = [] }
   pub again : (earlier : GatherFull) → old.chain.failed ≡ Some earlier → fault ≡ earlier
@@ -165,7 +172,8 @@ pub record Fails (old new : SessionState) (fault : GatherFull) (before after : C
 abbrev pub IsTooMuch : SessionState → ℕ → Type 0
 IsTooMuch s more = (MAX_GATHERED < gathered s.script.blocks (s.chain.frames + more)) ⊎ IsTrue (is_some s.chain.failed)
 
--- it gave the next frames of the tail, for the multiplies that these have, and none only where the tail is spent or the session has failed
+-- it gave the next frames of the tail, for the multiplies that these have, and none only where the tail is spent or
+-- the session has failed
 pub record Ends (old new : SessionState) (answer : ℕ) (before after : Counts) : Type 0 where
   pub holds : Holds new
   pub ended : new.chain.ended ≡ true
@@ -179,4 +187,5 @@ pub record Ends (old new : SessionState) (answer : ℕ) (before after : Counts) 
   pub few : given_of new.chain ≤ frames_behind whole_frames new.script.blocks new.chain.frames
   pub within : made_of new.chain ≤ products_of new.script new.chain.frames
   pub spent : answer ≡ 0 → old.chain.failed ≡ None → IsSpent new.chain
-  pub refused : IsTrue (is_some old.chain.failed) → (answer ≡ 0) × (new.chain.units ≡ old.chain.units) × (after ≡ before)
+  pub refused : IsTrue (is_some old.chain.failed) → (answer ≡ 0) × (new.chain.units ≡ old.chain.units) ×
+      (after ≡ before)

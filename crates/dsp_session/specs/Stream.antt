@@ -1,5 +1,6 @@
 -- How the bytes that a stream took and the bytes that it wrote stand to each other at each of its ends.
-use Rattle.std.specs.Prelude.{◌≡◌, ◌⊎◌, ℕ, ◌+◌, ◌-◌, ◌*◌, ◌/◌, ◌^◌, ◌<◌, ◌≤◌, Bool, List, length, take, Some, None, IfSome}
+use Rattle.std.specs.Prelude.{◌≡◌, ◌⊎◌, ℕ, ◌+◌, ◌-◌, ◌*◌, ◌/◌, ◌^◌, ◌<◌, ◌≤◌, Bool, List, length, take, Some, None}
+use Rattle.std.specs.Prelude.{IfSome}
 use Rattle.std.specs.Io.KnownBytes.{append_known}
 use Rattle.dsp_defs.specs.Counts.{Counts}
 use Rattle.dsp_ports.specs.Ports.{SourceState, SinkState, one_more, Gave, IsSettled, settled_after}
@@ -10,7 +11,9 @@ use Rattle.dsp_defs.specs.declared.limits.TheConstants.{MAX_GATHERED, MAX_RIFF_S
 use Rattle.dsp_defs.specs.declared.measure.Measure.{Measure}
 use Rattle.dsp_defs.specs.declared.script.Script.{Script}
 use Rattle.dsp_defs.specs.declared.wave.Header.{Header}
-pub use Rattle.dsp_input.specs.Taking.{AwaitsDeclared, HasFault, IsInDeclared, IsTakenWhole, WantsMore, declared_bytes, frames_in_bytes, in_whole_frames, input_fault, short_fault, wave_fault}
+pub use Rattle.dsp_input.specs.Taking.{AwaitsDeclared, HasFault, IsInDeclared, IsTakenWhole, WantsMore}
+pub use Rattle.dsp_input.specs.Taking.{declared_bytes, frames_in_bytes, in_whole_frames, input_fault, short_fault}
+pub use Rattle.dsp_input.specs.Taking.{wave_fault}
 use Rattle.dsp_input.specs.Taking.{Fits, IsTooLong}
 use Rattle.dsp_session.specs.Session.{block_bytes, cost_of, live_cost_of, run_turns, measures_of}
 use Rattle.dsp_session.specs.SessionState.{SessionState}
@@ -26,7 +29,8 @@ blocks_end script block header blocks = header.start + blocks * block_bytes scri
 pub record LagsByOne (script : Script) (block : ℕ) (given written : List ℕ) : Type 0 where
   pub blocks : ℕ
   pub taken : blocks_end script block (input_header script given) blocks ≤ length given
-  pub wrote : (blocks ≡ 0) ⊎ Begins (part script block (take (blocks_end script block (input_header script given) blocks) given)) written
+  pub wrote : (blocks ≡ 0) ⊎ Begins (part script block
+      (take (blocks_end script block (input_header script given) blocks) given)) written
   pub one : length given ≤ blocks_end script block (input_header script given) (blocks + 1)
 
 -- ---- limits
@@ -42,9 +46,11 @@ pub record KeepsLimits (script : Script) (header : Header) (frames : ℕ) : Type
 
 -- ---- ends before the end
 
--- a correlation would gather too many samples of so many frames, and holds so many of the whole blocks before the last one;
+-- a correlation would gather too many samples of so many frames, and holds so many of the whole blocks before the
+-- last one;
 -- where less than a block stands behind these, the input has ended and no window is at fault
-pub record IsOverfull (script : Script) (block frames before has more : ℕ) (given : List ℕ) (now : SourceState) : Type 0 where
+pub record IsOverfull (script : Script) (block frames before has more : ℕ) (given : List ℕ) (now : SourceState) : Type
+    0 where
   pub over : MAX_GATHERED < gathered script.blocks frames
   pub has_is : has ≡ held script.blocks before
   pub more_is : more + has ≡ gathered script.blocks frames
@@ -55,35 +61,47 @@ abbrev pub IsCause : StreamFault → Script → ℕ → List ℕ → SourceState
 IsCause fault.Input script block given now = (length given < 2 ^ 40) × AwaitsDeclared script given
 IsCause fault.Output script block given now = HasHeader script given
 IsCause (fault.Header fault offset) script block given now = HasFault script given now (fault, offset)
-IsCause (fault.Lengths (length_fault.Input taken limit)) script block given now = (length given ≡ 2 ^ 40) × (taken ≡ 2 ^ 40) × (limit ≡ 2 ^ 40) × WantsMore script given
+IsCause (fault.Lengths (length_fault.Input taken limit)) script block given now = (length given ≡ 2 ^ 40) ×
+    (taken ≡ 2 ^ 40) × (limit ≡ 2 ^ 40) × WantsMore script given
 IsCause (fault.Lengths (length_fault.Gather held more)) script block given now =
     let frames = frames_in_bytes script given in
     HasHeader script given × IsOverfull script block frames (in_whole_blocks block (frames - 1)) held more given now
 IsCause (fault.Lengths (length_fault.Window end full)) script block given now =
-    HasHeader script given × IsTakenWhole script given now × (window_at script.blocks (frames_in_bytes script given) ≡ Some (end, full))
+    HasHeader script given × IsTakenWhole script given now ×
+    (window_at script.blocks (frames_in_bytes script given) ≡ Some (end, full))
 IsCause (fault.Lengths (length_fault.Riff size limit)) script block given now =
     let header = input_header script given in
-    HasHeader script given × (length given ≡ header.start) × IsTooLong script (known_frames script header) size × (limit ≡ MAX_RIFF_SIZE)
+    HasHeader script given × (length given ≡ header.start) × IsTooLong script (known_frames script header) size ×
+    (limit ≡ MAX_RIFF_SIZE)
 
--- nothing was written since the header of the input isn't there; or so many frames were worked on, which kept the limits, and exactly the part output was written
-pub data WrotePart (script : Script) (block worked : ℕ) (given written : List ℕ) (sink after : SinkState) (before counts : Counts) : Type 0 where
-  Nothing : (HasHeader script given → ⊥) → after ≡ sink → WrotePart script block worked given written sink after before counts
-  Part : HasHeader script given → written ≡ part script block given → KeepsLimits script (input_header script given) worked
-      → counts.multiplies ≡ before.multiplies + live_cost_of script worked → WrotePart script block worked given written sink after before counts
+-- nothing was written since the header of the input isn't there; or so many frames were worked on, which kept the
+-- limits, and exactly the part output was written
+pub data WrotePart (script : Script) (block worked : ℕ) (given written : List ℕ) (sink after : SinkState)
+    (before counts : Counts) : Type 0 where
+  Nothing : (HasHeader script given → ⊥) → after ≡ sink →
+      WrotePart script block worked given written sink after before counts
+  Part : HasHeader script given → written ≡ part script block given →
+      KeepsLimits script (input_header script given) worked
+      → counts.multiplies ≡ before.multiplies + live_cost_of script worked →
+      WrotePart script block worked given written sink after before counts
 
--- what was written: a front, where the output has failed, before all that was due by then was written, or behind all samples where nothing
+-- what was written: a front, where the output has failed, before all that was due by then was written, or behind all
+-- samples where nothing
 -- else is at fault; nothing, where it would be too long; and else the output of the whole blocks, without a last one
 -- that was too much for a correlation
-abbrev pub HasWritten : StreamFault → Script → ℕ → List ℕ → List ℕ → SourceState → SinkState → SinkState → Counts → Counts → Type 0
+abbrev pub HasWritten : StreamFault → Script → ℕ → List ℕ → List ℕ → SourceState → SinkState → SinkState → Counts →
+    Counts → Type 0
 HasWritten fault.Output script block given written now sink after before counts =
     KeepsLimits script (input_header script given) (in_whole_blocks block (frames_in_bytes script given))
     × ((Begins written (part script block given) × (length written < length (part script block given)))
     ⊎ (Begins written (output script given) × IsTakenWhole script given now
     × (window_at script.blocks (frames_in_bytes script given) ≡ None)
     × (gathered script.blocks (frames_in_bytes script given) ≤ MAX_GATHERED)))
-HasWritten (fault.Lengths (length_fault.Riff size limit)) script block given written now sink after before counts = after ≡ sink
+HasWritten (fault.Lengths (length_fault.Riff size limit)) script block given written now sink after before counts =
+    after ≡ sink
 HasWritten (fault.Lengths (length_fault.Gather held more)) script block given written now sink after before counts =
-    WrotePart script block (in_whole_blocks block (frames_in_bytes script given - 1)) given written sink after before counts
+    WrotePart script block (in_whole_blocks block (frames_in_bytes script given - 1)) given written sink after before
+    counts
 HasWritten fault script block given written now sink after before counts =
     WrotePart script block (in_whole_blocks block (frames_in_bytes script given)) given written sink after before counts
 
@@ -99,7 +117,8 @@ IsUnflushed fault.Output sink after written = Unit {0}
 IsUnflushed fault sink after written = after.settled ≡ settled_after sink.settled (length written)
 
 -- the stream stopped before its end; `given` and `written` are all bytes that were taken and that were written
-pub record Stopped (banked : Bool) (script : Script) (block : ℕ) (fault : StreamFault) (input now : SourceState) (sink after : SinkState) (before counts : Counts) : Type 0 where
+pub record Stopped (banked : Bool) (script : Script) (block : ℕ) (fault : StreamFault) (input now : SourceState)
+    (sink after : SinkState) (before counts : Counts) : Type 0 where
   pub given : List ℕ
   pub written : List ℕ
   pub gave : Gave input now given
@@ -116,13 +135,16 @@ pub record Stopped (banked : Bool) (script : Script) (block : ℕ) (fault : Stre
 
 -- where a correlation was full, the session answers the same fault from now on, and still holds what it held
 abbrev pub StaysRefused : StreamFault → SessionState → Type 0
-StaysRefused (fault.Lengths (length_fault.Gather told more)) s = (s.chain.failed ≡ Some (record { held = told; more = more })) × (told ≡ held s.script.blocks s.chain.frames)
+StaysRefused (fault.Lengths (length_fault.Gather told more)) s =
+    (s.chain.failed ≡ Some (record { held = told; more = more })) × (told ≡ held s.script.blocks s.chain.frames)
 StaysRefused fault s = Unit {0}
 
 -- ---- the end
 
--- all samples were taken, exactly the output of the script was written, and the measures found are those of the whole signal at each place
-pub record Done (banked : Bool) (script : Script) (block frames : ℕ) (input now : SourceState) (sink after : SinkState) (before counts : Counts) (found : List Measure) : Type 0 where
+-- all samples were taken, exactly the output of the script was written, and the measures found are those of the whole
+-- signal at each place
+pub record Done (banked : Bool) (script : Script) (block frames : ℕ) (input now : SourceState)
+    (sink after : SinkState) (before counts : Counts) (found : List Measure) : Type 0 where
   pub given : List ℕ
   pub gave : Gave input now given
   pub has : HasHeader script given

@@ -1,9 +1,10 @@
--- What always holds of a worker: of what is seen of it, the coding of its output, the room of its rows, and the bytes given.
+-- What always holds of a worker: of what is seen of it, the coding of its output, the room of its rows, and the bytes
+-- given.
 use Rattle.std.specs.Prelude.{◌≡◌, ℕ, ◌≤◌, ◌*◌}
 use Rattle.dsp_defs.specs.Bytes.{format_in, width}
 use Rattle.dsp_defs.specs.Output.{output_coding}
 use Rattle.dsp_defs.specs.declared.format.Coding.{Coding}
-use Rattle.dsp_stage.specs.Row.{place_room}
+use Rattle.dsp_unit.specs.Line.{place_room}
 use Rattle.dsp_chain.specs.Chain.{output_of}
 use Rattle.dsp_session.specs.Session.{Holds}
 use Rattle.dsp_session.specs.SessionState.{SessionState}

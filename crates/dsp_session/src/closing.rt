@@ -1,9 +1,11 @@
-ghost use Rattle.std.specs.Prelude.{◌≡◌, ◌+◌, ◌*◌, ◌/◌, ◌^◌, ◌<◌, ◌≤◌, ℕ, List, [], length, take, IfOk, IfErr, MatchResult, OnOk};
+ghost use Rattle.std.specs.Prelude.{◌≡◌, ◌+◌, ◌*◌, ◌/◌, ◌^◌, ◌<◌, ◌≤◌, ℕ, List, [], length, take, IfOk};
+ghost use Rattle.std.specs.Prelude.{IfErr, MatchResult, OnOk};
 ghost use Rattle.dsp_ports.specs.Ports.{CountsFaults, IsSettled, Took};
 ghost use Rattle.dsp_defs.specs.Block.{Frame};
 ghost use Rattle.dsp_defs.specs.Output.{output_pad};
 ghost use Rattle.dsp_input.specs.Taking.{frame_bytes};
-ghost use Rattle.dsp_session.specs.Session.{IsReady, StandsFor, SameSession, block_bytes, measured, measures_of, products_of, whole_values};
+ghost use Rattle.dsp_session.specs.Session.{IsReady, StandsFor, SameSession, block_bytes, measured};
+ghost use Rattle.dsp_session.specs.Session.{measures_of, products_of, whole_values};
 ghost use Rattle.dsp_chain.specs.Chain.{made_of};
 ghost use Rattle.dsp_session.specs.Passing.{WritesTail, TailCosts};
 ghost use Rattle.dsp_session.specs.Advancing.{Runs, Closed, FailsToClose, whole_front};
@@ -15,7 +17,7 @@ use dsp_defs::{Container, Header, Script, Steps, WindowFault};
 use dsp_input::{frame_bytes, known_frames};
 use dsp_ports::{Failed, Sink, write_all};
 use dsp_script::{frames_given, output_flow};
-use dsp_stage::AnyUnit;
+use dsp_unit::AnyUnit;
 use dsp_wave::pad;
 use std::sync::ledger::Ledger;
 

@@ -5,7 +5,8 @@ ghost use Rattle.dsp_ports.specs.Ports.{SourceState, SinkState};
 ghost use Rattle.dsp_defs.specs.Output.{declared_frames};
 ghost use Rattle.dsp_defs.specs.Shape.{frames_given};
 ghost use Rattle.dsp_input.specs.Taking.{Fits, Opened, PartLost, frame_bytes};
-ghost use Rattle.dsp_session.specs.Session.{StandsFor, SameScript, SameSession, block_bytes, cost_of, measured};
+ghost use Rattle.dsp_session.specs.Session.{StandsFor, SameScript, SameSession, block_bytes, cost_of};
+ghost use Rattle.dsp_session.specs.Session.{measured};
 ghost use Rattle.dsp_session.specs.Opening.{Begun};
 ghost use Rattle.dsp_session.specs.Advancing.{Runs};
 ghost use Rattle.dsp_session.specs.declared.fault.PartFault.TheVariants.{Behind};
@@ -21,7 +22,7 @@ use dsp_defs::{Header, Script, Steps};
 use dsp_input::{InputFault, frame_bytes, read_block};
 use dsp_ports::{Sink, Source};
 use dsp_script::{cost, frames_given};
-use dsp_stage::AnyUnit;
+use dsp_unit::AnyUnit;
 use std::sync::ledger::Ledger;
 
 /// Samples are passed over in pieces of so many bytes.
@@ -51,8 +52,10 @@ fn skip_samples<S: Source>(
 ) -> Result<u64, InputFault>
     requires limit { header.start ≤ 2 ^ 40 }
     requires frame { 1 ≤ frame_bytes script.now header.coding }
-    ensures ok { IfOk result (λ taken. Skipped script.now header end taken (S.state input.old) (S.state input.new)) }
-    ensures err { IfErr result (λ fault. PartLost script.now header end fault (S.state input.old) (S.state input.new)) }
+    ensures ok { IfOk result (λ taken. Skipped script.now header end taken (S.state input.old)
+        (S.state input.new)) }
+    ensures err { IfErr result (λ fault. PartLost script.now header end fault (S.state input.old)
+        (S.state input.new)) }
 {
     let mut piece = [0; PIECE];
     let mut taken = 0;

@@ -1,21 +1,23 @@
-ghost use Rattle.std.specs.Prelude.{◌≡◌, ◌+◌, ◌*◌, ◌^◌, ◌<◌, ◌≤◌, ◌↔◌, List, [], true, false, Some, None, length, slice_get, IfOk, IfErr, IsErr, IsFalse, IsTrue};
+ghost use Rattle.std.specs.Prelude.{◌≡◌, ◌+◌, ◌*◌, ◌^◌, ◌<◌, ◌≤◌, ◌↔◌, List, [], true, false, Some, None};
+ghost use Rattle.std.specs.Prelude.{length, slice_get, IfOk, IfErr, IsErr, IsFalse, IsTrue};
 ghost use Rattle.std.specs.Option.{option_map};
 ghost use Rattle.dsp_defs.specs.Bytes.{format_in};
 ghost use Rattle.dsp_defs.specs.Shape.{gathered, held, window_at};
 ghost use Rattle.dsp_defs.specs.declared.fault.GatherFull.{GatherFull};
 ghost use Rattle.dsp_defs.specs.declared.fault.WindowFault.{WindowFault};
-ghost use Rattle.dsp_chain.specs.Row.{measure_counts};
+ghost use Rattle.dsp_chain.specs.Line.{measure_counts};
 ghost use Rattle.dsp_defs.specs.KeptOfScript.{Fits, kept, kept_count};
 ghost use Rattle.dsp_input.specs.Taking.{frame_bytes};
 ghost use Rattle.dsp_session.specs.Keeping.{Restores};
 ghost use Rattle.dsp_session.specs.Advancing.{Runs};
 ghost use Rattle.dsp_chain.specs.Restored.{kept_of};
 ghost use Rattle.dsp_defs.specs.Block.{Frame};
-ghost use Rattle.dsp_session.specs.Session.{IsReady, IsNew, SameSession, StandsFor, Feeds, Fails, IsTooMuch, Ends, call_room, given_bytes, measured, signal, tail_bytes};
+ghost use Rattle.dsp_session.specs.Session.{IsReady, IsNew, SameSession, StandsFor, Feeds, Fails, IsTooMuch};
+ghost use Rattle.dsp_session.specs.Session.{Ends, call_room, given_bytes, measured, signal, tail_bytes};
 
 use crate::worker::Worker;
 use dsp_defs::{Coding, GatherFull, Measure, Script, Steps, WindowFault};
-use dsp_stage::{AnyUnit, Stage};
+use dsp_unit::{AnyUnit, Unit};
 use std::alloc::{AllocError, Global};
 use std::marker::Model;
 use std::sync::ledger::Ledger;
@@ -23,13 +25,13 @@ use std::sync::ledger::Ledger;
 /// A script at work, which the session owns: it takes bytes of the input's samples and gives bytes of the output's samples.
 /// A stream also reads the headers of files and writes them.
 #[derive(Drop)]
-pub struct Session<U: Stage + Drop> {
+pub struct Session<U: Unit + Drop> {
     pub(crate) worker: Worker<U>,
     /// The block that a stream reads into.
     pub(crate) block: Vec<u8>,
 }
 
-impl<U: Stage + Drop> Model for Session<U> {
+impl<U: Unit + Drop> Model for Session<U> {
     ghost use Rattle.std.specs.Prelude.{◌≡◌, vec_len};
     ghost use Rattle.dsp_session.specs.Session.{block_bytes, input_coding};
     ghost use Rattle.dsp_session.specs.SessionState.{SessionState};

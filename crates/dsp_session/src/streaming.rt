@@ -2,7 +2,8 @@ ghost use Rattle.std.specs.Prelude.{◌≡◌, ◌+◌, ◌*◌, ◌/◌, ◌^�
 ghost use Rattle.dsp_ports.specs.Ports.{SourceState, SinkState};
 ghost use Rattle.dsp_defs.specs.Shape.{frames_given};
 ghost use Rattle.dsp_input.specs.Taking.{InDeclared, declared_bytes, frame_bytes};
-ghost use Rattle.dsp_session.specs.Session.{StandsFor, SameScript, SameSession, signal, block_bytes, cost_of, measured};
+ghost use Rattle.dsp_session.specs.Session.{StandsFor, SameScript, SameSession, signal, block_bytes, cost_of};
+ghost use Rattle.dsp_session.specs.Session.{measured};
 ghost use Rattle.dsp_session.specs.Opening.{Begun};
 ghost use Rattle.dsp_session.specs.Stream.{Stopped, StaysRefused, Done};
 ghost use Rattle.dsp_session.specs.Advancing.{Runs, PassesOn, FailsToPassOn, Reached, Broke};
@@ -16,7 +17,7 @@ use dsp_defs::{GatherFull, Header, Steps};
 use dsp_input::{frame_bytes, read_block};
 use dsp_ports::{Sink, Source, write_all};
 use dsp_script::{cost, frames_given};
-use dsp_stage::AnyUnit;
+use dsp_unit::AnyUnit;
 use std::sync::ledger::Ledger;
 
 /// What a stream did: the frames of the input that it took, those of the output that it gave, and

@@ -1,4 +1,6 @@
-ghost use Rattle.std.specs.Prelude.{◌≡◌, ◌+◌, ◌*◌, ◌/◌, ◌^◌, ◌<◌, ◌≤◌, ◌↔◌, List, [], length, take, drop, flat_map, All, IfOk, IfErr, IsErr, IsFalse, IsTrue, Some, None, slice_get};
+ghost use Rattle.std.specs.Prelude.{◌≡◌, ◌+◌, ◌*◌, ◌/◌, ◌^◌, ◌<◌, ◌≤◌, ◌↔◌, List, [], length, take, drop};
+ghost use Rattle.std.specs.Prelude.{flat_map, All, IfOk, IfErr, IsErr, IsFalse, IsTrue, Some, None};
+ghost use Rattle.std.specs.Prelude.{slice_get};
 ghost use Rattle.std.specs.Option.{option_map};
 ghost use Rattle.dsp_defs.specs.Bytes.{IsValue, bytes_of, format_in, sample_of, width};
 ghost use Rattle.dsp_defs.specs.Shape.{gathered, held, window_at};
@@ -6,20 +8,22 @@ ghost use Rattle.dsp_defs.specs.Signal.{values};
 ghost use Rattle.dsp_defs.specs.declared.fault.GatherFull.{GatherFull};
 ghost use Rattle.dsp_defs.specs.declared.fault.WindowFault.{WindowFault};
 ghost use Rattle.dsp_chain.specs.Chain.{IsNewChain, input_place};
-ghost use Rattle.dsp_chain.specs.Row.{measure_counts};
+ghost use Rattle.dsp_chain.specs.Line.{measure_counts};
 ghost use Rattle.dsp_defs.specs.KeptOfScript.{Fits, kept, kept_count};
 ghost use Rattle.dsp_input.specs.Taking.{frame_bytes};
 ghost use Rattle.dsp_session.specs.Keeping.{Restores};
 ghost use Rattle.dsp_session.specs.Advancing.{Runs};
 ghost use Rattle.dsp_chain.specs.Restored.{kept_of};
 ghost use Rattle.dsp_defs.specs.Block.{Frame};
-ghost use Rattle.dsp_session.specs.Session.{IsReady, IsNew, StandsFor, SameScript, SameSession, Feeds, Fails, IsTooMuch, Ends, block_bytes, call_room, given_bytes, measured, signal, tail_bytes};
+ghost use Rattle.dsp_session.specs.Session.{IsReady, IsNew, StandsFor, SameScript, SameSession, Feeds, Fails};
+ghost use Rattle.dsp_session.specs.Session.{IsTooMuch, Ends, block_bytes, call_room, given_bytes, measured};
+ghost use Rattle.dsp_session.specs.Session.{signal, tail_bytes};
 
 use dsp_chain::Chain;
 use dsp_defs::{GatherFull, Measure, Script, Steps, WindowFault};
 use dsp_input::frame_bytes;
 use dsp_script::output_flow;
-use dsp_stage::{AnyUnit, Stage};
+use dsp_unit::{AnyUnit, Unit};
 use dsp_wave::{Coding, coding_of, decode, encode, width};
 use std::alloc::{AllocError, Global};
 use std::marker::Model;
@@ -71,7 +75,7 @@ fn chain_of<U: AnyUnit + Drop>(
 
 /// The blocks of a script at work on bytes.
 #[derive(Drop)]
-pub struct Worker<U: Stage + Drop> {
+pub struct Worker<U: Unit + Drop> {
     script: Script,
     banked: bool,
     chain: Chain<U>,
@@ -84,7 +88,7 @@ pub struct Worker<U: Stage + Drop> {
     given: usize,
 }
 
-impl<U: Stage + Drop> Model for Worker<U> {
+impl<U: Unit + Drop> Model for Worker<U> {
     ghost use Rattle.std.specs.Prelude.{take, vec_len};
     ghost use Rattle.dsp_session.specs.SessionState.{SessionState};
     ghost use Rattle.dsp_session.specs.Working.{IsWorking};

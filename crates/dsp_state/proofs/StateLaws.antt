@@ -1,5 +1,6 @@
 -- A state has one reading.
-use Rattle.std.proofs.Common.{◌≡◌, ◌∙◌, ap, refl, sym, ℕ, ◌<◌, ◌≤◌, ◌^◌, ℤ, pos, negsuc, List, [], ◌∷◌, ◌++◌, length, codes, flat_map, All, arith, SFits, to_z, of_z, append_assoc, length-append}
+use Rattle.std.proofs.Common.{◌≡◌, ◌∙◌, ap, refl, sym, ℕ, ◌<◌, ◌≤◌, ◌^◌, ℤ, pos, negsuc, List, [], ◌∷◌, ◌++◌, length}
+use Rattle.std.proofs.Common.{codes, flat_map, All, arith, SFits, to_z, of_z, append_assoc, length-append}
 use Rattle.std.specs.Int.{w32, w64, to_le_bytes, from_le_bytes}
 use Rattle.std.proofs.lemmas.List.{append_cancel_left}
 use Rattle.std.proofs.lemmas.List.Elements.{All-head, All-tail}
@@ -31,18 +32,23 @@ below (negsuc n) fits = omega arith
 number_apart : (x y : ℤ) → SFits w64 x → SFits w64 y → number_bytes x ≡ number_bytes y → x ≡ y
 number_apart x y fx fy e =
     let bits : of_z w64 x ≡ of_z w64 y =
-    sym (from_le_bytes-to_le_bytes_8 (of_z w64 x) (below x fx)) ∙ ap (from_le_bytes w64) e ∙ from_le_bytes-to_le_bytes_8 (of_z w64 y) (below y fy) in
+    sym (from_le_bytes-to_le_bytes_8 (of_z w64 x) (below x fx)) ∙ ap (from_le_bytes w64) e ∙
+    from_le_bytes-to_le_bytes_8 (of_z w64 y) (below y fy) in
     sym (to_z-of_z w64 x fx) ∙ ap (to_z w64) bits ∙ to_z-of_z w64 y fy
 
 eight : (z : ℤ) → length (number_bytes z) ≡ 8
 eight z = refl
 
-pub numbers_apart : (xs ys : List ℤ) → All (SFits w64) xs → All (SFits w64) ys → flat_map number_bytes xs ≡ flat_map number_bytes ys → xs ≡ ys
+pub numbers_apart : (xs ys : List ℤ) → All (SFits w64) xs → All (SFits w64) ys →
+    flat_map number_bytes xs ≡ flat_map number_bytes ys → xs ≡ ys
 numbers_apart [] [] fx fy e = refl
-numbers_apart [] (y ∷ ys) fx fy e = absurd (let long = ap length e in omega (arith, long, eight y, length-append (number_bytes y) (flat_map number_bytes ys)))
-numbers_apart (x ∷ xs) [] fx fy e = absurd (let long = ap length e in omega (arith, long, eight x, length-append (number_bytes x) (flat_map number_bytes xs)))
+numbers_apart [] (y ∷ ys) fx fy e = absurd (let long = ap length e in
+    omega (arith, long, eight y, length-append (number_bytes y) (flat_map number_bytes ys)))
+numbers_apart (x ∷ xs) [] fx fy e = absurd (let long = ap length e in
+    omega (arith, long, eight x, length-append (number_bytes x) (flat_map number_bytes xs)))
 numbers_apart (x ∷ xs) (y ∷ ys) fx fy e =
-    let (first, rest) = apart (number_bytes x) (number_bytes y) (flat_map number_bytes xs) (flat_map number_bytes ys) refl e in
+    let (first, rest) = apart (number_bytes x) (number_bytes y) (flat_map number_bytes xs) (flat_map number_bytes ys)
+    refl e in
     let here : x ≡ y = number_apart x y (All-head (SFits w64) x xs fx) (All-head (SFits w64) y ys fy) first in
     let later : xs ≡ ys = numbers_apart xs ys (All-tail (SFits w64) x xs fx) (All-tail (SFits w64) y ys fy) rest in
     cc
@@ -54,7 +60,8 @@ four m n fm fn e = sym (from_le_bytes-to_le_bytes_4 m fm) ∙ ap (from_le_bytes 
 
 -- the fields one behind another
 pub fields : (s : Script) (m : ℕ) (xs : List ℤ)
-    → state_of s m xs ≡ codes "DSPSTATE" ++ (to_le_bytes w32 1 ++ (to_le_bytes w32 (length (canon s)) ++ (canon s ++ (to_le_bytes w32 m ++ flat_map number_bytes xs))))
+    → state_of s m xs ≡ codes "DSPSTATE" ++ (to_le_bytes w32 1 ++
+    (to_le_bytes w32 (length (canon s)) ++ (canon s ++ (to_le_bytes w32 m ++ flat_map number_bytes xs))))
 fields s m xs =
     let a = codes "DSPSTATE" in
     let b = to_le_bytes w32 1 in
@@ -63,17 +70,22 @@ fields s m xs =
     let e = to_le_bytes w32 m in
     let f = flat_map number_bytes xs in
     append_assoc a (b ++ (c ++ (d ++ e))) f
-    ∙ ap (λ ys. a ++ ys) (append_assoc b (c ++ (d ++ e)) f ∙ ap (λ ys. b ++ ys) (append_assoc c (d ++ e) f ∙ ap (λ ys. c ++ ys) (append_assoc d e f)))
+    ∙ ap (λ ys. a ++ ys) (append_assoc b (c ++ (d ++ e)) f ∙
+    ap (λ ys. b ++ ys) (append_assoc c (d ++ e) f ∙ ap (λ ys. c ++ ys) (append_assoc d e f)))
 
-module _ (s t : Script) (m n : ℕ) (xs ys : List ℤ) (short : length (canon s) ≤ MAX_SCRIPT) (short' : length (canon t) ≤ MAX_SCRIPT) (fm : m < 2 ^ 32) (fn : n < 2 ^ 32)
+module _ (s t : Script) (m n : ℕ) (xs ys : List ℤ) (short : length (canon s) ≤ MAX_SCRIPT)
+    (short' : length (canon t) ≤ MAX_SCRIPT) (fm : m < 2 ^ 32) (fn : n < 2 ^ 32)
     (same : state_of s m xs ≡ state_of t n ys) where
-  pub texts_apart : (canon s ≡ canon t) × (to_le_bytes w32 m ++ flat_map number_bytes xs ≡ to_le_bytes w32 n ++ flat_map number_bytes ys)
+  pub texts_apart : (canon s ≡ canon t) × (to_le_bytes w32 m ++ flat_map number_bytes xs ≡ to_le_bytes w32 n ++
+      flat_map number_bytes ys)
   texts_apart =
       let all = sym (fields s m xs) ∙ same ∙ fields t n ys in
       let behind_mark = append_cancel_left (codes "DSPSTATE") _ _ all in
       let behind_version = append_cancel_left (to_le_bytes w32 1) _ _ behind_mark in
-      let (lengths, behind_length) = apart (to_le_bytes w32 (length (canon s))) (to_le_bytes w32 (length (canon t))) _ _ refl behind_version in
-      let long : length (canon s) ≡ length (canon t) = four (length (canon s)) (length (canon t)) (omega (arith, short)) (omega (arith, short')) lengths in
+      let (lengths, behind_length) = apart (to_le_bytes w32 (length (canon s))) (to_le_bytes w32 (length (canon t))) _
+      _ refl behind_version in
+      let long : length (canon s) ≡ length (canon t) = four (length (canon s)) (length (canon t))
+      (omega (arith, short)) (omega (arith, short')) lengths in
       apart (canon s) (canon t) _ _ long behind_length
 
   pub values_apart : All (SFits w64) xs → All (SFits w64) ys → (m ≡ n) × (xs ≡ ys)

@@ -1,6 +1,7 @@
 ghost use Rattle.std.specs.Prelude.{◌≡◌, ◌≤◌, length, IfOk, IfErr};
 ghost use Rattle.dsp_defs.specs.StateBytes.{IsState};
-ghost use Rattle.dsp_defs.specs.StateFields.{HasNumbers, HasText, count_in, frames_in_state, numbers_in, numbers_place, state_end};
+ghost use Rattle.dsp_defs.specs.StateFields.{HasNumbers, HasText, count_in, frames_in_state, numbers_in};
+ghost use Rattle.dsp_defs.specs.StateFields.{numbers_place, state_end};
 ghost use Rattle.dsp_defs.specs.declared.limits.TheConstants.{MAX_STATE};
 ghost use Rattle.dsp_state.specs.SavedState.{IsLoadFault};
 
@@ -12,7 +13,7 @@ use byteorder::{ByteOrder, LittleEndian};
 use dsp_chain::Chain;
 use dsp_defs::{MAX_GATHERED, MAX_STATE, Script, StateKind};
 use dsp_script::default_block;
-use dsp_stage::AnyUnit;
+use dsp_unit::AnyUnit;
 use std::alloc::Global;
 
 /// The numbers after the frames, which the blocks of the script can keep and which end the state.

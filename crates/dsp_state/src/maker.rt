@@ -1,6 +1,7 @@
 //! The state of a run, made of its script, its frames and its kept numbers.
 
-ghost use Rattle.std.specs.Prelude.{◌≡◌, ◌+◌, ◌*◌, ◌≤◌, ◌++◌, length, flat_map, vec_len, vec_capacity, IfOk, IfErr, IfSome};
+ghost use Rattle.std.specs.Prelude.{◌≡◌, ◌+◌, ◌*◌, ◌≤◌, ◌++◌, length, flat_map, vec_len, vec_capacity, IfOk};
+ghost use Rattle.std.specs.Prelude.{IfErr, IfSome};
 ghost use Rattle.dsp_defs.specs.Canon.{canon};
 ghost use Rattle.dsp_defs.specs.StateBytes.{number_bytes, state_head};
 ghost use Rattle.dsp_defs.specs.declared.limits.TheConstants.{MAX_SCRIPT};

@@ -1,2 +1,4 @@
-pub mod Making
-pub mod Waves
+pub mod Unit
+pub mod Line
+pub mod Filter
+pub mod Channels

@@ -1,5 +1,6 @@
 -- Numbers of a format that stay in 32 bits.
-use Rattle.std.proofs.Common.{ℤ, pos, negsuc, ◌≡◌, ◌-◌, ◌^◌, ◌-ℤ◌, ◌≤ℤ◌, ◌∙◌, ap, arith, SFits, FitsSigned, w32, to_z, of_z, to_z-of_z}
+use Rattle.std.proofs.Common.{ℤ, pos, negsuc, ◌≡◌, ◌-◌, ◌^◌, ◌-ℤ◌, ◌≤ℤ◌, ◌∙◌, ap, arith, SFits, FitsSigned, w32, to_z}
+use Rattle.std.proofs.Common.{of_z, to_z-of_z}
 use Rattle.std.specs.Int.{int_max}
 use Rattle.std.proofs.lemmas.Int.{ints, clamps}
 use Rattle.dsp_defs.specs.Elementwise.{negate}
@@ -27,25 +28,69 @@ greatest format = pos (2 ^ (word_bits format - 1) - 1)
 -- of a number that is clamped from below
 clamped : (format : Fmt) (x : ℤ) → FitsSigned (word format) x →
     (pos 0 -ℤ int_max x (pos 0 -ℤ greatest format) ≡ negate format x)
-    × (negsuc 2147483646 ≤ℤ int_max x (pos 0 -ℤ greatest format)) × (int_max x (pos 0 -ℤ greatest format) ≤ℤ pos 2147483647)
-clamped Q7 (pos n) fits = (grind (arith, ints, clamps), grind (arith, ints, clamps), grind (arith, ints, clamps, fits.sfits))
+    × (negsuc 2147483646 ≤ℤ int_max x (pos 0 -ℤ greatest format)) ×
+    (int_max x (pos 0 -ℤ greatest format) ≤ℤ pos 2147483647)
+clamped Q7 (pos n) fits = (
+  grind (arith, ints, clamps),
+  grind (arith, ints, clamps),
+  grind (arith, ints, clamps, fits.sfits),
+)
 clamped Q7 (negsuc n) fits = (grind (arith, ints, clamps), grind (arith, ints, clamps), grind (arith, ints, clamps))
-clamped Q15 (pos n) fits = (grind (arith, ints, clamps), grind (arith, ints, clamps), grind (arith, ints, clamps, fits.sfits))
+clamped Q15 (pos n) fits = (
+  grind (arith, ints, clamps),
+  grind (arith, ints, clamps),
+  grind (arith, ints, clamps, fits.sfits),
+)
 clamped Q15 (negsuc n) fits = (grind (arith, ints, clamps), grind (arith, ints, clamps), grind (arith, ints, clamps))
-clamped Q31 (pos n) fits = (grind (arith, ints, clamps), grind (arith, ints, clamps), grind (arith, ints, clamps, fits.sfits))
+clamped Q31 (pos n) fits = (
+  grind (arith, ints, clamps),
+  grind (arith, ints, clamps),
+  grind (arith, ints, clamps, fits.sfits),
+)
 clamped Q31 (negsuc n) fits = (grind (arith, ints, clamps), grind (arith, ints, clamps), grind (arith, ints, clamps))
 
 kept : (z : ℤ) → negsuc 2147483647 ≤ℤ z → z ≤ℤ pos 2147483647 → to_z w32 (of_z w32 z) ≡ z
 kept z low high = to_z-of_z (fits_between z low high)
 
 -- the bounds of a number and of the greatest
-bounded : (format : Fmt) (x : ℤ) → FitsSigned (word format) x → (negsuc 2147483647 ≤ℤ x) × (x ≤ℤ pos 2147483647) × (pos 0 ≤ℤ greatest format) × (greatest format ≤ℤ pos 2147483647)
-bounded Q7 (pos n) fits = (omega (arith, ints), omega (arith, ints, fits.sfits), omega (arith, ints), omega (arith, ints))
-bounded Q7 (negsuc n) fits = (omega (arith, ints, fits.sfits), omega (arith, ints), omega (arith, ints), omega (arith, ints))
-bounded Q15 (pos n) fits = (omega (arith, ints), omega (arith, ints, fits.sfits), omega (arith, ints), omega (arith, ints))
-bounded Q15 (negsuc n) fits = (omega (arith, ints, fits.sfits), omega (arith, ints), omega (arith, ints), omega (arith, ints))
-bounded Q31 (pos n) fits = (omega (arith, ints), omega (arith, ints, fits.sfits), omega (arith, ints), omega (arith, ints))
-bounded Q31 (negsuc n) fits = (omega (arith, ints, fits.sfits), omega (arith, ints), omega (arith, ints), omega (arith, ints))
+bounded : (format : Fmt) (x : ℤ) → FitsSigned (word format) x → (negsuc 2147483647 ≤ℤ x) × (x ≤ℤ pos 2147483647) ×
+    (pos 0 ≤ℤ greatest format) × (greatest format ≤ℤ pos 2147483647)
+bounded Q7 (pos n) fits = (
+  omega (arith, ints),
+  omega (arith, ints, fits.sfits),
+  omega (arith, ints),
+  omega (arith, ints),
+)
+bounded Q7 (negsuc n) fits = (
+  omega (arith, ints, fits.sfits),
+  omega (arith, ints),
+  omega (arith, ints),
+  omega (arith, ints),
+)
+bounded Q15 (pos n) fits = (
+  omega (arith, ints),
+  omega (arith, ints, fits.sfits),
+  omega (arith, ints),
+  omega (arith, ints),
+)
+bounded Q15 (negsuc n) fits = (
+  omega (arith, ints, fits.sfits),
+  omega (arith, ints),
+  omega (arith, ints),
+  omega (arith, ints),
+)
+bounded Q31 (pos n) fits = (
+  omega (arith, ints),
+  omega (arith, ints, fits.sfits),
+  omega (arith, ints),
+  omega (arith, ints),
+)
+bounded Q31 (negsuc n) fits = (
+  omega (arith, ints, fits.sfits),
+  omega (arith, ints),
+  omega (arith, ints),
+  omega (arith, ints),
+)
 
 -- the negative in 32 bits
 pub negated : (format : Fmt) (x m v : ℤ) → FitsSigned (word format) x → m ≡ greatest format →
@@ -55,12 +100,15 @@ negated format x m v fits is_m is_v =
     let b = bounded format x fits in
     let c = clamped format x fits in
     let x_is : to_z w32 (of_z w32 x) ≡ x = kept x b.0 b.1 in
-    let m_is : to_z w32 (of_z w32 m) ≡ greatest format = ap (λ z. to_z w32 (of_z w32 z)) is_m ∙ kept (greatest format) (omega (arith, ints, b.2)) b.3 in
+    let m_is : to_z w32 (of_z w32 m) ≡ greatest format = ap (λ z. to_z w32 (of_z w32 z)) is_m ∙
+    kept (greatest format) (omega (arith, ints, b.2)) b.3 in
     let low_is : to_z w32 (of_z w32 (pos 0 -ℤ to_z w32 (of_z w32 m))) ≡ pos 0 -ℤ greatest format =
-    ap (λ z. to_z w32 (of_z w32 (pos 0 -ℤ z))) m_is ∙ kept (pos 0 -ℤ greatest format) (omega (arith, ints, b.3)) (omega (arith, ints, b.2)) in
+    ap (λ z. to_z w32 (of_z w32 (pos 0 -ℤ z))) m_is ∙ kept (pos 0 -ℤ greatest format) (omega (arith, ints, b.3))
+    (omega (arith, ints, b.2)) in
     let value : v ≡ int_max x (pos 0 -ℤ greatest format) = is_v ∙ (λ i. int_max (x_is i) (low_is i)) in
     let v_is : to_z w32 (of_z w32 v) ≡ int_max x (pos 0 -ℤ greatest format) =
-    ap (λ z. to_z w32 (of_z w32 z)) value ∙ kept (int_max x (pos 0 -ℤ greatest format)) (omega (arith, ints, c.1)) c.2 in
+    ap (λ z. to_z w32 (of_z w32 z)) value ∙ kept (int_max x (pos 0 -ℤ greatest format)) (omega (arith, ints, c.1)) c.2
+    in
     ap (λ z. to_z w32 (of_z w32 (pos 0 -ℤ z))) v_is
     ∙ kept (pos 0 -ℤ int_max x (pos 0 -ℤ greatest format)) (omega (arith, ints, c.2)) (omega (arith, ints, c.1))
     ∙ c.0

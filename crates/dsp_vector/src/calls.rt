@@ -1,7 +1,8 @@
 ghost use Rattle.std.specs.Prelude.{◌≡◌, ◌≤ℤ◌, length, map};
 ghost use Rattle.std.specs.Simd.Lanes.{zip2};
 ghost use Rattle.dsp_defs.specs.Cost.{lane_turns};
-ghost use Rattle.dsp_defs.specs.Elementwise.{abs, add, clip, mult, negate, scale, shift, sub, IsScaleShift, IsShift};
+ghost use Rattle.dsp_defs.specs.Elementwise.{abs, add, clip, mult, negate, scale, shift, sub, IsScaleShift};
+ghost use Rattle.dsp_defs.specs.Elementwise.{IsShift};
 ghost use Rattle.dsp_lanes.specs.Turns.{RisesWithin};
 
 use crate::VectorSample;

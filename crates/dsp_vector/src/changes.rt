@@ -1,6 +1,8 @@
-ghost use Rattle.std.specs.Prelude.{◌≡◌, ◌≤◌, ◌*◌, ◌^◌, ◌-◌, ◌≤ℤ◌, ℕ, ℤ, pos, All, FitsSigned, length, map, take};
+ghost use Rattle.std.specs.Prelude.{◌≡◌, ◌≤◌, ◌*◌, ◌^◌, ◌-◌, ◌≤ℤ◌, ℕ, ℤ, pos, All, FitsSigned, length, map};
+ghost use Rattle.std.specs.Prelude.{take};
 ghost use Rattle.dsp_defs.specs.Counts.{Rises};
-ghost use Rattle.dsp_defs.specs.Elementwise.{abs, add, clip, convert, negate, scale, shift, IsScaleShift, IsShift};
+ghost use Rattle.dsp_defs.specs.Elementwise.{abs, add, clip, convert, negate, scale, shift, IsScaleShift};
+ghost use Rattle.dsp_defs.specs.Elementwise.{IsShift};
 ghost use Rattle.dsp_defs.specs.Formats.{word, word_bits};
 
 use crate::conversions::converted;

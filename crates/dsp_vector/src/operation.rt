@@ -1,15 +1,15 @@
 ghost use Rattle.std.specs.Prelude.{◌≡◌, ◌≤◌, ◌+◌, ◌*◌, IfOk, length, take};
 ghost use Rattle.dsp_defs.specs.Block.{frames_in, channels_after};
 ghost use Rattle.dsp_defs.specs.Grammar.{Suits};
-ghost use Rattle.dsp_stage.specs.Unit.{IsSignal};
-ghost use Rattle.dsp_frames.specs.Memoryless.{Gives, price};
+ghost use Rattle.dsp_unit.specs.Unit.{IsSignal};
+ghost use Rattle.dsp_filter.specs.Memoryless.{Gives, price};
 
 use crate::VectorSample;
 use crate::changes::{Abs, Clip, Convert, Negate, Offset, Scale, Shift, change_each};
 use crate::joins::{Difference, Product, Sum, join_pairs};
 use crate::routes::route_frames;
 use dsp_defs::{Block, Fmt, List, Steps};
-use dsp_frames::FrameWork;
+use dsp_filter::FrameWork;
 use std::alloc::{AllocError, Global};
 use std::sync::ledger::Ledger;
 

@@ -1,5 +1,8 @@
--- The chunks before the first `fmt ` chunk: what their bytes say, for any format that is wanted, and what that chunk wants.
-use Rattle.std.proofs.Common.{◌≡◌, ℕ, ◌+◌, true, false, ◌&&◌, if◌then◌else◌, List, [], ◌++◌, length, take, drop, codes, None, refl, sym, ap, ap₂, ◌∙◌, arith, length-append, append_assoc, subst, ◌≤◌, Some}
+-- The chunks before the first `fmt ` chunk: what their bytes say, for any format that is wanted, and what that chunk
+-- wants.
+use Rattle.std.proofs.Common.{◌≡◌, ℕ, ◌+◌, true, false, ◌&&◌, if◌then◌else◌, List, [], ◌++◌, length, take, drop}
+use Rattle.std.proofs.Common.{codes, None, refl, sym, ap, ap₂, ◌∙◌, arith, length-append, append_assoc, subst, ◌≤◌}
+use Rattle.std.proofs.Common.{Some}
 use Rattle.std.proofs.lemmas.List.{drop_at}
 use Rattle.std.specs.Str.{bytes_eq}
 use Rattle.dsp_ports.specs.Ports.{SourceState}
@@ -21,7 +24,11 @@ use Rattle.dsp_wave.proofs.ReaderLaws as laws
 -- what the first 16 bytes want stays
 pub same_wanted : (body rest : List ℕ) → 16 ≤ length body → own_wanted (body ++ rest) ≡ own_wanted body
 same_wanted body rest long =
-    ap₂ {C = Wanted} (λ (bits channels : ℕ). record { format = format_of_bits bits; channels = channels_in_limit channels })
+    ap₂ {C = Wanted} (λ (bits channels : ℕ). record {
+      format = format_of_bits bits;
+      channels =
+          channels_in_limit channels;
+    })
     (u16_at-append body rest 14 (omega (arith, long))) (u16_at-append body rest 2 (omega (arith, long)))
 
 -- a chunk whose id and size came
@@ -29,25 +36,32 @@ module _ (place : ℕ) (head : List ℕ) (long : length head ≡ 8) where
   abbrev pub size : ℕ
   size = u32_at head 4
 
-  wants_of : (more : List ℕ) → wanted_in (chunks_behind 0 place (head ++ more)) ≡ (if bytes_eq (take 4 head) (codes "fmt ") then own_wanted (take size more) else wanted_in (chunks_behind 0 (place + (8 + padded size)) (drop (padded size) more)))
-  wants_of more = ap wanted_in (laws.head_chunks record { format = format_of_bits 0; channels = 0 } place head long more)
+  wants_of : (more : List ℕ) → wanted_in (chunks_behind 0 place (head ++ more)) ≡
+      (if bytes_eq (take 4 head) (codes "fmt ") then own_wanted (take size more) else
+      wanted_in (chunks_behind 0 (place + (8 + padded size)) (drop (padded size) more)))
+  wants_of more = ap wanted_in (laws.head_chunks record { format = format_of_bits 0; channels = 0 } place head long
+      more)
 
   -- of a `fmt ` chunk
-  pub wants_format : bytes_eq (take 4 head) (codes "fmt ") ≡ true → (body more : List ℕ) → IsEnough size body → wanted_in (chunks_behind 0 place (head ++ (body ++ more))) ≡ own_wanted body
+  pub wants_format : bytes_eq (take 4 head) (codes "fmt ") ≡ true → (body more : List ℕ) → IsEnough size body →
+      wanted_in (chunks_behind 0 place (head ++ (body ++ more))) ≡ own_wanted body
   wants_format is body more enough =
       let (rest, e) = laws.longer_piece size body more enough.within in
       wants_of (body ++ more)
-      ∙ ap (λ b. if b then own_wanted (take size (body ++ more)) else wanted_in (chunks_behind 0 (place + (8 + padded size)) (drop (padded size) (body ++ more)))) is
+      ∙ ap (λ b. if b then own_wanted (take size (body ++ more)) else
+      wanted_in (chunks_behind 0 (place + (8 + padded size)) (drop (padded size) (body ++ more)))) is
       ∙ ap own_wanted e
       ∙ same_wanted body rest enough.plain
 
   -- of another one
   pub wants_other : bytes_eq (take 4 head) (codes "fmt ") ≡ false → (body more : List ℕ) → length body ≡ padded size
-      → wanted_in (chunks_behind 0 place (head ++ (body ++ more))) ≡ wanted_in (chunks_behind 0 (place + 8 + padded size) more)
+      → wanted_in (chunks_behind 0 place (head ++ (body ++ more))) ≡ wanted_in
+      (chunks_behind 0 (place + 8 + padded size) more)
   wants_other is body more whole =
       let at : place + (8 + padded size) ≡ place + 8 + padded size = omega arith in
       wants_of (body ++ more)
-      ∙ ap (λ b. if b then own_wanted (take size (body ++ more)) else wanted_in (chunks_behind 0 (place + (8 + padded size)) (drop (padded size) (body ++ more)))) is
+      ∙ ap (λ b. if b then own_wanted (take size (body ++ more)) else
+      wanted_in (chunks_behind 0 (place + (8 + padded size)) (drop (padded size) (body ++ more)))) is
       ∙ ap₂ (λ p xs. wanted_in (chunks_behind 0 p xs)) at (drop_at body more (padded size) whole)
 
 -- ---- chunk after chunk
@@ -57,11 +71,19 @@ pub record GoesOn (old now : SourceState) (place : ℕ) : Type 0 where
   pub bytes : List ℕ
   pub came : Came 12 (length bytes) old now bytes
   pub here : place ≡ 12 + length bytes
-  pub said : (wanted : Wanted) (more : List ℕ) → said_from wanted 12 None (bytes ++ more) ≡ said_from wanted place None more
+  pub said : (wanted : Wanted) (more : List ℕ) → said_from wanted 12 None (bytes ++ more) ≡ said_from wanted place
+      None more
   pub wants : (more : List ℕ) → wanted_in (chunks_behind 0 12 (bytes ++ more)) ≡ wanted_in (chunks_behind 0 place more)
 
 pub begins : (now : SourceState) → GoesOn now now 12
-begins now = record { bytes = []; came = laws.nothing_came 12 now (omega arith); here = refl; said = λ wanted more. refl; wants = λ more. refl }
+begins now = record {
+  bytes = [];
+  came = laws.nothing_came 12 now (omega arith);
+  here = refl;
+  said =
+      λ wanted more. refl;
+  wants = λ more. refl;
+}
 
 module _ (old mid between : SourceState) (place : ℕ) (goes : GoesOn old mid place) where
   -- a fault behind them is one of the whole
@@ -69,29 +91,37 @@ module _ (old mid between : SourceState) (place : ℕ) (goes : GoesOn old mid pl
     is_behind : (more : List ℕ) → (wanted : Wanted) × (says (goes.bytes ++ more) ≡ said_from wanted place None more)
     is_behind more = let (wanted, is) = by_any (goes.bytes ++ more) in (wanted, is ∙ goes.said wanted more)
 
-    sooner : (error : HeaderOr) → Stopped (λ more. says (goes.bytes ++ more)) place mid between error → Stopped says 12 old between error
+    sooner : (error : HeaderOr) → Stopped (λ more. says (goes.bytes ++ more)) place mid between error →
+        Stopped says 12 old between error
     sooner error stopped =
-        laws.stopped_sooner says (λ more. says (goes.bytes ++ more)) 12 (length goes.bytes) place goes.here old mid between goes.bytes goes.came (λ more. refl) error stopped
+        laws.stopped_sooner says (λ more. says (goes.bytes ++ more)) 12 (length goes.bytes) place goes.here old mid
+        between goes.bytes goes.came (λ more. refl) error stopped
 
     -- an id and a size did not come
     pub head_missing : (error : HeaderOr) → Missing place 8 mid between error → Stopped says 12 old between error
     head_missing error missing =
         sooner error (laws.stops_missing (λ more. says (goes.bytes ++ more)) place mid between 8 error
-        (λ bytes short. let (wanted, is) = is_behind bytes in is ∙ laws.needs_head wanted place None bytes short) missing)
+        (λ bytes short. let (wanted, is) = is_behind bytes in is ∙ laws.needs_head wanted place None bytes short)
+        missing)
 
     module _ (head : List ℕ) (long : length head ≡ 8) where
       -- samples before a format
-      pub too_early : bytes_eq (take 4 head) (codes "data") ≡ true → Came place 8 mid between head → Stopped says 12 old between (Fault NoFormat place)
+      pub too_early : bytes_eq (take 4 head) (codes "data") ≡ true → Came place 8 mid between head →
+          Stopped says 12 old between (Fault NoFormat place)
       too_early samples came =
-          sooner (Fault NoFormat place) (laws.stops_sure (λ more. says (goes.bytes ++ more)) place mid between 8 head NoFormat place came
-          (λ more. let (wanted, is) = is_behind (head ++ more) in is ∙ laws.samples_too_early wanted place head long more samples))
+          sooner (Fault NoFormat place) (laws.stops_sure (λ more. says (goes.bytes ++ more)) place mid between 8 head
+          NoFormat place came
+          (λ more. let (wanted, is) = is_behind (head ++ more) in is ∙
+          laws.samples_too_early wanted place head long more samples))
 
       -- another chunk is cut
       pub chunk_missing : bytes_eq (take 4 head) (codes "data") ≡ false → bytes_eq (take 4 head) (codes "fmt ") ≡ false
-          → (after : SourceState) → Came place 8 mid after head → (error : HeaderOr) → Missing (place + 8) (padded (u32_at head 4)) after between error
+          → (after : SourceState) → Came place 8 mid after head → (error : HeaderOr) →
+          Missing (place + 8) (padded (u32_at head 4)) after between error
           → Stopped says 12 old between error
       chunk_missing no_samples no_format after came error missing =
-          sooner error (laws.stops_later (λ more. says (goes.bytes ++ more)) place mid between 8 (padded (u32_at head 4)) after head error
+          sooner error (laws.stops_later (λ more. says (goes.bytes ++ more)) place mid between 8
+          (padded (u32_at head 4)) after head error
           (λ more short.
           let (wanted, is) = is_behind (head ++ more) in
           is ∙ laws.passes_short wanted place head long None None more
@@ -102,7 +132,8 @@ module _ (old mid between : SourceState) (place : ℕ) (goes : GoesOn old mid pl
   module _ (now : SourceState) (count : ℕ) (piece : List ℕ) (came : Came place count mid now piece) where
     all_came : Came 12 (length (goes.bytes ++ piece)) old now (goes.bytes ++ piece)
     all_came =
-        let sooner : Came (12 + length goes.bytes) count mid now piece = subst (λ p. Came p count mid now piece) goes.here came in
+        let sooner : Came (12 + length goes.bytes) count mid now piece =
+        subst (λ p. Came p count mid now piece) goes.here came in
         let all = laws.both_came 12 (length goes.bytes) count old mid now goes.bytes piece goes.came sooner in
         subst (λ n. Came 12 n old now (goes.bytes ++ piece)) (sym all.long) all
 
@@ -112,12 +143,15 @@ module _ (old mid between : SourceState) (place : ℕ) (goes : GoesOn old mid pl
   module _ (head : List ℕ) (long : length head ≡ 8) (first : Came place 8 mid between head) where
     -- another chunk came
     pub another : (now : SourceState) (body : List ℕ) → Came (place + 8) (padded (u32_at head 4)) between now body
-        → bytes_eq (take 4 head) (codes "data") ≡ false → bytes_eq (take 4 head) (codes "fmt ") ≡ false → GoesOn old now (place + 8 + padded (u32_at head 4))
+        → bytes_eq (take 4 head) (codes "data") ≡ false → bytes_eq (take 4 head) (codes "fmt ") ≡ false →
+        GoesOn old now (place + 8 + padded (u32_at head 4))
     another now body second no_samples no_format =
         let size = padded (u32_at head 4) in
         let whole = laws.both_came place 8 size mid between now head body first second in
-        let regroup : (more : List ℕ) → (goes.bytes ++ (head ++ body)) ++ more ≡ goes.bytes ++ (head ++ (body ++ more)) =
-        λ more. append_assoc goes.bytes (head ++ body) more ∙ ap (λ xs. goes.bytes ++ xs) (append_assoc head body more) in
+        let regroup : (more : List ℕ) → (goes.bytes ++ (head ++ body)) ++ more ≡ goes.bytes ++
+        (head ++ (body ++ more)) =
+        λ more. append_assoc goes.bytes (head ++ body) more ∙
+        ap (λ xs. goes.bytes ++ xs) (append_assoc head body more) in
         record {
           bytes = goes.bytes ++ (head ++ body);
           came = all_came now (8 + size) (head ++ body) whole;
@@ -134,19 +168,23 @@ module _ (old mid between : SourceState) (place : ℕ) (goes : GoesOn old mid pl
         }
 
     -- the id and the size of the format came
-    pub found : bytes_eq (take 4 head) (codes "fmt ") ≡ true → FormatFound old between (record { head = head; offset = place })
+    pub found : bytes_eq (take 4 head) (codes "fmt ") ≡ true →
+        FormatFound old between (record { head = head; offset = place })
     found is = record {
       bytes = goes.bytes ++ head;
       came = all_came between 8 head first;
       here = ends between 8 head first;
       head = record { long = long; id = is };
-      said = λ wanted more. ap (said_from wanted 12 None) (append_assoc goes.bytes head more) ∙ goes.said wanted (head ++ more);
-      wants = λ more. ap (λ xs. wanted_in (chunks_behind 0 12 xs)) (append_assoc goes.bytes head more) ∙ goes.wants (head ++ more);
+      said = λ wanted more. ap (said_from wanted 12 None) (append_assoc goes.bytes head more) ∙
+          goes.said wanted (head ++ more);
+      wants = λ more. ap (λ xs. wanted_in (chunks_behind 0 12 xs)) (append_assoc goes.bytes head more) ∙
+          goes.wants (head ++ more);
     }
 
 -- ---- up to the end of the first `fmt ` chunk
 
-module _ (old mid between after : SourceState) (riff : RiffRead old mid) (first : FormatHead) (found : FormatFound mid between first)
+module _ (old mid between after : SourceState) (riff : RiffRead old mid) (first : FormatHead)
+    (found : FormatFound mid between first)
     (body : List ℕ) (came : Came (first.offset + 8) (padded (u32_at first.head 4)) between after body) where
   abbrev pub front : List ℕ
   front = riff.bytes ++ (found.bytes ++ body)
@@ -155,22 +193,33 @@ module _ (old mid between after : SourceState) (riff : RiffRead old mid) (first 
   behind = first.offset + 8 + padded (u32_at first.head 4)
 
   pub regroup : (more : List ℕ) → front ++ more ≡ riff.bytes ++ (found.bytes ++ (body ++ more))
-  regroup more = append_assoc riff.bytes (found.bytes ++ body) more ∙ ap (λ xs. riff.bytes ++ xs) (append_assoc found.bytes body more)
+  regroup more = append_assoc riff.bytes (found.bytes ++ body) more ∙
+      ap (λ xs. riff.bytes ++ xs) (append_assoc found.bytes body more)
 
   pub front_came : Came 0 (length front) old after front
   front_came =
       let size = padded (u32_at first.head 4) in
-      let second : Came (12 + length found.bytes) size between after body = subst (λ p. Came p size between after body) found.here came in
+      let second : Came (12 + length found.bytes) size between after body =
+      subst (λ p. Came p size between after body) found.here came in
       let both = laws.both_came 12 (length found.bytes) size mid between after found.bytes body found.came second in
-      let all = laws.both_came 0 12 (length found.bytes + size) old mid after riff.bytes (found.bytes ++ body) riff.came both in
+      let all = laws.both_came 0 12 (length found.bytes + size) old mid after riff.bytes (found.bytes ++ body)
+      riff.came both in
       subst (λ n. Came 0 n old after front) (sym all.long) all
 
   pub front_ends : behind ≡ 0 + length front
-  front_ends = omega (arith, found.here, came.long, riff.came.long, length-append riff.bytes (found.bytes ++ body), length-append found.bytes body)
+  front_ends = omega (
+    arith,
+    found.here,
+    came.long,
+    riff.came.long,
+    length-append riff.bytes (found.bytes ++ body),
+    length-append found.bytes body,
+  )
 
   -- what they say of a header of which this is wanted
   pub front_said : (wanted : Wanted) (known : Sampling)
-      → ((more : List ℕ) → said_behind wanted first.offset first.head (body ++ more) ≡ said_from wanted behind (Some known) more)
+      → ((more : List ℕ) → said_behind wanted first.offset first.head (body ++ more) ≡ said_from wanted behind
+      (Some known) more)
       → (more : List ℕ) → header_of (front ++ more) wanted ≡ said_from wanted behind (Some known) more
   front_said wanted known says more =
       ap (λ xs. header_of xs wanted) (regroup more)
@@ -182,4 +231,5 @@ module _ (old mid between after : SourceState) (riff : RiffRead old mid) (first 
 pub stops_behind : (wanted : Wanted) (old mid now : SourceState) (riff : RiffRead old mid) (error : HeaderOr)
     → Stopped (said_from wanted 12 None) 12 mid now error → Stopped (λ bytes. header_of bytes wanted) 0 old now error
 stops_behind wanted old mid now riff error stopped =
-    laws.stopped_sooner (λ bytes. header_of bytes wanted) (said_from wanted 12 None) 0 12 12 (omega arith) old mid now riff.bytes riff.came (riff.said wanted) error stopped
+    laws.stopped_sooner (λ bytes. header_of bytes wanted) (said_from wanted 12 None) 0 12 12 (omega arith) old mid now
+    riff.bytes riff.came (riff.said wanted) error stopped

@@ -1,5 +1,6 @@
 -- Samples and bytes, one after another.
-use Rattle.std.proofs.Common.{◌≡◌, ◌∙◌, ap, sym, ℕ, ◌+◌, ◌-◌, ◌*◌, ◌<◌, ◌≤◌, ℤ, pos, List, [], ◌∷◌, ◌++◌, length, take, drop, get_or, slice_range, arith, SFits}
+use Rattle.std.proofs.Common.{◌≡◌, ◌∙◌, ap, sym, ℕ, ◌+◌, ◌-◌, ◌*◌, ◌<◌, ◌≤◌, ℤ, pos, List, [], ◌∷◌, ◌++◌, length}
+use Rattle.std.proofs.Common.{take, drop, get_or, slice_range, arith, SFits}
 use Rattle.std.specs.List.{flat_map}
 use Rattle.std.specs.Int.{w32}
 use Rattle.std.proofs.lemmas.List.{take_more, append-nil}
@@ -20,7 +21,8 @@ pub value_fits : (coding : Coding) (z : ℤ) → IsValue coding z → SFits w32 
 value_fits coding z h = sample_fits (format_in coding) z (IsValue-fits coding z h)
 
 -- the piece of a slice from one place on
-pub piece : (from size width : ℕ) (bytes : List ℕ) → size ≡ width → slice_range bytes from (from + size) ≡ take width (drop from bytes)
+pub piece : (from size width : ℕ) (bytes : List ℕ) → size ≡ width →
+    slice_range bytes from (from + size) ≡ take width (drop from bytes)
 piece from size width bytes same =
     let count : from + size - from ≡ width = omega arith in
     ap (λ n. take n (drop from bytes)) count

@@ -17,7 +17,8 @@ whole_read stored taken block count input now read = record {
 }
 
 pub other_cause : (stored : Stored) (taken size : ℕ) (Cause Other : ℕ → Type 0) (input now : SourceState)
-    → ((n : ℕ) → Cause n → Other n) → Unread stored taken size Cause input now → Unread stored taken size Other input now
+    → ((n : ℕ) → Cause n → Other n) → Unread stored taken size Cause input now →
+    Unread stored taken size Other input now
 other_cause stored taken size Cause Other input now names unread = record {
   bytes = unread.bytes;
   gave = unread.gave;
@@ -28,7 +29,8 @@ other_cause stored taken size Cause Other input now names unread = record {
 }
 
 pub part_cause : (stored : Stored) (end taken size : ℕ) (Cause Other : ℕ → Type 0) (input now : SourceState)
-    → ((n : ℕ) → Cause n → Other n) → PartUnread stored end taken size Cause input now → PartUnread stored end taken size Other input now
+    → ((n : ℕ) → Cause n → Other n) → PartUnread stored end taken size Cause input now →
+    PartUnread stored end taken size Other input now
 unfolding other_cause
 part_cause stored end taken size Cause Other input now names part = record {
   unread = other_cause stored taken size Cause Other input now names part.unread;

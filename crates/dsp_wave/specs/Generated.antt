@@ -14,7 +14,8 @@ next_state s = (1664525 * s + 1013904223) % 2 ^ 32
 -- the bytes of the next n samples behind a state
 abbrev pub made : Container → Fmt → ℕ → ℕ → List ℕ
 made container format s zero = []
-made container format s (suc n) = bytes_of (coding_of container format) (state_sample format (next_state s)) ++ made container format (next_state s) n
+made container format s (suc n) = bytes_of (coding_of container format) (state_sample format (next_state s)) ++ made
+    container format (next_state s) n
 
 -- the bytes of a generated input that are still to come, and how many were given
 pub record Generation : Type 0 where

@@ -23,19 +23,23 @@ abbrev pub own_said_behind : ℕ → List ℕ → Says
 own_said_behind place head bytes = own_said_from place (head ++ bytes)
 
 -- the rest of the first `fmt ` chunk came: this is what it wants, and says of the samples
-pub record OwnRead (place : ℕ) (head : List ℕ) (old now : SourceState) (wanted : Wanted) (known : Sampling) : Type 0 where
-  pub body : List ℕ
-  pub came : Came (place + 8) (padded (u32_at head 4)) old now body
-  pub said : (more : List ℕ) → own_said_behind place head (body ++ more) ≡ said_from wanted (place + 8 + padded (u32_at head 4)) (Some known) more
-  pub wants : (more : List ℕ) → wanted_in (chunks_behind 0 place (head ++ (body ++ more))) ≡ wanted
+pub record OwnRead (place : ℕ) (head : List ℕ) (old now : SourceState) (wanted : Wanted) (known : Sampling) : Type 0
+  where
+    pub body : List ℕ
+    pub came : Came (place + 8) (padded (u32_at head 4)) old now body
+    pub said : (more : List ℕ) → own_said_behind place head (body ++ more) ≡ said_from wanted
+        (place + 8 + padded (u32_at head 4)) (Some known) more
+    pub wants : (more : List ℕ) → wanted_in (chunks_behind 0 place (head ++ (body ++ more))) ≡ wanted
 
--- the header came: exactly the bytes up to the first sample were taken, they say so whatever comes behind them, and they head a
+-- the header came: exactly the bytes up to the first sample were taken, they say so whatever comes behind them, and
+-- they head a
 -- file that is wanted to have the format of its bits and its channels
 pub record OpenHeaded (old now : SourceState) (header : OpenHeader) : Type 0 where
   pub bytes : List ℕ
   pub gave : Gave old now bytes
   pub in_limit : length bytes ≤ 2 ^ 40
   pub said : (more : List ℕ) → open_header_of (bytes ++ more) ≡ Ok header
-  pub heads : (more : List ℕ) → Heads (bytes ++ more) (record { format = format_in header.coding; channels = header.channels }) (closed header)
+  pub heads : (more : List ℕ) → Heads (bytes ++ more) (record
+      { format = format_in header.coding; channels = header.channels }) (closed header)
   pub start : header.start ≡ length bytes
   pub no_fault : now.faults ≡ old.faults

@@ -23,14 +23,16 @@ said_from wanted place known bytes = header_in wanted (place + length bytes) kno
 abbrev pub IsHeaderOf : Says → Type 0
 IsHeaderOf says = (bytes : List ℕ) → (wanted : Wanted) × (says bytes ≡ header_of bytes wanted)
 
--- of all bytes this is what they say from a place on, where no `fmt ` chunk stands before it, for something that is wanted, which
+-- of all bytes this is what they say from a place on, where no `fmt ` chunk stands before it, for something that is
+-- wanted, which
 -- may depend on the bytes
 abbrev pub IsSaidFrom : ℕ → Says → Type 0
 IsSaidFrom place says = (bytes : List ℕ) → (wanted : Wanted) × (says bytes ≡ said_from wanted place None bytes)
 
 -- the bytes say so whatever comes behind them, or they say so and are all there is
 abbrev pub IsSure : Says → SourceState → List ℕ → Result Header (HeaderFault × ℕ) → Type 0
-IsSure says now bytes answer = ((more : List ℕ) → says (bytes ++ more) ≡ answer) ⊎ (IsAtEnd now.left × (says bytes ≡ answer))
+IsSure says now bytes answer = ((more : List ℕ) → says (bytes ++ more) ≡ answer) ⊎
+    (IsAtEnd now.left × (says bytes ≡ answer))
 
 -- the bytes are the begin of a header and have no fault but that they end; fewer than twelve have none for certain
 abbrev pub IsCut : Says → ℕ → List ℕ → Type 0
@@ -39,9 +41,12 @@ IsCut says place bytes = (place + length bytes < 12) ⊎ (says bytes ≡ Err (No
 -- the cause of an end without a header: a fault that the bytes have, a source that has failed behind bytes that head no
 -- file, or 2^40 such bytes from the file's begin
 abbrev pub HasCause : HeaderOr → Says → ℕ → SourceState → SourceState → List ℕ → Type 0
-HasCause (Fault fault offset) says place old now bytes = IsSure says now bytes (Err (fault, offset)) × (now.faults ≡ old.faults)
-HasCause Read says place old now bytes = (now.faults ≡ one_more old.faults) × (place + length bytes < 2 ^ 40) × IsErr (says bytes) × IsCut says place bytes
-HasCause Long says place old now bytes = (place + length bytes ≡ 2 ^ 40) × (says bytes ≡ Err (NoSamples, 2 ^ 40)) × (now.faults ≡ old.faults)
+HasCause (Fault fault offset) says place old now bytes = IsSure says now bytes (Err (fault, offset)) ×
+    (now.faults ≡ old.faults)
+HasCause Read says place old now bytes = (now.faults ≡ one_more old.faults) × (place + length bytes < 2 ^ 40) ×
+    IsErr (says bytes) × IsCut says place bytes
+HasCause Long says place old now bytes = (place + length bytes ≡ 2 ^ 40) × (says bytes ≡ Err (NoSamples, 2 ^ 40)) ×
+    (now.faults ≡ old.faults)
 
 -- no header came: what was taken, and why
 pub record Stopped (says : Says) (place : ℕ) (old now : SourceState) (error : HeaderOr) : Type 0 where

@@ -23,16 +23,19 @@ abbrev pub AreAll : Option ℕ → ℕ → SourceState → Type 0
 AreAll (Some size) count now = count ≡ size
 AreAll None count now = IsAtEnd now.left
 
--- behind `taken` bytes of samples the front of the block came, and all of it unless the samples have ended, or the part of them that ends at `end`
-pub record PartRead (stored : Stored) (end taken : ℕ) (block : List ℕ) (count : ℕ) (input now : SourceState) : Type 0 where
-  pub within : count ≤ length block
-  pub gave : Gave input now (take count block)
-  pub declared : InDeclared (declared_bytes stored) (taken + count)
-  pub in_limit : stored.start + taken + count ≤ 2 ^ 40
-  pub in_part : taken + count ≤ end
-  pub room_left : count < length block → stored.size ≡ None → taken + count < end → stored.start + taken + count < 2 ^ 40
-  pub ended : count < length block → (taken + count ≡ end) ⊎ AreAll (declared_bytes stored) (taken + count) now
-  pub no_fault : now.faults ≡ input.faults
+-- behind `taken` bytes of samples the front of the block came, and all of it unless the samples have ended, or the
+-- part of them that ends at `end`
+pub record PartRead (stored : Stored) (end taken : ℕ) (block : List ℕ) (count : ℕ) (input now : SourceState) : Type 0
+  where
+    pub within : count ≤ length block
+    pub gave : Gave input now (take count block)
+    pub declared : InDeclared (declared_bytes stored) (taken + count)
+    pub in_limit : stored.start + taken + count ≤ 2 ^ 40
+    pub in_part : taken + count ≤ end
+    pub room_left : count < length block → stored.size ≡ None → taken + count < end →
+        stored.start + taken + count < 2 ^ 40
+    pub ended : count < length block → (taken + count ≡ end) ⊎ AreAll (declared_bytes stored) (taken + count) now
+    pub no_fault : now.faults ≡ input.faults
 
 -- the same of all samples, which no part ends
 pub record BlockRead (stored : Stored) (taken : ℕ) (block : List ℕ) (count : ℕ) (input now : SourceState) : Type 0 where
@@ -47,11 +50,14 @@ pub record BlockRead (stored : Stored) (taken : ℕ) (block : List ℕ) (count :
 -- why the byte behind so many bytes of samples did not come
 abbrev pub IsUnread : SampleFault → Stored → ℕ → SourceState → SourceState → Type 0
 IsUnread fault.Failed stored taken input now =
-    (now.faults ≡ one_more input.faults) × (stored.start + taken < 2 ^ 40) × IfSome (declared_bytes stored) (λ size. taken < size)
+    (now.faults ≡ one_more input.faults) × (stored.start + taken < 2 ^ 40) ×
+    IfSome (declared_bytes stored) (λ size. taken < size)
 IsUnread fault.LimitReached stored taken input now =
-    (stored.start + taken ≡ 2 ^ 40) × (now.faults ≡ input.faults) × IfSome (declared_bytes stored) (λ size. taken < size)
+    (stored.start + taken ≡ 2 ^ 40) × (now.faults ≡ input.faults) ×
+    IfSome (declared_bytes stored) (λ size. taken < size)
 IsUnread (fault.Short declared got offset) stored taken input now =
-    (stored.size ≡ Some declared) × (got ≡ taken) × (offset ≡ stored.start + taken) × IsAtEnd now.left × (now.faults ≡ input.faults)
+    (stored.size ≡ Some declared) × (got ≡ taken) × (offset ≡ stored.start + taken) × IsAtEnd now.left ×
+    (now.faults ≡ input.faults)
     × (taken < in_whole_frames stored.frame declared)
 
 -- less than a block came, for a cause that speaks of all bytes of samples that were taken
@@ -64,6 +70,7 @@ pub record Unread (stored : Stored) (taken size : ℕ) (Cause : ℕ → Type 0) 
   pub cause : Cause (taken + length bytes)
 
 -- and the part has more
-pub record PartUnread (stored : Stored) (end taken size : ℕ) (Cause : ℕ → Type 0) (input now : SourceState) : Type 0 where
-  pub unread : Unread stored taken size Cause input now
-  pub in_part : taken + length unread.bytes < end
+pub record PartUnread (stored : Stored) (end taken size : ℕ) (Cause : ℕ → Type 0) (input now : SourceState) : Type 0
+  where
+    pub unread : Unread stored taken size Cause input now
+    pub in_part : taken + length unread.bytes < end

@@ -4,7 +4,8 @@ use Rattle.std.specs.Str.{bytes_eq}
 use Rattle.std.specs.Io.KnownBytes.{IsAtEnd}
 use Rattle.dsp_ports.specs.Ports.{SourceState, one_more, Gave}
 use Rattle.dsp_defs.specs.Open.{wanted_in}
-use Rattle.dsp_defs.specs.Wave.{Chunk, chunks_behind, extensible_tag, format_fault, header_of, padded, sampling, u16_at, u32_at}
+use Rattle.dsp_defs.specs.Wave.{Chunk, chunks_behind, extensible_tag, format_fault, header_of, padded, sampling}
+use Rattle.dsp_defs.specs.Wave.{u16_at, u32_at}
 use Rattle.dsp_defs.specs.declared.wave.Sampling.{Sampling}
 use Rattle.dsp_defs.specs.declared.wave.Wanted.{Wanted}
 use Rattle.dsp_defs.specs.declared.wave.HeaderFault.TheVariants.{NoSamples}
@@ -24,7 +25,8 @@ pub record Came (place count : ℕ) (old now : SourceState) (bytes : List ℕ) :
 
 -- why fewer came: the file has ended, the source has failed, or all was taken that may be
 abbrev pub IsMissed : HeaderOr → ℕ → SourceState → SourceState → List ℕ → Type 0
-IsMissed (Fault fault offset) place old now bytes = (fault ≡ NoSamples) × (offset ≡ place + length bytes) × IsAtEnd now.left × (now.faults ≡ old.faults)
+IsMissed (Fault fault offset) place old now bytes = (fault ≡ NoSamples) × (offset ≡ place + length bytes) ×
+    IsAtEnd now.left × (now.faults ≡ old.faults)
 IsMissed Read place old now bytes = (now.faults ≡ one_more old.faults) × (place + length bytes < 2 ^ 40)
 IsMissed Long place old now bytes = (place + length bytes ≡ 2 ^ 40) × (now.faults ≡ old.faults)
 
@@ -61,13 +63,16 @@ abbrev pub IsSaidBehind : ℕ → List ℕ → Says → Type 0
 IsSaidBehind place head says = (bytes : List ℕ) → (wanted : Wanted) × (says bytes ≡ said_behind wanted place head bytes)
 
 -- the rest of the chunk came, and says this of the samples
-pub record FormatRead (wanted : Wanted) (place : ℕ) (head : List ℕ) (old now : SourceState) (known : Sampling) : Type 0 where
+pub record FormatRead (wanted : Wanted) (place : ℕ) (head : List ℕ) (old now : SourceState) (known : Sampling) : Type
+    0 where
   pub body : List ℕ
   pub came : Came (place + 8) (padded (u32_at head 4)) old now body
-  pub said : (more : List ℕ) → said_behind wanted place head (body ++ more) ≡ said_from wanted (place + 8 + padded (u32_at head 4)) (Some known) more
+  pub said : (more : List ℕ) → said_behind wanted place head (body ++ more) ≡ said_from wanted
+      (place + 8 + padded (u32_at head 4)) (Some known) more
 
 -- the chunk is good by what was taken of it, and its rest came
-pub record FormatRest (wanted : Wanted) (place : ℕ) (head body : List ℕ) (old now : SourceState) (known : Sampling) : Type 0 where
+pub record FormatRest (wanted : Wanted) (place : ℕ) (head body : List ℕ) (old now : SourceState) (known : Sampling) :
+    Type 0 where
   pub rest : List ℕ
   pub came : Came (place + 8 + length body) (padded (u32_at head 4) - length body) old now rest
   pub good : format_fault wanted 0 (format_chunk place (u32_at head 4) body) ≡ None
@@ -87,12 +92,17 @@ pub record FormatFound (old now : SourceState) (first : FormatHead) : Type 0 whe
   pub came : Came 12 (length bytes) old now bytes
   pub here : first.offset + 8 ≡ 12 + length bytes
   pub head : IsFormatHead first.head
-  pub said : (wanted : Wanted) (more : List ℕ) → said_from wanted 12 None (bytes ++ more) ≡ said_behind wanted first.offset first.head more
-  pub wants : (more : List ℕ) → wanted_in (chunks_behind 0 12 (bytes ++ more)) ≡ wanted_in (chunks_behind 0 first.offset (first.head ++ more))
+  pub said : (wanted : Wanted) (more : List ℕ) → said_from wanted 12 None (bytes ++ more) ≡ said_behind wanted
+      first.offset first.head more
+  pub wants : (more : List ℕ) → wanted_in (chunks_behind 0 12 (bytes ++ more)) ≡ wanted_in
+      (chunks_behind 0 first.offset (first.head ++ more))
 
--- the chunk behind the format that came, up to the samples or to the chunk behind it; what is wanted of the format changes nothing there
+-- the chunk behind the format that came, up to the samples or to the chunk behind it; what is wanted of the format
+-- changes nothing there
 abbrev pub Chunked : ℕ → Sampling → SourceState → SourceState → Next → Type 0
-Chunked place known old now (Samples header) = (wanted : Wanted) → Headed (said_from wanted place (Some known)) place old now header
+Chunked place known old now (Samples header) = (wanted : Wanted) →
+    Headed (said_from wanted place (Some known)) place old now header
 Chunked place known old now (Other taken) =
     (bytes : List ℕ) × Came place (length bytes) old now bytes × (taken ≡ place + length bytes) × (8 ≤ length bytes)
-    × ((wanted : Wanted) (more : List ℕ) → said_from wanted place (Some known) (bytes ++ more) ≡ said_from wanted taken (Some known) more)
+    × ((wanted : Wanted) (more : List ℕ) → said_from wanted place (Some known) (bytes ++ more) ≡ said_from wanted
+    taken (Some known) more)

@@ -1,9 +1,11 @@
 //! The `fmt ` chunk of a file.
 
 ghost use Rattle.std.specs.Prelude.{◌≡◌, ℕ, ◌+◌, ◌≤◌, ◌^◌, ◌++◌, List, length, take, IfOk, IfErr};
-ghost use Rattle.dsp_defs.specs.Wave.{first_failed, format_fault, padded, pcm_tests, sample_tests, sampling, u32_at};
+ghost use Rattle.dsp_defs.specs.Wave.{first_failed, format_fault, padded, pcm_tests, sample_tests, sampling};
+ghost use Rattle.dsp_defs.specs.Wave.{u32_at};
 ghost use Rattle.dsp_wave.specs.Reading.{Says, Stopped};
-ghost use Rattle.dsp_wave.specs.Taking.{Came, FormatRead, FormatRest, IsEnough, IsFormatHead, IsSaidBehind, format_chunk, said_behind};
+ghost use Rattle.dsp_wave.specs.Taking.{Came, FormatRead, FormatRest, IsEnough, IsFormatHead, IsSaidBehind};
+ghost use Rattle.dsp_wave.specs.Taking.{format_chunk, said_behind};
 
 use crate::coding::{coding_of, width};
 use crate::extension::{EXTENSIBLE_SIZE, EXTENSIBLE_TAG, PCM_SUBFORMAT, PCM_TAG, PLAIN_SIZE};

@@ -1,7 +1,8 @@
 //! The samples of a file, block by block, whatever its header was.
 
 ghost use Rattle.std.specs.Prelude.{◌≡◌, ◌+◌, ◌^◌, ◌≤◌, length, IfOk, IfErr};
-ghost use Rattle.dsp_wave.specs.Samples.{InDeclared, IsUnread, PartRead, PartUnread, declared_bytes, in_whole_frames};
+ghost use Rattle.dsp_wave.specs.Samples.{InDeclared, IsUnread, PartRead, PartUnread, declared_bytes};
+ghost use Rattle.dsp_wave.specs.Samples.{in_whole_frames};
 
 use dsp_defs::MAX_INPUT;
 use dsp_ports::{FillFault, Source, fill};

@@ -1,8 +1,11 @@
 ghost use Rattle.std.specs.Prelude.{◌≡◌, ◌≢◌, ◌+◌, ◌*◌, ◌≤◌, ◌++◌, ℕ, List, length, Some, Ok};
 ghost use Rattle.arrayvec.specs.ArrayVec.{array_vec_len};
 ghost use Rattle.dsp_defs.specs.Bytes.{word_bytes, width};
-ghost use Rattle.dsp_defs.specs.Open.{IsWave, OpenFits, open_header_of, open_wave_header, open_written_header};
-ghost use Rattle.dsp_defs.specs.Wave.{HeaderFits, Heads, WidthFits, data_bytes, data_size, extension, format_size, format_tag, header_of_width, pad, pad_of_width, riff_bytes, riff_size, wave_header, written_header};
+ghost use Rattle.dsp_defs.specs.Open.{IsWave, OpenFits, open_header_of, open_wave_header};
+ghost use Rattle.dsp_defs.specs.Open.{open_written_header};
+ghost use Rattle.dsp_defs.specs.Wave.{HeaderFits, Heads, WidthFits, data_bytes, data_size, extension};
+ghost use Rattle.dsp_defs.specs.Wave.{format_size, format_tag, header_of_width, pad, pad_of_width};
+ghost use Rattle.dsp_defs.specs.Wave.{riff_bytes, riff_size, wave_header, written_header};
 ghost use Rattle.dsp_defs.specs.declared.format.Container.TheVariants as container;
 ghost use Rattle.dsp_defs.specs.declared.limits.TheConstants.{MAX_CHANNELS};
 

@@ -12,6 +12,7 @@ pub record Rolling : Type 0 where
 abbrev pub last_samples : ℕ → List ℤ → List ℤ
 last_samples n xs = drop (length xs - n) xs
 
--- the window shows the last `past` numbers of all that was pushed before, with zeros before the first, and then the block
+-- the window shows the last `past` numbers of all that was pushed before, with zeros before the first, and then the
+-- block
 abbrev pub Shows : Rolling → List ℤ → List ℤ → Type 0
 Shows window before block = window.samples ≡ last_of window.past before ++ block

@@ -1,4 +1,5 @@
-ghost use Rattle.std.specs.Prelude.{◌≡◌, ◌≤◌, ◌+◌, ◌++◌, ◌↔◌, length, map, take, drop, replicate, pos, IfOk, IsTrue, All, FitsSigned};
+ghost use Rattle.std.specs.Prelude.{◌≡◌, ◌≤◌, ◌+◌, ◌++◌, ◌↔◌, length, map, take, drop, replicate, pos, IfOk};
+ghost use Rattle.std.specs.Prelude.{IsTrue, All, FitsSigned};
 ghost use Rattle.dsp_defs.specs.Formats.{word};
 
 use dsp_sat::Sample;

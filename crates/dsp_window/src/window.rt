@@ -29,7 +29,8 @@ impl<T: Sample> Model for Window<T> {
 }
 
 impl<T: Sample> Window<T> {
-    ghost use Rattle.std.specs.Prelude.{◌≡◌, ◌≤◌, ◌++◌, ◌↔◌, ℤ, List, [], length, map, replicate, pos, IfOk, IsTrue, All, FitsSigned};
+    ghost use Rattle.std.specs.Prelude.{◌≡◌, ◌≤◌, ◌++◌, ◌↔◌, ℤ, List, [], length, map, replicate, pos, IfOk};
+    ghost use Rattle.std.specs.Prelude.{IsTrue, All, FitsSigned};
     ghost use Rattle.dsp_defs.specs.Formats.{word};
     ghost use Rattle.dsp_window.specs.Rolling.{Shows, last_samples};
 

@@ -1,9 +1,10 @@
-use Rattle.std.proofs.Common.{◌≡◌, ◌∙◌, ap, sym, ◌++◌, ◌+◌, ◌*◌, ◌/◌, ◌≤◌, ℕ, length, map, take, rules, length-take-le, subst, ℤ, List}
+use Rattle.std.proofs.Common.{◌≡◌, ◌∙◌, ap, sym, ◌++◌, ◌+◌, ◌*◌, ◌/◌, ◌≤◌, ℕ, length, map, take, rules}
+use Rattle.std.proofs.Common.{length-take-le, subst, ℤ, List}
 use Rattle.std.specs.Prelude.{All, FitsSigned}
 use Rattle.std.proofs.lemmas.List.{length-map}
 use Rattle.dsp_defs.specs.Formats.{word}
-use Rattle.dsp_stage.specs.Unit.{frames_in}
-use Rattle.dsp_unit.proofs.Slices.{front-written}
+use Rattle.dsp_unit.specs.Unit.{frames_in}
+use Rattle.dsp_filter.proofs.Slices.{front-written}
 use Rattle.dsp_adapt.specs.LmsState.{StandsFor, pairs}
 use Rattle.dsp_adapt.specs.LmsUnit.{lms_frames}
 use Rattle.dsp_adapt.proofs.LmsUnits.{frames-given, pairs-of}
@@ -23,11 +24,17 @@ returns-clause-frames g c = λ x stands.
     let count = length frames / 2 in
     let s = c.args.lms.now in
     let cut = cut-long count c.args.inputs.now _ c.requires.inputs c.requires.capacity in
-    let whole : length frames ≡ length (take count c.args.inputs.now) * 2 = c.requires.whole ∙ ap (λ n. n * 2) (sym cut) in
-    let taken = pairs-of (length (take count c.args.inputs.now)) frames (map T.number c.split_pairs.new.first) (map T.number c.split_pairs.new.second) whole c.split_pairs.ensures.first c.split_pairs.ensures.second in
+    let whole : length frames ≡ length (take count c.args.inputs.now) * 2 = c.requires.whole ∙
+    ap (λ n. n * 2) (sym cut) in
+    let taken = pairs-of (length (take count c.args.inputs.now)) frames (map T.number c.split_pairs.new.first)
+    (map T.number c.split_pairs.new.second) whole c.split_pairs.ensures.first c.split_pairs.ensures.second in
     let out = c.join_pairs.new.out in
-    let written = front-written (length frames) out c.args.out.now (c.join_pairs.auto.out ∙ length-take-le (length frames) c.args.out.now c.requires.room) in
-    let given = frames-given T.format s x (pairs (map T.number c.split_pairs.new.first) (map T.number c.split_pairs.new.second)) (map T.number c.process.new.output) (map T.number c.process.new.error) (length c.process.new.output) (length-map c.process.new.output T.number) (c.process.ensures.outputs x stands) (c.process.ensures.errors x stands) in
+    let written = front-written (length frames) out c.args.out.now
+    (c.join_pairs.auto.out ∙ length-take-le (length frames) c.args.out.now c.requires.room) in
+    let given = frames-given T.format s x (pairs (map T.number c.split_pairs.new.first)
+    (map T.number c.split_pairs.new.second)) (map T.number c.process.new.output) (map T.number c.process.new.error)
+    (length c.process.new.output) (length-map c.process.new.output T.number) (c.process.ensures.outputs x stands)
+    (c.process.ensures.errors x stands) in
     ap (λ l. lms_frames T.format s (x ++ l)) taken
     ∙ given
     ∙ ap (λ l. lms_frames T.format s x ++ l) (sym (ap (frames_in 2) written ∙ c.join_pairs.ensures.frames))
@@ -38,9 +45,12 @@ returns-clause-stands g c = λ x stands.
     let frames = c.args.frames.now in
     let count = length frames / 2 in
     let cut = cut-long count c.args.inputs.now _ c.requires.inputs c.requires.capacity in
-    let whole : length frames ≡ length (take count c.args.inputs.now) * 2 = c.requires.whole ∙ ap (λ n. n * 2) (sym cut) in
-    let taken = pairs-of (length (take count c.args.inputs.now)) frames (map T.number c.split_pairs.new.first) (map T.number c.split_pairs.new.second) whole c.split_pairs.ensures.first c.split_pairs.ensures.second in
-    subst (λ (l : List (ℤ × ℤ)). StandsFor T.format c.process.new.self (x ++ l)) (sym taken) (c.process.ensures.stands x stands)
+    let whole : length frames ≡ length (take count c.args.inputs.now) * 2 = c.requires.whole ∙
+    ap (λ n. n * 2) (sym cut) in
+    let taken = pairs-of (length (take count c.args.inputs.now)) frames (map T.number c.split_pairs.new.first)
+    (map T.number c.split_pairs.new.second) whole c.split_pairs.ensures.first c.split_pairs.ensures.second in
+    subst (λ (l : List (ℤ × ℤ)). StandsFor T.format c.process.new.self (x ++ l)) (sym taken)
+    (c.process.ensures.stands x stands)
 
 pub slice_bounds-inputs-end : goal.slice_bounds-inputs-end
 slice_bounds-inputs-end g c = within _ _ _ c.requires.inputs c.requires.capacity
@@ -55,11 +65,13 @@ pub slice_bounds-references-end-2 : goal.slice_bounds-references-end-2
 slice_bounds-references-end-2 g c = sym (cut-long _ c.args.references.now _ c.requires.references c.requires.capacity)
 
 pub split_pairs-requires-clause-whole : goal.split_pairs-requires-clause-whole
-split_pairs-requires-clause-whole g c = c.requires.whole ∙ ap (λ n. n * 2) (sym (cut-long _ c.args.inputs.now _ c.requires.inputs c.requires.capacity))
+split_pairs-requires-clause-whole g c = c.requires.whole ∙
+    ap (λ n. n * 2) (sym (cut-long _ c.args.inputs.now _ c.requires.inputs c.requires.capacity))
 
 pub split_pairs-requires-clause-same : goal.split_pairs-requires-clause-same
 split_pairs-requires-clause-same g c =
-    cut-long _ c.args.references.now _ c.requires.references c.requires.capacity ∙ sym (cut-long _ c.args.inputs.now _ c.requires.inputs c.requires.capacity)
+    cut-long _ c.args.references.now _ c.requires.references c.requires.capacity ∙
+    sym (cut-long _ c.args.inputs.now _ c.requires.inputs c.requires.capacity)
 
 pub split_pairs-requires-clause-in_format : goal.split_pairs-requires-clause-in_format
 split_pairs-requires-clause-in_format g c = c.requires.in_format
@@ -79,10 +91,16 @@ slice_bounds-errors-end-2 g c = sym (cut-long _ c.args.errors.now _ c.requires.e
 pub process-requires : goal.process-requires
 process-requires g c =
     let inputs = c.split_pairs.auto.first ∙ cut-long _ c.args.inputs.now _ c.requires.inputs c.requires.capacity in
-    let references = c.split_pairs.auto.second ∙ cut-long _ c.args.references.now _ c.requires.references c.requires.capacity in
+    let references = c.split_pairs.auto.second ∙ cut-long _ c.args.references.now _ c.requires.references
+    c.requires.capacity in
     let outputs = cut-long _ c.args.outputs.now _ c.requires.outputs c.requires.capacity in
-    let errors = cut-long _ c.args.errors.now _ c.requires.errors c.requires.capacity in
-    (search rules, (subst (λ (n : ℕ). n ≤ c.args.lms.now.block) (sym inputs) c.requires.capacity, (references ∙ sym inputs, (outputs ∙ sym inputs, errors ∙ sym inputs))))
+    let errors = cut-long _ c.args.errors.now _ c.requires.errors c.requires.capacity in (
+      search rules,
+      (
+        subst (λ (n : ℕ). n ≤ c.args.lms.now.block) (sym inputs) c.requires.capacity,
+        (references ∙ sym inputs, (outputs ∙ sym inputs, errors ∙ sym inputs)),
+      ),
+    )
 
 pub slice_bounds-join_pairs-end : goal.slice_bounds-join_pairs-end
 slice_bounds-join_pairs-end g c = c.requires.room
@@ -90,7 +108,8 @@ slice_bounds-join_pairs-end g c = c.requires.room
 pub join_pairs-requires-clause-whole : goal.join_pairs-requires-clause-whole
 join_pairs-requires-clause-whole g c =
     length-take-le (length c.args.frames.now) c.args.out.now c.requires.room ∙ c.requires.whole
-    ∙ ap (λ n. n * 2) (sym (c.process.auto.output ∙ cut-long _ c.args.outputs.now _ c.requires.outputs c.requires.capacity))
+    ∙ ap (λ n. n * 2) (sym (c.process.auto.output ∙ cut-long _ c.args.outputs.now _ c.requires.outputs
+    c.requires.capacity))
 
 pub join_pairs-requires-clause-same : goal.join_pairs-requires-clause-same
 join_pairs-requires-clause-same g c =
@@ -101,7 +120,8 @@ pub returns-clause-in_format : goal.returns-clause-in_format
 returns-clause-in_format g c =
     let frames = c.args.frames.now in
     let out = c.join_pairs.new.out in
-    let written = front-written (length frames) out c.args.out.now (c.join_pairs.auto.out ∙ length-take-le (length frames) c.args.out.now c.requires.room) in
+    let written = front-written (length frames) out c.args.out.now
+    (c.join_pairs.auto.out ∙ length-take-le (length frames) c.args.out.now c.requires.room) in
     subst (λ l. All (FitsSigned (word g.T.Sample.format)) l) (sym written) c.join_pairs.ensures.in_format
 
 pub returns-clause-same : goal.returns-clause-same
@@ -116,9 +136,11 @@ returns-clause-weights g c = c.process.ensures.weights
 pub returns-clause-multiplies : goal.returns-clause-multiplies
 returns-clause-multiplies g c =
     let given = c.split_pairs.auto.first ∙ cut-long _ c.args.inputs.now _ c.requires.inputs c.requires.capacity in
-    subst (λ (n : ℕ). c.process.new.steps.multiplies ≡ c.args.steps.now.multiplies + n * (2 * length c.args.lms.now.taps + 1)) given c.process.ensures.multiplies
+    subst (λ (n : ℕ). c.process.new.steps.multiplies ≡ c.args.steps.now.multiplies + n *
+    (2 * length c.args.lms.now.taps + 1)) given c.process.ensures.multiplies
 
 pub returns-clause-turns : goal.returns-clause-turns
 returns-clause-turns g c =
     let given = c.split_pairs.auto.first ∙ cut-long _ c.args.inputs.now _ c.requires.inputs c.requires.capacity in
-    subst (λ (n : ℕ). c.process.new.steps.turns ≤ c.args.steps.now.turns + n * (2 * length c.args.lms.now.taps + 1)) given c.process.ensures.turns
+    subst (λ (n : ℕ). c.process.new.steps.turns ≤ c.args.steps.now.turns + n * (2 * length c.args.lms.now.taps + 1))
+    given c.process.ensures.turns

@@ -25,18 +25,27 @@ loop-n-preserved g c =
     let right_is = to_z-of_z w32 right.result (fits-32 T.format right.result right.ensures.fits) in
     let room : n * 2 + 1 < length out = omega arith in
     record {
-      left = left-more out n _ _ room (sample (map T.number c.args.first.now)) so_far.left (left_is ∙ left.ensures.value ∙ sample-map T.number c.args.first.now n first.result (omega arith) first.is);
-      right = right-more out n _ _ room (sample (map T.number c.args.second.now)) so_far.right (right_is ∙ right.ensures.value ∙ sample-map T.number c.args.second.now n second.result (omega arith) second.is);
-      fits = both-fit out n _ _ room Fits so_far.fits (subst Fits (sym left_is) left.ensures.fits) (subst Fits (sym right_is) right.ensures.fits);
+      left = left-more out n _ _ room (sample (map T.number c.args.first.now)) so_far.left
+          (left_is ∙ left.ensures.value ∙ sample-map T.number c.args.first.now n first.result (omega arith) first.is);
+      right = right-more out n _ _ room (sample (map T.number c.args.second.now)) so_far.right
+          (right_is ∙ right.ensures.value ∙ sample-map T.number c.args.second.now n second.result (omega arith)
+          second.is);
+      fits = both-fit out n _ _ room Fits so_far.fits (subst Fits (sym left_is) left.ensures.fits)
+          (subst Fits (sym right_is) right.ensures.fits);
     }
 
 pub returns-clause-frames : goal.returns-clause-frames
 returns-clause-frames g c =
     let T = g.T.Sample in
     let count = length c.args.first.now in
-    frames-two count c.loop-n.out (λ k. pair_frame (sample (map T.number c.args.first.now) k, sample (map T.number c.args.second.now) k)) (omega arith)
-    (λ k h. ap₂ (λ a b. a ∷ b ∷ []) (sym (c.loop-n.invariant.left k (omega arith))) (sym (c.loop-n.invariant.right k (omega arith))))
+    frames-two count c.loop-n.out (λ k. pair_frame (
+      sample (map T.number c.args.first.now) k,
+      sample (map T.number c.args.second.now) k,
+    )) (omega arith)
+    (λ k h. ap₂ (λ a b. a ∷ b ∷ []) (sym (c.loop-n.invariant.left k (omega arith)))
+    (sym (c.loop-n.invariant.right k (omega arith))))
 
 pub returns-clause-in_format : goal.returns-clause-in_format
 returns-clause-in_format g c = λ k d h.
-    subst (FitsSigned (word g.T.Sample.format)) (sym (get_or_default c.loop-n.out k d (pos 0) h)) (c.loop-n.invariant.fits k (omega arith))
+    subst (FitsSigned (word g.T.Sample.format)) (sym (get_or_default c.loop-n.out k d (pos 0) h))
+    (c.loop-n.invariant.fits k (omega arith))

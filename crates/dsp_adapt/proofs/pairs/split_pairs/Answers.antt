@@ -1,4 +1,5 @@
-use Rattle.std.proofs.Common.{◌≡◌, ◌∙◌, ◌+◌, ◌*◌, ◌<◌, ap, sym, refl, subst, ℕ, ℤ, List, pos, length, map, take, take_all, arith, FitsSigned}
+use Rattle.std.proofs.Common.{◌≡◌, ◌∙◌, ◌+◌, ◌*◌, ◌<◌, ap, sym, refl, subst, ℕ, ℤ, List, pos, length, map, take}
+use Rattle.std.proofs.Common.{take_all, arith, FitsSigned}
 use Rattle.std.specs.Int.{w32}
 use Rattle.std.proofs.lemmas.Int.{to_z-of_z}
 use Rattle.std.proofs.lemmas.List.{length-map, map-set}
@@ -12,7 +13,8 @@ use Rattle.dsp_adapt.proofs.LmsUnits.{fits-32}
 use Rattle.dsp_adapt.proofs.pairs.split_pairs.Goals as goal
 
 -- a number of the frames is in the range of the format
-fit : (format : Fmt) (frames : List ℤ) (k : ℕ) → All (FitsSigned (word format)) frames → k < length frames → FitsSigned (word format) (sample frames k)
+fit : (format : Fmt) (frames : List ℤ) (k : ℕ) → All (FitsSigned (word format)) frames → k < length frames →
+    FitsSigned (word format) (sample frames k)
 fit format frames k all h = All-get_or (FitsSigned (word format)) frames k (pos 0) h all
 
 pub of_number-requires : goal.of_number-requires
@@ -21,7 +23,8 @@ of_number-requires g c =
     let frames = c.args.frames.now in
     let k = c.loop-n.n * 2 in
     let fits = fit T.format frames k c.requires.in_format (omega (arith, c.requires.whole, c.loop-n-test.true)) in
-    subst (λ z. FitsSigned (word T.format) z) (sym (to_z-of_z w32 (sample frames k) (fits-32 T.format (sample frames k) fits))) fits
+    subst (λ z. FitsSigned (word T.format) z) (sym (to_z-of_z w32 (sample frames k)
+    (fits-32 T.format (sample frames k) fits))) fits
 
 pub of_number-requires-in-loop-n : goal.of_number-requires-in-loop-n
 of_number-requires-in-loop-n g c =
@@ -29,7 +32,8 @@ of_number-requires-in-loop-n g c =
     let frames = c.args.frames.now in
     let k = c.loop-n.n * 2 + 1 in
     let fits = fit T.format frames k c.requires.in_format (omega (arith, c.requires.whole, c.loop-n-test.true)) in
-    subst (λ z. FitsSigned (word T.format) z) (sym (to_z-of_z w32 (sample frames k) (fits-32 T.format (sample frames k) fits))) fits
+    subst (λ z. FitsSigned (word T.format) z) (sym (to_z-of_z w32 (sample frames k)
+    (fits-32 T.format (sample frames k) fits))) fits
 
 pub loop-n-preserved : goal.loop-n-preserved
 loop-n-preserved g c =
@@ -40,11 +44,18 @@ loop-n-preserved g c =
     let second = c.loop-n.second in
     record {
       left = ap (take _) (map-set T.number first n c.of_number.result)
-          ∙ rows-one (λ k. sample frames (k * 2)) n _ (map T.number first) (T.number c.of_number.result) refl (omega (arith, length-map first T.number)) c.loop-n.invariant.left
-          (c.of_number.ensures ∙ to_z-of_z w32 (sample frames (n * 2)) (fits-32 T.format (sample frames (n * 2)) (fit T.format frames (n * 2) c.requires.in_format (omega arith))));
+          ∙ rows-one (λ k. sample frames (k * 2)) n _ (map T.number first) (T.number c.of_number.result) refl
+          (omega (arith, length-map first T.number)) c.loop-n.invariant.left
+          (c.of_number.ensures ∙ to_z-of_z w32 (sample frames (n * 2))
+          (fits-32 T.format (sample frames (n * 2)) (fit T.format frames (n * 2) c.requires.in_format
+          (omega arith))));
       right = ap (take _) (map-set T.number second n c.of_number-in-loop-n.result)
-          ∙ rows-one (λ k. sample frames (k * 2 + 1)) n _ (map T.number second) (T.number c.of_number-in-loop-n.result) refl (omega (arith, length-map second T.number)) c.loop-n.invariant.right
-          (c.of_number-in-loop-n.ensures ∙ to_z-of_z w32 (sample frames (n * 2 + 1)) (fits-32 T.format (sample frames (n * 2 + 1)) (fit T.format frames (n * 2 + 1) c.requires.in_format (omega arith))));
+          ∙ rows-one (λ k. sample frames (k * 2 + 1)) n _ (map T.number second)
+          (T.number c.of_number-in-loop-n.result) refl (omega (arith, length-map second T.number))
+          c.loop-n.invariant.right
+          (c.of_number-in-loop-n.ensures ∙ to_z-of_z w32 (sample frames (n * 2 + 1))
+          (fits-32 T.format (sample frames (n * 2 + 1)) (fit T.format frames (n * 2 + 1) c.requires.in_format
+          (omega arith))));
     }
 
 pub returns-clause-first : goal.returns-clause-first

@@ -17,8 +17,10 @@ loop-k-preserved g c =
     let place = length weights - 1 - k in
     let read = c.index-weights-weights in
     let fits : SFits w64 c.number_of.result = search rules in
-    rows-one (λ j. sample (map T.number weights) (length weights - 1 - j)) k _ out _ refl (omega arith) c.loop-k.invariant
-    (to_z-of_z w64 c.number_of.result fits ∙ c.number_of.ensures ∙ sample-map T.number weights place read.result (omega arith) read.is)
+    rows-one (λ j. sample (map T.number weights) (length weights - 1 - j)) k _ out _ refl (omega arith)
+    c.loop-k.invariant
+    (to_z-of_z w64 c.number_of.result fits ∙ c.number_of.ensures ∙
+    sample-map T.number weights place read.result (omega arith) read.is)
 
 pub returns : goal.returns
 returns g c =

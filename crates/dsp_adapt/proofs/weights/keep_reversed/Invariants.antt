@@ -4,4 +4,5 @@ use Rattle.dsp_adapt.proofs.weights.keep_reversed.Given as goal
 
 -- the numbers so far are written
 abbrev pub invariant-loop-k : goal.invariant-loop-k
-invariant-loop-k g l = take l.k l.out ≡ values l.k (λ k. sample (map g.T.Sample.number l.weights) (length l.weights - 1 - k))
+invariant-loop-k g l = take l.k l.out ≡ values l.k (λ k. sample (map g.T.Sample.number l.weights)
+    (length l.weights - 1 - k))

@@ -5,7 +5,8 @@ use Rattle.dsp_adapt.proofs.LmsSteps.{all-take, all-drop}
 use Rattle.dsp_adapt.proofs.weights.restore_parts.Goals as goal
 
 pub restore-requires-clause-samples : goal.restore-requires-clause-samples
-restore-requires-clause-samples g c = all-take (FitsSigned (word g.T.Sample.format)) c.args.numbers.now _ c.requires.samples
+restore-requires-clause-samples g c = all-take (FitsSigned (word g.T.Sample.format)) c.args.numbers.now _
+    c.requires.samples
 
 pub restore_reversed-requires-clause-samples : goal.restore_reversed-requires-clause-samples
 restore_reversed-requires-clause-samples g c =

@@ -8,7 +8,8 @@ returns-in_err-header-clause-err g c =
     rw (is, same) (laws.stops_unopened c.args.direction _ _ _ _ c.in_err-header.ensures.err)
 
 pub returns-in-Some-clause-err : goal.returns-in-Some-clause-err
-returns-in-Some-clause-err g c = laws.stops_too_long c.args.direction _ _ _ _ c.in_ok-header.ensures.ok _ c.in-Some.ensures.some
+returns-in-Some-clause-err g c = laws.stops_too_long c.args.direction _ _ _ _ c.in_ok-header.ensures.ok _
+    c.in-Some.ensures.some
 
 pub returns-in-Err-clause-err : goal.returns-in-Err-clause-err
 returns-in-Err-clause-err g c =

@@ -1,4 +1,5 @@
-use Rattle.std.proofs.Common.{◌≡◌, ◌∙◌, ap, sym, ◌+◌, ◌-◌, ◌*◌, ◌/◌, ◌<◌, ◌≤◌, length, take, drop, arith, length-take, length-drop}
+use Rattle.std.proofs.Common.{◌≡◌, ◌∙◌, ap, sym, ◌+◌, ◌-◌, ◌*◌, ◌/◌, ◌<◌, ◌≤◌, length, take, drop, arith, length-take}
+use Rattle.std.proofs.Common.{length-drop}
 use Rattle.std.proofs.lemmas.List.{take_all}
 use Rattle.dsp_au.specs.Exchange.{exchanged_first, exchanged_sample}
 use Rattle.dsp_au.proofs.ExchangeLaws as laws
@@ -16,10 +17,20 @@ loop-i-preserved c =
     let room : length old / w * w ≤ length old = omega (arith, c.requires.whole) in
     let below : i < length old / w = omega arith in
     let bound = laws.sample_within i (length old / w) w below in
-    let long : length out ≡ w = omega (arith, c.exchange_sample.auto.bytes, length-take (i * w + w - i * w) (drop (i * w) now), length-drop (i * w) now, bound, room, same) in
-    let is : out ≡ exchanged_sample (take w (drop (i * w) now)) = c.exchange_sample.ensures ∙ ap (λ n. exchanged_sample (take n (drop (i * w) now))) size in
+    let long : length out ≡ w = omega (
+      arith,
+      c.exchange_sample.auto.bytes,
+      length-take (i * w + w - i * w) (drop (i * w) now),
+      length-drop (i * w) now,
+      bound,
+      room,
+      same,
+    ) in
+    let is : out ≡ exchanged_sample (take w (drop (i * w) now)) = c.exchange_sample.ensures ∙
+    ap (λ n. exchanged_sample (take n (drop (i * w) now))) size in
     rw size (record {
-      front = laws.one_more_sample i w (length old / w) old now out below same room c.loop-i.invariant.front c.loop-i.invariant.rest long is;
+      front = laws.one_more_sample i w (length old / w) old now out below same room c.loop-i.invariant.front
+          c.loop-i.invariant.rest long is;
       rest = laws.rest_stays i w (length old / w) old now out below same room c.loop-i.invariant.rest long;
     })
 
@@ -29,4 +40,5 @@ returns c =
     let old = c.args.bytes.now in
     let end : c.loop-i.i ≡ length old / w = omega arith in
     let all : length c.loop-i.bytes ≤ c.loop-i.i * w = rw end (omega (arith, c.requires.whole, c.loop-i.auto.bytes)) in
-    sym (take_all (c.loop-i.i * w) c.loop-i.bytes all) ∙ c.loop-i.invariant.front ∙ ap (λ n. exchanged_first n w old) end
+    sym (take_all (c.loop-i.i * w) c.loop-i.bytes all) ∙ c.loop-i.invariant.front ∙
+    ap (λ n. exchanged_first n w old) end

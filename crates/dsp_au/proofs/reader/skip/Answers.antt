@@ -8,7 +8,12 @@ returns-in-Ok-clause-err g c =
       bytes = skipped.bytes;
       short = omega (arith, skipped.long, c.if-came-count.true);
       gave = skipped.gave;
-      missed = (refl, ap (λ n. c.args.taken + n) (sym skipped.long), skipped.end c.if-came-count.true, skipped.no_fault);
+      missed = (
+        refl,
+        ap (λ n. c.args.taken + n) (sym skipped.long),
+        skipped.end c.if-came-count.true,
+        skipped.no_fault,
+      );
     }
 
 pub returns-in-Ok-2-clause-ok : goal.returns-in-Ok-2-clause-ok

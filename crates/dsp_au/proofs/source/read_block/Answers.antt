@@ -9,13 +9,16 @@ returns-in-Ok-clause-ok g c =
 pub returns-in-Err-Short-clause-err : goal.returns-in-Err-Short-clause-err
 returns-in-Err-Short-clause-err g c =
     rw (short_is _ _ _ _ _ c.short.ensures)
-    (block_unread c.args.direction c.args.header _ _ _ _ c.frame_bytes.ensures _ (cause.Short c.in-Err-Short.declared c.in-Err-Short.got c.in-Err-Short.offset)
+    (block_unread c.args.direction c.args.header _ _ _ _ c.frame_bytes.ensures _
+    (cause.Short c.in-Err-Short.declared c.in-Err-Short.got c.in-Err-Short.offset)
     (rw c.in-Err-Short.field-0-is at c.in-Err-Short.ensures.err))
 
 pub returns-in-Err-Failed-clause-err : goal.returns-in-Err-Failed-clause-err
 returns-in-Err-Failed-clause-err g c =
-    block_unread c.args.direction c.args.header _ _ _ _ c.frame_bytes.ensures _ cause.Failed (rw c.in-Err-Failed.field-0-is at c.in-Err-Failed.ensures.err)
+    block_unread c.args.direction c.args.header _ _ _ _ c.frame_bytes.ensures _ cause.Failed
+    (rw c.in-Err-Failed.field-0-is at c.in-Err-Failed.ensures.err)
 
 pub returns-in-Err-LimitReached-clause-err : goal.returns-in-Err-LimitReached-clause-err
 returns-in-Err-LimitReached-clause-err g c =
-    block_unread c.args.direction c.args.header _ _ _ _ c.frame_bytes.ensures _ cause.LimitReached (rw c.in-Err-LimitReached.field-0-is at c.in-Err-LimitReached.ensures.err)
+    block_unread c.args.direction c.args.header _ _ _ _ c.frame_bytes.ensures _ cause.LimitReached
+    (rw c.in-Err-LimitReached.field-0-is at c.in-Err-LimitReached.ensures.err)

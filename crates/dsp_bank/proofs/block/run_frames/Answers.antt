@@ -2,7 +2,7 @@ use Rattle.std.proofs.Common.{◌≡◌, ◌∙◌, ap, sym, subst, ◌+◌, ◌
 use borrow.Rule.Slice.PartMut.{put_mid}
 use Rattle.dsp_defs.specs.Streaming.{GoesOn}
 use Rattle.dsp_defs.specs.declared.script.Block.TheVariants.{Biquad}
-use Rattle.dsp_stage.specs.Channels.{numbers_in, samples_in}
+use Rattle.dsp_unit.specs.Channels.{numbers_in, samples_in}
 use Rattle.dsp_biquad.specs.Sections.{block_acts}
 use Rattle.dsp_bank.specs.Rows.{channel_after}
 use Rattle.dsp_bank.proofs.BlockFrames.{taken-frames, given-frames}

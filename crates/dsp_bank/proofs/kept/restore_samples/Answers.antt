@@ -2,7 +2,7 @@ use Rattle.std.proofs.Common.{◌∙◌, ap, sym, subst, ◌<◌, ◌∷◌, [],
 use Rattle.std.proofs.lemmas.List.{take_more, take_more_set, map-append}
 use Rattle.dsp_defs.specs.Formats.{word}
 use Rattle.dsp_defs.specs.Kept.{Each, IsOfKind, in_words}
-use Rattle.dsp_stage.proofs.ChannelKept.{length-words}
+use Rattle.dsp_unit.proofs.ChannelKept.{length-words}
 use Rattle.dsp_bank.proofs.kept.restore_samples.Goals as goal
 
 pub sample_at-requires-clause-inside : goal.sample_at-requires-clause-inside

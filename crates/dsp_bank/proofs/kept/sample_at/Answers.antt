@@ -7,8 +7,8 @@ use Rattle.dsp_defs.specs.Signal.{sample}
 use Rattle.dsp_defs.specs.declared.format.Fmt.{Fmt}
 use Rattle.dsp_defs.specs.declared.format.Fmt.TheVariants.{Q7, Q15, Q31}
 use Rattle.dsp_defs.specs.Kept.{Each, IsOfKind, in_words}
-use Rattle.dsp_stage.proofs.ChannelKept.{fit-words}
-use Rattle.dsp_unit.proofs.Slices.{narrow-word}
+use Rattle.dsp_unit.proofs.ChannelKept.{fit-words}
+use Rattle.dsp_filter.proofs.Slices.{narrow-word}
 use Rattle.dsp_bank.proofs.kept.sample_at.Goals as goal
 
 kept-fits : (format : Fmt) (numbers : List ℤ) (k : ℕ) → Each IsOfKind (in_words (word format) (length numbers)) numbers

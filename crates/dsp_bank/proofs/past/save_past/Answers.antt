@@ -2,7 +2,7 @@ use Rattle.std.proofs.Common.{◌≡◌, ◌≢◌, ◌∷◌, [], ◌∙◌, �
 use Rattle.std.proofs.lemmas.Nat.{mul-add-lt}
 use Rattle.std.proofs.lemmas.List.{length-map}
 use Rattle.dsp_defs.proofs.SumLemmas.{sample-map}
-use Rattle.dsp_unit.proofs.Places.{same-frame, same-channel}
+use Rattle.dsp_filter.proofs.Places.{same-frame, same-channel}
 use Rattle.dsp_bank.proofs.Groups.{group-written, group-other}
 use Rattle.dsp_bank.proofs.past.save_past.Goals as goal
 

@@ -1,5 +1,5 @@
 use Rattle.std.proofs.Common.{map}
-use Rattle.dsp_lanes.specs.Sections.{five_of}
+use Rattle.dsp_sections.specs.Sections.{five_of}
 use Rattle.dsp_bank.proofs.RowsGo.{section-goes}
 use Rattle.dsp_bank.proofs.sections.run_section.Goals as goal
 

@@ -7,7 +7,10 @@ use Rattle.dsp_biquad.proofs.cascade.sections_of.Given as goal
 abbrev pub invariant-loop-k : goal.invariant-loop-k
 invariant-loop-k g l = record {
   count : length l.sections.items ≡ l.k;
-  acts : then (chained (map g.S.Machine.acts l.sections.items)) (block_acts g.T.Sample.format (g.S.CascadeSection.block l.post_shift (drop (l.k * g.S.CascadeSection.SIZE) (map g.T.Sample.number l.coefficients)))) ≡ block_acts g.T.Sample.format (g.S.CascadeSection.block l.post_shift (map g.T.Sample.number l.coefficients));
+  acts : then (chained (map g.S.Machine.acts l.sections.items))
+      (block_acts g.T.Sample.format (g.S.CascadeSection.block l.post_shift
+      (drop (l.k * g.S.CascadeSection.SIZE) (map g.T.Sample.number l.coefficients)))) ≡ block_acts g.T.Sample.format
+      (g.S.CascadeSection.block l.post_shift (map g.T.Sample.number l.coefficients));
   kept : flat_map g.S.Machine.kept l.sections.items ≡ (chained (map g.S.Machine.acts l.sections.items)).keeps [];
   quiet : (chained (map g.S.Machine.acts l.sections.items)).gives [] ≡ [];
 }

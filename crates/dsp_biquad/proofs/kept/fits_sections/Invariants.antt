@@ -1,5 +1,5 @@
 use Rattle.std.proofs.Common.{ℕ, ◌<◌}
-use Rattle.dsp_stage.specs.Channels.{numbers_in}
+use Rattle.dsp_unit.specs.Channels.{numbers_in}
 use Rattle.dsp_defs.specs.Kept.{Each, IsOfKind}
 use Rattle.dsp_biquad.proofs.kept.fits_sections.Given as goal
 

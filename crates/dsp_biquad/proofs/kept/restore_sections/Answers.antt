@@ -9,7 +9,9 @@ restore-requires g c =
     let kinds = g.S.CascadeSection.kinds in
     let numbers = c.args.numbers.now in
     let n = length c.args.sections.now in
-    subst (λ l. Each IsOfKind kinds l) (sym (piece-is numbers c.loop-k.k)) (each-section kinds g.met.S.CascadeSection.four_kinds n numbers c.requires.count c.requires.fits c.loop-k.k c.loop-k-test.true)
+    subst (λ l. Each IsOfKind kinds l) (sym (piece-is numbers c.loop-k.k))
+    (each-section kinds g.met.S.CascadeSection.four_kinds n numbers c.requires.count c.requires.fits c.loop-k.k
+    c.loop-k-test.true)
 
 pub loop-k-preserved : goal.loop-k-preserved
 loop-k-preserved g c =
@@ -20,7 +22,8 @@ loop-k-preserved g c =
     let read = c.index-sections-k in
     record {
       acts = map-set_same acts sections k s read.result c.restore.ensures.acts ∙ c.loop-k.invariant.acts;
-      kept = restored-more g.S.Machine.kept sections s k c.args.numbers.now (omega arith) (c.restore.ensures.kept ∙ piece-is c.args.numbers.now k) c.loop-k.invariant.kept;
+      kept = restored-more g.S.Machine.kept sections s k c.args.numbers.now (omega arith)
+          (c.restore.ensures.kept ∙ piece-is c.args.numbers.now k) c.loop-k.invariant.kept;
     }
 
 pub returns-clause-kept : goal.returns-clause-kept

@@ -1,9 +1,10 @@
-use Rattle.std.proofs.Common.{◌≡◌, ◌∙◌, ap, ℕ, zero, suc, ◌<◌, ℤ, pos, List, [], ◌∷◌, length, get_or, SFits, to_z, of_z, w32, w64, arith}
+use Rattle.std.proofs.Common.{◌≡◌, ◌∙◌, ap, ℕ, zero, suc, ◌<◌, ℤ, pos, List, [], ◌∷◌, length, get_or, SFits, to_z}
+use Rattle.std.proofs.Common.{of_z, w32, w64, arith}
 use Rattle.std.specs.Int.{int_wrap}
 use Rattle.std.proofs.lemmas.Int.{to_z-of_z}
 use Rattle.std.proofs.lemmas.Simd.{Each1-get_or}
 use Rattle.dsp_defs.specs.Signal.{sample}
-use Rattle.dsp_lanes.proofs.FourSections.{back}
+use Rattle.dsp_sections.proofs.FourSections.{back}
 use Rattle.dsp_biquad.proofs.lane_numbers.number_in.Goals as goal
 
 lane-read : (xs : List ℤ) (i : ℕ) (v : ℤ) → i < length xs → v ≡ get_or xs i v → v ≡ sample xs i

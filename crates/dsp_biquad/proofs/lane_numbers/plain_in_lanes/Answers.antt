@@ -1,6 +1,6 @@
 use Rattle.std.proofs.Common.{◌∙◌, refl, [], ◌∷◌, w64}
 use Rattle.dsp_sat.proofs.Words.{shift_down-is}
-use Rattle.dsp_lanes.proofs.FourSections.{back}
+use Rattle.dsp_sections.proofs.FourSections.{back}
 use Rattle.dsp_biquad.proofs.lane_numbers.plain_in_lanes.Goals as goal
 
 pub returns-clause-value : goal.returns-clause-value
@@ -11,4 +11,5 @@ returns-clause-value c =
     let second = shift_down-is w64 a.second a.second p p c.ranges.second refl refl in
     let third = shift_down-is w64 a.third a.third p p c.ranges.third refl refl in
     let fourth = shift_down-is w64 a.fourth a.fourth p p c.ranges.fourth refl refl in
-    back c.in_lanes.result c.in_lanes.ensures.fit ∙ c.in_lanes.ensures.value ∙ (λ i. first i ∷ second i ∷ third i ∷ fourth i ∷ [])
+    back c.in_lanes.result c.in_lanes.ensures.fit ∙ c.in_lanes.ensures.value ∙
+    (λ i. first i ∷ second i ∷ third i ∷ fourth i ∷ [])

@@ -13,11 +13,13 @@ returns-clause-value g c =
     let n = c.number in
     let z = g.T.Sample.number c.args.coefficient in
     let f = word-in-32 format n.result n.ensures.fits in
-    shifted_up c.from.result z c.args.post_shift (record { sfits = c.from.type_inv }) (c.from.ensures ∙ to_z-of_z w32 n.result f ∙ n.ensures.value)
+    shifted_up c.from.result z c.args.post_shift (record { sfits = c.from.type_inv })
+    (c.from.ensures ∙ to_z-of_z w32 n.result f ∙ n.ensures.value)
     (subst (SFits w32) n.ensures.value f) (shift-few format c.args.post_shift c.requires)
 
 pub returns-clause-fits : goal.returns-clause-fits
 returns-clause-fits g c =
     let format = g.T.Sample.format in
     let z = g.T.Sample.number c.args.coefficient in
-    is_scaled format c.args.post_shift z _ (subst (SFits (word format)) c.number.ensures.value c.number.ensures.fits) (returns-clause-value g c)
+    is_scaled format c.args.post_shift z _ (subst (SFits (word format)) c.number.ensures.value c.number.ensures.fits)
+    (returns-clause-value g c)

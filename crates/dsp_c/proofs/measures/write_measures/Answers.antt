@@ -10,7 +10,12 @@ loop-index-preserved g c =
     let i = c.loop-index.index in
     let all = measured c.args.session.now in
     let rows = c.loop-index.measures in
-    let within : i < length rows = omega (arith, c.loop-index-test.true, c.min-count.ensures, c.loop-index.auto.measures) in (
+    let within : i < length rows = omega (
+      arith,
+      c.loop-index-test.true,
+      c.min-count.ensures,
+      c.loop-index.auto.measures,
+    ) in (
       take_more_set rows i c.row_of.result within
           ∙ (λ j. c.loop-index.invariant.0 j ++ c.row_of.ensures j ∷ [])
           ∙ sym (map-append row_of (take i all) (c.measure.result ∷ []))

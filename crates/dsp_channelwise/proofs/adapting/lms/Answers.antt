@@ -1,4 +1,5 @@
-use Rattle.std.proofs.Common.{◌≡◌, ◌∙◌, ap, sym, ◌+◌, ◌*◌, ◌<◌, ◌≤◌, pos, get_or, length, map, reverse, take, take_all, to_z, of_z, arith}
+use Rattle.std.proofs.Common.{◌≡◌, ◌∙◌, ap, sym, ◌+◌, ◌*◌, ◌<◌, ◌≤◌, pos, get_or, length, map, reverse, take}
+use Rattle.std.proofs.Common.{take_all, to_z, of_z, arith}
 use Rattle.std.specs.Prelude.{FitsSigned}
 use Rattle.std.specs.Int.{w32}
 use Rattle.std.proofs.lemmas.Int.{to_z-of_z}
@@ -7,7 +8,8 @@ use Rattle.dsp_defs.specs.Formats.{word}
 use Rattle.dsp_defs.specs.Signal.{outputs}
 use Rattle.dsp_exact.proofs.Pushed.{all-more, cost-more}
 use Rattle.dsp_channelwise.specs.Adapting.{adapted_of, pairs_of}
-use Rattle.dsp_channelwise.proofs.AdaptedStates.{fits-32, inputs-so-far, length-adapted, length-pairs, reference-so-far, weights-more}
+use Rattle.dsp_channelwise.proofs.AdaptedStates.{fits-32, inputs-so-far, length-adapted, length-pairs}
+use Rattle.dsp_channelwise.proofs.AdaptedStates.{reference-so-far, weights-more}
 use Rattle.dsp_channelwise.proofs.KeptStates.{kept-more, cost-within}
 use Rattle.dsp_channelwise.proofs.adapting.lms.Goals as goal
 

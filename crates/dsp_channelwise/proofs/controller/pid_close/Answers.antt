@@ -5,7 +5,8 @@ use Rattle.dsp_defs.specs.Numbers.{◌>>◌, saturate, wrap}
 use Rattle.dsp_defs.specs.Adaptive.{pid_close}
 use Rattle.dsp_defs.specs.declared.format.Fmt.{Fmt}
 use Rattle.dsp_defs.specs.declared.format.Fmt.TheVariants.{Q7, Q15, Q31}
-use Rattle.dsp_exact.proofs.ExactSums.{exact-held, exact-from-32, exact-from-64, exact-sum, exact-shift, exact-times-right}
+use Rattle.dsp_exact.proofs.ExactSums.{exact-held, exact-from-32, exact-from-64, exact-sum, exact-shift}
+use Rattle.dsp_exact.proofs.ExactSums.{exact-times-right}
 use Rattle.dsp_channelwise.proofs.controller.pid_close.Goals as goal
 
 narrow : (f : Fmt) (s y1 : ℤ) → f ≢ Q31 → saturate 16 (s +ℤ y1 *ℤ pos 32768 >> 15) ≡ pid_close f s y1

@@ -10,10 +10,15 @@ returns-clause-values g c =
     let all = c.loop-k.invariant in
     let end : c.loop-k.k ≡ length c.args.x.now = omega arith in
     let value : (n : ℕ) → n < 2 * c.max-m.result - 1 → sample c.loop-k.sums.items n
-    ≡ sum_below (length c.args.x.now) (λ k. sample c.args.x.now k *ℤ delayed c.args.taps.now (k + c.max-m.result - 1) n) =
-    λ n inside. all.value n inside ∙ ap (λ count. sum_below count (λ k. sample c.args.x.now k *ℤ delayed c.args.taps.now (k + c.max-m.result - 1) n)) end in
-    let count : c.len.result ≡ length c.loop-k.sums.items = c.len.ensures ∙ sym c.as_slice.ensures.len ∙ ap length c.as_slice.ensures.value in
-    let is = correlation-is c.args.format c.args.taps.now c.args.x.now c.loop-k.sums.items c.max-m.result (sym c.is_empty.ensures ∙ c.if-is_empty.false)
+    ≡ sum_below (length c.args.x.now) (λ k. sample c.args.x.now k *ℤ delayed c.args.taps.now (k + c.max-m.result - 1)
+    n) =
+    λ n inside. all.value n inside ∙ ap (λ count. sum_below count
+    (λ k. sample c.args.x.now k *ℤ delayed c.args.taps.now (k + c.max-m.result - 1) n)) end in
+    let count : c.len.result ≡ length c.loop-k.sums.items = c.len.ensures ∙ sym c.as_slice.ensures.len ∙
+    ap length c.as_slice.ensures.value in
+    let is = correlation-is c.args.format c.args.taps.now c.args.x.now c.loop-k.sums.items c.max-m.result
+    (sym c.is_empty.ensures ∙ c.if-is_empty.false)
     c.max-m.ensures all.long value in
     IfOk-weaker c.values.result _ _ (λ y given. given
-    ∙ (λ i. values (count i) (λ n. close c.args.format (sample (c.as_slice.ensures.value i) n))) ∙ is) c.values.ensures.values
+    ∙ (λ i. values (count i) (λ n. close c.args.format (sample (c.as_slice.ensures.value i) n))) ∙ is)
+    c.values.ensures.values

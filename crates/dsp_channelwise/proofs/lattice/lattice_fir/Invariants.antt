@@ -4,11 +4,11 @@ use Rattle.std.specs.Int.{w16}
 use Rattle.dsp_defs.specs.Lattice.{lattice_stage}
 use Rattle.dsp_channelwise.proofs.lattice.lattice_fir.Given as goal
 
--- the stages so far
-abbrev pub invariant-loop-stage : goal.invariant-loop-stage
-invariant-loop-stage g l = record {
-  values : l.pairs.items ≡ fold lattice_stage (map (λ (a : ℤ). (a, a)) l.x) (take l.stage-index l.k);
+-- the sections so far
+abbrev pub invariant-loop-section : goal.invariant-loop-section
+invariant-loop-section g l = record {
+  values : l.pairs.items ≡ fold lattice_stage (map (λ (a : ℤ). (a, a)) l.x) (take l.section-index l.k);
   long : length l.pairs.items ≡ length l.x;
   fits : All (λ (w : ℤ × ℤ). FitsSigned w16 w.0 × FitsSigned w16 w.1) l.pairs.items;
-  products : l.steps.multiplies ≤ l.initial.steps.multiplies + l.stage-index * (length l.x * 2);
+  products : l.steps.multiplies ≤ l.initial.steps.multiplies + l.section-index * (length l.x * 2);
 }

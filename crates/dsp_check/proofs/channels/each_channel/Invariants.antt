@@ -9,7 +9,9 @@ use Rattle.dsp_check.proofs.channels.each_channel.Given as goal
 abbrev pub invariant-loop-c : goal.invariant-loop-c
 invariant-loop-c g l = record {
   count : length l.channels.items ≡ l.c;
-  each : IfSome (whole_channel l.flow.format l.block) (λ f. (k : ℕ) → k < l.c → get_or l.channels.items k [] ≡ f (get_or l.x k []));
+  each : IfSome (whole_channel l.flow.format l.block) (λ f. (k : ℕ) → k < l.c →
+      get_or l.channels.items k [] ≡ f (get_or l.x k []));
   format : InFormat l.flow.format l.channels.items;
-  products : l.steps.multiplies ≤ l.initial.steps.multiplies + l.c * whole_block_cost l.flow.format 1 l.block (frame_count l.x);
+  products : l.steps.multiplies ≤ l.initial.steps.multiplies + l.c * whole_block_cost l.flow.format 1 l.block
+      (frame_count l.x);
 }

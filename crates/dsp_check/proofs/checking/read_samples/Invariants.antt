@@ -6,7 +6,8 @@ use Rattle.dsp_check.proofs.checking.read_samples.Given as goal
 -- the bytes so far are the first of the samples
 abbrev pub invariant-reading : goal.invariant-reading
 invariant-reading g l = record {
-  so_far : TakenSoFar l.script l.header (bytes_past_limit l.script l.header) l.bytes.items (g.S.Source.state l.fn.input) (g.S.Source.state l.input);
+  so_far : TakenSoFar l.script l.header (bytes_past_limit l.script l.header) l.bytes.items
+      (g.S.Source.state l.fn.input) (g.S.Source.state l.input);
   most_is : l.most ≡ bytes_past_limit l.script l.header;
 }
 

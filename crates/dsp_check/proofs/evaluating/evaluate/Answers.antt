@@ -14,7 +14,12 @@ loop-block-preserved g c =
     let items = c.as_slice-block-items.result.now in
     let more = drop (c.loop-block.block-index + 1) items in
     let rest = rest_from items c.loop-block.block-index block c.loop-block-test.true c.block-item.is in
-    let here : Evaluates script signal before c.loop-block.flow (block ∷ more) c.loop-block.y c.loop-block.steps.multiplies =
-    subst (λ (blocks : List Block). Evaluates script signal before c.loop-block.flow blocks c.loop-block.y c.loop-block.steps.multiplies) rest c.loop-block.invariant in
-    subst (λ (flow : Flow). Evaluates script signal before flow more c.in_ok-y-2.y c.whole.new.steps.multiplies) (sym c.after-flow.ensures)
-    (goes-on script signal before c.loop-block.flow block more c.loop-block.y c.in_ok-y-2.y c.loop-block.steps.multiplies c.whole.new.steps.multiplies here c.in_ok-y-2.ensures.given c.in_ok-y-2.ensures.products)
+    let here : Evaluates script signal before c.loop-block.flow (block ∷ more) c.loop-block.y
+    c.loop-block.steps.multiplies =
+    subst (λ (blocks : List Block). Evaluates script signal before c.loop-block.flow blocks c.loop-block.y
+    c.loop-block.steps.multiplies) rest c.loop-block.invariant in
+    subst (λ (flow : Flow). Evaluates script signal before flow more c.in_ok-y-2.y c.whole.new.steps.multiplies)
+    (sym c.after-flow.ensures)
+    (goes-on script signal before c.loop-block.flow block more c.loop-block.y c.in_ok-y-2.y
+    c.loop-block.steps.multiplies c.whole.new.steps.multiplies here c.in_ok-y-2.ensures.given
+    c.in_ok-y-2.ensures.products)

@@ -10,7 +10,8 @@ whole_frames-n-requires-clause-group c =
     let n = c.loop-block.n in
     let flow = c.loop-block.flow in
     let more = drop (c.loop-block.block-index + 1) c.as_slice-block-items.result.now in
-    let rest = rest_from c.as_slice-block-items.result.now c.loop-block.block-index b c.loop-block-test.true c.block-item.is in
+    let rest = rest_from c.as_slice-block-items.result.now c.loop-block.block-index b c.loop-block-test.true
+    c.block-item.is in
     let p : IsPlaced flow (b ∷ more) = rw rest at c.loop-block.invariant.placed in
     group_here flow b p.chain.0
 
@@ -20,7 +21,8 @@ whole_frames-n-requires-clause-few c =
     let n = c.loop-block.n in
     let flow = c.loop-block.flow in
     let more = drop (c.loop-block.block-index + 1) c.as_slice-block-items.result.now in
-    let rest = rest_from c.as_slice-block-items.result.now c.loop-block.block-index b c.loop-block-test.true c.block-item.is in
+    let rest = rest_from c.as_slice-block-items.result.now c.loop-block.block-index b c.loop-block-test.true
+    c.block-item.is in
     let p : IsPlaced flow (b ∷ more) = rw rest at c.loop-block.invariant.placed in
     let few : n * flow.channels ≤ MAX_CHECKED = rw c.from.ensures at c.if-samples.false in
     let small = whole-few flow b n p.chain.0 (few_frames flow.channels n p.channels.0 few) in
@@ -32,7 +34,8 @@ loop-block-preserved c =
     let n = c.loop-block.n in
     let flow = c.loop-block.flow in
     let more = drop (c.loop-block.block-index + 1) c.as_slice-block-items.result.now in
-    let rest = rest_from c.as_slice-block-items.result.now c.loop-block.block-index b c.loop-block-test.true c.block-item.is in
+    let rest = rest_from c.as_slice-block-items.result.now c.loop-block.block-index b c.loop-block-test.true
+    c.block-item.is in
     let p : IsPlaced flow (b ∷ more) = rw rest at c.loop-block.invariant.placed in
     let few : n * flow.channels ≤ MAX_CHECKED = rw c.from.ensures at c.if-samples.false in
     let small = whole-few flow b n p.chain.0 (few_frames flow.channels n p.channels.0 few) in

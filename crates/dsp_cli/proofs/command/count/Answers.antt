@@ -1,4 +1,5 @@
-use Rattle.std.proofs.Common.{rules, ◌≡◌, ◌≢◌, ℕ, ◌^◌, ◌<◌, ◌≤◌, length, true, List, [], ◌∷◌, get_or, Result, Ok, Err, arith}
+use Rattle.std.proofs.Common.{rules, ◌≡◌, ◌≢◌, ℕ, ◌^◌, ◌<◌, ◌≤◌, length, true, List, [], ◌∷◌, get_or, Result, Ok, Err}
+use Rattle.std.proofs.Common.{arith}
 use Rattle.std.specs.Char.{is_ascii_digit}
 use Rattle.std.specs.List.{list_all}
 use Rattle.std.specs.Result.{OkIff, result_ok}
@@ -15,8 +16,10 @@ no_sign : (word : List ℕ) → list_all is_ascii_digit word ≡ true → get_or
 no_sign [] digits = grind (arith, nat_tests)
 no_sign (byte ∷ word) digits = grind (arith, nat_tests)
 
-counted : {E : Type 0} (word : List ℕ) (parsed : Result ℕ E) → list_all is_ascii_digit word ≡ true → 1 ≤ length word → length word ≤ 10
-    → OkIff parsed ((list_all is_ascii_digit word ≡ true) × (0 < length word) × (digits_value 10 word < 2 ^ 32)) (digits_value 10 word)
+counted : {E : Type 0} (word : List ℕ) (parsed : Result ℕ E) → list_all is_ascii_digit word ≡ true → 1 ≤ length word →
+    length word ≤ 10
+    → OkIff parsed ((list_all is_ascii_digit word ≡ true) × (0 < length word) × (digits_value 10 word < 2 ^ 32))
+    (digits_value 10 word)
     → result_ok parsed ≡ count_of word
 counted word (Ok n) digits some short parses = grind (arith, nat_tests)
 counted word (Err e) digits some short parses = grind (arith, nat_tests)

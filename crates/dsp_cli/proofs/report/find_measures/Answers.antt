@@ -9,7 +9,8 @@ unreachable-requires g c =
     let i = c.loop-index.index in
     let all = measured c.args.session.now in
     let within : i < length all = omega (arith, c.loop-index-test.true, c.measures-index-end.ensures.count) in
-    let size : length c.loop-index.measures.items ≡ i = ap length c.loop-index.invariant.0 ∙ length-take-le i all (omega (arith, within)) in
+    let size : length c.loop-index.measures.items ≡ i = ap length c.loop-index.invariant.0 ∙
+    length-take-le i all (omega (arith, within)) in
     let full : vec_capacity c.loop-index.measures ≤ vec_len c.loop-index.measures = c.in_default.ensures.full in
     omega (arith, full, c.loop-index.invariant.1, size, within)
 
@@ -17,6 +18,7 @@ pub loop-index-preserved : goal.loop-index-preserved
 loop-index-preserved g c =
     let i = c.loop-index.index in
     let all = measured c.args.session.now in (
-      c.in-Ok.ensures.items ∙ ap (λ l. l ++ c.measure.result ∷ []) c.loop-index.invariant.0 ∙ found-more all i (i + 1) c.measure.result (omega arith) c.measure.ensures,
+      c.in-Ok.ensures.items ∙ ap (λ l. l ++ c.measure.result ∷ []) c.loop-index.invariant.0 ∙
+          found-more all i (i + 1) c.measure.result (omega arith) c.measure.ensures,
       omega (arith, c.loop-index.invariant.1, c.in-Ok.ensures.capacity),
     )

@@ -18,7 +18,8 @@ none (Some m) script is = absurd cc
 none None script is = sym (ap (λ o. unwrap_or o (default_block script.input.channels script.blocks)) is)
 
 pub returns-in-Some : goal.returns-in-Some
-returns-in-Some c = c.from.ensures ∙ some c.args.named c.args.script.now c.in-Some.frames (sym c.or.ensures ∙ c.in-Some.is)
+returns-in-Some c = c.from.ensures ∙ some c.args.named c.args.script.now c.in-Some.frames
+    (sym c.or.ensures ∙ c.in-Some.is)
 
 pub returns-in-None : goal.returns-in-None
 returns-in-None c = c.default_block.ensures ∙ none c.args.named c.args.script.now (sym c.or.ensures ∙ c.in-None.is)

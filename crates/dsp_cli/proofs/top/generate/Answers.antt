@@ -15,7 +15,8 @@ returns-clause-ok g c =
     let did = λ (summary : Summary) (s : SourceState).
     Ran None false c.args.script summary s now sink after c.args.steps.now c.run_script.new.steps in
     let made = ap generation_state c.new-input.ensures in
-    IfOk-weaker c.run_script.result _ _ (λ summary ran. record { now = now; clean = refl; ran = subst (did summary) made ran })
+    IfOk-weaker c.run_script.result _ _ (λ summary ran. record
+    { now = now; clean = refl; ran = subst (did summary) made ran })
     c.run_script.ensures.ok
 
 pub returns-clause-err : goal.returns-clause-err
@@ -26,5 +27,6 @@ returns-clause-err g c =
     let did = λ (fault : Fault) (s : SourceState).
     FailsToRun fault None false c.args.script s now sink after c.args.steps.now c.run_script.new.steps in
     let made = ap generation_state c.new-input.ensures in
-    IfErr-weaker c.run_script.result _ _ (λ fault fails. record { now = now; clean = refl; fails = subst (did fault) made fails })
+    IfErr-weaker c.run_script.result _ _ (λ fault fails. record
+    { now = now; clean = refl; fails = subst (did fault) made fails })
     c.run_script.ensures.err

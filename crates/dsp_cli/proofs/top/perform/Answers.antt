@@ -3,12 +3,16 @@ use Rattle.std.proofs.lemmas.Result.{err_from_is_err_and}
 use Rattle.dsp_cli.specs.Call.{Printed, Turned}
 use Rattle.dsp_cli.specs.Run.{HasSource}
 use Rattle.dsp_cli.proofs.WordLaws.{gen_makes_few}
-use Rattle.dsp_cli.proofs.PerformLaws.{run_went, run_stops, gen_went, gen_stops, check_went, check_stops, first_ran, first_stops, rest_ran, rest_stops}
+use Rattle.dsp_cli.proofs.PerformLaws.{run_went, run_stops, gen_went, gen_stops, check_went, check_stops, first_ran}
+use Rattle.dsp_cli.proofs.PerformLaws.{first_stops, rest_ran, rest_stops}
 use Rattle.dsp_cli.proofs.top.perform.Goals as goal
 
 pub returns-in_default-clause-err : goal.returns-in_default-clause-err
-returns-in_default-clause-err g c =
-    ((sym c.command.ensures ∙ c.in_default.is, refl), record { input_same = refl; output_same = refl; other_same = refl; counts_same = refl })
+returns-in_default-clause-err g c = (
+  (sym c.command.ensures ∙ c.in_default.is, refl),
+  record
+      { input_same = refl; output_same = refl; other_same = refl; counts_same = refl },
+)
 
 pub generate-requires-clause-few : goal.generate-requires-clause-few
 generate-requires-clause-few g c = gen_makes_few c.args.words.now _ _ (sym c.in-Some.ensures ∙ ap Some c.in-Gen.is)
@@ -41,56 +45,73 @@ returns-in-Ok-print-clause-ok g c =
     }
 
 pub returns-in-Print-clause-err : goal.returns-in-Print-clause-err
-returns-in-Print-clause-err g c =
-    (subst HasSource (sym (sym c.in-Some.ensures ∙ ap Some c.in-Print.is)) tt, record { input_same = refl; output_same = refl; other_same = refl; counts_same = refl })
+returns-in-Print-clause-err g c = (
+  subst HasSource (sym (sym c.in-Some.ensures ∙ ap Some c.in-Print.is)) tt,
+  record { input_same = refl; output_same = refl; other_same = refl; counts_same = refl },
+)
 
 pub returns-in-Run-clause-ok : goal.returns-in-Run-clause-ok
 returns-in-Run-clause-ok g c =
-    run_went _ _ _ _ _ _ _ _ _ _ _ c.in_ok-script-in-Run.ensures.ok _ _ (sym c.in-Some.ensures ∙ ap Some c.in-Run.is) _ c.in_ok-summary-in-Run.ensures.ok
+    run_went _ _ _ _ _ _ _ _ _ _ _ c.in_ok-script-in-Run.ensures.ok _ _ (sym c.in-Some.ensures ∙ ap Some c.in-Run.is)
+    _ c.in_ok-summary-in-Run.ensures.ok
 
 pub returns-in_err-summary-in-Run-clause-err : goal.returns-in_err-summary-in-Run-clause-err
 returns-in_err-summary-in-Run-clause-err g c =
-    let p = err_from_is_err_and c.from_residual-in_err-summary-in-Run.result c.from_residual-in_err-summary-in-Run.ensures.1 in
+    let p = err_from_is_err_and c.from_residual-in_err-summary-in-Run.result
+    c.from_residual-in_err-summary-in-Run.ensures.1 in
     rw (p.1, p.2)
-    (run_stops _ _ _ _ _ _ _ _ _ _ _ c.in_ok-script-in-Run.ensures.ok _ _ (sym c.in-Some.ensures ∙ ap Some c.in-Run.is) _ c.in_err-summary-in-Run.ensures.err)
+    (run_stops _ _ _ _ _ _ _ _ _ _ _ c.in_ok-script-in-Run.ensures.ok _ _
+    (sym c.in-Some.ensures ∙ ap Some c.in-Run.is) _ c.in_err-summary-in-Run.ensures.err)
 
 pub returns-in-Gen-clause-ok : goal.returns-in-Gen-clause-ok
 returns-in-Gen-clause-ok g c =
-    gen_went _ _ _ _ _ _ _ _ _ _ c.in_ok-script-in-Gen.ensures.ok _ _ (sym c.in-Some.ensures ∙ ap Some c.in-Gen.is) _ c.in_ok-summary-in-Gen.ensures.ok
+    gen_went _ _ _ _ _ _ _ _ _ _ c.in_ok-script-in-Gen.ensures.ok _ _ (sym c.in-Some.ensures ∙ ap Some c.in-Gen.is) _
+    c.in_ok-summary-in-Gen.ensures.ok
 
 pub returns-in_err-summary-in-Gen-clause-err : goal.returns-in_err-summary-in-Gen-clause-err
 returns-in_err-summary-in-Gen-clause-err g c =
-    let p = err_from_is_err_and c.from_residual-in_err-summary-in-Gen.result c.from_residual-in_err-summary-in-Gen.ensures.1 in
+    let p = err_from_is_err_and c.from_residual-in_err-summary-in-Gen.result
+    c.from_residual-in_err-summary-in-Gen.ensures.1 in
     rw (p.1, p.2)
-    (gen_stops _ _ _ _ _ _ _ _ _ _ c.in_ok-script-in-Gen.ensures.ok _ _ (sym c.in-Some.ensures ∙ ap Some c.in-Gen.is) _ c.in_err-summary-in-Gen.ensures.err)
+    (gen_stops _ _ _ _ _ _ _ _ _ _ c.in_ok-script-in-Gen.ensures.ok _ _ (sym c.in-Some.ensures ∙ ap Some c.in-Gen.is)
+    _ c.in_err-summary-in-Gen.ensures.err)
 
 pub returns-in-Stop-clause-ok : goal.returns-in-Stop-clause-ok
 returns-in-Stop-clause-ok g c =
-    first_ran _ _ _ _ _ _ _ _ _ _ _ c.in_ok-script-in-Stop.ensures.ok _ (sym c.in-Some.ensures ∙ ap Some c.in-Stop.is) _ c.in_ok-state-in-Stop.ensures.ok
+    first_ran _ _ _ _ _ _ _ _ _ _ _ c.in_ok-script-in-Stop.ensures.ok _ (sym c.in-Some.ensures ∙ ap Some c.in-Stop.is)
+    _ c.in_ok-state-in-Stop.ensures.ok
 
 pub returns-in_err-state-in-Stop-clause-err : goal.returns-in_err-state-in-Stop-clause-err
 returns-in_err-state-in-Stop-clause-err g c =
-    let p = err_from_is_err_and c.from_residual-in_err-state-in-Stop.result c.from_residual-in_err-state-in-Stop.ensures.1 in
+    let p = err_from_is_err_and c.from_residual-in_err-state-in-Stop.result
+    c.from_residual-in_err-state-in-Stop.ensures.1 in
     rw (p.1, p.2)
-    (first_stops _ _ _ _ _ _ _ _ _ _ _ c.in_ok-script-in-Stop.ensures.ok _ (sym c.in-Some.ensures ∙ ap Some c.in-Stop.is) _ c.in_err-state-in-Stop.ensures.err)
+    (first_stops _ _ _ _ _ _ _ _ _ _ _ c.in_ok-script-in-Stop.ensures.ok _
+    (sym c.in-Some.ensures ∙ ap Some c.in-Stop.is) _ c.in_err-state-in-Stop.ensures.err)
 
 pub returns-in-Go-clause-ok : goal.returns-in-Go-clause-ok
 returns-in-Go-clause-ok g c =
-    rest_ran _ _ _ _ _ _ _ _ _ _ _ c.in_ok-saved-in-Go.ensures.ok (sym c.in-Some.ensures ∙ ap Some c.in-Go.is) _ c.in_ok-summary-in-Go.ensures.ok
+    rest_ran _ _ _ _ _ _ _ _ _ _ _ c.in_ok-saved-in-Go.ensures.ok (sym c.in-Some.ensures ∙ ap Some c.in-Go.is) _
+    c.in_ok-summary-in-Go.ensures.ok
 
 pub returns-in_err-summary-in-Go-clause-err : goal.returns-in_err-summary-in-Go-clause-err
 returns-in_err-summary-in-Go-clause-err g c =
-    let p = err_from_is_err_and c.from_residual-in_err-summary-in-Go.result c.from_residual-in_err-summary-in-Go.ensures.1 in
+    let p = err_from_is_err_and c.from_residual-in_err-summary-in-Go.result
+    c.from_residual-in_err-summary-in-Go.ensures.1 in
     rw (p.1, p.2)
-    (rest_stops _ _ _ _ _ _ _ _ _ _ _ c.in_ok-saved-in-Go.ensures.ok (sym c.in-Some.ensures ∙ ap Some c.in-Go.is) _ c.in_err-summary-in-Go.ensures.err)
+    (rest_stops _ _ _ _ _ _ _ _ _ _ _ c.in_ok-saved-in-Go.ensures.ok (sym c.in-Some.ensures ∙ ap Some c.in-Go.is) _
+    c.in_err-summary-in-Go.ensures.err)
 
 pub returns-clause-ok : goal.returns-clause-ok
 returns-clause-ok g c =
     rw c.same_report.ensures
-    (check_went _ _ _ _ _ _ _ _ _ _ _ c.in_ok-script-in-Check.ensures.ok (sym c.in-Some.ensures ∙ ap Some c.in-Check.is) _ c.in_ok-size-in-Check.ensures.ok)
+    (check_went _ _ _ _ _ _ _ _ _ _ _ c.in_ok-script-in-Check.ensures.ok
+    (sym c.in-Some.ensures ∙ ap Some c.in-Check.is) _ c.in_ok-size-in-Check.ensures.ok)
 
 pub returns-in_err-size-in-Check-clause-err : goal.returns-in_err-size-in-Check-clause-err
 returns-in_err-size-in-Check-clause-err g c =
-    let p = err_from_is_err_and c.from_residual-in_err-size-in-Check.result c.from_residual-in_err-size-in-Check.ensures.1 in
+    let p = err_from_is_err_and c.from_residual-in_err-size-in-Check.result
+    c.from_residual-in_err-size-in-Check.ensures.1 in
     rw (p.1, p.2)
-    (check_stops _ _ _ _ _ _ _ _ _ _ _ c.in_ok-script-in-Check.ensures.ok (sym c.in-Some.ensures ∙ ap Some c.in-Check.is) _ c.in_err-size-in-Check.ensures.err)
+    (check_stops _ _ _ _ _ _ _ _ _ _ _ c.in_ok-script-in-Check.ensures.ok
+    (sym c.in-Some.ensures ∙ ap Some c.in-Check.is) _ c.in_err-size-in-Check.ensures.err)

@@ -8,5 +8,7 @@ returns-in-Ok-stop-clause-ok g c =
     let new = c.in-Ok.ensures.ok in
     let passed : IsTrue c.legal.result = search in
     let legal : IsTrue (is_legal_for c.args.script c.chosen-block.result) = subst IsTrue c.legal.ensures passed in
-    first_by c.args.script c.args.frames _ c.in-Ok.resume c.stop.new.self _ _ _ _ _ _ new.script_is new.frames_is c.into_state.ensures
-    (subst (λ n. IsTrue (is_legal_for c.args.script n)) c.chosen-block.ensures legal) new.short c.in-Ok-stop.ensures.ok c.in-Ok-stop.ensures.saved
+    first_by c.args.script c.args.frames _ c.in-Ok.resume c.stop.new.self _ _ _ _ _ _ new.script_is new.frames_is
+    c.into_state.ensures
+    (subst (λ n. IsTrue (is_legal_for c.args.script n)) c.chosen-block.ensures legal) new.short
+    c.in-Ok-stop.ensures.ok c.in-Ok-stop.ensures.saved

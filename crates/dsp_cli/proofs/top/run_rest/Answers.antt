@@ -1,5 +1,5 @@
 use Rattle.std.proofs.Common.{◌≡◌, ◌∙◌, ◌≤◌, ap, sym, subst, None, IsTrue, arith, vec_capacity}
-use Rattle.dsp_chain.specs.Row.{measure_counts}
+use Rattle.dsp_chain.specs.Line.{measure_counts}
 use Rattle.dsp_defs.specs.Output.{format_of, channels_of}
 use Rattle.dsp_defs.specs.Shape.{frames_given}
 use Rattle.dsp_defs.specs.declared.flow.Flow.{Flow}
@@ -22,7 +22,8 @@ pub find_measures-requires-clause-room : goal.find_measures-requires-clause-room
 find_measures-requires-clause-room g c =
     let same : c.session.result.now.script ≡ c.in-Ok.resume.session.script =
     ap (λ (s : SessionState). s.script) c.session.ensures ∙ c.in-Ok-go.ensures.same.script.script in
-    subst (λ (s : Script). measure_counts s.input.channels s.blocks ≤ vec_capacity c.in-Ok-with_capacity.measures) (sym same)
+    subst (λ (s : Script). measure_counts s.input.channels s.blocks ≤ vec_capacity c.in-Ok-with_capacity.measures)
+    (sym same)
     (omega (arith, c.measures.ensures.stays, c.in-Ok-with_capacity.ensures.capacity))
 
 pub returns-clause-ok : goal.returns-clause-ok
@@ -31,7 +32,8 @@ returns-clause-ok g c =
     let taken = c.in-Ok-go.totals.frames_taken in
     let resumed = c.in-Ok.ensures in
     let stays : c.script-script.result.now ≡ script =
-    c.script-script.ensures.script ∙ ap (λ (s : SessionState). s.script) c.session-2.ensures ∙ c.in-Ok-go.ensures.same.script.script ∙ resumed.script_is in
+    c.script-script.ensures.script ∙ ap (λ (s : SessionState). s.script) c.session-2.ensures ∙
+    c.in-Ok-go.ensures.same.script.script ∙ resumed.script_is in
     let summary : Summary = record {
       input = flow_in c.script-script.result.now;
       output = c.output_flow.result;
@@ -39,15 +41,18 @@ returns-clause-ok g c =
       measures = c.find_measures.new.measures;
     } in
     let passed : IsTrue c.legal.result = search in
-    let legal : IsTrue (is_legal_for c.script-2.result.now c.chosen-block.result) = subst IsTrue c.legal.ensures passed in
+    let legal : IsTrue (is_legal_for c.script-2.result.now c.chosen-block.result) =
+    subst IsTrue c.legal.ensures passed in
     record {
       start = c.in-Ok.resume.session;
       continues = record {
-        legal = subst IsTrue (λ i. is_legal_for (c.script-2.ensures i) ((c.chosen-block.ensures ∙ ap (chosen None) c.script.ensures) i)) legal;
+        legal = subst IsTrue (λ i. is_legal_for (c.script-2.ensures i)
+            ((c.chosen-block.ensures ∙ ap (chosen None) c.script.ensures) i)) legal;
         script_is = resumed.script_is;
         stands = resumed.stands;
       };
-      done = rest_by _ _ _ _ _ _ _ _ _ _ _ _ _ _ resumed.script_is resumed.frames_is (c.find_measures.ensures ∙ ap measured c.session.ensures)
+      done = rest_by _ _ _ _ _ _ _ _ _ _ _ _ _ _ resumed.script_is resumed.frames_is
+          (c.find_measures.ensures ∙ ap measured c.session.ensures)
           c.in-Ok-go.ensures.ok;
       text = text_by script summary (ap flow_in stays) (c.output_flow.ensures ∙ ap flow_out stays)
           (c.in-Ok-go.ensures.given ∙ ap (λ (s : Script). frames_given s.blocks taken) resumed.script_is)

@@ -21,7 +21,8 @@ returns-clause-ok g c =
     let script = c.args.script in
     let taken = c.in-Ok-stream.totals.frames_taken in
     let same : c.in-Ok.session.script ≡ script = c.in-Ok.ensures.script_is in
-    let stays : c.script-script.result.now ≡ script = c.script-script.ensures.script ∙ c.in-Ok-stream.ensures.same.script ∙ same in
+    let stays : c.script-script.result.now ≡ script = c.script-script.ensures.script ∙
+    c.in-Ok-stream.ensures.same.script ∙ same in
     let summary : Summary = record {
       input = flow_in c.script-script.result.now;
       output = c.output_flow.result;
@@ -32,7 +33,8 @@ returns-clause-ok g c =
     let legal : IsTrue (is_legal_for script c.chosen-block.result) = subst IsTrue c.legal.ensures passed in
     record {
       legal = subst (λ n. IsTrue (is_legal_for script n)) c.chosen-block.ensures legal;
-      done = done_by _ _ _ _ _ _ _ _ _ _ _ _ _ _ _ c.in-Ok.ensures.banked_is same (c.in-Ok.ensures.block_is ∙ c.chosen-block.ensures) c.find_measures.ensures c.in-Ok-stream.ensures.ok;
+      done = done_by _ _ _ _ _ _ _ _ _ _ _ _ _ _ _ c.in-Ok.ensures.banked_is same
+          (c.in-Ok.ensures.block_is ∙ c.chosen-block.ensures) c.find_measures.ensures c.in-Ok-stream.ensures.ok;
       text = text_by script summary (ap flow_in stays) (c.output_flow.ensures ∙ ap flow_out stays)
           (c.in-Ok-stream.ensures.given ∙ ap (λ (s : Script). frames_given s.blocks taken) same)
           (c.in-Ok-stream.ensures.multiplies ∙ ap (λ (s : Script). cost_of s taken) same);

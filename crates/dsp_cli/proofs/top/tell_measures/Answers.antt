@@ -17,8 +17,11 @@ loop-measure-preserved g c =
     let i = c.loop-measure.measure-index in
     let ms = c.args.measures.now in
     let took = rw (c.deref.ensures.0, c.measure_line.ensures) at c.in_ok-write_all.ensures.took in
-    let wrote = wrote-more (g.R.Sink.state c.args.report.now) (g.R.Sink.state c.loop-measure.report) (g.R.Sink.state c.write_all.new.sink) (lines (take i ms)) (measure_line (get_or ms i (Power 0 0 (pos 0)))) c.loop-measure.invariant.0 took in (
-      subst (λ text. Wrote text (g.R.Sink.state c.args.report.now) (g.R.Sink.state c.write_all.new.sink)) (lines-more ms i (i + 1) (Power 0 0 (pos 0)) (omega arith) c.loop-measure-test.true) wrote,
+    let wrote = wrote-more (g.R.Sink.state c.args.report.now) (g.R.Sink.state c.loop-measure.report)
+    (g.R.Sink.state c.write_all.new.sink) (lines (take i ms)) (measure_line (get_or ms i (Power 0 0 (pos 0))))
+    c.loop-measure.invariant.0 took in (
+      subst (λ text. Wrote text (g.R.Sink.state c.args.report.now) (g.R.Sink.state c.write_all.new.sink))
+          (lines-more ms i (i + 1) (Power 0 0 (pos 0)) (omega arith) c.loop-measure-test.true) wrote,
       c.in_ok-write_all.ensures.faults ∙ c.loop-measure.invariant.1,
     )
 
@@ -28,9 +31,12 @@ returns-in_err-write_all-clause-tells g c =
     let ms = c.args.measures.now in
     let line = measure_line (get_or ms i (Power 0 0 (pos 0))) in
     let (count, less, took) = c.in_err-write_all.ensures.took in
-    let took' : Took (g.R.Sink.state c.loop-measure.report) (g.R.Sink.state c.write_all.new.sink) (take count line) = rw (c.deref.ensures.0, c.measure_line.ensures) at took in
-    let wrote = wrote-more (g.R.Sink.state c.args.report.now) (g.R.Sink.state c.loop-measure.report) (g.R.Sink.state c.write_all.new.sink) (lines (take i ms)) (take count line) c.loop-measure.invariant.0 took' in
-    tells-front (g.R.Sink.state c.args.report.now) (g.R.Sink.state c.write_all.new.sink) (lines ms) _ (line-begins ms i count (Power 0 0 (pos 0)) c.loop-measure-test.true) wrote
+    let took' : Took (g.R.Sink.state c.loop-measure.report) (g.R.Sink.state c.write_all.new.sink) (take count line) =
+    rw (c.deref.ensures.0, c.measure_line.ensures) at took in
+    let wrote = wrote-more (g.R.Sink.state c.args.report.now) (g.R.Sink.state c.loop-measure.report)
+    (g.R.Sink.state c.write_all.new.sink) (lines (take i ms)) (take count line) c.loop-measure.invariant.0 took' in
+    tells-front (g.R.Sink.state c.args.report.now) (g.R.Sink.state c.write_all.new.sink) (lines ms) _
+    (line-begins ms i count (Power 0 0 (pos 0)) c.loop-measure-test.true) wrote
     (rw (← c.loop-measure.invariant.1) c.in_err-write_all.ensures.faults)
 
 pub returns-in_err-write_all-clause-faults : goal.returns-in_err-write_all-clause-faults
@@ -41,4 +47,5 @@ returns-in_err-write_all-clause-faults g c =
 pub returns-clause-tells : goal.returns-clause-tells
 returns-clause-tells g c =
     let all = take_all c.loop-measure.measure-index c.args.measures.now (omega arith) in
-    tells-all _ _ _ (subst (λ ms. Wrote (lines ms) (g.R.Sink.state c.args.report.now) (g.R.Sink.state c.loop-measure.report)) all c.loop-measure.invariant.0)
+    tells-all _ _ _ (subst (λ ms. Wrote (lines ms) (g.R.Sink.state c.args.report.now)
+    (g.R.Sink.state c.loop-measure.report)) all c.loop-measure.invariant.0)

@@ -4,7 +4,7 @@ use Rattle.dsp_defs.proofs.SumLemmas.{sample-map}
 use Rattle.dsp_defs.specs.Signal.{values}
 use Rattle.dsp_defs.specs.Complex.{cmplx_mag_squared}
 use Rattle.dsp_complex.specs.Pairs.{re, im}
-use Rattle.dsp_frames.proofs.Samples.{values-more}
+use Rattle.dsp_filter.proofs.FrameSamples.{values-more}
 use Rattle.dsp_complex.proofs.calls.mag_squared.Goals as goal
 
 pub loop-n-preserved : goal.loop-n-preserved
@@ -17,9 +17,16 @@ loop-n-preserved g c =
     let long_out = length-map out N in
     record {
       out = ap (take (n + 1)) (map-set N out n c.squared.result)
-          ∙ values-more f n (map N out) (N c.squared.result) (omega (arith, long_out)) c.loop-n.invariant.out (c.squared.ensures.value ∙ (λ i. cmplx_mag_squared g.T.Sample.format ((sample-map N a (n * 2) c.index-a-n.result (omega arith) c.index-a-n.is) i) ((sample-map N a (n * 2 + 1) c.index-a-n-in-loop-n.result (omega arith) c.index-a-n-in-loop-n.is) i)));
+          ∙ values-more f n (map N out) (N c.squared.result) (omega (arith, long_out)) c.loop-n.invariant.out
+          (c.squared.ensures.value ∙ (λ i. cmplx_mag_squared g.T.Sample.format
+          ((sample-map N a (n * 2) c.index-a-n.result (omega arith) c.index-a-n.is) i)
+          ((sample-map N a (n * 2 + 1) c.index-a-n-in-loop-n.result (omega arith) c.index-a-n-in-loop-n.is) i)));
       steps = record {
-        multiplies_rise = omega (arith, c.loop-n.invariant.steps.multiplies_rise, c.squared.ensures.steps.multiplies_rise);
+        multiplies_rise = omega (
+          arith,
+          c.loop-n.invariant.steps.multiplies_rise,
+          c.squared.ensures.steps.multiplies_rise,
+        );
         turns_within = omega (arith, c.loop-n.invariant.steps.turns_within, c.squared.ensures.steps.turns_rise);
       };
     }

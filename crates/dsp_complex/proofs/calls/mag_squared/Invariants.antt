@@ -8,6 +8,7 @@ use Rattle.dsp_complex.proofs.calls.mag_squared.Given as goal
 -- the numbers so far are written
 abbrev pub invariant-loop-n : goal.invariant-loop-n
 invariant-loop-n g l = record {
-  out : take l.n (map g.T.Sample.number l.out) ≡ values l.n (λ n. cmplx_mag_squared g.T.Sample.format (re (map g.T.Sample.number l.a) n) (im (map g.T.Sample.number l.a) n));
+  out : take l.n (map g.T.Sample.number l.out) ≡ values l.n
+      (λ n. cmplx_mag_squared g.T.Sample.format (re (map g.T.Sample.number l.a) n) (im (map g.T.Sample.number l.a) n));
   steps : RisesWithin l.initial.steps l.steps (2 * l.n) (2 * l.n);
 }

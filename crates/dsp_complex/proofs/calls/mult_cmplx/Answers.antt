@@ -13,14 +13,31 @@ loop-n-preserved g c =
     let out = c.loop-n.out in
     let a = c.args.a.now in
     let b = c.args.b.now in
-    let f = λ (n : _). cmplx_mult g.T.Sample.format (re (map N a) n) (im (map N a) n) (re (map N b) n) (im (map N b) n) in
+    let f = λ (n : _). cmplx_mult g.T.Sample.format (re (map N a) n) (im (map N a) n) (re (map N b) n)
+    (im (map N b) n) in
     let long_out = length-map out N in
     record {
-      out = ap (take ((n + 1) * 2)) (map-set N (set out (n * 2) c.product-given.result.re) (n * 2 + 1) c.product-given.result.im ∙ ap (λ l. set l (n * 2 + 1) (N c.product-given.result.im)) (map-set N out (n * 2) c.product-given.result.re))
-          ∙ pair-more f n (map N out) (N c.product-given.result.re) (N c.product-given.result.im) (omega (arith, long_out)) c.loop-n.invariant.out
-          (c.product-given.ensures.re ∙ (λ i. (cmplx_mult g.T.Sample.format ((sample-map N a (n * 2) c.index-a-n.result (omega arith) c.index-a-n.is) i) ((sample-map N a (n * 2 + 1) c.index-a-n-in-loop-n.result (omega arith) c.index-a-n-in-loop-n.is) i) ((sample-map N b (n * 2) c.index-b-n.result (omega arith) c.index-b-n.is) i) ((sample-map N b (n * 2 + 1) c.index-b-n-in-loop-n.result (omega arith) c.index-b-n-in-loop-n.is) i)).0)) (c.product-given.ensures.im ∙ (λ i. (cmplx_mult g.T.Sample.format ((sample-map N a (n * 2) c.index-a-n.result (omega arith) c.index-a-n.is) i) ((sample-map N a (n * 2 + 1) c.index-a-n-in-loop-n.result (omega arith) c.index-a-n-in-loop-n.is) i) ((sample-map N b (n * 2) c.index-b-n.result (omega arith) c.index-b-n.is) i) ((sample-map N b (n * 2 + 1) c.index-b-n-in-loop-n.result (omega arith) c.index-b-n-in-loop-n.is) i)).1));
+      out = ap (take ((n + 1) * 2)) (map-set N (set out (n * 2) c.product-given.result.re) (n * 2 + 1)
+          c.product-given.result.im ∙ ap (λ l. set l (n * 2 + 1) (N c.product-given.result.im))
+          (map-set N out (n * 2) c.product-given.result.re))
+          ∙ pair-more f n (map N out) (N c.product-given.result.re) (N c.product-given.result.im)
+          (omega (arith, long_out)) c.loop-n.invariant.out
+          (c.product-given.ensures.re ∙ (λ i. (cmplx_mult g.T.Sample.format
+          ((sample-map N a (n * 2) c.index-a-n.result (omega arith) c.index-a-n.is) i)
+          ((sample-map N a (n * 2 + 1) c.index-a-n-in-loop-n.result (omega arith) c.index-a-n-in-loop-n.is) i)
+          ((sample-map N b (n * 2) c.index-b-n.result (omega arith) c.index-b-n.is) i)
+          ((sample-map N b (n * 2 + 1) c.index-b-n-in-loop-n.result (omega arith) c.index-b-n-in-loop-n.is) i)).0))
+          (c.product-given.ensures.im ∙ (λ i. (cmplx_mult g.T.Sample.format
+          ((sample-map N a (n * 2) c.index-a-n.result (omega arith) c.index-a-n.is) i)
+          ((sample-map N a (n * 2 + 1) c.index-a-n-in-loop-n.result (omega arith) c.index-a-n-in-loop-n.is) i)
+          ((sample-map N b (n * 2) c.index-b-n.result (omega arith) c.index-b-n.is) i)
+          ((sample-map N b (n * 2 + 1) c.index-b-n-in-loop-n.result (omega arith) c.index-b-n-in-loop-n.is) i)).1));
       steps = record {
-        multiplies_rise = omega (arith, c.loop-n.invariant.steps.multiplies_rise, c.product-given.ensures.steps.multiplies_rise);
+        multiplies_rise = omega (
+          arith,
+          c.loop-n.invariant.steps.multiplies_rise,
+          c.product-given.ensures.steps.multiplies_rise,
+        );
         turns_within = omega (arith, c.loop-n.invariant.steps.turns_within, c.product-given.ensures.steps.turns_rise);
       };
     }
@@ -32,7 +49,9 @@ returns-clause-out g c =
     let out = c.loop-n.out in
     let a = c.args.a.now in
     let b = c.args.b.now in
-    let f = λ (n : _). cmplx_mult g.T.Sample.format (re (map N a) n) (im (map N a) n) (re (map N b) n) (im (map N b) n) in
+    let f = λ (n : _). cmplx_mult g.T.Sample.format (re (map N a) n) (im (map N a) n) (re (map N b) n)
+    (im (map N b) n) in
     let long_out = length-map out N in
     let all : n ≡ length c.args.out.now / 2 = omega arith in
-    sym (take_all (n * 2) (map N out) (omega (arith, long_out, c.requires.pairs))) ∙ c.loop-n.invariant.out ∙ ap (λ k. interleaved k f) all
+    sym (take_all (n * 2) (map N out) (omega (arith, long_out, c.requires.pairs))) ∙ c.loop-n.invariant.out ∙
+    ap (λ k. interleaved k f) all

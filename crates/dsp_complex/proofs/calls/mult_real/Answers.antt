@@ -21,11 +21,23 @@ loop-n-preserved g c =
     let fits_second : SFits w16 c.mult-in-loop-n.result = search rules in
     record {
       out = pair-more f n out _ _ (omega (arith, c.requires.room)) c.loop-n.invariant.out
-          (to_z-of_z fits_first ∙ c.mult.ensures.value ∙ (λ i. saturate 16 (to_z-of_z fits_re i *ℤ to_z-of_z fits_r i >> 15)))
-          (to_z-of_z fits_second ∙ c.mult-in-loop-n.ensures.value ∙ (λ i. saturate 16 (to_z-of_z fits_im i *ℤ to_z-of_z fits_r i >> 15)));
+          (to_z-of_z fits_first ∙ c.mult.ensures.value ∙ (λ i. saturate 16
+          (to_z-of_z fits_re i *ℤ to_z-of_z fits_r i >> 15)))
+          (to_z-of_z fits_second ∙ c.mult-in-loop-n.ensures.value ∙
+          (λ i. saturate 16 (to_z-of_z fits_im i *ℤ to_z-of_z fits_r i >> 15)));
       steps = record {
-        multiplies_rise = omega (arith, c.loop-n.invariant.steps.multiplies_rise, c.mult.ensures.steps.multiplies_rise, c.mult-in-loop-n.ensures.steps.multiplies_rise);
-        turns_within = omega (arith, c.loop-n.invariant.steps.turns_within, c.mult.ensures.steps.turns_rise, c.mult-in-loop-n.ensures.steps.turns_rise);
+        multiplies_rise = omega (
+          arith,
+          c.loop-n.invariant.steps.multiplies_rise,
+          c.mult.ensures.steps.multiplies_rise,
+          c.mult-in-loop-n.ensures.steps.multiplies_rise,
+        );
+        turns_within = omega (
+          arith,
+          c.loop-n.invariant.steps.turns_within,
+          c.mult.ensures.steps.turns_rise,
+          c.mult-in-loop-n.ensures.steps.turns_rise,
+        );
       };
     }
 

@@ -16,7 +16,8 @@ returns-clause-out g c =
     let lb : length b ≡ length c.args.b.now = length-map c.args.b.now T.number in
     let value = λ (n : ℕ). close T.format (correlation_at b a n) in
     let same : length c.args.out.now ≡ 2 * max (length a) (length b) - 1 = omega (arith, la, lb, c.requires.out) in
-    c.correlation_values.ensures.values ∙ from-first (length c.args.out.now) value ∙ ap (λ k. values k value) same ∙ sym (correlate-values T.format b a (omega (arith, la, c.requires.a)))
+    c.correlation_values.ensures.values ∙ from-first (length c.args.out.now) value ∙ ap (λ k. values k value) same ∙
+    sym (correlate-values T.format b a (omega (arith, la, c.requires.a)))
 
 pub returns-clause-steps : goal.returns-clause-steps
 returns-clause-steps g c =
@@ -25,8 +26,10 @@ returns-clause-steps g c =
     let all : 0 + length c.args.out.now ≡ 2 * max n t - 1 = omega (arith, c.requires.out) in
     let products = ap (correlation_products n t) all ∙ all-products n t c.requires.a in
     let rise = c.correlation_values.ensures.steps in
-    let multiplies : c.correlation_values.new.steps.multiplies ≡ n * t + c.args.steps.now.multiplies = omega (arith, rise.multiplies, products) in
-    let turns : c.correlation_values.new.steps.turns ≤ n * t + c.args.steps.now.turns = omega (arith, rise.turns, products) in
+    let multiplies : c.correlation_values.new.steps.multiplies ≡ n * t + c.args.steps.now.multiplies =
+    omega (arith, rise.multiplies, products) in
+    let turns : c.correlation_values.new.steps.turns ≤ n * t + c.args.steps.now.turns =
+    omega (arith, rise.turns, products) in
     record {
       multiplies_rise = omega (arith, multiplies);
       multiplies_most = omega (arith, multiplies);

@@ -9,7 +9,8 @@ pub returns-clause-value : goal.returns-clause-value
 returns-clause-value g c =
     let T = g.T.Sample in
     let products : ℕ → ℤ = λ j. sample (map T.number c.args.a.now) j *ℤ sample (map T.number c.args.b.now) j in
-    c.close.ensures ∙ ap (close T.format) c.dot.ensures.sum ∙ close-wrap T.format (sum_below (length c.args.a.now) products)
+    c.close.ensures ∙ ap (close T.format) c.dot.ensures.sum ∙
+    close-wrap T.format (sum_below (length c.args.a.now) products)
 
 pub returns-clause-steps : goal.returns-clause-steps
 returns-clause-steps g c =

@@ -15,14 +15,25 @@ returns-clause-values g c =
     let e = c.middle_of-middle.result.end in
     let middle = c.middle_of-middle.ensures in
     let order : p ≤ e = omega (arith, c.min-start.ensures) in
-    let front : length c.convolution_middle.new.scratch ≡ p = omega (arith, c.split_at_mut-before.ensures.front_len, c.convolution_middle.auto.scratch) in
-    let inside : length c.split_at_mut-inside.result.0.now ≡ e - p = omega (arith, c.split_at_mut-inside.ensures.front_len) in
-    let back : length c.split_at_mut-inside.result.1.now ≡ n - e = omega (arith, c.split_at_mut-before.ensures.back_len, c.split_at_mut-inside.ensures.back_len, order, middle.within) in
+    let front : length c.convolution_middle.new.scratch ≡ p =
+    omega (arith, c.split_at_mut-before.ensures.front_len, c.convolution_middle.auto.scratch) in
+    let inside : length c.split_at_mut-inside.result.0.now ≡ e - p =
+    omega (arith, c.split_at_mut-inside.ensures.front_len) in
+    let back : length c.split_at_mut-inside.result.1.now ≡ n - e =
+    omega (
+      arith,
+      c.split_at_mut-before.ensures.back_len,
+      c.split_at_mut-inside.ensures.back_len,
+      order,
+      middle.within,
+    ) in
     let place : e ≡ p + (e - p) = omega (arith, order) in
-    three-written T.number f first p (e - p) (n - e) n c.convolution_edge.new.out c.convolution_middle.new.out c.convolution_edge-2.new.out (omega (arith, order, middle.within))
+    three-written T.number f first p (e - p) (n - e) n c.convolution_edge.new.out c.convolution_middle.new.out
+    c.convolution_edge-2.new.out (omega (arith, order, middle.within))
     (c.convolution_edge.ensures.values ∙ ap (λ k. values k (λ i. f (first + i))) front)
     (c.convolution_middle.ensures.values ∙ ap (λ k. values k (λ i. f (first + p + i))) inside)
-    (c.convolution_edge-2.ensures.values ∙ ap (λ k. values k (λ i. f (first + e + i))) back ∙ ap (λ k. values (n - e) (λ i. f (first + k + i))) place)
+    (c.convolution_edge-2.ensures.values ∙ ap (λ k. values k (λ i. f (first + e + i))) back ∙
+    ap (λ k. values (n - e) (λ i. f (first + k + i))) place)
 
 pub returns-clause-steps : goal.returns-clause-steps
 returns-clause-steps g c =
@@ -32,9 +43,18 @@ returns-clause-steps g c =
     let e = c.middle_of-middle.result.end in
     let middle = c.middle_of-middle.ensures in
     let order : p ≤ e = omega (arith, c.min-start.ensures) in
-    let front : length c.convolution_middle.new.scratch ≡ p = omega (arith, c.split_at_mut-before.ensures.front_len, c.convolution_middle.auto.scratch) in
-    let inside : length c.split_at_mut-inside.result.0.now ≡ e - p = omega (arith, c.split_at_mut-inside.ensures.front_len) in
-    let back : length c.split_at_mut-inside.result.1.now ≡ n - e = omega (arith, c.split_at_mut-before.ensures.back_len, c.split_at_mut-inside.ensures.back_len, order, middle.within) in
+    let front : length c.convolution_middle.new.scratch ≡ p =
+    omega (arith, c.split_at_mut-before.ensures.front_len, c.convolution_middle.auto.scratch) in
+    let inside : length c.split_at_mut-inside.result.0.now ≡ e - p =
+    omega (arith, c.split_at_mut-inside.ensures.front_len) in
+    let back : length c.split_at_mut-inside.result.1.now ≡ n - e =
+    omega (
+      arith,
+      c.split_at_mut-before.ensures.back_len,
+      c.split_at_mut-inside.ensures.back_len,
+      order,
+      middle.within,
+    ) in
     let times = λ (k : ℕ). k * t in
     let whole : n ≡ p + (e - p) + (n - e) = omega (arith, order, middle.within) in
     let all : n * t ≡ p * t + (e - p) * t + (n - e) * t = ap times whole ∙ omega arith in

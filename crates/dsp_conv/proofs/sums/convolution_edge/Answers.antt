@@ -12,7 +12,9 @@ loop-i-preserved g c =
     let so_far = c.loop-i.invariant.steps in
     let one = c.convolution_value.ensures.steps in
     record {
-      values = written-more T.number c.loop-i.out i c.convolution_value.result (λ k. close T.format (convolution_at (map T.number c.args.b.now) (map T.number c.args.a.now) (c.args.first + k))) (omega arith) c.loop-i.invariant.values c.convolution_value.ensures.value;
+      values = written-more T.number c.loop-i.out i c.convolution_value.result
+          (λ k. close T.format (convolution_at (map T.number c.args.b.now) (map T.number c.args.a.now)
+          (c.args.first + k))) (omega arith) c.loop-i.invariant.values c.convolution_value.ensures.value;
       steps = record {
         multiplies_rise = omega (arith, so_far, one);
         multiplies_most = omega (arith, so_far, one, most);

@@ -12,7 +12,9 @@ loop-i-preserved g c =
     let so_far = c.loop-i.invariant.steps in
     let one = c.correlation_value.ensures.steps in
     record {
-      values = written-more T.number c.loop-i.out i c.correlation_value.result (λ k. close T.format (correlation_at (map T.number c.args.b.now) (map T.number c.args.a.now) (c.args.first + k))) (omega arith) c.loop-i.invariant.values c.correlation_value.ensures.value;
+      values = written-more T.number c.loop-i.out i c.correlation_value.result
+          (λ k. close T.format (correlation_at (map T.number c.args.b.now) (map T.number c.args.a.now)
+          (c.args.first + k))) (omega arith) c.loop-i.invariant.values c.correlation_value.ensures.value;
       steps = record {
         multiplies = omega (arith, so_far, one, more);
         turns = omega (arith, so_far, one, more);

@@ -14,7 +14,8 @@ returns-clause-values g c =
     let from = c.requires.from some in
     let whole = c.requires.whole some in
     c.rows.ensures.out
-    ∙ middle-stretch T.format T.number a (map T.number b) c.args.first (length c.args.out.now) _ _ (omega (arith, long, c.requires.taps)) some from (omega (arith, long, whole)) refl (omega (arith, long))
+    ∙ middle-stretch T.format T.number a (map T.number b) c.args.first (length c.args.out.now) _ _
+    (omega (arith, long, c.requires.taps)) some from (omega (arith, long, whole)) refl (omega (arith, long))
 
 pub returns-clause-steps : goal.returns-clause-steps
 returns-clause-steps g c =
@@ -23,7 +24,8 @@ returns-clause-steps g c =
     let t = length c.args.b.now in
     let count = length c.args.out.now in
     let some : 1 ≤ count = search rules in
-    let products = middle-products n t c.args.first count c.requires.some c.requires.taps (c.requires.from some) (c.requires.whole some) in
+    let products = middle-products n t c.args.first count c.requires.some c.requires.taps (c.requires.from some)
+    (c.requires.whole some) in
     let turns = turns-within (lanes T.format) t count in
     let rise = c.rows.ensures.steps in
     record {

@@ -5,4 +5,7 @@ pub returns-clause-positive : goal.returns-clause-positive
 returns-clause-positive c = whole_unit-positive c.args.script.now.blocks
 
 pub returns-clause-multiples : goal.returns-clause-multiples
-returns-clause-multiples c = λ n h. (whole_groups-forth c.args.script.now.blocks n h, whole_groups-back c.args.script.now.blocks n h)
+returns-clause-multiples c = λ n h. (
+  whole_groups-forth c.args.script.now.blocks n h,
+  whole_groups-back c.args.script.now.blocks n h,
+)

@@ -11,11 +11,15 @@ loop-k-preserved g c =
     let k = c.loop-k.k in
     let n = length c.args.sums.now in
     let delays = c.args.delays.now in
-    let tap_is : T.number c.index-taps-k.result ≡ sample (map T.number c.args.taps.now) k = sample-map T.number c.args.taps.now k c.index-taps-k.result (omega arith) c.index-taps-k.is in
+    let tap_is : T.number c.index-taps-k.result ≡ sample (map T.number c.args.taps.now) k =
+    sample-map T.number c.args.taps.now k c.index-taps-k.result (omega arith) c.index-taps-k.is in
     let near : get_or delays k 0 ≤ c.args.past = c.requires.within k 0 (omega arith) in
     let size : length c.loop-k.sums ≡ n = omega arith in
     record {
-      summed = taps-more T.number T.format (map T.number c.args.taps.now) delays c.args.past c.args.window.now (map T.total c.loop-k.sums) (map T.total c.delayed.new.sums) n k _ (get_or delays k 0) (T.number c.index-taps-k.result)
+      summed = taps-more T.number T.format (map T.number c.args.taps.now) delays c.args.past c.args.window.now
+          (map T.total c.loop-k.sums) (map T.total c.delayed.new.sums) n k _ (get_or delays k 0)
+          (T.number c.index-taps-k.result)
           refl tap_is refl near c.requires.window c.loop-k.invariant.summed c.delayed.ensures.sums;
-      counted = tap-counted _ _ _ k _ n (lane_turns g.row.L n) _ _ refl size (ap (lane_turns g.row.L) size) c.loop-k.invariant.counted c.delayed.ensures.steps;
+      counted = tap-counted _ _ _ k _ n (lane_turns g.row.L n) _ _ refl size (ap (lane_turns g.row.L) size)
+          c.loop-k.invariant.counted c.delayed.ensures.steps;
     }

@@ -10,4 +10,5 @@ loop-sum-preserved g c =
     let sums = c.loop-sum.sums in
     let long = length-map sums total in
     ap (take _) (map-set total sums i c.empty.result)
-    ∙ rows-one (λ _. pos 0) i _ (map total sums) (total c.empty.result) refl (omega arith) c.loop-sum.invariant c.empty.ensures
+    ∙ rows-one (λ _. pos 0) i _ (map total sums) (total c.empty.result) refl (omega arith) c.loop-sum.invariant
+    c.empty.ensures

@@ -15,5 +15,6 @@ loop-i-preserved g c =
     let long = length-map out T.number in
     let sum_is = sample-map T.total sums i c.index-sums-i.result (omega arith) c.index-sums-i.is in
     ap (take _) (map-set T.number out i c.sparse_close.result)
-    ∙ rows-one (λ k. sparse_close T.format (sample (map T.total sums) k)) i _ (map T.number out) (T.number c.sparse_close.result) refl (omega arith) c.loop-i.invariant
+    ∙ rows-one (λ k. sparse_close T.format (sample (map T.total sums) k)) i _ (map T.number out)
+    (T.number c.sparse_close.result) refl (omega arith) c.loop-i.invariant
     (c.sparse_close.ensures ∙ ap (sparse_close T.format) sum_is)

@@ -16,6 +16,8 @@ returns-clause-out g c =
     let all : count ≡ length taps = sym (length-map c.args.taps.now T.number) in
     let cut : length (take n c.args.sums.now) ≡ n = length-take-le n c.args.sums.now c.requires.sums in
     let size : length c.clear_sums.new.sums ≡ n = omega (arith, c.clear_sums.auto.sums, cut) in
-    sums-close T.format taps c.args.delays.now c.args.past window (map T.total c.add_taps.new.sums) (map T.number c.close_sums.new.out) n count all
-    (c.add_taps.ensures.sums ∙ ap (λ m. values m (λ i. wrap w32 (delayed_sum T.format taps c.args.delays.now c.args.past window count i))) size)
+    sums-close T.format taps c.args.delays.now c.args.past window (map T.total c.add_taps.new.sums)
+    (map T.number c.close_sums.new.out) n count all
+    (c.add_taps.ensures.sums ∙ ap (λ m. values m (λ i. wrap w32
+    (delayed_sum T.format taps c.args.delays.now c.args.past window count i))) size)
     c.close_sums.ensures

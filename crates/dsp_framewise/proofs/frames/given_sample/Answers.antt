@@ -7,7 +7,8 @@ use Rattle.dsp_defs.specs.Numbers.{◌>>◌, saturate}
 use Rattle.dsp_defs.specs.declared.flow.Flow.{Flow}
 use Rattle.dsp_defs.specs.declared.format.Fmt.{Fmt}
 use Rattle.dsp_defs.specs.declared.format.Fmt.TheVariants.{Q15}
-use Rattle.dsp_framewise.proofs.Given.{clamped-fits, coefficient-is, held, limit-is, scale_shift-is, shift-is, no-other, only-q15, sample-each, sample-real}
+use Rattle.dsp_framewise.proofs.Given.{clamped-fits, coefficient-is, held, limit-is, scale_shift-is, shift-is}
+use Rattle.dsp_framewise.proofs.Given.{no-other, only-q15, sample-each, sample-real}
 use Rattle.dsp_framewise.proofs.frames.given_sample.Goals as goal
 
 pub returns-in-Offset-clause-value : goal.returns-in-Offset-clause-value
@@ -19,7 +20,8 @@ returns-in-Offset-clause-value g c =
     let x = held c.sample-x.result _ (record { sfits = c.sample-x.type_inv }) c.sample-x.ensures in
     rw c.in-Offset.is
     (sample-each (λ (a : ℤ). Elementwise.add format a c.in-Offset.value) c.args.frame.now c.args.j _ inside
-    (held c.add.result _ (record { sfits = c.add.type_inv }) (c.add.ensures.value ∙ (λ i. Elementwise.add format (x i) (value_is i)))))
+    (held c.add.result _ (record { sfits = c.add.type_inv })
+    (c.add.ensures.value ∙ (λ i. Elementwise.add format (x i) (value_is i)))))
 
 pub returns-in-Scale-clause-value : goal.returns-in-Scale-clause-value
 returns-in-Scale-clause-value g c =
@@ -31,7 +33,8 @@ returns-in-Scale-clause-value g c =
     let x = held c.sample-x.result _ (record { sfits = c.sample-x.type_inv }) c.sample-x.ensures in
     rw c.in-Scale.is
     (sample-each (Elementwise.scale format c.in-Scale.fract c.in-Scale.shift) c.args.frame.now c.args.j _ inside
-    (held c.scale.result _ (record { sfits = c.scale.type_inv }) (c.scale.ensures.value ∙ (λ i. Elementwise.scale format (fract_is i) (shift_is i) (x i)))))
+    (held c.scale.result _ (record { sfits = c.scale.type_inv })
+    (c.scale.ensures.value ∙ (λ i. Elementwise.scale format (fract_is i) (shift_is i) (x i)))))
 
 pub returns-in-Shift-clause-value : goal.returns-in-Shift-clause-value
 returns-in-Shift-clause-value g c =
@@ -42,7 +45,8 @@ returns-in-Shift-clause-value g c =
     let x = held c.sample-x.result _ (record { sfits = c.sample-x.type_inv }) c.sample-x.ensures in
     rw c.in-Shift.is
     (sample-each (Elementwise.shift format c.in-Shift.shift) c.args.frame.now c.args.j _ inside
-    (held c.shift_in.result _ (record { sfits = c.shift_in.type_inv }) (c.shift_in.ensures.value ∙ (λ i. Elementwise.shift format (shift_is i) (x i)))))
+    (held c.shift_in.result _ (record { sfits = c.shift_in.type_inv })
+    (c.shift_in.ensures.value ∙ (λ i. Elementwise.shift format (shift_is i) (x i)))))
 
 pub returns-in-Clip-clause-value : goal.returns-in-Clip-clause-value
 returns-in-Clip-clause-value g c =
@@ -54,7 +58,8 @@ returns-in-Clip-clause-value g c =
     let x = held c.sample-x.result _ (record { sfits = c.sample-x.type_inv }) c.sample-x.ensures in
     rw c.in-Clip.is
     (sample-each (Elementwise.clip c.in-Clip.low c.in-Clip.high) c.args.frame.now c.args.j _ inside
-    (held c.clip.result _ (record { sfits = c.clip.type_inv }) (c.clip.ensures.value ∙ (λ i. Elementwise.clip (low_is i) (high_is i) (x i)))))
+    (held c.clip.result _ (record { sfits = c.clip.type_inv })
+    (c.clip.ensures.value ∙ (λ i. Elementwise.clip (low_is i) (high_is i) (x i)))))
 
 pub returns-in-Clip-clause-fits : goal.returns-in-Clip-clause-fits
 returns-in-Clip-clause-fits g c =
@@ -65,7 +70,8 @@ returns-in-Clip-clause-fits g c =
     let v = c.clip.result in
     rw c.in-Clip.is
     (subst (FitsSigned (word format)) (sym (held v v (record { sfits = c.clip.type_inv }) refl))
-    (clamped-fits format c.in-Clip.low c.in-Clip.high v limits.0 limits.1.0 (subst (λ l. l ≤ℤ v) low_is c.clip.ensures.low) (subst (λ h. v ≤ℤ h) high_is c.clip.ensures.high)))
+    (clamped-fits format c.in-Clip.low c.in-Clip.high v limits.0 limits.1.0
+    (subst (λ l. l ≤ℤ v) low_is c.clip.ensures.low) (subst (λ h. v ≤ℤ h) high_is c.clip.ensures.high)))
 
 pub returns-in-CmplxMultReal-clause-value : goal.returns-in-CmplxMultReal-clause-value
 returns-in-CmplxMultReal-clause-value g c =
@@ -90,5 +96,7 @@ returns-in-CmplxMultReal-clause-fits g c =
 pub unreachable-requires : goal.unreachable-requires
 unreachable-requires g c =
     let n = c.in_default in
-    no-other c.args.block.now c.requires.framewise n.not-Offset n.not-Negate n.not-Abs n.not-Scale n.not-Shift n.not-Clip n.not-To n.not-Add n.not-Sub n.not-Mult
-    n.not-CmplxMult n.not-CmplxMultReal n.not-MagSquared n.not-Route n.not-Conj n.not-Power n.not-Dot n.not-CmplxDot n.not-Max n.not-Min
+    no-other c.args.block.now c.requires.framewise n.not-Offset n.not-Negate n.not-Abs n.not-Scale n.not-Shift
+    n.not-Clip n.not-To n.not-Add n.not-Sub n.not-Mult
+    n.not-CmplxMult n.not-CmplxMultReal n.not-MagSquared n.not-Route n.not-Conj n.not-Power n.not-Dot n.not-CmplxDot
+    n.not-Max n.not-Min

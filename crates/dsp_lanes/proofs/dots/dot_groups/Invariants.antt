@@ -10,7 +10,8 @@ abbrev pub invariant-groups : goal.invariant-groups
 invariant-groups g l = record {
   within : l.at ≤ length l.taps;
   fit : g.F.DotForm.AreSums l.sums;
-  done : wrap (accumulator g.T.Sample.format) (g.F.DotForm.value l.sums) ≡ wrap (accumulator g.T.Sample.format) (sum_below l.at (λ k. sample (map g.T.Sample.number l.taps) k *ℤ sample (map g.T.Sample.number l.window) k));
+  done : wrap (accumulator g.T.Sample.format) (g.F.DotForm.value l.sums) ≡ wrap (accumulator g.T.Sample.format)
+      (sum_below l.at (λ k. sample (map g.T.Sample.number l.taps) k *ℤ sample (map g.T.Sample.number l.window) k));
   counted : (k : ℕ) × (k * l.size ≡ l.at) × RisesWithin l.initial.steps l.steps (1 * l.at) (1 * k);
 }
 
@@ -21,7 +22,8 @@ abbrev pub invariant-rest : goal.invariant-rest
 invariant-rest g l = record {
   within : l.at ≤ length l.taps;
   started : l.initial.at ≤ l.at;
-  done : g.T.Sample.total l.sum ≡ wrap (accumulator g.T.Sample.format) (sum_below l.at (λ k. sample (map g.T.Sample.number l.taps) k *ℤ sample (map g.T.Sample.number l.window) k));
+  done : g.T.Sample.total l.sum ≡ wrap (accumulator g.T.Sample.format)
+      (sum_below l.at (λ k. sample (map g.T.Sample.number l.taps) k *ℤ sample (map g.T.Sample.number l.window) k));
   counted : Rises l.initial.steps l.steps (1 * (l.at - l.initial.at)) (1 * (l.at - l.initial.at));
 }
 

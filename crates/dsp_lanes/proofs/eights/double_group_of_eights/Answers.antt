@@ -14,7 +14,8 @@ returns-then-this-eq8-clause-out g c =
     let eight = c.requires.eight in
     let whole : n + n ≡ 2 * g.row.L = omega (arith, eight) in
     c.row_group-then-this-eq8.ensures.out
-    ∙ ap (λ n. put_chunk c.args.at (map number c.args.out.now) (values n (λ i. close g.T.Sample.format (row taps window (length c.args.taps.now) (c.args.at + i))))) whole
+    ∙ ap (λ n. put_chunk c.args.at (map number c.args.out.now)
+    (values n (λ i. close g.T.Sample.format (row taps window (length c.args.taps.now) (c.args.at + i))))) whole
 
 pub returns-then-this-eq16-clause-out : goal.returns-then-this-eq16-clause-out
 returns-then-this-eq16-clause-out g c =
@@ -25,4 +26,5 @@ returns-then-this-eq16-clause-out g c =
     let eight = c.requires.eight in
     let whole : (n + n) + (n + n) ≡ 2 * g.row.L = omega (arith, eight) in
     c.row_group-then-this-eq16.ensures.out
-    ∙ ap (λ n. put_chunk c.args.at (map number c.args.out.now) (values n (λ i. close g.T.Sample.format (row taps window (length c.args.taps.now) (c.args.at + i))))) whole
+    ∙ ap (λ n. put_chunk c.args.at (map number c.args.out.now)
+    (values n (λ i. close g.T.Sample.format (row taps window (length c.args.taps.now) (c.args.at + i))))) whole

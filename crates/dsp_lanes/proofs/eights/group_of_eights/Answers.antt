@@ -14,4 +14,5 @@ returns-then-this-eq16-clause-out g c =
     let eight = c.requires.eight in
     let whole : n + n ≡ g.row.L = omega (arith, eight) in
     c.row_group-then-this-eq16.ensures.out
-    ∙ ap (λ n. put_chunk c.args.at (map number c.args.out.now) (values n (λ i. close g.T.Sample.format (row taps window (length c.args.taps.now) (c.args.at + i))))) whole
+    ∙ ap (λ n. put_chunk c.args.at (map number c.args.out.now)
+    (values n (λ i. close g.T.Sample.format (row taps window (length c.args.taps.now) (c.args.at + i))))) whole

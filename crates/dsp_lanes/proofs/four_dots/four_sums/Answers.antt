@@ -42,7 +42,9 @@ groups-preserved g c =
       second = group-more w at n _ taps _ _ _ next c.add_products-in-groups.ensures.sums so_far.second;
       third = group-more w at n _ taps _ _ _ next c.add_products-in-groups-2.ensures.sums so_far.third;
       fourth = group-more w at n _ taps _ _ _ next c.add_products-in-groups-3.ensures.sums so_far.fourth;
-      counted = counted_group _ _ _ 4 c.size-size.result at so_far.counted (four_groups _ _ _ _ _ c.size-size.result c.count.ensures c.count-in-groups.ensures c.count-in-groups-2.ensures c.count-in-groups-3.ensures);
+      counted = counted_group _ _ _ 4 c.size-size.result at so_far.counted
+          (four_groups _ _ _ _ _ c.size-size.result c.count.ensures c.count-in-groups.ensures
+          c.count-in-groups-2.ensures c.count-in-groups-3.ensures);
     }
 
 pub rest-init : goal.rest-init
@@ -69,11 +71,24 @@ rest-preserved g c =
     record {
       within = omega arith;
       started = omega arith;
-      first = product-more w v c.requires.narrows at _ taps _ _ _ _ _ refl c.add_product.ensures.sum (sample-map T.number c.args.taps.now at c.index-taps-at.result (omega arith) c.index-taps-at.is) (sample-map T.number _ at c.index-a-at.result (omega arith) c.index-a-at.is) so_far.first;
-      second = product-more w v c.requires.narrows at _ taps _ _ _ _ _ refl c.add_product-in-rest.ensures.sum (sample-map T.number c.args.taps.now at c.index-taps-at-in-rest.result (omega arith) c.index-taps-at-in-rest.is) (sample-map T.number _ at c.index-b-at.result (omega arith) c.index-b-at.is) so_far.second;
-      third = product-more w v c.requires.narrows at _ taps _ _ _ _ _ refl c.add_product-in-rest-2.ensures.sum (sample-map T.number c.args.taps.now at c.index-taps-at-in-rest-2.result (omega arith) c.index-taps-at-in-rest-2.is) (sample-map T.number _ at c.index-c-at.result (omega arith) c.index-c-at.is) so_far.third;
-      fourth = product-more w v c.requires.narrows at _ taps _ _ _ _ _ refl c.add_product-in-rest-3.ensures.sum (sample-map T.number c.args.taps.now at c.index-taps-at-in-rest-3.result (omega arith) c.index-taps-at-in-rest-3.is) (sample-map T.number _ at c.index-d-at.result (omega arith) c.index-d-at.is) so_far.fourth;
-      counted = counted_one _ _ _ 4 c.groups.at at _ (omega arith) refl so_far.counted (four_products _ _ _ _ _ c.add_product.ensures.steps c.add_product-in-rest.ensures.steps c.add_product-in-rest-2.ensures.steps c.add_product-in-rest-3.ensures.steps);
+      first = product-more w v c.requires.narrows at _ taps _ _ _ _ _ refl c.add_product.ensures.sum
+          (sample-map T.number c.args.taps.now at c.index-taps-at.result (omega arith) c.index-taps-at.is)
+          (sample-map T.number _ at c.index-a-at.result (omega arith) c.index-a-at.is) so_far.first;
+      second = product-more w v c.requires.narrows at _ taps _ _ _ _ _ refl c.add_product-in-rest.ensures.sum
+          (sample-map T.number c.args.taps.now at c.index-taps-at-in-rest.result (omega arith)
+          c.index-taps-at-in-rest.is) (sample-map T.number _ at c.index-b-at.result (omega arith) c.index-b-at.is)
+          so_far.second;
+      third = product-more w v c.requires.narrows at _ taps _ _ _ _ _ refl c.add_product-in-rest-2.ensures.sum
+          (sample-map T.number c.args.taps.now at c.index-taps-at-in-rest-2.result (omega arith)
+          c.index-taps-at-in-rest-2.is) (sample-map T.number _ at c.index-c-at.result (omega arith) c.index-c-at.is)
+          so_far.third;
+      fourth = product-more w v c.requires.narrows at _ taps _ _ _ _ _ refl c.add_product-in-rest-3.ensures.sum
+          (sample-map T.number c.args.taps.now at c.index-taps-at-in-rest-3.result (omega arith)
+          c.index-taps-at-in-rest-3.is) (sample-map T.number _ at c.index-d-at.result (omega arith) c.index-d-at.is)
+          so_far.fourth;
+      counted = counted_one _ _ _ 4 c.groups.at at _ (omega arith) refl so_far.counted
+          (four_products _ _ _ _ _ c.add_product.ensures.steps c.add_product-in-rest.ensures.steps
+          c.add_product-in-rest-2.ensures.steps c.add_product-in-rest-3.ensures.steps);
     }
 
 pub returns-clause-first : goal.returns-clause-first
@@ -90,7 +105,8 @@ returns-clause-second g c =
     let w = g.F.DotForm.width in
     let all : c.rest.at ≡ length c.args.taps.now = omega arith in
     c.rest.invariant.second
-    ∙ ap (wrap w) (piece-row T.number c.args.taps.now c.args.window.now (c.args.first + c.args.step) c.rest.at _ all (omega arith))
+    ∙ ap (wrap w) (piece-row T.number c.args.taps.now c.args.window.now (c.args.first + c.args.step) c.rest.at _ all
+    (omega arith))
 
 pub returns-clause-third : goal.returns-clause-third
 returns-clause-third g c =
@@ -98,7 +114,8 @@ returns-clause-third g c =
     let w = g.F.DotForm.width in
     let all : c.rest.at ≡ length c.args.taps.now = omega arith in
     c.rest.invariant.third
-    ∙ ap (wrap w) (piece-row T.number c.args.taps.now c.args.window.now (c.args.first + 2 * c.args.step) c.rest.at _ all (omega arith))
+    ∙ ap (wrap w) (piece-row T.number c.args.taps.now c.args.window.now (c.args.first + 2 * c.args.step) c.rest.at _
+    all (omega arith))
 
 pub returns-clause-fourth : goal.returns-clause-fourth
 returns-clause-fourth g c =
@@ -106,7 +123,8 @@ returns-clause-fourth g c =
     let w = g.F.DotForm.width in
     let all : c.rest.at ≡ length c.args.taps.now = omega arith in
     c.rest.invariant.fourth
-    ∙ ap (wrap w) (piece-row T.number c.args.taps.now c.args.window.now (c.args.first + 3 * c.args.step) c.rest.at _ all (omega arith))
+    ∙ ap (wrap w) (piece-row T.number c.args.taps.now c.args.window.now (c.args.first + 3 * c.args.step) c.rest.at _
+    all (omega arith))
 
 pub returns-clause-steps : goal.returns-clause-steps
 returns-clause-steps g c =
@@ -114,6 +132,8 @@ returns-clause-steps g c =
     let some = c.requires.some in
     let is = c.size-size.ensures in
     let total = length c.args.taps.now in
-    let whole = counted_all c.args.steps.now c.groups.steps c.rest.steps 4 n c.groups.at c.rest.at total (omega (arith, some, is)) c.groups.invariant.counted (omega arith) (omega arith) (omega arith) c.rest.invariant.counted in
+    let whole = counted_all c.args.steps.now c.groups.steps c.rest.steps 4 n c.groups.at c.rest.at total
+    (omega (arith, some, is)) c.groups.invariant.counted (omega arith) (omega arith) (omega arith)
+    c.rest.invariant.counted in
     let turns = ap (λ m. lane_turns m total) is in
     record { multiplies_rise = omega (arith, whole); turns_within = omega (arith, whole, turns) }

@@ -13,7 +13,8 @@ pub pair_products-requires-in-pairs-clause-fit : goal.pair_products-requires-in-
 pair_products-requires-in-pairs-clause-fit g c =
     let es = c.interleaved-elements.result in
     let fit = c.interleaved-elements.ensures.fit in
-    subst (λ (l : List ℤ). Each1 (SFits w16) l) (sym (ints_of_bits w32 es (each_widens w16 w32 (omega arith) es fit))) fit
+    subst (λ (l : List ℤ). Each1 (SFits w16) l) (sym (ints_of_bits w32 es (each_widens w16 w32 (omega arith) es fit)))
+    fit
 
 pub pairs-preserved : goal.pairs-preserved
 pairs-preserved g c =
@@ -34,15 +35,21 @@ pairs-preserved g c =
     let room : at + 4 ≤ length matrix = omega (arith, places, c.requires.matrix, c.requires.room) in
     let behind : at + given + 4 ≤ length matrix = omega (arith, places, c.requires.matrix, c.requires.room) in
     let zero : j ≡ 0 + j = omega arith in
-    let fit_upper : Each1 (SFits w32) sums.upper = subst (λ (l : List ℤ). Each1 (SFits w32) l) (sym h.upper) (four-fit rows matrix given 0 j column) in
-    let fit_lower : Each1 (SFits w32) sums.lower = subst (λ (l : List ℤ). Each1 (SFits w32) l) (sym h.lower) (four-fit rows matrix given columns j column) in
-    let upper = half_is rows es sums.upper c.pair_products.result j 0 fit_upper (c.pair_products.ensures ∙ ap (λ l. four (pair_sum rows l j) 0) back) in
-    let lower = half_is rows es sums.lower c.pair_products-in-pairs.result (columns + j) 0 fit_lower (c.pair_products-in-pairs.ensures ∙ ap (λ l. four (pair_sum rows l (columns + j)) 0) back) in
+    let fit_upper : Each1 (SFits w32) sums.upper = subst (λ (l : List ℤ). Each1 (SFits w32) l) (sym h.upper)
+    (four-fit rows matrix given 0 j column) in
+    let fit_lower : Each1 (SFits w32) sums.lower = subst (λ (l : List ℤ). Each1 (SFits w32) l) (sym h.lower)
+    (four-fit rows matrix given columns j column) in
+    let upper = half_is rows es sums.upper c.pair_products.result j 0 fit_upper
+    (c.pair_products.ensures ∙ ap (λ l. four (pair_sum rows l j) 0) back) in
+    let lower = half_is rows es sums.lower c.pair_products-in-pairs.result (columns + j) 0 fit_lower
+    (c.pair_products-in-pairs.ensures ∙ ap (λ l. four (pair_sum rows l (columns + j)) 0) back) in
     record {
       even = omega (arith, h.even);
       within = two;
-      upper = four-more rows matrix given 0 j at column sums.upper es _ refl room behind read.values h.upper (upper ∙ ap (λ q. raised w32 sums.upper (four (pair_sum rows es q) 0)) zero);
-      lower = four-more rows matrix given columns j at column sums.lower es _ refl room behind read.values h.lower lower;
+      upper = four-more rows matrix given 0 j at column sums.upper es _ refl room behind read.values h.upper
+          (upper ∙ ap (λ q. raised w32 sums.upper (four (pair_sum rows es q) 0)) zero);
+      lower = four-more rows matrix given columns j at column sums.lower es _ refl room behind read.values h.lower
+          lower;
       counted = record {
         multiplies_rise = omega (arith, h.counted, c.count.ensures);
         turns_within = omega (arith, h.counted, c.count.ensures);

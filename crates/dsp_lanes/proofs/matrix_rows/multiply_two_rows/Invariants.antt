@@ -12,7 +12,8 @@ invariant-fours g l = record {
   fours : l.column % 4 ≡ 0;
   within : l.column ≤ l.given;
   upper : take l.column l.upper ≡ values l.column (λ k. close Q15 (column_sum l.rows l.matrix l.columns l.given 0 k));
-  lower : take l.column l.lower ≡ values l.column (λ k. close Q15 (column_sum l.rows l.matrix l.columns l.given l.columns k));
+  lower : take l.column l.lower ≡ values l.column (λ k. close Q15
+      (column_sum l.rows l.matrix l.columns l.given l.columns k));
   counted : RisesWithin l.initial.steps l.steps (2 * l.column * l.columns) (2 * l.column * l.columns);
 }
 

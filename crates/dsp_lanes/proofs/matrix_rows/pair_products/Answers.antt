@@ -10,4 +10,7 @@ returns c =
     let rows = c.args.rows.now in
     let elements = c.args.elements in
     let j = c.args.j in
-    pairs_are rows elements elements c.pair.result j 0 (omega (arith, c.requires.long)) (sym (take_all 8 elements (omega (arith, c.requires.long)))) (c.pair.ensures.values ∙ (λ i. repeated (sample (map-self rows i) j) (sample (map-self rows i) (j + 1)))) c.requires.fit c.pair.ensures.fit
+    pairs_are rows elements elements c.pair.result j 0 (omega (arith, c.requires.long))
+    (sym (take_all 8 elements (omega (arith, c.requires.long))))
+    (c.pair.ensures.values ∙ (λ i. repeated (sample (map-self rows i) j) (sample (map-self rows i) (j + 1))))
+    c.requires.fit c.pair.ensures.fit

@@ -23,4 +23,5 @@ returns g c =
     let i = c.loop-i.i in
     let long_out = length-map c.loop-i.out N in
     let long_a = length-map c.args.a.now N in
-    sym (take_all i (map N c.loop-i.out) (omega arith)) ∙ c.loop-i.invariant ∙ ap (map (g.O.Change.value c.args.operation)) (take_all i (map N c.args.a.now) (omega arith))
+    sym (take_all i (map N c.loop-i.out) (omega arith)) ∙ c.loop-i.invariant ∙
+    ap (map (g.O.Change.value c.args.operation)) (take_all i (map N c.args.a.now) (omega arith))

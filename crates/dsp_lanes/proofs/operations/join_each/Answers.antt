@@ -17,8 +17,10 @@ loop-i-preserved g c =
     let long_a = length-map a N in
     let long_b = length-map b N in
     ap (take _) (map-set N out i c.join.result)
-    ∙ zip2-one f i _ (map N out) (map N a) (map N b) (N c.join.result) refl (omega arith) (omega arith) (omega arith) c.loop-i.invariant
-    (c.join.ensures ∙ (λ k. f (sample-map N a i c.index-a-i.result (omega arith) c.index-a-i.is k) (sample-map N b i c.index-b-i.result (omega arith) c.index-b-i.is k)))
+    ∙ zip2-one f i _ (map N out) (map N a) (map N b) (N c.join.result) refl (omega arith) (omega arith) (omega arith)
+    c.loop-i.invariant
+    (c.join.ensures ∙ (λ k. f (sample-map N a i c.index-a-i.result (omega arith) c.index-a-i.is k)
+    (sample-map N b i c.index-b-i.result (omega arith) c.index-b-i.is k)))
 
 pub returns : goal.returns
 returns g c =
@@ -27,4 +29,6 @@ returns g c =
     let long_out = length-map c.loop-i.out N in
     let long_a = length-map c.args.a.now N in
     let long_b = length-map c.args.b.now N in
-    sym (take_all i (map N c.loop-i.out) (omega arith)) ∙ c.loop-i.invariant ∙ (λ k. zip2 g.O.Join.value (take_all i (map N c.args.a.now) (omega arith) k) (take_all i (map N c.args.b.now) (omega arith) k))
+    sym (take_all i (map N c.loop-i.out) (omega arith)) ∙ c.loop-i.invariant ∙
+    (λ k. zip2 g.O.Join.value (take_all i (map N c.args.a.now) (omega arith) k)
+    (take_all i (map N c.args.b.now) (omega arith) k))

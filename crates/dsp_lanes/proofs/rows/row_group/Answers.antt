@@ -15,7 +15,8 @@ pub pairs-init : goal.pairs-init
 pairs-init g c = record {
   within = omega arith;
   fit = c.no_sums-sums.ensures.fit;
-  summed = c.no_sums-sums.ensures.sums ∙ values-zero g.F.RowForm.size ∙ ap (λ z. values g.F.RowForm.size (λ i. z)) (wrap-zero g.F.RowForm.width);
+  summed = c.no_sums-sums.ensures.sums ∙ values-zero g.F.RowForm.size ∙
+      ap (λ z. values g.F.RowForm.size (λ i. z)) (wrap-zero g.F.RowForm.width);
   counted = (0, omega arith, record { multiplies_rise = omega arith; turns_rise = omega arith });
 }
 
@@ -40,11 +41,19 @@ pairs-preserved g c =
       fit = c.add_pair-sums.ensures.fit;
       summed =
           c.add_pair-sums.ensures.sums
-          ∙ ap (λ l. zip2 (add (sample taps (j + 1))) (zip2 (add (sample taps j)) l (chunk (at + j) F.size window)) (chunk (at + j + 1) F.size window)) h.summed
-          ∙ ap (λ l. zip2 (add (sample taps (j + 1))) l (chunk (at + j + 1) F.size window)) (row_lanes-more w at F.size j (j + 1) taps window (sample taps j) refl refl (omega (arith, long, within)))
-          ∙ ap (λ p. zip2 (add (sample taps (j + 1))) (values F.size (λ i. int_wrap w (row taps window (j + 1) (at + i)))) (chunk p F.size window)) one
-          ∙ row_lanes-more w at F.size (j + 1) (j + 2) taps window (sample taps (j + 1)) (omega arith) refl (omega (arith, long, within));
-      counted = (h.counted.0 + 1, omega (arith, h.counted.1), record { multiplies_rise = omega (arith, before, more); turns_rise = omega (arith, before, more) });
+          ∙ ap (λ l. zip2 (add (sample taps (j + 1))) (zip2 (add (sample taps j)) l (chunk (at + j) F.size window))
+          (chunk (at + j + 1) F.size window)) h.summed
+          ∙ ap (λ l. zip2 (add (sample taps (j + 1))) l (chunk (at + j + 1) F.size window))
+          (row_lanes-more w at F.size j (j + 1) taps window (sample taps j) refl refl (omega (arith, long, within)))
+          ∙ ap (λ p. zip2 (add (sample taps (j + 1))) (values F.size
+          (λ i. int_wrap w (row taps window (j + 1) (at + i)))) (chunk p F.size window)) one
+          ∙ row_lanes-more w at F.size (j + 1) (j + 2) taps window (sample taps (j + 1)) (omega arith) refl
+          (omega (arith, long, within));
+      counted = (
+        h.counted.0 + 1,
+        omega (arith, h.counted.1),
+        record { multiplies_rise = omega (arith, before, more); turns_rise = omega (arith, before, more) },
+      );
     }
 
 pub close-requires-clause-fit : goal.close-requires-clause-fit
@@ -76,7 +85,8 @@ returns-clause-out g c =
     let long = length-map c.args.window.now T.number in
     let within = c.requires.window in
     let h = c.pairs.invariant in
-    let whole : F.lanes c.if-j-taps.sums ≡ values F.size (λ i. int_wrap w (row taps window n (at + i))) = (elim c.if-j-taps.branch [
+    let whole : F.lanes c.if-j-taps.sums ≡ values F.size (λ i. int_wrap w (row taps window n (at + i))) =
+    (elim c.if-j-taps.branch [
       | then-j-taps b ↦
           let last : n ≡ j + 1 = omega (arith, b.if-j-taps, c.pairs-test.false) in
           ap F.lanes b.sums-is
@@ -91,7 +101,8 @@ returns-clause-out g c =
     ∙ ap (put_chunk at (map T.number c.args.out.now))
     (ap (map F.shut) whole
     ∙ map-map F.shut (λ i. int_wrap w (row taps window n (at + i))) (range_with_len 0 F.size)
-    ∙ values_cong F.size (λ i. F.shut (int_wrap w (row taps window n (at + i)))) (λ i. close T.format (row taps window n (at + i))) (λ i lt. c.closes.ensures (at + i)))
+    ∙ values_cong F.size (λ i. F.shut (int_wrap w (row taps window n (at + i))))
+    (λ i. close T.format (row taps window n (at + i))) (λ i lt. c.closes.ensures (at + i)))
 
 pub returns-clause-steps : goal.returns-clause-steps
 returns-clause-steps g c =
@@ -104,9 +115,16 @@ returns-clause-steps g c =
       | then-j-taps b ↦
           let last : n ≡ j + 1 = omega (arith, b.if-j-taps, c.pairs-test.false) in
           let products = ap (λ m. m * F.size) last in
-          rw b.steps-is (record { multiplies_rise = omega (arith, before, products, b.count-then-j-taps.ensures); turns_within = omega (arith, before, last, h.counted.1, b.count-then-j-taps.ensures) })
+          rw b.steps-is (record {
+            multiplies_rise = omega (arith, before, products, b.count-then-j-taps.ensures);
+            turns_within = omega (arith, before, last, h.counted.1, b.count-then-j-taps.ensures);
+          })
       | else-j-taps b ↦
           let all : n ≡ j = omega (arith, b.if-j-taps, h.within) in
           let products = ap (λ m. m * F.size) all in
-          rw b.steps-is (record { multiplies_rise = omega (arith, before, products); turns_within = omega (arith, before, all, h.counted.1) })
+          rw b.steps-is (record {
+            multiplies_rise = omega (arith, before, products);
+            turns_within =
+                omega (arith, before, all, h.counted.1);
+          })
     ]

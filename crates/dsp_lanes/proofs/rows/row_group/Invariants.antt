@@ -9,7 +9,9 @@ abbrev pub invariant-pairs : goal.invariant-pairs
 invariant-pairs g l = record {
   within : l.j ≤ length l.taps;
   fit : g.F.RowForm.AreSums l.sums l.j;
-  summed : g.F.RowForm.lanes l.sums ≡ values g.F.RowForm.size (λ i. wrap g.F.RowForm.width (sum_below l.j (λ j. sample (map g.T.Sample.number l.taps) j *ℤ sample (map g.T.Sample.number l.window) (l.at + i + j))));
+  summed : g.F.RowForm.lanes l.sums ≡ values g.F.RowForm.size
+      (λ i. wrap g.F.RowForm.width (sum_below l.j (λ j. sample (map g.T.Sample.number l.taps) j *ℤ sample
+      (map g.T.Sample.number l.window) (l.at + i + j))));
   counted : (k : ℕ) × (l.j ≡ 2 * k) × Rises l.initial.steps l.steps (l.j * g.F.RowForm.size) k;
 }
 

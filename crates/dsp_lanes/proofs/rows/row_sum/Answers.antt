@@ -12,11 +12,14 @@ loop-j-preserved g c =
     let j = c.loop-j.j in
     record {
       summed =
-          row-more (accumulator T.format) c.args.at j _ (map T.number c.args.taps.now) (map T.number c.args.window.now) _ _ (T.total c.loop-j.sum) _ refl
+          row-more (accumulator T.format) c.args.at j _ (map T.number c.args.taps.now)
+          (map T.number c.args.window.now) _ _ (T.total c.loop-j.sum) _ refl
           (sample-map T.number c.args.taps.now j c.index-taps-j.result (omega arith) c.index-taps-j.is)
-          (sample-map T.number c.args.window.now (c.args.at + j) c.index-window-at.result (omega arith) c.index-window-at.is)
+          (sample-map T.number c.args.window.now (c.args.at + j) c.index-window-at.result (omega arith)
+          c.index-window-at.is)
           c.loop-j.invariant.summed
-          (c.accumulate-sum.ensures ∙ ap (λ p. wrap (accumulator T.format) (T.total c.loop-j.sum +ℤ p)) c.product-product.ensures.value);
+          (c.accumulate-sum.ensures ∙ ap (λ p. wrap (accumulator T.format) (T.total c.loop-j.sum +ℤ p))
+          c.product-product.ensures.value);
       counted = Rises-more _ _ _ _ _ _ _ c.loop-j.invariant.counted c.product-product.ensures.steps;
     }
 

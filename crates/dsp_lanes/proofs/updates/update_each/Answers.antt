@@ -3,7 +3,8 @@ use Rattle.std.proofs.lemmas.List.{length-map, map-set, take_all}
 use lib.Lanes.{zip2, chunk, put_chunk}
 use Rattle.dsp_defs.proofs.SumLemmas.{sample-map}
 use Rattle.std.proofs.lemmas.Simd.{length-zip2, length-chunk}
-use Rattle.dsp_lanes.proofs.Groups.{zip2-group, zip2-one, rest-group, rest-one, rest-sample, counted_group, counted_one, counted_all, one_group, one_product}
+use Rattle.dsp_lanes.proofs.Groups.{zip2-group, zip2-one, rest-group, rest-one, rest-sample, counted_group}
+use Rattle.dsp_lanes.proofs.Groups.{counted_one, counted_all, one_group, one_product}
 use Rattle.dsp_lanes.specs.Turns.{lane_turns}
 use Rattle.dsp_lanes.proofs.updates.update_each.Goals as goal
 
@@ -22,14 +23,18 @@ groups-preserved g c =
     let long_window = length-map c.args.window.now N in
     let chunk_s : length (chunk at n first) ≡ n = length-chunk at n first (omega arith) in
     let chunk_w : length (chunk at n window) ≡ n = length-chunk at n window (omega arith) in
-    let long : length (zip2 f (chunk at n first) (chunk at n window)) ≡ n = length-zip2 f (chunk at n first) (chunk at n window) (omega arith) ∙ chunk_s in
+    let long : length (zip2 f (chunk at n first) (chunk at n window)) ≡ n =
+    length-zip2 f (chunk at n first) (chunk at n window) (omega arith) ∙ chunk_s in
     let is = c.group.ensures
-    ∙ (λ i. put_chunk at (map S c.groups.slots) (zip2 f (chunk at (size_is i) (map S c.groups.slots)) (chunk at (size_is i) window)))
+    ∙ (λ i. put_chunk at (map S c.groups.slots) (zip2 f (chunk at (size_is i) (map S c.groups.slots))
+    (chunk at (size_is i) window)))
     ∙ ap (λ l. put_chunk at (map S c.groups.slots) (zip2 f (take n l) (chunk at n window))) c.groups.invariant.left in
     record {
       within = omega arith;
-      left = rest-group at n _ (map S c.groups.slots) first (zip2 f (chunk at n first) (chunk at n window)) long (omega arith) c.groups.invariant.left is;
-      done = zip2-group f at n _ (map S c.groups.slots) first window (omega arith) (omega arith) (omega arith) c.groups.invariant.done is;
+      left = rest-group at n _ (map S c.groups.slots) first (zip2 f (chunk at n first) (chunk at n window)) long
+          (omega arith) c.groups.invariant.left is;
+      done = zip2-group f at n _ (map S c.groups.slots) first window (omega arith) (omega arith) (omega arith)
+          c.groups.invariant.done is;
       counted = counted_group _ _ _ 1 n at c.groups.invariant.counted (one_group _ _ n c.count.ensures);
     }
 
@@ -46,17 +51,21 @@ rest-preserved g c =
     let long_first = length-map c.args.slots.now S in
     let long_window = length-map c.args.window.now N in
     let long_set = length-set c.rest.slots at v in
-    let slot_is = sample-map S c.rest.slots at c.index-slots-at.result (omega arith) c.index-slots-at.is ∙ rest-sample at (map S c.rest.slots) first c.rest.invariant.left in
+    let slot_is = sample-map S c.rest.slots at c.index-slots-at.result (omega arith) c.index-slots-at.is ∙
+    rest-sample at (map S c.rest.slots) first c.rest.invariant.left in
     let sample_is = sample-map N c.args.window.now at c.index-window-at.result (omega arith) c.index-window-at.is in
     record {
       within = omega arith;
       started = omega arith;
-      left = ap (drop _) (map-set S c.rest.slots at v) ∙ rest-one at _ (map S c.rest.slots) first (S v) refl c.rest.invariant.left;
+      left = ap (drop _) (map-set S c.rest.slots at v) ∙
+          rest-one at _ (map S c.rest.slots) first (S v) refl c.rest.invariant.left;
       done =
           ap (take _) (map-set S c.rest.slots at v)
-          ∙ zip2-one f at _ (map S c.rest.slots) first window (S v) refl (omega arith) (omega arith) (omega arith) c.rest.invariant.done
+          ∙ zip2-one f at _ (map S c.rest.slots) first window (S v) refl (omega arith) (omega arith) (omega arith)
+          c.rest.invariant.done
           (c.one.ensures.value ∙ (λ i. f (slot_is i) (sample_is i)));
-      counted = counted_one _ _ _ 1 c.groups.at at _ (omega arith) refl c.rest.invariant.counted (one_product _ _ c.one.ensures.steps);
+      counted = counted_one _ _ _ 1 c.groups.at at _ (omega arith) refl c.rest.invariant.counted
+          (one_product _ _ c.one.ensures.steps);
     }
 
 pub returns-clause-slots : goal.returns-clause-slots
@@ -67,7 +76,9 @@ returns-clause-slots g c =
     let long_sums = length-map c.rest.slots S in
     let long_first = length-map c.args.slots.now S in
     let long_window = length-map c.args.window.now N in
-    sym (take_all c.rest.at (map S c.rest.slots) (omega arith)) ∙ c.rest.invariant.done ∙ (λ k. zip2 f (take_all c.rest.at (map S c.args.slots.now) (omega arith) k) (take_all c.rest.at (map N c.args.window.now) (omega arith) k))
+    sym (take_all c.rest.at (map S c.rest.slots) (omega arith)) ∙ c.rest.invariant.done ∙
+    (λ k. zip2 f (take_all c.rest.at (map S c.args.slots.now) (omega arith) k)
+    (take_all c.rest.at (map N c.args.window.now) (omega arith) k))
 
 pub returns-clause-steps : goal.returns-clause-steps
 returns-clause-steps g c =
@@ -75,6 +86,8 @@ returns-clause-steps g c =
     let some = c.requires.some in
     let is = c.size-size.ensures in
     let total = length c.args.slots.now in
-    let whole = counted_all c.args.steps.now c.groups.steps c.rest.steps 1 n c.groups.at c.rest.at total (omega (arith, some, is)) c.groups.invariant.counted (omega arith) (omega arith) (omega arith) c.rest.invariant.counted in
+    let whole = counted_all c.args.steps.now c.groups.steps c.rest.steps 1 n c.groups.at c.rest.at total
+    (omega (arith, some, is)) c.groups.invariant.counted (omega arith) (omega arith) (omega arith)
+    c.rest.invariant.counted in
     let turns = ap (λ m. lane_turns m total) is in
     record { multiplies_rise = omega (arith, whole); turns_within = omega (arith, whole, turns) }

@@ -8,7 +8,8 @@ abbrev pub invariant-groups : goal.invariant-groups
 invariant-groups g l = record {
   within : l.at ≤ length l.slots;
   left : drop l.at (map g.U.Update.number l.slots) ≡ drop l.at (map g.U.Update.number l.fn.slots);
-  done : take l.at (map g.U.Update.number l.slots) ≡ zip2 (g.U.Update.next l.factor) (take l.at (map g.U.Update.number l.fn.slots)) (take l.at (map g.T.Sample.number l.window));
+  done : take l.at (map g.U.Update.number l.slots) ≡ zip2 (g.U.Update.next l.factor)
+      (take l.at (map g.U.Update.number l.fn.slots)) (take l.at (map g.T.Sample.number l.window));
   counted : (k : ℕ) × (k * l.size ≡ l.at) × RisesWithin l.initial.steps l.steps (1 * l.at) (1 * k);
 }
 
@@ -20,7 +21,8 @@ invariant-rest g l = record {
   within : l.at ≤ length l.slots;
   started : l.initial.at ≤ l.at;
   left : drop l.at (map g.U.Update.number l.slots) ≡ drop l.at (map g.U.Update.number l.fn.slots);
-  done : take l.at (map g.U.Update.number l.slots) ≡ zip2 (g.U.Update.next l.factor) (take l.at (map g.U.Update.number l.fn.slots)) (take l.at (map g.T.Sample.number l.window));
+  done : take l.at (map g.U.Update.number l.slots) ≡ zip2 (g.U.Update.next l.factor)
+      (take l.at (map g.U.Update.number l.fn.slots)) (take l.at (map g.T.Sample.number l.window));
   counted : Rises l.initial.steps l.steps (1 * (l.at - l.initial.at)) (1 * (l.at - l.initial.at));
 }
 

@@ -5,7 +5,8 @@ pub overflow_cast-result : goal.overflow_cast-result
 overflow_cast-result c = (high_words_are c.args.factor c.args.samples c.requires.long c.ranges.factor c.requires.fit).0
 
 pub overflow_cast-result-2 : goal.overflow_cast-result-2
-overflow_cast-result-2 c = (high_words_are c.args.factor c.args.samples c.requires.long c.ranges.factor c.requires.fit).1
+overflow_cast-result-2 c = (high_words_are c.args.factor c.args.samples c.requires.long c.ranges.factor
+    c.requires.fit).1
 
 pub returns-clause-words : goal.returns-clause-words
 returns-clause-words c = (high_words_are c.args.factor c.args.samples c.requires.long c.ranges.factor c.requires.fit).2

@@ -9,5 +9,6 @@ returns-clause-sums c = saturated_are c.args.values c.args.changes c.requires.lo
 
 pub returns-clause-fit : goal.returns-clause-fit
 returns-clause-fit c =
-    subst (λ (l : List ℤ). Each1 (SFits w32) l) (sym (saturated_are c.args.values c.args.changes c.requires.long c.requires.values c.requires.changes))
+    subst (λ (l : List ℤ). Each1 (SFits w32) l) (sym (saturated_are c.args.values c.args.changes c.requires.long
+    c.requires.values c.requires.changes))
     (saturated_fit c.args.values c.args.changes)

@@ -17,9 +17,11 @@ returns-clause-weights g c =
     let n = length c.args.weights.now in
     let long_weights : length weights ≡ n = length-map c.args.weights.now number in
     let long_window : length window ≡ n = length-map c.args.window.now number ∙ c.requires in
-    let long : length (zip2 next weights window) ≡ n = length-zip2 next weights window (long_weights ∙ sym long_window) ∙ long_weights in
+    let long : length (zip2 next weights window) ≡ n = length-zip2 next weights window
+    (long_weights ∙ sym long_window) ∙ long_weights in
     let at = λ (j : ℕ). next (sample weights j) (sample window j) in
     c.update_each.ensures.slots
     ∙ same_numbers (zip2 next weights window) (values n at) (long ∙ sym (length-map-range_with_len at 0 n))
-    (λ i h. get_or-zip2 next weights window i (pos 0) (pos 0) (pos 0) (omega (arith, h, long, long_weights)) (omega (arith, h, long, long_window))
+    (λ i h. get_or-zip2 next weights window i (pos 0) (pos 0) (pos 0) (omega (arith, h, long, long_weights))
+    (omega (arith, h, long, long_window))
     ∙ sym (get_or-map-range_with_len at 0 n i i (pos 0) (omega (arith, h, long)) (omega arith)))

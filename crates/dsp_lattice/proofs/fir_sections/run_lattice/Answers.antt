@@ -18,6 +18,9 @@ returns-clause-goes g c =
     let news = map number c.run_sections.new.states in
     let copied = ap (map number) c.copy_from_slice.ensures.after in
     let same : length gs ≡ length fs =
-    length-map c.run_sections.new.backward number ∙ c.run_sections.auto.backward ∙ ap length c.copy_from_slice.ensures.after ∙ sym c.run_sections.auto.forward ∙ sym (length-map c.run_sections.new.forward number) in
-    let goes = subst (λ (bs : List ℤ). GoesOn (sections_give ks) (lattice_kept ks) olds news (zip xs bs) (zip fs gs)) copied c.run_sections.ensures.goes in
+    length-map c.run_sections.new.backward number ∙ c.run_sections.auto.backward ∙
+    ap length c.copy_from_slice.ensures.after ∙ sym c.run_sections.auto.forward ∙
+    sym (length-map c.run_sections.new.forward number) in
+    let goes = subst (λ (bs : List ℤ). GoesOn (sections_give ks) (lattice_kept ks) olds news (zip xs bs) (zip fs gs))
+    copied c.run_sections.ensures.goes in
     lattice-whole ks olds news xs fs gs same goes

@@ -26,7 +26,8 @@ loop-k-preserved g c =
     let below : k < length numbers = omega arith in
     let within : k < length window = omega arith in
     let fits : SFits w32 (sample numbers k) =
-    sample_fits T.format (sample numbers k) (All-get_or (FitsSigned (word T.format)) numbers k (pos 0) below c.requires.samples) in
+    sample_fits T.format (sample numbers k) (All-get_or (FitsSigned (word T.format)) numbers k (pos 0) below
+    c.requires.samples) in
     let wide : SFits w64 (sample numbers k) = record { sfits = omega (arith, fits.sfits) } in
     below_more _ k
     (λ i before.
@@ -39,4 +40,5 @@ returns g c =
     let number = g.T.Sample.number in
     let samples = c.loop-k.samples in
     let numbers = c.args.numbers.now in
-    same_numbers (map number samples) numbers (omega (arith, length-map samples number)) (λ i within. c.loop-k.invariant i (omega (arith, within, length-map samples number)))
+    same_numbers (map number samples) numbers (omega (arith, length-map samples number))
+    (λ i within. c.loop-k.invariant i (omega (arith, within, length-map samples number)))

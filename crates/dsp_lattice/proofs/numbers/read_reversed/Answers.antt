@@ -1,4 +1,5 @@
-use Rattle.std.proofs.Common.{◌≡◌, ◌∙◌, ap, ◌-◌, ◌++◌, length, map, take, drop, reverse, arith, drop_at, length-take-le, length-drop}
+use Rattle.std.proofs.Common.{◌≡◌, ◌∙◌, ap, ◌-◌, ◌++◌, length, map, take, drop, reverse, arith, drop_at}
+use Rattle.std.proofs.Common.{length-take-le, length-drop}
 use Rattle.std.proofs.lemmas.List.{drop-map, drop_all, reverse-reverse, append-nil}
 use borrow.Rule.Slice.PartMut.{put_mid}
 use Rattle.dsp_lattice.proofs.Sections.{reverse-map}

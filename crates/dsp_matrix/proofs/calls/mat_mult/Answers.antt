@@ -9,4 +9,5 @@ pub returns-clause-out : goal.returns-clause-out
 returns-clause-out g c =
     sym (map-id c.multiply.new.out)
     ∙ c.multiply.ensures.out
-    ∙ ap₂ (λ a b. values (c.args.rows * c.args.given) (product_element Q15 (λ rows columns k l. k * columns + l) c.args.columns c.args.given a b)) (map-id c.args.a.now) (map-id c.args.b.now)
+    ∙ ap₂ (λ a b. values (c.args.rows * c.args.given) (product_element Q15 (λ rows columns k l. k * columns + l)
+    c.args.columns c.args.given a b)) (map-id c.args.a.now) (map-id c.args.b.now)

@@ -11,4 +11,5 @@ returns-clause-out g c =
     let number = g.T.Sample.number in
     let fits : SFits w32 c.args.s = c.ranges.s in
     c.scale_slices.ensures.out
-    ∙ simp to_z-of_z (mapped-values (scale g.T.Sample.format (number c.args.f) c.args.s) (length c.args.out.now) (map number c.args.a.now) (length-map c.args.a.now number ∙ c.requires.same))
+    ∙ simp to_z-of_z (mapped-values (scale g.T.Sample.format (number c.args.f) c.args.s) (length c.args.out.now)
+    (map number c.args.a.now) (length-map c.args.a.now number ∙ c.requires.same))

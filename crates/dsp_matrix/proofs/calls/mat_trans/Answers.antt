@@ -10,7 +10,8 @@ rest-preserved g c =
     let row = c.rest.row in
     let before = c.rest.invariant in
     let turned = c.turn_rows-in-rest.ensures in
-    let IsNow : ℕ → ℕ → Type 0 = IsTurned c.args.rows c.args.columns (map number c.args.a.now) (map number c.turn_rows-in-rest.new.out) in
+    let IsNow : ℕ → ℕ → Type 0 = IsTurned c.args.rows c.args.columns (map number c.args.a.now)
+    (map number c.turn_rows-in-rest.new.out) in
     let same : row + 0 ≡ row = omega arith in
     record {
       within = omega arith;
@@ -23,5 +24,6 @@ pub returns : goal.returns
 returns g c =
     let number = g.T.Sample.number in
     let out = c.rest.out in
-    turned-whole c.args.rows c.args.columns (map number c.args.a.now) (map number out) (length-map out number ∙ c.rest.auto.out ∙ c.fours.auto.out ∙ c.requires.out)
+    turned-whole c.args.rows c.args.columns (map number c.args.a.now) (map number out)
+    (length-map out number ∙ c.rest.auto.out ∙ c.fours.auto.out ∙ c.requires.out)
     (λ i j few below. c.rest.invariant.turned i j (omega arith) below)

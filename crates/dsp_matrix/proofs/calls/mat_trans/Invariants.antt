@@ -8,7 +8,8 @@ invariant-fours g l =
     let number = g.T.Sample.number in
     record {
       within : l.row ≤ l.rows;
-      turned : (i j : ℕ) → i < l.row → j < l.columns → IsTurned l.rows l.columns (map number l.a) (map number l.out) i j;
+      turned : (i j : ℕ) → i < l.row → j < l.columns → IsTurned l.rows l.columns (map number l.a) (map number l.out) i
+          j;
     }
 
 abbrev pub decreases-fours : goal.decreases-fours
@@ -19,7 +20,8 @@ invariant-rest g l =
     let number = g.T.Sample.number in
     record {
       within : l.row ≤ l.rows;
-      turned : (i j : ℕ) → i < l.row → j < l.columns → IsTurned l.rows l.columns (map number l.a) (map number l.out) i j;
+      turned : (i j : ℕ) → i < l.row → j < l.columns → IsTurned l.rows l.columns (map number l.a) (map number l.out) i
+          j;
     }
 
 abbrev pub decreases-rest : goal.decreases-rest

@@ -1,4 +1,6 @@
-use Rattle.std.proofs.Common.{ℕ, ℤ, List, [], ◌∷◌, subst, ◌≡◌, ◌∙◌, ◌+◌, ◌-◌, ◌*◌, ◌/◌, ◌<◌, ◌≤◌, ◌++◌, length, map, take, drop, false, true, ap, sym, refl, arith, length-append, length-take-le, take_all, rules}
+use Rattle.std.proofs.Common.{ℕ, ℤ, List, [], ◌∷◌, subst, ◌≡◌, ◌∙◌, ◌+◌, ◌-◌, ◌*◌, ◌/◌, ◌<◌, ◌≤◌, ◌++◌, length, map}
+use Rattle.std.proofs.Common.{take, drop, false, true, ap, sym, refl, arith, length-append, length-take-le, take_all}
+use Rattle.std.proofs.Common.{rules}
 use Rattle.std.proofs.lemmas.List.{length-map}
 use Rattle.dsp_lanes.specs.Turns.{RisesWithin}
 use Rattle.dsp_matrix.specs.Groups.{OpenState, given_count, given_group, given_groups, left_open, product_count}
@@ -19,23 +21,31 @@ as-long numbers count n is none = omega arith
 pub feed_whole-requires-clause-room : goal.feed_whole-requires-clause-room
 feed_whole-requires-clause-room g c =
     let of = g.W.GroupWork.group (g.W.GroupWork.block c.args.work.now) in
-    subst (λ n. given_count of n ≤ length c.args.output.now) (sym (as-long c.args.begun.now.numbers c.len.result (length c.args.input.now) c.len.ensures.count c.if-len-eq0.true)) c.requires.room
+    subst (λ n. given_count of n ≤ length c.args.output.now)
+    (sym (as-long c.args.begun.now.numbers c.len.result (length c.args.input.now) c.len.ensures.count
+    c.if-len-eq0.true)) c.requires.room
 
 pub returns-then-len-eq0-clause-given : goal.returns-then-len-eq0-clause-given
 returns-then-len-eq0-clause-given g c =
     let of = g.W.GroupWork.group (g.W.GroupWork.block c.args.work.now) in
-    c.feed_whole.ensures.given ∙ ap (given_count of) (as-long c.args.begun.now.numbers c.len.result (length c.args.input.now) c.len.ensures.count c.if-len-eq0.true)
+    c.feed_whole.ensures.given ∙ ap (given_count of) (as-long c.args.begun.now.numbers c.len.result
+    (length c.args.input.now) c.len.ensures.count c.if-len-eq0.true)
 
 pub returns-then-len-eq0-clause-out : goal.returns-then-len-eq0-clause-out
 returns-then-len-eq0-clause-out g c =
     let of = g.W.GroupWork.group (g.W.GroupWork.block c.args.work.now) in
-    c.feed_whole.ensures.out ∙ ap (λ l. given_groups of (l ++ map g.T.Sample.number c.args.input.now)) (sym (no-samples c.args.begun.now.numbers c.len.result c.len.ensures.count c.if-len-eq0.true))
+    c.feed_whole.ensures.out ∙ ap (λ l. given_groups of (l ++ map g.T.Sample.number c.args.input.now))
+    (sym (no-samples c.args.begun.now.numbers c.len.result c.len.ensures.count c.if-len-eq0.true))
 
 pub returns-then-len-eq0-clause-begun : goal.returns-then-len-eq0-clause-begun
 returns-then-len-eq0-clause-begun g c =
     let of = g.W.GroupWork.group (g.W.GroupWork.block c.args.work.now) in
     let empty = sym (no-samples c.args.begun.now.numbers c.len.result c.len.ensures.count c.if-len-eq0.true) in
-    c.feed_whole.ensures.begun ∙ (λ i. record { size = c.args.begun.now.size; numbers = left_open of (empty i ++ map g.T.Sample.number c.args.input.now) })
+    c.feed_whole.ensures.begun ∙ (λ i. record {
+      size = c.args.begun.now.size;
+      numbers =
+          left_open of (empty i ++ map g.T.Sample.number c.args.input.now);
+    })
 
 pub returns-then-len-eq0-clause-rest : goal.returns-then-len-eq0-clause-rest
 returns-then-len-eq0-clause-rest g c = c.feed_whole.ensures.rest
@@ -43,20 +53,27 @@ returns-then-len-eq0-clause-rest g c = c.feed_whole.ensures.rest
 pub returns-then-len-eq0-clause-steps : goal.returns-then-len-eq0-clause-steps
 returns-then-len-eq0-clause-steps g c =
     let of = g.W.GroupWork.group (g.W.GroupWork.block c.args.work.now) in
-    subst (λ n. RisesWithin c.args.steps.now c.feed_whole.new.steps (product_count of n) (product_count of n)) (as-long c.args.begun.now.numbers c.len.result (length c.args.input.now) c.len.ensures.count c.if-len-eq0.true) c.feed_whole.ensures.steps
+    subst (λ n. RisesWithin c.args.steps.now c.feed_whole.new.steps (product_count of n) (product_count of n))
+    (as-long c.args.begun.now.numbers c.len.result (length c.args.input.now) c.len.ensures.count c.if-len-eq0.true)
+    c.feed_whole.ensures.steps
 
 -- the open group has taken all samples, and is not whole
-short-is : (g : _) (c : Then-not-is_whole g) → (c.fill-start.result ≡ length c.args.input.now) × (length c.args.begun.now.numbers + length c.args.input.now < c.args.begun.now.size)
+short-is : (g : _) (c : Then-not-is_whole g) → (c.fill-start.result ≡ length c.args.input.now) ×
+    (length c.args.begun.now.numbers + length c.args.input.now < c.args.begun.now.size)
 short-is g c =
     let number = g.T.Sample.number in
     let input = c.args.input.now in
     let start = c.fill-start.result in
     let within : start ≤ length input = omega (arith, c.fill-start.ensures.count) in
     let long : length c.fill-start.new.self.numbers ≡ length c.args.begun.now.numbers + start =
-    ap (λ (o : OpenState). length o.numbers) c.fill-start.ensures.filled ∙ length-append c.args.begun.now.numbers (map number (take start input))
-    ∙ ap (λ n. length c.args.begun.now.numbers + n) (length-map (take start input) number ∙ length-take-le start input within) in
-    let size : c.fill-start.new.self.size ≡ c.args.begun.now.size = ap (λ (o : OpenState). o.size) c.fill-start.ensures.filled in
-    fill-short c.args.begun.now.size (length c.args.begun.now.numbers) (length input) start c.requires.begun c.fill-start.ensures.count
+    ap (λ (o : OpenState). length o.numbers) c.fill-start.ensures.filled ∙
+    length-append c.args.begun.now.numbers (map number (take start input))
+    ∙ ap (λ n. length c.args.begun.now.numbers + n) (length-map (take start input) number ∙
+    length-take-le start input within) in
+    let size : c.fill-start.new.self.size ≡ c.args.begun.now.size =
+    ap (λ (o : OpenState). o.size) c.fill-start.ensures.filled in
+    fill-short c.args.begun.now.size (length c.args.begun.now.numbers) (length input) start c.requires.begun
+    c.fill-start.ensures.count
     (λ whole. let no : false ≡ true = sym c.if-not-is_whole.true ∙ c.is_whole.ensures.1 (long ∙ whole ∙ sym size) in cc)
 
 pub returns-then-not-is_whole-clause-out : goal.returns-then-not-is_whole-clause-out
@@ -64,7 +81,8 @@ returns-then-not-is_whole-clause-out g c =
     let of = g.W.GroupWork.group (g.W.GroupWork.block c.args.work.now) in
     let is = g.met.W.GroupWork.grouped (g.W.GroupWork.block c.args.work.now) c.requires.work in
     let short = short-is g c in
-    sym (still-gives of is.some c.args.begun.now.numbers (map g.T.Sample.number c.args.input.now) (omega (arith, short.1, c.requires.size, length-map c.args.input.now g.T.Sample.number)))
+    sym (still-gives of is.some c.args.begun.now.numbers (map g.T.Sample.number c.args.input.now)
+    (omega (arith, short.1, c.requires.size, length-map c.args.input.now g.T.Sample.number)))
 
 pub returns-then-not-is_whole-clause-begun : goal.returns-then-not-is_whole-clause-begun
 returns-then-not-is_whole-clause-begun g c =
@@ -75,7 +93,8 @@ returns-then-not-is_whole-clause-begun g c =
     let input = c.args.input.now in
     let short = short-is g c in
     let all = ap (λ l. old ++ map number l) (take_all c.fill-start.result input (omega (arith, short.0))) in
-    let stays = sym (still-open of is.some old (map number input) (omega (arith, short.1, c.requires.size, length-map input number))) in
+    let stays = sym (still-open of is.some old (map number input)
+    (omega (arith, short.1, c.requires.size, length-map input number))) in
     c.fill-start.ensures.filled ∙ (λ i. record { size = c.args.begun.now.size; numbers = (all ∙ stays) i })
 
 pub returns-then-not-is_whole-clause-steps : goal.returns-then-not-is_whole-clause-steps
@@ -87,8 +106,10 @@ returns-then-not-is_whole-clause-steps g c =
     let input = c.args.input.now in
     let short = short-is g c in
     let long = length-map input number in
-    let none : (length old + length input) / of.taken ≡ 0 = ap (λ n. (length old + n) / of.taken) (sym long) ∙ still-none of is.some old (map number input) (omega (arith, short.1, c.requires.size, long)) in
-    let products : (length old + length input) / of.taken * of.products ≡ 0 = (ap (λ n. n * of.products) none ∙ omega arith) in
+    let none : (length old + length input) / of.taken ≡ 0 = ap (λ n. (length old + n) / of.taken) (sym long) ∙
+    still-none of is.some old (map number input) (omega (arith, short.1, c.requires.size, long)) in
+    let products : (length old + length input) / of.taken * of.products ≡ 0 =
+    (ap (λ n. n * of.products) none ∙ omega arith) in
     record { multiplies_rise = omega (arith, products); turns_within = omega (arith, products) }
 
 pub feed_behind-requires-clause-room : goal.feed_behind-requires-clause-room
@@ -100,8 +121,10 @@ feed_behind-requires-clause-room g c =
     let input = c.args.input.now in
     let start = c.fill-start.result in
     let within : start ≤ length input = omega (arith, c.fill-start.ensures.count) in
-    let full = filled-full number old c.fill-start.new.self input start within c.fill-start.ensures.filled (c.is_whole.ensures.0 c.if-not-is_whole.false) in
-    let done = completes number of old.numbers input start (length input - start) is.some within refl (full ∙ c.requires.size) in
+    let full = filled-full number old c.fill-start.new.self input start within c.fill-start.ensures.filled
+    (c.is_whole.ensures.0 c.if-not-is_whole.false) in
+    let done = completes number of old.numbers input start (length input - start) is.some within refl
+    (full ∙ c.requires.size) in
     let rows = done.times of.given in
     omega (arith, rows, c.requires.room, c.complete_group-given.ensures.given, c.complete_group-given.auto.output)
 
@@ -114,10 +137,13 @@ overflow_add-result g c =
     let input = c.args.input.now in
     let start = c.fill-start.result in
     let within : start ≤ length input = omega (arith, c.fill-start.ensures.count) in
-    let full = filled-full number old c.fill-start.new.self input start within c.fill-start.ensures.filled (c.is_whole.ensures.0 c.if-not-is_whole.false) in
-    let done = completes number of old.numbers input start (length input - start) is.some within refl (full ∙ c.requires.size) in
+    let full = filled-full number old c.fill-start.new.self input start within c.fill-start.ensures.filled
+    (c.is_whole.ensures.0 c.if-not-is_whole.false) in
+    let done = completes number of old.numbers input start (length input - start) is.some within refl
+    (full ∙ c.requires.size) in
     let rows = done.times of.given in
-    let room : c.complete_group-given.result + c.feed_behind.result ≤ length c.args.output.now = omega (arith, rows, c.requires.room, c.complete_group-given.ensures.given, c.feed_behind.ensures.given) in
+    let room : c.complete_group-given.result + c.feed_behind.result ≤ length c.args.output.now =
+    omega (arith, rows, c.requires.room, c.complete_group-given.ensures.given, c.feed_behind.ensures.given) in
     search (rules, room)
 
 pub returns-clause-given : goal.returns-clause-given
@@ -129,8 +155,10 @@ returns-clause-given g c =
     let input = c.args.input.now in
     let start = c.fill-start.result in
     let within : start ≤ length input = omega (arith, c.fill-start.ensures.count) in
-    let full = filled-full number old c.fill-start.new.self input start within c.fill-start.ensures.filled (c.is_whole.ensures.0 c.if-not-is_whole.false) in
-    let done = completes number of old.numbers input start (length input - start) is.some within refl (full ∙ c.requires.size) in
+    let full = filled-full number old c.fill-start.new.self input start within c.fill-start.ensures.filled
+    (c.is_whole.ensures.0 c.if-not-is_whole.false) in
+    let done = completes number of old.numbers input start (length input - start) is.some within refl
+    (full ∙ c.requires.size) in
     let rows = done.times of.given in
     omega (arith, rows, c.complete_group-given.ensures.given, c.feed_behind.ensures.given)
 
@@ -143,11 +171,14 @@ returns-clause-out g c =
     let input = c.args.input.now in
     let start = c.fill-start.result in
     let within : start ≤ length input = omega (arith, c.fill-start.ensures.count) in
-    let full = filled-full number old c.fill-start.new.self input start within c.fill-start.ensures.filled (c.is_whole.ensures.0 c.if-not-is_whole.false) in
-    let done = completes number of old.numbers input start (length input - start) is.some within refl (full ∙ c.requires.size) in
+    let full = filled-full number old c.fill-start.new.self input start within c.fill-start.ensures.filled
+    (c.is_whole.ensures.0 c.if-not-is_whole.false) in
+    let done = completes number of old.numbers input start (length input - start) is.some within refl
+    (full ∙ c.requires.size) in
     let behind = given_groups of (map number (take (length input - start) (drop start input))) in
     c.feed_behind.ensures.out
-    ∙ ap (λ l. l ++ behind) (c.complete_group-given.ensures.out ∙ ap (λ (o : OpenState). given_group of o.numbers) c.fill-start.ensures.filled)
+    ∙ ap (λ l. l ++ behind) (c.complete_group-given.ensures.out ∙
+    ap (λ (o : OpenState). given_group of o.numbers) c.fill-start.ensures.filled)
     ∙ sym done.gives
 
 pub returns-clause-begun : goal.returns-clause-begun
@@ -159,15 +190,18 @@ returns-clause-begun g c =
     let input = c.args.input.now in
     let start = c.fill-start.result in
     let within : start ≤ length input = omega (arith, c.fill-start.ensures.count) in
-    let full = filled-full number old c.fill-start.new.self input start within c.fill-start.ensures.filled (c.is_whole.ensures.0 c.if-not-is_whole.false) in
-    let done = completes number of old.numbers input start (length input - start) is.some within refl (full ∙ c.requires.size) in
+    let full = filled-full number old c.fill-start.new.self input start within c.fill-start.ensures.filled
+    (c.is_whole.ensures.0 c.if-not-is_whole.false) in
+    let done = completes number of old.numbers input start (length input - start) is.some within refl
+    (full ∙ c.requires.size) in
     let size : c.fill-start.new.self.size ≡ old.size = ap (λ (o : OpenState). o.size) c.fill-start.ensures.filled in
     c.feed_behind.ensures.begun ∙ (λ i. record { size = size i; numbers = (sym done.opens) i })
 
 pub returns-clause-rest : goal.returns-clause-rest
 returns-clause-rest g c =
     c.feed_behind.ensures.rest
-    ∙ rest-further c.complete_group-given.result c.feed_behind.result c.complete_group-given.new.output c.args.output.now c.complete_group-given.ensures.rest
+    ∙ rest-further c.complete_group-given.result c.feed_behind.result c.complete_group-given.new.output
+    c.args.output.now c.complete_group-given.ensures.rest
 
 pub returns-clause-steps : goal.returns-clause-steps
 returns-clause-steps g c =
@@ -178,6 +212,9 @@ returns-clause-steps g c =
     let input = c.args.input.now in
     let start = c.fill-start.result in
     let within : start ≤ length input = omega (arith, c.fill-start.ensures.count) in
-    let full = filled-full number old c.fill-start.new.self input start within c.fill-start.ensures.filled (c.is_whole.ensures.0 c.if-not-is_whole.false) in
-    let done = completes number of old.numbers input start (length input - start) is.some within refl (full ∙ c.requires.size) in
-    rises-then c.args.steps.now c.complete_group-given.new.steps c.feed_behind.new.steps of.products _ _ c.complete_group-given.ensures.steps c.feed_behind.ensures.steps (done.times of.products)
+    let full = filled-full number old c.fill-start.new.self input start within c.fill-start.ensures.filled
+    (c.is_whole.ensures.0 c.if-not-is_whole.false) in
+    let done = completes number of old.numbers input start (length input - start) is.some within refl
+    (full ∙ c.requires.size) in
+    rises-then c.args.steps.now c.complete_group-given.new.steps c.feed_behind.new.steps of.products _ _
+    c.complete_group-given.ensures.steps c.feed_behind.ensures.steps (done.times of.products)

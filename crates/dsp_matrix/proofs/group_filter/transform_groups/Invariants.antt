@@ -8,6 +8,8 @@ abbrev pub invariant-loop-group : goal.invariant-loop-group
 invariant-loop-group g l =
     let of = g.W.GroupWork.group (g.W.GroupWork.block l.work) in
     record {
-      written : take (l.group * of.given) (map g.T.Sample.number l.output) ≡ values (l.group * of.given) (λ i. of.result (take of.taken (drop (i / of.given * of.taken) (map g.T.Sample.number l.input))) (i % of.given));
+      written : take (l.group * of.given) (map g.T.Sample.number l.output) ≡ values (l.group * of.given)
+          (λ i. of.result (take of.taken (drop (i / of.given * of.taken) (map g.T.Sample.number l.input)))
+          (i % of.given));
       counted : RisesWithin l.initial.steps l.steps (l.group * of.products) (l.group * of.products);
     }

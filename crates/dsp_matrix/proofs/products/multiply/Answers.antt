@@ -18,7 +18,8 @@ loop-row-preserved g c =
     let out = c.loop-row.out in
     let matrix = map T.number c.args.matrix.now in
     let rows_out : (j + 1) * given ≤ rows * given = mul-le (j + 1) given rows given (omega arith) (omega arith) in
-    let rows_in : (j + 1) * columns ≤ rows * columns = mul-le (j + 1) columns rows columns (omega arith) (omega arith) in
+    let rows_in : (j + 1) * columns ≤ rows * columns = mul-le (j + 1) columns rows columns (omega arith) (omega arith)
+    in
     let room : j * given + given ≤ length out = omega (arith, rows_out, c.requires.out, c.loop-row.auto.out) in
     let inside : j * columns + columns ≤ length c.args.a.now = omega (arith, rows_in, c.requires.a) in
     let cut = piece-length out (j * given) given room in
@@ -26,11 +27,16 @@ loop-row-preserved g c =
     let written : length c.multiply_row.new.out ≡ given = c.multiply_row.auto.out ∙ cut in
     record {
       written =
-          row-written T.number (product_element T.format g.O.Order.place columns given (map T.number c.args.a.now) matrix) j _ given (j * given) _ out c.multiply_row.new.out refl refl written (omega (arith, room)) c.loop-row.invariant.written
+          row-written T.number (product_element T.format g.O.Order.place columns given (map T.number c.args.a.now)
+          matrix) j _ given (j * given) _ out c.multiply_row.new.out refl refl written (omega (arith, room))
+          c.loop-row.invariant.written
           (product-row T.number T.format g.O.Order.place columns given j c.args.a.now _ matrix _ refl
           (c.multiply_row.ensures.out
-          ∙ ap₂ (λ n m. values n (λ l. close T.format (sum_below m (λ k. sample (map T.number (slice_range c.args.a.now (j * columns) (j * columns + columns))) k *ℤ sample matrix (g.O.Order.place m n k l))))) cut row_long));
+          ∙ ap₂ (λ n m. values n (λ l. close T.format (sum_below m
+          (λ k. sample (map T.number (slice_range c.args.a.now (j * columns) (j * columns + columns))) k *ℤ sample
+          matrix (g.O.Order.place m n k l))))) cut row_long));
       counted =
           rises-more _ _ _ j _ (given * columns) refl c.loop-row.invariant.counted
-          (subst (λ (n : ℕ). RisesWithin c.loop-row.steps c.multiply_row.new.steps n n) (ap₂ (λ n m. n * m) cut row_long) c.multiply_row.ensures.steps);
+          (subst (λ (n : ℕ). RisesWithin c.loop-row.steps c.multiply_row.new.steps n n)
+          (ap₂ (λ n m. n * m) cut row_long) c.multiply_row.ensures.steps);
     }

@@ -9,6 +9,7 @@ abbrev pub invariant-loop-row : goal.invariant-loop-row
 invariant-loop-row g l =
     let number = g.T.Sample.number in
     record {
-      written : take (l.row * l.given) (map number l.out) ≡ values (l.row * l.given) (product_element g.T.Sample.format g.O.Order.place l.columns l.given (map number l.a) (map number l.matrix));
+      written : take (l.row * l.given) (map number l.out) ≡ values (l.row * l.given)
+          (product_element g.T.Sample.format g.O.Order.place l.columns l.given (map number l.a) (map number l.matrix));
       counted : RisesWithin l.initial.steps l.steps (l.row * (l.given * l.columns)) (l.row * (l.given * l.columns));
     }

@@ -21,7 +21,9 @@ loop-l-preserved g c =
     record {
       written =
           ap (take _) (map-set T.number out l c.close.result)
-          ∙ rows-one (λ i. close T.format (sum_below columns (λ k. sample row k *ℤ sample matrix (g.O.Order.place columns given k i)))) l _ (map T.number out) (T.number c.close.result) refl room c.loop-l.invariant.written
+          ∙ rows-one (λ i. close T.format (sum_below columns
+          (λ k. sample row k *ℤ sample matrix (g.O.Order.place columns given k i)))) l _ (map T.number out)
+          (T.number c.close.result) refl room c.loop-l.invariant.written
           (c.close.ensures ∙ ap (close T.format) c.column_sum-sum.ensures.sum ∙ close-wrap T.format _);
       counted = rises-more _ _ _ l _ columns refl c.loop-l.invariant.counted c.column_sum-sum.ensures.steps;
     }

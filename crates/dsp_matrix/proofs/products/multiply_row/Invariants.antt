@@ -10,6 +10,9 @@ abbrev pub invariant-loop-l : goal.invariant-loop-l
 invariant-loop-l g l =
     let number = g.T.Sample.number in
     record {
-      written : take l.l (map number l.out) ≡ values l.l (λ i. close g.T.Sample.format (sum_below (length l.row) (λ k. sample (map number l.row) k *ℤ sample (map number l.matrix) (g.O.Order.place (length l.row) l.given k i))));
+      written : take l.l (map number l.out) ≡ values l.l
+          (λ i. close g.T.Sample.format (sum_below (length l.row)
+          (λ k. sample (map number l.row) k *ℤ sample (map number l.matrix)
+          (g.O.Order.place (length l.row) l.given k i))));
       counted : RisesWithin l.initial.steps l.steps (l.l * length l.row) (l.l * length l.row);
     }

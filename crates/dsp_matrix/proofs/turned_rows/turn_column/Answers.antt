@@ -6,8 +6,10 @@ use Rattle.dsp_matrix.proofs.turned_rows.turn_column.Goals as goal
 
 pub offset_bounds-out-at : goal.offset_bounds-out-at
 offset_bounds-out-at g c =
-    let inside = mul-add-lt c.args.column c.args.rows (c.args.row + c.loop-k.k) c.args.columns c.requires.inside (omega arith) in
-    let room : c.args.column * c.args.rows + c.args.row + c.loop-k.k < length c.loop-k.out = omega (arith, inside, c.requires.out, c.loop-k.auto.out) in
+    let inside = mul-add-lt c.args.column c.args.rows (c.args.row + c.loop-k.k) c.args.columns c.requires.inside
+    (omega arith) in
+    let room : c.args.column * c.args.rows + c.args.row + c.loop-k.k < length c.loop-k.out =
+    omega (arith, inside, c.requires.out, c.loop-k.auto.out) in
     search (rules, room)
 
 pub bounds-a-row : goal.bounds-a-row
@@ -38,13 +40,16 @@ overflow_add-out-in-loop-k g c =
 
 pub bounds-out-at : goal.bounds-out-at
 bounds-out-at g c =
-    let inside = mul-add-lt c.args.column c.args.rows (c.args.row + c.loop-k.k) c.args.columns c.requires.inside (omega arith) in
+    let inside = mul-add-lt c.args.column c.args.rows (c.args.row + c.loop-k.k) c.args.columns c.requires.inside
+    (omega arith) in
     omega (arith, inside, c.requires.out, c.loop-k.auto.out)
 
 pub overflow_add-at-in-loop-k : goal.overflow_add-at-in-loop-k
 overflow_add-at-in-loop-k g c =
-    let inside = mul-add-lt c.args.column c.args.rows (c.args.row + c.loop-k.k) c.args.columns c.requires.inside (omega arith) in
-    let room : c.args.column * c.args.rows + c.args.row + c.loop-k.k < length c.loop-k.out = omega (arith, inside, c.requires.out, c.loop-k.auto.out) in
+    let inside = mul-add-lt c.args.column c.args.rows (c.args.row + c.loop-k.k) c.args.columns c.requires.inside
+    (omega arith) in
+    let room : c.args.column * c.args.rows + c.args.row + c.loop-k.k < length c.loop-k.out =
+    omega (arith, inside, c.requires.out, c.loop-k.auto.out) in
     search (rules, room)
 
 pub loop-k-init : goal.loop-k-init
@@ -67,7 +72,9 @@ loop-k-preserved g c =
     let place = add_assoc (c.args.column * rows) c.args.row c.loop-k.k in
     let inside = mul-add-lt c.args.column rows row columns c.requires.inside below in
     let room : at < length out = omega (arith, inside, c.requires.out, c.loop-k.auto.out) in
-    let from : row * columns + c.args.column < length c.args.a.now = (let within = turned-room rows columns row c.args.column below c.requires.inside in omega (arith, within, c.requires.a)) in
+    let from : row * columns + c.args.column < length c.args.a.now =
+    (let within = turned-room rows columns row c.args.column below c.requires.inside in
+    omega (arith, within, c.requires.a)) in
     let right = sample-map number c.args.a.now (row * columns + c.args.column) v from c.index-a-row.is in
     let stays = turned-stay number rows columns a out row c.args.column at v below place room right in
     record {

@@ -8,5 +8,6 @@ invariant-loop-column g l =
     let number = g.T.Sample.number in
     record {
       kept : StaysTurned l.rows l.columns (map number l.a) (map number l.initial.out) (map number l.out);
-      turned : (k j : ℕ) → k < g.row.N → j < l.column → IsTurned l.rows l.columns (map number l.a) (map number l.out) (l.row + k) j;
+      turned : (k j : ℕ) → k < g.row.N → j < l.column → IsTurned l.rows l.columns (map number l.a) (map number l.out)
+          (l.row + k) j;
     }

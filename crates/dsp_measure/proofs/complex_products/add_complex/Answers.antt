@@ -1,6 +1,7 @@
 use Rattle.std.proofs.Common.{◌≡◌, ◌∙◌, ap, ◌+◌, length, arith}
 use Rattle.dsp_defs.specs.Formats.{accumulator}
-use Rattle.dsp_measure.proofs.SumLaws.{sum_with, sum-none, real-more, imaginary-more, real_terms, imaginary_terms, wrapped-fits}
+use Rattle.dsp_measure.proofs.SumLaws.{sum_with, sum-none, real-more, imaginary-more, real_terms, imaginary_terms}
+use Rattle.dsp_measure.proofs.SumLaws.{wrapped-fits}
 use Rattle.dsp_measure.proofs.complex_products.add_complex.Goals as goal
 
 pub loop-n-init : goal.loop-n-init
@@ -9,7 +10,8 @@ loop-n-init g c = record {
   fits_im = c.requires.start_im;
   sums = λ a b p q _. (
     sum-none (accumulator g.T.Sample.format) c.args.start.0 (real_terms g.T.Sample.format a b p q) c.requires.start_re,
-    sum-none (accumulator g.T.Sample.format) c.args.start.1 (imaginary_terms g.T.Sample.format a b p q) c.requires.start_im,
+    sum-none (accumulator g.T.Sample.format) c.args.start.1 (imaginary_terms g.T.Sample.format a b p q)
+        c.requires.start_im,
   );
   steps = record { multiplies_rise = omega arith; turns_rise = omega arith };
 }
@@ -27,10 +29,18 @@ loop-n-preserved g c =
       fits_re = wrapped-fits format _ _ c.add_complex_product-sums.ensures.re;
       fits_im = wrapped-fits format _ _ c.add_complex_product-sums.ensures.im;
       sums = λ a b p q is. (
-        real-more format c.args.start.0 c.loop-n.sums.0 sums.0 (N s.0) (N s.1) (N s.2) (N s.3) n (n + 1) a b p q (omega arith) (is n s c.loop-n-test.true c.at.ensures) (c.loop-n.invariant.sums a b p q is).0 c.add_complex_product-sums.ensures.re,
-        imaginary-more format c.args.start.1 c.loop-n.sums.1 sums.1 (N s.0) (N s.1) (N s.2) (N s.3) n (n + 1) a b p q (omega arith) (is n s c.loop-n-test.true c.at.ensures) (c.loop-n.invariant.sums a b p q is).1 c.add_complex_product-sums.ensures.im,
+        real-more format c.args.start.0 c.loop-n.sums.0 sums.0 (N s.0) (N s.1) (N s.2) (N s.3) n (n + 1) a b p q
+            (omega arith) (is n s c.loop-n-test.true c.at.ensures) (c.loop-n.invariant.sums a b p q is).0
+            c.add_complex_product-sums.ensures.re,
+        imaginary-more format c.args.start.1 c.loop-n.sums.1 sums.1 (N s.0) (N s.1) (N s.2) (N s.3) n (n + 1) a b p q
+            (omega arith) (is n s c.loop-n-test.true c.at.ensures) (c.loop-n.invariant.sums a b p q is).1
+            c.add_complex_product-sums.ensures.im,
       );
-      steps = record { multiplies_rise = omega (arith, rise.multiplies_rise, one.multiplies_rise); turns_rise = omega (arith, rise.turns_rise, one.turns_rise) };
+      steps = record {
+        multiplies_rise = omega (arith, rise.multiplies_rise, one.multiplies_rise);
+        turns_rise =
+            omega (arith, rise.turns_rise, one.turns_rise);
+      };
     }
 
 pub returns-clause-sums : goal.returns-clause-sums

@@ -1,7 +1,7 @@
 use Rattle.std.proofs.Common.{◌∙◌, sym, ◌/◌, ◌+◌, ◌*◌, length}
-use Rattle.dsp_stage.specs.Channels.{samples_in}
+use Rattle.dsp_unit.specs.Channels.{samples_in}
 use Rattle.dsp_defs.specs.Signal.{sample}
-use Rattle.dsp_stage.proofs.ChannelFrames.{length-samples_in, sample-values}
+use Rattle.dsp_unit.proofs.ChannelFrames.{length-samples_in, sample-values}
 use Rattle.dsp_measure.proofs.complex_products.add_complex_channels.Goals as goal
 
 pub returns-clause-sums : goal.returns-clause-sums

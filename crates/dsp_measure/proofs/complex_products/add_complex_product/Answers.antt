@@ -25,9 +25,12 @@ returns-clause-re g c =
     let new : SFits w64 c.subtract_measured-re.result = search rules in
     let old : SFits w64 c.args.sums.0 = search rules in
     rw (to_z-of_z new)
-    (real-step format c.args.sums.0 c.add_measured-ac.result c.subtract_measured-re.result (N numbers.0) (N numbers.1) (N numbers.2) (N numbers.3)
-    (c.add_measured-ac.ensures.value ∙ ap (λ h. wrap (accumulator format) (h +ℤ measured_product format (N numbers.0) (N numbers.2))) (to_z-of_z old))
-    (c.subtract_measured-re.ensures.value ∙ ap (λ h. wrap (accumulator format) (h -ℤ measured_product format (N numbers.1) (N numbers.3))) (to_z-of_z fits)))
+    (real-step format c.args.sums.0 c.add_measured-ac.result c.subtract_measured-re.result (N numbers.0) (N numbers.1)
+    (N numbers.2) (N numbers.3)
+    (c.add_measured-ac.ensures.value ∙ ap (λ h. wrap (accumulator format)
+    (h +ℤ measured_product format (N numbers.0) (N numbers.2))) (to_z-of_z old))
+    (c.subtract_measured-re.ensures.value ∙ ap (λ h. wrap (accumulator format)
+    (h -ℤ measured_product format (N numbers.1) (N numbers.3))) (to_z-of_z fits)))
 
 pub returns-clause-im : goal.returns-clause-im
 returns-clause-im g c =
@@ -38,6 +41,9 @@ returns-clause-im g c =
     let new : SFits w64 c.add_measured-im.result = search rules in
     let old : SFits w64 c.args.sums.1 = search rules in
     rw (to_z-of_z new)
-    (imaginary-step format c.args.sums.1 c.add_measured-ad.result c.add_measured-im.result (N numbers.0) (N numbers.1) (N numbers.2) (N numbers.3)
-    (c.add_measured-ad.ensures.value ∙ ap (λ h. wrap (accumulator format) (h +ℤ measured_product format (N numbers.0) (N numbers.3))) (to_z-of_z old))
-    (c.add_measured-im.ensures.value ∙ ap (λ h. wrap (accumulator format) (h +ℤ measured_product format (N numbers.1) (N numbers.2))) (to_z-of_z fits)))
+    (imaginary-step format c.args.sums.1 c.add_measured-ad.result c.add_measured-im.result (N numbers.0) (N numbers.1)
+    (N numbers.2) (N numbers.3)
+    (c.add_measured-ad.ensures.value ∙ ap (λ h. wrap (accumulator format)
+    (h +ℤ measured_product format (N numbers.0) (N numbers.3))) (to_z-of_z old))
+    (c.add_measured-im.ensures.value ∙ ap (λ h. wrap (accumulator format)
+    (h +ℤ measured_product format (N numbers.1) (N numbers.2))) (to_z-of_z fits)))

@@ -18,6 +18,7 @@ loop-n-preserved g c = λ y size is none k below.
     (λ (before : k < n). c.loop-n.invariant y size is both.0 k before)
     (λ (here : n ≤ k).
     let same : k ≡ n = omega (arith, below, here) in
-    let value : sample y k ≡ to_z w32 (of_z w32 v) = ap (sample y) same ∙ sym (is n c.at.result c.loop-n-test.true c.at.ensures) ∙ sym c.number.ensures.value ∙ sym (to_z-of_z word) in
+    let value : sample y k ≡ to_z w32 (of_z w32 v) = ap (sample y) same ∙
+    sym (is n c.at.result c.loop-n-test.true c.at.ensures) ∙ sym c.number.ensures.value ∙ sym (to_z-of_z word) in
     ap (λ z. wins least z best) value ∙ sym c.wins-any.ensures ∙ both.1)
     (cases_lt k n)

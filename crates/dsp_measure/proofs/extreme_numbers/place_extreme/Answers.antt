@@ -6,5 +6,7 @@ pub returns-else-are_of_some-clause-least : goal.returns-else-are_of_some-clause
 returns-else-are_of_some-clause-least g c = by
   where
     by : (n : ℕ) → KeepsExtreme g.T.Sample.format n c.args.numbers.now → None ≡ Some n
-    by zero keeps = (let yes : IsTrue c.are_of_none.result = c.are_of_none.ensures.1 keeps.1 in cc (c.if-are_of_none.false, yes))
-    by (suc n) keeps = (let yes : IsTrue c.are_of_some.result = c.are_of_some.ensures.1 (n, keeps) in cc (c.if-are_of_some.false, yes))
+    by zero keeps = (let yes : IsTrue c.are_of_none.result = c.are_of_none.ensures.1 keeps.1 in
+        cc (c.if-are_of_none.false, yes))
+    by (suc n) keeps = (let yes : IsTrue c.are_of_some.result = c.are_of_some.ensures.1 (n, keeps) in
+        cc (c.if-are_of_some.false, yes))

@@ -1,4 +1,5 @@
-use Rattle.std.proofs.Common.{◌≡◌, ◌∙◌, ap, sym, subst, Some, refl, rules, ℤ, pos, List, [], ◌∷◌, length, set, SFits, to_z, to_z-of_z, arith}
+use Rattle.std.proofs.Common.{◌≡◌, ◌∙◌, ap, sym, subst, Some, refl, rules, ℤ, pos, List, [], ◌∷◌, length, set, SFits}
+use Rattle.std.proofs.Common.{to_z, to_z-of_z, arith}
 use mir.Syntax.{w32, w64}
 use Rattle.std.proofs.lemmas.Int.{to_z_pos}
 use Rattle.dsp_defs.specs.Kept.{extreme_kept}
@@ -18,7 +19,8 @@ pub returns-in-Some-clause-numbers : goal.returns-in-Some-clause-numbers
 returns-in-Some-clause-numbers g c =
     let value = c.in-Some.value in
     let index = c.in-Some.index in
-    let found : IsFound g.T.Sample.format (Some (value, index)) c.args.count = subst (λ f. IsFound g.T.Sample.format f c.args.count) c.in-Some.is c.requires.found in
+    let found : IsFound g.T.Sample.format (Some (value, index)) c.args.count =
+    subst (λ f. IsFound g.T.Sample.format f c.args.count) c.in-Some.is c.requires.found in
     let word : SFits w32 value = word-fits g.T.Sample.format value found.0 in
     let read : c.from.result ≡ value = c.from.ensures ∙ to_z-of_z word in
     let fits : SFits w64 c.from.result = search rules in
@@ -31,4 +33,5 @@ returns-in-Some-clause-numbers g c =
 
 pub returns-in-Some-clause-fits : goal.returns-in-Some-clause-fits
 returns-in-Some-clause-fits g c =
-    subst (KeepsExtreme g.T.Sample.format c.args.count) (sym (returns-in-Some-clause-numbers g c)) (keeps-found g.T.Sample.format c.args.found c.args.count c.requires.few c.requires.found)
+    subst (KeepsExtreme g.T.Sample.format c.args.count) (sym (returns-in-Some-clause-numbers g c))
+    (keeps-found g.T.Sample.format c.args.found c.args.count c.requires.few c.requires.found)

@@ -1,10 +1,10 @@
 use Rattle.std.proofs.Common.{ap, rules, SFits, to_z-of_z, ◌∙◌, sym, ◌+◌, ◌*◌, ◌/◌, length}
 use mir.Syntax.{w64}
-use Rattle.dsp_stage.specs.Channels.{samples_in}
+use Rattle.dsp_unit.specs.Channels.{samples_in}
 use Rattle.dsp_defs.specs.Signal.{sample}
 use Rattle.dsp_defs.proofs.FrameLemmas.{sample-within}
 use Rattle.dsp_measure.specs.Sums.{with_products}
-use Rattle.dsp_stage.proofs.ChannelFrames.{length-samples_in, sample-values}
+use Rattle.dsp_unit.proofs.ChannelFrames.{length-samples_in, sample-values}
 use Rattle.dsp_measure.proofs.products.add_channels.Goals as goal
 
 pub add_products-requires-clause-places : goal.add_products-requires-clause-places

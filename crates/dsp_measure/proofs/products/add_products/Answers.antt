@@ -9,7 +9,8 @@ loop-n-init g c =
     rw (to_z-of_z c.ranges.start)
     (record {
       fits = c.requires.start;
-      sum = λ x y _. sum-none (accumulator g.T.Sample.format) c.args.start (products_of g.T.Sample.format x y) c.requires.start;
+      sum = λ x y _. sum-none (accumulator g.T.Sample.format) c.args.start (products_of g.T.Sample.format x y)
+          c.requires.start;
       steps = record { multiplies_rise = omega arith; turns_rise = omega arith };
     })
 
@@ -23,7 +24,13 @@ loop-n-preserved g c =
     rw (to_z-of_z fits)
     (record {
       fits = wrapped-fits format _ _ c.add_measured-sum.ensures.value;
-      sum = λ x y is. products-more format _ _ c.add_measured-sum.result (g.T.Sample.number c.at-a.result.0) (g.T.Sample.number c.at-a.result.1) n (n + 1) x y (omega arith)
-          (is n c.at-a.result c.loop-n-test.true c.at-a.ensures) (c.loop-n.invariant.sum x y is) c.add_measured-sum.ensures.value;
-      steps = record { multiplies_rise = omega (arith, rise.multiplies_rise, one.multiplies_rise); turns_rise = omega (arith, rise.turns_rise, one.turns_rise) };
+      sum = λ x y is. products-more format _ _ c.add_measured-sum.result (g.T.Sample.number c.at-a.result.0)
+          (g.T.Sample.number c.at-a.result.1) n (n + 1) x y (omega arith)
+          (is n c.at-a.result c.loop-n-test.true c.at-a.ensures) (c.loop-n.invariant.sum x y is)
+          c.add_measured-sum.ensures.value;
+      steps = record {
+        multiplies_rise = omega (arith, rise.multiplies_rise, one.multiplies_rise);
+        turns_rise =
+            omega (arith, rise.turns_rise, one.turns_rise);
+      };
     })

@@ -9,6 +9,8 @@ use Rattle.dsp_measure.proofs.products.add_products.Given as goal
 abbrev pub invariant-loop-n : goal.invariant-loop-n
 invariant-loop-n g l = record {
   fits : FitsSigned (accumulator g.T.Sample.format) l.sum;
-  sum : (x y : List ℤ) → ((k : ℕ) (s : _) → k < l.count → goal.F-post g l.at k s → (g.T.Sample.number s.0 ≡ sample x k) × (g.T.Sample.number s.1 ≡ sample y k)) → l.sum ≡ sum_with (accumulator g.T.Sample.format) l.fn.start l.n (products_of g.T.Sample.format x y);
+  sum : (x y : List ℤ) → ((k : ℕ) (s : _) → k < l.count → goal.F-post g l.at k s →
+      (g.T.Sample.number s.0 ≡ sample x k) × (g.T.Sample.number s.1 ≡ sample y k)) →
+      l.sum ≡ sum_with (accumulator g.T.Sample.format) l.fn.start l.n (products_of g.T.Sample.format x y);
   steps : Rises l.initial.steps l.steps l.n l.n;
 }

@@ -6,7 +6,15 @@ use Rattle.dsp_ports.specs.Ports.{one_more}
 use Rattle.dsp_ports.proofs.filling.fill.Goals as goal
 
 pub loop-filled-init : goal.loop-filled-init
-loop-filled-init g c = record { within = omega arith; room = omega arith; gave = Gave-nil _; faults = refl; asked = Begun; fresh = λ _. refl }
+loop-filled-init g c = record {
+  within = omega arith;
+  room = omega arith;
+  gave = Gave-nil _;
+  faults = refl;
+  asked =
+      Begun;
+  fresh = λ _. refl;
+}
 
 pub loop-filled-preserved : goal.loop-filled-preserved
 loop-filled-preserved g c =
@@ -15,9 +23,11 @@ loop-filled-preserved g c =
     record {
       within = omega (arith, given.within, c.min-want.ensures, length-drop c.loop-filled.filled c.loop-filled.block);
       room = omega (arith, given.within, c.min-want.ensures);
-      gave = Gave-read _ _ _ c.loop-filled.filled _ c.in-Ok.count c.loop-filled.block c.read.new.into (omega arith) given.within kept.gave given.gave;
+      gave = Gave-read _ _ _ c.loop-filled.filled _ c.in-Ok.count c.loop-filled.block c.read.new.into (omega arith)
+          given.within kept.gave given.gave;
       faults = given.faults ∙ kept.faults;
-      asked = asked-more _ _ _ _ _ _ _ c.loop-filled.filled _ c.in-Ok.count kept.asked given.asks (omega arith) (omega arith)
+      asked = asked-more _ _ _ _ _ _ _ c.loop-filled.filled _ c.in-Ok.count kept.asked given.asks (omega arith)
+          (omega arith)
           (omega (arith, given.gave.count, length-take-le c.in-Ok.count c.read.new.into given.within));
       fresh = λ none. absurd (c.in-Ok.count-test.1 (omega (arith, none)));
     }
@@ -36,16 +46,26 @@ returns-then-want-eq0-clause-err g c =
 
 pub returns-then-want-eq0-clause-asks : goal.returns-then-want-eq0-clause-asks
 returns-then-want-eq0-clause-asks g c =
-    record { came = c.loop-filled.filled; filling = c.loop-filled.input; asked = c.loop-filled.invariant.asked; last = inl refl }
+    record {
+      came = c.loop-filled.filled;
+      filling = c.loop-filled.input;
+      asked = c.loop-filled.invariant.asked;
+      last =
+          inl refl;
+    }
 
 -- nothing was asked for where nothing is missing, or nothing may be taken
 pub returns-then-want-eq0-clause-untouched : goal.returns-then-want-eq0-clause-untouched
-returns-then-want-eq0-clause-untouched g c (inl empty) = let kept = c.loop-filled.invariant in kept.fresh (omega (arith, kept.within, empty))
-returns-then-want-eq0-clause-untouched g c (inr none) = let kept = c.loop-filled.invariant in kept.fresh (omega (arith, kept.room, none))
+returns-then-want-eq0-clause-untouched g c (inl empty) = let kept = c.loop-filled.invariant in
+    kept.fresh (omega (arith, kept.within, empty))
+returns-then-want-eq0-clause-untouched g c (inr none) = let kept = c.loop-filled.invariant in
+    kept.fresh (omega (arith, kept.room, none))
 
 pub returns-clause-untouched : goal.returns-clause-untouched
-returns-clause-untouched g c (inl empty) = let kept = c.loop-filled.invariant in kept.fresh (omega (arith, kept.within, empty))
-returns-clause-untouched g c (inr none) = let kept = c.loop-filled.invariant in kept.fresh (omega (arith, kept.room, none))
+returns-clause-untouched g c (inl empty) = let kept = c.loop-filled.invariant in
+    kept.fresh (omega (arith, kept.within, empty))
+returns-clause-untouched g c (inr none) = let kept = c.loop-filled.invariant in
+    kept.fresh (omega (arith, kept.room, none))
 
 pub returns-in-Ok-eq0-clause-ok : goal.returns-in-Ok-eq0-clause-ok
 returns-in-Ok-eq0-clause-ok g c =
@@ -54,7 +74,8 @@ returns-in-Ok-eq0-clause-ok g c =
     record {
       within = omega arith;
       in_room = kept.room;
-      gave = Gave-end _ _ _ c.loop-filled.filled _ c.in-Ok-eq0.field-0 c.loop-filled.block c.read.new.into (omega arith) given.within c.in-Ok-eq0.field-0-test kept.gave given.gave;
+      gave = Gave-end _ _ _ c.loop-filled.filled _ c.in-Ok-eq0.field-0 c.loop-filled.block c.read.new.into
+          (omega arith) given.within c.in-Ok-eq0.field-0-test kept.gave given.gave;
       end = λ _. given.end c.in-Ok-eq0.field-0-test (omega arith);
       room_left = λ _. omega (arith, c.min-want.ensures);
       no_fault = given.faults ∙ kept.faults;
@@ -62,13 +83,15 @@ returns-in-Ok-eq0-clause-ok g c =
 
 pub returns-in-Ok-eq0-clause-untouched : goal.returns-in-Ok-eq0-clause-untouched
 returns-in-Ok-eq0-clause-untouched g c (inl empty) = absurd (omega (arith, empty))
-returns-in-Ok-eq0-clause-untouched g c (inr none) = absurd (c.if-want-eq0.false (omega (arith, c.min-want.ensures, none)))
+returns-in-Ok-eq0-clause-untouched g c (inr none) = absurd
+    (c.if-want-eq0.false (omega (arith, c.min-want.ensures, none)))
 
 pub returns-in-Ok-eq0-clause-asks : goal.returns-in-Ok-eq0-clause-asks
 returns-in-Ok-eq0-clause-asks g c =
     let kept = c.loop-filled.invariant in
     let given = c.in-Ok-eq0.ensures in
-    asked-last _ _ _ _ _ _ _ c.loop-filled.filled _ kept.asked given.asks (omega arith) (omega arith) (gave-nothing _ _ c.in-Ok-eq0.field-0 c.read.new.into c.in-Ok-eq0.field-0-test given.gave).taken
+    asked-last _ _ _ _ _ _ _ c.loop-filled.filled _ kept.asked given.asks (omega arith) (omega arith)
+    (gave-nothing _ _ c.in-Ok-eq0.field-0 c.read.new.into c.in-Ok-eq0.field-0-test given.gave).taken
 
 pub returns-in-Err-clause-err : goal.returns-in-Err-clause-err
 returns-in-Err-clause-err g c =
@@ -107,4 +130,10 @@ returns-clause-ok g c =
 
 pub returns-clause-asks : goal.returns-clause-asks
 returns-clause-asks g c =
-    record { came = c.loop-filled.filled; filling = c.loop-filled.input; asked = c.loop-filled.invariant.asked; last = inl refl }
+    record {
+      came = c.loop-filled.filled;
+      filling = c.loop-filled.input;
+      asked = c.loop-filled.invariant.asked;
+      last =
+          inl refl;
+    }

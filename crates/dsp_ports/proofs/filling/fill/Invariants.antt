@@ -10,7 +10,8 @@ invariant-loop-filled g l =
       room : l.filled ≤ l.room;
       gave : Gave (g.S.Source.state l.fn.input) (g.S.Source.state l.input) (take l.filled l.block);
       faults : (g.S.Source.state l.input).faults ≡ (g.S.Source.state l.fn.input).faults;
-      asked : Asked g.S.Source.Reads (λ s. (g.S.Source.state s).taken) (min (length l.initial.block) l.room) l.fn.input l.filled l.input;
+      asked : Asked g.S.Source.Reads (λ s. (g.S.Source.state s).taken) (min (length l.initial.block) l.room)
+          l.fn.input l.filled l.input;
       fresh : l.filled ≡ 0 → l.input ≡ l.fn.input;
     }
 

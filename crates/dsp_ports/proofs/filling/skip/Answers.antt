@@ -9,14 +9,17 @@ returns-in_err-came-clause-err g c =
     let kept = c.loop-skipped.invariant in
     let (front, said, gave) = kept.came in
     let (error, is, same) = err_from_is_err_and c.from_residual.result c.from_residual.ensures.1 in
-    let long : length c.fill.new.block ≤ c.args.count - c.loop-skipped.skipped = grind (arith, common_steps, c.fill.auto.block, c.min-size.ensures) in
-    rw (is, same) (piece_unskipped _ c.args.count c.args.room _ _ _ front said gave kept.faults kept.room _ (omega (arith, long, kept.within)) _ c.in_err-came.ensures.err)
+    let long : length c.fill.new.block ≤ c.args.count - c.loop-skipped.skipped =
+    grind (arith, common_steps, c.fill.auto.block, c.min-size.ensures) in
+    rw (is, same) (piece_unskipped _ c.args.count c.args.room _ _ _ front said gave kept.faults kept.room _
+    (omega (arith, long, kept.within)) _ c.in_err-came.ensures.err)
 
 pub returns-then-came-size-clause-ok : goal.returns-then-came-size-clause-ok
 returns-then-came-size-clause-ok g c =
     let kept = c.loop-skipped.invariant in
     let (front, said, gave) = kept.came in
-    let long : length c.fill.new.block ≡ c.min-size.result = grind (arith, common_steps, c.fill.auto.block, c.min-size.ensures) in
+    let long : length c.fill.new.block ≡ c.min-size.result =
+    grind (arith, common_steps, c.fill.auto.block, c.min-size.ensures) in
     let filled = c.in_ok-came.ensures.ok in
     let (all, whole) = piece_skipped _ _ _ _ front said gave _ _ _ filled in
     record {
@@ -33,7 +36,8 @@ pub loop-skipped-preserved : goal.loop-skipped-preserved
 loop-skipped-preserved g c =
     let kept = c.loop-skipped.invariant in
     let (front, said, gave) = kept.came in
-    let long : length c.fill.new.block ≡ c.min-size.result = grind (arith, common_steps, c.fill.auto.block, c.min-size.ensures) in
+    let long : length c.fill.new.block ≡ c.min-size.result =
+    grind (arith, common_steps, c.fill.auto.block, c.min-size.ensures) in
     let filled = c.in_ok-came.ensures.ok in
     let (all, whole) = piece_skipped _ _ _ _ front said gave _ _ _ filled in
     record {

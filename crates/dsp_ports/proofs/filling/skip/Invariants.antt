@@ -7,7 +7,8 @@ invariant-loop-skipped g l =
     record {
       within : l.skipped ≤ l.count;
       room : l.skipped ≤ l.room;
-      came : (bytes : List ℕ) × (length bytes ≡ l.skipped) × Gave (g.S.Source.state l.fn.input) (g.S.Source.state l.input) bytes;
+      came : (bytes : List ℕ) × (length bytes ≡ l.skipped) ×
+          Gave (g.S.Source.state l.fn.input) (g.S.Source.state l.input) bytes;
       faults : (g.S.Source.state l.input).faults ≡ (g.S.Source.state l.fn.input).faults;
     }
 

@@ -11,6 +11,8 @@ invariant-loop-phase g l = record {
   written :
       (k : ℕ) → k < length l.out → k % l.factor < l.phase →
       sample (map g.T.Sample.number l.out) k
-      ≡ close g.T.Sample.format (sum_below l.count (λ j. sample (map g.T.Sample.number l.phases) (k % l.factor * l.count + j) *ℤ sample (map g.T.Sample.number l.window) (k / l.factor + j)));
-  counted : RisesWithin l.initial.steps l.steps (l.phase * (l.count * l.n)) (l.phase * (l.count * lane_turns g.row.L l.n));
+      ≡ close g.T.Sample.format (sum_below l.count (λ j. sample (map g.T.Sample.number l.phases)
+      (k % l.factor * l.count + j) *ℤ sample (map g.T.Sample.number l.window) (k / l.factor + j)));
+  counted : RisesWithin l.initial.steps l.steps (l.phase * (l.count * l.n))
+      (l.phase * (l.count * lane_turns g.row.L l.n));
 }

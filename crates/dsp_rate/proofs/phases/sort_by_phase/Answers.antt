@@ -17,7 +17,8 @@ inside-taps factor n i whole test =
     let below : i < factor * count = omega (arith, all, test) in
     let some : 0 < count = some-rows factor count i below in
     let phase : i / count < factor = div_below i count factor some below in
-    let inside = place-within count factor (i % count) (factor - 1 - i / count) (mod_below i count some) (omega (arith, phase)) in
+    let inside = place-within count factor (i % count) (factor - 1 - i / count) (mod_below i count some)
+    (omega (arith, phase)) in
     (some, phase, omega (arith, inside, all))
 
 pub nonzero_div-i : goal.nonzero_div-i
@@ -59,7 +60,9 @@ loop-i-preserved g c =
     let i = c.loop-i.i in
     let tap : ℕ → ℤ = λ k. sample (map number taps) (factor - 1 - k / count + k % count * factor) in
     let inside = inside-taps factor (length taps) i c.requires.whole c.loop-i-test.true in
-    let read : number c.index-taps-factor.result ≡ tap i = sample-map number taps (factor - 1 - i / count + i % count * factor) c.index-taps-factor.result inside.2 c.index-taps-factor.is in
+    let read : number c.index-taps-factor.result ≡ tap i =
+    sample-map number taps (factor - 1 - i / count + i % count * factor) c.index-taps-factor.result inside.2
+    c.index-taps-factor.is in
     let here : i ≡ i + 0 = omega arith in
     ap (map number) c.in_ok-push.ensures.items
     ∙ map-append number c.loop-i.phases.items (c.index-taps-factor.result ∷ [])

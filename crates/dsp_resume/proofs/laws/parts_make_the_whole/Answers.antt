@@ -9,5 +9,6 @@ returns c script start from frames input now sink after before counts found done
     let header = input_header script done.given in
     append_assoc (output_header script header) (live_bytes script (take from signal)) done.written
     ∙ ap (λ l. output_header script header ++ l)
-    (done.output (take from signal) stands ∙ ap (λ x. whole_bytes script x ++ output_pad script header) (take-append-drop from signal))
+    (done.output (take from signal) stands ∙ ap (λ x. whole_bytes script x ++ output_pad script header)
+    (take-append-drop from signal))
     ∙ sym (append_assoc (output_header script header) (whole_bytes script signal) (output_pad script header))

@@ -6,7 +6,8 @@ use Rattle.dsp_resume.proofs.laws.rest_is_told.Goals as goal
 pub returns : goal.returns
 returns c script start from frames input now sink after before counts found done channels =
     laws.told input now done.given
-    (λ bytes. (input_signal script bytes ≡ input_signal script done.given) × (input_header script bytes ≡ input_header script done.given)) done.gave
+    (λ bytes. (input_signal script bytes ≡ input_signal script done.given) ×
+    (input_header script bytes ≡ input_header script done.given)) done.gave
     (λ more left. (
       laws.whole_stays script done.given more done.has channels now left done.whole,
       laws.header_stays script done.given more done.has,

@@ -9,7 +9,8 @@ use Rattle.dsp_sat.proofs.wide.wide_product.Goals as goal
 
 -- a sample in 64 bits
 read :
-    (format : Fmt) (m n z : ℤ) → FitsSigned (word format) n → SFits w64 m → m ≡ to_z w32 (of_z w32 n) → n ≡ z → to_z w64 (of_z w64 m) ≡ z
+    (format : Fmt) (m n z : ℤ) → FitsSigned (word format) n → SFits w64 m → m ≡ to_z w32 (of_z w32 n) → n ≡ z →
+    to_z w64 (of_z w64 m) ≡ z
 read format m n z fits wide is is_z = widened w64 w32 m n (word-in-32 format n fits) wide is ∙ is_z
 
 in_32 : (format : Fmt) (n z : ℤ) → FitsSigned (word format) n → n ≡ z → SFits w32 z
@@ -23,8 +24,10 @@ overflow_mul-result g c =
     let a = g.T.Sample.number c.args.a in
     let b = g.T.Sample.number c.args.b in
     wide_fits w64 w32 w32 c.from.result c.from-2.result a b
-    (read format c.from.result one.result a one.ensures.fits (record { sfits = c.from.type_inv }) c.from.ensures one.ensures.value)
-    (read format c.from-2.result two.result b two.ensures.fits (record { sfits = c.from-2.type_inv }) c.from-2.ensures two.ensures.value)
+    (read format c.from.result one.result a one.ensures.fits (record { sfits = c.from.type_inv }) c.from.ensures
+    one.ensures.value)
+    (read format c.from-2.result two.result b two.ensures.fits (record { sfits = c.from-2.type_inv }) c.from-2.ensures
+    two.ensures.value)
     (in_32 format one.result a one.ensures.fits one.ensures.value)
     (in_32 format two.result b two.ensures.fits two.ensures.value)
     (lit< tt)
@@ -37,8 +40,10 @@ returns-clause-value g c =
     let a = g.T.Sample.number c.args.a in
     let b = g.T.Sample.number c.args.b in
     wide-is w64 w32 w32 c.from.result c.from-2.result a b
-    (read format c.from.result one.result a one.ensures.fits (record { sfits = c.from.type_inv }) c.from.ensures one.ensures.value)
-    (read format c.from-2.result two.result b two.ensures.fits (record { sfits = c.from-2.type_inv }) c.from-2.ensures two.ensures.value)
+    (read format c.from.result one.result a one.ensures.fits (record { sfits = c.from.type_inv }) c.from.ensures
+    one.ensures.value)
+    (read format c.from-2.result two.result b two.ensures.fits (record { sfits = c.from-2.type_inv }) c.from-2.ensures
+    two.ensures.value)
     (in_32 format one.result a one.ensures.fits one.ensures.value)
     (in_32 format two.result b two.ensures.fits two.ensures.value)
     (lit< tt)

@@ -16,13 +16,19 @@ pub block_cost-total-requires-clause-few : goal.block_cost-total-requires-clause
 block_cost-total-requires-clause-few c =
     let items = c.as_slice-block-items.result.now in
     let rest = rest_from items c.loop-block.block-index c.block-item.result c.loop-block-test.true c.block-item.is in
-    let more = cost_goes_on c.loop-block.flow.format c.loop-block.flow.channels c.loop-block.frames c.loop-block.total c.block-item.result _ _ _ rest c.loop-block.invariant.same in
-    rw c.given_frames-given.ensures (omega (arith, more, cost_sound c.args.script.now c.args.frames c.requires.sound c.requires.legal c.requires.taken))
+    let more = cost_goes_on c.loop-block.flow.format c.loop-block.flow.channels c.loop-block.frames c.loop-block.total
+    c.block-item.result _ _ _ rest c.loop-block.invariant.same in
+    rw c.given_frames-given.ensures (omega (
+      arith,
+      more,
+      cost_sound c.args.script.now c.args.frames c.requires.sound c.requires.legal c.requires.taken,
+    ))
 
 pub overflow_add-total : goal.overflow_add-total
 overflow_add-total c =
     let items = c.as_slice-block-items.result.now in
     let rest = rest_from items c.loop-block.block-index c.block-item.result c.loop-block-test.true c.block-item.is in
-    let more = cost_goes_on c.loop-block.flow.format c.loop-block.flow.channels c.loop-block.frames c.loop-block.total c.block-item.result _ _ _ rest c.loop-block.invariant.same in
+    let more = cost_goes_on c.loop-block.flow.format c.loop-block.flow.channels c.loop-block.frames c.loop-block.total
+    c.block-item.result _ _ _ rest c.loop-block.invariant.same in
     let whole = cost_sound c.args.script.now c.args.frames c.requires.sound c.requires.legal c.requires.taken in
     rw (c.block_cost-total.ensures, c.given_frames-given.ensures) (omega (arith, more, whole))

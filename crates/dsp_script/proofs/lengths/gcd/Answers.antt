@@ -9,5 +9,7 @@ loop-b-preserved c = λ g is. c.loop-b.invariant g (IsGcd-from_mod c.loop-b.a c.
 
 pub returns : goal.returns
 returns c =
-    let value : c.loop-b.a ≡ gcd c.args.a c.args.b = same_from_IsGcd c.args.a c.args.b c.loop-b.a _ (c.loop-b.invariant c.loop-b.a (IsGcd-from_zero c.loop-b.a c.loop-b.b c.loop-b-test.false)) (gcd_is c.args.a c.args.b) in
+    let value : c.loop-b.a ≡ gcd c.args.a c.args.b = same_from_IsGcd c.args.a c.args.b c.loop-b.a _
+    (c.loop-b.invariant c.loop-b.a (IsGcd-from_zero c.loop-b.a c.loop-b.b c.loop-b-test.false))
+    (gcd_is c.args.a c.args.b) in
     record { value = value; some = λ h. rw value (gcd_some c.args.a c.args.b h) }

@@ -5,7 +5,8 @@ use Rattle.dsp_script.proofs.places.entries.Given as goal
 
 abbrev pub invariant-loop-numbers : goal.invariant-loop-numbers
 invariant-loop-numbers l = record {
-  value : with_numbers l.numbers (entries_at l.rule l.count l.cursor.end l.cursor.items) ≡ entries_at l.rule 0 l.initial.cursor.end l.initial.cursor.items;
+  value : with_numbers l.numbers (entries_at l.rule l.count l.cursor.end l.cursor.items) ≡ entries_at l.rule 0
+      l.initial.cursor.end l.initial.cursor.items;
   counted : l.count ≡ length l.numbers;
   room : l.count ≤ l.rule.limit;
 }

@@ -24,4 +24,5 @@ returns c =
     let high = read_back_64 c.from-2.result c.args.high c.from-2.ensures c.ranges.high in
     let range = rw (low, high) at c.in_ok-value.ensures.range in
     let fits = fits_between c.args.low c.args.high c.in_ok-value.value c.ranges.low c.ranges.high range.0 range.1 in
-    rw (to_z-of_z w64 c.in_ok-value.value (fits_64 c.in_ok-value.value fits), to_z-of_z w32 c.in_ok-value.value fits) (rw (low, high) at c.in_ok-value.ensures.value)
+    rw (to_z-of_z w64 c.in_ok-value.value (fits_64 c.in_ok-value.value fits), to_z-of_z w32 c.in_ok-value.value fits)
+    (rw (low, high) at c.in_ok-value.ensures.value)

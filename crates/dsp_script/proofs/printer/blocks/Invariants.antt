@@ -6,4 +6,5 @@ use Rattle.dsp_defs.specs.Canon.{line_of}
 use Rattle.dsp_script.proofs.printer.blocks.Given as goal
 
 abbrev pub invariant-loop-each : goal.invariant-loop-each
-invariant-loop-each l = string_bytes l.out ≡ string_bytes l.initial.out ++ flat_map (λ b. line_of (block_symbols b)) (take l.each-index l.blocks)
+invariant-loop-each l = string_bytes l.out ≡ string_bytes l.initial.out ++ flat_map (λ b. line_of (block_symbols b))
+    (take l.each-index l.blocks)

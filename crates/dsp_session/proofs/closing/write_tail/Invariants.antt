@@ -14,5 +14,6 @@ invariant-loop g l = record {
   made : l.steps.multiplies + made_of l.fn.worker.chain ≡ l.fn.steps.multiplies + made_of l.worker.chain;
   written : List ℕ;
   put : (g.K.Sink.state l.output).put ≡ append_known (g.K.Sink.state l.fn.output).put written;
-  tailing : (x : List Frame) → StandsFor l.fn.worker x → Tailing l.fn.worker.script x l.frames l.counter l.worker written l.fn.steps l.steps;
+  tailing : (x : List Frame) → StandsFor l.fn.worker x →
+      Tailing l.fn.worker.script x l.frames l.counter l.worker written l.fn.steps l.steps;
 }

@@ -11,8 +11,10 @@ returns-in_err-header-clause-err g c =
 
 pub returns-in-Some-clause-err : goal.returns-in-Some-clause-err
 returns-in-Some-clause-err g c =
-    rw c.from.ensures (LongOutput _ _ c.in_ok-header.ensures.ok refl (rw c.known_frames.ensures at c.in-Some.ensures.some))
+    rw c.from.ensures (LongOutput _ _ c.in_ok-header.ensures.ok refl
+    (rw c.known_frames.ensures at c.in-Some.ensures.some))
 
 pub returns-in-None-clause-fits : goal.returns-in-None-clause-fits
 returns-in-None-clause-fits g c =
-    laws.fits_known c.args.script.now c.in_ok-header.header _ c.known_frames.ensures (c.long_riff.ensures.none (subst IsNone (sym c.in-None.is) refl))
+    laws.fits_known c.args.script.now c.in_ok-header.header _ c.known_frames.ensures
+    (c.long_riff.ensures.none (subst IsNone (sym c.in-None.is) refl))

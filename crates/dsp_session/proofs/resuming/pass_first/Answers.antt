@@ -15,49 +15,60 @@ returns-in_err-last-clause-err g c before empty begun =
     let (error, is, gives) = err_from_is_err_and c.from_residual.result c.from_residual.ensures.1 in
     let frame : c.frame_bytes-frame.result ≡ frame_bytes c.args.worker.now.script c.args.header.coding =
     c.frame_bytes-frame.ensures ∙ ap (λ (s : Script). frame_bytes s c.args.header.coding) c.script.ensures.script in
-    rw (is, gives) (ends.broke_first _ _ _ _ _ _ _ _ c.requires.new c.requires.coding refl c.args.frames (λ i. c.from.ensures i * frame i) begun _ _ _ _ _ c.in_err-last.ensures.err)
+    rw (is, gives) (ends.broke_first _ _ _ _ _ _ _ _ c.requires.new c.requires.coding refl c.args.frames
+    (λ i. c.from.ensures i * frame i) begun _ _ _ _ _ c.in_err-last.ensures.err)
 
 pub returns-then-came-span-clause-err : goal.returns-then-came-span-clause-err
 returns-then-came-span-clause-err g c before empty begun =
     let frame : c.frame_bytes-frame.result ≡ frame_bytes c.args.worker.now.script c.args.header.coding =
     c.frame_bytes-frame.ensures ∙ ap (λ (s : Script). frame_bytes s c.args.header.coding) c.script.ensures.script in
-    rw frame (laws.behind _ _ _ _ _ _ _ _ _ _ _ _ c.requires.new c.requires.coding refl c.args.frames (λ i. c.from.ensures i * frame i) c.in_ok-last.ensures.ok _ _ begun c.if-came-span.true c.requires.enough)
+    rw frame (laws.behind _ _ _ _ _ _ _ _ _ _ _ _ c.requires.new c.requires.coding refl c.args.frames
+    (λ i. c.from.ensures i * frame i) c.in_ok-last.ensures.ok _ _ begun c.if-came-span.true c.requires.enough)
 
 pub pass_block-requires-clause-whole : goal.pass_block-requires-clause-whole
 pass_block-requires-clause-whole g c =
     let frame : c.frame_bytes-frame.result ≡ frame_bytes c.args.worker.now.script c.args.header.coding =
     c.frame_bytes-frame.ensures ∙ ap (λ (s : Script). frame_bytes s c.args.header.coding) c.script.ensures.script in
-    laws.fed_whole _ _ _ _ _ _ _ _ _ _ _ _ c.requires.new c.requires.coding refl c.args.frames (λ i. c.from.ensures i * frame i) c.in_ok-last.ensures.ok c.if-came-span.false
+    laws.fed_whole _ _ _ _ _ _ _ _ _ _ _ _ c.requires.new c.requires.coding refl c.args.frames
+    (λ i. c.from.ensures i * frame i) c.in_ok-last.ensures.ok c.if-came-span.false
 
 pub pass_block-requires-clause-block : goal.pass_block-requires-clause-block
 pass_block-requires-clause-block g c =
     let frame : c.frame_bytes-frame.result ≡ frame_bytes c.args.worker.now.script c.args.header.coding =
     c.frame_bytes-frame.ensures ∙ ap (λ (s : Script). frame_bytes s c.args.header.coding) c.script.ensures.script in
-    laws.fed_in_block _ _ _ _ _ _ _ _ _ _ _ _ c.requires.new c.requires.coding refl c.args.frames (λ i. c.from.ensures i * frame i) c.in_ok-last.ensures.ok c.if-came-span.false
+    laws.fed_in_block _ _ _ _ _ _ _ _ _ _ _ _ c.requires.new c.requires.coding refl c.args.frames
+    (λ i. c.from.ensures i * frame i) c.in_ok-last.ensures.ok c.if-came-span.false
 
 pub pass_block-requires-clause-count : goal.pass_block-requires-clause-count
 pass_block-requires-clause-count g c =
     let frame : c.frame_bytes-frame.result ≡ frame_bytes c.args.worker.now.script c.args.header.coding =
     c.frame_bytes-frame.ensures ∙ ap (λ (s : Script). frame_bytes s c.args.header.coding) c.script.ensures.script in
-    laws.fed_few _ _ _ _ _ _ _ _ _ _ _ _ c.requires.new c.requires.coding refl c.args.frames (λ i. c.from.ensures i * frame i) c.in_ok-last.ensures.ok c.if-came-span.false (omega (arith, c.ranges.frames.fits))
+    laws.fed_few _ _ _ _ _ _ _ _ _ _ _ _ c.requires.new c.requires.coding refl c.args.frames
+    (λ i. c.from.ensures i * frame i) c.in_ok-last.ensures.ok c.if-came-span.false
+    (omega (arith, c.ranges.frames.fits))
 
 pub returns-in_err-pass_block-clause-err : goal.returns-in_err-pass_block-clause-err
 returns-in_err-pass_block-clause-err g c before empty begun =
-    let (error, is, gives) = err_from_is_err_and c.from_residual-in_err-pass_block.result c.from_residual-in_err-pass_block.ensures.1 in
+    let (error, is, gives) = err_from_is_err_and c.from_residual-in_err-pass_block.result
+    c.from_residual-in_err-pass_block.ensures.1 in
     let frame : c.frame_bytes-frame.result ≡ frame_bytes c.args.worker.now.script c.args.header.coding =
     c.frame_bytes-frame.ensures ∙ ap (λ (s : Script). frame_bytes s c.args.header.coding) c.script.ensures.script in
-    rw (is, gives) (laws.unpassed _ _ _ _ _ _ _ _ _ _ _ _ c.requires.new c.requires.coding refl c.args.frames (λ i. c.from.ensures i * frame i) c.in_ok-last.ensures.ok _ _ begun c.if-came-span.false _ _ _ _ c.in_err-pass_block.ensures.err)
+    rw (is, gives) (laws.unpassed _ _ _ _ _ _ _ _ _ _ _ _ c.requires.new c.requires.coding refl c.args.frames
+    (λ i. c.from.ensures i * frame i) c.in_ok-last.ensures.ok _ _ begun c.if-came-span.false _ _ _ _
+    c.in_err-pass_block.ensures.err)
 
 pub returns-in-Err-clause-err : goal.returns-in-Err-clause-err
 returns-in-Err-clause-err g c before empty begun =
     let frame : c.frame_bytes-frame.result ≡ frame_bytes c.args.worker.now.script c.args.header.coding =
     c.frame_bytes-frame.ensures ∙ ap (λ (s : Script). frame_bytes s c.args.header.coding) c.script.ensures.script in
-    laws.unflushed _ _ _ _ _ _ _ _ _ _ _ _ c.requires.new c.requires.coding refl c.args.frames (λ i. c.from.ensures i * frame i) c.in_ok-last.ensures.ok _ _ begun c.if-came-span.false
+    laws.unflushed _ _ _ _ _ _ _ _ _ _ _ _ c.requires.new c.requires.coding refl c.args.frames
+    (λ i. c.from.ensures i * frame i) c.in_ok-last.ensures.ok _ _ begun c.if-came-span.false
     _ _ _ c.in_ok-pass_block.ensures.ok _ c.in-Err.ensures.flushed.put c.in-Err.ensures.faults
 
 pub returns-in-Ok-clause-ok : goal.returns-in-Ok-clause-ok
 returns-in-Ok-clause-ok g c before empty begun =
     let frame : c.frame_bytes-frame.result ≡ frame_bytes c.args.worker.now.script c.args.header.coding =
     c.frame_bytes-frame.ensures ∙ ap (λ (s : Script). frame_bytes s c.args.header.coding) c.script.ensures.script in
-    laws.done _ _ _ _ _ _ _ _ _ _ _ _ c.requires.new c.requires.coding refl c.args.frames (λ i. c.from.ensures i * frame i) c.in_ok-last.ensures.ok _ _ begun c.if-came-span.false
+    laws.done _ _ _ _ _ _ _ _ _ _ _ _ c.requires.new c.requires.coding refl c.args.frames
+    (λ i. c.from.ensures i * frame i) c.in_ok-last.ensures.ok _ _ begun c.if-came-span.false
     _ _ _ c.in_ok-pass_block.ensures.ok _ c.in-Ok.ensures.flushed c.in-Ok.ensures.faults

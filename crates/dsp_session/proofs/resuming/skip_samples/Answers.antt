@@ -13,7 +13,8 @@ returns-in_err-count-clause-err g c =
 
 pub returns-then-count-lt-PIECE-clause-ok : goal.returns-then-count-lt-PIECE-clause-ok
 returns-then-count-lt-PIECE-clause-ok g c =
-    laws.skip_ends _ _ _ _ _ _ c.skipping.invariant _ _ _ c.in_ok-count.ensures.ok (omega (arith, c.if-count-lt-PIECE.true))
+    laws.skip_ends _ _ _ _ _ _ c.skipping.invariant _ _ _ c.in_ok-count.ensures.ok
+    (omega (arith, c.if-count-lt-PIECE.true))
 
 pub skipping-preserved : goal.skipping-preserved
 skipping-preserved g c = laws.skip_more _ _ _ _ _ _ c.skipping.invariant _ _ _ c.in_ok-count.ensures.ok

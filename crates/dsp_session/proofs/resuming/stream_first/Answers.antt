@@ -17,20 +17,27 @@ pub returns-in-Some-clause-err : goal.returns-in-Some-clause-err
 returns-in-Some-clause-err g c =
     let (got, is, fewer, declared) = rw c.script-script.ensures.script at c.in-Some.ensures.some in
     let opened = rw c.script-script.ensures.script at c.in_ok-header.ensures.ok in
-    rw (is, ← c.session.view_is) (laws.declares_fewer _ _ c.script-script.ensures.ready _ _ _ _ _ opened got fewer declared _)
+    rw (is, ← c.session.view_is) (laws.declares_fewer _ _ c.script-script.ensures.ready _ _ _ _ _ opened got fewer
+    declared _)
 
 pub returns-in_err-write_output_header-clause-err : goal.returns-in_err-write_output_header-clause-err
 returns-in_err-write_output_header-clause-err g c =
-    let (error, is, gives) = err_from_is_err_and c.from_residual-in_err-write_output_header.result c.from_residual-in_err-write_output_header.ensures.1 in
+    let (error, is, gives) = err_from_is_err_and c.from_residual-in_err-write_output_header.result
+    c.from_residual-in_err-write_output_header.ensures.1 in
     let (count, output, less, first) = c.in_err-write_output_header.ensures.err in
-    let took = subst (λ (s : Script). Took (g.K.Sink.state c.args.output.now) (g.K.Sink.state c.write_output_header.new.output) (take count (output_header s c.in_ok-header.header))) c.script-script.ensures.script first in
+    let took = subst (λ (s : Script). Took (g.K.Sink.state c.args.output.now)
+    (g.K.Sink.state c.write_output_header.new.output) (take count (output_header s c.in_ok-header.header)))
+    c.script-script.ensures.script first in
     let opened = rw c.script-script.ensures.script at c.in_ok-header.ensures.ok in
-    rw (is, gives, output, ← c.session.view_is) (laws.headless _ _ c.script-script.ensures.ready _ _ _ _ _ opened _ count took c.in_err-write_output_header.ensures.faults _)
+    rw (is, gives, output, ← c.session.view_is) (laws.headless _ _ c.script-script.ensures.ready _ _ _ _ _ opened _
+    count took c.in_err-write_output_header.ensures.faults _)
 
 pub returns-clause-ok : goal.returns-clause-ok
 returns-clause-ok g c =
     let script = c.script-script.ensures.script ∙ sym c.set_coding.ensures.same.script in
-    let begun = subst (λ (s : Script). Begun s c.in_ok-header.header (g.S.Source.state c.args.input.now) (g.S.Source.state c.take_header.new.input) (g.K.Sink.state c.args.output.now) (g.K.Sink.state c.write_output_header.new.output)) script (record {
+    let begun = subst (λ (s : Script). Begun s c.in_ok-header.header (g.S.Source.state c.args.input.now)
+    (g.S.Source.state c.take_header.new.input) (g.K.Sink.state c.args.output.now)
+    (g.K.Sink.state c.write_output_header.new.output)) script (record {
       opened = c.in_ok-header.ensures.ok;
       took = c.in_ok-write_output_header.ensures.ok;
       no_fault = c.in_ok-write_output_header.ensures.faults;
@@ -42,11 +49,14 @@ returns-clause-ok g c =
 pub returns-clause-err : goal.returns-clause-err
 returns-clause-err g c =
     let script = c.script-script.ensures.script ∙ sym c.set_coding.ensures.same.script in
-    let begun = subst (λ (s : Script). Begun s c.in_ok-header.header (g.S.Source.state c.args.input.now) (g.S.Source.state c.take_header.new.input) (g.K.Sink.state c.args.output.now) (g.K.Sink.state c.write_output_header.new.output)) script (record {
+    let begun = subst (λ (s : Script). Begun s c.in_ok-header.header (g.S.Source.state c.args.input.now)
+    (g.S.Source.state c.take_header.new.input) (g.K.Sink.state c.args.output.now)
+    (g.K.Sink.state c.write_output_header.new.output)) script (record {
       opened = c.in_ok-header.ensures.ok;
       took = c.in_ok-write_output_header.ensures.ok;
       no_fault = c.in_ok-write_output_header.ensures.faults;
       fits = c.in_ok-header.ensures.fits;
     }) in
-    let went = rw (c.set_coding.ensures.same.script, c.set_coding.ensures.same.block) at (c.pass_first.ensures.err _ _ begun) in
+    let went = rw (c.set_coding.ensures.same.script, c.set_coding.ensures.same.block) at
+    (c.pass_first.ensures.err _ _ begun) in
     rw (← c.session.view_is) went

@@ -4,7 +4,8 @@ use Rattle.dsp_session.proofs.streaming.pass_blocks.Given as goal
 
 abbrev pub invariant-passing : goal.invariant-passing
 invariant-passing g l =
-    Going l.fn.worker l.worker l.header l.span l.taken (g.S.Source.state l.fn.input) (g.S.Source.state l.input) (g.K.Sink.state l.fn.output) (g.K.Sink.state l.output) l.fn.steps l.steps
+    Going l.fn.worker l.worker l.header l.span l.taken (g.S.Source.state l.fn.input) (g.S.Source.state l.input)
+    (g.K.Sink.state l.fn.output) (g.K.Sink.state l.output) l.fn.steps l.steps
 
 abbrev pub decreases-passing : goal.decreases-passing
 decreases-passing g l = 2 ^ 40 - l.taken

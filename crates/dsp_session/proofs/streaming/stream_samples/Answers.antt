@@ -21,17 +21,20 @@ pass_blocks-requires-clause-runs g c = new_runs _ c.requires.new
 
 pub pass_blocks-requires-clause-block : goal.pass_blocks-requires-clause-block
 pass_blocks-requires-clause-block g c =
-    length-take-le c.block_bytes-size.result c.args.room.now (rw c.block_bytes-size.ensures c.requires.room) ∙ c.block_bytes-size.ensures
+    length-take-le c.block_bytes-size.result c.args.room.now (rw c.block_bytes-size.ensures c.requires.room) ∙
+    c.block_bytes-size.ensures
 
 pub returns-in_err-last-clause-err : goal.returns-in_err-last-clause-err
 returns-in_err-last-clause-err g c before empty begun =
     let (error, is, same) = err_from_is_err_and c.from_residual.result c.from_residual.ensures.1 in
-    rw (is, same) (plain.broke_plain _ _ _ c.requires.new c.requires.coding refl refl _ _ _ _ _ _ _ _ c.in_err-last.ensures.err _ _ begun)
+    rw (is, same) (plain.broke_plain _ _ _ c.requires.new c.requires.coding refl refl _ _ _ _ _ _ _ _
+    c.in_err-last.ensures.err _ _ begun)
 
 pub returns-in_err-last-clause-refused : goal.returns-in_err-last-clause-refused
 returns-in_err-last-clause-refused g c =
     let (error, is, same) = err_from_is_err_and c.from_residual.result c.from_residual.ensures.1 in
-    rw (is, same) (plain.broke_stays _ _ _ c.requires.new c.requires.coding refl refl _ _ _ _ _ _ _ _ c.in_err-last.ensures.err)
+    rw (is, same) (plain.broke_stays _ _ _ c.requires.new c.requires.coding refl refl _ _ _ _ _ _ _ _
+    c.in_err-last.ensures.err)
 
 pub close-requires-clause-runs : goal.close-requires-clause-runs
 close-requires-clause-runs g c = c.in_ok-last.ensures.ok.going.advances.runs
@@ -47,7 +50,8 @@ close-requires-clause-short g c = c.in_ok-last.ensures.ok.short
 
 pub close-requires-clause-frames : goal.close-requires-clause-frames
 close-requires-clause-frames g c =
-    laws'.reached_frames _ _ _ _ _ _ _ _ _ _ _ _ c.requires.coding (nothing _ _ c.requires.new.chain.counted) c.in_ok-last.ensures.ok
+    laws'.reached_frames _ _ _ _ _ _ _ _ _ _ _ _ c.requires.coding (nothing _ _ c.requires.new.chain.counted)
+    c.in_ok-last.ensures.ok
 
 pub close-requires-clause-limit : goal.close-requires-clause-limit
 close-requires-clause-limit g c = omega (arith, c.in_ok-last.ensures.ok.read.in_limit)
@@ -56,29 +60,38 @@ pub overflow_add-result : goal.overflow_add-result
 overflow_add-result g c = omega (arith, c.in_ok-last.ensures.ok.read.in_limit)
 
 pub returns-clause-few : goal.returns-clause-few
-returns-clause-few g c = laws.few_taken _ c.in_ok-last.last.before c.in_ok-last.last.count c.frame_bytes.result (regroup _ _ _ c.in_ok-last.ensures.ok.read.in_limit)
+returns-clause-few g c = laws.few_taken _ c.in_ok-last.last.before c.in_ok-last.last.count c.frame_bytes.result
+    (regroup _ _ _ c.in_ok-last.ensures.ok.read.in_limit)
 
 pub returns-clause-ok : goal.returns-clause-ok
 returns-clause-ok g c before empty begun =
     let coding = c.args.header.coding in
     let same = c.in_ok-last.ensures.same in
     let reached = c.in_ok-last.ensures.ok in
-    let passed = laws.passed_as _ _ _ _ _ _ _ _ _ _ _ _ _ _ _ same.script same.block refl (plain.reached_plain _ _ _ c.requires.new c.requires.coding refl refl _ _ _ _ _ _ _ _ _ reached _ _ begun) in
+    let passed = laws.passed_as _ _ _ _ _ _ _ _ _ _ _ _ _ _ _ same.script same.block refl
+    (plain.reached_plain _ _ _ c.requires.new c.requires.coding refl refl _ _ _ _ _ _ _ _ _ reached _ _ begun) in
     let frame : frame_bytes c.pass_blocks.new.worker.script coding ≡ c.frame_bytes.result =
-    ap (λ (s : Script). frame_bytes s coding) (sym (c.script.ensures.script ∙ c.in_ok-close.ensures.same.script)) ∙ sym c.frame_bytes.ensures in
-    laws.done_as _ _ _ _ _ _ _ _ _ _ _ _ _ _ _ same.banked same.script same.block (laws.same_quotient (c.in_ok-last.last.before) c.in_ok-last.last.count _ _ frame)
-    (ends.closed_plain _ reached.going.advances.runs.holds.ready _ _ _ _ _ _ _ _ _ passed _ _ _ c.in_ok-close.ensures.ok)
+    ap (λ (s : Script). frame_bytes s coding) (sym (c.script.ensures.script ∙ c.in_ok-close.ensures.same.script)) ∙
+    sym c.frame_bytes.ensures in
+    laws.done_as _ _ _ _ _ _ _ _ _ _ _ _ _ _ _ same.banked same.script same.block
+    (laws.same_quotient (c.in_ok-last.last.before) c.in_ok-last.last.count _ _ frame)
+    (ends.closed_plain _ reached.going.advances.runs.holds.ready _ _ _ _ _ _ _ _ _ passed _ _ _
+    c.in_ok-close.ensures.ok)
 
 pub returns-in_err-close-clause-err : goal.returns-in_err-close-clause-err
 returns-in_err-close-clause-err g c before empty begun =
-    let (error, is, err) = err_from_is_err_and c.from_residual-in_err-close.result c.from_residual-in_err-close.ensures.1 in
+    let (error, is, err) = err_from_is_err_and c.from_residual-in_err-close.result
+    c.from_residual-in_err-close.ensures.1 in
     let same = c.in_ok-last.ensures.same in
     let reached = c.in_ok-last.ensures.ok in
-    let passed = laws.passed_as _ _ _ _ _ _ _ _ _ _ _ _ _ _ _ same.script same.block refl (plain.reached_plain _ _ _ c.requires.new c.requires.coding refl refl _ _ _ _ _ _ _ _ _ reached _ _ begun) in
+    let passed = laws.passed_as _ _ _ _ _ _ _ _ _ _ _ _ _ _ _ same.script same.block refl
+    (plain.reached_plain _ _ _ c.requires.new c.requires.coding refl refl _ _ _ _ _ _ _ _ _ reached _ _ begun) in
     rw (is, err) (ends.stopped_as _ _ _ _ _ _ _ _ _ _ _ _ _ same.banked same.script same.block
-    (ends.unclosed_plain _ reached.going.advances.runs.holds.ready _ _ _ _ _ _ _ _ _ passed _ _ _ _ c.in_err-close.ensures.err))
+    (ends.unclosed_plain _ reached.going.advances.runs.holds.ready _ _ _ _ _ _ _ _ _ passed _ _ _ _
+    c.in_err-close.ensures.err))
 
 pub returns-in_err-close-clause-refused : goal.returns-in_err-close-clause-refused
 returns-in_err-close-clause-refused g c =
-    let (error, is, err) = err_from_is_err_and c.from_residual-in_err-close.result c.from_residual-in_err-close.ensures.1 in
+    let (error, is, err) = err_from_is_err_and c.from_residual-in_err-close.result
+    c.from_residual-in_err-close.ensures.1 in
     rw (is, err) (ends.unclosed_stays _ _ _ _ _ _ _ _ _ c.in_err-close.ensures.err)

@@ -16,7 +16,15 @@ same_bytes xs ys h = tested (bytes_eq xs ys) refl h
 pub returns-clause-some : goal.returns-clause-some
 returns-clause-some c script same =
     let is : c.in-Ok.script ≡ script = cc in
-    let text : c.in_ok-canonical.canonical.items ≡ c.args.text.now = sym c.as_slice.ensures.value ∙ same_bytes c.as_slice.result.now c.args.text.now c.if-ne.ensures in
+    let text : c.in_ok-canonical.canonical.items ≡ c.args.text.now = sym c.as_slice.ensures.value ∙
+    same_bytes c.as_slice.result.now c.args.text.now c.if-ne.ensures in
     let legal : c.legal.result ≡ true = c.if-not-legal.false in
-    subst (λ (s : Script). CanRun s × (canon s ≡ c.args.text.now)) is
-    (record { sound = (c.args.text.now, c.in-Ok.ensures.reads); block = c.default_block.result; legal = sym c.legal.ensures ∙ legal }, sym c.in_ok-canonical.ensures ∙ text)
+    subst (λ (s : Script). CanRun s × (canon s ≡ c.args.text.now)) is (
+      record {
+        sound = (c.args.text.now, c.in-Ok.ensures.reads);
+        block = c.default_block.result;
+        legal =
+            sym c.legal.ensures ∙ legal;
+      },
+      sym c.in_ok-canonical.ensures ∙ text,
+    )

@@ -17,7 +17,8 @@ read_kept-requires-clause-frames g c =
     let bytes = c.args.bytes.now in
     let at = 16 + c.in_ok-size.size + 4 - 4 in
     let place : at ≡ frames_place bytes = omega (arith, c.in_ok-size.ensures.size) in
-    c.read_u32-frames.ensures ∙ u32_read bytes (take (length bytes - at) (drop at bytes)) (frames_place bytes) (from_place bytes at (frames_place bytes) place)
+    c.read_u32-frames.ensures ∙ u32_read bytes (take (length bytes - at) (drop at bytes)) (frames_place bytes)
+    (from_place bytes at (frames_place bytes) place)
 
 pub invariant_of-result : goal.invariant_of-result
 invariant_of-result g c =
@@ -25,9 +26,11 @@ invariant_of-result g c =
     let at = 16 + c.in_ok-size.size + 4 - 4 in
     let place : at ≡ frames_place bytes = omega (arith, c.in_ok-size.ensures.size) in
     let frames : c.read_u32-frames.result ≡ frames_in_state bytes =
-    c.read_u32-frames.ensures ∙ u32_read bytes (take (length bytes - at) (drop at bytes)) (frames_place bytes) (from_place bytes at (frames_place bytes) place) in
+    c.read_u32-frames.ensures ∙ u32_read bytes (take (length bytes - at) (drop at bytes)) (frames_place bytes)
+    (from_place bytes at (frames_place bytes) place) in
     laws.saved bytes c.in_ok-script.script c.read_u32-frames.result c.in_ok-numbers.numbers.items
-    (laws.loaded bytes c.in_ok-script.script c.read_u32-frames.result c.in_ok-numbers.numbers.items c.type_inv.bytes c.if-bytes-gt-MAX_STATE.false
+    (laws.loaded bytes c.in_ok-script.script c.read_u32-frames.result c.in_ok-numbers.numbers.items c.type_inv.bytes
+    c.if-bytes-gt-MAX_STATE.false
     c.in_ok-numbers.ensures.fields c.in_ok-numbers.ensures.ends frames c.in_ok-numbers.ensures.numbers)
 
 pub returns-clause-ok : goal.returns-clause-ok
@@ -36,6 +39,8 @@ returns-clause-ok g c =
     let at = 16 + c.in_ok-size.size + 4 - 4 in
     let place : at ≡ frames_place bytes = omega (arith, c.in_ok-size.ensures.size) in
     let frames : c.read_u32-frames.result ≡ frames_in_state bytes =
-    c.read_u32-frames.ensures ∙ u32_read bytes (take (length bytes - at) (drop at bytes)) (frames_place bytes) (from_place bytes at (frames_place bytes) place) in
-    laws.loaded bytes c.in_ok-script.script c.read_u32-frames.result c.in_ok-numbers.numbers.items c.type_inv.bytes c.if-bytes-gt-MAX_STATE.false
+    c.read_u32-frames.ensures ∙ u32_read bytes (take (length bytes - at) (drop at bytes)) (frames_place bytes)
+    (from_place bytes at (frames_place bytes) place) in
+    laws.loaded bytes c.in_ok-script.script c.read_u32-frames.result c.in_ok-numbers.numbers.items c.type_inv.bytes
+    c.if-bytes-gt-MAX_STATE.false
     c.in_ok-numbers.ensures.fields c.in_ok-numbers.ensures.ends frames c.in_ok-numbers.ensures.numbers

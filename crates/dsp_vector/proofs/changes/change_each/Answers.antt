@@ -1,7 +1,8 @@
-use Rattle.std.proofs.Common.{◌≡◌, ◌∙◌, ap, sym, subst, ◌<◌, length, arith, rules, SFits, to_z, of_z, to_z-of_z, FitsSigned, w32}
+use Rattle.std.proofs.Common.{◌≡◌, ◌∙◌, ap, sym, subst, ◌<◌, length, arith, rules, SFits, to_z, of_z, to_z-of_z}
+use Rattle.std.proofs.Common.{FitsSigned, w32}
 use Rattle.dsp_defs.specs.Formats.{word}
 use Rattle.dsp_defs.specs.Signal.{sample}
-use Rattle.dsp_frames.proofs.Samples.{map-more, fits-more}
+use Rattle.dsp_filter.proofs.FrameSamples.{map-more, fits-more}
 use Rattle.dsp_vector.proofs.changes.change_each.Goals as goal
 
 pub loop-i-preserved : goal.loop-i-preserved
@@ -17,7 +18,8 @@ loop-i-preserved g c =
     let taken : x ≡ sample samples i = to_z-of_z fits_taken in
     let made : to_z w32 (of_z w32 c.change.result) ≡ c.change.result = to_z-of_z fits in
     record {
-      values = map-more f i out samples (to_z w32 (of_z w32 c.change.result)) room c.loop-i-test.true c.loop-i.invariant.values
+      values = map-more f i out samples (to_z w32 (of_z w32 c.change.result)) room c.loop-i-test.true
+          c.loop-i.invariant.values
           (made ∙ c.change.ensures.value ∙ ap f taken);
       fits = fits-more (word g.U.Sample.format) i out (to_z w32 (of_z w32 c.change.result)) room c.loop-i.invariant.fits
           (subst (FitsSigned (word g.U.Sample.format)) (sym made) c.change.ensures.fits);

@@ -2,7 +2,7 @@ use Rattle.std.proofs.Common.{◌∙◌, ap, sym, arith, map, take}
 use Rattle.std.proofs.lemmas.List.{length-map, map-set, take_all}
 use Rattle.dsp_defs.proofs.SumLemmas.{sample-map}
 use Rattle.dsp_defs.specs.Elementwise.{convert}
-use Rattle.dsp_frames.proofs.Samples.{map-more}
+use Rattle.dsp_filter.proofs.FrameSamples.{map-more}
 use Rattle.dsp_vector.proofs.conversions.convert_each.Goals as goal
 
 pub loop-i-preserved : goal.loop-i-preserved
@@ -26,4 +26,5 @@ returns g c =
     let i = c.loop-i.i in
     let long_out = length-map c.loop-i.out M in
     let long_a = length-map c.args.a.now N in
-    sym (take_all i (map M c.loop-i.out) (omega arith)) ∙ c.loop-i.invariant ∙ ap (map (convert g.T.Sample.format g.U.Sample.format)) (take_all i (map N c.args.a.now) (omega arith))
+    sym (take_all i (map M c.loop-i.out) (omega arith)) ∙ c.loop-i.invariant ∙
+    ap (map (convert g.T.Sample.format g.U.Sample.format)) (take_all i (map N c.args.a.now) (omega arith))

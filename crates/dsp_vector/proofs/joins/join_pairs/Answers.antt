@@ -1,7 +1,8 @@
-use Rattle.std.proofs.Common.{◌≡◌, ◌∙◌, sym, subst, ◌+◌, ◌*◌, ◌<◌, length, arith, rules, SFits, to_z, of_z, to_z-of_z, FitsSigned, w32}
+use Rattle.std.proofs.Common.{◌≡◌, ◌∙◌, sym, subst, ◌+◌, ◌*◌, ◌<◌, length, arith, rules, SFits, to_z, of_z, to_z-of_z}
+use Rattle.std.proofs.Common.{FitsSigned, w32}
 use Rattle.dsp_defs.specs.Formats.{word}
 use Rattle.dsp_defs.specs.Signal.{sample}
-use Rattle.dsp_frames.proofs.Samples.{values-more, fits-more}
+use Rattle.dsp_filter.proofs.FrameSamples.{values-more, fits-more}
 use Rattle.dsp_vector.proofs.joins.join_pairs.Goals as goal
 
 pub loop-n-preserved : goal.loop-n-preserved
@@ -17,9 +18,12 @@ loop-n-preserved g c =
     let fits_b : SFits w32 (sample samples (n * 2 + 1)) = search rules in
     let made : v ≡ c.number.result = to_z-of_z fits in
     record {
-      values = values-more (λ n. f (sample samples (n * 2)) (sample samples (n * 2 + 1))) n out v room c.loop-n.invariant.values
-          (made ∙ c.number.ensures.value ∙ c.join.ensures.value ∙ (λ k. f ((c.of_number-a.ensures ∙ to_z-of_z fits_a) k) ((c.of_number-b.ensures ∙ to_z-of_z fits_b) k)));
-      fits = fits-more (word g.T.Sample.format) n out v room c.loop-n.invariant.fits (subst (FitsSigned (word g.T.Sample.format)) (sym made) c.number.ensures.fits);
+      values = values-more (λ n. f (sample samples (n * 2)) (sample samples (n * 2 + 1))) n out v room
+          c.loop-n.invariant.values
+          (made ∙ c.number.ensures.value ∙ c.join.ensures.value ∙
+          (λ k. f ((c.of_number-a.ensures ∙ to_z-of_z fits_a) k) ((c.of_number-b.ensures ∙ to_z-of_z fits_b) k)));
+      fits = fits-more (word g.T.Sample.format) n out v room c.loop-n.invariant.fits
+          (subst (FitsSigned (word g.T.Sample.format)) (sym made) c.number.ensures.fits);
       steps = record {
         multiplies_rise = omega (arith, c.loop-n.invariant.steps, c.join.ensures.steps);
         turns_rise = omega (arith, c.loop-n.invariant.steps, c.join.ensures.steps);

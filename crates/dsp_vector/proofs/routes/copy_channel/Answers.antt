@@ -1,13 +1,16 @@
-use Rattle.std.proofs.Common.{◌≢◌, ◌∙◌, ◌+◌, ◌*◌, ◌<◌, pos, length, arith, rules, below_more, SFits, to_z, of_z, to_z-of_z, w32, ◌≡◌, ap, sym, ℕ, ◌/◌, ◌%◌, get_or-set_other, get_or-set_same}
+use Rattle.std.proofs.Common.{◌≢◌, ◌∙◌, ◌+◌, ◌*◌, ◌<◌, pos, length, arith, rules, below_more, SFits, to_z, of_z}
+use Rattle.std.proofs.Common.{to_z-of_z, w32, ◌≡◌, ap, sym, ℕ, ◌/◌, ◌%◌, get_or-set_other, get_or-set_same}
 use Rattle.std.proofs.lemmas.Nat.{div-mul-add, mod-mul-add, mul-add-lt}
 use Rattle.dsp_defs.specs.Signal.{sample}
 use Rattle.dsp_vector.proofs.routes.copy_channel.Goals as goal
 
 same-frame : (channels n i c d : ℕ) → c < channels → d < channels → n * channels + c ≡ i * channels + d → n ≡ i
-same-frame channels n i c d h k e = sym (div-mul-add n channels c h) ∙ ap (λ p. p / channels) e ∙ div-mul-add i channels d k
+same-frame channels n i c d h k e = sym (div-mul-add n channels c h) ∙ ap (λ p. p / channels) e ∙
+    div-mul-add i channels d k
 
 same-channel : (channels n i c d : ℕ) → c < channels → d < channels → n * channels + c ≡ i * channels + d → c ≡ d
-same-channel channels n i c d h k e = sym (mod-mul-add n channels c h) ∙ ap (λ p. p % channels) e ∙ mod-mul-add i channels d k
+same-channel channels n i c d h k e = sym (mod-mul-add n channels c h) ∙ ap (λ p. p % channels) e ∙
+    mod-mul-add i channels d k
 
 pub loop-n-preserved : goal.loop-n-preserved
 loop-n-preserved c =
@@ -24,10 +27,13 @@ loop-n-preserved c =
     record {
       here = below_more _ i
           (λ n below.
-          let other : n * width + to ≢ i * width + to = λ e. (let same = same-frame width n i to to c.requires.to c.requires.to e in omega (arith, same, below)) in
+          let other : n * width + to ≢ i * width + to = λ e.
+          (let same = same-frame width n i to to c.requires.to c.requires.to e in omega (arith, same, below)) in
           get_or-set_other out (i * width + to) (n * width + to) v (pos 0) other ∙ c.loop-n.invariant.here n below)
           (get_or-set_same out (i * width + to) v (pos 0) room ∙ to_z-of_z fits);
       elsewhere = λ n d within apart.
-          let other : n * width + d ≢ i * width + to = λ e. apart (same-channel width n i d to within c.requires.to e) in
-          get_or-set_other out (i * width + to) (n * width + d) v (pos 0) other ∙ c.loop-n.invariant.elsewhere n d within apart;
+          let other : n * width + d ≢ i * width + to = λ e. apart (same-channel width n i d to within c.requires.to e)
+          in
+          get_or-set_other out (i * width + to) (n * width + d) v (pos 0) other ∙
+          c.loop-n.invariant.elsewhere n d within apart;
     }

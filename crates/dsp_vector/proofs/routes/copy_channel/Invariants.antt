@@ -6,5 +6,6 @@ use Rattle.dsp_vector.proofs.routes.copy_channel.Given as goal
 abbrev pub invariant-loop-n : goal.invariant-loop-n
 invariant-loop-n l = record {
   here : (n : ℕ) → n < l.n → sample l.out (n * l.width + l.to) ≡ sample l.frames (n * l.channels + l.from);
-  elsewhere : (n c : ℕ) → c < l.width → c ≢ l.to → sample l.out (n * l.width + c) ≡ sample l.initial.out (n * l.width + c);
+  elsewhere : (n c : ℕ) → c < l.width → c ≢ l.to → sample l.out (n * l.width + c) ≡ sample l.initial.out
+      (n * l.width + c);
 }

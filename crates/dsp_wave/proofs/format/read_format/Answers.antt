@@ -7,16 +7,20 @@ use Rattle.dsp_wave.proofs.format.read_format.Goals as goal
 pub returns-in_err-count-clause-err : goal.returns-in_err-count-clause-err
 returns-in_err-count-clause-err g c =
     let (error, is, same) = err_from_is_err_and c.from_residual.result c.from_residual.ensures.1 in
-    rw (is, same) (c.in_err-count.ensures.err (said_behind c.args.wanted c.args.offset c.args.head.now) (λ bytes. (c.args.wanted, refl)))
+    rw (is, same) (c.in_err-count.ensures.err (said_behind c.args.wanted c.args.offset c.args.head.now)
+    (λ bytes. (c.args.wanted, refl)))
 
 pub returns-in_err-known-clause-err : goal.returns-in_err-known-clause-err
 returns-in_err-known-clause-err g c =
-    let (error, is, same) = err_from_is_err_and c.from_residual-in_err-known.result c.from_residual-in_err-known.ensures.1 in
+    let (error, is, same) = err_from_is_err_and c.from_residual-in_err-known.result
+    c.from_residual-in_err-known.ensures.1 in
     let head = c.args.head.now in
     let body = take c.in_ok-count.count c.take_format.new.body in
     let (came, enough) = c.in_ok-count.ensures.ok in
     let here : c.args.offset + 8 + length body ≡ c.args.offset + 8 + c.in_ok-count.count = omega (arith, came.long) in
-    rw (is, same) (laws.stopped_sooner (said_behind c.args.wanted c.args.offset head) (λ more. said_behind c.args.wanted c.args.offset head (body ++ more)) (c.args.offset + 8) c.in_ok-count.count (c.args.offset + 8 + length body) here _ _ _ body came (λ more. refl) _ c.in_err-known.ensures.err)
+    rw (is, same) (laws.stopped_sooner (said_behind c.args.wanted c.args.offset head)
+    (λ more. said_behind c.args.wanted c.args.offset head (body ++ more)) (c.args.offset + 8) c.in_ok-count.count
+    (c.args.offset + 8 + length body) here _ _ _ body came (λ more. refl) _ c.in_err-known.ensures.err)
 
 pub returns-clause-ok : goal.returns-clause-ok
 returns-clause-ok g c =
@@ -25,4 +29,5 @@ returns-clause-ok g c =
     let (came, enough) = c.in_ok-count.ensures.ok in
     let read = c.in_ok-known.ensures.ok in
     let second = rw came.long at read.came in
-    rw read.known_is (laws.rest_came c.args.wanted c.args.offset head c.requires.head.long c.requires.head.id body enough read.good c.in_ok-count.count came.long _ _ _ read.rest came second)
+    rw read.known_is (laws.rest_came c.args.wanted c.args.offset head c.requires.head.long c.requires.head.id body
+    enough read.good c.in_ok-count.count came.long _ _ _ read.rest came second)

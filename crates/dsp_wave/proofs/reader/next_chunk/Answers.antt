@@ -12,27 +12,37 @@ returns-in_err-take-clause-err g c wanted =
     let known = Some c.args.known in
     let (error, is, same) = err_from_is_err_and c.from_residual.result c.from_residual.ensures.1 in
     let long : length c.take.new.piece ≡ 8 = c.take.auto.piece in
-    rw (is, same) (laws.stops_missing (said_from wanted c.args.offset known) c.args.offset _ _ 8 _ (laws.needs_head wanted c.args.offset known)
+    rw (is, same) (laws.stops_missing (said_from wanted c.args.offset known) c.args.offset _ _ 8 _
+    (laws.needs_head wanted c.args.offset known)
     (rw long at c.in_err-take.ensures.err))
 
 pub returns-in_err-skip-clause-err : goal.returns-in_err-skip-clause-err
 returns-in_err-skip-clause-err g c wanted =
     let known = Some c.args.known in
-    let (error, is, same) = err_from_is_err_and c.from_residual-in_err-skip.result c.from_residual-in_err-skip.ensures.1 in
+    let (error, is, same) = err_from_is_err_and c.from_residual-in_err-skip.result
+    c.from_residual-in_err-skip.ensures.1 in
     let head = c.take.new.piece in
     let long : length head ≡ 8 = c.take.auto.piece in
-    let other : bytes_eq (take 4 head) (codes "data") ≡ false = grind (arith, common_steps, c.eq.ensures, c.if-eq.false) in
-    let size : c.padded.result ≡ padded (u32_at head 4) = grind (arith, common_steps, c.padded.ensures, c.read_u32-size.ensures) in
-    rw (is, same) (laws.stops_later (said_from wanted c.args.offset known) c.args.offset _ _ 8 (padded (u32_at head 4)) _ head _
-    (λ more. laws.passes_short wanted c.args.offset head long known known more (laws.other_passes wanted c.args.offset head long known more other refl))
+    let other : bytes_eq (take 4 head) (codes "data") ≡ false =
+    grind (arith, common_steps, c.eq.ensures, c.if-eq.false) in
+    let size : c.padded.result ≡ padded (u32_at head 4) =
+    grind (arith, common_steps, c.padded.ensures, c.read_u32-size.ensures) in
+    rw (is, same) (laws.stops_later (said_from wanted c.args.offset known) c.args.offset _ _ 8
+    (padded (u32_at head 4)) _ head _
+    (λ more. laws.passes_short wanted c.args.offset head long known known more
+    (laws.other_passes wanted c.args.offset head long known more other refl))
     (rw long at c.in_ok-take.ensures.ok) (rw size at c.in_err-skip.ensures.err))
 
 pub returns-clause-ok : goal.returns-clause-ok
 returns-clause-ok g c =
     let head = c.take.new.piece in
     let long : length head ≡ 8 = c.take.auto.piece in
-    let other : bytes_eq (take 4 head) (codes "data") ≡ false = grind (arith, common_steps, c.eq.ensures, c.if-eq.false) in
-    let skipped : c.padded.result ≡ padded (u32_at head 4) = grind (arith, common_steps, c.padded.ensures, c.read_u32-size.ensures) in
-    let size : c.padded-2.result ≡ padded (u32_at head 4) = grind (arith, common_steps, c.padded-2.ensures, c.read_u32-size.ensures) in
+    let other : bytes_eq (take 4 head) (codes "data") ≡ false =
+    grind (arith, common_steps, c.eq.ensures, c.if-eq.false) in
+    let skipped : c.padded.result ≡ padded (u32_at head 4) =
+    grind (arith, common_steps, c.padded.ensures, c.read_u32-size.ensures) in
+    let size : c.padded-2.result ≡ padded (u32_at head 4) =
+    grind (arith, common_steps, c.padded-2.ensures, c.read_u32-size.ensures) in
     let (body, second) = c.in_ok-skip.ensures.ok in
-    rw size (laws.chunk_came c.args.offset c.args.known head long other _ _ _ body (rw long at c.in_ok-take.ensures.ok) (rw skipped at second))
+    rw size (laws.chunk_came c.args.offset c.args.known head long other _ _ _ body
+    (rw long at c.in_ok-take.ensures.ok) (rw skipped at second))

@@ -9,7 +9,12 @@ returns-in-Ok-clause-err g c =
       short = omega (arith, skipped.long, c.if-came-count.true);
       gave = skipped.gave;
       in_limit = omega (arith, skipped.long, skipped.in_room);
-      missed = (refl, ap (λ n. c.args.taken + n) (sym skipped.long), skipped.end c.if-came-count.true, skipped.no_fault);
+      missed = (
+        refl,
+        ap (λ n. c.args.taken + n) (sym skipped.long),
+        skipped.end c.if-came-count.true,
+        skipped.no_fault,
+      );
     }
 
 pub returns-in-Ok-2-clause-ok : goal.returns-in-Ok-2-clause-ok

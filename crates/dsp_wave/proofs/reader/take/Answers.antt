@@ -6,13 +6,19 @@ use Rattle.dsp_wave.proofs.reader.take.Goals as goal
 pub returns-in-Ok-clause-err : goal.returns-in-Ok-clause-err
 returns-in-Ok-clause-err g c =
     let filled = c.in-Ok.ensures.ok in
-    let long : length (take c.in-Ok.count c.fill.new.block) ≡ c.in-Ok.count = length-take-le c.in-Ok.count c.fill.new.block filled.within in
+    let long : length (take c.in-Ok.count c.fill.new.block) ≡ c.in-Ok.count =
+    length-take-le c.in-Ok.count c.fill.new.block filled.within in
     record {
       bytes = take c.in-Ok.count c.fill.new.block;
       short = omega (arith, long, c.if-count-piece.true);
       gave = filled.gave;
       in_limit = omega (arith, long, filled.in_room);
-      missed = (refl, ap (λ n. c.args.taken + n) (sym long), filled.end (omega (arith, c.if-count-piece.true)), filled.no_fault);
+      missed = (
+        refl,
+        ap (λ n. c.args.taken + n) (sym long),
+        filled.end (omega (arith, c.if-count-piece.true)),
+        filled.no_fault,
+      );
     }
 
 pub returns-in-Ok-2-clause-ok : goal.returns-in-Ok-2-clause-ok
@@ -21,7 +27,8 @@ returns-in-Ok-2-clause-ok g c =
     let all : length c.fill.new.block ≡ c.in-Ok.count = omega (arith, filled.within, c.if-count-piece.false) in
     record {
       long = refl;
-      gave = subst (Gave (g.S.Source.state c.args.source.now) (g.S.Source.state c.fill.new.input)) (take_all c.in-Ok.count c.fill.new.block (omega (arith, all))) filled.gave;
+      gave = subst (Gave (g.S.Source.state c.args.source.now) (g.S.Source.state c.fill.new.input))
+          (take_all c.in-Ok.count c.fill.new.block (omega (arith, all))) filled.gave;
       in_limit = omega (arith, all, filled.in_room);
       no_fault = filled.no_fault;
     }

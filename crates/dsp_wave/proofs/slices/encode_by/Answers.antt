@@ -1,4 +1,5 @@
-use Rattle.std.proofs.Common.{◌≡◌, ◌∙◌, ap, ℕ, ◌+◌, ◌-◌, ◌*◌, ◌<◌, ◌≤◌, ℤ, pos, List, ◌++◌, length, take, drop, get_or, arith, SFits, length-take, length-drop}
+use Rattle.std.proofs.Common.{◌≡◌, ◌∙◌, ap, ℕ, ◌+◌, ◌-◌, ◌*◌, ◌<◌, ◌≤◌, ℤ, pos, List, ◌++◌, length, take, drop}
+use Rattle.std.proofs.Common.{get_or, arith, SFits, length-take, length-drop}
 use Rattle.std.specs.Int.{w32}
 use Rattle.std.specs.List.{flat_map}
 use Rattle.std.proofs.lemmas.Int.{to_z-of_z}
@@ -20,12 +21,18 @@ loop-i-preserved c =
     let out = c.bytes_of.new.out in
     let old = c.loop-i.bytes in
     let within : i < length samples = omega arith in
-    let fits : SFits w32 x = value_fits coding x (All-get_or (IsValue coding) samples i (pos 0) within c.requires.fits) in
+    let fits : SFits w32 x = value_fits coding x (All-get_or (IsValue coding) samples i (pos 0) within
+    c.requires.fits) in
     let made : out ≡ f x = c.bytes_of.ensures ∙ ap f (to_z-of_z w32 x fits) in
     let bound : i * w + w ≤ length samples * w = within-bytes i (length samples) w within in
     let all : length samples * w ≡ length samples * width coding = ap (λ v. length samples * v) same in
     let room : i * w + w ≤ length old = omega (arith, bound, all, c.requires.room, c.loop-i.auto.bytes) in
-    let size : length out ≡ w = omega (arith, c.bytes_of.auto.out, length-take (i * w + w - i * w) (drop (i * w) old), length-drop (i * w) old) in
+    let size : length out ≡ w = omega (
+      arith,
+      c.bytes_of.auto.out,
+      length-take (i * w + w - i * w) (drop (i * w) old),
+      length-drop (i * w) old,
+    ) in
     let end : (i + 1) * width coding ≡ i * w + length out = rw (size, ← same) (omega arith) in
     let place : i * w ≡ i * width coding = ap (λ v. i * v) same in
     let before : take (i * width coding) old ≡ flat_map f (take i samples) = c.loop-i.invariant in

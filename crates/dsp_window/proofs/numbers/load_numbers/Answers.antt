@@ -1,4 +1,5 @@
-use Rattle.std.proofs.Common.{◌≡◌, ◌≢◌, ◌∙◌, ap, sym, ◌<◌, ◌≤◌, ℤ, pos, length, arith, map, take, below_more, SFits, FitsSigned, length-take}
+use Rattle.std.proofs.Common.{◌≡◌, ◌≢◌, ◌∙◌, ap, sym, ◌<◌, ◌≤◌, ℤ, pos, length, arith, map, take, below_more, SFits}
+use Rattle.std.proofs.Common.{FitsSigned, length-take}
 use Rattle.std.specs.Int.{w32, w64}
 use Rattle.std.proofs.lemmas.Int.{to_z-of_z}
 use Rattle.std.proofs.lemmas.List.{length-map, take-map, get_or-take}
@@ -26,7 +27,8 @@ loop-k-preserved g c =
     let below : k < length numbers = omega arith in
     let within : k < length window = omega arith in
     let fits : SFits w32 (sample numbers k) =
-    sample_fits T.format (sample numbers k) (All-get_or (FitsSigned (word T.format)) numbers k (pos 0) below c.requires.samples) in
+    sample_fits T.format (sample numbers k) (All-get_or (FitsSigned (word T.format)) numbers k (pos 0) below
+    c.requires.samples) in
     let wide : SFits w64 (sample numbers k) = record { sfits = omega (arith, fits.sfits) } in
     below_more _ k
     (λ i before.

@@ -1,7 +1,9 @@
-use Rattle.std.proofs.Common.{ℕ, ◌≡◌, ◌+◌, ◌-◌, ◌++◌, List, length, take, drop, arith, ap, sym, ◌∙◌, append_assoc, length-append, length-take-le, length-drop, take_at}
+use Rattle.std.proofs.Common.{ℕ, ◌≡◌, ◌+◌, ◌-◌, ◌++◌, List, length, take, drop, arith, ap, sym, ◌∙◌, append_assoc}
+use Rattle.std.proofs.Common.{length-append, length-take-le, length-drop, take_at}
 use Rattle.dsp_window.proofs.numbers.roll.Goals as goal
 
-whole_part : {A : Type 0} (n : ℕ) (xs ys rest : List A) → n ≡ length xs + length ys → take n (xs ++ (ys ++ rest)) ≡ xs ++ ys
+whole_part : {A : Type 0} (n : ℕ) (xs ys rest : List A) → n ≡ length xs + length ys →
+    take n (xs ++ (ys ++ rest)) ≡ xs ++ ys
 whole_part n xs ys rest e =
     let long = length-append xs ys in
     let same : length (xs ++ ys) ≡ n = omega arith in
@@ -19,7 +21,9 @@ returns g c =
     let written = c.copy_from_slice.ensures.after in
     let same : k ≡ p = omega arith in
     let long : length (take k later) ≡ p = length-take-le k later (omega arith) ∙ same in
-    let front : take p c.copy_within.new.self ≡ take p later = ap (take p) moved ∙ take_at (take k later) (drop (0 + k) s) p long ∙ ap (λ j. take j later) same in
+    let front : take p c.copy_within.new.self ≡ take p later = ap (take p) moved ∙
+    take_at (take k later) (drop (0 + k) s) p long ∙ ap (λ j. take j later) same in
     let head : length (take p c.copy_within.new.self) ≡ p = ap length front ∙ length-take-le p later (omega arith) in
     let tail : length c.copy_from_slice.new.self ≡ length c.args.block.now = ap length written in
-    whole_part (p + length c.args.block.now) (take p c.copy_within.new.self) c.copy_from_slice.new.self _ (omega arith) ∙ (λ i. front i ++ written i)
+    whole_part (p + length c.args.block.now) (take p c.copy_within.new.self) c.copy_from_slice.new.self _
+    (omega arith) ∙ (λ i. front i ++ written i)

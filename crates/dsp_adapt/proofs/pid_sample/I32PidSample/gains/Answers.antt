@@ -14,10 +14,15 @@ returns c =
     let first : SFits w32 c.add-first.result = search rules in
     let third : SFits w32 c.add-3.result = search rules in
     let second : SFits w32 c.wrapped_negative-second.result = search rules in
-    let inner : c.add.result ≡ saturate 32 (c.args.kp +ℤ c.args.ki) = c.add.ensures ∙ ap (saturate 32) (omega (arith, ints)) in
-    let doubled : c.add-2.result ≡ saturate 32 (pos 2 *ℤ c.args.kd) = c.add-2.ensures ∙ ap (saturate 32) (omega (arith, ints)) in
-    let a0 = to_z-of_z w32 c.add-first.result first ∙ c.add-first.ensures ∙ ap (saturate 32) (λ i. (to_z-of_z w32 c.add.result sum ∙ inner) i +ℤ to_z-of_z w32 c.args.kd kd i) in
-    let total = to_z-of_z w32 c.add-3.result third ∙ c.add-3.ensures ∙ ap (saturate 32) (λ i. (to_z-of_z w32 c.add-2.result twice ∙ doubled) i +ℤ to_z-of_z w32 c.args.kp kp i) in
-    let a1 = to_z-of_z w32 c.wrapped_negative-second.result second ∙ c.wrapped_negative-second.ensures ∙ ap (λ v. wrap w32 (neg_ℤ v)) total in
+    let inner : c.add.result ≡ saturate 32 (c.args.kp +ℤ c.args.ki) = c.add.ensures ∙
+    ap (saturate 32) (omega (arith, ints)) in
+    let doubled : c.add-2.result ≡ saturate 32 (pos 2 *ℤ c.args.kd) = c.add-2.ensures ∙
+    ap (saturate 32) (omega (arith, ints)) in
+    let a0 = to_z-of_z w32 c.add-first.result first ∙ c.add-first.ensures ∙
+    ap (saturate 32) (λ i. (to_z-of_z w32 c.add.result sum ∙ inner) i +ℤ to_z-of_z w32 c.args.kd kd i) in
+    let total = to_z-of_z w32 c.add-3.result third ∙ c.add-3.ensures ∙
+    ap (saturate 32) (λ i. (to_z-of_z w32 c.add-2.result twice ∙ doubled) i +ℤ to_z-of_z w32 c.args.kp kp i) in
+    let a1 = to_z-of_z w32 c.wrapped_negative-second.result second ∙ c.wrapped_negative-second.ensures ∙
+    ap (λ v. wrap w32 (neg_ℤ v)) total in
     let a2 = to_z-of_z w32 c.args.kd kd in
     λ i. record { a0 = a0 i; a1 = a1 i; a2 = a2 i }

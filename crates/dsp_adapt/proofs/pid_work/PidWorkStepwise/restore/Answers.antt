@@ -1,4 +1,5 @@
-use Rattle.std.proofs.Common.{◌≡◌, ◌∙◌, subst, sym, refl, ap, ℕ, ◌<◌, ℤ, pos, List, [], ◌∷◌, length, SFits, FitsSigned, to_z, of_z, arith}
+use Rattle.std.proofs.Common.{◌≡◌, ◌∙◌, subst, sym, refl, ap, ℕ, ◌<◌, ℤ, pos, List, [], ◌∷◌, length, SFits}
+use Rattle.std.proofs.Common.{FitsSigned, to_z, of_z, arith}
 use Rattle.std.specs.Int.{w32, w64}
 use Rattle.std.proofs.lemmas.Int.{to_z-of_z}
 use Rattle.std.proofs.lemmas.List.Elements.{All-get_or}
@@ -6,8 +7,8 @@ use Rattle.dsp_defs.specs.Formats.{word}
 use Rattle.dsp_defs.specs.Signal.{sample}
 use Rattle.dsp_defs.specs.declared.format.Fmt.{Fmt}
 use Rattle.dsp_defs.specs.Kept.{Each, IsOfKind, in_words}
-use Rattle.dsp_stage.proofs.ChannelKept.{length-words, fit-words}
-use Rattle.dsp_unit.proofs.Slices.{narrow-word}
+use Rattle.dsp_unit.proofs.ChannelKept.{length-words, fit-words}
+use Rattle.dsp_filter.proofs.Slices.{narrow-word}
 use Rattle.dsp_adapt.specs.PidState.{block_of}
 use Rattle.dsp_adapt.proofs.LmsUnits.{fits-32}
 use Rattle.dsp_adapt.proofs.pid_work.PidWorkStepwise.restore.Goals as goal
@@ -15,19 +16,26 @@ use Rattle.dsp_adapt.proofs.pid_work.PidWorkStepwise.restore.Goals as goal
 long : (format : Fmt) (numbers : List ℤ) → Each IsOfKind (in_words (word format) 3) numbers → length numbers ≡ 3
 long format numbers each = length-words IsOfKind (word format) 3 numbers each
 
-fit : (format : Fmt) (numbers : List ℤ) (place : ℕ) → Each IsOfKind (in_words (word format) 3) numbers → place < 3 → SFits (word format) (sample numbers place)
-fit format numbers place each inside = All-get_or (FitsSigned (word format)) numbers place (pos 0) (omega (arith, long format numbers each)) (fit-words (word format) 3 numbers each)
+fit : (format : Fmt) (numbers : List ℤ) (place : ℕ) → Each IsOfKind (in_words (word format) 3) numbers → place < 3 →
+    SFits (word format) (sample numbers place)
+fit format numbers place each inside = All-get_or (FitsSigned (word format)) numbers place (pos 0)
+    (omega (arith, long format numbers each)) (fit-words (word format) 3 numbers each)
 
 cast-fits : (z : ℤ) → SFits w32 z → SFits w32 (to_z w64 (of_z w64 z))
-cast-fits z fits = let wide : SFits w64 z = record { sfits = omega (arith, fits.sfits) } in subst (λ y. SFits w32 y) (sym (to_z-of_z w64 z wide)) fits
+cast-fits z fits = let wide : SFits w64 z = record { sfits = omega (arith, fits.sfits) } in
+    subst (λ y. SFits w32 y) (sym (to_z-of_z w64 z wide)) fits
 
 -- a number that is cast, and read as a sample
-cast : (format : Fmt) (numbers : List ℤ) (place : ℕ) → Each IsOfKind (in_words (word format) 3) numbers → place < 3 → SFits w32 (to_z w64 (of_z w64 (sample numbers place)))
-cast format numbers place each inside = cast-fits (sample numbers place) (fits-32 format (sample numbers place) (fit format numbers place each inside))
+cast : (format : Fmt) (numbers : List ℤ) (place : ℕ) → Each IsOfKind (in_words (word format) 3) numbers → place < 3 →
+    SFits w32 (to_z w64 (of_z w64 (sample numbers place)))
+cast format numbers place each inside = cast-fits (sample numbers place)
+    (fits-32 format (sample numbers place) (fit format numbers place each inside))
 
-read : (format : Fmt) (numbers : List ℤ) (place : ℕ) → Each IsOfKind (in_words (word format) 3) numbers → place < 3 → SFits (word format) (to_z w32 (of_z w32 (to_z w64 (of_z w64 (sample numbers place)))))
+read : (format : Fmt) (numbers : List ℤ) (place : ℕ) → Each IsOfKind (in_words (word format) 3) numbers → place < 3 →
+    SFits (word format) (to_z w32 (of_z w32 (to_z w64 (of_z w64 (sample numbers place)))))
 read format numbers place each inside =
-    subst (λ (z : ℤ). SFits (word format) z) (sym (narrow-word format (sample numbers place) (fit format numbers place each inside))) (fit format numbers place each inside)
+    subst (λ (z : ℤ). SFits (word format) z) (sym (narrow-word format (sample numbers place)
+    (fit format numbers place each inside))) (fit format numbers place each inside)
 
 three : (numbers : List ℤ) → length numbers ≡ 3 → sample numbers 0 ∷ sample numbers 1 ∷ sample numbers 2 ∷ [] ≡ numbers
 three (a ∷ b ∷ c ∷ []) h = refl
@@ -73,7 +81,10 @@ pub returns-clause-kept : goal.returns-clause-kept
 returns-clause-kept g c =
     let format = g.T.Sample.format in
     let numbers = c.args.numbers.now in
-    let first = c.of_number-self-inside.ensures ∙ narrow-word format (sample numbers 0) (fit format numbers 0 c.requires (omega arith)) in
-    let second = c.of_number-self-inside-2.ensures ∙ narrow-word format (sample numbers 1) (fit format numbers 1 c.requires (omega arith)) in
-    let third = c.of_number-self-inside-3.ensures ∙ narrow-word format (sample numbers 2) (fit format numbers 2 c.requires (omega arith)) in
+    let first = c.of_number-self-inside.ensures ∙ narrow-word format (sample numbers 0)
+    (fit format numbers 0 c.requires (omega arith)) in
+    let second = c.of_number-self-inside-2.ensures ∙ narrow-word format (sample numbers 1)
+    (fit format numbers 1 c.requires (omega arith)) in
+    let third = c.of_number-self-inside-3.ensures ∙ narrow-word format (sample numbers 2)
+    (fit format numbers 2 c.requires (omega arith)) in
     (λ i. first i ∷ second i ∷ third i ∷ []) ∙ three numbers (long format numbers c.requires)

@@ -8,5 +8,7 @@ returns-clause-goes g c =
     let old = c.self.inside.machine in
     let new = c.run_machine.new.machine in
     rw (← c.self.view_is)
-    (subst (λ (b : Behaviour). GoesOn b.gives b.keeps (number old.x1 ∷ number old.x2 ∷ number old.y1 ∷ []) (number new.x1 ∷ number new.x2 ∷ number new.y1 ∷ []) (map number c.args.samples.now) (map number c.run_machine.new.samples))
+    (subst (λ (b : Behaviour). GoesOn b.gives b.keeps (number old.x1 ∷ number old.x2 ∷ number old.y1 ∷ [])
+    (number new.x1 ∷ number new.x2 ∷ number new.y1 ∷ []) (map number c.args.samples.now)
+    (map number c.run_machine.new.samples))
     c.self.invariant c.run_machine.ensures.goes)

@@ -1,10 +1,11 @@
-use Rattle.std.proofs.Common.{◌≡◌, ◌∙◌, ap, sym, subst, false, ℕ, ◌≤◌, ◌+◌, ◌*◌, ◌/◌, ◌++◌, length, map, take, drop, arith, rules}
+use Rattle.std.proofs.Common.{◌≡◌, ◌∙◌, ap, sym, subst, false, ℕ, ◌≤◌, ◌+◌, ◌*◌, ◌/◌, ◌++◌, length, map, take, drop}
+use Rattle.std.proofs.Common.{arith, rules}
 use Rattle.std.proofs.lemmas.List.{length-map}
 use Rattle.dsp_defs.specs.Cost.{section_count}
 use Rattle.dsp_defs.specs.Formats.{lanes}
 use Rattle.dsp_defs.specs.declared.script.Block.TheVariants.{Biquad}
-use Rattle.dsp_stage.specs.Channels.{AreFed}
-use Rattle.dsp_unit.proofs.Units.{written-whole}
+use Rattle.dsp_unit.specs.Channels.{AreFed}
+use Rattle.dsp_filter.proofs.Units.{written-whole}
 use Rattle.dsp_lanes.specs.Turns.{RisesWithin, lane_turns}
 use Rattle.dsp_biquad.specs.Sections.{block_acts}
 use Rattle.dsp_biquad.specs.Blocks.{count-at}

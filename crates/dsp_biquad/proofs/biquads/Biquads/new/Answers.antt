@@ -11,14 +11,19 @@ new-requires-2-clause-block g c =
     let size = length-map c.args.coefficients.now T.number in
     let is : c.SIZE.result ≡ S.SIZE = c.SIZE.ensures in
     let greatest : c.GREATEST_SHIFT.result ≡ S.GREATEST_SHIFT = c.GREATEST_SHIFT.ensures in
-    let shift : c.args.post_shift ≤ c.GREATEST_SHIFT.result = grind (arith, common_steps, c.in_ok-check_shift.ensures) in
-    let whole : length c.args.coefficients.now % c.SIZE.result ≡ 0 = grind (arith, common_steps, c.in_ok-check_coefficients.ensures) in
-    let few : length c.args.coefficients.now ≤ 64 * c.SIZE.result = grind (arith, common_steps, c.in_ok-check_coefficients.ensures) in
+    let shift : c.args.post_shift ≤ c.GREATEST_SHIFT.result =
+    grind (arith, common_steps, c.in_ok-check_shift.ensures) in
+    let whole : length c.args.coefficients.now % c.SIZE.result ≡ 0 =
+    grind (arith, common_steps, c.in_ok-check_coefficients.ensures) in
+    let few : length c.args.coefficients.now ≤ 64 * c.SIZE.result =
+    grind (arith, common_steps, c.in_ok-check_coefficients.ensures) in
     let fits = g.met.S.CascadeSection.of_numbers c.args.post_shift given (record {
       shift = subst (λ n. c.args.post_shift ≤ n) greatest shift;
       in_format = c.all_fit.ensures;
       whole = ap (λ n. n % S.SIZE) size ∙ subst (λ n. length c.args.coefficients.now % n ≡ 0) is whole;
       few = subst (λ n. length given ≤ 64 * n) is (subst (λ n. n ≤ 64 * c.SIZE.result) (sym size) few);
     }) in
-    let made : c.in-Ok-new.cascade.coefficients ≡ given = c.in-Ok-new.ensures.coefficients ∙ ap (map T.number) c.in-Ok.ensures.items in
-    subst (λ (p : ℕ). S.IsOf (S.block p c.in-Ok-new.cascade.coefficients)) (sym c.in-Ok-new.ensures.post_shift) (subst (λ l. S.IsOf (S.block c.args.post_shift l)) (sym made) fits)
+    let made : c.in-Ok-new.cascade.coefficients ≡ given = c.in-Ok-new.ensures.coefficients ∙
+    ap (map T.number) c.in-Ok.ensures.items in
+    subst (λ (p : ℕ). S.IsOf (S.block p c.in-Ok-new.cascade.coefficients)) (sym c.in-Ok-new.ensures.post_shift)
+    (subst (λ l. S.IsOf (S.block c.args.post_shift l)) (sym made) fits)

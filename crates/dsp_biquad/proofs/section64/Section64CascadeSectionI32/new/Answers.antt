@@ -17,5 +17,13 @@ returns-clause-acts c =
     let b2 : SFits w32 (sample numbers 2) = search rules in
     let a1 : SFits w32 (sample numbers 3) = search rules in
     let a2 : SFits w32 (sample numbers 4) = search rules in
-    (λ i. wide_acts c.args.post_shift (record { b0 = to_z-of_z w32 (sample numbers 0) b0 i; b1 = to_z-of_z w32 (sample numbers 1) b1 i; b2 = to_z-of_z w32 (sample numbers 2) b2 i; a1 = to_z-of_z w32 (sample numbers 3) a1 i; a2 = to_z-of_z w32 (sample numbers 4) a2 i }))
+    (λ i. wide_acts c.args.post_shift (record {
+      b0 = to_z-of_z w32 (sample numbers 0) b0 i;
+      b1 =
+          to_z-of_z w32 (sample numbers 1) b1 i;
+      b2 = to_z-of_z w32 (sample numbers 2) b2 i;
+      a1 =
+          to_z-of_z w32 (sample numbers 3) a1 i;
+      a2 = to_z-of_z w32 (sample numbers 4) a2 i;
+    }))
     ∙ ap (λ l. wide_acts c.args.post_shift (section_of 5 l)) (sym (map-same numbers))

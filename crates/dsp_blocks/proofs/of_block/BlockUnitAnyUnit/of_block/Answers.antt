@@ -1,11 +1,12 @@
 use Rattle.std.proofs.Common.{sym, subst, Bool}
 use Rattle.std.proofs.lemmas.Result.{IfOk-weaker}
-use Rattle.dsp_stage.specs.Unit.{IsMade, IsNew}
-use Rattle.dsp_stage.proofs.NewRow.{plain-made, unbanked-made}
+use Rattle.dsp_unit.specs.Unit.{IsMade, IsNew}
+use Rattle.dsp_unit.proofs.NewLine.{plain-made, unbanked-made}
 use Rattle.dsp_blocks.specs.BlockUnit.{state_of}
 use Rattle.dsp_blocks.proofs.PlainBlocks.{is-plain}
 use Rattle.dsp_blocks.proofs.of_block.BlockUnitAnyUnit.of_block.Goals as goal
-use Rattle.dsp_blocks.proofs.of_block.BlockUnitAnyUnit.of_block.Goals.{in_default-via-in-Biquad+else-banked, in_default-via-in_default}
+use Rattle.dsp_blocks.proofs.of_block.BlockUnitAnyUnit.of_block.Goals.{in_default-via-in-Biquad+else-banked}
+use Rattle.dsp_blocks.proofs.of_block.BlockUnitAnyUnit.of_block.Goals.{in_default-via-in_default}
 
 pub returns-in_default : goal.returns-in_default
 returns-in_default c =

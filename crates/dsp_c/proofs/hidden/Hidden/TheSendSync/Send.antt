@@ -19,7 +19,8 @@ use denote.RawPtr.{Ptr}
 use Rattle.dsp_c.proofs.held.Held.TheSendSync.{the_send as held}
 use Rattle.dsp_c.specs.contracts.hidden.Hidden.{the_row, the_type}
 
-keyless : (alloc : Global) (at : Ptr) (o : Option Held.Held) → Keyless (if_some (λ (x : Held.Held). box_owns (ghosts.dealloc_token alloc) row.the_row at x) o)
+keyless : (alloc : Global) (at : Ptr) (o : Option Held.Held) →
+    Keyless (if_some (λ (x : Held.Held). box_owns (ghosts.dealloc_token alloc) row.the_row at x) o)
 keyless alloc at (Some x) = (lies row.the_row held at x, heap.frees.frees alloc (raw (lone (row.the_row).mir)) at)
 keyless alloc at None = tt
 

@@ -5,4 +5,5 @@ use Rattle.dsp_c.proofs.lent.LentSourceSource.read.Goals as goal
 pub returns-clause-gave : goal.returns-clause-gave
 returns-clause-gave c =
     let rest = drop c.min-count.result c.args.into.now in
-    rw (← c.self.view_is) (Gave-copied c.self.inside.bytes.now c.self.inside.position c.min-count.result 0 0 c.copy_from_slice.new.self rest (omega arith) c.copy_from_slice.ensures.after)
+    rw (← c.self.view_is) (Gave-copied c.self.inside.bytes.now c.self.inside.position c.min-count.result 0 0
+    c.copy_from_slice.new.self rest (omega arith) c.copy_from_slice.ensures.after)

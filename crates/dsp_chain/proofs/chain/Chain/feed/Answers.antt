@@ -1,14 +1,15 @@
-use Rattle.std.proofs.Common.{◌≡◌, ◌∙◌, ap, inl, inr, refl, sym, subst, take, length, arith, true, false, Option, Some, None, ◌+◌, ◌/◌, ◌<◌, ◌≤◌, ◌^◌}
+use Rattle.std.proofs.Common.{◌≡◌, ◌∙◌, ap, inl, inr, refl, sym, subst, take, length, arith, true, false, Option}
+use Rattle.std.proofs.Common.{Some, None, ◌+◌, ◌/◌, ◌<◌, ◌≤◌, ◌^◌}
 use Rattle.std.specs.Prelude.{is_some}
-use Rattle.dsp_stage.specs.Row.{Place, InRow, AllCount, AllTaken, blocks_of, place_behind, place_room}
+use Rattle.dsp_unit.specs.Line.{Place, InLine, AllCount, AllTaken, blocks_of, place_behind, place_room}
 use Rattle.dsp_defs.specs.Shape.{gathered}
 use Rattle.dsp_defs.specs.declared.limits.TheConstants.{MAX_GATHERED}
 use Rattle.dsp_defs.proofs.FrameLemmas.{length-frames_in}
-use Rattle.dsp_stage.proofs.FewFrames.{few-taken}
-use Rattle.dsp_stage.proofs.TailLaws.{count-runs, count-took}
+use Rattle.dsp_unit.proofs.FewFrames.{few-taken}
+use Rattle.dsp_unit.proofs.TailLaws.{count-runs, count-took}
 use Rattle.dsp_chain.specs.FrameRule.{rules_of, whole_by, live_by, frames_gathered}
-use Rattle.dsp_chain.specs.Row.{MayTake}
-use Rattle.dsp_chain.proofs.Room.{written-row}
+use Rattle.dsp_chain.specs.Line.{MayTake}
+use Rattle.dsp_chain.proofs.Room.{written-line}
 use Rattle.dsp_chain.proofs.FrameRules.{rules-few, rules-gathered, rules-held}
 use Rattle.dsp_chain.proofs.ChainCalls.{whole-again, chain-fed}
 use Rattle.dsp_chain.proofs.Restored.{same-rules}
@@ -25,13 +26,19 @@ pub returns-in-Some-clause-full : goal.returns-in-Some-clause-full
 returns-in-Some-clause-full g c = rw (← c.self.view_is) (λ _. inr (ap is_some c.in-Some.is), λ _. refl)
 
 pub returns-in-Some-clause-numbers : goal.returns-in-Some-clause-numbers
-returns-in-Some-clause-numbers g c = rw (← c.self.view_is) (λ none. absurd (some-none c.self.inside.failed c.in-Some.fault none c.in-Some.is))
+returns-in-Some-clause-numbers g c = rw (← c.self.view_is)
+    (λ none. absurd (some-none c.self.inside.failed c.in-Some.fault none c.in-Some.is))
 
 pub returns-in-Some-clause-refused : goal.returns-in-Some-clause-refused
 returns-in-Some-clause-refused g c =
     rw (← c.self.view_is) (record {
       same = λ i. record {
-        input = record { format = c.self.inside.format; channels = c.self.inside.channels; capacity = c.self.inside.capacity };
+        input = record {
+          format = c.self.inside.format;
+          channels = c.self.inside.channels;
+          capacity =
+              c.self.inside.capacity;
+        };
         units = c.self.inside.links.items;
         frames = c.self.inside.frames;
         ended = c.self.inside.ended;
@@ -44,8 +51,12 @@ returns-in-Some-clause-refused g c =
 -- and where it fails for the first time, only that it has is new
 pub invariant_of-self : goal.invariant_of-self
 invariant_of-self g c =
-    let is = c.self.invariant.0 in
-    (whole-again _ _ is refl refl is.row is.took is.counts is.taken, c.self.invariant.1, c.self.invariant.2, c.self.invariant.3)
+    let is = c.self.invariant.0 in (
+      whole-again _ _ is refl refl is.line is.took is.counts is.taken,
+      c.self.invariant.1,
+      c.self.invariant.2,
+      c.self.invariant.3,
+    )
 
 pub returns-in-Some-gather_fault-clause-refused : goal.returns-in-Some-gather_fault-clause-refused
 returns-in-Some-gather_fault-clause-refused g c =
@@ -60,14 +71,18 @@ gather_fault-requires-clause-few g c =
     let is = c.self.invariant.0 in
     let n = c.self.inside.frames + length c.args.frames.now / c.self.inside.channels in
     let few : n ≤ 2 ^ 40 = rw length-frames_in at (rw (← c.self.view_is) at c.requires.count) in
-    rw (c.deref.ensures.value, c.self.invariant.1) (rules-few _ (blocks_of c.self.inside.links.items) n is.chain (is.few_frames n few))
+    rw (c.deref.ensures.value, c.self.invariant.1) (rules-few _ (blocks_of c.self.inside.links.items) n is.chain
+    (is.few_frames n few))
 
 pub returns-in-Some-gather_fault-clause-full : goal.returns-in-Some-gather_fault-clause-full
 returns-in-Some-gather_fault-clause-full g c =
     let blocks = blocks_of c.self.inside.links.items in
     let n = c.self.inside.frames + length c.args.frames.now / c.self.inside.channels in
-    let same : frames_gathered whole_by c.deref.result.now n ≡ gathered blocks n = ap (λ rs. frames_gathered whole_by rs n) (c.deref.ensures.value ∙ c.self.invariant.1) ∙ rules-gathered blocks n in
-    let over : MAX_GATHERED < gathered blocks n = subst (λ k. MAX_GATHERED < k) same c.in-Some-gather_fault.ensures.full in
+    let same : frames_gathered whole_by c.deref.result.now n ≡ gathered blocks n =
+    ap (λ rs. frames_gathered whole_by rs n) (c.deref.ensures.value ∙ c.self.invariant.1) ∙
+    rules-gathered blocks n in
+    let over : MAX_GATHERED < gathered blocks n = subst (λ k. MAX_GATHERED < k) same
+    c.in-Some-gather_fault.ensures.full in
     rw (← c.self.view_is) (λ _. inl (rw length-frames_in over), λ _. refl)
 
 pub returns-in-Some-gather_fault-clause-numbers : goal.returns-in-Some-gather_fault-clause-numbers
@@ -77,28 +92,40 @@ returns-in-Some-gather_fault-clause-numbers g c =
     let rules = c.deref.ensures.value ∙ c.self.invariant.1 in
     rw (← c.self.view_is)
     (λ _. (
-      c.in-Some-gather_fault.ensures.held ∙ ap (λ rs. frames_gathered live_by rs c.self.inside.frames) rules ∙ rules-held blocks c.self.inside.frames,
-      rw length-frames_in (c.in-Some-gather_fault.ensures.more ∙ ap (λ rs. frames_gathered whole_by rs n) rules ∙ rules-gathered blocks n),
+      c.in-Some-gather_fault.ensures.held ∙ ap (λ rs. frames_gathered live_by rs c.self.inside.frames) rules ∙
+          rules-held blocks c.self.inside.frames,
+      rw length-frames_in (c.in-Some-gather_fault.ensures.more ∙ ap (λ rs. frames_gathered whole_by rs n) rules ∙
+          rules-gathered blocks n),
     ))
 
-pub feed_row-requires-clause-running : goal.feed_row-requires-clause-running
-feed_row-requires-clause-running g c =
+pub feed_line-requires-clause-running : goal.feed_line-requires-clause-running
+feed_line-requires-clause-running g c =
     let running = rw (← c.self.view_is) at c.requires.running in
-    rw c.as_mut_slice.ensures.value (count-runs c.self.inside.links.items c.self.inside.frames (c.self.invariant.0.counts running))
+    rw c.as_mut_slice.ensures.value (count-runs c.self.inside.links.items c.self.inside.frames
+    (c.self.invariant.0.counts running))
 
-pub feed_row-requires-clause-passes : goal.feed_row-requires-clause-passes
-feed_row-requires-clause-passes g c =
+pub feed_line-requires-clause-passes : goal.feed_line-requires-clause-passes
+feed_line-requires-clause-passes g c =
     let is = c.self.invariant.0 in
     let links = c.self.inside.links.items in
     let n = c.self.inside.frames + length c.args.frames.now / c.self.inside.channels in
     let running = rw (← c.self.view_is) at c.requires.running in
     let few : n ≤ 2 ^ 40 = rw length-frames_in at (rw (← c.self.view_is) at c.requires.count) in
-    let same : frames_gathered whole_by c.deref.result.now n ≡ gathered (blocks_of links) n = ap (λ rs. frames_gathered whole_by rs n) (c.deref.ensures.value ∙ c.self.invariant.1) ∙ rules-gathered (blocks_of links) n in
-    let fits : gathered (blocks_of links) n ≤ MAX_GATHERED = subst (λ k. k ≤ MAX_GATHERED) same c.in_default-gather_fault.ensures.none in
-    let taken : AllTaken (blocks_of links) n = few-taken (blocks_of links) n is.one_correlate fits (is.few_frames n few) in
+    let same : frames_gathered whole_by c.deref.result.now n ≡ gathered (blocks_of links) n =
+    ap (λ rs. frames_gathered whole_by rs n) (c.deref.ensures.value ∙ c.self.invariant.1) ∙
+    rules-gathered (blocks_of links) n in
+    let fits : gathered (blocks_of links) n ≤ MAX_GATHERED =
+    subst (λ k. k ≤ MAX_GATHERED) same c.in_default-gather_fault.ensures.none in
+    let taken : AllTaken (blocks_of links) n = few-taken (blocks_of links) n is.one_correlate fits
+    (is.few_frames n few) in
     let may : MayTake links c.args.frames.now (length c.args.out.now) = record {
-      place = record { format = c.self.inside.format; channels = c.self.inside.channels; capacity = c.self.inside.capacity };
-      row = is.row;
+      place = record {
+        format = c.self.inside.format;
+        channels = c.self.inside.channels;
+        capacity =
+            c.self.inside.capacity;
+      };
+      line = is.line;
       passes = rw (← c.self.view_is) at c.requires.passes;
       accepts = (c.self.inside.frames, is.counts running, rw length-frames_in taken);
       room = rw (← c.self.view_is) at c.requires.room;
@@ -108,50 +135,74 @@ feed_row-requires-clause-passes g c =
 pub invariant_of-self-2 : goal.invariant_of-self-2
 invariant_of-self-2 g c =
     let is = c.self.invariant.0 in
-    let p : Place = record { format = c.self.inside.format; channels = c.self.inside.channels; capacity = c.self.inside.capacity } in
+    let p : Place = record {
+      format = c.self.inside.format;
+      channels = c.self.inside.channels;
+      capacity =
+          c.self.inside.capacity;
+    } in
     let links = c.self.inside.links.items in
-    let news = c.feed_row.new.links in
+    let news = c.feed_line.new.links in
     let n = c.self.inside.frames + length c.args.frames.now / c.self.inside.channels in
     let running = rw (← c.self.view_is) at c.requires.running in
     let few : n ≤ 2 ^ 40 = rw length-frames_in at (rw (← c.self.view_is) at c.requires.count) in
-    let row : InRow p c.as_mut_slice.result.now = subst (InRow p) (sym c.as_mut_slice.ensures.value) is.row in
-    let fed = c.feed_row.ensures.fed p row (rw (← c.self.view_is) at c.requires.passes) in
-    let whole = written-row c.self.inside.links.len news links (omega (arith, c.feed_row.auto.links, c.as_mut_slice.ensures.len)) in
+    let line : InLine p c.as_mut_slice.result.now = subst (InLine p) (sym c.as_mut_slice.ensures.value) is.line in
+    let fed = c.feed_line.ensures.fed p line (rw (← c.self.view_is) at c.requires.passes) in
+    let whole = written-line c.self.inside.links.len news links
+    (omega (arith, c.feed_line.auto.links, c.as_mut_slice.ensures.len)) in
     let blocks : blocks_of news ≡ blocks_of links = fed.feeds.blocks ∙ ap blocks_of c.as_mut_slice.ensures.value in
-    let counts : AllCount news n = rw length-frames_in at (fed.feeds.counts c.self.inside.frames (subst (λ us. AllCount us c.self.inside.frames) (sym c.as_mut_slice.ensures.value) (is.counts running))) in
-    let same : frames_gathered whole_by c.deref.result.now n ≡ gathered (blocks_of links) n = ap (λ rs. frames_gathered whole_by rs n) (c.deref.ensures.value ∙ c.self.invariant.1) ∙ rules-gathered (blocks_of links) n in
-    let fits : gathered (blocks_of links) n ≤ MAX_GATHERED = subst (λ k. k ≤ MAX_GATHERED) same c.in_default-gather_fault.ensures.none in
-    let taken : AllTaken (blocks_of links) n = few-taken (blocks_of links) n is.one_correlate fits (is.few_frames n few) in
+    let counts : AllCount news n = rw length-frames_in at
+    (fed.feeds.counts c.self.inside.frames (subst (λ us. AllCount us c.self.inside.frames)
+    (sym c.as_mut_slice.ensures.value) (is.counts running))) in
+    let same : frames_gathered whole_by c.deref.result.now n ≡ gathered (blocks_of links) n =
+    ap (λ rs. frames_gathered whole_by rs n) (c.deref.ensures.value ∙ c.self.invariant.1) ∙
+    rules-gathered (blocks_of links) n in
+    let fits : gathered (blocks_of links) n ≤ MAX_GATHERED =
+    subst (λ k. k ≤ MAX_GATHERED) same c.in_default-gather_fault.ensures.none in
+    let taken : AllTaken (blocks_of links) n = few-taken (blocks_of links) n is.one_correlate fits
+    (is.few_frames n few) in
     rw whole (
-      whole-again _ _ is refl blocks fed.feeds.in_row (count-took news n counts) (λ _. counts) (subst (λ bs. AllTaken bs n) (sym blocks) taken),
+      whole-again _ _ is refl blocks fed.feeds.in_line (count-took news n counts) (λ _. counts)
+          (subst (λ bs. AllTaken bs n) (sym blocks) taken),
       c.self.invariant.1 ∙ ap rules_of (sym blocks),
-      c.self.invariant.2 ∙ sym (same-rules p links news is.row fed.feeds.in_row blocks),
+      c.self.invariant.2 ∙ sym (same-rules p links news is.line fed.feeds.in_line blocks),
       c.self.invariant.3 ∙ ap (λ bs. place_room (place_behind p bs)) (sym blocks),
     )
 
 pub returns-clause-fed : goal.returns-clause-fed
 returns-clause-fed g c =
     let is = c.self.invariant.0 in
-    let p : Place = record { format = c.self.inside.format; channels = c.self.inside.channels; capacity = c.self.inside.capacity } in
+    let p : Place = record {
+      format = c.self.inside.format;
+      channels = c.self.inside.channels;
+      capacity =
+          c.self.inside.capacity;
+    } in
     let running = rw (← c.self.view_is) at c.requires.running in
-    let row : InRow p c.as_mut_slice.result.now = subst (InRow p) (sym c.as_mut_slice.ensures.value) is.row in
-    let fed = c.feed_row.ensures.fed p row (rw (← c.self.view_is) at c.requires.passes) in
-    let whole = written-row c.self.inside.links.len c.feed_row.new.links c.self.inside.links.items (omega (arith, c.feed_row.auto.links, c.as_mut_slice.ensures.len)) in
+    let line : InLine p c.as_mut_slice.result.now = subst (InLine p) (sym c.as_mut_slice.ensures.value) is.line in
+    let fed = c.feed_line.ensures.fed p line (rw (← c.self.view_is) at c.requires.passes) in
+    let whole = written-line c.self.inside.links.len c.feed_line.new.links c.self.inside.links.items
+    (omega (arith, c.feed_line.auto.links, c.as_mut_slice.ensures.len)) in
     rw (← c.self.view_is)
-    (chain-fed _ _ c.as_mut_slice.result.now c.feed_row.new.links c.args.frames.now (take c.feed_row.result c.feed_row.new.out) c.args.steps.now c.feed_row.new.steps
-    c.as_mut_slice.ensures.value whole refl refl running c.in_default.is refl is.row (is.counts running) fed)
+    (chain-fed _ _ c.as_mut_slice.result.now c.feed_line.new.links c.args.frames.now
+    (take c.feed_line.result c.feed_line.new.out) c.args.steps.now c.feed_line.new.steps
+    c.as_mut_slice.ensures.value whole refl refl running c.in_default.is refl is.line (is.counts running) fed)
 
 pub returns-clause-full : goal.returns-clause-full
 returns-clause-full g c =
     let blocks = blocks_of c.self.inside.links.items in
     let n = c.self.inside.frames + length c.args.frames.now / c.self.inside.channels in
-    let same : frames_gathered whole_by c.deref.result.now n ≡ gathered blocks n = ap (λ rs. frames_gathered whole_by rs n) (c.deref.ensures.value ∙ c.self.invariant.1) ∙ rules-gathered blocks n in
-    let fits : gathered blocks n ≤ MAX_GATHERED = subst (λ k. k ≤ MAX_GATHERED) same c.in_default-gather_fault.ensures.none in
+    let same : frames_gathered whole_by c.deref.result.now n ≡ gathered blocks n =
+    ap (λ rs. frames_gathered whole_by rs n) (c.deref.ensures.value ∙ c.self.invariant.1) ∙
+    rules-gathered blocks n in
+    let fits : gathered blocks n ≤ MAX_GATHERED = subst (λ k. k ≤ MAX_GATHERED) same
+    c.in_default-gather_fault.ensures.none in
     let works : is_some c.self.inside.failed ≡ false = ap is_some c.in_default.is in
     rw (← c.self.view_is) (
       λ e. absurd (false-true e),
       λ too_much. elim too_much [
-        | inl over ↦ absurd (let over' : MAX_GATHERED < gathered blocks n = rw length-frames_in at over in omega (arith, over', fits))
+        | inl over ↦ absurd (let over' : MAX_GATHERED < gathered blocks n = rw length-frames_in at over in
+            omega (arith, over', fits))
         | inr some ↦ sym works ∙ some
       ],
     )

@@ -1,5 +1,5 @@
 use Rattle.std.proofs.Common.{◌≡◌, ◌∙◌, ap, sym, subst, false, true, ◌≤◌, arith}
-use Rattle.dsp_stage.specs.Row.{Place, blocks_of}
+use Rattle.dsp_unit.specs.Line.{Place, blocks_of}
 use Rattle.dsp_defs.specs.Shape.{gathered}
 use Rattle.dsp_defs.specs.declared.limits.TheConstants.{MAX_GATHERED}
 use Rattle.dsp_chain.specs.FrameRule.{whole_by, frames_gathered}
@@ -15,26 +15,37 @@ never e = cc
 pub gathered-requires : goal.gathered-requires
 gathered-requires g c =
     let is = c.self.invariant.0 in
-    rw (c.deref.ensures.value, c.self.invariant.1) (rules-few _ (blocks_of c.self.inside.links.items) c.args.frames is.chain (is.few_frames c.args.frames (omega (arith, c.if-frames-gt-MAX_INPUT.false))))
+    rw (c.deref.ensures.value, c.self.invariant.1) (rules-few _ (blocks_of c.self.inside.links.items) c.args.frames
+    is.chain (is.few_frames c.args.frames (omega (arith, c.if-frames-gt-MAX_INPUT.false))))
 
 pub returns-then-frames-gt-MAX_INPUT : goal.returns-then-frames-gt-MAX_INPUT
-returns-then-frames-gt-MAX_INPUT g c = (λ e. absurd (never e), λ fits. absurd (omega (arith, c.if-frames-gt-MAX_INPUT.true, fits.limit)))
+returns-then-frames-gt-MAX_INPUT g c = (
+  λ e. absurd (never e),
+  λ fits. absurd (omega (arith, c.if-frames-gt-MAX_INPUT.true, fits.limit)),
+)
 
 pub returns-then-gathered : goal.returns-then-gathered
 returns-then-gathered g c =
     let blocks = blocks_of c.self.inside.links.items in
-    let same : frames_gathered whole_by c.deref.result.now c.args.frames ≡ gathered blocks c.args.frames = ap (λ rs. frames_gathered whole_by rs c.args.frames) (c.deref.ensures.value ∙ c.self.invariant.1) ∙ rules-gathered blocks c.args.frames in
-    rw (← c.self.view_is) (λ e. absurd (never e), λ fits. absurd (omega (arith, c.if-gathered.true, c.gathered.ensures, same, fits.gathers)))
+    let same : frames_gathered whole_by c.deref.result.now c.args.frames ≡ gathered blocks c.args.frames =
+    ap (λ rs. frames_gathered whole_by rs c.args.frames) (c.deref.ensures.value ∙ c.self.invariant.1) ∙
+    rules-gathered blocks c.args.frames in
+    rw (← c.self.view_is) (
+      λ e. absurd (never e),
+      λ fits. absurd
+          (omega (arith, c.if-gathered.true, c.gathered.ensures, same, fits.gathers)),
+    )
 
-pub fits_row-requires : goal.fits_row-requires
-fits_row-requires g c =
+pub fits_line-requires : goal.fits_line-requires
+fits_line-requires g c =
     let is = c.self.invariant.0 in
     let links = c.self.inside.links.items in
     let has : HasRules links c.self.inside.rules.items c.self.inside.kept.items c.args.frames = record {
       frames = c.self.invariant.1;
       numbers = c.self.invariant.2;
       groups = subst HaveGroups (sym c.self.invariant.2) (have-groups _ links is.chain);
-      few = rw c.self.invariant.1 (rules-few _ (blocks_of links) c.args.frames is.chain (is.few_frames c.args.frames (omega (arith, c.if-frames-gt-MAX_INPUT.false))));
+      few = rw c.self.invariant.1 (rules-few _ (blocks_of links) c.args.frames is.chain
+          (is.few_frames c.args.frames (omega (arith, c.if-frames-gt-MAX_INPUT.false))));
     } in
     rw (c.deref-2.ensures.value, c.deref-3.ensures.value, c.deref-4.ensures.value) has
 
@@ -42,16 +53,26 @@ pub returns : goal.returns
 returns g c =
     let is = c.self.invariant.0 in
     let links = c.self.inside.links.items in
-    let p : Place = record { format = c.self.inside.format; channels = c.self.inside.channels; capacity = c.self.inside.capacity } in
+    let p : Place = record {
+      format = c.self.inside.format;
+      channels = c.self.inside.channels;
+      capacity =
+          c.self.inside.capacity;
+    } in
     let blocks = blocks_of links in
-    let same : frames_gathered whole_by c.deref.result.now c.args.frames ≡ gathered blocks c.args.frames = ap (λ rs. frames_gathered whole_by rs c.args.frames) (c.deref.ensures.value ∙ c.self.invariant.1) ∙ rules-gathered blocks c.args.frames in
-    let gathers : gathered blocks c.args.frames ≤ MAX_GATHERED = omega (arith, c.if-gathered.false, c.gathered.ensures, same) in
-    let row = c.deref-2.ensures.value in
+    let same : frames_gathered whole_by c.deref.result.now c.args.frames ≡ gathered blocks c.args.frames =
+    ap (λ rs. frames_gathered whole_by rs c.args.frames) (c.deref.ensures.value ∙ c.self.invariant.1) ∙
+    rules-gathered blocks c.args.frames in
+    let gathers : gathered blocks c.args.frames ≤ MAX_GATHERED =
+    omega (arith, c.if-gathered.false, c.gathered.ensures, same) in
+    let line = c.deref-2.ensures.value in
     rw (← c.self.view_is) (
       λ yes. record {
         limit = omega (arith, c.if-frames-gt-MAX_INPUT.false);
         gathers = gathers;
-        fits = fits-blocks p links c.args.frames c.args.numbers.now is.row (subst (λ us. FitsUnits us c.args.frames c.args.numbers.now) row (c.fits_row.ensures.0 yes));
+        fits = fits-blocks p links c.args.frames c.args.numbers.now is.line
+            (subst (λ us. FitsUnits us c.args.frames c.args.numbers.now) line (c.fits_line.ensures.0 yes));
       },
-      λ fits. c.fits_row.ensures.1 (subst (λ us. FitsUnits us c.args.frames c.args.numbers.now) (sym row) (fits-units p links c.args.frames c.args.numbers.now is.row fits.fits)),
+      λ fits. c.fits_line.ensures.1 (subst (λ us. FitsUnits us c.args.frames c.args.numbers.now) (sym line)
+          (fits-units p links c.args.frames c.args.numbers.now is.line fits.fits)),
     )

@@ -1,6 +1,6 @@
 use Rattle.std.proofs.Common.{◌≡◌, subst, None}
 use Rattle.std.specs.Prelude.{slice_get}
-use Rattle.dsp_stage.specs.Row.{measured_by}
+use Rattle.dsp_unit.specs.Line.{measured_by}
 use Rattle.dsp_chain.proofs.Measured.{no-measure}
 use Rattle.dsp_chain.proofs.chain.Chain.measure.Goals as goal
 

@@ -1,14 +1,27 @@
 use Rattle.std.proofs.Common.{◌∙◌, ap, length}
-use Rattle.dsp_stage.specs.Row.{Place, measured_by}
-use Rattle.dsp_chain.proofs.Measured.{each-few, row-measures}
+use Rattle.dsp_unit.specs.Line.{Place, measured_by}
+use Rattle.dsp_chain.proofs.Measured.{each-few, line-measures}
 use Rattle.dsp_chain.proofs.chain.Chain.measures.Goals as goal
 
 pub count_measures-requires-clause-each : goal.count_measures-requires-clause-each
 count_measures-requires-clause-each g c =
-    let p : Place = record { format = c.self.inside.format; channels = c.self.inside.channels; capacity = c.self.inside.capacity } in
-    rw c.deref.ensures.value (each-few p c.self.inside.links.items c.self.invariant.0.row c.self.invariant.0.few_channels)
+    let p : Place = record {
+      format = c.self.inside.format;
+      channels = c.self.inside.channels;
+      capacity =
+          c.self.inside.capacity;
+    } in
+    rw c.deref.ensures.value (each-few p c.self.inside.links.items c.self.invariant.0.line
+    c.self.invariant.0.few_channels)
 
 pub returns-clause-stays : goal.returns-clause-stays
 returns-clause-stays g c =
-    let p : Place = record { format = c.self.inside.format; channels = c.self.inside.channels; capacity = c.self.inside.capacity } in
-    rw (← c.self.view_is) (c.count_measures.ensures.count ∙ ap (λ us. length (measured_by 1 us)) c.deref.ensures.value ∙ row-measures 1 p c.self.inside.links.items c.self.invariant.0.row)
+    let p : Place = record {
+      format = c.self.inside.format;
+      channels = c.self.inside.channels;
+      capacity =
+          c.self.inside.capacity;
+    } in
+    rw (← c.self.view_is) (c.count_measures.ensures.count ∙
+    ap (λ us. length (measured_by 1 us)) c.deref.ensures.value ∙
+    line-measures 1 p c.self.inside.links.items c.self.invariant.0.line)

@@ -1,4 +1,5 @@
-use Rattle.std.proofs.Common.{◌≡◌, ◌≢◌, ◌∙◌, ap, refl, sym, ℕ, ◌<◌, ℤ, pos, ◌*ℤ◌, List, length, get_or, map, to_z, of_z, SFits, rules}
+use Rattle.std.proofs.Common.{◌≡◌, ◌≢◌, ◌∙◌, ap, refl, sym, ℕ, ◌<◌, ℤ, pos, ◌*ℤ◌, List, length, get_or, map, to_z}
+use Rattle.std.proofs.Common.{of_z, SFits, rules}
 use Rattle.std.specs.Prelude.{nat_abs}
 use Rattle.std.specs.Int.{w32}
 use Rattle.std.proofs.lemmas.Int.{to_z-of_z}

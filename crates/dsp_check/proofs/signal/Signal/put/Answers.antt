@@ -10,9 +10,12 @@ invariant_of-self c =
     let new = c.add_frame.new.channels in
     let old = c.as_mut_slice.result.now in
     let are : AreChannels old = subst AreChannels (sym c.as_mut_slice.ensures.value) c.self.invariant in
-    let wide : length c.args.frame.now ≡ length old = c.requires ∙ ap length (sym c.self.view_is ∙ sym c.as_mut_slice.ensures.value) in
-    let size = size-put c.add_frame.result old new c.args.frame.now are wide c.add_frame.ensures.ok c.add_frame.ensures.err in
-    let long : length new ≡ c.self.inside.channels.len = omega (arith, size, ap length c.as_mut_slice.ensures.value, c.self.inside.channels.ok.0) in
+    let wide : length c.args.frame.now ≡ length old = c.requires ∙
+    ap length (sym c.self.view_is ∙ sym c.as_mut_slice.ensures.value) in
+    let size = size-put c.add_frame.result old new c.args.frame.now are wide c.add_frame.ensures.ok
+    c.add_frame.ensures.err in
+    let long : length new ≡ c.self.inside.channels.len =
+    omega (arith, size, ap length c.as_mut_slice.ensures.value, c.self.inside.channels.ok.0) in
     subst AreChannels (sym (take_at new (drop (length new) items) c.self.inside.channels.len long))
     (are-put c.add_frame.result old new c.args.frame.now are wide c.add_frame.ensures.ok c.add_frame.ensures.err)
 
@@ -22,8 +25,11 @@ returns-clause-are c =
     let new = c.add_frame.new.channels in
     let old = c.as_mut_slice.result.now in
     let are : AreChannels old = subst AreChannels (sym c.as_mut_slice.ensures.value) c.self.invariant in
-    let wide : length c.args.frame.now ≡ length old = c.requires ∙ ap length (sym c.self.view_is ∙ sym c.as_mut_slice.ensures.value) in
-    let size = size-put c.add_frame.result old new c.args.frame.now are wide c.add_frame.ensures.ok c.add_frame.ensures.err in
-    let long : length new ≡ c.self.inside.channels.len = omega (arith, size, ap length c.as_mut_slice.ensures.value, c.self.inside.channels.ok.0) in
+    let wide : length c.args.frame.now ≡ length old = c.requires ∙
+    ap length (sym c.self.view_is ∙ sym c.as_mut_slice.ensures.value) in
+    let size = size-put c.add_frame.result old new c.args.frame.now are wide c.add_frame.ensures.ok
+    c.add_frame.ensures.err in
+    let long : length new ≡ c.self.inside.channels.len =
+    omega (arith, size, ap length c.as_mut_slice.ensures.value, c.self.inside.channels.ok.0) in
     subst AreChannels (sym (take_at new (drop (length new) items) c.self.inside.channels.len long))
     (are-put c.add_frame.result old new c.args.frame.now are wide c.add_frame.ensures.ok c.add_frame.ensures.err)

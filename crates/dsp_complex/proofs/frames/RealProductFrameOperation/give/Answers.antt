@@ -13,12 +13,17 @@ returns-clause-value g c =
     let fits_1 : SFits w32 (sample c.args.frame.now 1) = search rules in
     let fits_2 : SFits w32 (sample c.args.frame.now 2) = search rules in
     pair-written c.args.out.now _ _ _ _ c.requires.room
-    (to_z-of_z number1 ∙ c.number.ensures.value ∙ c.mult.ensures.value ∙ (λ i. mult (c.requires.form i) ((c.of_number.ensures ∙ to_z-of_z fits_0) i) ((c.of_number-factor.ensures ∙ to_z-of_z fits_2) i)))
-    (to_z-of_z number2 ∙ c.number-2.ensures.value ∙ c.mult-2.ensures.value ∙ (λ i. mult (c.requires.form i) ((c.of_number-2.ensures ∙ to_z-of_z fits_1) i) ((c.of_number-factor.ensures ∙ to_z-of_z fits_2) i)))
+    (to_z-of_z number1 ∙ c.number.ensures.value ∙ c.mult.ensures.value ∙
+    (λ i. mult (c.requires.form i) ((c.of_number.ensures ∙ to_z-of_z fits_0) i)
+    ((c.of_number-factor.ensures ∙ to_z-of_z fits_2) i)))
+    (to_z-of_z number2 ∙ c.number-2.ensures.value ∙ c.mult-2.ensures.value ∙
+    (λ i. mult (c.requires.form i) ((c.of_number-2.ensures ∙ to_z-of_z fits_1) i)
+    ((c.of_number-factor.ensures ∙ to_z-of_z fits_2) i)))
 
 pub returns-clause-in_format : goal.returns-clause-in_format
 returns-clause-in_format g c =
     let P = FitsSigned (word g.T.Sample.format) in
     let number1 : SFits w32 c.number.result = search rules in
     let number2 : SFits w32 c.number-2.result = search rules in
-    pair-fits (word g.T.Sample.format) _ (subst P (sym (to_z-of_z number1)) c.number.ensures.fits) _ (subst P (sym (to_z-of_z number2)) c.number-2.ensures.fits) c.args.out.now c.requires.room
+    pair-fits (word g.T.Sample.format) _ (subst P (sym (to_z-of_z number1)) c.number.ensures.fits) _
+    (subst P (sym (to_z-of_z number2)) c.number-2.ensures.fits) c.args.out.now c.requires.room

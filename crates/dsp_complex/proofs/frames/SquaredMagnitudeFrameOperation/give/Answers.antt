@@ -11,10 +11,13 @@ returns-clause-value g c =
     let fits_0 : SFits w32 (sample c.args.frame.now 0) = search rules in
     let fits_1 : SFits w32 (sample c.args.frame.now 1) = search rules in
     one-written c.args.out.now _ _ c.requires.room
-    (to_z-of_z number1 ∙ c.number.ensures.value ∙ c.squared.ensures.value ∙ (λ i. cmplx_mag_squared g.T.Sample.format ((c.of_number.ensures ∙ to_z-of_z fits_0) i) ((c.of_number-2.ensures ∙ to_z-of_z fits_1) i)))
+    (to_z-of_z number1 ∙ c.number.ensures.value ∙ c.squared.ensures.value ∙
+    (λ i. cmplx_mag_squared g.T.Sample.format ((c.of_number.ensures ∙ to_z-of_z fits_0) i)
+    ((c.of_number-2.ensures ∙ to_z-of_z fits_1) i)))
 
 pub returns-clause-in_format : goal.returns-clause-in_format
 returns-clause-in_format g c =
     let P = FitsSigned (word g.T.Sample.format) in
     let number1 : SFits w32 c.number.result = search rules in
-    one-fits (word g.T.Sample.format) _ (subst P (sym (to_z-of_z number1)) c.number.ensures.fits) c.args.out.now c.requires.room
+    one-fits (word g.T.Sample.format) _ (subst P (sym (to_z-of_z number1)) c.number.ensures.fits) c.args.out.now
+    c.requires.room

@@ -1,7 +1,7 @@
 use Rattle.std.proofs.Common.{◌≡◌, ◌∙◌, ◌+◌, ◌-◌, ◌++◌, ap, ap₂, pos, [], ◌∷◌, length, arith}
 use Rattle.std.proofs.lemmas.List.{length_push}
 use Rattle.dsp_conv.specs.ConvState.{ConvState, kept}
-use Rattle.dsp_unit.proofs.Slices.{last-written}
+use Rattle.dsp_filter.proofs.Slices.{last-written}
 use Rattle.dsp_conv.proofs.CallLemmas.{place-written}
 use Rattle.dsp_conv.proofs.convolution.Convolution.keep.Goals as goal
 
@@ -10,7 +10,8 @@ returns g c =
     let d = c.args.self.now in
     let n = length c.args.out.now - 1 in
     let long : length (kept d) ≡ length d.past + 1 = length_push d.past (pos d.place) in
-    let kept_long : length c.keep.new.out ≡ length d.past = ap length c.keep.ensures ∙ ap (λ (s : ConvState). length s.past) c.self.view_is in
+    let kept_long : length c.keep.new.out ≡ length d.past = ap length c.keep.ensures ∙
+    ap (λ (s : ConvState). length s.past) c.self.view_is in
     let whole : length c.args.out.now ≡ length d.past + 1 = c.requires.length ∙ long in
     let first : length c.keep.new.out ≡ n = omega (arith, kept_long, whole) in
     last-written n c.keep.new.out c.args.out.now _ first (omega (arith, whole))

@@ -12,9 +12,11 @@ zeros-within g c =
     let inv = c.self.invariant in
     let number = g.T.Sample.number in
     let view_len : vec_len c.self.inside.zeros ≡ length c.self.inside.zeros.items = search rules in
-    let long : length c.self.inside.zeros.items ≡ c.self.inside.window.past = zeros_long number c.self.inside.window.past c.self.inside.zeros.items inv.zeros_are in
+    let long : length c.self.inside.zeros.items ≡ c.self.inside.window.past =
+    zeros_long number c.self.inside.window.past c.self.inside.zeros.items inv.zeros_are in
     let zeros : c.match-self.zeros ≤ c.self.inside.window.past =
-    elim c.match-self.branch as (λ _. c.match-self.zeros ≤ c.self.inside.window.past) [ in-0 w ↦ omega arith | in_default w ↦ omega (arith, long, view_len) ] in
+    elim c.match-self.branch as (λ _. c.match-self.zeros ≤ c.self.inside.window.past)
+    [ in-0 w ↦ omega arith | in_default w ↦ omega (arith, long, view_len) ] in
     record {
       past = inv.past;
       few = inv.few;
@@ -41,13 +43,26 @@ returns g c =
     let view_len : vec_len d.zeros ≡ length d.zeros.items = search rules in
     let taps_len : vec_len d.reversed ≡ length d.reversed.items = search rules in
     let long : length d.zeros.items ≡ d.window.past = zeros_long number d.window.past d.zeros.items inv.zeros_are in
-    let t : length (reverse reversed) ≡ length d.reversed.items = length-reverse reversed ∙ length-map d.reversed.items number in
+    let t : length (reverse reversed) ≡ length d.reversed.items = length-reverse reversed ∙
+    length-map d.reversed.items number in
     let zeros : c.match-self.zeros ≡ zeros_behind d.place (length (reverse reversed)) =
     elim c.match-self.branch as (λ _. c.match-self.zeros ≡ zeros_behind d.place (length (reverse reversed))) [
-      | in-0 w ↦ (let none : d.place ≡ 0 = omega arith in w.zeros-is ∙ sym (ap (λ p. zeros_behind p (length (reverse reversed))) none))
-      | in_default w ↦ (let same : c.match-self.zeros ≡ length (reverse reversed) - 1 = omega (arith, t, long, view_len, taps_len, inv.past) in
+      | in-0 w ↦ (let none : d.place ≡ 0 = omega arith in w.zeros-is ∙
+          sym (ap (λ p. zeros_behind p (length (reverse reversed))) none))
+      | in_default w ↦ (let same : c.match-self.zeros ≡ length (reverse reversed) - 1 =
+          omega (arith, t, long, view_len, taps_len, inv.past) in
           let some : 1 ≤ d.place = omega arith in same ∙ sym (zeros-some d.place (length (reverse reversed)) some))
     ] in
-    let tail = owed g.T.Sample.format d.extent reversed past d.place c.match-self.zeros c.given-given.result.start c.given-given.result.end zeros c.given-given.ensures.start c.given-given.ensures.end in
+    let tail = owed g.T.Sample.format d.extent reversed past d.place c.match-self.zeros c.given-given.result.start
+    c.given-given.result.end zeros c.given-given.ensures.start c.given-given.ensures.end in
     rw (← c.self.view_is)
-    (λ i. record { extent = d.extent; taps = reverse reversed; past = past; place = d.place; tail = tail i; block = d.block; ended = d.ended })
+    (λ i. record {
+      extent = d.extent;
+      taps = reverse reversed;
+      past = past;
+      place = d.place;
+      tail = tail i;
+      block =
+          d.block;
+      ended = d.ended;
+    })

@@ -16,11 +16,15 @@ returns-clause-finished g c =
     let piece = c.finish.new.output in
     let block : here.block ≡ d.block = ap (λ (s : ConvState). s.block) c.self.view_is in
     let room = room-is g.T.Sample.format d (length output) c.requires.room in
-    let lent : length (take here.block output) ≡ d.block = length-take-le here.block output (omega (arith, block, room)) ∙ block in
+    let lent : length (take here.block output) ≡ d.block =
+    length-take-le here.block output (omega (arith, block, room)) ∙ block in
     let count : c.finish.result ≡ min (length d.tail) d.block = e.given ∙ ap (λ n. min (length d.tail) n) lent in
     let within : c.finish.result ≤ length piece = omega (arith, count, lent, c.finish.auto.output) in
-    let long : length (map number (take c.finish.result piece)) ≡ c.finish.result = length-map (take c.finish.result piece) number ∙ length-take-le c.finish.result piece within in
+    let long : length (map number (take c.finish.result piece)) ≡ c.finish.result =
+    length-map (take c.finish.result piece) number ∙ length-take-le c.finish.result piece within in
     rw (take-append-le c.finish.result piece (drop here.block output) within)
-    (channel-finished g.T.Sample.format d c.finish.new.self is (ap (λ (s : ConvState). s.extent) e.same) (ap (λ (s : ConvState). s.taps) e.same) (ap (λ (s : ConvState). s.block) e.same) e.kept
+    (channel-finished g.T.Sample.format d c.finish.new.self is (ap (λ (s : ConvState). s.extent) e.same)
+    (ap (λ (s : ConvState). s.taps) e.same) (ap (λ (s : ConvState). s.block) e.same) e.kept
     g.row.L (map number (take c.finish.result piece)) c.finish.result c.args.steps.now c.finish.new.steps
-    (ap (λ (s : ConvState). s.place) e.same) (ap (λ (s : ConvState). s.ended) e.same) long count e.tail e.multiplies e.turns)
+    (ap (λ (s : ConvState). s.place) e.same) (ap (λ (s : ConvState). s.ended) e.same) long count e.tail e.multiplies
+    e.turns)

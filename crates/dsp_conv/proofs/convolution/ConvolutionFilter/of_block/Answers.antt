@@ -5,7 +5,7 @@ use Rattle.dsp_defs.specs.Formats.{word}
 use Rattle.dsp_defs.specs.declared.format.Fmt.{Fmt}
 use Rattle.dsp_defs.specs.declared.script.Block.{Block}
 use Rattle.dsp_defs.specs.declared.script.Block.TheVariants as block
-use Rattle.dsp_stage.specs.Filter.{IsNewFilter}
+use Rattle.dsp_unit.specs.Filter.{IsNewFilter}
 use Rattle.dsp_conv.specs.declared.extent.Extent.{Extent}
 use Rattle.dsp_conv.specs.Extent.{block_of}
 use Rattle.dsp_conv.specs.ConvState.{ConvState, conv_channel, new_conv}
@@ -30,7 +30,8 @@ taps_of-requires g c = of-crate g.T.Sample.format c.args.block.now c.requires.bl
 pub samples_of-requires : goal.samples_of-requires
 samples_of-requires g c =
     let format = g.T.Sample.format in
-    subst (λ l. All (FitsSigned (word format)) l) (sym c.taps_of.ensures) (are-taps format c.args.block.now c.requires.block).2
+    subst (λ l. All (FitsSigned (word format)) l) (sym c.taps_of.ensures)
+    (are-taps format c.args.block.now c.requires.block).2
 
 pub of_block-requires : goal.of_block-requires
 of_block-requires g c = has-extent g.T.Sample.format c.args.block.now c.requires.block
@@ -40,21 +41,28 @@ of_taps-requires g c =
     let number = g.T.Sample.number in
     let are = are-taps g.T.Sample.format c.args.block.now c.requires.block in
     let taps : length c.deref.result.now ≡ length (taps_of c.args.block.now) =
-    ap length c.deref.ensures.value ∙ sym (length-map c.in_ok-taps.taps.items number) ∙ ap length (c.in_ok-taps.ensures ∙ c.taps_of.ensures) in
+    ap length c.deref.ensures.value ∙ sym (length-map c.in_ok-taps.taps.items number) ∙
+    ap length (c.in_ok-taps.ensures ∙ c.taps_of.ensures) in
     (lit< tt, (omega (arith, taps, are.0), (omega (arith, taps, are.1), (c.requires.some, c.requires.few))))
 
 -- a new convolution is a new filter
 new-filter :
-    {X E : Type 0} (view : X → ConvState) (e : Extent) (taps : List ℤ) (capacity : ℕ) (r : Result X E) → IfOk r (λ f. view f ≡ new_conv e taps capacity) →
-    (format : Fmt) (block : Block) → block_of e taps ≡ block → 1 ≤ capacity → 1 ≤ length taps → IfOk r (λ f. IsNewFilter block format capacity (conv_channel format (view f)))
+    {X E : Type 0} (view : X → ConvState) (e : Extent) (taps : List ℤ) (capacity : ℕ) (r : Result X E) →
+    IfOk r (λ f. view f ≡ new_conv e taps capacity) →
+    (format : Fmt) (block : Block) → block_of e taps ≡ block → 1 ≤ capacity → 1 ≤ length taps →
+    IfOk r (λ f. IsNewFilter block format capacity (conv_channel format (view f)))
 new-filter view e taps capacity (Ok f) made format block is some filled =
     subst (λ (s : ConvState). IsNewFilter block format capacity (conv_channel format s)) (sym made)
-    (subst (λ (b : Block). IsNewFilter b format capacity (conv_channel format (new_conv e taps capacity))) is (new-channel format e taps capacity some filled))
+    (subst (λ (b : Block). IsNewFilter b format capacity (conv_channel format (new_conv e taps capacity))) is
+    (new-channel format e taps capacity some filled))
 new-filter view e taps capacity (Err fault) made format block is some filled = tt
 
 pub returns : goal.returns
 returns g c =
     let T = g.T.Sample in
-    let given : map T.number c.deref.result.now ≡ taps_of c.args.block.now = ap (map T.number) c.deref.ensures.value ∙ c.in_ok-taps.ensures ∙ c.taps_of.ensures in
+    let given : map T.number c.deref.result.now ≡ taps_of c.args.block.now = ap (map T.number) c.deref.ensures.value ∙
+    c.in_ok-taps.ensures ∙ c.taps_of.ensures in
     let filled = subst (λ l. 1 ≤ length l) (sym given) (are-taps T.format c.args.block.now c.requires.block).0 in
-    new-filter _ c.of_block.result (map T.number c.deref.result.now) c.args.capacity c.of_taps.result c.of_taps.ensures.made T.format c.args.block.now (ap (block_of c.of_block.result) given ∙ c.of_block.ensures) c.requires.some filled
+    new-filter _ c.of_block.result (map T.number c.deref.result.now) c.args.capacity c.of_taps.result
+    c.of_taps.ensures.made T.format c.args.block.now (ap (block_of c.of_block.result) given ∙ c.of_block.ensures)
+    c.requires.some filled

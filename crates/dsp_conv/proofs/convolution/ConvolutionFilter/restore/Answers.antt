@@ -7,7 +7,8 @@ pub restore-requires : goal.restore-requires
 restore-requires g c =
     let here = c.self.inside in
     let counted : vec_len here.reversed ≡ length here.reversed.items = search rules in
-    let is = is-convolution g.T.Sample.number _ here.reversed.items here.window _ _ c.self.invariant counted c.self.view_is in
+    let is = is-convolution g.T.Sample.number _ here.reversed.items here.window _ _ c.self.invariant counted
+    c.self.view_is in
     let (n, fits) = c.requires.fits in
     (lit< tt, (c.requires.running, channel-fits g.T.Sample.format c.args.self.now c.args.numbers.now n is fits))
 
@@ -15,7 +16,9 @@ pub returns : goal.returns
 returns g c =
     let here = c.self.inside in
     let counted : vec_len here.reversed ≡ length here.reversed.items = search rules in
-    let is = is-convolution g.T.Sample.number _ here.reversed.items here.window _ _ c.self.invariant counted c.self.view_is in
+    let is = is-convolution g.T.Sample.number _ here.reversed.items here.window _ _ c.self.invariant counted
+    c.self.view_is in
     let e = c.restore.ensures in
-    channel-restored g.T.Sample.format c.args.self.now c.restore.new.self is (ap (λ (s : ConvState). s.extent) e.same) (ap (λ (s : ConvState). s.taps) e.same) (ap (λ (s : ConvState). s.block) e.same) e.count
+    channel-restored g.T.Sample.format c.args.self.now c.restore.new.self is (ap (λ (s : ConvState). s.extent) e.same)
+    (ap (λ (s : ConvState). s.taps) e.same) (ap (λ (s : ConvState). s.block) e.same) e.count
     c.args.numbers.now (ap (λ (s : ConvState). s.ended) e.same ∙ c.requires.running) e.kept e.stands e.counts

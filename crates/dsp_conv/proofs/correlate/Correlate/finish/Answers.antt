@@ -1,8 +1,9 @@
-use Rattle.std.proofs.Common.{◌≡◌, ◌∙◌, ap, ap₂, sym, ◌+◌, ◌-◌, ◌*◌, ◌≤◌, ◌++◌, ℕ, min, max, length, map, take, drop, vec_len, rules, true, arith, length-take-le}
+use Rattle.std.proofs.Common.{◌≡◌, ◌∙◌, ap, ap₂, sym, ◌+◌, ◌-◌, ◌*◌, ◌≤◌, ◌++◌, ℕ, min, max, length, map, take, drop}
+use Rattle.std.proofs.Common.{vec_len, rules, true, arith, length-take-le}
 use Rattle.std.proofs.lemmas.List.{drop_at, length-map}
 use Rattle.dsp_defs.specs.Formats.{close}
 use Rattle.dsp_defs.specs.Signal.{values}
-use Rattle.dsp_unit.proofs.Slices.{front-written}
+use Rattle.dsp_filter.proofs.Slices.{front-written}
 use Rattle.dsp_conv.specs.Sums.{correlation_at}
 use Rattle.dsp_conv.specs.CorrelateState.{CorrelateState, tail_of}
 use Rattle.dsp_conv.proofs.ConvLemmas.{empty}
@@ -21,17 +22,24 @@ returns-clause-given g c =
     let lx : length c.slice-samples.result.now ≡ length x = c.slice-samples.ensures.length in
     let there : 1 ≤ length c.slice-samples.result.now = search rules in
     let some : 1 ≤ length x = omega (arith, there, lx) in
-    let most : d.given ≤ 2 * max (length x) (vec_len d.taps) - 1 = omega (arith, c.self.invariant.within, correlation-some (length x) (vec_len d.taps) some) in
+    let most : d.given ≤ 2 * max (length x) (vec_len d.taps) - 1 =
+    omega (arith, c.self.invariant.within, correlation-some (length x) (vec_len d.taps) some) in
     let inside : d.given ≤ 2 * max (length x) (length b) - 1 = omega (arith, most, lb, view_len) in
-    let long = ap length (ap (drop d.given) (correlate-values T.format b x some)) ∙ length-dropped (2 * max (length x) (length b) - 1) d.given value inside in
-    let count : c.min-count.result ≡ min (2 * max (length x) (length b) - 1 - d.given) (length c.args.output.now) = omega (arith, c.min-count.ensures, c.max.ensures, c.len.ensures, lx, lb, view_len) in
-    count ∙ ap (λ n. min n (length c.args.output.now)) (sym long ∙ ap (λ (s : CorrelateState). length (tail_of T.format s)) c.self.view_is)
+    let long = ap length (ap (drop d.given) (correlate-values T.format b x some)) ∙
+    length-dropped (2 * max (length x) (length b) - 1) d.given value inside in
+    let count : c.min-count.result ≡ min (2 * max (length x) (length b) - 1 - d.given) (length c.args.output.now) =
+    omega (arith, c.min-count.ensures, c.max.ensures, c.len.ensures, lx, lb, view_len) in
+    count ∙ ap (λ n. min n (length c.args.output.now)) (sym long ∙
+    ap (λ (s : CorrelateState). length (tail_of T.format s)) c.self.view_is)
 
 pub returns-clause-spent : goal.returns-clause-spent
 returns-clause-spent g c = λ room.
     let tail = tail_of g.T.Sample.format c.args.self.now in
-    let given : c.min-count.result ≡ min (length tail) (length c.args.output.now) = returns-clause-given g c in
-    (λ none. empty tail (omega (arith, given, none, room)), λ spent. let none : length tail ≡ 0 = ap length spent in omega (arith, given, none))
+    let given : c.min-count.result ≡ min (length tail) (length c.args.output.now) = returns-clause-given g c in (
+      λ none. empty tail (omega (arith, given, none, room)),
+      λ spent. let none : length tail ≡ 0 = ap length spent in
+          omega (arith, given, none),
+    )
 
 pub returns-clause-tail : goal.returns-clause-tail
 returns-clause-tail g c =
@@ -49,14 +57,18 @@ returns-clause-tail g c =
     let lx : length c.slice-samples.result.now ≡ length x = c.slice-samples.ensures.length in
     let there : 1 ≤ length c.slice-samples.result.now = search rules in
     let some : 1 ≤ length x = omega (arith, there, lx) in
-    let most : d.given ≤ 2 * max (length x) (vec_len d.taps) - 1 = omega (arith, c.self.invariant.within, correlation-some (length x) (vec_len d.taps) some) in
-    let within : d.given + count ≤ 2 * max (length x) (length b) - 1 = omega (arith, most, c.min-count.ensures, c.max.ensures, c.len.ensures, lx, lb, view_len) in
-    let written : length (take count output) ≡ count = length-take-le count output (omega (arith, c.min-count.ensures)) in
+    let most : d.given ≤ 2 * max (length x) (vec_len d.taps) - 1 =
+    omega (arith, c.self.invariant.within, correlation-some (length x) (vec_len d.taps) some) in
+    let within : d.given + count ≤ 2 * max (length x) (length b) - 1 =
+    omega (arith, most, c.min-count.ensures, c.max.ensures, c.len.ensures, lx, lb, view_len) in
+    let written : length (take count output) ≡ count = length-take-le count output
+    (omega (arith, c.min-count.ensures)) in
     let out_long : length out ≡ count = omega (arith, c.correlation_values.auto.out, written) in
     let whole = correlate-values T.format b x some in
     let given : map number out ≡ values count (λ i. value (d.given + i)) =
     c.correlation_values.ensures.values
-    ∙ ap₂ (λ bs xs. values (length (take count output)) (λ i. close T.format (correlation_at bs xs (d.given + i)))) (ap (map number) c.deref.ensures.value) c.slice-samples.ensures.samples
+    ∙ ap₂ (λ bs xs. values (length (take count output)) (λ i. close T.format (correlation_at bs xs (d.given + i))))
+    (ap (map number) c.deref.ensures.value) c.slice-samples.ensures.samples
     ∙ ap (λ n. values n (λ i. value (d.given + i))) written in
     rw (← c.self.view_is)
     (rw (front-written count out output out_long)
@@ -68,14 +80,17 @@ pub slice_bounds-output-end : goal.slice_bounds-output-end
 slice_bounds-output-end g c = omega (arith, c.min-count.ensures)
 
 pub slice_bounds-output-end-2 : goal.slice_bounds-output-end-2
-slice_bounds-output-end-2 g c = sym (length-take-le c.min-count.result c.args.output.now (omega (arith, c.min-count.ensures)))
+slice_bounds-output-end-2 g c = sym (length-take-le c.min-count.result c.args.output.now
+    (omega (arith, c.min-count.ensures)))
 
 pub returns-clause-same : goal.returns-clause-same
-returns-clause-same g c = ap (λ (s : CorrelateState). record s { given = s.given + c.min-count.result; ended = true }) c.self.view_is
+returns-clause-same g c = ap (λ (s : CorrelateState). record s { given = s.given + c.min-count.result; ended = true })
+    c.self.view_is
 
 pub returns-clause-rest : goal.returns-clause-rest
 returns-clause-rest g c =
     let count = c.min-count.result in
     let output = c.args.output.now in
-    let written : length (take count output) ≡ count = length-take-le count output (omega (arith, c.min-count.ensures)) in
+    let written : length (take count output) ≡ count = length-take-le count output
+    (omega (arith, c.min-count.ensures)) in
     drop_at c.correlation_values.new.out (drop count output) count (c.correlation_values.auto.out ∙ written)

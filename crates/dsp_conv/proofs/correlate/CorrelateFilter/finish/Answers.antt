@@ -15,9 +15,13 @@ returns-clause-finished g c =
     let output = c.args.output.now in
     let piece = c.finish.new.output in
     let block : here.block ≡ d.block = ap (λ (s : CorrelateState). s.block) c.self.view_is in
-    let lent : length (take here.block output) ≡ d.block = length-take-le here.block output (omega (arith, block, c.requires.room)) ∙ block in
-    let count : c.finish.result ≡ min (length (tail_of g.T.Sample.format d)) d.block = e.given ∙ ap (λ n. min (length (tail_of g.T.Sample.format d)) n) lent in
+    let lent : length (take here.block output) ≡ d.block =
+    length-take-le here.block output (omega (arith, block, c.requires.room)) ∙ block in
+    let count : c.finish.result ≡ min (length (tail_of g.T.Sample.format d)) d.block = e.given ∙
+    ap (λ n. min (length (tail_of g.T.Sample.format d)) n) lent in
     let within : c.finish.result ≤ length piece = omega (arith, count, lent, c.finish.auto.output) in
-    let long : length (map number (take c.finish.result piece)) ≡ c.finish.result = length-map (take c.finish.result piece) number ∙ length-take-le c.finish.result piece within in
+    let long : length (map number (take c.finish.result piece)) ≡ c.finish.result =
+    length-map (take c.finish.result piece) number ∙ length-take-le c.finish.result piece within in
     rw (take-append-le c.finish.result piece (drop here.block output) within)
-    (channel-finished g.T.Sample.format d c.finish.new.self is c.finish.result e.same count (map number (take c.finish.result piece)) c.args.steps.now c.finish.new.steps long e.tail e.multiplies e.turns)
+    (channel-finished g.T.Sample.format d c.finish.new.self is c.finish.result e.same count
+    (map number (take c.finish.result piece)) c.args.steps.now c.finish.new.steps long e.tail e.multiplies e.turns)

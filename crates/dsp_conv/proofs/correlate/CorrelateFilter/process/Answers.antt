@@ -14,4 +14,5 @@ returns-clause-fed g c =
     let d = c.self.inside in
     let counted : vec_len d.taps ≡ length d.taps.items = search rules in
     let is = is-correlation g.T.Sample.number d.taps.items d.gather c.self.invariant counted c.self.view_is in
-    channel-fed g.T.Sample.format c.args.self.now c.put.new.self is (map g.T.Sample.number c.args.input.now) c.args._steps.now c.requires.running c.in-Ok.ensures.taken
+    channel-fed g.T.Sample.format c.args.self.now c.put.new.self is (map g.T.Sample.number c.args.input.now)
+    c.args._steps.now c.requires.running c.in-Ok.ensures.taken

@@ -13,4 +13,5 @@ returns g c =
     let d = c.self.inside in
     let counted : vec_len d.taps ≡ length d.taps.items = search rules in
     let is = is-correlation g.T.Sample.number d.taps.items d.gather c.self.invariant counted c.self.view_is in
-    channel-restored g.T.Sample.format c.args.self.now c.restore.new.self is c.args.numbers.now c.requires.running c.restore.ensures
+    channel-restored g.T.Sample.format c.args.self.now c.restore.new.self is c.args.numbers.now c.requires.running
+    c.restore.ensures

@@ -10,5 +10,10 @@ of_taps-requires g c =
     let long = length-map c.args.taps.now number in
     let some : 1 ≤ length c.args.taps.now = grind (arith, common_steps) in
     let few : length c.args.taps.now ≤ MAX_TAPS = grind (arith, common_steps) in
-    let fits : c.args.block ≤ MAX_SAMPLES = grind (arith, common_steps) in
-    (omega arith, (rw c.in-Ok.ensures.items (omega (arith, some, long), omega (arith, few, long), c.all_fit.ensures), (fits, tt)))
+    let fits : c.args.block ≤ MAX_SAMPLES = grind (arith, common_steps) in (
+      omega arith,
+      (
+        rw c.in-Ok.ensures.items (omega (arith, some, long), omega (arith, few, long), c.all_fit.ensures),
+        (fits, tt),
+      ),
+    )

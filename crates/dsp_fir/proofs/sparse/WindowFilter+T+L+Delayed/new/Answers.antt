@@ -10,7 +10,8 @@ pub of_taps-requires : goal.of_taps-requires
 of_taps-requires g c =
     let ds = c.args.delays.now in
     let taps = c.args.taps.now in
-    let named : c.in-Ok-new.delays.delays ≡ ds = ap (λ (d : DelayState). d.delays) c.in-Ok-new.ensures ∙ c.in-Ok-from_slice.ensures.items in
+    let named : c.in-Ok-new.delays.delays ≡ ds = ap (λ (d : DelayState). d.delays) c.in-Ok-new.ensures ∙
+    c.in-Ok-from_slice.ensures.items in
     let long = length-map taps g.T.Sample.number in
     let as_many = length-map ds pos in
     let fits : c.args.block ≤ MAX_SAMPLES = grind (arith, common_steps) in (

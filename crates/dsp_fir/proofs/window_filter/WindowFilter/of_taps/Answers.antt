@@ -8,19 +8,24 @@ pub new-requires-clause-past : goal.new-requires-clause-past
 new-requires-clause-past g c =
     let T = g.T.Sample in
     let block = block_of (map T.number c.args.taps.items) c.args.delays in
-    let depth : c.past_of-past.result ≡ past_count block = c.past_of-past.ensures ∙ ap (λ l. past_count (block_of (map T.number l) c.args.delays)) c.deref.ensures.value in
+    let depth : c.past_of-past.result ≡ past_count block = c.past_of-past.ensures ∙
+    ap (λ l. past_count (block_of (map T.number l) c.args.delays)) c.deref.ensures.value in
     omega (arith, depth, (windowed T.format block c.requires.block).few)
 
 pub returns-clause-fresh : goal.returns-clause-fresh
 returns-clause-fresh g c =
     let T = g.T.Sample in
     let block = block_of (map T.number c.args.taps.items) c.args.delays in
-    let depth : c.past_of-past.result ≡ past_count block = c.past_of-past.ensures ∙ ap (λ l. past_count (block_of (map T.number l) c.args.delays)) c.deref.ensures.value in
-    new-channel T.format block c.args.capacity c.past_of-past.result c.in_ok-window.window (windowed T.format block c.requires.block) depth c.in_ok-window.ensures.made
+    let depth : c.past_of-past.result ≡ past_count block = c.past_of-past.ensures ∙
+    ap (λ l. past_count (block_of (map T.number l) c.args.delays)) c.deref.ensures.value in
+    new-channel T.format block c.args.capacity c.past_of-past.result c.in_ok-window.window
+    (windowed T.format block c.requires.block) depth c.in_ok-window.ensures.made
 
 pub returns-clause-stands : goal.returns-clause-stands
 returns-clause-stands g c =
     let T = g.T.Sample in
     let block = block_of (map T.number c.args.taps.items) c.args.delays in
-    let depth : c.past_of-past.result ≡ past_count block = c.past_of-past.ensures ∙ ap (λ l. past_count (block_of (map T.number l) c.args.delays)) c.deref.ensures.value in
-    (new-channel T.format block c.args.capacity c.past_of-past.result c.in_ok-window.window (windowed T.format block c.requires.block) depth c.in_ok-window.ensures.made).stands.keeps
+    let depth : c.past_of-past.result ≡ past_count block = c.past_of-past.ensures ∙
+    ap (λ l. past_count (block_of (map T.number l) c.args.delays)) c.deref.ensures.value in
+    (new-channel T.format block c.args.capacity c.past_of-past.result c.in_ok-window.window
+    (windowed T.format block c.requires.block) depth c.in_ok-window.ensures.made).stands.keeps

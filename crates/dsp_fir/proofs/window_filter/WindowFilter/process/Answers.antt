@@ -13,6 +13,7 @@ returns-clause-stands g c = λ x stands.
     let is = windowed T.format block c.self.invariant.0 in
     let input = map T.number c.args.input.now in
     let kept = (rw (← c.self.view_is) at stands) ∙ is.keeps x in
-    keeps-after c.self.inside.window c.push_block.new.self (past_count block) x input c.push_block.ensures.rolls kept (c.self.invariant.2 ∙ c.self.invariant.1)
+    keeps-after c.self.inside.window c.push_block.new.self (past_count block) x input c.push_block.ensures.rolls kept
+    (c.self.invariant.2 ∙ c.self.invariant.1)
     ∙ sym (is.keeps (x ++ input))
     ∙ ap (λ ds. kept_of_channel T.format (block_of taps ds) (x ++ input)) (sym c.window_rows.ensures.delays)

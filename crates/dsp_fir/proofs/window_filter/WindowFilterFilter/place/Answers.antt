@@ -8,10 +8,12 @@ pub returns-then-fits-clause-fits : goal.returns-then-fits-clause-fits
 returns-then-fits-clause-fits g c =
     let is = windowed g.T.Sample.format _ c.self.invariant.0 in
     let fits = c.fits.ensures.0 c.if-fits.true in
-    rw (← c.self.view_is) (channel-fits g.T.Sample.format _ is 0 c.args.numbers.now (fits.0 ∙ c.self.invariant.2 ∙ c.self.invariant.1) fits.1)
+    rw (← c.self.view_is) (channel-fits g.T.Sample.format _ is 0 c.args.numbers.now
+    (fits.0 ∙ c.self.invariant.2 ∙ c.self.invariant.1) fits.1)
 
 pub returns-else-fits-clause-least : goal.returns-else-fits-clause-least
 returns-else-fits-clause-least g c = λ n here.
     let is = windowed g.T.Sample.format _ c.self.invariant.0 in
     let fits = fits-channel g.T.Sample.format _ is n c.args.numbers.now (rw (← c.self.view_is) at here) in
-    absurd (false≢true (sym c.if-fits.false ∙ c.fits.ensures.1 (fits.0 ∙ sym (c.self.invariant.2 ∙ c.self.invariant.1), fits.1)))
+    absurd (false≢true (sym c.if-fits.false ∙ c.fits.ensures.1
+    (fits.0 ∙ sym (c.self.invariant.2 ∙ c.self.invariant.1), fits.1)))

@@ -25,11 +25,18 @@ returns-clause-sums g c =
     let j = c.args.j in
     let first = F.lanes c.args.sums.first in
     let second = F.lanes c.args.sums.second in
-    let once : length (zip2 (add j) first (chunk at n window)) ≡ n = length-zip2 (add j) first (chunk at n window) (c.requires.fit.2 ∙ sym long) ∙ c.requires.fit.2 in
-    (λ i. c.add_pair.ensures.sums i ++ (c.add_pair-2.ensures.sums ∙ (λ k. zip2 (add (j + 1)) (zip2 (add j) second (chunk (c.behind.ensures k) n window)) (chunk (swap k) n window))) i)
-    ∙ sym (zip2-append (add (j + 1)) (zip2 (add j) first (chunk at n window)) (zip2 (add j) second (chunk (at + n) n window)) (chunk (at + 1) n window) (chunk (at + 1 + n) n window) (once ∙ sym next))
-    ∙ (λ k. zip2 (add (j + 1)) (sym (zip2-append (add j) first second (chunk at n window) (chunk (at + n) n window) (c.requires.fit.2 ∙ sym long)) k) (sym (chunk-append (at + 1) n n window) k))
-    ∙ ap (λ l. zip2 (add (j + 1)) (zip2 (add j) (first ++ second) l) (chunk (at + 1) (n + n) window)) (sym (chunk-append at n n window))
+    let once : length (zip2 (add j) first (chunk at n window)) ≡ n =
+    length-zip2 (add j) first (chunk at n window) (c.requires.fit.2 ∙ sym long) ∙ c.requires.fit.2 in
+    (λ i. c.add_pair.ensures.sums i ++ (c.add_pair-2.ensures.sums ∙
+    (λ k. zip2 (add (j + 1)) (zip2 (add j) second (chunk (c.behind.ensures k) n window)) (chunk (swap k) n window)))
+    i)
+    ∙ sym (zip2-append (add (j + 1)) (zip2 (add j) first (chunk at n window))
+    (zip2 (add j) second (chunk (at + n) n window)) (chunk (at + 1) n window) (chunk (at + 1 + n) n window)
+    (once ∙ sym next))
+    ∙ (λ k. zip2 (add (j + 1)) (sym (zip2-append (add j) first second (chunk at n window) (chunk (at + n) n window)
+    (c.requires.fit.2 ∙ sym long)) k) (sym (chunk-append (at + 1) n n window) k))
+    ∙ ap (λ l. zip2 (add (j + 1)) (zip2 (add j) (first ++ second) l) (chunk (at + 1) (n + n) window))
+    (sym (chunk-append at n n window))
 
 pub returns-clause-fit : goal.returns-clause-fit
 returns-clause-fit g c =
@@ -42,13 +49,19 @@ returns-clause-fit g c =
     let behind = c.behind.ensures in
     let add : ℕ → ℤ → ℤ → ℤ = λ j s x. int_wrap F.width (s +ℤ (sample (map number c.args.taps.now) j *ℤ x)) in
     let j = c.args.j in
-    let both : (lanes : List ℤ) (p : ℕ) → length lanes ≡ n → p + 1 + n ≤ length window → length (zip2 (add (j + 1)) (zip2 (add j) lanes (chunk p n window)) (chunk (p + 1) n window)) ≡ n = λ lanes p long inside.
+    let both : (lanes : List ℤ) (p : ℕ) → length lanes ≡ n → p + 1 + n ≤ length window →
+    length (zip2 (add (j + 1)) (zip2 (add j) lanes (chunk p n window)) (chunk (p + 1) n window)) ≡ n =
+    λ lanes p long inside.
     let part : length (chunk p n window) ≡ n = length-chunk p n window (omega (arith, inside)) in
     let next : length (chunk (p + 1) n window) ≡ n = length-chunk (p + 1) n window inside in
-    let once : length (zip2 (add j) lanes (chunk p n window)) ≡ n = length-zip2 (add j) lanes (chunk p n window) (omega (arith, long, part)) ∙ long in
-    length-zip2 (add (j + 1)) (zip2 (add j) lanes (chunk p n window)) (chunk (p + 1) n window) (omega (arith, once, next)) ∙ once in (
+    let once : length (zip2 (add j) lanes (chunk p n window)) ≡ n =
+    length-zip2 (add j) lanes (chunk p n window) (omega (arith, long, part)) ∙ long in
+    length-zip2 (add (j + 1)) (zip2 (add j) lanes (chunk p n window)) (chunk (p + 1) n window)
+    (omega (arith, once, next)) ∙ once in (
       c.add_pair.ensures.fit,
       c.add_pair-2.ensures.fit,
-      ap length c.add_pair.ensures.sums ∙ both (F.lanes c.args.sums.first) c.args.at c.requires.fit.2 (omega (arith, long_w, room)),
-      ap length c.add_pair-2.ensures.sums ∙ both (F.lanes c.args.sums.second) c.behind.result c.requires.fit.3 (omega (arith, long_w, room, behind)),
+      ap length c.add_pair.ensures.sums ∙ both (F.lanes c.args.sums.first) c.args.at c.requires.fit.2
+          (omega (arith, long_w, room)),
+      ap length c.add_pair-2.ensures.sums ∙ both (F.lanes c.args.sums.second) c.behind.result c.requires.fit.3
+          (omega (arith, long_w, room, behind)),
     )

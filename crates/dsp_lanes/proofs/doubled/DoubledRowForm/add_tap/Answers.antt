@@ -19,8 +19,10 @@ returns-clause-sums g c =
     let add : ℤ → ℤ → ℤ = λ s x. int_wrap F.width (s +ℤ (sample (map number c.args.taps.now) c.args.j *ℤ x)) in
     let first = F.lanes c.args.sums.first in
     let second = F.lanes c.args.sums.second in
-    (λ i. c.add_tap.ensures.sums i ++ (c.add_tap-2.ensures.sums ∙ ap (λ p. zip2 add second (chunk p F.size window)) c.behind.ensures) i)
-    ∙ sym (zip2-append add first second (chunk at F.size window) (chunk (at + F.size) F.size window) (c.requires.fit.2 ∙ sym long))
+    (λ i. c.add_tap.ensures.sums i ++ (c.add_tap-2.ensures.sums ∙
+    ap (λ p. zip2 add second (chunk p F.size window)) c.behind.ensures) i)
+    ∙ sym (zip2-append add first second (chunk at F.size window) (chunk (at + F.size) F.size window)
+    (c.requires.fit.2 ∙ sym long))
     ∙ ap (zip2 add (first ++ second)) (sym (chunk-append at F.size F.size window))
 
 pub returns-clause-fit : goal.returns-clause-fit
@@ -36,9 +38,12 @@ returns-clause-fit g c =
     let first = c.requires.fit.2 in
     let second = c.requires.fit.3 in
     let part : length (chunk at F.size window) ≡ F.size = length-chunk at F.size window (omega (arith, long_w, room)) in
-    let next : length (chunk c.behind.result F.size window) ≡ F.size = length-chunk c.behind.result F.size window (omega (arith, long_w, room, behind)) in (
+    let next : length (chunk c.behind.result F.size window) ≡ F.size =
+    length-chunk c.behind.result F.size window (omega (arith, long_w, room, behind)) in (
       c.add_tap.ensures.fit,
       c.add_tap-2.ensures.fit,
-      ap length c.add_tap.ensures.sums ∙ length-zip2 add (F.lanes c.args.sums.first) (chunk at F.size window) (omega (arith, first, part)) ∙ first,
-      ap length c.add_tap-2.ensures.sums ∙ length-zip2 add (F.lanes c.args.sums.second) (chunk c.behind.result F.size window) (omega (arith, second, next)) ∙ second,
+      ap length c.add_tap.ensures.sums ∙ length-zip2 add (F.lanes c.args.sums.first) (chunk at F.size window)
+          (omega (arith, first, part)) ∙ first,
+      ap length c.add_tap-2.ensures.sums ∙ length-zip2 add (F.lanes c.args.sums.second)
+          (chunk c.behind.result F.size window) (omega (arith, second, next)) ∙ second,
     )

@@ -19,8 +19,10 @@ returns-clause-sums c =
     let odd = c.args.sums.odd in
     let fit = c.requires.fit in
     let long : length (chunk at 4 window) ≡ 4 = length-chunk at 4 window c.requires.window in
-    tap_halves even odd (chunk at 4 window) (get_or taps j (pos 0)) fit.2 fit.3 long fit.0 fit.1 (c.q31_fit.ensures j (pos 0) c.requires.tap) (group_fits w32 at 4 window c.q31_fit-2.ensures c.requires.window)
-    ∙ (λ i. zip2 (λ s x. int_wrap w64 (s +ℤ (sample (sym (map-self taps) i) j *ℤ x))) (in_turn even odd) (chunk at 4 (sym (map-self window) i)))
+    tap_halves even odd (chunk at 4 window) (get_or taps j (pos 0)) fit.2 fit.3 long fit.0 fit.1
+    (c.q31_fit.ensures j (pos 0) c.requires.tap) (group_fits w32 at 4 window c.q31_fit-2.ensures c.requires.window)
+    ∙ (λ i. zip2 (λ s x. int_wrap w64 (s +ℤ (sample (sym (map-self taps) i) j *ℤ x))) (in_turn even odd)
+    (chunk at 4 (sym (map-self window) i)))
 
 pub returns-clause-fit : goal.returns-clause-fit
 returns-clause-fit c =
@@ -30,4 +32,6 @@ returns-clause-fit c =
     let window = c.args.window.now in
     let fit = c.requires.fit in
     let long : length (chunk at 4 window) ≡ 4 = length-chunk at 4 window c.requires.window in
-    tap_halves_fit c.args.sums.even c.args.sums.odd (chunk at 4 window) (get_or taps j (pos 0)) fit.2 fit.3 long fit.0 fit.1 (c.q31_fit.ensures j (pos 0) c.requires.tap) (group_fits w32 at 4 window c.q31_fit-2.ensures c.requires.window)
+    tap_halves_fit c.args.sums.even c.args.sums.odd (chunk at 4 window) (get_or taps j (pos 0)) fit.2 fit.3 long fit.0
+    fit.1 (c.q31_fit.ensures j (pos 0) c.requires.tap)
+    (group_fits w32 at 4 window c.q31_fit-2.ensures c.requires.window)

@@ -68,15 +68,20 @@ returns-clause-sums c =
     let window_fits = group_fits w16 at 8 window c.q15_fit-2.ensures c.requires.window in
     let evens_near = even_near t xs long tap_fits window_fits in
     let odds_near = odd_near t xs long tap_fits window_fits in
-    let even = high_sums_next j (j + 1) sums.even.low sums.even.high _ (even_products t xs long tap_fits window_fits) _ _ fit.0 (omega arith) (omega (arith, few, inside)) evens_near.1
+    let even = high_sums_next j (j + 1) sums.even.low sums.even.high _ (even_products t xs long tap_fits window_fits)
+    _ _ fit.0 (omega arith) (omega (arith, few, inside)) evens_near.1
     (even_read t xs long tap_fits window_fits).0 evens_near.0 c.raise.ensures.low c.raise.ensures.high in
-    let odd = high_sums_next j (j + 1) sums.odd.low sums.odd.high _ (odd_products t xs long tap_fits window_fits) _ _ fit.1 (omega arith) (omega (arith, few, inside)) odds_near.1
+    let odd = high_sums_next j (j + 1) sums.odd.low sums.odd.high _ (odd_products t xs long tap_fits window_fits) _ _
+    fit.1 (omega arith) (omega (arith, few, inside)) odds_near.1
     (odd_read t xs long tap_fits window_fits).0 odds_near.0 c.raise-2.ensures.low c.raise-2.ensures.high in
     (λ i. in_turn (even.1 i) (odd.1 i))
-    ∙ tap_raises t xs long tap_fits window_fits (wholes sums.even.low sums.even.high) (wholes sums.odd.low sums.odd.high)
+    ∙ tap_raises t xs long tap_fits window_fits (wholes sums.even.low sums.even.high)
+    (wholes sums.odd.low sums.odd.high)
     (length-zip2 whole_of sums.even.low sums.even.high (fit.0.low_long ∙ sym fit.0.high_long) ∙ fit.0.low_long)
     (length-zip2 whole_of sums.odd.low sums.odd.high (fit.1.low_long ∙ sym fit.1.high_long) ∙ fit.1.low_long)
-    ∙ (λ i. zip2 (λ s x. int_wrap w64 (s +ℤ (sample (sym (map-self taps) i) j *ℤ x))) (in_turn (wholes sums.even.low sums.even.high) (wholes sums.odd.low sums.odd.high)) (chunk at 8 (sym (map-self window) i)))
+    ∙ (λ i. zip2 (λ s x. int_wrap w64 (s +ℤ (sample (sym (map-self taps) i) j *ℤ x)))
+    (in_turn (wholes sums.even.low sums.even.high) (wholes sums.odd.low sums.odd.high))
+    (chunk at 8 (sym (map-self window) i)))
 
 pub returns-clause-fit : goal.returns-clause-fit
 returns-clause-fit c =
@@ -95,8 +100,10 @@ returns-clause-fit c =
     let window_fits = group_fits w16 at 8 window c.q15_fit-2.ensures c.requires.window in
     let evens_near = even_near t xs long tap_fits window_fits in
     let odds_near = odd_near t xs long tap_fits window_fits in
-    let even = high_sums_next j (j + 1) sums.even.low sums.even.high _ (even_products t xs long tap_fits window_fits) _ _ fit.0 (omega arith) (omega (arith, few, inside)) evens_near.1
+    let even = high_sums_next j (j + 1) sums.even.low sums.even.high _ (even_products t xs long tap_fits window_fits)
+    _ _ fit.0 (omega arith) (omega (arith, few, inside)) evens_near.1
     (even_read t xs long tap_fits window_fits).0 evens_near.0 c.raise.ensures.low c.raise.ensures.high in
-    let odd = high_sums_next j (j + 1) sums.odd.low sums.odd.high _ (odd_products t xs long tap_fits window_fits) _ _ fit.1 (omega arith) (omega (arith, few, inside)) odds_near.1
+    let odd = high_sums_next j (j + 1) sums.odd.low sums.odd.high _ (odd_products t xs long tap_fits window_fits) _ _
+    fit.1 (omega arith) (omega (arith, few, inside)) odds_near.1
     (odd_read t xs long tap_fits window_fits).0 odds_near.0 c.raise-2.ensures.low c.raise-2.ensures.high in
     (even.0, odd.0)

@@ -5,4 +5,5 @@ use Rattle.dsp_lanes.proofs.LaneRows.{row}
 use Rattle.dsp_lanes.proofs.high_pairs.HighPairsRowFormI16.closes.Goals as goal
 
 pub returns : goal.returns
-returns c p = close-wrap Q15 (row (map (λ x. x) c.args._taps.now) (map (λ x. x) c.args._window.now) (length c.args._taps.now) p)
+returns c p = close-wrap Q15 (row (map (λ x. x) c.args._taps.now) (map (λ x. x) c.args._window.now)
+    (length c.args._taps.now) p)

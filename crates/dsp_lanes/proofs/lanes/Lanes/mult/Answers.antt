@@ -3,7 +3,8 @@ use Rattle.std.proofs.lemmas.List.{length-map, map-set, take_all}
 use lib.Lanes.{zip2}
 use Rattle.dsp_defs.specs.Elementwise.{mult}
 use Rattle.dsp_defs.proofs.SumLemmas.{sample-map}
-use Rattle.dsp_lanes.proofs.Groups.{zip2-group, zip2-one, counted_group, counted_one, counted_all, one_group, one_product}
+use Rattle.dsp_lanes.proofs.Groups.{zip2-group, zip2-one, counted_group, counted_one, counted_all, one_group}
+use Rattle.dsp_lanes.proofs.Groups.{one_product}
 use Rattle.dsp_lanes.proofs.lanes.Lanes.mult.Goals as goal
 
 pub groups-preserved : goal.groups-preserved
@@ -15,8 +16,10 @@ groups-preserved g c =
     let long_b = length-map c.args.b.now N in
     record {
       within = omega arith;
-      done = zip2-group f c.groups.at g.row.L _ (map N c.groups.out) (map N c.args.a.now) (map N c.args.b.now) (omega arith) (omega arith) (omega arith) c.groups.invariant.done c.mult_group.ensures;
-      counted = counted_group _ _ _ 1 g.row.L c.groups.at c.groups.invariant.counted (one_group _ _ g.row.L c.count.ensures);
+      done = zip2-group f c.groups.at g.row.L _ (map N c.groups.out) (map N c.args.a.now) (map N c.args.b.now)
+          (omega arith) (omega arith) (omega arith) c.groups.invariant.done c.mult_group.ensures;
+      counted = counted_group _ _ _ 1 g.row.L c.groups.at c.groups.invariant.counted
+          (one_group _ _ g.row.L c.count.ensures);
     }
 
 pub rest-preserved : goal.rest-preserved
@@ -33,9 +36,12 @@ rest-preserved g c =
       started = omega arith;
       done =
           ap (take _) (map-set N c.rest.out at c.mult.result)
-          ∙ zip2-one f at _ (map N c.rest.out) (map N c.args.a.now) (map N c.args.b.now) (N c.mult.result) refl (omega arith) (omega arith) (omega arith) c.rest.invariant.done
-          (c.mult.ensures.value ∙ (λ k. f (sample-map N c.args.a.now at c.index-a-at.result (omega arith) c.index-a-at.is k) (sample-map N c.args.b.now at c.index-b-at.result (omega arith) c.index-b-at.is k)));
-      counted = counted_one _ _ _ 1 c.groups.at at _ (omega arith) refl c.rest.invariant.counted (one_product _ _ c.mult.ensures.steps);
+          ∙ zip2-one f at _ (map N c.rest.out) (map N c.args.a.now) (map N c.args.b.now) (N c.mult.result) refl
+          (omega arith) (omega arith) (omega arith) c.rest.invariant.done
+          (c.mult.ensures.value ∙ (λ k. f (sample-map N c.args.a.now at c.index-a-at.result (omega arith)
+          c.index-a-at.is k) (sample-map N c.args.b.now at c.index-b-at.result (omega arith) c.index-b-at.is k)));
+      counted = counted_one _ _ _ 1 c.groups.at at _ (omega arith) refl c.rest.invariant.counted
+          (one_product _ _ c.mult.ensures.steps);
     }
 
 pub returns-clause-out : goal.returns-clause-out
@@ -45,11 +51,15 @@ returns-clause-out g c =
     let long_out = length-map c.rest.out N in
     let long_a = length-map c.args.a.now N in
     let long_b = length-map c.args.b.now N in
-    sym (take_all c.rest.at (map N c.rest.out) (omega arith)) ∙ c.rest.invariant.done ∙ (λ k. zip2 f (take_all c.rest.at (map N c.args.a.now) (omega arith) k) (take_all c.rest.at (map N c.args.b.now) (omega arith) k))
+    sym (take_all c.rest.at (map N c.rest.out) (omega arith)) ∙ c.rest.invariant.done ∙
+    (λ k. zip2 f (take_all c.rest.at (map N c.args.a.now) (omega arith) k)
+    (take_all c.rest.at (map N c.args.b.now) (omega arith) k))
 
 pub returns-clause-steps : goal.returns-clause-steps
 returns-clause-steps g c =
     let n = g.row.L in
     let total = length c.args.out.now in
-    let whole = counted_all c.args.steps.now c.groups.steps c.rest.steps 1 n c.groups.at c.rest.at total g.T.LaneSample.some c.groups.invariant.counted (omega arith) (omega arith) (omega arith) c.rest.invariant.counted in
+    let whole = counted_all c.args.steps.now c.groups.steps c.rest.steps 1 n c.groups.at c.rest.at total
+    g.T.LaneSample.some c.groups.invariant.counted (omega arith) (omega arith) (omega arith)
+    c.rest.invariant.counted in
     record { multiplies_rise = omega (arith, whole); turns_within = omega (arith, whole) }

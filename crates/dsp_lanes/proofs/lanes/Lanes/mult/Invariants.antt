@@ -8,7 +8,8 @@ use Rattle.dsp_lanes.proofs.lanes.Lanes.mult.Given as goal
 abbrev pub invariant-groups : goal.invariant-groups
 invariant-groups g l = record {
   within : l.at ≤ length l.out;
-  done : take l.at (map g.T.Sample.number l.out) ≡ zip2 (mult g.T.Sample.format) (take l.at (map g.T.Sample.number l.a)) (take l.at (map g.T.Sample.number l.b));
+  done : take l.at (map g.T.Sample.number l.out) ≡ zip2 (mult g.T.Sample.format)
+      (take l.at (map g.T.Sample.number l.a)) (take l.at (map g.T.Sample.number l.b));
   counted : (k : ℕ) × (k * g.row.L ≡ l.at) × RisesWithin l.initial.steps l.steps (1 * l.at) (1 * k);
 }
 
@@ -19,7 +20,8 @@ abbrev pub invariant-rest : goal.invariant-rest
 invariant-rest g l = record {
   within : l.at ≤ length l.out;
   started : l.initial.at ≤ l.at;
-  done : take l.at (map g.T.Sample.number l.out) ≡ zip2 (mult g.T.Sample.format) (take l.at (map g.T.Sample.number l.a)) (take l.at (map g.T.Sample.number l.b));
+  done : take l.at (map g.T.Sample.number l.out) ≡ zip2 (mult g.T.Sample.format)
+      (take l.at (map g.T.Sample.number l.a)) (take l.at (map g.T.Sample.number l.b));
   counted : Rises l.initial.steps l.steps (1 * (l.at - l.initial.at)) (1 * (l.at - l.initial.at));
 }
 

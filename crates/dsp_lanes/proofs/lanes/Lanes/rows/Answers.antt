@@ -17,8 +17,10 @@ doubles-preserved g c =
     let long = length-map c.doubles.out T.number in
     record {
       within = omega arith;
-      done = rows-group (λ i. close T.format (row taps window (length c.args.taps.now) i)) at (2 * n) _ (map T.number c.doubles.out) (omega arith) c.doubles.invariant.done c.double_group.ensures.out;
-      counted = counted_double _ _ _ (length c.args.taps.now) n at c.doubles.invariant.counted c.double_group.ensures.steps;
+      done = rows-group (λ i. close T.format (row taps window (length c.args.taps.now) i)) at (2 * n) _
+          (map T.number c.doubles.out) (omega arith) c.doubles.invariant.done c.double_group.ensures.out;
+      counted = counted_double _ _ _ (length c.args.taps.now) n at c.doubles.invariant.counted
+          c.double_group.ensures.steps;
     }
 
 pub groups-preserved : goal.groups-preserved
@@ -31,7 +33,8 @@ groups-preserved g c =
     let long = length-map c.groups.out T.number in
     record {
       within = omega arith;
-      done = rows-group (λ i. close T.format (row taps window (length c.args.taps.now) i)) at n _ (map T.number c.groups.out) (omega arith) c.groups.invariant.done c.row_group.ensures.out;
+      done = rows-group (λ i. close T.format (row taps window (length c.args.taps.now) i)) at n _
+          (map T.number c.groups.out) (omega arith) c.groups.invariant.done c.row_group.ensures.out;
       counted = counted_group _ _ _ (length c.args.taps.now) n at c.groups.invariant.counted c.row_group.ensures.steps;
     }
 
@@ -49,9 +52,11 @@ rest-preserved g c =
       started = omega arith;
       done =
           ap (take _) (map-set T.number c.rest.out at c.close.result)
-          ∙ rows-one (λ i. close T.format (row taps window (length c.args.taps.now) i)) at _ (map T.number c.rest.out) (T.number c.close.result) refl (omega arith) c.rest.invariant.done
+          ∙ rows-one (λ i. close T.format (row taps window (length c.args.taps.now) i)) at _ (map T.number c.rest.out)
+          (T.number c.close.result) refl (omega arith) c.rest.invariant.done
           (c.close.ensures ∙ ap (close T.format) c.row_sum.ensures.sum ∙ close-wrap T.format sum);
-      counted = counted_one _ _ _ (length c.args.taps.now) c.groups.at at _ (omega arith) refl c.rest.invariant.counted c.row_sum.ensures.steps;
+      counted = counted_one _ _ _ (length c.args.taps.now) c.groups.at at _ (omega arith) refl
+          c.rest.invariant.counted c.row_sum.ensures.steps;
     }
 
 pub returns-clause-out : goal.returns-clause-out
@@ -68,4 +73,6 @@ returns-clause-out g c =
 
 pub returns-clause-steps : goal.returns-clause-steps
 returns-clause-steps g c =
-    counted_all c.args.steps.now c.groups.steps c.rest.steps (length c.args.taps.now) g.row.L c.groups.at c.rest.at (length c.args.out.now) g.T.LaneSample.some c.groups.invariant.counted (omega arith) (omega arith) (omega arith) c.rest.invariant.counted
+    counted_all c.args.steps.now c.groups.steps c.rest.steps (length c.args.taps.now) g.row.L c.groups.at c.rest.at
+    (length c.args.out.now) g.T.LaneSample.some c.groups.invariant.counted (omega arith) (omega arith) (omega arith)
+    c.rest.invariant.counted

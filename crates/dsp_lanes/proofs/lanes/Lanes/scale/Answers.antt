@@ -16,8 +16,10 @@ groups-preserved g c =
     let long_a = length-map c.args.a.now N in
     record {
       within = omega arith;
-      done = map-group f c.groups.at g.row.L _ (map N c.groups.out) (map N c.args.a.now) (omega arith) (omega arith) c.groups.invariant.done c.scale_group.ensures;
-      counted = counted_group _ _ _ 1 g.row.L c.groups.at c.groups.invariant.counted (one_group _ _ g.row.L c.count.ensures);
+      done = map-group f c.groups.at g.row.L _ (map N c.groups.out) (map N c.args.a.now) (omega arith) (omega arith)
+          c.groups.invariant.done c.scale_group.ensures;
+      counted = counted_group _ _ _ 1 g.row.L c.groups.at c.groups.invariant.counted
+          (one_group _ _ g.row.L c.count.ensures);
     }
 
 pub rest-preserved : goal.rest-preserved
@@ -33,9 +35,12 @@ rest-preserved g c =
       started = omega arith;
       done =
           ap (take _) (map-set N c.rest.out at c.scale.result)
-          ∙ map-one f at _ (map N c.rest.out) (map N c.args.a.now) (N c.scale.result) refl (omega arith) (omega arith) c.rest.invariant.done
-          (c.scale.ensures.value ∙ ap f (sample-map N c.args.a.now at c.index-a-at.result (omega arith) c.index-a-at.is));
-      counted = counted_one _ _ _ 1 c.groups.at at _ (omega arith) refl c.rest.invariant.counted (one_product _ _ c.scale.ensures.steps);
+          ∙ map-one f at _ (map N c.rest.out) (map N c.args.a.now) (N c.scale.result) refl (omega arith) (omega arith)
+          c.rest.invariant.done
+          (c.scale.ensures.value ∙ ap f (sample-map N c.args.a.now at c.index-a-at.result (omega arith)
+          c.index-a-at.is));
+      counted = counted_one _ _ _ 1 c.groups.at at _ (omega arith) refl c.rest.invariant.counted
+          (one_product _ _ c.scale.ensures.steps);
     }
 
 pub returns-clause-out : goal.returns-clause-out
@@ -44,11 +49,16 @@ returns-clause-out g c =
     let f = scale g.T.Sample.format (g.T.Sample.number c.args.factor) (to_z w32 (of_z w32 c.args.places)) in
     let long_out = length-map c.rest.out N in
     let long_a = length-map c.args.a.now N in
-    sym (take_all c.rest.at (map N c.rest.out) (omega arith)) ∙ c.rest.invariant.done ∙ ap (map f) (take_all c.rest.at (map N c.args.a.now) (omega arith)) ∙ ap (λ p. map (scale g.T.Sample.format (N c.args.factor) p) (map N c.args.a.now)) (to_z-of_z w32 c.args.places c.ranges.places)
+    sym (take_all c.rest.at (map N c.rest.out) (omega arith)) ∙ c.rest.invariant.done ∙
+    ap (map f) (take_all c.rest.at (map N c.args.a.now) (omega arith)) ∙
+    ap (λ p. map (scale g.T.Sample.format (N c.args.factor) p) (map N c.args.a.now))
+    (to_z-of_z w32 c.args.places c.ranges.places)
 
 pub returns-clause-steps : goal.returns-clause-steps
 returns-clause-steps g c =
     let n = g.row.L in
     let total = length c.args.out.now in
-    let whole = counted_all c.args.steps.now c.groups.steps c.rest.steps 1 n c.groups.at c.rest.at total g.T.LaneSample.some c.groups.invariant.counted (omega arith) (omega arith) (omega arith) c.rest.invariant.counted in
+    let whole = counted_all c.args.steps.now c.groups.steps c.rest.steps 1 n c.groups.at c.rest.at total
+    g.T.LaneSample.some c.groups.invariant.counted (omega arith) (omega arith) (omega arith)
+    c.rest.invariant.counted in
     record { multiplies_rise = omega (arith, whole); turns_within = omega (arith, whole) }

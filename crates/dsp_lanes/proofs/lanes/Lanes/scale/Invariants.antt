@@ -7,7 +7,8 @@ use Rattle.dsp_lanes.proofs.lanes.Lanes.scale.Given as goal
 abbrev pub invariant-groups : goal.invariant-groups
 invariant-groups g l = record {
   within : l.at ≤ length l.out;
-  done : take l.at (map g.T.Sample.number l.out) ≡ map (scale g.T.Sample.format (g.T.Sample.number l.factor) l.places) (take l.at (map g.T.Sample.number l.a));
+  done : take l.at (map g.T.Sample.number l.out) ≡ map (scale g.T.Sample.format (g.T.Sample.number l.factor) l.places)
+      (take l.at (map g.T.Sample.number l.a));
   counted : (k : ℕ) × (k * g.row.L ≡ l.at) × RisesWithin l.initial.steps l.steps (1 * l.at) (1 * k);
 }
 
@@ -18,7 +19,8 @@ abbrev pub invariant-rest : goal.invariant-rest
 invariant-rest g l = record {
   within : l.at ≤ length l.out;
   started : l.initial.at ≤ l.at;
-  done : take l.at (map g.T.Sample.number l.out) ≡ map (scale g.T.Sample.format (g.T.Sample.number l.factor) l.places) (take l.at (map g.T.Sample.number l.a));
+  done : take l.at (map g.T.Sample.number l.out) ≡ map (scale g.T.Sample.format (g.T.Sample.number l.factor) l.places)
+      (take l.at (map g.T.Sample.number l.a));
   counted : Rises l.initial.steps l.steps (1 * (l.at - l.initial.at)) (1 * (l.at - l.initial.at));
 }
 

@@ -37,16 +37,24 @@ fours-preserved g c =
     let place2 : start + at * step + 2 * step ≡ start + (at + 2) * step = omega arith in
     let place3 : start + at * step + 3 * step ≡ start + (at + 3) * step = omega arith in
     let closed : ℕ → ℤ = λ p. close T.format (row_at taps window p) in
-    let value0 = c.close.ensures ∙ ap (close T.format) sums.first ∙ close-wrap T.format (row_at taps window (start + at * step)) in
-    let value1 = c.close-in-fours.ensures ∙ ap (close T.format) sums.second ∙ close-wrap T.format (row_at taps window (start + at * step + step)) ∙ ap closed place1 in
-    let value2 = c.close-in-fours-2.ensures ∙ ap (close T.format) sums.third ∙ close-wrap T.format (row_at taps window (start + at * step + 2 * step)) ∙ ap closed place2 in
-    let value3 = c.close-in-fours-3.ensures ∙ ap (close T.format) sums.fourth ∙ close-wrap T.format (row_at taps window (start + at * step + 3 * step)) ∙ ap closed place3 in
-    let written1 = write-one T.number f at (at + 1) out0 c.close.result refl (omega arith) c.fours.invariant.written value0 in
-    let written2 = write-one T.number f (at + 1) (at + 2) out1 c.close-in-fours.result (omega arith) (omega (arith, long1)) written1 value1 in
-    let written3 = write-one T.number f (at + 2) (at + 3) out2 c.close-in-fours-2.result (omega arith) (omega (arith, long1, long2)) written2 value2 in
+    let value0 = c.close.ensures ∙ ap (close T.format) sums.first ∙
+    close-wrap T.format (row_at taps window (start + at * step)) in
+    let value1 = c.close-in-fours.ensures ∙ ap (close T.format) sums.second ∙
+    close-wrap T.format (row_at taps window (start + at * step + step)) ∙ ap closed place1 in
+    let value2 = c.close-in-fours-2.ensures ∙ ap (close T.format) sums.third ∙
+    close-wrap T.format (row_at taps window (start + at * step + 2 * step)) ∙ ap closed place2 in
+    let value3 = c.close-in-fours-3.ensures ∙ ap (close T.format) sums.fourth ∙
+    close-wrap T.format (row_at taps window (start + at * step + 3 * step)) ∙ ap closed place3 in
+    let written1 = write-one T.number f at (at + 1) out0 c.close.result refl (omega arith) c.fours.invariant.written
+    value0 in
+    let written2 = write-one T.number f (at + 1) (at + 2) out1 c.close-in-fours.result (omega arith)
+    (omega (arith, long1)) written1 value1 in
+    let written3 = write-one T.number f (at + 2) (at + 3) out2 c.close-in-fours-2.result (omega arith)
+    (omega (arith, long1, long2)) written2 value2 in
     record {
       within = omega (arith, long1, long2, long3, long4);
-      written = write-one T.number f (at + 3) (at + 4) out3 c.close-in-fours-3.result (omega arith) (omega (arith, long1, long2, long3)) written3 value3;
+      written = write-one T.number f (at + 3) (at + 4) out3 c.close-in-fours-3.result (omega arith)
+          (omega (arith, long1, long2, long3)) written3 value3;
       counted = counted-more _ _ _ at 4 _ _ _ refl c.fours.invariant.counted sums.steps;
     }
 
@@ -64,7 +72,8 @@ rest-preserved g c =
     let value = c.close-in-rest.ensures
     ∙ ap (close T.format) summed.sum
     ∙ close-wrap T.format _
-    ∙ ap (close T.format) (piece-row T.number c.args.taps.now c.args.window.now place (length c.args.taps.now) _ refl refl) in
+    ∙ ap (close T.format) (piece-row T.number c.args.taps.now c.args.window.now place (length c.args.taps.now) _ refl
+    refl) in
     record {
       within = omega (arith, long);
       written = write-one T.number f at _ c.rest.out v refl (omega arith) c.rest.invariant.written value;

@@ -9,7 +9,9 @@ use Rattle.dsp_lanes.proofs.lanes.Lanes.strided_rows.Given as goal
 abbrev pub invariant-fours : goal.invariant-fours
 invariant-fours g l = record {
   within : l.at ≤ length l.out;
-  written : take l.at (map g.T.Sample.number l.out) ≡ values l.at (λ i. close g.T.Sample.format (row_at (map g.T.Sample.number l.taps) (map g.T.Sample.number l.window) (l.first + i * l.step)));
+  written : take l.at (map g.T.Sample.number l.out) ≡ values l.at
+      (λ i. close g.T.Sample.format (row_at (map g.T.Sample.number l.taps) (map g.T.Sample.number l.window)
+      (l.first + i * l.step)));
   counted : RisesWithin l.initial.steps l.steps (l.at * length l.taps) (l.at * lane_turns g.row.L (length l.taps));
 }
 
@@ -19,7 +21,9 @@ decreases-fours g l = length l.out - l.at
 abbrev pub invariant-rest : goal.invariant-rest
 invariant-rest g l = record {
   within : l.at ≤ length l.out;
-  written : take l.at (map g.T.Sample.number l.out) ≡ values l.at (λ i. close g.T.Sample.format (row_at (map g.T.Sample.number l.taps) (map g.T.Sample.number l.window) (l.first + i * l.step)));
+  written : take l.at (map g.T.Sample.number l.out) ≡ values l.at
+      (λ i. close g.T.Sample.format (row_at (map g.T.Sample.number l.taps) (map g.T.Sample.number l.window)
+      (l.first + i * l.step)));
   counted : RisesWithin l.fn.steps l.steps (l.at * length l.taps) (l.at * lane_turns g.row.L (length l.taps));
 }
 

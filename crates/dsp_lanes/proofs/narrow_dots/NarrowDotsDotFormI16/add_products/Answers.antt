@@ -13,12 +13,14 @@ use Rattle.dsp_lanes.proofs.narrow_dots.NarrowDotsDotFormI16.add_products.Goals 
 pub overflow_cast-t : goal.overflow_cast-t
 overflow_cast-t c =
     let fit = group_fits w16 c.args.at 8 c.args.taps.now c.q15_fit.ensures c.requires.taps in
-    casts_asked w16 w32 (chunk c.args.at 8 c.args.taps.now) fit (each_widens w16 w32 (omega arith) (chunk c.args.at 8 c.args.taps.now) fit)
+    casts_asked w16 w32 (chunk c.args.at 8 c.args.taps.now) fit
+    (each_widens w16 w32 (omega arith) (chunk c.args.at 8 c.args.taps.now) fit)
 
 pub overflow_cast-x : goal.overflow_cast-x
 overflow_cast-x c =
     let fit = group_fits w16 c.args.at 8 c.args.window.now c.q15_fit-2.ensures c.requires.window in
-    casts_asked w16 w32 (chunk c.args.at 8 c.args.window.now) fit (each_widens w16 w32 (omega arith) (chunk c.args.at 8 c.args.window.now) fit)
+    casts_asked w16 w32 (chunk c.args.at 8 c.args.window.now) fit
+    (each_widens w16 w32 (omega arith) (chunk c.args.at 8 c.args.window.now) fit)
 
 pub returns-clause-sums : goal.returns-clause-sums
 returns-clause-sums c =
@@ -27,10 +29,13 @@ returns-clause-sums c =
     let window = c.args.window.now in
     let sums = c.args.sums in
     let fit = c.requires.fit in
-    narrow_sum sums (chunk at 8 taps) (chunk at 8 window) (length-chunk at 8 taps c.requires.taps) (length-chunk at 8 window c.requires.window)
-    (group_fits w16 at 8 taps c.q15_fit.ensures c.requires.taps) (group_fits w16 at 8 window c.q15_fit-2.ensures c.requires.window) fit.0 fit.1
+    narrow_sum sums (chunk at 8 taps) (chunk at 8 window) (length-chunk at 8 taps c.requires.taps)
+    (length-chunk at 8 window c.requires.window)
+    (group_fits w16 at 8 taps c.q15_fit.ensures c.requires.taps)
+    (group_fits w16 at 8 window c.q15_fit-2.ensures c.requires.window) fit.0 fit.1
     ∙ ap (λ z. int_wrap w32 (list_sum sums +ℤ z)) (products-chunk at 8 taps window c.requires.taps c.requires.window)
-    ∙ (λ i. int_wrap w32 (list_sum sums +ℤ sum_below 8 (λ k. sample (sym (map-self taps) i) (at + k) *ℤ sample (sym (map-self window) i) (at + k))))
+    ∙ (λ i. int_wrap w32 (list_sum sums +ℤ sum_below 8 (λ k. sample (sym (map-self taps) i) (at + k) *ℤ sample
+    (sym (map-self window) i) (at + k))))
 
 pub returns-clause-fit : goal.returns-clause-fit
 returns-clause-fit c =
@@ -38,5 +43,7 @@ returns-clause-fit c =
     let taps = c.args.taps.now in
     let window = c.args.window.now in
     let fit = c.requires.fit in
-    narrow_fit c.args.sums (chunk at 8 taps) (chunk at 8 window) (length-chunk at 8 taps c.requires.taps) (length-chunk at 8 window c.requires.window)
-    (group_fits w16 at 8 taps c.q15_fit.ensures c.requires.taps) (group_fits w16 at 8 window c.q15_fit-2.ensures c.requires.window) fit.0 fit.1
+    narrow_fit c.args.sums (chunk at 8 taps) (chunk at 8 window) (length-chunk at 8 taps c.requires.taps)
+    (length-chunk at 8 window c.requires.window)
+    (group_fits w16 at 8 taps c.q15_fit.ensures c.requires.taps)
+    (group_fits w16 at 8 window c.q15_fit-2.ensures c.requires.window) fit.0 fit.1

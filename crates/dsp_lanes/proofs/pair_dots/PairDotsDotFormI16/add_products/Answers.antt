@@ -15,12 +15,14 @@ use Rattle.dsp_lanes.proofs.pair_dots.PairDotsDotFormI16.add_products.Goals as g
 pub overflow_cast-t : goal.overflow_cast-t
 overflow_cast-t c =
     let fit = group_fits w16 c.args.at 8 c.args.taps.now c.q15_fit.ensures c.requires.taps in
-    casts_asked w16 w32 (chunk c.args.at 8 c.args.taps.now) fit (each_widens w16 w32 (omega arith) (chunk c.args.at 8 c.args.taps.now) fit)
+    casts_asked w16 w32 (chunk c.args.at 8 c.args.taps.now) fit
+    (each_widens w16 w32 (omega arith) (chunk c.args.at 8 c.args.taps.now) fit)
 
 pub overflow_cast-x : goal.overflow_cast-x
 overflow_cast-x c =
     let fit = group_fits w16 c.args.at 8 c.args.window.now c.q15_fit-2.ensures c.requires.window in
-    casts_asked w16 w32 (chunk c.args.at 8 c.args.window.now) fit (each_widens w16 w32 (omega arith) (chunk c.args.at 8 c.args.window.now) fit)
+    casts_asked w16 w32 (chunk c.args.at 8 c.args.window.now) fit
+    (each_widens w16 w32 (omega arith) (chunk c.args.at 8 c.args.window.now) fit)
 
 pub returns-clause-sums : goal.returns-clause-sums
 returns-clause-sums c =
@@ -34,10 +36,14 @@ returns-clause-sums c =
     let xs = chunk at 8 window in
     let long_t : length ts ≡ 8 = length-chunk at 8 taps c.requires.taps in
     let long_x : length xs ≡ 8 = length-chunk at 8 window c.requires.window in
-    ap (λ z. int_wrap w64 (list_sum (map (to_z w64) (less_lanes less ts xs)) +ℤ z)) (wrapping_add_is w64 count (pos 4) fit.2 (omega (arith, ints)))
-    ∙ less_sum ts xs long_t long_x (group_fits w16 at 8 taps c.q15_fit.ensures c.requires.taps) (group_fits w16 at 8 window c.q15_fit-2.ensures c.requires.window) less count fit.0 fit.1
-    ∙ ap (λ z. int_wrap w64 ((list_sum less +ℤ count) +ℤ z)) (products-chunk at 8 taps window c.requires.taps c.requires.window)
-    ∙ (λ i. int_wrap w64 ((list_sum less +ℤ count) +ℤ sum_below 8 (λ k. sample (sym (map-self taps) i) (at + k) *ℤ sample (sym (map-self window) i) (at + k))))
+    ap (λ z. int_wrap w64 (list_sum (map (to_z w64) (less_lanes less ts xs)) +ℤ z))
+    (wrapping_add_is w64 count (pos 4) fit.2 (omega (arith, ints)))
+    ∙ less_sum ts xs long_t long_x (group_fits w16 at 8 taps c.q15_fit.ensures c.requires.taps)
+    (group_fits w16 at 8 window c.q15_fit-2.ensures c.requires.window) less count fit.0 fit.1
+    ∙ ap (λ z. int_wrap w64 ((list_sum less +ℤ count) +ℤ z))
+    (products-chunk at 8 taps window c.requires.taps c.requires.window)
+    ∙ (λ i. int_wrap w64 ((list_sum less +ℤ count) +ℤ sum_below 8
+    (λ k. sample (sym (map-self taps) i) (at + k) *ℤ sample (sym (map-self window) i) (at + k))))
 
 pub returns-clause-fit : goal.returns-clause-fit
 returns-clause-fit c =
@@ -50,6 +56,7 @@ returns-clause-fit c =
     let xs = chunk at 8 window in
     let long_t : length ts ≡ 8 = length-chunk at 8 taps c.requires.taps in
     let long_x : length xs ≡ 8 = length-chunk at 8 window c.requires.window in
-    let sums = less_lanes_fit ts xs long_t long_x (group_fits w16 at 8 taps c.q15_fit.ensures c.requires.taps) (group_fits w16 at 8 window c.q15_fit-2.ensures c.requires.window) c.args.sums.less fit.0 fit.1 in
+    let sums = less_lanes_fit ts xs long_t long_x (group_fits w16 at 8 taps c.q15_fit.ensures c.requires.taps)
+    (group_fits w16 at 8 window c.q15_fit-2.ensures c.requires.window) c.args.sums.less fit.0 fit.1 in
     let counted = wrapping_add_is w64 count (pos 4) fit.2 (omega (arith, ints)) in
     (sums.0, sums.1, subst (λ (z : ℤ). SFits w64 z) (sym counted) (SFits-int_wrap w64 (count +ℤ pos 4)))

@@ -10,6 +10,8 @@ pub returns : goal.returns
 returns c p =
     let taps = c.args._taps.now in
     let window = c.args.window.now in
-    (λ i. saturate_to_bits 15 (shr_z (int_wrap w32 (row (map-self taps i) (map-self window i) (length taps) p)) (2 ^ 15)))
+    (λ i. saturate_to_bits 15 (shr_z (int_wrap w32 (row (map-self taps i) (map-self window i) (length taps) p))
+    (2 ^ 15)))
     ∙ ap (λ z. saturate_to_bits 15 (shr_z z (2 ^ 15))) (narrow_wraps taps window p c.requires c.q15_fit.ensures)
-    ∙ (λ i. saturate_to_bits 15 (shr_z (int_wrap w64 (row (sym (map-self taps) i) (sym (map-self window) i) (length taps) p)) (2 ^ 15)))
+    ∙ (λ i. saturate_to_bits 15 (shr_z (int_wrap w64 (row (sym (map-self taps) i) (sym (map-self window) i)
+    (length taps) p)) (2 ^ 15)))

@@ -17,7 +17,8 @@ returns-clause-sums g c =
     let fit = c.requires.fit in
     let long_w = length-map c.args.window.now number in
     let room : at + 1 + 8 ≤ length window = omega (arith, long_w) in
-    (λ i. in_turn (half_is taps window even c.pair_sums.result j at fit.0 c.pair_sums.ensures i) (half_is taps window odd c.pair_sums-2.result j (at + 1) fit.1 c.pair_sums-2.ensures i))
+    (λ i. in_turn (half_is taps window even c.pair_sums.result j at fit.0 c.pair_sums.ensures i)
+    (half_is taps window odd c.pair_sums-2.result j (at + 1) fit.1 c.pair_sums-2.ensures i))
     ∙ pair_added taps window even odd j at fit.2 fit.3 room
 
 pub returns-clause-fit : goal.returns-clause-fit
@@ -30,6 +31,8 @@ returns-clause-fit g c =
     let even = c.args.sums.even in
     let odd = c.args.sums.odd in
     let fit = c.requires.fit in
-    let e = half_fits w32 4 (λ s p. s +ℤ p) _ even (four (pair_sum taps window j) at) (half_is taps window even c.pair_sums.result j at fit.0 c.pair_sums.ensures) fit.2 refl in
-    let o = half_fits w32 4 (λ s p. s +ℤ p) _ odd (four (pair_sum taps window j) (at + 1)) (half_is taps window odd c.pair_sums-2.result j (at + 1) fit.1 c.pair_sums-2.ensures) fit.3 refl in
+    let e = half_fits w32 4 (λ s p. s +ℤ p) _ even (four (pair_sum taps window j) at)
+    (half_is taps window even c.pair_sums.result j at fit.0 c.pair_sums.ensures) fit.2 refl in
+    let o = half_fits w32 4 (λ s p. s +ℤ p) _ odd (four (pair_sum taps window j) (at + 1))
+    (half_is taps window odd c.pair_sums-2.result j (at + 1) fit.1 c.pair_sums-2.ensures) fit.3 refl in
     (e.0, o.0, e.1, o.1)

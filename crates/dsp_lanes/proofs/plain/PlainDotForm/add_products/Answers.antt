@@ -22,7 +22,8 @@ returns-clause-sums g c =
     let part_t : length (chunk at n taps) ≡ n = length-chunk at n taps (omega arith) in
     let part_w : length (chunk at n window) ≡ n = length-chunk at n window (omega arith) in
     let ps = zip2 (λ t x. t *ℤ x) (chunk at n taps) (chunk at n window) in
-    let long : length ps ≡ n = length-zip2 (λ t x. t *ℤ x) (chunk at n taps) (chunk at n window) (omega arith) ∙ part_t in
+    let long : length ps ≡ n = length-zip2 (λ t x. t *ℤ x) (chunk at n taps) (chunk at n window) (omega arith) ∙
+    part_t in
     ap (λ l. int_wrap w (list_sum l)) c.add_products.ensures.sums
     ∙ list_sum-wraps w lanes ps (c.requires.fit.1 ∙ sym long)
     ∙ ap (λ z. int_wrap w (list_sum lanes +ℤ z)) (products-chunk at n taps window (omega arith) (omega arith))
@@ -41,6 +42,10 @@ returns-clause-fit g c =
     let part_t : length (chunk at n taps) ≡ n = length-chunk at n taps (omega arith) in
     let part_w : length (chunk at n window) ≡ n = length-chunk at n window (omega arith) in
     let ps = zip2 (λ t x. t *ℤ x) (chunk at n taps) (chunk at n window) in
-    let long : length ps ≡ n = length-zip2 (λ t x. t *ℤ x) (chunk at n taps) (chunk at n window) (omega arith) ∙ part_t in
-    let same = c.requires.fit.1 in
-    (c.add_products.ensures.fit, ap length c.add_products.ensures.sums ∙ length-zip2 (λ s p. int_wrap w (s +ℤ p)) lanes ps (omega (arith, same, long)) ∙ same)
+    let long : length ps ≡ n = length-zip2 (λ t x. t *ℤ x) (chunk at n taps) (chunk at n window) (omega arith) ∙
+    part_t in
+    let same = c.requires.fit.1 in (
+      c.add_products.ensures.fit,
+      ap length c.add_products.ensures.sums ∙
+          length-zip2 (λ s p. int_wrap w (s +ℤ p)) lanes ps (omega (arith, same, long)) ∙ same,
+    )

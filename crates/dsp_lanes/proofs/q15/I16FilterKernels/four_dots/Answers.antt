@@ -25,7 +25,8 @@ returns-then-small-clause-first g c =
     let low = c.low_word in
     let wide = c.from in
     let fits : SFits w64 c.four_sums-sums.result.first = search rules in
-    low_read c.four_sums-sums.result.first low.result wide.result row fits low.ensures wide.ensures wide.type_inv low.type_inv
+    low_read c.four_sums-sums.result.first low.result wide.result row fits low.ensures wide.ensures wide.type_inv
+    low.type_inv
     (c.four_sums-sums.ensures.first ∙ (λ i. int_wrap w32 (row_at (map-self taps i) (map-self window i) c.args.first)))
     (narrow_wraps taps window c.args.first (c.requires.small c.if-small.true) c.q15_fit.ensures)
     ∙ (λ i. int_wrap w64 (row_at (sym (map-self taps) i) (sym (map-self window) i) c.args.first))
@@ -38,8 +39,10 @@ returns-then-small-clause-second g c =
     let low = c.low_word-then-small in
     let wide = c.from-then-small in
     let fits : SFits w64 c.four_sums-sums.result.second = search rules in
-    low_read c.four_sums-sums.result.second low.result wide.result row fits low.ensures wide.ensures wide.type_inv low.type_inv
-    (c.four_sums-sums.ensures.second ∙ (λ i. int_wrap w32 (row_at (map-self taps i) (map-self window i) (c.args.first + c.args.step))))
+    low_read c.four_sums-sums.result.second low.result wide.result row fits low.ensures wide.ensures wide.type_inv
+    low.type_inv
+    (c.four_sums-sums.ensures.second ∙ (λ i. int_wrap w32
+    (row_at (map-self taps i) (map-self window i) (c.args.first + c.args.step))))
     (narrow_wraps taps window (c.args.first + c.args.step) (c.requires.small c.if-small.true) c.q15_fit.ensures)
     ∙ (λ i. int_wrap w64 (row_at (sym (map-self taps) i) (sym (map-self window) i) (c.args.first + c.args.step)))
 
@@ -51,8 +54,10 @@ returns-then-small-clause-third g c =
     let low = c.low_word-then-small-2 in
     let wide = c.from-then-small-2 in
     let fits : SFits w64 c.four_sums-sums.result.third = search rules in
-    low_read c.four_sums-sums.result.third low.result wide.result row fits low.ensures wide.ensures wide.type_inv low.type_inv
-    (c.four_sums-sums.ensures.third ∙ (λ i. int_wrap w32 (row_at (map-self taps i) (map-self window i) (c.args.first + 2 * c.args.step))))
+    low_read c.four_sums-sums.result.third low.result wide.result row fits low.ensures wide.ensures wide.type_inv
+    low.type_inv
+    (c.four_sums-sums.ensures.third ∙ (λ i. int_wrap w32
+    (row_at (map-self taps i) (map-self window i) (c.args.first + 2 * c.args.step))))
     (narrow_wraps taps window (c.args.first + 2 * c.args.step) (c.requires.small c.if-small.true) c.q15_fit.ensures)
     ∙ (λ i. int_wrap w64 (row_at (sym (map-self taps) i) (sym (map-self window) i) (c.args.first + 2 * c.args.step)))
 
@@ -64,8 +69,10 @@ returns-then-small-clause-fourth g c =
     let low = c.low_word-then-small-3 in
     let wide = c.from-then-small-3 in
     let fits : SFits w64 c.four_sums-sums.result.fourth = search rules in
-    low_read c.four_sums-sums.result.fourth low.result wide.result row fits low.ensures wide.ensures wide.type_inv low.type_inv
-    (c.four_sums-sums.ensures.fourth ∙ (λ i. int_wrap w32 (row_at (map-self taps i) (map-self window i) (c.args.first + 3 * c.args.step))))
+    low_read c.four_sums-sums.result.fourth low.result wide.result row fits low.ensures wide.ensures wide.type_inv
+    low.type_inv
+    (c.four_sums-sums.ensures.fourth ∙ (λ i. int_wrap w32
+    (row_at (map-self taps i) (map-self window i) (c.args.first + 3 * c.args.step))))
     (narrow_wraps taps window (c.args.first + 3 * c.args.step) (c.requires.small c.if-small.true) c.q15_fit.ensures)
     ∙ (λ i. int_wrap w64 (row_at (sym (map-self taps) i) (sym (map-self window) i) (c.args.first + 3 * c.args.step)))
 

@@ -19,4 +19,6 @@ returns g c =
     let sums = c.args.sums.now in
     let window = c.args.window.now in
     delays_stored (λ s x. s +ℤ (c.args.tap *ℤ x)) at n sums window _ c.requires.room c.requires.window
-    (multiples_raise w16 w64 (omega arith) (omega arith) n (chunk at n sums) c.args.tap (chunk at n window) (length-chunk at n window c.requires.window) (group_fits w64 at n sums c.sums_64_fit.ensures c.requires.room) c.ranges.tap (group_fits w16 at n window c.q15_fit.ensures c.requires.window))
+    (multiples_raise w16 w64 (omega arith) (omega arith) n (chunk at n sums) c.args.tap (chunk at n window)
+    (length-chunk at n window c.requires.window) (group_fits w64 at n sums c.sums_64_fit.ensures c.requires.room)
+    c.ranges.tap (group_fits w16 at n window c.q15_fit.ensures c.requires.window))

@@ -7,9 +7,11 @@ pub overflow_shr-out : goal.overflow_shr-out
 overflow_shr-out g c = shifts_fit_splat 32 _ g.row.L 15 (omega arith)
 
 pub overflow_cast-out : goal.overflow_cast-out
-overflow_cast-out g c = (mult_closes w16 w32 (omega arith) (omega arith) c.args.at g.row.L 15 c.args.a.now c.args.b.now c.q15_fit.ensures c.q15_fit-2.ensures c.requires.left c.requires.right).0
+overflow_cast-out g c = (mult_closes w16 w32 (omega arith) (omega arith) c.args.at g.row.L 15 c.args.a.now
+    c.args.b.now c.q15_fit.ensures c.q15_fit-2.ensures c.requires.left c.requires.right).0
 
 pub returns : goal.returns
 returns g c =
     stored c.args.at c.args.out.now _ _
-    (mult_closes w16 w32 (omega arith) (omega arith) c.args.at g.row.L 15 c.args.a.now c.args.b.now c.q15_fit.ensures c.q15_fit-2.ensures c.requires.left c.requires.right).1
+    (mult_closes w16 w32 (omega arith) (omega arith) c.args.at g.row.L 15 c.args.a.now c.args.b.now c.q15_fit.ensures
+    c.q15_fit-2.ensures c.requires.left c.requires.right).1

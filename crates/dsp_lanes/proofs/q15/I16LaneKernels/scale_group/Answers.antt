@@ -8,7 +8,8 @@ use Rattle.dsp_defs.specs.declared.format.Fmt.TheVariants.{Q15}
 use Rattle.dsp_lanes.proofs.LaneClosings.{scale_closes, stored}
 use Rattle.dsp_lanes.proofs.q15.I16LaneKernels.scale_group.Goals as goal
 
-amount_is : (s : ℤ) → SFits w32 s → IsScaleShift Q15 s → of_z w32 (pos 15 -ℤ to_z w32 (of_z w32 s)) ≡ nat_abs (pos 15 -ℤ s)
+amount_is : (s : ℤ) → SFits w32 s → IsScaleShift Q15 s →
+    of_z w32 (pos 15 -ℤ to_z w32 (of_z w32 s)) ≡ nat_abs (pos 15 -ℤ s)
 amount_is s f r = grind (arith, ints, to_z-of_z)
 
 amount_fits : (s : ℤ) → SFits w32 s → IsScaleShift Q15 s → of_z w32 (pos 15 -ℤ to_z w32 (of_z w32 s)) < 32
@@ -18,9 +19,13 @@ pub overflow_shr-out : goal.overflow_shr-out
 overflow_shr-out g c = shifts_fit_splat 32 _ g.row.L _ (amount_fits c.args.places c.ranges.places c.requires.places)
 
 pub overflow_cast-out : goal.overflow_cast-out
-overflow_cast-out g c = (scale_closes w16 w32 (omega arith) (omega arith) c.args.at g.row.L _ _ c.args.a.now c.args.factor (amount_is c.args.places c.ranges.places c.requires.places) c.q15_fit.ensures c.ranges.factor c.requires.input).0
+overflow_cast-out g c = (scale_closes w16 w32 (omega arith) (omega arith) c.args.at g.row.L _ _ c.args.a.now
+    c.args.factor (amount_is c.args.places c.ranges.places c.requires.places) c.q15_fit.ensures c.ranges.factor
+    c.requires.input).0
 
 pub returns : goal.returns
 returns g c =
     stored c.args.at c.args.out.now _ _
-    (scale_closes w16 w32 (omega arith) (omega arith) c.args.at g.row.L _ _ c.args.a.now c.args.factor (amount_is c.args.places c.ranges.places c.requires.places) c.q15_fit.ensures c.ranges.factor c.requires.input).1
+    (scale_closes w16 w32 (omega arith) (omega arith) c.args.at g.row.L _ _ c.args.a.now c.args.factor
+    (amount_is c.args.places c.ranges.places c.requires.places) c.q15_fit.ensures c.ranges.factor
+    c.requires.input).1

@@ -3,7 +3,9 @@ use Rattle.dsp_lanes.proofs.LaneSums.{multiples_added}
 use Rattle.dsp_lanes.proofs.q31.I32LaneKernels.add_multiples.Goals as goal
 
 pub returns-clause-sums : goal.returns-clause-sums
-returns-clause-sums g c = (multiples_added w32 w64 (omega arith) (omega arith) c.args.at g.row.L c.args.sums c.args.tap c.args.window.now c.requires.fit c.ranges.tap c.q31_fit.ensures c.requires.window).0
+returns-clause-sums g c = (multiples_added w32 w64 (omega arith) (omega arith) c.args.at g.row.L c.args.sums
+    c.args.tap c.args.window.now c.requires.fit c.ranges.tap c.q31_fit.ensures c.requires.window).0
 
 pub returns-clause-fit : goal.returns-clause-fit
-returns-clause-fit g c = (multiples_added w32 w64 (omega arith) (omega arith) c.args.at g.row.L c.args.sums c.args.tap c.args.window.now c.requires.fit c.ranges.tap c.q31_fit.ensures c.requires.window).1
+returns-clause-fit g c = (multiples_added w32 w64 (omega arith) (omega arith) c.args.at g.row.L c.args.sums c.args.tap
+    c.args.window.now c.requires.fit c.ranges.tap c.q31_fit.ensures c.requires.window).1

@@ -23,4 +23,6 @@ returns g c =
     let sums = c.args.sums.now in
     let window = c.args.window.now in
     delays_stored (λ s x. s +ℤ shr_z (c.args.tap *ℤ x) (2 ^ 32)) at n sums window _ c.requires.room c.requires.window
-    (delay_31 n (chunk at n sums) c.args.tap (chunk at n window) (length-chunk at n window c.requires.window) (group_fits w64 at n sums c.sums_64_fit.ensures c.requires.room) c.ranges.tap (group_fits w32 at n window c.q31_fit.ensures c.requires.window))
+    (delay_31 n (chunk at n sums) c.args.tap (chunk at n window) (length-chunk at n window c.requires.window)
+    (group_fits w64 at n sums c.sums_64_fit.ensures c.requires.room) c.ranges.tap
+    (group_fits w32 at n window c.q31_fit.ensures c.requires.window))

@@ -13,5 +13,8 @@ returns g c =
     let sums = c.args.sums.now in
     let row = c.args.row.now in
     stored at sums _ _
-    ((multiples_added w32 w64 (omega arith) (omega arith) at n (chunk at n sums) c.args.tap row (group_fits w64 at n sums c.sums_64_fit.ensures c.requires.room) c.ranges.tap c.q31_fit.ensures c.requires.row).0
-    ∙ ap (λ l. zip2 (λ s x. int_wrap w64 (s +ℤ (c.args.tap *ℤ x))) (chunk at n l) (chunk at n (map (λ x. x) row))) (sym (map-self sums)))
+    ((multiples_added w32 w64 (omega arith) (omega arith) at n (chunk at n sums) c.args.tap row
+    (group_fits w64 at n sums c.sums_64_fit.ensures c.requires.room) c.ranges.tap c.q31_fit.ensures
+    c.requires.row).0
+    ∙ ap (λ l. zip2 (λ s x. int_wrap w64 (s +ℤ (c.args.tap *ℤ x))) (chunk at n l) (chunk at n (map (λ x. x) row)))
+    (sym (map-self sums)))

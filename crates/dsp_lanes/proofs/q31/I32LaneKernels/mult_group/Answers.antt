@@ -8,7 +8,9 @@ pub overflow_shr-high : goal.overflow_shr-high
 overflow_shr-high g c = shifts_fit_splat 64 _ g.row.L 32 (omega arith)
 
 pub overflow_cast-high : goal.overflow_cast-high
-overflow_cast-high g c = (mult_31 c.args.at g.row.L c.args.a.now c.args.b.now c.q31_fit.ensures c.q31_fit-2.ensures c.requires.left c.requires.right).0
+overflow_cast-high g c = (mult_31 c.args.at g.row.L c.args.a.now c.args.b.now c.q31_fit.ensures c.q31_fit-2.ensures
+    c.requires.left c.requires.right).0
 
 pub returns : goal.returns
-returns g c = stored c.args.at c.args.out.now _ _ (mult_31 c.args.at g.row.L c.args.a.now c.args.b.now c.q31_fit.ensures c.q31_fit-2.ensures c.requires.left c.requires.right).1
+returns g c = stored c.args.at c.args.out.now _ _ (mult_31 c.args.at g.row.L c.args.a.now c.args.b.now
+    c.q31_fit.ensures c.q31_fit-2.ensures c.requires.left c.requires.right).1

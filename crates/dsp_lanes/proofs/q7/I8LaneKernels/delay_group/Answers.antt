@@ -13,5 +13,7 @@ returns g c =
     let sums = c.args.sums.now in
     let window = c.args.window.now in
     stored at sums _ _
-    ((multiples_added w8 w32 (omega arith) (omega arith) at n (chunk at n sums) c.args.tap window (group_fits w32 at n sums c.q31_fit.ensures c.requires.room) c.ranges.tap c.q7_fit.ensures c.requires.window).0
-    ∙ ap (λ l. zip2 (λ s x. int_wrap w32 (s +ℤ (c.args.tap *ℤ x))) (chunk at n l) (chunk at n (map (λ x. x) window))) (sym (map-self sums)))
+    ((multiples_added w8 w32 (omega arith) (omega arith) at n (chunk at n sums) c.args.tap window
+    (group_fits w32 at n sums c.q31_fit.ensures c.requires.room) c.ranges.tap c.q7_fit.ensures c.requires.window).0
+    ∙ ap (λ l. zip2 (λ s x. int_wrap w32 (s +ℤ (c.args.tap *ℤ x))) (chunk at n l) (chunk at n (map (λ x. x) window)))
+    (sym (map-self sums)))

@@ -12,27 +12,34 @@ use Rattle.dsp_lanes.proofs.weights.I16WeightSample.weight_group.Goals as goal
 pub overflow_cast-x : goal.overflow_cast-x
 overflow_cast-x c =
     let fit = group_fits w16 c.args.at 8 c.args.window.now c.q15_fit.ensures c.requires.window in
-    casts_asked w16 w32 (chunk c.args.at 8 c.args.window.now) fit (each_widens w16 w32 (omega arith) (chunk c.args.at 8 c.args.window.now) fit)
+    casts_asked w16 w32 (chunk c.args.at 8 c.args.window.now) fit
+    (each_widens w16 w32 (omega arith) (chunk c.args.at 8 c.args.window.now) fit)
 
 pub overflow_cast-w : goal.overflow_cast-w
 overflow_cast-w c =
     let fit = group_fits w16 c.args.at 8 c.args.weights.now c.q15_fit-2.ensures c.requires.room in
-    casts_asked w16 w32 (chunk c.args.at 8 c.args.weights.now) fit (each_widens w16 w32 (omega arith) (chunk c.args.at 8 c.args.weights.now) fit)
+    casts_asked w16 w32 (chunk c.args.at 8 c.args.weights.now) fit
+    (each_widens w16 w32 (omega arith) (chunk c.args.at 8 c.args.weights.now) fit)
 
 pub overflow_cast-weights : goal.overflow_cast-weights
 overflow_cast-weights c =
     let at = c.args.at in
     let window = c.args.window.now in
     let weights = c.args.weights.now in
-    (grown_15_is (chunk at 8 weights) (chunk at 8 window) c.args.alpha (length-chunk at 8 weights c.requires.room) (length-chunk at 8 window c.requires.window) c.ranges.alpha
-    (group_fits w16 at 8 weights c.q15_fit-2.ensures c.requires.room) (group_fits w16 at 8 window c.q15_fit.ensures c.requires.window)).0
+    (grown_15_is (chunk at 8 weights) (chunk at 8 window) c.args.alpha (length-chunk at 8 weights c.requires.room)
+    (length-chunk at 8 window c.requires.window) c.ranges.alpha
+    (group_fits w16 at 8 weights c.q15_fit-2.ensures c.requires.room)
+    (group_fits w16 at 8 window c.q15_fit.ensures c.requires.window)).0
 
 pub returns : goal.returns
 returns c =
     let at = c.args.at in
     let window = c.args.window.now in
     let weights = c.args.weights.now in
-    let grown = grown_15_is (chunk at 8 weights) (chunk at 8 window) c.args.alpha (length-chunk at 8 weights c.requires.room) (length-chunk at 8 window c.requires.window) c.ranges.alpha
-    (group_fits w16 at 8 weights c.q15_fit-2.ensures c.requires.room) (group_fits w16 at 8 window c.q15_fit.ensures c.requires.window) in
+    let grown = grown_15_is (chunk at 8 weights) (chunk at 8 window) c.args.alpha
+    (length-chunk at 8 weights c.requires.room) (length-chunk at 8 window c.requires.window) c.ranges.alpha
+    (group_fits w16 at 8 weights c.q15_fit-2.ensures c.requires.room)
+    (group_fits w16 at 8 window c.q15_fit.ensures c.requires.window) in
     stored at weights _ _
-    (grown.1 ∙ (λ i. zip2 (weight_after Q15 c.args.alpha) (chunk at 8 (sym (map-self weights) i)) (chunk at 8 (sym (map-self window) i))))
+    (grown.1 ∙ (λ i. zip2 (weight_after Q15 c.args.alpha) (chunk at 8 (sym (map-self weights) i))
+    (chunk at 8 (sym (map-self window) i))))

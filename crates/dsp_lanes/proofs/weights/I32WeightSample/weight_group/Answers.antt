@@ -18,9 +18,12 @@ returns c =
     let sums = c.saturating_sum in
     stored at weights _ _
     (ints_of_bits w32 sums.result sums.ensures.fit
-    ∙ grown_31_is (chunk at 4 weights) (chunk at 4 window) high.result sums.result c.args.alpha c.ranges.alpha (group_fits w32 at 4 weights c.q31_fit-2.ensures c.requires.room) (group_fits w32 at 4 window c.q31_fit.ensures c.requires.window)
+    ∙ grown_31_is (chunk at 4 weights) (chunk at 4 window) high.result sums.result c.args.alpha c.ranges.alpha
+    (group_fits w32 at 4 weights c.q31_fit-2.ensures c.requires.room)
+    (group_fits w32 at 4 window c.q31_fit.ensures c.requires.window)
     high.ensures.fit high.ensures.words sums.ensures.sums
-    ∙ (λ i. zip2 (weight_after Q31 c.args.alpha) (chunk at 4 (sym (map-self weights) i)) (chunk at 4 (sym (map-self window) i))))
+    ∙ (λ i. zip2 (weight_after Q31 c.args.alpha) (chunk at 4 (sym (map-self weights) i))
+    (chunk at 4 (sym (map-self window) i))))
 
 pub high_words-high-requires-clause-fit : goal.high_words-high-requires-clause-fit
 high_words-high-requires-clause-fit c =
@@ -30,7 +33,8 @@ high_words-high-requires-clause-fit c =
 pub high_words-high-requires-clause-long : goal.high_words-high-requires-clause-long
 high_words-high-requires-clause-long c =
     let fit = group_fits w32 c.args.at 4 c.args.window.now c.q31_fit.ensures c.requires.window in
-    ap length (ints_of_bits w32 (chunk c.args.at 4 c.args.window.now) fit) ∙ length-chunk c.args.at 4 c.args.window.now c.requires.window
+    ap length (ints_of_bits w32 (chunk c.args.at 4 c.args.window.now) fit) ∙
+    length-chunk c.args.at 4 c.args.window.now c.requires.window
 
 pub saturating_sum-requires-clause-values : goal.saturating_sum-requires-clause-values
 saturating_sum-requires-clause-values c =
@@ -40,4 +44,5 @@ saturating_sum-requires-clause-values c =
 pub saturating_sum-requires-clause-long : goal.saturating_sum-requires-clause-long
 saturating_sum-requires-clause-long c =
     let fit = group_fits w32 c.args.at 4 c.args.weights.now c.q31_fit-2.ensures c.requires.room in
-    ap length (ints_of_bits w32 (chunk c.args.at 4 c.args.weights.now) fit) ∙ length-chunk c.args.at 4 c.args.weights.now c.requires.room
+    ap length (ints_of_bits w32 (chunk c.args.at 4 c.args.weights.now) fit) ∙
+    length-chunk c.args.at 4 c.args.weights.now c.requires.room

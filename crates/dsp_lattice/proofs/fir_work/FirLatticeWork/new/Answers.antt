@@ -9,5 +9,6 @@ returns g c =
     let given = c.args.coefficients in
     let k = map number given.items in
     let long : vec_len given ≡ length given.items = search rules in
-    let kept = c.in_ok-states.ensures ∙ ap (λ n. replicate n (pos 0)) (c.len.ensures ∙ long ∙ sym (length-map given.items number)) ∙ sym (fresh k) in
+    let kept = c.in_ok-states.ensures ∙ ap (λ n. replicate n (pos 0))
+    (c.len.ensures ∙ long ∙ sym (length-map given.items number)) ∙ sym (fresh k) in
     (λ i. record { k = k; kept = kept i })

@@ -8,7 +8,9 @@ use Rattle.dsp_lattice.proofs.fir_work.FirLatticeWorkStepwise.run.Given as goal
 -- the samples so far are those that the lattice gives
 abbrev pub invariant-loop-start : goal.invariant-loop-start
 invariant-loop-start g l = record {
-  goes : GoesOn (lattice_fir (map g.T.Sample.number l.coefficients)) (filter_kept (map g.T.Sample.number l.coefficients)) (map g.T.Sample.number l.initial.states) (map g.T.Sample.number l.states)
+  goes : GoesOn (lattice_fir (map g.T.Sample.number l.coefficients))
+      (filter_kept (map g.T.Sample.number l.coefficients)) (map g.T.Sample.number l.initial.states)
+      (map g.T.Sample.number l.states)
       (map g.T.Sample.number (take l.start l.initial.samples)) (map g.T.Sample.number (take l.start l.samples));
   rest : drop l.start l.samples ≡ drop l.start l.initial.samples;
   within : l.start ≤ length l.samples;

@@ -2,8 +2,8 @@ use Rattle.std.proofs.Common.{◌≡◌, ◌∙◌, ap, sym, ◌-◌, get_or, le
 use Rattle.std.proofs.lemmas.List.{take_all, length-map, length-reverse}
 use Rattle.dsp_defs.specs.Lattice.{lattice_iir}
 use Rattle.dsp_defs.specs.Kept.{ladder_kept}
-use Rattle.dsp_stage.proofs.GoingOn.{goes-more, rest-stays}
-use Rattle.dsp_unit.proofs.Units.{written-whole}
+use Rattle.dsp_unit.proofs.GoingOn.{goes-more, rest-stays}
+use Rattle.dsp_filter.proofs.Units.{written-whole}
 use Rattle.dsp_lattice.proofs.Ladders.{ladder-step}
 use Rattle.dsp_lattice.proofs.iir_work.IirLatticeWorkStepwise.run.Goals as goal
 
@@ -23,11 +23,18 @@ loop-sample-preserved g c =
     let x = get_or outputs i item in
     let y = c.ladder_step.result in
     let so_far = c.loop-sample.invariant in
-    let step = ladder-step T.format k v old new (number x) (number y) c.ladder_step.ensures.backward c.ladder_step.ensures.value in
+    let step = ladder-step T.format k v old new (number x) (number y) c.ladder_step.ensures.backward
+    c.ladder_step.ensures.value in
     record {
-      goes = goes-more inputs outputs i item (omega arith) (omega arith) so_far.rest number (lattice_iir T.format k v) (ladder_kept T.format k) (reverse (drop 1 first)) (reverse (drop 1 old)) (reverse (drop 1 new)) y so_far.goes step;
+      goes = goes-more inputs outputs i item (omega arith) (omega arith) so_far.rest number (lattice_iir T.format k v)
+          (ladder_kept T.format k) (reverse (drop 1 first)) (reverse (drop 1 old)) (reverse (drop 1 new)) y so_far.goes
+          step;
       rest = rest-stays inputs outputs i item (omega arith) (omega arith) so_far.rest y;
-      steps = record { multiplies_rise = omega (arith, so_far.steps, c.ladder_step.ensures.steps); turns_rise = omega (arith, so_far.steps, c.ladder_step.ensures.steps) };
+      steps = record {
+        multiplies_rise = omega (arith, so_far.steps, c.ladder_step.ensures.steps);
+        turns_rise =
+            omega (arith, so_far.steps, c.ladder_step.ensures.steps);
+      };
     }
 
 pub returns-clause-goes : goal.returns-clause-goes
@@ -36,7 +43,8 @@ returns-clause-goes g c =
     let old = c.self.inside.backward in
     let new = c.loop-sample.backward in
     let size : old.len ≡ length old.items = search rules in
-    let same : length new ≡ old.len = c.loop-sample.auto.backward ∙ ap length c.as_mut_slice-backward.ensures.value ∙ sym size in
+    let same : length new ≡ old.len = c.loop-sample.auto.backward ∙ ap length c.as_mut_slice-backward.ensures.value ∙
+    sym size in
     let written = written-whole old.len new old.items same in
     let inputs = take_all i c.args.samples.now (omega arith) in
     let outputs = take_all i c.loop-sample.samples (omega arith) in
@@ -51,8 +59,10 @@ returns-clause-size g c =
     let old = c.self.inside.backward in
     let new = c.loop-sample.backward in
     let size : old.len ≡ length old.items = search rules in
-    let same : length new ≡ length old.items = c.loop-sample.auto.backward ∙ ap length c.as_mut_slice-backward.ensures.value in
+    let same : length new ≡ length old.items = c.loop-sample.auto.backward ∙
+    ap length c.as_mut_slice-backward.ensures.value in
     let written = written-whole old.len new old.items (same ∙ sym size) in
     let values = length-map new number ∙ same ∙ sym (length-map old.items number) in
     rw (← c.self.view_is, written)
-    (length-reverse (drop 1 (map number new)) ∙ length-drop 1 (map number new) ∙ ap (λ n. n - 1) values ∙ sym (length-drop 1 (map number old.items)) ∙ sym (length-reverse (drop 1 (map number old.items))))
+    (length-reverse (drop 1 (map number new)) ∙ length-drop 1 (map number new) ∙ ap (λ n. n - 1) values ∙
+    sym (length-drop 1 (map number old.items)) ∙ sym (length-reverse (drop 1 (map number old.items))))

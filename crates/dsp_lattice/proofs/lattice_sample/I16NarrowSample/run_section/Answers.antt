@@ -2,7 +2,7 @@ use Rattle.std.proofs.Common.{◌∙◌, ap, ◌∷◌, length, rules, w16, SFit
 use Rattle.std.proofs.lemmas.Int.{to_z-of_z}
 use lib.Lanes.{zip2}
 use Rattle.dsp_defs.specs.Signal.{sample}
-use Rattle.dsp_lanes.specs.Reflected.{reflected}
+use Rattle.dsp_sections.specs.Reflected.{reflected}
 use Rattle.dsp_lattice.proofs.Sections.{section-runs}
 use Rattle.dsp_lattice.proofs.lattice_sample.I16NarrowSample.run_section.Goals as goal
 

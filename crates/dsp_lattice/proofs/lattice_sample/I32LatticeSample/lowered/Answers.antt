@@ -7,5 +7,7 @@ pub returns : goal.returns
 returns c =
     let word : c.low_word.result ≡ wrap w32 (c.args.reflected >> 31) = search rules in
     let result : SFits w32 c.nearest31.result = search rules in
-    let total : to_z w64 (of_z w64 (to_z w64 (of_z w64 c.from.result) -ℤ to_z w64 (of_z w64 c.from-2.result))) ≡ c.args.f -ℤ c.low_word.result = omega (arith, ints) in
-    to_z-of_z w32 c.nearest31.result result ∙ c.nearest31.ensures ∙ ap (saturate 32) (total ∙ ap (λ z. c.args.f -ℤ z) word)
+    let total : to_z w64 (of_z w64 (to_z w64 (of_z w64 c.from.result) -ℤ to_z w64 (of_z w64 c.from-2.result))) ≡
+    c.args.f -ℤ c.low_word.result = omega (arith, ints) in
+    to_z-of_z w32 c.nearest31.result result ∙ c.nearest31.ensures ∙
+    ap (saturate 32) (total ∙ ap (λ z. c.args.f -ℤ z) word)

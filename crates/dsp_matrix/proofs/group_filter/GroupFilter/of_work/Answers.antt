@@ -1,5 +1,5 @@
 use Rattle.std.proofs.Common.{◌∙◌, ap, sym, subst, false, ℤ, List, length, arith}
-use Rattle.dsp_stage.specs.Filter.{IsNewFilter, steady_filter}
+use Rattle.dsp_unit.specs.Filter.{IsNewFilter, steady_filter}
 use Rattle.dsp_matrix.specs.Groups.{OpenState}
 use Rattle.dsp_matrix.proofs.GroupFilters.{group-new}
 use Rattle.dsp_matrix.proofs.group_filter.GroupFilter.of_work.Goals as goal
@@ -16,6 +16,7 @@ returns g c =
     let W = g.W.GroupWork in
     let format = g.T.Sample.format in
     let block = W.block c.args.work in
-    subst (λ (l : List ℤ). IsNewFilter block format c.args.capacity (steady_filter format block c.args.capacity l false))
+    subst (λ (l : List ℤ). IsNewFilter block format c.args.capacity
+    (steady_filter format block c.args.capacity l false))
     (sym (ap (λ (s : OpenState). s.numbers) c.in_ok-begun.ensures))
     (group-new format block (W.group block) (g.met.W.GroupWork.grouped block c.requires.block) c.args.capacity)

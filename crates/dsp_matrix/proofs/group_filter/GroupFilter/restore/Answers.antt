@@ -25,5 +25,11 @@ invariant_of-self g c =
     let fits = rw (← c.self.view_is) at c.requires.fits in
     let below = fits-below g.T.Sample.format block (g.W.GroupWork.group block) is fits.0 c.args.numbers.now fits.1 in
     let size = ap (λ (o : OpenState). o.size) c.restore.ensures in
-    let long = ap (λ (o : OpenState). length o.numbers) c.restore.ensures in
-    (c.self.invariant.0, (omega (arith, size, c.self.invariant.1.0), omega (arith, size, long, below, c.self.invariant.1.0)), c.self.invariant.2)
+    let long = ap (λ (o : OpenState). length o.numbers) c.restore.ensures in (
+      c.self.invariant.0,
+      (
+        omega (arith, size, c.self.invariant.1.0),
+        omega (arith, size, long, below, c.self.invariant.1.0),
+      ),
+      c.self.invariant.2,
+    )

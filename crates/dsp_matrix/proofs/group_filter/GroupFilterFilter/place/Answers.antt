@@ -7,13 +7,15 @@ returns-then-are_open-clause-fits g c =
     let block = g.W.GroupWork.block c.self.inside.work in
     let is = g.met.W.GroupWork.grouped block c.self.invariant.0 in
     let few = c.if-are_open.ensures.0 refl in
-    rw (← c.self.view_is) (group-fits g.T.Sample.format block (g.W.GroupWork.group block) is (length c.args.numbers.now) c.args.numbers.now few.0 refl few.1)
+    rw (← c.self.view_is) (group-fits g.T.Sample.format block (g.W.GroupWork.group block) is
+    (length c.args.numbers.now) c.args.numbers.now few.0 refl few.1)
 
 pub returns-then-are_open-clause-least : goal.returns-then-are_open-clause-least
 returns-then-are_open-clause-least g c = λ n at.
     let block = g.W.GroupWork.block c.self.inside.work in
     let is = g.met.W.GroupWork.grouped block c.self.invariant.0 in
-    rw (← c.self.view_is) (fits-place g.T.Sample.format block (g.W.GroupWork.group block) is n c.args.numbers.now (rw (← c.self.view_is) at at))
+    rw (← c.self.view_is) (fits-place g.T.Sample.format block (g.W.GroupWork.group block) is n c.args.numbers.now
+    (rw (← c.self.view_is) at at))
 
 pub returns-else-are_open-clause-least : goal.returns-else-are_open-clause-least
 returns-else-are_open-clause-least g c = λ n at.
@@ -22,5 +24,8 @@ returns-else-are_open-clause-least g c = λ n at.
     let is = g.met.W.GroupWork.grouped block c.self.invariant.0 in
     let fits = rw (← c.self.view_is) at at in
     let numbers = c.args.numbers.now in
-    let none : false ≡ true = c.if-are_open.ensures.1 (fits-below g.T.Sample.format block of is n numbers fits, fits-each g.T.Sample.format block of is n numbers fits) in
+    let none : false ≡ true = c.if-are_open.ensures.1 (
+      fits-below g.T.Sample.format block of is n numbers fits,
+      fits-each g.T.Sample.format block of is n numbers fits,
+    ) in
     cc

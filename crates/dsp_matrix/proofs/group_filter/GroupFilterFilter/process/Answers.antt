@@ -8,16 +8,20 @@ pub feed_groups-requires-clause-room : goal.feed_groups-requires-clause-room
 feed_groups-requires-clause-room g c =
     let block = g.W.GroupWork.block c.self.inside.work in
     let is = g.met.W.GroupWork.grouped block c.self.invariant.0 in
-    room-within g.T.Sample.format block (g.W.GroupWork.group block) is (length c.self.inside.begun.numbers) (length c.args.input.now) c.self.inside.capacity (length c.args.output.now)
-    (omega (arith, c.self.invariant.1.0, c.self.invariant.1.1)) (rw (← c.self.view_is) at c.requires.block) (rw (← c.self.view_is) at c.requires.room)
+    room-within g.T.Sample.format block (g.W.GroupWork.group block) is (length c.self.inside.begun.numbers)
+    (length c.args.input.now) c.self.inside.capacity (length c.args.output.now)
+    (omega (arith, c.self.invariant.1.0, c.self.invariant.1.1)) (rw (← c.self.view_is) at c.requires.block)
+    (rw (← c.self.view_is) at c.requires.room)
 
 pub returns-clause-within : goal.returns-clause-within
 returns-clause-within g c =
     let block = g.W.GroupWork.block c.self.inside.work in
     let is = g.met.W.GroupWork.grouped block c.self.invariant.0 in
     let room =
-    room-within g.T.Sample.format block (g.W.GroupWork.group block) is (length c.self.inside.begun.numbers) (length c.args.input.now) c.self.inside.capacity (length c.args.output.now)
-    (omega (arith, c.self.invariant.1.0, c.self.invariant.1.1)) (rw (← c.self.view_is) at c.requires.block) (rw (← c.self.view_is) at c.requires.room) in
+    room-within g.T.Sample.format block (g.W.GroupWork.group block) is (length c.self.inside.begun.numbers)
+    (length c.args.input.now) c.self.inside.capacity (length c.args.output.now)
+    (omega (arith, c.self.invariant.1.0, c.self.invariant.1.1)) (rw (← c.self.view_is) at c.requires.block)
+    (rw (← c.self.view_is) at c.requires.room) in
     omega (arith, room, c.feed_groups.ensures.given)
 
 pub returns-clause-fed : goal.returns-clause-fed
@@ -25,8 +29,12 @@ returns-clause-fed g c =
     let number = g.T.Sample.number in
     let block = g.W.GroupWork.block c.self.inside.work in
     let is = g.met.W.GroupWork.grouped block c.self.invariant.0 in
-    let below : length c.self.inside.begun.numbers < (g.W.GroupWork.group block).taken = omega (arith, c.self.invariant.1.0, c.self.invariant.1.1) in
+    let below : length c.self.inside.begun.numbers < (g.W.GroupWork.group block).taken =
+    omega (arith, c.self.invariant.1.0, c.self.invariant.1.1) in
     rw (← c.self.view_is)
-    (group-process g.T.Sample.format block (g.W.GroupWork.group block) is c.self.inside.capacity c.self.inside.ended c.self.inside.begun.numbers c.feed_groups.new.begun.numbers (map number c.args.input.now) _ (length c.args.input.now)
-    c.args.steps.now c.feed_groups.new.steps below (rw (← c.self.view_is) at c.requires.running) (length-map c.args.input.now number) c.feed_groups.ensures.out
+    (group-process g.T.Sample.format block (g.W.GroupWork.group block) is c.self.inside.capacity c.self.inside.ended
+    c.self.inside.begun.numbers c.feed_groups.new.begun.numbers (map number c.args.input.now) _
+    (length c.args.input.now)
+    c.args.steps.now c.feed_groups.new.steps below (rw (← c.self.view_is) at c.requires.running)
+    (length-map c.args.input.now number) c.feed_groups.ensures.out
     (ap (λ (o : OpenState). o.numbers) c.feed_groups.ensures.begun) c.feed_groups.ensures.steps)

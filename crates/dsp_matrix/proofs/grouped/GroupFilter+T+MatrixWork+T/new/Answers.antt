@@ -10,4 +10,5 @@ of_block-requires-clause-block g c =
     let format = g.T.Sample.format in
     let op = c.args.op in
     subst (λ (b : Block). IsElementwiseIn format b) (sym c.block_of.ensures)
-    (sound-op format op g.met.T.MatrixSample.is_wide (no-fault (op_fault format op) c.check_op.result c.check_op.ensures c.in_ok-check_op.was))
+    (sound-op format op g.met.T.MatrixSample.is_wide (no-fault (op_fault format op) c.check_op.result
+    c.check_op.ensures c.in_ok-check_op.was))

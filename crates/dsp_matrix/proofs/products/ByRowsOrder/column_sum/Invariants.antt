@@ -11,6 +11,8 @@ abbrev pub invariant-loop-k : goal.invariant-loop-k
 invariant-loop-k g l =
     let T = g.T.Sample in
     record {
-      summed : T.total l.sum ≡ wrap (accumulator T.format) (sum_below l.k (λ k. sample (map T.number l.row) k *ℤ sample (map T.number l.matrix) (k * l.given + l.column)));
+      summed : T.total l.sum ≡ wrap (accumulator T.format)
+          (sum_below l.k (λ k. sample (map T.number l.row) k *ℤ sample (map T.number l.matrix)
+          (k * l.given + l.column)));
       counted : RisesWithin l.initial.steps l.steps l.k l.k;
     }

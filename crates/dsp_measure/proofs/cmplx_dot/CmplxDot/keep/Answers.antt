@@ -12,4 +12,5 @@ pub returns : goal.returns
 returns g c =
     let re : SFits w64 c.self.inside.re = search rules in
     let im : SFits w64 c.self.inside.im = search rules in
-    rw (to_z-of_z re, to_z-of_z im) (two c.args.out.now c.self.inside.re c.self.inside.im c.requires ∙ ap (λ (v : ℤ × ℤ). v.0 ∷ v.1 ∷ []) c.self.view_is)
+    rw (to_z-of_z re, to_z-of_z im) (two c.args.out.now c.self.inside.re c.self.inside.im c.requires ∙
+    ap (λ (v : ℤ × ℤ). v.0 ∷ v.1 ∷ []) c.self.view_is)

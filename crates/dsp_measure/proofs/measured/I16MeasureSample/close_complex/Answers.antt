@@ -8,4 +8,5 @@ pub returns : goal.returns
 returns c =
     let low : SFits w32 c.low_word.result = search rules in
     let whole : SFits w64 c.from.result = search rules in
-    to_z-of_z whole ∙ c.from.ensures ∙ to_z-of_z low ∙ c.low_word.ensures ∙ ap (wrap w32) (shift_down-is w64 c.args.sum c.args.sum 6 6 c.ranges.sum refl refl)
+    to_z-of_z whole ∙ c.from.ensures ∙ to_z-of_z low ∙ c.low_word.ensures ∙
+    ap (wrap w32) (shift_down-is w64 c.args.sum c.args.sum 6 6 c.ranges.sum refl refl)

@@ -19,7 +19,9 @@ invariant_of-result g c =
     let fits : c.args.block ≤ MAX_SAMPLES = grind (arith, common_steps, c.in_ok-check_block.ensures) in
     let room : c.in-Ok.window.room ≡ c.args.block = ap (λ (w : Rolling). w.room) c.in-Ok.ensures.made in (
       omega (arith, c.in-Ok-vec.ensures.len, room),
-      new-phased c.from-factor.result (length taps) c.args.block (map number taps) (map number c.in-Ok-sort_by_phase.phases.items) c.in-Ok.window some (length-map taps number) whole c.in-Ok-sort_by_phase.ensures c.in-Ok.ensures.made few filled limit fits,
+      new-phased c.from-factor.result (length taps) c.args.block (map number taps)
+          (map number c.in-Ok-sort_by_phase.phases.items) c.in-Ok.window some (length-map taps number) whole
+          c.in-Ok-sort_by_phase.ensures c.in-Ok.ensures.made few filled limit fits,
     )
 
 pub returns-clause-made : goal.returns-clause-made
@@ -29,7 +31,9 @@ returns-clause-made g c =
     let some : 0 < c.from-factor.result = grind arith in
     let whole : length taps % c.from-factor.result ≡ 0 = grind (arith, common_steps, c.in_ok-check_multiple.ensures) in
     let factor_is : c.from-factor.result ≡ c.args.factor = c.from-factor.ensures in
-    new-made c.from-factor.result (length taps) c.args.block (map number taps) (map number c.in-Ok-sort_by_phase.phases.items) c.in-Ok.window some (length-map taps number) whole c.in-Ok-sort_by_phase.ensures c.in-Ok.ensures.made
+    new-made c.from-factor.result (length taps) c.args.block (map number taps)
+    (map number c.in-Ok-sort_by_phase.phases.items) c.in-Ok.window some (length-map taps number) whole
+    c.in-Ok-sort_by_phase.ensures c.in-Ok.ensures.made
     ∙ ap (λ f. new_interpolate f (map number taps) c.args.block) factor_is
 
 pub returns-clause-stands : goal.returns-clause-stands
@@ -38,4 +42,6 @@ returns-clause-stands g c =
     let taps = c.args.taps.now in
     let some : 0 < c.from-factor.result = grind arith in
     let whole : length taps % c.from-factor.result ≡ 0 = grind (arith, common_steps, c.in_ok-check_multiple.ensures) in
-    new-stands c.from-factor.result (length taps) c.args.block (map number taps) (map number c.in-Ok-sort_by_phase.phases.items) c.in-Ok.window some (length-map taps number) whole c.in-Ok-sort_by_phase.ensures c.in-Ok.ensures.made
+    new-stands c.from-factor.result (length taps) c.args.block (map number taps)
+    (map number c.in-Ok-sort_by_phase.phases.items) c.in-Ok.window some (length-map taps number) whole
+    c.in-Ok-sort_by_phase.ensures c.in-Ok.ensures.made

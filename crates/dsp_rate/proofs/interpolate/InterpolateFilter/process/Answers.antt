@@ -11,7 +11,12 @@ returns-clause-fed g c =
     let e = c.process.ensures in
     let input = c.args.input.now in
     let given = take c.process.result c.process.new.output in
-    let room = room-enough (length input) f.block f.factor (length c.args.output.now) c.requires.block c.requires.room in
-    let long : length (map number given) ≡ length input * f.factor = length-map given number ∙ length-take-le c.process.result c.process.new.output (omega (arith, room, e.given, c.process.auto.output)) ∙ e.given in
-    interpolate-fed g.T.Sample.format f c.process.new.self g.row.L (length input) (map number input) (map number given) c.args.steps.now c.process.new.steps
-    g.met.T.FormatLanes.own c.requires.running keeps e.same e.kept (length-map input number) long e.values e.stands e.multiplies e.turns
+    let room = room-enough (length input) f.block f.factor (length c.args.output.now) c.requires.block c.requires.room
+    in
+    let long : length (map number given) ≡ length input * f.factor = length-map given number ∙
+    length-take-le c.process.result c.process.new.output (omega (arith, room, e.given, c.process.auto.output)) ∙
+    e.given in
+    interpolate-fed g.T.Sample.format f c.process.new.self g.row.L (length input) (map number input)
+    (map number given) c.args.steps.now c.process.new.steps
+    g.met.T.FormatLanes.own c.requires.running keeps e.same e.kept (length-map input number) long e.values e.stands
+    e.multiplies e.turns

@@ -26,11 +26,13 @@ returns g c =
         live = restored.live;
         not_full =
             subst (λ n. gathered c.restore.new.self.script.blocks n ≤ MAX_GATHERED) (sym (restored.counted ∙ frames))
-            (subst (λ (s : Script). gathered s.blocks saved.frames ≤ MAX_GATHERED) (sym (restored.same.script ∙ script)) full);
+            (subst (λ (s : Script). gathered s.blocks saved.frames ≤ MAX_GATHERED)
+            (sym (restored.same.script ∙ script)) full);
       };
       frames_is = parts.frames;
       plain = restored.same.banked ∙ new.banked_is;
       goes = refl;
       counted = restored.counted ∙ frames;
-      stands = λ x long are. restored.stands x (long ∙ sym frames) (c.deref.ensures.value ∙ parts.numbers ∙ are ∙ ap (λ (s : Script). kept s x) (sym script));
+      stands = λ x long are. restored.stands x (long ∙ sym frames)
+          (c.deref.ensures.value ∙ parts.numbers ∙ are ∙ ap (λ (s : Script). kept s x) (sym script));
     }

@@ -10,7 +10,8 @@ returns-clause-value g c =
     to_z-of_z w16 c.narrow16.result (record { sfits = c.narrow16.type_inv })
     ∙ c.narrow16.ensures
     ∙ ap (saturate 16)
-    (product_shift-is w32 w16 c.args.a c.args.b c.product.result 15 c.ranges.a c.ranges.b (record { sfits = c.product.type_inv }) c.product.ensures.value)
+    (product_shift-is w32 w16 c.args.a c.args.b c.product.result 15 c.ranges.a c.ranges.b
+    (record { sfits = c.product.type_inv }) c.product.ensures.value)
 
 pub returns-clause-steps : goal.returns-clause-steps
 returns-clause-steps g c = c.product.ensures.steps

@@ -10,7 +10,8 @@ returns-clause-value g c =
     to_z-of_z w8 c.sat8.result (record { sfits = c.sat8.type_inv })
     ∙ c.sat8.ensures
     ∙ ap (saturate 8)
-    (product_shift-is w32 w8 c.args.a c.args.b c.product-product.result 7 c.ranges.a c.ranges.b (record { sfits = c.product-product.type_inv }) c.product-product.ensures.value)
+    (product_shift-is w32 w8 c.args.a c.args.b c.product-product.result 7 c.ranges.a c.ranges.b
+    (record { sfits = c.product-product.type_inv }) c.product-product.ensures.value)
 
 pub returns-clause-steps : goal.returns-clause-steps
 returns-clause-steps g c = c.product-product.ensures.steps

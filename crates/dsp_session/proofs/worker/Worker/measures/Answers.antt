@@ -1,5 +1,5 @@
 use Rattle.std.proofs.Common.{◌∙◌}
-use Rattle.dsp_chain.specs.Row.{measure_counts}
+use Rattle.dsp_chain.specs.Line.{measure_counts}
 use Rattle.dsp_session.proofs.worker.Worker.measures.Goals as goal
 
 pub returns-clause-stays : goal.returns-clause-stays

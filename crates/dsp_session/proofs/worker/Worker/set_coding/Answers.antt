@@ -15,7 +15,13 @@ returns-clause-same g c = record {
 pub invariant_of-self : goal.invariant_of-self
 invariant_of-self g c =
     let is = c.self.invariant in record {
-      holds = record { ready = is.holds.ready; input = is.holds.input; blocks = is.holds.blocks; turns = is.holds.turns };
+      holds = record {
+        ready = is.holds.ready;
+        input = is.holds.input;
+        blocks = is.holds.blocks;
+        turns =
+            is.holds.turns;
+      };
       input = c.requires ∙ ap (λ (s : SessionState). s.script.input.format) (sym c.self.view_is);
       output = is.output;
       samples = is.samples;

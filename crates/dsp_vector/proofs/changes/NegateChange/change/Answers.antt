@@ -4,10 +4,12 @@ use Rattle.dsp_vector.proofs.Numbers.{negated, saturated}
 use Rattle.dsp_vector.proofs.changes.NegateChange.change.Goals as goal
 
 pub returns-clause-value : goal.returns-clause-value
-returns-clause-value g c = negated g.T.Sample.format c.args.x c.greatest.result c.max.result c.requires.in_format c.greatest.ensures c.max.ensures.value
+returns-clause-value g c = negated g.T.Sample.format c.args.x c.greatest.result c.max.result c.requires.in_format
+    c.greatest.ensures c.max.ensures.value
 
 pub returns-clause-fits : goal.returns-clause-fits
 returns-clause-fits g c =
     subst (FitsSigned (word g.T.Sample.format))
-    (sym (negated g.T.Sample.format c.args.x c.greatest.result c.max.result c.requires.in_format c.greatest.ensures c.max.ensures.value))
+    (sym (negated g.T.Sample.format c.args.x c.greatest.result c.max.result c.requires.in_format c.greatest.ensures
+    c.max.ensures.value))
     (saturated g.T.Sample.format (neg_ℤ c.args.x))

@@ -17,8 +17,10 @@ returns-then-self-gt0-clause-same c =
     let last : List ℕ = if old.has_pad then (0 ∷ []) else [] in
     let value = c.state_sample.result in
     let state = c.next_state-self.ensures in
-    let sample = to_z-of_z w32 value (sample_fits F value c.state_sample.ensures.fits) ∙ c.state_sample.ensures.value ∙ ap (state_sample F) state in
-    let bytes = c.append.ensures.items ∙ ap (λ l. l ++ c.bytes_of.new.out) c.clear.ensures ∙ c.bytes_of.ensures ∙ (λ i. bytes_of (c.coding_of-coding.ensures i) (sample i)) in
+    let sample = to_z-of_z w32 value (sample_fits F value c.state_sample.ensures.fits) ∙
+    c.state_sample.ensures.value ∙ ap (state_sample F) state in
+    let bytes = c.append.ensures.items ∙ ap (λ l. l ++ c.bytes_of.new.out) c.clear.ensures ∙ c.bytes_of.ensures ∙
+    (λ i. bytes_of (c.coding_of-coding.ensures i) (sample i)) in
     (λ i. bytes i ++ (made C F (state i) (old.samples - 1) ++ last))
     ∙ refilled C F old.state old.samples old.given old.ready.items last (omega arith) (omega arith)
 

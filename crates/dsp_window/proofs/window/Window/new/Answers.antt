@@ -18,4 +18,5 @@ returns-clause-made g c =
 
 pub returns-clause-shows : goal.returns-clause-shows
 returns-clause-shows g c =
-    zeros_are g.T.Sample.number c.args.past c.args.block c.in_ok-samples.samples.items c.in_ok-samples.ensures ∙ sym (append-nil _) ∙ sym (append-nil _)
+    zeros_are g.T.Sample.number c.args.past c.args.block c.in_ok-samples.samples.items c.in_ok-samples.ensures ∙
+    sym (append-nil _) ∙ sym (append-nil _)

@@ -19,8 +19,10 @@ returns-clause-rolls g c =
     let kept : length after ≡ len = omega arith in
     let shown = map number (take (p + n) (take len (after ++ drop (length after) s))) in
     let is : shown ≡ last_samples p (map number (take w.filled s)) ++ map number block =
-    rolled number p w.filled n len s c.deref_mut.result.now after block c.self.invariant.0 (omega (arith, c.self.invariant.1)) lent.value kept c.roll.ensures in
-    let P : Rolling → Type 0 = λ v. ◌≡◌ {A = Rolling} (record { past = p; room = len - p; samples = shown }) (record { past = v.past; room = v.room; samples = last_samples v.past v.samples ++ map number block }) in
+    rolled number p w.filled n len s c.deref_mut.result.now after block c.self.invariant.0
+    (omega (arith, c.self.invariant.1)) lent.value kept c.roll.ensures in
+    let P : Rolling → Type 0 = λ v. ◌≡◌ {A = Rolling} (record { past = p; room = len - p; samples = shown })
+    (record { past = v.past; room = v.room; samples = last_samples v.past v.samples ++ map number block }) in
     subst P c.self.view_is (λ i. record { past = p; room = len - p; samples = is i })
 
 pub returns-clause-shows : goal.returns-clause-shows
@@ -28,4 +30,5 @@ returns-clause-shows g c = λ before last shows.
     let block = map g.T.Sample.number c.args.block.now in
     let past : c.args.self.now.past ≡ c.self.inside.past = sym (ap (λ v. v.past) c.self.view_is) in
     ap (λ w. w.samples) (returns-clause-rolls g c)
-    ∙ ap (λ l. l ++ block) (last_shows c.args.self.now.past c.args.self.now.samples before last shows ∙ ap (λ p. last_of p (before ++ last)) past)
+    ∙ ap (λ l. l ++ block) (last_shows c.args.self.now.past c.args.self.now.samples before last shows ∙
+    ap (λ p. last_of p (before ++ last)) past)

@@ -1,0 +1,139 @@
+ghost use Rattle.std.specs.Prelude.{◌≡◌, ◌≤◌, ◌+◌, ◌*◌, All, length, take, slice_get};
+ghost use Rattle.dsp_defs.specs.declared.limits.TheConstants.{MAX_BLOCKS, MAX_CHANNELS};
+ghost use Rattle.dsp_unit.specs.Unit.{measures_of};
+ghost use Rattle.dsp_unit.specs.Line.{Place, Passes, InLine, AllRun, AllSpent, FirstSpent, IsFed, IsFinished};
+ghost use Rattle.dsp_unit.specs.Line.{measured_by};
+ghost use Rattle.dsp_chain.specs.Line.{MayTake, MayFinish};
+
+use dsp_defs::{Measure, Steps};
+use dsp_unit::Unit;
+use std::alloc::{AllocError, Global};
+use std::marker::Model;
+use std::sync::ledger::Ledger;
+
+/// A unit with the samples that it wrote last.
+#[derive(Drop)]
+pub struct Link<S: Unit + Drop> {
+    pub(crate) unit: S,
+    written: Vec<i32>,
+}
+
+impl<S: Unit + Drop> Model for Link<S> {
+    ghost use Rattle.std.specs.Prelude.{◌≤◌, vec_len};
+    ghost use Rattle.dsp_unit.specs.Unit.{UnitState, room_of};
+
+    ghost Value = { UnitState };
+
+    ghost view = { λ l. S.unit l.unit };
+
+    ghost invariant = { λ l. room_of (S.unit l.unit) ≤ vec_len l.written };
+}
+
+impl<S: Unit + Drop> Link<S> {
+    ghost use Rattle.std.specs.Prelude.{◌≡◌, ◌≤◌, IfOk};
+    ghost use Rattle.dsp_unit.specs.Unit.{room_of};
+
+    /// A unit with room for what it writes, so many samples.
+    pub fn new(alloc: Global, unit: S, room: usize) -> Result<Self, AllocError>
+        requires { room_of (S.unit unit) ≤ room }
+        ensures { IfOk result (λ l. l ≡ S.unit unit) }
+    {
+        let written = vec![in alloc; 0; room]?;
+        Ok(Link { unit, written })
+    }
+}
+
+/// Feeds a line of units, and writes what the last one gives.
+pub fn feed_line<S: Unit + Drop, L: Ledger>(
+    links: &mut [Link<S>],
+    frames: &[i32],
+    out: &mut [i32],
+    steps: &mut Steps<L>,
+) -> usize
+    requires running { AllRun links.old }
+    requires passes { MayTake links.old frames.now (length out.old) }
+    ensures within { result ≤ length out.old }
+    ensures fed { (p : Place) → InLine p links.old → Passes p frames.now
+        → IsFed p links.old links.new frames.now (take result out.new) steps.old steps.new }
+{
+    let Some((link, behind)) = links.split_first_mut() else {
+        out[..frames.len()].copy_from_slice(frames);
+        return frames.len();
+    };
+    let count = link.unit.feed(frames, &mut link.written, steps);
+    feed_line(behind, &link.written[..count], out, steps)
+}
+
+/// Writes the next frames that come of the first unit's tail: none where it is spent.
+fn finish_first<S: Unit + Drop, L: Ledger>(
+    links: &mut [Link<S>],
+    out: &mut [i32],
+    steps: &mut Steps<L>,
+) -> usize
+    requires { MayFinish links.old (length out.old) }
+    ensures within { result ≤ length out.old }
+    ensures finished { (p : Place) → InLine p links.old
+        → IsFinished p links.old links.new (take result out.new) steps.old steps.new }
+    ensures spent { result ≡ 0 → FirstSpent links.new }
+{
+    let Some((link, behind)) = links.split_first_mut() else {
+        return 0;
+    };
+    let count = link.unit.finish(&mut link.written, steps);
+    if count == 0 {
+        return 0;
+    }
+    let given = feed_line(behind, &link.written[..count], out, steps);
+    if given > 0 {
+        return given;
+    }
+    finish_first(links, out, steps)
+}
+
+/// Writes the next frames of the line's tail: none where it is spent.
+pub fn finish_line<S: Unit + Drop, L: Ledger>(
+    links: &mut [Link<S>],
+    out: &mut [i32],
+    steps: &mut Steps<L>,
+) -> usize
+    requires { MayFinish links.old (length out.old) }
+    ensures within { result ≤ length out.old }
+    ensures finished { (p : Place) → InLine p links.old
+        → IsFinished p links.old links.new (take result out.new) steps.old steps.new }
+    ensures spent { result ≡ 0 → AllSpent links.new }
+{
+    let given = finish_first(links, out, steps);
+    if given > 0 {
+        return given;
+    }
+    let Some((_spent, behind)) = links.split_first_mut() else {
+        return 0;
+    };
+    finish_line(behind, out, steps)
+}
+
+/// How many measures a line of units has.
+pub fn count_measures<S: Unit + Drop>(links: &[Link<S>]) -> usize
+    requires few { length links.now ≤ MAX_BLOCKS }
+    requires each { All (λ u. length (measures_of 0 u) ≤ MAX_CHANNELS) links.now }
+    ensures count { result ≡ length (measured_by 1 links.now) }
+    ensures few { result ≤ MAX_CHANNELS * length links.now }
+{
+    let Some((link, behind)) = links.split_first() else {
+        return 0;
+    };
+    link.unit.measures() + count_measures(behind)
+}
+
+/// The measure of a line at this index, where there is one. The first unit has this number in the script.
+pub fn find_measure<S: Unit + Drop>(links: &[Link<S>], number: u8, index: usize) -> Option<Measure>
+    requires few { number + length links.now ≤ 255 }
+    ensures { result ≡ slice_get (measured_by number links.now) index }
+{
+    let (link, behind) = links.split_first()?;
+    let count = link.unit.measures();
+    if index < count {
+        return link.unit.measure(number, index);
+    }
+    find_measure(behind, number + 1, index - count)
+}

@@ -1,0 +1,11 @@
+pub mod Places
+pub mod Rounds
+pub mod KeptLists
+pub mod Units
+pub mod Slices
+pub mod LastPlace
+pub mod Chains
+pub mod Waves
+pub mod FrameSamples
+pub mod MemorylessUnits
+pub mod TestSignals

@@ -1,3 +1,0 @@
-pub mod Samples
-pub mod MemorylessUnits
-pub mod TestSignals

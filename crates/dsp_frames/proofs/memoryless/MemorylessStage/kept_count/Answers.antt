@@ -1,5 +1,0 @@
-use Rattle.std.proofs.Common.{ap, sym, length}
-use Rattle.dsp_frames.proofs.memoryless.MemorylessStage.kept_count.Goals as goal
-
-pub returns-clause-count : goal.returns-clause-count
-returns-clause-count g c = sym (ap length c.keeps_nothing.ensures.kept)

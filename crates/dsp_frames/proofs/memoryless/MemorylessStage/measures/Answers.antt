@@ -1,5 +1,0 @@
-use Rattle.std.proofs.Common.{ap, sym, length}
-use Rattle.dsp_frames.proofs.memoryless.MemorylessStage.measures.Goals as goal
-
-pub returns : goal.returns
-returns g c = sym (ap length (c.keeps_nothing.ensures.measures 0))

@@ -1,4 +1,0 @@
-use Rattle.dsp_frames.proofs.memoryless.MemorylessStage.restore.Goals as goal
-
-pub returns : goal.returns
-returns g c = c.keeps_nothing.ensures.restores c.args._numbers.now c.requires.running c.requires.fits

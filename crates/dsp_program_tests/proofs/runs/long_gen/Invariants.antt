@@ -1,0 +1,4 @@
+use Rattle.dsp_program_tests.proofs.runs.long_gen.Given as goal
+
+abbrev pub ghosts-counted : goal.ghosts-counted
+ghosts-counted g a = record { name = a.blank.name; parts = a.blank.parts }

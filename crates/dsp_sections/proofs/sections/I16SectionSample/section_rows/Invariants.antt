@@ -1,0 +1,60 @@
+use Rattle.std.proofs.Common.{◌≡◌, ◌+◌, ◌-◌, ◌*◌, ◌<◌, ◌≤◌, ℕ, length, map}
+use Rattle.dsp_defs.specs.declared.format.Fmt.TheVariants.{Q15}
+use Rattle.dsp_sections.specs.Sections.{five_of, Follows, Stays}
+use Rattle.dsp_lanes.specs.Turns.{RisesWithin}
+use Rattle.dsp_sections.proofs.sections.I16SectionSample.section_rows.Given as goal
+
+abbrev pub invariant-eights : goal.invariant-eights
+invariant-eights g l = record {
+  within : l.first ≤ l.row;
+  size : length l.outputs ≡ length l.fn.outputs;
+  follows : (i : ℕ) → i < l.first → Follows Q15 l.post_shift (five_of (map (λ x. x) l.numbers)) l.row
+      (map (λ x. x) l.inputs) (map (λ x. x) l.outputs) l.count i;
+  past : (i : ℕ) → i < l.row → Stays l.row (map (λ x. x) l.fn.outputs) (map (λ x. x) l.outputs) 2 i;
+  counted : (k : ℕ) × (l.first ≡ 8 * k) × RisesWithin l.fn.steps l.steps (l.count * (5 * l.first)) (l.count * (5 * k));
+}
+
+abbrev pub decreases-eights : goal.decreases-eights
+decreases-eights g l = l.row - l.first
+
+abbrev pub invariant-fours : goal.invariant-fours
+invariant-fours g l = record {
+  within : l.first ≤ l.row;
+  size : length l.outputs ≡ length l.fn.outputs;
+  follows : (i : ℕ) → i < l.first → Follows Q15 l.post_shift (five_of (map (λ x. x) l.numbers)) l.row
+      (map (λ x. x) l.inputs) (map (λ x. x) l.outputs) l.count i;
+  past : (i : ℕ) → i < l.row → Stays l.row (map (λ x. x) l.fn.outputs) (map (λ x. x) l.outputs) 2 i;
+  counted : (k m : ℕ) × (l.first ≡ 8 * k + 4 * m) × (l.row < 8 * k + 8)
+      × RisesWithin l.fn.steps l.steps (l.count * (5 * l.first)) (l.count * (5 * (k + m)));
+}
+
+abbrev pub decreases-fours : goal.decreases-fours
+decreases-fours g l = l.row - l.first
+
+abbrev pub invariant-twos : goal.invariant-twos
+invariant-twos g l = record {
+  within : l.first ≤ l.row;
+  size : length l.outputs ≡ length l.fn.outputs;
+  follows : (i : ℕ) → i < l.first → Follows Q15 l.post_shift (five_of (map (λ x. x) l.numbers)) l.row
+      (map (λ x. x) l.inputs) (map (λ x. x) l.outputs) l.count i;
+  past : (i : ℕ) → i < l.row → Stays l.row (map (λ x. x) l.fn.outputs) (map (λ x. x) l.outputs) 2 i;
+  counted : (k m r : ℕ) × (l.first ≡ 8 * k + 4 * m + 2 * r) × (l.row < 8 * k + 8)
+      × RisesWithin l.fn.steps l.steps (l.count * (5 * l.first)) (l.count * (5 * (k + m + r)));
+}
+
+abbrev pub decreases-twos : goal.decreases-twos
+decreases-twos g l = l.row - l.first
+
+abbrev pub invariant-ones : goal.invariant-ones
+invariant-ones g l = record {
+  within : l.first ≤ l.row;
+  size : length l.outputs ≡ length l.fn.outputs;
+  follows : (i : ℕ) → i < l.first → Follows Q15 l.post_shift (five_of (map (λ x. x) l.numbers)) l.row
+      (map (λ x. x) l.inputs) (map (λ x. x) l.outputs) l.count i;
+  past : (i : ℕ) → i < l.row → Stays l.row (map (λ x. x) l.fn.outputs) (map (λ x. x) l.outputs) 2 i;
+  counted : (k m r s : ℕ) × (l.first ≡ 8 * k + 4 * m + 2 * r + s) × (l.row < 8 * k + 8)
+      × RisesWithin l.fn.steps l.steps (l.count * (5 * l.first)) (l.count * (5 * (k + m + r + s)));
+}
+
+abbrev pub decreases-ones : goal.decreases-ones
+decreases-ones g l = l.row - l.first

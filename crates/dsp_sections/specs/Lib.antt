@@ -1,0 +1,4 @@
+pub mod Reflected
+pub mod Sections
+pub mod Ladders
+pub mod SectionWaves

@@ -1,0 +1,185 @@
+//! The sections of a lattice with feedback, a group at a time. What a section passes on is what it was
+//! given less a product that is known before, saturated: the values of a group are guessed as if no step
+//! saturates, and then each is tested.
+ghost use Rattle.std.specs.Prelude.{◌≡◌, ◌+◌, ◌-◌, ◌*◌, ◌<◌, ◌≤◌, ◌+ℤ◌, ◌-ℤ◌, length, map, All, FitsSigned};
+ghost use Rattle.std.specs.Simd.Lanes.{Each1, zip2, chunk, put_chunk};
+ghost use Rattle.dsp_defs.specs.Counts.{Rises};
+ghost use Rattle.dsp_defs.specs.Formats.{accumulator, word_bits};
+ghost use Rattle.dsp_defs.specs.Lattice.{reflected};
+ghost use Rattle.dsp_defs.specs.Numbers.{saturate};
+ghost use Rattle.dsp_defs.specs.Signal.{sample};
+ghost use Rattle.dsp_sections.specs.Ladders.{lowered_values, raised_values, SectionsDone};
+
+use crate::ladder_lanes::LadderLanes;
+use dsp_defs::Steps;
+use dsp_lanes::{DotForm, PairDots};
+use dsp_sat::{Sample, WideSample};
+use std::sync::ledger::Ledger;
+
+/// Values less products, saturated.
+#[inline(always)]
+fn lowered<T: LadderLanes>(values: T::Lanes, products: T::Lanes) -> T::Lanes
+    requires fit_values { T.AreLanes values }
+    requires fit_products { T.AreLanes products }
+    ensures value { T.lanes result ≡ zip2 (λ f p. saturate (word_bits T.format) (f -ℤ p))
+        (T.lanes values) (T.lanes products) }
+    ensures fit { T.AreLanes result }
+{
+    T::complements(T::sums(products, T::complements(values)))
+}
+
+/// What each section of a group passes on. A guess in which each value is what its section makes of the
+/// one before it is right; from any other, each step sets one value more right.
+#[inline(always)]
+fn passed_on<T: LadderLanes>(front: T::Lanes, products: T::Lanes) -> T::Lanes
+    requires fit_front { T.AreLanes front }
+    requires fit_products { T.AreLanes products }
+    ensures value { T.lanes result ≡ lowered_values (word_bits T.format)
+        (sample (T.lanes front) (T.size - 1)) (T.lanes products) }
+    ensures fit { T.AreLanes result }
+{
+    let guess = T::guess(front, products);
+    let mut values = lowered::<T>(T::behind(front, guess), products);
+    if !T::are_same(values, guess) {
+        for right in 1..T::size() {
+            values = lowered::<T>(T::behind(front, values), products);
+        }
+    }
+    values
+}
+
+/// Writes over the values g from `at` on those that a group of sections gives, and answers what its
+/// sections pass on. `front` has last what the section before them passed on. It counts two products for
+/// each section, and as many turns.
+#[inline(always)]
+fn section_group<T: LadderLanes, L: Ledger>(
+    k: T::Lanes,
+    backward: &mut [T],
+    at: usize,
+    front: T::Lanes,
+    steps: &mut Steps<L>,
+) -> T::Lanes
+    requires exact { Each1 T.IsExact (T.lanes k) }
+    requires fit_k { T.AreLanes k }
+    requires fit_front { T.AreLanes front }
+    requires inside { at + T.size < length backward.old }
+    ensures passed { T.lanes result ≡ lowered_values (word_bits T.format)
+        (sample (T.lanes front) (T.size - 1)) (zip2 (reflected T.format) (T.lanes k)
+        (chunk (at + 1) T.size (map T.number backward.old))) }
+    ensures backward { map T.number backward.new ≡ put_chunk at (map T.number backward.old)
+        (raised_values T.format (T.lanes k) (T.lanes result)
+        (chunk (at + 1) T.size (map T.number backward.old))) }
+    ensures fit { T.AreLanes result }
+    ensures steps { Rises steps.old steps.new (2 * T.size) (2 * T.size) }
+{
+    let before = T::load_next(backward, at);
+    let products = T::reflected(k, before, steps);
+    let values = passed_on::<T>(front, products);
+    let reflected = T::reflected(k, values, steps);
+    T::store(T::sums(reflected, before), backward, at);
+    values
+}
+
+/// Where the groups of the sections end: the place of the next section, what it is given and the sum of
+/// the products so far.
+#[derive(Drop)]
+pub struct LadderGroups<T: Sample> {
+    pub at: usize,
+    pub f: T,
+    pub sum: T::Acc,
+}
+
+/// Takes the next sample through groups of sections, as long as they are whole and
+/// their coefficients are taken in lanes.
+#[inline(always)]
+fn section_groups<T: LadderLanes, D: DotForm<T>, L: Ledger>(
+    reflections: &[T],
+    ladder: &[T],
+    backward: &mut [T],
+    x: T,
+    steps: &mut Steps<L>,
+) -> LadderGroups<T>
+    requires size { D.size ≡ T.size }
+    requires width { D.width ≡ accumulator T.format }
+    requires ladder { length ladder.now ≡ length reflections.now + 1 }
+    requires backward { length backward.old ≡ length reflections.now + 1 }
+    ensures within { result.at ≤ length reflections.now }
+    ensures done { SectionsDone T.format (T.number x) (map T.number reflections.now)
+        (map T.number ladder.now) (map T.number backward.old) (map T.number backward.new) result.at
+        (T.number result.f) (T.total result.sum) }
+    ensures steps { Rises steps.old steps.new (3 * result.at) (3 * result.at) }
+{
+    let size = T::size();
+    let mut front = T::splat(x);
+    let mut sums = D::no_sums();
+    let mut at = 0;
+    'groups: while reflections.len() - at >= size {
+        let k = T::load(reflections, at);
+        if !T::are_exact(k) {
+            break 'groups;
+        }
+        front = section_group(k, backward, at, front, steps);
+        sums = D::add_products(sums, ladder, backward, at);
+        steps.count(size as u64, size as u64);
+        at += size;
+    }
+    LadderGroups {
+        at,
+        f: T::last(front),
+        sum: D::total(sums),
+    }
+}
+
+/// Samples of a lattice with feedback and a ladder.
+pub trait LadderSample: WideSample {
+    /// Takes the next sample through the first sections, a group at a time: the loop of
+    /// `arm_iir_lattice_q15` and `arm_iir_lattice_q31`. It chooses where it stops, and may take none: the
+    /// caller goes on from there. Coefficients and values g stand from the last section to the first,
+    /// and behind them the last coefficient of the ladder and the value of the input. It counts three
+    /// products for each section that is done, and as many turns.
+    fn ladder_groups<L: Ledger>(
+        reflections: &[Self],
+        ladder: &[Self],
+        backward: &mut [Self],
+        x: Self,
+        steps: &mut Steps<L>,
+    ) -> LadderGroups<Self>
+        requires ladder { length ladder.now ≡ length reflections.now + 1 }
+        requires backward { length backward.old ≡ length reflections.now + 1 }
+        ensures within { result.at ≤ length reflections.now }
+        ensures done { SectionsDone Self.format (Self.number x) (map Self.number reflections.now)
+            (map Self.number ladder.now) (map Self.number backward.old) (map Self.number backward.new)
+            result.at (Self.number result.f) (Self.total result.sum) }
+        ensures steps { Rises steps.old steps.new (3 * result.at) (3 * result.at) };
+}
+
+impl LadderSample for i16 {
+    #[inline(always)]
+    fn ladder_groups<L: Ledger>(
+        reflections: &[i16],
+        ladder: &[i16],
+        backward: &mut [i16],
+        x: i16,
+        steps: &mut Steps<L>,
+    ) -> LadderGroups<i16> {
+        section_groups::<i16, PairDots, L>(reflections, ladder, backward, x, steps)
+    }
+}
+
+impl LadderSample for i32 {
+    // Products of 64 bits leave lanes nothing to gain.
+    #[inline(always)]
+    fn ladder_groups<L: Ledger>(
+        _reflections: &[i32],
+        _ladder: &[i32],
+        _backward: &mut [i32],
+        x: i32,
+        _steps: &mut Steps<L>,
+    ) -> LadderGroups<i32> {
+        LadderGroups {
+            at: 0,
+            f: x,
+            sum: Self::empty(),
+        }
+    }
+}

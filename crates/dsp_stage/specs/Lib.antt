@@ -1,4 +1,0 @@
-pub mod Unit
-pub mod Row
-pub mod Filter
-pub mod Channels

@@ -1,3 +1,4 @@
 pub mod LmsUnit
 pub mod LmsState
 pub mod PidState
+pub mod Laws

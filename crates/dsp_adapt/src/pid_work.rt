@@ -68,7 +68,8 @@ impl<T: PidSample> PidWork<T> {
 }
 
 impl<T: PidSample> Stepwise<T> for PidWork<T> {
-    ghost use Rattle.dsp_adapt.specs.PidState.{block_of, kept_of, IsPidIn, pid-stepwise};
+    ghost use Rattle.dsp_adapt.specs.PidState.{block_of, kept_of, IsPidIn};
+    ghost use Rattle.dsp_adapt.specs.Laws.{pid-stepwise};
 
     ghost block = { block_of };
 

@@ -13,7 +13,7 @@ use Rattle.dsp_unit.proofs.ChannelFrames.{length-samples_in}
 use Rattle.dsp_unit.proofs.ChannelKept.{length-numbers_in}
 use Rattle.dsp_unit.proofs.SteadyFilters.{steady-fed}
 use Rattle.dsp_lanes.specs.Turns.{RisesWithin, lane_turns}
-use Rattle.dsp_biquad.specs.Blocks.{biquad-steady}
+use Rattle.dsp_biquad.specs.Laws.{biquad-steady}
 use Rattle.dsp_biquad.specs.Sections.{block_acts}
 use Rattle.dsp_bank.specs.Bank.{BankState, bank_block, bank_filters, sections_of}
 use Rattle.dsp_bank.specs.Rows.{ChannelsTake}

@@ -24,7 +24,7 @@ use Rattle.dsp_unit.proofs.ChannelKept.{length-numbers_in, numbers-in_pieces, pi
 use Rattle.dsp_unit.proofs.ChannelLaws.{counts-took, length-unit_tail, live-by, whole-by}
 use Rattle.dsp_unit.proofs.ChannelOutput.{unit-fed}
 use Rattle.dsp_unit.proofs.SteadyFilters.{steady-size}
-use Rattle.dsp_biquad.specs.Blocks.{biquad-steady}
+use Rattle.dsp_biquad.specs.Laws.{biquad-steady}
 use Rattle.dsp_bank.specs.Bank.{BankState, IsNewBank, IsNewBanked, IsWholeBank, bank_block, bank_filters, sections_of}
 use Rattle.dsp_bank.specs.Bank.{unit_of_bank}
 use Rattle.dsp_bank.proofs.BankFed.{filter-of, length-filters}

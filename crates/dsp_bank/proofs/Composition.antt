@@ -9,7 +9,7 @@ use Rattle.dsp_defs.specs.declared.format.Fmt.{Fmt}
 use Rattle.dsp_defs.specs.declared.script.Block.TheVariants.{Biquad}
 use Rattle.dsp_unit.proofs.GoingOn.{chained-append, chained-one, goes-chain, then-size}
 use Rattle.dsp_biquad.specs.Sections.{block_acts, section_acts, section_of, size_in}
-use Rattle.dsp_biquad.specs.Blocks.{cascade-at, empty-at}
+use Rattle.dsp_biquad.specs.Laws.{cascade-at, empty-at}
 use Rattle.dsp_biquad.proofs.Cascades.{next-section, all-sections}
 use Rattle.dsp_bank.specs.Rows.{acts_at, four_at}
 

@@ -1,5 +1,5 @@
 pub mod Sections
-pub mod Blocks
 pub mod Making
 pub mod Scaled
 pub mod Waves
+pub mod Laws

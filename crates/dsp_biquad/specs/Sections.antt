@@ -1,15 +1,15 @@
 -- What sections do with a signal, and cascades of them.
-use Rattle.std.specs.Prelude.{ℕ, ◌-◌, ◌*◌, ◌%◌, ◌≤◌, ◌≡◌, ℤ, List, [], ◌∷◌, ◌++◌, map, length, All, FitsSigned, refl}
-use Rattle.std.proofs.Common.{arith}
+use Rattle.std.specs.Prelude.{ℕ, ◌-◌, ◌*◌, ◌%◌, ◌≤◌, ◌≡◌, ℤ, List, [], ◌∷◌, ◌++◌, map, length, All, FitsSigned}
 use Rattle.dsp_defs.specs.Formats.{word}
 use Rattle.dsp_defs.specs.Signal.{sample, outputs}
 use Rattle.dsp_defs.specs.Biquad.{Section, biquad_section, biquad64_section, fed_back, wide_output}
 use Rattle.dsp_defs.specs.Parameters.{greatest_biquad_shift}
-use Rattle.dsp_defs.specs.Kept.{latest, kept_of_channel}
+use Rattle.dsp_defs.specs.Numbers.{w32, w64}
+use Rattle.dsp_defs.specs.Kept.{Kind, latest, in_words, kept_of_channel}
 use Rattle.dsp_unit.specs.Filter.{of_channel}
 use Rattle.dsp_defs.specs.Streaming.{Behaviour, then}
 use Rattle.dsp_defs.specs.declared.format.Fmt.{Fmt}
-use Rattle.dsp_defs.specs.declared.format.Fmt.TheVariants.{Q7, Q15, Q31}
+use Rattle.dsp_defs.specs.declared.format.Fmt.TheVariants.{Q15, Q31}
 use Rattle.dsp_defs.specs.declared.script.Block.{Block}
 use Rattle.dsp_defs.specs.declared.script.Block.TheVariants.{Biquad, Biquad64}
 
@@ -47,6 +47,10 @@ section_of size numbers = record {
   a2 = sample numbers (size - 1);
 }
 
+-- the kinds of the numbers that a wide section keeps
+abbrev pub wide_kinds : List Kind
+wide_kinds = in_words w32 2 ++ in_words w64 2
+
 -- ---- a block
 
 -- what a block does with a channel
@@ -57,35 +61,6 @@ block_acts format block = record { gives = of_channel format block; keeps = kept
 abbrev pub IsCascade : Fmt → (List ℤ → Block) → ℕ → (List ℤ → Behaviour) → Type 0
 IsCascade format block size section = (front rest : List ℤ) → length front ≡ size →
     block_acts format (block (front ++ rest)) ≡ then (section front) (block_acts format (block rest))
-
-five-cascade : (P : List ℤ → Type 0) → ((a b c d e : ℤ) → P (a ∷ b ∷ c ∷ d ∷ e ∷ [])) → (front : List ℤ) →
-    length front ≡ 5 → P front
-five-cascade P five (a ∷ b ∷ c ∷ d ∷ e ∷ []) size = five a b c d e
-five-cascade P five [] size = absurd (omega (arith, size))
-five-cascade P five (a ∷ []) size = absurd (omega (arith, size))
-five-cascade P five (a ∷ b ∷ []) size = absurd (omega (arith, size))
-five-cascade P five (a ∷ b ∷ c ∷ []) size = absurd (omega (arith, size))
-five-cascade P five (a ∷ b ∷ c ∷ d ∷ []) size = absurd (omega (arith, size))
-five-cascade P five (a ∷ b ∷ c ∷ d ∷ e ∷ f ∷ front) size = absurd (omega (arith, size))
-
-six-cascade : (P : List ℤ → Type 0) → ((a b c d e f : ℤ) → P (a ∷ b ∷ c ∷ d ∷ e ∷ f ∷ [])) → (front : List ℤ) →
-    length front ≡ 6 → P front
-six-cascade P six (a ∷ front) size = five-cascade (λ l. P (a ∷ l)) (λ b c d e f. six a b c d e f) front
-    (omega (arith, size))
-six-cascade P six [] size = absurd (omega (arith, size))
-
-pub is-cascade : (format : Fmt) (p : ℕ) → IsCascade format (Biquad p) (size_in format)
-    (λ numbers. section_acts format p (section_of (size_in format) numbers))
-is-cascade Q7 p front rest size = five-cascade (λ l. block_acts Q7 (Biquad p (l ++ rest)) ≡ then
-    (section_acts Q7 p (section_of 5 l)) (block_acts Q7 (Biquad p rest))) (λ a b c d e. refl) front size
-is-cascade Q15 p front rest size = six-cascade (λ l. block_acts Q15 (Biquad p (l ++ rest)) ≡ then
-    (section_acts Q15 p (section_of 6 l)) (block_acts Q15 (Biquad p rest))) (λ a b c d e f. refl) front size
-is-cascade Q31 p front rest size = five-cascade (λ l. block_acts Q31 (Biquad p (l ++ rest)) ≡ then
-    (section_acts Q31 p (section_of 5 l)) (block_acts Q31 (Biquad p rest))) (λ a b c d e. refl) front size
-
-pub is-cascade64 : (p : ℕ) → IsCascade Q31 (Biquad64 p) 5 (λ numbers. wide_acts p (section_of 5 numbers))
-is-cascade64 p front rest size = five-cascade (λ l. block_acts Q31 (Biquad64 p (l ++ rest)) ≡ then
-    (wide_acts p (section_of 5 l)) (block_acts Q31 (Biquad64 p rest))) (λ a b c d e. refl) front size
 
 -- ---- the parameters of a block
 

@@ -187,9 +187,9 @@ impl<T: BiquadSample> CascadeSection<T> for Section<T> {
     ghost use Rattle.dsp_defs.specs.Kept.{in_words};
     ghost use Rattle.dsp_defs.specs.declared.script.Block.TheVariants.{Biquad};
     ghost use Rattle.dsp_biquad.specs.Sections.{IsBiquadIn, section_acts, section_of};
-    ghost use Rattle.dsp_biquad.specs.Blocks.{some-size, few-size, of-numbers, empty-at, cascade-at};
-    ghost use Rattle.dsp_biquad.specs.Blocks.{count-at, parameters-at, words-of_sections, is-biquad};
-    ghost use Rattle.dsp_biquad.specs.Blocks.{biquad-stepwise};
+    ghost use Rattle.dsp_biquad.specs.Laws.{some-size, few-size, of-numbers, empty-at, cascade-at};
+    ghost use Rattle.dsp_biquad.specs.Laws.{count-at, parameters-at, words-of_sections, is-biquad};
+    ghost use Rattle.dsp_biquad.specs.Laws.{biquad-stepwise};
     ghost use Rattle.dsp_defs.specs.Cost.{section_count};
 
     ghost SIZE = { T.SIZE };

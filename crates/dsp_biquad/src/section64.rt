@@ -77,9 +77,9 @@ impl CascadeSection<i32> for Section64 {
 
     ghost use Rattle.std.specs.Prelude.{refl};
     ghost use Rattle.dsp_defs.specs.declared.script.Block.TheVariants.{Biquad64};
-    ghost use Rattle.dsp_biquad.specs.Sections.{IsBiquad64, wide_acts, section_of, is-cascade64};
-    ghost use Rattle.dsp_biquad.specs.Blocks.{wide_kinds, one-le-five, five-le-six, parameters64};
-    ghost use Rattle.dsp_biquad.specs.Blocks.{is-biquad64, biquad64-stepwise};
+    ghost use Rattle.dsp_biquad.specs.Sections.{IsBiquad64, wide_acts, wide_kinds, section_of};
+    ghost use Rattle.dsp_biquad.specs.Laws.{one-le-five, five-le-six, parameters64};
+    ghost use Rattle.dsp_biquad.specs.Laws.{is-biquad64, is-cascade64, biquad64-stepwise};
 
     ghost SIZE = { 5 };
 

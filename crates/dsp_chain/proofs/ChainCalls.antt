@@ -88,7 +88,8 @@ chain-fed c d links news frames given before after links_are news_are input ende
           (sym (count-given c.units c.frames counts)));
       multiplies =
           let risen = fed'.feeds.multiplies c.frames counts in
-          let new : made_of d ≡ live_cost c.input.format c.input.channels (blocks_of c.units) (c.frames + length taken) =
+          let new : made_of d ≡ live_cost c.input.format c.input.channels (blocks_of c.units)
+          (c.frames + length taken) =
           live.made ∙ (λ i. live_cost (input i).format (input i).channels (blocks i) (more i)) in
           let old = count-made c.input c.units c.frames line counts in
           omega (arith, risen, new, old);
@@ -132,7 +133,8 @@ chain-finished c d links news given before after links_are news_are input ended 
       counted = count;
       passes = done.passes;
       gave = λ x ys gave.
-          let next : AllGave d.input d.units x (ys ++ pieces) = rw (input, news_are) (done.finishes.gave x ys gave.units) in
+          let next : AllGave d.input d.units x (ys ++ pieces) =
+          rw (input, news_are) (done.finishes.gave x ys gave.units) in
           record {
             works = failed ∙ works;
             counted = count ∙ gave.counted;

@@ -6,30 +6,18 @@ use Rattle.dsp_defs.specs.Kept.{IsPlace, kept_count, kept_kinds, kept_numbers, k
 use Rattle.dsp_unit.specs.Unit.{UnitState}
 use Rattle.dsp_unit.specs.Line.{Place, place_after, blocks_of, InLine, AllCount, AllStand}
 use Rattle.dsp_unit.proofs.ChannelKept.{each-length}
-use Rattle.dsp_chain.specs.FrameRule.{rule_of, rules_of, live_by, AreFew}
-use Rattle.dsp_chain.specs.KeptRule.{unit_rule, unit_rules, count_by, counts_by}
 use Rattle.dsp_chain.specs.Restored.{kept_by}
-use Rattle.dsp_chain.proofs.FrameRules.{few-live, live-rule}
-use Rattle.dsp_chain.proofs.KeptRules.{count-rule}
 
--- the rules of a line count what its blocks keep
-pub counts-chain : (p : Place) (us : List UnitState) (n : ℕ) → InLine p us → AreFew (rules_of (blocks_of us)) n
-    → counts_by (rules_of (blocks_of us)) (unit_rules us) n ≡ kept_count_of_chain p.format p.channels (blocks_of us) n
-counts-chain p [] n line few = refl
-counts-chain p (u ∷ us) n line few =
-    let here : count_by (unit_rule u) n ≡ kept_count p.format p.channels u.block n =
-    sym (count-rule u.format u.channels u.block n few.0) ∙
-    (λ i. kept_count (line.0.format i) (line.0.channels i) u.block n) in
-    let q = place_after p u.block in
-    let behind : counts_by (rules_of (blocks_of us)) (unit_rules us) (live_by (rule_of u.block) n) ≡
-    kept_count_of_chain q.format q.channels (blocks_of us) (live_frames u.block n) =
-    counts-chain q us (live_by (rule_of u.block) n) line.1 (few-live (rule_of u.block) (rules_of (blocks_of us)) n few)
-    ∙ ap (kept_count_of_chain q.format q.channels (blocks_of us)) (live-rule u.block n) in
-    λ i. here i + behind i
-
-pub length-rules : (us : List UnitState) → length (unit_rules us) ≡ length (blocks_of us)
-length-rules [] = refl
-length-rules (u ∷ us) = ap suc (length-rules us)
+-- the numbers of the first block, and of those behind it
+pub counts-more : (p : Place) (u : UnitState) (us : List UnitState) (n here later : ℕ) → InLine p (u ∷ us) →
+    here ≡ kept_count u.format u.channels u.block n → ((q : Place) → InLine q us → later ≡
+    kept_count_of_chain q.format q.channels (blocks_of us) (live_frames u.block n)) → here + later ≡
+    kept_count_of_chain p.format p.channels (blocks_of (u ∷ us)) n
+counts-more p u us n here later line is behind =
+    let count : here ≡ kept_count p.format p.channels u.block n =
+    is ∙ (λ i. kept_count (line.0.format i) (line.0.channels i) u.block n) in
+    let rest = behind (place_after p u.block) line.1 in
+    λ i. count i + rest i
 
 -- a line that counts the frames keeps so many
 pub counted-kept : (p : Place) (us : List UnitState) (n : ℕ) → InLine p us → AllCount us n →

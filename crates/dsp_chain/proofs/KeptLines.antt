@@ -8,75 +8,15 @@ use Rattle.dsp_defs.specs.Kept.{IsOfKind, IsPlace, FitsAfter, kept_count, kept_k
 use Rattle.dsp_unit.specs.Unit.{UnitState, IsMade}
 use Rattle.dsp_unit.specs.Line.{blocks_of}
 use Rattle.dsp_unit.proofs.ChannelKept.{append-apart, each-length}
-use Rattle.dsp_chain.specs.FrameRule.{rule_of, rules_of, whole_by, live_by, AreFew}
-use Rattle.dsp_chain.specs.KeptRule.{kept_rule, unit_rule, unit_rules, count_by, place_by, HaveGroups}
-use Rattle.dsp_chain.specs.Restored.{FitsUnits, HasRules, kept_by}
+use Rattle.dsp_chain.specs.Restored.{FitsUnits, kept_by}
 use Rattle.dsp_defs.specs.declared.format.Fmt.{Fmt}
 use Rattle.dsp_defs.specs.declared.script.Block.{Block}
-use Rattle.dsp_chain.specs.declared.frame_rule.FrameRule.{FrameRule}
-use Rattle.dsp_chain.specs.declared.kept_rule.KeptRule.{KeptRule}
-use Rattle.dsp_chain.proofs.FrameRules.{few-head, few-live, live-rule}
-use Rattle.dsp_chain.proofs.KeptRules.{count-rule, place-rule, found-fits}
+use Rattle.dsp_shape.proofs.KeptRules.{found-fits}
 
 -- ---- the first unit, and those behind it
 
--- what the rules of a line say of its first unit and of the line behind it
-pub record Front (u : UnitState) (us : List UnitState) (rule : FrameRule) (rules : List FrameRule) (kept : KeptRule)
-    (keeps : List KeptRule) (n : ℕ) : Type 0 where
-  pub group : 0 < kept.period
-  pub given : whole_by rule n < 2 ^ 62
-  pub taken : n < 2 ^ 62
-  pub count : count_by kept n ≡ kept_count u.format u.channels u.block n
-  pub place : place_of u.block n ≡ place_by kept n
-  pub live : live_by rule n ≡ live_frames u.block n
-  pub behind : HasRules us rules keeps (live_by rule n)
-
 line-is : (links us : List UnitState) (link u : UnitState) → links ≡ link ∷ us → u ≡ link → links ≡ u ∷ us
 line-is links us link u links_are same = links_are ∙ ap (λ f. f ∷ us) (sym same)
-
-module _ {links us : List UnitState} {link u : UnitState} {all rules : List FrameRule} {rule : FrameRule}
-    {every keeps : List KeptRule} {kept : KeptRule} {n : ℕ}
-    (links_are : links ≡ link ∷ us) (same : u ≡ link) (rules_are : all ≡ rule ∷ rules)
-    (keeps_are : every ≡ kept ∷ keeps) where
-  pub front : HasRules links all every n → Front u us rule rules kept keeps n
-  front has =
-      let framed : rule ∷ rules ≡ rule_of u.block ∷ rules_of (blocks_of us) = sym rules_are ∙ has.frames ∙
-      ap (λ l. rules_of (blocks_of l)) (line-is links us link u links_are same) in
-      let numbered : kept ∷ keeps ≡ unit_rule u ∷ unit_rules us = sym keeps_are ∙ has.numbers ∙
-      ap unit_rules (line-is links us link u links_are same) in
-      let rule_is : rule ≡ rule_of u.block = cc framed in
-      let rules_behind : rules ≡ rules_of (blocks_of us) = cc framed in
-      let kept_is : kept ≡ unit_rule u = cc numbered in
-      let keeps_behind : keeps ≡ unit_rules us = cc numbered in
-      let groups : HaveGroups (kept ∷ keeps) = subst HaveGroups keeps_are has.groups in
-      let few : AreFew (rule ∷ rules) n = subst (λ rs. AreFew rs n) rules_are has.few in
-      record {
-        group = groups.0;
-        given = few-head rules (whole_by rule n) few.2;
-        taken = few.0;
-        count = ap (λ r. count_by r n) kept_is ∙ sym (count-rule u.format u.channels u.block n few.0);
-        place = place-rule (kept_count u.format u.channels u.block 0) u.channels u.block n few.0 ∙
-            sym (ap (λ r. place_by r n) kept_is);
-        live = ap (λ r. live_by r n) rule_is ∙ live-rule u.block n;
-        behind = record {
-          frames = rules_behind;
-          numbers = keeps_behind;
-          groups = groups.1;
-          few =
-              few-live rule rules n few;
-        };
-      }
-
--- the rules of one unit more, which is new
-pub keeps-more : (banked : Bool) (us : List UnitState) (u : UnitState) (b : Block) (f : Fmt) (c n fixed : ℕ)
-    (keeps : List KeptRule) (r : KeptRule)
-    → IsMade banked b f c n u → fixed ≡ length u.kept → r ≡ kept_rule fixed c b → keeps ≡ unit_rules us →
-    keeps ++ r ∷ [] ≡ unit_rules (us ++ u ∷ [])
-keeps-more banked us u b f c n fixed keeps r new is rule_is so_far =
-    let count : fixed ≡ kept_count u.format u.channels u.block 0 = is ∙
-    each-length IsPlace (kept_kinds u.format u.channels u.block 0) u.kept new.counts.place in
-    let rule : r ≡ unit_rule u = rule_is ∙ (λ i. kept_rule (count i) (sym new.channels i) (sym new.block i)) in
-    (λ i. so_far i ++ rule i ∷ []) ∙ sym (map-append unit_rule us (u ∷ []))
 
 -- ---- numbers for the first unit, and for those behind it
 

@@ -3,9 +3,9 @@ pub mod Tails
 pub mod ChainCalls
 pub mod Making
 pub mod Measured
-pub mod FrameRules
+pub mod Links
+pub mod FrameCounts
 pub mod NewChain
 pub mod Restored
-pub mod KeptRules
 pub mod KeptLines
 pub mod KeptCounts

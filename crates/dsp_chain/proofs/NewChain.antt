@@ -13,10 +13,8 @@ use Rattle.dsp_defs.specs.declared.script.Block.TheVariants.{Interpolate, Conv, 
 use Rattle.dsp_unit.proofs.ChainPlaces.{AllOpen, flow_at}
 use Rattle.dsp_unit.proofs.NewLine.{new-stand, new-count, new-turns}
 use Rattle.dsp_unit.proofs.TailLaws.{count-took}
-use Rattle.dsp_unit.proofs.FewFrames.{few_places, few-taken}
+use Rattle.dsp_shape.proofs.FewFrames.{few_places, few-taken}
 use Rattle.dsp_chain.specs.Chain.{ChainState, IsWhole, IsNewChain}
-use Rattle.dsp_chain.specs.FrameRule.{rule_of, rules_of}
-use Rattle.dsp_chain.specs.declared.frame_rule.FrameRule.{FrameRule}
 use Rattle.dsp_chain.proofs.ChainCalls.{chain-live}
 use Rattle.dsp_chain.proofs.Measured.{few-places}
 
@@ -39,13 +37,6 @@ gathered-nothing (Correlate taps ∷ blocks) = refl
 gathered-nothing (b ∷ blocks) = ap (gathered blocks) (whole-nothing b) ∙ gathered-nothing blocks
 
 -- ---- the chain
-
--- one rule more
-pub rules-more : (rules : List FrameRule) (r : FrameRule) (b : Block) (blocks : List Block) (i j : ℕ) →
-    take j blocks ≡ take i blocks ++ b ∷ [] → r ≡ rule_of b → rules ≡ rules_of (take i blocks) →
-    rules ++ r ∷ [] ≡ rules_of (take j blocks)
-rules-more rules r b blocks i j more is so_far =
-    (λ k. so_far k ++ is k ∷ []) ∙ sym (map-append rule_of (take i blocks) (b ∷ [])) ∙ ap rules_of (sym more)
 
 -- a chain of new units
 abbrev pub made : Place → List UnitState → ChainState

@@ -16,10 +16,7 @@ use Rattle.dsp_unit.specs.Unit.{UnitState, turns_of}
 use Rattle.dsp_unit.specs.Line.{Place, place_after, blocks_of, InLine, AllCount, AllStand, line_turns}
 use Rattle.dsp_unit.proofs.ChannelKept.{append-apart, each-length, kinds-place}
 use Rattle.dsp_defs.proofs.KeptLaws.{kept_numbers-place}
-use Rattle.dsp_chain.specs.FrameRule.{rule_of, IsRule}
-use Rattle.dsp_chain.specs.KeptRule.{kept_rule, unit_rule, unit_rules, HaveGroups}
 use Rattle.dsp_chain.specs.Restored.{kept_by, FitsUnits, AllRestores}
-use Rattle.dsp_chain.proofs.FrameRules.{is-rule}
 
 -- ---- units in their places
 
@@ -43,41 +40,6 @@ fits-units p (u ∷ us) n numbers line (here, later, split, fits, rest) = (
   split,
   rw (line.0.format, line.0.channels) fits,
   fits-units (place_after p u.block) us (live_frames u.block n) later line.1 rest,
-)
-
--- the rules of units are those of their blocks at their places
-pub same-rules : (p : Place) (us vs : List UnitState) → InLine p us → InLine p vs → blocks_of vs ≡ blocks_of us →
-    unit_rules vs ≡ unit_rules us
-same-rules p [] [] line later blocks = refl
-same-rules p [] (v ∷ vs) line later blocks = absurd (let bad = ap length blocks in omega (arith, bad))
-same-rules p (u ∷ us) [] line later blocks = absurd (let bad = ap length blocks in omega (arith, bad))
-same-rules p (u ∷ us) (v ∷ vs) line later blocks =
-    let block : v.block ≡ u.block = cc blocks in
-    let behind : blocks_of vs ≡ blocks_of us = cc blocks in
-    let format : v.format ≡ u.format = later.0.format ∙ sym line.0.format in
-    let channels : v.channels ≡ u.channels = later.0.channels ∙ sym line.0.channels in
-    let here : unit_rule v ≡ unit_rule u = λ i. kept_rule (kept_count (format i) (channels i) (block i) 0)
-    (channels i) (block i) in
-    let rest : unit_rules vs ≡ unit_rules us = same-rules (place_after p u.block) us vs line.1
-    (subst (λ b. InLine (place_after p b) vs) block later.1) behind in
-    λ i. here i ∷ rest i
-
-some-group : (fixed channels : ℕ) (b : Block) → IsRule (rule_of b) → 0 < (kept_rule fixed channels b).period
-some-group fixed channels (Decimate factor taps) is = is
-some-group fixed channels (MatAdd rows columns matrix) is = is
-some-group fixed channels (MatSub rows columns matrix) is = is
-some-group fixed channels (MatScale rows columns fract shift) is = is
-some-group fixed channels (MatTrans rows columns) is = is
-some-group fixed channels (MatMult rows columns given matrix) is = is
-some-group fixed channels b is = omega arith
-
--- each group of a chain has a frame
-pub have-groups : (flow : Flow) (us : List UnitState) → IsChain flow (blocks_of us) → HaveGroups (unit_rules us)
-have-groups flow [] chain = tt
-have-groups flow (u ∷ us) chain = (
-  some-group (kept_count u.format u.channels u.block 0) u.channels u.block
-      (is-rule flow u.block chain.0),
-  have-groups (flow_after u.block flow) us chain.1,
 )
 
 -- ---- units that were restored

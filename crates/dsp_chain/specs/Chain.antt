@@ -9,7 +9,7 @@ use Rattle.dsp_defs.specs.Grammar.{IsChain, correlates}
 use Rattle.dsp_defs.specs.Measure as measure
 use Rattle.dsp_defs.specs.Shape.{whole_frames, live_frames, frames_behind, gathered}
 use Rattle.dsp_unit.specs.Unit.{UnitState, frames_in}
-use Rattle.dsp_unit.specs.Line.{chain_products, Place, place_behind, Passes, blocks_of, InLine, AllStand, AllCount}
+use Rattle.dsp_unit.specs.Line.{chain_products, Place, place_behind, place_room, Passes, blocks_of, InLine, AllStand, AllCount}
 use Rattle.dsp_unit.specs.Line.{AllTaken, AllFew, AllTook, AllGave, line_given, line_made, line_turns, measured_by}
 use Rattle.dsp_defs.specs.declared.fault.GatherFull.{GatherFull}
 use Rattle.dsp_defs.specs.declared.limits.TheConstants.{MAX_BLOCKS, MAX_CORRELATES, MAX_GATHERED}
@@ -155,3 +155,8 @@ pub record IsWhole (c : ChainState) : Type 0 where
   pub few_blocks : length (blocks_of c.units) ≤ MAX_BLOCKS
   pub one_correlate : correlates (blocks_of c.units) ≤ MAX_CORRELATES
   pub few_frames : (n : ℕ) → n ≤ 2 ^ 40 → AllFew (blocks_of c.units) n
+
+-- so is each chain, and it has so much room for its output
+pub record HasRoom (room : ℕ) (c : ChainState) : Type 0 where
+  pub is : IsWhole c
+  pub room_is : room ≡ place_room (output_of c)

@@ -7,10 +7,6 @@ use Rattle.dsp_unit.specs.Unit.{UnitState, Restores}
 use Rattle.dsp_unit.specs.Line.{blocks_of}
 use Rattle.dsp_defs.specs.declared.limits.TheConstants.{MAX_GATHERED}
 use Rattle.dsp_chain.specs.Chain.{ChainState, ChainStandsFor, SameChain, IsLive}
-use Rattle.dsp_chain.specs.FrameRule.{rules_of, AreFew}
-use Rattle.dsp_chain.specs.KeptRule.{unit_rules, HaveGroups}
-use Rattle.dsp_chain.specs.declared.frame_rule.FrameRule.{FrameRule}
-use Rattle.dsp_chain.specs.declared.kept_rule.KeptRule.{KeptRule}
 
 -- the numbers of units, one after another
 abbrev pub kept_by : List UnitState → List ℤ
@@ -39,13 +35,6 @@ AllRestores (u ∷ us) (v ∷ vs) n numbers =
     (here later : List ℤ) × (numbers ≡ here ++ later) × FitsAfter u.format u.channels u.block n here × Restores u v here
     × AllRestores us vs (live_frames u.block n) later
 AllRestores us vs n numbers = ⊥
-
--- the rules are those of the line, and each of its places has few frames
-pub record HasRules (us : List UnitState) (rules : List FrameRule) (kept : List KeptRule) (n : ℕ) : Type 0 where
-  pub frames : rules ≡ rules_of (blocks_of us)
-  pub numbers : kept ≡ unit_rules us
-  pub groups : HaveGroups kept
-  pub few : AreFew rules n
 
 -- the chain keeps these numbers from now on, and so many frames count as fed
 pub record RestoresChain (old new : ChainState) (frames : ℕ) (numbers : List ℤ) : Type 0 where

@@ -1,11 +1,13 @@
-use crate::frame_rule::{FrameRule, gather_fault, gathered, tail_frames, window_fault};
+use crate::counting::{gather_fault, gathered, tail_frames, window_fault};
 use crate::keeping::{count_kept, count_line, fits_line, keep_line, restore_line};
-use crate::kept_rule::KeptRule;
-use crate::line::{Link, count_measures, feed_line, find_measure, finish_line};
+use crate::line::{count_measures, feed_line, find_measure, finish_line};
+use crate::link::Link;
+use crate::signal::Signal;
 use dsp_defs::{
     Flow, Fmt, GatherFull, Input, MAX_GATHERED, MAX_INPUT, Measure, Script, Steps, WindowFault,
 };
-use dsp_unit::{AnyUnit, Unit, most_frames};
+use dsp_shape::{FrameRule, KeptRule, most_frames};
+use dsp_unit::{AnyUnit, Unit};
 use std::alloc::{AllocError, Global};
 use std::marker::Model;
 use std::sync::ledger::Ledger;
@@ -14,8 +16,6 @@ use std::sync::ledger::Ledger;
 #[derive(Drop)]
 pub struct Chain<U: Unit + Drop> {
     links: Vec<Link<U>>,
-    rules: Vec<FrameRule>,
-    kept: Vec<KeptRule>,
     format: Fmt,
     channels: usize,
     capacity: usize,
@@ -26,11 +26,7 @@ pub struct Chain<U: Unit + Drop> {
 }
 
 impl<U: Unit + Drop> Model for Chain<U> {
-    ghost use Rattle.std.specs.Prelude.{◌≡◌};
-    ghost use Rattle.dsp_unit.specs.Line.{blocks_of, place_room};
-    ghost use Rattle.dsp_chain.specs.Chain.{ChainState, IsWhole, output_of};
-    ghost use Rattle.dsp_chain.specs.FrameRule.{rules_of};
-    ghost use Rattle.dsp_chain.specs.KeptRule.{unit_rules};
+    ghost use Rattle.dsp_chain.specs.Chain.{ChainState, HasRoom};
 
     ghost Value = { ChainState };
 
@@ -43,32 +39,14 @@ impl<U: Unit + Drop> Model for Chain<U> {
           failed = c.failed;
         } };
 
-    ghost invariant = { λ c. (IsWhole
+    ghost invariant = { λ c. HasRoom c.room
         (record {
-          input = record {
-            format = c.format;
-            channels = c.channels;
-            capacity = c.capacity;
-          };
+          input = record { format = c.format; channels = c.channels; capacity = c.capacity };
           units = c.links.items;
           frames = c.frames;
           ended = c.ended;
           failed = c.failed;
-        }))
-        × (c.rules.items ≡ rules_of (blocks_of c.links.items))
-        × (c.kept.items ≡ unit_rules c.links.items)
-        × (c.room ≡ place_room (output_of
-        (record {
-          input = record {
-            format = c.format;
-            channels = c.channels;
-            capacity = c.capacity;
-          };
-          units = c.links.items;
-          frames = c.frames;
-          ended = c.ended;
-          failed = c.failed;
-        }))) };
+        }) };
 }
 
 impl<U: AnyUnit + Drop> Chain<U> {
@@ -137,21 +115,17 @@ impl<U: AnyUnit + Drop> Chain<U> {
         let mut flow = Flow { format, channels };
         let blocks = script.blocks.as_slice();
         let mut links = Vec::with_capacity(alloc, blocks.len())?;
-        let mut rules = Vec::with_capacity(alloc, blocks.len())?;
-        let mut kept = Vec::with_capacity(alloc, blocks.len())?;
         for block in blocks {
             let unit = U::of_block(alloc, block, flow.format, flow.channels, frames, banked)?;
-            let numbers = KeptRule::of_block(block, flow.channels, unit.kept_count() as u64);
+            let rule = FrameRule::of(block);
+            let kept = KeptRule::of_block(block, flow.channels, unit.kept_count() as u64);
             flow = flow.after(block);
             frames = most_frames(block, frames);
-            links.push(Link::new(alloc, unit, frames * usize::from(flow.channels))?)?;
-            rules.push(FrameRule::of(block))?;
-            kept.push(numbers)?;
+            let room = frames * usize::from(flow.channels);
+            links.push(Link::new(alloc, unit, rule, kept, room)?)?;
         }
         Ok(Chain {
             links,
-            rules,
-            kept,
             format,
             channels: usize::from(channels),
             capacity,
@@ -191,7 +165,7 @@ impl<U: AnyUnit + Drop> Chain<U> {
             return Err(fault);
         }
         let fed = self.frames + (frames.len() / self.channels) as u64;
-        if let Some(fault) = gather_fault(&self.rules, self.frames, fed) {
+        if let Some(fault) = gather_fault(&self.links, self.frames, fed) {
             self.failed = Some(fault);
             return Err(fault);
         }
@@ -233,7 +207,7 @@ impl<U: AnyUnit + Drop> Chain<U> {
         ensures { option_map (λ (fault : WindowFault). (fault.end, fault.length)) result
             ≡ window_at (blocks_of self.now.units) (self.now.frames + more) }
     {
-        window_fault(&self.rules, self.frames + more)
+        window_fault(&self.links, self.frames + more)
     }
 
     /// How many frames the tail has, where the frames fed so far are the whole input.
@@ -242,7 +216,7 @@ impl<U: AnyUnit + Drop> Chain<U> {
         ensures { frames_behind live_frames (blocks_of self.now.units) self.now.frames + result
             ≡ frames_behind whole_frames (blocks_of self.now.units) self.now.frames }
     {
-        tail_frames(&self.rules, self.frames)
+        tail_frames(&self.links, self.frames)
     }
 
     /// Writes the next frames of the tail, and answers the number of their samples: 0 where it is spent
@@ -306,7 +280,7 @@ impl<U: AnyUnit + Drop> Chain<U> {
         ensures { result ≡ kept_count_of_chain self.now.input.format self.now.input.channels
             (blocks_of self.now.units) frames }
     {
-        count_line(&self.rules, &self.kept, frames)
+        count_line(&self.links, frames)
     }
 
     /// The samples of a channel that the correlation would gather where so many frames are the whole
@@ -315,7 +289,7 @@ impl<U: AnyUnit + Drop> Chain<U> {
         requires { frames ≤ 2 ^ 40 }
         ensures { result ≡ gathered (blocks_of self.now.units) frames }
     {
-        gathered(&self.rules, frames)
+        gathered(&self.links, Signal::Whole, frames)
     }
 
     /// Whether a chain of these blocks can keep these numbers of so many frames: at most 2^40, whose
@@ -326,10 +300,10 @@ impl<U: AnyUnit + Drop> Chain<U> {
         if frames > MAX_INPUT {
             return false;
         }
-        if gathered(&self.rules, frames) > MAX_GATHERED as u64 {
+        if gathered(&self.links, Signal::Whole, frames) > MAX_GATHERED as u64 {
             return false;
         }
-        fits_line(&self.links, &self.rules, &self.kept, frames, numbers)
+        fits_line(&self.links, frames, numbers)
     }
 
     /// Gives a new chain these numbers, and counts so many frames as fed: it goes on as one that was fed
@@ -341,13 +315,7 @@ impl<U: AnyUnit + Drop> Chain<U> {
         requires fits { FitsChain self.old frames numbers.now }
         ensures { RestoresChain self.old self.new frames numbers.now }
     {
-        restore_line(
-            self.links.as_mut_slice(),
-            &self.rules,
-            &self.kept,
-            frames,
-            numbers,
-        );
+        restore_line(self.links.as_mut_slice(), frames, numbers);
         self.frames = frames;
     }
 }

@@ -1,14 +1,12 @@
 ghost use Rattle.std.specs.Prelude.{◌≡◌, ◌≤◌, ◌*◌, ◌^◌, ◌↔◌, IsTrue, length};
 ghost use Rattle.dsp_defs.specs.declared.limits.TheConstants.{MAX_BLOCKS};
 ghost use Rattle.dsp_unit.specs.Unit.{most_kept};
-ghost use Rattle.dsp_unit.specs.Line.{AllRun};
-ghost use Rattle.dsp_chain.specs.FrameRule.{AreFew};
-ghost use Rattle.dsp_chain.specs.KeptRule.{HaveGroups, counts_by};
-ghost use Rattle.dsp_chain.specs.Restored.{kept_by, FitsUnits, AllRestores, HasRules};
+ghost use Rattle.dsp_defs.specs.Kept.{kept_count_of_chain};
+ghost use Rattle.dsp_unit.specs.Line.{Place, InLine, AllRun, AllFew, blocks_of};
+ghost use Rattle.dsp_chain.specs.Restored.{kept_by, FitsUnits, AllRestores};
 
-use crate::frame_rule::FrameRule;
-use crate::kept_rule::KeptRule;
-use crate::line::Link;
+use crate::link::Link;
+use crate::signal::Signal;
 use dsp_unit::Unit;
 
 /// How many numbers the units of a line keep.
@@ -24,20 +22,17 @@ pub fn count_kept<S: Unit + Drop>(links: &[Link<S>]) -> usize
 }
 
 /// How many numbers the units of a line keep of so many frames that come to it.
-pub fn count_line(rules: &[FrameRule], kept: &[KeptRule], frames: u64) -> u128
-    requires rules { AreFew rules.now frames }
-    requires groups { HaveGroups kept.now }
-    requires few { length kept.now ≤ MAX_BLOCKS }
-    ensures count { result ≡ counts_by rules.now kept.now frames }
-    ensures few { result ≤ 2 ^ 73 * length kept.now }
+pub fn count_line<S: Unit + Drop>(links: &[Link<S>], frames: u64) -> u128
+    requires frames { AllFew (blocks_of links.now) frames }
+    requires few { length links.now ≤ MAX_BLOCKS }
+    ensures count { (p : Place) → InLine p links.now
+        → result ≡ kept_count_of_chain p.format p.channels (blocks_of links.now) frames }
+    ensures few { result ≤ 2 ^ 73 * length links.now }
 {
-    let (Some((rule, rules_behind)), Some((kept_here, kept_behind))) = (
-        rules.split_first(),
-        kept.split_first(),
-    ) else {
+    let Some((link, behind)) = links.split_first() else {
         return 0;
     };
-    kept_here.count(frames) + count_line(rules_behind, kept_behind, rule.live(frames))
+    link.count(frames) + count_line(behind, link.gives(Signal::Live, frames))
 }
 
 /// Writes the numbers that the units of a line keep, one after another.
@@ -55,26 +50,14 @@ pub fn keep_line<S: Unit + Drop>(links: &[Link<S>], out: &mut [i64])
 }
 
 /// Whether the units of a line can keep these numbers, one after another, where so many frames come to the line.
-pub fn fits_line<S: Unit + Drop>(
-    links: &[Link<S>],
-    rules: &[FrameRule],
-    kept: &[KeptRule],
-    frames: u64,
-    numbers: &[i64],
-) -> bool
-    requires { HasRules links.now rules.now kept.now frames }
+pub fn fits_line<S: Unit + Drop>(links: &[Link<S>], frames: u64, numbers: &[i64]) -> bool
+    requires { AllFew (blocks_of links.now) frames }
     ensures { IsTrue result ↔ FitsUnits links.now frames numbers.now }
 {
-    let Some((link, links_behind)) = links.split_first() else {
+    let Some((link, behind)) = links.split_first() else {
         return numbers.is_empty();
     };
-    let (Some((rule, rules_behind)), Some((kept_here, kept_behind))) = (
-        rules.split_first(),
-        kept.split_first(),
-    ) else {
-        unreachable!()
-    };
-    let count = kept_here.count(frames);
+    let count = link.count(frames);
     if count > numbers.len() as u128 {
         return false;
     }
@@ -82,51 +65,25 @@ pub fn fits_line<S: Unit + Drop>(
     let Some(place) = link.unit.place(here) else {
         return false;
     };
-    if place != kept_here.place(frames) {
+    if place != link.place(frames) {
         return false;
     }
-    fits_line(
-        links_behind,
-        rules_behind,
-        kept_behind,
-        rule.live(frames),
-        later,
-    )
+    fits_line(behind, link.gives(Signal::Live, frames), later)
 }
 
 /// Gives the units of a line these numbers, one after another, where so many frames came to the line.
-pub fn restore_line<S: Unit + Drop>(
-    links: &mut [Link<S>],
-    rules: &[FrameRule],
-    kept: &[KeptRule],
-    frames: u64,
-    numbers: &[i64],
-)
+pub fn restore_line<S: Unit + Drop>(links: &mut [Link<S>], frames: u64, numbers: &[i64])
     requires running { AllRun links.old }
-    requires rules { HasRules links.old rules.now kept.now frames }
+    requires frames { AllFew (blocks_of links.old) frames }
     requires fits { FitsUnits links.old frames numbers.now }
     ensures { AllRestores links.old links.new frames numbers.now }
 {
-    let Some((link, links_behind)) = links.split_first_mut() else {
+    let Some((link, behind)) = links.split_first_mut() else {
         return;
     };
-    let (Some((rule, rules_behind)), Some((kept_here, kept_behind))) = (
-        rules.split_first(),
-        kept.split_first(),
-    ) else {
-        unreachable!()
-    };
-    let count = kept_here.count(frames);
-    if count > numbers.len() as u128 {
-        unreachable!()
-    }
-    let (here, later) = numbers.split_at(count as usize);
+    let count = link.count(frames) as usize;
+    let given = link.gives(Signal::Live, frames);
+    let (here, later) = numbers.split_at(count);
     link.unit.restore(here);
-    restore_line(
-        links_behind,
-        rules_behind,
-        kept_behind,
-        rule.live(frames),
-        later,
-    );
+    restore_line(behind, given, later);
 }

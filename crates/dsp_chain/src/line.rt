@@ -5,43 +5,10 @@ ghost use Rattle.dsp_unit.specs.Line.{Place, Passes, InLine, AllRun, AllSpent, F
 ghost use Rattle.dsp_unit.specs.Line.{measured_by};
 ghost use Rattle.dsp_chain.specs.Line.{MayTake, MayFinish};
 
+use crate::link::Link;
 use dsp_defs::{Measure, Steps};
 use dsp_unit::Unit;
-use std::alloc::{AllocError, Global};
-use std::marker::Model;
 use std::sync::ledger::Ledger;
-
-/// A unit with the samples that it wrote last.
-#[derive(Drop)]
-pub struct Link<S: Unit + Drop> {
-    pub(crate) unit: S,
-    written: Vec<i32>,
-}
-
-impl<S: Unit + Drop> Model for Link<S> {
-    ghost use Rattle.std.specs.Prelude.{◌≤◌, vec_len};
-    ghost use Rattle.dsp_unit.specs.Unit.{UnitState, room_of};
-
-    ghost Value = { UnitState };
-
-    ghost view = { λ l. S.unit l.unit };
-
-    ghost invariant = { λ l. room_of (S.unit l.unit) ≤ vec_len l.written };
-}
-
-impl<S: Unit + Drop> Link<S> {
-    ghost use Rattle.std.specs.Prelude.{◌≡◌, ◌≤◌, IfOk};
-    ghost use Rattle.dsp_unit.specs.Unit.{room_of};
-
-    /// A unit with room for what it writes, so many samples.
-    pub fn new(alloc: Global, unit: S, room: usize) -> Result<Self, AllocError>
-        requires { room_of (S.unit unit) ≤ room }
-        ensures { IfOk result (λ l. l ≡ S.unit unit) }
-    {
-        let written = vec![in alloc; 0; room]?;
-        Ok(Link { unit, written })
-    }
-}
 
 /// Feeds a line of units, and writes what the last one gives.
 pub fn feed_line<S: Unit + Drop, L: Ledger>(

@@ -11,99 +11,49 @@ use Rattle.dsp_defs.specs.declared.format.Fmt.{Fmt}
 use Rattle.dsp_defs.specs.declared.format.Fmt.TheVariants.{Q7, Q15, Q31}
 use Rattle.dsp_channelwise.specs.Recursions.{numbers_of_section}
 
--- the first section of a list, by its places
-front6 : (cs : List ℤ) → 6 ≤ length cs → sections Q15 cs ≡ record {
-  b0 = get_or cs 0 (pos 0);
-  b1 = get_or cs 2
-      (pos 0);
-  b2 = get_or cs 3 (pos 0);
-  a1 = get_or cs 4 (pos 0);
-  a2 = get_or cs 5 (pos 0);
-} ∷ sections Q15 (drop 6 cs)
-front6 [] long = absurd (omega (arith, long))
-front6 (n0 ∷ []) long = absurd (omega (arith, long))
-front6 (n0 ∷ n1 ∷ []) long = absurd (omega (arith, long))
-front6 (n0 ∷ n1 ∷ n2 ∷ []) long = absurd (omega (arith, long))
-front6 (n0 ∷ n1 ∷ n2 ∷ n3 ∷ []) long = absurd (omega (arith, long))
-front6 (n0 ∷ n1 ∷ n2 ∷ n3 ∷ n4 ∷ []) long = absurd (omega (arith, long))
-front6 (n0 ∷ n1 ∷ n2 ∷ n3 ∷ n4 ∷ n5 ∷ later) long = refl
-
-front5 : (cs : List ℤ) → 5 ≤ length cs → sections Q31 cs ≡ record {
-  b0 = get_or cs 0 (pos 0);
-  b1 = get_or cs 1
-      (pos 0);
-  b2 = get_or cs 2 (pos 0);
-  a1 = get_or cs 3 (pos 0);
-  a2 = get_or cs 4 (pos 0);
-} ∷ sections Q31 (drop 5 cs)
-front5 [] long = absurd (omega (arith, long))
-front5 (n0 ∷ []) long = absurd (omega (arith, long))
-front5 (n0 ∷ n1 ∷ []) long = absurd (omega (arith, long))
-front5 (n0 ∷ n1 ∷ n2 ∷ []) long = absurd (omega (arith, long))
-front5 (n0 ∷ n1 ∷ n2 ∷ n3 ∷ []) long = absurd (omega (arith, long))
-front5 (n0 ∷ n1 ∷ n2 ∷ n3 ∷ n4 ∷ later) long = refl
-
 -- too few numbers are no section
 pub too-few : (f : Fmt) → f ≢ Q7 → (cs : List ℤ) → length cs < numbers_of_section f → sections f cs ≡ []
 too-few Q7 wide cs few = absurd (wide refl)
-too-few Q15 wide [] few = refl
-too-few Q15 wide (n0 ∷ []) few = refl
-too-few Q15 wide (n0 ∷ n1 ∷ []) few = refl
-too-few Q15 wide (n0 ∷ n1 ∷ n2 ∷ []) few = refl
-too-few Q15 wide (n0 ∷ n1 ∷ n2 ∷ n3 ∷ []) few = refl
-too-few Q15 wide (n0 ∷ n1 ∷ n2 ∷ n3 ∷ n4 ∷ []) few = refl
 too-few Q15 wide (n0 ∷ n1 ∷ n2 ∷ n3 ∷ n4 ∷ n5 ∷ later) few = absurd (omega (arith, few))
-too-few Q31 wide [] few = refl
-too-few Q31 wide (n0 ∷ []) few = refl
-too-few Q31 wide (n0 ∷ n1 ∷ []) few = refl
-too-few Q31 wide (n0 ∷ n1 ∷ n2 ∷ []) few = refl
-too-few Q31 wide (n0 ∷ n1 ∷ n2 ∷ n3 ∷ []) few = refl
+too-few Q15 wide cs few = refl
 too-few Q31 wide (n0 ∷ n1 ∷ n2 ∷ n3 ∷ n4 ∷ later) few = absurd (omega (arith, few))
+too-few Q31 wide cs few = refl
 
 -- a list of six, and one of five
-pub six : (f : Fmt) (cs : List ℤ) (b0 b1 b2 a1 a2 : ℤ) → f ≡ Q15 → length cs ≡ numbers_of_section f
-    → b0 ≡ get_or cs 0 (pos 0) → b1 ≡ get_or cs 2 (pos 0) → b2 ≡ get_or cs 3 (pos 0) → a1 ≡ get_or cs 4 (pos 0)
-    → a2 ≡ get_or cs 5 (pos 0)
-    → sections f cs ≡ record { b0 = b0; b1 = b1; b2 = b2; a1 = a1; a2 = a2 } ∷ []
-six f cs b0 b1 b2 a1 a2 is long e0 e1 e2 e3 e4 =
-    let size : length cs ≡ 6 = long ∙ ap numbers_of_section is in
-    let none : sections Q15 (drop 6 cs) ≡ [] = too-few Q15 (λ h. absurd (cc)) (drop 6 cs)
-    (simp length-drop (omega (arith, size))) in
-    ap (λ g. sections g cs) is
-    ∙ front6 cs (omega (arith, size))
-    ∙ (λ i. record { b0 = sym e0 i; b1 = sym e1 i; b2 = sym e2 i; a1 = sym e3 i; a2 = sym e4 i } ∷ none i)
+pub six : (f : Fmt) (cs : List ℤ) → f ≡ Q15 → length cs ≡ numbers_of_section f → sections f cs ≡ record {
+  b0 = get_or cs 0 (pos 0);
+  b1 = get_or cs 2 (pos 0);
+  b2 = get_or cs 3 (pos 0);
+  a1 = get_or cs 4 (pos 0);
+  a2 = get_or cs 5 (pos 0);
+} ∷ []
+six Q15 (n0 ∷ n1 ∷ n2 ∷ n3 ∷ n4 ∷ n5 ∷ []) is size = refl
+six Q15 cs is size = absurd (omega (arith, size))
+six f cs is size = absurd (cc)
 
-pub five : (f : Fmt) (cs : List ℤ) (b0 b1 b2 a1 a2 : ℤ) → f ≢ Q7 → f ≢ Q15 → length cs ≡ numbers_of_section f
-    → b0 ≡ get_or cs 0 (pos 0) → b1 ≡ get_or cs 1 (pos 0) → b2 ≡ get_or cs 2 (pos 0) → a1 ≡ get_or cs 3 (pos 0)
-    → a2 ≡ get_or cs 4 (pos 0)
-    → sections f cs ≡ record { b0 = b0; b1 = b1; b2 = b2; a1 = a1; a2 = a2 } ∷ []
-five Q7 cs b0 b1 b2 a1 a2 wide not size e0 e1 e2 e3 e4 = absurd (wide refl)
-five Q15 cs b0 b1 b2 a1 a2 wide not size e0 e1 e2 e3 e4 = absurd (not refl)
-five Q31 cs b0 b1 b2 a1 a2 wide not size e0 e1 e2 e3 e4 =
-    let none : sections Q31 (drop 5 cs) ≡ [] = too-few Q31 wide (drop 5 cs) (simp length-drop (omega (arith, size))) in
-    front5 cs (omega (arith, size))
-    ∙ (λ i. record { b0 = sym e0 i; b1 = sym e1 i; b2 = sym e2 i; a1 = sym e3 i; a2 = sym e4 i } ∷ none i)
+pub five : (f : Fmt) (cs : List ℤ) → f ≢ Q7 → f ≢ Q15 → length cs ≡ numbers_of_section f → sections f cs ≡ record {
+  b0 = get_or cs 0 (pos 0);
+  b1 = get_or cs 1 (pos 0);
+  b2 = get_or cs 2 (pos 0);
+  a1 = get_or cs 3 (pos 0);
+  a2 = get_or cs 4 (pos 0);
+} ∷ []
+five Q7 cs wide not size = absurd (wide refl)
+five Q15 cs wide not size = absurd (not refl)
+five Q31 (n0 ∷ n1 ∷ n2 ∷ n3 ∷ n4 ∷ []) wide not size = refl
+five Q31 cs wide not size = absurd (omega (arith, size))
 
 -- the section of the first numbers, and those of the others
 pub first-section : (f : Fmt) → f ≢ Q7 → (cs : List ℤ) (c : Section) → numbers_of_section f ≤ length cs
     → sections f (take (numbers_of_section f) cs) ≡ c ∷ [] → sections f cs ≡ c ∷ sections f
     (drop (numbers_of_section f) cs)
 first-section Q7 wide cs c long is = absurd (wide refl)
-first-section Q15 wide [] c long is = absurd (omega (arith, long))
-first-section Q15 wide (n0 ∷ []) c long is = absurd (omega (arith, long))
-first-section Q15 wide (n0 ∷ n1 ∷ []) c long is = absurd (omega (arith, long))
-first-section Q15 wide (n0 ∷ n1 ∷ n2 ∷ []) c long is = absurd (omega (arith, long))
-first-section Q15 wide (n0 ∷ n1 ∷ n2 ∷ n3 ∷ []) c long is = absurd (omega (arith, long))
-first-section Q15 wide (n0 ∷ n1 ∷ n2 ∷ n3 ∷ n4 ∷ []) c long is = absurd (omega (arith, long))
 first-section Q15 wide (n0 ∷ n1 ∷ n2 ∷ n3 ∷ n4 ∷ n5 ∷ later) c long is = ap
     (λ (l : List Section). get_or l 0 c ∷ sections Q15 later) is
-first-section Q31 wide [] c long is = absurd (omega (arith, long))
-first-section Q31 wide (n0 ∷ []) c long is = absurd (omega (arith, long))
-first-section Q31 wide (n0 ∷ n1 ∷ []) c long is = absurd (omega (arith, long))
-first-section Q31 wide (n0 ∷ n1 ∷ n2 ∷ []) c long is = absurd (omega (arith, long))
-first-section Q31 wide (n0 ∷ n1 ∷ n2 ∷ n3 ∷ []) c long is = absurd (omega (arith, long))
+first-section Q15 wide cs c long is = absurd (omega (arith, long))
 first-section Q31 wide (n0 ∷ n1 ∷ n2 ∷ n3 ∷ n4 ∷ later) c long is = ap
     (λ (l : List Section). get_or l 0 c ∷ sections Q31 later) is
+first-section Q31 wide cs c long is = absurd (omega (arith, long))
 
 size-some : (f : Fmt) → 1 ≤ numbers_of_section f
 size-some Q7 = omega arith

@@ -10,29 +10,13 @@ ghost use Rattle.dsp_defs.specs.declared.format.Fmt.TheVariants.{Q7};
 ghost use Rattle.dsp_defs.specs.declared.script.Block.TheVariants as Blocks;
 ghost use Rattle.dsp_channelwise.specs.Adapting.{adapted_of, pairs_of};
 
+use crate::newest::newest_sum;
 use crate::sums::reversed;
 use dsp_defs::{Fmt, Steps};
-use dsp_exact::{Formula, Terms, back, product, sample, saturate, sum_below, values, wrap};
+use dsp_exact::{Formula, back, product, sample, saturate, values, wrap};
 use dsp_sat::{wrap32, wrap64};
 use std::alloc::{AllocError, Global};
 use std::sync::ledger::Ledger;
-
-/// The terms w_k * x(n-k), for the inputs up to x(n).
-#[derive(Clone, Copy)]
-struct Weighted<'a> {
-    w: &'a [i32],
-    x: &'a [i32],
-}
-
-impl<'a> Terms for Weighted<'a> {
-    ghost Has = { λ t k. Unit {0} };
-
-    ghost term = { λ t k. sample t.w.now k *ℤ sample (reverse t.x.now) k };
-
-    fn term<L: Ledger>(&self, k: usize, steps: &mut Steps<L>) -> i128 {
-        product(sample(self.w, k), back(self.x, k), steps)
-    }
-}
 
 /// sat_16(wrap_32(s >> (15-p))), and wrap_32(wrap_64(s) >> (31-p)) in Q31.
 fn lms_close(format: Fmt, post_shift: u8, sum: i128) -> i32
@@ -116,7 +100,7 @@ fn adapted_to<L: Ledger>(
         × FitsSigned (word format) a.error) }
     ensures products { steps.new.multiplies ≤ steps.old.multiplies + (2 * length w.now + 1) }
 {
-    let sum = sum_below(w.len(), &Weighted { w, x }, steps);
+    let sum = newest_sum(w, x, steps);
     let output = lms_close(format, post_shift, sum);
     let error = wrap(format, i128::from(reference) - i128::from(output));
     let alpha = step_size(format, mu, error, steps);
@@ -164,17 +148,8 @@ pub fn lms<L: Ledger>(
     let mut errors = Vec::with_capacity(alloc, x.len())?;
     let mut w = reversed(alloc, taps)?;
     for n in 0..x.len() {
-        let inputs = &x[..n + 1];
-        let next = adapted_to(
-            alloc,
-            format,
-            post_shift,
-            mu,
-            w.as_slice(),
-            inputs,
-            reference[n],
-            steps,
-        )?;
+        let past = &x[..n + 1];
+        let next = adapted_to(alloc, format, post_shift, mu, &w, past, reference[n], steps)?;
         outputs.push(next.output)?;
         errors.push(next.error)?;
         w = next.weights;

@@ -9,7 +9,7 @@ ghost use Rattle.dsp_channelwise.specs.Recursions.{section_of};
 use crate::newest::newest_sum;
 use crate::sections::{Section, section_at, section_length};
 use dsp_defs::{Fmt, Steps};
-use dsp_exact::{Recurrence, back, outputs, product, saturate};
+use dsp_exact::{Recurrence, outputs, saturate};
 use dsp_sat::{wrap32, wrap64};
 use std::alloc::{AllocError, Global};
 use std::sync::ledger::Ledger;
@@ -48,11 +48,9 @@ impl Recurrence for Narrow {
     ghost cost = { λ r. 5 };
 
     fn next<L: Ledger>(&self, x: &[i32], y: &[i32], steps: &mut Steps<L>) -> i32 {
-        let section = self.section;
-        let forward = newest_sum(section.b0, section.b1, section.b2, x, steps);
-        let y1 = product(section.a1, back(y, 0), steps);
-        let y2 = product(section.a2, back(y, 1), steps);
-        section_close(self.format, self.post_shift, forward + (y1 + y2))
+        let forward = newest_sum(&self.section.forward, x, steps);
+        let back = newest_sum(&self.section.back, y, steps);
+        section_close(self.format, self.post_shift, forward + back)
     }
 }
 

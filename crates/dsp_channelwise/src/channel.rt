@@ -50,14 +50,10 @@ pub fn whole_channel<L: Ledger>(
         Block::Biquad {
             post_shift,
             coefficients,
-        } => biquad(
-            alloc,
-            format,
-            *post_shift,
-            coefficients.as_slice(),
-            x,
-            steps,
-        ),
+        } => {
+            let numbers = coefficients.as_slice();
+            biquad(alloc, format, *post_shift, numbers, x, steps)
+        }
         Block::Biquad64 {
             post_shift,
             coefficients,

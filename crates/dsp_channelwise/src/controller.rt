@@ -12,30 +12,22 @@ use dsp_sat::{wrap32, wrap64};
 use std::alloc::{AllocError, Global};
 use std::sync::ledger::Ledger;
 
-/// The gains A0, A1 and A2.
-#[derive(Clone, Copy)]
-pub(crate) struct Gains {
-    pub a0: i32,
-    pub a1: i32,
-    pub a2: i32,
-}
-
-/// sat(kp+ki+kd), sat(-(2*kd+kp)), kd, and in Q31 step by step.
-fn gains_by(format: Fmt, kp: i32, ki: i32, kd: i32) -> Gains
+/// The gains A0, A1 and A2: sat(kp+ki+kd), sat(-(2*kd+kp)), kd, and in Q31 step by step.
+fn gains_by(format: Fmt, kp: i32, ki: i32, kd: i32) -> [i32; 3]
     ensures { gains_of result ≡ pid_gains format kp ki kd }
 {
     let (p, i, d) = (i128::from(kp), i128::from(ki), i128::from(kd));
     match format {
-        Fmt::Q31 => Gains {
-            a0: saturate(format, i128::from(saturate(format, p + i)) + d),
-            a1: wrap32(-i128::from(saturate(format, i128::from(saturate(format, 2 * d)) + p))),
-            a2: kd,
-        },
-        _ => Gains {
-            a0: saturate(format, p + i + d),
-            a1: saturate(format, -(2 * d + p)),
-            a2: kd,
-        },
+        Fmt::Q31 => [
+            saturate(format, i128::from(saturate(format, p + i)) + d),
+            wrap32(-i128::from(saturate(format, i128::from(saturate(format, 2 * d)) + p))),
+            kd,
+        ],
+        _ => [
+            saturate(format, p + i + d),
+            saturate(format, -(2 * d + p)),
+            kd,
+        ],
     }
 }
 
@@ -57,7 +49,7 @@ fn pid_close(format: Fmt, sum: i128, y1: i32) -> i32
 #[derive(Clone, Copy)]
 struct Controller {
     format: Fmt,
-    gains: Gains,
+    gains: [i32; 3],
     ghost wide: { format ≢ Q7 },
 }
 
@@ -73,8 +65,7 @@ impl Recurrence for Controller {
     ghost cost = { λ r. 3 };
 
     fn next<L: Ledger>(&self, x: &[i32], y: &[i32], steps: &mut Steps<L>) -> i32 {
-        let gains = self.gains;
-        let sum = newest_sum(gains.a0, gains.a1, gains.a2, x, steps);
+        let sum = newest_sum(&self.gains, x, steps);
         pid_close(self.format, sum, back(y, 0))
     }
 }

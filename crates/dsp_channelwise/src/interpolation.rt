@@ -11,27 +11,6 @@ use dsp_exact::{Formula, Terms, close, delayed, product, sample, sum_below, valu
 use std::alloc::{AllocError, Global};
 use std::sync::ledger::Ledger;
 
-/// The terms b[L*k+p] * x(n-k).
-#[derive(Clone, Copy)]
-struct PhaseDelays<'a> {
-    b: &'a [i32],
-    factor: usize,
-    p: usize,
-    x: &'a [i32],
-    n: usize,
-}
-
-impl<'a> Terms for PhaseDelays<'a> {
-    ghost Has = { λ t k. (k < length t.b.now / t.factor) × (t.p < t.factor) };
-
-    ghost term = { λ t k. sample (phase_taps t.factor t.b.now t.p) k *ℤ delayed t.x.now t.n k };
-
-    fn term<L: Ledger>(&self, k: usize, steps: &mut Steps<L>) -> i128 {
-        let tap = sample(self.b, self.factor * k + self.p);
-        product(tap, delayed(self.x, self.n, k), steps)
-    }
-}
-
 /// y(n*L+p) = close(sum over k of b[L*k+p] * x(n-k)).
 #[derive(Clone, Copy)]
 struct Interpolated<'a> {
@@ -39,6 +18,26 @@ struct Interpolated<'a> {
     b: &'a [i32],
     factor: usize,
     x: &'a [i32],
+}
+
+/// The terms of value i: b[L*k+p] * x(n-k), where i is n*L+p.
+#[derive(Clone, Copy)]
+struct PhaseDelays<'a> {
+    of: Interpolated<'a>,
+    i: usize,
+}
+
+impl<'a> Terms for PhaseDelays<'a> {
+    ghost Has = { λ t k. (k < length t.of.b.now / t.of.factor) × (1 ≤ t.of.factor) };
+
+    ghost term = { λ t k. sample (phase_taps t.of.factor t.of.b.now (t.i % t.of.factor)) k
+        *ℤ delayed t.of.x.now (t.i / t.of.factor) k };
+
+    fn term<L: Ledger>(&self, k: usize, steps: &mut Steps<L>) -> i128 {
+        let factor = self.of.factor;
+        let tap = sample(self.of.b, factor * k + self.i % factor);
+        product(tap, delayed(self.of.x, self.i / factor, k), steps)
+    }
 }
 
 impl<'a> Formula for Interpolated<'a> {
@@ -52,17 +51,9 @@ impl<'a> Formula for Interpolated<'a> {
     ghost cost = { λ f. length f.b.now / f.factor };
 
     fn at<L: Ledger>(&self, i: usize, steps: &mut Steps<L>) -> i32 {
-        let terms = PhaseDelays {
-            b: self.b,
-            factor: self.factor,
-            p: i % self.factor,
-            x: self.x,
-            n: i / self.factor,
-        };
-        close(
-            self.format,
-            sum_below(self.b.len() / self.factor, &terms, steps),
-        )
+        let count = self.b.len() / self.factor;
+        let terms = PhaseDelays { of: *self, i };
+        close(self.format, sum_below(count, &terms, steps))
     }
 }
 

@@ -10,6 +10,9 @@ use dsp_exact::{Recurrence, outputs, product, saturate};
 use std::alloc::{AllocError, Global};
 use std::sync::ledger::Ledger;
 
+/// f and g of one place.
+type Pair = (i32, i32);
+
 /// f_m(n) and g_m(n) from f_{m-1}(n), g_{m-1}(n-1).
 #[derive(Clone, Copy)]
 struct LatticeSection {
@@ -17,9 +20,9 @@ struct LatticeSection {
 }
 
 impl Recurrence for LatticeSection {
-    type In = (i32, i32);
+    type In = Pair;
 
-    type Out = (i32, i32);
+    type Out = Pair;
 
     ghost next = { λ s. lattice_output s.k };
 
@@ -27,12 +30,7 @@ impl Recurrence for LatticeSection {
 
     ghost cost = { λ s. 2 };
 
-    fn next<L: Ledger>(
-        &self,
-        x: &[(i32, i32)],
-        _y: &[(i32, i32)],
-        steps: &mut Steps<L>,
-    ) -> (i32, i32) {
+    fn next<L: Ledger>(&self, x: &[Pair], _y: &[Pair], steps: &mut Steps<L>) -> Pair {
         let (f, _) = newest(x, 0);
         let (_, g) = newest(x, 1);
         let up = product(self.k, g, steps) >> 15;
@@ -45,7 +43,7 @@ impl Recurrence for LatticeSection {
 }
 
 /// The newest pair but k, and zeros before the start.
-fn newest(x: &[(i32, i32)], k: usize) -> (i32, i32)
+fn newest(x: &[Pair], k: usize) -> Pair
     ensures { result ≡ get_or (reverse x.now) k (pos 0, pos 0) }
 {
     if k < x.len() {
@@ -70,18 +68,14 @@ pub fn lattice_fir<L: Ledger>(
 {
     let mut pairs = paired(alloc, x)?;
     for section in k {
-        pairs = outputs(
-            alloc,
-            &LatticeSection { k: *section },
-            pairs.as_slice(),
-            steps,
-        )?;
+        let section = LatticeSection { k: *section };
+        pairs = outputs(alloc, &section, pairs.as_slice(), steps)?;
     }
     firsts(alloc, pairs.as_slice())
 }
 
 /// Each sample as a pair of itself.
-fn paired(alloc: Global, x: &[i32]) -> Result<Vec<(i32, i32)>, AllocError>
+fn paired(alloc: Global, x: &[i32]) -> Result<Vec<Pair>, AllocError>
     ensures { IfOk result (λ y. y.items ≡ map (λ (a : ℤ). (a, a)) x.now) }
 {
     let mut y = Vec::with_capacity(alloc, x.len())?;
@@ -92,7 +86,7 @@ fn paired(alloc: Global, x: &[i32]) -> Result<Vec<(i32, i32)>, AllocError>
 }
 
 /// The first number of each pair.
-fn firsts(alloc: Global, pairs: &[(i32, i32)]) -> Result<Vec<i32>, AllocError>
+fn firsts(alloc: Global, pairs: &[Pair]) -> Result<Vec<i32>, AllocError>
     requires { All (λ (w : ℤ × ℤ). FitsSigned (word Q15) w.0 × FitsSigned (word Q15) w.1) pairs.now }
     ensures values { IfOk result (λ y. y.items ≡ map (λ (w : ℤ × ℤ). w.0) pairs.now) }
     ensures fits { IfOk result (λ y. All (FitsSigned (word Q15)) y.items) }

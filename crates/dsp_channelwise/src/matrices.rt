@@ -9,7 +9,7 @@ ghost use Rattle.dsp_defs.specs.declared.format.Fmt.TheVariants.{Q7};
 ghost use Rattle.dsp_channelwise.specs.Groups.{IsMatrixBlock, element, element_cost, group_sizes};
 
 use dsp_defs::{Block, Fmt, Steps};
-use dsp_exact::{Formula, Terms, close, product, sample, saturate, scale, sum_below, values};
+use dsp_exact::{Formula, Terms, add, close, product, sample, scale, sub, sum_below, values};
 use std::alloc::{AllocError, Global};
 use std::sync::ledger::Ledger;
 
@@ -49,20 +49,11 @@ fn element<L: Ledger>(format: Fmt, block: &Block, a: &[i32], i: usize, steps: &m
     ensures fits { FitsSigned (word format) result }
     ensures products { steps.new.multiplies ≤ steps.old.multiplies + element_cost block.now }
 {
+    let x = sample(a, i);
     match block {
-        Block::MatAdd { matrix, .. } => {
-            saturate(
-                format,
-                i128::from(sample(a, i)) + i128::from(sample(matrix.as_slice(), i)),
-            )
-        }
-        Block::MatSub { matrix, .. } => {
-            saturate(
-                format,
-                i128::from(sample(a, i)) - i128::from(sample(matrix.as_slice(), i)),
-            )
-        }
-        Block::MatScale { fract, shift, .. } => scale(format, *fract, *shift, sample(a, i), steps),
+        Block::MatAdd { matrix, .. } => add(format, x, sample(matrix.as_slice(), i)),
+        Block::MatSub { matrix, .. } => sub(format, x, sample(matrix.as_slice(), i)),
+        Block::MatScale { fract, shift, .. } => scale(format, *fract, *shift, x, steps),
         Block::MatTrans { rows, columns } => {
             let (rows, columns) = (usize::from(*rows), usize::from(*columns));
             sample(a, i % rows * columns + i / rows)

@@ -1,20 +1,34 @@
-//! The newest three values, each times a coefficient.
-ghost use Rattle.std.specs.Prelude.{◌≡◌, ◌+◌, ◌*◌, ◌≤◌, ◌^◌, ◌+ℤ◌, ◌*ℤ◌, nat_abs, reverse};
-ghost use Rattle.dsp_defs.specs.Signal.{sample};
+//! Sums of the newest values, each times a weight.
+ghost use Rattle.std.specs.Prelude.{◌≡◌, ◌+◌, ◌*◌, ◌≤◌, ◌^◌, ◌*ℤ◌, length, nat_abs, reverse};
+ghost use Rattle.dsp_defs.specs.Signal.{sample, sum_below};
 
 use dsp_defs::Steps;
-use dsp_exact::{back, product};
+use dsp_exact::{Terms, back, product, sample, sum_below};
 use std::sync::ledger::Ledger;
 
-/// a*x(n) + b*x(n-1) + c*x(n-2), for the values up to x(n).
-pub(crate) fn newest_sum<L: Ledger>(a: i32, b: i32, c: i32, x: &[i32], steps: &mut Steps<L>) -> i128
-    ensures value { result ≡ a *ℤ sample (reverse x.now) 0 +ℤ b *ℤ sample (reverse x.now) 1
-        +ℤ c *ℤ sample (reverse x.now) 2 }
-    ensures small { nat_abs result ≤ 3 * 2 ^ 62 }
-    ensures products { steps.new.multiplies ≤ steps.old.multiplies + 3 }
+/// The terms w_k * x(n-k), for the values up to x(n).
+#[derive(Clone, Copy)]
+struct Weighted<'a> {
+    w: &'a [i32],
+    x: &'a [i32],
+}
+
+impl<'a> Terms for Weighted<'a> {
+    ghost Has = { λ t k. Unit {0} };
+
+    ghost term = { λ t k. sample t.w.now k *ℤ sample (reverse t.x.now) k };
+
+    fn term<L: Ledger>(&self, k: usize, steps: &mut Steps<L>) -> i128 {
+        product(sample(self.w, k), back(self.x, k), steps)
+    }
+}
+
+/// w_0*x(n) + w_1*x(n-1) + .., for the values up to x(n).
+pub(crate) fn newest_sum<L: Ledger>(w: &[i32], x: &[i32], steps: &mut Steps<L>) -> i128
+    ensures value { result ≡ sum_below (length w.now)
+        (λ k. sample w.now k *ℤ sample (reverse x.now) k) }
+    ensures small { nat_abs result ≤ length w.now * 2 ^ 62 }
+    ensures products { steps.new.multiplies ≤ steps.old.multiplies + length w.now }
 {
-    let x0 = product(a, back(x, 0), steps);
-    let x1 = product(b, back(x, 1), steps);
-    let x2 = product(c, back(x, 2), steps);
-    x0 + x1 + x2
+    sum_below(w.len(), &Weighted { w, x }, steps)
 }

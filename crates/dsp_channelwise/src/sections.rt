@@ -6,14 +6,11 @@ ghost use Rattle.dsp_channelwise.specs.Recursions.{numbers_of_section, section_o
 
 use dsp_defs::Fmt;
 
-/// The coefficients of a section.
+/// The coefficients of a section: b0, b1, b2, and those of the feedback, a1 and a2.
 #[derive(Clone, Copy)]
 pub(crate) struct Section {
-    pub b0: i32,
-    pub b1: i32,
-    pub b2: i32,
-    pub a1: i32,
-    pub a2: i32,
+    pub forward: [i32; 3],
+    pub back: [i32; 2],
 }
 
 /// The numbers of a section in a script: six in Q15, where the second is not used, and else five.
@@ -34,18 +31,12 @@ pub(crate) fn section_at(format: Fmt, c: &[i32]) -> Section
 {
     match format {
         Fmt::Q15 => Section {
-            b0: c[0],
-            b1: c[2],
-            b2: c[3],
-            a1: c[4],
-            a2: c[5],
+            forward: [c[0], c[2], c[3]],
+            back: [c[4], c[5]],
         },
         _ => Section {
-            b0: c[0],
-            b1: c[1],
-            b2: c[2],
-            a1: c[3],
-            a2: c[4],
+            forward: [c[0], c[1], c[2]],
+            back: [c[3], c[4]],
         },
     }
 }

@@ -11,32 +11,6 @@ use dsp_sat::wrap32;
 use std::alloc::{AllocError, Global};
 use std::sync::ledger::Ledger;
 
-/// The terms of a sparse sum: b[k] * x(n-d[k]), and in Q31 its high word.
-#[derive(Clone, Copy)]
-struct SparseDelays<'a> {
-    format: Fmt,
-    b: &'a [i32],
-    delays: &'a [i32],
-    x: &'a [i32],
-    n: usize,
-}
-
-impl<'a> Terms for SparseDelays<'a> {
-    ghost Has = { λ t k. k < length t.delays.now };
-
-    ghost term = { λ t k. sparse_term t.format (sample t.b.now k)
-        (delayed t.x.now t.n (get_or (map nat_abs t.delays.now) k 0)) };
-
-    fn term<L: Ledger>(&self, k: usize, steps: &mut Steps<L>) -> i128 {
-        let delay = self.delays[k].unsigned_abs() as usize;
-        let p = product(sample(self.b, k), delayed(self.x, self.n, delay), steps);
-        match self.format {
-            Fmt::Q31 => p >> 32,
-            _ => p,
-        }
-    }
-}
-
 /// A sum of a sparse filter as a sample: the accumulator has 32 bits in each format.
 fn sparse_close(format: Fmt, sum: i128) -> i32
     requires { nat_abs sum < 2 ^ 126 }
@@ -59,6 +33,33 @@ struct SparseSums<'a> {
     x: &'a [i32],
 }
 
+/// The terms of one of these sums: b[k] * x(n-d[k]), and in Q31 its high word.
+#[derive(Clone, Copy)]
+struct SparseDelays<'a> {
+    of: SparseSums<'a>,
+    n: usize,
+}
+
+impl<'a> Terms for SparseDelays<'a> {
+    ghost Has = { λ t k. k < length t.of.delays.now };
+
+    ghost term = { λ t k. sparse_term t.of.format (sample t.of.b.now k)
+        (delayed t.of.x.now t.n (get_or (map nat_abs t.of.delays.now) k 0)) };
+
+    fn term<L: Ledger>(&self, k: usize, steps: &mut Steps<L>) -> i128 {
+        let delay = self.of.delays[k].unsigned_abs() as usize;
+        let p = product(
+            sample(self.of.b, k),
+            delayed(self.of.x, self.n, delay),
+            steps,
+        );
+        match self.of.format {
+            Fmt::Q31 => p >> 32,
+            _ => p,
+        }
+    }
+}
+
 impl<'a> Formula for SparseSums<'a> {
     ghost format = { λ f. f.format };
 
@@ -70,13 +71,7 @@ impl<'a> Formula for SparseSums<'a> {
     ghost cost = { λ f. length f.b.now };
 
     fn at<L: Ledger>(&self, n: usize, steps: &mut Steps<L>) -> i32 {
-        let terms = SparseDelays {
-            format: self.format,
-            b: self.b,
-            delays: self.delays,
-            x: self.x,
-            n,
-        };
+        let terms = SparseDelays { of: *self, n };
         sparse_close(self.format, sum_below(self.b.len(), &terms, steps))
     }
 }

@@ -43,18 +43,10 @@ impl Recurrence for Wide {
     ghost cost = { λ r. 5 };
 
     fn next<L: Ledger>(&self, x: &[i32], y: &[i64], steps: &mut Steps<L>) -> i64 {
-        let section = self.section;
-        let forward = newest_sum(section.b0, section.b1, section.b2, x, steps);
-        let y1 = mult32x64(
-            fed_back(self.post_shift, back_wide(y, 0)),
-            section.a1,
-            steps,
-        );
-        let y2 = mult32x64(
-            fed_back(self.post_shift, back_wide(y, 1)),
-            section.a2,
-            steps,
-        );
+        let p = self.post_shift;
+        let forward = newest_sum(&self.section.forward, x, steps);
+        let y1 = mult32x64(fed_back(p, back_wide(y, 0)), self.section.back[0], steps);
+        let y2 = mult32x64(fed_back(p, back_wide(y, 1)), self.section.back[1], steps);
         wrap64(forward + i128::from(y1) + i128::from(y2))
     }
 }

@@ -18,7 +18,7 @@ use Rattle.dsp_defs.specs.declared.limits.TheConstants.{MAX_CHECKED}
 use Rattle.dsp_defs.specs.declared.script.Block.{Block}
 use Rattle.dsp_defs.specs.declared.script.Script.{Script}
 use Rattle.dsp_defs.proofs.FrameLaws.{length-whole, whole_frames_are_given, window_cases}
-use Rattle.dsp_script.proofs.Placed.{IsPlaced, placed_after, placed_sound}
+use Rattle.dsp_shape.proofs.Placed.{IsPlaced, placed_after, placed_sound}
 use Rattle.dsp_check.specs.Channels.{InFormat, frame_at, frame_count}
 use Rattle.dsp_check.specs.Evaluating.{Gives}
 

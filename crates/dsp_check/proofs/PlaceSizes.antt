@@ -7,17 +7,18 @@ use Rattle.std.proofs.lemmas.Nat.{mul-le}
 use Rattle.std.proofs.Math.Nat.{div-le_self, le-mul_of_pos_right}
 use Rattle.dsp_defs.specs.Block.{channels_after}
 use Rattle.dsp_defs.specs.Grammar.{Suits}
-use Rattle.dsp_defs.specs.Shape.{group_of, groups_after, correlation_length, given_frames, whole_frames, window_end}
+use Rattle.dsp_defs.specs.Shape.{steady_frames, correlation_length, given_frames, whole_frames, window_end}
 use Rattle.dsp_defs.specs.Shape.{window_at}
 use Rattle.dsp_defs.specs.Sizes.{size_at}
 use Rattle.dsp_defs.specs.Sums.{full_length}
 use Rattle.dsp_defs.specs.declared.flow.Flow.{Flow}
-use Rattle.dsp_defs.specs.declared.limits.TheConstants.{MAX_CHECKED, MAX_FACTOR, MAX_MATRIX_SIDE, MAX_TAPS}
+use Rattle.dsp_defs.specs.declared.limits.TheConstants.{MAX_CHECKED, MAX_TAPS}
 use Rattle.dsp_defs.specs.declared.script.Block.{Block}
-use Rattle.dsp_defs.specs.declared.script.Block.TheVariants.{Conv, ConvPartial, Correlate, Interpolate}
+use Rattle.dsp_defs.specs.declared.script.Block.TheVariants.{Conv, ConvPartial, Correlate}
 use Rattle.dsp_defs.proofs.FrameLaws.{whole_frames_are_given}
-use Rattle.dsp_script.proofs.Counts.{GivesFew}
-use Rattle.dsp_script.proofs.Placed.{GivesSome, group_few}
+use Rattle.dsp_shape.specs.FrameRule.{rule_of, groups_by, steady_by}
+use Rattle.dsp_shape.proofs.FrameRules.{is-rule, rule-groups, steady-rule}
+use Rattle.dsp_shape.proofs.FewFrames.{FewBy, few-by-first}
 
 -- ---- one block
 
@@ -35,22 +36,19 @@ correlation_le n t few = tested (eqb n 0)
     tested true = omega arith
     tested false = omega arith
 
-grouped_le : (group : Option (ℕ × ℕ)) (n : ℕ) → GivesSome group → n ≤ MAX_CHECKED → groups_after group n ≤ 2 ^ 40
-grouped_le None n few h = omega arith
-grouped_le (Some g) n few h =
-    omega (
-      arith,
-      mul-le (n / g.0) g.1 MAX_CHECKED (MAX_MATRIX_SIDE * MAX_MATRIX_SIDE)
-          (omega (arith, div-le_self n g.0)) few,
-    )
+steady-few : (flow : Flow) (b : Block) (n : ℕ) → Suits flow b → n ≤ MAX_CHECKED → steady_frames b n ≤ 2 ^ 40
+steady-few flow b n s h =
+    let g = groups_by (rule_of b) in
+    let is = rule-groups (rule_of b) (is-rule flow b s) in
+    let product = mul-le (n / g.0) g.1 MAX_CHECKED (2 ^ 16) (omega (arith, div-le_self n g.0)) (omega (arith, is.3)) in
+    rw (← steady-rule b n) (omega (arith, product))
 
 -- a block gives few frames of few
 given-few : (flow : Flow) (b : Block) (n : ℕ) → Suits flow b → n ≤ MAX_CHECKED → given_frames b n ≤ 2 ^ 40
 given-few flow (Conv taps) n s h = omega (arith, conv_le n (length taps) s.parameters.0.limit)
 given-few flow (ConvPartial first count taps) n s h = omega (arith, s.parameters.2.1)
 given-few flow (Correlate taps) n s h = omega (arith, correlation_le n (length taps) s.parameters.0.limit)
-given-few flow (Interpolate factor taps) n s h = omega (arith, mul-le n factor MAX_CHECKED MAX_FACTOR h s.parameters.1)
-given-few flow b n s h = grouped_le (group_of b) n (group_few flow b s) h
+given-few flow b n s h = steady-few flow b n s h
 
 pub whole-few : (flow : Flow) (b : Block) (n : ℕ) → Suits flow b → n ≤ MAX_CHECKED → (given_frames b n < 2 ^ 63) ×
     (whole_frames b n ≤ 2 ^ 40)
@@ -91,13 +89,15 @@ window-here n b items rest (Some w) whole e is some same =
     sym now ∙ same
 
 pub window-goes-on : (n : ℕ) (b : Block) (items rest : List Block) (whole : Option (ℕ × ℕ)) → items ≡ b ∷ rest →
-    window_end b n ≡ None → window_at items n ≡ whole → GivesFew items n
+    window_end b n ≡ None → window_at items n ≡ whole → FewBy given_frames items n
     → (window_at rest (whole_frames b n) ≡ whole) × (given_frames b n < 2 ^ 63) × (whole_frames b n < 2 ^ 63) ×
-    GivesFew rest (whole_frames b n)
+    FewBy given_frames rest (whole_frames b n)
 window-goes-on n b items rest whole e none same few =
     let now : window_at items n ≡ window_at rest (whole_frames b n) =
     ap (λ (blocks : List Block). window_at blocks n) e ∙
     ap (λ (o : Option (ℕ × ℕ)). elim o [ Some w ↦ Some w | None ↦ window_at rest (whole_frames b n) ]) none in
     let is = whole_frames_are_given b n none in
-    let parts : GivesFew (b ∷ rest) n = rw e at few in
-    (sym now ∙ same, parts.0, rw is parts.0, rw is parts.1)
+    let parts : FewBy given_frames (b ∷ rest) n = rw e at few in
+    let given : given_frames b n < 2 ^ 63 = (let first = few-by-first given_frames rest (given_frames b n) parts.1 in
+    omega (arith, first)) in
+    (sym now ∙ same, given, rw is given, rw is parts.1)

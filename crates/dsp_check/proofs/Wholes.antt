@@ -1,7 +1,7 @@
 -- What the definitions say of a block on whole signals: of one that works on each channel, of one that gives a frame
 -- for each frame alone, and of an adaptive filter.
 use Rattle.std.proofs.Common.{◌≡◌, ◌∙◌, ap, refl, sym, subst, ℕ, zero, suc, ◌+◌, ◌*◌, ◌<◌, ◌≤◌, ℤ, pos, List, [], ◌∷◌}
-use Rattle.std.proofs.Common.{◌++◌, length, get_or, map, arith}
+use Rattle.std.proofs.Common.{◌++◌, length, get_or, map, arith, rules}
 use Rattle.std.specs.Prelude.{All, FitsSigned, Option, Some, None, IfSome, IsSome}
 use Rattle.std.proofs.lemmas.List.{length-map, get_or-map, get_or_append_left, get_or-append-add, get_or_default}
 use Rattle.std.proofs.lemmas.List.{map-append, map-id}
@@ -18,12 +18,10 @@ use Rattle.dsp_defs.specs.Shape.{whole_frames}
 use Rattle.dsp_defs.specs.declared.flow.Flow.{Flow}
 use Rattle.dsp_defs.specs.declared.format.Fmt.{Fmt}
 use Rattle.dsp_defs.specs.declared.script.Block.{Block}
-use Rattle.dsp_defs.specs.declared.script.Block.TheVariants.{Offset, Negate, Abs, Scale, Shift, Clip, To, Add, Sub}
-use Rattle.dsp_defs.specs.declared.script.Block.TheVariants.{Mult, Conj, CmplxMult, CmplxMultReal, MagSquared, Fir}
-use Rattle.dsp_defs.specs.declared.script.Block.TheVariants.{Sparse, Decimate, Interpolate, LatticeFir, LatticeIir}
-use Rattle.dsp_defs.specs.declared.script.Block.TheVariants.{Biquad, Biquad64, Conv, ConvPartial, Correlate, Lms, Pid}
-use Rattle.dsp_defs.specs.declared.script.Block.TheVariants.{MatAdd, MatSub, MatScale, MatTrans, MatMult, Power, Dot}
-use Rattle.dsp_defs.specs.declared.script.Block.TheVariants.{CmplxDot, Max, Min, Route}
+use Rattle.dsp_defs.specs.declared.script.Block.TheVariants.{To, Add}
+use Rattle.dsp_defs.specs.declared.script.Block.TheVariants.{Fir}
+use Rattle.dsp_defs.specs.declared.script.Block.TheVariants.{Lms}
+use Rattle.dsp_defs.specs.declared.script.Block.TheVariants.{Power}
 use Rattle.dsp_defs.proofs.FrameLaws.{IsCounted, whole_channel_counted}
 use Rattle.dsp_defs.proofs.FrameLemmas.{map-values}
 use Rattle.dsp_defs.proofs.Signal.{values_cong}
@@ -44,35 +42,13 @@ format-kept format block h = refl
 pub channels-kept : (format : Fmt) (block : Block) (c : ℕ) → IsSome (whole_channel format block) →
     channels_after c block ≡ c
 channels-kept format Add c h = absurd (cc)
-channels-kept format Sub c h = absurd (cc)
-channels-kept format Mult c h = absurd (cc)
-channels-kept format CmplxMult c h = absurd (cc)
-channels-kept format CmplxMultReal c h = absurd (cc)
-channels-kept format MagSquared c h = absurd (cc)
-channels-kept format (Route list) c h = absurd (cc)
-channels-kept format block c h = refl
+channels-kept format block c h = first_of (search rules, cc)
 
 -- its products are those of each channel
 pub channel-costs : (format : Fmt) (block : Block) (c n : ℕ) → IsSome (whole_channel format block) →
     c * whole_block_cost format 1 block n ≡ whole_block_cost format c block n
 channel-costs format (Fir taps) c n h = omega arith
-channel-costs format (Sparse taps delays) c n h = omega arith
-channel-costs format (Decimate factor taps) c n h = omega arith
-channel-costs format (Interpolate factor taps) c n h = omega arith
-channel-costs format (LatticeFir k) c n h = omega arith
-channel-costs format (LatticeIir k v) c n h = omega arith
-channel-costs format (Biquad p coefficients) c n h = omega arith
-channel-costs format (Biquad64 p coefficients) c n h = omega arith
-channel-costs format (Conv taps) c n h = omega arith
-channel-costs format (ConvPartial first count taps) c n h = omega arith
-channel-costs format (Correlate taps) c n h = omega arith
-channel-costs format (Pid kp ki kd) c n h = omega arith
-channel-costs format (MatAdd rows columns matrix) c n h = omega arith
-channel-costs format (MatSub rows columns matrix) c n h = omega arith
-channel-costs format (MatScale rows columns fract shift) c n h = omega arith
-channel-costs format (MatTrans rows columns) c n h = omega arith
-channel-costs format (MatMult rows columns given matrix) c n h = omega arith
-channel-costs format block c n h = absurd (cc)
+channel-costs format block c n h = first_of (omega arith, cc)
 
 -- the products of some of the channels and of one more
 pub cost-of-more : (k count price before mid after whole : ℕ) → k < count → mid ≤ before + k * price →
@@ -134,27 +110,8 @@ by-channel (Some f) items x c count all some each = (f, refl, λ k inside. each 
 
 pub values-by-frame : (format : Fmt) (c : ℕ) (block : Block) (x : List Frame) → IsFramewise block →
     map (given_frame format block) x ≡ whole format c block x
-values-by-frame format c (Offset value) x h = refl
-values-by-frame format c Negate x h = refl
-values-by-frame format c Abs x h = refl
-values-by-frame format c (Scale fract shift) x h = refl
-values-by-frame format c (Shift shift) x h = refl
-values-by-frame format c (Clip low high) x h = refl
-values-by-frame format c (To target) x h = refl
-values-by-frame format c Add x h = refl
-values-by-frame format c Sub x h = refl
-values-by-frame format c Mult x h = refl
-values-by-frame format c Conj x h = refl
-values-by-frame format c CmplxMult x h = refl
-values-by-frame format c CmplxMultReal x h = refl
-values-by-frame format c MagSquared x h = refl
-values-by-frame format c (Route list) x h = refl
 values-by-frame format c Power x h = map-id x
-values-by-frame format c Dot x h = map-id x
-values-by-frame format c CmplxDot x h = map-id x
-values-by-frame format c Max x h = map-id x
-values-by-frame format c Min x h = map-id x
-values-by-frame format c block x h = absurd h
+values-by-frame format c block x h = search (rules, map-id)
 
 -- one frame more
 pub frames-more : (g : Frame → Frame) (f : ℕ → Frame) (n : ℕ) (y : List (List ℤ)) (given : Frame) → AreChannels y →
@@ -170,27 +127,8 @@ frames-more g f n y given are wide so_far is =
 -- the products of one frame more
 pub frame-costs : (format : Fmt) (c : ℕ) (block : Block) (n : ℕ) → IsFramewise block →
     whole_block_cost format c block n + whole_block_cost format c block 1 ≡ whole_block_cost format c block (n + 1)
-frame-costs format c (Offset value) n h = omega arith
-frame-costs format c Negate n h = omega arith
-frame-costs format c Abs n h = omega arith
-frame-costs format c (Scale fract shift) n h = omega arith
-frame-costs format c (Shift shift) n h = omega arith
-frame-costs format c (Clip low high) n h = omega arith
-frame-costs format c (To target) n h = omega arith
 frame-costs format c Add n h = omega arith
-frame-costs format c Sub n h = omega arith
-frame-costs format c Mult n h = omega arith
-frame-costs format c Conj n h = omega arith
-frame-costs format c CmplxMult n h = omega arith
-frame-costs format c CmplxMultReal n h = omega arith
-frame-costs format c MagSquared n h = omega arith
-frame-costs format c (Route list) n h = omega arith
-frame-costs format c Power n h = omega arith
-frame-costs format c Dot n h = omega arith
-frame-costs format c CmplxDot n h = omega arith
-frame-costs format c Max n h = omega arith
-frame-costs format c Min n h = omega arith
-frame-costs format c block n h = absurd h
+frame-costs format c block n h = first_of (omega arith, search rules)
 
 -- ---- of an adaptive filter
 

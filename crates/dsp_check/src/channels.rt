@@ -69,15 +69,7 @@ pub fn adapt<L: Ledger>(
     ensures products { steps.new.multiplies ≤ steps.old.multiplies
         + frame_count x.now * (2 * length taps.now + 1) }
 {
-    let (output, error) = lms(
-        alloc,
-        format,
-        post_shift,
-        mu,
-        taps,
-        x.channel(0),
-        x.channel(1),
-        steps,
-    )?;
+    let (input, reference) = (x.channel(0), x.channel(1));
+    let (output, error) = lms(alloc, format, post_shift, mu, taps, input, reference, steps)?;
     of_two(alloc, output, error)
 }

@@ -3,7 +3,7 @@ ghost use Rattle.std.specs.Prelude.{◌≡◌, ◌≤◌, ◌<◌, ◌^◌, ◌/
 ghost use Rattle.dsp_defs.specs.Bytes.{format_in};
 ghost use Rattle.dsp_defs.specs.Grammar.{IsSound};
 ghost use Rattle.dsp_ports.specs.Ports.{SourceState};
-ghost use Rattle.dsp_script.specs.Lengths.{HasLegalBlock};
+ghost use Rattle.dsp_shape.specs.Lengths.{HasLegalBlock};
 ghost use Rattle.dsp_input.specs.Taking.{PartTaken, frame_bytes};
 ghost use Rattle.dsp_check.specs.Check.{CostsFew, Done, KeepsLimits, Stopped, frames_past_limit};
 ghost use Rattle.dsp_check.specs.Steps.{IsLengthFault, Unread, bytes_past_limit, output_of};

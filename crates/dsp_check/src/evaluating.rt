@@ -37,15 +37,10 @@ fn whole<L: Ledger>(
             post_shift,
             mu,
             taps,
-        } => adapt(
-            alloc,
-            flow.format,
-            *post_shift,
-            *mu,
-            taps.as_slice(),
-            x,
-            steps,
-        ),
+        } => {
+            let taps = taps.as_slice();
+            adapt(alloc, flow.format, *post_shift, *mu, taps, x, steps)
+        }
         Block::Fir { .. }
         | Block::Sparse { .. }
         | Block::Decimate { .. }

@@ -5,7 +5,7 @@ ghost use Rattle.dsp_defs.specs.Grammar.{IsSound};
 ghost use Rattle.dsp_defs.specs.Shape.{given_frames, group_of, whole_frames, window_at, window_end};
 ghost use Rattle.dsp_defs.specs.Sizes.{size_at};
 ghost use Rattle.dsp_defs.specs.declared.fault.WindowFault.{WindowFault};
-ghost use Rattle.dsp_script.specs.Lengths.{HasLegalBlock, IsGroup};
+ghost use Rattle.dsp_shape.specs.Lengths.{HasLegalBlock, IsGroup};
 
 use dsp_defs::{Block, Flow, MAX_CHECKED, Script, WindowFault};
 use dsp_script::{full_length, given_frames};

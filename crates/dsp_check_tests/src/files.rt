@@ -1,7 +1,7 @@
 //! A file against the output of a script, over ports in memory.
 ghost use Rattle.std.specs.Prelude.{◌≡◌};
 ghost use Rattle.dsp_defs.specs.Grammar.{IsSound};
-ghost use Rattle.dsp_script.specs.Lengths.{HasLegalBlock};
+ghost use Rattle.dsp_shape.specs.Lengths.{HasLegalBlock};
 
 use crate::signals::script_of;
 use dsp_check::{CheckFault, check};

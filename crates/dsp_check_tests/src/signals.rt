@@ -2,7 +2,7 @@
 //! and bytes that are compared.
 ghost use Rattle.std.specs.Prelude.{◌≡◌, IfSome};
 ghost use Rattle.dsp_defs.specs.Grammar.{IsSound};
-ghost use Rattle.dsp_script.specs.Lengths.{HasLegalBlock};
+ghost use Rattle.dsp_shape.specs.Lengths.{HasLegalBlock};
 
 use dsp_check::{Mismatch, add_coded, compare, evaluate, signal_of, size_fault, window_fault};
 use dsp_defs::{Coding, Container, Fmt, Script, Steps};

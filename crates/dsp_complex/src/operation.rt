@@ -60,7 +60,8 @@ impl Operation {
 }
 
 impl FrameWork for Operation {
-    ghost use Rattle.dsp_complex.specs.ComplexUnit.{block_of, IsComplexBlock, gives-frames, gives-as-many};
+    ghost use Rattle.dsp_complex.specs.ComplexUnit.{block_of, IsComplexBlock};
+    ghost use Rattle.dsp_complex.specs.Laws.{gives-frames, gives-as-many};
 
     ghost block = { block_of };
 

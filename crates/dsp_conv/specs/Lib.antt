@@ -4,3 +4,4 @@ pub mod ByChannel
 pub mod Making
 pub mod Sums
 pub mod CorrelateState
+pub mod Laws

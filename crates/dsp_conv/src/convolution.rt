@@ -254,7 +254,8 @@ impl<T: LaneSample<L>, const L: usize, K: Copy> Convolution<T, L, K> {
 
 impl<T: FormatLanes<L>, const L: usize, K: Copy> Filter<T> for Convolution<T, L, K> {
     ghost use Rattle.dsp_conv.specs.ConvState.{conv_channel};
-    ghost use Rattle.dsp_conv.specs.ByChannel.{IsConvIn, conv-by-channel, conv-groups};
+    ghost use Rattle.dsp_conv.specs.ByChannel.{IsConvIn};
+    ghost use Rattle.dsp_conv.specs.Laws.{conv-by-channel, conv-groups};
 
     ghost filter = { conv_channel T.format };
 

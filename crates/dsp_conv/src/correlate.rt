@@ -165,7 +165,8 @@ impl<T: OwnLanes> Correlate<T> {
 
 impl<T: OwnLanes> Filter<T> for Correlate<T> {
     ghost use Rattle.dsp_conv.specs.CorrelateState.{correlate_channel};
-    ghost use Rattle.dsp_conv.specs.ByChannel.{IsCorrelateIn, correlate-by-channel, correlate-groups};
+    ghost use Rattle.dsp_conv.specs.ByChannel.{IsCorrelateIn};
+    ghost use Rattle.dsp_conv.specs.Laws.{correlate-by-channel, correlate-groups};
 
     ghost filter = { correlate_channel T.format };
 

@@ -1,4 +1,5 @@
 pub mod ExactSums
+pub mod Formats
 pub mod Products
 pub mod Pushed
 pub mod Recurrences

@@ -1,12 +1,29 @@
 //! The formulas of blocks without memory, on exact numbers.
 ghost use Rattle.std.specs.Prelude.{◌≡◌, ◌+◌, ◌-ℤ◌, ◌≤◌, ◌≤ℤ◌, ◌^◌, FitsSigned, nat_abs, negsuc, pos};
-ghost use Rattle.dsp_defs.specs.Elementwise.{IsScaleShift, IsShift, convert, mult, scale, shift, shift_in};
+ghost use Rattle.dsp_defs.specs.Elementwise.{IsScaleShift, IsShift, add, convert, mult, scale, shift};
+ghost use Rattle.dsp_defs.specs.Elementwise.{shift_in, sub};
 ghost use Rattle.dsp_defs.specs.Formats.{word, word_bits};
 
 use crate::numbers::{product, saturate, word_bits};
 use dsp_defs::{Fmt, Steps};
 use dsp_sat::sat31;
 use std::sync::ledger::Ledger;
+
+/// a + b, saturated.
+pub fn add(format: Fmt, a: i32, b: i32) -> i32
+    ensures value { result ≡ add format a b }
+    ensures fits { FitsSigned (word format) result }
+{
+    saturate(format, i128::from(a) + i128::from(b))
+}
+
+/// a - b, saturated.
+pub fn sub(format: Fmt, a: i32, b: i32) -> i32
+    ensures value { result ≡ sub format a b }
+    ensures fits { FitsSigned (word format) result }
+{
+    saturate(format, i128::from(a) - i128::from(b))
+}
 
 /// x * 2^s, saturated, where it grows, and x >> -s where it shrinks.
 pub fn shift_in(format: Fmt, x: i32, s: i32) -> i32

@@ -8,7 +8,7 @@ mod numbers;
 mod reads;
 mod recurrence;
 
-pub use elementwise::{convert, mult, scale, shift_in};
+pub use elementwise::{add, convert, mult, scale, shift_in, sub};
 pub use formula::{Formula, Terms, sum_below, values};
 pub use numbers::{close, product, saturate, word_bits, wrap};
 pub use reads::{back, back_wide, delayed, sample};

@@ -1,11 +1,11 @@
 pub mod Places
-pub mod Rounds
-pub mod KeptLists
+mod Rounds
+mod KeptLists
 pub mod Units
 pub mod Slices
 pub mod LastPlace
-pub mod Chains
-pub mod Waves
+mod Chains
+mod Waves
 pub mod FrameSamples
 pub mod MemorylessUnits
-pub mod TestSignals
+mod TestSignals

@@ -182,8 +182,10 @@ module _ (format : Fmt) (capacity : ℕ) (olds : List FilterState) (are : AreFil
       = record {
         size = length-set news channel y ∙ so_far.size;
         left = left-more olds news channel y so_far.left;
-        each = below_more (λ c. (start stop : Counts) × FilterFeeds (filter_at olds c) (filter_at (set news channel y) c)
-            (samples_in (length olds) count taken c) (samples_in (length olds) (length ys) written c) start stop) channel
+        each = below_more (λ c. (start stop : Counts) ×
+            FilterFeeds (filter_at olds c) (filter_at (set news channel y) c)
+            (samples_in (length olds) count taken c) (samples_in (length olds) (length ys) written c)
+            start stop) channel
             (λ c below.
             let apart : c ≢ channel = omega (arith, below) in
             let within : c < length olds = omega (arith, below, inside) in
@@ -197,7 +199,8 @@ module _ (format : Fmt) (capacity : ℕ) (olds : List FilterState) (are : AreFil
               stop,
               subst (λ g. FilterFeeds (filter_at olds c) g (samples_in (length olds) count taken c)
                   (samples_in (length olds) (length ys) written c) start stop) (sym (set-apart news channel c y apart))
-                  (subst (λ v. FilterFeeds (filter_at olds c) (filter_at news c) (samples_in (length olds) count taken c)
+                  (subst (λ v. FilterFeeds (filter_at olds c) (filter_at news c)
+                  (samples_in (length olds) count taken c)
                   v start stop) values_same feeds),
             )) (
               now,
@@ -205,13 +208,15 @@ module _ (format : Fmt) (capacity : ℕ) (olds : List FilterState) (are : AreFil
               subst (λ g. FilterFeeds (filter_at olds channel) g (samples_in (length olds) count taken channel)
                   (samples_in (length olds) (length ys) written channel) now after)
                   (sym (set-here news channel y within_new))
-                  (subst (λ v. FilterFeeds (filter_at olds channel) y (samples_in (length olds) count taken channel) v now
+                  (subst (λ v. FilterFeeds (filter_at olds channel) y
+                  (samples_in (length olds) count taken channel) v now
                   after) (written-here (length olds) channel given written ys here) fed),
             );
         multiplies = λ n counts.
             let earlier = so_far.multiplies n counts in
             let paid = fed.multiplies n (counts channel no_filter inside) in
-            let paid' : live_block_cost (filter_at olds 0).format 1 (filter_at olds 0).block (n + count) + now.multiplies
+            let paid' : live_block_cost (filter_at olds 0).format 1 (filter_at olds 0).block (n + count) +
+            now.multiplies
             ≡ live_block_cost (filter_at olds 0).format 1 (filter_at olds 0).block n + after.multiplies =
             sym (λ i. live_block_cost (is_format i) 1 (is_block i)
             (n + length-samples_in (length olds) count taken channel i) + now.multiplies) ∙ paid ∙
@@ -223,7 +228,8 @@ module _ (format : Fmt) (capacity : ℕ) (olds : List FilterState) (are : AreFil
             let same : block_turns (filter_at olds channel).format 1 (filter_at olds channel).block n
             (n + length (samples_in (length olds) count taken channel)) ≡ block_turns (filter_at olds 0).format 1
             (filter_at olds 0).block n (n + count) =
-            (λ i. block_turns (is_format i) 1 (is_block i) n (n + length-samples_in (length olds) count taken channel i)) in
+            (λ i. block_turns (is_format i) 1 (is_block i) n
+            (n + length-samples_in (length olds) count taken channel i)) in
             omega (arith, earlier, turned, same);
       }
     where

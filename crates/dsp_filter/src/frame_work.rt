@@ -4,7 +4,7 @@ ghost use Rattle.dsp_defs.specs.Grammar.{Suits};
 ghost use Rattle.dsp_unit.specs.Unit.{IsSignal, most_frames};
 ghost use Rattle.dsp_defs.specs.declared.format.Fmt.{Fmt};
 ghost use Rattle.dsp_defs.specs.declared.script.Block.{Block};
-ghost use Rattle.dsp_unit.proofs.MemorylessLaws.{IsMemoryless};
+ghost use Rattle.dsp_unit.specs.Memoryless.{IsMemoryless};
 ghost use Rattle.dsp_filter.specs.Memoryless.{Gives, price};
 
 use dsp_defs::{Block, Fmt, Steps};

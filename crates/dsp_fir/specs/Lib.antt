@@ -1,3 +1,4 @@
 pub mod WindowState
 pub mod Delays
 pub mod ByChannel
+pub mod Laws

@@ -7,7 +7,7 @@ use Rattle.dsp_defs.specs.Streaming.{last_of}
 use Rattle.dsp_defs.specs.declared.limits.TheConstants.{MAX_DELAY}
 use Rattle.dsp_unit.specs.Filter.{FilterState, steady_filter}
 use Rattle.dsp_defs.specs.Kept.{greatest, kept_of_channel}
-use Rattle.dsp_unit.proofs.SampleFilters.{IsSampleBlock}
+use Rattle.dsp_unit.specs.Filter.{IsSampleBlock}
 use Rattle.dsp_defs.specs.declared.format.Fmt.{Fmt}
 use Rattle.dsp_defs.specs.declared.script.Block.{Block}
 use Rattle.dsp_defs.specs.declared.script.Block.TheVariants.{Fir, Sparse}

@@ -180,7 +180,8 @@ impl<T: LaneSample<L>, const L: usize, K: Copy> WindowFilter<T, L, K> {
 }
 
 impl<T: FormatLanes<L>, const L: usize, K: Copy> Filter<T> for WindowFilter<T, L, K> {
-    ghost use Rattle.dsp_fir.specs.ByChannel.{IsWindowIn, windowed};
+    ghost use Rattle.dsp_fir.specs.ByChannel.{IsWindowIn};
+    ghost use Rattle.dsp_fir.specs.Laws.{windowed};
     ghost use Rattle.dsp_fir.specs.WindowState.{channel_state};
 
     ghost filter = { channel_state T.format };

@@ -1,6 +1,6 @@
 -- The frame that a block gives of one frame: its length, its samples and its products.
 use Rattle.std.proofs.Common.{◌≡◌, ◌∙◌, refl, sym, ℕ, zero, suc, ◌*◌, ◌<◌, ◌≤◌, ℤ, pos, negsuc, ◌^◌, ◌*ℤ◌, ◌≤ℤ◌}
-use Rattle.std.proofs.Common.{SFits, to_z, of_z, List, [], ◌∷◌, length, map, arith}
+use Rattle.std.proofs.Common.{SFits, to_z, of_z, List, [], ◌∷◌, length, map, arith, rules}
 use Rattle.std.specs.Prelude.{All, FitsSigned, IsTrue}
 use Rattle.std.specs.Int.{Width, w8, w16, w32}
 use mir.Val.{hbits}
@@ -10,7 +10,6 @@ use Rattle.dsp_defs.specs.Signal.{sample}
 use Rattle.dsp_defs.specs.Block.{Frame, channels_after, given_frame, pair_frame}
 use Rattle.dsp_defs.specs.Complex.{cmplx_mult_real}
 use Rattle.dsp_defs.specs.Cost.{whole_block_cost}
-use Rattle.dsp_defs.specs.Elementwise
 use Rattle.dsp_defs.specs.Elementwise.{IsScaleShift, IsShift}
 use Rattle.dsp_defs.specs.Formats.{word}
 use Rattle.dsp_defs.specs.Grammar.{Suits}
@@ -30,52 +29,14 @@ use Rattle.dsp_framewise.specs.Framewise.{IsFramewise, sample_price}
 -- as many samples as there are channels behind the block
 pub length-given : (flow : Flow) (block : Block) (frame : Frame) → IsFramewise block → Suits flow block →
     flow.channels ≡ length frame → length (given_frame flow.format block frame) ≡ channels_after (length frame) block
-length-given flow (Offset value) frame h suits here = length-map frame (λ a. Elementwise.add flow.format a value)
-length-given flow Negate frame h suits here = length-map frame (Elementwise.negate flow.format)
-length-given flow Abs frame h suits here = length-map frame (Elementwise.abs flow.format)
-length-given flow (Scale fract shift) frame h suits here = length-map frame (Elementwise.scale flow.format fract shift)
-length-given flow (Shift shift) frame h suits here = length-map frame (Elementwise.shift flow.format shift)
-length-given flow (Clip low high) frame h suits here = length-map frame (Elementwise.clip low high)
-length-given flow (To target) frame h suits here = length-map frame (Elementwise.convert flow.format target)
-length-given flow Add frame h suits here = refl
-length-given flow Sub frame h suits here = refl
-length-given flow Mult frame h suits here = refl
 length-given flow Conj frame h suits here = sym (sym here ∙ suits.channels)
-length-given flow CmplxMult frame h suits here = refl
-length-given flow CmplxMultReal frame h suits here = refl
-length-given flow MagSquared frame h suits here = refl
-length-given flow (Route list) frame h suits here = length-map list _
-length-given flow Power frame h suits here = refl
-length-given flow Dot frame h suits here = refl
-length-given flow CmplxDot frame h suits here = refl
-length-given flow Max frame h suits here = refl
-length-given flow Min frame h suits here = refl
-length-given flow block frame h suits here = absurd h
+length-given flow block frame h suits here = search (rules, length-map)
 
 -- the products of all its samples are within those of one frame
 pub prices-within : (format : Fmt) (block : Block) (c : ℕ) → IsFramewise block →
     channels_after c block * sample_price block ≤ whole_block_cost format c block 1
-prices-within format (Offset value) c h = omega arith
-prices-within format Negate c h = omega arith
-prices-within format Abs c h = omega arith
-prices-within format (Scale fract shift) c h = omega arith
-prices-within format (Shift shift) c h = omega arith
-prices-within format (Clip low high) c h = omega arith
-prices-within format (To target) c h = omega arith
 prices-within format Add c h = omega arith
-prices-within format Sub c h = omega arith
-prices-within format Mult c h = omega arith
-prices-within format Conj c h = omega arith
-prices-within format CmplxMult c h = omega arith
-prices-within format CmplxMultReal c h = omega arith
-prices-within format MagSquared c h = omega arith
-prices-within format (Route list) c h = omega arith
-prices-within format Power c h = omega arith
-prices-within format Dot c h = omega arith
-prices-within format CmplxDot c h = omega arith
-prices-within format Max c h = omega arith
-prices-within format Min c h = omega arith
-prices-within format block c h = absurd h
+prices-within format block c h = first_of (omega arith, search rules)
 
 -- a sample of a frame whose samples each give one
 pub sample-each : (f : ℤ → ℤ) (frame : Frame) (j : ℕ) (v : ℤ) → j < length frame → v ≡ f (sample frame j) →
@@ -160,27 +121,28 @@ module _ (block : Block) (h : IsFramewise block)
   no-other = among block refl h
     where
       among : (b : Block) → block ≡ b → IsFramewise b → ⊥
-      among (Offset value) is h = not-Offset value is
-      among Negate is h = not-Negate is
-      among Abs is h = not-Abs is
-      among (Scale fract shift) is h = not-Scale fract shift is
-      among (Shift shift) is h = not-Shift shift is
-      among (Clip low high) is h = not-Clip low high is
-      among (To format) is h = not-To format is
       among Add is h = not-Add is
-      among Sub is h = not-Sub is
-      among Mult is h = not-Mult is
-      among CmplxMult is h = not-CmplxMult is
-      among CmplxMultReal is h = not-CmplxMultReal is
-      among MagSquared is h = not-MagSquared is
-      among (Route list) is h = not-Route list is
-      among Conj is h = not-Conj is
-      among Power is h = not-Power is
-      among Dot is h = not-Dot is
-      among CmplxDot is h = not-CmplxDot is
-      among Max is h = not-Max is
-      among Min is h = not-Min is
-      among b is h = h
+      among b is h = search (
+        not-Offset,
+        not-Negate,
+        not-Abs,
+        not-Scale,
+        not-Shift,
+        not-Clip,
+        not-To,
+        not-Sub,
+        not-Mult,
+        not-CmplxMult,
+        not-CmplxMultReal,
+        not-MagSquared,
+        not-Route,
+        not-Conj,
+        not-Power,
+        not-Dot,
+        not-CmplxDot,
+        not-Max,
+        not-Min,
+      )
 
 -- ---- numbers that are held in 32 bits
 

@@ -8,9 +8,9 @@ ghost use Rattle.dsp_defs.specs.Signal.{sample};
 ghost use Rattle.dsp_framewise.specs.Framewise.{IsFramewise, sample_price};
 
 use crate::complex::{imaginary_part, mag_squared, real_part};
-use crate::samples::{abs, add, clip, negate, sub};
+use crate::samples::{abs, clip, negate};
 use dsp_defs::{Block, Fmt, Steps};
-use dsp_exact::{convert, mult, sample, scale, shift_in};
+use dsp_exact::{add, convert, mult, sample, scale, shift_in, sub};
 use std::sync::ledger::Ledger;
 
 /// Sample j of the frame that a block gives for this one.

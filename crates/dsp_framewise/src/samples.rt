@@ -1,26 +1,10 @@
-//! The formulas of one or two samples that only add or compare.
+//! The formulas of one sample that only negate or compare.
 ghost use Rattle.std.specs.Prelude.{◌≡◌, ◌≤ℤ◌, FitsSigned};
-ghost use Rattle.dsp_defs.specs.Elementwise.{abs, add, clip, negate, sub};
+ghost use Rattle.dsp_defs.specs.Elementwise.{abs, clip, negate};
 ghost use Rattle.dsp_defs.specs.Formats.{word};
 
 use dsp_defs::Fmt;
 use dsp_exact::saturate;
-
-/// a + b, saturated.
-pub fn add(format: Fmt, a: i32, b: i32) -> i32
-    ensures value { result ≡ add format a b }
-    ensures fits { FitsSigned (word format) result }
-{
-    saturate(format, i128::from(a) + i128::from(b))
-}
-
-/// a - b, saturated.
-pub fn sub(format: Fmt, a: i32, b: i32) -> i32
-    ensures value { result ≡ sub format a b }
-    ensures fits { FitsSigned (word format) result }
-{
-    saturate(format, i128::from(a) - i128::from(b))
-}
 
 /// -x, saturated.
 pub fn negate(format: Fmt, x: i32) -> i32

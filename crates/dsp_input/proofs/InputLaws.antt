@@ -127,7 +127,8 @@ module _ (script : Script) (given more : List ℕ) (has : HasHeader script given
         given
     first_stays frames all count =
         ap (take frames) (goes_on frames all (within header.size (count ∙ counted)))
-        ∙ take_at (input_signal script given) (samples_of (tail_of header.size (frames * frame) more)) frames (sym count)
+        ∙ take_at (input_signal script given) (samples_of (tail_of header.size (frames * frame) more))
+        frames (sym count)
       where
         within : (size : Option ℕ) → frames ≡ length (sample_bytes_at header.start size given) / frame →
             IsWithin size (frames * frame)

@@ -4,7 +4,7 @@ ghost use Rattle.dsp_defs.specs.Grammar.{IsSound};
 ghost use Rattle.dsp_defs.specs.Output.{channels_of, format_of, known_frames, output_header};
 ghost use Rattle.dsp_defs.specs.Wave.{HeaderFits};
 ghost use Rattle.dsp_defs.specs.declared.format.Container.TheVariants as container;
-ghost use Rattle.dsp_script.specs.Lengths.{HasLegalBlock};
+ghost use Rattle.dsp_shape.specs.Lengths.{HasLegalBlock};
 ghost use Rattle.dsp_input.specs.Taking.{frame_bytes, Opened, Unopened, IsTooLong};
 
 use crate::fault::InputFault;

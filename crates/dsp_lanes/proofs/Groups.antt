@@ -154,6 +154,10 @@ counted_double a b c t n at h more =
 pub one_group : (b c : Counts) (n : ℕ) → Rises b c n 1 → RisesWithin b c (1 * n) 1
 one_group b c n h = record { multiplies_rise = omega (arith, h); turns_within = omega (arith, h) }
 
+-- two such groups, in two turns
+pub two_groups : (b c : Counts) (n : ℕ) → Rises b c (2 * n) 2 → RisesWithin b c (1 * (2 * n)) (2 * 1)
+two_groups b c n h = record { multiplies_rise = omega (arith, h); turns_within = omega (arith, h) }
+
 pub one_product : (b c : Counts) → Rises b c 1 1 → Rises b c (1 * 1) 1
 one_product b c h = record { multiplies_rise = omega (arith, h); turns_rise = omega (arith, h) }
 

@@ -1,7 +1,7 @@
 -- The high 32 bits of products of 32-bit samples, in lanes of 64 bits.
 use Rattle.std.proofs.Common.{ℕ, zero, suc, ◌≡◌, ◌≤◌, ◌+◌, ◌-◌, ◌^◌, List, [], ◌∷◌, length, map, replicate, refl, sym}
-use Rattle.std.proofs.Common.{ap, subst, ◌∙◌, arith, w32, w64, lit<, pow_mono}
-use Rattle.std.proofs.lemmas.Int.{ints, int_wrap_fits, fits_signed_mul}
+use Rattle.std.proofs.Common.{ap, subst, ◌∙◌, arith, w32, w64, lit<}
+use Rattle.std.proofs.lemmas.Int.{ints, int_wrap_fits}
 use Rattle.std.proofs.lemmas.Simd.{length-chunk, length-zip2, zip2_splat, map-map, Each1-replicate, length-replicate}
 use Rattle.std.specs.Prelude.{ℤ, pos, negsuc, ◌+ℤ◌, ◌*ℤ◌}
 use Rattle.std.specs.Int.{int_wrap, saturate_to_bits}
@@ -9,13 +9,13 @@ use Rattle.std.specs.List.{All}
 use lib.Lanes.{zip2, chunk, Each1}
 use lib.Signed.{shr_z}
 use mir.Val.{SFits, to_z, of_z}
-use Rattle.dsp_sat.proofs.Words.{product_shift_fits, abs_within}
+use Rattle.dsp_sat.proofs.Words.{product_shift_fits}
 use Rattle.dsp_lanes.proofs.LaneOps.{splat_bits, bits_of, ints_of_bits, cast_lanes, widened, casts_asked, casts_are}
-use Rattle.dsp_lanes.proofs.LaneOps.{each_widens, each_pair, group_fits, lesser, greater, saturates_to, narrowed}
-use Rattle.dsp_lanes.proofs.LaneOps.{narrow_asked, narrow_is, shifted, shifted_up, added, each_shift_fits, Each1-map}
+use Rattle.dsp_lanes.proofs.LaneOps.{each_widens, each_pair, group_fits, lesser, greater, saturates_to}
+use Rattle.dsp_lanes.proofs.LaneOps.{shifted, added, each_shift_fits, Each1-map}
 use Rattle.dsp_lanes.proofs.LaneOps.{map-same, map-zip2, length-map}
 use Rattle.dsp_lanes.proofs.LaneSums.{map-self, plus_in, times_in, products_in}
-use Rattle.dsp_lanes.proofs.LaneClosings.{Castable, down_in, up_in, low_lanes, low_lanes_are, words_fit}
+use Rattle.dsp_lanes.proofs.LaneClosings.{Castable, down_in, low_lanes, low_lanes_are, words_fit}
 
 abbrev pub high_lanes : ℕ → List ℤ → List ℤ → List ℕ
 high_lanes n xs ys = zip2 (down_in w64) (zip2 (times_in w64) (widened w32 w64 xs) (widened w32 w64 ys)) (replicate n 32)
@@ -143,7 +143,7 @@ abbrev pub scaled_highs : ℕ → List ℤ → ℤ → List ℕ
 scaled_highs n xs t = zip2 (down_in w64) (zip2 (times_in w64) (widened w32 w64 xs)
     (cast_lanes w32 w64 (replicate n (of_z w32 t)))) (replicate n 32)
 
-scaled_highs_are : (n : ℕ) (xs : List ℤ) (t : ℤ) → length xs ≡ n → Each1 (SFits w32) xs → SFits w32 t
+pub scaled_highs_are : (n : ℕ) (xs : List ℤ) (t : ℤ) → length xs ≡ n → Each1 (SFits w32) xs → SFits w32 t
     → (scaled_highs n xs t ≡ bits_of w64 (map (λ x. high x t) xs)) × Each1 (SFits w32) (map (λ x. high x t) xs)
 scaled_highs_are n xs t long f g =
     let made = highs_are n xs (replicate n t) long (length-replicate n t) f (Each1-replicate (SFits w32) n t g) in (
@@ -152,66 +152,6 @@ scaled_highs_are n xs t long f g =
           ∙ made.0
           ∙ ap (bits_of w64) (zip2_splat high xs n t long),
       Each1-map (SFits w32) (SFits w32) (λ x. high x t) (λ x h. high_fits x t h g) xs f,
-    )
-
-grown_fits : (k : ℕ) (h : ℤ) → k ≤ 31 → SFits w32 h → SFits w64 (h *ℤ pos (2 ^ k))
-grown_fits k h few f =
-    let power : 2 ^ k ≤ 2 ^ 31 = pow_mono few in
-    fits_signed_mul w64 h (pos (2 ^ k)) (2 ^ 31) (2 ^ 31) (abs_within w32 h f) power (omega arith)
-
-pub scale_up_31 : (at n k places : ℕ) (a : List ℤ) (t : ℤ) → k ≡ places → places ≤ 31 → All (SFits w32) a →
-    SFits w32 t → at + n ≤ length a
-    → Castable w64 w32 (narrowed w64 w32 n (zip2 (up_in w64) (scaled_highs n (chunk at n a) t) (replicate n k)))
-    × (map (to_z w32) (cast_lanes w64 w32 (narrowed w64 w32 n
-    (zip2 (up_in w64) (scaled_highs n (chunk at n a) t) (replicate n k))))
-    ≡ map (λ x. saturate_to_bits 31 (shr_z (x *ℤ t) (2 ^ 32) *ℤ pos (2 ^ places))) (chunk at n (map (λ x. x) a)))
-scale_up_31 at n k places a t same few f g room_a =
-    let xs = chunk at n a in
-    let long : length xs ≡ n = length-chunk at n a room_a in
-    let made = scaled_highs_are n xs t long (group_fits w32 at n a f room_a) g in
-    let hs = map (λ x. high x t) xs in
-    let long_h : length hs ≡ n = length-map (λ x. high x t) xs ∙ long in
-    let wide = each_widens w32 w64 (omega arith) hs made.1 in
-    let power : 2 ^ k ≤ 2 ^ 31 = pow_mono {j = 31} (omega arith) in
-    let fit_power : SFits w64 (pos (2 ^ k)) = record { sfits = omega arith } in
-    let few_k : k ≤ 31 = omega arith in
-    let grown : List ℤ = map (λ h. h *ℤ pos (2 ^ k)) hs in
-    let up : zip2 (up_in w64) (scaled_highs n xs t) (replicate n k) ≡ bits_of w64 grown =
-    ap (λ l. zip2 (up_in w64) l (replicate n k)) made.0
-    ∙ shifted_up w64 n k hs long_h wide fit_power refl
-    ∙ ap (bits_of w64) (map-same (SFits w32) (λ h. int_wrap w64 (h *ℤ pos (2 ^ k))) (λ h. h *ℤ pos (2 ^ k))
-    (λ h q. int_wrap_fits w64 (h *ℤ pos (2 ^ k)) (grown_fits k h few_k q)) hs made.1) in
-    let fit : Each1 (SFits w64) grown = Each1-map (SFits w32) (SFits w64) (λ h. h *ℤ pos (2 ^ k))
-    (λ h q. grown_fits k h few_k q) hs made.1 in
-    let long_g : length grown ≡ n = length-map (λ h. h *ℤ pos (2 ^ k)) hs ∙ long_h in (
-      subst (λ (l : List ℕ). Castable w64 w32 (narrowed w64 w32 n l)) (sym up)
-          (narrow_asked w64 w32 (omega arith) n grown long_g fit),
-      ap (λ l. map (to_z w32) (cast_lanes w64 w32 (narrowed w64 w32 n l))) up
-          ∙ narrow_is w64 w32 (omega arith) n grown long_g fit
-          ∙ map-map (saturate_to_bits 31) (λ h. h *ℤ pos (2 ^ k)) hs
-          ∙ map-map (λ h. saturate_to_bits 31 (h *ℤ pos (2 ^ k))) (λ x. high x t) xs
-          ∙ (λ i. map (λ x. saturate_to_bits 31 (high x t *ℤ pos (2 ^ same i))) (chunk at n (sym (map-self a) i))),
-    )
-
-pub scale_down_31 : (at n k places : ℕ) (a : List ℤ) (t : ℤ) → k ≡ places → All (SFits w32) a → SFits w32 t →
-    at + n ≤ length a
-    → Castable w64 w32 (zip2 (down_in w64) (scaled_highs n (chunk at n a) t) (replicate n k))
-    × (map (to_z w32) (cast_lanes w64 w32 (zip2 (down_in w64) (scaled_highs n (chunk at n a) t) (replicate n k)))
-    ≡ map (λ x. shr_z (shr_z (x *ℤ t) (2 ^ 32)) (2 ^ places)) (chunk at n (map (λ x. x) a)))
-scale_down_31 at n k places a t same f g room_a =
-    let xs = chunk at n a in
-    let long : length xs ≡ n = length-chunk at n a room_a in
-    let made = scaled_highs_are n xs t long (group_fits w32 at n a f room_a) g in
-    let hs = map (λ x. high x t) xs in
-    let long_h : length hs ≡ n = length-map (λ x. high x t) xs ∙ long in
-    let down : zip2 (down_in w64) (scaled_highs n xs t) (replicate n k) ≡ bits_of w64 (map (λ h. shr_z h (2 ^ k)) hs) =
-    ap (λ l. zip2 (down_in w64) l (replicate n k)) made.0 ∙
-    shifted w64 n k hs long_h (each_widens w32 w64 (omega arith) hs made.1) in
-    let cast = casts_down _ _ down (each_shift_fits w32 k hs made.1) in (
-      cast.0,
-      cast.1
-          ∙ map-map (λ h. shr_z h (2 ^ k)) (λ x. high x t) xs
-          ∙ (λ i. map (λ x. shr_z (high x t) (2 ^ same i)) (chunk at n (sym (map-self a) i))),
     )
 
 -- ---- the sparse filter

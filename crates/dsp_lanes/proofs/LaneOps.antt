@@ -293,19 +293,25 @@ shifted w (suc n) s (x ∷ xs) e f =
     (shr_lane w (of_z w x) s ∙ ap (λ z. of_z w (shr_z z (2 ^ s))) (to_z-of_z w x f.0))
     ∙ ap (λ zs. of_z w (shr_z x (2 ^ s)) ∷ zs) (shifted w n s xs (omega arith) f.1)
 
--- `<<` by the same shift in each lane
+-- `<<` by the same shift in each lane, where a number of the width has the bits of the power
+pub shifted_up_by : (w : Width) (b : ℤ) (n s : ℕ) (xs : List ℤ) → length xs ≡ n → Each1 (SFits w) xs → SFits w b →
+    of_z w b ≡ 2 ^ s
+    → zip2 (act2 shl (s_int w) (s_int w) (s_int w)) (bits_of w xs) (replicate n s) ≡ bits_of w
+    (map (λ x. int_wrap w (x *ℤ b)) xs)
+shifted_up_by w b zero s [] e f power code = refl
+shifted_up_by w b zero s (x ∷ xs) e f power code = absurd (omega (arith, e))
+shifted_up_by w b (suc n) s [] e f power code = absurd (omega (arith, e))
+shifted_up_by w b (suc n) s (x ∷ xs) e f power code =
+    ap (λ z. z ∷ zip2 (act2 shl (s_int w) (s_int w) (s_int w)) (bits_of w xs) (replicate n s))
+    (shl_lane w (of_z w x) s ∙ ap (λ m. (of_z w x * m) % 2 ^ bits w) (sym code) ∙
+    sym (mul_lane w (of_z w x) (of_z w b)) ∙ mul_ints w x b f.0 power)
+    ∙ ap (λ zs. of_z w (int_wrap w (x *ℤ b)) ∷ zs) (shifted_up_by w b n s xs (omega arith) f.1 power code)
+
 pub shifted_up : (w : Width) (n s : ℕ) (xs : List ℤ) → length xs ≡ n → Each1 (SFits w) xs → SFits w (pos (2 ^ s)) →
     of_z w (pos (2 ^ s)) ≡ 2 ^ s
     → zip2 (act2 shl (s_int w) (s_int w) (s_int w)) (bits_of w xs) (replicate n s) ≡ bits_of w
     (map (λ x. int_wrap w (x *ℤ pos (2 ^ s))) xs)
-shifted_up w zero s [] e f power code = refl
-shifted_up w zero s (x ∷ xs) e f power code = absurd (omega (arith, e))
-shifted_up w (suc n) s [] e f power code = absurd (omega (arith, e))
-shifted_up w (suc n) s (x ∷ xs) e f power code =
-    ap (λ z. z ∷ zip2 (act2 shl (s_int w) (s_int w) (s_int w)) (bits_of w xs) (replicate n s))
-    (shl_lane w (of_z w x) s ∙ ap (λ m. (of_z w x * m) % 2 ^ bits w) (sym code) ∙
-    sym (mul_lane w (of_z w x) (of_z w (pos (2 ^ s)))) ∙ mul_ints w x (pos (2 ^ s)) f.0 power)
-    ∙ ap (λ zs. of_z w (int_wrap w (x *ℤ pos (2 ^ s))) ∷ zs) (shifted_up w n s xs (omega arith) f.1 power code)
+shifted_up w n s xs e f power code = shifted_up_by w (pos (2 ^ s)) n s xs e f power code
 
 -- ---- whole kernels
 abbrev pub cast_lanes : Width → Width → List ℕ → List ℕ
@@ -354,7 +360,7 @@ group_fits w i n xs f room = Each1-from_get_or (SFits w) (chunk i n xs) (pos 0) 
     let long = length-chunk i n xs room in
     rw (get_or-chunk i n xs k (pos 0) (omega arith)) (f (i + k) (pos 0) (omega arith)))
 
-shift_fits : (w : Width) (s : ℕ) (x : ℤ) → SFits w x → SFits w (shr_z x (2 ^ s))
+pub shift_fits : (w : Width) (s : ℕ) (x : ℤ) → SFits w x → SFits w (shr_z x (2 ^ s))
 shift_fits w s x f = let less = mag_shr x (2 ^ s) in record { sfits = lt_of_le_of_lt less f.sfits }
 
 pub each_shift_fits : (w : Width) (s : ℕ) (xs : List ℤ) → Each1 (SFits w) xs →

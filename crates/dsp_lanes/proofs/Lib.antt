@@ -5,6 +5,8 @@ pub mod LaneSums
 pub mod LaneClosings
 pub mod LaneDelays
 pub mod HighProducts
+pub mod WordViews
+pub mod Moves
 pub mod Groups
 pub mod LaneRows
 pub mod HalfSums

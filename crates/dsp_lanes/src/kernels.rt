@@ -95,8 +95,19 @@ pub trait LaneKernels<const L: usize>: Sample {
             (chunk at L (map Self.total sums.old)) (chunk at L (map Self.number row.now))) };
 }
 
-/// How a type of samples makes outputs of a filter, L and 2L at a time, and sums of products.
+/// How a type of samples makes outputs of a filter, L and 2L at a time, scales 2L at a time, and makes
+/// sums of products.
 pub trait FilterKernels<const L: usize>: LaneKernels<L> {
+    /// `scale` of two groups.
+    fn scale_double(a: &[Self], factor: Self, places: i32, out: &mut [Self], at: usize)
+        requires few { L ≤ 64 }
+        requires places { IsScaleShift Self.format places }
+        requires input { at + 2 * L ≤ length a.now }
+        requires room { at + 2 * L ≤ length out.old }
+        ensures { map Self.number out.new ≡ put_chunk at (map Self.number out.old)
+            (map (scale Self.format (Self.number factor) places)
+            (chunk at (2 * L) (map Self.number a.now))) };
+
     ghost AreSmall: { List Self → Type 0 };
 
     /// Whether sums of products by these taps are small enough for a faster form.

@@ -123,6 +123,11 @@ impl<T: LaneSample<L>, const L: usize> Lanes<T, L> {
         ensures steps { RisesWithin steps.old steps.new (length out.old) (lane_turns L (length out.old)) }
     {
         let mut at = 0;
+        'doubles: while out.len() - at >= 2 * L {
+            T::scale_double(a, factor, places, out, at);
+            steps.count(2 * L as u64, 2);
+            at += 2 * L;
+        }
         'groups: while out.len() - at >= L {
             T::scale_group(a, factor, places, out, at);
             steps.count(L as u64, 1);

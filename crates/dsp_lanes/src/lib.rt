@@ -28,6 +28,7 @@ mod q7;
 mod regroup;
 mod row_form;
 mod rows;
+mod scales;
 mod updates;
 mod weights;
 

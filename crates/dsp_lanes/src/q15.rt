@@ -11,6 +11,7 @@ use crate::pair_samples::is_narrow;
 use crate::pairs::Pairs;
 use crate::plain::Plain;
 use crate::rows::row_group;
+use crate::scales::scale_groups;
 use dsp_defs::{MAX_TAPS, Steps};
 use dsp_sat::low_word;
 use std::simd::prelude::*;
@@ -116,6 +117,11 @@ impl<const L: usize> FilterKernels<L> for i16 {
     ghost use Rattle.dsp_lanes.specs.Narrow.{IsNarrow};
 
     ghost AreSmall = { IsNarrow };
+
+    #[inline(always)]
+    fn scale_double(a: &[i16], factor: i16, places: i32, out: &mut [i16], at: usize) {
+        scale_groups::<i16, L>(a, factor, places, out, at)
+    }
 
     #[inline(always)]
     fn are_small(taps: &[i16]) -> bool {

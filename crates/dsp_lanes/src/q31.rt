@@ -6,6 +6,7 @@ use crate::halves::Halves;
 use crate::kernels::{FilterKernels, LaneKernels};
 use crate::plain::Plain;
 use crate::rows::row_group;
+use crate::scales::{moved, scale_eight, scale_groups};
 use dsp_defs::Steps;
 use std::simd::prelude::*;
 use std::sync::ledger::Ledger;
@@ -74,20 +75,8 @@ impl<const L: usize> LaneKernels<L> for i32 {
         q31_fit(a);
         let x = Simd::<i32, L>::from_slice(&a[at..]).cast::<i64>();
         let f = Simd::<i32, L>::splat(factor).cast::<i64>();
-        let high = (x * f) >> Simd::splat(32);
-        if places >= -1 {
-            let amount = (places + 1) as i64;
-            (high << Simd::splat(amount))
-                .simd_min(Simd::splat(0x7fff_ffff))
-                .simd_max(Simd::splat(-0x8000_0000))
-                .cast::<i32>()
-                .copy_to_slice(&mut out[at..]);
-        } else {
-            let amount = (-1 - places) as i64;
-            (high >> Simd::splat(amount))
-                .cast::<i32>()
-                .copy_to_slice(&mut out[at..]);
-        }
+        let high = ((x * f) >> Simd::splat(32)).cast::<i32>();
+        moved(high, places + 1).copy_to_slice(&mut out[at..]);
     }
 
     #[inline(always)]
@@ -113,6 +102,15 @@ impl<const L: usize> LaneKernels<L> for i32 {
 
 impl<const L: usize> FilterKernels<L> for i32 {
     ghost AreSmall = { λ _. Unit {0} };
+
+    #[inline(always)]
+    fn scale_double(a: &[i32], factor: i32, places: i32, out: &mut [i32], at: usize) {
+        if L == 4 {
+            scale_eight(a, factor, places, out, at)
+        } else {
+            scale_groups::<i32, L>(a, factor, places, out, at)
+        }
+    }
 
     #[inline(always)]
     fn are_small(_taps: &[i32]) -> bool {

@@ -5,6 +5,7 @@ use crate::four_dots::{Four, four_sums};
 use crate::kernels::{FilterKernels, LaneKernels};
 use crate::pairs::Pairs;
 use crate::plain::Plain;
+use crate::scales::scale_groups;
 use dsp_defs::Steps;
 use std::simd::prelude::*;
 use std::sync::ledger::Ledger;
@@ -105,6 +106,11 @@ impl<const L: usize> LaneKernels<L> for i8 {
 
 impl<const L: usize> FilterKernels<L> for i8 {
     ghost AreSmall = { λ _. Unit {0} };
+
+    #[inline(always)]
+    fn scale_double(a: &[i8], factor: i8, places: i32, out: &mut [i8], at: usize) {
+        scale_groups::<i8, L>(a, factor, places, out, at)
+    }
 
     #[inline(always)]
     fn are_small(_taps: &[i8]) -> bool {

@@ -17,6 +17,7 @@ use Rattle.dsp_defs.specs.Lattice.{reflected, backward_values, ladder_close, lad
 use Rattle.dsp_defs.specs.Kept.{ladder_kept}
 use Rattle.dsp_defs.specs.Streaming.{GoesOn, Continues}
 use Rattle.dsp_unit.proofs.GoingOn.{outputs-next, reverse-more}
+use Rattle.dsp_sat.proofs.Saturated.{saturated}
 use Rattle.dsp_sat.proofs.Words.{abs_within}
 use Rattle.dsp_defs.specs.declared.format.Fmt.{Fmt}
 use Rattle.dsp_defs.specs.declared.format.Fmt.TheVariants.{Q7, Q15, Q31}
@@ -89,14 +90,6 @@ module _ (format : Fmt) where
 -- ---- the sum of the ladder
 
 -- each value is one of the format
-saturated : (format : Fmt) (z : ℤ) → FitsSigned (word format) (saturate (word_bits format) z)
-saturated Q7 (pos n) = record { sfits = omega arith }
-saturated Q7 (negsuc n) = record { sfits = omega arith }
-saturated Q15 (pos n) = record { sfits = omega arith }
-saturated Q15 (negsuc n) = record { sfits = omega arith }
-saturated Q31 (pos n) = record { sfits = omega arith }
-saturated Q31 (negsuc n) = record { sfits = omega arith }
-
 pub values-fit : (format : Fmt) (f : ℤ) (ks before : List ℤ) → FitsSigned (word format) f →
     All (FitsSigned (word format)) (backward_values format f ks before)
 values-fit format f [] before fits = All-cons (FitsSigned (word format)) f [] fits (search arith)

@@ -1,2 +1,3 @@
 pub mod LatticeState
 pub mod Making
+pub mod Laws

@@ -54,7 +54,8 @@ impl<T: NarrowSample> FirLatticeWork<T> {
 impl<T: NarrowSample> Stepwise<T> for FirLatticeWork<T> {
     ghost use Rattle.std.specs.Prelude.{◌*◌, length};
     ghost use Rattle.dsp_lattice.specs.LatticeState.{fir_block_of, fir_kept_of, IsFirLatticeIn};
-    ghost use Rattle.dsp_lattice.specs.LatticeState.{coefficients_of, fir-stepwise};
+    ghost use Rattle.dsp_lattice.specs.LatticeState.{coefficients_of};
+    ghost use Rattle.dsp_lattice.specs.Laws.{fir-stepwise};
 
     ghost block = { fir_block_of };
 

@@ -62,7 +62,8 @@ impl<T: LatticeSample> IirLatticeWork<T> {
 impl<T: LatticeSample> Stepwise<T> for IirLatticeWork<T> {
     ghost use Rattle.std.specs.Prelude.{◌*◌, ◌+◌, length};
     ghost use Rattle.dsp_lattice.specs.LatticeState.{iir_block_of, iir_kept_of, IsIirLatticeIn};
-    ghost use Rattle.dsp_lattice.specs.LatticeState.{coefficients_of, iir-stepwise};
+    ghost use Rattle.dsp_lattice.specs.LatticeState.{coefficients_of};
+    ghost use Rattle.dsp_lattice.specs.Laws.{iir-stepwise};
 
     ghost block = { iir_block_of };
 

@@ -1,6 +1,5 @@
 -- A block whose filter keeps an open group: a channel is cut into groups, and each whole group becomes its result.
-use Rattle.std.specs.Prelude.{◌≡◌, ℕ, ◌-◌, ◌*◌, ◌/◌, ◌%◌, ◌<◌, ◌≤◌, ℤ, List, length, Option, Some, IfSome}
-use Rattle.std.proofs.Common.{sym, subst}
+use Rattle.std.specs.Prelude.{◌≡◌, ℕ, ◌-◌, ◌*◌, ◌/◌, ◌%◌, ◌<◌, ◌≤◌, ℤ, List, length, Some}
 use Rattle.std.specs.Int.{div_ceil}
 use Rattle.dsp_defs.specs.declared.limits.TheConstants.{MAX_MATRIX_SIDE}
 use Rattle.dsp_defs.specs.Formats.{word}
@@ -76,8 +75,3 @@ pub record OpenState : Type 0 where
 -- it is one of a block's, and not whole
 abbrev pub IsBegun : Group → OpenState → Type 0
 IsBegun g o = (o.size ≡ g.taken) × (length o.numbers < o.size)
-
--- a group has at least one sample
-pub has-groups : (format : Fmt) (block : Block) (g : Group) → IsGrouped format block g →
-    IfSome (group_of block) (λ k. 0 < k.0)
-has-groups format block g is = subst (λ (o : Option (ℕ × ℕ)). IfSome o (λ k. 0 < k.0)) (sym is.group) is.some

@@ -1,5 +1,5 @@
 pub mod Groups
 pub mod Matrices
-pub mod Grouping
 pub mod Faults
 pub mod Turning
+pub mod Laws

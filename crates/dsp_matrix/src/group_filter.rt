@@ -309,7 +309,7 @@ impl<T: Sample, W: GroupWork<T> + Drop> GroupFilter<T, W> {
 }
 
 impl<T: Sample, W: GroupWork<T> + Drop> Filter<T> for GroupFilter<T, W> {
-    ghost use Rattle.dsp_matrix.specs.Groups.{has-groups};
+    ghost use Rattle.dsp_matrix.specs.Laws.{has-groups};
 
     ghost filter = { λ f. f };
 

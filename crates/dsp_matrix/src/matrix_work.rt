@@ -50,7 +50,7 @@ impl<T: MatrixSample> MatrixWork<T> {
 
 impl<T: MatrixSample> GroupWork<T> for MatrixWork<T> {
     ghost use Rattle.dsp_matrix.specs.Matrices.{block_of, group, IsElementwiseIn};
-    ghost use Rattle.dsp_matrix.specs.Grouping.{elementwise-grouped};
+    ghost use Rattle.dsp_matrix.specs.Laws.{elementwise-grouped};
 
     ghost block = { block_of T.number };
 

@@ -83,7 +83,7 @@ impl ProductWork {
 impl GroupWork<i16> for ProductWork {
     ghost use Rattle.dsp_defs.specs.declared.format.Fmt.TheVariants.{Q15};
     ghost use Rattle.dsp_matrix.specs.Matrices.{block_of_product, group, IsProductIn};
-    ghost use Rattle.dsp_matrix.specs.Grouping.{product-grouped};
+    ghost use Rattle.dsp_matrix.specs.Laws.{product-grouped};
 
     ghost block = { block_of_product };
 

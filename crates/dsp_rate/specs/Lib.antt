@@ -1,3 +1,4 @@
 pub mod DecimateState
 pub mod ByChannel
 pub mod InterpolateState
+pub mod Laws

@@ -206,7 +206,8 @@ impl<T: LaneSample<L> + WideSample, const L: usize> Decimate<T, L> {
 
 impl<T: FormatLanes<L> + WideSample, const L: usize> Filter<T> for Decimate<T, L> {
     ghost use Rattle.dsp_rate.specs.DecimateState.{decimate_channel};
-    ghost use Rattle.dsp_rate.specs.ByChannel.{IsDecimateIn, decimate-by-channel, decimate-groups};
+    ghost use Rattle.dsp_rate.specs.ByChannel.{IsDecimateIn};
+    ghost use Rattle.dsp_rate.specs.Laws.{decimate-by-channel, decimate-groups};
 
     ghost filter = { decimate_channel T.format };
 

@@ -189,7 +189,8 @@ impl<T: LaneSample<L> + WideSample, const L: usize> Interpolate<T, L> {
 
 impl<T: FormatLanes<L> + WideSample, const L: usize> Filter<T> for Interpolate<T, L> {
     ghost use Rattle.dsp_rate.specs.InterpolateState.{interpolate_channel};
-    ghost use Rattle.dsp_rate.specs.ByChannel.{IsInterpolateIn, interpolate-by-channel, interpolate-groups};
+    ghost use Rattle.dsp_rate.specs.ByChannel.{IsInterpolateIn};
+    ghost use Rattle.dsp_rate.specs.Laws.{interpolate-by-channel, interpolate-groups};
 
     ghost filter = { interpolate_channel T.format };
 

@@ -1,5 +1,5 @@
 -- Blocks: what is read is written so and fits, and what is written so and fits is read.
-use Rattle.std.proofs.Common.{◌≡◌, ◌≢◌, ℕ, zero, suc, ℤ, pos, negsuc, ◌+◌, ◌<◌, ◌≤◌, Bool, true, false, cond, ◌&&◌}
+use Rattle.std.proofs.Common.{◌≡◌, ◌≢◌, ℕ, zero, suc, ℤ, pos, negsuc, ◌+◌, ◌<◌, ◌≤◌, ◌^◌, Bool, true, false, cond, ◌&&◌}
 use Rattle.std.proofs.Common.{◌||◌, List, [], ◌∷◌, ◌++◌, length, map, Option, Some, None, Ok, refl, sym, ap, subst}
 use Rattle.std.proofs.Common.{◌∙◌, append_assoc, arith, eqb, eq-eqb}
 use Rattle.std.specs.Prelude.{⊤, IfSome, codes}
@@ -21,7 +21,8 @@ use Rattle.dsp_defs.specs.Token.{Run, Item, Rest}
 use Rattle.dsp_defs.specs.Table.{row_of, by_name, every_word, name_of, has_form, is_correlate, flow_after}
 use Rattle.dsp_defs.specs.Parameters.{Form, Done, Integer, Natural, Numbers, Conversion, IsBetween, IsWithin}
 use Rattle.dsp_defs.specs.Parameters.{Argument, Number, Listed, Format, Fits, routes}
-use Rattle.dsp_script.specs.Answers.{HasFewChannels, parameters}
+use Rattle.dsp_defs.specs.Block.{channels_after}
+use Rattle.dsp_script.specs.Answers.{parameters}
 use Rattle.dsp_defs.specs.Grammar.{Symbol, Name, word_of, arguments, argument_symbol, block_symbols, IsChain}
 use Rattle.dsp_defs.specs.Grammar.{correlates}
 use Rattle.dsp_defs.specs.Places.{◌>>=◌, next_at, choice, number, natural_at, Environment, list_at, conversion}
@@ -219,21 +220,22 @@ pub made : (w : Word) (flow : Flow) (args : List Argument) (b : Block) → Fits 
 made w flow args b fits = made_of w (λ args. args) (parameters w flow) args b (row w flow) fits
 
 few : (w : Word) (flow : Flow) (args : List Argument) (b : Block) → word_of b ≡ w → Fits (parameters w flow) args b →
-    HasFewChannels b
-few w flow args (block.Route channels) is fits =
+    flow.channels < 2 ^ 8 → channels_after flow.channels b < 2 ^ 8
+few w flow args (block.Route channels) is fits few_here =
     let f = fits_numbers (routes flow) (λ channels. Done (block.Route channels)) args (block.Route channels)
     (rw (← is) at fits) in
     let d = fits_done (block.Route f.0) f.1 (block.Route channels) f.4 in
     let same : f.0 ≡ channels = cc in
-    rw (← same) f.3.limit
-few w flow args b is fits = tt
+    rw (← same) (omega (arith, f.3.limit))
+few w flow args b is fits few_here = omega (arith, few_here)
 
--- a block that was read gives up to 16 channels
+-- a block that was read gives few channels of few
 pub few_channels : (environment : Environment) (w : Word) (flow : Flow) (rest after : Rest) (b : Block) →
-    block_at environment (parameters w flow) rest ≡ Ok (b, after) → HasFewChannels b
-few_channels environment w flow rest after b e =
+    block_at environment (parameters w flow) rest ≡ Ok (b, after) → flow.channels < 2 ^ 8 →
+    channels_after flow.channels b < 2 ^ 8
+few_channels environment w flow rest after b e few_here =
     let f = form_takes environment (parameters w flow) rest after b e in
-    few w flow f.0 b (made w flow f.0 b f.2).0 f.2
+    few w flow f.0 b (made w flow f.0 b f.2).0 f.2 few_here
 
 -- ---- a block's word
 

@@ -10,6 +10,3 @@ pub mod BlockLaws
 pub mod ScriptLaws
 pub mod CanonLaws
 pub mod PlainLaws
-pub mod Placed
-pub mod Paces
-pub mod Counts

@@ -1,7 +1,5 @@
 -- What a function of the reader answers, against what the definitions read at its place.
-use Rattle.std.specs.Prelude.{◌≡◌, ◌≤◌, length, Result, Ok, Err}
-use Rattle.dsp_defs.specs.declared.script.Block.{Block}
-use Rattle.dsp_defs.specs.declared.script.Block.TheVariants.{Route}
+use Rattle.std.specs.Prelude.{◌≡◌, Result, Ok, Err}
 use Rattle.dsp_defs.specs.declared.flow.Flow.{Flow}
 use Rattle.dsp_defs.specs.declared.word.Word.{Word}
 use Rattle.dsp_defs.specs.Parameters.{Form}
@@ -28,8 +26,3 @@ Fails (faults.Script f) read = read ≡ Err f
 abbrev pub GivesUnlessMemory : {X Y : Type 0} → (X → Y) → Result X ParseFault → Result Y ScriptFault → Type 0
 GivesUnlessMemory view (Ok x) read = read ≡ Ok (view x)
 GivesUnlessMemory view (Err e) read = Fails e read
-
--- a route gives up to 16 channels
-abbrev pub HasFewChannels : Block → Type 0
-HasFewChannels (Route channels) = length channels ≤ 16
-HasFewChannels b = Unit {0}

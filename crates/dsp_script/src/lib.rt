@@ -4,9 +4,7 @@
 
 mod fault;
 mod laws;
-mod lengths;
 mod numeral;
-mod output;
 mod places;
 mod printer;
 mod reader;
@@ -17,11 +15,13 @@ mod tables;
 mod token;
 
 pub use dsp_defs::{ScriptFault, ScriptKind};
+pub use dsp_shape::{
+    cost, default_block, frames_given, full_length, given_frames, legal, output_flow, output_rate,
+    unit,
+};
 pub use fault::ParseFault;
 pub use laws::{
     canonical_text_is_read_back, one_reading, tables_are_their_numbers, unit_divides_legal_lengths,
 };
-pub use lengths::{cost, default_block, frames_given, full_length, given_frames, legal, unit};
-pub use output::{output_flow, output_rate};
 pub use printer::print;
 pub use reader::parse;

@@ -19,6 +19,7 @@ use dsp_defs::{
     Block, Blocks, Container, Flow, Input, InputKind, MAX_BLOCK_LENGTH, MAX_BLOCKS, MAX_CHANNELS,
     MAX_SCRIPT, MAX_VERSION, Script, ScriptFault, ScriptKind, Word,
 };
+use dsp_shape::input_flow;
 use std::alloc::Global;
 
 /// The parameters of a block, behind its word.
@@ -93,12 +94,12 @@ fn blocks(
     let mut blocks = Blocks::new(lists.alloc);
     let mut left = MAX_BLOCKS;
     let mut correlated = false;
-    let mut flow = table::input_flow(input);
+    let mut flow = input_flow(input);
     while let Some(word) = next_block(cursor, left, correlated, flow)? {
         let block = block(lists, cursor, word, flow)?;
         left -= 1;
         correlated = correlated_after(correlated, word);
-        flow = table::flow_after(flow, &block);
+        flow = flow.after(&block);
         blocks.push(block)?;
     }
     Ok(blocks)

@@ -2,11 +2,10 @@
 
 ghost use Rattle.std.specs.Prelude.{◌≡◌};
 ghost use Rattle.dsp_defs.specs.Table.{row_of, by_name, every_word, name_of, every_format, format_name};
-ghost use Rattle.dsp_defs.specs.Table.{container_name, admits, is_correlate, flow_after};
-ghost use Rattle.dsp_defs.specs.Grammar.{word_of, input_flow};
-ghost use Rattle.dsp_script.specs.Answers.{HasFewChannels};
+ghost use Rattle.dsp_defs.specs.Table.{container_name, admits, is_correlate};
+ghost use Rattle.dsp_defs.specs.Grammar.{word_of};
 
-use dsp_defs::{Block, Container, Flow, Fmt, Formats, Input, Word};
+use dsp_defs::{Block, Container, Fmt, Formats, Word};
 
 /// Where a block may stand: its name, its formats, and the channels that it wants, where it wants
 /// a number of them.
@@ -247,22 +246,4 @@ pub fn admits(formats: Formats, format: Fmt) -> bool
         Formats::OnlyQ15 => matches!(format, Fmt::Q15),
         Formats::OnlyQ31 => matches!(format, Fmt::Q31),
     }
-}
-
-/// What flows at the input.
-pub fn input_flow(input: Input) -> Flow
-    ensures { result ≡ input_flow input }
-{
-    Flow {
-        format: input.format,
-        channels: input.channels,
-    }
-}
-
-/// What flows behind a block.
-pub fn flow_after(flow: Flow, block: &Block) -> Flow
-    requires { HasFewChannels block.now }
-    ensures { result ≡ flow_after block.now flow }
-{
-    flow.after(block)
 }

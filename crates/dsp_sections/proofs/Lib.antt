@@ -1,11 +1,11 @@
-pub mod ReflectedGroups
-pub mod SectionChannels
+mod ReflectedGroups
+mod SectionChannels
 mod LaneValues
 pub mod FloorShifts
 mod SectionHalves
-pub mod SectionLanes
-pub mod LadderLanes
-pub mod LadderProducts
-pub mod LadderSections
+mod SectionLanes
+mod LadderLanes
+mod LadderProducts
+mod LadderSections
 pub mod ScaledShifts
 pub mod FourSections

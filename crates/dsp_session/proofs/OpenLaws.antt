@@ -20,7 +20,7 @@ use Rattle.dsp_defs.specs.declared.wave.Header.{Header}
 use Rattle.dsp_defs.specs.declared.wave.HeaderFault.{HeaderFault}
 use Rattle.dsp_defs.specs.declared.wave.HeaderFault.TheVariants.{NoSamples}
 use Rattle.dsp_wave.specs.Reading.{IsSure}
-use Rattle.dsp_script.proofs.Paces.{legal_parts}
+use Rattle.dsp_shape.proofs.Paces.{legal_parts}
 use Rattle.dsp_defs.specs.Shape.{gathered}
 use Rattle.dsp_defs.specs.declared.limits.TheConstants.{MAX_GATHERED, MAX_RIFF_SIZE}
 use Rattle.dsp_chain.proofs.NewChain.{gathered-nothing}
@@ -92,7 +92,8 @@ module _ (banked : Bool) (script : Script) (block : ℕ) (counts : Counts) (inpu
         }
 
     by_cause : (error : InputFault) (given : List ℕ) → Gave input now given → length given ≤ 2 ^ 40 →
-        IsUnopened error script given input now → Stopped banked script block (of_input error) input now sink sink counts
+        IsUnopened error script given input now → Stopped banked script block (of_input error) input now
+        sink sink counts
         counts
     by_cause input_fault.Failed given gave within cause =
         unwritten fault.Input given gave within cause.2 (cause.1, λ has. absurd (cause.2 has)) (Nothing cause.2 refl)

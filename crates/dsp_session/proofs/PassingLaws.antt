@@ -36,7 +36,7 @@ use Rattle.dsp_session.proofs.OpeningLaws.{frames-whole, frames_are, part_blocks
 use Rattle.dsp_session.proofs.OpenLaws.{some_block, input_cause, none_behind, unflushed_by}
 use Rattle.dsp_input.proofs.CauseLaws.{unread_by}
 use Rattle.dsp_session.proofs.FeedLaws.{quiet_script}
-use Rattle.dsp_script.proofs.Paces.{legal_parts}
+use Rattle.dsp_shape.proofs.Paces.{legal_parts}
 use Rattle.dsp_session.proofs.TurnLaws.{call_more, turns_before, turns_behind}
 
 -- all the blocks so far have passed

@@ -506,7 +506,13 @@ module _ (start session : SessionState) (header : Header) (span : Span) (taken :
               in_limit = all_in_limit;
               room_left = λ none. (let free = room (ap (λ (h : Header). h.size)
                   (sym (opened.opens.said (skip ++ (heard ++ bytes)))) ∙ none) in
-                  omega (arith, free, all_long, opened.opens.start, length-append opened.first (skip ++ (heard ++ bytes))));
+                  omega (
+                    arith,
+                    free,
+                    all_long,
+                    opened.opens.start,
+                    length-append opened.first (skip ++ (heard ++ bytes)),
+                  ));
               whole = ended;
               frame_count = total_is ∙ sym count_is;
               enough = omega (arith, total_is);

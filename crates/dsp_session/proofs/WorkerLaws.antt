@@ -25,7 +25,7 @@ use Rattle.dsp_defs.proofs.SampleLaws.{decoded, encoded}
 use Rattle.std.proofs.lemmas.List.Elements.{All-weaker}
 use Rattle.dsp_defs.specs.Shape.{frames_behind, gathered, held, whole_frames}
 use Rattle.dsp_defs.specs.declared.fault.GatherFull.{GatherFull}
-use Rattle.dsp_chain.proofs.Room.{written-row}
+use Rattle.dsp_chain.proofs.Room.{written-line}
 use Rattle.dsp_chain.specs.Chain.{ChainState, ChainStandsFor, SameChain, FeedsChain, FailsChain, FinishesChain}
 use Rattle.dsp_chain.specs.Chain.{IsNewChain, IsTooMuch as chain_too_much, given_of, live_of, output_of, input_place}
 use Rattle.dsp_chain.specs.Chain.{made_of}
@@ -145,13 +145,13 @@ module _ (script : Script) (block : ℕ) (ready : IsReady script block) where
       (λ i. sample_of coding (take (width coding) (drop (i * width coding) bytes)))
       → take count row ≡ values (length bytes / width coding)
       (λ i. sample_of coding (take (width coding) (drop (i * width coding) bytes)))
-  read_row coding count len bytes row new old long is read = ap (take count) (is ∙ written-row len new old long) ∙ read
+  read_row coding count len bytes row new old long is read = ap (take count) (is ∙ written-line len new old long) ∙ read
 
   -- the bytes that were written to the front of a row
   pub write_row : (coding : Coding) (count len : ℕ) (ys : List ℤ) (new old : List ℕ) → coding ≡ output_coding script →
       length new ≡ len → take count new ≡ flat_map (bytes_of coding) ys
       → take count (take len (new ++ drop (length new) old)) ≡ flat_map (bytes_of (output_coding script)) ys
-  write_row coding count len ys new old is long written = ap (take count) (written-row len new old long) ∙ written ∙
+  write_row coding count len ys new old is long written = ap (take count) (written-line len new old long) ∙ written ∙
       ap (λ (c : Coding). flat_map (bytes_of c) ys) is
 
   -- what the chain gives are values of the output's coding

@@ -10,31 +10,13 @@ use Rattle.dsp_defs.specs.Kept.{kept_measures}
 use Rattle.dsp_defs.specs.Counts.{Counts}
 use Rattle.dsp_defs.proofs.FrameLemmas.{length-frames_in}
 use Rattle.dsp_defs.specs.Block.{channels_after}
+use Rattle.dsp_unit.specs.Memoryless.{IsMemoryless}
 use Rattle.dsp_unit.specs.Unit.{UnitState, MadeAs, StandsFor, CountsFrames, made_so_far, Feeds, Finishes, Restores}
 use Rattle.dsp_unit.specs.Unit.{IsNew, IsOutput, frames_in}
 use Rattle.dsp_defs.specs.Kept.{kept_of_channel, kept_numbers, kinds_by, kept_kinds, Kind, Each, IsPlace, IsOfKind}
 use Rattle.dsp_defs.specs.Kept.{IsTaken, Fits, FitsAfter, place_of}
 use Rattle.dsp_defs.specs.declared.format.Fmt.{Fmt}
 use Rattle.dsp_defs.specs.declared.script.Block.{Block}
-
--- each frame gives one frame, of itself alone
-pub record IsMemoryless (format : Fmt) (channels : ℕ) (block : Block) (price : ℕ) (f : Frame → Frame) : Type 0 where
-  pub live_is : (x : List Frame) → live format channels block x ≡ map f x
-  pub whole_is : (x : List Frame) → whole format channels block x ≡ map f x
-  pub keeps_is : (x : List Frame) → kept_numbers format channels block x ≡ flat_map
-      (λ c. kept_of_channel format block (channel c x)) (range_with_len 0 channels)
-  pub keeps_nothing : (x : List ℤ) → kept_of_channel format block x ≡ []
-  pub kinds_are : (n : ℕ) → kept_kinds format channels block n ≡ flat_map (λ (_ : ℕ). kinds_by format block n)
-      (range_with_len 0 channels)
-  pub kinds : (n : ℕ) → kinds_by format block n ≡ []
-  pub live_frames : (n : ℕ) → live_frames block n ≡ n
-  pub whole_frames : (n : ℕ) → whole_frames block n ≡ n
-  pub live_cost : (n : ℕ) → live_block_cost format channels block n ≡ n * price
-  pub turns : (m n : ℕ) → block_turns format channels block m n ≡ live_block_cost format channels block n -
-      live_block_cost format channels block m
-  pub taken : (n : ℕ) → IsTaken block n
-  pub place_is : (n : ℕ) → place_of block n ≡ 0
-  pub no_measures : (number : ℕ) (kept : List ℤ) → kept_measures format channels number block kept ≡ []
 
 -- a unit that keeps nothing and owes nothing
 pub record IsIdle (u : UnitState) : Type 0 where

@@ -11,23 +11,12 @@ use Rattle.dsp_defs.specs.Kept.{kept_of_channel, kinds_by, in_words, InWord, Eac
 use Rattle.dsp_defs.specs.Kept.{FitsChannel}
 use Rattle.dsp_unit.specs.Unit.{most_frames}
 use Rattle.dsp_unit.specs.Filter.{FilterState, FilterFeeds, FilterFinishes, FilterRestores, IsByChannel, IsNewFilter}
-use Rattle.dsp_unit.specs.Filter.{IsSteady, of_channel, of_whole_channel, steady_filter}
+use Rattle.dsp_unit.specs.Filter.{IsSampleBlock, IsSteady, of_channel, of_whole_channel, steady_filter}
 use Rattle.dsp_unit.proofs.ChannelKept.{words-placed, length-words, words-fit, fit-words}
 use Rattle.dsp_unit.proofs.SteadyFilters.{steady-new, steady-fed, steady-finished, steady-restored, steady-fits}
 use Rattle.dsp_unit.proofs.SteadyFilters.{fits-steady}
 use Rattle.dsp_defs.specs.declared.format.Fmt.{Fmt}
 use Rattle.dsp_defs.specs.declared.script.Block.{Block}
-
--- the block of such a filter, which keeps `count` numbers and makes `price` products for a sample
-pub record IsSampleBlock (format : Fmt) (block : Block) (count price : ℕ) : Type 0 where
-  pub by_channel : IsByChannel format block
-  pub taken : (n : ℕ) → IsTaken block n
-  pub whole_is_live : (x : List ℤ) → of_whole_channel format block x ≡ of_channel format block x
-  pub most_same : (n : ℕ) → most_frames block n ≡ n
-  pub live_same : (n : ℕ) → live_frames block n ≡ n
-  pub whole_same : (n : ℕ) → whole_frames block n ≡ n
-  pub kinds_are : (n : ℕ) → kinds_by format block n ≡ in_words (word format) count
-  pub live_cost : (n : ℕ) → live_block_cost format 1 block n ≡ n * price
 
 abbrev pub sample_filter : Fmt → Block → ℕ → List ℤ → Bool → FilterState
 sample_filter = steady_filter

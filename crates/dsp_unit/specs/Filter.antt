@@ -8,8 +8,8 @@ use Rattle.dsp_defs.specs.Shape.{group_of, whole_frames, live_frames}
 use Rattle.dsp_defs.specs.Cost.{live_block_cost, cost_so_far, block_turns}
 use Rattle.dsp_defs.specs.Counts.{Counts}
 use Rattle.dsp_defs.specs.Kept.{kept_of_channel, kept_numbers, kinds_by, kept_kinds, Each, IsPlace, IsTaken, limit_of}
-use Rattle.dsp_defs.specs.Kept.{place_of}
-use Rattle.dsp_defs.specs.Kept.{kept_measures}
+use Rattle.dsp_defs.specs.Formats.{word}
+use Rattle.dsp_defs.specs.Kept.{in_words, kept_measures, place_of}
 use Rattle.dsp_unit.specs.Unit.{most_frames}
 use Rattle.dsp_defs.specs.declared.format.Fmt.TheVariants.{Q15}
 use Rattle.dsp_defs.specs.declared.format.Fmt.{Fmt}
@@ -163,6 +163,17 @@ pub record IsStepwise (format : Fmt) (block : Block) (price : ℕ) : Type 0 wher
   pub turns : (m n : ℕ) → block_turns format 1 block m n ≡ n * price - m * price
   pub no_place : (n : ℕ) → place_of block n ≡ 0
   pub no_group : IfSome (group_of block) (λ g. 0 < g.0)
+
+-- the block has no tail, keeps `count` samples, and makes `price` products for a sample
+pub record IsSampleBlock (format : Fmt) (block : Block) (count price : ℕ) : Type 0 where
+  pub by_channel : IsByChannel format block
+  pub taken : (n : ℕ) → IsTaken block n
+  pub whole_is_live : (x : List ℤ) → of_whole_channel format block x ≡ of_channel format block x
+  pub most_same : (n : ℕ) → most_frames block n ≡ n
+  pub live_same : (n : ℕ) → live_frames block n ≡ n
+  pub whole_same : (n : ℕ) → whole_frames block n ≡ n
+  pub kinds_are : (n : ℕ) → kinds_by format block n ≡ in_words (word format) count
+  pub live_cost : (n : ℕ) → live_block_cost format 1 block n ≡ n * price
 
 -- the filter of a steady block
 abbrev pub steady_filter : Fmt → Block → ℕ → List ℤ → Bool → FilterState

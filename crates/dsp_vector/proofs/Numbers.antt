@@ -9,15 +9,6 @@ use Rattle.dsp_defs.specs.Numbers.{saturate}
 use Rattle.dsp_defs.specs.declared.format.Fmt.{Fmt}
 use Rattle.dsp_defs.specs.declared.format.Fmt.TheVariants.{Q7, Q15, Q31}
 
--- a saturated number is one of the format
-pub saturated : (format : Fmt) (z : ℤ) → FitsSigned (word format) (saturate (word_bits format) z)
-saturated Q7 (pos n) = record { sfits = omega arith }
-saturated Q7 (negsuc n) = record { sfits = omega arith }
-saturated Q15 (pos n) = record { sfits = omega arith }
-saturated Q15 (negsuc n) = record { sfits = omega arith }
-saturated Q31 (pos n) = record { sfits = omega arith }
-saturated Q31 (negsuc n) = record { sfits = omega arith }
-
 fits_between : (z : ℤ) → negsuc 2147483647 ≤ℤ z → z ≤ℤ pos 2147483647 → SFits w32 z
 fits_between (pos n) low high = record { sfits = omega (arith, ints, high) }
 fits_between (negsuc n) low high = record { sfits = omega (arith, ints, low) }

@@ -5,7 +5,7 @@ ghost use Rattle.dsp_unit.specs.Unit.{IsSignal};
 ghost use Rattle.dsp_filter.specs.Memoryless.{Gives, price};
 
 use crate::VectorSample;
-use crate::changes::{Abs, Clip, Convert, Negate, Offset, Scale, Shift, change_each};
+use crate::changes::{Abs, Clip, Convert, Negate, Offset, Shift, change_each};
 use crate::joins::{Difference, Product, Sum, join_pairs};
 use crate::routes::route_frames;
 use dsp_defs::{Block, Fmt, List, Steps};
@@ -70,11 +70,7 @@ impl Operation {
             Operation::Negate => change_each::<T, T, Negate, L>(Negate, frames, out, steps),
             Operation::Abs => change_each::<T, T, Abs, L>(Abs, frames, out, steps),
             Operation::Scale { fract, shift } => {
-                let scale = Scale {
-                    fract: *fract,
-                    shift: *shift,
-                };
-                change_each::<T, T, Scale, L>(scale, frames, out, steps)
+                T::scale_numbers(*fract, *shift, frames, out, steps)
             }
             Operation::Shift { shift } => {
                 change_each::<T, T, Shift, L>(Shift { shift: *shift }, frames, out, steps)
@@ -105,7 +101,8 @@ impl Operation {
 }
 
 impl FrameWork for Operation {
-    ghost use Rattle.dsp_vector.specs.Vector.{block_of, IsVectorBlock, gives-frames, gives-as-many};
+    ghost use Rattle.dsp_vector.specs.Vector.{block_of, IsVectorBlock};
+    ghost use Rattle.dsp_vector.specs.Laws.{gives-frames, gives-as-many};
 
     ghost block = { block_of };
 

@@ -1,11 +1,13 @@
-ghost use Rattle.std.specs.Prelude.{◌≡◌, length, map};
+ghost use Rattle.std.specs.Prelude.{◌≡◌, ◌≤◌, All, FitsSigned, length, map, take};
 ghost use Rattle.std.specs.Simd.Lanes.{zip2};
 ghost use Rattle.dsp_defs.specs.Cost.{lane_turns};
 ghost use Rattle.dsp_defs.specs.Elementwise.{mult, scale, IsScaleShift};
+ghost use Rattle.dsp_defs.specs.Formats.{word};
 ghost use Rattle.dsp_lanes.specs.Turns.{RisesWithin};
 
+use crate::changes::{Scale, change_each};
 use dsp_defs::Steps;
-use dsp_lanes::{LaneSample, Lanes};
+use dsp_lanes::{LaneSample, Lanes, q31_fit};
 use std::sync::ledger::Ledger;
 
 /// A sample with the lanes of its vectors: 16 in Q7, 8 in Q15, 4 in Q31. Calls that make no product
@@ -34,6 +36,23 @@ pub trait VectorSample: LaneSample<4> {
             (map Self.number a.now) }
         ensures steps { RisesWithin steps.old steps.new (length out.old)
             (lane_turns Self.format (length out.old)) };
+
+    /// `scale` of numbers of the format, to the front of the output. The answer is their number.
+    fn scale_numbers<M: Ledger>(
+        fract: i32,
+        places: i32,
+        numbers: &[i32],
+        out: &mut [i32],
+        steps: &mut Steps<M>,
+    ) -> usize
+        requires fract { FitsSigned (word Self.format) fract }
+        requires places { IsScaleShift Self.format places }
+        requires in_format { All (FitsSigned (word Self.format)) numbers.now }
+        requires room { length numbers.now ≤ length out.old }
+        ensures count { result ≡ length numbers.now }
+        ensures values { take (length numbers.now) out.new ≡ map (scale Self.format fract places) numbers.now }
+        ensures fits { All (FitsSigned (word Self.format)) (take (length numbers.now) out.new) }
+        ensures steps { RisesWithin steps.old steps.new (length numbers.now) (length numbers.now) };
 }
 
 impl VectorSample for i8 {
@@ -49,6 +68,17 @@ impl VectorSample for i8 {
         steps: &mut Steps<M>,
     ) {
         Lanes::<i8, 16>::scale(a, factor, places, out, steps)
+    }
+
+    fn scale_numbers<M: Ledger>(
+        fract: i32,
+        places: i32,
+        numbers: &[i32],
+        out: &mut [i32],
+        steps: &mut Steps<M>,
+    ) -> usize {
+        let shift = places;
+        change_each::<i8, i8, Scale, M>(Scale { fract, shift }, numbers, out, steps)
     }
 }
 
@@ -66,6 +96,17 @@ impl VectorSample for i16 {
     ) {
         Lanes::<i16, 8>::scale(a, factor, places, out, steps)
     }
+
+    fn scale_numbers<M: Ledger>(
+        fract: i32,
+        places: i32,
+        numbers: &[i32],
+        out: &mut [i32],
+        steps: &mut Steps<M>,
+    ) -> usize {
+        let shift = places;
+        change_each::<i16, i16, Scale, M>(Scale { fract, shift }, numbers, out, steps)
+    }
 }
 
 impl VectorSample for i32 {
@@ -81,5 +122,18 @@ impl VectorSample for i32 {
         steps: &mut Steps<M>,
     ) {
         Lanes::<i32, 4>::scale(a, factor, places, out, steps)
+    }
+
+    fn scale_numbers<M: Ledger>(
+        fract: i32,
+        places: i32,
+        numbers: &[i32],
+        out: &mut [i32],
+        steps: &mut Steps<M>,
+    ) -> usize {
+        let out = &mut out[..numbers.len()];
+        Lanes::<i32, 4>::scale(numbers, fract, places, out, steps);
+        q31_fit(out);
+        out.len()
     }
 }

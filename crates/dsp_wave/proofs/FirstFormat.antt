@@ -18,6 +18,8 @@ use Rattle.dsp_defs.proofs.WaveLemmas.{u16_at-append}
 use Rattle.dsp_defs.specs.declared.wave.Sampling.{Sampling}
 use Rattle.dsp_wave.specs.declared.reader.FormatHead.{FormatHead}
 use Rattle.dsp_wave.proofs.ReaderLaws as laws
+use Rattle.dsp_wave.proofs.ChunkLaws as chunk_laws
+use Rattle.dsp_wave.proofs.StartLaws as start_laws
 
 -- ---- what a chunk wants
 
@@ -39,7 +41,8 @@ module _ (place : ℕ) (head : List ℕ) (long : length head ≡ 8) where
   wants_of : (more : List ℕ) → wanted_in (chunks_behind 0 place (head ++ more)) ≡
       (if bytes_eq (take 4 head) (codes "fmt ") then own_wanted (take size more) else
       wanted_in (chunks_behind 0 (place + (8 + padded size)) (drop (padded size) more)))
-  wants_of more = ap wanted_in (laws.head_chunks record { format = format_of_bits 0; channels = 0 } place head long
+  wants_of more = ap wanted_in (chunk_laws.head_chunks record { format = format_of_bits 0; channels = 0 }
+      place head long
       more)
 
   -- of a `fmt ` chunk
@@ -94,14 +97,15 @@ module _ (old mid between : SourceState) (place : ℕ) (goes : GoesOn old mid pl
     sooner : (error : HeaderOr) → Stopped (λ more. says (goes.bytes ++ more)) place mid between error →
         Stopped says 12 old between error
     sooner error stopped =
-        laws.stopped_sooner says (λ more. says (goes.bytes ++ more)) 12 (length goes.bytes) place goes.here old mid
+        start_laws.stopped_sooner says (λ more. says (goes.bytes ++ more)) 12 (length goes.bytes) place
+        goes.here old mid
         between goes.bytes goes.came (λ more. refl) error stopped
 
     -- an id and a size did not come
     pub head_missing : (error : HeaderOr) → Missing place 8 mid between error → Stopped says 12 old between error
     head_missing error missing =
         sooner error (laws.stops_missing (λ more. says (goes.bytes ++ more)) place mid between 8 error
-        (λ bytes short. let (wanted, is) = is_behind bytes in is ∙ laws.needs_head wanted place None bytes short)
+        (λ bytes short. let (wanted, is) = is_behind bytes in is ∙ chunk_laws.needs_head wanted place None bytes short)
         missing)
 
     module _ (head : List ℕ) (long : length head ≡ 8) where
@@ -112,7 +116,7 @@ module _ (old mid between : SourceState) (place : ℕ) (goes : GoesOn old mid pl
           sooner (Fault NoFormat place) (laws.stops_sure (λ more. says (goes.bytes ++ more)) place mid between 8 head
           NoFormat place came
           (λ more. let (wanted, is) = is_behind (head ++ more) in is ∙
-          laws.samples_too_early wanted place head long more samples))
+          chunk_laws.samples_too_early wanted place head long more samples))
 
       -- another chunk is cut
       pub chunk_missing : bytes_eq (take 4 head) (codes "data") ≡ false → bytes_eq (take 4 head) (codes "fmt ") ≡ false
@@ -124,8 +128,8 @@ module _ (old mid between : SourceState) (place : ℕ) (goes : GoesOn old mid pl
           (padded (u32_at head 4)) after head error
           (λ more short.
           let (wanted, is) = is_behind (head ++ more) in
-          is ∙ laws.passes_short wanted place head long None None more
-          (laws.other_passes wanted place head long None more no_samples (ap (λ b. true && b) no_format)) short)
+          is ∙ chunk_laws.passes_short wanted place head long None None more
+          (chunk_laws.other_passes wanted place head long None more no_samples (ap (λ b. true && b) no_format)) short)
           came missing)
 
   -- what came behind them
@@ -159,8 +163,9 @@ module _ (old mid between : SourceState) (place : ℕ) (goes : GoesOn old mid pl
           said = λ wanted more.
               ap (said_from wanted 12 None) (regroup more)
               ∙ goes.said wanted (head ++ (body ++ more))
-              ∙ laws.passes_whole wanted place head long None None body more second.long
-              (laws.other_passes wanted place head long None (body ++ more) no_samples (ap (λ b. true && b) no_format));
+              ∙ chunk_laws.passes_whole wanted place head long None None body more second.long
+              (chunk_laws.other_passes wanted place head long None (body ++ more) no_samples
+              (ap (λ b. true && b) no_format));
           wants = λ more.
               ap (λ xs. wanted_in (chunks_behind 0 12 xs)) (regroup more)
               ∙ goes.wants (head ++ (body ++ more))
@@ -231,5 +236,6 @@ module _ (old mid between after : SourceState) (riff : RiffRead old mid) (first 
 pub stops_behind : (wanted : Wanted) (old mid now : SourceState) (riff : RiffRead old mid) (error : HeaderOr)
     → Stopped (said_from wanted 12 None) 12 mid now error → Stopped (λ bytes. header_of bytes wanted) 0 old now error
 stops_behind wanted old mid now riff error stopped =
-    laws.stopped_sooner (λ bytes. header_of bytes wanted) (said_from wanted 12 None) 0 12 12 (omega arith) old mid now
+    start_laws.stopped_sooner (λ bytes. header_of bytes wanted) (said_from wanted 12 None) 0 12 12
+    (omega arith) old mid now
     riff.bytes riff.came (riff.said wanted) error stopped

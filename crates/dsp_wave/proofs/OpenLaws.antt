@@ -17,7 +17,8 @@ use Rattle.dsp_wave.specs.Reading.{Headed, Stopped, said_from}
 use Rattle.dsp_wave.specs.Taking.{Came, FormatFound, IsEnough, RiffRead, format_chunk, said_behind}
 use Rattle.dsp_wave.specs.Opening.{OpenHeaded, OwnRead, own_header_of, own_said_behind, own_said_from}
 use Rattle.dsp_wave.specs.declared.reader.FormatHead.{FormatHead}
-use Rattle.dsp_wave.proofs.ReaderLaws as laws
+use Rattle.dsp_wave.proofs.ChunkLaws as chunk_laws
+use Rattle.dsp_wave.proofs.StartLaws as start_laws
 use Rattle.dsp_wave.proofs.FirstFormat.{front, front_came, front_ends, regroup, wants_format}
 use Rattle.dsp_wave.specs.declared.reader.HeaderOr.{HeaderOr}
 
@@ -34,7 +35,7 @@ own_said bytes more twelve said =
 pub own_stops : (old mid now : SourceState) (riff : RiffRead old mid) (error : HeaderOr) →
     Stopped (own_said_from 12) 12 mid now error → Stopped own_header_of 0 old now error
 own_stops old mid now riff error stopped =
-    laws.stopped_sooner own_header_of (own_said_from 12) 0 12 12 (omega arith) old mid now riff.bytes riff.came
+    start_laws.stopped_sooner own_header_of (own_said_from 12) 0 12 12 (omega arith) old mid now riff.bytes riff.came
     (λ more. own_said riff.bytes more riff.came.long (λ w. riff.said w more)) error stopped
 
 -- up to the id and the size of the first `fmt ` chunk
@@ -84,7 +85,8 @@ module _ (old mid between after now : SourceState) (riff : RiffRead old mid) (fi
   pub open_stopped : (error : HeaderOr) → Stopped (said_from wanted place (Some known)) place after now error →
       Stopped own_header_of 0 old now error
   open_stopped error stopped =
-      laws.stopped_sooner own_header_of (said_from wanted place (Some known)) 0 (length all) place all_ends old after
+      start_laws.stopped_sooner own_header_of (said_from wanted place (Some known)) 0 (length all) place
+      all_ends old after
       now all all_came all_said error stopped
 
   pub open_headed : (header : Header) → Headed (said_from wanted place (Some known)) place after now header →
@@ -117,7 +119,8 @@ pub own_read : (place : ℕ) (head : List ℕ) (long : length head ≡ 8)
     → Came (place + 8) count old mid body → Came (place + 8 + count) (padded (u32_at head 4) - count) mid now rest
     → OwnRead place head old now wanted (sampling wanted (format_chunk place (u32_at head 4) body))
 own_read place head long is body enough wanted wanted_is good count counted old mid now rest first second =
-    let came = laws.rest_all wanted place head long is body enough good count counted old mid now rest first second in
+    let came = chunk_laws.rest_all wanted place head long is body enough good count counted old mid now
+    rest first second in
     let wants : (more : List ℕ) → wanted_in (chunks_behind 0 place (head ++ ((body ++ rest) ++ more))) ≡ wanted =
     λ more.
     ap (λ xs. wanted_in (chunks_behind 0 place (head ++ xs))) (append_assoc body rest more) ∙
@@ -126,6 +129,6 @@ own_read place head long is body enough wanted wanted_is good count counted old 
       body = body ++ rest;
       came = came;
       said = λ more. ap (λ w. said_from w place None (head ++ ((body ++ rest) ++ more))) (wants more) ∙
-          laws.rest_said wanted place head long is body enough good count counted rest more came.long;
+          chunk_laws.rest_said wanted place head long is body enough good count counted rest more came.long;
       wants = wants;
     }

@@ -19,6 +19,19 @@ fn decode_by(coding: Coding, bytes: &[u8], samples: &mut [i32])
     }
 }
 
+/// The sample as it is. In Q15 it is clamped to the range that it is in: the compiler then packs eight
+/// samples at a time.
+#[inline(always)]
+fn in_range(coding: Coding, value: i32) -> i32
+    requires { IsValue coding value }
+    ensures { result ≡ value }
+{
+    match coding {
+        Coding::Raw15 | Coding::Wave15 => value.clamp(-0x8000, 0x7fff),
+        _ => value,
+    }
+}
+
 #[inline(always)]
 fn encode_by(coding: Coding, samples: &[i32], bytes: &mut [u8])
     requires room { length bytes.old ≡ length samples.now * width coding }
@@ -28,7 +41,8 @@ fn encode_by(coding: Coding, samples: &[i32], bytes: &mut [u8])
     let width = width(coding);
     for (i, sample) in samples.iter().enumerate() {
         let from = i * width;
-        bytes_of(coding, *sample, &mut bytes[from..from + width]);
+        let value = in_range(coding, *sample);
+        bytes_of(coding, value, &mut bytes[from..from + width]);
     }
 }
 

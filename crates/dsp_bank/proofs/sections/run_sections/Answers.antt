@@ -3,7 +3,7 @@ use Rattle.std.proofs.lemmas.List.{length-map}
 use Rattle.dsp_defs.specs.Biquad.{Section}
 use Rattle.dsp_defs.specs.Formats.{lanes}
 use Rattle.dsp_lanes.specs.Turns.{lane_turns}
-use Rattle.dsp_biquad.specs.Blocks.{some-size}
+use Rattle.dsp_biquad.specs.Laws.{some-size}
 use Rattle.dsp_biquad.specs.Sections.{section_acts}
 use Rattle.dsp_bank.specs.Rows.{SectionGoes}
 use Rattle.dsp_bank.proofs.SectionsGo.{HaveGone, LaterStay, gone-more, stay-more, all-gone}

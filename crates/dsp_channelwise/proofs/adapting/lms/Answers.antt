@@ -31,7 +31,7 @@ loop-n-preserved g c =
     let inside_too : c.loop-n.n < length c.args.reference.now = omega (arith, inside, c.requires.alike) in
     let within : c.loop-n.n < length (pairs_of c.args.x.now c.args.reference.now) = omega
     (arith, inside, length-pairs c.args.x.now c.args.reference.now) in
-    let before = c.as_slice.ensures.value ∙ so_far.weights in
+    let before = c.deref.ensures.value ∙ so_far.weights in
     let inputs = sym (inputs-so-far x r (n + 1)) in
     let reference = to_z-of_z w32 (get_or r n (pos 0)) (fits-32 f _ (c.requires.reference_format n (pos 0) inside_too))
     ∙ sym (reference-so-far x r n inside) in
@@ -39,8 +39,8 @@ loop-n-preserved g c =
     c.in_ok-next.ensures.value ∙ (λ j. adapted f p mu (before j) (inputs j) (reference j)) in
     let output = to_z-of_z w32 c.in_ok-next.next.output (fits-32 f _ fits.0) in
     let error = to_z-of_z w32 c.in_ok-next.next.error (fits-32 f _ fits.1) in
-    let long = ap length c.as_slice.ensures.value ∙ so_far.long in
-    let size : length c.as_slice.result.now ≡ length c.args.taps.now = long in
+    let long = ap length c.deref.ensures.value ∙ so_far.long in
+    let size : length c.deref.result.now ≡ length c.args.taps.now = long in
     record {
       outputs = (kept-more rule outputs_of pairs n new new c.loop-n.outputs.items c.push.new.self.items _ within
           so_far.outputs is c.in_ok-push.ensures.items output).0;
@@ -48,7 +48,7 @@ loop-n-preserved g c =
           so_far.errors is c.in_ok-push-2.ensures.items error).0;
       weights = sym (weights-more rule first pairs n new within is);
       long = ap (λ (a : Adapted). length a.weights) c.in_ok-next.ensures.value
-          ∙ length-adapted f p mu c.as_slice.result.now _ _ ∙ long;
+          ∙ length-adapted f p mu c.deref.result.now _ _ ∙ long;
       output_fits = all-more (FitsSigned (word f)) c.loop-n.outputs.items _ _ c.in_ok-next.next.output
           c.in_ok-push.ensures.items output so_far.output_fits fits.0;
       error_fits = all-more (FitsSigned (word f)) c.loop-n.errors.items _ _ c.in_ok-next.next.error
@@ -59,16 +59,16 @@ loop-n-preserved g c =
 
 pub returns-in_err-push-clause-products : goal.returns-in_err-push-clause-products
 returns-in_err-push-clause-products g c =
-    let size : length c.as_slice.result.now ≡ length c.args.taps.now =
-    ap length c.as_slice.ensures.value ∙ c.loop-n.invariant.long in
+    let size : length c.deref.result.now ≡ length c.args.taps.now =
+    ap length c.deref.ensures.value ∙ c.loop-n.invariant.long in
     cost-within c.args.steps.now.multiplies c.loop-n.steps.multiplies c.adapted_to.new.steps.multiplies c.loop-n.n
     (length c.args.x.now) (2 * length c.args.taps.now + 1) c.loop-n.invariant.products
     (omega (arith, size, c.in_ok-next.ensures.products)) (omega arith)
 
 pub returns-in_err-push-2-clause-products : goal.returns-in_err-push-2-clause-products
 returns-in_err-push-2-clause-products g c =
-    let size : length c.as_slice.result.now ≡ length c.args.taps.now =
-    ap length c.as_slice.ensures.value ∙ c.loop-n.invariant.long in
+    let size : length c.deref.result.now ≡ length c.args.taps.now =
+    ap length c.deref.ensures.value ∙ c.loop-n.invariant.long in
     cost-within c.args.steps.now.multiplies c.loop-n.steps.multiplies c.adapted_to.new.steps.multiplies c.loop-n.n
     (length c.args.x.now) (2 * length c.args.taps.now + 1) c.loop-n.invariant.products
     (omega (arith, size, c.in_ok-next.ensures.products)) (omega arith)

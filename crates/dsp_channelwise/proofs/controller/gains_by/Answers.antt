@@ -1,4 +1,4 @@
-use Rattle.std.proofs.Common.{◌≡◌, ◌≢◌, ◌∙◌, ap, refl, ℤ, pos, ◌+ℤ◌, ◌*ℤ◌, lit<}
+use Rattle.std.proofs.Common.{◌≡◌, ◌∙◌, ap, refl, ℤ, pos, ◌+ℤ◌, ◌*ℤ◌, lit<}
 use Rattle.std.specs.Prelude.{neg_ℤ}
 use Rattle.std.specs.Int.{w32}
 use Rattle.std.proofs.lemmas.Int.{to_z-of_z}
@@ -8,6 +8,7 @@ use Rattle.dsp_defs.specs.Adaptive.{Gains, pid_gains}
 use Rattle.dsp_defs.specs.declared.format.Fmt.{Fmt}
 use Rattle.dsp_defs.specs.declared.format.Fmt.TheVariants.{Q7, Q15, Q31}
 use Rattle.dsp_exact.proofs.ExactSums.{exact-from-32, exact-sum, exact-times, exact-negative}
+use Rattle.dsp_exact.proofs.Formats.{narrow}
 use Rattle.dsp_channelwise.proofs.controller.gains_by.Goals as goal
 
 gains : ℤ → ℤ → ℤ → Gains
@@ -20,14 +21,6 @@ unfolding gains
 step-by-step Q7 kp ki kd is = absurd (cc)
 step-by-step Q15 kp ki kd is = absurd (cc)
 step-by-step Q31 kp ki kd is = refl
-
-at-once : (f : Fmt) (kp ki kd : ℤ) → f ≢ Q31
-    → gains (saturate (word_bits f) (kp +ℤ ki +ℤ kd)) (saturate (word_bits f) (neg_ℤ (pos 2 *ℤ kd +ℤ kp))) kd
-    ≡ pid_gains f kp ki kd
-unfolding gains
-at-once Q7 kp ki kd not = refl
-at-once Q15 kp ki kd not = refl
-at-once Q31 kp ki kd not = absurd (not refl)
 
 pub returns-in-Q31 : goal.returns-in-Q31
 unfolding gains
@@ -69,4 +62,6 @@ returns-in_default c =
     j)
     ((to_z-of_z w32 c.saturate-in_default-2.result (record { sfits = c.saturate-in_default-2.type_inv }) ∙ a1) j)
     (to_z-of_z w32 c.args.kd c.ranges.kd j))
-    ∙ at-once c.args.format c.args.kp c.args.ki c.args.kd c.in_default.not-Q31
+    ∙ narrow (λ f. gains (saturate (word_bits f) (c.args.kp +ℤ c.args.ki +ℤ c.args.kd))
+    (saturate (word_bits f) (neg_ℤ (pos 2 *ℤ c.args.kd +ℤ c.args.kp))) c.args.kd
+    ≡ pid_gains f c.args.kp c.args.ki c.args.kd) refl refl c.args.format c.in_default.not-Q31

@@ -1,18 +1,12 @@
-use Rattle.std.proofs.Common.{◌≡◌, ◌≢◌, ◌∙◌, ap, sym, refl, ◌^◌, ℤ, pos, ◌+ℤ◌, ◌*ℤ◌, lit<}
+use Rattle.std.proofs.Common.{◌≡◌, ◌∙◌, ap, sym, refl, ◌^◌, pos, ◌+ℤ◌, ◌*ℤ◌, lit<}
 use Rattle.std.specs.Int.{w32, w64, w128}
 use Rattle.std.proofs.lemmas.Int.{to_z-of_z}
 use Rattle.dsp_defs.specs.Numbers.{◌>>◌, saturate, wrap}
 use Rattle.dsp_defs.specs.Adaptive.{pid_close}
-use Rattle.dsp_defs.specs.declared.format.Fmt.{Fmt}
-use Rattle.dsp_defs.specs.declared.format.Fmt.TheVariants.{Q7, Q15, Q31}
 use Rattle.dsp_exact.proofs.ExactSums.{exact-held, exact-from-32, exact-from-64, exact-sum, exact-shift}
 use Rattle.dsp_exact.proofs.ExactSums.{exact-times-right}
+use Rattle.dsp_exact.proofs.Formats.{narrow}
 use Rattle.dsp_channelwise.proofs.controller.pid_close.Goals as goal
-
-narrow : (f : Fmt) (s y1 : ℤ) → f ≢ Q31 → saturate 16 (s +ℤ y1 *ℤ pos 32768 >> 15) ≡ pid_close f s y1
-narrow Q7 s y1 not = refl
-narrow Q15 s y1 not = refl
-narrow Q31 s y1 not = absurd (not refl)
 
 pub returns-in-Q31-clause-value : goal.returns-in-Q31-clause-value
 returns-in-Q31-clause-value c =
@@ -34,4 +28,5 @@ returns-in_default-clause-value c =
     to_z-of_z w32 c.saturate.result (record { sfits = c.saturate.type_inv })
     ∙ c.saturate.ensures.value
     ∙ ap (saturate 16) (exact-shift _ _ _ 15 total).is
-    ∙ narrow c.args.format c.args.sum c.args.y1 c.in_default.not-Q31
+    ∙ narrow (λ f. saturate 16 (c.args.sum +ℤ c.args.y1 *ℤ pos 32768 >> 15) ≡ pid_close f c.args.sum c.args.y1)
+    refl refl c.args.format c.in_default.not-Q31

@@ -1,7 +1,7 @@
-use Rattle.std.proofs.Common.{◌≡◌, ◌+◌, ◌-◌, ◌*ℤ◌, ◌+ℤ◌, ◌<◌, ◌∙◌, refl, sym, ap, ℤ, List, length, pos, ℕ, inr}
+use Rattle.std.proofs.Common.{◌≡◌, ◌+◌, ◌-◌, ◌*ℤ◌, ◌+ℤ◌, ◌<◌, ◌∙◌, refl, sym, ℤ, List, length, pos, ℕ, inr}
 use Rattle.std.proofs.Common.{get_or, ◌≤◌, ◌^◌, to_z, of_z, SFits, arith, lit<, subst, rules}
 use Rattle.std.specs.Prelude.{nat_abs}
-use Rattle.std.specs.Int.{w32, w128}
+use Rattle.std.specs.Int.{w32}
 use Rattle.std.proofs.lemmas.Int.{to_z-of_z}
 use Rattle.dsp_defs.specs.Signal.{sample}
 use Rattle.dsp_exact.proofs.ExactSums.{IsExact, exact-held, exact-sum, sum_fits}

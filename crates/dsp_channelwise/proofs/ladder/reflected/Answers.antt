@@ -1,17 +1,11 @@
-use Rattle.std.proofs.Common.{◌≡◌, ◌≢◌, ◌∙◌, ap, sym, refl, ℤ, ◌*ℤ◌, arith}
+use Rattle.std.proofs.Common.{◌≡◌, ◌∙◌, ap, sym, refl, ◌*ℤ◌, arith}
 use Rattle.std.specs.Int.{w32}
 use Rattle.dsp_defs.specs.Numbers.{◌>>◌, wrap}
 use Rattle.dsp_defs.specs.Lattice.{reflected}
-use Rattle.dsp_defs.specs.declared.format.Fmt.{Fmt}
-use Rattle.dsp_defs.specs.declared.format.Fmt.TheVariants.{Q7, Q15, Q31}
 use Rattle.dsp_exact.proofs.ExactSums.{exact-from-32, exact-shift, read-small}
 use Rattle.dsp_exact.proofs.Products.{exact-product}
+use Rattle.dsp_exact.proofs.Formats.{narrow}
 use Rattle.dsp_channelwise.proofs.ladder.reflected.Goals as goal
-
-narrow : (f : Fmt) (k g : ℤ) → f ≢ Q31 → (k *ℤ g >> 15) ≡ reflected f k g
-narrow Q7 k g not = refl
-narrow Q15 k g not = refl
-narrow Q31 k g not = absurd (not refl)
 
 pub returns-in-Q31-clause-value : goal.returns-in-Q31-clause-value
 returns-in-Q31-clause-value g c =
@@ -32,7 +26,8 @@ pub returns-in_default-clause-value : goal.returns-in_default-clause-value
 returns-in_default-clause-value g c =
     let p = exact-product c.args.k c.args.g _ c.product-p.result c.ranges.k c.ranges.g c.product-p.ensures.value refl
     c.product-p.ensures.small in
-    (exact-shift _ _ _ 15 p).is ∙ narrow c.args.format c.args.k c.args.g c.in_default.not-Q31
+    (exact-shift _ _ _ 15 p).is ∙ narrow (λ f. (c.args.k *ℤ c.args.g >> 15) ≡ reflected f c.args.k c.args.g) refl refl
+    c.args.format c.in_default.not-Q31
 
 pub returns-in_default-clause-small : goal.returns-in_default-clause-small
 returns-in_default-clause-small g c =

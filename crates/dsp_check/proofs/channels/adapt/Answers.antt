@@ -19,9 +19,9 @@ returns-clause-given g c =
     let error = c.in_ok-output.error.items in
     let mu_is = to_z-of_z w32 mu c.ranges.mu in
     let output_is = c.in_ok-output.ensures.outputs ∙ (λ i. map outputs_of
-    (lms format p (mu_is i) taps (pairs_of (c.channel.ensures.value i) (c.channel-2.ensures.value i)))) in
+    (lms format p (mu_is i) taps (pairs_of (c.channel-input.ensures.value i) (c.channel-reference.ensures.value i)))) in
     let error_is = c.in_ok-output.ensures.errors ∙ (λ i. map errors_of
-    (lms format p (mu_is i) taps (pairs_of (c.channel.ensures.value i) (c.channel-2.ensures.value i)))) in
+    (lms format p (mu_is i) taps (pairs_of (c.channel-input.ensures.value i) (c.channel-reference.ensures.value i)))) in
     IfOk-weaker c.of_two.result (λ (s : List (List ℤ)). s ≡ output ∷ error ∷ [])
     (Gives (record { format = format; channels = 2 }) (Blocks.Lms p mu taps) c.args.x.now)
     (λ s is. subst (Gives (record { format = format; channels = 2 }) (Blocks.Lms p mu taps) c.args.x.now) (sym is)

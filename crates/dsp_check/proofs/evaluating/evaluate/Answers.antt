@@ -2,7 +2,7 @@ use Rattle.std.proofs.Common.{sym, subst, ◌∷◌, List, drop, ◌+◌}
 use Rattle.dsp_defs.specs.declared.flow.Flow.{Flow}
 use Rattle.dsp_defs.specs.declared.script.Block.{Block}
 use Rattle.dsp_check.proofs.Evaluations.{Evaluates, goes-on}
-use Rattle.dsp_script.proofs.Placed.{rest_from}
+use Rattle.dsp_shape.proofs.Placed.{rest_from}
 use Rattle.dsp_check.proofs.evaluating.evaluate.Goals as goal
 
 pub loop-block-preserved : goal.loop-block-preserved

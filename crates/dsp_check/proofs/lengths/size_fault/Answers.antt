@@ -1,6 +1,6 @@
 use Rattle.std.proofs.Common.{◌∷◌, ◌+◌, ◌*◌, ◌≤◌, drop}
 use Rattle.dsp_defs.specs.declared.limits.TheConstants.{MAX_CHECKED}
-use Rattle.dsp_script.proofs.Placed.{IsPlaced, group_here, placed_after, rest_from}
+use Rattle.dsp_shape.proofs.Placed.{IsPlaced, group_here, placed_after, rest_from}
 use Rattle.dsp_check.proofs.PlaceSizes.{few_frames, size-goes-on, whole-few}
 use Rattle.dsp_check.proofs.lengths.size_fault.Goals as goal
 

@@ -1,6 +1,6 @@
 use Rattle.std.proofs.Common.{◌≡◌, ◌≤◌, ◌^◌, drop}
 use Rattle.dsp_defs.specs.Sizes.{size_at}
-use Rattle.dsp_script.proofs.Placed.{IsPlaced}
+use Rattle.dsp_shape.proofs.Placed.{IsPlaced}
 use Rattle.dsp_check.proofs.lengths.size_fault.Given as goal
 
 -- the first place with too many samples of the blocks that are left is that of all

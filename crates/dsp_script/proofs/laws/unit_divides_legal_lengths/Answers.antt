@@ -1,4 +1,4 @@
-use Rattle.dsp_script.proofs.Counts.{unit_divides, unit_legal}
+use Rattle.dsp_shape.proofs.Paces.{unit_divides, unit_legal}
 use Rattle.dsp_script.proofs.laws.unit_divides_legal_lengths.Goals as goal
 
 pub returns-clause-divides : goal.returns-clause-divides

@@ -14,7 +14,7 @@ returns-in_err-word c =
     rw (p.1, p.2) (blocks_fail_at_word c.args.lists.now.tables c.loop-blocks.blocks c.loop-blocks.left
     c.loop-blocks.correlated c.loop-blocks.flow c.loop-blocks.cursor c.in_err-word.field-0.0
     (blocks_at c.args.lists.now.tables MAX_BLOCKS false (input_flow c.args.input) c.args.cursor.now)
-    c.in_err-word.ensures.value c.loop-blocks.invariant)
+    c.in_err-word.ensures.value c.loop-blocks.invariant.1)
 
 pub returns-in_err-block : goal.returns-in_err-block
 returns-in_err-block c =
@@ -26,7 +26,7 @@ returns-in_err-block c =
     rw (p.1, p.2) (blocks_fail_within c.args.lists.now.tables c.in_err-block.field-0.0 c.loop-blocks.blocks
     c.loop-blocks.left c.loop-blocks.correlated c.loop-blocks.flow c.loop-blocks.cursor c.next_block.new.cursor
     c.in-Some.word (blocks_at c.args.lists.now.tables MAX_BLOCKS false (input_flow c.args.input) c.args.cursor.now)
-    some next c.in_err-block.ensures c.loop-blocks.invariant)
+    some next c.in_err-block.ensures c.loop-blocks.invariant.1)
 
 pub loop-blocks-preserved : goal.loop-blocks-preserved
 loop-blocks-preserved c =
@@ -34,11 +34,15 @@ loop-blocks-preserved c =
     c.loop-blocks.cursor ≡ Ok (Some c.in-Some.word, c.next_block.new.cursor) =
     rw c.in-Some.is at c.in_ok-word.ensures.value in
     let some : 0 < c.loop-blocks.left = rw c.in-Some.is at c.in_ok-word.ensures.room in
-    rw (c.in_ok-push.ensures.ok, c.correlated_after-correlated.ensures, c.flow_after-flow.ensures)
-    (blocks_go_on c.args.lists.now.tables c.loop-blocks.blocks c.loop-blocks.left c.loop-blocks.correlated
-    c.loop-blocks.flow c.loop-blocks.cursor c.next_block.new.cursor c.block.new.cursor c.in-Some.word
-    c.in_ok-block.block (blocks_at c.args.lists.now.tables MAX_BLOCKS false (input_flow c.args.input)
-    c.args.cursor.now) some next c.in_ok-block.ensures c.loop-blocks.invariant)
+    let few = few_channels c.args.lists.now.tables c.in-Some.word c.loop-blocks.flow c.next_block.new.cursor
+    c.block.new.cursor c.in_ok-block.block c.in_ok-block.ensures c.loop-blocks.invariant.0 in
+    rw (c.in_ok-push.ensures.ok, c.correlated_after-correlated.ensures, c.after-flow.ensures) (
+      few,
+      blocks_go_on c.args.lists.now.tables c.loop-blocks.blocks c.loop-blocks.left c.loop-blocks.correlated
+          c.loop-blocks.flow c.loop-blocks.cursor c.next_block.new.cursor c.block.new.cursor c.in-Some.word
+          c.in_ok-block.block (blocks_at c.args.lists.now.tables MAX_BLOCKS false (input_flow c.args.input)
+          c.args.cursor.now) some next c.in_ok-block.ensures c.loop-blocks.invariant.1,
+    )
 
 pub returns : goal.returns
 returns c =
@@ -47,8 +51,9 @@ returns c =
     blocks_done c.args.lists.now.tables c.loop-blocks.blocks c.loop-blocks.left c.loop-blocks.correlated
     c.loop-blocks.flow c.loop-blocks.cursor c.next_block.new.cursor
     (blocks_at c.args.lists.now.tables MAX_BLOCKS false (input_flow c.args.input) c.args.cursor.now) e
-    c.loop-blocks.invariant
+    c.loop-blocks.invariant.1
 
-pub flow_after-flow-requires : goal.flow_after-flow-requires
-flow_after-flow-requires c = few_channels c.args.lists.now.tables c.in-Some.word c.loop-blocks.flow
+pub after-flow-requires : goal.after-flow-requires
+after-flow-requires c = few_channels c.args.lists.now.tables c.in-Some.word c.loop-blocks.flow
     c.next_block.new.cursor c.block.new.cursor c.in_ok-block.block c.in_ok-block.ensures
+    c.loop-blocks.invariant.0

@@ -1,7 +1,8 @@
 use Rattle.std.proofs.Common.{◌≡◌, ◌+◌, ◌++◌, take, length, refl, arith}
 use Rattle.std.proofs.lemmas.Result.{err_from_is_err_and}
 use Rattle.dsp_wave.specs.Taking.{said_behind}
-use Rattle.dsp_wave.proofs.ReaderLaws as laws
+use Rattle.dsp_wave.proofs.ChunkLaws as chunk_laws
+use Rattle.dsp_wave.proofs.StartLaws as start_laws
 use Rattle.dsp_wave.proofs.format.read_format.Goals as goal
 
 pub returns-in_err-count-clause-err : goal.returns-in_err-count-clause-err
@@ -18,7 +19,7 @@ returns-in_err-known-clause-err g c =
     let body = take c.in_ok-count.count c.take_format.new.body in
     let (came, enough) = c.in_ok-count.ensures.ok in
     let here : c.args.offset + 8 + length body ≡ c.args.offset + 8 + c.in_ok-count.count = omega (arith, came.long) in
-    rw (is, same) (laws.stopped_sooner (said_behind c.args.wanted c.args.offset head)
+    rw (is, same) (start_laws.stopped_sooner (said_behind c.args.wanted c.args.offset head)
     (λ more. said_behind c.args.wanted c.args.offset head (body ++ more)) (c.args.offset + 8) c.in_ok-count.count
     (c.args.offset + 8 + length body) here _ _ _ body came (λ more. refl) _ c.in_err-known.ensures.err)
 
@@ -29,5 +30,5 @@ returns-clause-ok g c =
     let (came, enough) = c.in_ok-count.ensures.ok in
     let read = c.in_ok-known.ensures.ok in
     let second = rw came.long at read.came in
-    rw read.known_is (laws.rest_came c.args.wanted c.args.offset head c.requires.head.long c.requires.head.id body
+    rw read.known_is (chunk_laws.rest_came c.args.wanted c.args.offset head c.requires.head.long c.requires.head.id body
     enough read.good c.in_ok-count.count came.long _ _ _ read.rest came second)

@@ -6,6 +6,7 @@ use Rattle.dsp_defs.specs.Wave.{format_fault, padded, u32_at}
 use Rattle.dsp_defs.specs.declared.wave.HeaderFault.TheVariants.{NoSamples}
 use Rattle.dsp_wave.specs.Taking.{format_chunk, said_behind}
 use Rattle.dsp_wave.proofs.ReaderLaws as laws
+use Rattle.dsp_wave.proofs.ChunkLaws as chunk_laws
 use Rattle.dsp_wave.proofs.format.rest_of_format.Goals as goal
 
 pub returns-in-Some-clause-err : goal.returns-in-Some-clause-err
@@ -21,7 +22,8 @@ returns-in-Some-clause-err g c =
     sym c.format_fault.ensures ∙ c.in-Some.is in
     laws.stops_sure (λ more. said_behind c.args.wanted c.args.offset head (body ++ more)) place _ _ 0 [] _ _
     (laws.nothing_came place _ c.requires.offset)
-    (laws.faulty_ends c.args.wanted c.args.offset head c.requires.head.long c.requires.head.id body c.requires.enough
+    (chunk_laws.faulty_ends c.args.wanted c.args.offset head c.requires.head.long c.requires.head.id body
+    c.requires.enough
     _ _ fault)
 
 pub returns-in_err-skip-clause-err : goal.returns-in_err-skip-clause-err
@@ -41,7 +43,8 @@ returns-in_err-skip-clause-err g c =
     (λ more short.
     let end : c.args.offset + 8 + length (body ++ more) ≡ place + length more =
     omega (arith, length-append body more) in
-    laws.rest_short c.args.wanted c.args.offset head c.requires.head.long c.requires.head.id body c.requires.enough
+    chunk_laws.rest_short c.args.wanted c.args.offset head c.requires.head.long c.requires.head.id body
+    c.requires.enough
     good (length body) refl more short
     ∙ ap (λ (n : ℕ). Err (NoSamples, n)) end)
     (rw whole at c.in_err-skip.ensures.err))

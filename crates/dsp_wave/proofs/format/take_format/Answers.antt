@@ -6,6 +6,7 @@ use Rattle.std.proofs.lemmas.Slice.{take-put_mid}
 use Rattle.dsp_defs.specs.Wave.{u16_at, u32_at, extensible_tag}
 use Rattle.dsp_wave.proofs.FormatLaws.{size_behind}
 use Rattle.dsp_wave.proofs.ReaderLaws as laws
+use Rattle.dsp_wave.proofs.ChunkLaws as chunk_laws
 use Rattle.dsp_wave.proofs.format.take_format.Goals as goal
 use Rattle.dsp_wave.proofs.format.take_format.Goals.{then-read_u16-ne-EXTENSIBLE_TAG-via-then-read_u16-ne-EXTENSIBLE_TAG}
 use Rattle.dsp_wave.proofs.format.take_format.Goals.{then-read_u16-ne-EXTENSIBLE_TAG-via-else-read_u16-ne-EXTENSIBLE_TAG+then-size-2}
@@ -17,7 +18,7 @@ returns-then-size-clause-err g c says agrees =
     let small : u32_at c.args.head.now 4 < 16 = omega (arith, size, c.if-size.true) in
     rw size (laws.stops_sure says (c.args.offset + 8) _ _ 0 [] _ _
     (laws.nothing_came (c.args.offset + 8) _ c.requires.offset)
-    (λ more. let (wanted, is) = agrees more in is ∙ laws.format_too_small wanted c.args.offset c.args.head.now
+    (λ more. let (wanted, is) = agrees more in is ∙ chunk_laws.format_too_small wanted c.args.offset c.args.head.now
     c.requires.head.long c.requires.head.id more small))
 
 pub returns-in_err-take-clause-err : goal.returns-in_err-take-clause-err
@@ -30,7 +31,7 @@ returns-in_err-take-clause-err g c says agrees =
     let enough : 16 ≤ u32_at c.args.head.now 4 = omega (arith, size, c.if-size.false) in
     rw (is, same) (laws.stops_missing says (c.args.offset + 8) _ _ 16 _
     (λ more short. let (wanted, said) = agrees more in said ∙
-    laws.format_short wanted c.args.offset c.args.head.now c.requires.head.long c.requires.head.id enough more
+    chunk_laws.format_short wanted c.args.offset c.args.head.now c.requires.head.long c.requires.head.id enough more
     short) (rw sixteen at c.in_err-take.ensures.err))
 
 pub returns-then-read_u16-ne-EXTENSIBLE_TAG-clause-ok : goal.returns-then-read_u16-ne-EXTENSIBLE_TAG-clause-ok
@@ -83,7 +84,8 @@ returns-in_err-take-2-clause-err g c says agrees =
     let at : c.args.offset + 24 ≡ c.args.offset + 8 + 16 = omega arith in
     rw (is, same) (laws.stops_later says (c.args.offset + 8) _ _ 16 24 _ front _
     (λ more short. let (wanted, said) = agrees (front ++ more) in said ∙
-    laws.extension_short wanted c.args.offset c.args.head.now c.requires.head.long c.requires.head.id front sixteen
+    chunk_laws.extension_short wanted c.args.offset c.args.head.now c.requires.head.long
+    c.requires.head.id front sixteen
     enough is_extended more short)
     (rw sixteen at c.in_ok-take.ensures.ok) (rw (rest, at) at c.in_err-take-2.ensures.err))
 

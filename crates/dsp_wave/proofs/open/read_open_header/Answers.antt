@@ -3,7 +3,7 @@ use Rattle.std.proofs.lemmas.Result.{err_from_is_err_and}
 use Rattle.dsp_defs.specs.Wave.{chunks_behind}
 use Rattle.dsp_defs.specs.Open.{wanted_by, wanted_in}
 use Rattle.dsp_wave.specs.Opening.{own_header_of, own_said_behind, own_said_from}
-use Rattle.dsp_wave.proofs.ReaderLaws as laws
+use Rattle.dsp_wave.proofs.StartLaws as start_laws
 use Rattle.dsp_wave.proofs.OpenLaws as open_laws
 use Rattle.dsp_wave.proofs.open.read_open_header.Goals as goal
 
@@ -27,7 +27,7 @@ returns-in_err-wanted-clause-err g c =
     let head = c.in_ok-head.field-0 in
     rw (is, same)
     (open_laws.own_stops _ _ _ c.in_ok-read_riff.ensures.ok _
-    (laws.stopped_sooner (own_said_from 12) (own_said_behind head.offset head.head) 12 (length found.bytes)
+    (start_laws.stopped_sooner (own_said_from 12) (own_said_behind head.offset head.head) 12 (length found.bytes)
     (head.offset + 8) found.here _ _ _ found.bytes found.came
     (λ more. open_laws.own_behind found.bytes head.offset head.head more (λ w. found.said w more) (found.wants more))
     _ c.in_err-wanted.ensures.err))

@@ -5,7 +5,7 @@ use Rattle.dsp_defs.specs.Open.{wanted_in}
 use Rattle.dsp_wave.specs.Reading.{said_from}
 use Rattle.dsp_wave.specs.Taking.{said_behind}
 use Rattle.dsp_wave.specs.Opening.{own_said_behind}
-use Rattle.dsp_wave.proofs.ReaderLaws as laws
+use Rattle.dsp_wave.proofs.StartLaws as start_laws
 use Rattle.dsp_wave.proofs.OpenLaws as open_laws
 use Rattle.dsp_wave.proofs.FirstFormat.{wants_format}
 use Rattle.dsp_wave.proofs.open.read_own_format.Goals as goal
@@ -25,7 +25,7 @@ returns-in_err-known-clause-err g c =
     let body = take c.in_ok-count.count c.take_format.new.body in
     let (came, enough) = c.in_ok-count.ensures.ok in
     let here : c.args.offset + 8 + length body ≡ c.args.offset + 8 + c.in_ok-count.count = omega (arith, came.long) in
-    rw (is, same) (laws.stopped_sooner (own_said_behind c.args.offset head)
+    rw (is, same) (start_laws.stopped_sooner (own_said_behind c.args.offset head)
     (λ more. said_behind c.own_wanted-wanted.result c.args.offset head (body ++ more)) (c.args.offset + 8)
     c.in_ok-count.count (c.args.offset + 8 + length body) here _ _ _ body came
     (λ more. ap (λ w. said_from w c.args.offset None (head ++ (body ++ more)))

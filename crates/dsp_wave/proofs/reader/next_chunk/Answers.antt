@@ -5,6 +5,7 @@ use Rattle.std.proofs.lemmas.Result.{err_from_is_err_and}
 use Rattle.dsp_defs.specs.Wave.{padded, u32_at}
 use Rattle.dsp_wave.specs.Reading.{said_from}
 use Rattle.dsp_wave.proofs.ReaderLaws as laws
+use Rattle.dsp_wave.proofs.ChunkLaws as chunk_laws
 use Rattle.dsp_wave.proofs.reader.next_chunk.Goals as goal
 
 pub returns-in_err-take-clause-err : goal.returns-in_err-take-clause-err
@@ -13,7 +14,7 @@ returns-in_err-take-clause-err g c wanted =
     let (error, is, same) = err_from_is_err_and c.from_residual.result c.from_residual.ensures.1 in
     let long : length c.take.new.piece ≡ 8 = c.take.auto.piece in
     rw (is, same) (laws.stops_missing (said_from wanted c.args.offset known) c.args.offset _ _ 8 _
-    (laws.needs_head wanted c.args.offset known)
+    (chunk_laws.needs_head wanted c.args.offset known)
     (rw long at c.in_err-take.ensures.err))
 
 pub returns-in_err-skip-clause-err : goal.returns-in_err-skip-clause-err
@@ -29,8 +30,8 @@ returns-in_err-skip-clause-err g c wanted =
     grind (arith, common_steps, c.padded.ensures, c.read_u32-size.ensures) in
     rw (is, same) (laws.stops_later (said_from wanted c.args.offset known) c.args.offset _ _ 8
     (padded (u32_at head 4)) _ head _
-    (λ more. laws.passes_short wanted c.args.offset head long known known more
-    (laws.other_passes wanted c.args.offset head long known more other refl))
+    (λ more. chunk_laws.passes_short wanted c.args.offset head long known known more
+    (chunk_laws.other_passes wanted c.args.offset head long known more other refl))
     (rw long at c.in_ok-take.ensures.ok) (rw size at c.in_err-skip.ensures.err))
 
 pub returns-clause-ok : goal.returns-clause-ok
@@ -44,5 +45,5 @@ returns-clause-ok g c =
     let size : c.padded-2.result ≡ padded (u32_at head 4) =
     grind (arith, common_steps, c.padded-2.ensures, c.read_u32-size.ensures) in
     let (body, second) = c.in_ok-skip.ensures.ok in
-    rw size (laws.chunk_came c.args.offset c.args.known head long other _ _ _ body
+    rw size (chunk_laws.chunk_came c.args.offset c.args.known head long other _ _ _ body
     (rw long at c.in_ok-take.ensures.ok) (rw skipped at second))

@@ -3,6 +3,7 @@ use Rattle.std.proofs.lemmas.Result.{err_from_is_err_and}
 use Rattle.dsp_wave.specs.Reading.{said_from}
 use Rattle.dsp_wave.specs.Taking.{Came}
 use Rattle.dsp_wave.proofs.ReaderLaws as laws
+use Rattle.dsp_wave.proofs.StartLaws as start_laws
 use Rattle.dsp_wave.proofs.reader.read_chunks.Goals as goal
 
 pub header-init : goal.header-init
@@ -21,7 +22,7 @@ returns-in_err-header-clause-err g c wanted =
     let (count, front, came, here, said) = c.header.invariant.read in
     let (error, is, same) = err_from_is_err_and c.from_residual.result c.from_residual.ensures.1 in
     rw (is, same)
-    (laws.stopped_sooner (said_from wanted c.args.offset (Some c.args.known))
+    (start_laws.stopped_sooner (said_from wanted c.args.offset (Some c.args.known))
     (said_from wanted c.header.offset (Some c.args.known)) c.args.offset count
     c.header.offset here _ _ _ front came (said wanted) _ (c.in_err-header.ensures.err wanted))
 
@@ -29,7 +30,7 @@ pub returns-in-Samples-clause-ok : goal.returns-in-Samples-clause-ok
 returns-in-Samples-clause-ok g c wanted =
     let (count, front, came, here, said) = c.header.invariant.read in
     let headed = rw c.in-Samples.is at c.in_ok-header.ensures.ok in
-    laws.headed_sooner (said_from wanted c.args.offset (Some c.args.known))
+    start_laws.headed_sooner (said_from wanted c.args.offset (Some c.args.known))
     (said_from wanted c.header.offset (Some c.args.known)) c.args.offset count
     c.header.offset here _ _ _ front came (said wanted) _ (headed wanted)
 

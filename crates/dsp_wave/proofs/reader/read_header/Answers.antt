@@ -3,7 +3,7 @@ use Rattle.std.proofs.lemmas.Result.{err_from_is_err_and}
 use Rattle.dsp_defs.specs.Wave.{header_of}
 use Rattle.dsp_wave.specs.Reading.{said_from}
 use Rattle.dsp_wave.specs.Taking.{said_behind}
-use Rattle.dsp_wave.proofs.ReaderLaws as laws
+use Rattle.dsp_wave.proofs.StartLaws as start_laws
 use Rattle.dsp_wave.proofs.FirstFormat as first
 use Rattle.dsp_wave.proofs.reader.read_header.Goals as goal
 
@@ -29,7 +29,7 @@ returns-in_err-known-clause-err g c =
     let found = c.in_ok-head.ensures.ok in
     rw (is, same)
     (first.stops_behind wanted _ _ _ c.in_ok-read_riff.ensures.ok _
-    (laws.stopped_sooner (said_from wanted 12 None) (said_behind wanted c.in_ok-head.field-0.offset
+    (start_laws.stopped_sooner (said_from wanted 12 None) (said_behind wanted c.in_ok-head.field-0.offset
     c.in_ok-head.field-0.head) 12 (length found.bytes)
     (c.in_ok-head.field-0.offset + 8) found.here _ _ _ found.bytes found.came (found.said wanted) _
     c.in_err-known.ensures.err))
@@ -44,7 +44,7 @@ returns-in_err-header-clause-err g c =
     let read = c.in_ok-known.ensures.ok in
     let head = c.in_ok-head.field-0 in
     rw (is, same)
-    (laws.stopped_sooner (λ bytes. header_of bytes wanted)
+    (start_laws.stopped_sooner (λ bytes. header_of bytes wanted)
     (said_from wanted (first.behind _ _ _ _ riff head found read.body read.came) (Some c.in_ok-known.known)) 0 _ _
     (first.front_ends _ _ _ _ riff head found read.body read.came) _ _ _
     (first.front _ _ _ _ riff head found read.body read.came)
@@ -59,7 +59,7 @@ returns-clause-ok g c =
     let found = c.in_ok-head.ensures.ok in
     let read = c.in_ok-known.ensures.ok in
     let head = c.in_ok-head.field-0 in
-    laws.headed_sooner (λ bytes. header_of bytes wanted)
+    start_laws.headed_sooner (λ bytes. header_of bytes wanted)
     (said_from wanted (first.behind _ _ _ _ riff head found read.body read.came) (Some c.in_ok-known.known)) 0 _ _
     (first.front_ends _ _ _ _ riff head found read.body read.came) _ _ _
     (first.front _ _ _ _ riff head found read.body read.came)

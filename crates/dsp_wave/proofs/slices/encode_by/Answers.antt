@@ -3,6 +3,7 @@ use Rattle.std.proofs.Common.{get_or, arith, SFits, length-take, length-drop}
 use Rattle.std.specs.Int.{w32}
 use Rattle.std.specs.List.{flat_map}
 use Rattle.std.proofs.lemmas.Int.{to_z-of_z}
+use mir.Val.{to_z, of_z}
 use Rattle.std.proofs.lemmas.Slice.{take-put_mid}
 use Rattle.std.proofs.lemmas.List.Elements.{All-get_or}
 use Rattle.dsp_defs.specs.Bytes.{IsValue, bytes_of, width}
@@ -23,7 +24,9 @@ loop-i-preserved c =
     let within : i < length samples = omega arith in
     let fits : SFits w32 x = value_fits coding x (All-get_or (IsValue coding) samples i (pos 0) within
     c.requires.fits) in
-    let made : out ≡ f x = c.bytes_of.ensures ∙ ap f (to_z-of_z w32 x fits) in
+    let kept : c.in_range-value.result ≡ x = c.in_range-value.ensures ∙ to_z-of_z w32 x fits in
+    let made : out ≡ f x = c.bytes_of.ensures ∙ ap (λ z. f (to_z w32 (of_z w32 z))) kept ∙
+    ap f (to_z-of_z w32 x fits) in
     let bound : i * w + w ≤ length samples * w = within-bytes i (length samples) w within in
     let all : length samples * w ≡ length samples * width coding = ap (λ v. length samples * v) same in
     let room : i * w + w ≤ length old = omega (arith, bound, all, c.requires.room, c.loop-i.auto.bytes) in

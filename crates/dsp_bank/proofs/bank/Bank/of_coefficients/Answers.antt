@@ -1,7 +1,7 @@
 use Rattle.std.proofs.Common.{◌≡◌, ◌∙◌, ap, refl, sym, pos, ◌*◌, ◌/◌, length, map, replicate, rules}
 use Rattle.std.proofs.lemmas.List.{length-map}
 use Rattle.dsp_defs.specs.Cost.{section_count}
-use Rattle.dsp_biquad.specs.Blocks.{count-at}
+use Rattle.dsp_biquad.specs.Laws.{count-at}
 use Rattle.dsp_bank.proofs.bank.Bank.of_coefficients.Goals as goal
 
 pub returns : goal.returns

@@ -8,7 +8,7 @@ use Rattle.dsp_unit.specs.Channels.{AreFed}
 use Rattle.dsp_filter.proofs.Units.{written-whole}
 use Rattle.dsp_lanes.specs.Turns.{RisesWithin, lane_turns}
 use Rattle.dsp_biquad.specs.Sections.{block_acts}
-use Rattle.dsp_biquad.specs.Blocks.{count-at}
+use Rattle.dsp_biquad.specs.Laws.{count-at}
 use Rattle.dsp_bank.specs.Bank.{BankState, bank_filters}
 use Rattle.dsp_bank.specs.Rows.{ChannelsTake}
 use Rattle.dsp_bank.proofs.BankFed.{bank-fed}

@@ -4,7 +4,7 @@ use Rattle.std.specs.Int.{w64}
 use Rattle.std.proofs.lemmas.Int.{to_z-of_z}
 use Rattle.dsp_defs.specs.Signal.{sample}
 use Rattle.dsp_defs.proofs.SumLemmas.{sample-map}
-use Rattle.dsp_biquad.specs.Blocks.{some-size}
+use Rattle.dsp_biquad.specs.Laws.{some-size}
 use Rattle.dsp_biquad.specs.Sections.{section_acts, section_of}
 use Rattle.dsp_biquad.proofs.Scaled.{acts_scaled}
 use Rattle.dsp_biquad.proofs.section.SectionCascadeSection.new.Goals as goal

@@ -2,17 +2,14 @@ use Rattle.std.proofs.Common.{◌≡◌, ◌∙◌, ap, inl, inr, refl, sym, sub
 use Rattle.std.proofs.Common.{Some, None, ◌+◌, ◌/◌, ◌<◌, ◌≤◌, ◌^◌}
 use Rattle.std.specs.Prelude.{is_some}
 use Rattle.dsp_unit.specs.Line.{Place, InLine, AllCount, AllTaken, blocks_of, place_behind, place_room}
-use Rattle.dsp_defs.specs.Shape.{gathered}
+use Rattle.dsp_defs.specs.Shape.{gathered, held}
 use Rattle.dsp_defs.specs.declared.limits.TheConstants.{MAX_GATHERED}
 use Rattle.dsp_defs.proofs.FrameLemmas.{length-frames_in}
-use Rattle.dsp_unit.proofs.FewFrames.{few-taken}
+use Rattle.dsp_shape.proofs.FewFrames.{few-taken}
 use Rattle.dsp_unit.proofs.TailLaws.{count-runs, count-took}
-use Rattle.dsp_chain.specs.FrameRule.{rules_of, whole_by, live_by, frames_gathered}
 use Rattle.dsp_chain.specs.Line.{MayTake}
 use Rattle.dsp_chain.proofs.Room.{written-line}
-use Rattle.dsp_chain.proofs.FrameRules.{rules-few, rules-gathered, rules-held}
 use Rattle.dsp_chain.proofs.ChainCalls.{whole-again, chain-fed}
-use Rattle.dsp_chain.proofs.Restored.{same-rules}
 use Rattle.dsp_chain.proofs.chain.Chain.feed.Goals as goal
 
 some-none : {A : Type 0} (o : Option A) (a : A) → o ≡ None → o ≡ Some a → ⊥
@@ -51,12 +48,8 @@ returns-in-Some-clause-refused g c =
 -- and where it fails for the first time, only that it has is new
 pub invariant_of-self : goal.invariant_of-self
 invariant_of-self g c =
-    let is = c.self.invariant.0 in (
-      whole-again _ _ is refl refl is.line is.took is.counts is.taken,
-      c.self.invariant.1,
-      c.self.invariant.2,
-      c.self.invariant.3,
-    )
+    let is = c.self.invariant.is in
+    record { is = whole-again _ _ is refl refl is.line is.took is.counts is.taken; room_is = c.self.invariant.room_is }
 
 pub returns-in-Some-gather_fault-clause-refused : goal.returns-in-Some-gather_fault-clause-refused
 returns-in-Some-gather_fault-clause-refused g c =
@@ -68,52 +61,44 @@ returns-in-Some-gather_fault-clause-refused g c =
 
 pub gather_fault-requires-clause-few : goal.gather_fault-requires-clause-few
 gather_fault-requires-clause-few g c =
-    let is = c.self.invariant.0 in
+    let is = c.self.invariant.is in
     let n = c.self.inside.frames + length c.args.frames.now / c.self.inside.channels in
     let few : n ≤ 2 ^ 40 = rw length-frames_in at (rw (← c.self.view_is) at c.requires.count) in
-    rw (c.deref.ensures.value, c.self.invariant.1) (rules-few _ (blocks_of c.self.inside.links.items) n is.chain
-    (is.few_frames n few))
+    rw c.deref.ensures.value (is.few_frames n few)
 
 pub returns-in-Some-gather_fault-clause-full : goal.returns-in-Some-gather_fault-clause-full
 returns-in-Some-gather_fault-clause-full g c =
     let blocks = blocks_of c.self.inside.links.items in
     let n = c.self.inside.frames + length c.args.frames.now / c.self.inside.channels in
-    let same : frames_gathered whole_by c.deref.result.now n ≡ gathered blocks n =
-    ap (λ rs. frames_gathered whole_by rs n) (c.deref.ensures.value ∙ c.self.invariant.1) ∙
-    rules-gathered blocks n in
+    let same = ap (λ us. gathered (blocks_of us) n) c.deref.ensures.value in
     let over : MAX_GATHERED < gathered blocks n = subst (λ k. MAX_GATHERED < k) same
     c.in-Some-gather_fault.ensures.full in
     rw (← c.self.view_is) (λ _. inl (rw length-frames_in over), λ _. refl)
 
 pub returns-in-Some-gather_fault-clause-numbers : goal.returns-in-Some-gather_fault-clause-numbers
 returns-in-Some-gather_fault-clause-numbers g c =
-    let blocks = blocks_of c.self.inside.links.items in
     let n = c.self.inside.frames + length c.args.frames.now / c.self.inside.channels in
-    let rules = c.deref.ensures.value ∙ c.self.invariant.1 in
+    let links = c.deref.ensures.value in
     rw (← c.self.view_is)
     (λ _. (
-      c.in-Some-gather_fault.ensures.held ∙ ap (λ rs. frames_gathered live_by rs c.self.inside.frames) rules ∙
-          rules-held blocks c.self.inside.frames,
-      rw length-frames_in (c.in-Some-gather_fault.ensures.more ∙ ap (λ rs. frames_gathered whole_by rs n) rules ∙
-          rules-gathered blocks n),
+      c.in-Some-gather_fault.ensures.held ∙ ap (λ us. held (blocks_of us) c.self.inside.frames) links,
+      rw length-frames_in (c.in-Some-gather_fault.ensures.more ∙ ap (λ us. gathered (blocks_of us) n) links),
     ))
 
 pub feed_line-requires-clause-running : goal.feed_line-requires-clause-running
 feed_line-requires-clause-running g c =
     let running = rw (← c.self.view_is) at c.requires.running in
     rw c.as_mut_slice.ensures.value (count-runs c.self.inside.links.items c.self.inside.frames
-    (c.self.invariant.0.counts running))
+    (c.self.invariant.is.counts running))
 
 pub feed_line-requires-clause-passes : goal.feed_line-requires-clause-passes
 feed_line-requires-clause-passes g c =
-    let is = c.self.invariant.0 in
+    let is = c.self.invariant.is in
     let links = c.self.inside.links.items in
     let n = c.self.inside.frames + length c.args.frames.now / c.self.inside.channels in
     let running = rw (← c.self.view_is) at c.requires.running in
     let few : n ≤ 2 ^ 40 = rw length-frames_in at (rw (← c.self.view_is) at c.requires.count) in
-    let same : frames_gathered whole_by c.deref.result.now n ≡ gathered (blocks_of links) n =
-    ap (λ rs. frames_gathered whole_by rs n) (c.deref.ensures.value ∙ c.self.invariant.1) ∙
-    rules-gathered (blocks_of links) n in
+    let same = ap (λ us. gathered (blocks_of us) n) c.deref.ensures.value in
     let fits : gathered (blocks_of links) n ≤ MAX_GATHERED =
     subst (λ k. k ≤ MAX_GATHERED) same c.in_default-gather_fault.ensures.none in
     let taken : AllTaken (blocks_of links) n = few-taken (blocks_of links) n is.one_correlate fits
@@ -134,7 +119,7 @@ feed_line-requires-clause-passes g c =
 
 pub invariant_of-self-2 : goal.invariant_of-self-2
 invariant_of-self-2 g c =
-    let is = c.self.invariant.0 in
+    let is = c.self.invariant.is in
     let p : Place = record {
       format = c.self.inside.format;
       channels = c.self.inside.channels;
@@ -154,24 +139,20 @@ invariant_of-self-2 g c =
     let counts : AllCount news n = rw length-frames_in at
     (fed.feeds.counts c.self.inside.frames (subst (λ us. AllCount us c.self.inside.frames)
     (sym c.as_mut_slice.ensures.value) (is.counts running))) in
-    let same : frames_gathered whole_by c.deref.result.now n ≡ gathered (blocks_of links) n =
-    ap (λ rs. frames_gathered whole_by rs n) (c.deref.ensures.value ∙ c.self.invariant.1) ∙
-    rules-gathered (blocks_of links) n in
+    let same = ap (λ us. gathered (blocks_of us) n) c.deref.ensures.value in
     let fits : gathered (blocks_of links) n ≤ MAX_GATHERED =
     subst (λ k. k ≤ MAX_GATHERED) same c.in_default-gather_fault.ensures.none in
     let taken : AllTaken (blocks_of links) n = few-taken (blocks_of links) n is.one_correlate fits
     (is.few_frames n few) in
-    rw whole (
-      whole-again _ _ is refl blocks fed.feeds.in_line (count-took news n counts) (λ _. counts)
-          (subst (λ bs. AllTaken bs n) (sym blocks) taken),
-      c.self.invariant.1 ∙ ap rules_of (sym blocks),
-      c.self.invariant.2 ∙ sym (same-rules p links news is.line fed.feeds.in_line blocks),
-      c.self.invariant.3 ∙ ap (λ bs. place_room (place_behind p bs)) (sym blocks),
-    )
+    rw whole (record {
+      is = whole-again _ _ is refl blocks fed.feeds.in_line (count-took news n counts) (λ _. counts)
+          (subst (λ bs. AllTaken bs n) (sym blocks) taken);
+      room_is = c.self.invariant.room_is ∙ ap (λ bs. place_room (place_behind p bs)) (sym blocks);
+    })
 
 pub returns-clause-fed : goal.returns-clause-fed
 returns-clause-fed g c =
-    let is = c.self.invariant.0 in
+    let is = c.self.invariant.is in
     let p : Place = record {
       format = c.self.inside.format;
       channels = c.self.inside.channels;
@@ -192,9 +173,7 @@ pub returns-clause-full : goal.returns-clause-full
 returns-clause-full g c =
     let blocks = blocks_of c.self.inside.links.items in
     let n = c.self.inside.frames + length c.args.frames.now / c.self.inside.channels in
-    let same : frames_gathered whole_by c.deref.result.now n ≡ gathered blocks n =
-    ap (λ rs. frames_gathered whole_by rs n) (c.deref.ensures.value ∙ c.self.invariant.1) ∙
-    rules-gathered blocks n in
+    let same = ap (λ us. gathered (blocks_of us) n) c.deref.ensures.value in
     let fits : gathered blocks n ≤ MAX_GATHERED = subst (λ k. k ≤ MAX_GATHERED) same
     c.in_default-gather_fault.ensures.none in
     let works : is_some c.self.inside.failed ≡ false = ap is_some c.in_default.is in

@@ -2,9 +2,7 @@ use Rattle.std.proofs.Common.{◌≡◌, ◌∙◌, ap, refl, sym, subst, take, 
 use Rattle.std.proofs.Common.{length-take}
 use Rattle.std.specs.Prelude.{is_some}
 use Rattle.dsp_unit.specs.Line.{Place, InLine, AllTook, AllTaken, blocks_of, place_behind, place_room}
-use Rattle.dsp_chain.specs.FrameRule.{rules_of}
 use Rattle.dsp_chain.specs.Line.{MayFinish}
-use Rattle.dsp_chain.proofs.Restored.{same-rules}
 use Rattle.dsp_chain.proofs.Room.{written-line}
 use Rattle.dsp_chain.proofs.ChainCalls.{whole-again, chain-finished, chain-refused}
 use Rattle.dsp_chain.proofs.chain.Chain.finish.Goals as goal
@@ -18,13 +16,13 @@ true-false e = cc
 
 pub returns-then-is_some-clause-finished : goal.returns-then-is_some-clause-finished
 returns-then-is_some-clause-finished g c =
-    let is = c.self.invariant.0 in
+    let is = c.self.invariant.is in
     rw (← c.self.view_is) (chain-refused _ _ c.args.steps.now refl refl refl refl refl
     (sym c.is_some.ensures ∙ c.if-is_some.true) is.line is.took)
 
 pub returns-clause-finished : goal.returns-clause-finished
 returns-clause-finished g c =
-    let is = c.self.invariant.0 in
+    let is = c.self.invariant.is in
     let p : Place = record {
       format = c.self.inside.format;
       channels = c.self.inside.channels;
@@ -50,7 +48,7 @@ returns-clause-finished g c =
 
 pub invariant_of-self-2 : goal.invariant_of-self-2
 invariant_of-self-2 g c =
-    let is = c.self.invariant.0 in
+    let is = c.self.invariant.is in
     let p : Place = record {
       format = c.self.inside.format;
       channels = c.self.inside.channels;
@@ -67,17 +65,15 @@ invariant_of-self-2 g c =
     let blocks : blocks_of news ≡ blocks_of links = finished.blocks ∙ ap blocks_of c.as_mut_slice.ensures.value in
     let took : AllTook news n = finished.took n (subst (λ us. AllTook us n) (sym c.as_mut_slice.ensures.value)
     is.took) in
-    rw whole (
-      whole-again _ _ is refl blocks finished.in_line took (λ running. absurd (true-false running))
-          (subst (λ bs. AllTaken bs n) (sym blocks) is.taken),
-      c.self.invariant.1 ∙ ap rules_of (sym blocks),
-      c.self.invariant.2 ∙ sym (same-rules p links news is.line finished.in_line blocks),
-      c.self.invariant.3 ∙ ap (λ bs. place_room (place_behind p bs)) (sym blocks),
-    )
+    rw whole (record {
+      is = whole-again _ _ is refl blocks finished.in_line took (λ running. absurd (true-false running))
+          (subst (λ bs. AllTaken bs n) (sym blocks) is.taken);
+      room_is = c.self.invariant.room_is ∙ ap (λ bs. place_room (place_behind p bs)) (sym blocks);
+    })
 
 pub finish_line-requires : goal.finish_line-requires
 finish_line-requires g c =
-    let is = c.self.invariant.0 in
+    let is = c.self.invariant.is in
     let may : MayFinish c.self.inside.links.items (length c.args.out.now) = record {
       place = record {
         format = c.self.inside.format;

@@ -2,11 +2,8 @@ use Rattle.std.proofs.Common.{◌≡◌, ◌∙◌, ap, sym, subst, false, true,
 use Rattle.dsp_unit.specs.Line.{Place, blocks_of}
 use Rattle.dsp_defs.specs.Shape.{gathered}
 use Rattle.dsp_defs.specs.declared.limits.TheConstants.{MAX_GATHERED}
-use Rattle.dsp_chain.specs.FrameRule.{whole_by, frames_gathered}
-use Rattle.dsp_chain.specs.KeptRule.{HaveGroups}
-use Rattle.dsp_chain.specs.Restored.{FitsUnits, HasRules}
-use Rattle.dsp_chain.proofs.FrameRules.{rules-few, rules-gathered}
-use Rattle.dsp_chain.proofs.Restored.{fits-blocks, fits-units, have-groups}
+use Rattle.dsp_chain.specs.Restored.{FitsUnits}
+use Rattle.dsp_chain.proofs.Restored.{fits-blocks, fits-units}
 use Rattle.dsp_chain.proofs.chain.Chain.fits.Goals as goal
 
 never : false ≡ true → ⊥
@@ -14,9 +11,8 @@ never e = cc
 
 pub gathered-requires : goal.gathered-requires
 gathered-requires g c =
-    let is = c.self.invariant.0 in
-    rw (c.deref.ensures.value, c.self.invariant.1) (rules-few _ (blocks_of c.self.inside.links.items) c.args.frames
-    is.chain (is.few_frames c.args.frames (omega (arith, c.if-frames-gt-MAX_INPUT.false))))
+    rw c.deref.ensures.value (c.self.invariant.is.few_frames c.args.frames
+    (omega (arith, c.if-frames-gt-MAX_INPUT.false)))
 
 pub returns-then-frames-gt-MAX_INPUT : goal.returns-then-frames-gt-MAX_INPUT
 returns-then-frames-gt-MAX_INPUT g c = (
@@ -27,9 +23,7 @@ returns-then-frames-gt-MAX_INPUT g c = (
 pub returns-then-gathered : goal.returns-then-gathered
 returns-then-gathered g c =
     let blocks = blocks_of c.self.inside.links.items in
-    let same : frames_gathered whole_by c.deref.result.now c.args.frames ≡ gathered blocks c.args.frames =
-    ap (λ rs. frames_gathered whole_by rs c.args.frames) (c.deref.ensures.value ∙ c.self.invariant.1) ∙
-    rules-gathered blocks c.args.frames in
+    let same = ap (λ us. gathered (blocks_of us) c.args.frames) c.deref.ensures.value in
     rw (← c.self.view_is) (
       λ e. absurd (never e),
       λ fits. absurd
@@ -38,20 +32,12 @@ returns-then-gathered g c =
 
 pub fits_line-requires : goal.fits_line-requires
 fits_line-requires g c =
-    let is = c.self.invariant.0 in
-    let links = c.self.inside.links.items in
-    let has : HasRules links c.self.inside.rules.items c.self.inside.kept.items c.args.frames = record {
-      frames = c.self.invariant.1;
-      numbers = c.self.invariant.2;
-      groups = subst HaveGroups (sym c.self.invariant.2) (have-groups _ links is.chain);
-      few = rw c.self.invariant.1 (rules-few _ (blocks_of links) c.args.frames is.chain
-          (is.few_frames c.args.frames (omega (arith, c.if-frames-gt-MAX_INPUT.false))));
-    } in
-    rw (c.deref-2.ensures.value, c.deref-3.ensures.value, c.deref-4.ensures.value) has
+    rw c.deref-2.ensures.value (c.self.invariant.is.few_frames c.args.frames
+    (omega (arith, c.if-frames-gt-MAX_INPUT.false)))
 
 pub returns : goal.returns
 returns g c =
-    let is = c.self.invariant.0 in
+    let is = c.self.invariant.is in
     let links = c.self.inside.links.items in
     let p : Place = record {
       format = c.self.inside.format;
@@ -60,9 +46,7 @@ returns g c =
           c.self.inside.capacity;
     } in
     let blocks = blocks_of links in
-    let same : frames_gathered whole_by c.deref.result.now c.args.frames ≡ gathered blocks c.args.frames =
-    ap (λ rs. frames_gathered whole_by rs c.args.frames) (c.deref.ensures.value ∙ c.self.invariant.1) ∙
-    rules-gathered blocks c.args.frames in
+    let same = ap (λ us. gathered (blocks_of us) c.args.frames) c.deref.ensures.value in
     let gathers : gathered blocks c.args.frames ≤ MAX_GATHERED =
     omega (arith, c.if-gathered.false, c.gathered.ensures, same) in
     let line = c.deref-2.ensures.value in

@@ -9,11 +9,11 @@ pub keep_line-requires-clause-running : goal.keep_line-requires-clause-running
 keep_line-requires-clause-running g c =
     let running = rw (← c.self.view_is) at c.requires.running in
     rw c.deref.ensures.value (count-runs c.self.inside.links.items c.self.inside.frames
-    (c.self.invariant.0.counts running))
+    (c.self.invariant.is.counts running))
 
 pub returns-clause-stands : goal.returns-clause-stands
 returns-clause-stands g c =
-    let is = c.self.invariant.0 in
+    let is = c.self.invariant.is in
     let links = c.self.inside.links.items in
     let p : Place = record {
       format = c.self.inside.format;

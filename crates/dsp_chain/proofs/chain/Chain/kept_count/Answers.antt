@@ -6,7 +6,7 @@ use Rattle.dsp_chain.proofs.chain.Chain.kept_count.Goals as goal
 
 pub returns-clause-frames : goal.returns-clause-frames
 returns-clause-frames g c =
-    let is = c.self.invariant.0 in
+    let is = c.self.invariant.is in
     let links = c.self.inside.links.items in
     let p : Place = record {
       format = c.self.inside.format;

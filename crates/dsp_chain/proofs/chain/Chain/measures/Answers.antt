@@ -11,8 +11,8 @@ count_measures-requires-clause-each g c =
       capacity =
           c.self.inside.capacity;
     } in
-    rw c.deref.ensures.value (each-few p c.self.inside.links.items c.self.invariant.0.line
-    c.self.invariant.0.few_channels)
+    rw c.deref.ensures.value (each-few p c.self.inside.links.items c.self.invariant.is.line
+    c.self.invariant.is.few_channels)
 
 pub returns-clause-stays : goal.returns-clause-stays
 returns-clause-stays g c =
@@ -24,4 +24,4 @@ returns-clause-stays g c =
     } in
     rw (← c.self.view_is) (c.count_measures.ensures.count ∙
     ap (λ us. length (measured_by 1 us)) c.deref.ensures.value ∙
-    line-measures 1 p c.self.inside.links.items c.self.invariant.0.line)
+    line-measures 1 p c.self.inside.links.items c.self.invariant.is.line)

@@ -1,14 +1,11 @@
 use Rattle.std.proofs.Common.{◌∙◌, ap, refl, sym, subst, arith}
 use Rattle.dsp_unit.specs.Line.{Place, AllCount, AllTaken, blocks_of, place_behind, place_room}
 use Rattle.dsp_unit.proofs.ChainPlaces.{flow_at, has_channels}
-use Rattle.dsp_unit.proofs.FewFrames.{few-taken}
+use Rattle.dsp_shape.proofs.FewFrames.{few-taken}
 use Rattle.dsp_unit.proofs.TailLaws.{count-runs, count-took}
-use Rattle.dsp_chain.specs.FrameRule.{rules_of}
-use Rattle.dsp_chain.specs.KeptRule.{HaveGroups}
-use Rattle.dsp_chain.specs.Restored.{AllRestores, HasRules}
+use Rattle.dsp_chain.specs.Restored.{AllRestores}
 use Rattle.dsp_chain.proofs.ChainCalls.{whole-again, chain-live}
-use Rattle.dsp_chain.proofs.FrameRules.{rules-few}
-use Rattle.dsp_chain.proofs.Restored.{fits-units, have-groups, same-rules, restored-counts, restored-line}
+use Rattle.dsp_chain.proofs.Restored.{fits-units, restored-counts, restored-line}
 use Rattle.dsp_chain.proofs.Restored.{restored-turns, restored-stand}
 use Rattle.dsp_chain.proofs.Room.{written-line}
 use Rattle.dsp_chain.proofs.chain.Chain.restore.Goals as goal
@@ -17,21 +14,12 @@ pub restore_line-requires-clause-running : goal.restore_line-requires-clause-run
 restore_line-requires-clause-running g c =
     let running = rw (← c.self.view_is) at c.requires.running in
     rw c.as_mut_slice.ensures.value (count-runs c.self.inside.links.items c.self.inside.frames
-    (c.self.invariant.0.counts running))
+    (c.self.invariant.is.counts running))
 
-pub restore_line-requires-clause-rules : goal.restore_line-requires-clause-rules
-restore_line-requires-clause-rules g c =
-    let is = c.self.invariant.0 in
-    let links = c.self.inside.links.items in
+pub restore_line-requires-clause-frames : goal.restore_line-requires-clause-frames
+restore_line-requires-clause-frames g c =
     let fits = rw (← c.self.view_is) at c.requires.fits in
-    let has : HasRules links c.self.inside.rules.items c.self.inside.kept.items c.args.frames = record {
-      frames = c.self.invariant.1;
-      numbers = c.self.invariant.2;
-      groups = subst HaveGroups (sym c.self.invariant.2) (have-groups _ links is.chain);
-      few = rw c.self.invariant.1 (rules-few _ (blocks_of links) c.args.frames is.chain
-          (is.few_frames c.args.frames fits.limit));
-    } in
-    rw (c.as_mut_slice.ensures.value, c.deref.ensures.value, c.deref-2.ensures.value) has
+    rw c.as_mut_slice.ensures.value (c.self.invariant.is.few_frames c.args.frames fits.limit)
 
 pub restore_line-requires-clause-fits : goal.restore_line-requires-clause-fits
 restore_line-requires-clause-fits g c =
@@ -43,11 +31,11 @@ restore_line-requires-clause-fits g c =
     } in
     let fits = rw (← c.self.view_is) at c.requires.fits in
     rw c.as_mut_slice.ensures.value (fits-units p c.self.inside.links.items c.args.frames c.args.numbers.now
-    c.self.invariant.0.line fits.fits)
+    c.self.invariant.is.line fits.fits)
 
 pub invariant_of-self : goal.invariant_of-self
 invariant_of-self g c =
-    let is = c.self.invariant.0 in
+    let is = c.self.invariant.is in
     let p : Place = record {
       format = c.self.inside.format;
       channels = c.self.inside.channels;
@@ -66,17 +54,15 @@ invariant_of-self g c =
     (omega (arith, c.restore_line.auto.links, c.as_mut_slice.ensures.len)) in
     let taken : AllTaken (blocks_of links) n = few-taken (blocks_of links) n is.one_correlate fits.gathers
     (is.few_frames n fits.limit) in
-    rw whole (
-      whole-again _ _ is refl blocks line (count-took news n counts) (λ _. counts)
-          (subst (λ bs. AllTaken bs n) (sym blocks) taken),
-      c.self.invariant.1 ∙ ap rules_of (sym blocks),
-      c.self.invariant.2 ∙ sym (same-rules p links news is.line line blocks),
-      c.self.invariant.3 ∙ ap (λ bs. place_room (place_behind p bs)) (sym blocks),
-    )
+    rw whole (record {
+      is = whole-again _ _ is refl blocks line (count-took news n counts) (λ _. counts)
+          (subst (λ bs. AllTaken bs n) (sym blocks) taken);
+      room_is = c.self.invariant.room_is ∙ ap (λ bs. place_room (place_behind p bs)) (sym blocks);
+    })
 
 pub returns : goal.returns
 returns g c =
-    let is = c.self.invariant.0 in
+    let is = c.self.invariant.is in
     let p : Place = record {
       format = c.self.inside.format;
       channels = c.self.inside.channels;

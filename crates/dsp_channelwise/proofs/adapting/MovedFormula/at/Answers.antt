@@ -9,12 +9,8 @@ use Rattle.dsp_defs.specs.declared.format.Fmt.{Fmt}
 use Rattle.dsp_defs.specs.declared.format.Fmt.TheVariants.{Q7, Q15, Q31}
 use Rattle.dsp_exact.proofs.ExactSums.{exact-from-32, exact-shift, exact-sum, exact-times}
 use Rattle.dsp_exact.proofs.Products.{exact-product}
+use Rattle.dsp_exact.proofs.Formats.{narrow}
 use Rattle.dsp_channelwise.proofs.adapting.MovedFormula.at.Goals as goal
-
-narrow : (f : Fmt) (alpha w x : ℤ) → f ≢ Q31 → saturate 16 (w +ℤ (alpha *ℤ x >> 15)) ≡ weight_after f alpha w x
-narrow Q7 alpha w x not = refl
-narrow Q15 alpha w x not = refl
-narrow Q31 alpha w x not = absurd (not refl)
 
 narrow_fits : (f : Fmt) (v : ℤ) → f ≢ Q7 → f ≢ Q31 → SFits w16 v → SFits (word f) v
 narrow_fits Q7 v wide not fits = absurd (wide refl)
@@ -47,11 +43,13 @@ returns-in_default g c =
     let total = exact-sum _ _ _ _ _ _ w (exact-shift _ _ _ 15 p) (lit< tt) in
     let same = to_z-of_z w32 c.saturate-in_default.result (record { sfits = c.saturate-in_default.type_inv }) in
     let x = sample (reverse f.x.now) c.args.k in
+    let w0 = sample f.w.now c.args.k in
     record {
       value = same ∙ c.saturate-in_default.ensures.value
           ∙ ap (saturate 16) total.is
           ∙ ap (λ v. saturate 16 (v +ℤ (f.alpha *ℤ x >> 15))) c.sample.ensures
-          ∙ narrow f.format f.alpha (sample f.w.now c.args.k) x c.in_default.not-Q31;
+          ∙ narrow (λ m. saturate 16 (w0 +ℤ (f.alpha *ℤ x >> 15)) ≡ weight_after m f.alpha w0 x) refl refl f.format
+          c.in_default.not-Q31;
       fits = subst (SFits (word f.format)) (sym same)
           (narrow_fits f.format c.saturate-in_default.result c.requires c.in_default.not-Q31
           c.saturate-in_default.ensures.fits);

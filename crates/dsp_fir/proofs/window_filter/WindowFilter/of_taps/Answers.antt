@@ -1,5 +1,5 @@
 use Rattle.std.proofs.Common.{◌≡◌, ◌∙◌, ap, map, arith}
-use Rattle.dsp_fir.specs.ByChannel.{windowed}
+use Rattle.dsp_fir.specs.Laws.{windowed}
 use Rattle.dsp_fir.specs.WindowState.{block_of, past_count}
 use Rattle.dsp_fir.proofs.ChannelLemmas.{new-channel}
 use Rattle.dsp_fir.proofs.window_filter.WindowFilter.of_taps.Goals as goal

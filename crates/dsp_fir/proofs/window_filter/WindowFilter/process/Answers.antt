@@ -1,7 +1,7 @@
 use Rattle.std.proofs.Common.{◌∙◌, ◌++◌, ap, sym, map}
 use Rattle.dsp_defs.specs.Kept.{kept_of_channel}
 use Rattle.dsp_window.proofs.Pushed.{keeps-after}
-use Rattle.dsp_fir.specs.ByChannel.{windowed}
+use Rattle.dsp_fir.specs.Laws.{windowed}
 use Rattle.dsp_fir.specs.WindowState.{block_of, past_count}
 use Rattle.dsp_fir.proofs.window_filter.WindowFilter.process.Goals as goal
 

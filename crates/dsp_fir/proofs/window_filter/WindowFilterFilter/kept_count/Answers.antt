@@ -1,5 +1,5 @@
 use Rattle.std.proofs.Common.{arith}
-use Rattle.dsp_fir.specs.ByChannel.{windowed}
+use Rattle.dsp_fir.specs.Laws.{windowed}
 use Rattle.dsp_fir.proofs.window_filter.WindowFilterFilter.kept_count.Goals as goal
 
 pub returns-clause-few : goal.returns-clause-few

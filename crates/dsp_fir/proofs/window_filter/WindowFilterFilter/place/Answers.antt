@@ -1,6 +1,6 @@
 use Rattle.std.proofs.Common.{◌∙◌, sym}
 use Rattle.std.proofs.lemmas.Bool.{false≢true}
-use Rattle.dsp_fir.specs.ByChannel.{windowed}
+use Rattle.dsp_fir.specs.Laws.{windowed}
 use Rattle.dsp_fir.proofs.ChannelLemmas.{channel-fits, fits-channel}
 use Rattle.dsp_fir.proofs.window_filter.WindowFilterFilter.place.Goals as goal
 

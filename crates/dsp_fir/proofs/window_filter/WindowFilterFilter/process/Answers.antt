@@ -1,7 +1,7 @@
 use Rattle.std.proofs.Common.{◌≡◌, ◌∙◌, ◌+◌, ◌*◌, ◌≤◌, ap, sym, subst, length, map, take, arith, length-take}
 use Rattle.std.proofs.lemmas.List.{length-map}
 use Rattle.dsp_lanes.specs.Turns.{lane_turns}
-use Rattle.dsp_fir.specs.ByChannel.{windowed}
+use Rattle.dsp_fir.specs.Laws.{windowed}
 use Rattle.dsp_fir.specs.WindowState.{WindowState, IsWindowBlock, tap_count}
 use Rattle.dsp_fir.proofs.ChannelLemmas.{channel-fed}
 use Rattle.dsp_fir.proofs.window_filter.WindowFilterFilter.process.Goals as goal

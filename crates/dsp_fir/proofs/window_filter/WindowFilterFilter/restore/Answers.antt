@@ -1,6 +1,6 @@
 use Rattle.std.proofs.Common.{◌≡◌, ◌∙◌, sym, subst, length}
 use Rattle.dsp_window.proofs.Rolls.{length-last_samples}
-use Rattle.dsp_fir.specs.ByChannel.{windowed}
+use Rattle.dsp_fir.specs.Laws.{windowed}
 use Rattle.dsp_fir.specs.WindowState.{WindowState, IsWindowBlock, past_count}
 use Rattle.dsp_fir.proofs.ChannelLemmas.{channel-restored, fits-channel}
 use Rattle.dsp_fir.proofs.window_filter.WindowFilterFilter.restore.Goals as goal

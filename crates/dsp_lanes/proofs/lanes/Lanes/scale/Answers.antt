@@ -1,12 +1,28 @@
-use Rattle.std.proofs.Common.{◌∙◌, ap, sym, refl, arith, length, length-set, map, take}
+use Rattle.std.proofs.Common.{◌*◌, ◌∙◌, ap, sym, refl, arith, length, length-set, map, take}
 use Rattle.std.proofs.lemmas.List.{length-map, map-set, take_all}
 use mir.Val.{to_z, of_z}
 use Rattle.std.proofs.lemmas.Int.{to_z-of_z}
 use Rattle.dsp_defs.specs.Numbers.{w32}
 use Rattle.dsp_defs.specs.Elementwise.{scale}
 use Rattle.dsp_defs.proofs.SumLemmas.{sample-map}
-use Rattle.dsp_lanes.proofs.Groups.{map-group, map-one, counted_group, counted_one, counted_all, one_group, one_product}
+use Rattle.dsp_lanes.proofs.Groups.{map-group, map-one, counted_double, counted_group, counted_one}
+use Rattle.dsp_lanes.proofs.Groups.{counted_all, two_groups, one_group, one_product}
 use Rattle.dsp_lanes.proofs.lanes.Lanes.scale.Goals as goal
+
+pub doubles-preserved : goal.doubles-preserved
+doubles-preserved g c =
+    let N = g.T.Sample.number in
+    let f = scale g.T.Sample.format (g.T.Sample.number c.args.factor) (to_z w32 (of_z w32 c.args.places)) in
+    let long_out = length-map c.doubles.out N in
+    let long_a = length-map c.args.a.now N in
+    record {
+      within = omega arith;
+      done = map-group f c.doubles.at (2 * g.row.L) _ (map N c.doubles.out) (map N c.args.a.now)
+          (omega arith) (omega arith)
+          c.doubles.invariant.done c.scale_double.ensures;
+      counted = counted_double _ _ _ 1 g.row.L c.doubles.at c.doubles.invariant.counted
+          (two_groups _ _ g.row.L c.count.ensures);
+    }
 
 pub groups-preserved : goal.groups-preserved
 groups-preserved g c =
@@ -19,7 +35,7 @@ groups-preserved g c =
       done = map-group f c.groups.at g.row.L _ (map N c.groups.out) (map N c.args.a.now) (omega arith) (omega arith)
           c.groups.invariant.done c.scale_group.ensures;
       counted = counted_group _ _ _ 1 g.row.L c.groups.at c.groups.invariant.counted
-          (one_group _ _ g.row.L c.count.ensures);
+          (one_group _ _ g.row.L c.count-in-groups.ensures);
     }
 
 pub rest-preserved : goal.rest-preserved

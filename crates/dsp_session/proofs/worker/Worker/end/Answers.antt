@@ -6,7 +6,7 @@ use Rattle.dsp_defs.specs.Output.{output_coding}
 use Rattle.dsp_defs.specs.declared.format.Coding.{Coding}
 use Rattle.dsp_unit.specs.Line.{place_room}
 use Rattle.dsp_chain.specs.Chain.{output_of}
-use Rattle.dsp_chain.proofs.Room.{written-row}
+use Rattle.dsp_chain.proofs.Room.{written-line}
 use Rattle.dsp_session.proofs.WorkerLaws as laws
 use Rattle.dsp_session.proofs.worker.Worker.end.Goals as goal
 
@@ -14,7 +14,7 @@ pub encode_front-self-inside-requires-clause-fits : goal.encode_front-self-insid
 encode_front-self-inside-requires-clause-fits g c =
     let holds = c.self.invariant.holds in
     let same : c.deref.result.now ≡ c.finish-count.new.out = c.deref.ensures.value ∙
-    written-row c.self.inside.values.len c.finish-count.new.out c.self.inside.values.items
+    written-line c.self.inside.values.len c.finish-count.new.out c.self.inside.values.items
     (c.finish-count.auto.out ∙ c.as_mut_slice.ensures.len) in
     rw same (laws.gives_values c.self.inside.script c.self.inside.block holds.ready c.self.inside.output _
     c.self.invariant.output (rw (← laws.gives_format c.self.inside.script c.self.inside.block holds.ready
@@ -27,7 +27,7 @@ returns-clause-ends g c =
     let holds = c.self.invariant.holds in
     let ys = take c.finish-count.result c.finish-count.new.out in
     let same : c.deref.result.now ≡ c.finish-count.new.out = c.deref.ensures.value ∙
-    written-row c.self.inside.values.len c.finish-count.new.out c.self.inside.values.items
+    written-line c.self.inside.values.len c.finish-count.new.out c.self.inside.values.items
     (c.finish-count.auto.out ∙ c.as_mut_slice.ensures.len) in
     let out = laws.write_row script c.self.inside.block holds.ready c.self.inside.output
     c.encode_front-self-inside.result c.self.inside.bytes.len ys c.encode_front-self-inside.new.bytes
@@ -46,7 +46,7 @@ returns-clause-given g c =
     let front = c.encode_front-self-inside.new.bytes in
     let long : length front ≡ c.self.inside.bytes.len = c.encode_front-self-inside.auto.bytes ∙
     c.as_mut_slice-2.ensures.len in
-    rw (written-row c.self.inside.bytes.len front c.self.inside.bytes.items long)
+    rw (written-line c.self.inside.bytes.len front c.self.inside.bytes.items long)
     (sym (length-take-le c.encode_front-self-inside.result front
     (omega (arith, c.encode_front-self-inside.ensures.within, c.encode_front-self-inside.auto.bytes))))
 

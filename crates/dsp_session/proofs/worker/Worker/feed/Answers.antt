@@ -9,7 +9,7 @@ use Rattle.dsp_defs.specs.Formats.{word}
 use Rattle.dsp_defs.specs.Output.{output_coding}
 use Rattle.dsp_defs.specs.declared.format.Coding.{Coding}
 use Rattle.dsp_session.specs.Session.{signal}
-use Rattle.dsp_chain.proofs.Room.{written-row}
+use Rattle.dsp_chain.proofs.Room.{written-line}
 use Rattle.dsp_session.proofs.WorkerLaws as laws
 use Rattle.dsp_session.proofs.worker.Worker.feed.Goals as goal
 
@@ -136,7 +136,7 @@ pub encode_front-self-inside-requires-clause-fits : goal.encode_front-self-insid
 encode_front-self-inside-requires-clause-fits g c =
     let holds = c.self.invariant.holds in
     let same : c.deref-2.result.now ≡ c.feed.new.out = c.deref-2.ensures.value ∙
-    written-row c.self.inside.values.len c.feed.new.out c.self.inside.values.items
+    written-line c.self.inside.values.len c.feed.new.out c.self.inside.values.items
     (c.feed.auto.out ∙ c.as_mut_slice-2.ensures.len) in
     rw same (laws.gives_values c.self.inside.script c.self.inside.block holds.ready c.self.inside.output _
     c.self.invariant.output (rw (← laws.gives_format c.self.inside.script c.self.inside.block holds.ready
@@ -148,7 +148,7 @@ returns-clause-given g c =
     let front = c.encode_front-self-inside.new.bytes in
     let long : length front ≡ c.self.inside.bytes.len = c.encode_front-self-inside.auto.bytes ∙
     c.as_mut_slice-3.ensures.len in
-    rw (written-row c.self.inside.bytes.len front c.self.inside.bytes.items long)
+    rw (written-line c.self.inside.bytes.len front c.self.inside.bytes.items long)
     (sym (length-take-le c.encode_front-self-inside.result front
     (omega (arith, c.encode_front-self-inside.ensures.within, c.encode_front-self-inside.auto.bytes))))
 
@@ -166,7 +166,7 @@ returns-clause-fed g c =
     let frames = laws.frames_are script c.self.inside.block ready c.self.inside.input c.args.bytes.now
     (take c.decode_front-count.result c.deref.result.now) whole row in
     let same : c.deref-2.result.now ≡ c.feed.new.out = c.deref-2.ensures.value ∙
-    written-row c.self.inside.values.len c.feed.new.out c.self.inside.values.items
+    written-line c.self.inside.values.len c.feed.new.out c.self.inside.values.items
     (c.feed.auto.out ∙ c.as_mut_slice-2.ensures.len) in
     let out = laws.write_row script c.self.inside.block ready c.self.inside.output c.encode_front-self-inside.result
     c.self.inside.bytes.len (take c.in_ok-count.count c.feed.new.out) c.encode_front-self-inside.new.bytes

@@ -1,6 +1,7 @@
 use Rattle.std.proofs.Common.{sym, subst, FitsSigned, neg_ℤ}
 use Rattle.dsp_defs.specs.Formats.{word}
-use Rattle.dsp_vector.proofs.Numbers.{negated, saturated}
+use Rattle.dsp_sat.proofs.Saturated.{saturated}
+use Rattle.dsp_vector.proofs.Numbers.{negated}
 use Rattle.dsp_vector.proofs.changes.NegateChange.change.Goals as goal
 
 pub returns-clause-value : goal.returns-clause-value

@@ -35,11 +35,11 @@ pub returns-in-Scale-clause-given : goal.returns-in-Scale-clause-given
 returns-in-Scale-clause-given g c =
     let fits_fract : SFits w32 c.in-Scale.fract = search rules in
     let fits_shift : SFits w32 c.in-Scale.shift = search rules in
-    rw (c.in-Scale.is, c.change_each-in-Scale.ensures.count)
+    rw (c.in-Scale.is, c.scale_numbers.ensures.count)
     (map-gives g.T.Sample.format c.args.channels (Scale c.in-Scale.fract c.in-Scale.shift) c.args.frames.now _
     (scale g.T.Sample.format c.in-Scale.fract c.in-Scale.shift) c.requires.signal refl (λ x. refl)
-    (c.change_each-in-Scale.ensures.values ∙ (λ i. map (scale g.T.Sample.format (to_z-of_z fits_fract i)
-    (to_z-of_z fits_shift i)) c.args.frames.now)) c.change_each-in-Scale.ensures.fits)
+    (c.scale_numbers.ensures.values ∙ (λ i. map (scale g.T.Sample.format (to_z-of_z fits_fract i)
+    (to_z-of_z fits_shift i)) c.args.frames.now)) c.scale_numbers.ensures.fits)
 
 pub returns-in-Shift-clause-given : goal.returns-in-Shift-clause-given
 returns-in-Shift-clause-given g c =

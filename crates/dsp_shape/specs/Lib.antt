@@ -1,0 +1,3 @@
+pub mod FrameRule
+pub mod KeptRule
+pub mod Lengths

@@ -102,7 +102,7 @@ def converted(data, way):
     head = (au_head if way == "wave au" else wave_head)(bits, channels, rate, known)
     came = data[start:] if size is None else data[start:start + size]
     if known is not None and len(came) < known:
-        whole = 16384 // frame * frame
+        whole = 65536 // frame * frame
         stands = turned(came[:len(came) // whole * whole], bits)
         raise Stop(4, f"dspfx: header: Short at {start + len(came)}, declared {size}, got {len(came)};", head + stands)
     body = turned(came[:len(came) // frame * frame], bits)

@@ -1,5 +1,6 @@
 -- Samples in the other form of file: the bytes that are exchanged are those of the same samples.
-use Rattle.std.proofs.Common.{◌≡◌, ℕ, zero, suc, ◌+◌, ◌*◌, ◌/◌, ◌%◌, ◌^◌, ◌<◌, ◌≤◌, ℤ, pos, List, [], ◌∷◌, ◌++◌}
+use Rattle.std.proofs.Common.{◌≡◌, ℕ, zero, suc, ◌+◌, ◌-◌, ◌*◌, ◌/◌, ◌%◌, ◌^◌, ◌<◌, ◌≤◌, ℤ, pos, List, []}
+use Rattle.std.proofs.Common.{◌∷◌, ◌++◌}
 use Rattle.std.proofs.Common.{length, take, drop, get_or, refl, sym, ap, ap₂, ◌∙◌, arith, append-nil, to_z, of_z, w8}
 use Rattle.std.proofs.Common.{w16, w32, length-drop, length-take-le, nat_abs, ◌+ℤ◌, ◌-ℤ◌}
 use Rattle.std.specs.List.{flat_map}
@@ -7,7 +8,7 @@ use Rattle.std.specs.Int.{to_le_bytes, from_le_bytes, to_be_bytes, from_be_bytes
 use Rattle.std.proofs.lemmas.Grind.{flat_map-append}
 use Rattle.std.proofs.lemmas.Int.{ints, of_z-to_z}
 use Rattle.std.proofs.lemmas.Slice.{take-put_mid, drop-put_mid}
-use Rattle.std.proofs.lemmas.List.{drop-drop}
+use Rattle.std.proofs.lemmas.List.{drop-drop, drop-take, take-take, take_all, take-append-drop}
 use borrow.Rule.Slice.PartMut.{put_mid}
 use Rattle.std.proofs.lemmas.Nat.{le_bytes_2, le_bytes_4, be_bytes_2, be_bytes_4}
 use Rattle.dsp_defs.specs.Bytes.{AreBytes, width}
@@ -205,15 +206,21 @@ exchanged-signal direction coding channels n bytes wave small some some_width wh
 
 -- ---- one sample more, in place
 
+pub one_more_part : (i g n : ℕ) (old now out front : List ℕ) → i < n → length now ≡ length old → n * g ≤ length old
+    → take (i * g) now ≡ front → length out ≡ g
+    → take ((i + 1) * g) (put_mid (i * g) g now out) ≡ front ++ out
+one_more_part i g n old now out front below same room is long =
+    let bound = sample_within i n g below in
+    let end : (i + 1) * g ≡ i * g + length out = rw long (omega arith) in
+    take-put_mid (i * g) g now out ((i + 1) * g) end (omega (arith, bound, room, same)) ∙ ap (λ xs. xs ++ out) is
+
 pub one_more_sample : (i w n : ℕ) (old now out : List ℕ) → i < n → length now ≡ length old → n * w ≤ length old
     → take (i * w) now ≡ exchanged_first i w old → drop (i * w) now ≡ drop (i * w) old → length out ≡ w →
     out ≡ exchanged_sample (take w (drop (i * w) now))
     → take ((i + 1) * w) (put_mid (i * w) w now out) ≡ exchanged_first (i + 1) w old
 one_more_sample i w n old now out below same room front rest long is =
-    let bound = sample_within i n w below in
-    let end : (i + 1) * w ≡ i * w + length out = rw long (omega arith) in
-    take-put_mid (i * w) w now out ((i + 1) * w) end (omega (arith, bound, room, same))
-    ∙ ap₂ (λ xs ys. xs ++ ys) front (is ∙ ap (λ xs. exchanged_sample (take w xs)) rest)
+    one_more_part i w n old now out (exchanged_first i w old) below same room front long
+    ∙ ap (λ ys. exchanged_first i w old ++ ys) (is ∙ ap (λ xs. exchanged_sample (take w xs)) rest)
     ∙ sym (more_values exchanged_sample (λ i. take w (drop (i * w) old)) i)
 
 pub rest_stays : (i w n : ℕ) (old now out : List ℕ) → i < n → length now ≡ length old → n * w ≤ length old →
@@ -228,3 +235,84 @@ rest_stays i w n old now out below same room rest long =
     ∙ ap (drop w) rest
     ∙ drop-drop w (i * w) old
     ∙ ap (λ k. drop k old) (sym next)
+
+-- ---- a group of samples more, in place
+
+-- the first samples, and then as many of those behind them
+pub exchanged_join : (a b w : ℕ) (bytes : List ℕ) →
+    exchanged_first a w bytes ++ exchanged_first b w (drop (a * w) bytes) ≡ exchanged_first (a + b) w bytes
+exchanged_join a b w bytes =
+    let part : ℕ → List ℕ = λ i. take w (drop (i * w) bytes) in
+    ap (λ ys. exchanged_first a w bytes ++ ys) (
+    flat_values exchanged_sample (λ j. take w (drop (j * w) (drop (a * w) bytes))) exchanged_sample
+    (λ j. part (a + j)) b (λ j below.
+    let place : a * w + j * w ≡ (a + j) * w = omega arith in
+    ap (λ xs. exchanged_sample (take w xs)) (drop-drop (j * w) (a * w) bytes ∙ ap (λ k. drop k bytes) place))
+    )
+    ∙ sym (flat_map-append exchanged_sample (values a part) (values b (λ j. part (a + j))))
+    ∙ sym (ap (flat_map exchanged_sample) (values-add a b part))
+
+-- Bytes behind the samples change nothing.
+pub exchanged_taken : (n w k : ℕ) (bytes : List ℕ) → n * w ≤ k →
+    exchanged_first n w (take k bytes) ≡ exchanged_first n w bytes
+exchanged_taken n w k bytes room =
+    flat_values exchanged_sample (λ i. take w (drop (i * w) (take k bytes))) exchanged_sample
+    (λ i. take w (drop (i * w) bytes)) n (λ i below.
+    let within = sample_within i n w below in
+    let split : i * w + (k - i * w) ≡ k = omega (arith, within, room) in
+    ap (λ m. exchanged_sample (take w (drop (i * w) (take m bytes)))) (sym split)
+    ∙ ap (λ xs. exchanged_sample (take w xs)) (drop-take (i * w) (k - i * w) bytes)
+    ∙ ap exchanged_sample (take-take w (k - i * w) (drop (i * w) bytes) (omega (arith, within, room))))
+
+pub one_more_group : (i k w g n : ℕ) (old now out : List ℕ) → k * w ≡ g → i < n → length now ≡ length old
+    → n * g ≤ length old → take (i * g) now ≡ exchanged_first (i * k) w old → drop (i * g) now ≡ drop (i * g) old
+    → length out ≡ g → out ≡ exchanged_first k w (take g (drop (i * g) now))
+    → take ((i + 1) * g) (put_mid (i * g) g now out) ≡ exchanged_first ((i + 1) * k) w old
+one_more_group i k w g n old now out size below same room front rest long is =
+    let all : k * w ≤ g = omega (arith, size) in
+    let place : i * g ≡ i * k * w = rw (sym size) (omega arith) in
+    let more : i * k + k ≡ (i + 1) * k = omega arith in
+    one_more_part i g n old now out (exchanged_first (i * k) w old) below same room front long
+    ∙ ap (λ ys. exchanged_first (i * k) w old ++ ys) (
+    is ∙ exchanged_taken k w g (drop (i * g) now) all ∙ ap (exchanged_first k w) (rest ∙ ap (λ m. drop m old) place)
+    )
+    ∙ exchanged_join (i * k) k w old
+    ∙ ap (λ m. exchanged_first m w old) more
+
+-- what is left behind the groups, in place
+pub last_part : (a k w at rest : ℕ) (old now out : List ℕ) → a * w ≡ at → k * w ≡ rest → length old ≡ at + rest
+    → length now ≡ length old → take at now ≡ exchanged_first a w old → drop at now ≡ drop at old
+    → length out ≡ rest → out ≡ exchanged_first k w (drop at now)
+    → put_mid at rest now out ≡ exchanged_first (a + k) w old
+last_part a k w at rest old now out place size whole same front behind long is =
+    let none : drop rest (drop at now) ≡ [] = length-zero (drop rest (drop at now)) (
+    omega (arith, length-drop rest (drop at now), length-drop at now, same, whole)
+    ) in
+    ap₂ (λ xs ys. xs ++ ys) front (
+    ap (λ ys. out ++ ys) none ∙ append-nil out ∙ is
+    ∙ ap (exchanged_first k w) (behind ∙ ap (λ m. drop m old) (sym place))
+    )
+    ∙ exchanged_join a k w old
+  where
+    length-zero : (xs : List ℕ) → length xs ≡ 0 → xs ≡ []
+    length-zero [] h = refl
+    length-zero (x ∷ xs) h = absurd (omega (arith, h))
+
+-- as many samples as there are, less those of the groups
+pub samples_within : (a n w : ℕ) → 1 ≤ w → a * w ≤ n * w → a + (n - a) ≡ n
+samples_within a n w some within = grind arith
+
+pub samples_left : (a n w : ℕ) → 1 ≤ w → a * w ≤ n * w → (n - a) * w ≡ n * w - a * w
+samples_left a n w some within =
+    let all : n * w ≡ a * w + (n - a) * w = ap (λ m. m * w) (sym (samples_within a n w some within))
+    ∙ both a (n - a) w in
+    omega (arith, all)
+  where
+    both : (a m w : ℕ) → (a + m) * w ≡ a * w + m * w
+    both a m w = omega arith
+
+pub groups_end : (a k w g : ℕ) → k * w ≡ g → a * k * w ≡ a * g
+groups_end a k w g size = rw (sym size) (omega arith)
+
+pub counted : (k w q : ℕ) → 1 ≤ w → k * w ≡ q → q / w ≡ k
+counted k w q some is = grind arith

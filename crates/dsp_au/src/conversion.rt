@@ -21,7 +21,7 @@ pub struct Converted {
 }
 
 /// At most so many bytes are taken before what they give is written.
-pub const CONVERT_BLOCK: usize = 16_384;
+pub const CONVERT_BLOCK: usize = 65_536;
 
 /// The bytes of a block: as many whole frames as there is room for.
 fn block_bytes(header: OpenHeader) -> usize
@@ -93,7 +93,7 @@ fn pass_samples<S: Source, K: Sink>(
 
 /// Takes a file of one form to the other: a header with the same rate, channels and length, the same
 /// signal in as many bits, and the pad byte of a WAVE file; it flushes the output once at the end. It
-/// takes no memory, and holds at most 16,384 bytes of the samples.
+/// takes no memory, and holds at most 65,536 bytes of the samples.
 ///
 /// The output of a block is accepted wholly before a byte of the next block is asked for.
 pub fn convert<S: Source, K: Sink>(

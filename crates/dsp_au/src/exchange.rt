@@ -23,6 +23,7 @@ fn exchange_sample(width: usize, bytes: &mut [u8])
     }
 }
 
+/// Takes sample after sample into the other form of file, in place.
 #[inline(always)]
 fn exchange_by(width: usize, bytes: &mut [u8])
     requires some { 1 ≤ width }
@@ -37,6 +38,26 @@ fn exchange_by(width: usize, bytes: &mut [u8])
     }
 }
 
+/// The bytes that `exchange_groups` takes at a time.
+const GROUP: usize = 16;
+
+/// The same by groups of so many bytes that the compiler has one instruction for the whole group.
+#[inline(always)]
+fn exchange_groups(width: usize, bytes: &mut [u8])
+    requires some { 1 ≤ width }
+    requires few { width ≤ 4 }
+    requires group { GROUP / width * width ≡ GROUP }
+    requires whole { length bytes.old / width * width ≡ length bytes.old }
+    ensures { bytes.new ≡ exchanged width bytes.old }
+{
+    let count = bytes.len() / GROUP;
+    for i in 0..count {
+        let from = i * GROUP;
+        exchange_by(width, &mut bytes[from..from + GROUP]);
+    }
+    exchange_by(width, &mut bytes[count * GROUP..]);
+}
+
 /// Takes samples of so many bytes each into the other form of file, in place.
 pub(crate) fn exchange(width: usize, bytes: &mut [u8])
     requires some { 1 ≤ width }
@@ -46,8 +67,8 @@ pub(crate) fn exchange(width: usize, bytes: &mut [u8])
 {
     match width {
         1 => exchange_by(1, bytes),
-        2 => exchange_by(2, bytes),
+        2 => exchange_groups(2, bytes),
         3 => exchange_by(3, bytes),
-        _ => exchange_by(4, bytes),
+        _ => exchange_groups(4, bytes),
     }
 }

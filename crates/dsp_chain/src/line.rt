@@ -27,6 +27,9 @@ pub fn feed_line<S: Unit + Drop, L: Ledger>(
         out[..frames.len()].copy_from_slice(frames);
         return frames.len();
     };
+    if behind.is_empty() {
+        return link.unit.feed(frames, out, steps);
+    }
     let count = link.unit.feed(frames, &mut link.written, steps);
     feed_line(behind, &link.written[..count], out, steps)
 }

@@ -137,6 +137,9 @@ impl<R: Files> Source for FileSource<'_, R> {
 /// How many bytes a sink gathers.
 const GATHERED: usize = 65_536;
 
+/// A piece of so many bytes is written by itself, since copying it costs more than a call.
+const ALONE: usize = 16_384;
+
 /// The bytes that were accepted, and not written to the file yet.
 #[derive(Drop)]
 struct Gathered {
@@ -261,12 +264,17 @@ fn spill_to<F: Write>(file: &mut F, gathered: &mut Gathered) -> io::Result<()> {
     written
 }
 
-/// Gathers as much of the piece as there is room for, of which it makes some first where there is none.
+/// Gathers as much of the piece as there is room for, of which it makes some first where there is none. A long piece
+/// is written, behind what was gathered.
 fn gather<F: Write>(file: &mut F, gathered: &mut Gathered, piece: &[u8]) -> io::Result<usize>
     ensures { IfOk result (λ count. count ≤ length piece.now) }
 {
-    if gathered.bytes.len() == GATHERED {
+    let is_long = piece.len() >= ALONE;
+    if is_long || gathered.bytes.len() == GATHERED {
         spill_to(file, gathered)?;
+    }
+    if is_long {
+        return file.write(piece);
     }
     let count = piece.len().min(GATHERED - gathered.bytes.len());
     match gathered.bytes.extend_from_slice(&piece[..count]) {

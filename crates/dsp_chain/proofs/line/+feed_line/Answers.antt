@@ -87,3 +87,13 @@ returns-in_default-clause-fed g t c = λ p line passes.
     c.copy_from_slice.ensures.after ∙ written-line (length frames) frames c.args.out.now refl in
     subst (λ given. IsFed p us us frames given c.args.steps.now c.args.steps.now) (sym copied)
     (last-fed us p frames c.args.steps.now c.in_default.ensures.cases passes)
+
+pub returns-then-is_empty-clause-fed : goal.returns-then-is_empty-clause-fed
+returns-then-is_empty-clause-fed g t c = λ p line passes.
+    let behind = c.in-Some.behind.now in
+    let piece = take c.feed.result c.feed.new.out in
+    let none : length behind ≡ 0 = grind (arith, c.if-is_empty.ensures) in
+    first-fed p c.args.links.now c.in-Some.link.now (g.S.Unit.unit c.link.inside.unit)
+    (g.S.Unit.unit c.feed.new.self) behind behind c.args.frames.now piece piece c.args.steps.now c.feed.new.steps
+    c.feed.new.steps c.in-Some.ensures.cases.0 c.link.view_is c.feed.ensures.running c.feed.ensures.output
+    c.feed.ensures.fed (λ q r s. last-fed behind q piece c.feed.new.steps none s) line

@@ -1,11 +1,14 @@
 -- What a convolution is after a call.
 use Rattle.std.proofs.Common.{◌≡◌, ◌∙◌, ap, ap₂, sym, refl, subst, ℕ, zero, suc, ◌+◌, ◌-◌, ◌<◌, ◌≤◌, ◌^◌, ℤ, pos}
 use Rattle.std.proofs.Common.{Bool, false, List, [], ◌∷◌, ◌++◌, length, map, take, drop, replicate, reverse, w64}
-use Rattle.std.proofs.Common.{to_z, arith, length-append, length-take-le, take_all}
+use Rattle.std.proofs.Common.{to_z, arith, length-append, length-drop, length-take-le, take_all, ⊎_elim}
 use Rattle.std.specs.Prelude.{◌≤ℤ◌, negsuc, nat_abs, All, FitsSigned, IsTrue, ◌↔◌}
 use Rattle.std.proofs.lemmas.Int.{ints, to_z_pos}
 use Rattle.std.proofs.lemmas.List.{length-reverse, length-replicate, take_more, take-replicate, reverse-reverse}
-use Rattle.std.proofs.lemmas.List.{append-nil, take-map, drop-map}
+use Rattle.std.proofs.lemmas.List.{append-nil, take-map, drop-map, length-map}
+use Rattle.std.proofs.lemmas.Bool.{cases_lt}
+use Rattle.std.proofs.Math.Seq.{drop-append_seam, drop-append-add}
+use Rattle.dsp_defs.proofs.Streaming.{last_of-append}
 use Rattle.dsp_defs.specs.declared.format.Fmt.{Fmt}
 use Rattle.dsp_defs.specs.Formats.{word}
 use Rattle.dsp_defs.specs.Signal.{sample}
@@ -13,6 +16,7 @@ use Rattle.dsp_defs.specs.Streaming.{Continues, last_of, rows}
 use Rattle.dsp_unit.specs.Filter.{of_channel}
 use Rattle.dsp_window.specs.Rolling.{Rolling, last_samples}
 use Rattle.dsp_window.proofs.Rolls.{length-last_samples}
+use Rattle.dsp_window.proofs.Pushed.{past-after}
 use Rattle.dsp_conv.specs.declared.extent.Extent.{Extent}
 use Rattle.dsp_conv.specs.declared.extent.Extent.TheVariants.{Full, Within}
 use Rattle.dsp_conv.specs.Extent.{block_of, place_in, greatest_place, start_in, stop_in, given_in, zeros_behind}
@@ -209,3 +213,60 @@ pub restored-past : (old new : Rolling) (numbers : List ℤ) → new ≡ record 
 restored-past old new numbers is long =
     let none : length numbers - old.past ≡ 0 = omega (arith, long) in
     ap (λ (w : Rolling). last_samples w.past w.samples) is ∙ ap (λ k. drop k numbers) none
+
+-- ---- a block of which no value is given
+
+-- it may leave out what lies before the last samples that a window keeps
+last-behind : (past block : List ℤ) (from : ℕ) → from ≡ length block - length past →
+    drop (length (drop from block)) (past ++ drop from block) ≡ drop (length block) (past ++ block)
+last-behind past block from is =
+    ⊎_elim
+    (λ (long : length past < length block).
+    let rest : length (drop from block) ≡ length past = omega (arith, length-drop from block, is, long) in
+    let all : length block ≡ length past + from = omega (arith, is, long) in
+    ap (λ n. drop n (past ++ drop from block)) rest ∙ drop-append_seam past (drop from block) ∙
+    sym (ap (λ n. drop n (past ++ block)) all ∙ drop-append-add past block from))
+    (λ (short : length block ≤ length past).
+    let none : from ≡ 0 = omega (arith, is, short) in
+    ap (λ n. drop (length (drop n block)) (past ++ drop n block)) none)
+    (cases_lt (length past) (length block))
+
+-- a window that took only its last samples has the past that it would have behind all of it
+pub passed-past :
+    {X : Type 0} → (number : X → ℤ) (old new : Rolling) (input : List X) (from : ℕ) →
+    new ≡ record old {
+      samples = last_samples old.past old.samples ++ map number (take (length input - from) (drop from input));
+    } →
+    old.past ≤ length old.samples → from ≡ length input - old.past →
+    last_samples new.past new.samples ≡ drop (length input) (last_samples old.past old.samples ++ map number input)
+passed-past number old new input from rolls filled is =
+    let past = last_samples old.past old.samples in
+    let block = map number input in
+    let long : length block ≡ length input = length-map input number in
+    let all : take (length input - from) (drop from input) ≡ drop from input =
+    take_all (length input - from) (drop from input) (omega (arith, length-drop from input)) in
+    let kept : map number (take (length input - from) (drop from input)) ≡ drop from block =
+    ap (map number) all ∙ sym (drop-map number from input) in
+    past-after old new (map number (take (length input - from) (drop from input))) rolls filled
+    ∙ ap (λ b. drop (length b) (past ++ b)) kept
+    ∙ last-behind past block from (omega (arith, is, long, length-last_samples old.past old.samples filled))
+    ∙ ap (λ n. drop n (past ++ block)) long
+
+-- which is that of the longer signal
+pub passed-keeps : {X : Type 0} → (number : X → ℤ) (past : ℕ) (x kept behind : List ℤ) (input : List X) →
+    behind ≡ drop (length input) (kept ++ map number input) → kept ≡ last_of past x →
+    behind ≡ last_of past (x ++ map number input)
+passed-keeps number past x kept behind input is stood =
+    let block = map number input in
+    is
+    ∙ ap₂ (λ n l. drop n (l ++ block)) (sym (length-map input number)) stood
+    ∙ sym (last_of-append past x block)
+
+-- no values come with it
+pub no-values : (format : Fmt) (e : Extent) (b x block : List ℤ) (place : ℕ) → 0 < length b →
+    place ≡ place_in e (length x) → given_in e place (length block) ≡ 0 →
+    Continues (of_channel format (block_of e b)) x block []
+no-values format e b x block place some is none =
+    live-append format e b x block place some is
+    ∙ ap (λ n. of_channel format (block_of e b) x ++ rows format (reverse b)
+    (drop (start_in e place (length block)) (last_of (length b - 1) x ++ block)) n) none

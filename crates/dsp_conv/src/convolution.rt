@@ -56,7 +56,7 @@ impl<T: LaneSample<L>, const L: usize, K: Copy> Convolution<T, L, K> {
     ghost use Rattle.dsp_defs.specs.Streaming.{Continues};
     ghost use Rattle.dsp_defs.specs.declared.limits.TheConstants.{MAX_TAPS, MAX_SAMPLES};
     ghost use Rattle.dsp_lanes.specs.Turns.{lane_turns};
-    ghost use Rattle.dsp_conv.specs.Extent.{place_in};
+    ghost use Rattle.dsp_conv.specs.Extent.{given_in, place_in};
     ghost use Rattle.dsp_conv.specs.ConvState.{StandsFor, CountsFor, Fits, kept, kept_of, live_count};
     ghost use Rattle.dsp_conv.specs.ConvState.{live_of, new_conv, tail_behind};
 
@@ -132,12 +132,40 @@ impl<T: LaneSample<L>, const L: usize, K: Copy> Convolution<T, L, K> {
     {
         let given = self.extent.given(self.place, input.len());
         let count = given.end - given.start;
+        if count == 0 {
+            self.pass_over(input);
+            return 0;
+        }
         self.window.push_block(input);
         let window = &self.window.slice()[given.start..given.end + self.zeros.len()];
         Lanes::<T, L>::rows(&self.reversed, window, &mut output[..count], steps);
         self.place = self.extent.place_after(self.place, input.len());
         self.owe();
         count
+    }
+
+    /// Takes a block of which no value is given: of its samples only the last go into the window.
+    fn pass_over(&mut self, input: &[T])
+        requires block { length input.now ≤ self.old.block }
+        requires none { given_in self.old.extent self.old.place (length input.now) ≡ 0 }
+        ensures count { (n : ℕ) → CountsFor self.old n → live_count self.old (n + length input.now)
+            ≡ live_count self.old n }
+        ensures values { (x : List ℤ) → StandsFor T.format self.old x
+            → Continues (live_of T.format self.old) x (map T.number input.now) [] }
+        ensures stands { (x : List ℤ) → StandsFor T.format self.old x
+            → StandsFor T.format self.new (x ++ map T.number input.now) }
+        ensures counts { (n : ℕ) → CountsFor self.old n → CountsFor self.new (n + length input.now) }
+        ensures same { self.new ≡ record self.old {
+          past = self.new.past;
+          place = self.new.place;
+          tail = self.new.tail;
+        } }
+        ensures kept { length self.new.past ≡ length self.old.past }
+    {
+        let from = input.len().saturating_sub(self.zeros.len());
+        self.window.push_block(&input[from..]);
+        self.place = self.extent.place_after(self.place, input.len());
+        self.owe();
     }
 
     /// The tail becomes what the last samples leave to be given.

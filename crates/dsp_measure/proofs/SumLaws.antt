@@ -15,7 +15,7 @@ use Rattle.dsp_defs.proofs.Signal.{sum_below_cong, sample-append, values_cong, v
 use Rattle.dsp_defs.proofs.SumLemmas.{same_numbers}
 use Rattle.dsp_unit.specs.Channels.{samples_in}
 use Rattle.dsp_unit.proofs.ChannelFrames.{length-samples_in, sample-values}
-use Rattle.dsp_measure.specs.Sums.{with_products, with_complex, parts_in, complex_sums}
+use Rattle.dsp_measure.specs.Sums.{with_channels, with_products, with_complex, parts_in, complex_sums}
 
 -- the only channel is the frames
 pub one-channel : (xs : List ℤ) → samples_in 1 (length xs / 1) xs 0 ≡ xs
@@ -26,6 +26,17 @@ one-channel xs =
     (λ i below.
     let here : i * 1 + 0 ≡ i = omega arith in
     sample-values (length xs / 1) (λ k. sample xs (k * 1 + 0)) i (omega (arith, below, long)) ∙ ap (sample xs) here)
+
+-- a sum that goes on by the squares of the only channel
+pub only-channel : (format : Fmt) (start : ℤ) (channels first second : ℕ) (frames : List ℤ) → channels ≡ 1 →
+    first < channels → second < channels →
+    with_products format start frames frames ≡ with_channels format start channels frames first second
+only-channel format start channels first second frames one inside within =
+    let same = sym (one-channel frames) in
+    let none : 0 ≡ first = omega (arith, one, inside) in
+    let zero_in : 0 ≡ second = omega (arith, one, within) in
+    (λ i. with_products format start (same i) (same i)) ∙
+    (λ i. with_channels format start (sym one i) frames (none i) (zero_in i))
 
 -- a wrapped sum, and the first n of these terms more
 abbrev pub sum_with : Width → ℤ → ℕ → (ℕ → ℤ) → ℤ
@@ -49,6 +60,15 @@ sum-more w start sum more n m f next summed added =
     ∙ int_wrap-add_left w (start +ℤ sum_below n f) (f n)
     ∙ ap (wrap w) (+ℤ_assoc start (sum_below n f) (f n))
     ∙ ap (λ k. wrap w (start +ℤ sum_below k f)) (sym step)
+
+-- two more, that were added to one another before
+pub sum-two : (w : Width) (start sum more : ℤ) (n m : ℕ) (f : ℕ → ℤ) → m ≡ n + 2 → sum ≡ sum_with w start n f →
+    more ≡ wrap w (sum +ℤ (f n +ℤ f (n + 1))) → more ≡ sum_with w start m f
+sum-two w start sum more n m f next summed added =
+    sum-more w start (wrap w (sum +ℤ f n)) more (n + 1) m f (omega (arith, next))
+    (sum-more w start sum (wrap w (sum +ℤ f n)) n (n + 1) f refl summed refl)
+    (added ∙ ap (wrap w) (sym (+ℤ_assoc sum (f n) (f (n + 1)))) ∙
+    sym (int_wrap-add_left w (sum +ℤ f n) (f (n + 1))))
 
 -- one product more
 pub products-more :

@@ -14,6 +14,7 @@ mod places;
 mod power;
 mod products;
 mod results;
+mod squares;
 mod unit;
 
 pub use cmplx_dot::CmplxDot;

@@ -1,9 +1,11 @@
-ghost use Rattle.std.specs.Prelude.{◌≡◌, ◌+ℤ◌, ◌-ℤ◌, ◌↔◌, IsTrue, FitsSigned};
+ghost use Rattle.std.specs.Prelude.{◌≡◌, ◌+ℤ◌, ◌-ℤ◌, ◌↔◌, IsTrue, All, FitsSigned, length};
 ghost use Rattle.dsp_defs.specs.Counts.{Rises};
 ghost use Rattle.dsp_defs.specs.Formats.{accumulator, word};
 ghost use Rattle.dsp_defs.specs.Measure.{cmplx_dot_close, measured_product};
 ghost use Rattle.dsp_defs.specs.Numbers.{wrap};
+ghost use Rattle.dsp_measure.specs.Sums.{with_products};
 
+use crate::squares::{add_squares7, add_squares15, add_squares31};
 use dsp_defs::Steps;
 use dsp_sat::{Sample, low_word};
 use std::sync::ledger::Ledger;
@@ -24,6 +26,14 @@ pub trait MeasureSample: Sample {
         ensures value { result ≡ wrap (accumulator Self.format)
             (sum -ℤ measured_product Self.format (Self.number a) (Self.number b)) }
         ensures steps { Rises steps.old steps.new 1 1 };
+
+    /// A sum that goes on by the squares of numbers of the format.
+    fn add_squares<L: Ledger>(start: i64, numbers: &[i32], steps: &mut Steps<L>) -> i64
+        requires in_format { All (FitsSigned (word Self.format)) numbers.now }
+        requires start { FitsSigned (accumulator Self.format) start }
+        ensures sum { result ≡ with_products Self.format start numbers.now numbers.now }
+        ensures fits { FitsSigned (accumulator Self.format) result }
+        ensures steps { Rises steps.old steps.new (length numbers.now) (length numbers.now) };
 
     /// A sum of complex products as a result: in Q15 it is shifted right by 6 and wrapped to 32 bits.
     fn close_complex(sum: i64) -> i64
@@ -47,6 +57,10 @@ impl MeasureSample for i8 {
     fn subtract_measured<L: Ledger>(sum: i64, a: i8, b: i8, steps: &mut Steps<L>) -> i64 {
         let product = Self::product(a, b, steps);
         i64::from((sum as i32).wrapping_sub(product))
+    }
+
+    fn add_squares<L: Ledger>(start: i64, numbers: &[i32], steps: &mut Steps<L>) -> i64 {
+        add_squares7(start, numbers, steps)
     }
 
     fn close_complex(sum: i64) -> i64 {
@@ -73,6 +87,10 @@ impl MeasureSample for i16 {
         sum.wrapping_sub(i64::from(product))
     }
 
+    fn add_squares<L: Ledger>(start: i64, numbers: &[i32], steps: &mut Steps<L>) -> i64 {
+        add_squares15(start, numbers, steps)
+    }
+
     fn close_complex(sum: i64) -> i64 {
         i64::from(low_word(sum >> 6))
     }
@@ -95,6 +113,10 @@ impl MeasureSample for i32 {
     fn subtract_measured<L: Ledger>(sum: i64, a: i32, b: i32, steps: &mut Steps<L>) -> i64 {
         let product = Self::product(a, b, steps);
         sum.wrapping_sub(product >> 14)
+    }
+
+    fn add_squares<L: Ledger>(start: i64, numbers: &[i32], steps: &mut Steps<L>) -> i64 {
+        add_squares31(start, numbers, steps)
     }
 
     fn close_complex(sum: i64) -> i64 {

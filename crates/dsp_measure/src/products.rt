@@ -56,26 +56,6 @@ pub fn add_slices<T: MeasureSample, L: Ledger>(
     add_products::<T, _, L>(start, a.len(), at, steps)
 }
 
-/// A sum that goes on by the squares of the frames, which are of one channel.
-fn add_squares<T: MeasureSample, L: Ledger>(start: i64, frames: &[i32], steps: &mut Steps<L>) -> i64
-    requires in_format { All (FitsSigned (word T.format)) frames.now }
-    requires start { FitsSigned (accumulator T.format) start }
-    ensures sum { result ≡ with_channels T.format start 1 frames.now 0 0 }
-    ensures fits { FitsSigned (accumulator T.format) result }
-    ensures steps { Rises steps.old steps.new (length frames.now) (length frames.now) }
-{
-    let at = |n: usize| -> (T, T)
-        requires inside { n < length frames.now }
-        requires in_format { All (FitsSigned (word T.format)) frames.now }
-        ensures first { T.number result.0 ≡ sample frames.entry.now n }
-        ensures second { T.number result.1 ≡ sample frames.entry.now n }
-    {
-        let value = T::of_number(frames[n]);
-        (value, value)
-    };
-    add_products::<T, _, L>(start, frames.len(), at, steps)
-}
-
 /// A sum that goes on by the products of two channels of `count` frames.
 pub fn add_channels<T: MeasureSample, L: Ledger>(
     start: i64,
@@ -94,9 +74,9 @@ pub fn add_channels<T: MeasureSample, L: Ledger>(
     ensures steps { Rises steps.old steps.new (length frames.now / channels)
         (length frames.now / channels) }
 {
-    // Samples that stand one behind the other are taken in lanes.
+    // Numbers that stand one behind the other are taken in lanes.
     if channels == 1 {
-        return add_squares::<T, L>(start, frames, steps);
+        return T::add_squares(start, frames, steps);
     }
     let at = |n: usize| -> (T, T)
         requires first { n * channels + first < length frames.now }

@@ -1,11 +1,12 @@
 -- Numbers of a format that stay in 32 bits.
 use Rattle.std.proofs.Common.{ℤ, pos, negsuc, ◌≡◌, ◌-◌, ◌^◌, ◌-ℤ◌, ◌≤ℤ◌, ◌∙◌, ap, arith, SFits, FitsSigned, w32, to_z}
-use Rattle.std.proofs.Common.{of_z, to_z-of_z}
+use Rattle.std.proofs.Common.{of_z, to_z-of_z, refl, sym, lit<, ◌<◌, ◌*◌, ◌%◌, w8, w16}
 use Rattle.std.specs.Int.{int_max}
 use Rattle.std.proofs.lemmas.Int.{ints, clamps}
-use Rattle.dsp_defs.specs.Elementwise.{negate}
+use Rattle.dsp_defs.specs.Elementwise.{negate, shift, IsShift}
 use Rattle.dsp_defs.specs.Formats.{word, word_bits}
 use Rattle.dsp_defs.specs.Numbers.{saturate}
+use Rattle.dsp_sat.proofs.Words.{shift_up-is}
 use Rattle.dsp_defs.specs.declared.format.Fmt.{Fmt}
 use Rattle.dsp_defs.specs.declared.format.Fmt.TheVariants.{Q7, Q15, Q31}
 
@@ -103,3 +104,16 @@ negated format x m v fits is_m is_v =
     ap (λ z. to_z w32 (of_z w32 (pos 0 -ℤ z))) v_is
     ∙ kept (pos 0 -ℤ int_max x (pos 0 -ℤ greatest format)) (omega (arith, ints, c.2)) (omega (arith, ints, c.1))
     ∙ c.0
+
+-- a number of 8 or 16 bits, shifted up in 32
+pub grown : (format : Fmt) (x places r : ℤ) → word_bits format < 32 → SFits w32 x →
+    FitsSigned (word format) x → IsShift format places → pos 0 ≤ℤ places →
+    r ≡ saturate (word_bits format) (to_z w32 (of_z w32 x * 2 ^ of_z w32 places % 4294967296)) →
+    r ≡ shift format places x
+grown Q7 x places r less wide fits moves up is =
+    shift_up-is w32 w8 8 7 (of_z w32 places) x x places r fits wide (sym (to_z-of_z fits)) refl up moves.1
+    (lit< tt) (lit< tt) is
+grown Q15 x places r less wide fits moves up is =
+    shift_up-is w32 w16 16 15 (of_z w32 places) x x places r fits wide (sym (to_z-of_z fits)) refl up
+    moves.1 (lit< tt) (lit< tt) is
+grown Q31 x places r less wide fits moves up is = absurd (omega (arith, less))

@@ -1,18 +1,18 @@
-ghost use Rattle.std.specs.Prelude.{◌≡◌, ◌≤◌, ◌*◌, ◌^◌, ◌-◌, ◌≤ℤ◌, ℕ, ℤ, pos, All, FitsSigned, length, map};
+ghost use Rattle.std.specs.Prelude.{◌≡◌, ◌≤◌, ◌*◌, ◌≤ℤ◌, ℕ, ℤ, All, FitsSigned, length, map};
 ghost use Rattle.std.specs.Prelude.{take};
 ghost use Rattle.dsp_defs.specs.Counts.{Rises};
 ghost use Rattle.dsp_defs.specs.Elementwise.{abs, add, clip, convert, negate, scale, shift, IsScaleShift};
 ghost use Rattle.dsp_defs.specs.Elementwise.{IsShift};
-ghost use Rattle.dsp_defs.specs.Formats.{word, word_bits};
+ghost use Rattle.dsp_defs.specs.Formats.{word};
 
+use crate::clamped::{greatest, shifted, sum};
 use crate::conversions::converted;
 use dsp_defs::Steps;
 use dsp_sat::Sample;
 use std::sync::ledger::Ledger;
 
 /// An operation on one sample, which is a number of the format of T as its parameters are, and becomes
-/// one of the format of U. Numbers stay in their 32 bits where they can: the compiler puts four of them
-/// into a vector as they are.
+/// one of the format of U. Numbers stay in their 32 bits where they can.
 pub(crate) trait Change<T: Sample, U: Sample>: Copy {
     ghost CanChange: { Self → Type 0 };
 
@@ -29,14 +29,6 @@ pub(crate) trait Change<T: Sample, U: Sample>: Copy {
         ensures steps { Rises steps.old steps.new price price };
 }
 
-/// The greatest number of a format.
-#[inline(always)]
-fn greatest<T: Sample>() -> i32
-    ensures { result ≡ pos (2 ^ (word_bits T.format - 1) - 1) }
-{
-    i32::MAX >> (32 - T::WORD_BITS)
-}
-
 /// Adds a constant.
 #[derive(Clone, Copy)]
 pub(crate) struct Offset {
@@ -51,7 +43,7 @@ impl<T: Sample> Change<T, T> for Offset {
     ghost price = { 0 };
 
     fn change<L: Ledger>(self, x: i32, _steps: &mut Steps<L>) -> i32 {
-        T::add(T::of_number(x), T::of_number(self.value)).number()
+        sum::<T>(x, self.value)
     }
 }
 
@@ -121,7 +113,7 @@ impl<T: Sample> Change<T, T> for Shift {
     ghost price = { 0 };
 
     fn change<L: Ledger>(self, x: i32, _steps: &mut Steps<L>) -> i32 {
-        T::shift(T::of_number(x), self.shift).number()
+        shifted::<T>(x, self.shift)
     }
 }
 

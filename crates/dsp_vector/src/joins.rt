@@ -4,19 +4,23 @@ ghost use Rattle.dsp_defs.specs.Elementwise.{add, mult, sub};
 ghost use Rattle.dsp_defs.specs.Formats.{word};
 ghost use Rattle.dsp_defs.specs.Signal.{sample, values};
 
+use crate::clamped::{difference, multiplied, sum};
 use dsp_defs::Steps;
 use dsp_sat::Sample;
 use std::sync::ledger::Ledger;
 
-/// An operation on two samples.
+/// An operation on two samples, which are numbers of the format as the result is.
 pub(crate) trait Join<T: Sample>: Copy {
     ghost value: { ℤ → ℤ → ℤ };
 
     // The products of a frame.
     ghost price: { ℕ };
 
-    fn join<L: Ledger>(self, a: T, b: T, steps: &mut Steps<L>) -> T
-        ensures value { T.number result ≡ value (T.number a) (T.number b) }
+    fn join<L: Ledger>(self, a: i32, b: i32, steps: &mut Steps<L>) -> i32
+        requires first { FitsSigned (word T.format) a }
+        requires second { FitsSigned (word T.format) b }
+        ensures value { result ≡ value a b }
+        ensures fits { FitsSigned (word T.format) result }
         ensures steps { Rises steps.old steps.new price price };
 }
 
@@ -29,8 +33,8 @@ impl<T: Sample> Join<T> for Sum {
 
     ghost price = { 0 };
 
-    fn join<L: Ledger>(self, a: T, b: T, _steps: &mut Steps<L>) -> T {
-        T::add(a, b)
+    fn join<L: Ledger>(self, a: i32, b: i32, _steps: &mut Steps<L>) -> i32 {
+        sum::<T>(a, b)
     }
 }
 
@@ -43,8 +47,8 @@ impl<T: Sample> Join<T> for Difference {
 
     ghost price = { 0 };
 
-    fn join<L: Ledger>(self, a: T, b: T, _steps: &mut Steps<L>) -> T {
-        T::sub(a, b)
+    fn join<L: Ledger>(self, a: i32, b: i32, _steps: &mut Steps<L>) -> i32 {
+        difference::<T>(a, b)
     }
 }
 
@@ -57,8 +61,8 @@ impl<T: Sample> Join<T> for Product {
 
     ghost price = { 1 };
 
-    fn join<L: Ledger>(self, a: T, b: T, steps: &mut Steps<L>) -> T {
-        T::mult(a, b, steps)
+    fn join<L: Ledger>(self, a: i32, b: i32, steps: &mut Steps<L>) -> i32 {
+        multiplied::<T, L>(a, b, steps)
     }
 }
 
@@ -81,9 +85,7 @@ pub(crate) fn join_pairs<T: Sample, O: Join<T>, L: Ledger>(
 {
     let count = samples.len() / 2;
     for n in 0..count {
-        let a = T::of_number(samples[n * 2]);
-        let b = T::of_number(samples[n * 2 + 1]);
-        out[n] = operation.join(a, b, steps).number();
+        out[n] = operation.join(samples[n * 2], samples[n * 2 + 1], steps);
     }
     count
 }

@@ -3,6 +3,7 @@
 
 mod calls;
 mod changes;
+mod clamped;
 mod conversions;
 mod joins;
 mod operation;

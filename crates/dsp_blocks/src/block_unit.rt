@@ -1,8 +1,11 @@
 ghost use Rattle.dsp_blocks.specs.BlockUnit.{state_of};
 
+use crate::{
+    Cascades, Drive, Feed, Finish, Held, Keep, KeptCount, Look, MeasureAt, Measures, Place, Restore,
+};
 use dsp_adapt::{LmsUnit, PidWork};
 use dsp_bank::BankUnit;
-use dsp_biquad::{Cascade, Section, Section64};
+use dsp_biquad::{Section, Section64};
 use dsp_complex::ComplexUnit;
 use dsp_conv::{Convolution, Correlate};
 use dsp_defs::{Measure, Steps};
@@ -40,9 +43,9 @@ pub enum BlockUnit {
     LatticeFir15(EachStep<i16, FirLatticeWork<i16>>),
     LatticeIir15(EachStep<i16, IirLatticeWork<i16>>),
     LatticeIir31(EachStep<i32, IirLatticeWork<i32>>),
-    Biquad15(EachStep<i16, Cascade<i16, Section<i16>>>),
-    Biquad31(EachStep<i32, Cascade<i32, Section<i32>>>),
-    Biquad64(EachStep<i32, Cascade<i32, Section64>>),
+    Biquad15(Cascades<i16, Section<i16>>),
+    Biquad31(Cascades<i32, Section<i32>>),
+    Biquad64(Cascades<i32, Section64>),
     Bank15(BankUnit<i16, 8>),
     Bank31(BankUnit<i32, 4>),
     Conv7(EachConvolution<i8, 16>),
@@ -61,77 +64,98 @@ pub enum BlockUnit {
     Measure(dsp_measure::MeasureUnit),
 }
 
-/// Evaluates the same expression for whichever unit is there.
+/// Evaluates one expression where the unit itself is there, and another where it is held.
 macro_rules! for_unit {
-    ($value:expr, $unit:ident => $result:expr) => {
+    ($value:expr, $unit:ident => $result:expr, $held:ident => $held_result:expr) => {
         match $value {
             BlockUnit::Vector($unit) => $result,
             BlockUnit::Complex($unit) => $result,
-            BlockUnit::Fir7($unit) => $result,
-            BlockUnit::Fir15($unit) => $result,
-            BlockUnit::Fir31($unit) => $result,
-            BlockUnit::Decimate15($unit) => $result,
-            BlockUnit::Decimate31($unit) => $result,
-            BlockUnit::Interpolate15($unit) => $result,
-            BlockUnit::Interpolate31($unit) => $result,
-            BlockUnit::LatticeFir15($unit) => $result,
-            BlockUnit::LatticeIir15($unit) => $result,
-            BlockUnit::LatticeIir31($unit) => $result,
-            BlockUnit::Biquad15($unit) => $result,
-            BlockUnit::Biquad31($unit) => $result,
-            BlockUnit::Biquad64($unit) => $result,
+            BlockUnit::Fir7($held) => $held_result,
+            BlockUnit::Fir15($held) => $held_result,
+            BlockUnit::Fir31($held) => $held_result,
+            BlockUnit::Decimate15($held) => $held_result,
+            BlockUnit::Decimate31($held) => $held_result,
+            BlockUnit::Interpolate15($held) => $held_result,
+            BlockUnit::Interpolate31($held) => $held_result,
+            BlockUnit::LatticeFir15($held) => $held_result,
+            BlockUnit::LatticeIir15($held) => $held_result,
+            BlockUnit::LatticeIir31($held) => $held_result,
+            BlockUnit::Biquad15($held) => $held_result,
+            BlockUnit::Biquad31($held) => $held_result,
+            BlockUnit::Biquad64($held) => $held_result,
             BlockUnit::Bank15($unit) => $result,
             BlockUnit::Bank31($unit) => $result,
-            BlockUnit::Conv7($unit) => $result,
-            BlockUnit::Conv15($unit) => $result,
-            BlockUnit::Conv31($unit) => $result,
-            BlockUnit::Correlate7($unit) => $result,
-            BlockUnit::Correlate15($unit) => $result,
-            BlockUnit::Correlate31($unit) => $result,
+            BlockUnit::Conv7($held) => $held_result,
+            BlockUnit::Conv15($held) => $held_result,
+            BlockUnit::Conv31($held) => $held_result,
+            BlockUnit::Correlate7($held) => $held_result,
+            BlockUnit::Correlate15($held) => $held_result,
+            BlockUnit::Correlate31($held) => $held_result,
             BlockUnit::Lms15($unit) => $result,
             BlockUnit::Lms31($unit) => $result,
-            BlockUnit::Pid15($unit) => $result,
-            BlockUnit::Pid31($unit) => $result,
-            BlockUnit::Matrix15($unit) => $result,
-            BlockUnit::Matrix31($unit) => $result,
-            BlockUnit::MatMult15($unit) => $result,
+            BlockUnit::Pid15($held) => $held_result,
+            BlockUnit::Pid31($held) => $held_result,
+            BlockUnit::Matrix15($held) => $held_result,
+            BlockUnit::Matrix31($held) => $held_result,
+            BlockUnit::MatMult15($held) => $held_result,
             BlockUnit::Measure($unit) => $result,
         }
     };
+}
+
+impl Held for BlockUnit {
+    ghost state = { state_of };
+
+    fn drive<D: Drive>(
+        &mut self,
+        given: &[D::Given],
+        out: &mut [i32],
+        counter: &mut D::Counter,
+    ) -> usize {
+        for_unit!(
+            self,
+            unit => D::drive(unit, given, out, counter),
+            held => held.drive::<D>(given, out, counter)
+        )
+    }
+
+    fn look<K: Look>(&self, look: &K, out: &mut [i64]) -> K::Answer {
+        for_unit!(self, unit => look.look(unit, out), held => held.look(look, out))
+    }
 }
 
 impl Unit for BlockUnit {
     ghost unit = { state_of };
 
     fn feed<L: Ledger>(&mut self, frames: &[i32], out: &mut [i32], steps: &mut Steps<L>) -> usize {
-        for_unit!(self, unit => unit.feed(frames, out, steps))
+        self.drive::<Feed<L>>(frames, out, steps)
     }
 
     fn finish<L: Ledger>(&mut self, out: &mut [i32], steps: &mut Steps<L>) -> usize {
-        for_unit!(self, unit => unit.finish(out, steps))
+        self.drive::<Finish<L>>(&[], out, steps)
     }
 
     fn kept_count(&self) -> usize {
-        for_unit!(self, unit => unit.kept_count())
+        self.look(&KeptCount, &mut [])
     }
 
     fn keep(&self, out: &mut [i64]) {
-        for_unit!(self, unit => unit.keep(out))
+        self.look(&Keep, out)
     }
 
     fn place(&self, numbers: &[i64]) -> Option<u64> {
-        for_unit!(self, unit => unit.place(numbers))
+        self.look(&Place { numbers }, &mut [])
     }
 
     fn restore(&mut self, numbers: &[i64]) {
-        for_unit!(self, unit => unit.restore(numbers))
+        self.drive::<Restore>(numbers, &mut [], &mut ());
     }
 
     fn measures(&self) -> usize {
-        for_unit!(self, unit => unit.measures())
+        self.look(&Measures, &mut [])
     }
 
     fn measure(&self, number: u8, index: usize) -> Option<Measure> {
-        for_unit!(self, unit => unit.measure(number, index))
+        self.look(&MeasureAt { number, index }, &mut [])
     }
 }

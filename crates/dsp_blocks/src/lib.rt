@@ -2,7 +2,19 @@
 #![tactic(auto)]
 
 mod block_unit;
+mod cascades;
+mod drive;
+mod drives;
+mod held;
+mod look;
+mod looks;
 mod makers;
 mod of_block;
 
 pub use block_unit::BlockUnit;
+use cascades::Cascades;
+use drive::Drive;
+use drives::{Feed, Finish, Restore};
+use held::Held;
+use look::Look;
+use looks::{Keep, KeptCount, MeasureAt, Measures, Place};

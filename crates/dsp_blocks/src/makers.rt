@@ -12,7 +12,7 @@ ghost use Rattle.dsp_adapt.specs.PidState.{IsPidBlock};
 ghost use Rattle.dsp_matrix.specs.Matrices.{IsElementwiseIn, IsProductIn};
 ghost use Rattle.dsp_blocks.specs.BlockUnit.{state_of};
 
-use crate::BlockUnit;
+use crate::{BlockUnit, Cascades};
 use dsp_adapt::LmsUnit;
 use dsp_bank::BankUnit;
 use dsp_defs::{Block, Fmt, MAX_SAMPLES};
@@ -145,8 +145,8 @@ pub fn biquad(
 {
     match format {
         Fmt::Q7 => unreachable!(),
-        Fmt::Q15 => Ok(BlockUnit::Biquad15(EachChannel::new(alloc, block, channels, frames)?)),
-        Fmt::Q31 => Ok(BlockUnit::Biquad31(EachChannel::new(alloc, block, channels, frames)?)),
+        Fmt::Q15 => Ok(BlockUnit::Biquad15(Cascades::new(alloc, block, channels, frames)?)),
+        Fmt::Q31 => Ok(BlockUnit::Biquad31(Cascades::new(alloc, block, channels, frames)?)),
     }
 }
 
@@ -186,7 +186,7 @@ pub fn biquad64(
     requires room { most_frames block.now frames * channels ≤ most_room }
     ensures { IfOk result (λ u. IsNew block.now Q31 channels frames (state_of u)) }
 {
-    Ok(BlockUnit::Biquad64(EachChannel::new(alloc, block, channels, frames)?))
+    Ok(BlockUnit::Biquad64(Cascades::new(alloc, block, channels, frames)?))
 }
 
 /// A convolution, or a part of one, for each channel.

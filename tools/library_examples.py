@@ -1,7 +1,8 @@
 #!/usr/bin/env python3
 """Checks that each function of the examples of docs/LIBRARY.md is in a test or a program of crates/, word by word.
 
-The tests call assert_same! where the page has assert_eq!. It prints the functions that are not found.
+The tests call assert_same! where the page has assert_eq!, assert_holds! where it has assert!, and assert_gives! where it
+has an assert_eq! of the count and one of the output. It prints the functions that are not found.
 """
 import glob
 import os
@@ -12,8 +13,11 @@ TOP = os.path.dirname(os.path.dirname(os.path.abspath(__file__)))
 
 
 def plain(text):
-    """The text without comments and differences of white space."""
-    return re.sub(r"\s+", "", re.sub(r"//[^\n]*", "", text).replace("assert_same!", "assert_eq!")).replace(",)", ")")
+    """The text without comments and differences of white space, with the plain forms of what a test asserts."""
+    text = re.sub(r"\s+", "", re.sub(r"//[^\n]*", "", text)).replace(",)", ")")
+    text = text.replace("assert_same!", "assert_eq!").replace("assert_holds!", "assert!")
+    gives = r"assert_gives!\((\w+);(.*?),(\d+),(\w+),(\[[^\]]*\]|\w+)\);"
+    return re.sub(gives, r"assert_eq!(\1;\2,\3);assert_eq!(\1;\4,\5);", text)
 
 
 def functions(text):

@@ -12,8 +12,10 @@ fn pid_keeps<M: Ledger>(rt: &impl Abort, steps: &mut Steps<M>) {
     let mut kept = [0i64; 3];
     let mut pid = Pid15::new(-27827, -1468, -1, 2).expect(rt, "a controller");
     assert_same!(rt; pid.room(2), 2);
-    assert_same!(rt; pid.process(&[32767, 16384], &mut output, steps), 2);
-    assert_same!(rt; output, [-29296, -16116, 7]);
+    assert_gives!(rt;
+        pid.process(&[32767, 16384], &mut output, steps),
+        2, output, [-29296, -16116, 7]
+    );
     assert_same!(rt; pid.kept_count(), 3);
     pid.keep(&mut kept);
     assert_same!(rt; kept, [16384, 32767, -16116]);
@@ -24,12 +26,14 @@ fn pid_goes_on<M: Ledger>(rt: &impl Abort, steps: &mut Steps<M>) {
     let kept = [16384i64, 32767, -16116];
     let mut output = [7i16; 3];
     let mut pid = Pid15::new(-27827, -1468, -1, 2).expect(rt, "a controller");
-    assert!(rt; pid.fits(&kept));
+    assert_holds!(rt; pid.fits(&kept));
     pid.restore(&kept);
-    assert_same!(rt; pid.process(&[-32767, -32768], &mut output, steps), 2);
-    assert_same!(rt; output, [27092, 28559, 7]);
+    assert_gives!(rt;
+        pid.process(&[-32767, -32768], &mut output, steps),
+        2, output, [27092, 28559, 7]
+    );
     assert_same!(rt; pid.finish(&mut output, steps), 0);
-    assert!(rt; pid.is_ended());
+    assert_holds!(rt; pid.is_ended());
 }
 
 /// A controller in Q31 wraps.
@@ -60,7 +64,7 @@ fn lms_goes_on<M: Ledger>(rt: &impl Abort, alloc: Global, steps: &mut Steps<M>) 
     let mut output = [0i16];
     let mut error = [7i16];
     let mut lms = Lms15::new(alloc, 0, 16384, &[0, 0], 1).expect(rt, "a filter");
-    assert!(rt; lms.fits(&kept));
+    assert_holds!(rt; lms.fits(&kept));
     lms.restore(&kept);
     lms.process(&[16384], &[8192], &mut output, &mut error, steps);
     assert_same!(rt; (output, error), ([8192], [0]));
@@ -94,17 +98,18 @@ pub(crate) fn counted<M: Ledger>(rt: &impl Abort, alloc: Global, steps: &mut Ste
 fn gains_and_faults(rt: HostRuntime) {
     let pid = Pid15::new(16384, 0, 32767, 4).expect(&rt, "a controller");
     assert_same!(rt; pid.gains(), (32767, -32768, 32767));
-    assert!(rt; !pid.fits(&[0, 0, 32768]) && !pid.fits(&[0, 0]));
+    assert_holds!(rt; !pid.fits(&[0, 0, 32768]));
+    assert_holds!(rt; !pid.fits(&[0, 0]));
     let pid = Pid31::new(-2147483648, 2147483647, -2147483648, 4).expect(&rt, "a controller");
     assert_same!(rt; pid.gains(), (-2147483648, -2147483648, -2147483648));
-    assert!(rt; is_range(Pid15::new(1, 2, 3, 0), 0));
-    assert!(rt; is_range(Pid31::new(1, 2, 3, 1048577), 1048577));
+    assert_holds!(rt; is_range(Pid15::new(1, 2, 3, 0), 0));
+    assert_holds!(rt; is_range(Pid31::new(1, 2, 3, 1048577), 1048577));
 }
 
 #[test]
 fn faults_of_adaptive_filters(rt: HostRuntime) {
     let none: [i16; 0] = [];
-    assert!(rt; is_length(Lms15::new(rt.alloc(), 15, 1, &none, 1), 0, 1));
-    assert!(rt; is_range(Lms15::new(rt.alloc(), 15, 1, &[1], 0), 15));
-    assert!(rt; is_range(Lms31::new(rt.alloc(), 30, 1, &[1], 0), 0));
+    assert_holds!(rt; is_length(Lms15::new(rt.alloc(), 15, 1, &none, 1), 0, 1));
+    assert_holds!(rt; is_range(Lms15::new(rt.alloc(), 15, 1, &[1], 0), 15));
+    assert_holds!(rt; is_range(Lms31::new(rt.alloc(), 30, 1, &[1], 0), 0));
 }

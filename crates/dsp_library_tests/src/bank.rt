@@ -2,11 +2,13 @@
 ghost use Rattle.std.specs.Prelude.{◌≡◌, IsFalse, length};
 ghost use Rattle.dsp_lanes.specs.Turns.{RisesWithin};
 
+use crate::refusals::{is_length, is_range};
 use dsp_bank::{Bank, BankSample};
 use dsp_biquad::{Biquads, Section};
-use dsp_defs::{MakeFault, Steps};
+use dsp_defs::Steps;
 use dsp_lanes::FormatLanes;
 use std::alloc::Global;
+use std::fmt::Debug;
 use std::process::Abort;
 use std::sync::ledger::Ledger;
 
@@ -46,15 +48,37 @@ fn samples31(rt: &impl Abort, alloc: Global, seed: &mut i32, count: usize, ends:
     samples
 }
 
-/// Feeds frames to a bank in pieces of 1, 2, .. 7 frames.
+/// As many copies of a value.
+fn copies<T: Copy>(rt: &impl Abort, alloc: Global, value: T, count: usize) -> Vec<T>
+    ensures { length result.items ≡ count }
+{
+    vec![in alloc; value; count].expect(rt, "memory")
+}
+
+/// A bank for blocks of seven frames.
+fn of_seven_frames<T: BankSample + FormatLanes<L>, const L: usize>(
+    rt: &impl Abort,
+    alloc: Global,
+    post_shift: u8,
+    coefficients: &[T],
+    channels: u8,
+) -> Bank<T, L>
+    ensures channels { result.channels ≡ channels }
+    ensures capacity { result.capacity ≡ 7 }
+{
+    Bank::<T, L>::new(alloc, post_shift, coefficients, channels, 7).expect(rt, "a bank")
+}
+
+/// Feeds frames to a bank in pieces of 1, 2, .. 7 frames, and returns what it keeps then.
 fn feed_pieces<T: BankSample + FormatLanes<L>, const L: usize, M: Ledger>(
     rt: &impl Abort,
+    alloc: Global,
     bank: &mut Bank<T, L>,
     row: usize,
     frames: &[T],
     out: &mut [T],
     steps: &mut Steps<M>,
-)
+) -> Vec<i64>
     requires channels { bank.old.channels ≡ row }
     requires capacity { bank.old.capacity ≡ 7 }
     ensures { length bank.new.kept ≡ length bank.old.kept }
@@ -62,28 +86,21 @@ fn feed_pieces<T: BankSample + FormatLanes<L>, const L: usize, M: Ledger>(
     let mut at = 0;
     let mut size = 1;
     while at < frames.len() {
-        assert!(rt; at < 4096 && size <= 7 && row <= 16);
+        assert_holds!(rt; at < 4096);
+        assert_holds!(rt; size <= 7);
+        assert_holds!(rt; row <= 16);
         let end = frames.len().min(at + size * row);
-        assert!(rt; at < end && end - at <= 7 * row && (end - at) % row == 0 && end <= out.len());
+        assert_holds!(rt; at < end);
+        assert_holds!(rt; end - at <= 7 * row);
+        assert_holds!(rt; (end - at) % row == 0);
+        assert_holds!(rt; end <= out.len());
         bank.process(&frames[at..end], &mut out[at..end], steps);
         at = end;
         size = size % 7 + 1;
     }
-}
-
-/// Compares a channel of frames with the values of a cascade.
-fn compare_channel<T: PartialEq>(
-    rt: &impl Abort,
-    row: usize,
-    channel: usize,
-    frames: &[T],
-    values: &[T],
-) {
-    let mut at = channel;
-    for value in values {
-        assert!(rt; at < 4096 && row <= 16 && at < frames.len() && frames[at] == *value);
-        at += row;
-    }
+    let mut kept = copies(rt, alloc, 0, bank.kept_count());
+    bank.keep(kept.as_mut_slice());
+    kept
 }
 
 /// Reads a channel of frames.
@@ -96,14 +113,16 @@ fn channel_of<T: Copy>(
 ) {
     let mut at = channel;
     for value in values {
-        assert!(rt; at < 4096 && row <= 16 && at < frames.len());
+        assert_holds!(rt; at < 4096);
+        assert_holds!(rt; row <= 16);
+        assert_holds!(rt; at < frames.len());
         *value = frames[at];
         at += row;
     }
 }
 
 /// Compares what a bank gave and keeps of a channel with a cascade.
-fn compare_cascade<T: BankSample + PartialEq, M: Ledger>(
+fn compare_cascade<T: BankSample + PartialEq + Debug, M: Ledger>(
     rt: &impl Abort,
     alloc: Global,
     cascade: &mut Biquads<T, Section<T>>,
@@ -117,20 +136,23 @@ fn compare_cascade<T: BankSample + PartialEq, M: Ledger>(
     requires running { IsFalse cascade.old.filter.ended }
     requires capacity { cascade.old.filter.capacity ≡ 4096 }
 {
-    assert!(rt; 1 <= row && row <= 16 && frames.len() <= 4096);
+    assert_holds!(rt; 1 <= row);
+    assert_holds!(rt; row <= 16);
+    assert_holds!(rt; frames.len() <= 4096);
     let count = frames.len() / row;
-    let mut values = vec![in alloc; T::zero(); count].expect(rt, "memory");
-    let mut outputs = vec![in alloc; T::zero(); count].expect(rt, "memory");
+    let mut values = copies(rt, alloc, T::zero(), count);
+    let mut outputs = copies(rt, alloc, T::zero(), count);
     channel_of(rt, row, channel, frames, values.as_mut_slice());
     cascade.process(values.as_slice(), outputs.as_mut_slice(), steps);
-    compare_channel(rt, row, channel, given, outputs.as_slice());
-    let mut numbers = vec![in alloc; 0; cascade.kept_count()].expect(rt, "memory");
+    channel_of(rt, row, channel, given, values.as_mut_slice());
+    assert_same!(rt; outputs.as_slice(), values.as_slice());
+    let mut numbers = copies(rt, alloc, 0, cascade.kept_count());
     cascade.keep(numbers.as_mut_slice());
-    assert!(rt; numbers.as_slice() == kept);
+    assert_same!(rt; numbers.as_slice(), kept);
 }
 
 /// Compares what a bank gave and keeps with a cascade for each channel.
-fn compare<T: BankSample + PartialEq, M: Ledger>(
+fn compare<T: BankSample + PartialEq + Debug, M: Ledger>(
     rt: &impl Abort,
     alloc: Global,
     post_shift: u8,
@@ -141,7 +163,7 @@ fn compare<T: BankSample + PartialEq, M: Ledger>(
     kept: &[i64],
     steps: &mut Steps<M>,
 ) {
-    assert!(rt; 1 <= row);
+    assert_holds!(rt; 1 <= row);
     let each = kept.len() / row;
     for (channel, numbers) in kept.chunks(each.max(1)).enumerate() {
         let mut cascade = Biquads::<T, Section<T>>::new(
@@ -165,7 +187,7 @@ fn compare<T: BankSample + PartialEq, M: Ledger>(
 }
 
 /// Runs a bank over half of the frames, and another one, from the numbers that it kept, over the rest.
-fn run<T: BankSample + FormatLanes<L> + PartialEq, const L: usize, M: Ledger>(
+fn run<T: BankSample + FormatLanes<L> + PartialEq + Debug, const L: usize, M: Ledger>(
     rt: &impl Abort,
     alloc: Global,
     post_shift: u8,
@@ -175,24 +197,17 @@ fn run<T: BankSample + FormatLanes<L> + PartialEq, const L: usize, M: Ledger>(
     steps: &mut Steps<M>,
 ) {
     let row = usize::from(channels);
-    let mut first = Bank::<T, L>::new(alloc, post_shift, coefficients, channels, 7).expect(
-        rt, "a bank",
-    );
-    let mut second = Bank::<T, L>::new(alloc, post_shift, coefficients, channels, 7).expect(
-        rt, "a bank",
-    );
-    let mut given = vec![in alloc; T::zero(); frames.len()].expect(rt, "memory");
-    let mut kept = vec![in alloc; 0; first.kept_count()].expect(rt, "memory");
+    let mut first = of_seven_frames::<T, L>(rt, alloc, post_shift, coefficients, channels);
+    let mut second = of_seven_frames::<T, L>(rt, alloc, post_shift, coefficients, channels);
+    let mut given = copies(rt, alloc, T::zero(), frames.len());
     let half = 19 * row;
-    assert!(rt; half <= frames.len());
+    assert_holds!(rt; half <= frames.len());
     let (early, late) = frames.split_at(half);
     let (early_out, late_out) = given.as_mut_slice().split_at_mut(half);
-    feed_pieces(rt, &mut first, row, early, early_out, steps);
-    first.keep(kept.as_mut_slice());
-    assert!(rt; second.fits(kept.as_slice()));
+    let kept = feed_pieces(rt, alloc, &mut first, row, early, early_out, steps);
+    assert_holds!(rt; second.fits(kept.as_slice()));
     second.restore(kept.as_slice());
-    feed_pieces(rt, &mut second, row, late, late_out, steps);
-    second.keep(kept.as_mut_slice());
+    let kept = feed_pieces(rt, alloc, &mut second, row, late, late_out, steps);
     compare(
         rt,
         alloc,
@@ -241,28 +256,42 @@ fn all_cases<M: Ledger>(rt: &impl Abort, alloc: Global, steps: &mut Steps<M>) {
     }
 }
 
-/// A section on 8 channels and 4 frames, whose feedback halves: 160 products, in 20 turns.
+/// Four frames of 8 channels, of which three are not silent.
+const EIGHT_CHANNELS: [i16; 32] = [
+    800, 0, 0, 0, 0, 0, -1600, 3200, // the first frame
+    0, 0, 0, 0, 0, 0, 0, -32768, // the second one
+    0, 0, 0, 0, 0, 0, 0, 0, // and silence
+    0, 0, 0, 0, 0, 0, 0, 0,
+];
+
+/// What a section gives of them, whose feedback halves.
+const EIGHT_HALVED: [i16; 32] = [
+    400, 0, 0, 0, 0, 0, -800, 1600, // half of the input
+    200, 0, 0, 0, 0, 0, -400, -15584, // and half of the output before
+    100, 0, 0, 0, 0, 0, -200, -7792, // and so on
+    50, 0, 0, 0, 0, 0, -100, -3896,
+];
+
+/// And what it keeps.
+const EIGHT_KEPT: [i64; 32] = [
+    0, 0, 50, 100, 0, 0, 0, 0, 0, 0, 0, 0, 0, 0, 0, 0, 0, 0, 0, 0, 0, 0, 0, 0, 0, 0, -100, -200, 0,
+    0, -3896, -7792,
+];
+
+/// A section on 8 channels and 4 frames: 160 products, in 20 turns.
 fn eight_channels<M: Ledger>(rt: &impl Abort, alloc: Global, steps: &mut Steps<M>)
     ensures { RisesWithin steps.old steps.new 160 20 }
 {
-    let mut frames = [0i16; 32];
-    frames[0] = 800;
-    frames[6] = -1600;
-    frames[7] = 3200;
-    frames[15] = -32768;
     let mut out = [7i16; 32];
     let mut kept = [7i64; 32];
     let mut bank = Bank::<i16, 8>::new(alloc, 0, &[16384, 0, 0, 0, 16384, 0], 8, 4).expect(
         rt, "a bank",
     );
-    bank.process(&frames, &mut out, steps);
-    assert!(rt; out[0] == 400 && out[8] == 200 && out[16] == 100 && out[24] == 50 && out[1] == 0);
-    assert!(rt; out[6] == -800 && out[14] == -400 && out[22] == -200 && out[30] == -100);
-    assert!(rt; out[7] == 1600 && out[15] == -15584 && out[23] == -7792 && out[31] == -3896);
-    assert!(rt; bank.kept_count() == 32);
+    bank.process(&EIGHT_CHANNELS, &mut out, steps);
+    assert_same!(rt; out, EIGHT_HALVED);
+    assert_same!(rt; bank.kept_count(), 32);
     bank.keep(&mut kept);
-    assert!(rt; kept[..4] == [0, 0, 50, 100] && kept[4..8] == [0, 0, 0, 0]);
-    assert!(rt; kept[24..28] == [0, 0, -100, -200] && kept[28..] == [0, 0, -3896, -7792]);
+    assert_same!(rt; kept, EIGHT_KEPT);
 }
 
 /// The same in Q31 on 3 channels, none of which is a whole group.
@@ -273,7 +302,7 @@ fn three_channels<M: Ledger>(rt: &impl Abort, alloc: Global, steps: &mut Steps<M
     let coefficients = [1073741824, 0, 0, 1073741824, 0];
     let mut bank = Bank::<i32, 4>::new(alloc, 0, &coefficients, 3, 2).expect(rt, "a bank");
     bank.process(&[800, -1600, i32::MIN, 0, 0, 0], &mut out, steps);
-    assert!(rt; out == [400, -800, -1073741824, 200, -400, -536870912]);
+    assert_same!(rt; out, [400, -800, -1073741824, 200, -400, -536870912]);
 }
 
 /// The calls that count their products.
@@ -286,16 +315,12 @@ pub(crate) fn counted<M: Ledger>(rt: &impl Abort, alloc: Global, steps: &mut Ste
 #[test]
 fn faults(rt: HostRuntime) {
     let alloc = rt.alloc();
-    let none = Bank::<i16, 8>::new(alloc, 14, &[0; 5], 17, 0);
-    assert!(rt; matches!(none, Err(MakeFault::Length { taps: 5, factor: 6 })));
-    let none = Bank::<i16, 8>::new(alloc, 14, &[0; 6], 17, 0);
-    assert!(rt; matches!(none, Err(MakeFault::Range { value: 14 })));
-    let none = Bank::<i32, 4>::new(alloc, 30, &[0; 5], 17, 0);
-    assert!(rt; matches!(none, Err(MakeFault::Range { value: 17 })));
-    let none = Bank::<i32, 4>::new(alloc, 30, &[0; 5], 16, 0);
-    assert!(rt; matches!(none, Err(MakeFault::Range { value: 0 })));
+    assert_holds!(rt; is_length(Bank::<i16, 8>::new(alloc, 14, &[0; 5], 17, 0), 5, 6));
+    assert_holds!(rt; is_range(Bank::<i16, 8>::new(alloc, 14, &[0; 6], 17, 0), 14));
+    assert_holds!(rt; is_range(Bank::<i32, 4>::new(alloc, 30, &[0; 5], 17, 0), 17));
+    assert_holds!(rt; is_range(Bank::<i32, 4>::new(alloc, 30, &[0; 5], 16, 0), 0));
     let bank = Bank::<i16, 8>::new(alloc, 13, &[0; 6], 2, 4).expect(&rt, "a bank");
-    assert!(rt;
-        !bank.fits(&[0; 4]) && !bank.fits(&[0, 0, 0, 0, 0, 0, 0, 32768]) && bank.fits(&[-32768; 8])
-    );
+    assert_holds!(rt; !bank.fits(&[0; 4]));
+    assert_holds!(rt; !bank.fits(&[0, 0, 0, 0, 0, 0, 0, 32768]));
+    assert_holds!(rt; bank.fits(&[-32768; 8]));
 }

@@ -15,8 +15,7 @@ fn keeps<M: Ledger>(rt: &impl Abort, alloc: Global, steps: &mut Steps<M>) {
     let mut kept = [0i64; 8];
     let mut cascade = Biquad15::new(alloc, 0, &TWO_SECTIONS, 1).expect(rt, "a cascade");
     assert_same!(rt; cascade.room(1), 1);
-    assert_same!(rt; cascade.process(&[1000], &mut output, steps), 1);
-    assert_same!(rt; output, [250, 7]);
+    assert_gives!(rt; cascade.process(&[1000], &mut output, steps), 1, output, [250, 7]);
     assert_same!(rt; cascade.kept_count(), 8);
     cascade.keep(&mut kept);
     assert_same!(rt; kept, [1000, 0, 500, 0, 500, 0, 250, 0]);
@@ -27,12 +26,11 @@ fn goes_on<M: Ledger>(rt: &impl Abort, alloc: Global, steps: &mut Steps<M>) {
     let kept = [1000i64, 0, 500, 0, 500, 0, 250, 0];
     let mut output = [7i16; 2];
     let mut cascade = Biquad15::new(alloc, 0, &TWO_SECTIONS, 1).expect(rt, "a cascade");
-    assert!(rt; cascade.fits(&kept));
+    assert_holds!(rt; cascade.fits(&kept));
     cascade.restore(&kept);
-    assert_same!(rt; cascade.process(&[0], &mut output, steps), 1);
-    assert_same!(rt; output, [125, 7]);
+    assert_gives!(rt; cascade.process(&[0], &mut output, steps), 1, output, [125, 7]);
     assert_same!(rt; cascade.finish(&mut output, steps), 0);
-    assert!(rt; cascade.is_ended());
+    assert_holds!(rt; cascade.is_ended());
 }
 
 /// The wide feedback keeps what a sample has no room for.
@@ -57,13 +55,15 @@ pub(crate) fn counted<M: Ledger>(rt: &impl Abort, alloc: Global, steps: &mut Ste
 #[test]
 fn faults(rt: HostRuntime) {
     let alloc = rt.alloc();
-    assert!(rt; is_range(Biquad15::new(alloc, 14, &[0; 6], 4), 14));
-    assert!(rt; is_length(Biquad15::new(alloc, 14, &[0; 5], 0), 5, 6));
-    assert!(rt; is_length(Biquad31::new(alloc, 0, &[0; 325], 4), 325, 5));
-    assert!(rt; is_range(Biquad64::new(alloc, 31, &[0; 5], 0), 31));
-    assert!(rt; is_range(Biquad64::new(alloc, 30, &[0; 5], 0), 0));
+    assert_holds!(rt; is_range(Biquad15::new(alloc, 14, &[0; 6], 4), 14));
+    assert_holds!(rt; is_length(Biquad15::new(alloc, 14, &[0; 5], 0), 5, 6));
+    assert_holds!(rt; is_length(Biquad31::new(alloc, 0, &[0; 325], 4), 325, 5));
+    assert_holds!(rt; is_range(Biquad64::new(alloc, 31, &[0; 5], 0), 31));
+    assert_holds!(rt; is_range(Biquad64::new(alloc, 30, &[0; 5], 0), 0));
     let cascade = Biquad15::new(alloc, 13, &[0; 6], 1048576).expect(&rt, "a cascade");
-    assert!(rt; !cascade.fits(&[0; 3]) && !cascade.fits(&[0, 0, 0, 32768]));
+    assert_holds!(rt; !cascade.fits(&[0; 3]));
+    assert_holds!(rt; !cascade.fits(&[0, 0, 0, 32768]));
     let cascade = Biquad64::new(alloc, 30, &[0; 5], 4).expect(&rt, "a cascade");
-    assert!(rt; cascade.fits(&[0, 0, 4294967296, 0]) && !cascade.fits(&[0, 4294967296, 0, 0]));
+    assert_holds!(rt; cascade.fits(&[0, 0, 4294967296, 0]));
+    assert_holds!(rt; !cascade.fits(&[0, 4294967296, 0, 0]));
 }

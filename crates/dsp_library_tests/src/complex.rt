@@ -4,8 +4,9 @@ use dsp_defs::Steps;
 use std::process::Abort;
 use std::sync::ledger::Ledger;
 
-/// Complex products.
-fn products<M: Ledger>(rt: &impl Abort, steps: &mut Steps<M>) {
+/// Complex products, products by real numbers, and squares of magnitudes.
+fn all_products<M: Ledger>(rt: &impl Abort, steps: &mut Steps<M>) {
+    // Complex products.
     let mut two = [0i16; 2];
     mult_cmplx(&[16384i16, 0], &[16384, 16384], &mut two, steps);
     assert_same!(rt; two, [2048, 2048]);
@@ -14,18 +15,12 @@ fn products<M: Ledger>(rt: &impl Abort, steps: &mut Steps<M>) {
     let b = [2147483646, i32::MAX, 1, 12];
     mult_cmplx(&a, &b, &mut four, steps);
     assert_same!(rt; four, [-1073741823, -1, 0, -4]);
-}
-
-/// Products by real numbers.
-fn real_products<M: Ledger>(rt: &impl Abort, steps: &mut Steps<M>) {
+    // Products by real numbers.
     let mut products = [0i16; 4];
     let a = [-32768, 32767, -32768, -32767];
     mult_real(&a, &[-32768, -32768], &mut products, steps);
     assert_same!(rt; products, [32767, -32767, 32767, 32767]);
-}
-
-/// Squares of magnitudes.
-fn squares<M: Ledger>(rt: &impl Abort, steps: &mut Steps<M>) {
+    // Squares of magnitudes.
     let mut two = [0i16; 2];
     mag_squared(&[-32768i16, -1, -32768, -32768], &mut two, steps);
     assert_same!(rt; two, [8192, 16384]);
@@ -37,9 +32,7 @@ fn squares<M: Ledger>(rt: &impl Abort, steps: &mut Steps<M>) {
 
 /// Calls on slices that count their products.
 pub(crate) fn counted<M: Ledger>(rt: &impl Abort, steps: &mut Steps<M>) {
-    products(rt, steps);
-    real_products(rt, steps);
-    squares(rt, steps);
+    all_products(rt, steps);
 }
 
 #[test]

@@ -17,14 +17,10 @@ fn few_turns<M: Ledger>(rt: &impl Abort, alloc: Global, steps: &mut Steps<M>)
 {
     let mut filter = Conv::<i16, 8>::new(alloc, &[16384, 16384], 1).expect(rt, "a convolution");
     let mut output = [7i16; 3];
-    assert_eq!(rt; filter.process(&[2], &mut output, steps), 1);
-    assert_same!(rt; output, [1, 7, 7]);
-    assert_eq!(rt; filter.process(&[4], &mut output, steps), 1);
-    assert_same!(rt; output, [3, 7, 7]);
-    assert_eq!(rt; filter.finish(&mut output, steps), 1);
-    assert_same!(rt; output, [2, 7, 7]);
-    assert_eq!(rt; filter.finish(&mut output, steps), 0);
-    assert_same!(rt; output, [2, 7, 7]);
+    assert_gives!(rt; filter.process(&[2], &mut output, steps), 1, output, [1, 7, 7]);
+    assert_gives!(rt; filter.process(&[4], &mut output, steps), 1, output, [3, 7, 7]);
+    assert_gives!(rt; filter.finish(&mut output, steps), 1, output, [2, 7, 7]);
+    assert_gives!(rt; filter.finish(&mut output, steps), 0, output, [2, 7, 7]);
 }
 
 /// A convolution of four taps, for blocks of two samples.
@@ -49,13 +45,6 @@ fn keeps<M: Ledger>(rt: &impl Abort, alloc: Global, steps: &mut Steps<M>) {
     assert_same!(rt; kept, [0, 2, 4, 1]);
 }
 
-/// Numbers that no such convolution keeps: too few, one that is no sample, and places that it never has.
-fn refuses(rt: &impl Abort, alloc: Global) {
-    let filter = of_four_taps(rt, alloc);
-    assert!(rt; !filter.fits(&[0, 2, 4]) && !filter.fits(&[0, 2, 32768, 1]));
-    assert!(rt; !filter.fits(&[0, 2, 4, 2]) && !filter.fits(&[0, 2, 4, -1]));
-}
-
 /// Gives the next piece of a tail, as much as fits in two samples.
 fn tail_gives<M: Ledger>(
     rt: &impl Abort,
@@ -69,15 +58,20 @@ fn tail_gives<M: Ledger>(
     assert_same!(rt; piece, wanted);
 }
 
-/// A convolution goes on where another one was kept, and its tail comes as it fits.
+/// A convolution takes no numbers that none keeps: too few, one that is no sample, and places that it
+/// never has. It goes on where another one was kept, and its tail comes as it fits.
 fn goes_on<M: Ledger>(rt: &impl Abort, alloc: Global, steps: &mut Steps<M>) {
     let kept = [0i64, 2, 4, 1];
     let mut filter = of_four_taps(rt, alloc);
-    assert!(rt; filter.fits(&kept));
+    assert_holds!(rt; !filter.fits(&[0, 2, 4]));
+    assert_holds!(rt; !filter.fits(&[0, 2, 32768, 1]));
+    assert_holds!(rt; !filter.fits(&[0, 2, 4, 2]));
+    assert_holds!(rt; !filter.fits(&[0, 2, 4, -1]));
+    assert_holds!(rt; filter.fits(&kept));
     filter.restore(&kept);
-    assert!(rt; !filter.is_ended());
+    assert_holds!(rt; !filter.is_ended());
     assert_same!(rt; filter.finish(&mut [], steps), 0);
-    assert!(rt; filter.is_ended());
+    assert_holds!(rt; filter.is_ended());
     tail_gives(rt, &mut filter, 2, [1, 2], steps);
     tail_gives(rt, &mut filter, 1, [1, 7], steps);
     tail_gives(rt, &mut filter, 0, [7, 7], steps);
@@ -87,14 +81,13 @@ fn goes_on<M: Ledger>(rt: &impl Abort, alloc: Global, steps: &mut Steps<M>) {
 fn gathered<M: Ledger>(rt: &impl Abort, alloc: Global, steps: &mut Steps<M>) {
     let mut correlate = Correlate::new(alloc, &[16384i16]).expect(rt, "a correlation");
     let mut output = [7i16; 3];
-    assert!(rt; correlate.put(&[2, 4]).is_ok() && correlate.put(&[6]).is_ok());
-    assert!(rt; !correlate.is_ended());
-    assert_same!(rt; correlate.finish(&mut output, steps), 3);
-    assert_same!(rt; output, [0, 0, 1]);
-    assert_same!(rt; correlate.finish(&mut output, steps), 2);
-    assert_same!(rt; output, [2, 3, 1]);
+    assert_holds!(rt; correlate.put(&[2, 4]).is_ok());
+    assert_holds!(rt; correlate.put(&[6]).is_ok());
+    assert_holds!(rt; !correlate.is_ended());
+    assert_gives!(rt; correlate.finish(&mut output, steps), 3, output, [0, 0, 1]);
+    assert_gives!(rt; correlate.finish(&mut output, steps), 2, output, [2, 3, 1]);
     assert_same!(rt; correlate.finish(&mut output, steps), 0);
-    assert!(rt; correlate.is_ended());
+    assert_holds!(rt; correlate.is_ended());
 }
 
 /// The calls over slices.
@@ -103,7 +96,7 @@ fn sliced<M: Ledger>(rt: &impl Abort, steps: &mut Steps<M>) {
     conv_slices(&[2, 4], &[16384, 16384], &mut full, steps);
     assert_same!(rt; full, [1, 3, 2]);
     let mut part = [7i16; 2];
-    assert!(rt; conv_partial_slices(&[2, 4], &[16384, 16384], 1, &mut part, steps).is_ok());
+    assert_holds!(rt; conv_partial_slices(&[2, 4], &[16384, 16384], 1, &mut part, steps).is_ok());
     assert_same!(rt; part, [3, 2]);
     let fault = conv_partial_slices(&[2, 4], &[16384, 16384], 2, &mut part, steps);
     assert_same!(rt; fault, Err(WindowFault { end: 4, length: 3 }));
@@ -118,10 +111,8 @@ fn part<M: Ledger>(rt: &impl Abort, alloc: Global, steps: &mut Steps<M>) {
     let mut filter = ConvPartial::<i16, 8>::new(alloc, 1, 2, &[16384, 16384], 2).expect(
         rt, "a part",
     );
-    assert_same!(rt; filter.process(&[2, 4], &mut output, steps), 1);
-    assert_same!(rt; output, [3, 7]);
-    assert_same!(rt; filter.finish(&mut output, steps), 1);
-    assert_same!(rt; output, [2, 7]);
+    assert_gives!(rt; filter.process(&[2, 4], &mut output, steps), 1, output, [3, 7]);
+    assert_gives!(rt; filter.finish(&mut output, steps), 1, output, [2, 7]);
     assert_same!(rt; filter.finish(&mut output, steps), 0);
 }
 
@@ -129,19 +120,19 @@ fn part<M: Ledger>(rt: &impl Abort, alloc: Global, steps: &mut Steps<M>) {
 fn other_formats<M: Ledger>(rt: &impl Abort, alloc: Global, steps: &mut Steps<M>) {
     let mut bytes = [0i8; 1];
     let mut narrow = Conv::<i8, 16>::new(alloc, &[127], 1).expect(rt, "a convolution");
-    assert_same!(rt; narrow.process(&[126], &mut bytes, steps), 1);
-    assert_same!(rt; bytes, [125]);
+    assert_gives!(rt; narrow.process(&[126], &mut bytes, steps), 1, bytes, [125]);
     let mut words = [0i32; 3];
     let mut wide = Conv::<i32, 4>::new(alloc, &[i32::MIN, i32::MIN], 3).expect(rt, "a convolution");
-    assert_same!(rt; wide.process(&[i32::MIN, i32::MIN], &mut words, steps), 2);
-    assert_same!(rt; words, [i32::MIN, 0, 0]);
+    assert_gives!(rt;
+        wide.process(&[i32::MIN, i32::MIN], &mut words, steps),
+        2, words, [i32::MIN, 0, 0]
+    );
 }
 
 /// The calls that count their products.
 pub(crate) fn counted<M: Ledger>(rt: &impl Abort, alloc: Global, steps: &mut Steps<M>) {
     few_turns(rt, alloc, steps);
     keeps(rt, alloc, steps);
-    refuses(rt, alloc);
     goes_on(rt, alloc, steps);
     part(rt, alloc, steps);
     other_formats(rt, alloc, steps);
@@ -152,17 +143,13 @@ pub(crate) fn counted<M: Ledger>(rt: &impl Abort, alloc: Global, steps: &mut Ste
 #[test]
 fn faults(rt: HostRuntime) {
     let alloc = rt.alloc();
-    assert!(rt; is_length(Conv::<i16, 8>::new(alloc, &[], 0), 0, 1));
-    assert!(rt; is_length(Conv::<i8, 16>::new(alloc, &[1; MAX_TAPS + 1], 1), 16_385, 1));
-    assert!(rt; is_range(Conv::<i32, 4>::new(alloc, &[1], 1048577), 1048577));
-    assert!(rt;
-        is_range(
-            ConvPartial::<i16, 8>::new(alloc, 4294967296, 0, &[1], 0),
-            4294967296
-        )
-    );
-    assert!(rt; is_range(ConvPartial::<i16, 8>::new(alloc, 4294967295, 0, &[1], 0), 0));
-    assert!(rt; Correlate::<i8>::new(alloc, &[]).is_err());
+    assert_holds!(rt; is_length(Conv::<i16, 8>::new(alloc, &[], 0), 0, 1));
+    assert_holds!(rt; is_length(Conv::<i8, 16>::new(alloc, &[1; MAX_TAPS + 1], 1), 16_385, 1));
+    assert_holds!(rt; is_range(Conv::<i32, 4>::new(alloc, &[1], 1048577), 1048577));
+    let late = ConvPartial::<i16, 8>::new(alloc, 4294967296, 0, &[1], 0);
+    assert_holds!(rt; is_range(late, 4294967296));
+    assert_holds!(rt; is_range(ConvPartial::<i16, 8>::new(alloc, 4294967295, 0, &[1], 0), 0));
+    assert_holds!(rt; Correlate::<i8>::new(alloc, &[]).is_err());
     assert!(rt; Conv::<i16, 8>::new(alloc, &[1; MAX_TAPS], MAX_SAMPLES).is_ok());
 }
 
@@ -171,7 +158,7 @@ fn faults(rt: HostRuntime) {
 fn full_gather(rt: HostRuntime) {
     let mut gather = Gather::<i16>::new(rt.alloc()).expect(&rt, "a gather");
     for _ in 0..MAX_GATHERED / 4096 {
-        assert!(rt; gather.put(&[5; 4096]).is_ok());
+        assert_holds!(rt; gather.put(&[5; 4096]).is_ok());
     }
     assert_same!(rt; gather.slice().len(), MAX_GATHERED);
     let fault = GatherFull {
@@ -179,5 +166,5 @@ fn full_gather(rt: HostRuntime) {
         more: 1,
     };
     assert_same!(rt; gather.put(&[5]), Err(fault));
-    assert!(rt; gather.put(&[]).is_ok());
+    assert_holds!(rt; gather.put(&[]).is_ok());
 }

@@ -17,8 +17,7 @@ const THREE_QUARTERS: [i16; 37] = [
 fn long_block<M: Ledger>(rt: &impl Abort, alloc: Global, steps: &mut Steps<M>) {
     let mut output = [0i16; 37];
     let mut fir = Fir::<i16, 8>::new(alloc, &[8192; 3], 37).expect(rt, "a filter");
-    assert_same!(rt; fir.process(&[1024; 37], &mut output, steps), 37);
-    assert_same!(rt; output, THREE_QUARTERS);
+    assert_gives!(rt; fir.process(&[1024; 37], &mut output, steps), 37, output, THREE_QUARTERS);
 }
 
 fn long_sparse_block<M: Ledger>(rt: &impl Abort, alloc: Global, steps: &mut Steps<M>) {
@@ -26,8 +25,7 @@ fn long_sparse_block<M: Ledger>(rt: &impl Abort, alloc: Global, steps: &mut Step
     let mut sparse = Sparse::<i16, 8>::new(alloc, &[8192; 3], &[2, 0, 1], 37).expect(
         rt, "a filter",
     );
-    assert_same!(rt; sparse.process(&[1024; 37], &mut output, steps), 37);
-    assert_same!(rt; output, THREE_QUARTERS);
+    assert_gives!(rt; sparse.process(&[1024; 37], &mut output, steps), 37, output, THREE_QUARTERS);
 }
 
 /// A sample by three taps takes three turns, and no samples take none.
@@ -37,58 +35,44 @@ fn few_turns<M: Ledger>(rt: &impl Abort, alloc: Global, steps: &mut Steps<M>)
     let mut filter = Fir::<i16, 8>::new(alloc, &[16384, 0, 8192], 1).expect(rt, "a filter");
     let mut output = [7, 7];
     assert_same!(rt; filter.room(1), 1);
-    assert_same!(rt; filter.process(&[4], &mut output, steps), 1);
-    assert_same!(rt; output, [1, 7]);
-    assert_same!(rt; filter.process(&[], &mut output, steps), 0);
-    assert_same!(rt; output, [1, 7]);
+    assert_gives!(rt; filter.process(&[4], &mut output, steps), 1, output, [1, 7]);
+    assert_gives!(rt; filter.process(&[], &mut output, steps), 0, output, [1, 7]);
 }
 
-/// A FIR filter keeps the last samples.
-fn fir_keeps<M: Ledger>(rt: &impl Abort, alloc: Global, steps: &mut Steps<M>) {
+/// A FIR filter of two taps, for blocks of two samples.
+fn of_two_taps(rt: &impl Abort, alloc: Global) -> Fir<i16, 8>
+    ensures running { IsFalse result.ended }
+    ensures block { result.capacity ≡ 2 }
+    ensures past { length result.past ≡ 1 }
+{
+    Fir::<i16, 8>::new(alloc, &[8192, 16384], 2).expect(rt, "a filter")
+}
+
+/// A FIR filter keeps the last samples, as many numbers as its past has.
+fn fir_keeps<M: Ledger>(rt: &impl Abort, alloc: Global, steps: &mut Steps<M>) -> [i64; 1] {
     let mut output = [0i16; 2];
     let mut kept = [0i64; 1];
-    let mut filter = Fir::<i16, 8>::new(alloc, &[8192, 16384], 2).expect(rt, "a filter");
-    filter.process(&[4, 8], &mut output, steps);
-    assert_same!(rt; output, [2, 5]);
+    let mut filter = of_two_taps(rt, alloc);
+    assert_same!(rt; filter.kept_count(), 1);
+    assert_gives!(rt; filter.process(&[4, 8], &mut output, steps), 2, output, [2, 5]);
     assert_same!(rt; filter.kept_count(), 1);
     filter.keep(&mut kept);
     assert_same!(rt; kept, [8]);
+    kept
 }
 
-/// Another FIR filter goes on from what that one kept.
-fn fir_goes_on<M: Ledger>(rt: &impl Abort, alloc: Global, steps: &mut Steps<M>) {
-    let mut output = [0i16; 1];
-    let mut filter = Fir::<i16, 8>::new(alloc, &[8192, 16384], 2).expect(rt, "a filter");
-    assert!(rt; filter.fits(&[8]));
-    filter.restore(&[8]);
-    filter.process(&[0], &mut output, steps);
-    assert_same!(rt; output, [2]);
-}
-
-/// Another FIR filter of the same taps gives what the first would have given.
-fn fir_goes_on_in_another<M: Ledger>(rt: &impl Abort, alloc: Global, steps: &mut Steps<M>) {
-    let mut output = [0i16; 2];
-    let mut kept = [0i64; 1];
-    let mut first = Fir::<i16, 8>::new(alloc, &[8192, 16384], 2).expect(rt, "a filter");
-    first.process(&[4, 8], &mut output, steps);
-    first.keep(&mut kept);
-    let mut second = Fir::<i16, 8>::new(alloc, &[8192, 16384], 2).expect(rt, "a filter");
-    assert!(rt; second.fits(&kept));
-    second.restore(&kept);
-    second.process(&[0], &mut output, steps);
-    assert_same!(rt; kept, [8]);
-    assert_same!(rt; output, [2, 5]);
-}
-
-/// A FIR filter keeps as many numbers as its past has samples, each of its format, and has no tail.
-fn fir_ends<M: Ledger>(rt: &impl Abort, alloc: Global, steps: &mut Steps<M>) {
-    let mut filter = Fir::<i16, 8>::new(alloc, &[8192, 16384], 2).expect(rt, "a filter");
-    assert_same!(rt; filter.kept_count(), 1);
-    assert!(rt; !filter.fits(&[32768]) && !filter.fits(&[]));
-    assert_same!(rt;
-        (filter.finish(&mut [], steps), filter.is_ended()),
-        (0, true)
-    );
+/// Another FIR filter of the same taps goes on from what that one kept, and gives what the first would
+/// have given. It keeps no number of another format, and has no tail.
+fn fir_goes_on<M: Ledger>(rt: &impl Abort, alloc: Global, kept: &[i64; 1], steps: &mut Steps<M>) {
+    let mut output = [7i16; 2];
+    let mut filter = of_two_taps(rt, alloc);
+    assert_holds!(rt; !filter.fits(&[32768]));
+    assert_holds!(rt; !filter.fits(&[]));
+    assert_holds!(rt; filter.fits(kept));
+    filter.restore(kept);
+    assert_gives!(rt; filter.process(&[0], &mut output, steps), 1, output, [2, 7]);
+    assert_gives!(rt; filter.finish(&mut [], steps), 0, output, [2, 7]);
+    assert_holds!(rt; filter.is_ended());
 }
 
 /// A sparse filter of two delays, for blocks of two samples.
@@ -106,59 +90,54 @@ fn sparse_keeps<M: Ledger>(rt: &impl Abort, alloc: Global, steps: &mut Steps<M>)
     let mut kept = [0i64; 1];
     let mut filter = of_two_delays(rt, alloc);
     assert_same!(rt; (filter.kept_count(), filter.room(2)), (1, 2));
-    filter.process(&[16384, 16385], &mut output, steps);
-    assert_same!(rt; output, [9975, -6121]);
+    assert_gives!(rt;
+        filter.process(&[16384, 16385], &mut output, steps),
+        2, output, [9975, -6121]
+    );
     filter.keep(&mut kept);
     assert_same!(rt; kept, [16385]);
 }
 
-/// Another sparse filter goes on from what that one kept.
+/// Another sparse filter goes on from what that one kept. It takes no number of another format, and has
+/// no tail.
 fn sparse_goes_on<M: Ledger>(rt: &impl Abort, alloc: Global, steps: &mut Steps<M>) {
     let kept = [16385i64];
     let mut output = [0i16; 2];
     let mut filter = of_two_delays(rt, alloc);
-    assert!(rt; filter.fits(&kept));
+    assert_holds!(rt; !filter.fits(&[-32769]));
+    assert_holds!(rt; filter.fits(&kept));
     filter.restore(&kept);
-    filter.process(&[32767], &mut output, steps);
-    assert_same!(rt; output, [3851, 0]);
-}
-
-/// A sparse filter takes no number of another format, and has no tail.
-fn sparse_ends<M: Ledger>(rt: &impl Abort, alloc: Global, steps: &mut Steps<M>) {
-    let mut filter = Sparse::<i16, 8>::new(alloc, &[1, 2], &[0, 1], 2).expect(rt, "a filter");
-    assert!(rt; !filter.fits(&[-32769]) && !filter.is_ended());
-    assert_same!(rt;
-        (filter.finish(&mut [], steps), filter.is_ended()),
-        (0, true)
-    );
+    assert_gives!(rt; filter.process(&[32767], &mut output, steps), 1, output, [3851, 0]);
+    assert_holds!(rt; !filter.is_ended());
+    assert_gives!(rt; filter.finish(&mut [], steps), 0, output, [3851, 0]);
+    assert_holds!(rt; filter.is_ended());
 }
 
 /// In the other formats: twice the least number does not saturate in Q31, and is the greatest in Q7.
 fn other_formats<M: Ledger>(rt: &impl Abort, alloc: Global, steps: &mut Steps<M>) {
     let mut words = [0i32; 2];
     let mut wide = Fir::<i32, 4>::new(alloc, &[i32::MIN; 2], 2).expect(rt, "a filter");
-    assert_same!(rt; wide.process(&[i32::MIN; 2], &mut words, steps), 2);
-    assert_same!(rt; words, [i32::MIN, 0]);
+    assert_gives!(rt; wide.process(&[i32::MIN; 2], &mut words, steps), 2, words, [i32::MIN, 0]);
     let mut bytes = [0i8; 2];
     let mut narrow = Fir::<i8, 16>::new(alloc, &[-128; 2], 2).expect(rt, "a filter");
-    assert_same!(rt; narrow.process(&[-128; 2], &mut bytes, steps), 2);
-    assert_same!(rt; bytes, [127, 127]);
+    assert_gives!(rt; narrow.process(&[-128; 2], &mut bytes, steps), 2, bytes, [127, 127]);
 }
 
 /// The sum of a sparse filter has 32 bits.
 fn sparse_sum<M: Ledger>(rt: &impl Abort, alloc: Global, steps: &mut Steps<M>) {
     let mut output = [0i16; 2];
     let mut sparse = Sparse::<i16, 8>::new(alloc, &[-32768; 2], &[0, 1], 2).expect(rt, "a filter");
-    sparse.process(&[-32768; 2], &mut output, steps);
-    assert_same!(rt; output, [32767, -32768]);
+    assert_gives!(rt;
+        sparse.process(&[-32768; 2], &mut output, steps),
+        2, output, [32767, -32768]
+    );
 }
 
 /// And that of a FIR filter 64.
 fn fir_sum<M: Ledger>(rt: &impl Abort, alloc: Global, steps: &mut Steps<M>) {
     let mut output = [0i16; 2];
     let mut fir = Fir::<i16, 8>::new(alloc, &[-32768; 2], 2).expect(rt, "a filter");
-    fir.process(&[-32768; 2], &mut output, steps);
-    assert_same!(rt; output, [32767, 32767]);
+    assert_gives!(rt; fir.process(&[-32768; 2], &mut output, steps), 2, output, [32767, 32767]);
 }
 
 /// The calls that count their products.
@@ -166,13 +145,10 @@ pub(crate) fn counted<M: Ledger>(rt: &impl Abort, alloc: Global, steps: &mut Ste
     long_block(rt, alloc, steps);
     long_sparse_block(rt, alloc, steps);
     few_turns(rt, alloc, steps);
-    fir_keeps(rt, alloc, steps);
-    fir_goes_on(rt, alloc, steps);
-    fir_goes_on_in_another(rt, alloc, steps);
-    fir_ends(rt, alloc, steps);
+    let kept = fir_keeps(rt, alloc, steps);
+    fir_goes_on(rt, alloc, &kept, steps);
     sparse_keeps(rt, alloc, steps);
     sparse_goes_on(rt, alloc, steps);
-    sparse_ends(rt, alloc, steps);
     other_formats(rt, alloc, steps);
     sparse_sum(rt, alloc, steps);
     fir_sum(rt, alloc, steps);
@@ -181,14 +157,10 @@ pub(crate) fn counted<M: Ledger>(rt: &impl Abort, alloc: Global, steps: &mut Ste
 #[test]
 fn faults(rt: HostRuntime) {
     let alloc = rt.alloc();
-    assert!(rt; is_length(Fir::<i16, 8>::new(alloc, &[], 4), 0, 1));
-    assert!(rt; is_range(Fir::<i16, 8>::new(alloc, &[1], 0), 0));
-    assert!(rt; is_length(Sparse::<i8, 16>::new(alloc, &[1], &[0], 4), 1, 2));
-    assert!(rt; is_length(Sparse::<i16, 8>::new(alloc, &[1, 2], &[0, 1, 2], 4), 3, 2));
-    assert!(rt;
-        is_range(
-            Sparse::<i32, 4>::new(alloc, &[1, 2], &[65535, 65537], 0),
-            65537
-        )
-    );
+    assert_holds!(rt; is_length(Fir::<i16, 8>::new(alloc, &[], 4), 0, 1));
+    assert_holds!(rt; is_range(Fir::<i16, 8>::new(alloc, &[1], 0), 0));
+    assert_holds!(rt; is_length(Sparse::<i8, 16>::new(alloc, &[1], &[0], 4), 1, 2));
+    assert_holds!(rt; is_length(Sparse::<i16, 8>::new(alloc, &[1, 2], &[0, 1, 2], 4), 3, 2));
+    let far = Sparse::<i32, 4>::new(alloc, &[1, 2], &[65535, 65537], 0);
+    assert_holds!(rt; is_range(far, 65537));
 }

@@ -75,22 +75,27 @@ fn q15_rows<M: Ledger>(rt: &impl Abort, steps: &mut Steps<M>)
     assert_same!(rt; out, [3, 5, 7, 9, 11]);
 }
 
-/// Worked outputs in Q15 of a whole group and a rest, by three taps.
-fn q15_group<M: Ledger>(rt: &impl Abort, steps: &mut Steps<M>) {
+/// Worked outputs, products and terms in Q15.
+fn q15_outputs<M: Ledger>(rt: &impl Abort, steps: &mut Steps<M>) {
+    // Worked outputs in Q15 of a whole group and a rest, by three taps.
     let mut out = [0i16; 9];
     let window = [2, 4, 6, 8, 10, 12, 14, 16, 18, 20, 22];
     Lanes::<i16, 8>::rows(&[16384, 16384, 0], &window, &mut out, steps);
     assert_same!(rt; out, [3, 5, 7, 9, 11, 13, 15, 17, 19]);
-}
-
-/// Worked products by a factor, and terms of a sparse filter.
-fn q15_factors<M: Ledger>(rt: &impl Abort, steps: &mut Steps<M>) {
+    // Worked products by a factor, and terms of a sparse filter.
     let mut out = [0i16; 2];
     Lanes::<i16, 8>::scale(&[32766, 32766], -32768, 15, &mut out, steps);
     assert_same!(rt; out, [-32768, -32768]);
     let mut sums = [2147418113i64, 0];
     Lanes::<i16, 8>::delayed(32767, &[32767, 1], &mut sums, steps);
     assert_same!(rt; sums, [-1073872894, 32767]);
+    // Two products of the least number come to 2^31, which 32 bits do not hold.
+    let least = [i16::MIN; 18];
+    let mut out = [0i16; 17];
+    Lanes::<i16, 8>::rows(&[i16::MIN, i16::MIN], &least, &mut out, steps);
+    assert_same!(rt; out, [i16::MAX; 17]);
+    let sum = Lanes::<i16, 8>::dot(&[i16::MIN; 9], &[i16::MIN; 9], steps);
+    assert_same!(rt; sum, 9663676416);
 }
 
 /// Worked outputs by a form of each format: whole groups, two at a time, and one output more.
@@ -104,18 +109,22 @@ fn halves_of_sums<M: Ledger>(rt: &impl Abort, steps: &mut Steps<M>) {
     assert_same!(rt; last, [3, 5, 7, 9, 11, 13, 15, 17, 19]);
 }
 
-/// Two products of the least number come to 2^31, which 32 bits do not hold.
-fn q15_least<M: Ledger>(rt: &impl Abort, steps: &mut Steps<M>) {
-    let least = [i16::MIN; 18];
-    let mut out = [0i16; 17];
-    Lanes::<i16, 8>::rows(&[i16::MIN, i16::MIN], &least, &mut out, steps);
-    assert_same!(rt; out, [i16::MAX; 17]);
-    let sum = Lanes::<i16, 8>::dot(&[i16::MIN; 9], &[i16::MIN; 9], steps);
-    assert_same!(rt; sum, 9663676416);
-}
+/// Nine sums of the greatest number, grown by twice 1, -1, 0, 3, .. 7 and -32768.
+const GROWN_SUMS: [i64; 9] = [
+    i64::MIN + 1,
+    i64::MAX - 2,
+    i64::MAX,
+    i64::MIN + 5,
+    i64::MIN + 7,
+    i64::MIN + 9,
+    i64::MIN + 11,
+    i64::MIN + 13,
+    i64::MAX - 65536,
+];
 
-/// Weights that grow, a group and a rest of them, some to the ends.
-fn grown_weights<M: Ledger>(rt: &impl Abort, steps: &mut Steps<M>) {
+/// Weights and sums that grow by products.
+fn grown<M: Ledger>(rt: &impl Abort, steps: &mut Steps<M>) {
+    // Weights that grow, a group and a rest of them, some to the ends.
     let mut weights = [32767i16, -32768, 0, 100, 0, 0, 0, 0, 5];
     let window = [-32768i16, 32767, 2, -3, 32767, 1, 0, 4, -32768];
     update_weights(-32768, &window, &mut weights, steps);
@@ -123,6 +132,10 @@ fn grown_weights<M: Ledger>(rt: &impl Abort, steps: &mut Steps<M>) {
     let mut longer = [0, i32::MAX, i32::MIN, 7, 1];
     update_weights(1 << 30, &[8, i32::MAX, i32::MIN, -1, 4], &mut longer, steps);
     assert_same!(rt; longer, [4, i32::MAX, i32::MIN, 5, 3]);
+    // Nine sums grow by their products, which wrap.
+    let mut sums = [i64::MAX; 9];
+    Lanes::<i16, 8>::mac(2, &[1, -1, 0, 3, 4, 5, 6, 7, -32768], &mut sums, steps);
+    assert_same!(rt; sums, GROWN_SUMS);
 }
 
 /// Every second output, four at a time and one more, by narrow taps, and by the least ones.
@@ -158,27 +171,14 @@ fn no_samples<M: Ledger>(steps: &mut Steps<M>)
     Lanes::<i16, 8>::clip(&[], 0, 1, &mut []);
 }
 
-/// Nine sums grow by their products, which wrap.
-fn grown_sums<M: Ledger>(rt: &impl Abort, steps: &mut Steps<M>) {
-    let mut sums = [i64::MAX; 9];
-    Lanes::<i16, 8>::mac(2, &[1, -1, 0, 3, 4, 5, 6, 7, -32768], &mut sums, steps);
-    assert_same!(rt; sums[0], i64::MIN + 1);
-    assert_same!(rt; sums[1], i64::MAX - 2);
-    assert_same!(rt; sums[2], i64::MAX);
-    assert_same!(rt; sums[8], i64::MAX - 65536);
-}
-
 /// The calls that count their products.
 pub(crate) fn counted<M: Ledger>(rt: &impl Abort, steps: &mut Steps<M>) {
     q7_products(rt, steps);
     q31_dot(rt, steps);
     q15_rows(rt, steps);
-    q15_group(rt, steps);
-    q15_factors(rt, steps);
+    q15_outputs(rt, steps);
     halves_of_sums(rt, steps);
-    q15_least(rt, steps);
-    grown_weights(rt, steps);
+    grown(rt, steps);
     every_second(rt, steps);
-    grown_sums(rt, steps);
     no_samples(steps);
 }

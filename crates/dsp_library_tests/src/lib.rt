@@ -11,6 +11,24 @@ macro_rules! assert_same {
     };
 }
 
+/// Ends the test where a condition does not hold, and shows its text. It is a call for the same reason;
+/// the test knows the condition from then on.
+#[cfg(test)]
+macro_rules! assert_holds {
+    ($rt:expr; $condition:expr) => {
+        crate::same::holds(&$rt, $condition, stringify!($condition))
+    };
+}
+
+/// Ends the test where a call has not given so many values, or where its whole output is then another.
+/// One call serves for both, and the test knows the count from then on.
+#[cfg(test)]
+macro_rules! assert_gives {
+    ($rt:expr; $call:expr, $count:expr, $output:expr, $wanted:expr) => {
+        crate::same::gave(&$rt, $call, $count, &$output, &$wanted)
+    };
+}
+
 #[cfg(test)]
 mod adapt;
 #[cfg(test)]

@@ -20,10 +20,8 @@ fn sums<M: Ledger>(rt: &impl Abort, alloc: Global, steps: &mut Steps<M>) {
     let mut filter = Grouped::<i16>::new(alloc, op, 3).expect(rt, "a filter");
     let mut output = [7i16; 4];
     assert_same!(rt; filter.room(3), 4);
-    assert_same!(rt; filter.process(&[1, 2, 3], &mut output, steps), 2);
-    assert_same!(rt; output, [2, 32767, 7, 7]);
-    assert_same!(rt; filter.process(&[4, 5], &mut output, steps), 2);
-    assert_same!(rt; output, [4, 32767, 7, 7]);
+    assert_gives!(rt; filter.process(&[1, 2, 3], &mut output, steps), 2, output, [2, 32767, 7, 7]);
+    assert_gives!(rt; filter.process(&[4, 5], &mut output, steps), 2, output, [4, 32767, 7, 7]);
     assert_same!(rt;
         (filter.finish(&mut output, steps), filter.is_ended()),
         (0, true)
@@ -37,8 +35,10 @@ fn turned<M: Ledger>(rt: &impl Abort, alloc: Global, steps: &mut Steps<M>) {
     let mut filter = Grouped::<i32>::new(alloc, op, 4).expect(rt, "a filter");
     let mut output = [0i32; 8];
     assert_same!(rt; filter.room(4), 8);
-    assert_same!(rt; filter.process(&[1, 2, 3, 4], &mut output, steps), 4);
-    assert_same!(rt; output, [1, 3, 2, 4, 0, 0, 0, 0]);
+    assert_gives!(rt;
+        filter.process(&[1, 2, 3, 4], &mut output, steps),
+        4, output, [1, 3, 2, 4, 0, 0, 0, 0]
+    );
 }
 
 /// Products of groups of two, of which the open one is kept.
@@ -58,12 +58,12 @@ fn products_go_on<M: Ledger>(rt: &impl Abort, alloc: Global, steps: &mut Steps<M
     let kept = [6i64];
     let mut output = [3i16, 7];
     let mut filter = GroupedMult::new(alloc, 1, 2, 1, &[16384, 16384], 2).expect(rt, "a filter");
-    assert!(rt; !filter.fits(&[0, 0]) && !filter.fits(&[32768]));
-    assert!(rt; filter.fits(&kept));
+    assert_holds!(rt; !filter.fits(&[0, 0]));
+    assert_holds!(rt; !filter.fits(&[32768]));
+    assert_holds!(rt; filter.fits(&kept));
     filter.restore(&kept);
     assert_same!(rt; filter.room(2), 2);
-    assert_same!(rt; filter.process(&[8, 10], &mut output, steps), 1);
-    assert_same!(rt; output, [7, 7]);
+    assert_gives!(rt; filter.process(&[8, 10], &mut output, steps), 1, output, [7, 7]);
 }
 
 /// The slice calls.
@@ -103,10 +103,10 @@ pub(crate) fn counted<M: Ledger>(rt: &impl Abort, alloc: Global, steps: &mut Ste
 #[test]
 fn faults_of_products(rt: HostRuntime) {
     let alloc = rt.alloc();
-    assert!(rt; is_range(GroupedMult::new(alloc, 0, 65, 1, &[], 0), 0));
-    assert!(rt; is_range(GroupedMult::new(alloc, 1, 65, 0, &[], 0), 65));
-    assert!(rt; is_length(GroupedMult::new(alloc, 1, 2, 3, &[], 0), 0, 6));
-    assert!(rt; is_range(GroupedMult::new(alloc, 1, 1, 1, &[7], 0), 0));
+    assert_holds!(rt; is_range(GroupedMult::new(alloc, 0, 65, 1, &[], 0), 0));
+    assert_holds!(rt; is_range(GroupedMult::new(alloc, 1, 65, 0, &[], 0), 65));
+    assert_holds!(rt; is_length(GroupedMult::new(alloc, 1, 2, 3, &[], 0), 0, 6));
+    assert_holds!(rt; is_range(GroupedMult::new(alloc, 1, 1, 1, &[7], 0), 0));
 }
 
 #[test]
@@ -118,12 +118,12 @@ fn faults_of_scales(rt: HostRuntime) {
         fract: 32768,
         shift: 16,
     };
-    assert!(rt; is_range(Grouped::<i16>::new(alloc, scale, 0), 32768));
+    assert_holds!(rt; is_range(Grouped::<i16>::new(alloc, scale, 0), 32768));
     let scale = GroupOp::Scale {
         rows: 1,
         columns: 1,
         fract: 1,
         shift: -1,
     };
-    assert!(rt; is_range(Grouped::<i32>::new(alloc, scale, 0), -1));
+    assert_holds!(rt; is_range(Grouped::<i32>::new(alloc, scale, 0), -1));
 }

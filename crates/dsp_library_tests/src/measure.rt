@@ -20,8 +20,8 @@ fn power_is<T: MeasureSample, L: Ledger>(
     assert_same!(rt; first.kept_count(), 1);
     first.keep(&mut kept);
     let mut second = Power::<T>::new();
-    assert!(rt; !second.fits(&[]));
-    assert!(rt; second.fits(&kept));
+    assert_holds!(rt; !second.fits(&[]));
+    assert_holds!(rt; second.fits(&kept));
     second.restore(&kept);
     second.put(rest, steps);
     assert_same!(rt; second.value(), wanted);
@@ -58,7 +58,8 @@ fn dot_is<T: MeasureSample, L: Ledger>(
     assert_same!(rt; first.kept_count(), 1);
     first.keep(&mut kept);
     let mut second = Dot::<T>::new();
-    assert!(rt; !second.fits(&[]) && second.fits(&kept));
+    assert_holds!(rt; !second.fits(&[]));
+    assert_holds!(rt; second.fits(&kept));
     second.restore(&kept);
     second.put(rest.0, rest.1, steps);
     assert_same!(rt; second.value(), wanted);
@@ -91,40 +92,44 @@ fn dots<L: Ledger>(rt: &impl Abort, steps: &mut Steps<L>) {
 fn complex_dots<L: Ledger>(rt: &impl Abort, steps: &mut Steps<L>) {
     let mut first = CmplxDot::<i16>::new();
     first.put(&[16384, 0], &[16384, 0], steps);
-    assert!(rt; first.value() == (4194304, 0));
+    assert_same!(rt; first.value(), (4194304, 0));
     let mut kept = [0i64; 2];
     assert_same!(rt; first.kept_count(), 2);
     first.keep(&mut kept);
     let mut second = CmplxDot::<i16>::new();
-    assert!(rt; second.fits(&kept) && !second.fits(&[0]));
+    assert_holds!(rt; second.fits(&kept));
+    assert_holds!(rt; !second.fits(&[0]));
     second.restore(&kept);
-    assert!(rt; second.value() == (4194304, 0));
+    assert_same!(rt; second.value(), (4194304, 0));
     let mut wide = CmplxDot::<i32>::new();
     wide.put(&[3, 2147483647], &[-4, 2147483647], steps);
-    assert!(rt; wide.value() == (-281474976448513, -131073));
+    assert_same!(rt; wide.value(), (-281474976448513, -131073));
 }
 
 #[test]
 fn extremes_of_signals(rt: HostRuntime) {
     let mut least = Min::<i8>::new();
-    assert!(rt; least.value().is_none());
+    assert_holds!(rt; least.value().is_none());
     least.put(&[-128, 5]);
     let mut kept = [0i64; 4];
     assert_same!(rt; least.kept_count(), 4);
     least.keep(&mut kept);
-    assert!(rt; kept == [1, -128, 0, 2]);
+    assert_same!(rt; kept, [1, -128, 0, 2]);
     let mut greatest = Max::<i8>::new();
     greatest.put(&[-128, 5, -128]);
-    assert!(rt; greatest.value() == Some((5, 1)));
+    assert_same!(rt; greatest.value(), Some((5, 1)));
 }
 
 /// Numbers that an extreme keeps, and those that it never does.
 #[test]
 fn kept_extremes(rt: HostRuntime) {
     let least = Min::<i8>::new();
-    assert!(rt; least.fits(&[1, -128, 0, 2]) && least.fits(&[0, 0, 0, 0]));
-    assert!(rt; !least.fits(&[1, -129, 0, 2]) && !least.fits(&[1, 5, 2, 2]));
-    assert!(rt; !least.fits(&[0, 0, 0, 1]) && !least.fits(&[0]));
+    assert_holds!(rt; least.fits(&[1, -128, 0, 2]));
+    assert_holds!(rt; least.fits(&[0, 0, 0, 0]));
+    assert_holds!(rt; !least.fits(&[1, -129, 0, 2]));
+    assert_holds!(rt; !least.fits(&[1, 5, 2, 2]));
+    assert_holds!(rt; !least.fits(&[0, 0, 0, 1]));
+    assert_holds!(rt; !least.fits(&[0]));
 }
 
 /// An extreme goes on where another one was kept, and the first of two that are as good stays.
@@ -132,10 +137,10 @@ fn kept_extremes(rt: HostRuntime) {
 fn an_extreme_goes_on(rt: HostRuntime) {
     let kept = [1i64, -128, 0, 2];
     let mut least = Min::<i8>::new();
-    assert!(rt; least.fits(&kept));
+    assert_holds!(rt; least.fits(&kept));
     least.restore(&kept);
     least.put(&[-128]);
-    assert!(rt; least.value() == Some((-128, 0)));
+    assert_same!(rt; least.value(), Some((-128, 0)));
 }
 
 /// The calls that count their products.

@@ -24,28 +24,24 @@ fn keeps<M: Ledger>(rt: &impl Abort, alloc: Global, steps: &mut Steps<M>) {
     let mut kept = [0i64; 2];
     let mut filter = by_two(rt, alloc);
     assert_same!(rt; (filter.room(3), filter.kept_count()), (2, 2));
-    assert_same!(rt; filter.process(&[2, 4, 6], &mut output, steps), 1);
-    assert_same!(rt; output, [1, 7, 7]);
+    assert_gives!(rt; filter.process(&[2, 4, 6], &mut output, steps), 1, output, [1, 7, 7]);
     filter.keep(&mut kept);
     assert_same!(rt; kept, [6, 1]);
 }
 
-/// Numbers that no such decimator keeps: too few, one that is no sample, and groups that are not open.
-fn refuses(rt: &impl Abort, alloc: Global) {
-    let filter = by_two(rt, alloc);
-    assert!(rt; !filter.fits(&[6]) && !filter.fits(&[32768, 1]));
-    assert!(rt; !filter.fits(&[6, 2]) && !filter.fits(&[6, -1]));
-}
-
-/// The open group goes on in another decimator. One that is open at the end gives nothing.
+/// A decimator takes no numbers that none keeps: too few, one that is no sample, and groups that are not
+/// open. An open group goes on in another one, and gives nothing where it is open at the end.
 fn goes_on<M: Ledger>(rt: &impl Abort, alloc: Global, steps: &mut Steps<M>) {
     let kept = [6i64, 1];
     let mut output = [7i16; 3];
     let mut filter = by_two(rt, alloc);
-    assert!(rt; filter.fits(&kept));
+    assert_holds!(rt; !filter.fits(&[6]));
+    assert_holds!(rt; !filter.fits(&[32768, 1]));
+    assert_holds!(rt; !filter.fits(&[6, 2]));
+    assert_holds!(rt; !filter.fits(&[6, -1]));
+    assert_holds!(rt; filter.fits(&kept));
     filter.restore(&kept);
-    assert_same!(rt; filter.process(&[8], &mut output, steps), 1);
-    assert_same!(rt; output, [3, 7, 7]);
+    assert_gives!(rt; filter.process(&[8], &mut output, steps), 1, output, [3, 7, 7]);
     assert_same!(rt; filter.process(&[10], &mut output, steps), 0);
     assert_same!(rt;
         (filter.finish(&mut output, steps), filter.is_ended()),
@@ -77,8 +73,7 @@ fn phases<M: Ledger>(rt: &impl Abort, alloc: Global, steps: &mut Steps<M>) {
     let mut kept = [0i64; 1];
     let mut first = Interpolate::<i16, 8>::new(alloc, 2, &taps, 2).expect(rt, "an interpolator");
     assert_same!(rt; first.room(2), 4);
-    assert_same!(rt; first.process(&[4, 8], &mut output, steps), 4);
-    assert_same!(rt; output, [2, 1, 6, 2, 7]);
+    assert_gives!(rt; first.process(&[4, 8], &mut output, steps), 4, output, [2, 1, 6, 2, 7]);
     assert_same!(rt; first.kept_count(), 1);
     first.keep(&mut kept);
     assert_same!(rt; kept, [8]);
@@ -96,16 +91,15 @@ fn phases_go_on<M: Ledger>(rt: &impl Abort, alloc: Global, steps: &mut Steps<M>)
         rt,
         "an interpolator",
     );
-    assert!(rt; !second.fits(&[]) && !second.fits(&[32768]));
-    assert!(rt; second.fits(&kept));
+    assert_holds!(rt; !second.fits(&[]));
+    assert_holds!(rt; !second.fits(&[32768]));
+    assert_holds!(rt; second.fits(&kept));
     second.restore(&kept);
-    assert_same!(rt; second.process(&[0], &mut output, steps), 2);
-    assert_same!(rt; output, [4, 0, 7]);
+    assert_gives!(rt; second.process(&[0], &mut output, steps), 2, output, [4, 0, 7]);
 }
 
 pub(crate) fn counted<M: Ledger>(rt: &impl Abort, alloc: Global, steps: &mut Steps<M>) {
     keeps(rt, alloc, steps);
-    refuses(rt, alloc);
     goes_on(rt, alloc, steps);
     few_turns(rt, alloc, steps);
     phases(rt, alloc, steps);
@@ -115,12 +109,12 @@ pub(crate) fn counted<M: Ledger>(rt: &impl Abort, alloc: Global, steps: &mut Ste
 #[test]
 fn faults(rt: HostRuntime) {
     let alloc = rt.alloc();
-    assert!(rt; is_length(Decimate::<i16, 8>::new(alloc, 0, &[], 0), 0, 1));
-    assert!(rt; is_range(Decimate::<i16, 8>::new(alloc, 0, &[1], 1048577), 0));
-    assert!(rt; is_range(Decimate::<i32, 4>::new(alloc, 255, &[1], 1048577), 1048577));
+    assert_holds!(rt; is_length(Decimate::<i16, 8>::new(alloc, 0, &[], 0), 0, 1));
+    assert_holds!(rt; is_range(Decimate::<i16, 8>::new(alloc, 0, &[1], 1048577), 0));
+    assert_holds!(rt; is_range(Decimate::<i32, 4>::new(alloc, 255, &[1], 1048577), 1048577));
     assert!(rt; Decimate::<i16, 8>::new(alloc, 255, &[1; MAX_TAPS], MAX_SAMPLES).is_ok());
-    assert!(rt; is_length(Interpolate::<i16, 8>::new(alloc, 2, &[1, 2, 3], 0), 3, 2));
-    assert!(rt; is_length(Interpolate::<i32, 4>::new(alloc, 0, &[], 4), 0, 1));
-    assert!(rt; is_range(Interpolate::<i32, 4>::new(alloc, 0, &[1], 0), 0));
+    assert_holds!(rt; is_length(Interpolate::<i16, 8>::new(alloc, 2, &[1, 2, 3], 0), 3, 2));
+    assert_holds!(rt; is_length(Interpolate::<i32, 4>::new(alloc, 0, &[], 4), 0, 1));
+    assert_holds!(rt; is_range(Interpolate::<i32, 4>::new(alloc, 0, &[1], 0), 0));
     assert!(rt; Interpolate::<i16, 8>::new(alloc, 255, &[1; MAX_TAPS / 255 * 255], 1).is_ok());
 }

@@ -122,7 +122,8 @@ fn shifted_samples(rt: HostRuntime) {
         (-5, -1, -3),
         (9, 0, 9),
     ] {
-        assert!(rt; -7 <= places && places <= 7);
+        assert_holds!(rt; -7 <= places);
+        assert_holds!(rt; places <= 7);
         assert_same!(rt; i8::shift(x, places), wanted);
     }
     for (x, places, wanted) in [
@@ -136,7 +137,8 @@ fn shifted_samples(rt: HostRuntime) {
         (-1001, -1, -501),
         (7, 0, 7),
     ] {
-        assert!(rt; -15 <= places && places <= 15);
+        assert_holds!(rt; -15 <= places);
+        assert_holds!(rt; places <= 15);
         assert_same!(rt; i16::shift(x, places), wanted);
     }
     for (x, places, wanted) in [
@@ -150,7 +152,8 @@ fn shifted_samples(rt: HostRuntime) {
         (-3, -1, -2),
         (5, 0, 5),
     ] {
-        assert!(rt; -31 <= places && places <= 31);
+        assert_holds!(rt; -31 <= places);
+        assert_holds!(rt; places <= 31);
         assert_same!(rt; i32::shift(x, places), wanted);
     }
 }
@@ -167,7 +170,8 @@ fn scaled<M: Ledger>(rt: &impl Abort, steps: &mut Steps<M>) {
         (-1, 1, -8, -1),
         (127, 127, -8, 0),
     ] {
-        assert!(rt; -8 <= places && places <= 7);
+        assert_holds!(rt; -8 <= places);
+        assert_holds!(rt; places <= 7);
         assert_same!(rt; i8::scale(x, fract, places, steps), wanted);
     }
     for (x, fract, places, wanted) in [
@@ -180,7 +184,8 @@ fn scaled<M: Ledger>(rt: &impl Abort, steps: &mut Steps<M>) {
         (-1, 1, -16, -1),
         (32767, 32767, -16, 0),
     ] {
-        assert!(rt; -16 <= places && places <= 15);
+        assert_holds!(rt; -16 <= places);
+        assert_holds!(rt; places <= 15);
         assert_same!(rt; i16::scale(x, fract, places, steps), wanted);
     }
 }
@@ -201,7 +206,8 @@ fn scaled_words<M: Ledger>(rt: &impl Abort, steps: &mut Steps<M>) {
         (65536, 65536, 30, i32::MAX),
         (65536, -65536, 30, i32::MIN),
     ] {
-        assert!(rt; -31 <= places && places <= 30);
+        assert_holds!(rt; -31 <= places);
+        assert_holds!(rt; places <= 30);
         assert_same!(rt; i32::scale(x, fract, places, steps), wanted);
     }
 }
@@ -318,7 +324,7 @@ fn numbers_shifted_down(rt: HostRuntime) {
         (1, 126, 0),
         (-1, 126, -1),
     ] {
-        assert!(rt; places <= 126);
+        assert_holds!(rt; places <= 126);
         assert_same!(rt; floor_shift(value, places), wanted);
     }
 }

@@ -7,27 +7,22 @@ use dsp_vector::{
 use std::process::Abort;
 use std::sync::ledger::Ledger;
 
-/// Products of samples and by a factor, in Q7.
-fn products_7<M: Ledger>(rt: &impl Abort, steps: &mut Steps<M>) {
+/// Products of samples and by a factor, in each format.
+fn products<M: Ledger>(rt: &impl Abort, steps: &mut Steps<M>) {
+    // Products of samples and by a factor, in Q7.
     let mut q7 = [0i8; 17];
     vec_mult(&[-128i8; 17], &[-128; 17], &mut q7, steps);
     assert_same!(rt; q7, [127; 17]);
     let mut three = [0i8; 3];
     vec_scale(&[-128i8, 127, 0], -128, 7, &mut three, steps);
     assert_same!(rt; three, [127, -128, 0]);
-}
-
-/// The same in Q15.
-fn products_15<M: Ledger>(rt: &impl Abort, steps: &mut Steps<M>) {
+    // The same in Q15.
     let mut q15 = [0i16; 3];
     vec_mult(&[-17i16, -16, 18], &[-32768; 3], &mut q15, steps);
     assert_same!(rt; q15, [17, 16, -18]);
     vec_scale(&[32766i16, 1, 0], -32768, 15, &mut q15, steps);
     assert_same!(rt; q15, [-32768, -32768, 0]);
-}
-
-/// And in Q31.
-fn products_31<M: Ledger>(rt: &impl Abort, steps: &mut Steps<M>) {
+    // And in Q31.
     let mut q31 = [0i32; 3];
     let a = [2147483647, -1073741824, i32::MIN];
     let b = [-207310279, -338202006, i32::MIN];
@@ -39,9 +34,7 @@ fn products_31<M: Ledger>(rt: &impl Abort, steps: &mut Steps<M>) {
 
 /// Calls on slices that count their products.
 pub(crate) fn counted<M: Ledger>(rt: &impl Abort, steps: &mut Steps<M>) {
-    products_7(rt, steps);
-    products_15(rt, steps);
-    products_31(rt, steps);
+    products(rt, steps);
 }
 
 #[test]

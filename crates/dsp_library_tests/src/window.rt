@@ -1,34 +1,31 @@
 //! Callers of dsp_window.
 use dsp_window::Window;
-use std::test::Fail;
 
 #[test]
-fn lends_the_past_and_the_block(rt: HostRuntime) -> Result<(), Fail> {
-    let mut window = Window::<i16>::new(rt.alloc(), 2, 4)?;
+fn lends_the_past_and_the_block(rt: HostRuntime) {
+    let mut window = Window::<i16>::new(rt.alloc(), 2, 4).expect(&rt, "memory");
     window.push_block(&[5, 6, 7]);
     window.push_block(&[8]);
     assert_same!(rt; window.slice(), [6, 7, 8].as_slice());
     let mut kept = [0; 2];
     window.keep(&mut kept);
     assert_same!(rt; kept, [7, 8]);
-    Ok(())
 }
 
 #[test]
-fn goes_on_from_kept_samples(rt: HostRuntime) -> Result<(), Fail> {
-    let mut window = Window::<i16>::new(rt.alloc(), 2, 4)?;
-    assert!(rt; !window.fits(&[40000, 0]) && !window.fits(&[1]));
-    assert!(rt; window.fits(&[7, 8]));
+fn goes_on_from_kept_samples(rt: HostRuntime) {
+    let mut window = Window::<i16>::new(rt.alloc(), 2, 4).expect(&rt, "memory");
+    assert_holds!(rt; !window.fits(&[40000, 0]));
+    assert_holds!(rt; !window.fits(&[1]));
+    assert_holds!(rt; window.fits(&[7, 8]));
     window.restore(&[7, 8]);
     window.push_block(&[9]);
     assert_same!(rt; window.slice(), [7, 8, 9].as_slice());
-    Ok(())
 }
 
 #[test]
-fn has_no_past_and_no_samples(rt: HostRuntime) -> Result<(), Fail> {
-    let mut window = Window::<i16>::new(rt.alloc(), 0, 1)?;
+fn has_no_past_and_no_samples(rt: HostRuntime) {
+    let mut window = Window::<i16>::new(rt.alloc(), 0, 1).expect(&rt, "memory");
     window.push_block(&[]);
     assert_same!(rt; window.slice(), [].as_slice());
-    Ok(())
 }

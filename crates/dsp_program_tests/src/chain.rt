@@ -121,15 +121,15 @@ fn gives<L: Ledger>(
     let mut given = Vec::new(alloc);
     let mut taken = 0;
     for piece in frames.chunks(2 * block as usize) {
-        assert!(rt; piece.len() % 2 == 0);
-        assert!(rt; piece.len() as u64 <= 2 * block);
+        assert_holds!(rt; piece.len() % 2 == 0);
+        assert_holds!(rt; piece.len() as u64 <= 2 * block);
         let count = feed_piece(rt, alloc, &mut chain, piece, &mut out, &mut steps);
         taken += piece.len() as u64 / 2;
-        assert!(rt; taken < 100);
+        assert_holds!(rt; taken < 100);
         given.extend_from_slice(&out[..count]).expect(rt, "memory");
     }
     assert_same!(rt; given.as_slice(), wanted);
-    assert!(rt; chain.window_fault(0).is_none());
+    assert_holds!(rt; chain.window_fault(0).is_none());
     assert_same!(rt; chain.finish(&mut out, &mut steps), 0);
 }
 
@@ -157,8 +157,8 @@ fn resumes<L: Ledger>(rt: &impl Abort, alloc: Global, blank: Blank, script: &Scr
     // Each filter keeps the last frame that came to it, the left channel before the right one.
     assert_eq!(rt; kept.as_slice(), [-1000, 3, -500, 1].as_slice());
     let mut next = Chain::new(alloc, script, 2).expect(rt, "memory");
-    assert!(rt; !next.fits(2, &kept[..3]));
-    assert!(rt; next.fits(2, &kept));
+    assert_holds!(rt; !next.fits(2, &kept[..3]));
+    assert_holds!(rt; next.fits(2, &kept));
     next.restore(2, &kept);
     let count = feed_piece(rt, alloc, &mut next, &[400, -16], &mut out, &mut steps);
     assert_same!(rt; &out[..count], [-25, -4].as_slice());

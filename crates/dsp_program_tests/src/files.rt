@@ -1,5 +1,7 @@
 //! Whole runs over real files, and over a disk that is full.
 use crate::full_disk::FullDisk;
+use crate::memory::words_of;
+use crate::same::same_count;
 use dsp_blocks::BlockUnit;
 use dsp_cli::Words;
 use dsp_files::{FilePorts, FileSink, FileSource, run_files};
@@ -9,25 +11,44 @@ use std::fs::{self, Files};
 use std::io::{self, Print};
 use std::marker::Brand;
 use std::os::unix::fs::symlink;
+use std::process::Abort;
 use std::sync::ledger::Blank;
-use std::test::Fail;
 
 /// What the program answers to these words, with a counter of its own.
-fn answer(alloc: Global, rt: &(impl Files + Print), texts: &[&str]) -> Result<u8, AllocError> {
-    let mut words = Words::new(alloc);
-    for text in texts {
-        words.push(text)?;
-    }
-    let mut ports = FilePorts::new(alloc, rt, &words)?;
-    Ok(run_files::<BlockUnit, _, Brand>(alloc, &words, &mut ports, Blank::new(2)))
+fn answer(alloc: Global, rt: &(impl Files + Print), words: &Words) -> Result<u8, AllocError> {
+    let mut ports = FilePorts::new(alloc, rt, words)?;
+    Ok(run_files::<BlockUnit, _, Brand>(alloc, words, &mut ports, Blank::new(2)))
+}
+
+/// Compares what the program answers to these words over the files of this disk.
+fn answers(
+    rt: &impl Abort,
+    alloc: Global,
+    disk: &(impl Files + Print),
+    texts: &[&str],
+    status: u8,
+) {
+    let words = words_of(rt, alloc, texts);
+    let found = answer(alloc, disk, &words).expect(rt, "memory");
+    assert_same!(rt; found, status);
+}
+
+/// Makes a file of these bytes.
+fn make(rt: &(impl Files + Abort), name: &str, bytes: &[u8]) {
+    fs::write(rt, name, bytes).expect(rt, "a file");
+}
+
+/// Compares the bytes of a file that was read.
+fn has(rt: &impl Abort, found: io::Result<Vec<u8>>, bytes: &[u8]) {
+    let found = found.expect(rt, "a file");
+    assert_same!(rt; found.as_slice(), bytes);
 }
 
 /// Removes what a test wrote.
-fn remove(rt: &impl Files, names: &[&str]) -> io::Result<()> {
+fn remove(rt: &(impl Files + Abort), names: &[&str]) {
     for name in names {
-        fs::remove_file(rt, *name)?;
+        fs::remove_file(rt, *name).expect(rt, "a file");
     }
-    Ok(())
 }
 
 /// A file that declares four bytes of samples and has three.
@@ -40,193 +61,182 @@ const SHORT: &[u8] = &[
 const SCRIPT: &[u8] = b"dspfx 1 input raw q15 1 8000 fir {16384} output raw\n";
 
 #[test]
-fn a_run_over_real_files_writes_its_output(rt: HostRuntime) -> Result<(), Fail> {
-    fs::write(&rt, "first.txt", SCRIPT)?;
-    fs::write(
+fn a_run_over_real_files_writes_its_output(rt: HostRuntime) {
+    make(&rt, "first.txt", SCRIPT);
+    make(&rt, "first.raw", &[0xE8, 0x03, 0x18, 0xFC, 0xFF, 0xFF]);
+    answers(
         &rt,
-        "first.raw",
-        [0xE8, 0x03, 0x18, 0xFC, 0xFF, 0xFF].as_slice(),
-    )?;
-    let status = answer(
         rt.alloc(),
         &rt,
         &["run", "first.txt", "first.raw", "halved.raw"],
-    )?;
-    assert_same!(rt; status, 0);
-    let written = fs::read(&rt, "halved.raw")?;
-    assert_same!(rt;
-        written.as_slice(),
-        [0xF4, 0x01, 0x0C, 0xFE, 0xFF, 0xFF].as_slice()
+        0,
     );
-    remove(&rt, &["first.txt", "first.raw", "halved.raw"])?;
-    Ok(())
+    has(
+        &rt,
+        fs::read(&rt, "halved.raw"),
+        &[0xF4, 0x01, 0x0C, 0xFE, 0xFF, 0xFF],
+    );
+    remove(&rt, &["first.txt", "first.raw", "halved.raw"]);
 }
 
 #[test]
-fn a_generated_input_needs_no_file(rt: HostRuntime) -> Result<(), Fail> {
-    fs::write(
+fn a_generated_input_needs_no_file(rt: HostRuntime) {
+    make(
         &rt,
         "generated.txt",
         b"dspfx 1 input raw q15 1 8000 output raw\n",
-    )?;
-    let status = answer(
+    );
+    answers(
+        &rt,
         rt.alloc(),
         &rt,
         &["gen", "0", "3", "generated.txt", "made.raw"],
-    )?;
-    assert_same!(rt; status, 0);
-    let written = fs::read(&rt, "made.raw")?;
-    assert_same!(rt;
-        written.as_slice(),
-        [0x6E, 0x3C, 0x50, 0x47, 0xCC, 0xD1].as_slice()
+        0,
     );
-    remove(&rt, &["generated.txt", "made.raw"])?;
-    Ok(())
+    has(
+        &rt,
+        fs::read(&rt, "made.raw"),
+        &[0x6E, 0x3C, 0x50, 0x47, 0xCC, 0xD1],
+    );
+    remove(&rt, &["generated.txt", "made.raw"]);
 }
 
 #[test]
-fn a_file_is_copied_by_its_ports(rt: HostRuntime) -> Result<(), Fail> {
-    fs::write(&rt, "from.raw", [1, 2, 3].as_slice())?;
+fn a_file_is_copied_by_its_ports(rt: HostRuntime) {
+    make(&rt, "from.raw", &[1, 2, 3]);
     let mut source = FileSource::new(&rt, "from.raw");
-    let mut sink = FileSink::new(rt.alloc(), &rt, "to.raw", "", "from.raw")?;
+    let mut sink = FileSink::new(rt.alloc(), &rt, "to.raw", "", "from.raw").expect(&rt, "memory");
     let mut bytes = [0; 4];
     assert_same!(rt; source.read(&mut bytes).ok(), Some(3));
     assert_same!(rt; sink.write(&bytes[..3]).ok(), Some(3));
-    assert!(rt; sink.flush().is_ok());
-    let written = fs::read(&rt, "to.raw")?;
-    assert_same!(rt; written.as_slice(), [1, 2, 3].as_slice());
-    remove(&rt, &["from.raw", "to.raw"])?;
-    Ok(())
+    assert_holds!(rt; sink.flush().is_ok());
+    has(&rt, fs::read(&rt, "to.raw"), &[1, 2, 3]);
+    remove(&rt, &["from.raw", "to.raw"]);
 }
 
 /// A file of many reads and writes is made, and copied: so that what is read ahead and gathered is whole.
 #[test]
-fn a_long_file_is_copied_whole(rt: HostRuntime) -> Result<(), Fail> {
-    fs::write(
+fn a_long_file_is_copied_whole(rt: HostRuntime) {
+    make(
         &rt,
         "copy.txt",
         b"dspfx 1 input raw q15 1 8000 block 300 output raw\n",
-    )?;
-    let status = answer(
+    );
+    answers(
+        &rt,
         rt.alloc(),
         &rt,
         &["gen", "7", "50000", "copy.txt", "long.raw"],
-    )?;
-    assert_same!(rt; status, 0);
-    let made = fs::read(&rt, "long.raw")?;
-    assert_eq!(rt; made.len(), 100000);
+        0,
+    );
+    let made = fs::read(&rt, "long.raw").expect(&rt, "a file");
+    same_count(&rt, made.len(), 100000);
     assert_same!(rt; &made[16384..16388], [0x42, 0x57, 0x4F, 0x43].as_slice());
     assert_same!(rt; &made[32768..32772], [0x63, 0x41, 0xC4, 0x2C].as_slice());
     assert_same!(rt; &made[65536..65540], [0xA7, 0x85, 0xAF, 0xAF].as_slice());
     assert_same!(rt; &made[99996..], [0x2E, 0xDA, 0x49, 0xF6].as_slice());
-    let status = answer(
+    answers(
+        &rt,
         rt.alloc(),
         &rt,
         &["run", "copy.txt", "long.raw", "copied.raw"],
-    )?;
-    assert_same!(rt; status, 0);
-    let copied = fs::read(&rt, "copied.raw")?;
+        0,
+    );
+    let copied = fs::read(&rt, "copied.raw").expect(&rt, "a file");
     assert_same!(rt; copied.as_slice(), made.as_slice());
-    remove(&rt, &["copy.txt", "long.raw", "copied.raw"])?;
-    Ok(())
+    remove(&rt, &["copy.txt", "long.raw", "copied.raw"]);
 }
 
 /// The output of the whole blocks stands in the file where the input ends too early.
 #[test]
-fn a_short_input_leaves_its_blocks(rt: HostRuntime) -> Result<(), Fail> {
-    fs::write(
+fn a_short_input_leaves_its_blocks(rt: HostRuntime) {
+    make(
         &rt,
         "short.txt",
         b"dspfx 1 input wave q7 1 block 2 output raw\n",
-    )?;
-    fs::write(&rt, "short.wav", SHORT)?;
-    let status = answer(
+    );
+    make(&rt, "short.wav", SHORT);
+    answers(
+        &rt,
         rt.alloc(),
         &rt,
         &["run", "short.txt", "short.wav", "short.raw"],
-    )?;
-    assert_same!(rt; status, 4);
-    let written = fs::read(&rt, "short.raw")?;
-    assert_same!(rt; written.as_slice(), [0x01, 0x02].as_slice());
-    remove(&rt, &["short.txt", "short.wav", "short.raw"])?;
-    Ok(())
+        4,
+    );
+    has(&rt, fs::read(&rt, "short.raw"), &[0x01, 0x02]);
+    remove(&rt, &["short.txt", "short.wav", "short.raw"]);
 }
 
 #[test]
-fn a_missing_input_leaves_no_output(rt: HostRuntime) -> Result<(), Fail> {
-    fs::write(&rt, "second.txt", SCRIPT)?;
-    let status = answer(
+fn a_missing_input_leaves_no_output(rt: HostRuntime) {
+    make(&rt, "second.txt", SCRIPT);
+    answers(
+        &rt,
         rt.alloc(),
         &rt,
         &["run", "second.txt", "missing.raw", "none.raw"],
-    )?;
-    assert_same!(rt; status, 7);
-    assert!(rt; fs::read(&rt, "none.raw").is_err());
-    remove(&rt, &["second.txt"])?;
-    Ok(())
+        7,
+    );
+    assert_holds!(rt; fs::read(&rt, "none.raw").is_err());
+    remove(&rt, &["second.txt"]);
 }
 
 #[test]
-fn an_empty_input_makes_an_empty_output(rt: HostRuntime) -> Result<(), Fail> {
-    fs::write(&rt, "third.txt", SCRIPT)?;
-    fs::write(&rt, "empty.raw", b"")?;
-    fs::write(&rt, "old.raw", b"old")?;
-    let status = answer(
+fn an_empty_input_makes_an_empty_output(rt: HostRuntime) {
+    make(&rt, "third.txt", SCRIPT);
+    make(&rt, "empty.raw", b"");
+    make(&rt, "old.raw", b"old");
+    answers(
+        &rt,
         rt.alloc(),
         &rt,
         &["run", "third.txt", "empty.raw", "old.raw"],
-    )?;
-    assert_same!(rt; status, 0);
-    let written = fs::read(&rt, "old.raw")?;
-    assert_same!(rt; written.len(), 0);
-    remove(&rt, &["third.txt", "empty.raw", "old.raw"])?;
-    Ok(())
+        0,
+    );
+    has(&rt, fs::read(&rt, "old.raw"), b"");
+    remove(&rt, &["third.txt", "empty.raw", "old.raw"]);
 }
 
 /// A disk that is full from the first byte on: the output cannot be written, and no sample is asked for.
 #[test]
-fn a_full_disk_ends_a_run_at_its_first_write(rt: HostRuntime) -> Result<(), Fail> {
-    let (status, written) = short_run_on_a_disk(&rt, 0)?;
-    assert_same!(rt; status, 8);
-    assert_same!(rt; written, 0);
-    Ok(())
+fn a_full_disk_ends_a_run_at_its_first_write(rt: HostRuntime) {
+    short_run_on_a_disk(&rt, rt.alloc(), 0, 8);
+    has(&rt, fs::read(&rt, "full.raw"), b"");
+    remove(&rt, &["full.txt", "full.wav", "full.raw"]);
 }
 
 /// What a stopped run has accepted cannot be written after it, and that is answered in place of the run's status.
 #[test]
-fn a_short_input_on_a_full_disk_is_not_written(rt: HostRuntime) -> Result<(), Fail> {
-    let (status, written) = short_run_on_a_disk(&rt, 1)?;
-    assert_same!(rt; status, 8);
-    assert_same!(rt; written, 1);
-    let (status, written) = short_run_on_a_disk(&rt, 3)?;
-    assert_same!(rt; status, 4);
-    assert_same!(rt; written, 3);
-    Ok(())
+fn a_short_input_on_a_full_disk_is_not_written(rt: HostRuntime) {
+    short_run_on_a_disk(&rt, rt.alloc(), 1, 8);
+    has(&rt, fs::read(&rt, "full.raw"), &[0x01]);
+    short_run_on_a_disk(&rt, rt.alloc(), 3, 4);
+    has(&rt, fs::read(&rt, "full.raw"), &[0x01, 0x02, 0x03]);
+    remove(&rt, &["full.txt", "full.wav", "full.raw"]);
 }
 
-/// Writes three blocks of one byte each, of an input that is short, to a disk with so many bytes of room: the status, and the
-/// bytes that stand.
-fn short_run_on_a_disk(rt: &HostRuntime, room: u64) -> Result<(u8, usize), Fail> {
-    fs::write(
+/// Writes three blocks of one byte each, of an input that is short, to a disk with so many bytes of
+/// room, and compares the status.
+fn short_run_on_a_disk(rt: &(impl Files + Print + Abort), alloc: Global, room: u64, status: u8) {
+    make(
         rt,
         "full.txt",
         b"dspfx 1 input wave q7 1 block 1 output raw\n",
-    )?;
-    fs::write(rt, "full.wav", SHORT)?;
+    );
+    make(rt, "full.wav", SHORT);
     let disk = FullDisk { files: rt, room };
-    let status = answer(
-        rt.alloc(),
+    answers(
+        rt,
+        alloc,
         &disk,
         &["run", "full.txt", "full.wav", "full.raw"],
-    )?;
-    let written = fs::read(rt, "full.raw")?;
-    remove(rt, &["full.txt", "full.wav", "full.raw"])?;
-    Ok((status, written.len()))
+        status,
+    );
 }
 
 /// Each name of a file that is read as well is refused as an output, and the file stays as it is.
 #[test]
-fn an_output_that_is_read_stays_as_it_is(rt: HostRuntime) -> Result<(), Fail> {
+fn an_output_that_is_read_stays_as_it_is(rt: HostRuntime) {
     let commands: &[&[&str]] = &[
         &["run", "kept.txt", "kept.raw", "./kept.raw"],
         &["run", "kept.txt", "kept.raw", "hard.raw"],
@@ -240,26 +250,22 @@ fn an_output_that_is_read_stays_as_it_is(rt: HostRuntime) -> Result<(), Fail> {
         &["convert", "wave", "au", "kept.wav", "./kept.wav"],
         &["convert", "wave", "au", "kept.wav", "folder/kept.wav"],
     ];
-    fs::write(&rt, "kept.txt", SCRIPT)?;
-    fs::write(&rt, "kept.raw", [1, 2, 3, 4].as_slice())?;
-    fs::write(&rt, "kept.wav", &SHORT[..46])?;
-    fs::hard_link(&rt, "kept.raw", "hard.raw")?;
-    symlink(&rt, "kept.raw", "soft.raw")?;
-    symlink(&rt, ".", "folder")?;
+    make(&rt, "kept.txt", SCRIPT);
+    make(&rt, "kept.raw", &[1, 2, 3, 4]);
+    make(&rt, "kept.wav", &SHORT[..46]);
+    fs::hard_link(&rt, "kept.raw", "hard.raw").expect(&rt, "a file");
+    symlink(&rt, "kept.raw", "soft.raw").expect(&rt, "a file");
+    symlink(&rt, ".", "folder").expect(&rt, "a file");
     for words in commands {
-        assert_same!(rt; answer(rt.alloc(), &rt, words)?, 8);
+        answers(&rt, rt.alloc(), &rt, words, 8);
     }
-    let script = fs::read(&rt, "kept.txt")?;
-    assert_same!(rt; script.as_slice(), SCRIPT);
-    let input = fs::read(&rt, "kept.raw")?;
-    assert_same!(rt; input.as_slice(), [1, 2, 3, 4].as_slice());
-    let wave = fs::read(&rt, "kept.wav")?;
-    assert_same!(rt; wave.len(), 46);
+    has(&rt, fs::read(&rt, "kept.txt"), SCRIPT);
+    has(&rt, fs::read(&rt, "kept.raw"), &[1, 2, 3, 4]);
+    has(&rt, fs::read(&rt, "kept.wav"), &SHORT[..46]);
     remove(
         &rt,
         &[
             "kept.txt", "kept.raw", "kept.wav", "hard.raw", "soft.raw", "folder",
         ],
-    )?;
-    Ok(())
+    );
 }

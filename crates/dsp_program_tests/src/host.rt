@@ -2,6 +2,7 @@
 ghost use Rattle.std.specs.Prelude.{◌≡◌, ◌+◌, ◌*◌, ◌<◌, ◌≤◌, IfSome, IsFalse, length};
 ghost use Rattle.dsp_session.specs.Session.{IsReady, SameSession, frame_bytes, input_coding};
 
+use crate::same::same_count;
 use dsp_blocks::BlockUnit;
 use dsp_defs::{Fmt, Measure, Script, Steps};
 use dsp_script::{legal, parse};
@@ -11,7 +12,6 @@ use std::alloc::Global;
 use std::marker::Brand;
 use std::process::Abort;
 use std::sync::ledger::{Blank, Ledger};
-use std::test::Fail;
 
 /// The script of a text, where it can run in blocks of two frames.
 fn script_of(alloc: Global, text: &[u8]) -> Option<Script>
@@ -39,10 +39,10 @@ fn frames_of(rt: &impl Abort, bytes: &[u8], frame: usize) -> usize
     ensures whole { length bytes.now ≡ result * frame }
     ensures few { result ≤ 2 }
 {
-    assert!(rt; frame > 0);
+    assert_holds!(rt; frame > 0);
     let count = bytes.len() / frame;
-    assert!(rt; count <= 2);
-    assert!(rt; count * frame == bytes.len());
+    assert_holds!(rt; count <= 2);
+    assert_holds!(rt; count * frame == bytes.len());
     count
 }
 
@@ -87,7 +87,7 @@ fn end_gives<L: Ledger>(
 
 /// Compares the first measure, of the script's third block, with a sum of squares.
 fn power_is(rt: &impl Abort, session: &Session<BlockUnit>, value: i64) {
-    assert_eq!(rt; session.measures(), 1);
+    same_count(rt, session.measures(), 1);
     let power = Measure::Power {
         number: 3,
         channel: 0,
@@ -98,11 +98,7 @@ fn power_is(rt: &impl Abort, session: &Session<BlockUnit>, value: i64) {
 
 /// The samples 1000, -1000 and 400 are halved to x. Of that come a half of x(n) and of x(n-2), and a
 /// quarter of x(n-3): 250, -250, 350, and behind the last sample -125, -25, 50.
-fn three_samples_and_a_tail<L: Ledger>(
-    rt: &impl Abort,
-    alloc: Global,
-    blank: Blank,
-) -> Result<(), Fail>
+fn three_samples_and_a_tail<L: Ledger>(rt: &impl Abort, alloc: Global, blank: Blank)
     requires name { blank.name ≡ L.name }
     requires parts { blank.parts ≡ 2 }
     requires ledger_parts { L.parts ≡ 2 }
@@ -110,9 +106,9 @@ fn three_samples_and_a_tail<L: Ledger>(
     let mut steps = Steps::<L>::new(blank);
     let text =
         b"dspfx 1 input raw q15 1 8000 fir {16384} conv {16384 0 16384 8192} power output raw";
-    let script = script_of(alloc, text).ok_or("a script")?;
+    let script = script_of(alloc, text).expect(rt, "a script");
     let frame = frame_size(&script);
-    let mut session = Session::new(alloc, script, 2)?;
+    let mut session = Session::new(alloc, script, 2).expect(rt, "memory");
     feed_frames(
         rt,
         &mut session,
@@ -137,21 +133,20 @@ fn three_samples_and_a_tail<L: Ledger>(
         &mut steps,
     );
     power_is(rt, &session, 266_250);
-    Ok(())
 }
 
 /// Samples of 24 bits, 512 and -2, and then the ends of their range, are 256 times as much in Q31, and
 /// are halved.
-fn samples_of_24_bits<L: Ledger>(rt: &impl Abort, alloc: Global, blank: Blank) -> Result<(), Fail>
+fn samples_of_24_bits<L: Ledger>(rt: &impl Abort, alloc: Global, blank: Blank)
     requires name { blank.name ≡ L.name }
     requires parts { blank.parts ≡ 2 }
     requires ledger_parts { L.parts ≡ 2 }
 {
     let mut steps = Steps::<L>::new(blank);
     let text = b"dspfx 1 input wave q31 2 fir {1073741824} output raw";
-    let script = script_of(alloc, text).ok_or("a script")?;
-    assert!(rt; script.input.format == Fmt::Q31);
-    let mut session = Session::new(alloc, script, 2)?;
+    let script = script_of(alloc, text).expect(rt, "a script");
+    assert_holds!(rt; script.input.format == Fmt::Q31);
+    let mut session = Session::new(alloc, script, 2).expect(rt, "memory");
     session.set_coding(Coding::Wave24);
     let frame = session.frame_bytes();
     feed_frames(
@@ -163,15 +158,14 @@ fn samples_of_24_bits<L: Ledger>(rt: &impl Abort, alloc: Global, blank: Blank) -
         &mut steps,
     );
     end_gives(rt, &mut session, &[], &mut steps);
-    Ok(())
 }
 
 #[test]
-fn a_session_is_fed_by_hand(rt: HostRuntime) -> Result<(), Fail> {
-    three_samples_and_a_tail::<Brand>(&rt, rt.alloc(), Blank::new(2))
+fn a_session_is_fed_by_hand(rt: HostRuntime) {
+    three_samples_and_a_tail::<Brand>(&rt, rt.alloc(), Blank::new(2));
 }
 
 #[test]
-fn a_session_takes_the_coding_of_a_header(rt: HostRuntime) -> Result<(), Fail> {
-    samples_of_24_bits::<Brand>(&rt, rt.alloc(), Blank::new(2))
+fn a_session_takes_the_coding_of_a_header(rt: HostRuntime) {
+    samples_of_24_bits::<Brand>(&rt, rt.alloc(), Blank::new(2));
 }

@@ -12,6 +12,15 @@ macro_rules! assert_same {
     };
 }
 
+/// Ends the test where a condition does not hold, and shows its text. It is a call for the same reason;
+/// the test knows the condition from then on.
+#[cfg(test)]
+macro_rules! assert_holds {
+    ($rt:expr; $condition:expr) => {
+        crate::same::holds(&$rt, $condition, stringify!($condition))
+    };
+}
+
 #[cfg(test)]
 mod au;
 #[cfg(test)]
@@ -22,6 +31,8 @@ mod files;
 mod full_disk;
 #[cfg(test)]
 mod host;
+#[cfg(test)]
+mod memory;
 #[cfg(test)]
 mod ports;
 #[cfg(test)]

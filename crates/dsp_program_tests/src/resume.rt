@@ -3,9 +3,9 @@
 ghost use Rattle.std.specs.Prelude.{◌≡◌, IfSome};
 ghost use Rattle.dsp_session.specs.Session.{IsReady};
 
+use crate::memory::{sink_of, source_of};
 use dsp_blocks::BlockUnit;
 use dsp_defs::{Measure, Script, StateKind, Steps};
-use dsp_ports::{MemSink, MemSource};
 use dsp_resume::Resume;
 use dsp_script::{legal, parse};
 use dsp_session::{Session, stream};
@@ -14,7 +14,6 @@ use std::alloc::Global;
 use std::marker::Brand;
 use std::process::Abort;
 use std::sync::ledger::{Blank, Ledger};
-use std::test::Fail;
 
 /// Blocks with a state of each kind, on two channels.
 const EVERY_STATE: &[u8] =
@@ -50,6 +49,11 @@ struct Written {
     measures: Vec<Measure>,
 }
 
+/// A copy of bytes.
+fn copied(rt: &impl Abort, alloc: Global, bytes: &[u8]) -> Vec<u8> {
+    bytes.to_vec(alloc).expect(rt, "memory")
+}
+
 /// What one run of a script writes and finds.
 fn run_whole<L: Ledger>(
     rt: &impl Abort,
@@ -57,20 +61,20 @@ fn run_whole<L: Ledger>(
     text: &[u8],
     input: &[u8],
     steps: &mut Steps<L>,
-) -> Result<Written, Fail> {
-    let script = script_of(alloc, text).ok_or("a script")?;
-    let mut source = MemSource::new(alloc, input, 64, &[])?;
-    let mut sink = MemSink::new(alloc, 512, 64, &[])?;
-    let mut session = Session::<BlockUnit>::new(alloc, script, 4)?;
-    assert!(rt; stream(&mut session, &mut source, &mut sink, steps).is_ok());
+) -> Written {
+    let script = script_of(alloc, text).expect(rt, "a script");
+    let mut source = source_of(rt, alloc, input, 64, &[]);
+    let mut sink = sink_of(rt, alloc, 512, 64, &[]);
+    let mut session = Session::<BlockUnit>::new(alloc, script, 4).expect(rt, "memory");
+    assert_holds!(rt; stream(&mut session, &mut source, &mut sink, steps).is_ok());
     let mut measures = Vec::new(alloc);
     for index in 0..session.measures() {
-        measures.push(session.measure(index))?;
+        measures.push(session.measure(index)).expect(rt, "memory");
     }
-    Ok(Written {
-        output: sink.bytes().to_vec(alloc)?,
+    Written {
+        output: copied(rt, alloc, sink.bytes()),
         measures,
-    })
+    }
 }
 
 /// Stops a run after so many frames, and returns what it wrote, and its state.
@@ -81,15 +85,18 @@ fn run_first<L: Ledger>(
     frames: u32,
     input: &[u8],
     steps: &mut Steps<L>,
-) -> Result<(Vec<u8>, Vec<u8>), Fail> {
-    let script = script_of(alloc, text).ok_or("a script")?;
-    let mut source = MemSource::new(alloc, input, 3, &[])?;
-    let mut sink = MemSink::new(alloc, 512, 5, &[])?;
+) -> (Vec<u8>, Vec<u8>) {
+    let script = script_of(alloc, text).expect(rt, "a script");
+    let mut source = source_of(rt, alloc, input, 3, &[]);
+    let mut sink = sink_of(rt, alloc, 512, 5, &[]);
     let Ok(mut run) = Resume::<BlockUnit>::new(alloc, script, 4, frames) else {
         panic!(rt; "memory");
     };
-    assert!(rt; run.stop(&mut source, &mut sink, steps).is_ok());
-    Ok((sink.bytes().to_vec(alloc)?, run.state().to_vec(alloc)?))
+    assert_holds!(rt; run.stop(&mut source, &mut sink, steps).is_ok());
+    (
+        copied(rt, alloc, sink.bytes()),
+        copied(rt, alloc, run.state()),
+    )
 }
 
 /// Loads a state, compares its frames, and goes on from it over the same input.
@@ -100,47 +107,46 @@ fn run_rest<L: Ledger>(
     frames: u32,
     input: &[u8],
     steps: &mut Steps<L>,
-) -> Result<Written, Fail> {
+) -> Written {
     let Ok(saved) = load::<BlockUnit>(alloc, state) else {
         panic!(rt; "a state");
     };
-    assert!(rt; saved.frames() == frames);
-    let mut source = MemSource::new(alloc, input, 5, &[])?;
-    let mut sink = MemSink::new(alloc, 512, 3, &[])?;
-    assert!(rt; legal(saved.script(), 4));
-    let mut run = Resume::<BlockUnit>::from_saved(alloc, saved, 4)?;
-    assert!(rt; run.go(&mut source, &mut sink, steps).is_ok());
+    assert_holds!(rt; saved.frames() == frames);
+    let mut source = source_of(rt, alloc, input, 5, &[]);
+    let mut sink = sink_of(rt, alloc, 512, 3, &[]);
+    assert_holds!(rt; legal(saved.script(), 4));
+    let mut run = Resume::<BlockUnit>::from_saved(alloc, saved, 4).expect(rt, "memory");
+    assert_holds!(rt; run.go(&mut source, &mut sink, steps).is_ok());
     let mut measures = Vec::new(alloc);
     for index in 0..run.measures() {
-        measures.push(run.measure(index))?;
+        measures.push(run.measure(index)).expect(rt, "memory");
     }
-    Ok(Written {
-        output: sink.bytes().to_vec(alloc)?,
+    Written {
+        output: copied(rt, alloc, sink.bytes()),
         measures,
-    })
+    }
 }
 
 /// Stops blocks with states of all kinds after each number of frames, and compares both parts with one run.
-fn play_states<L: Ledger>(rt: &impl Abort, alloc: Global, blank: Blank) -> Result<(), Fail>
+fn play_states<L: Ledger>(rt: &impl Abort, alloc: Global, blank: Blank)
     requires name { blank.name ≡ L.name }
     requires parts { blank.parts ≡ 2 }
     requires ledger_parts { L.parts ≡ 2 }
 {
     let mut steps = Steps::<L>::new(blank);
-    let whole = run_whole(rt, alloc, EVERY_STATE, INPUT, &mut steps)?;
+    let whole = run_whole(rt, alloc, EVERY_STATE, INPUT, &mut steps);
     for frames in 0..10 {
-        let (mut both, state) = run_first(rt, alloc, EVERY_STATE, frames, INPUT, &mut steps)?;
-        let rest = run_rest(rt, alloc, &state, frames, INPUT, &mut steps)?;
-        both.extend_from_slice(&rest.output)?;
+        let (mut both, state) = run_first(rt, alloc, EVERY_STATE, frames, INPUT, &mut steps);
+        let rest = run_rest(rt, alloc, &state, frames, INPUT, &mut steps);
+        both.extend_from_slice(&rest.output).expect(rt, "memory");
         assert_same!(*rt; both.as_slice(), whole.output.as_slice());
         assert_same!(*rt; rest.measures.as_slice(), whole.measures.as_slice());
     }
-    Ok(())
 }
 
 #[test]
-fn states_of_all_kinds_go_on(rt: HostRuntime) -> Result<(), Fail> {
-    play_states::<Brand>(&rt, rt.alloc(), Blank::new(2))
+fn states_of_all_kinds_go_on(rt: HostRuntime) {
+    play_states::<Brand>(&rt, rt.alloc(), Blank::new(2));
 }
 
 /// Loads bytes, and compares what is wrong with them.
@@ -158,6 +164,6 @@ fn a_state_is_loaded_or_refused(rt: HostRuntime) {
     };
     assert_same!(rt; saved.frames(), 1);
     assert_same!(rt; saved.numbers(), [1000, 0, 500, 0].as_slice());
-    assert!(rt; STATE.len() == 123);
+    assert_holds!(rt; STATE.len() == 123);
     is_wrong(&rt, rt.alloc(), &STATE[..122], (StateKind::Cut, 122));
 }

@@ -1,14 +1,15 @@
 ghost use Rattle.std.specs.Prelude.{◌≡◌};
 
+use crate::memory::{sink_of, source_of, words_of};
+use crate::same::same_count;
 use dsp_blocks::BlockUnit;
 use dsp_cli::{Words, places, run};
 use dsp_defs::Steps;
 use dsp_ports::{CleanSource, MemSink, MemSource};
-use std::alloc::{AllocError, Global};
+use std::alloc::Global;
 use std::marker::Brand;
 use std::process::Abort;
 use std::sync::ledger::{Blank, Ledger};
-use std::test::Fail;
 
 /// A run over these ports with a counter of its own.
 fn counted<L: Ledger>(
@@ -31,14 +32,6 @@ fn counted<L: Ledger>(
     )
 }
 
-fn words_of(alloc: Global, texts: &[&str]) -> Result<Words, AllocError> {
-    let mut words = Words::new(alloc);
-    for text in texts {
-        words.push(text)?;
-    }
-    Ok(words)
-}
-
 const RUN: &[&str] = &["run", "s", "i", "o"];
 
 const HALVES: &[u8] = b"dspfx 1 input raw q15 1 8000 fir {16384} output raw";
@@ -46,14 +39,14 @@ const HALVES: &[u8] = b"dspfx 1 input raw q15 1 8000 fir {16384} output raw";
 const EXAMPLE: &[u8] = &[0xE8, 0x03, 0x18, 0xFC, 0xFF, 0xFF];
 
 #[test]
-fn an_input_that_never_fails_is_run(rt: HostRuntime) -> Result<(), Fail> {
+fn an_input_that_never_fails_is_run(rt: HostRuntime) {
     let alloc = rt.alloc();
-    let words = words_of(alloc, RUN)?;
-    let mut script = MemSource::new(alloc, HALVES, 7, &[])?;
-    let mut input = CleanSource::new(alloc, EXAMPLE, 3)?;
-    let mut output = MemSink::new(alloc, 64, 64, &[])?;
-    let mut report = MemSink::new(alloc, 512, 500, &[])?;
-    let mut other = MemSource::new(alloc, &[], 1, &[])?;
+    let words = words_of(&rt, alloc, RUN);
+    let mut script = source_of(&rt, alloc, HALVES, 7, &[]);
+    let mut input = CleanSource::new(alloc, EXAMPLE, 3).expect(&rt, "memory");
+    let mut output = sink_of(&rt, alloc, 64, 64, &[]);
+    let mut report = sink_of(&rt, alloc, 512, 500, &[]);
+    let mut other = source_of(&rt, alloc, &[], 1, &[]);
     let status = counted::<Brand>(
         alloc,
         &words,
@@ -69,21 +62,16 @@ fn an_input_that_never_fails_is_run(rt: HostRuntime) -> Result<(), Fail> {
         output.bytes(),
         [0xF4, 0x01, 0x0C, 0xFE, 0xFF, 0xFF].as_slice()
     );
-    Ok(())
 }
 
 /// What a gen of 100,000 frames of noise from 7 writes and reports.
-fn long_gen(
-    alloc: Global,
-    rt: &impl Abort,
-    script: &[u8],
-) -> Result<(MemSink, MemSink), AllocError> {
-    let words = words_of(alloc, &["gen", "7", "100000", "s", "o"])?;
-    let mut script = MemSource::new(alloc, script, 100, &[])?;
-    let mut input = CleanSource::new(alloc, &[], 1)?;
-    let mut output = MemSink::new(alloc, 200_000, 4096, &[])?;
-    let mut report = MemSink::new(alloc, 512, 500, &[])?;
-    let mut other = MemSource::new(alloc, &[], 1, &[])?;
+fn long_gen(alloc: Global, rt: &impl Abort, script: &[u8]) -> (MemSink, MemSink) {
+    let words = words_of(rt, alloc, &["gen", "7", "100000", "s", "o"]);
+    let mut script = source_of(rt, alloc, script, 100, &[]);
+    let mut input = CleanSource::new(alloc, &[], 1).expect(rt, "memory");
+    let mut output = sink_of(rt, alloc, 200_000, 4096, &[]);
+    let mut report = sink_of(rt, alloc, 512, 500, &[]);
+    let mut other = source_of(rt, alloc, &[], 1, &[]);
     let status = counted::<Brand>(
         alloc,
         &words,
@@ -95,7 +83,7 @@ fn long_gen(
         Blank::new(2),
     );
     assert_same!(rt; status, 0);
-    Ok((output, report))
+    (output, report)
 }
 
 /// The sums of squares were computed by the formulas, sample by sample.
@@ -109,22 +97,20 @@ const LONG_SCRIPTS: &[&[u8]] = &[
 ];
 
 #[test]
-fn a_long_gen_is_the_same_in_any_blocks(rt: HostRuntime) -> Result<(), Fail> {
-    let (first, _report) = long_gen(rt.alloc(), &rt, LONG_SCRIPTS[0])?;
+fn a_long_gen_is_the_same_in_any_blocks(rt: HostRuntime) {
+    let (first, _report) = long_gen(rt.alloc(), &rt, LONG_SCRIPTS[0]);
     assert_same!(rt; first.bytes().len(), 200_000);
     for script in LONG_SCRIPTS {
-        let (output, report) = long_gen(rt.alloc(), &rt, script)?;
-        assert!(rt; output.bytes() == first.bytes());
+        let (output, report) = long_gen(rt.alloc(), &rt, script);
+        assert_holds!(rt; output.bytes() == first.bytes());
         assert_same!(rt; report.bytes(), LONG_REPORT);
     }
-    Ok(())
 }
 
 #[test]
-fn words_are_kept_in_order(rt: HostRuntime) -> Result<(), Fail> {
-    let words = words_of(rt.alloc(), RUN)?;
-    assert_eq!(rt; words.len(), 4);
+fn words_are_kept_in_order(rt: HostRuntime) {
+    let words = words_of(&rt, rt.alloc(), RUN);
+    same_count(&rt, words.len(), 4);
     assert_same!(rt; words.word(3), "o");
     assert_same!(rt; places(&words).and_then(|places| places.output), Some(3));
-    Ok(())
 }

@@ -224,7 +224,7 @@ fn worked_lengths(rt: HostRuntime) -> Result<(), Fail> {
     let halved = b"dspfx 1 input raw q15 1 8000 decimate 2 {16384} output raw";
     let halved = script(rt.alloc(), halved)?;
     assert_same!(rt; unit(&halved), 2);
-    assert!(rt; !legal(&halved, 5));
+    assert_holds!(rt; !legal(&halved, 5));
     let third = b"dspfx 1 input raw q15 1 8000 decimate 3 {16384} output raw";
     let third = script(rt.alloc(), third)?;
     assert_same!(rt; default_block(&third), 258);

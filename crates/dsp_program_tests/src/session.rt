@@ -1,5 +1,6 @@
 ghost use Rattle.std.specs.Prelude.{◌≡◌};
 
+use crate::memory::{sink_of, source_of};
 use dsp_blocks::BlockUnit;
 use dsp_defs::{HeaderFault, Steps, WindowFault};
 use dsp_ports::{MemSink, MemSource};
@@ -8,7 +9,6 @@ use dsp_session::{Session, StreamFault, Totals, stream};
 use std::alloc::Global;
 use std::marker::Brand;
 use std::sync::ledger::{Blank, Ledger};
-use std::test::Fail;
 
 /// What a stream of a script in blocks of two frames answers over these ports, where the script can run.
 fn streamed<L: Ledger>(
@@ -104,10 +104,10 @@ const CASES: &[Case] = &[
 ];
 
 #[test]
-fn each_stream_answers_and_writes(rt: HostRuntime) -> Result<(), Fail> {
+fn each_stream_answers_and_writes(rt: HostRuntime) {
     for case in CASES {
-        let mut input = MemSource::new(rt.alloc(), case.input, 64, case.failing_reads)?;
-        let mut output = MemSink::new(rt.alloc(), 64, 64, case.failing_writes)?;
+        let mut input = source_of(&rt, rt.alloc(), case.input, 64, case.failing_reads);
+        let mut output = sink_of(&rt, rt.alloc(), 64, 64, case.failing_writes);
         let answer = streamed::<Brand>(
             rt.alloc(),
             case.script,
@@ -118,7 +118,6 @@ fn each_stream_answers_and_writes(rt: HostRuntime) -> Result<(), Fail> {
         assert_same!(rt; answer, Some(case.answer));
         assert_same!(rt; output.bytes(), case.output);
     }
-    Ok(())
 }
 
 /// How many bytes a new session of a script has given, and its window fault where nothing comes, and where

@@ -1,23 +1,24 @@
+use crate::memory::source_of;
+use crate::same::same_count;
 use dsp_defs::{Container, Fmt, Input, InputKind, Wanted};
-use dsp_ports::{MemSource, Source, fill};
+use dsp_ports::{Source, fill};
 use dsp_wave::{
     Coding, GenSource, HeaderOr, bytes_of, decode, encode, read_header, riff_size, sample_of,
     width, write_header,
 };
 use std::process::Abort;
-use std::test::Fail;
 
 mod headers;
 
 /// Three samples are read from their bytes and written back, in whole slices and one alone.
 fn both_ways(rt: &impl Abort, coding: Coding, bytes: &[u8], values: [i32; 3]) {
     let width = width(coding);
-    assert_eq!(rt; bytes.len(), 3 * width);
+    same_count(rt, bytes.len(), 3 * width);
     let mut samples = [0; 3];
     decode(coding, bytes, &mut samples);
     assert_same!(rt; samples, values);
     let mut written = [0; 12];
-    assert!(rt; bytes.len() <= 12);
+    assert_holds!(rt; bytes.len() <= 12);
     encode(coding, &samples, &mut written[..bytes.len()]);
     assert_same!(rt; &written[..bytes.len()], bytes);
 
@@ -80,17 +81,16 @@ const EXTENSIBLE: [u8; 68] =
     *b"RIFF\x3E\x00\x00\x00WAVEfmt \x28\x00\x00\x00\xFE\xFF\x01\x00\x40\x1F\x00\x00\x80\x3E\x00\x00\x02\x00\x10\x00\x16\x00\x10\x00\x00\x00\x00\x00\x01\x00\x00\x00\x00\x00\x10\x00\x80\x00\x00\xAA\x00\x38\x9B\x71data\x02\x00\x00\x00";
 
 #[test]
-fn an_extensible_header_names_linear_pcm(rt: HostRuntime) -> Result<(), Fail> {
+fn an_extensible_header_names_linear_pcm(rt: HostRuntime) {
     let header = write_header(Container::Wavex, Fmt::Q15, 1, 8000, Some(1));
     assert_same!(rt; header.as_slice(), EXTENSIBLE.as_slice());
     let wanted = Wanted {
         format: Fmt::Q15,
         channels: 1,
     };
-    let mut source = MemSource::new(rt.alloc(), &EXTENSIBLE, 7, &[])?;
+    let mut source = source_of(&rt, rt.alloc(), &EXTENSIBLE, 7, &[]);
     let read = read_header(&mut source, wanted).ok();
     assert_same!(rt; read.map(|header| header.start), Some(68));
-    Ok(())
 }
 
 /// 4,000,000,000 frames of 64 bytes are 59 * 2^32 + 2,596,929,536 bytes a second.
@@ -98,7 +98,7 @@ fn an_extensible_header_names_linear_pcm(rt: HostRuntime) -> Result<(), Fail> {
 fn a_byte_rate_is_kept_modulo_two_to_the_32(rt: HostRuntime) {
     let header = write_header(Container::Wave, Fmt::Q31, 16, 4_000_000_000, Some(0));
     let said = b"\x10\x00\x00\x28\x6B\xEE\x00\x00\xCA\x9A\x40\x00\x20\x00";
-    assert_eq!(rt; header.len(), 44);
+    same_count(&rt, header.len(), 44);
     assert_same!(rt; &header.as_slice()[22..36], said.as_slice());
 }
 
@@ -123,7 +123,7 @@ fn a_generator_gives_the_high_bits_of_its_states(rt: HostRuntime) {
         };
         let mut source = GenSource::new(&input, 0, 3);
         assert_same!(rt; fill(&mut source, &mut block, 100).ok(), Some(count));
-        assert!(rt; block.as_slice().starts_with(bytes));
+        assert_holds!(rt; block.as_slice().starts_with(bytes));
     }
 }
 

@@ -1,8 +1,7 @@
 use super::*;
+use crate::memory::source_of;
 use dsp_defs::{Header, HeaderFault, Wanted};
-use dsp_ports::MemSource;
-use std::alloc::{AllocError, Global};
-use std::test::Fail;
+use std::alloc::Global;
 
 const STEREO_Q15: Wanted = Wanted {
     format: Fmt::Q15,
@@ -14,23 +13,18 @@ const LISTED: &[u8] =
     b"RIFF\x3A\x00\x00\x00WAVEfmt \x10\x00\x00\x00\x01\x00\x02\x00\x44\xAC\x00\x00\x10\xB1\x02\x00\x04\x00\x10\x00LIST\x05\x00\x00\x00INFO!\x00data\x08\x00\x00\x00\xE8\x03\x18\xFC\x00\x00\x00\x00";
 
 /// Reads the header in small pieces and in one, and answers what both give.
-fn read(
-    rt: &impl Abort,
-    alloc: Global,
-    bytes: &[u8],
-    wanted: Wanted,
-) -> Result<Result<Header, HeaderOr>, AllocError> {
-    let mut pieces = MemSource::new(alloc, bytes, 7, &[])?;
-    let mut whole = MemSource::new(alloc, bytes, 1000, &[])?;
+fn read(rt: &impl Abort, alloc: Global, bytes: &[u8], wanted: Wanted) -> Result<Header, HeaderOr> {
+    let mut pieces = source_of(rt, alloc, bytes, 7, &[]);
+    let mut whole = source_of(rt, alloc, bytes, 1000, &[]);
     let first = read_header(&mut pieces, wanted);
     let second = read_header(&mut whole, wanted);
-    assert_eq!(rt; first, second);
-    Ok(first)
+    assert_same!(rt; first, second);
+    first
 }
 
 #[test]
-fn a_header_is_read_up_to_the_first_sample(rt: HostRuntime) -> Result<(), Fail> {
-    let mut source = MemSource::new(rt.alloc(), LISTED, 5, &[])?;
+fn a_header_is_read_up_to_the_first_sample(rt: HostRuntime) {
+    let mut source = source_of(&rt, rt.alloc(), LISTED, 5, &[]);
     let header = read_header(&mut source, STEREO_Q15);
     let wanted = Header {
         rate: 44100,
@@ -38,15 +32,14 @@ fn a_header_is_read_up_to_the_first_sample(rt: HostRuntime) -> Result<(), Fail> 
         size: Some(8),
         coding: Coding::Wave15,
     };
-    assert_eq!(rt; header, Ok(wanted));
+    assert_same!(rt; header, Ok(wanted));
     let mut samples = [0; 9];
-    assert_eq!(rt; fill(&mut source, &mut samples, 100).ok(), Some(8));
-    assert_eq!(rt; &samples[..4], b"\xE8\x03\x18\xFC".as_slice());
-    Ok(())
+    assert_same!(rt; fill(&mut source, &mut samples, 100).ok(), Some(8));
+    assert_same!(rt; &samples[..4], b"\xE8\x03\x18\xFC".as_slice());
 }
 
 #[test]
-fn a_cut_file_is_named_where_it_is_cut(rt: HostRuntime) -> Result<(), Fail> {
+fn a_cut_file_is_named_where_it_is_cut(rt: HostRuntime) {
     for (length, fault, offset) in [
         (0, HeaderFault::NotRiff, 0),
         (3, HeaderFault::NotRiff, 0),
@@ -55,19 +48,17 @@ fn a_cut_file_is_named_where_it_is_cut(rt: HostRuntime) -> Result<(), Fail> {
         (12, HeaderFault::NoSamples, 12),
         (57, HeaderFault::NoSamples, 57),
     ] {
-        let read = read(&rt, rt.alloc(), &LISTED[..length], STEREO_Q15)?;
-        assert_eq!(rt; read, Err(HeaderOr::Fault { fault, offset }));
+        let read = read(&rt, rt.alloc(), &LISTED[..length], STEREO_Q15);
+        assert_same!(rt; read, Err(HeaderOr::Fault { fault, offset }));
     }
-    Ok(())
 }
 
 #[test]
-fn a_source_that_fails_gives_no_header(rt: HostRuntime) -> Result<(), Fail> {
+fn a_source_that_fails_gives_no_header(rt: HostRuntime) {
     for number in [1, 2, 3, 4, 5] {
-        let mut source = MemSource::new(rt.alloc(), LISTED, 12, &[number])?;
-        assert_eq!(rt; read_header(&mut source, STEREO_Q15), Err(HeaderOr::Read));
+        let mut source = source_of(&rt, rt.alloc(), LISTED, 12, &[number]);
+        assert_same!(rt; read_header(&mut source, STEREO_Q15), Err(HeaderOr::Read));
     }
-    Ok(())
 }
 
 /// A `fmt ` chunk of 17 bytes with its pad byte, a second one that is not judged, and a size that is not known.
@@ -75,16 +66,15 @@ const ACCEPTED: &[u8] =
     b"RIFF\x00\x00\x00\x00WAVEfmt \x11\x00\x00\x00\x01\x00\x02\x00\x40\x1F\x00\x00\x00\x7D\x00\x00\x04\x00\x10\x00!\x00fmt \x02\x00\x00\x00\x03\x00data\xFF\xFF\xFF\xFF";
 
 #[test]
-fn a_longer_format_and_a_second_one_are_accepted(rt: HostRuntime) -> Result<(), Fail> {
+fn a_longer_format_and_a_second_one_are_accepted(rt: HostRuntime) {
     let header = Header {
         rate: 8000,
         start: 56,
         size: None,
         coding: Coding::Wave15,
     };
-    let read = read(&rt, rt.alloc(), ACCEPTED, STEREO_Q15)?;
-    assert_eq!(rt; read, Ok(header));
-    Ok(())
+    let read = read(&rt, rt.alloc(), ACCEPTED, STEREO_Q15);
+    assert_same!(rt; read, Ok(header));
 }
 
 /// A file that is no input.
@@ -355,7 +345,7 @@ const CUTS: &[Cut] = &[
 ];
 
 #[test]
-fn each_fault_is_named_at_its_place(rt: HostRuntime) -> Result<(), Fail> {
+fn each_fault_is_named_at_its_place(rt: HostRuntime) {
     for cut in CUTS {
         let wanted = Wanted {
             format: cut.format,
@@ -365,7 +355,6 @@ fn each_fault_is_named_at_its_place(rt: HostRuntime) -> Result<(), Fail> {
             fault: cut.fault,
             offset: cut.offset,
         };
-        assert_eq!(rt; read(&rt, rt.alloc(), cut.bytes, wanted)?, Err(fault));
+        assert_same!(rt; read(&rt, rt.alloc(), cut.bytes, wanted), Err(fault));
     }
-    Ok(())
 }

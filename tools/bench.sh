@@ -14,12 +14,8 @@
 # Times are of the processor, user and system. Peak memory needs gcc: a small launcher that has little
 # memory of its own tells it.
 set -u
-top=$(cd "$(dirname "$(readlink -f "${BASH_SOURCE[0]}")")/.." && pwd) || exit 70
-folder=$(mktemp -d) || exit 70
-trap 'rm -rf "$folder"' EXIT
-
-[ -n "${DSPFX:-}" ] || "$top/dspfx" prove || exit 70
-export PROGRAM=${DSPFX:-$top/build/dspfx}
+. "$(dirname "$(readlink -f "${BASH_SOURCE[0]}")")/built.sh"
+export PROGRAM=$program
 
 # launch FILE PROGRAM WORD..: writes microseconds of the processor, microseconds that passed, KiB at the
 # most and the status to the open file of that number.

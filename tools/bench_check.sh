@@ -3,12 +3,8 @@
 # and the time of 1,000,000 frames through fir of 32 taps, which is to be at most 100 times that of the run. It ends with
 # 1 where one of them is not kept. It is no part of the gate. DSPFX names another built program.
 set -u
-top=$(cd "$(dirname "$(readlink -f "${BASH_SOURCE[0]}")")/.." && pwd) || exit 70
-folder=$(mktemp -d) || exit 70
-trap 'rm -rf "$folder"' EXIT
-
-[ -n "${DSPFX:-}" ] || "$top/dspfx" prove || exit 70
-PROGRAM=${DSPFX:-$top/build/dspfx} FOLDER=$folder exec python3 - <<'PYTHON'
+. "$(dirname "$(readlink -f "${BASH_SOURCE[0]}")")/built.sh"
+PROGRAM=$program FOLDER=$folder python3 - <<'PYTHON'
 import os
 import random
 import sys

@@ -6,12 +6,8 @@
 #   DSPFX    another built program to be measured, BEFORE one more, to be measured beside it in the same passes
 #   PASSES   how often each is measured (15; the least counts)
 set -u
-top=$(cd "$(dirname "$(readlink -f "${BASH_SOURCE[0]}")")/.." && pwd) || exit 70
-folder=$(mktemp -d) || exit 70
-trap 'rm -rf "$folder"' EXIT
-
-[ -n "${DSPFX:-}" ] || "$top/dspfx" prove || exit 70
-PROGRAM=${DSPFX:-$top/build/dspfx} FOLDER=$folder exec python3 - <<'PYTHON'
+. "$(dirname "$(readlink -f "${BASH_SOURCE[0]}")")/built.sh"
+PROGRAM=$program FOLDER=$folder python3 - <<'PYTHON'
 import os
 import random
 import resource

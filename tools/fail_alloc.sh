@@ -4,12 +4,7 @@
 # first number that no allocation is left for must be done. It is no part of the gate, and needs gcc.
 # DSPFX names another built program.
 set -u
-top=$(cd "$(dirname "$(readlink -f "${BASH_SOURCE[0]}")")/.." && pwd) || exit 70
-folder=$(mktemp -d) || exit 70
-trap 'rm -rf "$folder"' EXIT
-
-[ -n "${DSPFX:-}" ] || "$top/dspfx" prove || exit 70
-program=${DSPFX:-$top/build/dspfx}
+. "$(dirname "$(readlink -f "${BASH_SOURCE[0]}")")/built.sh"
 
 cat >"$folder/refuse.c" <<'C'
 #define _GNU_SOURCE

@@ -1,15 +1,15 @@
-pub mod Items
-pub mod Endings
-pub mod Readers
-pub mod Sequences
-pub mod Options
-pub mod Judges
-pub mod Accepted
-pub mod Lists
-pub mod Numbers
-pub mod Forms
-pub mod Blocks
-pub mod Scripts
-pub mod Texts
-pub mod Faults
-pub mod Offsets
+mod Items
+mod Endings
+mod Readers
+mod Sequences
+mod Options
+mod Judges
+mod Accepted
+mod Lists
+mod Numbers
+mod Forms
+mod Blocks
+mod Scripts
+mod Texts
+mod Faults
+mod Offsets

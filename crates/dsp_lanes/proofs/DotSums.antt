@@ -1,7 +1,7 @@
 -- Sums of products that are known up to a multiple of a width.
-use Rattle.std.proofs.Common.{ℕ, ◌≡◌, ◌<◌, ◌+◌, ◌-◌, ◌*◌, ◌^◌, w32, w64, suc, List, length, map, ℤ, ◌+ℤ◌, ◌*ℤ◌, sym}
-use Rattle.std.proofs.Common.{ap, ◌∙◌, arith, slice_range, take, drop, set, pos}
-use Rattle.std.proofs.lemmas.Int.{int_wrap-add_left, int_wrap_fits, SFits-int_wrap, to_z-of_z}
+use Rattle.std.proofs.Common.{ℕ, ◌≡◌, ◌<◌, ◌+◌, ◌-◌, ◌*◌, ◌^◌, w32, w64, List, length, map, ℤ, ◌+ℤ◌, ◌*ℤ◌, sym}
+use Rattle.std.proofs.Common.{ap, ◌∙◌, arith, slice_range, take, drop, set, pos, refl, ◌≤◌}
+use Rattle.std.proofs.lemmas.Int.{int_wrap-add_left, to_z-of_z}
 use Rattle.std.proofs.lemmas.List.{length-map, get_or-take, get_or-drop, take-map, drop-map, map-set}
 use Rattle.std.specs.Int.{int_wrap}
 use lib.Signed.{mag}
@@ -10,12 +10,9 @@ use mir.Val.{SFits, to_z, of_z}
 use Rattle.dsp_defs.specs.Counts.{Counts, Rises}
 use Rattle.dsp_defs.specs.Signal.{sample, sum_below, values}
 use Rattle.dsp_defs.proofs.Signal.{sum_below_cong}
-use Rattle.dsp_lanes.specs.Rows.{row_at}
+use Rattle.dsp_lanes.specs.Rows.{row, row_at, IsRow}
 use Rattle.dsp_lanes.specs.Turns.{RisesWithin}
 use Rattle.dsp_lanes.proofs.LaneRows.{sum_below-add, rows-one}
-
-pub wrap-wrap : (w : Width) (z : ℤ) → int_wrap w (int_wrap w z) ≡ int_wrap w z
-wrap-wrap w z = int_wrap_fits w (int_wrap w z) (SFits-int_wrap w z)
 
 -- a group of products more
 pub group-more : (w : Width) (at n m : ℕ) (taps window : List ℤ) (new old : ℤ) → m ≡ at + n
@@ -31,34 +28,16 @@ group-more w at n m taps window new old next is so_far =
     ∙ ap (int_wrap w) (sum_below-add at n f)
     ∙ ap (λ k. int_wrap w (sum_below k f)) (sym next)
 
--- a product more, wrapped to a width that shows in w
-pub product-more : (w v : Width) → ((z : ℤ) → int_wrap w (int_wrap v z) ≡ int_wrap w z) →
-    (at m : ℕ) (taps window : List ℤ) (new old t x : ℤ) → m ≡ at + 1
-    → new ≡ int_wrap v (old +ℤ (t *ℤ x)) → t ≡ sample taps at → x ≡ sample window at
-    → int_wrap w old ≡ int_wrap w (sum_below at (λ k. sample taps k *ℤ sample window k))
-    → int_wrap w new ≡ int_wrap w (sum_below m (λ k. sample taps k *ℤ sample window k))
-product-more w v narrows at m taps window new old t x next is t_is x_is so_far =
-    let f : ℕ → ℤ = λ k. sample taps k *ℤ sample window k in
-    let more : suc at ≡ m = sym (next ∙ omega arith) in
-    ap (int_wrap w) is
-    ∙ narrows (old +ℤ (t *ℤ x))
-    ∙ sym (int_wrap-add_left w old (t *ℤ x))
-    ∙ (λ i. int_wrap w (so_far i +ℤ (t_is i *ℤ x_is i)))
-    ∙ int_wrap-add_left w (sum_below at f) (f at)
-    ∙ ap (λ k. int_wrap w (sum_below k f)) more
-
 -- a window that is a piece of another
-pub piece-row : {X : Type 0} (number : X → ℤ) (taps window : List X) (start count end : ℕ) → count ≡ length taps →
+piece-row_part : {X : Type 0} (number : X → ℤ) (taps : List ℤ) (window : List X) (start count end m : ℕ) → m ≤ count →
     end ≡ start + count
-    → sum_below count (λ k. sample (map number taps) k *ℤ sample (map number (slice_range window start end)) k) ≡
-    row_at (map number taps) (map number window) start
-piece-row number taps window start count end count_is end_is =
-    let products : ℕ → ℤ = λ k. sample (map number taps) k *ℤ sample (map number window) (start + k) in
-    sum_below_cong count (λ k. sample (map number taps) k *ℤ sample (map number (slice_range window start end)) k)
-    products
-    (λ k h. ap (λ v. sample (map number taps) k *ℤ v) (ap (λ e. sample (map number (slice_range window start e)) k)
-    end_is ∙ piece-sample number window start count k h))
-    ∙ ap (λ n. sum_below n products) (count_is ∙ sym (length-map taps number))
+    → sum_below m (λ k. sample taps k *ℤ sample (map number (slice_range window start end)) k) ≡
+    row taps (map number window) m start
+piece-row_part number taps window start count end m few end_is =
+    sum_below_cong m (λ k. sample taps k *ℤ sample (map number (slice_range window start end)) k)
+    (λ k. sample taps k *ℤ sample (map number window) (start + k))
+    (λ k h. ap (λ v. sample taps k *ℤ v) (ap (λ e. sample (map number (slice_range window start e)) k) end_is ∙
+    piece-sample number window start count k (omega (arith, h, few))))
   where
     piece-sample : {X : Type 0} → (number : X → ℤ) (xs : List X) (i m j : ℕ) → j < m →
         sample (map number (slice_range xs i (i + m))) j ≡ sample (map number xs) (i + j)
@@ -70,11 +49,32 @@ piece-row number taps window start count end count_is end_is =
         ∙ ap (λ l. sample l j) (sym (drop-map number i xs))
         ∙ get_or-drop i (map number xs) j (pos 0)
 
+pub piece-row : {X : Type 0} (number : X → ℤ) (taps window : List X) (start count end : ℕ) → count ≡ length taps →
+    end ≡ start + count
+    → sum_below count (λ k. sample (map number taps) k *ℤ sample (map number (slice_range window start end)) k) ≡
+    row_at (map number taps) (map number window) start
+piece-row number taps window start count end count_is end_is =
+    piece-row_part number (map number taps) window start count end count (omega arith) end_is
+    ∙ ap (λ n. row (map number taps) (map number window) n start) (count_is ∙ sym (length-map taps number))
+
+-- a group of products more in a row
+pub row-group : {X : Type 0} (w : Width) (number : X → ℤ) (taps : List ℤ) (window : List X) (start count at n : ℕ)
+    (new old : ℤ) → at + n ≤ count
+    → int_wrap w new ≡ int_wrap w (old +ℤ sum_below n (λ k. sample taps (at + k) *ℤ
+    sample (map number (slice_range window start (start + count))) (at + k)))
+    → IsRow w taps (map number window) at start old → IsRow w taps (map number window) (at + n) start new
+row-group w number taps window start count at n new old room is so_far =
+    let piece = map number (slice_range window start (start + count)) in
+    let same : (m : ℕ) → m ≤ count → sum_below m (λ k. sample taps k *ℤ sample piece k) ≡ row taps (map number window)
+    m start = λ m few. piece-row_part number taps window start count (start + count) m few refl in
+    group-more w at n (at + n) taps piece new old refl is (so_far ∙ ap (int_wrap w) (sym (same at (omega (arith, room)))))
+    ∙ ap (int_wrap w) (same (at + n) room)
+
 -- four groups, and four products, that were counted
-pub four_groups : (a b c d e : Counts) (n : ℕ) → Rises a b n 1 → Rises b c n 1 → Rises c d n 1 → Rises d e n 1 →
-    RisesWithin a e (4 * n) 4
-four_groups a b c d e n f g h i = record {
-  multiplies_rise = omega (arith, f, g, h, i);
+pub four_groups : (a b c d e : Counts) (n m : ℕ) → m ≡ n → Rises a b n 1 → Rises b c n 1 → Rises c d n 1 →
+    Rises d e n 1 → RisesWithin a e (4 * m) 4
+four_groups a b c d e n m is f g h i = record {
+  multiplies_rise = omega (arith, is, f, g, h, i);
   turns_within =
       omega (arith, f, g, h, i);
 }

@@ -14,6 +14,7 @@ use Rattle.dsp_defs.specs.Signal.{sample, sum_below, values}
 use Rattle.dsp_defs.proofs.Signal.{values_cong, values-add, sum_below_cong, sum_below-front}
 use Rattle.dsp_defs.proofs.SumLemmas.{same_numbers}
 use Rattle.dsp_lanes.specs.Regrouped.{list_sum}
+use Rattle.dsp_lanes.specs.Rows.{row, IsRow}
 
 pub chunk-values : (p n : ℕ) (xs : List ℤ) → p + n ≤ length xs → chunk p n xs ≡ values n (λ i. sample xs (p + i))
 chunk-values p n xs room =
@@ -49,10 +50,6 @@ wrap-zero w64 = sym (int_wrap_fits w64 (pos 0) (omega (arith, ints)))
 wrap-zero w128 = sym (int_wrap_fits w128 (pos 0) (omega (arith, ints)))
 
 -- ---- rows
--- the sum of j taps over the window at a place
-abbrev pub row : List ℤ → List ℤ → ℕ → ℕ → ℤ
-row taps window j place = sum_below j (λ m. sample taps m *ℤ sample window (place + m))
-
 -- one tap more, in each lane
 pub row_lanes-more : (w : Width) (at n j m : ℕ) (taps window : List ℤ) (t : ℤ) → m ≡ j + 1 → t ≡ sample taps j →
     at + j + n ≤ length window
@@ -73,17 +70,26 @@ row_lanes-more w at n j m taps window t next is room =
     ∙ ap (λ k. int_wrap w (row taps window k (at + i))) (sym step))
 
 -- one tap more, in a sum
-pub row-more : (w : Width) (at j m : ℕ) (taps window : List ℤ) (t x sum more : ℤ) → m ≡ j + 1 → t ≡ sample taps j →
-    x ≡ sample window (at + j)
-    → sum ≡ int_wrap w (row taps window j at) → more ≡ int_wrap w (sum +ℤ t *ℤ x) →
+pub row-more : (w : Width) (at j m : ℕ) (taps window : List ℤ) (sum more : ℤ) → m ≡ j + 1
+    → sum ≡ int_wrap w (row taps window j at)
+    → more ≡ int_wrap w (sum +ℤ sample taps j *ℤ sample window (at + j)) →
     more ≡ int_wrap w (row taps window m at)
-row-more w at j m taps window t x sum more next is_t is_x summed added =
+row-more w at j m taps window sum more next summed added =
     let step : m ≡ suc j = omega arith in
     added
-    ∙ ap (λ s. int_wrap w (s +ℤ t *ℤ x)) summed
-    ∙ int_wrap-add_left w (row taps window j at) (t *ℤ x)
-    ∙ (λ k. int_wrap w (row taps window j at +ℤ is_t k *ℤ is_x k))
+    ∙ ap (λ s. int_wrap w (s +ℤ sample taps j *ℤ sample window (at + j))) summed
+    ∙ int_wrap-add_left w (row taps window j at) (sample taps j *ℤ sample window (at + j))
     ∙ ap (λ k. int_wrap w (row taps window k at)) (sym step)
+
+-- the same up to a multiple of a width, where the sum is wrapped to another that keeps it
+pub row-grown : (w v : Width) → ((z : ℤ) → int_wrap w (int_wrap v z) ≡ int_wrap w z) →
+    (at j : ℕ) (taps window : List ℤ) (sum more : ℤ)
+    → more ≡ int_wrap v (sum +ℤ sample taps j *ℤ sample window (at + j))
+    → IsRow w taps window j at sum → IsRow w taps window (j + 1) at more
+row-grown w v narrows at j taps window sum more added summed =
+    let product = sample taps j *ℤ sample window (at + j) in
+    row-more w at j (j + 1) taps window (int_wrap w sum) (int_wrap w more) refl summed
+    (ap (int_wrap w) added ∙ narrows (sum +ℤ product) ∙ sym (int_wrap-add_left w sum product))
 
 -- the next group of outputs
 pub rows-group : (f : ℕ → ℤ) (at n : ℕ) (new old : List ℤ) → at + n ≤ length old → take at old ≡ values at f →

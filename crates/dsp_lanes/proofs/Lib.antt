@@ -1,22 +1,22 @@
 pub mod WordLemmas
-pub mod SumLemmas
+mod SumLemmas
 pub mod LaneOps
 pub mod LaneSums
 pub mod LaneClosings
-pub mod LaneDelays
+mod LaneDelays
 pub mod HighProducts
-pub mod WordViews
-pub mod Moves
+mod WordViews
+mod Moves
 pub mod Groups
 pub mod LaneRows
 pub mod HalfSums
-pub mod HalfProducts
+mod HalfProducts
 pub mod ProductPairs
-pub mod PairSums
-pub mod RowProducts
+mod PairSums
+mod RowProducts
 pub mod Fractions
-pub mod WeightLanes
-pub mod HighSums
-pub mod HighRows
+mod WeightLanes
+mod HighSums
+mod HighRows
 pub mod DotSums
-pub mod NarrowSums
+mod NarrowSums

@@ -19,11 +19,12 @@ use Rattle.dsp_defs.specs.Signal.{sample, sum_below, values}
 use Rattle.dsp_defs.proofs.Signal.{sum_below-front, sum_below_cong}
 use Rattle.dsp_sat.proofs.Words.{product_fits}
 use Rattle.dsp_lanes.specs.Pairs.{four, pair_sum, repeated, in_turn}
+use Rattle.dsp_lanes.specs.Rows.{row}
 use Rattle.dsp_lanes.proofs.LaneOps.{splat_bits, bits_of, widened, casts_are, casts_asked, ints_of_bits, group_fits}
 use Rattle.dsp_lanes.proofs.LaneOps.{added, multiplied, each_widens, each_pair, zip2-same}
 use Rattle.dsp_lanes.proofs.LaneSums.{map-self, plus_in, times_in, raised, raised_fit, summed_fit, lanes_read}
 use Rattle.dsp_lanes.proofs.LaneClosings.{Castable}
-use Rattle.dsp_lanes.proofs.LaneRows.{row, chunk-values}
+use Rattle.dsp_lanes.proofs.LaneRows.{chunk-values}
 use Rattle.dsp_lanes.proofs.HalfSums.{picked, evens, odds, products, evens_of_eight, odds_of_eight, each_even}
 use Rattle.dsp_lanes.proofs.HalfSums.{each_odd, length-evens, length-odds, half_fits, in_turn-zip2}
 

@@ -17,9 +17,10 @@ use Rattle.dsp_defs.specs.declared.format.Fmt.TheVariants.{Q15}
 use Rattle.dsp_lanes.specs.Narrow.{IsNarrow}
 use Rattle.dsp_lanes.specs.Pairs.{four, pair_sum, in_turn}
 use Rattle.dsp_lanes.specs.MatrixRows.{column_of, column_sum}
+use Rattle.dsp_lanes.specs.Rows.{row}
 use Rattle.dsp_lanes.proofs.LaneOps.{bits_of, cast_lanes, casts_are, casts_asked, ints_of_bits, group_fits, each_widens}
 use Rattle.dsp_lanes.proofs.LaneClosings.{Castable}
-use Rattle.dsp_lanes.proofs.LaneRows.{row, wrap-zero, chunk-values}
+use Rattle.dsp_lanes.proofs.LaneRows.{wrap-zero, chunk-values}
 use Rattle.dsp_lanes.proofs.LaneSums.{raised}
 use Rattle.dsp_lanes.proofs.HalfSums.{in_turn_of_eight, turned_eight, each_in_turn}
 use Rattle.dsp_lanes.proofs.PairSums.{narrow_wraps}

@@ -1,11 +1,12 @@
-ghost use Rattle.std.specs.Prelude.{◌≡◌, ◌<◌, ◌≤◌, ◌+◌, ◌*◌, ◌+ℤ◌, ◌*ℤ◌, ℤ, length, map};
+ghost use Rattle.std.specs.Prelude.{◌≡◌, ◌<◌, ◌≤◌, ◌+◌, ◌*◌, ℤ, length, map};
 ghost use Rattle.dsp_defs.specs.Counts.{Rises};
 ghost use Rattle.dsp_defs.specs.Numbers.{wrap};
 ghost use Rattle.dsp_defs.specs.Formats.{accumulator};
-ghost use Rattle.dsp_lanes.specs.Rows.{row_at};
+ghost use Rattle.dsp_lanes.specs.Rows.{IsRow, row_at};
 ghost use Rattle.dsp_lanes.specs.Turns.{RisesWithin, lane_turns};
 
 use crate::dot_form::DotForm;
+use crate::rows::add_one;
 use dsp_defs::Steps;
 use dsp_sat::Sample;
 use std::sync::ledger::Ledger;
@@ -19,15 +20,27 @@ pub struct Four<A> {
     pub fourth: A,
 }
 
-/// Adds a product to a sum.
+/// Adds to a sum the products of a group of taps, those from `at` on, and of the window at `start`.
 #[inline(always)]
-fn add_product<T: Sample, M: Ledger>(sum: T::Acc, tap: T, x: T, steps: &mut Steps<M>) -> T::Acc
-    ensures sum { T.total result ≡ wrap (accumulator T.format)
-        (T.total sum +ℤ (T.number tap *ℤ T.number x)) }
-    ensures steps { Rises steps.old steps.new 1 1 }
+fn add_group<T: Sample, F: DotForm<T>, M: Ledger>(
+    sums: F::Sums,
+    taps: &[T],
+    at: usize,
+    window: &[T],
+    start: usize,
+    steps: &mut Steps<M>,
+) -> F::Sums
+    requires fit { F.AreSums sums }
+    requires taps { at + F.size ≤ length taps.now }
+    requires window { start + length taps.now ≤ length window.now }
+    ensures sums { IsRow F.width (map T.number taps.now) (map T.number window.now) at start (F.value sums)
+        → IsRow F.width (map T.number taps.now) (map T.number window.now) (at + F.size) start
+        (F.value result) }
+    ensures fit { F.AreSums result }
+    ensures steps { Rises steps.old steps.new F.size 1 }
 {
-    let product = T::product(tap, x, steps);
-    T::accumulate(sum, product)
+    steps.count(F::size() as u64, 1);
+    F::add_products(sums, taps, &window[start..start + taps.len()], at)
 }
 
 /// The sums of the products of the taps and of four windows that lie `step` apart, a group of each a
@@ -56,11 +69,9 @@ pub(crate) fn four_sums<T: Sample, F: DotForm<T>, M: Ledger>(
     ensures steps { RisesWithin steps.old steps.new (4 * length taps.now)
         (4 * lane_turns F.size (length taps.now)) }
 {
-    let count = taps.len();
-    let a = &window[first..first + count];
-    let b = &window[first + step..first + step + count];
-    let c = &window[first + 2 * step..first + 2 * step + count];
-    let d = &window[first + 3 * step..first + 3 * step + count];
+    let second = first + step;
+    let third = first + 2 * step;
+    let fourth = first + 3 * step;
     let size = F::size();
     let mut parts = Four {
         first: F::no_sums(),
@@ -69,18 +80,13 @@ pub(crate) fn four_sums<T: Sample, F: DotForm<T>, M: Ledger>(
         fourth: F::no_sums(),
     };
     let mut at = 0;
-    'groups: while count - at >= size {
+    'groups: while taps.len() - at >= size {
         parts = Four {
-            first: F::add_products(parts.first, taps, a, at),
-            second: F::add_products(parts.second, taps, b, at),
-            third: F::add_products(parts.third, taps, c, at),
-            fourth: F::add_products(parts.fourth, taps, d, at),
+            first: add_group::<T, F, M>(parts.first, taps, at, window, first, steps),
+            second: add_group::<T, F, M>(parts.second, taps, at, window, second, steps),
+            third: add_group::<T, F, M>(parts.third, taps, at, window, third, steps),
+            fourth: add_group::<T, F, M>(parts.fourth, taps, at, window, fourth, steps),
         };
-        // Four times a length may be more than 64 bits hold, so each window's group is counted apart.
-        steps.count(size as u64, 1);
-        steps.count(size as u64, 1);
-        steps.count(size as u64, 1);
-        steps.count(size as u64, 1);
         at += size;
     }
     let mut sums = Four {
@@ -89,12 +95,12 @@ pub(crate) fn four_sums<T: Sample, F: DotForm<T>, M: Ledger>(
         third: F::total(parts.third),
         fourth: F::total(parts.fourth),
     };
-    'rest: while at < count {
+    'rest: while at < taps.len() {
         sums = Four {
-            first: add_product::<T, M>(sums.first, taps[at], a[at], steps),
-            second: add_product::<T, M>(sums.second, taps[at], b[at], steps),
-            third: add_product::<T, M>(sums.third, taps[at], c[at], steps),
-            fourth: add_product::<T, M>(sums.fourth, taps[at], d[at], steps),
+            first: add_one::<T, M>(sums.first, taps, at, window, first, steps),
+            second: add_one::<T, M>(sums.second, taps, at, window, second, steps),
+            third: add_one::<T, M>(sums.third, taps, at, window, third, steps),
+            fourth: add_one::<T, M>(sums.fourth, taps, at, window, fourth, steps),
         };
         at += 1;
     }

@@ -1,4 +1,4 @@
-ghost use Rattle.std.specs.Prelude.{◌≡◌, ◌+◌, ◌*◌, ◌≤◌, ◌*ℤ◌, length, map};
+ghost use Rattle.std.specs.Prelude.{◌≡◌, ◌+◌, ◌*◌, ◌<◌, ◌≤◌, ◌+ℤ◌, ◌*ℤ◌, length, map};
 ghost use Rattle.std.specs.Simd.Lanes.{put_chunk};
 ghost use Rattle.dsp_defs.specs.Numbers.{wrap};
 ghost use Rattle.dsp_defs.specs.Formats.{accumulator, close};
@@ -46,6 +46,26 @@ pub(crate) fn row_group<T: Sample, F: RowForm<T>, M: Ledger>(
     F::close(sums, out, at);
 }
 
+/// Adds to a sum the product of the tap `j` and of its sample in the window at `at`.
+#[inline(always)]
+pub(crate) fn add_one<T: Sample, M: Ledger>(
+    sum: T::Acc,
+    taps: &[T],
+    j: usize,
+    window: &[T],
+    at: usize,
+    steps: &mut Steps<M>,
+) -> T::Acc
+    requires taps { j < length taps.now }
+    requires window { at + j < length window.now }
+    ensures sum { T.total result ≡ wrap (accumulator T.format) (T.total sum
+        +ℤ sample (map T.number taps.now) j *ℤ sample (map T.number window.now) (at + j)) }
+    ensures steps { Rises steps.old steps.new 1 1 }
+{
+    let product = T::product(taps[j], window[at + j], steps);
+    T::accumulate(sum, product)
+}
+
 /// The sum of the taps over the window at `at`.
 #[inline(always)]
 pub(crate) fn row_sum<T: Sample, M: Ledger>(
@@ -62,8 +82,7 @@ pub(crate) fn row_sum<T: Sample, M: Ledger>(
 {
     let mut sum = T::empty();
     for j in 0..taps.len() {
-        let product = T::product(taps[j], window[at + j], steps);
-        sum = T::accumulate(sum, product);
+        sum = add_one::<T, M>(sum, taps, j, window, at, steps);
     }
     sum
 }

@@ -2,7 +2,7 @@ use Rattle.std.proofs.Common.{◌≡◌, ◌+◌, ◌*◌, ◌∙◌, ap, arith,
 use lib.Lanes.{put_chunk}
 use Rattle.dsp_defs.specs.Formats.{close}
 use Rattle.dsp_defs.specs.Signal.{values}
-use Rattle.dsp_lanes.proofs.LaneRows.{row}
+use Rattle.dsp_lanes.specs.Rows.{row}
 use Rattle.dsp_lanes.proofs.eights.double_group_of_eights.Goals as goal
 
 pub returns-then-this-eq8-clause-out : goal.returns-then-this-eq8-clause-out

@@ -2,7 +2,7 @@ use Rattle.std.proofs.Common.{◌≡◌, ◌+◌, ◌∙◌, ap, arith, length, 
 use lib.Lanes.{put_chunk}
 use Rattle.dsp_defs.specs.Formats.{close}
 use Rattle.dsp_defs.specs.Signal.{values}
-use Rattle.dsp_lanes.proofs.LaneRows.{row}
+use Rattle.dsp_lanes.specs.Rows.{row}
 use Rattle.dsp_lanes.proofs.eights.group_of_eights.Goals as goal
 
 pub returns-then-this-eq16-clause-out : goal.returns-then-this-eq16-clause-out

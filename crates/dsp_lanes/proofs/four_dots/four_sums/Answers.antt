@@ -1,10 +1,13 @@
-use Rattle.std.proofs.Common.{◌≡◌, ◌+◌, ◌*◌, ◌∙◌, ap, refl, arith, length, map}
+use Rattle.std.proofs.Common.{◌≡◌, ◌+◌, ◌*◌, ◌∙◌, ap, refl, arith, length, map, ℕ, ℤ}
+use Rattle.std.proofs.lemmas.List.{length-map}
 use Rattle.dsp_defs.specs.Numbers.{wrap}
 use Rattle.dsp_defs.specs.Formats.{accumulator}
-use Rattle.dsp_defs.proofs.SumLemmas.{sample-map}
+use Rattle.dsp_defs.proofs.FormatLemmas.{wrap-wrap}
+use Rattle.dsp_lanes.specs.Rows.{row}
 use Rattle.dsp_lanes.specs.Turns.{lane_turns}
-use Rattle.dsp_lanes.proofs.DotSums.{wrap-wrap, group-more, product-more, piece-row, four_groups, four_products}
+use Rattle.dsp_lanes.proofs.DotSums.{four_groups, four_products}
 use Rattle.dsp_lanes.proofs.Groups.{counted_group, counted_one, counted_all}
+use Rattle.dsp_lanes.proofs.LaneRows.{row-grown}
 use Rattle.dsp_lanes.proofs.four_dots.four_sums.Goals as goal
 
 pub groups-init : goal.groups-init
@@ -26,25 +29,27 @@ groups-init g c =
 pub groups-preserved : goal.groups-preserved
 groups-preserved g c =
     let T = g.T.Sample in
-    let w = g.F.DotForm.width in
+    let F = g.F.DotForm in
     let at = c.groups.at in
-    let n = g.F.DotForm.size in
     let taps = map T.number c.args.taps.now in
+    let window = map T.number c.args.window.now in
     let so_far = c.groups.invariant in
-    let next = ap (λ k. at + k) c.size-size.ensures in
+    let row_from : ℕ → ℕ → ℤ = λ place n. wrap F.width (row taps window n place) in
+    let next : at + F.size ≡ at + c.size-size.result = omega (arith, c.size-size.ensures) in
     record {
       within = omega arith;
-      fit_first = c.add_products.ensures.fit;
-      fit_second = c.add_products-in-groups.ensures.fit;
-      fit_third = c.add_products-in-groups-2.ensures.fit;
-      fit_fourth = c.add_products-in-groups-3.ensures.fit;
-      first = group-more w at n _ taps _ _ _ next c.add_products.ensures.sums so_far.first;
-      second = group-more w at n _ taps _ _ _ next c.add_products-in-groups.ensures.sums so_far.second;
-      third = group-more w at n _ taps _ _ _ next c.add_products-in-groups-2.ensures.sums so_far.third;
-      fourth = group-more w at n _ taps _ _ _ next c.add_products-in-groups-3.ensures.sums so_far.fourth;
+      fit_first = c.add_group.ensures.fit;
+      fit_second = c.add_group-in-groups.ensures.fit;
+      fit_third = c.add_group-in-groups-2.ensures.fit;
+      fit_fourth = c.add_group-in-groups-3.ensures.fit;
+      first = c.add_group.ensures.sums so_far.first ∙ ap (row_from c.args.first) next;
+      second = c.add_group-in-groups.ensures.sums so_far.second ∙ ap (row_from (c.args.first + c.args.step)) next;
+      third = c.add_group-in-groups-2.ensures.sums so_far.third ∙ ap (row_from (c.args.first + 2 * c.args.step)) next;
+      fourth = c.add_group-in-groups-3.ensures.sums so_far.fourth ∙ ap (row_from (c.args.first + 3 * c.args.step)) next;
       counted = counted_group _ _ _ 4 c.size-size.result at so_far.counted
-          (four_groups _ _ _ _ _ c.size-size.result c.count.ensures c.count-in-groups.ensures
-          c.count-in-groups-2.ensures c.count-in-groups-3.ensures);
+          (four_groups _ _ _ _ _ F.size c.size-size.result c.size-size.ensures c.add_group.ensures.steps
+          c.add_group-in-groups.ensures.steps c.add_group-in-groups-2.ensures.steps
+          c.add_group-in-groups-3.ensures.steps);
     }
 
 pub rest-init : goal.rest-init
@@ -62,69 +67,53 @@ rest-init g c =
 
 pub rest-preserved : goal.rest-preserved
 rest-preserved g c =
-    let T = g.T.Sample in
     let w = g.F.DotForm.width in
-    let v = accumulator T.format in
+    let v = accumulator g.T.Sample.format in
     let at = c.rest.at in
-    let taps = map T.number c.args.taps.now in
     let so_far = c.rest.invariant in
     record {
       within = omega arith;
       started = omega arith;
-      first = product-more w v c.requires.narrows at _ taps _ _ _ _ _ refl c.add_product.ensures.sum
-          (sample-map T.number c.args.taps.now at c.index-taps-at.result (omega arith) c.index-taps-at.is)
-          (sample-map T.number _ at c.index-a-at.result (omega arith) c.index-a-at.is) so_far.first;
-      second = product-more w v c.requires.narrows at _ taps _ _ _ _ _ refl c.add_product-in-rest.ensures.sum
-          (sample-map T.number c.args.taps.now at c.index-taps-at-in-rest.result (omega arith)
-          c.index-taps-at-in-rest.is) (sample-map T.number _ at c.index-b-at.result (omega arith) c.index-b-at.is)
-          so_far.second;
-      third = product-more w v c.requires.narrows at _ taps _ _ _ _ _ refl c.add_product-in-rest-2.ensures.sum
-          (sample-map T.number c.args.taps.now at c.index-taps-at-in-rest-2.result (omega arith)
-          c.index-taps-at-in-rest-2.is) (sample-map T.number _ at c.index-c-at.result (omega arith) c.index-c-at.is)
-          so_far.third;
-      fourth = product-more w v c.requires.narrows at _ taps _ _ _ _ _ refl c.add_product-in-rest-3.ensures.sum
-          (sample-map T.number c.args.taps.now at c.index-taps-at-in-rest-3.result (omega arith)
-          c.index-taps-at-in-rest-3.is) (sample-map T.number _ at c.index-d-at.result (omega arith) c.index-d-at.is)
-          so_far.fourth;
+      first = row-grown w v c.requires.narrows _ at _ _ _ _ c.add_one.ensures.sum so_far.first;
+      second = row-grown w v c.requires.narrows _ at _ _ _ _ c.add_one-in-rest.ensures.sum so_far.second;
+      third = row-grown w v c.requires.narrows _ at _ _ _ _ c.add_one-in-rest-2.ensures.sum so_far.third;
+      fourth = row-grown w v c.requires.narrows _ at _ _ _ _ c.add_one-in-rest-3.ensures.sum so_far.fourth;
       counted = counted_one _ _ _ 4 c.groups.at at _ (omega arith) refl so_far.counted
-          (four_products _ _ _ _ _ c.add_product.ensures.steps c.add_product-in-rest.ensures.steps
-          c.add_product-in-rest-2.ensures.steps c.add_product-in-rest-3.ensures.steps);
+          (four_products _ _ _ _ _ c.add_one.ensures.steps c.add_one-in-rest.ensures.steps
+          c.add_one-in-rest-2.ensures.steps c.add_one-in-rest-3.ensures.steps);
     }
 
 pub returns-clause-first : goal.returns-clause-first
 returns-clause-first g c =
     let T = g.T.Sample in
-    let w = g.F.DotForm.width in
-    let all : c.rest.at ≡ length c.args.taps.now = omega arith in
+    let taps = map T.number c.args.taps.now in
+    let all : c.rest.at ≡ length taps = omega (arith, length-map c.args.taps.now T.number) in
     c.rest.invariant.first
-    ∙ ap (wrap w) (piece-row T.number c.args.taps.now c.args.window.now c.args.first c.rest.at _ all (omega arith))
+    ∙ ap (λ n. wrap g.F.DotForm.width (row taps (map T.number c.args.window.now) n c.args.first)) all
 
 pub returns-clause-second : goal.returns-clause-second
 returns-clause-second g c =
     let T = g.T.Sample in
-    let w = g.F.DotForm.width in
-    let all : c.rest.at ≡ length c.args.taps.now = omega arith in
+    let taps = map T.number c.args.taps.now in
+    let all : c.rest.at ≡ length taps = omega (arith, length-map c.args.taps.now T.number) in
     c.rest.invariant.second
-    ∙ ap (wrap w) (piece-row T.number c.args.taps.now c.args.window.now (c.args.first + c.args.step) c.rest.at _ all
-    (omega arith))
+    ∙ ap (λ n. wrap g.F.DotForm.width (row taps (map T.number c.args.window.now) n (c.args.first + c.args.step))) all
 
 pub returns-clause-third : goal.returns-clause-third
 returns-clause-third g c =
     let T = g.T.Sample in
-    let w = g.F.DotForm.width in
-    let all : c.rest.at ≡ length c.args.taps.now = omega arith in
+    let taps = map T.number c.args.taps.now in
+    let all : c.rest.at ≡ length taps = omega (arith, length-map c.args.taps.now T.number) in
     c.rest.invariant.third
-    ∙ ap (wrap w) (piece-row T.number c.args.taps.now c.args.window.now (c.args.first + 2 * c.args.step) c.rest.at _
-    all (omega arith))
+    ∙ ap (λ n. wrap g.F.DotForm.width (row taps (map T.number c.args.window.now) n (c.args.first + 2 * c.args.step))) all
 
 pub returns-clause-fourth : goal.returns-clause-fourth
 returns-clause-fourth g c =
     let T = g.T.Sample in
-    let w = g.F.DotForm.width in
-    let all : c.rest.at ≡ length c.args.taps.now = omega arith in
+    let taps = map T.number c.args.taps.now in
+    let all : c.rest.at ≡ length taps = omega (arith, length-map c.args.taps.now T.number) in
     c.rest.invariant.fourth
-    ∙ ap (wrap w) (piece-row T.number c.args.taps.now c.args.window.now (c.args.first + 3 * c.args.step) c.rest.at _
-    all (omega arith))
+    ∙ ap (λ n. wrap g.F.DotForm.width (row taps (map T.number c.args.window.now) n (c.args.first + 3 * c.args.step))) all
 
 pub returns-clause-steps : goal.returns-clause-steps
 returns-clause-steps g c =

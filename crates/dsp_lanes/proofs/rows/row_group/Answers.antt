@@ -7,7 +7,8 @@ use lib.Lanes.{zip2, chunk, put_chunk}
 use Rattle.dsp_defs.specs.Formats.{close}
 use Rattle.dsp_defs.specs.Signal.{sample, values}
 use Rattle.dsp_defs.proofs.Signal.{values_cong}
-use Rattle.dsp_lanes.proofs.LaneRows.{row, row_lanes-more, values-zero, wrap-zero}
+use Rattle.dsp_lanes.specs.Rows.{row}
+use Rattle.dsp_lanes.proofs.LaneRows.{row_lanes-more, values-zero, wrap-zero}
 use Rattle.dsp_lanes.proofs.rows.row_group.Goals.{then-j-taps, else-j-taps}
 use Rattle.dsp_lanes.proofs.rows.row_group.Goals as goal
 

@@ -3,7 +3,8 @@ use Rattle.std.proofs.lemmas.List.{length-map, map-set, take_all}
 use Rattle.dsp_defs.specs.Formats.{close}
 use Rattle.dsp_defs.specs.Signal.{values}
 use Rattle.dsp_defs.proofs.FormatLemmas.{close-wrap}
-use Rattle.dsp_lanes.proofs.LaneRows.{row, rows-group, rows-one}
+use Rattle.dsp_lanes.specs.Rows.{row}
+use Rattle.dsp_lanes.proofs.LaneRows.{rows-group, rows-one}
 use Rattle.dsp_lanes.proofs.Groups.{counted_double, counted_group, counted_one, counted_all}
 use Rattle.dsp_lanes.proofs.lanes.Lanes.rows.Goals as goal
 

@@ -1,7 +1,7 @@
 use Rattle.std.proofs.Common.{◌^◌, ◌∙◌, ap, length, sym, w32, w64}
 use Rattle.std.specs.Int.{int_wrap, saturate_to_bits}
 use lib.Signed.{shr_z}
-use Rattle.dsp_lanes.proofs.LaneRows.{row}
+use Rattle.dsp_lanes.specs.Rows.{row}
 use Rattle.dsp_lanes.proofs.LaneSums.{map-self}
 use Rattle.dsp_lanes.proofs.PairSums.{narrow_wraps}
 use Rattle.dsp_lanes.proofs.pair_samples.I16PairSample.closes.Goals as goal

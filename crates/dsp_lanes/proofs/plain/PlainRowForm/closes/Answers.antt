@@ -1,6 +1,6 @@
 use Rattle.std.proofs.Common.{map, length}
 use Rattle.dsp_defs.proofs.FormatLemmas.{close-wrap}
-use Rattle.dsp_lanes.proofs.LaneRows.{row}
+use Rattle.dsp_lanes.specs.Rows.{row}
 use Rattle.dsp_lanes.proofs.plain.PlainRowForm.closes.Goals as goal
 
 pub returns : goal.returns

@@ -2,7 +2,8 @@ use Rattle.std.proofs.Common.{◌+◌, ◌*◌, ◌∙◌, sym, rules, SFits, w3
 use Rattle.std.specs.Int.{int_wrap}
 use Rattle.std.proofs.lemmas.Int.{int_wrap_fits}
 use Rattle.dsp_lanes.specs.Rows.{row_at}
-use Rattle.dsp_lanes.proofs.DotSums.{low_read, wrap-wrap}
+use Rattle.dsp_defs.proofs.FormatLemmas.{wrap-wrap}
+use Rattle.dsp_lanes.proofs.DotSums.{low_read}
 use Rattle.dsp_lanes.proofs.LaneClosings.{wrap-narrow}
 use Rattle.dsp_lanes.proofs.LaneSums.{map-self}
 use Rattle.dsp_lanes.proofs.PairSums.{narrow_wraps}

@@ -1,6 +1,6 @@
 use Rattle.std.proofs.Common.{◌∙◌, sym, rules, SFits, w64}
 use Rattle.std.proofs.lemmas.Int.{int_wrap_fits}
-use Rattle.dsp_lanes.proofs.DotSums.{wrap-wrap}
+use Rattle.dsp_defs.proofs.FormatLemmas.{wrap-wrap}
 use Rattle.dsp_lanes.proofs.q31.I32FilterKernels.four_dots.Goals as goal
 
 pub four_sums-requires-clause-narrows : goal.four_sums-requires-clause-narrows

@@ -2,14 +2,16 @@
 use Rattle.std.proofs.Common.{◌≡◌, ℕ, zero, suc, ◌+◌, ◌-◌, ◌*◌, ◌/◌, ◌%◌, ◌^◌, ◌<◌, ◌≤◌, ℤ, pos, List, []}
 use Rattle.std.proofs.Common.{◌∷◌, ◌++◌}
 use Rattle.std.proofs.Common.{length, take, drop, get_or, refl, sym, ap, ap₂, ◌∙◌, arith, append-nil, to_z, of_z, w8}
-use Rattle.std.proofs.Common.{w16, w32, length-drop, length-take-le, nat_abs, ◌+ℤ◌, ◌-ℤ◌}
-use Rattle.std.specs.List.{flat_map}
+use Rattle.std.proofs.Common.{subst, w16, w32, length-drop, length-take-le, nat_abs, ◌+ℤ◌, ◌-ℤ◌}
+use Rattle.std.specs.List.{flat_map, swap}
 use Rattle.std.specs.Int.{to_le_bytes, from_le_bytes, to_be_bytes, from_be_bytes}
 use Rattle.std.proofs.lemmas.Grind.{flat_map-append}
 use Rattle.std.proofs.lemmas.Int.{ints, of_z-to_z}
 use Rattle.std.proofs.lemmas.Slice.{take-put_mid, drop-put_mid}
-use Rattle.std.proofs.lemmas.List.{drop-drop, drop-take, take-take, take_all, take-append-drop}
+use Rattle.std.proofs.lemmas.List.{drop-drop, drop-take, take-take}
 use borrow.Rule.Slice.PartMut.{put_mid}
+use Rattle.std.proofs.lemmas.Simd.{pick_l_whole}
+use Rattle.std.specs.Simd.Lanes.{pick_l, put_chunk}
 use Rattle.std.proofs.lemmas.Nat.{le_bytes_2, le_bytes_4, be_bytes_2, be_bytes_4}
 use Rattle.dsp_defs.specs.Bytes.{AreBytes, width}
 use Rattle.dsp_defs.specs.Open.{IsWave}
@@ -316,3 +318,31 @@ groups_end a k w g size = rw (sym size) (omega arith)
 
 pub counted : (k w q : ℕ) → 1 ≤ w → k * w ≡ q → q / w ≡ k
 counted k w q some is = grind arith
+
+-- ---- samples of three bytes in vectors
+
+-- five samples in the other order, and the bytes that follow
+abbrev pub fives : List ℕ → List ℕ
+fives bytes = exchanged_first 5 3 bytes ++ drop 15 bytes
+
+abbrev turned : List ℕ
+turned = 2 ∷ 1 ∷ 0 ∷ 5 ∷ 4 ∷ 3 ∷ 8 ∷ 7 ∷ 6 ∷ 11 ∷ 10 ∷ 9 ∷ 14 ∷ 13 ∷ 12 ∷ 15 ∷ []
+
+pub five_samples : (bytes : List ℕ) → length bytes ≡ 16 → pick_l 0 (take 16 bytes ++ take 16 bytes) turned ≡ fives bytes
+five_samples bytes full =
+    subst (λ xs. pick_l 0 (take 16 xs ++ take 16 xs) turned ≡ fives xs) (pick_l_whole 0 bytes 16 full) refl
+
+-- three vectors written over each other, each of which leaves its last byte to the next
+abbrev pub written : List ℕ → List ℕ → List ℕ → List ℕ → List ℕ
+written bytes first second third =
+    let one = put_chunk 0 (take 16 bytes) first ++ drop 16 bytes in
+    let two = put_mid 15 16 one (put_chunk 0 (take 16 (drop 15 one)) second) in
+    put_mid 30 16 two (put_chunk 0 (take 16 (drop 30 two)) third)
+
+pub sixteen_samples : (bytes first second third : List ℕ) → length bytes ≡ 48 → first ≡ fives (take 16 bytes)
+    → second ≡ fives (take 16 (drop 15 bytes)) → third ≡ fives (take 16 (drop 30 bytes))
+    → swap (written bytes first second third) 45 47 ≡ exchanged 3 bytes
+sixteen_samples bytes first second third full one two three =
+    rw one (rw two (rw three (subst (λ xs.
+    swap (written xs (fives (take 16 xs)) (fives (take 16 (drop 15 xs))) (fives (take 16 (drop 30 xs)))) 45 47 ≡
+    exchanged 3 xs) (pick_l_whole 0 bytes 48 full) refl)))

@@ -1,8 +1,10 @@
 //! Samples from the bytes of one form of file to those of the other: the bytes of a sample change
 //! their order, and a sample of 8 bits its offset of 128.
 
-ghost use Rattle.std.specs.Prelude.{◌≡◌, ◌*◌, ◌/◌, ◌≤◌, length};
-ghost use Rattle.dsp_au.specs.Exchange.{exchanged, exchanged_sample};
+ghost use Rattle.std.specs.Prelude.{◌≡◌, ◌*◌, ◌/◌, ◌≤◌, ◌++◌, drop, length};
+ghost use Rattle.dsp_au.specs.Exchange.{exchanged, exchanged_first, exchanged_sample};
+
+use std::simd::prelude::*;
 
 /// The bytes of one sample in the other form of file.
 #[inline(always)]
@@ -38,10 +40,50 @@ fn exchange_by(width: usize, bytes: &mut [u8])
     }
 }
 
-/// The bytes that `exchange_groups` takes at a time.
-const GROUP: usize = 16;
+/// The bytes that `exchange_groups` takes at a time: whole samples of 2, 3 and 4 bytes.
+const GROUP: usize = 48;
 
-/// The same by groups of so many bytes that the compiler has one instruction for the whole group.
+/// The first 15 of 16 bytes as five samples in the other order, and the last byte as it is.
+#[inline(always)]
+fn five_exchanged(bytes: &[u8]) -> u8x16
+    requires full { length bytes.now ≡ 16 }
+    ensures lanes { result ≡ exchanged_first 5 3 bytes.now ++ drop 15 bytes.now }
+{
+    u8x16::from_slice(bytes).swizzle([2, 1, 0, 5, 4, 3, 8, 7, 6, 11, 10, 9, 14, 13, 12, 15])
+}
+
+/// A group of samples of three bytes, for which the compiler finds no instruction by itself: fifteen
+/// of them in three vectors, which all are read before one is written, and the last by itself.
+#[inline(always)]
+fn exchange_threes(bytes: &mut [u8])
+    requires full { length bytes.old ≡ GROUP }
+    ensures { bytes.new ≡ exchanged 3 bytes.old }
+{
+    let first = five_exchanged(&bytes[..16]);
+    let second = five_exchanged(&bytes[15..31]);
+    let third = five_exchanged(&bytes[30..46]);
+    first.copy_to_slice(&mut bytes[..16]);
+    second.copy_to_slice(&mut bytes[15..31]);
+    third.copy_to_slice(&mut bytes[30..46]);
+    bytes.swap(45, 47);
+}
+
+/// One group.
+#[inline(always)]
+fn exchange_group(width: usize, bytes: &mut [u8])
+    requires some { 1 ≤ width }
+    requires few { width ≤ 4 }
+    requires group { GROUP / width * width ≡ GROUP }
+    requires full { length bytes.old ≡ GROUP }
+    ensures { bytes.new ≡ exchanged width bytes.old }
+{
+    match width {
+        3 => exchange_threes(bytes),
+        _ => exchange_by(width, bytes),
+    }
+}
+
+/// The same by groups, for which the compiler has a few instructions a group.
 #[inline(always)]
 fn exchange_groups(width: usize, bytes: &mut [u8])
     requires some { 1 ≤ width }
@@ -53,7 +95,7 @@ fn exchange_groups(width: usize, bytes: &mut [u8])
     let count = bytes.len() / GROUP;
     for i in 0..count {
         let from = i * GROUP;
-        exchange_by(width, &mut bytes[from..from + GROUP]);
+        exchange_group(width, &mut bytes[from..from + GROUP]);
     }
     exchange_by(width, &mut bytes[count * GROUP..]);
 }
@@ -68,7 +110,7 @@ pub(crate) fn exchange(width: usize, bytes: &mut [u8])
     match width {
         1 => exchange_by(1, bytes),
         2 => exchange_groups(2, bytes),
-        3 => exchange_by(3, bytes),
+        3 => exchange_groups(3, bytes),
         _ => exchange_groups(4, bytes),
     }
 }

@@ -1,5 +1,5 @@
 -- What a contract sees of a chain.
-use Rattle.std.specs.Prelude.{◌≡◌, ℕ, ◌+◌, ◌≤◌, ◌<◌, ◌^◌, ◌⊎◌, ℤ, Bool, true, false, List, [], ◌++◌, length, Option}
+use Rattle.std.specs.Prelude.{◌≡◌, ℕ, ◌+◌, ◌≤◌, ◌<◌, ◌⊎◌, ℤ, Bool, true, false, List, [], ◌++◌, length, Option}
 use Rattle.std.specs.Prelude.{Some, None, is_some, IsTrue}
 use Rattle.dsp_defs.specs.Streaming.{Continues, Begins}
 use Rattle.dsp_defs.specs.Block.{Frame, live_chain, whole_chain}
@@ -12,7 +12,7 @@ use Rattle.dsp_unit.specs.Unit.{UnitState, frames_in}
 use Rattle.dsp_unit.specs.Line.{chain_products, Place, place_behind, place_room, Passes, blocks_of, InLine, AllStand, AllCount}
 use Rattle.dsp_unit.specs.Line.{AllTaken, AllFew, AllTook, AllGave, line_given, line_made, line_turns, measured_by}
 use Rattle.dsp_defs.specs.declared.fault.GatherFull.{GatherFull}
-use Rattle.dsp_defs.specs.declared.limits.TheConstants.{MAX_BLOCKS, MAX_CORRELATES, MAX_GATHERED}
+use Rattle.dsp_defs.specs.declared.limits.TheConstants.{MAX_BLOCKS, MAX_CORRELATES, MAX_GATHERED, MAX_INPUT}
 use Rattle.dsp_chain.specs.Line.{FewChannels}
 use Rattle.dsp_defs.specs.declared.measure.Measure.{Measure}
 use Rattle.dsp_defs.specs.declared.script.Block.{Block}
@@ -154,7 +154,7 @@ pub record IsWhole (c : ChainState) : Type 0 where
   pub few_channels : FewChannels c.input.channels (blocks_of c.units)
   pub few_blocks : length (blocks_of c.units) ≤ MAX_BLOCKS
   pub one_correlate : correlates (blocks_of c.units) ≤ MAX_CORRELATES
-  pub few_frames : (n : ℕ) → n ≤ 2 ^ 40 → AllFew (blocks_of c.units) n
+  pub few_frames : (n : ℕ) → n ≤ MAX_INPUT → AllFew (blocks_of c.units) n
 
 -- so is each chain, and it has so much room for its output
 pub record HasRoom (room : ℕ) (c : ChainState) : Type 0 where

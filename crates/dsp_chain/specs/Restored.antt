@@ -1,11 +1,11 @@
 -- Save and resume of a chain: the numbers that it keeps, which numbers it can keep, and what it is with them.
-use Rattle.std.specs.Prelude.{◌≡◌, ℕ, ◌≤◌, ◌^◌, ℤ, false, List, [], ◌∷◌, ◌++◌, length, flat_map, None}
+use Rattle.std.specs.Prelude.{◌≡◌, ℕ, ◌≤◌, ℤ, false, List, [], ◌∷◌, ◌++◌, length, flat_map, None}
 use Rattle.dsp_defs.specs.Block.{Frame}
 use Rattle.dsp_defs.specs.Kept.{FitsAfter, FitsBlocks, kept_of_chain}
 use Rattle.dsp_defs.specs.Shape.{live_frames, gathered}
 use Rattle.dsp_unit.specs.Unit.{UnitState, Restores}
 use Rattle.dsp_unit.specs.Line.{blocks_of}
-use Rattle.dsp_defs.specs.declared.limits.TheConstants.{MAX_GATHERED}
+use Rattle.dsp_defs.specs.declared.limits.TheConstants.{MAX_GATHERED, MAX_INPUT}
 use Rattle.dsp_chain.specs.Chain.{ChainState, ChainStandsFor, SameChain, IsLive}
 
 -- the numbers of units, one after another
@@ -17,7 +17,7 @@ kept_of c = kept_by c.units
 
 -- the chain can have been fed with so many frames, and can keep these numbers of them
 pub record FitsChain (c : ChainState) (frames : ℕ) (numbers : List ℤ) : Type 0 where
-  pub limit : frames ≤ 2 ^ 40
+  pub limit : frames ≤ MAX_INPUT
   pub gathers : gathered (blocks_of c.units) frames ≤ MAX_GATHERED
   pub fits : FitsBlocks c.input.format c.input.channels (blocks_of c.units) frames numbers
 

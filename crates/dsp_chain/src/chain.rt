@@ -50,7 +50,7 @@ impl<U: Unit + Drop> Model for Chain<U> {
 }
 
 impl<U: AnyUnit + Drop> Chain<U> {
-    ghost use Rattle.std.specs.Prelude.{◌≡◌, ◌≤◌, ◌<◌, ◌+◌, ◌^◌, ◌↔◌, List, true, false, IsTrue, IsFalse};
+    ghost use Rattle.std.specs.Prelude.{◌≡◌, ◌≤◌, ◌<◌, ◌+◌, ◌↔◌, List, true, false, IsTrue, IsFalse};
     ghost use Rattle.std.specs.Prelude.{IfOk, IfErr, IsErr, None, Some, length, take, slice_get};
     ghost use Rattle.std.specs.Option.{option_map};
     ghost use Rattle.dsp_defs.specs.Shape.{frames_behind, gathered, held, live_frames, whole_frames};
@@ -148,7 +148,7 @@ impl<U: AnyUnit + Drop> Chain<U> {
         requires running { IsFalse self.old.ended }
         requires passes { Passes self.old.input frames.now }
         requires room { place_room (output_of self.old) ≤ length out.old }
-        requires count { self.old.frames + length (frames_in self.old.input.channels frames.now) ≤ 2 ^ 40 }
+        requires count { self.old.frames + length (frames_in self.old.input.channels frames.now) ≤ MAX_INPUT }
         ensures within { IfOk result (λ given. given ≤ length out.old) }
         ensures fed { IfOk result (λ given.
             FeedsChain self.old self.new frames.now (take given out.new) steps.old steps.new) }
@@ -203,7 +203,7 @@ impl<U: AnyUnit + Drop> Chain<U> {
 
     /// The first partial convolution whose window ends past the full one, where the frames fed so far and `more` frames are the whole input.
     pub fn window_fault(&self, more: u64) -> Option<WindowFault>
-        requires { self.now.frames + more ≤ 2 ^ 40 }
+        requires { self.now.frames + more ≤ MAX_INPUT }
         ensures { option_map (λ (fault : WindowFault). (fault.end, fault.length)) result
             ≡ window_at (blocks_of self.now.units) (self.now.frames + more) }
     {
@@ -212,7 +212,7 @@ impl<U: AnyUnit + Drop> Chain<U> {
 
     /// How many frames the tail has, where the frames fed so far are the whole input.
     pub fn tail_frames(&self) -> u64
-        requires { self.now.frames ≤ 2 ^ 40 }
+        requires { self.now.frames ≤ MAX_INPUT }
         ensures { frames_behind live_frames (blocks_of self.now.units) self.now.frames + result
             ≡ frames_behind whole_frames (blocks_of self.now.units) self.now.frames }
     {
@@ -276,7 +276,7 @@ impl<U: AnyUnit + Drop> Chain<U> {
 
     /// How many numbers a chain of these blocks keeps of so many frames.
     pub fn kept_count_of(&self, frames: u64) -> u128
-        requires { frames ≤ 2 ^ 40 }
+        requires { frames ≤ MAX_INPUT }
         ensures { result ≡ kept_count_of_chain self.now.input.format self.now.input.channels
             (blocks_of self.now.units) frames }
     {
@@ -286,7 +286,7 @@ impl<U: AnyUnit + Drop> Chain<U> {
     /// The samples of a channel that the correlation would gather where so many frames are the whole
     /// input, or 0 without one.
     pub fn gathered(&self, frames: u64) -> u64
-        requires { frames ≤ 2 ^ 40 }
+        requires { frames ≤ MAX_INPUT }
         ensures { result ≡ gathered (blocks_of self.now.units) frames }
     {
         gathered(&self.links, Signal::Whole, frames)

@@ -1,4 +1,4 @@
-ghost use Rattle.std.specs.Prelude.{◌≡◌, ◌≤◌, ◌+◌, ◌*◌, ◌/◌, ◌^◌, None, [], ◌∷◌, ◌++◌, length, IsTrue};
+ghost use Rattle.std.specs.Prelude.{◌≡◌, ◌≤◌, ◌+◌, ◌*◌, ◌/◌, None, [], ◌∷◌, ◌++◌, length, IsTrue};
 ghost use Rattle.std.specs.Prelude.{IsFalse, All, FitsSigned};
 ghost use Rattle.dsp_unit.specs.Line.{place_room, blocks_of};
 ghost use Rattle.dsp_chain.specs.Chain.{output_of};
@@ -10,7 +10,7 @@ ghost use Rattle.dsp_defs.specs.declared.format.Fmt.TheVariants.{Q31};
 ghost use Rattle.dsp_defs.specs.declared.script.Block.TheVariants.{Fir};
 
 use dsp_blocks::BlockUnit;
-use dsp_defs::{Block, Blocks, Container, Fmt, Input, InputKind, List, Script, Steps};
+use dsp_defs::{Block, Blocks, Container, Fmt, Input, InputKind, List, MAX_INPUT, Script, Steps};
 use std::alloc::Global;
 use std::marker::Brand;
 use std::process::Abort;
@@ -79,7 +79,7 @@ fn feed_piece<L: Ledger>(
     requires room { place_room (output_of chain.old) ≤ length out.old }
     requires whole { length piece.now ≡ length piece.now / 2 * 2 }
     requires capacity { length piece.now / 2 ≤ chain.old.input.capacity }
-    requires count { chain.old.frames + length piece.now / 2 ≤ 2 ^ 40 }
+    requires count { chain.old.frames + length piece.now / 2 ≤ MAX_INPUT }
     ensures running { IsFalse chain.new.ended }
     ensures works { chain.new.failed ≡ None }
     ensures input { chain.new.input ≡ chain.old.input }

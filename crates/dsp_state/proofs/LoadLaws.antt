@@ -1,5 +1,5 @@
 -- What a chain of a script says of the frames and the numbers of a state.
-use Rattle.std.proofs.Common.{◌≡◌, ◌∙◌, ap, sym, subst, true, false, Bool, ℕ, ◌<◌, ◌≤◌, ◌^◌, ℤ, List, length, get_or}
+use Rattle.std.proofs.Common.{◌≡◌, ◌∙◌, ap, sym, subst, true, false, Bool, ℕ, ◌<◌, ◌≤◌, ℤ, List, length, get_or}
 use Rattle.std.proofs.Common.{Fits as FitsWidth, w8}
 use Rattle.std.specs.Prelude.{IsTrue, ◌↔◌}
 use Rattle.std.proofs.lemmas.List.Elements.{All-from_get_or}
@@ -9,7 +9,7 @@ use Rattle.dsp_defs.specs.Shape.{gathered}
 use Rattle.dsp_defs.specs.StateBytes.{IsState}
 use Rattle.dsp_defs.specs.StateFields.{HasText, HasFrames, HasNumbers, count_in, frames_in_state, numbers_in}
 use Rattle.dsp_defs.specs.StateFields.{numbers_place, state_end}
-use Rattle.dsp_defs.specs.declared.limits.TheConstants.{MAX_GATHERED, MAX_STATE}
+use Rattle.dsp_defs.specs.declared.limits.TheConstants.{MAX_GATHERED, MAX_INPUT, MAX_STATE}
 use Rattle.dsp_defs.specs.declared.script.Block.{Block}
 use Rattle.dsp_defs.specs.declared.script.Script.{Script}
 use Rattle.dsp_unit.specs.Line.{Place, blocks_of}
@@ -38,7 +38,7 @@ module _ (script : Script) (block : ℕ) (c : ChainState)
         f.fits);
   }
 
-  pub as_fits : (n : ℕ) (numbers : List ℤ) → n ≤ 2 ^ 40 → Fits script n numbers → FitsChain c n numbers
+  pub as_fits : (n : ℕ) (numbers : List ℤ) → n ≤ MAX_INPUT → Fits script n numbers → FitsChain c n numbers
   as_fits n numbers limit f = record {
     limit = limit;
     gathers = subst (λ (blocks : List Block). gathered blocks n ≤ MAX_GATHERED) (sym new.blocks_are) f.gathers;
@@ -66,7 +66,7 @@ module _ (script : Script) (block : ℕ) (c : ChainState)
         subst (λ m. Fits script m (numbers_in bytes (count_in bytes script))) frames
         (subst (λ (ns : List ℤ). Fits script n ns) are (fits_as n numbers (told.0 is)))
 
-    pub unfit : n ≤ 2 ^ 40 → answer ≡ false → Fits script (frames_in_state bytes)
+    pub unfit : n ≤ MAX_INPUT → answer ≡ false → Fits script (frames_in_state bytes)
         (numbers_in bytes (count_in bytes script)) → ⊥
     unfit few is f =
         let here : Fits script n numbers =

@@ -1,10 +1,10 @@
-use Rattle.std.proofs.Common.{◌≡◌, ◌∙◌, ap, refl, sym, subst, ◌+◌, ◌-◌, ◌*◌, ◌<◌, ◌≤◌, ◌^◌, length, take, drop, arith}
+use Rattle.std.proofs.Common.{◌≡◌, ◌∙◌, ap, refl, sym, subst, ◌+◌, ◌-◌, ◌*◌, ◌<◌, ◌≤◌, length, take, drop, arith}
 use Rattle.dsp_defs.specs.Shape.{gathered}
 use Rattle.dsp_defs.specs.Signal.{values}
 use Rattle.dsp_defs.specs.StateBytes.{number_of}
 use Rattle.dsp_defs.specs.StateFields.{HasFrames, InNumbers, ManyFrames, OtherNumbers, count_in, frames_in_state}
 use Rattle.dsp_defs.specs.StateFields.{frames_place, numbers_in, numbers_place}
-use Rattle.dsp_defs.specs.declared.limits.TheConstants.{MAX_GATHERED}
+use Rattle.dsp_defs.specs.declared.limits.TheConstants.{MAX_GATHERED, MAX_INPUT}
 use Rattle.dsp_state.specs.SavedState.{IsLoadFault}
 use Rattle.dsp_state.proofs.LoadLaws as laws
 use Rattle.dsp_state.proofs.NumberLaws.{from_place}
@@ -59,7 +59,7 @@ returns-then-not-fits-clause-err g c =
     c.in_ok-numbers.ensures ∙ (λ i. values (count i) (λ k. number_of (take 8 (drop (k * 8) (piece i))))) in
     let within : numbers_place bytes + c.kept_count_of-count.result * 8 ≤ length bytes =
     omega (arith, c.if-count-rest.false, c.requires.at, c.requires.long) in
-    let few : c.from-3.result ≤ 2 ^ 40 = omega (arith, c.from-3.ensures, c.ranges.frames.fits) in
+    let few : c.from-3.result ≤ MAX_INPUT = omega (arith, c.from-3.ensures, c.ranges.frames.fits) in
     let other = laws.unfit script block chain new bytes c.from-3.result c.deref.result.now c.fits.result
     c.fits.ensures (c.from-3.ensures ∙ c.requires.frames) (c.deref.ensures.value ∙ are) few c.if-not-fits.true in
     subst (λ fault. IsLoadFault fault bytes) (sym c.state_fault-then-not-fits.ensures) (

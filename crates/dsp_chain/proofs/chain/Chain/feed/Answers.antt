@@ -1,9 +1,9 @@
 use Rattle.std.proofs.Common.{◌≡◌, ◌∙◌, ap, inl, inr, refl, sym, subst, take, length, arith, true, false, Option}
-use Rattle.std.proofs.Common.{Some, None, ◌+◌, ◌/◌, ◌<◌, ◌≤◌, ◌^◌}
+use Rattle.std.proofs.Common.{Some, None, ◌+◌, ◌/◌, ◌<◌, ◌≤◌}
 use Rattle.std.specs.Prelude.{is_some}
 use Rattle.dsp_unit.specs.Line.{Place, InLine, AllCount, AllTaken, blocks_of, place_behind, place_room}
 use Rattle.dsp_defs.specs.Shape.{gathered, held}
-use Rattle.dsp_defs.specs.declared.limits.TheConstants.{MAX_GATHERED}
+use Rattle.dsp_defs.specs.declared.limits.TheConstants.{MAX_GATHERED, MAX_INPUT}
 use Rattle.dsp_defs.proofs.FrameLemmas.{length-frames_in}
 use Rattle.dsp_shape.proofs.FewFrames.{few-taken}
 use Rattle.dsp_unit.proofs.TailLaws.{count-runs, count-took}
@@ -63,7 +63,7 @@ pub gather_fault-requires-clause-few : goal.gather_fault-requires-clause-few
 gather_fault-requires-clause-few g c =
     let is = c.self.invariant.is in
     let n = c.self.inside.frames + length c.args.frames.now / c.self.inside.channels in
-    let few : n ≤ 2 ^ 40 = rw length-frames_in at (rw (← c.self.view_is) at c.requires.count) in
+    let few : n ≤ MAX_INPUT = rw length-frames_in at (rw (← c.self.view_is) at c.requires.count) in
     rw c.deref.ensures.value (is.few_frames n few)
 
 pub returns-in-Some-gather_fault-clause-full : goal.returns-in-Some-gather_fault-clause-full
@@ -97,7 +97,7 @@ feed_line-requires-clause-passes g c =
     let links = c.self.inside.links.items in
     let n = c.self.inside.frames + length c.args.frames.now / c.self.inside.channels in
     let running = rw (← c.self.view_is) at c.requires.running in
-    let few : n ≤ 2 ^ 40 = rw length-frames_in at (rw (← c.self.view_is) at c.requires.count) in
+    let few : n ≤ MAX_INPUT = rw length-frames_in at (rw (← c.self.view_is) at c.requires.count) in
     let same = ap (λ us. gathered (blocks_of us) n) c.deref.ensures.value in
     let fits : gathered (blocks_of links) n ≤ MAX_GATHERED =
     subst (λ k. k ≤ MAX_GATHERED) same c.in_default-gather_fault.ensures.none in
@@ -130,7 +130,7 @@ invariant_of-self-2 g c =
     let news = c.feed_line.new.links in
     let n = c.self.inside.frames + length c.args.frames.now / c.self.inside.channels in
     let running = rw (← c.self.view_is) at c.requires.running in
-    let few : n ≤ 2 ^ 40 = rw length-frames_in at (rw (← c.self.view_is) at c.requires.count) in
+    let few : n ≤ MAX_INPUT = rw length-frames_in at (rw (← c.self.view_is) at c.requires.count) in
     let line : InLine p c.as_mut_slice.result.now = subst (InLine p) (sym c.as_mut_slice.ensures.value) is.line in
     let fed = c.feed_line.ensures.fed p line (rw (← c.self.view_is) at c.requires.passes) in
     let whole = written-line c.self.inside.links.len news links

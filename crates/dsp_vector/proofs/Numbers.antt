@@ -1,12 +1,13 @@
 -- Numbers of a format that stay in 32 bits.
 use Rattle.std.proofs.Common.{ℤ, pos, negsuc, ◌≡◌, ◌-◌, ◌^◌, ◌-ℤ◌, ◌≤ℤ◌, ◌∙◌, ap, arith, SFits, FitsSigned, w32, to_z}
-use Rattle.std.proofs.Common.{of_z, to_z-of_z, refl, sym, lit<, ◌<◌, ◌*◌, ◌%◌, w8, w16}
+use Rattle.std.proofs.Common.{of_z, to_z-of_z, refl, sym, lit<, ◌<◌, ◌*◌, ◌%◌, w8, w16, ℕ, ◌*ℤ◌, nat_abs}
 use Rattle.std.specs.Int.{int_max}
+use lib.Signed.{shr_z}
 use Rattle.std.proofs.lemmas.Int.{ints, clamps}
-use Rattle.dsp_defs.specs.Elementwise.{negate, shift, IsShift}
+use Rattle.dsp_defs.specs.Elementwise.{negate, scale, shift, IsScaleShift, IsShift}
 use Rattle.dsp_defs.specs.Formats.{word, word_bits}
 use Rattle.dsp_defs.specs.Numbers.{saturate}
-use Rattle.dsp_sat.proofs.Words.{shift_up-is}
+use Rattle.dsp_sat.proofs.Words.{shift_down-is, shift_up-is}
 use Rattle.dsp_defs.specs.declared.format.Fmt.{Fmt}
 use Rattle.dsp_defs.specs.declared.format.Fmt.TheVariants.{Q7, Q15, Q31}
 
@@ -117,3 +118,48 @@ grown Q15 x places r less wide fits moves up is =
     shift_up-is w32 w16 16 15 (of_z w32 places) x x places r fits wide (sym (to_z-of_z fits)) refl up
     moves.1 (lit< tt) (lit< tt) is
 grown Q31 x places r less wide fits moves up is = absurd (omega (arith, less))
+
+-- by how many places a product is shifted down
+pub difference_down : (format : Fmt) (n d : ℕ) (places : ℤ) → word_bits format < 32 → n ≡ word_bits format →
+    SFits w32 places → IsScaleShift format places →
+    d ≡ nat_abs (to_z w32 (of_z w32 (to_z w32 (of_z w32 (to_z w32 n -ℤ pos 1)) -ℤ to_z w32 (of_z w32 places)))) →
+    (d ≡ nat_abs (pos (word_bits format - 1) -ℤ places)) × (d < 32)
+difference_down Q7 n d places less eight fits moves is =
+    let room : SFits w32 (pos 7 -ℤ places) = omega (arith, ints, moves) in
+    let places_is : to_z w32 (of_z w32 places) ≡ places = to_z-of_z fits in
+    let down : d ≡ nat_abs (pos 7 -ℤ places) =
+    is
+    ∙ ap (λ m. nat_abs (to_z w32 (of_z w32 (to_z w32 (of_z w32 (to_z w32 m -ℤ pos 1)) -ℤ to_z w32 (of_z w32 places)))))
+    eight
+    ∙ ap (λ z. nat_abs (to_z w32 (of_z w32 (pos 7 -ℤ z)))) places_is
+    ∙ ap nat_abs (to_z-of_z room) in (
+      down,
+      omega (arith, ints, moves, down),
+    )
+difference_down Q15 n d places less sixteen fits moves is =
+    let room : SFits w32 (pos 15 -ℤ places) = omega (arith, ints, moves) in
+    let places_is : to_z w32 (of_z w32 places) ≡ places = to_z-of_z fits in
+    let down : d ≡ nat_abs (pos 15 -ℤ places) =
+    is
+    ∙ ap (λ m. nat_abs (to_z w32 (of_z w32 (to_z w32 (of_z w32 (to_z w32 m -ℤ pos 1)) -ℤ to_z w32 (of_z w32 places)))))
+    sixteen
+    ∙ ap (λ z. nat_abs (to_z w32 (of_z w32 (pos 15 -ℤ z)))) places_is
+    ∙ ap nat_abs (to_z-of_z room) in (
+      down,
+      omega (arith, ints, moves, down),
+    )
+difference_down Q31 n d places less all fits moves is = absurd (omega (arith, less))
+
+-- a product of numbers of 8 or 16 bits, shifted down in 32
+pub scaled-is : (format : Fmt) (x fract places p r : ℤ) (d : ℕ) → word_bits format < 32 → SFits w32 x →
+    SFits w32 fract → SFits w32 p → p ≡ to_z w32 (of_z w32 x) *ℤ to_z w32 (of_z w32 fract) →
+    d ≡ nat_abs (pos (word_bits format - 1) -ℤ places) →
+    r ≡ saturate (word_bits format) (to_z w32 (of_z w32 (shr_z (to_z w32 (of_z w32 p)) (2 ^ d)))) →
+    r ≡ scale format fract places x
+scaled-is Q7 x fract places p r d less fits_x fits_fract fits_p product down is =
+    is ∙ ap (saturate 8) (shift_down-is w32 p (x *ℤ fract) d (nat_abs (pos 7 -ℤ places)) fits_p
+    (product ∙ (λ i. to_z-of_z fits_x i *ℤ to_z-of_z fits_fract i)) down)
+scaled-is Q15 x fract places p r d less fits_x fits_fract fits_p product down is =
+    is ∙ ap (saturate 16) (shift_down-is w32 p (x *ℤ fract) d (nat_abs (pos 15 -ℤ places)) fits_p
+    (product ∙ (λ i. to_z-of_z fits_x i *ℤ to_z-of_z fits_fract i)) down)
+scaled-is Q31 x fract places p r d less fits_x fits_fract fits_p product down is = absurd (omega (arith, less))

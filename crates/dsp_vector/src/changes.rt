@@ -5,10 +5,10 @@ ghost use Rattle.dsp_defs.specs.Elementwise.{abs, add, clip, convert, negate, sc
 ghost use Rattle.dsp_defs.specs.Elementwise.{IsShift};
 ghost use Rattle.dsp_defs.specs.Formats.{word};
 
-use crate::clamped::{greatest, shifted, sum};
+use crate::clamped::{scaled, shifted, sum};
 use crate::conversions::converted;
 use dsp_defs::Steps;
-use dsp_sat::Sample;
+use dsp_sat::{Sample, greatest};
 use std::sync::ledger::Ledger;
 
 /// An operation on one sample, which is a number of the format of T as its parameters are, and becomes
@@ -95,7 +95,7 @@ impl<T: Sample> Change<T, T> for Scale {
     ghost price = { 1 };
 
     fn change<L: Ledger>(self, x: i32, steps: &mut Steps<L>) -> i32 {
-        T::scale(T::of_number(x), T::of_number(self.fract), self.shift, steps).number()
+        scaled::<T, L>(x, self.fract, self.shift, steps)
     }
 }
 

@@ -1,39 +1,13 @@
 //! Arithmetic on numbers of a format that stays in 32 bits: the compiler puts four of them into a
 //! vector as they are.
-ghost use Rattle.std.specs.Prelude.{◌≡◌, ◌^◌, ◌-◌, pos, negsuc, FitsSigned};
+ghost use Rattle.std.specs.Prelude.{◌≡◌, ◌<◌, ◌-◌, ◌-ℤ◌, pos, nat_abs, FitsSigned};
 ghost use Rattle.dsp_defs.specs.Counts.{Rises};
-ghost use Rattle.dsp_defs.specs.Elementwise.{add, mult, shift, sub, IsShift};
+ghost use Rattle.dsp_defs.specs.Elementwise.{add, mult, scale, shift, sub, IsScaleShift, IsShift};
 ghost use Rattle.dsp_defs.specs.Formats.{word, word_bits};
-ghost use Rattle.dsp_defs.specs.Numbers.{saturate};
 
 use dsp_defs::Steps;
-use dsp_sat::Sample;
+use dsp_sat::{Sample, clamped, narrow_product};
 use std::sync::ledger::Ledger;
-
-/// The greatest number of a format.
-#[inline(always)]
-pub(crate) fn greatest<T: Sample>() -> i32
-    ensures { result ≡ pos (2 ^ (word_bits T.format - 1) - 1) }
-{
-    i32::MAX >> (32 - T::WORD_BITS)
-}
-
-/// The least number of a format.
-#[inline(always)]
-fn least<T: Sample>() -> i32
-    ensures { result ≡ negsuc (2 ^ (word_bits T.format - 1) - 1) }
-{
-    -greatest::<T>() - 1
-}
-
-/// The number clamped to a format.
-#[inline(always)]
-fn clamped<T: Sample>(x: i32) -> i32
-    ensures value { result ≡ saturate (word_bits T.format) x }
-    ensures fits { FitsSigned (word T.format) result }
-{
-    x.max(least::<T>()).min(greatest::<T>())
-}
 
 /// The saturating sum: of numbers of 8 or 16 bits no sum leaves 32.
 #[inline(always)]
@@ -80,6 +54,40 @@ pub(crate) fn multiplied<T: Sample, L: Ledger>(a: i32, b: i32, steps: &mut Steps
         clamped::<T>(product >> (T::WORD_BITS - 1))
     } else {
         T::mult(T::of_number(a), T::of_number(b), steps).number()
+    }
+}
+
+/// By how many places the product of a number of 8 or 16 bits and a fraction is shifted down.
+#[inline(always)]
+fn places_down<T: Sample>(places: i32) -> u32
+    requires narrow { word_bits T.format < 32 }
+    requires places { IsScaleShift T.format places }
+    ensures value { result ≡ nat_abs (pos (word_bits T.format - 1) -ℤ places) }
+    ensures few { result < 32 }
+{
+    (T::WORD_BITS as i32 - 1 - places).unsigned_abs()
+}
+
+/// The number times a fraction and 2^places, saturated; the product is counted.
+#[inline(always)]
+pub(crate) fn scaled<T: Sample, L: Ledger>(
+    x: i32,
+    fract: i32,
+    places: i32,
+    steps: &mut Steps<L>,
+) -> i32
+    requires in_format { FitsSigned (word T.format) x }
+    requires fract { FitsSigned (word T.format) fract }
+    requires places { IsScaleShift T.format places }
+    ensures value { result ≡ scale T.format fract places x }
+    ensures fits { FitsSigned (word T.format) result }
+    ensures steps { Rises steps.old steps.new 1 1 }
+{
+    if T::WORD_BITS < 32 {
+        let product = narrow_product(x, fract, steps);
+        clamped::<T>(product >> places_down::<T>(places))
+    } else {
+        T::scale(T::of_number(x), T::of_number(fract), places, steps).number()
     }
 }
 

@@ -1,128 +1,33 @@
 -- A conversion goes on block by block.
-use Rattle.std.proofs.Common.{◌≡◌, ℕ, suc, ◌+◌, ◌-◌, ◌*◌, ◌/◌, ◌^◌, ◌<◌, ◌≤◌, List, [], ◌++◌, length, take, drop}
-use Rattle.std.proofs.Common.{Option, Some, None, Result, Ok, Err, Bool, true, nat_lt, if◌then◌else◌, IfSome, ℤ, refl}
-use Rattle.std.proofs.Common.{sym, ap, ap₂, ◌∙◌, subst, arith, append_assoc, append-nil, length-append, length-drop}
-use Rattle.std.proofs.Common.{inl, inr}
-use Rattle.std.specs.List.{flat_map}
+use Rattle.std.proofs.Common.{◌≡◌, ℕ, suc, ◌+◌, ◌*◌, ◌/◌, ◌<◌, ◌≤◌, List, [], ◌++◌, length, take, drop, Option, Some}
+use Rattle.std.proofs.Common.{None, IfSome, refl, sym, ap, ◌∙◌, subst, arith, append_assoc, append-nil, length-append}
+use Rattle.std.proofs.Common.{length-drop, inl, inr}
 use Rattle.std.specs.Option.{option_map, unwrap_or}
 use Rattle.std.specs.Io.KnownBytes.{IsAtEnd, append_known}
-use Rattle.std.proofs.lemmas.Grind.{common_steps, flat_map-append}
-use Rattle.std.proofs.lemmas.List.{drop_at, take_all, take_at, take-take, take-append-drop, length-take-le}
+use Rattle.std.proofs.lemmas.List.{take_at, take-append-drop, length-take-le}
 use Rattle.std.proofs.lemmas.Nat.{div-mul-add}
-use Rattle.std.proofs.Math.Nat.{mul-le-mul}
 use Rattle.dsp_ports.specs.Ports.{SourceState, SinkState, Gave, Took, one_more}
 use Rattle.dsp_ports.proofs.Moved.{Gave-nil, Took-nil, Gave-append, Took-append, append_known-append}
 use Rattle.dsp_defs.specs.Block.{Frame}
 use Rattle.dsp_defs.specs.Bytes.{width}
 use Rattle.dsp_defs.specs.Open.{IsOpenGood}
-use Rattle.dsp_defs.specs.Output.{sample_bytes_at}
 use Rattle.dsp_defs.specs.Streaming.{Begins}
-use Rattle.dsp_defs.specs.Au.{au_header_of, form_bytes_of, form_coded, form_header, form_sample_of, form_samples}
-use Rattle.dsp_defs.specs.Au.{open_frame_bytes, source_form, source_signal, target_form, target_of_signal}
+use Rattle.dsp_defs.specs.Au.{form_coded, form_header, form_samples, open_frame_bytes, source_form, source_signal}
+use Rattle.dsp_defs.specs.Au.{target_form, target_of_signal}
 use Rattle.dsp_defs.specs.declared.au.Direction.{Direction}
+use Rattle.dsp_defs.specs.declared.limits.TheConstants.{MAX_INPUT}
 use Rattle.dsp_defs.specs.declared.wave.OpenHeader.{OpenHeader}
-use Rattle.dsp_defs.proofs.CodingLemmas.{width-some}
-use Rattle.dsp_defs.proofs.SampleLaws.{length-samples_by, samples_by-nil, samples_by-append, samples_by-whole}
-use Rattle.dsp_defs.proofs.SampleLaws.{count-whole_by}
 use Rattle.dsp_au.specs.Exchange.{exchanged}
 use Rattle.dsp_au.specs.Convert.{AreAll, Begun, BlockRead, CountsFault, EndsShort, HasFault, HasWritten, InDeclared}
-use Rattle.dsp_au.specs.Convert.{IsCause, IsShort, IsSource, IsFree, IsUnread, Unread, WroteBlocks, Blocks, short_at}
-use Rattle.dsp_au.specs.Convert.{source_fault, LagsByOne, Passed, Stopped, block_bytes, block_frames, declared_bytes}
-use Rattle.dsp_au.specs.Convert.{in_whole_frames, target_blocks}
+use Rattle.dsp_au.specs.Convert.{IsCause, IsSource, IsFree, IsUnread, Unread, WroteBlocks, Blocks, LagsByOne, Passed}
+use Rattle.dsp_au.specs.Convert.{Stopped, block_bytes, block_frames, declared_bytes, in_whole_frames, target_blocks}
 use Rattle.dsp_au.specs.declared.fault.ConvertFault.{ConvertFault}
 use Rattle.dsp_au.specs.declared.fault.ConvertFault.TheVariants as fault
-use Rattle.dsp_defs.specs.Open.{open_header_of}
-use Rattle.dsp_defs.specs.declared.wave.HeaderFault.{HeaderFault}
-use Rattle.dsp_defs.specs.declared.wave.HeaderFault.TheVariants as wave_fault
-use Rattle.dsp_defs.specs.declared.au.AuFault.{AuFault}
-use Rattle.dsp_defs.specs.declared.au.AuFault.TheVariants as au_fault
-use Rattle.dsp_defs.specs.declared.au.Direction.TheVariants.{WaveToAu, AuToWave}
-use Rattle.std.specs.Result.{result_ok}
+use Rattle.dsp_au.proofs.FrameLaws.{coded, coded-append, exchanged-is, frames-whole, length-signal, signal}
+use Rattle.dsp_au.proofs.FrameLaws.{signal-append, signal-nil, signal_is, some_frame}
+use Rattle.dsp_au.proofs.ShortLaws.{short_fault}
 use Rattle.dsp_au.proofs.ToldLaws.{always_fails, hindered, unflushed_by}
-use Rattle.dsp_au.proofs.ExchangeLaws.{Small, exchanged-signal, small-take}
-
--- ---- frames
-
-some_product : (a b : ℕ) → 1 ≤ a → 1 ≤ b → 1 ≤ a * b
-some_product a b h k = mul-le-mul h k
-
-pub some_frame : (header : OpenHeader) → IsOpenGood header → 0 < open_frame_bytes header
-some_frame header good = some_product header.channels (width header.coding) good.some (width-some header.coding)
-
-pub floor_within : (n f : ℕ) → n / f * f ≤ n
-floor_within n f = grind (arith)
-
-module _ (direction : Direction) (header : OpenHeader) (good : IsOpenGood header) where
-  abbrev frame : ℕ
-  frame = open_frame_bytes header
-
-  some : 0 < frame
-  some = some_frame header good
-
-  -- the signal of bytes behind the header, and its bytes in the other form
-  abbrev pub signal : List ℕ → List Frame
-  signal bytes = form_samples (source_form direction) header.coding header.channels bytes
-
-  abbrev pub coded : List Frame → List ℕ
-  coded x = form_coded (target_form direction) header.coding x
-
-  abbrev read : List ℕ → ℤ
-  read = form_sample_of (source_form direction) header.coding
-
-  pub signal-nil : signal [] ≡ []
-  signal-nil = samples_by-nil read (width header.coding) header.channels
-
-  pub length-signal : (bytes : List ℕ) → length (signal bytes) ≡ length bytes / frame
-  length-signal bytes = length-samples_by read (width header.coding) header.channels bytes
-
-  pub signal-append : (heard more : List ℕ) (n : ℕ) → length heard ≡ n * frame →
-      signal (heard ++ more) ≡ signal heard ++ signal more
-  signal-append heard more n whole = samples_by-append read (width header.coding) header.channels n heard more some
-      whole
-
-  pub frames-whole : (bytes : List ℕ) (n : ℕ) → length bytes ≡ n * frame → length (signal bytes) ≡ n
-  frames-whole bytes n whole = length-signal bytes ∙ count-whole_by read (width header.coding) header.channels n bytes
-      [] some whole
-
-  -- a rest that is no whole frame
-  pub signal-whole : (bytes : List ℕ) → signal (take (length bytes / frame * frame) bytes) ≡ signal bytes
-  signal-whole bytes = samples_by-whole read (width header.coding) header.channels (length bytes / frame) bytes some
-      refl
-
-  pub coded-append : (x y : List Frame) → coded (x ++ y) ≡ coded x ++ coded y
-  coded-append x y = flat_map-append (λ (x : Frame). flat_map (form_bytes_of (target_form direction) header.coding) x)
-      x y
-
-  -- what is written of a block: its whole frames in the other form
-  pub exchanged-is : (block : List ℕ) (count n : ℕ) → Small block → count ≤ length block → n ≡ count / frame
-      → exchanged (width header.coding) (take (n * frame) block) ≡ coded (signal (take count block))
-  exchanged-is block count n small within is =
-      let long : length (take count block) ≡ count = length-take-le count block within in
-      let bound : n * frame ≤ count = rw is (floor_within count frame) in
-      let whole : length (take (n * frame) block) ≡ n * frame =
-      length-take-le (n * frame) block (omega (arith, bound, within)) in
-      let same : take (length (take count block) / frame * frame) (take count block) ≡ take (n * frame) block =
-      ap (λ k. take (k / frame * frame) (take count block)) long ∙
-      ap (λ k. take (k * frame) (take count block)) (sym is) ∙ take-take (n * frame) count block bound in
-      sym (ap coded (sym (signal-whole (take count block)) ∙ ap signal same)
-      ∙ exchanged-signal direction header.coding header.channels n (take (n * frame) block) good.wave
-      (small-take (n * frame) block small) some (width-some header.coding) whole)
-
-  -- ---- behind the header
-
-  module _ (first : List ℕ) (start : header.start ≡ length first) where
-    dropped : (bytes : List ℕ) → drop header.start (first ++ bytes) ≡ bytes
-    dropped bytes = drop_at first bytes header.start (sym start)
-
-    by_size : (bytes : List ℕ) (size : Option ℕ) → InDeclared (option_map (in_whole_frames header) size) (length bytes)
-        → sample_bytes_at header.start size (first ++ bytes) ≡ bytes
-    by_size bytes None declared = dropped bytes
-    by_size bytes (Some size) declared = ap (take size) (dropped bytes) ∙
-        take_all size bytes (omega (arith, declared, floor_within size frame))
-
-    pub signal_is : (bytes : List ℕ) → InDeclared (declared_bytes header) (length bytes) →
-        source_signal direction header (first ++ bytes) ≡ signal bytes
-    signal_is bytes declared = ap signal (by_size bytes header.size declared)
+use Rattle.dsp_au.proofs.ExchangeLaws.{Small}
 
 -- ---- the blocks so far
 
@@ -133,7 +38,7 @@ pub record Going (direction : Direction) (header : OpenHeader) (taken : ℕ) (in
   pub blocks_heard : length heard ≡ blocks * block_bytes header
   pub taken_is : taken ≡ length heard
   pub declared : InDeclared (declared_bytes header) taken
-  pub in_limit : header.start + taken ≤ 2 ^ 40
+  pub in_limit : header.start + taken ≤ MAX_INPUT
   pub gave : Gave input now heard
   pub took : Took sink after (form_coded (target_form direction) header.coding
       (form_samples (source_form direction) header.coding header.channels heard))
@@ -146,7 +51,7 @@ module _ (direction : Direction) (header : OpenHeader) (good : IsOpenGood header
   nothing_declared (Some size) = omega arith
 
   -- at the start no block has passed
-  pub starts : (input : SourceState) (sink : SinkState) → header.start ≤ 2 ^ 40 →
+  pub starts : (input : SourceState) (sink : SinkState) → header.start ≤ MAX_INPUT →
       Going direction header 0 input input sink sink
   starts input sink limit =
       let nothing : coded direction header good (signal direction header good []) ≡ [] =
@@ -203,12 +108,12 @@ module _ (direction : Direction) (header : OpenHeader) (good : IsOpenGood header
         (clean : after.faults ≡ between.faults) where
       all_took : Took sink after (coded direction header good (signal direction header good (going.heard ++ new)))
       all_took =
-          let whole : coded direction header good (signal direction header good going.heard) ++ exchanged
-          (width header.coding) (take (n * open_frame_bytes header) block) ≡ coded direction header good
+          let x = signal direction header good going.heard in
+          let whole : coded direction header good x ++ exchanged (width header.coding)
+          (take (n * open_frame_bytes header) block) ≡ coded direction header good
           (signal direction header good (going.heard ++ new)) =
-          ap (λ xs. coded direction header good (signal direction header good going.heard) ++ xs) given_is
-          ∙ sym (coded-append direction header good (signal direction header good going.heard)
-          (signal direction header good new))
+          ap (λ xs. coded direction header good x ++ xs) given_is
+          ∙ sym (coded-append direction header good x (signal direction header good new))
           ∙ ap (coded direction header good) (sym all_signal) in
           subst (Took sink after) whole (Took-append sink between after _ _ going.took took)
 
@@ -239,54 +144,6 @@ module _ (direction : Direction) (header : OpenHeader) (good : IsOpenGood header
           next : (k b : ℕ) → suc k * b ≡ k * b + b
           next k b = omega arith
 
--- ---- a short source
-
-ok_of : {E : Type 0} (said : Result OpenHeader E) (header : OpenHeader) → result_ok said ≡ Some header →
-    said ≡ Ok header
-ok_of (Ok other) header e = ap Ok (ap (λ (o : Option OpenHeader). unwrap_or o header) e)
-ok_of (Err fault) header e = absurd cc
-
-short_is : (header : OpenHeader) (declared count : ℕ) → header.size ≡ Some declared →
-    count < header.start + in_whole_frames header declared
-    → short_at header count ≡ Some (declared, count - header.start)
-short_is header declared count is cut =
-    ap (λ (size : Option ℕ). elim size [
-      | Some declared ↦ if nat_lt count
-          (header.start + in_whole_frames header declared) then Some (declared, count - header.start) else
-          None
-      | None ↦ None
-    ]) is
-    ∙ (let less : nat_lt count (header.start + in_whole_frames header declared) ≡ true =
-    grind (arith, common_steps, cut) in
-    ap (λ (b : Bool). if b then Some (declared, count - header.start) else None) less)
-
-short_fault : (direction : Direction) (given : List ℕ) (header : OpenHeader) → IsSource direction given header →
-    (declared taken : ℕ) (error : ConvertFault) → header.size ≡ Some declared
-    → length given ≡ header.start + taken → taken < in_whole_frames header declared →
-    IsShort direction error declared taken (header.start + taken) → source_fault direction given ≡ Some error
-short_fault WaveToAu given header has declared taken error is long cut error_is =
-    let got : length given - header.start ≡ taken = omega (arith, long) in
-    ap (λ (said : Result OpenHeader (HeaderFault × ℕ)). elim said [
-      | Err said ↦ Some (fault.Wave said.0 said.1)
-      | Ok header ↦ option_map (λ short. fault.Wave (wave_fault.Short short.0 short.1) (length given))
-          (short_at header (length given))
-    ]) (ok_of (open_header_of given) header has)
-    ∙ ap (λ (short : Option (ℕ × ℕ)). option_map (λ short. fault.Wave (wave_fault.Short short.0 short.1)
-    (length given)) short) (short_is header declared (length given) is (omega (arith, long, cut)))
-    ∙ ap₂ (λ (n total : ℕ). Some (fault.Wave (wave_fault.Short declared n) total)) got long
-    ∙ ap Some (sym error_is)
-short_fault AuToWave given header has declared taken error is long cut error_is =
-    let got : length given - header.start ≡ taken = omega (arith, long) in
-    ap (λ (said : Result OpenHeader (AuFault × ℕ)). elim said [
-      | Err said ↦ Some (fault.Au said.0 said.1)
-      | Ok header ↦ option_map (λ short. fault.Au (au_fault.Short short.0 short.1) (length given))
-          (short_at header (length given))
-    ]) (ok_of (au_header_of given) header has)
-    ∙ ap (λ (short : Option (ℕ × ℕ)). option_map (λ short. fault.Au (au_fault.Short short.0 short.1) (length given))
-    short) (short_is header declared (length given) is (omega (arith, long, cut)))
-    ∙ ap₂ (λ (n total : ℕ). Some (fault.Au (au_fault.Short declared n) total)) got long
-    ∙ ap Some (sym error_is)
-
 -- ---- behind the header of the target
 
 abbrev pub IsTakenAll : Option ℕ → ℕ → ℕ → SourceState → Type 0
@@ -310,12 +167,21 @@ module _ (direction : Direction) (header : OpenHeader) (good : IsOpenGood header
   abbrev head : List ℕ
   head = form_header (target_form direction) header
 
+  -- what is written of the whole frames of bytes
+  abbrev gives : List ℕ → List ℕ
+  gives bytes = coded direction header good (signal direction header good bytes)
+
   source_is : (bytes : List ℕ) → InDeclared (declared_bytes header) (length bytes) →
       source_signal direction header (first ++ bytes) ≡ signal direction header good bytes
   source_is bytes declared = signal_is direction header good first begun.opened.start bytes declared
 
   given_long : (bytes : List ℕ) → length (first ++ bytes) ≡ header.start + length bytes
   given_long bytes = omega (arith, length-append first bytes, begun.opened.start)
+
+  -- the header and the blocks so far stand in the output
+  stood : (taken : ℕ) (mid : SourceState) (between : SinkState) (going : Going direction header taken input mid sink
+      between) → Took empty between (head ++ gives going.heard)
+  stood taken mid between going = Took-append empty sink between head (gives going.heard) begun.took going.took
 
   -- some blocks, and at most one more
   module _ (taken : ℕ) (mid : SourceState) (between : SinkState)
@@ -349,8 +215,8 @@ module _ (direction : Direction) (header : OpenHeader) (good : IsOpenGood header
         take_at (signal direction header good going.heard) (signal direction header good bytes)
         (going.blocks * block_frames header) heard_frames
 
-    pub lags : (written : List ℕ) → Begins (head ++ coded direction header good
-        (signal direction header good going.heard)) written → LagsByOne direction header given written
+    pub lags : (written : List ℕ) → Begins (head ++ gives going.heard) written →
+        LagsByOne direction header given written
     lags written begins =
         record {
           blocks = going.blocks;
@@ -366,31 +232,29 @@ module _ (direction : Direction) (header : OpenHeader) (good : IsOpenGood header
     pub gave_given : (now : SourceState) → Gave input now (going.heard ++ bytes) → Gave before now given
     gave_given now gave = Gave-append before input now first (going.heard ++ bytes) begun.opened.gave gave
 
+    same_header : (other : OpenHeader) → IsSource direction given other → header ≡ other
+    same_header other is = ap (λ (o : Option OpenHeader). unwrap_or o header)
+        (sym (begun.opened.said (going.heard ++ bytes)) ∙ is)
+
     pub kept_declared : (other : OpenHeader) → IsSource direction given other →
         IfSome (declared_bytes other) (λ size. length given ≤ other.start + size)
     kept_declared other is =
-        let same : header ≡ other = ap (λ (o : Option OpenHeader). unwrap_or o header)
-        (sym (begun.opened.said (going.heard ++ bytes)) ∙ is) in
-        subst (λ (h : OpenHeader). IfSome (declared_bytes h) (λ size. length given ≤ h.start + size)) same
-        (by_size (declared_bytes header) declared)
+        subst (λ (h : OpenHeader). IfSome (declared_bytes h) (λ size. length given ≤ h.start + size))
+        (same_header other is) (by_size (declared_bytes header) declared)
       where
         by_size : (size : Option ℕ) → InDeclared size (taken + length bytes) →
             IfSome size (λ size. length given ≤ header.start + size)
         by_size None within = tt
         by_size (Some size) within = omega (arith, total, within)
 
-    pub lags_of : (written : List ℕ) → Begins (head ++ coded direction header good
-        (signal direction header good going.heard)) written → (other : OpenHeader) → IsSource direction given other →
-        LagsByOne direction other given written
+    pub lags_of : (written : List ℕ) → Begins (head ++ gives going.heard) written → (other : OpenHeader) →
+        IsSource direction given other → LagsByOne direction other given written
     lags_of written begins other is =
-        let same : header ≡ other = ap (λ (o : Option OpenHeader). unwrap_or o header)
-        (sym (begun.opened.said (going.heard ++ bytes)) ∙ is) in
-        subst (λ (h : OpenHeader). LagsByOne direction h given written) same (lags written begins)
+        subst (λ (h : OpenHeader). LagsByOne direction h given written) (same_header other is) (lags written begins)
 
     -- where less than a block came, exactly the blocks before it stand in the output
     pub blocks_stand : length bytes < block_bytes header →
-        target_blocks direction header given ≡ head ++ coded direction header good
-        (signal direction header good going.heard)
+        target_blocks direction header given ≡ head ++ gives going.heard
     blocks_stand less =
         let x = source_signal direction header given in
         let rest : length (signal direction header good bytes) < block_frames header =
@@ -430,36 +294,30 @@ module _ (direction : Direction) (header : OpenHeader) (good : IsOpenGood header
     abbrev taken_bytes : List ℕ
     taken_bytes = first ++ (going.heard ++ last)
 
+    abbrev told : List ℕ
+    told = exchanged (width header.coding) (take (n * open_frame_bytes header) block)
+
     -- all that they give stands behind what the blocks before give
-    whole_coded : target_of_signal direction header (source_signal direction header taken_bytes) ≡ head ++ coded
-        direction header good (signal direction header good going.heard) ++ coded direction header good
-        (signal direction header good last)
+    whole_coded : target_of_signal direction header (source_signal direction header taken_bytes) ≡ head ++
+        gives going.heard ++ gives last
     whole_coded =
         ap (target_of_signal direction header) (given_signal taken mid between going last last_declared last_short)
         ∙ ap (λ xs. head ++ xs) (coded-append direction header good (signal direction header good going.heard)
         (signal direction header good last))
-        ∙ sym (append_assoc head (coded direction header good (signal direction header good going.heard))
-        (coded direction header good (signal direction header good last)))
+        ∙ sym (append_assoc head (gives going.heard) (gives last))
 
     -- the sink has failed within the block
-    pub unwritten : (k : ℕ) → k < length (exchanged (width header.coding) (take (n * open_frame_bytes header) block))
-        → Took between after (take k (exchanged (width header.coding) (take (n * open_frame_bytes header) block))) →
-        after.faults ≡ one_more between.faults
-        → Stopped direction fault.Write before now empty after
+    pub unwritten : (k : ℕ) → k < length told → Took between after (take k told) →
+        after.faults ≡ one_more between.faults → Stopped direction fault.Write before now empty after
     unwritten k less took faulty =
-        let part = take k (exchanged (width header.coding) (take (n * open_frame_bytes header) block)) in
-        let written = head ++ coded direction header good (signal direction header good going.heard) ++ part in
-        let is : exchanged (width header.coding) (take (n * open_frame_bytes header) block) ≡ coded direction header
-        good (signal direction header good last) = given_is direction header good taken input mid now sink between
-        after going block count n small size read n_is in
-        let rest = drop k (exchanged (width header.coding) (take (n * open_frame_bytes header) block)) in
-        let split : part ++ rest ≡ coded direction header good (signal direction header good last) =
-        take-append-drop k _ ∙ is in
+        let part = take k told in
+        let written = head ++ gives going.heard ++ part in
+        let rest = drop k told in
+        let split : part ++ rest ≡ gives last = take-append-drop k told ∙ given_is direction header good taken input
+        mid now sink between after going block count n small size read n_is in
         let front : target_of_signal direction header (source_signal direction header taken_bytes) ≡ written ++ rest =
-        whole_coded
-        ∙ ap (λ xs. head ++ coded direction header good (signal direction header good going.heard) ++ xs) (sym split)
-        ∙ sym (append_assoc (head ++ coded direction header good (signal direction header good going.heard)) part
-        rest) in
+        whole_coded ∙ ap (λ xs. head ++ gives going.heard ++ xs) (sym split)
+        ∙ sym (append_assoc (head ++ gives going.heard) part rest) in
         record {
           given = taken_bytes;
           written = written;
@@ -472,26 +330,15 @@ module _ (direction : Direction) (header : OpenHeader) (good : IsOpenGood header
             read.in_limit,
           );
           unflushed = tt;
-          put = took.put ∙ ap (λ known. append_known known part)
-              (going.took.put ∙ ap (λ known. append_known known
-              (coded direction header good (signal direction header good going.heard))) begun.took.put ∙
-              sym (append_known-append empty.put head (coded direction header good
-              (signal direction header good going.heard))))
-              ∙ sym (append_known-append empty.put (head ++ coded direction header good
-              (signal direction header good going.heard)) part);
+          put = took.put ∙ ap (λ known. append_known known part) (stood taken mid between going).put
+              ∙ sym (append_known-append empty.put (head ++ gives going.heard) part);
           cause = (header, begun.opened.said (going.heard ++ last));
           wrote = (
             header,
             begun.opened.said (going.heard ++ last),
             inl (
               (rest, front),
-              omega (
-                arith,
-                less,
-                ap length front,
-                length-append written rest,
-                length-drop k (exchanged (width header.coding) (take (n * open_frame_bytes header) block)),
-              ),
+              omega (arith, less, ap length front, length-append written rest, length-drop k told),
             ),
           );
           faults = (
@@ -504,47 +351,42 @@ module _ (direction : Direction) (header : OpenHeader) (good : IsOpenGood header
           hinders = always_fails before.left (IsFree direction) fault.Write tt;
         }
 
-    module _ (took : Took between after (exchanged (width header.coding) (take (n * open_frame_bytes header) block)))
-        (clean : after.faults ≡ between.faults) (short : count < length block) where
-      pub ends : Passed direction header (taken + count) before now empty after
-      ends =
-          let all : length taken_bytes ≡ header.start + (taken + count) =
-          total taken mid between going last last_declared last_short ∙
-          ap (λ n. header.start + (taken + n)) last_long in
-          let written : head ++ coded direction header good (signal direction header good (going.heard ++ last)) ≡
-          target_of_signal direction header (source_signal direction header taken_bytes) =
-          ap (λ (x : List Frame). target_of_signal direction header x)
-          (sym (source_is (going.heard ++ last) (in_declared (declared_bytes header) _ _
-          (sym (behind_long taken mid between going last last_declared last_short)) last_declared))) in
-          record {
-            given = taken_bytes;
-            gave = gave_given taken mid between going last last_declared last_short now
-                (Gave-append input mid now going.heard last going.gave read.gave);
-            has = begun.opened.said (going.heard ++ last);
-            stays = λ more. subst (λ bytes. IsSource direction bytes header)
-                (sym (append_assoc first (going.heard ++ last) more))
-                (begun.opened.said ((going.heard ++ last) ++ more));
-            good = good;
-            in_limit = omega (arith, all, read.in_limit);
-            room_left = λ none. omega (arith, all, read.room_left short none);
-            whole = taken_whole (declared_bytes header) header.start (taken + count) (length taken_bytes) now all
-                (read.end short);
-            count_is = sym all;
-            frames = sym (ap length (source_is (going.heard ++ last)
-                (in_declared (declared_bytes header) _ _ (sym (behind_long taken mid between going last last_declared
-                last_short)) last_declared))
-                ∙ length-signal direction header good (going.heard ++ last)
-                ∙ ap (λ n. n / open_frame_bytes header) (behind_long taken mid between going last last_declared
-                last_short ∙ ap (λ n. taken + n) last_long));
-            fits = begun.fits;
-            took = subst (Took empty after) written (Took-append empty sink after head _ begun.took
-                (all_took direction header good taken input mid now sink between after going block count n small size
-                read n_is took clean));
-            no_input_fault = read.no_fault ∙ going.no_input_fault ∙ begun.opened.no_fault;
-            no_output_fault = clean ∙ going.no_output_fault ∙ begun.no_fault;
-            lag = lags taken mid between going last last_declared last_short _
-                (coded direction header good (signal direction header good last), whole_coded);
-          }
+    module _ (took : Took between after told) (clean : after.faults ≡ between.faults) (short : count < length block)
+      where
+        pub ends : Passed direction header (taken + count) before now empty after
+        ends =
+            let all : length taken_bytes ≡ header.start + (taken + count) =
+            total taken mid between going last last_declared last_short ∙
+            ap (λ n. header.start + (taken + n)) last_long in
+            let long : length (going.heard ++ last) ≡ taken + length last =
+            behind_long taken mid between going last last_declared last_short in
+            let is : source_signal direction header taken_bytes ≡ signal direction header good (going.heard ++ last) =
+            source_is (going.heard ++ last) (in_declared (declared_bytes header) _ _ (sym long) last_declared) in
+            record {
+              given = taken_bytes;
+              gave = gave_given taken mid between going last last_declared last_short now
+                  (Gave-append input mid now going.heard last going.gave read.gave);
+              has = begun.opened.said (going.heard ++ last);
+              stays = λ more. subst (λ bytes. IsSource direction bytes header)
+                  (sym (append_assoc first (going.heard ++ last) more))
+                  (begun.opened.said ((going.heard ++ last) ++ more));
+              good = good;
+              in_limit = omega (arith, all, read.in_limit);
+              room_left = λ none. omega (arith, all, read.room_left short none);
+              whole = taken_whole (declared_bytes header) header.start (taken + count) (length taken_bytes) now all
+                  (read.end short);
+              count_is = sym all;
+              frames = sym (ap length is ∙ length-signal direction header good (going.heard ++ last)
+                  ∙ ap (λ n. n / open_frame_bytes header) (long ∙ ap (λ n. taken + n) last_long));
+              fits = begun.fits;
+              took = subst (Took empty after) (ap (target_of_signal direction header) (sym is))
+                  (Took-append empty sink after head _ begun.took
+                  (all_took direction header good taken input mid now sink between after going block count n small size
+                  read n_is took clean));
+              no_input_fault = read.no_fault ∙ going.no_input_fault ∙ begun.opened.no_fault;
+              no_output_fault = clean ∙ going.no_output_fault ∙ begun.no_fault;
+              lag = lags taken mid between going last last_declared last_short _ (gives last, whole_coded);
+            }
 
   -- ---- a block did not come
 
@@ -552,7 +394,7 @@ module _ (direction : Direction) (header : OpenHeader) (good : IsOpenGood header
       (going : Going direction header taken input mid sink between) (size : ℕ) (size_is : size ≡ block_bytes header)
     where
       module _ (bytes : List ℕ) (gave : Gave mid now bytes) (short : length bytes < size)
-          (limit : header.start + taken + length bytes ≤ 2 ^ 40)
+          (limit : header.start + taken + length bytes ≤ MAX_INPUT)
           (declared : InDeclared (declared_bytes header) (taken + length bytes)) where
         few : length bytes < block_bytes header
         few = omega (arith, short, size_is)
@@ -570,7 +412,7 @@ module _ (direction : Direction) (header : OpenHeader) (good : IsOpenGood header
         said = begun.opened.said (going.heard ++ bytes)
 
         abbrev stands : List ℕ
-        stands = head ++ coded direction header good (signal direction header good going.heard)
+        stands = head ++ gives going.heard
 
         stops : (error : ConvertFault) → IsCause error direction came now →
             HasWritten error direction came stands now empty between → CountsFault error before now empty between
@@ -582,11 +424,8 @@ module _ (direction : Direction) (header : OpenHeader) (good : IsOpenGood header
               gave = gave_given taken mid between going bytes declared less now
                   (Gave-append input mid now going.heard bytes going.gave gave);
               in_limit = omega (arith, came_long, limit);
-              put = (Took-append empty sink between head (coded direction header good
-                  (signal direction header good going.heard)) begun.took going.took).put;
-              unflushed = unflushed_by error empty between stands
-                  (Took-append empty sink between head (coded direction header good
-                  (signal direction header good going.heard)) begun.took going.took).settled;
+              put = (stood taken mid between going).put;
+              unflushed = unflushed_by error empty between stands (stood taken mid between going).settled;
               cause = cause;
               wrote = wrote;
               faults = faults;
@@ -643,21 +482,3 @@ module _ (direction : Direction) (header : OpenHeader) (good : IsOpenGood header
       pub stops_unread : (error : ConvertFault) → Unread direction header taken size error mid now →
           Stopped direction error before now empty between
       stops_unread error u = by_cause u.bytes u.gave u.short u.in_limit u.declared error u.cause
-
--- ---- whole samples
-
-whole_width : (n channels w : ℕ) → 0 < w → n * (channels * w) / w * w ≡ n * (channels * w)
-whole_width n channels w some = grind (arith, product n channels w, count (n * channels) w some)
-  where
-    product : (n channels w : ℕ) → n * (channels * w) ≡ n * channels * w
-    product n channels w = omega arith
-
-    count : (k w : ℕ) → 0 < w → k * w / w ≡ k
-    count k w some = grind arith
-
-pub whole_samples : (n channels w frame width : ℕ) (bytes : List ℕ) → frame ≡ channels * w → width ≡ w → 0 < w →
-    n * frame ≤ length bytes → length (take (n * frame) bytes) / width * width ≡ length (take (n * frame) bytes)
-whole_samples n channels w frame width bytes is width_is some within =
-    let long : length (take (n * frame) bytes) ≡ n * (channels * w) = length-take-le (n * frame) bytes within ∙
-    ap (λ f. n * f) is in
-    rw (long, width_is) (whole_width n channels w some)

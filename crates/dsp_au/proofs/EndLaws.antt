@@ -1,5 +1,5 @@
 -- The begin and the end of a conversion.
-use Rattle.std.proofs.Common.{length-append, length-take-le, ◌<◌, ◌≡◌, ◌⊎◌, ℕ, ◌+◌, ◌*◌, ◌^◌, ◌≤◌, List, [], ◌++◌}
+use Rattle.std.proofs.Common.{length-append, length-take-le, ◌<◌, ◌≡◌, ◌⊎◌, ℕ, ◌+◌, ◌*◌, ◌≤◌, List, [], ◌++◌}
 use Rattle.std.proofs.Common.{length, take, drop, Option, Some, None, IfSome, refl, sym, ap, ◌∙◌, subst, arith}
 use Rattle.std.proofs.Common.{append_assoc, append-nil, inl, inr}
 use Rattle.std.specs.Option.{unwrap_or}
@@ -12,6 +12,7 @@ use Rattle.dsp_defs.specs.Streaming.{Begins}
 use Rattle.dsp_defs.specs.Au.{form_coded, form_header, form_pad, source_signal, target, target_form, target_of_signal}
 use Rattle.dsp_defs.specs.Au.{target_with}
 use Rattle.dsp_defs.specs.declared.au.Direction.{Direction}
+use Rattle.dsp_defs.specs.declared.limits.TheConstants.{MAX_INPUT}
 use Rattle.dsp_defs.specs.declared.wave.OpenHeader.{OpenHeader}
 use Rattle.dsp_au.specs.declared.conversion.Converted.{Converted}
 use Rattle.dsp_au.specs.declared.fault.ConvertFault.{ConvertFault}
@@ -29,7 +30,7 @@ module _ (direction : Direction) (input now : SourceState) (sink : SinkState) wh
       IsSource direction given header → A
   unheaded_none given header none is = absurd (let same = sym none ∙ is in cc)
 
-  module _ (given : List ℕ) (gave : Gave input now given) (limit : length given ≤ 2 ^ 40)
+  module _ (given : List ℕ) (gave : Gave input now given) (limit : length given ≤ MAX_INPUT)
       (none : IsUnheaded direction given) where
     -- nothing was written
     stops : (error : ConvertFault) → IsCause error direction given now →

@@ -11,9 +11,10 @@ use Rattle.dsp_ports.specs.Ports.{SourceState, Gave, one_more}
 use Rattle.dsp_ports.specs.Fill.{Filled, Unfilled}
 use Rattle.dsp_ports.specs.declared.filling.FillFault.{FillFault}
 use Rattle.dsp_ports.specs.declared.filling.FillFault.TheVariants.{Failed, LimitReached}
-use Rattle.dsp_ports.proofs.Moved.{Gave-append, Gave-nil}
+use Rattle.dsp_ports.proofs.Moved.{Gave-append}
 use Rattle.dsp_defs.specs.Au.{au_header_of, au_said, au_whole}
 use Rattle.dsp_defs.specs.Open.{IsOpenGood}
+use Rattle.dsp_defs.specs.declared.limits.TheConstants.{MAX_INPUT}
 use Rattle.dsp_defs.specs.declared.wave.OpenHeader.{OpenHeader}
 use Rattle.dsp_defs.specs.declared.au.AuFault.{AuFault}
 use Rattle.dsp_defs.specs.declared.au.AuFault.TheVariants.{NotAu, Ended}
@@ -22,19 +23,6 @@ use Rattle.dsp_au.specs.declared.fault.AuOr.TheVariants.{Fault, Read, Long}
 use Rattle.dsp_au.specs.Reading.{AuCame, AuHeaded, AuMissing, AuStopped, HasAuCause, IsAuMissed}
 
 -- ---- pieces, one after another
-
-pub nothing_came : (place : ℕ) (now : SourceState) → AuCame place 0 now now []
-nothing_came place now = record { long = refl; gave = Gave-nil now; no_fault = refl }
-
-pub both_came : (place first second : ℕ) (old mid now : SourceState) (front back : List ℕ) →
-    AuCame place first old mid front → AuCame (place + first) second mid now back →
-    AuCame place (first + second) old now (front ++ back)
-both_came place first second old mid now front back a b =
-    record {
-      long = omega (arith, length-append front back, a.long, b.long);
-      gave = Gave-append old mid now front back a.gave b.gave;
-      no_fault = b.no_fault ∙ a.no_fault;
-    }
 
 -- ---- what the bytes say
 
@@ -77,7 +65,7 @@ short_file bytes short = by_begin (bytes_eq (take 4 bytes) (codes ".snd")) refl
     by_begin true e = subst IsErr (sym (fields_cut bytes e short)) refl
 
 -- the source has failed within the fields
-pub fails_fields : (old now : SourceState) → Unfilled old now 24 (2 ^ 40) Failed → AuStopped old now Read
+pub fails_fields : (old now : SourceState) → Unfilled old now 24 MAX_INPUT Failed → AuStopped old now Read
 fails_fields old now u =
     record {
       bytes = u.bytes;
@@ -86,13 +74,13 @@ fails_fields old now u =
       cause = (u.cause.0, omega (arith, u.cause.1), short_file u.bytes u.short);
     }
 
-pub fails_any : (old now : SourceState) (size room : ℕ) (fault : FillFault) → size ≡ 24 → room ≡ 2 ^ 40 →
+pub fails_any : (old now : SourceState) (size room : ℕ) (fault : FillFault) → size ≡ 24 → room ≡ MAX_INPUT →
     Unfilled old now size room fault → AuStopped old now Read
 fails_any old now size room Failed all_size all u = fails_fields old now (rw (all_size, all) at u)
 fails_any old now size room LimitReached all_size all u = absurd (omega (arith, all_size, all, u.short, u.cause.1))
 
 module _ (old now : SourceState) (block : List ℕ) (count : ℕ) (size : length block ≡ 24)
-    (filled : Filled old now block (2 ^ 40) count) where
+    (filled : Filled old now block MAX_INPUT count) where
   abbrev first : List ℕ
   first = take count block
 
@@ -137,13 +125,6 @@ module _ (old now : SourceState) (block : List ℕ) (count : ℕ) (size : length
   module _ (enough : 4 ≤ count) (begins : bytes_eq (take 4 block) (codes ".snd") ≡ true) where
     is_au : (more : List ℕ) → bytes_eq (take 4 (first ++ more)) (codes ".snd") ≡ true
     is_au more = ap (λ xs. bytes_eq xs (codes ".snd")) (same_begin enough more) ∙ begins
-
-    pub ends_in_fields : count < 24 → AuStopped old now (Fault Ended count)
-    ends_in_fields less =
-        stops_with Ended count (λ more h. ap au_header_of (alone less more h)
-        ∙ fields_cut first (ap (λ xs. bytes_eq (take 4 xs) (codes ".snd")) (sym (append-nil first)) ∙ is_au [])
-        (omega (arith, first_long, less))
-        ∙ ap (λ (n : ℕ). Err (Ended, n)) first_long)
 
     module _ (all : 24 ≤ count) where
       whole_first : first ≡ block
@@ -226,7 +207,7 @@ module _ (old mid now : SourceState) (block : List ℕ) (came : AuCame 0 24 old 
 -- ---- the whole header
 
 module _ (old mid now : SourceState) (block : List ℕ) (count : ℕ) (size : length block ≡ 24)
-    (filled : Filled old mid block (2 ^ 40) count)
+    (filled : Filled old mid block MAX_INPUT count)
     (enough : 4 ≤ count) (begins : bytes_eq (take 4 block) (codes ".snd") ≡ true) (all : 24 ≤ count)
     (header : OpenHeader) (good : IsOpenGood header) (start : 24 ≤ header.start) (few : header.start < 2 ^ 32)
     (is : au_said block ≡ Ok header) where

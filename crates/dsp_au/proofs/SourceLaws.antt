@@ -1,6 +1,6 @@
 -- The header of the source, in either form.
-use Rattle.std.proofs.Common.{◌≡◌, ◌⊎◌, ℕ, ◌^◌, List, [], ◌++◌, length, Some, None, Result, Ok, Err, refl, sym, ap}
-use Rattle.std.proofs.Common.{◌∙◌, subst, arith, append-nil, inl, inr}
+use Rattle.std.proofs.Common.{◌≡◌, ◌⊎◌, ℕ, List, [], ◌++◌, length, Some, None, Result, Ok, Err, refl, ap, subst, arith}
+use Rattle.std.proofs.Common.{append-nil, inl, inr}
 use Rattle.std.specs.Io.KnownBytes.{IsAtEnd}
 use Rattle.std.specs.Result.{IsErr, result_ok, result_map_both}
 use Rattle.dsp_ports.specs.Ports.{SourceState}
@@ -11,15 +11,13 @@ use Rattle.dsp_defs.specs.declared.au.AuFault.{AuFault}
 use Rattle.dsp_defs.specs.declared.au.AuFault.TheVariants as au
 use Rattle.dsp_defs.specs.declared.wave.HeaderFault.TheVariants as wave
 use Rattle.std.specs.Option.{option_map}
-use Rattle.dsp_defs.specs.declared.wave.Header.{Header}
 use Rattle.dsp_defs.specs.declared.wave.HeaderFault.{HeaderFault}
-use Rattle.dsp_defs.specs.declared.wave.HeaderFault.TheVariants.{NoSamples}
 use Rattle.dsp_defs.specs.declared.wave.OpenHeader.{OpenHeader}
 use Rattle.dsp_defs.proofs.AuLaws.{open_header-good}
 use Rattle.dsp_wave.specs.Reading.{Stopped as WaveStopped}
 use Rattle.dsp_wave.specs.Opening.{OpenHeaded, own_header_of}
 use Rattle.dsp_wave.specs.declared.reader.HeaderOr.TheVariants as wave_or
-use Rattle.dsp_au.specs.Reading.{AuHeaded, AuStopped}
+use Rattle.dsp_au.specs.Reading.{AuStopped}
 use Rattle.dsp_au.specs.Convert.{HasFault, IsUnheaded, Opened, Unopened, short_at, source_fault}
 use Rattle.dsp_au.specs.declared.fault.AuOr.TheVariants as au_or
 use Rattle.dsp_au.specs.declared.fault.ConvertFault.TheVariants as fault
@@ -44,14 +42,6 @@ wave_source_fault bytes f offset e = ap (λ (said : Result OpenHeader (HeaderFau
   | Ok header ↦ option_map (λ short. fault.Wave (wave.Short short.0 short.1) (length bytes))
       (short_at header (length bytes))
 ]) (wave_fault_of bytes (f, offset) e)
-
--- of an error no header
-err_unheaded : (bytes : List ℕ) → IsErr (own_header_of bytes) → IsUnheaded WaveToAu bytes
-err_unheaded bytes h = by_result (own_header_of bytes) refl h
-  where
-    by_result : (r : Result Header (HeaderFault × ℕ)) → own_header_of bytes ≡ r → IsErr r → IsUnheaded WaveToAu bytes
-    by_result (Err said) e h = wave_unheaded bytes said e
-    by_result (Ok header) e h = absurd cc
 
 pub wave_opened : (header : OpenHeader) (old now : SourceState) → OpenHeaded old now header →
     Opened WaveToAu header old now
@@ -91,37 +81,6 @@ wave_fault f offset old now s =
         (append-nil s.bytes) (all []))
     none (inr (end, is)) = wave_unheaded s.bytes (f, offset) is
 
-pub wave_failed : (old now : SourceState) → WaveStopped own_header_of 0 old now wave_or.Read →
-    Unopened WaveToAu fault.Read old now
-wave_failed old now s = let (faulty, limit, err, cut) = s.cause in
-    record {
-      given = s.bytes;
-      gave = s.gave;
-      in_limit = omega (arith, s.in_limit);
-      cause =
-          (faulty, omega (arith, limit), err_unheaded s.bytes err);
-    }
-
-pub wave_long : (old now : SourceState) → WaveStopped own_header_of 0 old now wave_or.Long →
-    Unopened WaveToAu (fault.Input (2 ^ 40) (2 ^ 40)) old now
-wave_long old now s =
-    let (full, said, clean) = s.cause in
-    let total : length s.bytes ≡ 2 ^ 40 = omega (arith, full) in
-    record {
-      given = s.bytes;
-      gave = s.gave;
-      in_limit = omega (arith, total);
-      cause = (
-        total,
-        refl,
-        refl,
-        clean,
-        wave_unheaded s.bytes (NoSamples, 2 ^ 40) said,
-        wave_source_fault s.bytes NoSamples (2 ^ 40) said ∙
-            ap (λ (n : ℕ). Some (fault.Wave NoSamples n)) (sym total),
-      );
-    }
-
 -- ---- AU
 
 au_unheaded : (bytes : List ℕ) (said : AuFault × ℕ) → au_header_of bytes ≡ Err said → IsUnheaded AuToWave bytes
@@ -141,18 +100,6 @@ au_err_unheaded bytes h = by_result (au_header_of bytes) refl h
     by_result : (r : Result OpenHeader (AuFault × ℕ)) → au_header_of bytes ≡ r → IsErr r → IsUnheaded AuToWave bytes
     by_result (Err said) e h = au_unheaded bytes said e
     by_result (Ok header) e h = absurd cc
-
-pub au_opened : (header : OpenHeader) (old now : SourceState) → AuHeaded old now header → Opened AuToWave header old now
-au_opened header old now h =
-    record {
-      first = h.bytes;
-      said = λ more. ap result_ok (h.said more);
-      start = h.start;
-      in_limit = h.in_limit;
-      gave = h.gave;
-      no_fault = h.no_fault;
-      good = h.good;
-    }
 
 pub au_fault : (f : AuFault) (offset : ℕ) (old now : SourceState) → AuStopped old now (au_or.Fault f offset) →
     Unopened AuToWave (fault.Au f offset) old now

@@ -1,5 +1,5 @@
 -- A fault that stops a conversion where the input tells all its bytes.
-use Rattle.std.proofs.Common.{◌≡◌, ℕ, ◌+◌, ◌^◌, ◌<◌, ◌≤◌, List, [], ◌++◌, length, take, Option, Some, None, IfSome}
+use Rattle.std.proofs.Common.{◌≡◌, ℕ, ◌+◌, ◌<◌, ◌≤◌, List, [], ◌++◌, length, take, Option, Some, None, IfSome}
 use Rattle.std.proofs.Common.{refl, sym, ap, ◌∙◌, subst, arith, append-nil, length-append, inl, inr}
 use Rattle.std.proofs.lemmas.List.{take_at}
 use Rattle.std.specs.Option.{unwrap_or}
@@ -10,7 +10,7 @@ use Rattle.dsp_defs.specs.Bytes.{width}
 use Rattle.dsp_defs.specs.Open.{OpenFits}
 use Rattle.dsp_defs.specs.Wave.{riff_bytes}
 use Rattle.dsp_defs.specs.declared.format.Container.TheVariants as container
-use Rattle.dsp_defs.specs.declared.limits.TheConstants.{MAX_RIFF_SIZE}
+use Rattle.dsp_defs.specs.declared.limits.TheConstants.{MAX_INPUT, MAX_RIFF_SIZE}
 use Rattle.dsp_defs.specs.declared.au.Direction.{Direction}
 use Rattle.dsp_defs.specs.declared.au.Direction.TheVariants.{AuToWave}
 use Rattle.dsp_defs.specs.declared.wave.OpenHeader.{OpenHeader}
@@ -43,9 +43,9 @@ module _ (direction : Direction) (given more : List ℕ) (now : SourceState) (le
       ap (source_fault direction) (append-nil given) ∙ here) free.good
 
   -- the limit
-  module _ (full : length given ≡ 2 ^ 40) where
-    front : take (2 ^ 40) all ≡ given
-    front = take_at given more (2 ^ 40) full
+  module _ (full : length given ≡ MAX_INPUT) where
+    front : take MAX_INPUT all ≡ given
+    front = take_at given more MAX_INPUT full
 
     in_given : (free : IsFree direction all) → IsSource direction given free.header
     in_given free = subst (λ bytes. IsSource direction bytes free.header) front free.in_front

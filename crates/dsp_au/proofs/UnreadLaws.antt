@@ -2,6 +2,7 @@
 use Rattle.std.proofs.Common.{◌≡◌, ℕ, ◌-◌, ◌^◌, refl, subst, List}
 use Rattle.dsp_defs.specs.declared.au.Direction.{Direction}
 use Rattle.dsp_defs.specs.declared.au.Direction.TheVariants.{WaveToAu, AuToWave}
+use Rattle.dsp_defs.specs.declared.limits.TheConstants.{MAX_INPUT}
 use Rattle.dsp_defs.specs.declared.wave.HeaderFault.TheVariants as wave_fault
 use Rattle.dsp_defs.specs.declared.au.AuFault.TheVariants as au_fault
 use Rattle.dsp_defs.specs.declared.wave.OpenHeader.{OpenHeader}
@@ -19,7 +20,7 @@ use Rattle.dsp_au.specs.Convert.{BlockRead, IsShort, IsUnread, Unread, stored}
 -- the fault that a cause is
 abbrev pub named : Direction → SampleFault → ConvertFault
 named direction cause.Failed = fault.Read
-named direction cause.LimitReached = fault.Input (2 ^ 40) (2 ^ 40)
+named direction cause.LimitReached = fault.Input MAX_INPUT MAX_INPUT
 named WaveToAu (cause.Short declared got offset) = fault.Wave (wave_fault.Short declared got) offset
 named AuToWave (cause.Short declared got offset) = fault.Au (au_fault.Short declared got) offset
 

@@ -14,7 +14,8 @@ use Rattle.dsp_defs.specs.Au.{target_with}
 use Rattle.dsp_defs.specs.declared.au.Direction.{Direction}
 use Rattle.dsp_defs.specs.declared.wave.OpenHeader.{OpenHeader}
 use Rattle.dsp_au.specs.Convert.{IsSource, IsTakenWhole, in_whole_frames}
-use Rattle.dsp_au.proofs.ConvertLaws.{IsTakenAll, signal, signal-whole, some_frame}
+use Rattle.dsp_au.proofs.ConvertLaws.{IsTakenAll}
+use Rattle.dsp_au.proofs.FrameLaws.{signal, signal-whole, some_frame}
 
 pub target_is : (direction : Direction) (given : List ℕ) (header : OpenHeader) → IsSource direction given header →
     target direction given ≡ target_with direction header given

@@ -1,5 +1,5 @@
 -- How the bytes that a conversion took and the bytes that it wrote stand to each other at each of its ends.
-use Rattle.std.specs.Prelude.{◌≡◌, ◌⊎◌, ℕ, ◌+◌, ◌-◌, ◌*◌, ◌/◌, ◌^◌, ◌<◌, ◌≤◌, nat_lt, if◌then◌else◌, List, ◌++◌}
+use Rattle.std.specs.Prelude.{◌≡◌, ◌⊎◌, ℕ, ◌+◌, ◌-◌, ◌*◌, ◌/◌, ◌<◌, ◌≤◌, nat_lt, if◌then◌else◌, List, ◌++◌}
 use Rattle.std.specs.Prelude.{length, take, Option, Some, None, Result, Ok, Err, IfSome, MatchResult}
 use Rattle.std.specs.Io.KnownBytes.{IsAtEnd, append_known}
 use Rattle.std.specs.Option.{option_map}
@@ -10,7 +10,7 @@ use Rattle.dsp_defs.specs.Bytes.{width}
 use Rattle.dsp_defs.specs.Open.{IsOpenGood, open_header_of}
 use Rattle.dsp_defs.specs.Streaming.{Begins}
 use Rattle.dsp_defs.specs.Wave.{riff_bytes}
-use Rattle.dsp_defs.specs.declared.limits.TheConstants.{MAX_RIFF_SIZE}
+use Rattle.dsp_defs.specs.declared.limits.TheConstants.{MAX_INPUT, MAX_RIFF_SIZE}
 use Rattle.dsp_defs.specs.declared.format.Container.TheVariants as container
 use Rattle.dsp_defs.specs.declared.wave.OpenHeader.{OpenHeader}
 use Rattle.dsp_defs.specs.declared.wave.HeaderFault.TheVariants as wave_fault
@@ -89,7 +89,7 @@ pub record Opened (direction : Direction) (header : OpenHeader) (input now : Sou
   pub first : List ℕ
   pub said : (more : List ℕ) → IsSource direction (first ++ more) header
   pub start : header.start ≡ length first
-  pub in_limit : length first ≤ 2 ^ 40
+  pub in_limit : length first ≤ MAX_INPUT
   pub gave : Gave input now first
   pub no_fault : now.faults ≡ input.faults
   pub good : IsOpenGood header
@@ -104,10 +104,10 @@ WantsMore direction given =
 
 -- the cause of an end without a header, where these bytes were taken
 abbrev pub IsUnopened : ConvertFault → Direction → List ℕ → SourceState → SourceState → Type 0
-IsUnopened fault.Read direction given input now = (now.faults ≡ one_more input.faults) × (length given < 2 ^ 40) ×
+IsUnopened fault.Read direction given input now = (now.faults ≡ one_more input.faults) × (length given < MAX_INPUT) ×
     IsUnheaded direction given
 IsUnopened (fault.Input taken limit) direction given input now =
-    (length given ≡ 2 ^ 40) × (taken ≡ 2 ^ 40) × (limit ≡ 2 ^ 40) × (now.faults ≡ input.faults) ×
+    (length given ≡ MAX_INPUT) × (taken ≡ MAX_INPUT) × (limit ≡ MAX_INPUT) × (now.faults ≡ input.faults) ×
     IsUnheaded direction given
     × (source_fault direction given ≡ Some (fault.Wave wave_fault.NoSamples (length given)))
 IsUnopened (fault.Wave said offset) direction given input now =
@@ -119,7 +119,7 @@ IsUnopened error direction given input now = ⊥
 pub record Unopened (direction : Direction) (error : ConvertFault) (input now : SourceState) : Type 0 where
   pub given : List ℕ
   pub gave : Gave input now given
-  pub in_limit : length given ≤ 2 ^ 40
+  pub in_limit : length given ≤ MAX_INPUT
   pub cause : IsUnopened error direction given input now
 
 -- ---- the header of the target was written
@@ -172,9 +172,9 @@ EndsShort direction error header taken input now =
 -- why it did not come
 abbrev pub IsUnread : Direction → ConvertFault → OpenHeader → ℕ → SourceState → SourceState → Type 0
 IsUnread direction fault.Read header taken input now = (now.faults ≡ one_more input.faults) ×
-    (header.start + taken < 2 ^ 40)
+    (header.start + taken < MAX_INPUT)
 IsUnread direction (fault.Input told most) header taken input now =
-    (header.start + taken ≡ 2 ^ 40) × (told ≡ 2 ^ 40) × (most ≡ 2 ^ 40) × (now.faults ≡ input.faults) ×
+    (header.start + taken ≡ MAX_INPUT) × (told ≡ MAX_INPUT) × (most ≡ MAX_INPUT) × (now.faults ≡ input.faults) ×
     IfSome (declared_bytes header) (λ size. taken < size)
 IsUnread direction (fault.Wave said offset) header taken input now =
     EndsShort direction (fault.Wave said offset) header taken input now
@@ -209,8 +209,8 @@ pub record Passed (direction : Direction) (header : OpenHeader) (count : ℕ) (i
   pub has : IsSource direction given header
   pub stays : (more : List ℕ) → IsSource direction (given ++ more) header
   pub good : IsOpenGood header
-  pub in_limit : length given ≤ 2 ^ 40
-  pub room_left : header.size ≡ None → length given < 2 ^ 40
+  pub in_limit : length given ≤ MAX_INPUT
+  pub room_left : header.size ≡ None → length given < MAX_INPUT
   pub whole : IsTakenWhole header (length given) now
   pub count_is : header.start + count ≡ length given
   pub frames : count / open_frame_bytes header ≡ length (source_signal direction header given)
@@ -230,10 +230,10 @@ Closed result bytes sink after =
 
 -- why it stopped, from the bytes that were taken
 abbrev pub IsCause : ConvertFault → Direction → List ℕ → SourceState → Type 0
-IsCause fault.Read direction given now = length given < 2 ^ 40
+IsCause fault.Read direction given now = length given < MAX_INPUT
 IsCause fault.Write direction given now = (header : OpenHeader) × IsSource direction given header
-IsCause (fault.Input taken limit) direction given now = (length given ≡ 2 ^ 40) × (taken ≡ 2 ^ 40) ×
-    (limit ≡ 2 ^ 40) × WantsMore direction given
+IsCause (fault.Input taken limit) direction given now = (length given ≡ MAX_INPUT) × (taken ≡ MAX_INPUT) ×
+    (limit ≡ MAX_INPUT) × WantsMore direction given
 IsCause (fault.Riff size limit) direction given now =
     (header : OpenHeader) × ((more : List ℕ) → IsSource direction (given ++ more) header) ×
     (length given ≡ header.start) × IsTooLong direction header size × (limit ≡ MAX_RIFF_SIZE)
@@ -260,8 +260,8 @@ HasWritten error direction given written now sink after = WroteBlocks direction 
 
 -- the samples end within the limit
 abbrev pub EndsWithin : Option ℕ → ℕ → ℕ → Type 0
-EndsWithin (Some size) start count = start + size ≤ 2 ^ 40
-EndsWithin None start count = count < 2 ^ 40
+EndsWithin (Some size) start count = start + size ≤ MAX_INPUT
+EndsWithin None start count = count < MAX_INPUT
 
 -- nothing stands in the way of a conversion of all bytes of an input: no fault is in them, their header and all
 -- samples that it
@@ -270,7 +270,7 @@ pub record IsFree (direction : Direction) (bytes : List ℕ) : Type 0 where
   pub header : OpenHeader
   pub good : source_fault direction bytes ≡ None
   pub has : IsSource direction bytes header
-  pub in_front : IsSource direction (take (2 ^ 40) bytes) header
+  pub in_front : IsSource direction (take MAX_INPUT bytes) header
   pub in_limit : EndsWithin (declared_bytes header) header.start (length bytes)
   pub fits : FormFits (target_form direction) header
 
@@ -297,7 +297,7 @@ pub record Stopped (direction : Direction) (error : ConvertFault) (input now : S
   pub given : List ℕ
   pub written : List ℕ
   pub gave : Gave input now given
-  pub in_limit : length given ≤ 2 ^ 40
+  pub in_limit : length given ≤ MAX_INPUT
   pub put : after.put ≡ append_known sink.put written
   pub unflushed : IsUnflushed error sink after written
   pub cause : IsCause error direction given now
@@ -318,8 +318,8 @@ pub record Done (direction : Direction) (converted : Converted) (input now : Sou
   pub header : OpenHeader
   pub gave : Gave input now given
   pub has : IsSource direction given header
-  pub in_limit : length given ≤ 2 ^ 40
-  pub room_left : header.size ≡ None → length given < 2 ^ 40
+  pub in_limit : length given ≤ MAX_INPUT
+  pub room_left : header.size ≡ None → length given < MAX_INPUT
   pub whole : IsTakenWhole header (length given) now
   pub fits : FormFits (target_form direction) header
   pub put : after.put ≡ append_known sink.put (target direction given)

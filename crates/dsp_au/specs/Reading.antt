@@ -1,11 +1,12 @@
 -- What the reader of an AU header answers, and what it has taken of its source by then.
-use Rattle.std.specs.Prelude.{◌≡◌, ℕ, ◌+◌, ◌^◌, ◌<◌, ◌≤◌, ◌⊎◌, IsErr, List, ◌++◌, length, Ok, Err}
+use Rattle.std.specs.Prelude.{◌≡◌, ℕ, ◌+◌, ◌<◌, ◌≤◌, ◌⊎◌, IsErr, List, ◌++◌, length, Ok, Err}
 use Rattle.std.specs.Io.KnownBytes.{IsAtEnd}
 use Rattle.dsp_ports.specs.Ports.{SourceState, one_more, Gave}
 use Rattle.dsp_defs.specs.Au.{au_header_of}
 use Rattle.dsp_defs.specs.Open.{IsOpenGood}
 use Rattle.dsp_defs.specs.declared.au.AuFault.{AuFault}
 use Rattle.dsp_defs.specs.declared.au.AuFault.TheVariants.{Ended}
+use Rattle.dsp_defs.specs.declared.limits.TheConstants.{MAX_INPUT}
 use Rattle.dsp_defs.specs.declared.wave.OpenHeader.{OpenHeader}
 use Rattle.dsp_au.specs.declared.fault.AuOr.{AuOr}
 use Rattle.dsp_au.specs.declared.fault.AuOr.TheVariants.{Fault, Read, Long}
@@ -20,7 +21,7 @@ IsAuSure now bytes fault = ((more : List ℕ) → au_header_of (bytes ++ more) �
 -- No header is so long that too many bytes were taken
 abbrev pub HasAuCause : AuOr → SourceState → SourceState → List ℕ → Type 0
 HasAuCause (Fault fault offset) old now bytes = IsAuSure now bytes (fault, offset) × (now.faults ≡ old.faults)
-HasAuCause Read old now bytes = (now.faults ≡ one_more old.faults) × (length bytes < 2 ^ 40) ×
+HasAuCause Read old now bytes = (now.faults ≡ one_more old.faults) × (length bytes < MAX_INPUT) ×
     IsErr (au_header_of bytes)
 HasAuCause Long old now bytes = ⊥
 
@@ -28,14 +29,14 @@ HasAuCause Long old now bytes = ⊥
 pub record AuStopped (old now : SourceState) (error : AuOr) : Type 0 where
   pub bytes : List ℕ
   pub gave : Gave old now bytes
-  pub in_limit : length bytes ≤ 2 ^ 40
+  pub in_limit : length bytes ≤ MAX_INPUT
   pub cause : HasAuCause error old now bytes
 
 -- the header came: exactly the bytes up to the first sample were taken, and they say so whatever comes behind them
 pub record AuHeaded (old now : SourceState) (header : OpenHeader) : Type 0 where
   pub bytes : List ℕ
   pub gave : Gave old now bytes
-  pub in_limit : length bytes ≤ 2 ^ 40
+  pub in_limit : length bytes ≤ MAX_INPUT
   pub said : (more : List ℕ) → au_header_of (bytes ++ more) ≡ Ok header
   pub start : header.start ≡ length bytes
   pub good : IsOpenGood header

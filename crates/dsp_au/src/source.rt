@@ -1,6 +1,6 @@
 //! The file that is read: its header, and its samples block by block.
 
-ghost use Rattle.std.specs.Prelude.{◌≡◌, ◌+◌, ◌*◌, ◌<◌, ◌≤◌, ◌^◌, ℕ, length, get_or, IfOk, IfErr};
+ghost use Rattle.std.specs.Prelude.{◌≡◌, ◌+◌, ◌*◌, ◌<◌, ◌≤◌, ℕ, length, get_or, IfOk, IfErr};
 ghost use Rattle.dsp_defs.specs.Au.{open_frame_bytes};
 ghost use Rattle.dsp_au.specs.Convert.{BlockRead, InDeclared, IsShort, Opened, Unopened, Unread};
 ghost use Rattle.dsp_au.specs.Convert.{declared_bytes};
@@ -74,7 +74,7 @@ pub(crate) fn read_block<S: Source>(
     block: &mut [u8],
     input: &mut S,
 ) -> Result<usize, ConvertFault>
-    requires limit { header.start + taken ≤ 2 ^ 40 }
+    requires limit { header.start + taken ≤ MAX_INPUT }
     requires frame { 1 ≤ open_frame_bytes header }
     requires declared { InDeclared (declared_bytes header) taken }
     ensures ok { IfOk result (λ count. BlockRead header taken block.new count

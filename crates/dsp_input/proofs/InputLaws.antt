@@ -1,5 +1,5 @@
 -- What the bytes of an input say, and what of it stays where more bytes stand behind them.
-use Rattle.std.proofs.Common.{◌≡◌, ℕ, ◌+◌, ◌-◌, ◌*◌, ◌/◌, ◌^◌, ◌<◌, ◌≤◌, List, [], ◌∷◌, ◌++◌, length, take, drop}
+use Rattle.std.proofs.Common.{◌≡◌, ℕ, ◌+◌, ◌-◌, ◌*◌, ◌/◌, ◌<◌, ◌≤◌, List, [], ◌∷◌, ◌++◌, length, take, drop}
 use Rattle.std.proofs.Common.{Option, Some, None, IfSome, Result, Ok, Err, refl, sym, ap, ◌∙◌, subst, arith}
 use Rattle.std.proofs.Common.{append-nil, length-append, inl, inr}
 use Rattle.std.proofs.lemmas.List.{take_all, take_at, drop-append-le, length-take, length-drop}
@@ -16,6 +16,7 @@ use Rattle.dsp_defs.specs.Output.{sample_bytes, sample_bytes_at, wanted_of}
 use Rattle.dsp_defs.specs.Wave.{header_of}
 use Rattle.dsp_defs.specs.declared.format.InputKind.{InputKind}
 use Rattle.dsp_defs.specs.declared.format.InputKind.TheVariants as kind
+use Rattle.dsp_defs.specs.declared.limits.TheConstants.{MAX_INPUT}
 use Rattle.dsp_defs.specs.declared.script.Script.{Script}
 use Rattle.dsp_defs.specs.declared.wave.Header.{Header}
 use Rattle.dsp_defs.specs.declared.wave.HeaderFault.{HeaderFault}
@@ -291,12 +292,12 @@ good_header script bytes none = by script.input.kind refl
 -- ---- what an input that stops a stream isn't
 
 -- not all is within the limit
-module _ (script : Script) (given more : List ℕ) (all : length given ≡ 2 ^ 40) where
+module _ (script : Script) (given more : List ℕ) (all : length given ≡ MAX_INPUT) where
   abbrev EndsWithin : Option ℕ → Type 0
   EndsWithin declared = elim declared [
-    | Some size ↦ HasHeader script (take (2 ^ 40) (given ++ more)) ×
-        ((input_header script (given ++ more)).start + size ≤ 2 ^ 40)
-    | None ↦ length (given ++ more) < 2 ^ 40
+    | Some size ↦ HasHeader script (take MAX_INPUT (given ++ more)) ×
+        ((input_header script (given ++ more)).start + size ≤ MAX_INPUT)
+    | None ↦ length (given ++ more) < MAX_INPUT
   ]
 
   pub past_limit : (HasHeader script given → IfSome (declared_bytes script (input_header script given))
@@ -312,7 +313,7 @@ module _ (script : Script) (given more : List ℕ) (all : length given ≡ 2 ^ 4
       by None here short = absurd (omega (arith, short, all, length-append given more))
       by (Some size) here within = absurd (omega (
         arith,
-        here (subst (HasHeader script) (take_at given more (2 ^ 40) all) within.0),
+        here (subst (HasHeader script) (take_at given more MAX_INPUT all) within.0),
         all,
         within.1,
       ))

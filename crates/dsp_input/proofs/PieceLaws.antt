@@ -1,16 +1,17 @@
 -- A part of the samples is taken, piece by piece.
-use Rattle.std.proofs.Common.{◌≡◌, ◌⊎◌, ℕ, ◌+◌, ◌^◌, ◌<◌, ◌≤◌, List, [], ◌++◌, length, take, Option, Some, None, refl}
+use Rattle.std.proofs.Common.{◌≡◌, ◌⊎◌, ℕ, ◌+◌, ◌<◌, ◌≤◌, List, [], ◌++◌, length, take, Option, Some, None, refl}
 use Rattle.std.proofs.Common.{sym, ◌∙◌, subst, arith, length-append}
 use Rattle.std.proofs.lemmas.List.{length-take-le}
 use Rattle.dsp_ports.specs.Ports.{SourceState, Gave}
 use Rattle.dsp_ports.proofs.Moved.{Gave-nil, Gave-append}
+use Rattle.dsp_defs.specs.declared.limits.TheConstants.{MAX_INPUT}
 use Rattle.dsp_defs.specs.declared.script.Script.{Script}
 use Rattle.dsp_defs.specs.declared.wave.Header.{Header}
 use Rattle.dsp_input.specs.declared.fault.InputFault.{InputFault}
 use Rattle.dsp_input.specs.Taking.{AreAll, InDeclared, IsUnread, PartLost, PartRead, PartTaken, PartUnread}
 use Rattle.dsp_input.specs.Taking.{TakenSoFar, declared_bytes, in_whole_frames}
 
-pub part_starts : (script : Script) (header : Header) (end : ℕ) (input : SourceState) → header.start ≤ 2 ^ 40 →
+pub part_starts : (script : Script) (header : Header) (end : ℕ) (input : SourceState) → header.start ≤ MAX_INPUT →
     TakenSoFar script header end [] input input
 part_starts script header end input limit = record {
   gave = Gave-nil input;

@@ -1,5 +1,6 @@
 -- Why a block of samples did not come, as the input of a script names it.
-use Rattle.std.proofs.Common.{◌≡◌, ℕ, ◌^◌, refl, ap}
+use Rattle.std.proofs.Common.{◌≡◌, ℕ, refl, ap}
+use Rattle.dsp_defs.specs.declared.limits.TheConstants.{MAX_INPUT}
 use Rattle.dsp_defs.specs.declared.script.Script.{Script}
 use Rattle.dsp_defs.specs.declared.wave.Header.{Header}
 use Rattle.dsp_defs.specs.declared.wave.HeaderFault.TheVariants.{Short}
@@ -16,7 +17,7 @@ use Rattle.dsp_input.specs.Taking.{IsUnread, PartUnread, frame_bytes, stored}
 -- the fault of the input that a cause is
 abbrev pub named : SampleFault → InputFault
 named cause.Failed = fault.Failed
-named cause.LimitReached = fault.Limit (2 ^ 40) (2 ^ 40)
+named cause.LimitReached = fault.Limit MAX_INPUT MAX_INPUT
 named (cause.Short declared got offset) = fault.Header (Short declared got) offset
 
 module _ (script : Script) (header : Header) (input now : SourceState) where

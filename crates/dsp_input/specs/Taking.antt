@@ -1,5 +1,5 @@
 -- What is taken of an input: its header, its samples, and why it stopped.
-use Rattle.std.specs.Prelude.{◌≡◌, ◌≢◌, ◌⊎◌, ℕ, ◌+◌, ◌-◌, ◌*◌, ◌^◌, ◌<◌, ◌≤◌, nat_lt, if◌then◌else◌, List, ◌++◌}
+use Rattle.std.specs.Prelude.{◌≡◌, ◌≢◌, ◌⊎◌, ℕ, ◌+◌, ◌-◌, ◌*◌, ◌<◌, ◌≤◌, nat_lt, if◌then◌else◌, List, ◌++◌}
 use Rattle.std.specs.Prelude.{length, take, Option, Some, None, Ok, Err, IfSome}
 use Rattle.std.specs.Io.KnownBytes.{IsAtEnd}
 use Rattle.dsp_ports.specs.Ports.{SourceState, one_more, Gave}
@@ -10,7 +10,7 @@ use Rattle.dsp_defs.specs.Wave.{header_of, riff_size, HeaderFits}
 use Rattle.dsp_defs.specs.declared.format.Coding.{Coding}
 use Rattle.dsp_defs.specs.declared.format.Container.TheVariants as container
 use Rattle.dsp_defs.specs.declared.format.InputKind.TheVariants as kind
-use Rattle.dsp_defs.specs.declared.limits.TheConstants.{MAX_RIFF_SIZE}
+use Rattle.dsp_defs.specs.declared.limits.TheConstants.{MAX_INPUT, MAX_RIFF_SIZE}
 use Rattle.dsp_defs.specs.declared.script.Script.{Script}
 use Rattle.dsp_defs.specs.declared.wave.Header.{Header}
 use Rattle.dsp_defs.specs.declared.wave.HeaderFault.{HeaderFault}
@@ -57,7 +57,7 @@ pub record Opens (script : Script) (header : Header) (first : List ℕ) : Type 0
   pub said : (more : List ℕ) → input_header script (first ++ more) ≡ header
   pub has : (more : List ℕ) → HasHeader script (first ++ more)
   pub start : header.start ≡ length first
-  pub in_limit : length first ≤ 2 ^ 40
+  pub in_limit : length first ≤ MAX_INPUT
 
 -- exactly these bytes were taken
 pub record Opened (script : Script) (header : Header) (input now : SourceState) : Type 0 where
@@ -74,19 +74,19 @@ pub record IsUnheaded (script : Script) (given : List ℕ) : Type 0 where
 
 -- the cause of an end without a header, where these bytes were taken
 abbrev pub IsUnopened : InputFault → Script → List ℕ → SourceState → SourceState → Type 0
-IsUnopened fault.Failed script given input now = (now.faults ≡ one_more input.faults) × (length given < 2 ^ 40) ×
+IsUnopened fault.Failed script given input now = (now.faults ≡ one_more input.faults) × (length given < MAX_INPUT) ×
     (HasHeader script given → ⊥)
 IsUnopened (fault.Header fault offset) script given input now =
     (script.input.kind ≡ kind.Wave) × IsSure (λ bytes. header_of bytes (wanted_of script)) now given
     (Err (fault, offset)) × (now.faults ≡ input.faults)
 IsUnopened (fault.Limit taken limit) script given input now =
-    (length given ≡ 2 ^ 40) × (taken ≡ 2 ^ 40) × (limit ≡ 2 ^ 40) × IsUnheaded script given ×
+    (length given ≡ MAX_INPUT) × (taken ≡ MAX_INPUT) × (limit ≡ MAX_INPUT) × IsUnheaded script given ×
     (now.faults ≡ input.faults)
 
 pub record Unopened (script : Script) (fault : InputFault) (input now : SourceState) : Type 0 where
   pub given : List ℕ
   pub gave : Gave input now given
-  pub in_limit : length given ≤ 2 ^ 40
+  pub in_limit : length given ≤ MAX_INPUT
   pub cause : IsUnopened fault script given input now
 
 -- the output has a header, and where it is to have so many frames its size would be past the limit of that
@@ -119,10 +119,10 @@ BlockRead script header taken block count input now =
 -- why it did not come
 abbrev pub IsUnread : InputFault → Script → Header → ℕ → SourceState → SourceState → Type 0
 IsUnread fault.Failed script header taken input now =
-    (now.faults ≡ one_more input.faults) × (header.start + taken < 2 ^ 40) ×
+    (now.faults ≡ one_more input.faults) × (header.start + taken < MAX_INPUT) ×
     IfSome (declared_bytes script header) (λ size. taken < size)
 IsUnread (fault.Limit told most) script header taken input now =
-    (header.start + taken ≡ 2 ^ 40) × (told ≡ 2 ^ 40) × (most ≡ 2 ^ 40) × (now.faults ≡ input.faults) ×
+    (header.start + taken ≡ MAX_INPUT) × (told ≡ MAX_INPUT) × (most ≡ MAX_INPUT) × (now.faults ≡ input.faults) ×
     IfSome (declared_bytes script header) (λ size. taken < size)
 IsUnread (fault.Header fault offset) script header taken input now =
     (declared : ℕ) × (header.size ≡ Some declared) × (fault ≡ Short declared taken) ×
@@ -145,7 +145,7 @@ pub record TakenSoFar (script : Script) (header : Header) (end : ℕ) (bytes : L
   pub gave : Gave input now bytes
   pub in_part : length bytes ≤ end
   pub declared : InDeclared (declared_bytes script header) (length bytes)
-  pub in_limit : header.start + length bytes ≤ 2 ^ 40
+  pub in_limit : header.start + length bytes ≤ MAX_INPUT
   pub no_fault : now.faults ≡ input.faults
 
 -- it was taken piece by piece, to its end or to that of the samples
@@ -154,9 +154,9 @@ pub record PartTaken (script : Script) (header : Header) (end : ℕ) (bytes : Li
     pub gave : Gave input now bytes
     pub in_part : length bytes ≤ end
     pub declared : InDeclared (declared_bytes script header) (length bytes)
-    pub in_limit : header.start + length bytes ≤ 2 ^ 40
+    pub in_limit : header.start + length bytes ≤ MAX_INPUT
     pub ended : (length bytes ≡ end) ⊎ AreAll (declared_bytes script header) (length bytes) now
-    pub room_left : header.size ≡ None → length bytes < end → header.start + length bytes < 2 ^ 40
+    pub room_left : header.size ≡ None → length bytes < end → header.start + length bytes < MAX_INPUT
     pub no_fault : now.faults ≡ input.faults
 
 -- it was not, and this is why the byte behind those that came did not
@@ -166,7 +166,7 @@ pub record PartLost (script : Script) (header : Header) (end : ℕ) (error : Inp
   pub gave : Gave input now bytes
   pub in_part : length bytes < end
   pub declared : InDeclared (declared_bytes script header) (length bytes)
-  pub in_limit : header.start + length bytes ≤ 2 ^ 40
+  pub in_limit : header.start + length bytes ≤ MAX_INPUT
   pub between : SourceState
   pub no_fault : between.faults ≡ input.faults
   pub cause : IsUnread error script header (length bytes) between now
@@ -210,9 +210,9 @@ pub record WantsMore (script : Script) (given : List ℕ) : Type 0 where
 
 -- why the input stopped, from the bytes that were taken of it
 abbrev pub IsInputCause : InputFault → Script → List ℕ → SourceState → Type 0
-IsInputCause fault.Failed script given now = (length given < 2 ^ 40) × AwaitsDeclared script given
-IsInputCause (fault.Limit taken limit) script given now = (length given ≡ 2 ^ 40) × (taken ≡ 2 ^ 40) ×
-    (limit ≡ 2 ^ 40) × WantsMore script given
+IsInputCause fault.Failed script given now = (length given < MAX_INPUT) × AwaitsDeclared script given
+IsInputCause (fault.Limit taken limit) script given now = (length given ≡ MAX_INPUT) × (taken ≡ MAX_INPUT) ×
+    (limit ≡ MAX_INPUT) × WantsMore script given
 IsInputCause (fault.Header said offset) script given now = HasFault script given now (said, offset)
 
 -- ---- limits
@@ -228,6 +228,6 @@ abbrev pub InLimit : Script → List ℕ → Type 0
 InLimit script bytes =
     let header = input_header script bytes in
     elim (declared_bytes script header) [
-      | Some size ↦ HasHeader script (take (2 ^ 40) bytes) × (header.start + size ≤ 2 ^ 40)
-      | None ↦ length bytes < 2 ^ 40
+      | Some size ↦ HasHeader script (take MAX_INPUT bytes) × (header.start + size ≤ MAX_INPUT)
+      | None ↦ length bytes < MAX_INPUT
     ]

@@ -1,4 +1,4 @@
-ghost use Rattle.std.specs.Prelude.{◌≡◌, ◌+◌, ◌^◌, ◌≤◌, length, IfOk, IfErr};
+ghost use Rattle.std.specs.Prelude.{◌≡◌, ◌+◌, ◌≤◌, length, IfOk, IfErr};
 ghost use Rattle.dsp_wave.specs.Samples.{InDeclared};
 ghost use Rattle.dsp_input.specs.Taking.{frame_bytes, declared_bytes, PartRead, PartUnread};
 
@@ -18,7 +18,7 @@ pub fn read_block<S: Source>(
     block: &mut [u8],
     input: &mut S,
 ) -> Result<usize, InputFault>
-    requires limit { header.start + taken ≤ 2 ^ 40 }
+    requires limit { header.start + taken ≤ MAX_INPUT }
     requires frame { 1 ≤ frame_bytes script.now header.coding }
     requires declared { InDeclared (declared_bytes script.now header) taken }
     requires part { taken ≤ end }

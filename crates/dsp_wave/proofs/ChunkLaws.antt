@@ -1,7 +1,6 @@
 -- The chunks of a WAVE file, one after another.
-use Rattle.std.proofs.Common.{◌≡◌, ℕ, ◌+◌, ◌-◌, ◌<◌, ◌≤◌, Bool, true, false, ◌&&◌}
-use Rattle.std.proofs.Common.{if◌then◌else◌, List, [], ◌∷◌, ◌++◌, length, take, drop, codes, Option}
-use Rattle.std.proofs.Common.{Some, None, Ok, Err, refl, sym, ap, ap₂, ◌∙◌, arith, length-append}
+use Rattle.std.proofs.Common.{◌≡◌, ℕ, ◌+◌, ◌-◌, ◌<◌, ◌≤◌, true, false, ◌&&◌, if◌then◌else◌, List, [], ◌∷◌, ◌++◌, length}
+use Rattle.std.proofs.Common.{take, drop, codes, Option, Some, None, Err, refl, sym, ap, ap₂, ◌∙◌, arith, length-append}
 use Rattle.std.proofs.Common.{append_assoc}
 use Rattle.std.proofs.lemmas.Grind.{common_steps}
 use Rattle.std.proofs.lemmas.List.{take-append-le, drop-drop, drop_all, drop_at, take_all}
@@ -10,9 +9,8 @@ use Rattle.dsp_defs.specs.Numbers.{w32}
 use Rattle.std.specs.Option.{is_none}
 use Rattle.std.specs.Str.{bytes_eq}
 use Rattle.dsp_ports.specs.Ports.{SourceState}
-use Rattle.dsp_defs.specs.Wave.{Chunk, extensible_tag, sampling}
-use Rattle.dsp_defs.specs.Wave.{chunks_behind, padded, u16_at, u32_at, format_fault, unless, header_in}
-use Rattle.dsp_defs.specs.Wave.{declared_size}
+use Rattle.dsp_defs.specs.Wave.{Chunk, extensible_tag, sampling, chunks_behind, padded, u16_at, u32_at, format_fault}
+use Rattle.dsp_defs.specs.Wave.{unless, header_in}
 use Rattle.dsp_defs.proofs.WaveLemmas.{same_sampling, chunks_behind-end, chunks_behind-more, piece-append}
 use Rattle.dsp_defs.proofs.WaveLemmas.{u16_at-append}
 use Rattle.dsp_defs.specs.declared.wave.Sampling.{Sampling}
@@ -36,12 +34,6 @@ pub needs_head : (wanted : Wanted) (place : ℕ) (known : Option Sampling) (byte
     said_from wanted place known bytes ≡ Err (NoSamples, place + length bytes)
 needs_head wanted place known bytes short = ap (header_in wanted (place + length bytes) known)
     (chunks_behind-end place bytes short) ∙ no_chunks wanted (place + length bytes) known
-
-pub first_format : (known : Option Sampling) (format : Bool) → (is_none known && format) ≡ true → (known ≡ None) ×
-    (format ≡ true)
-first_format None true e = (refl, refl)
-first_format None false e = absurd cc
-first_format (Some known) format e = absurd cc
 
 -- ---- a chunk whose id and size came
 
@@ -95,13 +87,6 @@ module _ (wanted : Wanted) (place : ℕ) (head : List ℕ) (long : length head �
       let at : place + (8 + padded size) ≡ place + 8 + padded size = omega arith in
       passes known later (body ++ more) pass
       ∙ rw (all, behind, at) refl
-
-  -- samples
-  pub samples_said : (known : Sampling) (more : List ℕ) → bytes_eq (take 4 head) (codes "data") ≡ true
-      → said_from wanted place (Some known) (head ++ more) ≡ Ok
-      (record { rate = known.rate; start = place + 8; size = declared_size size; coding = known.coding })
-  samples_said known more is = ap (header_in wanted (place + length (head ++ more)) (Some known)) (head_chunks more) ∙
-      grind (arith, common_steps, is)
 
   pub samples_too_early : (more : List ℕ) → bytes_eq (take 4 head) (codes "data") ≡ true →
       said_from wanted place None (head ++ more) ≡ Err (NoFormat, place)

@@ -1,8 +1,7 @@
 -- Reading a header chunk by chunk.
-use Rattle.std.proofs.Common.{◌≡◌, ◌⊎◌, ℕ, zero, suc, ◌+◌, ◌-◌, ◌<◌, ◌≤◌, ◌^◌, Bool, true, false, not, ◌||◌}
-use Rattle.std.proofs.Common.{nat_eq, nat_le, if◌then◌else◌, List, [], ◌∷◌, ◌++◌, length, take, drop, Option}
-use Rattle.std.proofs.Common.{Some, Result, Err, refl, sym, ap, ap₂, ◌∙◌, arith, length-append}
-use Rattle.std.proofs.Common.{subst, inl, inr}
+use Rattle.std.proofs.Common.{◌≡◌, ◌⊎◌, ℕ, zero, suc, ◌+◌, ◌-◌, ◌<◌, ◌≤◌, Bool, true, false, not, nat_eq, nat_le}
+use Rattle.std.proofs.Common.{if◌then◌else◌, List, [], ◌∷◌, ◌++◌, length, take, drop, Option, Some, Result, Err, refl}
+use Rattle.std.proofs.Common.{sym, ap, ap₂, ◌∙◌, arith, length-append, subst, inl, inr, ◌||◌}
 use Rattle.std.proofs.lemmas.Grind.{common_steps}
 use Rattle.std.proofs.lemmas.Slice.Eq.{bytes_eq-Decides}
 use Rattle.std.proofs.Math.Seq.{take-append-add}
@@ -10,10 +9,10 @@ use Rattle.std.specs.Str.{bytes_eq}
 use Rattle.dsp_ports.specs.Ports.{SourceState, one_more}
 use Rattle.std.specs.Result.{IsErr}
 use Rattle.dsp_ports.proofs.Moved.{Gave-append, Gave-nil}
-use Rattle.dsp_defs.specs.Wave.{Chunk, Test, first_failed, pcm_tests, sample_tests, extensible_tag}
-use Rattle.dsp_defs.specs.Wave.{u16_at, format_fault}
-use Rattle.dsp_defs.proofs.WaveLemmas.{piece-append}
-use Rattle.dsp_defs.proofs.WaveLemmas.{u16_at-append}
+use Rattle.dsp_defs.specs.Wave.{Chunk, Test, first_failed, pcm_tests, sample_tests, extensible_tag, u16_at}
+use Rattle.dsp_defs.specs.Wave.{format_fault}
+use Rattle.dsp_defs.proofs.WaveLemmas.{piece-append, u16_at-append}
+use Rattle.dsp_defs.specs.declared.limits.TheConstants.{MAX_INPUT}
 use Rattle.dsp_defs.specs.declared.wave.Wanted.{Wanted}
 use Rattle.dsp_defs.specs.declared.wave.Header.{Header}
 use Rattle.dsp_defs.specs.declared.wave.HeaderFault.{HeaderFault}
@@ -25,7 +24,7 @@ use Rattle.dsp_wave.specs.Taking.{Came, IsMissed, Missing, IsEnough, format_chun
 
 -- ---- pieces, one after another
 
-pub nothing_came : (place : ℕ) (now : SourceState) → place ≤ 2 ^ 40 → Came place 0 now now []
+pub nothing_came : (place : ℕ) (now : SourceState) → place ≤ MAX_INPUT → Came place 0 now now []
 nothing_came place now in_limit = record {
   long = refl;
   gave = Gave-nil now;
@@ -54,30 +53,6 @@ missed_later Read place first old mid now front bytes long clean missed =
     (missed.0 ∙ ap one_more clean, omega (arith, missed.1, long, length-append front bytes))
 missed_later Long place first old mid now front bytes long clean missed =
     (omega (arith, missed.0, long, length-append front bytes), missed.1 ∙ clean)
-
-pub missing_later : (place first second : ℕ) (old mid now : SourceState) (front : List ℕ) (error : HeaderOr) →
-    Came place first old mid front → Missing (place + first) second mid now error →
-    Missing place (first + second) old now error
-missing_later place first second old mid now front error a m =
-    record {
-      bytes = front ++ m.bytes;
-      short = omega (arith, length-append front m.bytes, a.long, m.short);
-      gave = Gave-append old mid now front m.bytes a.gave m.gave;
-      in_limit = omega (arith, length-append front m.bytes, a.long, m.in_limit);
-      missed = missed_later error place first old mid now front m.bytes a.long a.no_fault m.missed;
-    }
-
-pub missing_more : (place less more : ℕ) (old now : SourceState) (error : HeaderOr) → less ≤ more →
-    Missing place less old now error → Missing place more old now error
-missing_more place less more old now error order m =
-    record {
-      bytes = m.bytes;
-      short = omega (arith, m.short, order);
-      gave = m.gave;
-      in_limit = m.in_limit;
-      missed =
-          m.missed;
-    }
 
 -- ---- ends
 

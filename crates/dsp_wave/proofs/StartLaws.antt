@@ -1,11 +1,10 @@
 -- The first twelve bytes of a WAVE file, and a header read from a sooner place.
-use Rattle.std.proofs.Common.{◌≡◌, ◌⊎◌, ℕ, ◌+◌, ◌-◌, ◌<◌, ◌≤◌, ◌^◌, Bool, true, false, not}
-use Rattle.std.proofs.Common.{List, [], ◌∷◌, ◌++◌, length, take, drop, codes}
-use Rattle.std.proofs.Common.{Result, Err, refl, sym, ap, ◌∙◌, arith, length-append}
-use Rattle.std.proofs.Common.{append_assoc, subst, inl, inr, ⊎_elim}
+use Rattle.std.proofs.Common.{◌≡◌, ◌⊎◌, ℕ, ◌+◌, ◌<◌, ◌≤◌, Bool, true, false, not, List, [], ◌∷◌, ◌++◌, length, take}
+use Rattle.std.proofs.Common.{drop, codes, Result, Err, refl, sym, ap, ◌∙◌, arith, length-append, append_assoc, subst}
+use Rattle.std.proofs.Common.{inl, inr, ⊎_elim}
 use Rattle.std.proofs.lemmas.Grind.{common_steps}
-use Rattle.std.proofs.lemmas.List.{take-append-le, drop-append-le, take-take, take_all}
-use Rattle.std.proofs.lemmas.List.{length-take-le, length-drop, append-nil}
+use Rattle.std.proofs.lemmas.List.{take-append-le, drop-append-le, take-take, take_all, length-take-le, length-drop}
+use Rattle.std.proofs.lemmas.List.{append-nil}
 use Rattle.std.proofs.lemmas.Bool.{cases_lt}
 use Rattle.std.specs.Str.{bytes_eq}
 use Rattle.dsp_ports.specs.Ports.{SourceState, one_more}
@@ -15,6 +14,7 @@ use Rattle.dsp_ports.specs.declared.filling.FillFault.TheVariants.{Failed, Limit
 use Rattle.std.specs.Result.{IsErr}
 use Rattle.dsp_ports.proofs.Moved.{Gave-append}
 use Rattle.dsp_defs.specs.Wave.{header_of}
+use Rattle.dsp_defs.specs.declared.limits.TheConstants.{MAX_INPUT}
 use Rattle.dsp_defs.specs.declared.wave.Wanted.{Wanted}
 use Rattle.dsp_defs.specs.declared.wave.Header.{Header}
 use Rattle.dsp_defs.specs.declared.wave.HeaderFault.{HeaderFault}
@@ -23,7 +23,7 @@ use Rattle.dsp_wave.specs.declared.reader.HeaderOr.{HeaderOr}
 use Rattle.dsp_wave.specs.declared.reader.HeaderOr.TheVariants.{Fault, Read, Long}
 use Rattle.dsp_wave.specs.Reading.{Says, IsHeaderOf, HasCause, Stopped, Headed, IsCut}
 use Rattle.dsp_wave.specs.Taking.{Came}
-use Rattle.dsp_wave.proofs.ReaderLaws.{both_came, take-no_longer}
+use Rattle.dsp_wave.proofs.ReaderLaws.{take-no_longer}
 
 -- ---- the first twelve bytes
 
@@ -65,7 +65,7 @@ short_file wanted bytes short = by_riff (bytes_eq (take 4 bytes) (codes "RIFF"))
         (differs (take 4 (drop 8 bytes)) (codes "WAVE") few))) refl
 
 -- the source has failed within them
-pub fails_riff : (says : Says) → IsHeaderOf says → (old now : SourceState) → Unfilled old now 12 (2 ^ 40) Failed →
+pub fails_riff : (says : Says) → IsHeaderOf says → (old now : SourceState) → Unfilled old now 12 MAX_INPUT Failed →
     Stopped says 0 old now Read
 fails_riff says by_header old now u =
     record {
@@ -82,14 +82,14 @@ fails_riff says by_header old now u =
     }
 
 pub fails_any : (says : Says) → IsHeaderOf says → (old now : SourceState) (size room : ℕ) (fault : FillFault) →
-    size ≡ 12 → room ≡ 2 ^ 40 → Unfilled old now size room fault → Stopped says 0 old now Read
+    size ≡ 12 → room ≡ MAX_INPUT → Unfilled old now size room fault → Stopped says 0 old now Read
 fails_any says by_header old now size room Failed twelve all u =
     fails_riff says by_header old now (rw (twelve, all) at u)
 fails_any says by_header old now size room LimitReached twelve all u =
     absurd (omega (arith, twelve, all, u.short, u.cause.1))
 
 module _ (says : Says) (by_header : IsHeaderOf says) (old now : SourceState) (block : List ℕ) (count : ℕ)
-    (twelve : length block ≡ 12) (filled : Filled old now block (2 ^ 40) count) where
+    (twelve : length block ≡ 12) (filled : Filled old now block MAX_INPUT count) where
   abbrev first : List ℕ
   first = take count block
 
@@ -211,14 +211,3 @@ module _ (says later : Says) (begin count place : ℕ) (here : place ≡ begin +
         start = omega (arith, h.start, end h.bytes);
         no_fault = h.no_fault ∙ came.no_fault;
       }
-
-  pub came_sooner : (next : Says) (taken : ℕ) (bytes : List ℕ) → Came place (length bytes) mid now bytes →
-      taken ≡ place + length bytes → ((more : List ℕ) → later (bytes ++ more) ≡ next more)
-      → (all : List ℕ) × Came begin (count + length bytes) old now all ×
-      ((more : List ℕ) → says (all ++ more) ≡ next more)
-  came_sooner next taken bytes second taken_is goes = (
-    front ++ bytes,
-    both_came begin count (length bytes) old mid now front bytes came
-        (subst (λ p. Came p (length bytes) mid now bytes) here second),
-    λ more. said_sooner bytes more ∙ goes more,
-  )

@@ -1,9 +1,10 @@
 -- What the reader of a header of which nothing is wanted answers, and what it has taken of its source by then.
-use Rattle.std.specs.Prelude.{◌≡◌, ℕ, ◌+◌, ◌^◌, ◌≤◌, List, ◌++◌, length, Some, None, Ok}
+use Rattle.std.specs.Prelude.{◌≡◌, ℕ, ◌+◌, ◌≤◌, List, ◌++◌, length, Some, None, Ok}
 use Rattle.dsp_ports.specs.Ports.{SourceState, Gave}
 use Rattle.dsp_defs.specs.Wave.{Heads, chunks_behind, header_of, padded, u32_at}
 use Rattle.dsp_defs.specs.Open.{closed, open_header_of, wanted_by, wanted_in}
 use Rattle.dsp_defs.specs.Bytes.{format_in}
+use Rattle.dsp_defs.specs.declared.limits.TheConstants.{MAX_INPUT}
 use Rattle.dsp_defs.specs.declared.wave.Sampling.{Sampling}
 use Rattle.dsp_defs.specs.declared.wave.Wanted.{Wanted}
 use Rattle.dsp_defs.specs.declared.wave.OpenHeader.{OpenHeader}
@@ -37,7 +38,7 @@ pub record OwnRead (place : ℕ) (head : List ℕ) (old now : SourceState) (want
 pub record OpenHeaded (old now : SourceState) (header : OpenHeader) : Type 0 where
   pub bytes : List ℕ
   pub gave : Gave old now bytes
-  pub in_limit : length bytes ≤ 2 ^ 40
+  pub in_limit : length bytes ≤ MAX_INPUT
   pub said : (more : List ℕ) → open_header_of (bytes ++ more) ≡ Ok header
   pub heads : (more : List ℕ) → Heads (bytes ++ more) (record
       { format = format_in header.coding; channels = header.channels }) (closed header)

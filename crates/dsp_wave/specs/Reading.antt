@@ -1,8 +1,9 @@
 -- What a header's reader answers, and what it has taken of its source by then.
-use Rattle.std.specs.Prelude.{◌≡◌, ℕ, ◌+◌, ◌^◌, ◌<◌, ◌≤◌, ◌⊎◌, IsErr, List, ◌++◌, length, Option, None, Result, Ok, Err}
+use Rattle.std.specs.Prelude.{◌≡◌, ℕ, ◌+◌, ◌<◌, ◌≤◌, ◌⊎◌, IsErr, List, ◌++◌, length, Option, None, Result, Ok, Err}
 use Rattle.std.specs.Io.KnownBytes.{IsAtEnd}
 use Rattle.dsp_ports.specs.Ports.{SourceState, one_more, Gave}
 use Rattle.dsp_defs.specs.Wave.{chunks_behind, header_in, header_of}
+use Rattle.dsp_defs.specs.declared.limits.TheConstants.{MAX_INPUT}
 use Rattle.dsp_defs.specs.declared.wave.Sampling.{Sampling}
 use Rattle.dsp_defs.specs.declared.wave.Wanted.{Wanted}
 use Rattle.dsp_defs.specs.declared.wave.Header.{Header}
@@ -43,23 +44,23 @@ IsCut says place bytes = (place + length bytes < 12) ⊎ (says bytes ≡ Err (No
 abbrev pub HasCause : HeaderOr → Says → ℕ → SourceState → SourceState → List ℕ → Type 0
 HasCause (Fault fault offset) says place old now bytes = IsSure says now bytes (Err (fault, offset)) ×
     (now.faults ≡ old.faults)
-HasCause Read says place old now bytes = (now.faults ≡ one_more old.faults) × (place + length bytes < 2 ^ 40) ×
+HasCause Read says place old now bytes = (now.faults ≡ one_more old.faults) × (place + length bytes < MAX_INPUT) ×
     IsErr (says bytes) × IsCut says place bytes
-HasCause Long says place old now bytes = (place + length bytes ≡ 2 ^ 40) × (says bytes ≡ Err (NoSamples, 2 ^ 40)) ×
-    (now.faults ≡ old.faults)
+HasCause Long says place old now bytes = (place + length bytes ≡ MAX_INPUT) ×
+    (says bytes ≡ Err (NoSamples, MAX_INPUT)) × (now.faults ≡ old.faults)
 
 -- no header came: what was taken, and why
 pub record Stopped (says : Says) (place : ℕ) (old now : SourceState) (error : HeaderOr) : Type 0 where
   pub bytes : List ℕ
   pub gave : Gave old now bytes
-  pub in_limit : place + length bytes ≤ 2 ^ 40
+  pub in_limit : place + length bytes ≤ MAX_INPUT
   pub cause : HasCause error says place old now bytes
 
 -- the header came: exactly the bytes up to the first sample were taken, and they say so whatever comes behind them
 pub record Headed (says : Says) (place : ℕ) (old now : SourceState) (header : Header) : Type 0 where
   pub bytes : List ℕ
   pub gave : Gave old now bytes
-  pub in_limit : place + length bytes ≤ 2 ^ 40
+  pub in_limit : place + length bytes ≤ MAX_INPUT
   pub said : (more : List ℕ) → says (bytes ++ more) ≡ Ok header
   pub start : header.start ≡ place + length bytes
   pub no_fault : now.faults ≡ old.faults

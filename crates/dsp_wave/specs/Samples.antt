@@ -1,6 +1,7 @@
 -- What is taken of the samples of a file, block by block, and why a block stopped.
-use Rattle.std.specs.Prelude.{◌≡◌, ◌⊎◌, ℕ, ◌+◌, ◌*◌, ◌/◌, ◌^◌, ◌<◌, ◌≤◌, List, length, take, Option, Some, None, IfSome}
+use Rattle.std.specs.Prelude.{◌≡◌, ◌⊎◌, ℕ, ◌+◌, ◌*◌, ◌/◌, ◌<◌, ◌≤◌, List, length, take, Option, Some, None, IfSome}
 use Rattle.std.specs.Io.KnownBytes.{IsAtEnd}
+use Rattle.dsp_defs.specs.declared.limits.TheConstants.{MAX_INPUT}
 use Rattle.dsp_ports.specs.Ports.{SourceState, one_more, Gave}
 use Rattle.dsp_wave.specs.declared.samples.Stored.{Stored}
 use Rattle.dsp_wave.specs.declared.samples.SampleFault.{SampleFault}
@@ -30,10 +31,10 @@ pub record PartRead (stored : Stored) (end taken : ℕ) (block : List ℕ) (coun
     pub within : count ≤ length block
     pub gave : Gave input now (take count block)
     pub declared : InDeclared (declared_bytes stored) (taken + count)
-    pub in_limit : stored.start + taken + count ≤ 2 ^ 40
+    pub in_limit : stored.start + taken + count ≤ MAX_INPUT
     pub in_part : taken + count ≤ end
     pub room_left : count < length block → stored.size ≡ None → taken + count < end →
-        stored.start + taken + count < 2 ^ 40
+        stored.start + taken + count < MAX_INPUT
     pub ended : count < length block → (taken + count ≡ end) ⊎ AreAll (declared_bytes stored) (taken + count) now
     pub no_fault : now.faults ≡ input.faults
 
@@ -42,18 +43,18 @@ pub record BlockRead (stored : Stored) (taken : ℕ) (block : List ℕ) (count :
   pub within : count ≤ length block
   pub gave : Gave input now (take count block)
   pub declared : InDeclared (declared_bytes stored) (taken + count)
-  pub in_limit : stored.start + taken + count ≤ 2 ^ 40
-  pub room_left : count < length block → stored.size ≡ None → stored.start + taken + count < 2 ^ 40
+  pub in_limit : stored.start + taken + count ≤ MAX_INPUT
+  pub room_left : count < length block → stored.size ≡ None → stored.start + taken + count < MAX_INPUT
   pub end : count < length block → AreAll (declared_bytes stored) (taken + count) now
   pub no_fault : now.faults ≡ input.faults
 
 -- why the byte behind so many bytes of samples did not come
 abbrev pub IsUnread : SampleFault → Stored → ℕ → SourceState → SourceState → Type 0
 IsUnread fault.Failed stored taken input now =
-    (now.faults ≡ one_more input.faults) × (stored.start + taken < 2 ^ 40) ×
+    (now.faults ≡ one_more input.faults) × (stored.start + taken < MAX_INPUT) ×
     IfSome (declared_bytes stored) (λ size. taken < size)
 IsUnread fault.LimitReached stored taken input now =
-    (stored.start + taken ≡ 2 ^ 40) × (now.faults ≡ input.faults) ×
+    (stored.start + taken ≡ MAX_INPUT) × (now.faults ≡ input.faults) ×
     IfSome (declared_bytes stored) (λ size. taken < size)
 IsUnread (fault.Short declared got offset) stored taken input now =
     (stored.size ≡ Some declared) × (got ≡ taken) × (offset ≡ stored.start + taken) × IsAtEnd now.left ×
@@ -65,7 +66,7 @@ pub record Unread (stored : Stored) (taken size : ℕ) (Cause : ℕ → Type 0) 
   pub bytes : List ℕ
   pub gave : Gave input now bytes
   pub short : length bytes < size
-  pub in_limit : stored.start + taken + length bytes ≤ 2 ^ 40
+  pub in_limit : stored.start + taken + length bytes ≤ MAX_INPUT
   pub declared : InDeclared (declared_bytes stored) (taken + length bytes)
   pub cause : Cause (taken + length bytes)
 

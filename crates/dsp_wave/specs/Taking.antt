@@ -1,11 +1,12 @@
 -- What is taken of a source for a piece of a header.
-use Rattle.std.specs.Prelude.{◌≡◌, ℕ, ◌+◌, ◌-◌, ◌^◌, ◌<◌, ◌≤◌, List, [], ◌++◌, length, take, codes, true, Some, None}
+use Rattle.std.specs.Prelude.{◌≡◌, ℕ, ◌+◌, ◌-◌, ◌<◌, ◌≤◌, List, [], ◌++◌, length, take, codes, true, Some, None}
 use Rattle.std.specs.Str.{bytes_eq}
 use Rattle.std.specs.Io.KnownBytes.{IsAtEnd}
 use Rattle.dsp_ports.specs.Ports.{SourceState, one_more, Gave}
 use Rattle.dsp_defs.specs.Open.{wanted_in}
 use Rattle.dsp_defs.specs.Wave.{Chunk, chunks_behind, extensible_tag, format_fault, header_of, padded, sampling}
 use Rattle.dsp_defs.specs.Wave.{u16_at, u32_at}
+use Rattle.dsp_defs.specs.declared.limits.TheConstants.{MAX_INPUT}
 use Rattle.dsp_defs.specs.declared.wave.Sampling.{Sampling}
 use Rattle.dsp_defs.specs.declared.wave.Wanted.{Wanted}
 use Rattle.dsp_defs.specs.declared.wave.HeaderFault.TheVariants.{NoSamples}
@@ -20,21 +21,21 @@ use Rattle.dsp_wave.specs.Reading.{Headed, Says, said_from}
 pub record Came (place count : ℕ) (old now : SourceState) (bytes : List ℕ) : Type 0 where
   pub long : length bytes ≡ count
   pub gave : Gave old now bytes
-  pub in_limit : place + count ≤ 2 ^ 40
+  pub in_limit : place + count ≤ MAX_INPUT
   pub no_fault : now.faults ≡ old.faults
 
 -- why fewer came: the file has ended, the source has failed, or all was taken that may be
 abbrev pub IsMissed : HeaderOr → ℕ → SourceState → SourceState → List ℕ → Type 0
 IsMissed (Fault fault offset) place old now bytes = (fault ≡ NoSamples) × (offset ≡ place + length bytes) ×
     IsAtEnd now.left × (now.faults ≡ old.faults)
-IsMissed Read place old now bytes = (now.faults ≡ one_more old.faults) × (place + length bytes < 2 ^ 40)
-IsMissed Long place old now bytes = (place + length bytes ≡ 2 ^ 40) × (now.faults ≡ old.faults)
+IsMissed Read place old now bytes = (now.faults ≡ one_more old.faults) × (place + length bytes < MAX_INPUT)
+IsMissed Long place old now bytes = (place + length bytes ≡ MAX_INPUT) × (now.faults ≡ old.faults)
 
 pub record Missing (place count : ℕ) (old now : SourceState) (error : HeaderOr) : Type 0 where
   pub bytes : List ℕ
   pub short : length bytes < count
   pub gave : Gave old now bytes
-  pub in_limit : place + length bytes ≤ 2 ^ 40
+  pub in_limit : place + length bytes ≤ MAX_INPUT
   pub missed : IsMissed error place old now bytes
 
 -- ---- the first `fmt ` chunk

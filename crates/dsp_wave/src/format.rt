@@ -1,6 +1,6 @@
 //! The `fmt ` chunk of a file.
 
-ghost use Rattle.std.specs.Prelude.{◌≡◌, ℕ, ◌+◌, ◌≤◌, ◌^◌, ◌++◌, List, length, take, IfOk, IfErr};
+ghost use Rattle.std.specs.Prelude.{◌≡◌, ℕ, ◌+◌, ◌≤◌, ◌++◌, List, length, take, IfOk, IfErr};
 ghost use Rattle.dsp_defs.specs.Wave.{first_failed, format_fault, padded, pcm_tests, sample_tests, sampling};
 ghost use Rattle.dsp_defs.specs.Wave.{u32_at};
 ghost use Rattle.dsp_wave.specs.Reading.{Says, Stopped};
@@ -11,7 +11,7 @@ use crate::coding::{coding_of, width};
 use crate::extension::{EXTENSIBLE_SIZE, EXTENSIBLE_TAG, PCM_SUBFORMAT, PCM_TAG, PLAIN_SIZE};
 use crate::reader::{HeaderOr, padded, skip, take};
 use byteorder::{ByteOrder, LittleEndian};
-use dsp_defs::{Coding, Container, Fmt, HeaderFault, Sampling, Wanted};
+use dsp_defs::{Coding, Container, Fmt, HeaderFault, MAX_INPUT, Sampling, Wanted};
 use dsp_ports::Source;
 
 /// What a `fmt ` chunk says of the samples, where its first 16 bytes are there.
@@ -32,7 +32,7 @@ fn sampling(wanted: Wanted, body: &[u8]) -> Sampling
 /// Why a `fmt ` chunk of so many bytes at the offset does not say linear PCM.
 fn pcm_fault(offset: u64, size: u32, body: &[u8]) -> Option<(HeaderFault, u64)>
     requires enough { IsEnough size body.now }
-    requires offset { offset ≤ 2 ^ 40 }
+    requires offset { offset ≤ MAX_INPUT }
     ensures { result ≡ first_failed (pcm_tests 0 (format_chunk offset size body.now)) }
 {
     let tag = LittleEndian::read_u16(&body[..2]);
@@ -55,7 +55,7 @@ fn pcm_fault(offset: u64, size: u32, body: &[u8]) -> Option<(HeaderFault, u64)>
 /// Which field of a `fmt ` chunk at the offset says other samples than are wanted.
 fn sample_fault(wanted: Wanted, offset: u64, body: &[u8]) -> Option<(HeaderFault, u64)>
     requires size { 16 ≤ length body.now }
-    requires offset { offset ≤ 2 ^ 40 }
+    requires offset { offset ≤ MAX_INPUT }
     ensures { result ≡ first_failed (sample_tests wanted (format_chunk offset 0 body.now)) }
 {
     let width = width(sampling(wanted, body).coding) as u16;
@@ -84,7 +84,7 @@ fn sample_fault(wanted: Wanted, offset: u64, body: &[u8]) -> Option<(HeaderFault
 /// What is at fault in a `fmt ` chunk of so many bytes at the offset, by as much of it as is judged.
 fn format_fault(wanted: Wanted, offset: u64, size: u32, body: &[u8]) -> Option<(HeaderFault, u64)>
     requires enough { IsEnough size body.now }
-    requires offset { offset ≤ 2 ^ 40 }
+    requires offset { offset ≤ MAX_INPUT }
     ensures { result ≡ format_fault wanted 0 (format_chunk offset size body.now) }
 {
     match pcm_fault(offset, size, body) {
@@ -103,7 +103,7 @@ pub(crate) fn take_format<S: Source>(
 ) -> Result<usize, HeaderOr>
     requires head { IsFormatHead head.now }
     requires room { length body.old ≡ 40 }
-    requires offset { offset + 8 ≤ 2 ^ 40 }
+    requires offset { offset + 8 ≤ MAX_INPUT }
     ensures ok { IfOk result (λ count. Came (offset + 8) count (S.state source.old)
         (S.state source.new) (take count body.new)
         × IsEnough (u32_at head.now 4) (take count body.new)) }
@@ -135,7 +135,7 @@ pub(crate) fn rest_of_format<S: Source>(
 ) -> Result<Sampling, HeaderOr>
     requires head { IsFormatHead head.now }
     requires enough { IsEnough (u32_at head.now 4) body.now }
-    requires offset { offset + 8 + length body.now ≤ 2 ^ 40 }
+    requires offset { offset + 8 + length body.now ≤ MAX_INPUT }
     ensures ok { IfOk result (λ sampling. FormatRest wanted offset head.now body.now
         (S.state source.old) (S.state source.new) sampling) }
     ensures err { IfErr result (λ error.
@@ -159,7 +159,7 @@ pub(crate) fn read_format<S: Source>(
     offset: u64,
 ) -> Result<Sampling, HeaderOr>
     requires head { IsFormatHead head.now }
-    requires offset { offset + 8 ≤ 2 ^ 40 }
+    requires offset { offset + 8 ≤ MAX_INPUT }
     ensures ok { IfOk result (λ sampling.
         FormatRead wanted offset head.now (S.state source.old) (S.state source.new) sampling) }
     ensures err { IfErr result (λ error.

@@ -86,8 +86,9 @@ pub struct GenSource {
 }
 
 impl Model for GenSource {
-    ghost use Rattle.std.specs.Prelude.{◌+◌, ◌≤◌, ◌^◌, length};
+    ghost use Rattle.std.specs.Prelude.{◌+◌, ◌≤◌, length};
     ghost use Rattle.arrayvec.specs.ArrayVec.{array_vec_len};
+    ghost use Rattle.dsp_defs.specs.declared.limits.TheConstants.{MAX_INPUT};
     ghost use Rattle.dsp_wave.specs.Generated.{Generation, to_come};
 
     ghost Value = { Generation };
@@ -95,7 +96,7 @@ impl Model for GenSource {
     ghost view = { λ s. record { rest = to_come s.pieces; taken = s.taken } };
 
     ghost invariant = { λ s. (s.pieces.given ≤ array_vec_len s.pieces.ready)
-        × (s.taken + length (to_come s.pieces) ≤ 2 ^ 40) };
+        × (s.taken + length (to_come s.pieces) ≤ MAX_INPUT) };
 }
 
 impl GenSource {

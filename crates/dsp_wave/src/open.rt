@@ -1,6 +1,6 @@
 //! WAVE files of which nothing is wanted: a header is judged by what its own `fmt ` chunk says.
 
-ghost use Rattle.std.specs.Prelude.{◌≡◌, ◌+◌, ◌≤◌, ◌^◌, length, IfOk, IfErr};
+ghost use Rattle.std.specs.Prelude.{◌≡◌, ◌+◌, ◌≤◌, length, IfOk, IfErr};
 ghost use Rattle.dsp_defs.specs.Open.{opened, own_wanted};
 ghost use Rattle.dsp_wave.specs.Reading.{Stopped};
 ghost use Rattle.dsp_wave.specs.Taking.{IsFormatHead};
@@ -10,7 +10,7 @@ use crate::extension::EXTENSIBLE_SIZE;
 use crate::format::{rest_of_format, take_format};
 use crate::reader::{FormatHead, HeaderOr, first_format, format_size, read_chunks, read_riff};
 use byteorder::{ByteOrder, LittleEndian};
-use dsp_defs::{Fmt, Header, MAX_CHANNELS, OpenHeader, Sampling, Wanted};
+use dsp_defs::{Fmt, Header, MAX_CHANNELS, MAX_INPUT, OpenHeader, Sampling, Wanted};
 use dsp_ports::Source;
 
 /// What a `fmt ` chunk wants of its own samples, where its first 16 bytes are there.
@@ -42,7 +42,7 @@ fn read_own_format<S: Source>(
     offset: u64,
 ) -> Result<(Wanted, Sampling), HeaderOr>
     requires head { IsFormatHead head.now }
-    requires offset { offset + 8 ≤ 2 ^ 40 }
+    requires offset { offset + 8 ≤ MAX_INPUT }
     ensures ok { IfOk result (λ own. OwnRead offset head.now (S.state source.old)
         (S.state source.new) own.0 own.1) }
     ensures err { IfErr result (λ error.

@@ -40,7 +40,7 @@ pub(crate) struct FormatHead {
 
 /// Fills the piece. That the file ends before is a fault of it.
 pub(crate) fn take<S: Source>(source: &mut S, piece: &mut [u8], taken: u64) -> Result<(), HeaderOr>
-    requires { taken ≤ 2 ^ 40 }
+    requires { taken ≤ MAX_INPUT }
     ensures ok { IfOk result (λ _. Came taken (length piece.new) (S.state source.old)
         (S.state source.new) piece.new) }
     ensures err { IfErr result (λ error.
@@ -59,7 +59,7 @@ pub(crate) fn take<S: Source>(source: &mut S, piece: &mut [u8], taken: u64) -> R
 
 /// Takes so many bytes and forgets them.
 pub(crate) fn skip<S: Source>(source: &mut S, count: u64, taken: u64) -> Result<(), HeaderOr>
-    requires limit { taken ≤ 2 ^ 40 }
+    requires limit { taken ≤ MAX_INPUT }
     requires count { count ≤ 2 ^ 33 }
     ensures ok { IfOk result (λ _. (bytes : List ℕ)
         × Came taken count (S.state source.old) (S.state source.new) bytes) }
@@ -79,7 +79,7 @@ pub(crate) fn skip<S: Source>(source: &mut S, count: u64, taken: u64) -> Result<
 
 /// What a `data` chunk at the offset heads, where a `fmt ` chunk before it has said this of the samples.
 fn samples_at(known: Sampling, size: u32, offset: u64) -> Header
-    requires { offset ≤ 2 ^ 40 }
+    requires { offset ≤ MAX_INPUT }
     ensures { result ≡ record {
       rate = known.rate;
       start = offset + 8;
@@ -113,7 +113,7 @@ pub(crate) fn format_size(head: &[u8]) -> u64
 /// Reads the chunk that begins at the offset, and of a `data` chunk its id and size alone. A `fmt ` chunk
 /// before it has said this of the samples.
 fn next_chunk<S: Source>(source: &mut S, known: Sampling, offset: u64) -> Result<Next, HeaderOr>
-    requires { offset ≤ 2 ^ 40 }
+    requires { offset ≤ MAX_INPUT }
     ensures ok { IfOk result (λ next.
         Chunked offset known (S.state source.old) (S.state source.new) next) }
     ensures err { (wanted : Wanted) → IfErr result (λ error.
@@ -191,7 +191,7 @@ pub(crate) fn read_chunks<S: Source>(
     known: Sampling,
     offset: u64,
 ) -> Result<Header, HeaderOr>
-    requires { offset ≤ 2 ^ 40 }
+    requires { offset ≤ MAX_INPUT }
     ensures ok { (wanted : Wanted) → IfOk result (λ header.
         Headed (said_from wanted offset (Some known)) offset (S.state source.old)
         (S.state source.new) header) }

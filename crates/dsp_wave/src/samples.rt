@@ -1,6 +1,6 @@
 //! The samples of a file, block by block, whatever its header was.
 
-ghost use Rattle.std.specs.Prelude.{◌≡◌, ◌+◌, ◌^◌, ◌≤◌, length, IfOk, IfErr};
+ghost use Rattle.std.specs.Prelude.{◌≡◌, ◌+◌, ◌≤◌, length, IfOk, IfErr};
 ghost use Rattle.dsp_wave.specs.Samples.{InDeclared, IsUnread, PartRead, PartUnread, declared_bytes};
 ghost use Rattle.dsp_wave.specs.Samples.{in_whole_frames};
 
@@ -50,7 +50,7 @@ pub fn read_samples<S: Source>(
     block: &mut [u8],
     input: &mut S,
 ) -> Result<usize, SampleFault>
-    requires limit { stored.start + taken ≤ 2 ^ 40 }
+    requires limit { stored.start + taken ≤ MAX_INPUT }
     requires frame { 1 ≤ stored.frame }
     requires declared { InDeclared (declared_bytes stored) taken }
     requires part { taken ≤ end }

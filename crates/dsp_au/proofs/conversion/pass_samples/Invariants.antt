@@ -1,4 +1,5 @@
-use Rattle.std.proofs.Common.{◌-◌, ◌^◌}
+use Rattle.std.proofs.Common.{◌-◌}
+use Rattle.dsp_defs.specs.declared.limits.TheConstants.{MAX_INPUT}
 use Rattle.dsp_au.proofs.ConvertLaws.{Going}
 use Rattle.dsp_au.proofs.conversion.pass_samples.Given as goal
 
@@ -7,4 +8,4 @@ invariant-passing g l = Going l.direction l.header l.taken (g.S.Source.state l.f
     (g.K.Sink.state l.fn.output) (g.K.Sink.state l.output)
 
 abbrev pub decreases-passing : goal.decreases-passing
-decreases-passing g l = 2 ^ 40 - l.taken
+decreases-passing g l = MAX_INPUT - l.taken

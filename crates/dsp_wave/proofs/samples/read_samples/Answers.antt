@@ -3,6 +3,7 @@ use Rattle.std.proofs.Common.{None, IfSome, ◌⊎◌, inl, inr, refl, sym, ap, 
 use Rattle.std.proofs.Common.{length-take-le}
 use Rattle.std.proofs.lemmas.Bool.{cases_lt}
 use Rattle.std.proofs.lemmas.List.{take-append-le}
+use Rattle.dsp_defs.specs.declared.limits.TheConstants.{MAX_INPUT}
 use Rattle.dsp_ports.specs.Fill.{Filled, Unfilled}
 use Rattle.dsp_ports.specs.Ports.{SourceState, Gave}
 use Rattle.dsp_ports.specs.declared.filling.FillFault.TheVariants.{Failed, LimitReached}
@@ -34,7 +35,7 @@ module _ (stored : Stored) (end taken stop : ℕ) (declared : InDeclared (declar
     (part : taken ≤ end)
     (stop_is : StopsAt (declared_bytes stored) end stop) (input now : SourceState) (front old : List ℕ) (want room : ℕ)
     (want_is : want ≡ min (stop - taken) (length old)) (small : length old ≤ 2 ^ 64 - 1)
-    (room_is : room + (stored.start + taken) ≡ 2 ^ 40)
+    (room_is : room + (stored.start + taken) ≡ MAX_INPUT)
     (front_is : length front ≡ length (take want old)) where
   -- the block that was asked for
   long : length front ≡ want

@@ -67,7 +67,8 @@ row-group w number taps window start count at n new old room is so_far =
     let piece = map number (slice_range window start (start + count)) in
     let same : (m : ℕ) → m ≤ count → sum_below m (λ k. sample taps k *ℤ sample piece k) ≡ row taps (map number window)
     m start = λ m few. piece-row_part number taps window start count (start + count) m few refl in
-    group-more w at n (at + n) taps piece new old refl is (so_far ∙ ap (int_wrap w) (sym (same at (omega (arith, room)))))
+    group-more w at n (at + n) taps piece new old refl is
+    (so_far ∙ ap (int_wrap w) (sym (same at (omega (arith, room)))))
     ∙ ap (int_wrap w) (same (at + n) room)
 
 -- four groups, and four products, that were counted

@@ -105,7 +105,8 @@ returns-clause-third g c =
     let taps = map T.number c.args.taps.now in
     let all : c.rest.at ≡ length taps = omega (arith, length-map c.args.taps.now T.number) in
     c.rest.invariant.third
-    ∙ ap (λ n. wrap g.F.DotForm.width (row taps (map T.number c.args.window.now) n (c.args.first + 2 * c.args.step))) all
+    ∙ ap (λ n. wrap g.F.DotForm.width
+    (row taps (map T.number c.args.window.now) n (c.args.first + 2 * c.args.step))) all
 
 pub returns-clause-fourth : goal.returns-clause-fourth
 returns-clause-fourth g c =
@@ -113,7 +114,8 @@ returns-clause-fourth g c =
     let taps = map T.number c.args.taps.now in
     let all : c.rest.at ≡ length taps = omega (arith, length-map c.args.taps.now T.number) in
     c.rest.invariant.fourth
-    ∙ ap (λ n. wrap g.F.DotForm.width (row taps (map T.number c.args.window.now) n (c.args.first + 3 * c.args.step))) all
+    ∙ ap (λ n. wrap g.F.DotForm.width
+    (row taps (map T.number c.args.window.now) n (c.args.first + 3 * c.args.step))) all
 
 pub returns-clause-steps : goal.returns-clause-steps
 returns-clause-steps g c =

@@ -1,5 +1,5 @@
 -- A session goes on block by block, from any state that it is in.
-use Rattle.std.proofs.Common.{◌≡◌, ℕ, suc, ◌+◌, ◌*◌, ◌^◌, ◌<◌, ◌≤◌, List, [], ◌++◌, length, refl, sym, ap, ◌∙◌, subst}
+use Rattle.std.proofs.Common.{◌≡◌, ℕ, suc, ◌+◌, ◌*◌, ◌<◌, ◌≤◌, List, [], ◌++◌, length, refl, sym, ap, ◌∙◌, subst}
 use Rattle.std.proofs.Common.{arith, append_assoc, append-nil, length-append}
 use Rattle.std.proofs.lemmas.List.{take_all}
 use Rattle.dsp_ports.specs.Ports.{SourceState, SinkState, Gave}
@@ -9,7 +9,7 @@ use Rattle.dsp_defs.specs.Cost.{live_cost}
 use Rattle.dsp_defs.specs.Counts.{Counts}
 use Rattle.dsp_defs.specs.Output.{live_bytes}
 use Rattle.dsp_defs.specs.Shape.{gathered}
-use Rattle.dsp_defs.specs.declared.limits.TheConstants.{MAX_GATHERED}
+use Rattle.dsp_defs.specs.declared.limits.TheConstants.{MAX_GATHERED, MAX_INPUT}
 use Rattle.dsp_defs.specs.declared.script.Script.{Script}
 use Rattle.dsp_defs.specs.declared.wave.Header.{Header}
 use Rattle.dsp_chain.specs.Chain.{IsLive, made_of}
@@ -172,7 +172,7 @@ module _ (start session : SessionState) (blocks : ℕ) (heard : List ℕ) (sink 
 
 pub going_starts : (start : SessionState) (header : Header) (span : Span) (input : SourceState) (sink : SinkState)
     (before : Counts) → Runs start
-    → InDeclared (declared_bytes start.script header) span.from → header.start + span.from ≤ 2 ^ 40 →
+    → InDeclared (declared_bytes start.script header) span.from → header.start + span.from ≤ MAX_INPUT →
     span.from ≤ span.end
     → Going start start header span span.from input input sink sink before before
 going_starts start header span input sink before runs declared limit part = record {
@@ -228,7 +228,7 @@ module _ (start session : SessionState) (header : Header) (span : Span) (taken :
     advances.same.block,
   )
 
-  pub piece_few : session.chain.frames + length (signal session.script session.coding piece) ≤ 2 ^ 40
+  pub piece_few : session.chain.frames + length (signal session.script session.coding piece) ≤ MAX_INPUT
   piece_few =
       let frame = frame_bytes start.script header.coding in
       let some : 0 < frame = some_frame start.script header.coding start.block ready in

@@ -1,7 +1,7 @@
 -- The samples have ended: the last of them, the tail, and what that makes of the whole stream.
-use Rattle.std.proofs.Common.{◌≡◌, ℕ, suc, ◌+◌, ◌-◌, ◌*◌, ◌/◌, ◌^◌, ◌<◌, ◌≤◌, Bool, List, [], ◌++◌, length, take}
-use Rattle.std.proofs.Common.{Option, Some, None, Result, Ok, Err, sym, ap, ◌∙◌, subst, arith, append_assoc}
-use Rattle.std.proofs.Common.{append-nil, length-append, inl, inr}
+use Rattle.std.proofs.Common.{◌≡◌, ℕ, suc, ◌+◌, ◌-◌, ◌*◌, ◌/◌, ◌<◌, ◌≤◌, Bool, List, [], ◌++◌, length, take, Option}
+use Rattle.std.proofs.Common.{Some, None, Result, Ok, Err, sym, ap, ◌∙◌, subst, arith, append_assoc, append-nil}
+use Rattle.std.proofs.Common.{length-append, inl, inr}
 use Rattle.std.proofs.lemmas.Bool.{cases_lt}
 use Rattle.std.proofs.lemmas.List.{length-take-le}
 use Rattle.std.specs.Io.KnownBytes.{IsAtEnd, append_known}
@@ -13,7 +13,7 @@ use Rattle.dsp_defs.specs.Output.{HasHeader, input_header, input_signal, output_
 use Rattle.dsp_defs.specs.Output.{live_bytes, whole_bytes, output, part}
 use Rattle.dsp_defs.specs.Shape.{frames_given, gathered, held, window_at}
 use Rattle.dsp_defs.specs.Streaming.{Begins}
-use Rattle.dsp_defs.specs.declared.limits.TheConstants.{MAX_GATHERED}
+use Rattle.dsp_defs.specs.declared.limits.TheConstants.{MAX_GATHERED, MAX_INPUT}
 use Rattle.dsp_defs.specs.declared.measure.Measure.{Measure}
 use Rattle.dsp_defs.specs.declared.script.Script.{Script}
 use Rattle.dsp_defs.specs.declared.wave.Header.{Header}
@@ -24,9 +24,9 @@ use Rattle.dsp_defs.proofs.FrameLaws.{length-whole_chain, frames_are_given}
 use Rattle.dsp_defs.proofs.OutputLaws.{coded_begins}
 use Rattle.dsp_input.specs.Taking.{AreAll, Fits, InDeclared, IsTakenWhole, declared_bytes, frame_bytes, frames_in_bytes}
 use Rattle.dsp_session.specs.SessionState.{SessionState}
-use Rattle.dsp_session.specs.Session.{IsReady, StandsFor, SameSession, signal, whole_values, cost_of, live_cost_of}
-use Rattle.dsp_session.specs.Session.{products_of, turns_of, run_turns, measures_of}
-use Rattle.dsp_session.specs.Stream.{Stopped, Done, Part, KeepsLimits, LagsByOne, IsInDeclared, in_whole_blocks}
+use Rattle.dsp_session.specs.Session.{IsReady, SameSession, signal, whole_values, cost_of, live_cost_of, products_of}
+use Rattle.dsp_session.specs.Session.{turns_of, run_turns, measures_of}
+use Rattle.dsp_session.specs.Stream.{Stopped, Done, Part, KeepsLimits, LagsByOne, in_whole_blocks}
 use Rattle.dsp_session.specs.Passing.{PassCosts, Passes, FailsToPass, Passed, WritesRest, TailCosts}
 use Rattle.dsp_session.specs.declared.fault.LengthFault.TheVariants as length_fault
 use Rattle.dsp_session.specs.declared.fault.StreamFault.{StreamFault}
@@ -34,16 +34,12 @@ use Rattle.dsp_session.specs.declared.fault.StreamFault.TheVariants as fault
 use Rattle.dsp_session.specs.declared.streaming.Last.{Last}
 use Rattle.dsp_session.proofs.OpeningLaws.{some_frame, floor_within, front_signal, frames_of_blocks, length-signal}
 use Rattle.dsp_session.proofs.OpeningLaws.{signal-append, frames-whole, signal_is, frames_are, output_is, part_blocks}
-use Rattle.dsp_session.proofs.OpenLaws.{none_behind}
-use Rattle.dsp_session.proofs.PassingLaws.{in_declared, lags, frames_between, block_some, in_blocks, blocks_keep}
-use Rattle.dsp_session.proofs.PassingLaws.{whole_blocks_are}
-use Rattle.dsp_session.proofs.TurnLaws.{turns_before, turns_behind, turns_end}
+use Rattle.dsp_session.proofs.BlockLaws.{Standing, between, block_some, blocks_keep, in_blocks, in_declared, lag}
+use Rattle.dsp_session.proofs.BlockLaws.{stops_between, stops_within, whole_blocks_are}
+use Rattle.dsp_session.proofs.TurnLaws.{turns_behind, turns_end}
 
 quotient_within : (n f : ℕ) → n / f ≤ n
 quotient_within n f = grind arith
-
-pub same_frames : (s t : Script) (n : ℕ) → s ≡ t → frames_given s.blocks n ≡ frames_given t.blocks n
-same_frames s t n same = ap (λ (s : Script). frames_given s.blocks n) same
 
 -- a whole signal has the frames that are given
 pub whole_length : (script : Script) (block : ℕ) → IsReady script block → (x : List Frame) →
@@ -116,8 +112,18 @@ module _ (script : Script) (block : ℕ) (ready : IsReady script block) (session
   declared = in_declared (declared_bytes script header) (last.before + last.count) (length (heard ++ rest))
       (sym given_length) passed.declared
 
-  behind : IsInDeclared script given
-  behind = none_behind script header passed.first passed.opens (heard ++ rest) declared
+  standing : Standing session.banked script block header passed.first passed.blocks heard rest input now sink then
+      before counts
+  standing = record {
+    whole = passed.blocks_heard;
+    short = omega (arith, rest_length, passed.short, passed.size);
+    declared = declared;
+    in_limit = omega (arith, given_length, passed.in_limit);
+    gave = passed.gave;
+    took = passed.took;
+    cost = passed.cost;
+    turned = passed.turned;
+  }
 
   frames_is : frames_in_bytes script given ≡ length (x ++ signal script header.coding fed_bytes)
   frames_is = frames_are script header frame passed.first passed.opens (heard ++ rest) declared ∙ ap length all_signal
@@ -130,28 +136,6 @@ module _ (script : Script) (block : ℕ) (ready : IsReady script block) (session
       script header.coding
   frames_taken = ap length (sym all_signal) ∙ length-signal script header.coding frame (heard ++ rest) ∙
       ap (λ n. n / frame_bytes script header.coding) given_length
-
-  -- its frames are not too many
-  pub few_frames : (frames : ℕ) → frames ≡ length x → frames + count ≤ 2 ^ 40
-  few_frames frames is =
-      let sum : length (x ++ signal script header.coding fed_bytes) ≡ frames + count =
-      length-append x (signal script header.coding fed_bytes) ∙ omega (arith, is, fed_frames) in
-      omega (
-        arith,
-        sum,
-        frames_taken,
-        quotient_within (last.before + last.count) (frame_bytes script header.coding),
-        passed.in_limit,
-      )
-
-  few_left : count < block
-  few_left = less last.count block (frame_bytes script header.coding) frame (omega (arith, passed.short, passed.size))
-    where
-      less : (n b f : ℕ) → 0 < f → n < b * f → n / f < b
-      less n b f some h = grind arith
-
-  pub fed_in_block : length (signal script header.coding fed_bytes) ≤ block
-  fed_in_block = omega (arith, fed_frames, few_left)
 
   has : HasHeader script given
   has = passed.opens.has (heard ++ rest)
@@ -177,16 +161,6 @@ module _ (script : Script) (block : ℕ) (ready : IsReady script block) (session
       ∙ ap (λ y. head ++ whole_bytes script y ++ output_pad script header) all_signal
       ∙ append_assoc head (whole_bytes script (x ++ signal script header.coding fed_bytes)) (output_pad script header)
 
-  lag : (written : List ℕ) → LagsByOne script block given (head ++ live_bytes script x ++ written)
-  lag written =
-      lags script block ready header passed.first passed.opens passed.blocks heard rest written
-      (prefix_declared (declared_bytes script header) passed.declared) passed.blocks_heard
-      (omega (arith, rest_length, passed.short, passed.size))
-    where
-      prefix_declared : (size : Option ℕ) → InDeclared size (last.before + last.count) → InDeclared size (length heard)
-      prefix_declared None within = tt
-      prefix_declared (Some size) within = omega (arith, within, passed.heard_count)
-
   cost_so_far : (multiplied frames : ℕ) → frames ≤ length (x ++ signal script header.coding fed_bytes) →
       multiplied ≡ before.multiplies + live_cost_of script frames →
       multiplied ≤ before.multiplies + cost_of script (frames_in_bytes script given)
@@ -209,12 +183,12 @@ module _ (script : Script) (block : ℕ) (ready : IsReady script block) (session
       (frames_of_blocks script header.coding block passed.blocks (length heard) passed.blocks_heard)
 
   abbrev low : passed.blocks * block ≤ frames_in_bytes script given
-  low = (frames_between script block ready header passed.first passed.opens passed.blocks heard rest declared
-      passed.blocks_heard (omega (arith, rest_length, passed.short, passed.size))).0
+  low = (between script block ready header passed.first passed.opens session.banked passed.blocks heard rest input now
+      sink then before counts standing).0
 
   abbrev high : frames_in_bytes script given ≤ suc passed.blocks * block
-  high = (frames_between script block ready header passed.first passed.opens passed.blocks heard rest declared
-      passed.blocks_heard (omega (arith, rest_length, passed.short, passed.size))).1
+  high = (between script block ready header passed.first passed.opens session.banked passed.blocks heard rest input now
+      sink then before counts standing).1
 
   whole_blocks : in_whole_blocks block (frames_in_bytes script given) ≡ passed.blocks * block
   whole_blocks = whole_blocks_are script block ready header passed.first passed.opens passed.blocks heard rest
@@ -223,10 +197,6 @@ module _ (script : Script) (block : ℕ) (ready : IsReady script block) (session
   limits : KeepsLimits script (input_header script given) (in_whole_blocks block (frames_in_bytes script given))
   limits = blocks_keep script block header given (passed.opens.said (heard ++ rest)) passed.fits whole_blocks
       passed.not_full
-
-  early_turns : counts.turns ≤ before.turns + run_turns session.banked script block (frames_in_bytes script given)
-  early_turns = turns_before session.banked script block passed.blocks (frames_in_bytes script given) before.turns
-      counts.turns (block_some script block ready) low high passed.turned
 
   fed_turns : (after : Counts) → PassCosts session.banked script header.coding x fed_bytes counts after →
       after.turns ≤ counts.turns + turns_of session.banked script (passed.blocks * block) (frames_in_bytes script given)
@@ -253,23 +223,12 @@ module _ (script : Script) (block : ℕ) (ready : IsReady script block) (session
       let frames : session.chain.frames + count ≡ frames_in_bytes script given =
       sym (frames_is ∙ length-append x (signal script header.coding fed_bytes) ∙
       omega (arith, passed.stands.chain.counted, fed_frames)) in
-      record {
-        given = given;
-        written = head ++ live_bytes script x;
-        gave = passed.gave;
-        in_limit = omega (arith, given_all, passed.in_limit);
-        put = passed.took.put;
-        unflushed = passed.took.settled;
-        cause = (has, is_whole, ap (window_at script.blocks) (sym frames) ∙ window);
-        wrote = Part has parted limits (passed.cost ∙ ap (λ n. before.multiplies + live_cost_of script n)
-            (frames_heard ∙ sym whole_blocks));
-        faults = (passed.no_input_fault, passed.no_output_fault);
-        in_declared = λ _. behind;
-        lag = λ _. subst (LagsByOne script block given) (append-nil (head ++ live_bytes script x)) (lag []);
-        cost = cost_so_far counts.multiplies (length x) (omega
-            (arith, length-append x (signal script header.coding fed_bytes))) passed.cost;
-        turns = early_turns;
-      }
+      stops_between script block ready header passed.first passed.opens session.banked passed.blocks heard rest input
+      now sink then before counts standing (fault.Lengths (length_fault.Window end full))
+      (has, is_whole, ap (window_at script.blocks) (sym frames) ∙ window)
+      (Part has parted limits (passed.cost ∙ ap (λ n. before.multiplies + live_cost_of script n)
+      (frames_heard ∙ sym whole_blocks)))
+      (passed.no_input_fault, passed.no_output_fault)
 
   -- the output failed within the values of the last samples
   pub stops_unpassed : None ≡ window_at script.blocks (session.chain.frames + count) →
@@ -284,31 +243,20 @@ module _ (script : Script) (block : ℕ) (ready : IsReady script block) (session
       output_all ∙ ap (λ xs. head ++ (xs ++ output_pad script header))
       (whole ∙ ap (λ xs. xs ++ tail) (is ∙ ap (λ xs. live_bytes script x ++ xs) split))
       ∙ regroup head (live_bytes script x) written back tail (output_pad script header) in
-      record {
-        given = given;
-        written = head ++ live_bytes script x ++ written;
-        gave = passed.gave;
-        in_limit = omega (arith, given_all, passed.in_limit);
-        put = put ∙ ap (λ known. append_known known written) passed.took.put ∙
-            sym (append_known-append sink.put (head ++ live_bytes script x) written);
-        unflushed = tt;
-        cause = has;
-        wrote = (
-          limits,
-          inr (
-            (back ++ (tail ++ output_pad script header), begins),
-            is_whole,
-            ap (window_at script.blocks) (frames_is ∙ sym fed_all) ∙ sym window,
-            subst (λ n. gathered script.blocks n ≤ MAX_GATHERED) (sym frames_is) kept,
-          ),
-        );
-        faults = (passed.no_input_fault, risen ∙ ap one_more passed.no_output_fault);
-        in_declared = λ _. behind;
-        lag = λ _. lag written;
-        cost = cost_so_far after.multiplies (length y) (omega arith) (omega (arith, costs.rise, passed.cost));
-        turns = turns_behind session.banked script block passed.blocks (frames_in_bytes script given) before.turns
-            counts.turns after.turns (block_some script block ready) low high passed.turned (fed_turns after costs);
-      }
+      stops_within script block ready header passed.first passed.opens session.banked passed.blocks heard rest input
+      now sink then before counts standing written final after put (
+        limits,
+        inr (
+          (back ++ (tail ++ output_pad script header), begins),
+          is_whole,
+          ap (window_at script.blocks) (frames_is ∙ sym fed_all) ∙ sym window,
+          subst (λ n. gathered script.blocks n ≤ MAX_GATHERED) (sym frames_is) kept,
+        ),
+      )
+      (passed.no_input_fault, risen ∙ ap one_more passed.no_output_fault)
+      (cost_so_far after.multiplies (length y) (omega arith) (omega (arith, costs.rise, passed.cost)))
+      (turns_behind session.banked script block passed.blocks (frames_in_bytes script given) before.turns
+      counts.turns after.turns (block_some script block ready) low high passed.turned (fed_turns after costs))
     where
       regroup : (a b c d e f : List ℕ) → a ++ (((b ++ (c ++ d)) ++ e) ++ f) ≡ (a ++ b ++ c) ++ (d ++ (e ++ f))
       regroup a b c d e f =
@@ -322,38 +270,26 @@ module _ (script : Script) (block : ℕ) (ready : IsReady script block) (session
       (omega (arith, frames_between_strictly over)) (omega (arith, high, block_some script block ready)) in
       let worked : length x ≡ in_whole_blocks block (frames_in_bytes script given - 1) = frames_heard ∙
       sym blocks_before in
-      record {
-        given = given;
-        written = head ++ live_bytes script x;
-        gave = passed.gave;
-        in_limit = omega (arith, given_all, passed.in_limit);
-        put = ap (λ (s : SinkState). s.put) same ∙ passed.took.put;
-        unflushed = ap (λ (s : SinkState). s.settled) same ∙ passed.took.settled;
-        cause = (
-          has,
-          record {
-            over = subst (λ n. MAX_GATHERED < gathered script.blocks n) (sym frames_is) over;
-            has_is = held_is ∙ ap (held script.blocks) worked;
-            more_is = more_is ∙ ap (gathered script.blocks) (sym frames_is);
-            no_window = λ _. (is_whole, ap (window_at script.blocks) (frames_is ∙ sym fed_all) ∙ sym window);
-          },
-        );
-        wrote = Part has parted
-            (record {
-              fits = subst (Fits script) (sym (passed.opens.said (heard ++ rest))) passed.fits;
-              not_full = subst (λ n. gathered script.blocks n ≤ MAX_GATHERED) (sym blocks_before) passed.not_full;
-            })
-            (ap (λ (c : Counts). c.multiplies) still ∙ passed.cost ∙
-            ap (λ n. before.multiplies + live_cost_of script n) worked);
-        faults = (passed.no_input_fault, ap (λ (s : SinkState). s.faults) same ∙ passed.no_output_fault);
-        in_declared = λ _. behind;
-        lag = λ _. subst (LagsByOne script block given) (append-nil (head ++ live_bytes script x)) (lag []);
-        cost = cost_so_far after.multiplies (length x) (omega
-            (arith, length-append x (signal script header.coding fed_bytes)))
-            (ap (λ (c : Counts). c.multiplies) still ∙ passed.cost);
-        turns = subst (λ (c : Counts). c.turns ≤ before.turns + run_turns session.banked script block
-            (frames_in_bytes script given)) (sym still) early_turns;
-      }
+      let stop = fault.Lengths (length_fault.Gather told more) in
+      subst (λ made. Stopped session.banked script block stop input now sink final before made) (sym still)
+      (subst (λ last. Stopped session.banked script block stop input now sink last before counts) (sym same)
+      (stops_between script block ready header passed.first passed.opens session.banked passed.blocks heard rest input
+      now sink then before counts standing stop (
+        has,
+        record {
+          over = subst (λ n. MAX_GATHERED < gathered script.blocks n) (sym frames_is) over;
+          has_is = held_is ∙ ap (held script.blocks) worked;
+          more_is = more_is ∙ ap (gathered script.blocks) (sym frames_is);
+          no_window = λ _. (is_whole, ap (window_at script.blocks) (frames_is ∙ sym fed_all) ∙ sym window);
+        },
+      )
+      (Part has parted
+      (record {
+        fits = subst (Fits script) (sym (passed.opens.said (heard ++ rest))) passed.fits;
+        not_full = subst (λ n. gathered script.blocks n ≤ MAX_GATHERED) (sym blocks_before) passed.not_full;
+      })
+      (passed.cost ∙ ap (λ n. before.multiplies + live_cost_of script n) worked))
+      (passed.no_input_fault, passed.no_output_fault)))
   stops_unpassed window _ final after none = absurd none
 
   -- no window ends past its convolution
@@ -366,20 +302,6 @@ module _ (script : Script) (block : ℕ) (ready : IsReady script block) (session
     products_are = products_are_cost script.input.format script.input.channels script.blocks
         (length (x ++ signal script header.coding fed_bytes)) no_window
 
-    -- a whole signal has so many frames
-    pub tail_few : (fed : SessionState) → SameSession session fed →
-        StandsFor fed (x ++ signal script header.coding fed_bytes) → (frames : ℕ) →
-        frames ≡ frames_given script.blocks ((last.before + last.count) / frame_bytes script header.coding) →
-        (z : List Frame) → StandsFor fed z → length (whole_values fed.script z) ≤ frames
-    tail_few fed same fed_stands frames is z stands =
-        let long : length z ≡ length (x ++ signal script header.coding fed_bytes) = sym stands.chain.counted ∙
-        fed_stands.chain.counted in
-        let all : length (whole_values fed.script z) ≡ frames =
-        ap (λ (s : Script). length (whole_values s z)) (same.script ∙ passed.script_is) ∙
-        whole_length script block ready z (ap (window_at script.blocks) long ∙ no_window) ∙
-        ap (frames_given script.blocks) (long ∙ frames_taken) ∙ sym is in
-        omega (arith, all)
-
     -- the last samples have passed
     module _ (fed : SessionState) (mid : SinkState) (fed_counts : Counts) (same : SameSession session fed)
         (passes : Passes session.banked script header.coding x fed_bytes fed then mid counts fed_counts) where
@@ -389,13 +311,10 @@ module _ (script : Script) (block : ℕ) (ready : IsReady script block) (session
       fed_script : fed.script ≡ script
       fed_script = same.script ∙ passed.script_is
 
-      put_all : (final : SinkState) (written : List ℕ) → final.put ≡ append_known mid.put written →
-          final.put ≡ append_known sink.put (head ++ live_bytes script x ++ (fed.out ++ written))
-      put_all final written put =
-          put ∙ ap (λ known. append_known known written) passes.took.put ∙
+      put_then : (final : SinkState) (written : List ℕ) → final.put ≡ append_known mid.put written →
+          final.put ≡ append_known then.put (fed.out ++ written)
+      put_then final written put = put ∙ ap (λ known. append_known known written) passes.took.put ∙
           sym (append_known-append then.put fed.out written)
-          ∙ ap (λ known. append_known known (fed.out ++ written)) passed.took.put ∙
-          sym (append_known-append sink.put (head ++ live_bytes script x) (fed.out ++ written))
 
       written_is : (written : List ℕ) → head ++ live_bytes script x ++ (fed.out ++ written) ≡ head ++
           (live_bytes script y ++ written)
@@ -462,8 +381,13 @@ module _ (script : Script) (block : ℕ) (ready : IsReady script block) (session
               not_full = subst (λ n. gathered script.blocks n ≤ MAX_GATHERED) (frames_taken ∙ sym is) passes.not_full;
             };
             no_window = ap (window_at script.blocks) (is ∙ sym frames_taken) ∙ no_window;
-            put = put_all final tail.written tail.put ∙ ap (append_known sink.put) all;
-            lag = subst (LagsByOne script block given) all (lag (fed.out ++ tail.written));
+            put = put_then final tail.written tail.put ∙
+                ap (λ known. append_known known (fed.out ++ tail.written)) passed.took.put ∙
+                sym (append_known-append sink.put (head ++ live_bytes script x) (fed.out ++ tail.written)) ∙
+                ap (append_known sink.put) all;
+            lag = subst (LagsByOne script block given) all (lag script block ready header passed.first passed.opens
+                session.banked passed.blocks heard rest input now sink then before counts standing
+                (fed.out ++ tail.written));
             settled = settled;
             no_input_fault = passed.no_input_fault;
             no_output_fault = faults ∙ passes.no_fault ∙ passed.no_output_fault;
@@ -491,29 +415,20 @@ module _ (script : Script) (block : ℕ) (ready : IsReady script block) (session
           let begins : output script given ≡ (head ++ live_bytes script x ++ (fed.out ++ tail.written)) ++ back =
           output_all ∙ ap (λ xs. head ++ xs) split ∙ sym (append_assoc head (live_bytes script y ++ tail.written)
           back) ∙ ap (λ xs. xs ++ back) (sym (written_is tail.written)) in
-          record {
-            given = given;
-            written = head ++ live_bytes script x ++ (fed.out ++ tail.written);
-            gave = passed.gave;
-            in_limit = omega (arith, given_all, passed.in_limit);
-            put = put_all final tail.written tail.put;
-            unflushed = tt;
-            cause = has;
-            wrote = (
-              limits,
-              inr (
-                (back, begins),
-                is_whole,
-                ap (window_at script.blocks) frames_is ∙ no_window,
-                subst (λ n. gathered script.blocks n ≤ MAX_GATHERED) (sym frames_is) passes.not_full,
-              ),
-            );
-            faults = (passed.no_input_fault, failed ∙ ap one_more (passes.no_fault ∙ passed.no_output_fault));
-            in_declared = λ _. behind;
-            lag = λ _. lag (fed.out ++ tail.written);
-            cost = rw frames_is (cost_all spent.multiplies limit);
-            turns = late_turns spent limit (tail_costs (Err error) final spent writes costs).turned;
-          }
+          stops_within script block ready header passed.first passed.opens session.banked passed.blocks heard rest input
+          now sink then before counts standing (fed.out ++ tail.written) final spent (put_then final tail.written
+          tail.put) (
+            limits,
+            inr (
+              (back, begins),
+              is_whole,
+              ap (window_at script.blocks) frames_is ∙ no_window,
+              subst (λ n. gathered script.blocks n ≤ MAX_GATHERED) (sym frames_is) passes.not_full,
+            ),
+          )
+          (passed.no_input_fault, failed ∙ ap one_more (passes.no_fault ∙ passed.no_output_fault))
+          (rw frames_is (cost_all spent.multiplies limit))
+          (late_turns spent limit (tail_costs (Err error) final spent writes costs).turned)
 
 -- the same of equal scripts and block lengths
 pub passed_as : (script same_script : Script) (block same_block : ℕ) (session : SessionState) (header : Header)
@@ -542,7 +457,7 @@ done_as banked same_banked script same_script block same_block frames same_frame
     (subst (λ n. Done banked script n same_frames input now sink then before counts found) b
     (subst (λ n. Done banked script block n input now sink then before counts found) f done)))
 
-pub few_taken : (start before count f : ℕ) → start + (before + count) ≤ 2 ^ 40 → (before + count) / f ≤ 2 ^ 40
+pub few_taken : (start before count f : ℕ) → start + (before + count) ≤ MAX_INPUT → (before + count) / f ≤ MAX_INPUT
 few_taken start before count f limit = omega (arith, quotient_within (before + count) f, limit)
 
 pub same_quotient : (before count f g : ℕ) → f ≡ g → (before + count) / f ≡ (before + count) / g

@@ -1,10 +1,11 @@
 -- What the end of a stream asks of its calls, from any state.
-use Rattle.std.proofs.Common.{◌≡◌, ℕ, ◌+◌, ◌*◌, ◌/◌, ◌%◌, ◌^◌, ◌<◌, ◌≤◌, List, length, Option, None, sym, ap, ◌∙◌}
+use Rattle.std.proofs.Common.{◌≡◌, ℕ, ◌+◌, ◌*◌, ◌/◌, ◌%◌, ◌<◌, ◌≤◌, List, length, Option, None, sym, ap, ◌∙◌}
 use Rattle.std.proofs.Common.{arith}
 use Rattle.std.proofs.lemmas.List.{length-take-le}
 use Rattle.std.proofs.lemmas.Nat.{div-mul-add}
 use Rattle.dsp_defs.specs.Block.{Frame}
 use Rattle.dsp_defs.specs.Shape.{frames_given, window_at}
+use Rattle.dsp_defs.specs.declared.limits.TheConstants.{MAX_INPUT}
 use Rattle.dsp_defs.specs.declared.script.Script.{Script}
 use Rattle.dsp_defs.specs.declared.wave.Header.{Header}
 use Rattle.dsp_input.specs.Taking.{frame_bytes}
@@ -43,7 +44,7 @@ module _ (session : SessionState) (runs : Runs session) (header : Header) (block
     (coding : session.coding ≡ header.coding)
     (size : length block ≡ block_bytes session.script header.coding session.block) (short : last.count < length block)
     (frames : session.chain.frames * frame_bytes session.script header.coding ≡ last.before)
-    (limit : last.before + last.count ≤ 2 ^ 40) where
+    (limit : last.before + last.count ≤ MAX_INPUT) where
   abbrev frame : ℕ
   frame = frame_bytes session.script header.coding
 
@@ -76,10 +77,10 @@ module _ (session : SessionState) (runs : Runs session) (header : Header) (block
   pub taken_is : (last.before + last.count) / frame ≡ session.chain.frames + count
   taken_is = ap (λ n. (n + last.count) / frame) (sym frames) ∙ quotient session.chain.frames last.count frame some
 
-  pub few : session.chain.frames + count ≤ 2 ^ 40
+  pub few : session.chain.frames + count ≤ MAX_INPUT
   few = (let all = floor_less (last.before + last.count) frame some in omega (arith, all, taken_is, limit))
 
-  pub fed_few : session.chain.frames + count_of session bytes ≤ 2 ^ 40
+  pub fed_few : session.chain.frames + count_of session bytes ≤ MAX_INPUT
   fed_few = omega (arith, few, fed_count)
 
   pub window : (found : Option (ℕ × ℕ)) → window_at session.script.blocks (session.chain.frames + count) ≡ found →

@@ -8,7 +8,6 @@ use Rattle.dsp_defs.specs.declared.measure.Measure.{Measure}
 use Rattle.dsp_defs.specs.declared.script.Script.{Script}
 use Rattle.dsp_session.specs.SessionState.{SessionState}
 use Rattle.dsp_session.specs.Session.{Holds, StandsFor}
-use Rattle.dsp_session.specs.Advancing.{Runs}
 use Rattle.dsp_session.specs.Resuming.{LaterLagsByOne, RestDone, RestStopped}
 use Rattle.dsp_session.specs.declared.fault.PartFault.{PartFault}
 
@@ -21,16 +20,6 @@ module _ (s : SessionState) (coding : Coding) where
 
   pub stands_coded : (x : List Frame) → StandsFor s x → StandsFor coded x
   stands_coded x stands = record { holds = holds_coded stands.holds; chain = stands.chain; live = stands.live }
-
-  pub runs_coded : Runs s → Runs coded
-  runs_coded runs = record {
-    holds = holds_coded runs.holds;
-    running = runs.running;
-    works = runs.works;
-    live =
-        runs.live;
-    not_full = runs.not_full;
-  }
 
   lag_coded : (script : Script) (block from : ℕ) (given written : List ℕ) →
       LaterLagsByOne script block coded from given written → LaterLagsByOne script block s from given written

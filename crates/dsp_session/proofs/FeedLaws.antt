@@ -1,9 +1,9 @@
 -- What one call of a session gives, and where it is refused.
 use Rattle.std.proofs.Common.{◌≡◌, ℕ, zero, suc, ◌+◌, ◌<◌, ◌≤◌, true, false, List, [], ◌∷◌, ◌++◌, length, None, refl}
-use Rattle.std.proofs.Common.{sym, ap, ◌∙◌, subst, arith, length-append, inl, inr}
+use Rattle.std.proofs.Common.{sym, ap, ◌∙◌, subst, arith, inl, inr}
 use Rattle.std.specs.Prelude.{is_some}
 use Rattle.std.proofs.lemmas.Bool.{cases_lt}
-use Rattle.dsp_ports.specs.Ports.{SinkState, Took}
+use Rattle.dsp_ports.specs.Ports.{SinkState}
 use Rattle.dsp_defs.specs.Block.{Frame, live, live_chain, format_after, channels_after}
 use Rattle.dsp_defs.specs.Counts.{Counts}
 use Rattle.dsp_defs.specs.Cost.{live_cost}
@@ -22,8 +22,7 @@ use Rattle.dsp_chain.specs.Chain.{made_of}
 use Rattle.dsp_session.specs.SessionState.{SessionState}
 use Rattle.dsp_session.specs.Session.{IsReady, StandsFor, SameSession, Feeds, Fails, IsTooMuch, signal, output_bytes}
 use Rattle.dsp_session.specs.Session.{live_values, live_cost_of, turns_of}
-use Rattle.dsp_session.specs.Stream.{StaysRefused}
-use Rattle.dsp_session.specs.Passing.{PassCosts, Passes, FailsToPass}
+use Rattle.dsp_session.specs.Passing.{PassCosts}
 use Rattle.dsp_session.specs.Advancing.{FailsToPassOn}
 use Rattle.dsp_session.specs.declared.fault.LengthFault.TheVariants as length_fault
 use Rattle.dsp_session.specs.declared.fault.StreamFault.TheVariants as fault
@@ -80,68 +79,6 @@ module _ (s next : SessionState) (bytes : List ℕ) (before after : Counts) (sam
             (subst (λ n. after.turns ≤ before.turns + turns_of s.banked s.script s.chain.frames n)
             after_is.chain.counted fed.turns);
       }
-
-  -- it was not refused, so it has gathered no more than it may
-  pub feed_fits : (IsTooMuch s (length (signal s.script s.coding bytes)) → ⊥) →
-      gathered s.script.blocks (length (x ++ signal s.script s.coding bytes)) ≤ MAX_GATHERED
-  feed_fits taken =
-      let all = ap (λ n. n + length (signal s.script s.coding bytes)) stands.chain.counted ∙
-      sym (length-append x (signal s.script s.coding bytes)) in
-      elim (cases_lt MAX_GATHERED (gathered s.script.blocks
-      (s.chain.frames + length (signal s.script s.coding bytes)))) [
-        | inl over ↦ absurd (taken (inl over))
-        | inr within ↦ subst (λ n. gathered s.script.blocks n ≤ MAX_GATHERED) all within
-      ]
-
-  pub feed_passes : (sink last : SinkState) → Took sink last next.out → last.faults ≡ sink.faults →
-      (IsTooMuch s (length (signal s.script s.coding bytes)) → ⊥) →
-      Passes s.banked s.script s.coding x bytes next sink last before after
-  feed_passes sink last took faults taken = record {
-    stands = fed.stands x stands;
-    out = feed_out;
-    costs =
-        feed_costs;
-    not_full = feed_fits taken;
-    took = took;
-    no_fault = faults;
-  }
-
--- the call was refused
-pub feed_refused : (s : SessionState) (x : List Frame) (bytes : List ℕ) (full : GatherFull) (sink last : SinkState)
-    (before after : Counts) → StandsFor s x → IsTooMuch s (length (signal s.script s.coding bytes))
-    → (full.held ≡ held s.script.blocks s.chain.frames) ×
-    (full.held + full.more ≡ gathered s.script.blocks (s.chain.frames + length (signal s.script s.coding bytes))) →
-    last ≡ sink → after ≡ before
-    → FailsToPass (fault.Lengths (length_fault.Gather full.held full.more)) s.banked s.script s.coding x bytes sink
-    last before after
-feed_refused s x bytes full sink last before after stands too_much (held_is, sum_is) same steps =
-    let all : s.chain.frames + length (signal s.script s.coding bytes) ≡ length (x ++ signal s.script s.coding bytes)
-    = ap (λ n. n + length (signal s.script s.coding bytes)) stands.chain.counted ∙
-    sym (length-append x (signal s.script s.coding bytes)) in
-    let sum : full.more + full.held ≡ full.held + full.more = omega arith in (
-      subst (λ n. MAX_GATHERED < gathered s.script.blocks n) all (over too_much),
-      held_is ∙ ap (held s.script.blocks) stands.chain.counted,
-      sum ∙ sum_is ∙ ap (gathered s.script.blocks) all,
-      same,
-      steps,
-    )
-  where
-    over : IsTooMuch s (length (signal s.script s.coding bytes)) →
-        MAX_GATHERED < gathered s.script.blocks (s.chain.frames + length (signal s.script s.coding bytes))
-    over (inl many) = many
-    over (inr failed) = absurd (let e : true ≡ false = sym failed ∙ ap is_some stands.chain.works in cc)
-
--- and it will be refused again
-pub refused_again : (s next : SessionState) (x : List Frame) (full : GatherFull) (more : ℕ) (before after : Counts) →
-    StandsFor s x → Fails s next full before after
-    → (s.chain.failed ≡ None → (full.held ≡ held s.script.blocks s.chain.frames) ×
-    (full.held + full.more ≡ gathered s.script.blocks (s.chain.frames + more))) →
-    StaysRefused (fault.Lengths (length_fault.Gather full.held full.more)) next
-refused_again s next x full more before after stands fails numbers = (
-  ap (λ (t : SessionState). t.chain.failed) fails.same,
-  (numbers stands.chain.works).0 ∙
-      ap (λ (t : SessionState). held t.script.blocks t.chain.frames) (sym fails.same),
-)
 
 -- ---- from any state
 

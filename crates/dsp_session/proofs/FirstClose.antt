@@ -1,5 +1,5 @@
 -- The last of the first frames of an input, and the ends of the stream over them.
-use Rattle.std.proofs.Common.{◌≡◌, ℕ, ◌+◌, ◌-◌, ◌*◌, ◌/◌, ◌^◌, ◌<◌, ◌≤◌, List, [], ◌++◌, length, take, Option, Some}
+use Rattle.std.proofs.Common.{◌≡◌, ℕ, ◌+◌, ◌-◌, ◌*◌, ◌/◌, ◌<◌, ◌≤◌, List, [], ◌++◌, length, take, Option, Some}
 use Rattle.std.proofs.Common.{None, IfSome, sym, ap, ◌∙◌, subst, arith, append_assoc, length-append, inl, inr}
 use Rattle.std.proofs.lemmas.Bool.{cases_lt}
 use Rattle.std.proofs.lemmas.List.{length-take-le, take_all}
@@ -11,7 +11,7 @@ use Rattle.dsp_defs.specs.Block.{Frame}
 use Rattle.dsp_defs.specs.Counts.{Counts}
 use Rattle.dsp_defs.specs.Output.{declared_frames, input_header, live_bytes, output_header}
 use Rattle.dsp_defs.specs.Shape.{gathered}
-use Rattle.dsp_defs.specs.declared.limits.TheConstants.{MAX_GATHERED}
+use Rattle.dsp_defs.specs.declared.limits.TheConstants.{MAX_GATHERED, MAX_INPUT}
 use Rattle.dsp_defs.specs.declared.script.Script.{Script}
 use Rattle.dsp_defs.specs.declared.wave.Header.{Header}
 use Rattle.dsp_input.specs.Taking.{AreAll, Fits, InDeclared, declared_bytes, frame_bytes, frames_in_bytes}
@@ -32,7 +32,7 @@ use Rattle.dsp_session.proofs.AdvanceLaws.{passed_runs}
 use Rattle.dsp_session.proofs.OpeningLaws.{some_frame, frames_of_blocks, frames-whole, frames_are, length-signal}
 use Rattle.dsp_session.proofs.OpeningLaws.{signal-append, signal_is}
 use Rattle.dsp_session.proofs.PartLaws.{first_is}
-use Rattle.dsp_session.proofs.PassingLaws.{block_some, in_blocks, in_declared}
+use Rattle.dsp_session.proofs.BlockLaws.{block_some, in_blocks, in_declared}
 use Rattle.dsp_session.proofs.FirstLaws as laws
 
 at_most : (k n f : ℕ) → 0 < f → n ≤ k * f → n / f ≤ k
@@ -108,7 +108,7 @@ module _ (start session : SessionState) (header : Header) (span : Span) (block :
   few : length (signal script header.coding all) ≤ frames
   few = rw count_is (at_most frames came frame some (omega (arith, reached.read.in_part, end)))
 
-  in_limit : header.start + (last.before + length bytes) ≤ 2 ^ 40
+  in_limit : header.start + (last.before + length bytes) ≤ MAX_INPUT
   in_limit = omega (arith, long, reached.read.in_limit)
 
   in_block : length bytes ≤ block_bytes script header.coding start.block
@@ -175,7 +175,7 @@ module _ (start session : SessionState) (header : Header) (span : Span) (block :
     all_counted : session.chain.frames + count_of session bytes ≡ frames
     all_counted = omega (arith, session_frames, fed_count, rest)
 
-    pub fed_few : frames ≤ 2 ^ 40 → session.chain.frames + count_of session bytes ≤ 2 ^ 40
+    pub fed_few : frames ≤ MAX_INPUT → session.chain.frames + count_of session bytes ≤ MAX_INPUT
     fed_few small = omega (arith, all_counted, small)
 
     -- where the last frames are too many there are some

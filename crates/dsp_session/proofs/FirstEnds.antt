@@ -1,9 +1,10 @@
 -- What the loop over the first frames of an input answers makes the ends of that stream.
-use Rattle.std.proofs.Common.{◌≡◌, ℕ, ◌+◌, ◌-◌, ◌*◌, ◌/◌, ◌^◌, ◌<◌, ◌≤◌, List, [], ◌++◌, length, sym, ap, ◌∙◌, subst}
+use Rattle.std.proofs.Common.{◌≡◌, ℕ, ◌+◌, ◌-◌, ◌*◌, ◌/◌, ◌<◌, ◌≤◌, List, [], ◌++◌, length, sym, ap, ◌∙◌, subst}
 use Rattle.std.proofs.Common.{arith, length-append}
 use Rattle.std.proofs.lemmas.List.{take_all}
 use Rattle.dsp_ports.specs.Ports.{SourceState, SinkState, Gave}
 use Rattle.dsp_defs.specs.Counts.{Counts}
+use Rattle.dsp_defs.specs.declared.limits.TheConstants.{MAX_INPUT}
 use Rattle.dsp_defs.specs.declared.script.Script.{Script}
 use Rattle.dsp_defs.specs.declared.wave.Header.{Header}
 use Rattle.dsp_input.specs.declared.fault.InputFault.{InputFault}
@@ -21,7 +22,7 @@ use Rattle.dsp_session.specs.declared.fault.PartFault.TheVariants as part_fault
 use Rattle.dsp_session.specs.declared.streaming.Span.{Span}
 use Rattle.dsp_session.proofs.OpeningLaws.{some_frame, frames_of_blocks, frames-whole, length-signal, signal-append}
 use Rattle.dsp_session.proofs.OpeningLaws.{div_less}
-use Rattle.dsp_session.proofs.PassingLaws.{block_some, in_blocks}
+use Rattle.dsp_session.proofs.BlockLaws.{block_some, in_blocks}
 use Rattle.dsp_session.proofs.FirstLaws as laws
 
 at_most : (k n f : ℕ) → 0 < f → n ≤ k * f → n / f ≤ k
@@ -82,7 +83,7 @@ module _ (start : SessionState) (header : Header) (span : Span) (input mid : Sou
       few : length (signal script header.coding (going.heard ++ piece)) ≤ frames
       few = few_heard piece read.in_part
 
-      in_limit : header.start + (taken + length piece) ≤ 2 ^ 40
+      in_limit : header.start + (taken + length piece) ≤ MAX_INPUT
       in_limit = omega (arith, read.in_limit)
 
       in_block : length piece ≤ block_bytes script header.coding start.block

@@ -1,5 +1,5 @@
 -- The ends of a stream over the first frames of an input.
-use Rattle.std.proofs.Common.{◌≡◌, ℕ, ◌+◌, ◌-◌, ◌*◌, ◌^◌, ◌<◌, ◌≤◌, List, [], ◌++◌, length, take, drop, Option, Some}
+use Rattle.std.proofs.Common.{◌≡◌, ℕ, ◌+◌, ◌-◌, ◌*◌, ◌<◌, ◌≤◌, List, [], ◌++◌, length, take, drop, Option, Some}
 use Rattle.std.proofs.Common.{None, refl, sym, ap, ◌∙◌, subst, arith, append_assoc, append-nil, length-append, inl}
 use Rattle.std.proofs.Common.{inr}
 use Rattle.std.proofs.lemmas.List.{take-append-drop}
@@ -20,12 +20,12 @@ use Rattle.dsp_session.specs.SessionState.{SessionState}
 use Rattle.dsp_session.specs.Session.{IsReady, StandsFor, SameSession, Feeds, block_bytes, signal, live_cost_of}
 use Rattle.dsp_chain.specs.Chain.{made_of}
 use Rattle.dsp_defs.specs.Shape.{gathered, held}
-use Rattle.dsp_defs.specs.declared.limits.TheConstants.{MAX_GATHERED}
+use Rattle.dsp_defs.specs.declared.limits.TheConstants.{MAX_GATHERED, MAX_INPUT}
 use Rattle.dsp_session.specs.Advancing.{Going, FailsToPassOn}
 use Rattle.dsp_session.proofs.FeedLaws.{feed_out, made_live}
 use Rattle.dsp_session.specs.declared.streaming.Span.{Span}
 use Rattle.dsp_unit.proofs.CostLaws.{live_cost-zero}
-use Rattle.dsp_session.proofs.PassingLaws.{in_declared, lags}
+use Rattle.dsp_session.proofs.BlockLaws.{in_declared, lags}
 use Rattle.dsp_session.proofs.PlainLaws.{live_bytes-nil}
 use Rattle.dsp_session.specs.Opening.{Begun, Untaken, NoHeader, LongOutput, of_input}
 use Rattle.dsp_session.specs.Stream.{LagsByOne, in_whole_blocks}
@@ -50,7 +50,7 @@ module _ (script : Script) (block : ℕ) (ready : IsReady script block) (frames 
 
   pub first_stops : (stop : PartFault) (bytes written : List ℕ) (now : SourceState) (after : SinkState)
       (before counts : Counts)
-      → InDeclared (declared_bytes script header) (length bytes) → header.start + length bytes ≤ 2 ^ 40 →
+      → InDeclared (declared_bytes script header) (length bytes) → header.start + length bytes ≤ MAX_INPUT →
       LagsByOne script block (opened.first ++ bytes) written
       → Gave mid now bytes → after.put ≡ append_known sink.put written
       → Begins written (output_header script header ++ live_bytes script (signal script header.coding bytes))
@@ -88,7 +88,7 @@ module _ (script : Script) (block : ℕ) (ready : IsReady script block) (frames 
       by_size None = tt
       by_size (Some size) = omega arith
 
-  none_taken : header.start + 0 ≤ 2 ^ 40
+  none_taken : header.start + 0 ≤ MAX_INPUT
   none_taken = omega (arith, opened.opens.start, opened.opens.in_limit)
 
   lags_none : (before : Counts) (written : List ℕ) → LagsByOne script block (opened.first ++ []) written
@@ -271,7 +271,7 @@ module _ (start session : SessionState) (header : Header) (span : Span) (taken :
 
   module _ (frames : ℕ) (later : SourceState) (bytes : List ℕ) (gave : Gave now later bytes)
       (declared : InDeclared (declared_bytes script header) (taken + length bytes)) (few : frames_heard bytes ≤ frames)
-      (limit : header.start + (taken + length bytes) ≤ 2 ^ 40)
+      (limit : header.start + (taken + length bytes) ≤ MAX_INPUT)
       (short : length bytes ≤ block_bytes script header.coding start.block) where
     all_taken : length (heard ++ bytes) ≡ taken + length bytes
     all_taken = omega (arith, going.taken_is, from, length-append heard bytes)

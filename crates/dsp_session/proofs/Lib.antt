@@ -5,6 +5,7 @@ pub mod FeedLaws
 pub mod CloseLaws
 pub mod EndLaws
 pub mod WorkerLaws
+pub mod BlockLaws
 pub mod PassingLaws
 pub mod TurnLaws
 pub mod AdvanceLaws

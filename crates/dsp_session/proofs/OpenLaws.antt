@@ -1,32 +1,28 @@
 -- Where a stream stops before the first sample.
-use Rattle.std.proofs.Common.{◌≡◌, ◌≢◌, ℕ, ◌+◌, ◌*◌, ◌/◌, ◌^◌, ◌<◌, ◌≤◌, Bool, List, [], ◌++◌, length, take, drop}
-use Rattle.std.proofs.Common.{Option, Some, None, IfSome, Err, refl, sym, ap, ◌∙◌, subst, arith, append-nil}
-use Rattle.std.proofs.Common.{append_assoc, length-append, length-take-le, inl, inr}
+use Rattle.std.proofs.Common.{◌≡◌, ◌≢◌, ℕ, ◌*◌, ◌/◌, ◌<◌, ◌≤◌, Bool, List, [], ◌++◌, length, take, drop}
+use Rattle.std.proofs.Common.{Option, Some, None, refl, sym, ap, ◌∙◌, subst, arith, append-nil}
+use Rattle.std.proofs.Common.{append_assoc, length-append, length-take-le, inl}
 use Rattle.std.proofs.lemmas.List.{take-append-drop}
-use Rattle.std.specs.Result.{IsOk}
 use Rattle.std.specs.Io.KnownBytes.{append_known}
 use Rattle.dsp_ports.specs.Ports.{SourceState, SinkState, one_more, Gave, Took, settled_after}
 use Rattle.dsp_ports.proofs.Moved.{Took-nil}
 use Rattle.dsp_defs.specs.Counts.{Counts}
-use Rattle.dsp_defs.specs.Output.{HasHeader, HeaderIsThere, input_header, output_header, output_pad, live_bytes}
-use Rattle.dsp_defs.specs.Output.{known_frames, wanted_of, format_of, channels_of, part}
-use Rattle.dsp_defs.specs.Wave.{header_of, pad, HeaderFits}
+use Rattle.dsp_defs.specs.Output.{HasHeader, input_header, output_header, output_pad, live_bytes}
+use Rattle.dsp_defs.specs.Output.{known_frames, format_of, channels_of, part}
+use Rattle.dsp_defs.specs.Wave.{pad}
 use Rattle.dsp_defs.specs.declared.format.Coding.{Coding}
 use Rattle.dsp_defs.specs.declared.format.Container.{Container}
 use Rattle.dsp_defs.specs.declared.format.Container.TheVariants as container
-use Rattle.dsp_defs.specs.declared.format.InputKind.TheVariants as kind
 use Rattle.dsp_defs.specs.declared.script.Script.{Script}
 use Rattle.dsp_defs.specs.declared.wave.Header.{Header}
-use Rattle.dsp_defs.specs.declared.wave.HeaderFault.{HeaderFault}
 use Rattle.dsp_defs.specs.declared.wave.HeaderFault.TheVariants.{NoSamples}
-use Rattle.dsp_wave.specs.Reading.{IsSure}
 use Rattle.dsp_shape.proofs.Paces.{legal_parts}
 use Rattle.dsp_defs.specs.Shape.{gathered}
-use Rattle.dsp_defs.specs.declared.limits.TheConstants.{MAX_GATHERED, MAX_RIFF_SIZE}
+use Rattle.dsp_defs.specs.declared.limits.TheConstants.{MAX_GATHERED, MAX_INPUT, MAX_RIFF_SIZE}
 use Rattle.dsp_chain.proofs.NewChain.{gathered-nothing}
 use Rattle.dsp_input.specs.declared.fault.InputFault.{InputFault}
 use Rattle.dsp_input.specs.declared.fault.InputFault.TheVariants as input_fault
-use Rattle.dsp_input.specs.Taking.{Fits, HasFault, InDeclared, IsInputCause, IsTooLong, IsUnopened, Opened, Opens}
+use Rattle.dsp_input.specs.Taking.{Fits, InDeclared, IsInputCause, IsTooLong, IsUnopened, Opened}
 use Rattle.dsp_input.specs.Taking.{Unopened, WantsMore, declared_bytes, frames_in_bytes, in_whole_frames}
 use Rattle.dsp_session.specs.declared.fault.LengthFault.TheVariants as length_fault
 use Rattle.dsp_session.specs.declared.fault.StreamFault.{StreamFault}
@@ -70,7 +66,7 @@ unflushed_by (fault.Lengths length) sink after written same = same
 -- nothing was written before the header of the input was there
 module _ (banked : Bool) (script : Script) (block : ℕ) (counts : Counts) (input now : SourceState) (sink : SinkState)
   where
-    unwritten : (fault : StreamFault) (given : List ℕ) → Gave input now given → length given ≤ 2 ^ 40 →
+    unwritten : (fault : StreamFault) (given : List ℕ) → Gave input now given → length given ≤ MAX_INPUT →
         (HasHeader script given → ⊥) → IsCause fault script block given now →
         HasWritten fault script block given [] now sink sink counts counts → CountsFault fault input now sink sink
         → Stopped banked script block fault input now sink sink counts counts
@@ -91,7 +87,7 @@ module _ (banked : Bool) (script : Script) (block : ℕ) (counts : Counts) (inpu
           turns = omega arith;
         }
 
-    by_cause : (error : InputFault) (given : List ℕ) → Gave input now given → length given ≤ 2 ^ 40 →
+    by_cause : (error : InputFault) (given : List ℕ) → Gave input now given → length given ≤ MAX_INPUT →
         IsUnopened error script given input now → Stopped banked script block (of_input error) input now
         sink sink counts
         counts

@@ -1,23 +1,20 @@
 -- Behind the header of the input stand its samples, block after block.
-use Rattle.std.proofs.Common.{◌≡◌, ℕ, ◌+◌, ◌*◌, ◌/◌, ◌<◌, ◌≤◌, List, [], ◌++◌, length, take, drop, Option, Some, None}
+use Rattle.std.proofs.Common.{◌≡◌, ℕ, ◌+◌, ◌*◌, ◌/◌, ◌<◌, ◌≤◌, List, [], ◌++◌, length, take}
 use Rattle.std.proofs.Common.{refl, sym, ap, ◌∙◌, arith, length-append}
-use Rattle.std.proofs.lemmas.List.{drop_at, length-take-le, take_all, take_at, take-take}
+use Rattle.std.proofs.lemmas.List.{length-take-le, take_at, take-take}
 use Rattle.std.proofs.lemmas.Nat.{div-mul-add}
 use Rattle.std.proofs.Math.Nat.{mul_assoc}
 use Rattle.dsp_defs.specs.Block.{Frame}
-use Rattle.dsp_defs.specs.Bytes.{width}
-use Rattle.dsp_defs.specs.Output.{input_signal, sample_bytes, output_header, output_pad, live_bytes, whole_bytes}
-use Rattle.dsp_defs.specs.Output.{whole_blocks, output, part}
+use Rattle.dsp_defs.specs.Output.{output_header, live_bytes}
+use Rattle.dsp_defs.specs.Output.{whole_blocks, part}
 use Rattle.dsp_defs.specs.declared.format.Coding.{Coding}
 use Rattle.dsp_defs.specs.declared.script.Script.{Script}
 use Rattle.dsp_defs.specs.declared.wave.Header.{Header}
-use Rattle.dsp_defs.proofs.CodingLemmas.{width-some}
 use Rattle.dsp_defs.proofs.SampleLaws.{length-samples, samples-nil, samples-append, samples-whole, count-whole}
-use Rattle.dsp_input.specs.Taking.{InDeclared, Opens, declared_bytes, frame_bytes, frames_in_bytes, in_whole_frames}
+use Rattle.dsp_input.specs.Taking.{InDeclared, Opens, declared_bytes, frame_bytes}
 use Rattle.dsp_input.proofs.SampleBytes.{frame_some}
 pub use Rattle.dsp_input.proofs.SampleBytes.{floor_within, signal_is, frames_are, output_is}
 use Rattle.dsp_session.specs.Session.{IsReady, block_bytes, signal}
-use Rattle.std.proofs.Math.Nat.{mul-le-mul}
 
 -- ---- frames and blocks
 

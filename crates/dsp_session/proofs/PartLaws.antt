@@ -1,19 +1,17 @@
 -- What streams over a part of an input have in common: what is written of more frames, and what more frames cost.
-use Rattle.std.proofs.Common.{◌≡◌, ℕ, ◌+◌, ◌<◌, ◌≤◌, false, List, ◌++◌, length, take, IfSome, sym, ap, ◌∙◌, subst}
-use Rattle.std.proofs.Common.{arith, append_assoc, length-append}
+use Rattle.std.proofs.Common.{◌≡◌, ℕ, ◌<◌, ◌≤◌, false, List, ◌++◌, length, take, sym, ap, ◌∙◌, arith, append_assoc}
 use Rattle.dsp_ports.specs.Ports.{SourceState, SinkState, one_more}
 use Rattle.std.proofs.lemmas.List.{take_all}
 use Rattle.dsp_defs.specs.Block.{Frame}
-use Rattle.dsp_defs.specs.Output.{input_header, output_coding, output_header, input_signal, live_bytes, whole_bytes}
+use Rattle.dsp_defs.specs.Output.{input_header, output_coding, output_header, input_signal, live_bytes}
 use Rattle.dsp_defs.specs.Streaming.{Begins}
 use Rattle.dsp_defs.specs.declared.script.Script.{Script}
 use Rattle.dsp_defs.specs.declared.wave.Header.{Header}
-use Rattle.dsp_defs.proofs.ChainLaws.{live_chain_causal, whole_chain_begins}
+use Rattle.dsp_defs.proofs.ChainLaws.{live_chain_causal}
 use Rattle.dsp_defs.proofs.OutputLaws.{coded_begins}
 use Rattle.dsp_input.specs.declared.fault.InputFault.{InputFault}
 use Rattle.dsp_input.specs.declared.fault.InputFault.TheVariants as input_fault
-use Rattle.dsp_input.specs.Taking.{HasFault, InDeclared, IsUnread, Opens, declared_bytes, frame_bytes}
-use Rattle.dsp_input.specs.Taking.{frames_in_bytes, in_whole_frames}
+use Rattle.dsp_input.specs.Taking.{InDeclared, IsUnread, Opens, declared_bytes, frame_bytes, frames_in_bytes}
 use Rattle.dsp_session.specs.Opening.{of_input}
 use Rattle.dsp_session.specs.Session.{signal, live_values, live_cost_of}
 use Rattle.dsp_session.specs.Stream.{IsCause, CountsFault}
@@ -26,9 +24,6 @@ use Rattle.dsp_session.proofs.TurnLaws.{chain_turns_within}
 
 -- ---- lists
 
-pub begins_more : {A : Type 0} (xs ys zs : List A) → Begins xs ys → Begins ys zs → Begins xs zs
-begins_more xs ys zs (a, first) (b, second) = (a ++ b, second ∙ ap (λ l. l ++ b) first ∙ append_assoc xs a b)
-
 pub begins_behind : {A : Type 0} (front xs ys : List A) → Begins xs ys → Begins (front ++ xs) (front ++ ys)
 begins_behind front xs ys (rest, is) = (rest, ap (λ l. front ++ l) is ∙ sym (append_assoc front xs rest))
 
@@ -39,11 +34,6 @@ pub live_goes_on : (script : Script) (x more : List Frame) →
 live_goes_on script x more =
     coded_begins (output_coding script) (live_values script x) (live_values script (x ++ more))
     (live_chain_causal script.input.format script.input.channels script.blocks x more)
-
-pub live_in_whole : (script : Script) (x more : List Frame) →
-    Begins (live_bytes script x) (whole_bytes script (x ++ more))
-live_in_whole script x more = coded_begins (output_coding script) _ _
-    (whole_chain_begins script.input.format script.input.channels script.blocks x more)
 
 -- more frames have no less cost
 pub live_cost_more : (script : Script) (m n : ℕ) → m ≤ n → live_cost_of script m ≤ live_cost_of script n

@@ -1,5 +1,5 @@
 -- The ends of a stream over the rest of an input before its first frame.
-use Rattle.std.proofs.Common.{◌≡◌, ℕ, ◌+◌, ◌*◌, ◌/◌, ◌^◌, ◌<◌, ◌≤◌, List, [], ◌++◌, length, Option, Some, None}
+use Rattle.std.proofs.Common.{◌≡◌, ℕ, ◌+◌, ◌*◌, ◌/◌, ◌<◌, ◌≤◌, List, [], ◌++◌, length, Option, Some, None}
 use Rattle.std.proofs.Common.{IfSome, refl, sym, ap, ◌∙◌, subst, arith, append-nil, length-append, inl, inr}
 use Rattle.std.specs.Io.KnownBytes.{IsAtEnd}
 use Rattle.std.specs.Option.{option_map}
@@ -9,7 +9,7 @@ use Rattle.dsp_defs.specs.Block.{Frame}
 use Rattle.dsp_defs.specs.Counts.{Counts}
 use Rattle.dsp_defs.specs.Output.{HasHeader, declared_frames, input_header, live_bytes}
 use Rattle.dsp_defs.specs.Streaming.{Begins}
-use Rattle.dsp_defs.specs.declared.limits.TheConstants.{MAX_RIFF_SIZE}
+use Rattle.dsp_defs.specs.declared.limits.TheConstants.{MAX_INPUT, MAX_RIFF_SIZE}
 use Rattle.dsp_defs.specs.declared.script.Script.{Script}
 use Rattle.dsp_defs.specs.declared.wave.Header.{Header}
 use Rattle.dsp_unit.proofs.CostLaws.{live_cost_within}
@@ -45,7 +45,7 @@ module _ (script : Script) (block : ℕ) (ready : IsReady script block) (start :
       (sym (append-nil (live_bytes script x))) (live_goes_on script x (later_frames script from given)))
 
   pub nothing_done : (stop : PartFault) (given : List ℕ) (now : SourceState) → Gave input now given →
-      length given ≤ 2 ^ 40
+      length given ≤ MAX_INPUT
       → (HasHeader script given → length given ≤ later_blocks_end script block from (input_header script given) 1) →
       IsRestCause stop script block from given now → CountsPartFault stop input now sink sink
       → RestStopped script block start from stop input now sink sink before before
@@ -114,7 +114,7 @@ module _ (script : Script) (block : ℕ) (ready : IsReady script block) (start :
     whole size = elim size [ Some s ↦ Some (in_whole_frames script header.coding s) | None ↦ None ]
 
     behind : (got : ℕ) (bytes : List ℕ) (now : SourceState) → got < from → Gave mid now bytes →
-        header.start + length bytes ≤ 2 ^ 40 → length bytes ≤ from * frame → now.faults ≡ mid.faults →
+        header.start + length bytes ≤ MAX_INPUT → length bytes ≤ from * frame → now.faults ≡ mid.faults →
         Counted got (given bytes) now (declared_frames script header)
         → RestStopped script block start from (part_fault.Behind from got) input now sink sink before before
     behind got bytes now fewer gave limit few clean counted =

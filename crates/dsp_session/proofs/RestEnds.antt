@@ -1,12 +1,13 @@
 -- What the loop over the rest of an input and its close answer makes the ends of that stream.
 use Rattle.std.proofs.Common.{◌≡◌, ℕ, ◌+◌, ◌-◌, ◌*◌, ◌/◌, ◌^◌, ◌<◌, ◌≤◌, List, ◌++◌, length, take, Option, Some, None}
-use Rattle.std.proofs.Common.{refl, sym, ap, ◌∙◌, subst, arith, length-append, inl, inr}
+use Rattle.std.proofs.Common.{Ok, Err, refl, sym, ap, ◌∙◌, subst, arith, length-append, inl, inr}
 use Rattle.std.proofs.lemmas.List.{length-take-le, take_all}
 use Rattle.std.specs.Io.KnownBytes.{IsAtEnd}
 use Rattle.dsp_ports.specs.Ports.{SourceState, SinkState, Gave}
 use Rattle.dsp_ports.specs.declared.source.Failed.{Failed}
 use Rattle.dsp_defs.specs.Counts.{Counts}
 use Rattle.dsp_defs.specs.Shape.{window_at}
+use Rattle.dsp_defs.specs.declared.limits.TheConstants.{MAX_INPUT}
 use Rattle.dsp_defs.specs.declared.script.Script.{Script}
 use Rattle.dsp_defs.specs.declared.wave.Header.{Header}
 use Rattle.dsp_input.specs.declared.fault.InputFault.{InputFault}
@@ -25,7 +26,7 @@ use Rattle.dsp_session.specs.declared.fault.PartFault.TheVariants as part_fault
 use Rattle.dsp_session.specs.declared.streaming.Last.{Last}
 use Rattle.dsp_session.specs.declared.streaming.Span.{Span}
 use Rattle.dsp_session.proofs.OpeningLaws.{some_frame, frames_are, front_signal, frames-whole, length-signal}
-use Rattle.dsp_session.proofs.PassingLaws.{in_declared}
+use Rattle.dsp_session.proofs.BlockLaws.{in_declared}
 use Rattle.dsp_session.proofs.RestLaws as laws
 
 -- as many frames as whole ones among these bytes are less than a block
@@ -70,7 +71,7 @@ module _ (start : SessionState) (header : Header) (span : Span) (input opened_at
       gave : Gave between now piece
       gave = subst (Gave between now) (take_all (length piece) piece (omega arith)) read.gave
 
-      in_limit : header.start + (taken + length piece) ≤ 2 ^ 40
+      in_limit : header.start + (taken + length piece) ≤ MAX_INPUT
       in_limit = omega (arith, read.in_limit)
 
       in_block : length piece ≤ block_bytes script header.coding start.block
@@ -145,7 +146,7 @@ module _ (start : SessionState) (header : Header) (span : Span) (input opened_at
     declared = in_declared (declared_bytes script header) (last.before + last.count) (last.before + length bytes)
         (omega (arith, bytes_long)) reached.read.declared
 
-    all_in_limit : header.start + (last.before + length bytes) ≤ 2 ^ 40
+    all_in_limit : header.start + (last.before + length bytes) ≤ MAX_INPUT
     all_in_limit = omega (arith, bytes_long, reached.read.in_limit)
 
     all_in_block : length bytes ≤ block_bytes script header.coding start.block
@@ -256,8 +257,8 @@ module _ (start : SessionState) (header : Header) (span : Span) (input opened_at
         (laws.rest_unfinished start session header span last.before input opened_at mid reached.between sink then
         before made runs coding from opened skip skipped skip_long still going now bytes reached.read.gave declared
         all_in_limit all_in_block
-        piece same_more fed spent passes.same passes.fed error middle after counts passes.took passes.no_fault writes
-        (window None none) limit is_whole failed reached.read.no_fault)
+        piece same_more fed spent passes.same passes.fed (Err error) middle after counts passes.took passes.no_fault
+        writes (window None none) limit is_whole reached.read.no_fault failed)
 
     pub closed_rest : Fits script header → (new : SessionState) (after : SinkState) (counts : Counts) →
         Closed session new header piece then after made counts
@@ -267,11 +268,10 @@ module _ (start : SessionState) (header : Header) (span : Span) (input opened_at
         laws.rest_done start session header span last.before input opened_at mid reached.between sink then
         before made runs coding from opened skip skipped skip_long still going now bytes reached.read.gave declared
         all_in_limit all_in_block
-        piece same_more closed.fed closed.made closed.passes.same closed.passes.fed {E = Failed} closed.then
+        piece same_more closed.fed closed.made closed.passes.same closed.passes.fed {E = Failed} (Ok tt) closed.then
         after counts closed.passes.took closed.passes.no_fault closed.writes (window None closed.no_window)
-        closed.limit
-        is_whole closed.no_fault reached.read.no_fault closed.settled fits closed.passes.not_full closed.costs
-        (measured new) closed.measures
+        closed.limit is_whole reached.read.no_fault closed.writes.whole closed.no_fault closed.settled fits
+        closed.passes.not_full (λ x is. (closed.costs x is).exact) (measured new) closed.measures
         ((last.before + last.count) / frame_bytes script header.coding) total_is
         (λ none. omega (
           arith,

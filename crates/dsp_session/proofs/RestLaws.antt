@@ -1,7 +1,6 @@
 -- The ends of a stream over the rest of an input.
-use Rattle.std.proofs.Common.{◌≡◌, ℕ, ◌+◌, ◌-◌, ◌*◌, ◌^◌, ◌<◌, ◌≤◌, List, [], ◌++◌, length, take, drop, Some, None}
-use Rattle.std.proofs.Common.{Result, Ok, Err, sym, ap, ◌∙◌, subst, arith, append_assoc, append-nil, length-append}
-use Rattle.std.proofs.Common.{inl, inr}
+use Rattle.std.proofs.Common.{◌≡◌, ℕ, ◌+◌, ◌-◌, ◌*◌, ◌<◌, ◌≤◌, List, [], ◌++◌, length, take, drop, Some, None, Result}
+use Rattle.std.proofs.Common.{sym, ap, ◌∙◌, subst, arith, append_assoc, append-nil, length-append, inl, inr}
 use Rattle.std.proofs.lemmas.Bool.{cases_lt}
 use Rattle.std.proofs.lemmas.List.{take-append-drop, take_at, drop_at}
 use Rattle.std.specs.Io.KnownBytes.{append_known}
@@ -10,10 +9,10 @@ use Rattle.dsp_ports.proofs.Moved.{Took-nil, Gave-append, append_known-append}
 use Rattle.dsp_chain.specs.Chain.{made_of}
 use Rattle.dsp_defs.specs.Block.{Frame}
 use Rattle.dsp_defs.specs.Counts.{Counts}
-use Rattle.dsp_defs.specs.Output.{input_header, input_signal, live_bytes, output_pad, whole_bytes}
+use Rattle.dsp_defs.specs.Output.{HasHeader, input_header, input_signal, live_bytes, output_pad, whole_bytes}
 use Rattle.dsp_defs.specs.Shape.{gathered, held, window_at}
 use Rattle.dsp_defs.specs.Streaming.{Begins}
-use Rattle.dsp_defs.specs.declared.limits.TheConstants.{MAX_GATHERED}
+use Rattle.dsp_defs.specs.declared.limits.TheConstants.{MAX_GATHERED, MAX_INPUT}
 use Rattle.dsp_defs.specs.declared.measure.Measure.{Measure}
 use Rattle.dsp_defs.specs.declared.script.Script.{Script}
 use Rattle.dsp_defs.specs.declared.wave.Header.{Header}
@@ -26,10 +25,10 @@ use Rattle.dsp_session.specs.SessionState.{SessionState}
 use Rattle.dsp_session.specs.Session.{IsReady, StandsFor, SameSession, Feeds, block_bytes, signal, cost_of}
 use Rattle.dsp_session.specs.Session.{live_cost_of, products_of, measures_of}
 use Rattle.dsp_session.specs.Stream.{in_whole_blocks}
-use Rattle.dsp_session.specs.Passing.{WritesTail, TailCosts}
+use Rattle.dsp_session.specs.Passing.{WritesTail}
 use Rattle.dsp_session.specs.Advancing.{Runs, Going, FailsToPassOn, count_of}
-use Rattle.dsp_session.specs.Resuming.{IsRestCause, CountsPartFault, LaterLagsByOne, RestDone, RestStopped}
-use Rattle.dsp_session.specs.Resuming.{RestWritten, later_blocks_end, later_frames}
+use Rattle.dsp_session.specs.Resuming.{IsRestCause, CountsPartFault, LaterLagsByOne, RestDone, RestStopped, RestWritten}
+use Rattle.dsp_session.specs.Resuming.{later_blocks_end, later_frames}
 use Rattle.dsp_session.specs.declared.fault.LengthFault.TheVariants as length_fault
 use Rattle.dsp_session.specs.declared.fault.StreamFault.TheVariants as fault
 use Rattle.dsp_session.specs.declared.fault.PartFault.{PartFault}
@@ -38,7 +37,7 @@ use Rattle.dsp_session.specs.declared.streaming.Span.{Span}
 use Rattle.dsp_session.proofs.AdvanceLaws.{made_counted, made_runs}
 use Rattle.dsp_session.proofs.FeedLaws.{feed_out}
 use Rattle.dsp_session.proofs.OpeningLaws.{some_frame, frames_of_blocks, signal_is, signal-append, frames-whole}
-use Rattle.dsp_session.proofs.PassingLaws.{block_some, in_blocks, in_declared}
+use Rattle.dsp_session.proofs.BlockLaws.{block_some, in_blocks, in_declared}
 use Rattle.dsp_session.proofs.PartLaws.{live_goes_on, unread_cause, input_rest, unread_faults}
 
 -- the frames before the rest were passed over, and whole blocks of it have passed
@@ -74,6 +73,9 @@ module _ (start session : SessionState) (header : Header) (span : Span) (taken :
 
   abbrev fed : List Frame
   fed = signal script header.coding heard
+
+  heard_frames : length fed ≡ going.blocks * start.block
+  heard_frames = frames-whole script header.coding some heard (going.blocks * start.block) whole
 
   -- the frames behind those that were passed over
   abbrev later : List ℕ → List Frame
@@ -120,16 +122,7 @@ module _ (start session : SessionState) (header : Header) (span : Span) (taken :
       sym (append_assoc opened.first (skip ++ heard) bytes) in
       let count : length (opened.first ++ (skip ++ heard)) ≡ later_blocks_end script start.block frames
       (input_header script (given bytes)) going.blocks =
-      omega (
-        arith,
-        ends going.blocks,
-        long,
-        skip_long,
-        from,
-        opened.opens.start,
-        length-append opened.first (skip ++ heard),
-        length-append skip heard,
-      ) in
+      omega (arith, ends going.blocks, length-append opened.first (skip ++ heard), length-append skip heard) in
       let taken_front : take (later_blocks_end script start.block frames (input_header script (given bytes))
       going.blocks) (given bytes) ≡ opened.first ++ (skip ++ heard) =
       ap (take (later_blocks_end script start.block frames (input_header script (given bytes)) going.blocks)) front ∙
@@ -152,8 +145,21 @@ module _ (start session : SessionState) (header : Header) (span : Span) (taken :
 
   module _ (end : SourceState) (bytes : List ℕ) (gave : Gave now end bytes)
       (declared : InDeclared (declared_bytes script header) (taken + length bytes))
-      (below_limit : header.start + (taken + length bytes) ≤ 2 ^ 40)
+      (below_limit : header.start + (taken + length bytes) ≤ MAX_INPUT)
       (short : length bytes ≤ block_bytes script header.coding start.block) where
+    -- the frames by then, and a signal with the later ones
+    abbrev reached : ℕ
+    reached = frames + length (later bytes)
+
+    abbrev with_later : List Frame → List Frame
+    with_later x = x ++ later_frames script frames (given bytes)
+
+    has : HasHeader script (given bytes)
+    has = opened.opens.has (skip ++ (heard ++ bytes))
+
+    said : input_header script (given bytes) ≡ header
+    said = opened.opens.said (skip ++ (heard ++ bytes))
+
     all_long : length (skip ++ (heard ++ bytes)) ≡ taken + length bytes
     all_long = omega (arith, going.taken_is, skip_long, length-append skip (heard ++ bytes), length-append heard bytes)
 
@@ -169,31 +175,27 @@ module _ (start session : SessionState) (header : Header) (span : Span) (taken :
     pub later_is : later_frames script frames (given bytes) ≡ later bytes
     later_is = ap (drop frames) signal_all ∙ drop_at (signal script header.coding skip) (later bytes) frames skip_frames
 
-    pub count_is : frames_in_bytes script (given bytes) ≡ frames + length (later bytes)
+    pub count_is : frames_in_bytes script (given bytes) ≡ reached
     count_is = ap length signal_all ∙ length-append (signal script header.coding skip) (later bytes) ∙
         ap (λ n. n + length (later bytes)) skip_frames
+
+    given_long : length (given bytes) ≡ header.start + (taken + length bytes)
+    given_long = omega (arith, all_long, opened.opens.start, length-append opened.first (skip ++ (heard ++ bytes)))
 
     gave_all : Gave input end (given bytes)
     gave_all = Gave-append input opened_at end opened.first (skip ++ (heard ++ bytes)) opened.gave
         (Gave-append opened_at mid end skip (heard ++ bytes) skipped
         (Gave-append mid now end heard bytes going.gave gave))
 
-    all_in_limit : length (given bytes) ≤ 2 ^ 40
-    all_in_limit = omega (
-      arith,
-      below_limit,
-      all_long,
-      opened.opens.start,
-      length-append opened.first (skip ++ (heard ++ bytes)),
-    )
+    all_in_limit : length (given bytes) ≤ MAX_INPUT
+    all_in_limit = omega (arith, below_limit, given_long)
 
     -- a front of what the frames add was written, or of all
     pub rest_stops : (stop : PartFault) (written : List ℕ) (after : SinkState) (made : Counts) →
         after.put ≡ append_known sink.put (wrote ++ written)
         → ((x : List Frame) → StandsFor start x → RestWritten script x frames (given bytes) (wrote ++ written) end)
         → IsRestCause stop script start.block frames (given bytes) end → CountsPartFault stop input end sink after
-        → made.multiplies + live_cost_of script frames ≤ before.multiplies + cost_of script
-        (frames + length (later bytes))
+        → made.multiplies + live_cost_of script frames ≤ before.multiplies + cost_of script reached
         → RestStopped script start.block start frames stop input end sink after before made
     rest_stops stop written after made put wrote cause faults cost = record {
       given = given bytes;
@@ -214,35 +216,37 @@ module _ (start session : SessionState) (header : Header) (span : Span) (taken :
     put_more written after put = put ∙ ap (λ known. append_known known written) going.advances.took.put ∙
         sym (append_known-append sink.put wrote written)
 
-    cost_within : counts.multiplies + live_cost_of script frames ≤ before.multiplies + cost_of script
-        (frames + length (later bytes))
+    cost_within : counts.multiplies + live_cost_of script frames ≤ before.multiplies + cost_of script reached
     cost_within =
-        let fewer : session.chain.frames ≤ frames + length (later bytes) =
-        omega (
-          arith,
-          going.advances.counted,
-          ap length (together bytes),
-          length-append fed (signal script header.coding bytes),
-          frames-whole script header.coding some heard (going.blocks * start.block) whole,
-        ) in
+        let fewer : session.chain.frames ≤ reached =
+        omega (arith, heard_frames, ap length (together bytes), length-append fed (signal script header.coding bytes))
+        in
         let within = live_cost_within script.input.format script.input.channels script.blocks session.chain.frames
-        (frames + length (later bytes)) fewer in
+        reached fewer in
         omega (arith, going.advances.multiplies, within)
 
     read_so_far : now.faults ≡ input.faults
     read_so_far = going.no_fault ∙ still ∙ opened.no_fault
+
+    later_behind : (x : List Frame) → (x ++ fed) ++ signal script header.coding bytes ≡ with_later x
+    later_behind x = append_assoc x fed (signal script header.coding bytes) ∙
+        ap (λ y. x ++ y) (sym (together bytes) ∙ sym later_is)
 
     front_alone : (x : List Frame) → StandsFor start x → RestWritten script x frames (given bytes) (wrote ++ []) end
     front_alone x is =
         let front : Begins (live_bytes script (x ++ fed))
         (live_bytes script ((x ++ fed) ++ signal script header.coding bytes)) =
         live_goes_on script (x ++ fed) (signal script header.coding bytes) in
-        let all : (x ++ fed) ++ signal script header.coding bytes ≡ x ++ later_frames script frames (given bytes) =
-        append_assoc x fed (signal script header.coding bytes) ∙
-        ap (λ y. x ++ y) (sym (together bytes) ∙ sym later_is) in
-        inl (subst (λ xs. Begins xs (live_bytes script (x ++ later_frames script frames (given bytes))))
+        inl (subst (λ xs. Begins xs (live_bytes script (with_later x)))
         (wrote_is x is ∙ ap (λ ys. live_bytes script x ++ ys) (sym (append-nil wrote)))
-        (subst (λ y. Begins (live_bytes script (x ++ fed)) (live_bytes script y)) all front))
+        (subst (λ y. Begins (live_bytes script (x ++ fed)) (live_bytes script y)) (later_behind x) front))
+
+    -- just the live output of the blocks was written
+    stops_there : (stop : PartFault) → IsRestCause stop script start.block frames (given bytes) end →
+        CountsPartFault stop input end sink then
+        → RestStopped script start.block start frames stop input end sink then before counts
+    stops_there stop cause faults = rest_stops stop [] then counts (put_more [] then (Took-nil then).put) front_alone
+        cause faults cost_within
 
     -- ---- ends
 
@@ -250,24 +254,21 @@ module _ (start session : SessionState) (header : Header) (span : Span) (taken :
         RestStopped script start.block start frames (part_fault.Stream (of_input error)) input end sink then
         before counts
     rest_unread error unread =
-        rest_stops (part_fault.Stream (of_input error)) [] then
-        counts (put_more [] then (Took-nil then).put) front_alone
+        stops_there (part_fault.Stream (of_input error))
         (input_rest error script start.block frames (given bytes) end
         (unread_cause script start.block header opened.first opened.opens (skip ++ (heard ++ bytes))
         (taken + length bytes) all_long now end error unread))
         (unread_faults error script header (taken + length bytes) input now end sink then
         unread read_so_far going.advances.no_fault)
-        cost_within
 
     pub rest_windowed : (stop_end full : ℕ) → IsTakenWhole script (given bytes) end →
-        window_at script.blocks (frames + length (later bytes)) ≡ Some (stop_end, full) → end.faults ≡ now.faults
+        window_at script.blocks reached ≡ Some (stop_end, full) → end.faults ≡ now.faults
         → RestStopped script start.block start frames (part_fault.Stream
         (fault.Lengths (length_fault.Window stop_end full))) input end sink then before counts
     rest_windowed stop_end full ended found clean =
-        rest_stops (part_fault.Stream (fault.Lengths (length_fault.Window stop_end full))) [] then
-        counts (put_more [] then (Took-nil then).put) front_alone
-        (opened.opens.has (skip ++ (heard ++ bytes)), ended, ap (window_at script.blocks) count_is ∙ found)
-        (clean ∙ read_so_far, going.advances.no_fault) cost_within
+        stops_there (part_fault.Stream (fault.Lengths (length_fault.Window stop_end full)))
+        (has, ended, ap (window_at script.blocks) count_is ∙ found)
+        (clean ∙ read_so_far, going.advances.no_fault)
 
     -- the frames of these bytes, which are those of all that came, were fed to it
     module _ (piece : List ℕ) (same_more : signal script header.coding piece ≡ signal script header.coding bytes) where
@@ -278,33 +279,23 @@ module _ (start session : SessionState) (header : Header) (span : Span) (taken :
       in_session = (λ i. signal (going.advances.same.script i) ((going.advances.same.coding ∙ coding) i) piece) ∙
           same_more
 
-      all_fed : (x : List Frame) → (x ++ fed) ++ signal session.script session.coding piece ≡ x ++ later_frames script
-          frames (given bytes)
-      all_fed x = ap (λ y. (x ++ fed) ++ y) in_session ∙ append_assoc x fed more ∙
-          ap (λ y. x ++ y) (sym (together bytes) ∙ sym later_is)
+      all_fed : (x : List Frame) → (x ++ fed) ++ signal session.script session.coding piece ≡ with_later x
+      all_fed x = ap (λ y. (x ++ fed) ++ y) in_session ∙ later_behind x
 
-      heard_frames : length fed ≡ going.blocks * start.block
-      heard_frames = frames-whole script header.coding some heard (going.blocks * start.block) whole
-
-      pub fed_frames : session.chain.frames + count_of session piece ≡ frames + length (later bytes)
-      fed_frames = omega (
-        arith,
-        going.advances.counted,
-        heard_frames,
-        ap length in_session,
-        ap length (together bytes),
-        length-append fed more,
-      )
+      pub fed_frames : session.chain.frames + count_of session piece ≡ reached
+      fed_frames =
+          omega (arith, heard_frames, ap length in_session, ap length (together bytes), length-append fed more)
 
       -- a correlation would gather too many
       pub rest_full : (last : SessionState) (told over : ℕ) (after : SinkState) (made : Counts) →
           FailsToPassOn (fault.Lengths (length_fault.Gather told over)) session last piece then after counts made →
           end.faults ≡ now.faults
           → length more ≤ start.block → (length more < start.block → IsTakenWhole script (given bytes) end ×
-          (window_at script.blocks (frames + length (later bytes)) ≡ None))
+          (window_at script.blocks reached ≡ None))
           → RestStopped script start.block start frames (part_fault.Stream
           (fault.Lengths (length_fault.Gather told over))) input end sink after before made
       rest_full last told over after made (fails, past, told_is, sum, still) clean within ended =
+          let stop = part_fault.Stream (fault.Lengths (length_fault.Gather told over)) in
           let script_is = going.advances.same.script in
           let all_frames : length (later bytes) ≡ going.blocks * start.block + length more =
           omega (arith, ap length (together bytes), length-append fed more, heard_frames) in
@@ -317,15 +308,11 @@ module _ (start session : SessionState) (header : Header) (span : Span) (taken :
           let total : gathered session.script.blocks (session.chain.frames + count_of session piece) ≡ gathered
           script.blocks (frames_in_bytes script (given bytes)) =
           (λ i. gathered (script_is i).blocks ((fed_frames ∙ sym count_is) i)) in
-          subst (λ c. RestStopped script start.block start frames
-          (part_fault.Stream (fault.Lengths (length_fault.Gather told over))) input end sink after before c)
+          subst (λ c. RestStopped script start.block start frames stop input end sink after before c)
           (sym fails.no_steps)
-          (subst (λ s. RestStopped script start.block start frames
-          (part_fault.Stream (fault.Lengths (length_fault.Gather told over))) input end sink s before counts)
-          (sym still)
-          (rest_stops (part_fault.Stream (fault.Lengths (length_fault.Gather told over))) [] then
-          counts (put_more [] then (Took-nil then).put) front_alone (
-            opened.opens.has (skip ++ (heard ++ bytes)),
+          (subst (λ s. RestStopped script start.block start frames stop input end sink s before counts) (sym still)
+          (stops_there stop (
+            has,
             omega (arith, count_is, all_frames, one),
             record {
               over = subst (λ n. MAX_GATHERED < n) total past;
@@ -335,7 +322,7 @@ module _ (start session : SessionState) (header : Header) (span : Span) (taken :
                   (omega (arith, fewer, before_is, count_is, all_frames, going.advances.counted)) in
                   (whole, ap (window_at script.blocks) count_is ∙ none));
             },
-          ) (clean ∙ read_so_far, going.advances.no_fault) cost_within))
+          ) (clean ∙ read_so_far, going.advances.no_fault)))
         where
           one : 0 < length more
           one = elim (cases_lt 0 (length more)) [
@@ -355,11 +342,11 @@ module _ (start session : SessionState) (header : Header) (span : Span) (taken :
         last_script : last.script ≡ script
         last_script = same.script ∙ going.advances.same.script
 
-        last_counted : last.chain.frames ≡ frames + length (later bytes)
+        last_counted : last.chain.frames ≡ reached
         last_counted = feeds.counted ∙ fed_frames
 
-        adds : (x : List Frame) → StandsFor start x → live_bytes script
-            (x ++ later_frames script frames (given bytes)) ≡ live_bytes script x ++ (wrote ++ last.out)
+        adds : (x : List Frame) → StandsFor start x →
+            live_bytes script (with_later x) ≡ live_bytes script x ++ (wrote ++ last.out)
         adds x is =
             ap (live_bytes script) (sym (all_fed x))
             ∙ (λ i. live_bytes (sym going.advances.same.script i)
@@ -368,24 +355,21 @@ module _ (start session : SessionState) (header : Header) (span : Span) (taken :
             ∙ (λ i. live_bytes (going.advances.same.script i) (x ++ fed) ++ last.out)
             ∙ ap (λ ys. ys ++ last.out) (wrote_is x is) ∙ append_assoc (live_bytes script x) wrote last.out
 
-        last_stands : (x : List Frame) → StandsFor start x →
-            StandsFor last (x ++ later_frames script frames (given bytes))
+        last_stands : (x : List Frame) → StandsFor start x → StandsFor last (with_later x)
         last_stands x is = subst (StandsFor last) (all_fed x) (feeds.stands (x ++ fed) (stands x is))
 
-        made_is : made.multiplies + live_cost_of script frames ≡ before.multiplies + live_cost_of script
-            (frames + length (later bytes))
+        made_is : made.multiplies + live_cost_of script frames ≡ before.multiplies + live_cost_of script reached
         made_is =
-            let after : made_of last.chain ≡ live_cost_of script (frames + length (later bytes)) =
+            let after : made_of last.chain ≡ live_cost_of script reached =
             made_counted last feeds.holds feeds.live ∙ (λ i. live_cost_of (last_script i) (last_counted i)) in
             let prior : made_of session.chain ≡ live_cost_of script session.chain.frames =
             made_runs session going.advances.runs ∙ ap (λ (s : Script). live_cost_of s session.chain.frames)
             going.advances.same.script in
             omega (arith, feeds.multiplies, after, prior, going.advances.multiplies)
 
-        within_cost : live_cost_of script (frames + length (later bytes)) ≤ cost_of script
-            (frames + length (later bytes))
-        within_cost = live_cost_within script.input.format script.input.channels script.blocks
-            (frames + length (later bytes)) (frames + length (later bytes)) (omega arith)
+        within_cost : live_cost_of script reached ≤ cost_of script reached
+        within_cost = live_cost_within script.input.format script.input.channels script.blocks reached reached
+            (omega arith)
 
         pub rest_unwritten : (after : SinkState) (count : ℕ) →
             after.put ≡ append_known then.put (take count last.out) → after.faults ≡ one_more then.faults →
@@ -402,150 +386,110 @@ module _ (start session : SessionState) (header : Header) (span : Span) (taken :
                   (drop count last.out)))
                   ∙ sym (append_assoc (live_bytes script x) (wrote ++ take count last.out) (drop count last.out)),
             ))
-            (opened.opens.has (skip ++ (heard ++ bytes))) (
-              clean ∙ read_so_far,
-              risen ∙
-                  ap one_more going.advances.no_fault,
-            ) (omega (arith, made_is, within_cost))
+            has (clean ∙ read_so_far, risen ∙ ap one_more going.advances.no_fault)
+            (omega (arith, made_is, within_cost))
 
         -- and the tail of all was written, or a part of it
         module _ {E : Type 0} (result : Result (Unit {0}) E) (middle after : SinkState) (spent : Counts)
-            (took : Took then middle last.out) (writes : WritesTail result last (output_pad last.script header) middle
-            after)
-            (none : window_at script.blocks (frames + length (later bytes)) ≡ None)
+            (took : Took then middle last.out) (unfailed : middle.faults ≡ then.faults)
+            (writes : WritesTail result last (output_pad last.script header) middle after)
+            (none : window_at script.blocks reached ≡ None)
             (limit : spent.multiplies + live_cost_of session.script last.chain.frames ≤ made.multiplies +
-            products_of session.script last.chain.frames) where
-          put_all : after.put ≡ append_known sink.put (wrote ++ (last.out ++ writes.written))
-          put_all = put_more (last.out ++ writes.written) after
-              (writes.put ∙ ap (λ known. append_known known writes.written) took.put ∙
+            products_of session.script last.chain.frames)
+            (ended : IsTakenWhole script (given bytes) end) (clean : end.faults ≡ now.faults) where
+          abbrev added : List ℕ
+          added = last.out ++ writes.written
+
+          put_all : after.put ≡ append_known sink.put (wrote ++ added)
+          put_all = put_more added after (writes.put ∙ ap (λ known. append_known known writes.written) took.put ∙
               sym (append_known-append then.put last.out writes.written))
 
           -- behind the live values of x
           behind_live : (x : List Frame) → StandsFor start x →
-              live_bytes last.script (x ++ later_frames script frames (given bytes)) ++ writes.written ≡ live_bytes
-              script x ++ (wrote ++ (last.out ++ writes.written))
+              live_bytes last.script (with_later x) ++ writes.written ≡ live_bytes script x ++ (wrote ++ added)
           behind_live x is =
-              ap (λ (s : Script). live_bytes s (x ++ later_frames script frames (given bytes)) ++ writes.written)
-              last_script ∙ ap (λ ys. ys ++ writes.written) (adds x is)
+              ap (λ (s : Script). live_bytes s (with_later x) ++ writes.written) last_script
+              ∙ ap (λ ys. ys ++ writes.written) (adds x is)
               ∙ append_assoc (live_bytes script x) (wrote ++ last.out) writes.written ∙
               ap (λ ys. live_bytes script x ++ ys) (append_assoc wrote last.out writes.written)
 
-          all_of : (x : List Frame) → whole_bytes last.script (x ++ later_frames script frames (given bytes)) ++
-              output_pad last.script header
-              ≡ whole_bytes script (x ++ later_frames script frames (given bytes)) ++ output_pad script
-              (input_header script (given bytes))
+          all_of : (x : List Frame) → whole_bytes last.script (with_later x) ++ output_pad last.script header
+              ≡ whole_bytes script (with_later x) ++ output_pad script (input_header script (given bytes))
           all_of x =
-              (λ i. whole_bytes (last_script i) (x ++ later_frames script frames (given bytes)) ++ output_pad
-              (last_script i) header)
-              ∙ ap (λ (h : Header). whole_bytes script (x ++ later_frames script frames (given bytes)) ++ output_pad
-              script h) (sym (opened.opens.said (skip ++ (heard ++ bytes))))
+              (λ i. whole_bytes (last_script i) (with_later x) ++ output_pad (last_script i) header)
+              ∙ ap (λ (h : Header). whole_bytes script (with_later x) ++ output_pad script h) (sym said)
 
-          cost_all : spent.multiplies + live_cost_of script frames ≤ before.multiplies + cost_of script
-              (frames + length (later bytes))
+          cost_all : spent.multiplies + live_cost_of script frames ≤ before.multiplies + cost_of script reached
           cost_all =
-              let costs : spent.multiplies + live_cost_of script (frames + length (later bytes)) ≤ made.multiplies +
-              products_of script (frames + length (later bytes)) =
+              let costs : spent.multiplies + live_cost_of script reached ≤ made.multiplies + products_of script
+              reached =
               subst {A = ℕ × ℕ} (λ n. spent.multiplies + n.0 ≤ made.multiplies + n.1)
               (λ i. (
                 live_cost_of (going.advances.same.script i) (last_counted i),
                 products_of (going.advances.same.script i) (last_counted i),
               )) limit in
-              let products = products_are_cost script.input.format script.input.channels script.blocks
-              (frames + length (later bytes)) none in
+              let products = products_are_cost script.input.format script.input.channels script.blocks reached none in
               omega (arith, costs, products, made_is)
 
-        pub rest_unfinished : {E : Type 0} (error : E) (middle after : SinkState) (spent : Counts) → Took then
-            middle last.out → middle.faults ≡ then.faults → WritesTail {T = Unit {0}} (Err error) last
-            (output_pad last.script header) middle after
-            → window_at script.blocks (frames + length (later bytes)) ≡ None →
-            spent.multiplies + live_cost_of session.script last.chain.frames ≤ made.multiplies + products_of
-            session.script last.chain.frames
-            → IsTakenWhole script (given bytes) end → after.faults ≡ one_more middle.faults → end.faults ≡ now.faults
-            → RestStopped script start.block start frames (part_fault.Stream fault.Output) input end sink after before
-            spent
-        rest_unfinished error middle after spent took still writes none limit ended failed clean =
-            rest_stops (part_fault.Stream fault.Output) (last.out ++ writes.written) after spent
-            (put_all (Err error) middle after spent took writes none limit)
-            (λ x is. inr (
-              ended,
-              subst (λ ys. Begins (live_bytes script x ++ (wrote ++ (last.out ++ writes.written))) ys)
-                  (all_of (Err error) middle after spent took writes none limit x)
-                  (subst (λ ys. Begins ys (whole_bytes last.script (x ++ later_frames script frames (given bytes)) ++
-                  output_pad last.script header)) (behind_live (Err error) middle after spent took writes none limit
-                  x is)
-                  (writes.begins (x ++ later_frames script frames (given bytes)) (last_stands x is))),
-            ))
-            (opened.opens.has (skip ++ (heard ++ bytes))) (
-              clean ∙ read_so_far,
-              failed ∙
-                  ap one_more (still ∙ going.advances.no_fault),
-            )
-            (cost_all (Err error) middle after spent took writes none limit)
+          pub rest_unfinished : after.faults ≡ one_more middle.faults →
+              RestStopped script start.block start frames (part_fault.Stream fault.Output) input end sink after before
+              spent
+          rest_unfinished failed =
+              rest_stops (part_fault.Stream fault.Output) added after spent put_all
+              (λ x is. inr (
+                ended,
+                subst (λ ys. Begins (live_bytes script x ++ (wrote ++ added)) ys) (all_of x)
+                    (subst (λ ys. Begins ys (whole_bytes last.script (with_later x) ++ output_pad last.script header))
+                    (behind_live x is) (writes.begins (with_later x) (last_stands x is))),
+              ))
+              has (clean ∙ read_so_far, failed ∙ ap one_more (unfailed ∙ going.advances.no_fault)) cost_all
 
-        pub rest_done : {E : Type 0} (middle after : SinkState) (spent : Counts) → Took then middle last.out →
-            middle.faults ≡ then.faults → WritesTail {T = Unit {0}} {E = E} (Ok tt) last (output_pad last.script header)
-            middle after
-            → window_at script.blocks (frames + length (later bytes)) ≡ None →
-            spent.multiplies + live_cost_of session.script last.chain.frames ≤ made.multiplies + products_of
-            session.script last.chain.frames
-            → IsTakenWhole script (given bytes) end → after.faults ≡ middle.faults → end.faults ≡ now.faults →
-            IsSettled after
-            → Fits script header → gathered session.script.blocks last.chain.frames ≤ MAX_GATHERED
-            → ((x : List Frame) → StandsFor last x → TailCosts {T = Unit {0}} {E = E} (Ok tt) last.script (length x)
-            made spent)
-            → (found : List Measure) → ((x : List Frame) → StandsFor last x → found ≡ measures_of last.script x)
-            → (total : ℕ) → total ≡ frames + length (later bytes) →
-            (header.size ≡ None → header.start + (taken + length bytes) < 2 ^ 40)
-            → RestDone script start frames total input end sink after before spent found
-        rest_done {E} middle after spent took still writes none limit ended clean_output clean settled fits few costs
-            found measures total total_is room = record {
-              given = given bytes;
-              written = wrote ++ (last.out ++ writes.written);
-              gave = gave_all;
-              has = opened.opens.has (skip ++ (heard ++ bytes));
-              in_limit = all_in_limit;
-              room_left = λ none. (let free = room (ap (λ (h : Header). h.size)
-                  (sym (opened.opens.said (skip ++ (heard ++ bytes)))) ∙ none) in
-                  omega (
-                    arith,
-                    free,
-                    all_long,
-                    opened.opens.start,
-                    length-append opened.first (skip ++ (heard ++ bytes)),
-                  ));
-              whole = ended;
-              frame_count = total_is ∙ sym count_is;
-              enough = omega (arith, total_is);
-              limits = record {
-                fits = subst (Fits script) (sym (opened.opens.said (skip ++ (heard ++ bytes)))) fits;
-                not_full = subst (λ n. n ≤ MAX_GATHERED) (λ i. gathered (going.advances.same.script i).blocks
-                    ((last_counted ∙ sym total_is) i)) few;
-              };
-              no_window = ap (window_at script.blocks) total_is ∙ none;
-              put = put_all {E = E} (Ok tt) middle after spent took writes none limit;
-              lag = lags bytes (last.out ++ writes.written) short;
-              output = λ x is.
-                  sym (behind_live {E = E} (Ok tt) middle after spent took writes none limit x is) ∙
-                  writes.whole (x ++ later_frames script frames (given bytes)) (last_stands x is)
-                  ∙ all_of {E = E} (Ok tt) middle after spent took writes none limit x;
-              settled = settled;
-              no_input_fault = clean ∙ read_so_far;
-              no_output_fault = clean_output ∙ still ∙ going.advances.no_fault;
-              cost = subst (λ n. spent.multiplies + live_cost_of script frames ≤ before.multiplies + cost_of script n)
-                  (sym total_is) (cost_all {E = E} (Ok tt) middle after spent took writes none limit);
-              exact = λ x is. (let stands = last_stands x is in
-                  let long : length (x ++ later_frames script frames (given bytes)) ≡ frames + length (later bytes) =
-                  sym stands.chain.counted ∙ last_counted in
-                  let costs : spent.multiplies + live_cost_of script (frames + length (later bytes)) ≡ made.multiplies +
-                  products_of script (frames + length (later bytes)) =
-                  subst {A = ℕ × ℕ} (λ n. spent.multiplies + n.0 ≡ made.multiplies + n.1)
-                  (λ i. (live_cost_of (last_script i) (long i), products_of (last_script i) (long i)))
-                  (costs (x ++ later_frames script frames (given bytes)) stands).exact in
-                  let products = products_are_cost script.input.format script.input.channels script.blocks
-                  (frames + length (later bytes)) none in
-                  let sum : spent.multiplies + live_cost_of script frames ≡ before.multiplies + cost_of script
-                  (frames + length (later bytes)) = omega (arith, costs, products, made_is) in
-                  sum ∙ ap (λ n. before.multiplies + cost_of script n) (sym total_is));
-              measures = λ x is. measures (x ++ later_frames script frames (given bytes)) (last_stands x is) ∙
-                  ap (λ (s : Script). measures_of s (x ++ later_frames script frames (given bytes))) last_script;
-            }
+          pub rest_done : ((x : List Frame) → StandsFor last x → live_bytes last.script x ++ writes.written ≡
+              whole_bytes last.script x ++ output_pad last.script header)
+              → after.faults ≡ middle.faults → IsSettled after → Fits script header →
+              gathered session.script.blocks last.chain.frames ≤ MAX_GATHERED
+              → ((x : List Frame) → StandsFor last x → spent.multiplies + live_cost_of last.script (length x) ≡
+              made.multiplies + products_of last.script (length x))
+              → (found : List Measure) → ((x : List Frame) → StandsFor last x → found ≡ measures_of last.script x)
+              → (total : ℕ) → total ≡ reached →
+              (header.size ≡ None → header.start + (taken + length bytes) < MAX_INPUT)
+              → RestDone script start frames total input end sink after before spent found
+          rest_done whole still settled fits few costs found measures total total_is room = record {
+            given = given bytes;
+            written = wrote ++ added;
+            gave = gave_all;
+            has = has;
+            in_limit = all_in_limit;
+            room_left = λ none. omega (arith, room (ap (λ (h : Header). h.size) (sym said) ∙ none), given_long);
+            whole = ended;
+            frame_count = total_is ∙ sym count_is;
+            enough = omega (arith, total_is);
+            limits = record {
+              fits = subst (Fits script) (sym said) fits;
+              not_full = subst (λ n. n ≤ MAX_GATHERED) (λ i. gathered (going.advances.same.script i).blocks
+                  ((last_counted ∙ sym total_is) i)) few;
+            };
+            no_window = ap (window_at script.blocks) total_is ∙ none;
+            put = put_all;
+            lag = lags bytes added short;
+            output = λ x is. sym (behind_live x is) ∙ whole (with_later x) (last_stands x is) ∙ all_of x;
+            settled = settled;
+            no_input_fault = clean ∙ read_so_far;
+            no_output_fault = still ∙ unfailed ∙ going.advances.no_fault;
+            cost = subst (λ n. spent.multiplies + live_cost_of script frames ≤ before.multiplies + cost_of script n)
+                (sym total_is) cost_all;
+            exact = λ x is. (let stands = last_stands x is in
+                let long : length (with_later x) ≡ reached = sym stands.chain.counted ∙ last_counted in
+                let costs : spent.multiplies + live_cost_of script reached ≡ made.multiplies + products_of script
+                reached =
+                subst {A = ℕ × ℕ} (λ n. spent.multiplies + n.0 ≡ made.multiplies + n.1)
+                (λ i. (live_cost_of (last_script i) (long i), products_of (last_script i) (long i)))
+                (costs (with_later x) stands) in
+                let products = products_are_cost script.input.format script.input.channels script.blocks reached
+                none in
+                let sum : spent.multiplies + live_cost_of script frames ≡ before.multiplies + cost_of script
+                reached = omega (arith, costs, products, made_is) in
+                sum ∙ ap (λ n. before.multiplies + cost_of script n) (sym total_is));
+            measures = λ x is. measures (with_later x) (last_stands x is) ∙
+                ap (λ (s : Script). measures_of s (with_later x)) last_script;
+          }

@@ -1,7 +1,8 @@
 -- Samples are passed over, piece by piece.
-use Rattle.std.proofs.Common.{◌≡◌, ℕ, ◌+◌, ◌^◌, ◌<◌, ◌≤◌, List, [], ◌++◌, length, take, refl, sym, ◌∙◌, subst, arith}
+use Rattle.std.proofs.Common.{◌≡◌, ℕ, ◌+◌, ◌<◌, ◌≤◌, List, [], ◌++◌, length, take, refl, sym, subst, arith}
 use Rattle.std.proofs.Common.{◌⊎◌}
 use Rattle.dsp_ports.specs.Ports.{SourceState}
+use Rattle.dsp_defs.specs.declared.limits.TheConstants.{MAX_INPUT}
 use Rattle.dsp_defs.specs.declared.script.Script.{Script}
 use Rattle.dsp_defs.specs.declared.wave.Header.{Header}
 use Rattle.dsp_input.specs.declared.fault.InputFault.{InputFault}
@@ -15,7 +16,7 @@ pub record Skipping (script : Script) (header : Header) (end taken : ℕ) (input
   pub long : length bytes ≡ taken
   pub so_far : TakenSoFar script header end bytes input now
 
-pub skip_starts : (script : Script) (header : Header) (end : ℕ) (input : SourceState) → header.start ≤ 2 ^ 40 →
+pub skip_starts : (script : Script) (header : Header) (end : ℕ) (input : SourceState) → header.start ≤ MAX_INPUT →
     Skipping script header end 0 input input
 skip_starts script header end input limit = record {
   bytes = [];

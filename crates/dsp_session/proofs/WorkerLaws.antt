@@ -32,8 +32,8 @@ use Rattle.dsp_chain.specs.Chain.{made_of}
 use Rattle.dsp_input.specs.Taking.{frame_bytes}
 use Rattle.dsp_session.specs.SessionState.{SessionState}
 use Rattle.dsp_session.specs.Working.{IsWorking}
-use Rattle.dsp_session.specs.Session.{IsReady, Holds, IsNew, Feeds, Fails, IsTooMuch, Ends, given_bytes, input_coding}
-use Rattle.dsp_session.specs.Session.{signal, live_values, products_of, turns_of}
+use Rattle.dsp_session.specs.Session.{IsReady, Holds, Feeds, Fails, IsTooMuch, Ends, given_bytes, signal, live_values}
+use Rattle.dsp_session.specs.Session.{products_of, turns_of}
 
 -- the format behind the blocks
 format_behind : (p : Place) (blocks : List Block) → (place_behind p blocks).format ≡ fold format_after p.format blocks
@@ -366,30 +366,6 @@ module _ (script : Script) (block : ℕ) (ready : IsReady script block) where
       sum ∙
           (λ i. gathered (blocks i) (old.frames + same i)),
     )
-
-  -- a new worker
-  pub is_new : (banked : Bool) (c : ChainState) → IsNewChain banked (input_place script block) script.blocks c →
-      IsNew banked script block (record {
-        script = script;
-        banked = banked;
-        block = block;
-        coding =
-            input_coding script;
-        chain = c;
-        out = [];
-      })
-  is_new banked c is = record {
-    script_is = refl;
-    banked_is = refl;
-    block_is = refl;
-    coding_is = refl;
-    stands = record {
-      holds = record { ready = ready; input = is.input; blocks = is.blocks_are; turns = is.turns };
-      chain = is.stands;
-      live = is.live;
-    };
-    empty = refl;
-  }
 
 -- what holds of a worker holds of it with another state of its chain, and other bytes within its room
 pub still_works :

@@ -1,6 +1,6 @@
 -- How a session goes on from any state that it is in, whatever it has taken before: by a call, by whole blocks, and
 -- to its end.
-use Rattle.std.specs.Prelude.{◌≡◌, ℕ, zero, suc, ◌+◌, ◌*◌, ◌/◌, ◌^◌, ◌<◌, ◌≤◌, false, Bool, List, ◌++◌, length, take}
+use Rattle.std.specs.Prelude.{◌≡◌, ℕ, zero, suc, ◌+◌, ◌*◌, ◌/◌, ◌<◌, ◌≤◌, false, Bool, List, ◌++◌, length, take}
 use Rattle.std.specs.Prelude.{Some, None, Ok, Err}
 use Rattle.dsp_ports.specs.Ports.{SourceState, SinkState, one_more, Gave, Took, IsSettled}
 use Rattle.dsp_ports.specs.declared.source.Failed.{Failed}
@@ -8,7 +8,7 @@ use Rattle.dsp_defs.specs.Block.{Frame}
 use Rattle.dsp_defs.specs.Counts.{Counts}
 use Rattle.dsp_defs.specs.Output.{live_bytes, output_pad}
 use Rattle.dsp_defs.specs.Shape.{gathered, held, window_at}
-use Rattle.dsp_defs.specs.declared.limits.TheConstants.{MAX_GATHERED}
+use Rattle.dsp_defs.specs.declared.limits.TheConstants.{MAX_GATHERED, MAX_INPUT}
 use Rattle.dsp_defs.specs.declared.script.Script.{Script}
 use Rattle.dsp_defs.specs.declared.wave.Header.{Header}
 use Rattle.dsp_chain.specs.Chain.{IsLive}
@@ -100,7 +100,7 @@ pub record Going (start session : SessionState) (header : Header) (span : Span) 
   pub advances : Advances start session blocks heard sink after before counts
   pub taken_is : taken ≡ span.from + length heard
   pub declared : InDeclared (declared_bytes start.script header) taken
-  pub in_limit : header.start + taken ≤ 2 ^ 40
+  pub in_limit : header.start + taken ≤ MAX_INPUT
   pub in_span : taken ≤ span.end
   pub gave : Gave input now heard
   pub no_fault : now.faults ≡ input.faults

@@ -1,5 +1,5 @@
 -- Block after block: what is taken, worked on and written.
-use Rattle.std.specs.Prelude.{◌≡◌, ℕ, ◌+◌, ◌*◌, ◌^◌, ◌<◌, ◌≤◌, Bool, List, ◌++◌, length, take, None, Result, OnOk}
+use Rattle.std.specs.Prelude.{◌≡◌, ℕ, ◌+◌, ◌*◌, ◌<◌, ◌≤◌, Bool, List, ◌++◌, length, take, None, Result, OnOk}
 use Rattle.std.specs.Io.KnownBytes.{append_known}
 use Rattle.dsp_ports.specs.Ports.{SourceState, SinkState, one_more, Gave, Took}
 use Rattle.dsp_defs.specs.Block.{Frame}
@@ -8,7 +8,7 @@ use Rattle.dsp_defs.specs.Output.{live_bytes, output_header, whole_bytes}
 use Rattle.dsp_defs.specs.Shape.{gathered, held}
 use Rattle.dsp_defs.specs.Streaming.{Begins}
 use Rattle.dsp_defs.specs.declared.format.Coding.{Coding}
-use Rattle.dsp_defs.specs.declared.limits.TheConstants.{MAX_GATHERED}
+use Rattle.dsp_defs.specs.declared.limits.TheConstants.{MAX_GATHERED, MAX_INPUT}
 use Rattle.dsp_defs.specs.declared.script.Script.{Script}
 use Rattle.dsp_defs.specs.declared.wave.Header.{Header}
 use Rattle.dsp_input.specs.Taking.{AreAll, Fits, InDeclared, Opens, declared_bytes}
@@ -72,8 +72,8 @@ pub record Passed (script : Script) (frames : ℕ) (session : SessionState) (hea
   pub blocks_heard : length heard ≡ blocks * block_bytes script header.coding frames
   pub size : length block ≡ block_bytes script header.coding frames
   pub short : last.count < length block
-  pub in_limit : header.start + (last.before + last.count) ≤ 2 ^ 40
-  pub room_left : header.size ≡ None → header.start + (last.before + last.count) < 2 ^ 40
+  pub in_limit : header.start + (last.before + last.count) ≤ MAX_INPUT
+  pub room_left : header.size ≡ None → header.start + (last.before + last.count) < MAX_INPUT
   pub declared : InDeclared (declared_bytes script header) (last.before + last.count)
   pub ended : AreAll (declared_bytes script header) (last.before + last.count) now
   pub gave : Gave input now (first ++ (heard ++ take last.count block))

@@ -1,6 +1,6 @@
 -- How the bytes that a stream over a part of an input took, and those that it wrote, stand to each other at each of
 -- its ends. A part is the first frames, up to a place, or all frames behind them.
-use Rattle.std.specs.Prelude.{◌≡◌, ◌⊎◌, ℕ, ◌+◌, ◌-◌, ◌*◌, ◌^◌, ◌<◌, ◌≤◌, List, ◌++◌, length, take, drop, Some, None}
+use Rattle.std.specs.Prelude.{◌≡◌, ◌⊎◌, ℕ, ◌+◌, ◌-◌, ◌*◌, ◌<◌, ◌≤◌, List, ◌++◌, length, take, drop, Some, None}
 use Rattle.std.specs.Io.KnownBytes.{IsAtEnd, append_known}
 use Rattle.dsp_ports.specs.Ports.{SourceState, SinkState, Gave, IsSettled}
 use Rattle.dsp_defs.specs.Block.{Frame}
@@ -8,13 +8,12 @@ use Rattle.dsp_defs.specs.Counts.{Counts}
 use Rattle.dsp_defs.specs.Output.{HasHeader, declared_frames, input_header, input_signal, live_bytes, output_header}
 use Rattle.dsp_defs.specs.Output.{output_pad, whole_bytes}
 use Rattle.dsp_defs.specs.Shape.{gathered, held, window_at}
-use Rattle.dsp_defs.specs.declared.limits.TheConstants.{MAX_GATHERED}
+use Rattle.dsp_defs.specs.declared.limits.TheConstants.{MAX_GATHERED, MAX_INPUT}
 use Rattle.dsp_defs.specs.Streaming.{Begins}
 use Rattle.dsp_defs.specs.declared.measure.Measure.{Measure}
 use Rattle.dsp_defs.specs.declared.script.Script.{Script}
 use Rattle.dsp_defs.specs.declared.wave.Header.{Header}
-use Rattle.dsp_input.specs.declared.fault.InputFault.{InputFault}
-use Rattle.dsp_input.specs.Taking.{AreAll, InDeclared, IsTakenWhole, IsUnread, declared_bytes, frame_bytes}
+use Rattle.dsp_input.specs.Taking.{AreAll, InDeclared, IsTakenWhole, declared_bytes, frame_bytes}
 use Rattle.dsp_input.specs.Taking.{frames_in_bytes}
 use Rattle.dsp_session.specs.Session.{StandsFor, cost_of, live_cost_of, measures_of}
 use Rattle.dsp_session.specs.SessionState.{SessionState}
@@ -120,7 +119,7 @@ pub record FirstDone (script : Script) (frames : ℕ) (session : SessionState) (
   pub exact : length given ≡ (input_header script given).start + frames * frame_bytes script
       (input_header script given).coding
   pub frame_count : frames ≡ frames_in_bytes script given
-  pub in_limit : length given ≤ 2 ^ 40
+  pub in_limit : length given ≤ MAX_INPUT
   pub stands : StandsFor session (input_signal script given)
   pub runs : Runs session
   pub limits : KeepsLimits script (input_header script given) frames
@@ -146,7 +145,7 @@ pub record FirstStopped (script : Script) (block frames : ℕ) (stop : PartFault
   pub given : List ℕ
   pub written : List ℕ
   pub gave : Gave input now given
-  pub in_limit : length given ≤ 2 ^ 40
+  pub in_limit : length given ≤ MAX_INPUT
   pub put : after.put ≡ append_known sink.put written
   pub cause : IsFirstCause stop script block frames given now
   pub wrote : FirstWritten stop script given written sink after
@@ -168,8 +167,8 @@ pub record RestDone (script : Script) (start : SessionState) (from frames : ℕ)
   pub written : List ℕ
   pub gave : Gave input now given
   pub has : HasHeader script given
-  pub in_limit : length given ≤ 2 ^ 40
-  pub room_left : (input_header script given).size ≡ None → length given < 2 ^ 40
+  pub in_limit : length given ≤ MAX_INPUT
+  pub room_left : (input_header script given).size ≡ None → length given < MAX_INPUT
   pub whole : IsTakenWhole script given now
   pub frame_count : frames ≡ frames_in_bytes script given
   pub enough : from ≤ frames
@@ -203,7 +202,7 @@ pub record RestStopped (script : Script) (block : ℕ) (start : SessionState) (f
   pub given : List ℕ
   pub written : List ℕ
   pub gave : Gave input now given
-  pub in_limit : length given ≤ 2 ^ 40
+  pub in_limit : length given ≤ MAX_INPUT
   pub put : after.put ≡ append_known sink.put written
   pub cause : IsRestCause stop script block from given now
   pub idle : frames_in_bytes script given < from → (after ≡ sink) × (counts ≡ before)
@@ -222,7 +221,7 @@ pub record Skipped (script : Script) (header : Header) (end taken : ℕ) (input 
   pub long : length bytes ≡ taken
   pub in_part : taken ≤ end
   pub declared : InDeclared (declared_bytes script header) taken
-  pub in_limit : header.start + taken ≤ 2 ^ 40
+  pub in_limit : header.start + taken ≤ MAX_INPUT
   pub ended : (taken ≡ end) ⊎ AreAll (declared_bytes script header) taken now
-  pub room_left : header.size ≡ None → taken < end → header.start + taken < 2 ^ 40
+  pub room_left : header.size ≡ None → taken < end → header.start + taken < MAX_INPUT
   pub no_fault : now.faults ≡ input.faults

@@ -1,13 +1,12 @@
 -- How the bytes that a stream took and the bytes that it wrote stand to each other at each of its ends.
-use Rattle.std.specs.Prelude.{◌≡◌, ◌⊎◌, ℕ, ◌+◌, ◌-◌, ◌*◌, ◌/◌, ◌^◌, ◌<◌, ◌≤◌, Bool, List, length, take, Some, None}
-use Rattle.std.specs.Prelude.{IfSome}
+use Rattle.std.specs.Prelude.{◌≡◌, ◌⊎◌, ℕ, ◌+◌, ◌-◌, ◌*◌, ◌/◌, ◌<◌, ◌≤◌, Bool, List, length, take, Some, None}
 use Rattle.std.specs.Io.KnownBytes.{append_known}
 use Rattle.dsp_defs.specs.Counts.{Counts}
 use Rattle.dsp_ports.specs.Ports.{SourceState, SinkState, one_more, Gave, IsSettled, settled_after}
 use Rattle.dsp_defs.specs.Output.{HasHeader, input_header, input_signal, known_frames, output, part}
 use Rattle.dsp_defs.specs.Shape.{gathered, held, window_at}
 use Rattle.dsp_defs.specs.Streaming.{Begins}
-use Rattle.dsp_defs.specs.declared.limits.TheConstants.{MAX_GATHERED, MAX_RIFF_SIZE}
+use Rattle.dsp_defs.specs.declared.limits.TheConstants.{MAX_GATHERED, MAX_INPUT, MAX_RIFF_SIZE}
 use Rattle.dsp_defs.specs.declared.measure.Measure.{Measure}
 use Rattle.dsp_defs.specs.declared.script.Script.{Script}
 use Rattle.dsp_defs.specs.declared.wave.Header.{Header}
@@ -58,11 +57,11 @@ pub record IsOverfull (script : Script) (block frames before has more : ℕ) (gi
 
 -- why it stopped, from the bytes that were taken
 abbrev pub IsCause : StreamFault → Script → ℕ → List ℕ → SourceState → Type 0
-IsCause fault.Input script block given now = (length given < 2 ^ 40) × AwaitsDeclared script given
+IsCause fault.Input script block given now = (length given < MAX_INPUT) × AwaitsDeclared script given
 IsCause fault.Output script block given now = HasHeader script given
 IsCause (fault.Header fault offset) script block given now = HasFault script given now (fault, offset)
-IsCause (fault.Lengths (length_fault.Input taken limit)) script block given now = (length given ≡ 2 ^ 40) ×
-    (taken ≡ 2 ^ 40) × (limit ≡ 2 ^ 40) × WantsMore script given
+IsCause (fault.Lengths (length_fault.Input taken limit)) script block given now = (length given ≡ MAX_INPUT) ×
+    (taken ≡ MAX_INPUT) × (limit ≡ MAX_INPUT) × WantsMore script given
 IsCause (fault.Lengths (length_fault.Gather held more)) script block given now =
     let frames = frames_in_bytes script given in
     HasHeader script given × IsOverfull script block frames (in_whole_blocks block (frames - 1)) held more given now
@@ -122,7 +121,7 @@ pub record Stopped (banked : Bool) (script : Script) (block : ℕ) (fault : Stre
   pub given : List ℕ
   pub written : List ℕ
   pub gave : Gave input now given
-  pub in_limit : length given ≤ 2 ^ 40
+  pub in_limit : length given ≤ MAX_INPUT
   pub put : after.put ≡ append_known sink.put written
   pub unflushed : IsUnflushed fault sink after written
   pub cause : IsCause fault script block given now
@@ -148,8 +147,8 @@ pub record Done (banked : Bool) (script : Script) (block frames : ℕ) (input no
   pub given : List ℕ
   pub gave : Gave input now given
   pub has : HasHeader script given
-  pub in_limit : length given ≤ 2 ^ 40
-  pub room_left : (input_header script given).size ≡ None → length given < 2 ^ 40
+  pub in_limit : length given ≤ MAX_INPUT
+  pub room_left : (input_header script given).size ≡ None → length given < MAX_INPUT
   pub whole : IsTakenWhole script given now
   pub limits : KeepsLimits script (input_header script given) frames
   pub no_window : window_at script.blocks frames ≡ None

@@ -1,4 +1,4 @@
-ghost use Rattle.std.specs.Prelude.{◌≡◌, ◌+◌, ◌*◌, ◌/◌, ◌^◌, ◌<◌, ◌≤◌, ℕ, List, [], length, take, IfOk};
+ghost use Rattle.std.specs.Prelude.{◌≡◌, ◌+◌, ◌*◌, ◌/◌, ◌<◌, ◌≤◌, ℕ, List, [], length, take, IfOk};
 ghost use Rattle.std.specs.Prelude.{IfErr, MatchResult, OnOk};
 ghost use Rattle.dsp_ports.specs.Ports.{CountsFaults, IsSettled, Took};
 ghost use Rattle.dsp_defs.specs.Block.{Frame};
@@ -13,7 +13,7 @@ ghost use Rattle.dsp_session.specs.Advancing.{Runs, Closed, FailsToClose, whole_
 use crate::fault::{LengthFault, StreamFault};
 use crate::streaming::{Last, pass_block};
 use crate::worker::Worker;
-use dsp_defs::{Container, Header, Script, Steps, WindowFault};
+use dsp_defs::{Container, Header, MAX_INPUT, Script, Steps, WindowFault};
 use dsp_input::{frame_bytes, known_frames};
 use dsp_ports::{Failed, Sink, write_all};
 use dsp_script::{frames_given, output_flow};
@@ -111,7 +111,7 @@ pub fn close<U: AnyUnit + Drop, K: Sink, L: Ledger>(
     requires block { length block.now ≡ block_bytes worker.old.script header.coding worker.old.block }
     requires short { last.count < length block.now }
     requires frames { worker.old.chain.frames * frame_bytes worker.old.script header.coding ≡ last.before }
-    requires limit { last.before + last.count ≤ 2 ^ 40 }
+    requires limit { last.before + last.count ≤ MAX_INPUT }
     ensures same { SameSession worker.old worker.new }
     ensures ok { IfOk result (λ _. Closed worker.old worker.new header
         (whole_front worker.old.script header last.count block.now) (K.state output.old)

@@ -1,6 +1,6 @@
 //! A stream over a part of an input: the first frames, or all behind them.
 
-ghost use Rattle.std.specs.Prelude.{◌≡◌, ◌^◌, ◌<◌, ◌≤◌, [], ℕ, Some, length, IfOk, IfErr, IfSome, IfNone};
+ghost use Rattle.std.specs.Prelude.{◌≡◌, ◌<◌, ◌≤◌, [], ℕ, Some, length, IfOk, IfErr, IfSome, IfNone};
 ghost use Rattle.dsp_ports.specs.Ports.{SourceState, SinkState};
 ghost use Rattle.dsp_defs.specs.Output.{declared_frames};
 ghost use Rattle.dsp_defs.specs.Shape.{frames_given};
@@ -18,7 +18,7 @@ use crate::opening::{take_header, write_output_header};
 use crate::session::Session;
 use crate::streaming::{Span, Totals, pass_block, pass_blocks};
 use crate::worker::Worker;
-use dsp_defs::{Header, Script, Steps};
+use dsp_defs::{Header, MAX_INPUT, Script, Steps};
 use dsp_input::{InputFault, frame_bytes, read_block};
 use dsp_ports::{Sink, Source};
 use dsp_script::{cost, frames_given};
@@ -50,7 +50,7 @@ fn skip_samples<S: Source>(
     end: u64,
     input: &mut S,
 ) -> Result<u64, InputFault>
-    requires limit { header.start ≤ 2 ^ 40 }
+    requires limit { header.start ≤ MAX_INPUT }
     requires frame { 1 ≤ frame_bytes script.now header.coding }
     ensures ok { IfOk result (λ taken. Skipped script.now header end taken (S.state input.old)
         (S.state input.new)) }
@@ -81,7 +81,7 @@ fn pass_first<U: AnyUnit + Drop, S: Source, K: Sink, L: Ledger>(
     requires new { StandsFor worker.old [] }
     requires room { block_bytes worker.old.script worker.old.coding worker.old.block ≤ length room.old }
     requires coding { worker.old.coding ≡ header.coding }
-    requires start { header.start ≤ 2 ^ 40 }
+    requires start { header.start ≤ MAX_INPUT }
     requires enough { IfSome (declared_frames worker.old.script header) (λ got. frames ≤ got) }
     ensures same { SameSession worker.old worker.new }
     ensures ok { (before : SourceState) (empty : SinkState)
@@ -130,7 +130,7 @@ fn pass_rest<U: AnyUnit + Drop, S: Source, K: Sink, L: Ledger>(
     requires frames { worker.old.chain.frames ≡ frames }
     requires room { block_bytes worker.old.script worker.old.coding worker.old.block ≤ length room.old }
     requires coding { worker.old.coding ≡ header.coding }
-    requires start { header.start ≤ 2 ^ 40 }
+    requires start { header.start ≤ MAX_INPUT }
     requires enough { IfSome (declared_frames worker.old.script header) (λ got. frames ≤ got) }
     ensures same { SameSession worker.old worker.new }
     ensures ok { (before : SourceState) → Opened worker.old.script header before (S.state input.old)
@@ -143,7 +143,7 @@ fn pass_rest<U: AnyUnit + Drop, S: Source, K: Sink, L: Ledger>(
         → IfErr result (λ fault. RestStopped worker.old.script worker.old.block worker.old frames
         fault before (S.state input.new) (K.state output.old) (K.state output.new) steps.old
         steps.new) }
-    ensures few { IfOk result (λ total. total ≤ 2 ^ 40) }
+    ensures few { IfOk result (λ total. total ≤ MAX_INPUT) }
 {
     let frame = frame_bytes(worker.script(), header.coding);
     let span = Span {

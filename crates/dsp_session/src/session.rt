@@ -1,4 +1,4 @@
-ghost use Rattle.std.specs.Prelude.{◌≡◌, ◌+◌, ◌*◌, ◌^◌, ◌<◌, ◌≤◌, ◌↔◌, List, [], true, false, Some, None};
+ghost use Rattle.std.specs.Prelude.{◌≡◌, ◌+◌, ◌*◌, ◌<◌, ◌≤◌, ◌↔◌, List, [], true, false, Some, None};
 ghost use Rattle.std.specs.Prelude.{length, slice_get, IfOk, IfErr, IsErr, IsFalse, IsTrue};
 ghost use Rattle.std.specs.Option.{option_map};
 ghost use Rattle.dsp_defs.specs.Bytes.{format_in};
@@ -16,7 +16,7 @@ ghost use Rattle.dsp_session.specs.Session.{IsReady, IsNew, SameSession, StandsF
 ghost use Rattle.dsp_session.specs.Session.{Ends, call_room, given_bytes, measured, signal, tail_bytes};
 
 use crate::worker::Worker;
-use dsp_defs::{Coding, GatherFull, Measure, Script, Steps, WindowFault};
+use dsp_defs::{Coding, GatherFull, MAX_INPUT, Measure, Script, Steps, WindowFault};
 use dsp_unit::{AnyUnit, Unit};
 use std::alloc::{AllocError, Global};
 use std::marker::Model;
@@ -129,7 +129,7 @@ impl<U: AnyUnit + Drop> Session<U> {
 
     /// The bytes of the tail, where the frames fed so far are the whole input.
     pub fn tail_bytes(&self) -> u128
-        requires { self.now.chain.frames ≤ 2 ^ 40 }
+        requires { self.now.chain.frames ≤ MAX_INPUT }
         ensures { result ≡ tail_bytes self.now.script self.now.chain.frames }
     {
         self.worker.tail_bytes()
@@ -178,7 +178,7 @@ impl<U: AnyUnit + Drop> Session<U> {
             self.old.script self.old.coding }
         requires block { length (signal self.old.script self.old.coding bytes.now) ≤ self.old.block }
         requires count { self.old.chain.frames + length
-            (signal self.old.script self.old.coding bytes.now) ≤ 2 ^ 40 }
+            (signal self.old.script self.old.coding bytes.now) ≤ MAX_INPUT }
         ensures same { SameSession self.old self.new }
         ensures given { IfOk result (λ given. given ≡ length self.new.out) }
         ensures within { IfOk result (λ given. given ≤ call_room self.old) }
@@ -198,7 +198,7 @@ impl<U: AnyUnit + Drop> Session<U> {
     /// The first partial convolution whose window ends past the full one, where the frames fed so
     /// far and `more` frames are the whole input.
     pub fn window_fault(&self, more: u64) -> Option<WindowFault>
-        requires { self.now.chain.frames + more ≤ 2 ^ 40 }
+        requires { self.now.chain.frames + more ≤ MAX_INPUT }
         ensures { option_map (λ (fault : WindowFault). (fault.end, fault.length)) result
             ≡ window_at self.now.script.blocks (self.now.chain.frames + more) }
     {
@@ -218,7 +218,7 @@ impl<U: AnyUnit + Drop> Session<U> {
 
     /// How many numbers the script's blocks keep of so many frames.
     pub fn kept_count_of(&self, frames: u64) -> u128
-        requires { frames ≤ 2 ^ 40 }
+        requires { frames ≤ MAX_INPUT }
         ensures { result ≡ kept_count self.now.script frames }
     {
         self.worker.kept_count_of(frames)
@@ -226,7 +226,7 @@ impl<U: AnyUnit + Drop> Session<U> {
 
     /// The samples of a channel that the correlation would gather of so many frames, or 0 without one.
     pub fn gathered(&self, frames: u64) -> u64
-        requires { frames ≤ 2 ^ 40 }
+        requires { frames ≤ MAX_INPUT }
         ensures { result ≡ gathered self.now.script.blocks frames }
     {
         self.worker.gathered(frames)
@@ -252,7 +252,7 @@ impl<U: AnyUnit + Drop> Session<U> {
 
     /// Whether the script's blocks can keep these numbers of so many frames, at most 2^40.
     pub fn fits(&self, frames: u64, numbers: &[i64]) -> bool
-        ensures { IsTrue result ↔ (frames ≤ 2 ^ 40) × Fits self.now.script frames numbers.now }
+        ensures { IsTrue result ↔ (frames ≤ MAX_INPUT) × Fits self.now.script frames numbers.now }
     {
         self.worker.fits(frames, numbers)
     }
@@ -260,7 +260,7 @@ impl<U: AnyUnit + Drop> Session<U> {
     /// Gives a new session the numbers that the blocks keep of so many frames, which count as taken.
     pub fn restore(&mut self, frames: u64, numbers: &[i64])
         requires new { StandsFor self.old [] }
-        requires few { frames ≤ 2 ^ 40 }
+        requires few { frames ≤ MAX_INPUT }
         requires fits { Fits self.old.script frames numbers.now }
         ensures { Restores self.old self.new frames numbers.now }
     {

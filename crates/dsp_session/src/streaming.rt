@@ -1,4 +1,4 @@
-ghost use Rattle.std.specs.Prelude.{◌≡◌, ◌+◌, ◌*◌, ◌/◌, ◌^◌, ◌≤◌, [], length, IfOk, IfErr};
+ghost use Rattle.std.specs.Prelude.{◌≡◌, ◌+◌, ◌*◌, ◌/◌, ◌≤◌, [], length, IfOk, IfErr};
 ghost use Rattle.dsp_ports.specs.Ports.{SourceState, SinkState};
 ghost use Rattle.dsp_defs.specs.Shape.{frames_given};
 ghost use Rattle.dsp_input.specs.Taking.{InDeclared, declared_bytes, frame_bytes};
@@ -13,7 +13,7 @@ use crate::fault::{LengthFault, StreamFault};
 use crate::opening::open;
 use crate::session::Session;
 use crate::worker::Worker;
-use dsp_defs::{GatherFull, Header, Steps};
+use dsp_defs::{GatherFull, Header, MAX_INPUT, Steps};
 use dsp_input::{frame_bytes, read_block};
 use dsp_ports::{Sink, Source, write_all};
 use dsp_script::{cost, frames_given};
@@ -62,7 +62,7 @@ pub fn pass_block<U: AnyUnit + Drop, K: Sink, L: Ledger>(
         worker.old.coding }
     requires block { length (signal worker.old.script worker.old.coding bytes.now) ≤ worker.old.block }
     requires count { worker.old.chain.frames + length
-        (signal worker.old.script worker.old.coding bytes.now) ≤ 2 ^ 40 }
+        (signal worker.old.script worker.old.coding bytes.now) ≤ MAX_INPUT }
     ensures same { SameSession worker.old worker.new }
     ensures ok { IfOk result (λ _. PassesOn worker.old worker.new bytes.now (K.state output.old)
         (K.state output.new) steps.old steps.new) }
@@ -94,7 +94,7 @@ pub fn pass_blocks<U: AnyUnit + Drop, S: Source, K: Sink, L: Ledger>(
     requires runs { Runs worker.old }
     requires block { length block.old ≡ block_bytes worker.old.script worker.old.coding worker.old.block }
     requires coding { worker.old.coding ≡ header.coding }
-    requires start { header.start + span.from ≤ 2 ^ 40 }
+    requires start { header.start + span.from ≤ MAX_INPUT }
     requires declared { InDeclared (declared_bytes worker.old.script header) span.from }
     requires frames { worker.old.chain.frames * frame_bytes worker.old.script header.coding ≤ span.from }
     requires part { span.from ≤ span.end }
@@ -133,7 +133,7 @@ fn stream_samples<U: AnyUnit + Drop, S: Source, K: Sink, L: Ledger>(
     requires new { StandsFor worker.old [] }
     requires room { block_bytes worker.old.script worker.old.coding worker.old.block ≤ length room.old }
     requires coding { worker.old.coding ≡ header.coding }
-    requires start { header.start ≤ 2 ^ 40 }
+    requires start { header.start ≤ MAX_INPUT }
     requires begun { (before : SourceState) × (empty : SinkState)
         × Begun worker.old.script header before (S.state input.old) empty (K.state output.old) }
     ensures same { SameSession worker.old worker.new }
@@ -146,7 +146,7 @@ fn stream_samples<U: AnyUnit + Drop, S: Source, K: Sink, L: Ledger>(
         → IfErr result (λ fault. Stopped worker.old.banked worker.old.script worker.old.block fault before
         (S.state input.new) empty (K.state output.new) steps.old steps.new) }
     ensures refused { IfErr result (λ fault. StaysRefused fault worker.new) }
-    ensures few { IfOk result (λ frames. frames ≤ 2 ^ 40) }
+    ensures few { IfOk result (λ frames. frames ≤ MAX_INPUT) }
 {
     let size = worker.block_bytes();
     let block = &mut room[..size];

@@ -1,4 +1,4 @@
-ghost use Rattle.std.specs.Prelude.{◌≡◌, ◌+◌, ◌*◌, ◌/◌, ◌^◌, ◌<◌, ◌≤◌, ◌↔◌, List, [], length, take, drop};
+ghost use Rattle.std.specs.Prelude.{◌≡◌, ◌+◌, ◌*◌, ◌/◌, ◌<◌, ◌≤◌, ◌↔◌, List, [], length, take, drop};
 ghost use Rattle.std.specs.Prelude.{flat_map, All, IfOk, IfErr, IsErr, IsFalse, IsTrue, Some, None};
 ghost use Rattle.std.specs.Prelude.{slice_get};
 ghost use Rattle.std.specs.Option.{option_map};
@@ -20,7 +20,7 @@ ghost use Rattle.dsp_session.specs.Session.{IsTooMuch, Ends, block_bytes, call_r
 ghost use Rattle.dsp_session.specs.Session.{signal, tail_bytes};
 
 use dsp_chain::Chain;
-use dsp_defs::{GatherFull, Measure, Script, Steps, WindowFault};
+use dsp_defs::{GatherFull, MAX_INPUT, Measure, Script, Steps, WindowFault};
 use dsp_input::frame_bytes;
 use dsp_script::output_flow;
 use dsp_unit::{AnyUnit, Unit};
@@ -192,7 +192,7 @@ impl<U: AnyUnit + Drop> Worker<U> {
 
     /// The bytes of the tail, where the frames fed so far are the whole input.
     pub fn tail_bytes(&self) -> u128
-        requires { self.now.chain.frames ≤ 2 ^ 40 }
+        requires { self.now.chain.frames ≤ MAX_INPUT }
         ensures { result ≡ tail_bytes self.now.script self.now.chain.frames }
     {
         u128::from(self.chain.tail_frames()) * self.given_bytes() as u128
@@ -255,7 +255,7 @@ impl<U: AnyUnit + Drop> Worker<U> {
             self.old.script self.old.coding }
         requires block { length (signal self.old.script self.old.coding bytes.now) ≤ self.old.block }
         requires count { self.old.chain.frames + length
-            (signal self.old.script self.old.coding bytes.now) ≤ 2 ^ 40 }
+            (signal self.old.script self.old.coding bytes.now) ≤ MAX_INPUT }
         ensures same { SameSession self.old self.new }
         ensures given { IfOk result (λ given. given ≡ length self.new.out) }
         ensures within { IfOk result (λ given. given ≤ call_room self.old) }
@@ -285,7 +285,7 @@ impl<U: AnyUnit + Drop> Worker<U> {
     /// The first partial convolution whose window ends past the full one, where the frames fed so
     /// far and `more` frames are the whole input.
     pub fn window_fault(&self, more: u64) -> Option<WindowFault>
-        requires { self.now.chain.frames + more ≤ 2 ^ 40 }
+        requires { self.now.chain.frames + more ≤ MAX_INPUT }
         ensures { option_map (λ (fault : WindowFault). (fault.end, fault.length)) result
             ≡ window_at self.now.script.blocks (self.now.chain.frames + more) }
     {
@@ -311,7 +311,7 @@ impl<U: AnyUnit + Drop> Worker<U> {
 
     /// How many numbers the blocks keep of so many frames.
     pub fn kept_count_of(&self, frames: u64) -> u128
-        requires { frames ≤ 2 ^ 40 }
+        requires { frames ≤ MAX_INPUT }
         ensures { result ≡ kept_count self.now.script frames }
     {
         self.chain.kept_count_of(frames)
@@ -319,7 +319,7 @@ impl<U: AnyUnit + Drop> Worker<U> {
 
     /// The samples of a channel that the correlation would gather of so many frames.
     pub fn gathered(&self, frames: u64) -> u64
-        requires { frames ≤ 2 ^ 40 }
+        requires { frames ≤ MAX_INPUT }
         ensures { result ≡ gathered self.now.script.blocks frames }
     {
         self.chain.gathered(frames)
@@ -345,7 +345,7 @@ impl<U: AnyUnit + Drop> Worker<U> {
 
     /// Whether the blocks can keep these numbers of so many frames.
     pub fn fits(&self, frames: u64, numbers: &[i64]) -> bool
-        ensures { IsTrue result ↔ (frames ≤ 2 ^ 40) × Fits self.now.script frames numbers.now }
+        ensures { IsTrue result ↔ (frames ≤ MAX_INPUT) × Fits self.now.script frames numbers.now }
     {
         self.chain.fits(frames, numbers)
     }
@@ -353,7 +353,7 @@ impl<U: AnyUnit + Drop> Worker<U> {
     /// Gives a new worker the numbers that the blocks keep of so many frames, which count as taken.
     pub fn restore(&mut self, frames: u64, numbers: &[i64])
         requires new { StandsFor self.old [] }
-        requires few { frames ≤ 2 ^ 40 }
+        requires few { frames ≤ MAX_INPUT }
         requires fits { Fits self.old.script frames numbers.now }
         ensures { Restores self.old self.new frames numbers.now }
     {

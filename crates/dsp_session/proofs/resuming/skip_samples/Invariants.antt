@@ -1,4 +1,5 @@
-use Rattle.std.proofs.Common.{◌-◌, ◌^◌}
+use Rattle.std.proofs.Common.{◌-◌}
+use Rattle.dsp_defs.specs.declared.limits.TheConstants.{MAX_INPUT}
 use Rattle.dsp_session.proofs.SkipLaws.{Skipping}
 use Rattle.dsp_session.proofs.resuming.skip_samples.Given as goal
 
@@ -7,4 +8,4 @@ invariant-skipping g l = Skipping l.script l.header l.end l.taken (g.S.Source.st
     (g.S.Source.state l.input)
 
 abbrev pub decreases-skipping : goal.decreases-skipping
-decreases-skipping g l = 2 ^ 40 - l.taken
+decreases-skipping g l = MAX_INPUT - l.taken

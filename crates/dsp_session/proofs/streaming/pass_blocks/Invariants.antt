@@ -1,4 +1,5 @@
-use Rattle.std.proofs.Common.{◌-◌, ◌^◌}
+use Rattle.std.proofs.Common.{◌-◌}
+use Rattle.dsp_defs.specs.declared.limits.TheConstants.{MAX_INPUT}
 use Rattle.dsp_session.specs.Advancing.{Going}
 use Rattle.dsp_session.proofs.streaming.pass_blocks.Given as goal
 
@@ -8,4 +9,4 @@ invariant-passing g l =
     (g.K.Sink.state l.fn.output) (g.K.Sink.state l.output) l.fn.steps l.steps
 
 abbrev pub decreases-passing : goal.decreases-passing
-decreases-passing g l = 2 ^ 40 - l.taken
+decreases-passing g l = MAX_INPUT - l.taken

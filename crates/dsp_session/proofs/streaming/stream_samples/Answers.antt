@@ -1,6 +1,7 @@
-use Rattle.std.proofs.Common.{◌≡◌, ◌∙◌, ℕ, ◌+◌, ◌*◌, ◌^◌, ◌≤◌, ap, sym, refl, arith}
+use Rattle.std.proofs.Common.{◌≡◌, ◌∙◌, ℕ, ◌+◌, ◌*◌, ◌≤◌, ap, sym, refl, arith}
 use Rattle.std.proofs.lemmas.List.{length-take-le}
 use Rattle.std.proofs.lemmas.Result.{err_from_is_err_and}
+use Rattle.dsp_defs.specs.declared.limits.TheConstants.{MAX_INPUT}
 use Rattle.dsp_defs.specs.declared.script.Script.{Script}
 use Rattle.dsp_input.specs.Taking.{frame_bytes}
 use Rattle.dsp_session.proofs.AdvanceLaws.{new_runs}
@@ -13,7 +14,7 @@ use Rattle.dsp_session.proofs.streaming.stream_samples.Goals as goal
 nothing : (frames frame : ℕ) → frames ≡ 0 → frames * frame ≡ 0
 nothing frames frame none = ap (λ n. n * frame) none ∙ omega arith
 
-regroup : (start before count : ℕ) → start + before + count ≤ 2 ^ 40 → start + (before + count) ≤ 2 ^ 40
+regroup : (start before count : ℕ) → start + before + count ≤ MAX_INPUT → start + (before + count) ≤ MAX_INPUT
 regroup start before count h = omega (arith, h)
 
 pub pass_blocks-requires-clause-runs : goal.pass_blocks-requires-clause-runs

@@ -15,18 +15,16 @@ use std::sync::ledger::Ledger;
 
 /// The sums with one complex product more, of a+ib and c+id.
 fn add_complex_product<T: MeasureSample, L: Ledger>(
-    sums: (i64, i64),
+    sums: (T::Acc, T::Acc),
     numbers: (T, T, T, T),
     steps: &mut Steps<L>,
-) -> (i64, i64)
-    requires start_re { FitsSigned (accumulator T.format) sums.0 }
-    requires start_im { FitsSigned (accumulator T.format) sums.1 }
-    ensures re { result.0 ≡ wrap (accumulator T.format)
-        (sums.0 +ℤ (measured_product T.format (T.number numbers.0)
+) -> (T::Acc, T::Acc)
+    ensures re { T.total result.0 ≡ wrap (accumulator T.format)
+        (T.total sums.0 +ℤ (measured_product T.format (T.number numbers.0)
         (T.number numbers.2) -ℤ measured_product T.format (T.number numbers.1)
         (T.number numbers.3))) }
-    ensures im { result.1 ≡ wrap (accumulator T.format)
-        (sums.1 +ℤ (measured_product T.format (T.number numbers.0)
+    ensures im { T.total result.1 ≡ wrap (accumulator T.format)
+        (T.total sums.1 +ℤ (measured_product T.format (T.number numbers.0)
         (T.number numbers.3) +ℤ measured_product T.format (T.number numbers.1)
         (T.number numbers.2))) }
     ensures steps { Rises steps.old steps.new 4 4 }
@@ -58,11 +56,11 @@ fn add_complex<T: MeasureSample, F: Fn(usize) -> (T, T, T, T), L: Ledger>(
     ensures fits_im { FitsSigned (accumulator T.format) result.1 }
     ensures steps { Rises steps.old steps.new (4 * count) (4 * count) }
 {
-    let mut sums = start;
+    let mut sums = (T::sum_of_number(start.0), T::sum_of_number(start.1));
     for n in 0..count {
         sums = add_complex_product(sums, at(n), steps);
     }
-    sums
+    (T::number_of_sum(sums.0), T::number_of_sum(sums.1))
 }
 
 /// The sums go on by two slices of complex numbers, each the real part first.

@@ -12,19 +12,32 @@ use std::sync::ledger::Ledger;
 
 /// A sample that can be measured.
 pub trait MeasureSample: Sample {
+    /// A sum in the accumulator of the format.
+    fn sum_of_number(number: i64) -> Self::Acc
+        requires { FitsSigned (accumulator Self.format) number }
+        ensures { Self.total result ≡ number };
+
+    /// The sum as a number.
+    fn number_of_sum(sum: Self::Acc) -> i64
+        ensures value { result ≡ Self.total sum }
+        ensures fits { FitsSigned (accumulator Self.format) result };
+
     /// Adds a product to a sum and wraps it to the accumulator of the format. In Q31 the product is
     /// shifted right by 14 first.
-    fn add_measured<L: Ledger>(sum: i64, a: Self, b: Self, steps: &mut Steps<L>) -> i64
-        requires { FitsSigned (accumulator Self.format) sum }
-        ensures value { result ≡ wrap (accumulator Self.format)
-            (sum +ℤ measured_product Self.format (Self.number a) (Self.number b)) }
+    fn add_measured<L: Ledger>(sum: Self::Acc, a: Self, b: Self, steps: &mut Steps<L>) -> Self::Acc
+        ensures value { Self.total result ≡ wrap (accumulator Self.format)
+            (Self.total sum +ℤ measured_product Self.format (Self.number a) (Self.number b)) }
         ensures steps { Rises steps.old steps.new 1 1 };
 
     /// Takes a product away in the same way.
-    fn subtract_measured<L: Ledger>(sum: i64, a: Self, b: Self, steps: &mut Steps<L>) -> i64
-        requires { FitsSigned (accumulator Self.format) sum }
-        ensures value { result ≡ wrap (accumulator Self.format)
-            (sum -ℤ measured_product Self.format (Self.number a) (Self.number b)) }
+    fn subtract_measured<L: Ledger>(
+        sum: Self::Acc,
+        a: Self,
+        b: Self,
+        steps: &mut Steps<L>,
+    ) -> Self::Acc
+        ensures value { Self.total result ≡ wrap (accumulator Self.format)
+            (Self.total sum -ℤ measured_product Self.format (Self.number a) (Self.number b)) }
         ensures steps { Rises steps.old steps.new 1 1 };
 
     /// A sum that goes on by the squares of numbers of the format.
@@ -49,14 +62,22 @@ pub trait MeasureSample: Sample {
 }
 
 impl MeasureSample for i8 {
-    fn add_measured<L: Ledger>(sum: i64, a: i8, b: i8, steps: &mut Steps<L>) -> i64 {
-        let product = Self::product(a, b, steps);
-        i64::from((sum as i32).wrapping_add(product))
+    fn sum_of_number(number: i64) -> i32 {
+        number as i32
     }
 
-    fn subtract_measured<L: Ledger>(sum: i64, a: i8, b: i8, steps: &mut Steps<L>) -> i64 {
+    fn number_of_sum(sum: i32) -> i64 {
+        i64::from(sum)
+    }
+
+    fn add_measured<L: Ledger>(sum: i32, a: i8, b: i8, steps: &mut Steps<L>) -> i32 {
         let product = Self::product(a, b, steps);
-        i64::from((sum as i32).wrapping_sub(product))
+        sum.wrapping_add(product)
+    }
+
+    fn subtract_measured<L: Ledger>(sum: i32, a: i8, b: i8, steps: &mut Steps<L>) -> i32 {
+        let product = Self::product(a, b, steps);
+        sum.wrapping_sub(product)
     }
 
     fn add_squares<L: Ledger>(start: i64, numbers: &[i32], steps: &mut Steps<L>) -> i64 {
@@ -77,6 +98,14 @@ impl MeasureSample for i8 {
 }
 
 impl MeasureSample for i16 {
+    fn sum_of_number(number: i64) -> i64 {
+        number
+    }
+
+    fn number_of_sum(sum: i64) -> i64 {
+        sum
+    }
+
     fn add_measured<L: Ledger>(sum: i64, a: i16, b: i16, steps: &mut Steps<L>) -> i64 {
         let product = Self::product(a, b, steps);
         sum.wrapping_add(i64::from(product))
@@ -105,6 +134,14 @@ impl MeasureSample for i16 {
 }
 
 impl MeasureSample for i32 {
+    fn sum_of_number(number: i64) -> i64 {
+        number
+    }
+
+    fn number_of_sum(sum: i64) -> i64 {
+        sum
+    }
+
     fn add_measured<L: Ledger>(sum: i64, a: i32, b: i32, steps: &mut Steps<L>) -> i64 {
         let product = Self::product(a, b, steps);
         sum.wrapping_add(product >> 14)

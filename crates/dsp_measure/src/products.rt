@@ -11,7 +11,9 @@ use dsp_defs::Steps;
 use dsp_sat::Sample;
 use std::sync::ledger::Ledger;
 
-/// A sum that goes on by `count` products, where `at` gives the two samples of each place.
+/// A sum that goes on by `count` products, where `at` gives the two samples of each place. It stays in
+/// the accumulator, so that the compiler can take the samples in lanes.
+#[inline(always)]
 fn add_products<T: MeasureSample, F: Fn(usize) -> (T, T), L: Ledger>(
     start: i64,
     count: usize,
@@ -26,12 +28,12 @@ fn add_products<T: MeasureSample, F: Fn(usize) -> (T, T), L: Ledger>(
     ensures fits { FitsSigned (accumulator T.format) result }
     ensures steps { Rises steps.old steps.new count count }
 {
-    let mut sum = start;
+    let mut sum = T::sum_of_number(start);
     for n in 0..count {
         let (a, b) = at(n);
         sum = T::add_measured(sum, a, b, steps);
     }
-    sum
+    T::number_of_sum(sum)
 }
 
 /// A sum that goes on by the products of two slices of one length.
@@ -56,7 +58,42 @@ pub fn add_slices<T: MeasureSample, L: Ledger>(
     add_products::<T, _, L>(start, a.len(), at, steps)
 }
 
-/// A sum that goes on by the products of two channels of `count` frames.
+/// A sum that goes on by the products of two channels, a frame after another.
+#[inline(always)]
+fn add_strided<T: MeasureSample, L: Ledger>(
+    start: i64,
+    frames: &[i32],
+    channels: usize,
+    first: usize,
+    second: usize,
+    steps: &mut Steps<L>,
+) -> i64
+    requires first { first < channels }
+    requires second { second < channels }
+    requires in_format { All (FitsSigned (word T.format)) frames.now }
+    requires start { FitsSigned (accumulator T.format) start }
+    ensures sum { result ≡ with_channels T.format start channels frames.now first second }
+    ensures fits { FitsSigned (accumulator T.format) result }
+    ensures steps { Rises steps.old steps.new (length frames.now / channels)
+        (length frames.now / channels) }
+{
+    let at = |n: usize| -> (T, T)
+        requires first { n * channels + first < length frames.now }
+        requires second { n * channels + second < length frames.now }
+        requires in_format { All (FitsSigned (word T.format)) frames.now }
+        ensures first { T.number result.0 ≡ sample frames.entry.now (n * channels + first) }
+        ensures second { T.number result.1 ≡ sample frames.entry.now (n * channels + second) }
+    {
+        let place = n * channels;
+        (
+            T::of_number(frames[place + first]),
+            T::of_number(frames[place + second]),
+        )
+    };
+    add_products::<T, _, L>(start, frames.len() / channels, at, steps)
+}
+
+/// A sum that goes on by the products of two channels of the frames.
 pub fn add_channels<T: MeasureSample, L: Ledger>(
     start: i64,
     frames: &[i32],
@@ -74,22 +111,13 @@ pub fn add_channels<T: MeasureSample, L: Ledger>(
     ensures steps { Rises steps.old steps.new (length frames.now / channels)
         (length frames.now / channels) }
 {
-    // Numbers that stand one behind the other are taken in lanes.
     if channels == 1 {
-        return T::add_squares(start, frames, steps);
+        // Numbers that stand one after another are taken in lanes.
+        T::add_squares(start, frames, steps)
+    } else if channels == 2 {
+        // So can frames of a known length.
+        add_strided::<T, L>(start, frames, 2, first, second, steps)
+    } else {
+        add_strided::<T, L>(start, frames, channels, first, second, steps)
     }
-    let at = |n: usize| -> (T, T)
-        requires first { n * channels + first < length frames.now }
-        requires second { n * channels + second < length frames.now }
-        requires in_format { All (FitsSigned (word T.format)) frames.now }
-        ensures first { T.number result.0 ≡ sample frames.entry.now (n * channels + first) }
-        ensures second { T.number result.1 ≡ sample frames.entry.now (n * channels + second) }
-    {
-        let place = n * channels;
-        (
-            T::of_number(frames[place + first]),
-            T::of_number(frames[place + second]),
-        )
-    };
-    add_products::<T, _, L>(start, frames.len() / channels, at, steps)
 }

@@ -1,5 +1,4 @@
 use Rattle.std.proofs.Common.{◌≡◌, ◌<◌, ℕ, ℤ, List}
-use Rattle.std.specs.Prelude.{FitsSigned}
 use Rattle.dsp_defs.specs.Counts.{Rises}
 use Rattle.dsp_defs.specs.Formats.{accumulator}
 use Rattle.dsp_defs.specs.Signal.{sample}
@@ -8,9 +7,9 @@ use Rattle.dsp_measure.proofs.products.add_products.Given as goal
 
 abbrev pub invariant-loop-n : goal.invariant-loop-n
 invariant-loop-n g l = record {
-  fits : FitsSigned (accumulator g.T.Sample.format) l.sum;
   sum : (x y : List ℤ) → ((k : ℕ) (s : _) → k < l.count → goal.F-post g l.at k s →
       (g.T.Sample.number s.0 ≡ sample x k) × (g.T.Sample.number s.1 ≡ sample y k)) →
-      l.sum ≡ sum_with (accumulator g.T.Sample.format) l.fn.start l.n (products_of g.T.Sample.format x y);
+      g.T.Sample.total l.sum ≡
+      sum_with (accumulator g.T.Sample.format) l.fn.start l.n (products_of g.T.Sample.format x y);
   steps : Rises l.initial.steps l.steps l.n l.n;
 }

@@ -3,4 +3,4 @@ use Rattle.std.proofs.lemmas.Int.{wraps}
 use Rattle.dsp_measure.proofs.measured.I8MeasureSample.add_measured.Goals as goal
 
 pub returns-clause-value : goal.returns-clause-value
-returns-clause-value g c = rw (c.from.ensures, c.product-product.ensures.value) (search (rules, wraps))
+returns-clause-value g c = rw (c.product-product.ensures.value) (search (rules, wraps))

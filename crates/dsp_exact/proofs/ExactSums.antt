@@ -22,16 +22,6 @@ abs-sub (pos a) (negsuc b) = omega (arith, ints)
 abs-sub (negsuc a) (pos b) = omega (arith, ints)
 abs-sub (negsuc a) (negsuc b) = omega (arith, ints)
 
--- one more term of a sum of at most 2^64 stays in 128 bits
-pub one_more_term : (s t : ℤ) (k count : ℕ) → nat_abs s ≤ k * 2 ^ 62 → nat_abs t ≤ 2 ^ 62 → k < count → count < 2 ^ 64 →
-    (to_z w128 (of_z w128 (s +ℤ to_z w128 (of_z w128 t))) ≡ s +ℤ t) × (nat_abs (s +ℤ t) ≤ (k + 1) * 2 ^ 62)
-one_more_term s t k count small_s small_t less few =
-    let both = abs-add s t in
-    let bound : nat_abs (s +ℤ t) ≤ (k + 1) * 2 ^ 62 = omega (arith, both, small_s, small_t) in
-    let fits_t : SFits w128 t = fits_signed_from_abs w128 t (omega (arith, small_t)) in
-    let fits : SFits w128 (s +ℤ t) = fits_signed_from_abs w128 (s +ℤ t) (omega (arith, bound, less, few)) in
-    (ap (λ v. to_z w128 (of_z w128 (s +ℤ v))) (to_z-of_z w128 t fits_t) ∙ to_z-of_z w128 (s +ℤ t) fits, bound)
-
 -- what 128 bits hold is the number, and it is small
 pub record IsExact (held number : ℤ) (most : ℕ) : Type 0 where
   pub is : to_z w128 (of_z w128 held) ≡ number

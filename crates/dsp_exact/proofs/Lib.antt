@@ -3,3 +3,4 @@ pub mod Formats
 pub mod Products
 pub mod Pushed
 pub mod Recurrences
+pub mod Steps

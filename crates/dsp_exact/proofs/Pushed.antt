@@ -4,15 +4,7 @@ use Rattle.std.proofs.Common.{length, take, reverse, get_or, add-one, arith}
 use Rattle.std.specs.Prelude.{All}
 use Rattle.std.proofs.lemmas.List.{take_more, get_or-reverse, length-reverse}
 use Rattle.std.proofs.lemmas.List.Elements.{All-push}
-use Rattle.std.proofs.lemmas.List.FromFn.{map-range_with_len_more}
 use native.Mathlib.Nat.{suc-mul}
-use Rattle.dsp_defs.specs.Signal.{values}
-
-pub values-more : (f : ℕ → ℤ) (n : ℕ) (ys zs : List ℤ) (v : ℤ) → zs ≡ ys ++ v ∷ [] → v ≡ f n → ys ≡ values n f
-    → zs ≡ values (n + 1) f
-values-more f n ys zs v pushed is so_far =
-    pushed ∙ ap (λ w. ys ++ w ∷ []) is ∙ ap (λ front. front ++ f n ∷ []) so_far
-    ∙ sym (map-range_with_len_more f 0 n n (omega arith))
 
 pub all-more : {A : Type 0} (P : A → Type 0) (ys zs : List A) (v r : A) → zs ≡ ys ++ v ∷ [] → v ≡ r → All P ys → P r
     → All P zs

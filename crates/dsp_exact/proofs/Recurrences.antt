@@ -17,6 +17,13 @@ next-of : {A : Type 0} (x : List A) (n : ℕ) → n < length x → (a : A) × (t
 next-of [] n inside = absurd (omega (arith, inside))
 next-of (a ∷ x) n inside = (get_or (a ∷ x) n a, take_more (a ∷ x) n a inside)
 
+pub outputs-next : {A B : Type 0} (next : List A → List B → B) (x : List A) (n : ℕ) → n < length x →
+    outputs next (take (n + 1) x) ≡ outputs next (take n x) ++ next (reverse (take (n + 1) x))
+    (reverse (outputs next (take n x))) ∷ []
+outputs-next next x n inside =
+    let (a, more) = next-of x n inside in
+    rw more (outputs-snoc next (take n x) a)
+
 pub outputs-more : {A B : Type 0} (next : List A → List B → B) (x : List A) (n : ℕ) (ys : List B) (y : B)
     → n < length x →
     ys ≡ outputs next (take n x) → y ≡ next (reverse (take (n + 1) x)) (reverse ys) → ys ++ y ∷ [] ≡ outputs next

@@ -1,12 +1,14 @@
 //! The formulas of blocks without memory, on exact numbers.
-ghost use Rattle.std.specs.Prelude.{◌≡◌, ◌+◌, ◌-ℤ◌, ◌≤◌, ◌≤ℤ◌, ◌^◌, FitsSigned, nat_abs, negsuc, pos};
+ghost use Rattle.std.specs.Prelude.{◌≡◌, ◌+◌, ◌+ℤ◌, ◌-ℤ◌, ◌≤◌, ◌≤ℤ◌, ◌^◌, FitsSigned, nat_abs, negsuc, pos};
 ghost use Rattle.dsp_defs.specs.Elementwise.{IsScaleShift, IsShift, add, convert, mult, scale, shift};
 ghost use Rattle.dsp_defs.specs.Elementwise.{shift_in, sub};
 ghost use Rattle.dsp_defs.specs.Formats.{word, word_bits};
+ghost use Rattle.dsp_defs.specs.Numbers.{floor_shift};
+ghost use Rattle.dsp_defs.specs.declared.format.Fmt.TheVariants.{Q31};
 
 use crate::numbers::{product, saturate, word_bits};
 use dsp_defs::{Fmt, Steps};
-use dsp_sat::sat31;
+use dsp_sat::{floor_shift, sat31, shift};
 use std::sync::ledger::Ledger;
 
 /// a + b, saturated.
@@ -33,11 +35,7 @@ pub fn shift_in(format: Fmt, x: i32, s: i32) -> i32
     ensures value { result ≡ shift_in (word_bits format) x s }
     ensures fits { FitsSigned (word format) result }
 {
-    if s >= 0 {
-        saturate(format, i128::from(x) * 2i128.pow(s as u32))
-    } else {
-        x >> -s
-    }
+    saturate(format, i128::from(shift(x, s)))
 }
 
 /// The product as a sample.
@@ -50,8 +48,37 @@ pub fn mult<L: Ledger>(format: Fmt, a: i32, b: i32, steps: &mut Steps<L>) -> i32
     match format {
         Fmt::Q7 => saturate(format, p >> 7),
         Fmt::Q15 => saturate(format, p >> 15),
-        Fmt::Q31 => 2 * sat31((p >> 32) as i64),
+        Fmt::Q31 => 2 * sat31(floor_shift(p, 32) as i64),
     }
+}
+
+/// The places by which a product is shifted down, s fewer than these.
+fn places_to(places: i32, s: i32) -> u32
+    requires most { places ≤ℤ pos 15 }
+    requires some { pos 7 ≤ℤ places }
+    requires low { negsuc 15 ≤ℤ s }
+    requires high { s ≤ℤ places }
+    ensures value { result ≡ nat_abs (places -ℤ s) }
+    ensures few { result ≤ 31 }
+{
+    (places - s).unsigned_abs()
+}
+
+/// The high word of a product.
+fn high_word(p: i128) -> i32
+    requires { nat_abs p ≤ 2 ^ 62 }
+    ensures { result ≡ floor_shift p 32 }
+{
+    floor_shift(p, 32) as i32
+}
+
+/// The high word of a product, times 2^(s+1), as a sample.
+fn moved(p: i128, s: i32) -> i32
+    requires small { nat_abs p ≤ 2 ^ 62 }
+    requires few { IsScaleShift Q31 s }
+    ensures { result ≡ shift_in 32 (floor_shift p 32) (s +ℤ pos 1) }
+{
+    shift(high_word(p), s + 1)
 }
 
 /// A sample times a fraction and a power of two.
@@ -63,9 +90,9 @@ pub fn scale<L: Ledger>(format: Fmt, fract: i32, s: i32, x: i32, steps: &mut Ste
 {
     let p = product(x, fract, steps);
     match format {
-        Fmt::Q7 => saturate(format, p >> (7 - s).unsigned_abs()),
-        Fmt::Q15 => saturate(format, p >> (15 - s).unsigned_abs()),
-        Fmt::Q31 => shift_in(format, (p >> 32) as i32, s + 1),
+        Fmt::Q7 => saturate(format, floor_shift(p, places_to(7, s))),
+        Fmt::Q15 => saturate(format, floor_shift(p, places_to(15, s))),
+        Fmt::Q31 => moved(p, s),
     }
 }
 

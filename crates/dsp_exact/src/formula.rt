@@ -24,6 +24,7 @@ pub trait Terms {
 }
 
 /// The exact sum of the first `count` terms.
+#[tactic(auto, using(crate::proofs::Steps::steps))]
 pub fn sum_below<T: Terms, L: Ledger>(count: usize, terms: &T, steps: &mut Steps<L>) -> i128
     requires { (k : ℕ) → k < count → T.Has terms.now k }
     ensures value { result ≡ sum_below count (T.term terms.now) }

@@ -10,6 +10,6 @@ mod recurrence;
 
 pub use elementwise::{add, convert, mult, scale, shift_in, sub};
 pub use formula::{Formula, Terms, sum_below, values};
-pub use numbers::{close, product, saturate, word_bits, wrap};
+pub use numbers::{close, difference, product, saturate, sum, word_bits, wrap};
 pub use reads::{back, back_wide, delayed, sample};
 pub use recurrence::{Recurrence, outputs};

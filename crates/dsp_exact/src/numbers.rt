@@ -1,5 +1,5 @@
 //! Exact numbers of 128 bits, and how they become samples.
-ghost use Rattle.std.specs.Prelude.{◌≡◌, ◌+◌, ◌*ℤ◌, ◌^◌, ◌≤◌, FitsSigned, nat_abs};
+ghost use Rattle.std.specs.Prelude.{◌≡◌, ◌+◌, ◌+ℤ◌, ◌-ℤ◌, ◌*ℤ◌, ◌^◌, ◌≤◌, FitsSigned, nat_abs};
 ghost use Rattle.dsp_defs.specs.Formats.{close, word, word_bits};
 ghost use Rattle.dsp_defs.specs.Numbers.{saturate, wrap};
 
@@ -52,6 +52,26 @@ pub fn close(format: Fmt, sum: i128) -> i32
         Fmt::Q15 => saturate(Fmt::Q15, i128::from(wrap64(sum)) >> 15),
         Fmt::Q31 => wrap32(i128::from(wrap64(sum)) >> 31),
     }
+}
+
+/// The exact sum of numbers far within 128 bits.
+pub fn sum(a: i128, b: i128) -> i128
+    requires left { nat_abs a ≤ 2 ^ 125 }
+    requires right { nat_abs b ≤ 2 ^ 125 }
+    ensures value { result ≡ a +ℤ b }
+    ensures small { nat_abs result ≤ nat_abs a + nat_abs b }
+{
+    a + b
+}
+
+/// The exact difference of such numbers.
+pub fn difference(a: i128, b: i128) -> i128
+    requires left { nat_abs a ≤ 2 ^ 125 }
+    requires right { nat_abs b ≤ 2 ^ 125 }
+    ensures value { result ≡ a -ℤ b }
+    ensures small { nat_abs result ≤ nat_abs a + nat_abs b }
+{
+    a - b
 }
 
 /// The exact product, counted.

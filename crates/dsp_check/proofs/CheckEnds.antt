@@ -1,5 +1,5 @@
 -- How a check ends, from what its parts did.
-use Rattle.std.proofs.Common.{◌≡◌, ◌⊎◌, ℕ, ◌+◌, ◌*◌, ◌/◌, ◌^◌, ◌<◌, ◌≤◌, List, ◌++◌, length, Option, Some, None, refl}
+use Rattle.std.proofs.Common.{◌≡◌, ◌⊎◌, ℕ, ◌+◌, ◌*◌, ◌/◌, ◌<◌, ◌≤◌, List, ◌++◌, length, Option, Some, None, refl}
 use Rattle.std.proofs.Common.{sym, ap, ◌∙◌, subst, arith, length-append, inl, inr}
 use Rattle.std.proofs.Math.Nat.{mul-le-mul_right}
 use Rattle.std.specs.Io.KnownBytes.{IsAtEnd}
@@ -9,7 +9,7 @@ use Rattle.dsp_defs.specs.Counts.{Counts}
 use Rattle.dsp_defs.specs.Grammar.{IsSound}
 use Rattle.dsp_defs.specs.Output.{HasHeader, input_header, known_frames, output}
 use Rattle.dsp_defs.specs.Sizes.{IsSmall}
-use Rattle.dsp_defs.specs.declared.limits.TheConstants.{MAX_CHECKED}
+use Rattle.dsp_defs.specs.declared.limits.TheConstants.{MAX_CHECKED, MAX_INPUT}
 use Rattle.dsp_defs.specs.declared.script.Script.{Script}
 use Rattle.dsp_defs.specs.declared.wave.Header.{Header}
 use Rattle.dsp_defs.proofs.SampleLaws.{length-samples}
@@ -109,7 +109,7 @@ module _ (script : Script) (sound : IsSound script) (header : Header) (input mid
 
   module _ (bytes : List ℕ) (now : SourceState) (gave : Gave mid now bytes)
       (declared : InDeclared (declared_bytes script header) (length bytes))
-      (limit : header.start + length bytes ≤ 2 ^ 40) where
+      (limit : header.start + length bytes ≤ MAX_INPUT) where
     abbrev given : List ℕ
     given = opened.first ++ bytes
 

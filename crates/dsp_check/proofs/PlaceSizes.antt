@@ -12,7 +12,7 @@ use Rattle.dsp_defs.specs.Shape.{window_at}
 use Rattle.dsp_defs.specs.Sizes.{size_at}
 use Rattle.dsp_defs.specs.Sums.{full_length}
 use Rattle.dsp_defs.specs.declared.flow.Flow.{Flow}
-use Rattle.dsp_defs.specs.declared.limits.TheConstants.{MAX_CHECKED, MAX_TAPS}
+use Rattle.dsp_defs.specs.declared.limits.TheConstants.{MAX_CHECKED, MAX_INPUT, MAX_TAPS}
 use Rattle.dsp_defs.specs.declared.script.Block.{Block}
 use Rattle.dsp_defs.specs.declared.script.Block.TheVariants.{Conv, ConvPartial, Correlate}
 use Rattle.dsp_defs.proofs.FrameLaws.{whole_frames_are_given}
@@ -36,7 +36,7 @@ correlation_le n t few = tested (eqb n 0)
     tested true = omega arith
     tested false = omega arith
 
-steady-few : (flow : Flow) (b : Block) (n : ℕ) → Suits flow b → n ≤ MAX_CHECKED → steady_frames b n ≤ 2 ^ 40
+steady-few : (flow : Flow) (b : Block) (n : ℕ) → Suits flow b → n ≤ MAX_CHECKED → steady_frames b n ≤ MAX_INPUT
 steady-few flow b n s h =
     let g = groups_by (rule_of b) in
     let is = rule-groups (rule_of b) (is-rule flow b s) in
@@ -44,14 +44,14 @@ steady-few flow b n s h =
     rw (← steady-rule b n) (omega (arith, product))
 
 -- a block gives few frames of few
-given-few : (flow : Flow) (b : Block) (n : ℕ) → Suits flow b → n ≤ MAX_CHECKED → given_frames b n ≤ 2 ^ 40
+given-few : (flow : Flow) (b : Block) (n : ℕ) → Suits flow b → n ≤ MAX_CHECKED → given_frames b n ≤ MAX_INPUT
 given-few flow (Conv taps) n s h = omega (arith, conv_le n (length taps) s.parameters.0.limit)
 given-few flow (ConvPartial first count taps) n s h = omega (arith, s.parameters.2.1)
 given-few flow (Correlate taps) n s h = omega (arith, correlation_le n (length taps) s.parameters.0.limit)
 given-few flow b n s h = steady-few flow b n s h
 
 pub whole-few : (flow : Flow) (b : Block) (n : ℕ) → Suits flow b → n ≤ MAX_CHECKED → (given_frames b n < 2 ^ 63) ×
-    (whole_frames b n ≤ 2 ^ 40)
+    (whole_frames b n ≤ MAX_INPUT)
 whole-few flow (ConvPartial first count taps) n s h = let few = given-few flow (ConvPartial first count taps) n s h in
     (omega (arith, few), omega (arith, few))
 whole-few flow b n s h = let few = given-few flow b n s h in (omega (arith, few), few)

@@ -1,13 +1,13 @@
 -- How the bytes that a check took of its input, and those of the file beside it, stand to each other at each of its
 -- ends.
-use Rattle.std.specs.Prelude.{◌≡◌, ◌⊎◌, ℕ, ◌+◌, ◌*◌, ◌/◌, ◌^◌, ◌<◌, ◌≤◌, List, length, Some, None}
+use Rattle.std.specs.Prelude.{◌≡◌, ◌⊎◌, ℕ, ◌+◌, ◌*◌, ◌/◌, ◌<◌, ◌≤◌, List, length, Some, None}
 use Rattle.dsp_ports.specs.Ports.{SourceState, one_more, Gave}
 use Rattle.dsp_defs.specs.Cost.{cost}
 use Rattle.dsp_defs.specs.Counts.{Counts}
 use Rattle.dsp_defs.specs.Output.{HasHeader, input_header, known_frames, output}
 use Rattle.dsp_defs.specs.Shape.{window_at}
 use Rattle.dsp_defs.specs.Sizes.{IsSmall, size_at}
-use Rattle.dsp_defs.specs.declared.limits.TheConstants.{MAX_CHECKED, MAX_RIFF_SIZE}
+use Rattle.dsp_defs.specs.declared.limits.TheConstants.{MAX_CHECKED, MAX_INPUT, MAX_RIFF_SIZE}
 use Rattle.dsp_defs.specs.declared.script.Script.{Script}
 use Rattle.dsp_defs.specs.declared.wave.Header.{Header}
 use Rattle.dsp_input.specs.Taking.{AwaitsDeclared, Fits, HasFault, InLimit, IsInDeclared, IsTakenWhole, IsTooLong}
@@ -57,7 +57,7 @@ pub record Done (script : Script) (size : ℕ) (input now other seen : SourceSta
   where
     pub given : List ℕ
     pub gave : Gave input now given
-    pub in_limit : length given ≤ 2 ^ 40
+    pub in_limit : length given ≤ MAX_INPUT
     pub has : HasHeader script given
     pub whole : IsTakenWhole script given now
     pub limits : KeepsLimits script (input_header script given) (frames_in_bytes script given)
@@ -89,8 +89,8 @@ pub record IsLong (script : Script) (header : Header) (frames size : ℕ) : Type
 -- why it stopped, from the bytes that were taken
 abbrev pub IsCause : CheckFault → Script → List ℕ → SourceState → Type 0
 IsCause (fault.Header said offset) script given now = HasFault script given now (said, offset)
-IsCause (fault.Input taken limit) script given now = (length given ≡ 2 ^ 40) × (taken ≡ 2 ^ 40) × (limit ≡ 2 ^ 40) ×
-    WantsMore script given
+IsCause (fault.Input taken limit) script given now = (length given ≡ MAX_INPUT) × (taken ≡ MAX_INPUT) ×
+    (limit ≡ MAX_INPUT) × WantsMore script given
 IsCause (fault.Window end full) script given now =
     HasHeader script given × IsTakenWhole script given now ×
     (window_at script.blocks (frames_in_bytes script given) ≡ Some (end, full))
@@ -101,7 +101,7 @@ IsCause (fault.Size size limit) script given now =
     HasHeader script given × (limit ≡ MAX_CHECKED)
     × (IsPastLimit script given size ⊎ (IsTakenWhole script given now ×
     IsPlaceFull script (input_header script given) (frames_in_bytes script given) size))
-IsCause fault.Read script given now = (length given < 2 ^ 40) × AwaitsDeclared script given
+IsCause fault.Read script given now = (length given < MAX_INPUT) × AwaitsDeclared script given
 IsCause fault.Memory script given now = HasHeader script given
 IsCause fault script given now = HasHeader script given × IsTakenWhole script given now ×
     KeepsLimits script (input_header script given) (frames_in_bytes script given)
@@ -128,7 +128,7 @@ pub record Stopped (script : Script) (fault : CheckFault) (input now other seen 
     (before counts : Counts) : Type 0 where
   pub given : List ℕ
   pub gave : Gave input now given
-  pub in_limit : length given ≤ 2 ^ 40
+  pub in_limit : length given ≤ MAX_INPUT
   pub in_declared : HasHeader script given → IsInDeclared script given
   pub cause : IsCause fault script given now
   pub few : TookFew fault script given

@@ -13,7 +13,9 @@ use crate::comparing::compare;
 use crate::evaluating::evaluate;
 use crate::fault::CheckFault;
 use crate::lengths::{size_fault, window_fault};
-use dsp_defs::{Container, Header, MAX_CHECKED, MAX_RIFF_SIZE, Script, Steps, WindowFault};
+use dsp_defs::{
+    Container, Header, MAX_CHECKED, MAX_INPUT, MAX_RIFF_SIZE, Script, Steps, WindowFault,
+};
 use dsp_input::{
     frame_bytes, known_frames, long_riff, output_header, read_block, read_input_header,
 };
@@ -43,7 +45,7 @@ fn read_samples<S: Source>(
     input: &mut S,
 ) -> Result<Vec<u8>, CheckFault>
     requires sound { IsSound script.now }
-    requires start { header.start ≤ 2 ^ 40 }
+    requires start { header.start ≤ MAX_INPUT }
     ensures ok { IfOk result (λ bytes. PartTaken script.now header
         (bytes_past_limit script.now header) bytes.items (S.state input.old) (S.state input.new)) }
     ensures err { IfErr result (λ fault.

@@ -7,7 +7,7 @@ ghost use Rattle.dsp_defs.specs.Sizes.{size_at};
 ghost use Rattle.dsp_defs.specs.declared.fault.WindowFault.{WindowFault};
 ghost use Rattle.dsp_shape.specs.Lengths.{HasLegalBlock, IsGroup};
 
-use dsp_defs::{Block, Flow, MAX_CHECKED, Script, WindowFault};
+use dsp_defs::{Block, Flow, MAX_CHECKED, MAX_INPUT, Script, WindowFault};
 use dsp_script::{full_length, given_frames};
 
 /// The length of what a block gives of a whole signal of n frames.
@@ -47,7 +47,7 @@ fn window_end(block: &Block, n: u64) -> Option<WindowFault>
 pub fn window_fault(script: &Script, mut n: u64) -> Option<WindowFault>
     requires sound { IsSound script.now }
     requires legal { HasLegalBlock script.now }
-    requires taken { n ≤ 2 ^ 40 }
+    requires taken { n ≤ MAX_INPUT }
     ensures { option_map (λ (fault : WindowFault). (fault.end, fault.length)) result
         ≡ window_at script.now.blocks n }
 {
@@ -65,7 +65,7 @@ pub fn window_fault(script: &Script, mut n: u64) -> Option<WindowFault>
 /// has n frames.
 pub fn size_fault(script: &Script, mut n: u64) -> Option<u64>
     requires sound { IsSound script.now }
-    requires taken { n ≤ 2 ^ 40 }
+    requires taken { n ≤ MAX_INPUT }
     ensures { result ≡ size_at script.now.input.channels script.now.blocks n }
 {
     let mut flow = Flow {

@@ -1,5 +1,6 @@
 //! Outside vectors: for each block and format three of them, extremes among them.
 
+mod complex;
 mod convolutions;
 mod elementwise;
 mod matrices;

@@ -1,10 +1,9 @@
 mod AdaptedStates
 mod Correlations
+mod Delays
 mod KeptStates
 mod Ladders
-mod Mapped
 mod MatrixBlocks
-mod NewestSums
 mod Phases
 mod Scattered
 mod SectionLists

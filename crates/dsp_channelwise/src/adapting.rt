@@ -10,10 +10,10 @@ ghost use Rattle.dsp_defs.specs.declared.format.Fmt.TheVariants.{Q7};
 ghost use Rattle.dsp_defs.specs.declared.script.Block.TheVariants as Blocks;
 ghost use Rattle.dsp_channelwise.specs.Adapting.{adapted_of, pairs_of};
 
-use crate::newest::newest_sum;
+use crate::newest::Weighted;
 use crate::sums::reversed;
 use dsp_defs::{Fmt, Steps};
-use dsp_exact::{Formula, back, product, sample, saturate, values, wrap};
+use dsp_exact::{Formula, back, product, sample, saturate, sum_below, values, wrap};
 use dsp_sat::{wrap32, wrap64};
 use std::alloc::{AllocError, Global};
 use std::sync::ledger::Ledger;
@@ -100,7 +100,7 @@ fn adapted_to<L: Ledger>(
         × FitsSigned (word format) a.error) }
     ensures products { steps.new.multiplies ≤ steps.old.multiplies + (2 * length w.now + 1) }
 {
-    let sum = newest_sum(w, x, steps);
+    let sum = sum_below(w.len(), &Weighted { w, x }, steps);
     let output = lms_close(format, post_shift, sum);
     let error = wrap(format, i128::from(reference) - i128::from(output));
     let alpha = step_size(format, mu, error, steps);

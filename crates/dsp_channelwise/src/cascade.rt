@@ -6,10 +6,10 @@ ghost use Rattle.dsp_defs.specs.Formats.{word};
 ghost use Rattle.dsp_defs.specs.declared.format.Fmt.TheVariants.{Q7};
 ghost use Rattle.dsp_channelwise.specs.Recursions.{section_of};
 
-use crate::newest::newest_sum;
+use crate::newest::{sum_of_three, sum_of_two};
 use crate::sections::{Section, section_at, section_length};
 use dsp_defs::{Fmt, Steps};
-use dsp_exact::{Recurrence, outputs, saturate};
+use dsp_exact::{Recurrence, outputs, saturate, sum};
 use dsp_sat::{wrap32, wrap64};
 use std::alloc::{AllocError, Global};
 use std::sync::ledger::Ledger;
@@ -48,9 +48,9 @@ impl Recurrence for Narrow {
     ghost cost = { λ r. 5 };
 
     fn next<L: Ledger>(&self, x: &[i32], y: &[i32], steps: &mut Steps<L>) -> i32 {
-        let forward = newest_sum(&self.section.forward, x, steps);
-        let back = newest_sum(&self.section.back, y, steps);
-        section_close(self.format, self.post_shift, forward + back)
+        let forward = sum_of_three(&self.section.forward, x, steps);
+        let back = sum_of_two(&self.section.back, y, steps);
+        section_close(self.format, self.post_shift, sum(forward, back))
     }
 }
 

@@ -5,7 +5,7 @@ ghost use Rattle.dsp_defs.specs.Formats.{word};
 ghost use Rattle.dsp_defs.specs.declared.format.Fmt.TheVariants.{Q7};
 ghost use Rattle.dsp_channelwise.specs.Recursions.{gains_of};
 
-use crate::newest::newest_sum;
+use crate::newest::sum_of_three;
 use dsp_defs::{Fmt, Steps};
 use dsp_exact::{Recurrence, back, outputs, saturate};
 use dsp_sat::{wrap32, wrap64};
@@ -65,7 +65,7 @@ impl Recurrence for Controller {
     ghost cost = { λ r. 3 };
 
     fn next<L: Ledger>(&self, x: &[i32], y: &[i32], steps: &mut Steps<L>) -> i32 {
-        let sum = newest_sum(&self.gains, x, steps);
+        let sum = sum_of_three(&self.gains, x, steps);
         pid_close(self.format, sum, back(y, 0))
     }
 }

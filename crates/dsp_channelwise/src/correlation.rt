@@ -1,12 +1,12 @@
 //! The correlation.
 ghost use Rattle.std.specs.Prelude.{◌≡◌, ◌+◌, ◌*◌, ◌<◌, ◌≤◌, ◌^◌, ◌+ℤ◌, ◌*ℤ◌, ℕ, pos, All, FitsSigned, IfOk};
-ghost use Rattle.std.specs.Prelude.{length, nat_abs};
+ghost use Rattle.std.specs.Prelude.{length, map, nat_abs};
 ghost use Rattle.dsp_defs.specs.Formats.{close, word};
 ghost use Rattle.dsp_defs.specs.Signal.{delayed, sample};
 ghost use Rattle.dsp_defs.specs.Sums.{correlate};
 
 use dsp_defs::{Fmt, Steps};
-use dsp_exact::{Formula, close, product, values};
+use dsp_exact::{close, product};
 use std::alloc::{AllocError, Global};
 use std::sync::ledger::Ledger;
 
@@ -28,24 +28,11 @@ fn scatter<L: Ledger>(sums: &mut [i128], at: usize, a: i32, b: &[i32], steps: &m
 }
 
 /// Sums as samples.
-#[derive(Clone, Copy)]
-struct Closed<'a> {
-    format: Fmt,
-    sums: &'a [i128],
-}
-
-impl<'a> Formula for Closed<'a> {
-    ghost format = { λ f. f.format };
-
-    ghost Gives = { λ f n. n < length f.sums.now };
-
-    ghost at = { λ f n. close f.format (sample f.sums.now n) };
-
-    ghost cost = { λ f. 0 };
-
-    fn at<L: Ledger>(&self, n: usize, steps: &mut Steps<L>) -> i32 {
-        close(self.format, self.sums[n])
-    }
+fn all_closed(alloc: Global, format: Fmt, sums: &[i128]) -> Result<Vec<i32>, AllocError>
+    ensures values { IfOk result (λ y. y.items ≡ map (close format) sums.now) }
+    ensures fits { IfOk result (λ y. All (FitsSigned (word format)) y.items) }
+{
+    sums.iter().map(|s| close(format, *s)).collect(alloc)
 }
 
 /// c(n) = close(sum over k of x(k) * b[k-(n-(m-1))]) for n < 2*m-1, with m the greater length; none of no
@@ -71,9 +58,5 @@ pub fn correlate<L: Ledger>(
     for k in 0..x.len() {
         scatter(sums.as_mut_slice(), k + m - 1, x[k], taps, steps);
     }
-    let closed = Closed {
-        format,
-        sums: sums.as_slice(),
-    };
-    values(alloc, sums.len(), &closed, steps)
+    all_closed(alloc, format, sums.as_slice())
 }

@@ -8,8 +8,8 @@ ghost use Rattle.dsp_defs.specs.Signal.{sample};
 ghost use Rattle.dsp_defs.specs.declared.format.Fmt.TheVariants.{Q7};
 
 use dsp_defs::{Fmt, Steps};
-use dsp_exact::{Terms, product, sample, saturate, sum_below};
-use dsp_sat::{wrap32, wrap64};
+use dsp_exact::{Terms, difference, product, sample, saturate, sum, sum_below};
+use dsp_sat::{floor_shift, wrap32, wrap64};
 use std::alloc::{AllocError, Global};
 use std::sync::ledger::Ledger;
 
@@ -21,8 +21,8 @@ fn reflected<L: Ledger>(format: Fmt, k: i32, g: i32, steps: &mut Steps<L>) -> i1
 {
     let p = product(k, g, steps);
     match format {
-        Fmt::Q31 => i128::from(wrap32(p >> 31)),
-        _ => p >> 15,
+        Fmt::Q31 => i128::from(wrap32(floor_shift(p, 31))),
+        _ => floor_shift(p, 15),
     }
 }
 
@@ -32,8 +32,10 @@ fn ladder_step<L: Ledger>(format: Fmt, f: i32, k: i32, g: i32, steps: &mut Steps
     ensures upper { result.1 ≡ saturate (word_bits format) (reflected format k result.0 +ℤ g) }
     ensures products { steps.new.multiplies ≤ steps.old.multiplies + 2 }
 {
-    let lower = saturate(format, i128::from(f) - reflected(format, k, g, steps));
-    let upper = saturate(format, reflected(format, k, lower, steps) + i128::from(g));
+    let down = reflected(format, k, g, steps);
+    let lower = saturate(format, difference(i128::from(f), down));
+    let up = reflected(format, k, lower, steps);
+    let upper = saturate(format, sum(up, i128::from(g)));
     (lower, upper)
 }
 

@@ -1,17 +1,31 @@
 //! The lattice without feedback, one whole signal after another.
-ghost use Rattle.std.specs.Prelude.{◌≡◌, ◌+◌, ◌*◌, ◌≤◌, ℤ, pos, All, FitsSigned, IfOk, get_or, length, map};
+ghost use Rattle.std.specs.Prelude.{◌≡◌, ◌+◌, ◌*◌, ◌+ℤ◌, ◌*ℤ◌, ◌≤◌, ℤ, pos, All, FitsSigned, IfOk, get_or, length, map};
 ghost use Rattle.std.specs.Prelude.{reverse};
 ghost use Rattle.dsp_defs.specs.Formats.{word};
 ghost use Rattle.dsp_defs.specs.Lattice.{lattice_fir, lattice_output};
+ghost use Rattle.dsp_defs.specs.Numbers.{floor_shift, saturate};
 ghost use Rattle.dsp_defs.specs.declared.format.Fmt.TheVariants.{Q15};
 
 use dsp_defs::{Fmt, Steps};
-use dsp_exact::{Recurrence, outputs, product, saturate};
+use dsp_exact::{Recurrence, outputs, product, saturate, sum};
+use dsp_sat::floor_shift;
 use std::alloc::{AllocError, Global};
 use std::sync::ledger::Ledger;
 
 /// f and g of one place.
 type Pair = (i32, i32);
+
+/// sat_16((k*x >> 15) + y)
+fn crossed<L: Ledger>(k: i32, x: i32, y: i32, steps: &mut Steps<L>) -> i32
+    ensures value { result ≡ saturate 16 (floor_shift (k *ℤ x) 15 +ℤ y) }
+    ensures fits { FitsSigned (word Q15) result }
+    ensures products { steps.new.multiplies ≡ steps.old.multiplies + 1 }
+{
+    saturate(
+        Fmt::Q15,
+        sum(floor_shift(product(k, x, steps), 15), i128::from(y)),
+    )
+}
 
 /// f_m(n) and g_m(n) from f_{m-1}(n), g_{m-1}(n-1).
 #[derive(Clone, Copy)]
@@ -33,12 +47,7 @@ impl Recurrence for LatticeSection {
     fn next<L: Ledger>(&self, x: &[Pair], _y: &[Pair], steps: &mut Steps<L>) -> Pair {
         let (f, _) = newest(x, 0);
         let (_, g) = newest(x, 1);
-        let up = product(self.k, g, steps) >> 15;
-        let down = product(self.k, f, steps) >> 15;
-        (
-            saturate(Fmt::Q15, up + i128::from(f)),
-            saturate(Fmt::Q15, down + i128::from(g)),
-        )
+        (crossed(self.k, g, f, steps), crossed(self.k, f, g, steps))
     }
 }
 
@@ -78,11 +87,7 @@ pub fn lattice_fir<L: Ledger>(
 fn paired(alloc: Global, x: &[i32]) -> Result<Vec<Pair>, AllocError>
     ensures { IfOk result (λ y. y.items ≡ map (λ (a : ℤ). (a, a)) x.now) }
 {
-    let mut y = Vec::with_capacity(alloc, x.len())?;
-    for a in x {
-        y.push((*a, *a))?;
-    }
-    Ok(y)
+    x.iter().map(|a| (*a, *a)).collect(alloc)
 }
 
 /// The first number of each pair.
@@ -91,9 +96,5 @@ fn firsts(alloc: Global, pairs: &[Pair]) -> Result<Vec<i32>, AllocError>
     ensures values { IfOk result (λ y. y.items ≡ map (λ (w : ℤ × ℤ). w.0) pairs.now) }
     ensures fits { IfOk result (λ y. All (FitsSigned (word Q15)) y.items) }
 {
-    let mut y = Vec::with_capacity(alloc, pairs.len())?;
-    for pair in pairs {
-        y.push(pair.0)?;
-    }
-    Ok(y)
+    pairs.iter().map(|pair| pair.0).collect(alloc)
 }

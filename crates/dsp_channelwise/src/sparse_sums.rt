@@ -7,7 +7,7 @@ ghost use Rattle.dsp_defs.specs.Sums.{sparse, sparse_close, sparse_term};
 
 use dsp_defs::{Fmt, Steps};
 use dsp_exact::{Formula, Terms, delayed, product, sample, saturate, sum_below, values};
-use dsp_sat::wrap32;
+use dsp_sat::{floor_shift, wrap32};
 use std::alloc::{AllocError, Global};
 use std::sync::ledger::Ledger;
 
@@ -22,6 +22,28 @@ fn sparse_close(format: Fmt, sum: i128) -> i32
         Fmt::Q15 => saturate(Fmt::Q15, i128::from(wrap32(sum)) >> 15),
         Fmt::Q31 => wrap32(2 * sum),
     }
+}
+
+/// b*x, and in Q31 its high word.
+fn sparse_term<L: Ledger>(format: Fmt, b: i32, x: i32, steps: &mut Steps<L>) -> i128
+    ensures value { result ≡ sparse_term format b x }
+    ensures small { nat_abs result ≤ 2 ^ 62 }
+    ensures products { steps.new.multiplies ≤ steps.old.multiplies + 1 }
+{
+    let p = product(b, x, steps);
+    match format {
+        Fmt::Q31 => floor_shift(p, 32),
+        _ => p,
+    }
+}
+
+/// Delay k.
+#[tactic(auto, using(crate::proofs::Delays::delay_is))]
+fn delay_at(delays: &[i32], k: usize) -> usize
+    requires { k < length delays.now }
+    ensures { result ≡ get_or (map nat_abs delays.now) k 0 }
+{
+    delays[k].unsigned_abs() as usize
 }
 
 /// The sums of a sparse filter.
@@ -47,16 +69,8 @@ impl<'a> Terms for SparseDelays<'a> {
         (delayed t.of.x.now t.n (get_or (map nat_abs t.of.delays.now) k 0)) };
 
     fn term<L: Ledger>(&self, k: usize, steps: &mut Steps<L>) -> i128 {
-        let delay = self.of.delays[k].unsigned_abs() as usize;
-        let p = product(
-            sample(self.of.b, k),
-            delayed(self.of.x, self.n, delay),
-            steps,
-        );
-        match self.of.format {
-            Fmt::Q31 => p >> 32,
-            _ => p,
-        }
+        let x = delayed(self.of.x, self.n, delay_at(self.of.delays, k));
+        sparse_term(self.of.format, sample(self.of.b, k), x, steps)
     }
 }
 

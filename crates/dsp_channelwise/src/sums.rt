@@ -2,7 +2,7 @@
 ghost use Rattle.std.specs.Prelude.{◌≡◌, ◌+◌, ◌*◌, ◌/◌, ◌<◌, ◌≤◌, ◌^◌, ◌*ℤ◌, ℕ, All, FitsSigned, IfOk};
 ghost use Rattle.std.specs.Prelude.{length, reverse};
 ghost use Rattle.dsp_defs.specs.Formats.{close, word};
-ghost use Rattle.dsp_defs.specs.Signal.{delayed, sample};
+ghost use Rattle.dsp_defs.specs.Signal.{delayed, sample, values};
 ghost use Rattle.dsp_defs.specs.Sums.{conv, conv_partial, convolution_at, decimate, fir, full_length};
 
 use dsp_defs::{Fmt, Steps};
@@ -14,11 +14,7 @@ use std::sync::ledger::Ledger;
 pub(crate) fn reversed(alloc: Global, list: &[i32]) -> Result<Vec<i32>, AllocError>
     ensures { IfOk result (λ y. y.items ≡ reverse list.now) }
 {
-    let mut y = Vec::with_capacity(alloc, list.len())?;
-    for k in 0..list.len() {
-        y.push(list[list.len() - 1 - k])?;
-    }
-    Ok(y)
+    list.iter().rev().copied().collect(alloc)
 }
 
 /// The terms b[k] * x(n-k).
@@ -68,6 +64,33 @@ impl<'a> Formula for Convolution<'a> {
     }
 }
 
+/// The first `count` of these sums.
+fn convolved<L: Ledger>(
+    alloc: Global,
+    format: Fmt,
+    b: &[i32],
+    x: &[i32],
+    first: usize,
+    step: usize,
+    count: usize,
+    steps: &mut Steps<L>,
+) -> Result<Vec<i32>, AllocError>
+    requires { (n : ℕ) → n < count → first + n * step < 2 ^ 64 }
+    ensures values { IfOk result (λ y. y.items ≡ values count
+        (λ n. close format (convolution_at b.now x.now (first + n * step)))) }
+    ensures fits { IfOk result (λ y. All (FitsSigned (word format)) y.items) }
+    ensures products { steps.new.multiplies ≤ steps.old.multiplies + count * length b.now }
+{
+    let formula = Convolution {
+        format,
+        b,
+        x,
+        first,
+        step,
+    };
+    values(alloc, count, &formula, steps)
+}
+
 /// y(n) = close(sum over k of b[k] * x(n-k)), as many values as x has samples, by the taps from b[T-1]
 /// to b[0]; each in the format of the samples. The source is `arm_fir_q7`, `arm_fir_q15` and
 /// `arm_fir_q31` of CMSIS-DSP.
@@ -83,14 +106,7 @@ pub fn fir<L: Ledger>(
     ensures products { steps.new.multiplies ≤ steps.old.multiplies + length x.now * length taps.now }
 {
     let b = reversed(alloc, taps)?;
-    let formula = Convolution {
-        format,
-        b: b.as_slice(),
-        x,
-        first: 0,
-        step: 1,
-    };
-    values(alloc, x.len(), &formula, steps)
+    convolved(alloc, format, b.as_slice(), x, 0, 1, x.len(), steps)
 }
 
 /// y(j) = close(sum over k of b[k] * x(j*M-k)), a value for each whole group of M samples, by the taps
@@ -112,14 +128,8 @@ pub fn decimate<L: Ledger>(
 {
     let b = reversed(alloc, taps)?;
     let step = usize::from(factor);
-    let formula = Convolution {
-        format,
-        b: b.as_slice(),
-        x,
-        first: 0,
-        step,
-    };
-    values(alloc, x.len() / step, &formula, steps)
+    let count = x.len() / step;
+    convolved(alloc, format, b.as_slice(), x, 0, step, count, steps)
 }
 
 /// The values of a full convolution: N+T-1, or 0 where N is 0.
@@ -146,14 +156,8 @@ pub fn conv<L: Ledger>(
     ensures products { steps.new.multiplies ≤ steps.old.multiplies
         + full_length (length x.now) (length taps.now) * length taps.now }
 {
-    let formula = Convolution {
-        format,
-        b: taps,
-        x,
-        first: 0,
-        step: 1,
-    };
-    values(alloc, full_length(x.len(), taps.len()), &formula, steps)
+    let count = full_length(x.len(), taps.len());
+    convolved(alloc, format, taps, x, 0, 1, count, steps)
 }
 
 /// y(first), .., y(first+count-1) of the full convolution, as far as it goes, by the taps from b[0] on;
@@ -174,14 +178,7 @@ pub fn conv_partial<L: Ledger>(
     ensures products { steps.new.multiplies ≤ steps.old.multiplies + count * length taps.now }
 {
     let first = first as usize;
-    let formula = Convolution {
-        format,
-        b: taps,
-        x,
-        first,
-        step: 1,
-    };
     let full = full_length(x.len(), taps.len());
     let count = (count as usize).min(full.saturating_sub(first));
-    values(alloc, count, &formula, steps)
+    convolved(alloc, format, taps, x, first, 1, count, steps)
 }

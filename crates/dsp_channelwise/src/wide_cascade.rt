@@ -1,5 +1,5 @@
 //! Cascades of second-order sections whose accumulators of 64 bits are fed back.
-ghost use Rattle.std.specs.Prelude.{◌≡◌, ◌+◌, ◌-◌, ◌*◌, ◌≤◌, All, FitsSigned, IfOk, length, map};
+ghost use Rattle.std.specs.Prelude.{◌≡◌, ◌+◌, ◌-◌, ◌*◌, ◌*ℤ◌, ◌≤◌, All, FitsSigned, IfOk, length, map};
 ghost use Rattle.dsp_defs.specs.Biquad.{biquad64, fed_back, wide_output};
 ghost use Rattle.dsp_defs.specs.Cost.{section_count};
 ghost use Rattle.dsp_defs.specs.Formats.{word};
@@ -7,11 +7,11 @@ ghost use Rattle.dsp_defs.specs.Numbers.{floor_shift, w32, w64, wrap};
 ghost use Rattle.dsp_defs.specs.declared.format.Fmt.TheVariants.{Q31};
 ghost use Rattle.dsp_channelwise.specs.Recursions.{section_of};
 
-use crate::newest::newest_sum;
+use crate::newest::sum_of_three;
 use crate::sections::{Section, section_at};
 use dsp_defs::{Fmt, Steps};
-use dsp_exact::{Recurrence, back_wide, outputs};
-use dsp_sat::{mult32x64, wrap32, wrap64};
+use dsp_exact::{Recurrence, back_wide, outputs, sum};
+use dsp_sat::{floor_shift, mult32x64, wrap32, wrap64};
 use std::alloc::{AllocError, Global};
 use std::sync::ledger::Ledger;
 
@@ -21,6 +21,15 @@ fn fed_back(post_shift: u8, acc: i64) -> i64
     ensures { result ≡ fed_back post_shift acc }
 {
     wrap64(i128::from(acc) * 2i128.pow(u32::from(post_shift) + 1))
+}
+
+/// a*Y >> 32
+fn fed_product<L: Ledger>(post_shift: u8, acc: i64, a: i32, steps: &mut Steps<L>) -> i64
+    requires { post_shift ≤ 30 }
+    ensures value { result ≡ floor_shift (a *ℤ fed_back post_shift acc) 32 }
+    ensures products { steps.new.multiplies ≡ steps.old.multiplies + 1 }
+{
+    mult32x64(fed_back(post_shift, acc), a, steps)
 }
 
 /// acc = wrap_64(b0*x + b1*x1 + b2*x2 + (a1*Y1 >> 32) + (a2*Y2 >> 32))
@@ -44,25 +53,27 @@ impl Recurrence for Wide {
 
     fn next<L: Ledger>(&self, x: &[i32], y: &[i64], steps: &mut Steps<L>) -> i64 {
         let p = self.post_shift;
-        let forward = newest_sum(&self.section.forward, x, steps);
-        let y1 = mult32x64(fed_back(p, back_wide(y, 0)), self.section.back[0], steps);
-        let y2 = mult32x64(fed_back(p, back_wide(y, 1)), self.section.back[1], steps);
-        wrap64(forward + i128::from(y1) + i128::from(y2))
+        let forward = sum_of_three(&self.section.forward, x, steps);
+        let y1 = fed_product(p, back_wide(y, 0), self.section.back[0], steps);
+        let y2 = fed_product(p, back_wide(y, 1), self.section.back[1], steps);
+        wrap64(sum(sum(forward, i128::from(y1)), i128::from(y2)))
     }
 }
 
+/// wrap_32(acc >> (31-p))
+fn shifted(post_shift: u8, acc: i64) -> i32
+    ensures { result ≡ wrap w32 (floor_shift acc (31 - post_shift)) }
+{
+    wrap32(floor_shift(i128::from(acc), 31u32.saturating_sub(u32::from(post_shift))))
+}
+
 /// y = wrap_32(acc >> (31-p))
-fn shifted(alloc: Global, post_shift: u8, accs: &[i64]) -> Result<Vec<i32>, AllocError>
+fn all_shifted(alloc: Global, post_shift: u8, accs: &[i64]) -> Result<Vec<i32>, AllocError>
     ensures values { IfOk result (λ y. y.items ≡
         map (λ acc. wrap w32 (floor_shift acc (31 - post_shift))) accs.now) }
     ensures fits { IfOk result (λ y. All (FitsSigned w32) y.items) }
 {
-    let places = 31u32.saturating_sub(u32::from(post_shift));
-    let mut y = Vec::with_capacity(alloc, accs.len())?;
-    for acc in accs {
-        y.push(wrap32(i128::from(*acc >> places)))?;
-    }
-    Ok(y)
+    accs.iter().map(|a| shifted(post_shift, *a)).collect(alloc)
 }
 
 /// The sections one after another, as many values as x has samples, by the coefficients `b0, b1, b2, a1,
@@ -90,7 +101,7 @@ pub fn biquad64<L: Ledger>(
             section: section_at(Fmt::Q31, numbers),
         };
         let accs = outputs(alloc, &recurrence, y.as_slice(), steps)?;
-        y = shifted(alloc, post_shift, accs.as_slice())?;
+        y = all_shifted(alloc, post_shift, accs.as_slice())?;
     }
     Ok(y)
 }

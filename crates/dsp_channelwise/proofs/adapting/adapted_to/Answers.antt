@@ -18,8 +18,8 @@ returns-clause-value g c =
     let w = c.args.w.now in
     let xs = reverse c.args.x.now in
     let out = c.lms_close-output.result in
-    let sum_is = to_z-of_z w128 c.newest_sum-sum.result (record { sfits = c.newest_sum-sum.type_inv })
-    ∙ c.newest_sum-sum.ensures.value in
+    let sum_is = to_z-of_z w128 c.sum_below-sum.result (record { sfits = c.sum_below-sum.type_inv })
+    ∙ c.sum_below-sum.ensures.value in
     let close = c.lms_close-output.ensures.value ∙ ap (lms_close f c.args.post_shift) sum_is in
     let y = lms_close f c.args.post_shift (sum_below (length w) (λ k. sample w k *ℤ sample xs k)) in
     let output_is : to_z w32 (of_z w32 out) ≡ y =

@@ -1,4 +1,4 @@
-use Rattle.std.proofs.Common.{◌≡◌, ◌+◌, ◌-◌, ◌*ℤ◌, ◌+ℤ◌, ◌<◌, ◌∙◌, refl, sym, ℤ, List, length, pos, ℕ, inr}
+use Rattle.std.proofs.Common.{◌≡◌, ◌-◌, ◌*ℤ◌, ◌+ℤ◌, ◌<◌, ◌∙◌, refl, sym, ℤ, List, length, pos, ℕ, inr}
 use Rattle.std.proofs.Common.{get_or, ◌≤◌, ◌^◌, to_z, of_z, SFits, arith, lit<, subst, rules}
 use Rattle.std.specs.Prelude.{nat_abs}
 use Rattle.std.specs.Int.{w32}

@@ -1,6 +1,5 @@
 -- The clauses of the top call on checks, from how it ended.
 use Rattle.std.proofs.Common.{◌≡◌, ◌⊎◌, ℕ, List, sym, ap, ◌∙◌, subst, inl, inr, None, Some, IfSome, IsTrue, IsFalse}
-use Rattle.std.proofs.Common.{Bool, true, false}
 use Rattle.dsp_ports.specs.Ports.{SinkState}
 use Rattle.dsp_defs.specs.Output.{input_header, output}
 use Rattle.dsp_command.specs.Words.{command_of}
@@ -15,17 +14,14 @@ use Rattle.dsp_cli.specs.Call.{Call, Ending, Went, Printed, Saved, Resumed, Turn
 use Rattle.dsp_cli.specs.Call.{OfText, OfState, OfBytes, OfScript, Checks, Happened, Reported, Ended}
 use Rattle.dsp_cli.specs.Causes.{Judges, NoneFailed}
 use Rattle.dsp_cli.specs.Run.{HasSource, HasText, HasBlocks, HasOutput, ReportsText}
-use Rattle.dsp_cli.specs.Script.{IfScript, named_by, chosen, chosen_block, is_legal_for}
+use Rattle.dsp_cli.specs.Script.{IfScript, chosen, is_legal_for}
 use Rattle.dsp_cli.specs.declared.fault.Fault.TheVariants.{Usage, ScriptRead, Script as BadText, BlockLength, Memory}
 use Rattle.dsp_cli.specs.declared.fault.Fault.TheVariants.{Stream, State, Part, Conversion, Comparison}
 use Rattle.dsp_cli.proofs.CheckTold.{stop_ends}
 use Rattle.dsp_cli.proofs.ReportLaws.{rose}
-use Rattle.dsp_cli.proofs.StatusLaws.{stream_output}
+use Rattle.dsp_cli.proofs.StatusLaws.{block_of, legal_not, stream_output}
 use Rattle.dsp_cli.proofs.Told.{IfSome-always, IfSome-each, IfSome-map, told_whole, told_split, told_script}
 use Rattle.dsp_cli.proofs.Told.{told_faulty}
-
-legal_not : {test : Bool} → IsTrue test → IsFalse test → ⊥
-legal_not is not = let same : true ≡ false = sym is ∙ not in cc
 
 -- the script was read, and may be checked
 pub ready_of : (c : Call) (script : Script) (Did : Type 0) → Checks script Did c → IsReady script (chosen None script)
@@ -110,12 +106,11 @@ module _ (c : Call) (status : ℕ) (report told : SinkState) where
       happened.0.1
   judged_by (Stopped (BlockLength block divisor)) (OfText blocks read, untouched) reported check =
       let (script, reads, illegal, block_is, unit_is) = read.holds in
-      let chosen_is : chosen_block c.words script ≡ chosen None script =
-      ap (λ command. chosen (named_by command) script) check in
       told_script c.source c.read script (λ s. IfSome c.port.left (λ bytes. IfSome c.other.left (Judged s bytes)))
       (record { text = read.text; read = read.read; holds = reads })
       (IfSome-always c.port.left _ (λ bytes. IfSome-always c.other.left (Judged script bytes) (λ file legal free none.
-      absurd (legal_not legal (subst (λ n. IsFalse (is_legal_for script n)) (block_is ∙ chosen_is) illegal)))))
+      absurd (legal_not legal (subst (λ n. IsFalse (is_legal_for script n))
+      (block_is ∙ block_of c.words check script) illegal)))))
   judged_by (Stopped (BlockLength block divisor)) (OfState go read, untouched) reported check =
       absurd (subst HasText (sym check ∙ go) tt)
   judged_by (Stopped (State kind offset)) (OfBytes go read, untouched) reported check =

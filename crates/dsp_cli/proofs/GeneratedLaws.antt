@@ -1,7 +1,7 @@
 -- A generated input is whole, within the limit, and of as many frames as were asked for.
-use Rattle.std.proofs.Common.{◌≡◌, ℕ, ◌+◌, ◌-◌, ◌*◌, ◌/◌, ◌^◌, ◌<◌, ◌≤◌, nat_lt, Bool, false, if◌then◌else◌, List}
-use Rattle.std.proofs.Common.{◌++◌, length, take, drop, Some, None, Ok, Err, refl, sym, ap, ◌∙◌, subst, arith}
-use Rattle.std.proofs.Common.{append_assoc, length-append}
+use Rattle.std.proofs.Common.{◌≡◌, ℕ, ◌+◌, ◌-◌, ◌*◌, ◌/◌, ◌<◌, ◌≤◌, nat_lt, Bool, false, if◌then◌else◌, List, ◌++◌}
+use Rattle.std.proofs.Common.{length, take, drop, Some, None, Ok, Err, refl, sym, ap, ◌∙◌, subst, arith, append_assoc}
+use Rattle.std.proofs.Common.{length-append}
 use Rattle.std.proofs.lemmas.Bool.Decides.{nat_tests}
 use Rattle.std.proofs.lemmas.List.{take_all, length-take, length-drop}
 use Rattle.std.proofs.lemmas.Nat.{div-mul-add}
@@ -160,16 +160,16 @@ module _ (script : Script) (seed frames : ℕ) (few : (1 ≤ script.input.channe
 
   abbrev EndsWithin : Header → Type 0
   EndsWithin h = elim (declared_bytes script h) [
-    | Some size ↦ HasHeader script (take (2 ^ 40) bytes) ×
-        (h.start + size ≤ 2 ^ 40)
-    | None ↦ length bytes < 2 ^ 40
+    | Some size ↦ HasHeader script (take MAX_INPUT bytes) ×
+        (h.start + size ≤ MAX_INPUT)
+    | None ↦ length bytes < MAX_INPUT
   ]
 
   pub generated_in_limit : InLimit script bytes
   generated_in_limit = by script.input.kind refl
     where
-      has : HasHeader script (take (2 ^ 40) bytes)
-      has = subst (HasHeader script) (sym (take_all (2 ^ 40) bytes (omega (arith, all_bytes)))) generated_has
+      has : HasHeader script (take MAX_INPUT bytes)
+      has = subst (HasHeader script) (sym (take_all MAX_INPUT bytes (omega (arith, all_bytes)))) generated_has
 
       by : (k : InputKind) → script.input.kind ≡ k → EndsWithin (input_header script bytes)
       by (kind.Raw rate) is = subst EndsWithin (sym (raw_header_is rate is)) (omega (arith, raw_length rate is, small))

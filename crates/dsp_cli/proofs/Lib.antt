@@ -5,6 +5,9 @@ pub mod GeneratedLaws
 pub mod Told
 pub mod StatusLaws
 pub mod StopLaws
+pub mod DoneLaws
+pub mod CauseLaws
+pub mod CompleteLaws
 pub mod EndedLaws
 pub mod ReportLaws
 pub mod StateTold

@@ -1,8 +1,8 @@
 -- What stays of a part of an input where more bytes stand behind it, and that what stops a stream over a part stands
 -- in its way.
-use Rattle.std.proofs.Common.{◌≡◌, ◌⊎◌, ℕ, ◌+◌, ◌-◌, ◌*◌, ◌/◌, ◌^◌, ◌<◌, ◌≤◌, min, false, nat_lt, if◌then◌else◌, List}
-use Rattle.std.proofs.Common.{[], ◌++◌, length, take, drop, replicate, Option, Some, None, IfSome, Ok, Err, refl, sym}
-use Rattle.std.proofs.Common.{ap, ◌∙◌, subst, arith, append-nil, append_assoc, length-append, inl, inr}
+use Rattle.std.proofs.Common.{◌≡◌, ◌⊎◌, ℕ, ◌+◌, ◌-◌, ◌*◌, ◌/◌, ◌<◌, ◌≤◌, min, false, nat_lt, if◌then◌else◌, List, []}
+use Rattle.std.proofs.Common.{◌++◌, length, take, drop, replicate, Option, Some, None, IfSome, Ok, Err, refl, sym, ap}
+use Rattle.std.proofs.Common.{◌∙◌, subst, arith, append-nil, append_assoc, length-append, inl, inr}
 use Rattle.std.proofs.Math.Seq.{take-append-add}
 use Rattle.std.proofs.lemmas.Bool.Decides.{nat_tests}
 use Rattle.std.proofs.lemmas.List.{take_all, take_at, take-append-drop, drop-append-le, length-take, length-drop}
@@ -21,6 +21,7 @@ use Rattle.dsp_defs.specs.Output.{sample_bytes, whole_bytes}
 use Rattle.dsp_defs.specs.Wave.{HeaderFits, header_of}
 use Rattle.dsp_defs.specs.declared.format.InputKind.{InputKind}
 use Rattle.dsp_defs.specs.declared.format.InputKind.TheVariants as kind
+use Rattle.dsp_defs.specs.declared.limits.TheConstants.{MAX_INPUT}
 use Rattle.dsp_defs.specs.declared.script.Script.{Script}
 use Rattle.dsp_defs.specs.declared.wave.Header.{Header}
 use Rattle.dsp_defs.specs.declared.wave.HeaderFault.{HeaderFault}
@@ -29,8 +30,8 @@ use Rattle.dsp_defs.proofs.SampleLaws.{length-samples, samples-append}
 use Rattle.dsp_defs.proofs.WaveLemmas.{header_of-append}
 use Rattle.dsp_unit.proofs.CostLaws.{quotient_more}
 use Rattle.dsp_input.specs.Taking.{Fits, IsTooLong, frame_bytes, in_whole_frames}
-use Rattle.dsp_session.specs.Resuming.{FirstStopped, RestStopped, IsFirstCause, IsRestCause, IsOfInput}
-use Rattle.dsp_session.specs.Resuming.{CountsPartFault, first_output, later_frames}
+use Rattle.dsp_session.specs.Resuming.{FirstStopped, RestStopped, IsFirstCause, IsRestCause, IsOfInput, CountsPartFault}
+use Rattle.dsp_session.specs.Resuming.{first_output, later_frames}
 use Rattle.dsp_session.specs.Session.{IsReady}
 use Rattle.dsp_session.specs.SessionState.{SessionState}
 use Rattle.dsp_session.specs.Stream.{IsCause, IsTakenWhole, frames_in_bytes, input_fault, short_fault, wave_fault}
@@ -288,9 +289,9 @@ module _ (script : Script) (block at : ℕ) (stop : PartFault) (ready : IsReady 
 
       -- the header that was given says what all bytes say
       start_is : HasHeader script given → (input_header script given).start + at * frame_in script given ≤ min
-          (length (given ++ more)) (2 ^ 40)
+          (length (given ++ more)) MAX_INPUT
       start_is has = subst (λ (h : Header). h.start + at * frame_bytes script h.coding ≤ min (length (given ++ more))
-          (2 ^ 40)) (header_stays script given more has) here.reached
+          MAX_INPUT) (header_stays script given more has) here.reached
 
       declares : HasHeader script given → IfSome (declared_frames script (input_header script given)) (λ n. at ≤ n)
       declares has = subst (λ (h : Header). IfSome (declared_frames script h) (λ n. at ≤ n))
@@ -305,8 +306,8 @@ module _ (script : Script) (block at : ℕ) (stop : PartFault) (ready : IsReady 
           enough script given (some given) at (omega (arith, start_is has, all)) (declares has)
 
       has_all : HasHeader script (given ++ more)
-      has_all = subst (HasHeader script) (take-append-drop (2 ^ 40) (given ++ more))
-          (has_stays script (take (2 ^ 40) (given ++ more)) (drop (2 ^ 40) (given ++ more)) here.good)
+      has_all = subst (HasHeader script) (take-append-drop MAX_INPUT (given ++ more))
+          (has_stays script (take MAX_INPUT (given ++ more)) (drop MAX_INPUT (given ++ more)) here.good)
 
       not_behind : (got : ℕ) → HasHeader script given → got < at → (declared : Option ℕ) → IfSome declared (λ n. at ≤ n)
           → Counted script given now got declared → ⊥
@@ -336,7 +337,7 @@ module _ (script : Script) (block at : ℕ) (stop : PartFault) (ready : IsReady 
           absurd (at_fault (said, offset) cause (missing tt))
       by (part_fault.Stream (fault.Lengths (length_fault.Input taken limit))) (all, taken_is, limit_is, wants) faults
           few missing =
-          let has : HasHeader script given = subst (HasHeader script) (take_at given more (2 ^ 40) all) here.good in
+          let has : HasHeader script given = subst (HasHeader script) (take_at given more MAX_INPUT all) here.good in
           absurd (omega (
             arith,
             missing tt has,

@@ -1,6 +1,6 @@
 -- What a run comes to for the words that ask for it.
-use Rattle.std.proofs.Common.{◌≡◌, ◌≤◌, ℕ, Bool, List, length, ◌++◌, Option, None, Some, IsTrue, IsFalse, refl, sym}
-use Rattle.std.proofs.Common.{ap, ◌∙◌, subst, flat_map, codes, inl, inr}
+use Rattle.std.proofs.Common.{◌≡◌, ◌≤◌, ℕ, Bool, List, length, ◌++◌, Option, None, Some, IsTrue, IsFalse, refl, sym, ap}
+use Rattle.std.proofs.Common.{◌∙◌, subst, flat_map, codes, inl, inr}
 use Rattle.dsp_ports.specs.Ports.{SourceState, SinkState}
 use Rattle.dsp_defs.specs.Counts.{Counts}
 use Rattle.dsp_defs.specs.Output.{format_of, channels_of, input_signal}
@@ -16,24 +16,21 @@ use Rattle.dsp_defs.specs.KeptOfScript.{kept}
 use Rattle.dsp_defs.specs.StateBytes.{state_of}
 use Rattle.dsp_defs.specs.declared.limits.TheConstants.{MAX_SCRIPT}
 use Rattle.dsp_resume.specs.ResumeState.{ResumeState, Saves}
-use Rattle.dsp_session.specs.Resuming.{FirstDone, FirstStopped, RestDone, RestStopped}
+use Rattle.dsp_session.specs.Resuming.{FirstDone, RestDone}
 use Rattle.dsp_session.specs.SessionState.{SessionState}
-use Rattle.dsp_session.specs.declared.fault.PartFault.{PartFault}
 use Rattle.dsp_state.specs.SavedState.{SavedState}
 use Rattle.dsp_session.specs.Session.{cost_of}
 use Rattle.dsp_session.specs.Stream.{Done, Stopped as StreamStopped}
 use Rattle.dsp_session.specs.declared.fault.StreamFault.{StreamFault}
 use Rattle.dsp_cli.specs.Fault.{summary_text}
-use Rattle.dsp_cli.specs.Call.{Call, call, Untouched, Streams, Went, Saved, Resumed, Checked, Stopped, OfText}
-use Rattle.dsp_cli.specs.Call.{OfState, OfBytes, OfScript, InFirst, InRest, Happened}
-use Rattle.dsp_cli.specs.Perform.{NotBegun, Compared, FailsToCompare, ReadsAs, Ran, RanGenerated, Made, FailsToLoad}
-use Rattle.dsp_cli.specs.Perform.{FailsToRun, FailsToGenerate, LoadsState, FailsToLoadState, RanFirst, FailsToStop}
-use Rattle.dsp_cli.specs.Perform.{RanRest, FailsToGoOn}
-use Rattle.dsp_cli.specs.Run.{HasSource, HasText, HasBlocks, IsStream, IsReading, read_from}
+use Rattle.dsp_cli.specs.Call.{Call, call, Untouched, Streams, Went, Saved, Resumed, Checked, Stopped, OfText, OfState}
+use Rattle.dsp_cli.specs.Call.{OfScript, InFirst, InRest, Happened}
+use Rattle.dsp_cli.specs.Perform.{NotBegun, Compared, FailsToCompare, ReadsAs, Ran, RanGenerated, Made, FailsToRun}
+use Rattle.dsp_cli.specs.Perform.{FailsToGenerate, LoadsState, RanFirst, FailsToStop, RanRest, FailsToGoOn}
+use Rattle.dsp_cli.specs.Run.{HasSource, HasBlocks, IsStream, IsReading, read_from}
 use Rattle.dsp_cli.specs.Script.{named_by, banked_by, chosen, chosen_block, is_banked, is_legal_for}
 use Rattle.dsp_cli.specs.declared.fault.Fault.{Fault}
-use Rattle.dsp_cli.specs.declared.fault.Fault.TheVariants.{ScriptRead, Script as BadText, BlockLength, Memory, Stream}
-use Rattle.dsp_cli.specs.declared.fault.Fault.TheVariants.{State, Part, Comparison}
+use Rattle.dsp_cli.specs.declared.fault.Fault.TheVariants.{BlockLength, Memory, Stream, State, Part, Comparison}
 use Rattle.dsp_cli.proofs.StatusLaws.{stream_blocks, stream_text, text_source}
 use Rattle.dsp_cli.specs.declared.report.Summary.{Summary}
 
@@ -177,29 +174,6 @@ module _ (words : List (List ℕ)) (source read port : SourceState) (sink after 
       stops words source read port port sink after other before counts script loaded (Gen seed frames) is
       (inr (seed, frames, is)) made.now (refl, made.clean) (λ _. refl) fault made.fails
 
--- a script isn't loaded
-pub load_stops : (words : List (List ℕ)) (source read port : SourceState) (sink : SinkState) (other : SourceState)
-    (counts : Counts) → HasText (command_of words) → (fault : Fault) → FailsToLoad fault source read
-    → Happened (Stopped fault) (call words source read port port sink sink other other counts counts)
-load_stops words source read port sink other counts some ScriptRead fails = (
-  (text_source (command_of words) some, fails),
-  record
-      { input_same = refl; output_same = refl; other_same = refl; counts_same = refl },
-)
-load_stops words source read port sink other counts some (BadText fault) fails =
-    ((some, fails), record { input_same = refl; output_same = refl; other_same = refl; counts_same = refl })
-load_stops words source read port sink other counts some Memory fails = (
-  text_source (command_of words) some,
-  record {
-    input_same = refl;
-    output_same = refl;
-    other_same =
-        refl;
-    counts_same = refl;
-  },
-)
-load_stops words source read port sink other counts some fault none = absurd none
-
 -- a run that was stopped has done this, and its state is that of the first frames
 pub first_by : (script : Script) (at : ℕ) (state : List ℕ) (old new : ResumeState) (input now : SourceState)
     (sink after : SinkState) (before counts : Counts)
@@ -232,56 +206,6 @@ rest_by script same start at same_at frames input now sink after before counts f
     subst (λ (t : Script). RestDone t start at frames input now sink after before counts found) s
     (subst (λ n. RestDone same start n frames input now sink after before counts found) a
     (subst (λ m. RestDone same start same_at frames input now sink after before counts m) (sym f) done))
-
--- or has stopped
-pub first_stopped_by : (script same : Script) (block same_block at same_at : ℕ) (stop : PartFault)
-    (input now : SourceState) (sink after : SinkState)
-    (before counts : Counts) → same ≡ script → same_block ≡ block → same_at ≡ at
-    → FirstStopped same same_block same_at stop input now sink after before counts →
-    FirstStopped script block at stop input now sink after before counts
-first_stopped_by script same block same_block at same_at stop input now sink after before counts s b a stopped =
-    subst (λ (t : Script). FirstStopped t block at stop input now sink after before counts) s
-    (subst (λ n. FirstStopped same n at stop input now sink after before counts) b
-    (subst (λ n. FirstStopped same same_block n stop input now sink after before counts) a stopped))
-
-pub rest_stopped_by : (script same : Script) (block same_block : ℕ) (start : SessionState) (at same_at : ℕ)
-    (stop : PartFault) (input now : SourceState)
-    (sink after : SinkState) (before counts : Counts) → same ≡ script → same_block ≡ block → same_at ≡ at
-    → RestStopped same same_block start same_at stop input now sink after before counts →
-    RestStopped script block start at stop input now sink after before counts
-rest_stopped_by script same block same_block start at same_at stop input now sink after before counts s b a stopped =
-    subst (λ (t : Script). RestStopped t block start at stop input now sink after before counts) s
-    (subst (λ n. RestStopped same n start at stop input now sink after before counts) b
-    (subst (λ n. RestStopped same same_block start n stop input now sink after before counts) a stopped))
-
--- a state isn't loaded
-pub state_stops : (words : List (List ℕ)) (source read port : SourceState) (sink : SinkState) (other : SourceState)
-    (counts : Counts)
-    → command_of words ≡ Some Go → (fault : Fault) → FailsToLoadState fault source read
-    → Happened (Stopped fault) (call words source read port port sink sink other other counts counts)
-state_stops words source read port sink other counts go ScriptRead fails = (
-  (subst HasSource (sym go) tt, fails),
-  record {
-    input_same = refl;
-    output_same = refl;
-    other_same =
-        refl;
-    counts_same = refl;
-  },
-)
-state_stops words source read port sink other counts go (State kind offset) fails =
-    (OfBytes go fails, record { input_same = refl; output_same = refl; other_same = refl; counts_same = refl })
-state_stops words source read port sink other counts go Memory fails = (
-  subst HasSource (sym go) tt,
-  record {
-    input_same = refl;
-    output_same = refl;
-    other_same = refl;
-    counts_same =
-        refl;
-  },
-)
-state_stops words source read port sink other counts go fault none = absurd none
 
 module _ (words : List (List ℕ)) (source read port later : SourceState) (sink after : SinkState) (other : SourceState)
     (before counts : Counts) where

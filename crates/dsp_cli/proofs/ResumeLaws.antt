@@ -1,6 +1,6 @@
 -- The clauses of the top call on runs that are stopped and that go on, from how it ended.
-use Rattle.std.proofs.Common.{◌≡◌, ◌⊎◌, ℕ, ◌<◌, ◌≤◌, ℤ, List, length, sym, ap, ◌∙◌, subst, arith, inl, inr, None}
-use Rattle.std.proofs.Common.{Some, IfSome, IsTrue, IsFalse, Bool, true, false}
+use Rattle.std.proofs.Common.{◌≡◌, ◌⊎◌, ℕ, ◌<◌, ◌≤◌, ℤ, List, length, sym, ◌∙◌, subst, arith, inl, inr, None, Some}
+use Rattle.std.proofs.Common.{IfSome, IsTrue, IsFalse}
 use Rattle.dsp_ports.specs.Ports.{SinkState}
 use Rattle.dsp_defs.specs.Canon.{canon}
 use Rattle.dsp_defs.specs.Grammar.{Reads}
@@ -17,17 +17,14 @@ use Rattle.dsp_cli.specs.Call.{Call, Ending, Went, Printed, Saved, Resumed, Turn
 use Rattle.dsp_cli.specs.Call.{OfText, OfState, OfBytes, OfScript, Happened, Reported, Ended}
 use Rattle.dsp_cli.specs.Causes.{EndsEarly, NoneFailed}
 use Rattle.dsp_cli.specs.Run.{HasSource, HasText, HasBlocks, HasOutput, IsStoppable, IsResumable, ReportsText}
-use Rattle.dsp_cli.specs.Script.{ReadsText, ReadsBytes, IfScript, IfState, named_by, chosen, chosen_block, is_legal_for}
+use Rattle.dsp_cli.specs.Script.{ReadsText, ReadsBytes, IfScript, IfState, chosen, is_legal_for}
 use Rattle.dsp_cli.specs.declared.fault.Fault.TheVariants.{Usage, ScriptRead, Script as BadText, BlockLength, Memory}
 use Rattle.dsp_cli.specs.declared.fault.Fault.TheVariants.{Stream, State, Part, Conversion, Comparison}
 use Rattle.dsp_cli.proofs.PartTold.{first_hinders, rest_hinders}
 use Rattle.dsp_cli.proofs.ReportLaws.{rose}
 use Rattle.dsp_cli.proofs.StateTold.{told_state, told_good, told_fault}
-use Rattle.dsp_cli.proofs.StatusLaws.{no_stop, stream_text}
-use Rattle.dsp_cli.proofs.Told.{IfSome-always, IfSome-each, IfSome-map, told_script, told_faulty}
-
-legal_not : {test : Bool} → IsTrue test → IsFalse test → ⊥
-legal_not is not = let same : true ≡ false = sym is ∙ not in cc
+use Rattle.dsp_cli.proofs.StatusLaws.{block_of, legal_not, no_stop, stream_text}
+use Rattle.dsp_cli.proofs.Told.{IfSome-always, IfScript-always, IfSome-each, IfSome-map, told_script, told_faulty}
 
 module _ (c : Call) (status : ℕ) (report told : SinkState) where
   abbrev Done0 : Type 0
@@ -137,13 +134,6 @@ module _ (c : Call) (status : ℕ) (report told : SinkState) where
   abbrev LongEnds : Script → Type 0
   LongEnds s = IsTrue (is_legal_for s (chosen None s)) → MAX_SCRIPT < length (canon s) → EndsEarly 13 status
 
-  script_always : (P : Script → Type 0) → ((s : Script) → P s) → IfScript c.source.left P
-  script_always P always = IfSome-always c.source.left _ (λ _ s _. always s)
-
-  chosen_is : (script : Script) (at : ℕ) → command_of c.words ≡ Some (Stop at) →
-      chosen_block c.words script ≡ chosen None script
-  chosen_is script at stop = ap (λ command. chosen (named_by command) script) stop
-
   short_ends : (script : Script) → ReadsText c.source c.read (λ text. Reads text script) →
       length (canon script) ≤ MAX_SCRIPT → IfScript c.source.left LongEnds
   short_ends script read short = told_script c.source c.read script LongEnds read
@@ -159,17 +149,20 @@ module _ (c : Call) (status : ℕ) (report told : SinkState) where
   long_by (Turned totals) turned reported at stop = absurd (subst HasSource (sym stop ∙ turned.asked) tt)
   long_by (Checked script size) checked reported at stop = absurd (subst HasOutput (sym stop ∙ checked.asked) tt)
   long_by (Stopped Usage) happened reported at stop = absurd (not_none (Stop at) stop happened.0.0)
-  long_by (Stopped ScriptRead) happened reported at stop = script_always LongEnds (λ _ _ _. inr (inl reported.0))
+  long_by (Stopped ScriptRead) happened reported at stop =
+      IfScript-always c.source.left LongEnds (λ _ _ _. inr (inl reported.0))
   long_by (Stopped (BadText fault)) happened reported at stop = told_faulty c.source c.read fault LongEnds happened.0.1
   long_by (Stopped (BlockLength block divisor)) (OfText blocks read, untouched) reported at stop =
       let (script, reads, illegal, block_is, unit_is) = read.holds in
       told_script c.source c.read script LongEnds (record { text = read.text; read = read.read; holds = reads })
       (λ legal long. absurd (legal_not legal (subst (λ n. IsFalse (is_legal_for script n))
-      (block_is ∙ chosen_is script at stop) illegal)))
+      (block_is ∙ block_of c.words stop script) illegal)))
   long_by (Stopped (BlockLength block divisor)) (OfState is read, untouched) reported at stop =
       absurd (not_stop at is stop)
-  long_by (Stopped (State kind offset)) happened reported at stop = script_always LongEnds (λ _ _ _. inl reported.0)
-  long_by (Stopped Memory) happened reported at stop = script_always LongEnds (λ _ _ _. inr (inr reported.0))
+  long_by (Stopped (State kind offset)) happened reported at stop =
+      IfScript-always c.source.left LongEnds (λ _ _ _. inl reported.0)
+  long_by (Stopped Memory) happened reported at stop =
+      IfScript-always c.source.left LongEnds (λ _ _ _. inr (inr reported.0))
   long_by (Stopped (Stream fault)) (script, went) reported at stop = absurd (no_stop c.words went.stream at stop)
   long_by (Stopped (Part fault)) (InFirst script frames first) reported at stop =
       short_ends script first.read first.short
@@ -189,7 +182,7 @@ module _ (c : Call) (status : ℕ) (report told : SinkState) where
 
   stops_always : (at : ℕ) → ((s : Script) (bytes : List ℕ) → IsStoppable s at bytes → NoneFailed c report told →
       Done0) → IfScript c.source.left (Stops at)
-  stops_always at always = script_always (Stops at) (λ s. IfSome-always c.port.left _ (always s))
+  stops_always at always = IfScript-always c.source.left (Stops at) (λ s. IfSome-always c.port.left _ (always s))
 
   stops_told : (at : ℕ) (script : Script) → ReadsText c.source c.read (λ text. Reads text script)
       → ((bytes : List ℕ) → c.port.left ≡ Some bytes → IsStoppable script at bytes → NoneFailed c report told → Done0)
@@ -218,7 +211,7 @@ module _ (c : Call) (status : ℕ) (report told : SinkState) where
       let (script, reads, illegal, block_is, unit_is) = read.holds in
       stops_told at script (record { text = read.text; read = read.read; holds = reads })
       (λ _ _ free _. absurd (legal_not free.legal (subst (λ n. IsFalse (is_legal_for script n))
-      (block_is ∙ chosen_is script at stop) illegal)))
+      (block_is ∙ block_of c.words stop script) illegal)))
   stops_by (Stopped (BlockLength block divisor)) (OfState is read, untouched) reported at stop =
       absurd (not_stop at is stop)
   stops_by (Stopped (State kind offset)) (OfBytes is read, untouched) reported at stop = absurd (not_stop at is stop)

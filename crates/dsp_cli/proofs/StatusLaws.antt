@@ -1,10 +1,11 @@
 -- The commands, and the statuses that they may end with.
 use Rattle.std.proofs.Common.{◌≡◌, ◌≢◌, ◌⊎◌, ℕ, ◌≤◌, Bool, List, refl, sym, ◌∙◌, subst, arith, inl, inr, None, Some}
-use Rattle.std.proofs.Common.{Option, IsSome}
+use Rattle.std.proofs.Common.{Option, IsSome, IsTrue, IsFalse, true, false, ap}
 use Rattle.dsp_ports.specs.Ports.{SinkState}
 use Rattle.dsp_command.specs.Words.{command_of}
 use Rattle.dsp_command.specs.declared.command.Command.{Command}
 use Rattle.dsp_command.specs.declared.command.Command.TheVariants.{Run, Gen, Print, Stop, Go, Convert, Check}
+use Rattle.dsp_defs.specs.declared.script.Script.{Script}
 use Rattle.dsp_session.specs.declared.fault.PartFault.{PartFault}
 use Rattle.dsp_session.specs.declared.fault.PartFault.TheVariants as part_fault
 use Rattle.dsp_session.specs.declared.fault.StreamFault.{StreamFault}
@@ -12,6 +13,7 @@ use Rattle.dsp_session.specs.declared.fault.StreamFault.TheVariants.{Header, Inp
 use Rattle.dsp_cli.specs.Fault.{status_of, stream_status}
 use Rattle.dsp_cli.specs.Run.{HasSource, HasText, HasBlocks, HasOutput, IsStream, IsGen, IsPrint, IsDone, IsRefusal}
 use Rattle.dsp_cli.specs.Run.{IsRefused, IsAnswer, ReportsText}
+use Rattle.dsp_cli.specs.Script.{chosen, chosen_block, is_legal_for, named_by}
 use Rattle.dsp_cli.specs.declared.fault.Fault.{Fault}
 use Rattle.dsp_cli.specs.declared.fault.Fault.TheVariants.{Usage, ScriptRead, Script as BadText, BlockLength, Memory}
 use Rattle.dsp_cli.specs.declared.fault.Fault.TheVariants.{Stream, State, Part, Conversion, Comparison}
@@ -40,6 +42,19 @@ no_stop words (inl (named, banked, is)) at stop = let same : Some (Run named ban
     stop in cc
 no_stop words (inr (seed, frames, is)) at stop = let same : Some (Gen seed frames) ≡ Some (Stop at) = sym is ∙ stop in
     cc
+
+-- the block length of a command's script, and whether it is legal
+pub block_of : (words : List (List ℕ)) {command : Option Command} → command_of words ≡ command → (script : Script) →
+    chosen_block words script ≡ chosen (named_by command) script
+block_of words is script = ap (λ command. chosen (named_by command) script) is
+
+pub block_legal : (words : List (List ℕ)) {command : Option Command} → command_of words ≡ command →
+    (script : Script) → IsTrue (is_legal_for script (chosen (named_by command) script))
+    → IsTrue (is_legal_for script (chosen_block words script))
+block_legal words is script legal = subst (λ n. IsTrue (is_legal_for script n)) (sym (block_of words is script)) legal
+
+pub legal_not : {test : Bool} → IsTrue test → IsFalse test → ⊥
+legal_not is not = let same : true ≡ false = sym is ∙ not in cc
 
 -- what holds of a run and of a gen holds of the words of a stream
 pub of_stream : (words : List (List ℕ)) (P : Option Command → Type 0) → IsStream words

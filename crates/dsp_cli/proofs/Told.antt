@@ -65,6 +65,9 @@ told_longer (Some all) rest given front = told_length (Some all) rest given all 
 
 -- ---- the script
 
+pub IfScript-always : (left : Option (List ℕ)) (P : Script → Type 0) → ((script : Script) → P script) → IfScript left P
+IfScript-always left P always = IfSome-always left _ (λ _ script _. always script)
+
 -- the bytes that were read are those that are told, or both are too long
 abbrev pub Same : ℕ → List ℕ → List ℕ → Type 0
 Same limit text all = (all ≡ text) ⊎ ((limit < length text) × (limit < length all))

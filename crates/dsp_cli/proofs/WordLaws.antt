@@ -11,7 +11,6 @@ use Rattle.dsp_defs.specs.declared.au.Direction.{Direction}
 use Rattle.dsp_command.specs.declared.command.Command.{Command}
 use Rattle.dsp_command.specs.declared.command.Command.TheVariants.{Run, Gen, Print, Stop, Go, Convert, Check}
 use Rattle.dsp_defs.specs.declared.limits.TheConstants.{MAX_GENERATED}
-use Rattle.dsp_cli.specs.Run.{MakesFew}
 
 -- six words are these
 pub six_words : (words : List (List ℕ)) (a b c d e f : List ℕ) → length words ≡ 6 → slice_get words 0 ≡ Some a →
@@ -39,6 +38,10 @@ five_words (v ∷ w ∷ x ∷ y ∷ z ∷ []) a b c d e size p q r s t = cc
 five_words (v ∷ w ∷ x ∷ y ∷ z ∷ last ∷ words) a b c d e size p q r s t = absurd (omega (arith, size))
 
 -- ---- a gen makes no more frames than may be generated
+
+abbrev MakesFew : Command → Type 0
+MakesFew (Gen seed frames) = frames ≤ MAX_GENERATED
+MakesFew command = Unit {0}
 
 by_test : (test : Bool) (command : Option Command) → IfSome command MakesFew →
     IfSome (if test then command else None) MakesFew

@@ -1,5 +1,5 @@
 -- What the words ask for, what is read for them, and what is written.
-use Rattle.std.specs.Prelude.{◌≡◌, ◌≢◌, ◌⊎◌, ◌+◌, ◌*◌, ◌^◌, ℕ, ◌≤◌, min, Bool, List, length, take, Option, Some, None}
+use Rattle.std.specs.Prelude.{◌≡◌, ◌≢◌, ◌⊎◌, ◌+◌, ◌*◌, ℕ, ◌≤◌, min, Bool, List, length, take, Option, Some, None}
 use Rattle.std.specs.Prelude.{IfSome, IsTrue}
 use Rattle.std.specs.Io.KnownBytes.{append_known}
 use Rattle.dsp_ports.specs.Ports.{SourceState, SinkState, Rose, one_more, IsSettled}
@@ -11,7 +11,7 @@ use Rattle.dsp_command.specs.Words.{command_of}
 use Rattle.dsp_command.specs.declared.command.Command.{Command}
 use Rattle.dsp_command.specs.declared.command.Command.TheVariants.{Run, Gen, Print, Stop, Go, Convert, Check}
 use Rattle.dsp_defs.specs.declared.format.Input.{Input}
-use Rattle.dsp_defs.specs.declared.limits.TheConstants.{MAX_GENERATED, MAX_SCRIPT}
+use Rattle.dsp_defs.specs.declared.limits.TheConstants.{MAX_INPUT, MAX_SCRIPT}
 use Rattle.dsp_defs.specs.declared.script.Script.{Script}
 use Rattle.dsp_session.specs.Stream.{KeepsLimits, frames_in_bytes, input_fault}
 use Rattle.dsp_input.specs.Taking.{InLimit, frame_bytes}
@@ -64,11 +64,6 @@ HasOutput (Some (Stop frames)) = Unit {0}
 HasOutput (Some Go) = Unit {0}
 HasOutput (Some (Convert direction)) = Unit {0}
 HasOutput command = ⊥
-
--- a gen makes no more frames than may be generated
-abbrev pub MakesFew : Command → Type 0
-MakesFew (Gen seed frames) = frames ≤ MAX_GENERATED
-MakesFew command = Unit {0}
 
 -- ---- statuses
 
@@ -158,9 +153,9 @@ pub record IsFree (command : Option Command) (script : Script) (block : ℕ) (by
 pub record IsStoppable (script : Script) (at : ℕ) (bytes : List ℕ) : Type 0 where
   pub legal : IsTrue (is_legal_for script (chosen None script))
   pub short : length (canon script) ≤ MAX_SCRIPT
-  pub good : HasHeader script (take (2 ^ 40) bytes)
+  pub good : HasHeader script (take MAX_INPUT bytes)
   pub reached : (input_header script bytes).start + at * frame_bytes script (input_header script bytes).coding ≤ min
-      (length bytes) (2 ^ 40)
+      (length bytes) MAX_INPUT
   pub declared : IfSome (declared_frames script (input_header script bytes)) (λ frames. at ≤ frames)
   pub limits : KeepsLimits script (input_header script bytes) at
 

@@ -1,5 +1,5 @@
 -- Where each status comes from, from how the call ended.
-use Rattle.std.proofs.Common.{◌≡◌, ◌⊎◌, ◌+◌, ◌^◌, ◌<◌, ◌≤◌, ℕ, List, [], ◌++◌, length, refl, sym, ap, ◌∙◌, subst}
+use Rattle.std.proofs.Common.{◌≡◌, ◌⊎◌, ◌+◌, ◌<◌, ◌≤◌, ℕ, List, [], ◌++◌, length, refl, sym, ap, ◌∙◌, subst}
 use Rattle.std.proofs.Common.{arith, inl, inr, None, Some, Option, IfSome, IsSome, IsNone}
 use Rattle.dsp_ports.specs.Ports.{SourceState, SinkState, Gave, one_more}
 use Rattle.dsp_defs.specs.Output.{header_by, input_header, output, wanted_of}
@@ -9,6 +9,7 @@ use Rattle.dsp_command.specs.Words.{command_of}
 use Rattle.dsp_command.specs.declared.command.Command.{Command}
 use Rattle.dsp_defs.specs.declared.format.InputKind.{InputKind}
 use Rattle.dsp_defs.specs.declared.format.InputKind.TheVariants.{Raw, Wave}
+use Rattle.dsp_defs.specs.declared.limits.TheConstants.{MAX_INPUT}
 use Rattle.dsp_defs.specs.declared.measure.Measure.{Measure}
 use Rattle.dsp_defs.specs.declared.script.Script.{Script}
 use Rattle.dsp_defs.specs.declared.wave.Header.{Header as FileHeader}
@@ -169,7 +170,7 @@ module _ (c : Call) (status : ℕ) (report told : SinkState) where
   -- ---- as many bytes as may be taken
 
   abbrev Full : Type 0
-  Full = c.later.taken ≡ c.port.taken + 2 ^ 40
+  Full = c.later.taken ≡ c.port.taken + MAX_INPUT
 
   abbrev AtLimit : Type 0
   AtLimit = (status ≡ 5) ⊎ (status ≡ 8) ⊎ MayEndAtLimit c status
@@ -182,19 +183,19 @@ module _ (c : Call) (status : ℕ) (report told : SinkState) where
   full_went : (script : Script) (frames : ℕ) (found : List Measure) → Happened (Went script frames found) c →
       IsDone status → Full → MayEndAtLimit c status
   full_went script frames found went done full =
-      by went.did.given (taken_all went (2 ^ 40) (omega arith) full went.did.gave) went.did.gave went.did.room_left
+      by went.did.given (taken_all went MAX_INPUT (omega arith) full went.did.gave) went.did.gave went.did.room_left
       (input_header script went.did.given).size refl
     where
-      by : (given : List ℕ) → length given ≡ 2 ^ 40 → Gave (read_from (command_of c.words) script.input c.port)
+      by : (given : List ℕ) → length given ≡ MAX_INPUT → Gave (read_from (command_of c.words) script.input c.port)
           went.now given
-          → ((input_header script given).size ≡ None → length given < 2 ^ 40)
+          → ((input_header script given).size ≡ None → length given < MAX_INPUT)
           → (size : Option ℕ) → (input_header script given).size ≡ size → MayEndAtLimit c status
       by given all gave room None is = absurd (omega (arith, all, room is))
       by given all gave room (Some size) is = (
         inr done,
         told_script c.source c.read script _ went.read (
           sized_is_wave script given size is,
-          λ _. for_port went _ (run_of went (2 ^ 40) (omega arith) full) gave
+          λ _. for_port went _ (run_of went MAX_INPUT (omega arith) full) gave
               (declares script (input_header script given) size is),
         ),
       )
@@ -229,7 +230,7 @@ module _ (c : Call) (status : ℕ) (report told : SinkState) where
       absurd (subst HasOutput stop.asked (stream_output c.words stream))
   limited stream (Printed script) printed reported full = absurd (not_full printed.2.input_same full)
   limited stream (Stopped (Stream Input)) (script, stop) reported full =
-      absurd (omega (arith, taken_all stop (2 ^ 40) (omega arith) full stop.did.gave, stop.did.cause.0))
+      absurd (omega (arith, taken_all stop MAX_INPUT (omega arith) full stop.did.gave, stop.did.cause.0))
   limited stream (Stopped (Stream Output)) stops reported full = inr (inl reported.0)
   limited stream (Stopped (Stream (Lengths fault))) stops reported full = inl reported.0
   limited stream (Stopped (Stream (Header fault offset))) stops reported full =

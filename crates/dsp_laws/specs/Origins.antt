@@ -1,5 +1,5 @@
 -- Where each exit status of the top call comes from.
-use Rattle.std.specs.Prelude.{◌≡◌, ◌≢◌, ◌⊎◌, ◌↔◌, ◌+◌, ◌^◌, ◌<◌, ℕ, List, length, take, slice_get, None, Some, IfSome}
+use Rattle.std.specs.Prelude.{◌≡◌, ◌≢◌, ◌⊎◌, ◌↔◌, ◌+◌, ◌<◌, ℕ, List, length, take, slice_get, None, Some, IfSome}
 use Rattle.std.specs.Prelude.{IsNone, IsSome, IsFalse}
 use Rattle.dsp_ports.specs.Ports.{SinkState, one_more}
 use Rattle.dsp_defs.specs.Output.{input_header, output}
@@ -9,7 +9,7 @@ use Rattle.dsp_command.specs.Words.{command_of}
 use Rattle.dsp_command.specs.declared.command.Command.TheVariants.{Stop, Go, Check}
 use Rattle.dsp_defs.specs.Canon.{canon}
 use Rattle.dsp_defs.specs.StateFields.{HasStateFault}
-use Rattle.dsp_defs.specs.declared.limits.TheConstants.{MAX_SCRIPT}
+use Rattle.dsp_defs.specs.declared.limits.TheConstants.{MAX_INPUT, MAX_SCRIPT}
 use Rattle.dsp_defs.specs.declared.state_kind.StateKind.{StateKind}
 use Rattle.dsp_defs.specs.declared.state_kind.StateKind.TheVariants.{LongText}
 use Rattle.dsp_defs.specs.declared.format.InputKind.TheVariants.{Wave}
@@ -81,7 +81,7 @@ pub record Origins (c : Call) (status : ℕ) (report told : SinkState) : Type 0 
   pub header : IsStream c.words → status ≡ 4 → TellsHeader c report told
   -- 5 of a run or a gen: also where as many bytes were taken as may be, unless a fault was found there or the
   -- declared samples end there
-  pub limited : IsStream c.words → c.later.taken ≡ c.port.taken + 2 ^ 40
+  pub limited : IsStream c.words → c.later.taken ≡ c.port.taken + MAX_INPUT
       → (status ≡ 5) ⊎ (status ≡ 8) ⊎ MayEndAtLimit c status
   -- 6 to 9: a port has failed, once
   pub script_read : status ≡ 6 → c.read.faults ≡ one_more c.source.faults

@@ -1,12 +1,12 @@
 -- What stands once a run or a gen has begun its stream, however it ended.
-use Rattle.std.specs.Prelude.{◌≡◌, ◌⊎◌, ◌+◌, ◌-◌, ◌/◌, ◌^◌, ◌≤◌, ℕ, List, length, None, Some}
+use Rattle.std.specs.Prelude.{◌≡◌, ◌⊎◌, ◌+◌, ◌-◌, ◌/◌, ◌≤◌, ℕ, List, length, None, Some}
 use Rattle.dsp_ports.specs.Ports.{SourceState, SinkState}
 use Rattle.dsp_defs.specs.Output.{HasHeader, input_header, known_frames, output, part as part_of}
 use Rattle.dsp_command.specs.Report.{input_limit_line, gather_line, window_line, riff_line, report_text}
 use Rattle.dsp_defs.specs.Shape.{gathered, window_at}
 use Rattle.dsp_defs.specs.Streaming.{Begins}
 use Rattle.dsp_command.specs.Words.{command_of}
-use Rattle.dsp_defs.specs.declared.limits.TheConstants.{MAX_GATHERED, MAX_RIFF_SIZE}
+use Rattle.dsp_defs.specs.declared.limits.TheConstants.{MAX_GATHERED, MAX_INPUT, MAX_RIFF_SIZE}
 use Rattle.dsp_defs.specs.declared.measure.Measure.{Measure}
 use Rattle.dsp_defs.specs.declared.script.Script.{Script}
 use Rattle.dsp_session.specs.Opening.{IsTooLong}
@@ -57,8 +57,8 @@ OverfillsLast script block has more given now =
 
 -- a length is past its limit, and the line says it; nothing was written where it is the output's
 pub data TellsLength (c : Call) (input now : SourceState) (report told : SinkState) : Type 0 where
-  Taken : now.taken ≡ input.taken + 2 ^ 40 → IfTaken c input now WantsMore
-      → Tells (input_limit_line (2 ^ 40) (2 ^ 40)) report told → TellsLength c input now report told
+  Taken : now.taken ≡ input.taken + MAX_INPUT → IfTaken c input now WantsMore
+      → Tells (input_limit_line MAX_INPUT MAX_INPUT) report told → TellsLength c input now report told
   Gather : (has more : ℕ)
       → IfTaken c input now (λ s given. HasHeader s given × OverfillsLast s (chosen_block c.words s) has more given now)
       → Tells (gather_line has more) report told → TellsLength c input now report told

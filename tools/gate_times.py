@@ -3,8 +3,9 @@
 
     tools/gate_times.py [COMMAND..]        .ci/run, where no command is given
 
-It looks at the provers that the command starts, once a second, so a number is too small by up to a second a prover. What an
-earlier run kept is not proved again and costs nothing here: `rt ci --anew` proves all. The status is that of the command.
+It looks at the provers that the command starts once a second, so a number is too small by up to a second a prover.
+What an earlier run kept is not proved again and costs nothing here: `rt ci --anew` proves all. The status is that of
+the command.
 """
 import collections
 import os
@@ -41,7 +42,7 @@ def words_of(process):
 
 
 def kind_of(words):
-    """What a prover is for: edits keep their work in a folder of their own, which a check of the whole crate fills first."""
+    """What a prover is for: edits keep their work in a folder of their own, which a check of the crate fills first."""
     kept = words[words.index("--incremental") + 1] if "--incremental" in words else ""
     if "/rt-edits-" in kept:
         return "checks before edits" if kept.endswith("/seed") else "edits"

@@ -2,13 +2,14 @@
 """Builds build/dspfx, which proves all crates that it is made of first.
 
     tools/build.py             builds it
+    tools/build.py --library   builds crates/dsp_c/out/libdsp_c.a, the archive for C, in the same way
     tools/build.py --time      says how long that takes here, by the times of docs/TESTING.md
     tools/build.py --sum       prints the sum of the sources
     tools/build.py --take SUM  takes the program that a gate which has passed left, if the sources had that sum and have it
 
 A crate is begun as soon as those below it are proved, and of several that could be begun the one on the longest way
-to the program comes first, by the times of docs/TESTING.md. Each has one processor, or more where some would idle.
-What is proved is kept in crates/*/out: a build that was stopped goes on where it stopped. Standard error says which
+to the program comes first, by the times of docs/TESTING.md. Each has one processor, or more where some would idle,
+and a folder of its own (tools/workplace.py), since rt works on one crate of a folder at a time. What is proved is kept in crates/*/out: a build that was stopped goes on where it stopped. Standard error says which
 crates are being proved and for how long: in a live line on a terminal, else in a line a crate. rt's own words go to
 build/log.
 
@@ -30,10 +31,11 @@ import sys
 import time
 
 import sources
+import workplace
 
 TOP = sources.TOP
 FOLDER = f"{TOP}/build"
-PROGRAM = "dspfx"
+PROGRAM, LIBRARY = "dspfx", "dsp_c"
 
 
 class Failed(Exception):
@@ -44,8 +46,8 @@ class Wrong(Exception):
     pass
 
 
-def crates_needed():
-    """The crates that the program is made of, lowest first, each with all those below it."""
+def crates_needed(top=PROGRAM):
+    """The crates that the program or the library is made of, lowest first, each with all those below it."""
     uses, below = {}, {}
     with open(f"{TOP}/crates.txt") as file:
         for line in file:
@@ -59,7 +61,7 @@ def crates_needed():
                 below[name] |= {lower, *add(lower)} if lower in uses else set()
             below[name] = below.pop(name)  # after those below it
         return below.get(name, set())
-    add(PROGRAM)
+    add(top)
     return below
 
 
@@ -123,15 +125,16 @@ def clock(seconds):
 
 
 class Run:
-    """A run of rt in a crate's folder, and what it said."""
+    """A run of rt on a crate, in a workplace of its own, and what it said."""
 
-    def __init__(self, name, jobs, cpu):
+    def __init__(self, name, below, jobs, cpu):
         self.name, self.jobs, self.begin, self.said = name, jobs, time.time(), b""
+        self.workplace = workplace.Workplace(name, below)
         # (x86-64-v2 is what rt builds for where nothing is said)
         newer = [f"--cpu={cpu}"] if cpu != sources.OLDER else []
         words = ["run", *newer] if name == PROGRAM else ["lib"]
         self.process = subprocess.Popen(
-            ["rt", *words, "--jobs", str(jobs)], cwd=f"{TOP}/crates/{name}", stdin=subprocess.DEVNULL,
+            ["rt", *words, "--jobs", str(jobs)], cwd=self.workplace.crate(), stdin=subprocess.DEVNULL,
             stdout=subprocess.PIPE, stderr=subprocess.STDOUT, start_new_session=True,
         )  # fmt: skip
 
@@ -144,6 +147,7 @@ class Run:
     def is_well(self):
         """Whether the crate is proved. The program has no words when it runs, and ends with another status than 0."""
         status = self.process.wait()
+        self.workplace.end()
         return b"rt: running " in self.said if self.name == PROGRAM else status == 0
 
     def stop(self):
@@ -151,11 +155,12 @@ class Run:
         with contextlib.suppress(ProcessLookupError):
             os.killpg(self.process.pid, signal.SIGTERM)
         self.process.wait()
+        self.workplace.end()
 
 
 class Build:
-    def __init__(self, cpu):
-        self.below, self.cpu = crates_needed(), cpu
+    def __init__(self, top, cpu):
+        self.below, self.what, self.cpu = crates_needed(top), "program" if top == PROGRAM else "library", cpu
         self.ways = longest_ways(self.below, minutes_of_crates(self.below))
         self.left, self.done, self.running = list(self.below), set(), []
         self.count = self.free = int(os.environ.get("JOBS") or processors())
@@ -173,7 +178,7 @@ class Build:
             name = ready.pop(0)
             self.left.remove(name)
             self.free -= jobs
-            self.running.append(Run(name, jobs, self.cpu))
+            self.running.append(Run(name, self.below[name], jobs, self.cpu))
 
     def end(self, run):
         """Takes a run that has ended off the list."""
@@ -195,7 +200,8 @@ class Build:
             print("\r\033[K" + line[: shutil.get_terminal_size().columns - 1], end="", file=sys.stderr, flush=True)
 
     def run(self):
-        self.say(f"proving {len(self.below)} crates, and building the program, on {self.count} processors")
+        self.say(f"proving {len(self.below)} crates, and building the {self.what}, on {self.count} processors")
+        workplace.begin()
         try:
             while self.left or self.running:
                 self.begin_crates()
@@ -207,6 +213,7 @@ class Build:
         finally:
             for run in self.running:
                 run.stop()
+            workplace.end()
         self.say(f"proved, and built for {self.cpu}, in {clock(time.time() - self.begin)}")
 
 
@@ -230,7 +237,7 @@ def stop(*_):
     raise KeyboardInterrupt
 
 
-def build():
+def build(top):
     """The exit status."""
     if not shutil.which("rt"):
         print("dspfx: not built: rt, the command of the Rattle toolchain, is not on the PATH", file=sys.stderr)
@@ -244,12 +251,15 @@ def build():
         except BlockingIOError:
             print("dspfx: another call is building; waiting for it", file=sys.stderr)
             fcntl.flock(lock, fcntl.LOCK_EX)
+        if top == LIBRARY:
+            Build(top, sources.OLDER).run()
+            return 0
         made_of, cpu = sources.total(), processor()
         if sources.is_current(PROGRAM) and sources.built_for(PROGRAM) == cpu:
             os.utime(f"{FOLDER}/{PROGRAM}")
             print(f"dspfx: the proved program is built, for {cpu}", file=sys.stderr)
             return 0
-        Build(cpu).run()
+        Build(top, cpu).run()
         if sources.total() != made_of:
             print("dspfx: sources changed meanwhile: `./dspfx prove` proves what did", file=sys.stderr)
             return 70
@@ -267,11 +277,11 @@ def main(words):
         return 0
     if len(words) == 2 and words[0] == "--take":
         return take(words[1])
-    if words:
+    if words not in ([], ["--library"]):
         print(f"build: {' '.join(words)}: there is no such option", file=sys.stderr)
         return 70
     try:
-        return build()
+        return build(LIBRARY if words else PROGRAM)
     except KeyboardInterrupt:
         print("\ndspfx: stopped; the next call goes on where this one did", file=sys.stderr)
         return 130

@@ -4,7 +4,7 @@
 #   tools/library.sh [python] [test]     python: puts it into the Python package, for `pip install ./python`
 #                                        test: runs tools/test_library.sh
 #
-# It needs rt, a C compiler (CC, else cc) and ar. What is proved is kept in crates/*/out.
+# It needs rt, python3, a C compiler (CC, else cc) and ar. What is proved is kept in crates/*/out.
 set -eu -o pipefail
 top=$(cd "$(dirname "$(readlink -f "${BASH_SOURCE[0]}")")/.." && pwd)
 out=$top/build/library
@@ -14,7 +14,7 @@ for word in "$@"; do
     *) echo 'usage: tools/library.sh [python] [test]' >&2; exit 2 ;;
     esac
 done
-for name in rt ar "${CC:-cc}"; do
+for name in rt python3 ar "${CC:-cc}"; do
     command -v "$name" >/dev/null || { echo "library: $name is not there" >&2; exit 70; }
 done
 mkdir -p "$out"
@@ -22,7 +22,7 @@ work=$(mktemp -d)
 trap 'rm -rf "$work"' EXIT
 
 # The archive of the crate, and the heap that it calls, which is an archive of the toolchain.
-(cd "$top/crates/dsp_c" && rt lib >&2)
+python3 "$top/tools/build.py" --library
 kit=$(dirname "$(dirname "$(readlink -f "$(command -v rt)")")")
 heap=$kit/c/liblibc_c.a
 [ -e "$heap" ] || { echo "library: the toolchain has no c/liblibc_c.a beside rt" >&2; exit 70; }

@@ -1,0 +1,84 @@
+"""A folder in which rt works on one crate beside other calls of rt.
+
+While rt works on a crate, it keeps every other rt from that crate's folder and from those of all crates below it, which
+all crates share. So each crate is proved in a copy of the folders that it needs. A copy takes no room and no time, since
+its files are links to those of the repository; what rt makes of the crate, in `out`, is moved there and back.
+"""
+import os
+import shutil
+
+import sources
+
+TOP = sources.TOP
+FOLDER = f"{sources.FOLDER}/proving"
+# What a crate's folder has that a proof of the crates above it does not read.
+LEFT_OUT = {"out", "must-fail"}
+
+
+def link(old, new):
+    """Makes `new` the same file as `old`, or a copy where the file system has no links."""
+    try:
+        os.link(old, new)
+    except OSError:
+        shutil.copy2(old, new)
+
+
+def link_tree(old, new, left_out=()):
+    """Makes a folder with the same files as `old`."""
+    shutil.copytree(old, new, copy_function=link, ignore=lambda folder, names: left_out if folder == old else ())
+
+
+class Workplace:
+    """The folder of one crate, with all that rt needs to prove it."""
+
+    def __init__(self, name, below):
+        self.name = name
+        os.makedirs(f"{FOLDER}/{name}/crates")
+        link(f"{TOP}/HANDLES", f"{FOLDER}/{name}/HANDLES")
+        self.list_crates({*below, name})
+        for crate in (*below, name):
+            link_tree(f"{TOP}/crates/{crate}", f"{FOLDER}/{name}/crates/{crate}", LEFT_OUT)
+        for crate in below:
+            link_tree(f"{TOP}/crates/{crate}/out/rlib", f"{FOLDER}/{name}/crates/{crate}/out/rlib")
+        move(f"{TOP}/crates/{name}/out", f"{self.crate()}/out")
+
+    def list_crates(self, names):
+        """Writes the lines of `crates.txt` that are of these crates."""
+        with open(f"{TOP}/crates.txt") as file, open(f"{FOLDER}/{self.name}/crates.txt", "w") as part:
+            part.writelines(line for line in file if line.partition(":")[0].split(" ")[0] in names)
+
+    def crate(self):
+        """The crate's folder."""
+        return f"{FOLDER}/{self.name}/crates/{self.name}"
+
+    def end(self):
+        """Moves what rt has made to the repository."""
+        take_back(self.name)
+
+
+def move(old, new):
+    """Moves a folder, where it is there, in the place of another."""
+    if os.path.isdir(old):
+        shutil.rmtree(new, ignore_errors=True)
+        shutil.move(old, new)
+
+
+def take_back(name):
+    """Moves what rt has made of a crate to the repository, and takes its workplace away."""
+    move(f"{FOLDER}/{name}/crates/{name}/out", f"{TOP}/crates/{name}/out")
+    shutil.rmtree(f"{FOLDER}/{name}")
+
+
+def begin():
+    """Takes away what a call that was killed has left."""
+    os.makedirs(FOLDER, exist_ok=True)
+    for name in os.listdir(FOLDER):
+        if os.path.isdir(f"{FOLDER}/{name}"):
+            take_back(name)
+    # (rt, called at the top, passes by the folders of this one)
+    with open(f"{FOLDER}/MODULE.bazel", "w"):
+        pass
+
+
+def end():
+    shutil.rmtree(FOLDER)

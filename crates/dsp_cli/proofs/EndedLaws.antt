@@ -3,7 +3,7 @@ use Rattle.std.proofs.Common.{◌≡◌, ℕ, List, subst, Some, Result, Ok, Err
 use Rattle.dsp_ports.specs.Ports.{SinkState, IsSettled}
 use Rattle.dsp_command.specs.Words.{command_of}
 use Rattle.dsp_command.specs.declared.command.Command.TheVariants.{Gen}
-use Rattle.dsp_cli.specs.Call.{Call, Untouched, HasDone, Spares, Ending, Printed, Stopped, Happened, Reported, Ended}
+use Rattle.dsp_cli.specs.Call.{Call, Untouched, HasDone, Spares, Ending, Stopped, Happened, Reported, Ended}
 use Rattle.dsp_cli.specs.Call.{text_of}
 use Rattle.dsp_cli.specs.Causes.{Causes, Completes}
 use Rattle.dsp_cli.specs.Fault.{summary_text}

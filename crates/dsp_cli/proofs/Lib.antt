@@ -1,3 +1,4 @@
+pub mod Asking
 pub mod GatherLaws
 pub mod WordLaws
 pub mod PerformLaws

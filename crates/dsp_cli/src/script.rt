@@ -1,4 +1,5 @@
 ghost use Rattle.std.specs.Prelude.{◌≡◌, ◌+◌, ◌≤◌, ◌<◌, ◌^◌, IfOk, IsErrOf};
+ghost use Rattle.dsp_cli.specs.Asking.{Draws};
 ghost use Rattle.dsp_ports.specs.Ports.{one_more};
 ghost use Rattle.dsp_cli.specs.Script.{IsReadWhole};
 
@@ -13,6 +14,7 @@ pub enum ReadFault {
 }
 
 /// All bytes of a script or a state, at most one more than it may have.
+#[tactic(auto, using(crate::proofs::Asking::drawn_nothing, crate::proofs::Asking::draws_all))]
 pub fn read_whole<P: Source>(
     alloc: Global,
     limit: usize,
@@ -22,6 +24,7 @@ pub fn read_whole<P: Source>(
     ensures read { IfOk result (λ text. IsReadWhole limit (P.state source.old) (P.state source.new)
         text.items) }
     ensures taken { (P.state source.new).taken ≤ (P.state source.old).taken + limit + 1 }
+    ensures asks { Draws P.Reads (λ s. (P.state s).taken) (limit + 1) source.old source.new }
     ensures failed { IsErrOf result ReadFault.Failed
         → (P.state source.new).faults ≡ one_more (P.state source.old).faults }
 {

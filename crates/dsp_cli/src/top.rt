@@ -8,6 +8,7 @@ ghost use Rattle.dsp_command.specs.Words.{command_of};
 ghost use Rattle.dsp_command.specs.declared.command.Command.TheVariants.{Gen};
 ghost use Rattle.dsp_defs.specs.declared.limits.TheConstants.{MAX_GENERATED, MAX_SCRIPT, MAX_STATE};
 ghost use Rattle.dsp_session.specs.Session.{IsNew, IsReady, cost_of, measures_of};
+ghost use Rattle.dsp_cli.specs.Asking.{Draws};
 ghost use Rattle.dsp_cli.specs.Call.{Ended, Happened, HasDone, Spares, Stopped, Untouched, call};
 ghost use Rattle.dsp_cli.specs.Causes.{Causes, Completes};
 ghost use Rattle.dsp_cli.specs.Fault.{summary_text};
@@ -55,6 +56,7 @@ fn load_script<P: Source>(alloc: Global, script: &mut P) -> Result<Script, Fault
     ensures ok { IfOk result (λ loaded. ReadsAs (P.state script.old) (P.state script.new) loaded) }
     ensures err { IfErr result (λ fault. FailsToLoad fault (P.state script.old) (P.state script.new)) }
     ensures taken { (P.state script.new).taken ≤ (P.state script.old).taken + MAX_SCRIPT + 1 }
+    ensures asks { Draws P.Reads (λ s. (P.state s).taken) (MAX_SCRIPT + 1) script.old script.new }
 {
     let text = match read_whole(alloc, MAX_SCRIPT, script) {
         Ok(text) => text,
@@ -169,6 +171,7 @@ fn load_state<U: AnyUnit + Drop, P: Source>(alloc: Global, source: &mut P) -> Re
     ensures ok { IfOk result (λ saved. LoadsState (P.state source.old) (P.state source.new) saved) }
     ensures err { IfErr result (λ fault. FailsToLoadState fault (P.state source.old) (P.state source.new)) }
     ensures taken { (P.state source.new).taken ≤ (P.state source.old).taken + MAX_STATE + 1 }
+    ensures asks { Draws P.Reads (λ s. (P.state s).taken) (MAX_STATE + 1) source.old source.new }
 {
     let bytes = match read_whole(alloc, MAX_STATE, source) {
         Ok(bytes) => bytes,
@@ -290,6 +293,7 @@ fn check_script<S: Source, O: Source, L: Ledger>(
 }
 
 /// Does what the words say, but for the report.
+#[tactic(auto, using(crate::proofs::Asking::draws_nothing))]
 fn perform<U: AnyUnit + Drop, P: Source, S: Source, K: Sink, O: Source, L: Ledger>(
     alloc: Global,
     words: &Words,
@@ -309,6 +313,8 @@ fn perform<U: AnyUnit + Drop, P: Source, S: Source, K: Sink, O: Source, L: Ledge
         (O.state other.new) steps.old steps.new)) }
     ensures taken { (P.state script.new).taken
         ≤ (P.state script.old).taken + most_of_script (command_of words.now) + 1 }
+    ensures asks { Draws P.Reads (λ s. (P.state s).taken) (most_of_script (command_of words.now) + 1)
+        script.old script.new }
 {
     let Some(command) = command(words) else {
         return Err(Fault::Usage);
@@ -474,6 +480,8 @@ pub fn run<U: AnyUnit + Drop, P: Source, S: Source, K: Sink, R: Sink, O: Source,
         (R.state report.new)) }
     ensures script_taken { (P.state script.new).taken
         ≤ (P.state script.old).taken + most_of_script (command_of words.now) + 1 }
+    ensures script_asks { Draws P.Reads (λ s. (P.state s).taken)
+        (most_of_script (command_of words.now) + 1) script.old script.new }
 
     // Which statuses may come, which must, and that nothing else stands in the way of 0, or of a check's verdict.
     ensures causes { Causes (call words.now (P.state script.old) (P.state script.new)

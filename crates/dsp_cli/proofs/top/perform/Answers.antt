@@ -2,6 +2,7 @@ use Rattle.std.proofs.Common.{ap, sym, refl, ◌∙◌, subst, Some}
 use Rattle.std.proofs.lemmas.Result.{err_from_is_err_and}
 use Rattle.dsp_cli.specs.Call.{Printed, Turned}
 use Rattle.dsp_cli.specs.Run.{HasSource}
+use Rattle.dsp_cli.proofs.Asking.{draws_of}
 use Rattle.dsp_cli.proofs.WordLaws.{gen_makes_few}
 use Rattle.dsp_cli.proofs.PerformLaws.{run_went, run_stops, gen_went, gen_stops, check_went, check_stops, first_ran}
 use Rattle.dsp_cli.proofs.PerformLaws.{first_stops, rest_ran, rest_stops}
@@ -115,3 +116,76 @@ returns-in_err-size-in-Check-clause-err g c =
     rw (p.1, p.2)
     (check_stops _ _ _ _ _ _ _ _ _ _ _ c.in_ok-script-in-Check.ensures.ok
     (sym c.in-Some.ensures ∙ ap Some c.in-Check.is) _ c.in_err-size-in-Check.ensures.err)
+
+-- what was asked of the port of the script
+pub returns-in_err-script-in-Print-clause-asks : goal.returns-in_err-script-in-Print-clause-asks
+returns-in_err-script-in-Print-clause-asks g c =
+    draws_of _ _ _ _ _ _ _ _ c.in-Some.ensures c.in-Print.is refl c.load_script.ensures.asks
+
+pub returns-in-Ok-print-clause-asks : goal.returns-in-Ok-print-clause-asks
+returns-in-Ok-print-clause-asks g c =
+    draws_of _ _ _ _ _ _ _ _ c.in-Some.ensures c.in-Print.is refl c.load_script.ensures.asks
+
+pub returns-in-Print-clause-asks : goal.returns-in-Print-clause-asks
+returns-in-Print-clause-asks g c =
+    draws_of _ _ _ _ _ _ _ _ c.in-Some.ensures c.in-Print.is refl c.load_script.ensures.asks
+
+pub returns-in_err-script-in-Run-clause-asks : goal.returns-in_err-script-in-Run-clause-asks
+returns-in_err-script-in-Run-clause-asks g c =
+    draws_of _ _ _ _ _ _ _ _ c.in-Some.ensures c.in-Run.is refl c.load_script-in-Run.ensures.asks
+
+pub returns-in_err-summary-in-Run-clause-asks : goal.returns-in_err-summary-in-Run-clause-asks
+returns-in_err-summary-in-Run-clause-asks g c =
+    draws_of _ _ _ _ _ _ _ _ c.in-Some.ensures c.in-Run.is refl c.load_script-in-Run.ensures.asks
+
+pub returns-in-Run-clause-asks : goal.returns-in-Run-clause-asks
+returns-in-Run-clause-asks g c =
+    draws_of _ _ _ _ _ _ _ _ c.in-Some.ensures c.in-Run.is refl c.load_script-in-Run.ensures.asks
+
+pub returns-in_err-script-in-Stop-clause-asks : goal.returns-in_err-script-in-Stop-clause-asks
+returns-in_err-script-in-Stop-clause-asks g c =
+    draws_of _ _ _ _ _ _ _ _ c.in-Some.ensures c.in-Stop.is refl c.load_script-in-Stop.ensures.asks
+
+pub returns-in_err-state-in-Stop-clause-asks : goal.returns-in_err-state-in-Stop-clause-asks
+returns-in_err-state-in-Stop-clause-asks g c =
+    draws_of _ _ _ _ _ _ _ _ c.in-Some.ensures c.in-Stop.is refl c.load_script-in-Stop.ensures.asks
+
+pub returns-in-Stop-clause-asks : goal.returns-in-Stop-clause-asks
+returns-in-Stop-clause-asks g c =
+    draws_of _ _ _ _ _ _ _ _ c.in-Some.ensures c.in-Stop.is refl c.load_script-in-Stop.ensures.asks
+
+pub returns-in_err-saved-in-Go-clause-asks : goal.returns-in_err-saved-in-Go-clause-asks
+returns-in_err-saved-in-Go-clause-asks g c =
+    draws_of _ _ _ _ _ _ _ _ c.in-Some.ensures c.in-Go.is refl c.load_state.ensures.asks
+
+pub returns-in_err-summary-in-Go-clause-asks : goal.returns-in_err-summary-in-Go-clause-asks
+returns-in_err-summary-in-Go-clause-asks g c =
+    draws_of _ _ _ _ _ _ _ _ c.in-Some.ensures c.in-Go.is refl c.load_state.ensures.asks
+
+pub returns-in-Go-clause-asks : goal.returns-in-Go-clause-asks
+returns-in-Go-clause-asks g c =
+    draws_of _ _ _ _ _ _ _ _ c.in-Some.ensures c.in-Go.is refl c.load_state.ensures.asks
+
+pub returns-in_err-script-in-Gen-clause-asks : goal.returns-in_err-script-in-Gen-clause-asks
+returns-in_err-script-in-Gen-clause-asks g c =
+    draws_of _ _ _ _ _ _ _ _ c.in-Some.ensures c.in-Gen.is refl c.load_script-in-Gen.ensures.asks
+
+pub returns-in_err-summary-in-Gen-clause-asks : goal.returns-in_err-summary-in-Gen-clause-asks
+returns-in_err-summary-in-Gen-clause-asks g c =
+    draws_of _ _ _ _ _ _ _ _ c.in-Some.ensures c.in-Gen.is refl c.load_script-in-Gen.ensures.asks
+
+pub returns-in-Gen-clause-asks : goal.returns-in-Gen-clause-asks
+returns-in-Gen-clause-asks g c =
+    draws_of _ _ _ _ _ _ _ _ c.in-Some.ensures c.in-Gen.is refl c.load_script-in-Gen.ensures.asks
+
+pub returns-in_err-script-in-Check-clause-asks : goal.returns-in_err-script-in-Check-clause-asks
+returns-in_err-script-in-Check-clause-asks g c =
+    draws_of _ _ _ _ _ _ _ _ c.in-Some.ensures c.in-Check.is refl c.load_script-in-Check.ensures.asks
+
+pub returns-in_err-size-in-Check-clause-asks : goal.returns-in_err-size-in-Check-clause-asks
+returns-in_err-size-in-Check-clause-asks g c =
+    draws_of _ _ _ _ _ _ _ _ c.in-Some.ensures c.in-Check.is refl c.load_script-in-Check.ensures.asks
+
+pub returns-clause-asks : goal.returns-clause-asks
+returns-clause-asks g c =
+    draws_of _ _ _ _ _ _ _ _ c.in-Some.ensures c.in-Check.is refl c.load_script-in-Check.ensures.asks

@@ -162,7 +162,7 @@ class Build:
     def __init__(self, top, cpu):
         self.below, self.what, self.cpu = crates_needed(top), "program" if top == PROGRAM else "library", cpu
         self.ways = longest_ways(self.below, minutes_of_crates(self.below))
-        self.left, self.done, self.running = list(self.below), set(), []
+        self.left, self.done, self.running, self.waited = list(self.below), set(), [], set()
         self.count = self.free = int(os.environ.get("JOBS") or processors())
         self.begin, self.is_live = time.time(), sys.stderr.isatty()
         self.log = open(f"{FOLDER}/log", "wb")
@@ -176,9 +176,19 @@ class Build:
         while ready and self.free:
             jobs = share(self.free, len(ready))
             name = ready.pop(0)
+            try:
+                self.running.append(Run(name, self.below[name], jobs, self.cpu))
+            except workplace.Busy as busy:
+                self.wait_for(busy)
+                continue
             self.left.remove(name)
             self.free -= jobs
-            self.running.append(Run(name, self.below[name], jobs, self.cpu))
+
+    def wait_for(self, busy):
+        """Says once that a crate cannot be begun yet; it is tried again."""
+        if str(busy) not in self.waited:
+            self.waited.add(str(busy))
+            self.say(f"waiting for another rt to finish in {busy}")
 
     def end(self, run):
         """Takes a run that has ended off the list."""

@@ -1,9 +1,12 @@
 """A folder in which rt works on one crate beside other calls of rt.
 
-While rt works on a crate, it keeps every other rt from that crate's folder and from those of all crates below it, which
-all crates share. So each crate is proved in a copy of the folders that it needs. A copy takes no room and no time, since
-its files are links to those of the repository; what rt makes of the crate, in `out`, is moved there and back.
+While rt works on a crate, it keeps every other rt from that crate's folder and from those of all crates below it. The
+lowest crates are below all others, so each crate is proved in a copy of the folders that it needs. A copy takes no room
+and no time, since its files are links to those of the repository; what rt makes of the crate, in `out`, is moved there
+and back.
 """
+import contextlib
+import fcntl
 import os
 import shutil
 
@@ -28,11 +31,37 @@ def link_tree(old, new, left_out=()):
     shutil.copytree(old, new, copy_function=link, ignore=lambda folder, names: left_out if folder == old else ())
 
 
+class Busy(Exception):
+    """An rt works in this folder of the repository."""
+
+
+def hold(crate):
+    """Keeps every rt from a crate's folder in the repository, until what this returns is closed."""
+    held = os.open(f"{TOP}/crates/{crate}", os.O_RDONLY)
+    try:
+        fcntl.flock(held, fcntl.LOCK_EX | fcntl.LOCK_NB)
+    except BlockingIOError:
+        os.close(held)
+        raise Busy(f"{TOP}/crates/{crate}") from None
+    except OSError:
+        pass  # some file systems have no locks
+    return held
+
+
 class Workplace:
-    """The folder of one crate, with all that rt needs to prove it."""
+    """The folder of one crate, with all that rt needs to prove it. While it is there, no rt works on the crate in the
+    repository."""
 
     def __init__(self, name, below):
         self.name = name
+        with contextlib.ExitStack() as lower:
+            for crate in below:
+                lower.callback(os.close, hold(crate))
+            self.held = hold(name)
+            self.make(below)
+
+    def make(self, below):
+        name = self.name
         os.makedirs(f"{FOLDER}/{name}/crates")
         link(f"{TOP}/HANDLES", f"{FOLDER}/{name}/HANDLES")
         self.list_crates({*below, name})
@@ -54,6 +83,7 @@ class Workplace:
     def end(self):
         """Moves what rt has made to the repository."""
         take_back(self.name)
+        os.close(self.held)
 
 
 def move(old, new):

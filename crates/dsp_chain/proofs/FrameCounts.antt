@@ -1,5 +1,5 @@
 -- How many frames stand at the places of a chain, by its rules.
-use Rattle.std.proofs.Common.{◌≡◌, ◌∙◌, refl, sym, subst, ℕ, ◌+◌, ◌^◌, ◌<◌, ◌≤◌, Bool, true, false, List, [], ◌∷◌}
+use Rattle.std.proofs.Common.{◌≡◌, refl, ℕ, ◌≤◌, true, false, List, [], ◌∷◌}
 use Rattle.std.proofs.Common.{Option, Some, None, arith}
 use Rattle.dsp_defs.specs.Shape.{group_of, whole_frames, live_frames, frames_behind, frames_at_correlate}
 use Rattle.dsp_defs.specs.declared.script.Block.{Block}

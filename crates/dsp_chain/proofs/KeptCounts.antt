@@ -1,5 +1,5 @@
 -- How many numbers a chain keeps of so many frames, and which of a signal.
-use Rattle.std.proofs.Common.{◌≡◌, ◌∙◌, ap, ap₂, refl, sym, ℕ, suc, ◌+◌, ℤ, List, [], ◌∷◌, ◌++◌, length, length-append}
+use Rattle.std.proofs.Common.{◌≡◌, ◌∙◌, ap₂, refl, ℕ, ◌+◌, ℤ, List, [], ◌∷◌, ◌++◌, length, length-append}
 use Rattle.dsp_defs.specs.Block.{Frame, live}
 use Rattle.dsp_defs.specs.Shape.{live_frames}
 use Rattle.dsp_defs.specs.Kept.{IsPlace, kept_count, kept_kinds, kept_numbers, kept_of_chain, kept_count_of_chain}

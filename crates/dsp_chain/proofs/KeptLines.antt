@@ -1,16 +1,13 @@
 -- A line keeps the numbers of its units, one after another.
-use Rattle.std.proofs.Common.{◌≡◌, ◌∙◌, ap, refl, sym, subst, ℕ, ◌+◌, ◌^◌, ◌<◌, ◌≤◌, ℤ, List, [], ◌∷◌, ◌++◌, length}
+use Rattle.std.proofs.Common.{◌≡◌, ◌∙◌, ap, refl, sym, subst, ℕ, ◌+◌, ◌≤◌, ℤ, List, [], ◌∷◌, ◌++◌, length}
 use Rattle.std.proofs.Common.{take, drop, Bool, true, false, ◌==◌, IsTrue, Option, Some, IfSome, arith, rules, tests}
 use Rattle.std.proofs.Common.{length-append}
-use Rattle.std.proofs.lemmas.List.{map-append, take-append-drop, length-take-le}
+use Rattle.std.proofs.lemmas.List.{take-append-drop, length-take-le}
 use Rattle.dsp_defs.specs.Shape.{live_frames}
-use Rattle.dsp_defs.specs.Kept.{IsOfKind, IsPlace, FitsAfter, kept_count, kept_kinds, place_of}
-use Rattle.dsp_unit.specs.Unit.{UnitState, IsMade}
-use Rattle.dsp_unit.specs.Line.{blocks_of}
+use Rattle.dsp_defs.specs.Kept.{IsOfKind, FitsAfter, kept_count, kept_kinds, place_of}
+use Rattle.dsp_unit.specs.Unit.{UnitState}
 use Rattle.dsp_unit.proofs.ChannelKept.{append-apart, each-length}
 use Rattle.dsp_chain.specs.Restored.{FitsUnits, kept_by}
-use Rattle.dsp_defs.specs.declared.format.Fmt.{Fmt}
-use Rattle.dsp_defs.specs.declared.script.Block.{Block}
 use Rattle.dsp_shape.proofs.KeptRules.{found-fits}
 
 -- ---- the first unit, and those behind it

@@ -1,7 +1,6 @@
 -- A new chain.
-use Rattle.std.proofs.Common.{◌≡◌, ◌∙◌, ap, refl, sym, ℕ, ◌*◌, ◌/◌, ◌≤◌, Bool, false, List, [], ◌∷◌, ◌++◌, take}
+use Rattle.std.proofs.Common.{◌≡◌, ◌∙◌, ap, refl, ℕ, ◌*◌, ◌/◌, ◌≤◌, Bool, false, List, [], ◌∷◌}
 use Rattle.std.proofs.Common.{length, Option, Some, None, arith}
-use Rattle.std.proofs.lemmas.List.{map-append}
 use Rattle.dsp_defs.specs.Grammar.{IsChain, correlates}
 use Rattle.dsp_defs.specs.Cost.{chain_turns}
 use Rattle.dsp_defs.specs.Shape.{group_of, groups_after, whole_frames, gathered}

@@ -1,16 +1,11 @@
 -- A line whose units keep numbers that they can keep counts the frames, and stands for each signal that gives the
 -- numbers.
-use Rattle.std.proofs.Common.{◌≡◌, ◌∙◌, ap, ap₂, refl, sym, subst, ℕ, zero, suc, ◌+◌, ◌<◌, ◌≤◌, ℤ, List, [], ◌∷◌}
+use Rattle.std.proofs.Common.{◌≡◌, ◌∙◌, ap, ap₂, refl, sym, subst, ℕ, zero, suc, ◌+◌, ◌≤◌, ℤ, List, [], ◌∷◌}
 use Rattle.std.proofs.Common.{◌++◌, length, arith}
 use Rattle.dsp_defs.specs.Block.{Frame, live}
-use Rattle.dsp_defs.specs.Grammar.{IsChain}
 use Rattle.dsp_defs.specs.Shape.{live_frames, HasChannels}
-use Rattle.dsp_defs.specs.Table.{flow_after}
-use Rattle.dsp_defs.specs.declared.script.Block.{Block}
-use Rattle.dsp_defs.specs.declared.script.Block.TheVariants.{Decimate, MatAdd, MatSub, MatScale, MatTrans, MatMult}
-use Rattle.dsp_defs.specs.declared.flow.Flow.{Flow}
 use Rattle.dsp_defs.proofs.FrameLaws.{length-live}
-use Rattle.dsp_defs.specs.Kept.{Each, IsPlace, IsOfKind, kept_kinds, kept_count, kept_numbers, kept_of_chain}
+use Rattle.dsp_defs.specs.Kept.{Each, IsPlace, IsOfKind, kept_kinds, kept_numbers, kept_of_chain}
 use Rattle.dsp_defs.specs.Kept.{FitsBlocks}
 use Rattle.dsp_unit.specs.Unit.{UnitState, turns_of}
 use Rattle.dsp_unit.specs.Line.{Place, place_after, blocks_of, InLine, AllCount, AllStand, line_turns}

@@ -1,8 +1,9 @@
 -- The room that a line of units needs.
 use Rattle.std.proofs.Common.{◌≡◌, ◌∙◌, ap, refl, sym, subst, false, ℕ, ◌*◌, ◌≤◌, ℤ, List, [], ◌∷◌, ◌++◌, length}
 use Rattle.std.proofs.Common.{take, drop, arith}
-use Rattle.std.proofs.lemmas.List.{take-append-le, take_all}
-use Rattle.dsp_unit.specs.Unit.{UnitState, frames_in, most_frames, Accepts, IsOutput, Feeds}
+use Rattle.std.proofs.lemmas.List.{length-map, take-append-le, take_all}
+use Rattle.dsp_defs.specs.declared.limits.TheConstants.{MAX_BLOCKS}
+use Rattle.dsp_unit.specs.Unit.{UnitState, frames_in, most_frames, room_of, Accepts, IsOutput, Feeds}
 use Rattle.dsp_defs.specs.Block.{channels_after}
 use Rattle.dsp_unit.specs.Line.{Place, place_after, place_behind, place_room, Passes, blocks_of, InLine, AllRun}
 use Rattle.dsp_unit.specs.Line.{AllAccept, IsFed}
@@ -58,6 +59,36 @@ first-accepts links link u behind frames size is_first same may =
     (accepts-first u behind (length (frames_in may.place.channels frames))
     (subst (λ us. AllAccept us (length (frames_in may.place.channels frames))) e may.accepts))
 
+-- they pass its place
+pub first-passes :
+    (links : List UnitState) (link u : UnitState) (behind : List UnitState) (frames : List ℤ) (size : ℕ) →
+    links ≡ link ∷ behind → u ≡ link → MayTake links frames size →
+    Passes (record { format = u.format; channels = u.channels; capacity = u.capacity }) frames
+first-passes links link u behind frames size is_first same may =
+    let e : links ≡ u ∷ behind = is_first ∙ ap (λ f. f ∷ behind) (sym same) in
+    let here : InLine may.place (u ∷ behind) = subst (InLine may.place) e may.line in
+    subst (λ (p : Place). Passes p frames) (λ i. record {
+      format = sym here.0.format i;
+      channels = sym here.0.channels i;
+      capacity = sym here.0.capacity i;
+    }) may.passes
+
+-- and it runs
+pub first-runs : (links : List UnitState) (link u : UnitState) (behind : List UnitState) → links ≡ link ∷ behind →
+    u ≡ link → AllRun links → u.ended ≡ false
+first-runs links link u behind is_first same runs =
+    ap (λ (v : UnitState). v.ended) same ∙ (subst AllRun is_first runs).0
+
+-- what the last unit writes has room
+pub last-writes :
+    (links : List UnitState) (link u : UnitState) (behind : List UnitState) (frames : List ℤ) (size : ℕ) →
+    links ≡ link ∷ behind → u ≡ link → length behind ≡ 0 → MayTake links frames size → room_of u ≤ size
+last-writes links link u behind frames size is_first same none may =
+    let e : links ≡ u ∷ [] = is_first ∙ (λ i. sym same i ∷ no-units behind none i) in
+    let here : InLine may.place (u ∷ []) = subst (InLine may.place) e may.line in
+    let room = subst (λ us. place_room (place_behind may.place (blocks_of us)) ≤ size) e may.room in
+    rw (here.0.capacity, here.0.channels) room
+
 -- and the line behind it may be fed with what it gives
 pub behind-takes :
     (links : List UnitState) (link u v : UnitState) (behind : List UnitState) (frames piece : List ℤ) (size : ℕ)
@@ -92,3 +123,7 @@ written-line size new old e =
     let fits : size ≤ length new = omega arith in
     let full : length new ≤ size = omega arith in
     take-append-le size new (drop (length new) old) fits ∙ take_all size new full
+
+-- a line has few units
+pub few-units : (us : List UnitState) → length (blocks_of us) ≤ MAX_BLOCKS → length us ≤ MAX_BLOCKS
+few-units us few = omega (arith, few, length-map us (λ (u : UnitState). u.block))

@@ -1,6 +1,8 @@
 mod AdaptedStates
 mod Correlations
 mod Delays
+mod FewTerms
+mod Gains
 mod KeptStates
 mod Ladders
 mod MatrixBlocks

@@ -1,5 +1,5 @@
 -- Blocks that make a matrix of each whole group of samples.
-use Rattle.std.specs.Prelude.{◌≡◌, ℕ, ◌≤◌, ◌*◌, ℤ, pos, List}
+use Rattle.std.specs.Prelude.{◌≡◌, ℕ, ◌≤◌, ℤ, pos, List}
 use Rattle.dsp_defs.specs.Elementwise.{IsMatrixScaleShift}
 use Rattle.dsp_defs.specs.Matrix.{added, subtracted, scaled, transposed, multiplied}
 use Rattle.dsp_defs.specs.declared.format.Fmt.{Fmt}
@@ -15,15 +15,6 @@ element format (MatScale rows columns fract shift) = scaled format fract shift
 element format (MatTrans rows columns) = transposed rows columns
 element format (MatMult rows columns given matrix) = multiplied columns given matrix
 element format _ = λ a i. pos 0
-
--- the samples that a group takes and gives
-abbrev pub group_sizes : Block → ℕ × ℕ
-group_sizes (MatAdd rows columns matrix) = (rows * columns, rows * columns)
-group_sizes (MatSub rows columns matrix) = (rows * columns, rows * columns)
-group_sizes (MatScale rows columns fract shift) = (rows * columns, rows * columns)
-group_sizes (MatTrans rows columns) = (rows * columns, rows * columns)
-group_sizes (MatMult rows columns given matrix) = (rows * columns, rows * given)
-group_sizes _ = (1, 1)
 
 -- its products
 abbrev pub element_cost : Block → ℕ

@@ -13,8 +13,8 @@ ghost use Rattle.dsp_channelwise.specs.Adapting.{adapted_of, pairs_of};
 use crate::newest::Weighted;
 use crate::sums::reversed;
 use dsp_defs::{Fmt, Steps};
-use dsp_exact::{Formula, back, product, sample, saturate, sum_below, values, wrap};
-use dsp_sat::{wrap32, wrap64};
+use dsp_exact::{Formula, add, back, product, sample, saturate, sum, sum_below, values, wrap};
+use dsp_sat::{floor_shift, wrap32, wrap64};
 use std::alloc::{AllocError, Global};
 use std::sync::ledger::Ledger;
 
@@ -63,12 +63,14 @@ impl<'a> Formula for Moved<'a> {
 
     ghost cost = { λ f. 1 };
 
+    #[tactic(auto, using(crate::proofs::AdaptedStates::weights))]
     fn at<L: Ledger>(&self, k: usize, steps: &mut Steps<L>) -> i32 {
-        let w = i128::from(sample(self.w, k));
+        let w = sample(self.w, k);
         let p = product(self.alpha, back(self.x, k), steps);
+        let high = floor_shift(p, 32);
         match self.format {
-            Fmt::Q31 => saturate(Fmt::Q31, w + i128::from(wrap32(2 * (p >> 32)))),
-            _ => saturate(Fmt::Q15, w + (p >> 15)),
+            Fmt::Q31 => add(Fmt::Q31, w, wrap32(high + high)),
+            _ => saturate(Fmt::Q15, sum(i128::from(w), floor_shift(p, 15))),
         }
     }
 }
@@ -83,6 +85,7 @@ pub(crate) struct Adapted {
 
 /// From the weights before a sample, the inputs up to it and its reference: y, the sum of w_k*x(n-k), the
 /// error wrap(reference - y), and the weights after it.
+#[tactic(auto, using(dsp_exact::proofs::Exact::exact))]
 fn adapted_to<L: Ledger>(
     alloc: Global,
     format: Fmt,
@@ -96,6 +99,7 @@ fn adapted_to<L: Ledger>(
     requires wide { format ≢ Q7 }
     ensures value { IfOk result (λ a. adapted_of a
         ≡ adapted format post_shift mu w.now (reverse x.now) reference) }
+    ensures length { IfOk result (λ a. length a.weights.items ≡ length w.now) }
     ensures fits { IfOk result (λ a. FitsSigned (word format) a.output
         × FitsSigned (word format) a.error) }
     ensures products { steps.new.multiplies ≤ steps.old.multiplies + (2 * length w.now + 1) }
@@ -120,6 +124,7 @@ fn adapted_to<L: Ledger>(
 
 /// The output and the error of each sample, by the first weights from w_{T-1} to w_0; each in the format
 /// of the samples. The source is `arm_lms_q15` and `arm_lms_q31` of CMSIS-DSP.
+#[tactic(auto, using(crate::proofs::AdaptedStates::given))]
 pub fn lms<L: Ledger>(
     alloc: Global,
     format: Fmt,

@@ -1,14 +1,16 @@
 //! The controller.
+#![tactic(auto, using(crate::proofs::Gains::controls))]
+
 ghost use Rattle.std.specs.Prelude.{◌≡◌, ◌≢◌, ◌+◌, ◌*◌, ◌≤◌, ◌^◌, All, FitsSigned, IfOk, length, nat_abs};
 ghost use Rattle.dsp_defs.specs.Adaptive.{pid, pid_close, pid_gains, pid_output};
 ghost use Rattle.dsp_defs.specs.Formats.{word};
 ghost use Rattle.dsp_defs.specs.declared.format.Fmt.TheVariants.{Q7};
 ghost use Rattle.dsp_channelwise.specs.Recursions.{gains_of};
 
-use crate::newest::sum_of_three;
+use crate::newest::Weighted;
 use dsp_defs::{Fmt, Steps};
-use dsp_exact::{Recurrence, back, outputs, saturate};
-use dsp_sat::{wrap32, wrap64};
+use dsp_exact::{Recurrence, add, back, outputs, saturate, sum, sum_below};
+use dsp_sat::{floor_shift, wrap32, wrap64};
 use std::alloc::{AllocError, Global};
 use std::sync::ledger::Ledger;
 
@@ -19,13 +21,13 @@ fn gains_by(format: Fmt, kp: i32, ki: i32, kd: i32) -> [i32; 3]
     let (p, i, d) = (i128::from(kp), i128::from(ki), i128::from(kd));
     match format {
         Fmt::Q31 => [
-            saturate(format, i128::from(saturate(format, p + i)) + d),
-            wrap32(-i128::from(saturate(format, i128::from(saturate(format, 2 * d)) + p))),
+            add(format, add(format, kp, ki), kd),
+            wrap32(-i128::from(add(format, add(format, kd, kd), kp))),
             kd,
         ],
         _ => [
             saturate(format, p + i + d),
-            saturate(format, -(2 * d + p)),
+            saturate(format, -sum(d + d, p)),
             kd,
         ],
     }
@@ -41,7 +43,7 @@ fn pid_close(format: Fmt, sum: i128, y1: i32) -> i32
     let y1 = i128::from(y1);
     match format {
         Fmt::Q31 => wrap32((i128::from(wrap64(sum)) >> 31) + y1),
-        _ => saturate(Fmt::Q15, (sum + y1 * 32768) >> 15),
+        _ => saturate(Fmt::Q15, floor_shift(sum + y1 * 32768, 15)),
     }
 }
 
@@ -65,7 +67,8 @@ impl Recurrence for Controller {
     ghost cost = { λ r. 3 };
 
     fn next<L: Ledger>(&self, x: &[i32], y: &[i32], steps: &mut Steps<L>) -> i32 {
-        let sum = sum_of_three(&self.gains, x, steps);
+        let terms = Weighted { w: &self.gains, x };
+        let sum = sum_below(3, &terms, steps);
         pid_close(self.format, sum, back(y, 0))
     }
 }

@@ -14,7 +14,7 @@ use std::sync::ledger::Ledger;
 fn scatter<L: Ledger>(sums: &mut [i128], at: usize, a: i32, b: &[i32], steps: &mut Steps<L>)
     requires inside { at < length sums.old }
     requires room { length b.now ≤ at + 1 }
-    requires small { (n : ℕ) → n < length sums.old → nat_abs (sample sums.old n) ≤ 2 ^ 126 }
+    requires small { (n : ℕ) → n < length sums.old → nat_abs (sample sums.old n) ≤ 2 ^ 124 }
     ensures length { length sums.new ≡ length sums.old }
     ensures values { (n : ℕ) → n < length sums.old
         → sample sums.new n ≡ sample sums.old n +ℤ a *ℤ delayed b.now at n }

@@ -3,7 +3,8 @@ ghost use Rattle.std.specs.Prelude.{◌≡◌, ◌≢◌, ◌+◌, ◌*◌, ◌�
 ghost use Rattle.std.specs.Prelude.{drop, length, nat_abs};
 ghost use Rattle.dsp_defs.specs.Formats.{word, word_bits};
 ghost use Rattle.dsp_defs.specs.Numbers.{saturate};
-ghost use Rattle.dsp_defs.specs.Lattice.{backward_values, ladder_close, lattice_iir, reflected};
+ghost use Rattle.dsp_defs.specs.Lattice.{backward_values, ladder_close, ladder_sum};
+ghost use Rattle.dsp_defs.specs.Lattice.{lattice_iir, reflected};
 ghost use Rattle.dsp_defs.specs.Signal.{sample};
 ghost use Rattle.dsp_defs.specs.declared.format.Fmt.TheVariants.{Q7};
 
@@ -92,9 +93,20 @@ fn ladder_close(format: Fmt, sum: i128) -> i32
     }
 }
 
+/// The ladder sum as a sample.
+fn ladder_value<L: Ledger>(format: Fmt, v: &[i32], g: &[i32], steps: &mut Steps<L>) -> i32
+    requires wide { format ≢ Q7 }
+    ensures value { result ≡ ladder_close format (ladder_sum v.now g.now) }
+    ensures fits { FitsSigned (word format) result }
+    ensures products { steps.new.multiplies ≤ steps.old.multiplies + length v.now }
+{
+    ladder_close(format, sum_below(v.len(), &Ladder { v, g }, steps))
+}
+
 /// y(n), the ladder sum as a sample, as many values as x has samples, by k from k_S to k_1 and v from
 /// v_S to v_0; each in the format of the samples. The source is `arm_iir_lattice_q15` and
 /// `arm_iir_lattice_q31` of CMSIS-DSP.
+#[tactic(auto, using(crate::proofs::KeptStates::kept_values))]
 pub fn lattice_iir<L: Ledger>(
     alloc: Global,
     format: Fmt,
@@ -113,8 +125,7 @@ pub fn lattice_iir<L: Ledger>(
     let mut g = Vec::new(alloc);
     for n in 0..x.len() {
         g = backward_values(alloc, format, x[n], k, g.as_slice(), steps)?;
-        let terms = Ladder { v, g: g.as_slice() };
-        y.push(ladder_close(format, sum_below(v.len(), &terms, steps)))?;
+        y.push(ladder_value(format, v, g.as_slice(), steps))?;
     }
     Ok(y)
 }

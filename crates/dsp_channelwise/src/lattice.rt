@@ -21,10 +21,8 @@ fn crossed<L: Ledger>(k: i32, x: i32, y: i32, steps: &mut Steps<L>) -> i32
     ensures fits { FitsSigned (word Q15) result }
     ensures products { steps.new.multiplies ≡ steps.old.multiplies + 1 }
 {
-    saturate(
-        Fmt::Q15,
-        sum(floor_shift(product(k, x, steps), 15), i128::from(y)),
-    )
+    let p = product(k, x, steps);
+    saturate(Fmt::Q15, sum(floor_shift(p, 15), i128::from(y)))
 }
 
 /// f_m(n) and g_m(n) from f_{m-1}(n), g_{m-1}(n-1).
@@ -64,6 +62,7 @@ fn newest(x: &[Pair], k: usize) -> Pair
 
 /// The sections k_1 to k_S one after another, from f_0(n) = g_0(n) = x(n), as many values as x has samples;
 /// each in Q15. The source is `arm_fir_lattice_q15` of CMSIS-DSP.
+#[tactic(auto, using(crate::proofs::FewTerms::folds))]
 pub fn lattice_fir<L: Ledger>(
     alloc: Global,
     k: &[i32],
@@ -85,7 +84,11 @@ pub fn lattice_fir<L: Ledger>(
 
 /// Each sample as a pair of itself.
 fn paired(alloc: Global, x: &[i32]) -> Result<Vec<Pair>, AllocError>
-    ensures { IfOk result (λ y. y.items ≡ map (λ (a : ℤ). (a, a)) x.now) }
+    requires { All (FitsSigned (word Q15)) x.now }
+    ensures values { IfOk result (λ y. y.items ≡ map (λ (a : ℤ). (a, a)) x.now) }
+    ensures length { IfOk result (λ y. length y.items ≡ length x.now) }
+    ensures fits { IfOk result (λ y. All (λ (w : ℤ × ℤ). FitsSigned (word Q15) w.0 × FitsSigned (word Q15) w.1)
+        y.items) }
 {
     x.iter().map(|a| (*a, *a)).collect(alloc)
 }

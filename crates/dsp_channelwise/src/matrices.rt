@@ -1,14 +1,17 @@
 //! A channel in groups, each of which becomes a matrix.
-ghost use Rattle.std.specs.Prelude.{IfSome, ◌^◌, ◌≡◌, ◌≢◌, ◌+◌, ◌*◌, ◌/◌, ◌%◌, ◌<◌, ◌≤◌, ◌*ℤ◌, ℕ, All};
+#![tactic(auto, using(crate::proofs::MatrixBlocks::matrices))]
+
+ghost use Rattle.std.specs.Prelude.{IfSome, Some, ◌^◌, ◌≡◌, ◌≢◌, ◌+◌, ◌*◌, ◌/◌, ◌%◌, ◌<◌, ◌≤◌, ◌*ℤ◌, ℕ, All};
 ghost use Rattle.std.specs.Prelude.{FitsSigned, IfOk, length, take, drop};
 ghost use Rattle.dsp_defs.specs.Formats.{word};
 ghost use Rattle.dsp_defs.specs.Signal.{sample};
 ghost use Rattle.dsp_defs.specs.Block.{whole_channel};
 ghost use Rattle.dsp_defs.specs.Cost.{whole_block_cost};
+ghost use Rattle.dsp_defs.specs.Matrix.{each_group};
 ghost use Rattle.dsp_defs.specs.declared.format.Fmt.TheVariants.{Q7};
-ghost use Rattle.dsp_channelwise.specs.Groups.{IsMatrixBlock, element, element_cost, group_sizes};
+ghost use Rattle.dsp_channelwise.specs.Groups.{IsMatrixBlock, element, element_cost};
 
-use dsp_defs::{Block, Fmt, Steps};
+use dsp_defs::{Block, Fmt, List, Steps};
 use dsp_exact::{Formula, Terms, add, close, product, sample, scale, sub, sum_below, values};
 use std::alloc::{AllocError, Global};
 use std::sync::ledger::Ledger;
@@ -17,25 +20,23 @@ use std::sync::ledger::Ledger;
 #[derive(Clone, Copy)]
 struct RowTimesColumn<'a> {
     a: &'a [i32],
-    matrix: &'a [i32],
-    columns: usize,
-    given: usize,
+    matrix: &'a List,
+    columns: u8,
+    given: u8,
     i: usize,
 }
 
 impl<'a> Terms for RowTimesColumn<'a> {
-    ghost Has = { λ t k. (1 ≤ t.given) × (k < t.columns)
-        × (t.columns ≤ 255) × (t.given ≤ 255) × (t.i < 65536) };
+    ghost Has = { λ t k. (1 ≤ t.given) × (k < t.columns) × (t.i < 65536) };
 
     ghost term = { λ t k. sample t.a.now (t.i / t.given * t.columns + k)
         *ℤ sample t.matrix.now (k * t.given + t.i % t.given) };
 
     fn term<L: Ledger>(&self, k: usize, steps: &mut Steps<L>) -> i128 {
-        product(
-            sample(self.a, self.i / self.given * self.columns + k),
-            sample(self.matrix, k * self.given + self.i % self.given),
-            steps,
-        )
+        let (columns, given) = (usize::from(self.columns), usize::from(self.given));
+        let x = sample(self.a, self.i / given * columns + k);
+        let m = sample(self.matrix.as_slice(), k * given + self.i % given);
+        product(x, m, steps)
     }
 }
 
@@ -66,9 +67,9 @@ fn element<L: Ledger>(format: Fmt, block: &Block, a: &[i32], i: usize, steps: &m
         } => {
             let terms = RowTimesColumn {
                 a,
-                matrix: matrix.as_slice(),
-                columns: usize::from(*columns),
-                given: usize::from(*given),
+                matrix,
+                columns: *columns,
+                given: *given,
                 i,
             };
             close(Fmt::Q15, sum_below(usize::from(*columns), &terms, steps))
@@ -107,9 +108,14 @@ impl<'a> Formula for Groups<'a> {
 }
 
 /// The samples that a group takes and gives.
-fn sizes_of(block: &Block) -> (usize, usize)
-    ensures sizes { result ≡ group_sizes block.now }
+fn sizes_of(format: Fmt, block: &Block) -> (usize, usize)
+    requires { IsMatrixBlock format block.now }
+    ensures whole { whole_channel format block.now
+        ≡ Some (each_group result.0 result.1 (element format block.now)) }
+    ensures some { (1 ≤ result.0) × (1 ≤ result.1) }
     ensures few { result.1 < 65536 }
+    ensures cost { (n : ℕ) → n / result.0 * result.1 * element_cost block.now
+        ≤ whole_block_cost format 1 block.now n }
 {
     match block {
         Block::MatAdd { rows, columns, .. }
@@ -151,7 +157,7 @@ pub fn matrix<L: Ledger>(
     ensures products { steps.new.multiplies ≤ steps.old.multiplies
         + whole_block_cost format 1 block.now (length x.now) }
 {
-    let (taken, given) = sizes_of(block);
+    let (taken, given) = sizes_of(format, block);
     let groups = Groups {
         format,
         block,

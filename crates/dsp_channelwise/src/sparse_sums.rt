@@ -37,15 +37,6 @@ fn sparse_term<L: Ledger>(format: Fmt, b: i32, x: i32, steps: &mut Steps<L>) -> 
     }
 }
 
-/// Delay k.
-#[tactic(auto, using(crate::proofs::Delays::delay_is))]
-fn delay_at(delays: &[i32], k: usize) -> usize
-    requires { k < length delays.now }
-    ensures { result ≡ get_or (map nat_abs delays.now) k 0 }
-{
-    delays[k].unsigned_abs() as usize
-}
-
 /// The sums of a sparse filter.
 #[derive(Clone, Copy)]
 struct SparseSums<'a> {
@@ -68,8 +59,10 @@ impl<'a> Terms for SparseDelays<'a> {
     ghost term = { λ t k. sparse_term t.of.format (sample t.of.b.now k)
         (delayed t.of.x.now t.n (get_or (map nat_abs t.of.delays.now) k 0)) };
 
+    #[tactic(auto, using(crate::proofs::Delays::delays))]
     fn term<L: Ledger>(&self, k: usize, steps: &mut Steps<L>) -> i128 {
-        let x = delayed(self.of.x, self.n, delay_at(self.of.delays, k));
+        let delay = self.of.delays[k].unsigned_abs() as usize;
+        let x = delayed(self.of.x, self.n, delay);
         sparse_term(self.of.format, sample(self.of.b, k), x, steps)
     }
 }

@@ -1,9 +1,5 @@
-mod Coded
-mod Compared
 mod Evaluations
 mod PlaceSizes
-mod SignalLaws
-mod WholeFrames
+mod Signals
 mod Wholes
 pub mod CheckEnds
-pub mod ReadLaws

@@ -1,5 +1,5 @@
 -- A signal as a list of its channels.
-use Rattle.std.specs.Prelude.{◌≡◌, ℕ, ◌-◌, ◌≤◌, ℤ, List, [], ◌∷◌, ◌++◌, length, map, take, get_or, replicate, All}
+use Rattle.std.specs.Prelude.{◌≡◌, ℕ, ◌≤◌, ℤ, List, [], ◌∷◌, ◌++◌, length, map, get_or, replicate, All}
 use Rattle.std.specs.Prelude.{FitsSigned}
 use Rattle.dsp_defs.specs.Formats.{word}
 use Rattle.dsp_defs.specs.Signal.{sample, values}
@@ -31,7 +31,3 @@ no_frames channels = replicate channels []
 -- one frame more
 abbrev pub with_frame : List (List ℤ) → List ℤ → List (List ℤ)
 with_frame channels frame = values (length channels) (λ c. get_or channels c [] ++ sample frame c ∷ [])
-
--- one sample fewer
-abbrev pub without_last : List ℤ → List ℤ
-without_last samples = take (length samples - 1) samples

@@ -1,8 +1,9 @@
 -- What the parts of a check do: the samples are read, their lengths are looked at, and the output is worked out.
-use Rattle.std.specs.Prelude.{◌≡◌, ◌⊎◌, ℕ, ◌*◌, ◌<◌, List, ◌++◌, Some, None}
+use Rattle.std.specs.Prelude.{◌≡◌, ◌⊎◌, ℕ, ◌*◌, ◌<◌, List, ◌++◌, Some}
 use Rattle.dsp_ports.specs.Ports.{SourceState}
-use Rattle.dsp_defs.specs.Bytes.{samples}
-use Rattle.dsp_defs.specs.Output.{output_header, output_pad, whole_bytes}
+use Rattle.dsp_defs.specs.Block.{Frame, whole_chain}
+use Rattle.dsp_defs.specs.Bytes.{coded, samples}
+use Rattle.dsp_defs.specs.Output.{output_coding, output_header, output_pad}
 use Rattle.dsp_defs.specs.Shape.{window_at}
 use Rattle.dsp_defs.specs.declared.limits.TheConstants.{MAX_CHECKED, MAX_RIFF_SIZE}
 use Rattle.dsp_defs.specs.declared.script.Script.{Script}
@@ -17,12 +18,13 @@ use Rattle.dsp_check.specs.declared.fault.CheckFault.TheVariants as fault
 abbrev pub bytes_past_limit : Script → Header → ℕ
 bytes_past_limit script header = frames_past_limit script * frame_bytes script header.coding
 
--- the samples were not read to that: the input gave no more, or memory was wanting for what it gave
-pub data Unread (script : Script) (header : Header) (stop : CheckFault) (input now : SourceState) : Type 0 where
-  NoInput : (error : InputFault) → stop ≡ of_input error →
-      PartLost script header (bytes_past_limit script header) error input now → Unread script header stop input now
-  NoRoom : (bytes : List ℕ) → stop ≡ fault.Memory → TakenSoFar script header (bytes_past_limit script header) bytes
-      input now → Unread script header stop input now
+-- the samples were not read to this end: the input gave no more, or memory was wanting for what it gave
+pub data Unread (script : Script) (header : Header) (end : ℕ) (stop : CheckFault) (input now : SourceState) : Type 0
+  where
+    NoInput : (error : InputFault) → stop ≡ of_input error → PartLost script header end error input now →
+        Unread script header end stop input now
+    NoRoom : (bytes : List ℕ) → stop ≡ fault.Memory → TakenSoFar script header end bytes input now →
+        Unread script header end stop input now
 
 -- a length of so many frames is past its limit: none before it is
 abbrev pub IsLengthFault : CheckFault → Script → Header → ℕ → Type 0
@@ -36,8 +38,13 @@ IsLengthFault (fault.Riff size limit) script header frames = (frames < frames_pa
     IsLong script header frames size × (limit ≡ MAX_RIFF_SIZE)
 IsLengthFault error script header frames = ⊥
 
+-- the output around what a script gives
+abbrev pub output_around : Script → Header → List Frame → List ℕ
+output_around script header given = output_header script header ++ coded (output_coding script) given ++ output_pad
+    script header
+
 -- the output for the samples that stand in these bytes
 abbrev pub output_of : Script → Header → List ℕ → List ℕ
-output_of script header bytes =
-    output_header script header ++ whole_bytes script (samples header.coding script.input.channels bytes) ++
-    output_pad script header
+output_of script header bytes = output_around script header
+    (whole_chain script.input.format script.input.channels script.blocks
+    (samples header.coding script.input.channels bytes))

@@ -23,12 +23,13 @@ pub fn signal_of(
     ensures format { IfOk result (InFormat (format_in coding)) }
 {
     let mut signal = Signal::new(alloc, channels)?;
-    let mut frame = vec![in alloc; 0; usize::from(channels)]?;
+    let mut room = vec![in alloc; 0; usize::from(channels)]?;
+    let frame = room.as_mut_slice();
     let size = usize::from(channels) * width(coding);
     for n in 0..bytes.len() / size {
         let from = n * size;
-        decode(coding, &bytes[from..from + size], frame.as_mut_slice());
-        signal.put(frame.as_slice())?;
+        decode(coding, &bytes[from..from + size], frame);
+        signal.put(frame)?;
     }
     Ok(signal)
 }
@@ -47,12 +48,14 @@ pub fn add_coded(
         ≡ out.old.items ++ coded (coding_of container format) (frames_of signal.now)) }
 {
     let coding = coding_of(container, format);
-    let mut frame = vec![in alloc; 0; signal.channels()]?;
-    let mut bytes = vec![in alloc; 0; signal.channels() * width(coding)]?;
+    let mut frame_room = vec![in alloc; 0; signal.channels()]?;
+    let frame = frame_room.as_mut_slice();
+    let mut bytes_room = vec![in alloc; 0; signal.channels() * width(coding)]?;
+    let bytes = bytes_room.as_mut_slice();
     for n in 0..signal.frames() {
-        signal.write_frame(n, frame.as_mut_slice());
-        encode(coding, frame.as_slice(), bytes.as_mut_slice());
-        out.extend_from_slice(bytes.as_slice())?;
+        signal.write_frame(n, frame);
+        encode(coding, frame, bytes);
+        out.extend_from_slice(bytes)?;
     }
     Ok(())
 }

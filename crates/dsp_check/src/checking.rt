@@ -1,18 +1,20 @@
 //! A file against what a script gives of an input.
-ghost use Rattle.std.specs.Prelude.{◌≡◌, ◌≤◌, ◌<◌, ◌^◌, ◌/◌, length, IfOk, IfErr};
-ghost use Rattle.dsp_defs.specs.Bytes.{format_in};
+ghost use Rattle.std.specs.Prelude.{◌≡◌, ◌≤◌, ◌<◌, ◌^◌, IfOk, IfErr};
+ghost use Rattle.dsp_defs.specs.Block.{frames_of};
 ghost use Rattle.dsp_defs.specs.Grammar.{IsSound};
-ghost use Rattle.dsp_ports.specs.Ports.{SourceState};
+ghost use Rattle.dsp_defs.specs.Output.{format_of};
 ghost use Rattle.dsp_shape.specs.Lengths.{HasLegalBlock};
-ghost use Rattle.dsp_input.specs.Taking.{PartTaken, frame_bytes};
-ghost use Rattle.dsp_check.specs.Check.{CostsFew, Done, KeepsLimits, Stopped, frames_past_limit};
-ghost use Rattle.dsp_check.specs.Steps.{IsLengthFault, Unread, bytes_past_limit, output_of};
+ghost use Rattle.dsp_input.specs.Taking.{Fits, PartTaken};
+ghost use Rattle.dsp_check.specs.Channels.{InFormat};
+ghost use Rattle.dsp_check.specs.Check.{Done, KeepsLimits, Stopped, frames_past_limit};
+ghost use Rattle.dsp_check.specs.Steps.{IsLengthFault, Unread, bytes_past_limit, output_around};
 
 use crate::bytes::{add_coded, signal_of};
 use crate::comparing::compare;
 use crate::evaluating::evaluate;
 use crate::fault::CheckFault;
 use crate::lengths::{size_fault, window_fault};
+use crate::signal::Signal;
 use dsp_defs::{
     Container, Header, MAX_CHECKED, MAX_INPUT, MAX_RIFF_SIZE, Script, Steps, WindowFault,
 };
@@ -37,21 +39,29 @@ fn frames_past_limit(script: &Script) -> u64
     MAX_CHECKED as u64 / u64::from(script.input.channels) + 1
 }
 
-/// The samples behind the header: all of them, or up to the first frame past the limit.
+/// The bytes of the samples up to and with the first frame past the limit.
+fn bytes_past_limit(script: &Script, header: Header) -> u64
+    requires { IsSound script.now }
+    ensures { result ≡ bytes_past_limit script.now header }
+{
+    frames_past_limit(script) * frame_bytes(script, header.coding)
+}
+
+/// The samples behind the header: all of them, or the part of them that ends after `most` bytes.
 fn read_samples<S: Source>(
     alloc: Global,
     script: &Script,
     header: Header,
+    most: u64,
     input: &mut S,
 ) -> Result<Vec<u8>, CheckFault>
     requires sound { IsSound script.now }
     requires start { header.start ≤ MAX_INPUT }
-    ensures ok { IfOk result (λ bytes. PartTaken script.now header
-        (bytes_past_limit script.now header) bytes.items (S.state input.old) (S.state input.new)) }
+    ensures ok { IfOk result (λ bytes. PartTaken script.now header most bytes.items
+        (S.state input.old) (S.state input.new)) }
     ensures err { IfErr result (λ fault.
-        Unread script.now header fault (S.state input.old) (S.state input.new)) }
+        Unread script.now header most fault (S.state input.old) (S.state input.new)) }
 {
-    let most = frames_past_limit(script) * frame_bytes(script, header.coding);
     let mut bytes = Vec::new(alloc);
     let mut piece = [0; PIECE];
     'reading: loop {
@@ -98,30 +108,24 @@ fn check_lengths(script: &Script, header: Header, frames: u64) -> Result<(), Che
     Ok(())
 }
 
-/// The output of the script for the samples that stand in these bytes.
-fn output_bytes<L: Ledger>(
+/// The bytes of the output around what the script gives.
+fn output_bytes(
     alloc: Global,
     script: &Script,
     header: Header,
-    bytes: &[u8],
-    steps: &mut Steps<L>,
+    given: &Signal,
 ) -> Result<Vec<u8>, AllocError>
     requires sound { IsSound script.now }
     requires legal { HasLegalBlock script.now }
-    requires format { format_in header.coding ≡ script.now.input.format }
-    requires limits { KeepsLimits script.now header
-        (length bytes.now / frame_bytes script.now header.coding) }
-    ensures ok { IfOk result (λ out. out.items ≡ output_of script.now header bytes.now) }
-    ensures products { CostsFew script.now
-        (length bytes.now / frame_bytes script.now header.coding) steps.old steps.new }
+    requires fits { Fits script.now header }
+    requires format { InFormat (format_of script.now) given.now }
+    ensures { IfOk result (λ out. out.items ≡ output_around script.now header (frames_of given.now)) }
 {
     let known = known_frames(script, header);
     let flow = output_flow(script);
-    let signal = signal_of(alloc, header.coding, script.input.channels, bytes)?;
-    let given = evaluate(alloc, script, &signal, steps)?;
     let mut out = Vec::new(alloc);
     out.extend_from_slice(&output_header(script, header, known))?;
-    add_coded(alloc, script.output, flow.format, &given, &mut out)?;
+    add_coded(alloc, script.output, flow.format, given, &mut out)?;
     if script.output != Container::Raw {
         out.extend_from_slice(pad(flow.format, flow.channels, known))?;
     }
@@ -147,10 +151,14 @@ pub fn check<S: Source, O: Source, L: Ledger>(
         (S.state input.new) (O.state other.old) (O.state other.new) steps.old steps.new) }
 {
     let header = read_input_header(script, input)?;
-    let bytes = read_samples(alloc, script, header, input)?;
+    let most = bytes_past_limit(script, header);
+    let samples = read_samples(alloc, script, header, most, input)?;
+    let bytes = samples.as_slice();
     let frames = bytes.len() as u64 / frame_bytes(script, header.coding);
     check_lengths(script, header, frames)?;
-    let wanted = output_bytes(alloc, script, header, bytes.as_slice(), steps)?;
+    let signal = signal_of(alloc, header.coding, script.input.channels, bytes)?;
+    let given = evaluate(alloc, script, &signal, steps)?;
+    let wanted = output_bytes(alloc, script, header, &given)?;
     let size = compare(other, wanted.as_slice())?;
     Ok(size)
 }

@@ -13,6 +13,7 @@ use crate::channels::{adapt, each_channel};
 use crate::frames::each_frame;
 use crate::signal::Signal;
 use dsp_defs::{Block, Flow, Script, Steps};
+use dsp_shape::input_flow;
 use std::alloc::{AllocError, Global};
 use std::sync::ledger::Ledger;
 
@@ -84,10 +85,7 @@ pub fn evaluate<L: Ledger>(
     ensures products { steps.new.multiplies ≤ steps.old.multiplies + cost script.now.input.format
         script.now.input.channels script.now.blocks (frame_count signal.now) }
 {
-    let mut flow = Flow {
-        format: script.input.format,
-        channels: script.input.channels,
-    };
+    let mut flow = input_flow(script.input);
     let mut y = signal.copy(alloc)?;
     for block in script.blocks.as_slice() {
         y = whole(alloc, flow, block, &y, steps)?;

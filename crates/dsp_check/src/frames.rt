@@ -28,15 +28,16 @@ pub fn each_frame<L: Ledger>(
     ensures products { steps.new.multiplies ≤ steps.old.multiplies
         + whole_block_cost flow.format (length x.now) block.now (frame_count x.now) }
 {
-    let format = flow.format;
     let behind = flow.after(block).channels;
-    let mut frame = vec![in alloc; 0; x.channels()]?;
-    let mut given = vec![in alloc; 0; usize::from(behind)]?;
+    let mut frame_room = vec![in alloc; 0; x.channels()]?;
+    let frame = frame_room.as_mut_slice();
+    let mut given_room = vec![in alloc; 0; usize::from(behind)]?;
+    let given = given_room.as_mut_slice();
     let mut y = Signal::new(alloc, behind)?;
     for n in 0..x.frames() {
-        x.write_frame(n, frame.as_mut_slice());
-        given_frame(format, block, frame.as_slice(), given.as_mut_slice(), steps);
-        y.put(given.as_slice())?;
+        x.write_frame(n, frame);
+        given_frame(flow.format, block, frame, given, steps);
+        y.put(given)?;
     }
     Ok(y)
 }

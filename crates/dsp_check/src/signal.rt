@@ -1,8 +1,7 @@
 //! A whole signal, channel by channel.
-ghost use Rattle.std.specs.Prelude.{◌≡◌, ◌≤◌, ◌<◌, ◌-◌, ℤ, List, [], ◌∷◌, ◌++◌, length, map, take, get_or};
+ghost use Rattle.std.specs.Prelude.{◌≡◌, ◌≤◌, ◌<◌, ℕ, ℤ, List, [], ◌∷◌, ◌++◌, length, take, get_or};
 ghost use Rattle.std.specs.Prelude.{IfOk, OnOk, OnErr};
 ghost use Rattle.dsp_check.specs.Channels.{AreChannels, frame_at, frame_count, no_frames, with_frame};
-ghost use Rattle.dsp_check.specs.Channels.{without_last};
 
 use dsp_exact::sample;
 use std::alloc::{AllocError, Global};
@@ -46,33 +45,37 @@ impl Channel {
         Ok(())
     }
 
-    /// Takes the last sample away, if there is one.
-    fn pop(&mut self)
-        ensures { self.new ≡ without_last self.old }
+    /// Keeps the first n samples.
+    fn truncate(&mut self, n: usize)
+        ensures { self.new ≡ take n self.old }
     {
-        self.samples.pop();
+        self.samples.truncate(n);
     }
 }
 
-/// Takes the last sample of each channel away.
-fn take_back(channels: &mut [Channel])
-    ensures { channels.new ≡ map without_last channels.old }
+/// Keeps the first n samples of each channel.
+fn cut_back(channels: &mut [Channel], n: usize)
+    ensures { (k : ℕ) → k < length channels.old
+        → get_or channels.new k [] ≡ take n (get_or channels.old k []) }
 {
     for channel in channels.iter_mut() {
-        channel.pop();
+        channel.truncate(n);
     }
 }
 
 /// Adds a sample to each channel, or to none where memory is wanting.
 fn add_frame(channels: &mut [Channel], frame: &[i32]) -> Result<(), AllocError>
-    requires { length frame.now ≡ length channels.old }
+    requires are { AreChannels channels.old }
+    requires wide { length frame.now ≡ length channels.old }
     ensures ok { OnOk result (channels.new ≡ with_frame channels.old frame.now) }
     ensures err { OnErr result (channels.new ≡ channels.old) }
+    ensures are { AreChannels channels.new }
 {
+    let frames = channels[0].as_slice().len();
     for c in 0..channels.len() {
-        if channels[c].push(frame[c]).is_err() {
-            take_back(&mut channels[..c]);
-            return Err(AllocError);
+        if let Err(error) = channels[c].push(frame[c]) {
+            cut_back(channels, frames);
+            return Err(error);
         }
     }
     Ok(())

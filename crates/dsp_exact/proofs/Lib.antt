@@ -1,6 +1,4 @@
-pub mod ExactSums
-pub mod Formats
-pub mod Products
+pub mod Exact
 pub mod Pushed
 pub mod Recurrences
 pub mod Steps

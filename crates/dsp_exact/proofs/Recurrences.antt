@@ -4,7 +4,8 @@ use Rattle.std.proofs.lemmas.List.{reverse-append, reverse-reverse, take_more}
 use Rattle.dsp_defs.specs.Signal.{outputs, outputs_of_history}
 use Rattle.dsp_defs.proofs.Streaming.{outputs-append}
 
-pub outputs-snoc : {A B : Type 0} (next : List A → List B → B) (w : List A) (a : A) →
+-- the outputs for one input more
+outputs-snoc : {A B : Type 0} (next : List A → List B → B) (w : List A) (a : A) →
     outputs next (w ++ a ∷ []) ≡ outputs next w ++ next (reverse (w ++ a ∷ [])) (reverse (outputs next w)) ∷ []
 outputs-snoc next w a =
     let earlier = outputs_of_history next (reverse w) in
@@ -17,24 +18,10 @@ next-of : {A : Type 0} (x : List A) (n : ℕ) → n < length x → (a : A) × (t
 next-of [] n inside = absurd (omega (arith, inside))
 next-of (a ∷ x) n inside = (get_or (a ∷ x) n a, take_more (a ∷ x) n a inside)
 
+-- one output more
 pub outputs-next : {A B : Type 0} (next : List A → List B → B) (x : List A) (n : ℕ) → n < length x →
     outputs next (take (n + 1) x) ≡ outputs next (take n x) ++ next (reverse (take (n + 1) x))
     (reverse (outputs next (take n x))) ∷ []
 outputs-next next x n inside =
     let (a, more) = next-of x n inside in
     rw more (outputs-snoc next (take n x) a)
-
-pub outputs-more : {A B : Type 0} (next : List A → List B → B) (x : List A) (n : ℕ) (ys : List B) (y : B)
-    → n < length x →
-    ys ≡ outputs next (take n x) → y ≡ next (reverse (take (n + 1) x)) (reverse ys) → ys ++ y ∷ [] ≡ outputs next
-    (take (n + 1) x)
-outputs-more next x n ys y inside so_far is =
-    let front = take n x in
-    let found = next-of x n inside in
-    let a = found.0 in
-    let more : take (n + 1) x ≡ front ++ a ∷ [] = found.1 in
-    ap (λ v. ys ++ v ∷ []) is
-    ∙ ap (λ v. v ++ next (reverse (take (n + 1) x)) (reverse v) ∷ []) so_far
-    ∙ ap (λ r. outputs next front ++ next (reverse r) (reverse (outputs next front)) ∷ []) more
-    ∙ sym (outputs-snoc next front a)
-    ∙ ap (outputs next) (sym more)

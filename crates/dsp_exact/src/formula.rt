@@ -1,5 +1,7 @@
 //! Values given by a formula of their number, and sums of terms.
-ghost use Rattle.std.specs.Prelude.{◌≡◌, ◌+◌, ◌*◌, ◌^◌, ◌<◌, ◌≤◌, ℕ, ℤ, All, FitsSigned, IfOk, nat_abs};
+#![tactic(auto, using(crate::proofs::Steps::steps))]
+
+ghost use Rattle.std.specs.Prelude.{◌≡◌, ◌+◌, ◌*◌, ◌^◌, ◌<◌, ◌≤◌, ℕ, ℤ, All, FitsSigned, IfOk, length, nat_abs};
 ghost use Rattle.dsp_defs.specs.Formats.{word};
 ghost use Rattle.dsp_defs.specs.Signal.{sum_below, values};
 ghost use Rattle.dsp_defs.specs.declared.format.Fmt.{Fmt};
@@ -24,7 +26,6 @@ pub trait Terms {
 }
 
 /// The exact sum of the first `count` terms.
-#[tactic(auto, using(crate::proofs::Steps::steps))]
 pub fn sum_below<T: Terms, L: Ledger>(count: usize, terms: &T, steps: &mut Steps<L>) -> i128
     requires { (k : ℕ) → k < count → T.Has terms.now k }
     ensures value { result ≡ sum_below count (T.term terms.now) }
@@ -67,6 +68,7 @@ pub fn values<F: Formula, L: Ledger>(
 ) -> Result<Vec<i32>, AllocError>
     requires { (n : ℕ) → n < count → F.Gives formula.now n }
     ensures values { IfOk result (λ y. y.items ≡ values count (F.at formula.now)) }
+    ensures length { IfOk result (λ y. length y.items ≡ count) }
     ensures fits { IfOk result (λ y. All (FitsSigned (word (F.format formula.now))) y.items) }
     ensures products { steps.new.multiplies ≤ steps.old.multiplies + count * F.cost formula.now }
 {

@@ -28,6 +28,7 @@ pub trait Recurrence {
 }
 
 /// The values for a whole signal.
+#[tactic(auto, using(crate::proofs::Steps::steps))]
 pub fn outputs<R: Recurrence, L: Ledger>(
     alloc: Global,
     recurrence: &R,
@@ -35,6 +36,7 @@ pub fn outputs<R: Recurrence, L: Ledger>(
     steps: &mut Steps<L>,
 ) -> Result<Vec<R::Out>, AllocError>
     ensures values { IfOk result (λ y. y.items ≡ outputs (R.next recurrence.now) x.now) }
+    ensures length { IfOk result (λ y. length y.items ≡ length x.now) }
     ensures fits { IfOk result (λ y. All (R.IsValue recurrence.now) y.items) }
     ensures products { steps.new.multiplies ≤ steps.old.multiplies + length x.now * R.cost recurrence.now }
 {

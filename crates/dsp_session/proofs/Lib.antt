@@ -20,4 +20,5 @@ pub mod FirstEnds
 pub mod FirstClose
 pub mod RestBefore
 pub mod CodedLaws
+pub mod CodedRoom
 pub mod RestEnds

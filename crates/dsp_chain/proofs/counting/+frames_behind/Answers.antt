@@ -1,9 +1,9 @@
-use Rattle.std.proofs.Common.{◌∷◌, ◌∙◌, ap, sym, subst, arith, length}
-use Rattle.dsp_defs.specs.Shape.{frames_at_correlate, frames_behind}
+use Rattle.std.proofs.Common.{◌∙◌, ap, sym, subst, arith, length}
+use Rattle.dsp_defs.specs.Shape.{frames_behind}
 use Rattle.dsp_unit.specs.Line.{AllFew, blocks_of}
 use Rattle.dsp_shape.proofs.FewFrames.{few_first}
 use Rattle.dsp_chain.specs.Counting.{frames_of}
-use Rattle.dsp_chain.proofs.FrameCounts.{few-after, gathered-here, gathered-later}
+use Rattle.dsp_chain.proofs.FrameCounts.{few-after}
 use Rattle.dsp_chain.proofs.Room.{no-units}
 use Rattle.dsp_chain.proofs.counting.+frames_behind.Goals as goal
 

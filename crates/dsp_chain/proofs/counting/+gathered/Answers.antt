@@ -1,5 +1,5 @@
-use Rattle.std.proofs.Common.{◌∷◌, ◌∙◌, ap, sym, subst, arith, length}
-use Rattle.dsp_defs.specs.Shape.{frames_at_correlate, frames_behind}
+use Rattle.std.proofs.Common.{◌∙◌, ap, sym, subst, arith, length}
+use Rattle.dsp_defs.specs.Shape.{frames_at_correlate}
 use Rattle.dsp_unit.specs.Line.{AllFew, blocks_of}
 use Rattle.dsp_shape.proofs.FewFrames.{few_first}
 use Rattle.dsp_chain.specs.Counting.{frames_of}

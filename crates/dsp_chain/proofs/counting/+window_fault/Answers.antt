@@ -1,8 +1,6 @@
-use Rattle.std.proofs.Common.{◌∷◌, ◌∙◌, ap, sym, subst, arith, length, Some, None}
-use Rattle.dsp_defs.specs.Shape.{window_at, window_end, whole_frames}
+use Rattle.std.proofs.Common.{ap, subst, arith, length}
 use Rattle.dsp_unit.specs.Line.{AllFew, blocks_of}
 use Rattle.dsp_shape.proofs.FewFrames.{few_first}
-use Rattle.dsp_chain.proofs.Room.{no-units}
 use Rattle.dsp_chain.proofs.counting.+window_fault.Goals as goal
 
 pub window-requires : goal.window-requires

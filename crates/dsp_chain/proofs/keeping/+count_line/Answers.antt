@@ -1,4 +1,4 @@
-use Rattle.std.proofs.Common.{◌≡◌, ◌∷◌, ◌∙◌, ap, refl, sym, subst, arith, length}
+use Rattle.std.proofs.Common.{◌∙◌, ap, sym, subst, arith, length}
 use Rattle.dsp_defs.specs.Kept.{kept_count_of_chain}
 use Rattle.dsp_unit.specs.Line.{InLine, AllFew, blocks_of}
 use Rattle.dsp_shape.proofs.FewFrames.{few_first}

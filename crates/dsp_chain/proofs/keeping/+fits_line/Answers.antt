@@ -1,4 +1,4 @@
-use Rattle.std.proofs.Common.{◌≡◌, ◌∙◌, ap, refl, sym, subst, true, false, length, arith, Some}
+use Rattle.std.proofs.Common.{◌≡◌, ◌∙◌, ap, sym, subst, true, false, length, arith, Some}
 use Rattle.dsp_defs.specs.Kept.{place_of}
 use Rattle.dsp_chain.specs.Restored.{FitsUnits}
 use Rattle.dsp_unit.specs.Line.{AllFew, blocks_of}

@@ -1,4 +1,4 @@
-use Rattle.std.proofs.Common.{◌∙◌, ap, refl, sym, subst, length, arith, ◌++◌}
+use Rattle.std.proofs.Common.{◌∙◌, ap, sym, subst, length, arith, ◌++◌}
 use Rattle.std.proofs.lemmas.List.{take-append-drop}
 use Rattle.dsp_unit.specs.Unit.{UnitState, Restores}
 use Rattle.dsp_unit.specs.Line.{AllRun, AllFew, blocks_of}

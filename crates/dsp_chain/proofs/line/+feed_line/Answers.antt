@@ -1,6 +1,7 @@
 use Rattle.std.proofs.Common.{◌≡◌, ◌≤◌, ◌++◌, length, take, drop, arith, length-take, ap, refl, sym, subst, ◌∙◌}
 use Rattle.dsp_chain.proofs.Room.{last-room, last-fed, first-fed, first-accepts, behind-takes, behind-runs}
-use Rattle.dsp_chain.proofs.Room.{written-line}
+use Rattle.dsp_chain.proofs.Room.{written-line, first-passes, first-runs, last-writes}
+use Rattle.dsp_chain.proofs.Links.{link-again}
 use Rattle.dsp_unit.specs.Line.{IsFed}
 use Rattle.dsp_chain.specs.Line.{MayTake}
 use Rattle.dsp_chain.proofs.line.+feed_line.Goals as goal
@@ -41,6 +42,53 @@ returns-clause-fed g t c = λ p line passes.
     c.feed-count.ensures.fed
     (λ q r s. rw piece_is at (c.feed_line.ensures.fed q r (rw (← piece_is) at s)))
     line
+
+pub feed-requires-clause-running : goal.feed-requires-clause-running
+feed-requires-clause-running g t c =
+    first-runs c.args.links.now c.in-Some.link.now (g.S.Unit.unit c.link.inside.unit) c.in-Some.behind.now
+    c.in-Some.ensures.cases.0 c.link.view_is c.requires.running
+
+pub feed-requires-clause-signal : goal.feed-requires-clause-signal
+feed-requires-clause-signal g t c =
+    (first-passes c.args.links.now c.in-Some.link.now (g.S.Unit.unit c.link.inside.unit) c.in-Some.behind.now
+    c.args.frames.now (length c.args.out.now) c.in-Some.ensures.cases.0 c.link.view_is c.requires.passes).signal
+
+pub feed-requires-clause-capacity : goal.feed-requires-clause-capacity
+feed-requires-clause-capacity g t c =
+    (first-passes c.args.links.now c.in-Some.link.now (g.S.Unit.unit c.link.inside.unit) c.in-Some.behind.now
+    c.args.frames.now (length c.args.out.now) c.in-Some.ensures.cases.0 c.link.view_is c.requires.passes).at_most
+
+pub feed-count-requires-clause-running : goal.feed-count-requires-clause-running
+feed-count-requires-clause-running g t c =
+    first-runs c.args.links.now c.in-Some.link.now (g.S.Unit.unit c.link.inside.unit) c.in-Some.behind.now
+    c.in-Some.ensures.cases.0 c.link.view_is c.requires.running
+
+pub feed-count-requires-clause-signal : goal.feed-count-requires-clause-signal
+feed-count-requires-clause-signal g t c =
+    (first-passes c.args.links.now c.in-Some.link.now (g.S.Unit.unit c.link.inside.unit) c.in-Some.behind.now
+    c.args.frames.now (length c.args.out.now) c.in-Some.ensures.cases.0 c.link.view_is c.requires.passes).signal
+
+pub feed-count-requires-clause-capacity : goal.feed-count-requires-clause-capacity
+feed-count-requires-clause-capacity g t c =
+    (first-passes c.args.links.now c.in-Some.link.now (g.S.Unit.unit c.link.inside.unit) c.in-Some.behind.now
+    c.args.frames.now (length c.args.out.now) c.in-Some.ensures.cases.0 c.link.view_is c.requires.passes).at_most
+
+pub feed-requires-clause-accepts : goal.feed-requires-clause-accepts
+feed-requires-clause-accepts g t c =
+    first-accepts c.args.links.now c.in-Some.link.now (g.S.Unit.unit c.link.inside.unit) c.in-Some.behind.now
+    c.args.frames.now (length c.args.out.now) c.in-Some.ensures.cases.0 c.link.view_is c.requires.passes
+
+pub feed-requires-clause-room : goal.feed-requires-clause-room
+feed-requires-clause-room g t c =
+    let none : length c.in-Some.behind.now ≡ 0 = grind (arith, c.if-is_empty.ensures) in
+    last-writes c.args.links.now c.in-Some.link.now (g.S.Unit.unit c.link.inside.unit) c.in-Some.behind.now
+    c.args.frames.now (length c.args.out.now) c.in-Some.ensures.cases.0 c.link.view_is none c.requires.passes
+
+pub invariant_of-link : goal.invariant_of-link
+invariant_of-link g t c = link-again _ _ _ _ _ c.feed.ensures.fed.made c.link.invariant
+
+pub invariant_of-link-2 : goal.invariant_of-link-2
+invariant_of-link-2 g t c = link-again _ _ _ _ _ c.feed-count.ensures.fed.made c.link.invariant
 
 pub feed-count-requires-clause-accepts : goal.feed-count-requires-clause-accepts
 feed-count-requires-clause-accepts g t c =

@@ -1,4 +1,4 @@
-use Rattle.std.proofs.Common.{◌≡◌, ◌≤◌, ◌∙◌, ◌+◌, ◌*◌, List, ℤ, ap, sym, subst, refl, length, arith, w16, w32}
+use Rattle.std.proofs.Common.{◌≡◌, ◌≤◌, ◌<◌, ◌∙◌, ◌+◌, ◌*◌, ◌%◌, ℕ, List, ℤ, ap, sym, subst, refl, length, arith, w16, w32}
 use Rattle.std.proofs.lemmas.Nat.{mul-le}
 use lib.Lanes.{Each1}
 use mir.Val.{SFits}
@@ -8,6 +8,29 @@ use Rattle.dsp_lanes.proofs.LaneSums.{raised}
 use Rattle.dsp_lanes.proofs.PairSums.{half_is}
 use Rattle.dsp_lanes.proofs.RowProducts.{four-more, four-fit}
 use Rattle.dsp_lanes.proofs.matrix_rows.four_columns.Goals as goal
+
+-- two rows of the matrix more
+inside : (j columns given : ℕ) → j < columns → j % 2 ≡ 0 → columns % 2 ≡ 0 → (j + 2) * given ≤ columns * given
+inside j columns given below even whole = mul-le (j + 2) given columns given (omega (arith, below, even, whole))
+    (omega arith)
+
+places : (g : _) (c : goal.In-pairs g) → (c.pairs.j + 2) * c.args.given ≤ c.args.columns * c.args.given
+places g c = inside c.pairs.j c.args.columns c.args.given c.pairs-test.true c.pairs.invariant.even c.requires.even
+
+pub overflow_mul-at : goal.overflow_mul-at
+overflow_mul-at g c = omega (arith, places g c)
+
+pub overflow_add-at : goal.overflow_add-at
+overflow_add-at g c = omega (arith, places g c)
+
+pub overflow_add-at-in-pairs : goal.overflow_add-at-in-pairs
+overflow_add-at-in-pairs g c = omega (arith, places g c)
+
+pub interleaved-elements-requires-clause-first : goal.interleaved-elements-requires-clause-first
+interleaved-elements-requires-clause-first g c = omega (arith, places g c)
+
+pub interleaved-elements-requires-clause-second : goal.interleaved-elements-requires-clause-second
+interleaved-elements-requires-clause-second g c = omega (arith, places g c)
 
 pub pair_products-requires-in-pairs-clause-fit : goal.pair_products-requires-in-pairs-clause-fit
 pair_products-requires-in-pairs-clause-fit g c =

@@ -1,7 +1,9 @@
-use Rattle.std.proofs.Common.{◌≡◌, ◌∙◌, ◌*◌, ap, refl, arith}
+use Rattle.std.proofs.Common.{◌≡◌, ◌∙◌, ℕ, ◌*◌, ◌≤◌, ap, refl, arith}
+use Rattle.std.proofs.lemmas.List.{length-take-le}
 use Rattle.std.proofs.lemmas.Result.{err_from_is_err_and}
 use Rattle.dsp_defs.specs.declared.script.Script.{Script}
 use Rattle.dsp_input.specs.Taking.{frame_bytes}
+use Rattle.dsp_session.proofs.OpeningLaws.{some_frame}
 use Rattle.dsp_session.proofs.AdvanceLaws.{new_runs}
 use Rattle.dsp_session.proofs.FirstClose as laws
 use Rattle.dsp_session.proofs.FirstEnds as ends
@@ -9,6 +11,27 @@ use Rattle.dsp_session.proofs.resuming.pass_first.Goals as goal
 
 pub pass_blocks-requires-clause-runs : goal.pass_blocks-requires-clause-runs
 pass_blocks-requires-clause-runs g c = new_runs _ c.requires.new
+
+nothing : (frames frame : ℕ) → frames ≡ 0 → frames * frame ≤ 0
+nothing frames frame none = omega (arith, ap (λ n. n * frame) none)
+
+pub pass_blocks-requires-clause-block : goal.pass_blocks-requires-clause-block
+pass_blocks-requires-clause-block g c =
+    length-take-le c.block_bytes-size.result c.args.room.now (rw c.block_bytes-size.ensures c.requires.room) ∙
+    c.block_bytes-size.ensures
+
+pub pass_blocks-requires-clause-frames : goal.pass_blocks-requires-clause-frames
+pass_blocks-requires-clause-frames g c = nothing _ _ c.requires.new.chain.counted
+
+pub overflow_add-came : goal.overflow_add-came
+overflow_add-came g c = omega (arith, c.in_ok-last.ensures.ok.read.in_limit)
+
+pub nonzero_div-result : goal.nonzero_div-result
+nonzero_div-result g c = rw (c.frame_bytes-frame.ensures, c.script.ensures.script)
+    (some_frame _ c.args.header.coding _ c.requires.new.holds.ready)
+
+pub pass_block-requires-clause-runs : goal.pass_block-requires-clause-runs
+pass_block-requires-clause-runs g c = c.in_ok-last.ensures.ok.going.advances.runs
 
 pub returns-in_err-last-clause-err : goal.returns-in_err-last-clause-err
 returns-in_err-last-clause-err g c before empty begun =

@@ -1,11 +1,43 @@
-use Rattle.std.proofs.Common.{◌∙◌, take, sym, subst}
+use Rattle.std.proofs.Common.{◌∙◌, ◌≤◌, IfSome, take, ap, sym, subst}
 use Rattle.std.proofs.lemmas.Result.{err_from_is_err_and}
 use Rattle.dsp_ports.specs.Ports.{Took}
-use Rattle.dsp_defs.specs.Output.{output_header}
+use Rattle.dsp_defs.specs.Output.{declared_frames, output_header}
 use Rattle.dsp_defs.specs.declared.script.Script.{Script}
 use Rattle.dsp_session.specs.Opening.{Begun}
+use Rattle.dsp_session.specs.SessionState.{SessionState}
+use Rattle.dsp_session.proofs.OpeningLaws.{some_frame}
+use Rattle.dsp_session.proofs.CodedRoom.{opened_limit, room_for, room_stays, same_script}
 use Rattle.dsp_session.proofs.FirstLaws as laws
 use Rattle.dsp_session.proofs.resuming.stream_first.Goals as goal
+
+pub declared_behind-requires : goal.declared_behind-requires
+declared_behind-requires g c =
+    rw c.script-script.ensures.script (some_frame _ c.in_ok-header.header.coding _ c.script-script.ensures.ready)
+
+pub pass_first-requires-clause-room : goal.pass_first-requires-clause-room
+pass_first-requires-clause-room g c =
+    let format = rw c.script-script.ensures.script at c.in_ok-header.ensures.coding in
+    rw c.set_coding.ensures.coding (room_for c.session.inside.worker.script c.in_ok-header.header.coding _ _ format
+    (c.as_mut_slice.ensures.len ∙ c.session.invariant))
+
+pub pass_first-requires-clause-coding : goal.pass_first-requires-clause-coding
+pass_first-requires-clause-coding g c = ap (λ (s : SessionState). s.coding) c.set_coding.ensures.coding
+
+pub pass_first-requires-clause-start : goal.pass_first-requires-clause-start
+pass_first-requires-clause-start g c = opened_limit _ _ _ _ c.in_ok-header.ensures.ok
+
+pub pass_first-requires-clause-enough : goal.pass_first-requires-clause-enough
+pass_first-requires-clause-enough g c =
+    subst (λ (s : Script). IfSome (declared_frames s c.in_ok-header.header) (λ got. c.args.frames ≤ got))
+    (c.script-script.ensures.script ∙ sym c.set_coding.ensures.same.script) c.in_default.ensures.none
+
+pub invariant_of-session : goal.invariant_of-session
+invariant_of-session g c =
+    room_stays _ _ _ _ c.set_coding.ensures.same c.pass_first.ensures.same c.session.invariant
+
+pub returns-clause-same : goal.returns-clause-same
+returns-clause-same g c =
+    rw (← c.session.view_is) (same_script _ _ _ c.set_coding.ensures.same c.pass_first.ensures.same)
 
 pub returns-in_err-header-clause-err : goal.returns-in_err-header-clause-err
 returns-in_err-header-clause-err g c =

@@ -1,4 +1,4 @@
-use Rattle.std.proofs.Common.{◌≡◌, ◌∙◌, ap, sym, subst, false, true, ◌≤◌, arith}
+use Rattle.std.proofs.Common.{◌≡◌, ap, sym, subst, false, true, ◌≤◌, arith}
 use Rattle.dsp_unit.specs.Line.{Place, blocks_of}
 use Rattle.dsp_defs.specs.Shape.{gathered}
 use Rattle.dsp_defs.specs.declared.limits.TheConstants.{MAX_GATHERED}

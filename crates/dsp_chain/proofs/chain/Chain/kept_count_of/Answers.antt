@@ -1,4 +1,4 @@
-use Rattle.std.proofs.Common.{◌∙◌, ap, sym, subst, length, arith}
+use Rattle.std.proofs.Common.{◌∙◌, ap, sym, subst}
 use Rattle.dsp_defs.specs.Kept.{kept_count_of_chain}
 use Rattle.dsp_unit.specs.Line.{Place, InLine, blocks_of}
 use Rattle.dsp_chain.proofs.chain.Chain.kept_count_of.Goals as goal

@@ -1,7 +1,12 @@
 use Rattle.std.proofs.Common.{◌∙◌, ap, length}
 use Rattle.dsp_unit.specs.Line.{Place, measured_by}
 use Rattle.dsp_chain.proofs.Measured.{each-few, line-measures}
+use Rattle.dsp_chain.proofs.Room.{few-units}
 use Rattle.dsp_chain.proofs.chain.Chain.measures.Goals as goal
+
+pub count_measures-requires-clause-few : goal.count_measures-requires-clause-few
+count_measures-requires-clause-few g c =
+    rw c.deref.ensures.value (few-units c.self.inside.links.items c.self.invariant.is.few_blocks)
 
 pub count_measures-requires-clause-each : goal.count_measures-requires-clause-each
 count_measures-requires-clause-each g c =

@@ -1,4 +1,4 @@
-use Rattle.std.proofs.Common.{◌≡◌, ◌∙◌, ◌+◌, ◌*◌, ap, refl, sym, ℕ, ℤ, length, map, set, take_all, arith, length-set}
+use Rattle.std.proofs.Common.{◌≡◌, ◌∙◌, ◌+◌, ◌*◌, ap, refl, sym, ℕ, ℤ, length, map, set, take_all, arith, rules, length-set}
 use Rattle.std.proofs.lemmas.List.{length-map}
 use Rattle.dsp_defs.specs.Formats.{close}
 use Rattle.dsp_defs.specs.Signal.{values}
@@ -90,3 +90,31 @@ returns-clause-out g c =
     sym (take_all c.rest.at (map T.number c.rest.out) (omega arith))
     ∙ c.rest.invariant.written
     ∙ ap (λ n. values n (λ i. close T.format (row_at taps window (c.args.first + i * c.args.step)))) all
+
+-- the places of the windows
+pub overflow_mul-at : goal.overflow_mul-at
+overflow_mul-at g c = let room = c.requires c.fours.at (omega arith) in omega (arith, room)
+
+pub overflow_add-first : goal.overflow_add-first
+overflow_add-first g c = let room = c.requires c.fours.at (omega arith) in omega (arith, room)
+
+pub overflow_mul-start : goal.overflow_mul-start
+overflow_mul-start g c = let room = c.requires c.rest.at (omega arith) in omega (arith, room)
+
+pub overflow_add-start : goal.overflow_add-start
+overflow_add-start g c = let room = c.requires c.rest.at (omega arith) in omega (arith, room)
+
+pub overflow_add-start-in-rest : goal.overflow_add-start-in-rest
+overflow_add-start-in-rest g c = let room = c.requires c.rest.at (omega arith) in omega (arith, room)
+
+pub slice_bounds-dot-count : goal.slice_bounds-dot-count
+slice_bounds-dot-count g c = let room = c.requires c.rest.at (omega arith) in omega (arith, room)
+
+pub slice_bounds-dot-start : goal.slice_bounds-dot-start
+slice_bounds-dot-start g c = let room = c.requires c.rest.at (omega arith) in omega (arith, room)
+
+pub slice_bounds-dot-end : goal.slice_bounds-dot-end
+slice_bounds-dot-end g c = let room = c.requires c.rest.at (omega arith) in omega (arith, room)
+
+pub dot-sum-requires-clause-same : goal.dot-sum-requires-clause-same
+dot-sum-requires-clause-same g c = let room = c.requires c.rest.at (omega arith) in search (rules, room)

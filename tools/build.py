@@ -9,9 +9,9 @@
 
 A crate is begun as soon as those below it are proved, and of several that could be begun the one on the longest way
 to the program comes first, by the times of docs/TESTING.md. Each has one processor, or more where some would idle,
-and a folder of its own (tools/workplace.py), since rt works on one crate of a folder at a time. What is proved is kept in crates/*/out: a build that was stopped goes on where it stopped. Standard error says which
-crates are being proved and for how long: in a live line on a terminal, else in a line a crate. rt's own words go to
-build/log.
+and a folder of its own (tools/workplace.py), since rt works on one crate of a folder at a time. What is proved is kept
+in crates/*/out: a build that was stopped goes on where it stopped. Standard error says which crates are being proved
+and for how long: in a live line on a terminal, else in a line a crate. rt's own words go to build/log.
 
 The program is built for x86-64-v3, with AVX2, where this machine's processor has it, and for x86-64-v2 elsewhere; in
 build/ it stands beside the name of what it is built for, and ./dspfx runs it where the processor is such a one alone.

@@ -14,7 +14,7 @@ import sources
 
 TOP = sources.TOP
 FOLDER = f"{sources.FOLDER}/proving"
-# What a crate's folder has that a proof of the crates above it does not read.
+# What no proof reads of a crate's folder, its own or another's: what rt made, which is linked or moved, and the edits.
 LEFT_OUT = {"out", "must-fail"}
 
 
@@ -102,13 +102,20 @@ def take_back(name):
 def begin():
     """Takes away what a call that was killed has left."""
     os.makedirs(FOLDER, exist_ok=True)
-    for name in os.listdir(FOLDER):
-        if os.path.isdir(f"{FOLDER}/{name}"):
-            take_back(name)
+    for name in filter(lambda it: os.path.isdir(f"{FOLDER}/{it}"), os.listdir(FOLDER)):
+        try:
+            held = hold(name)
+        except (Busy, FileNotFoundError):
+            # An rt has begun the crate's `out` anew in the repository, or the crate is gone.
+            shutil.rmtree(f"{FOLDER}/{name}")
+            continue
+        take_back(name)
+        os.close(held)
     # (rt, called at the top, passes by the folders of this one)
     with open(f"{FOLDER}/MODULE.bazel", "w"):
         pass
 
 
 def end():
+    """Takes the folder of all workplaces away, which have ended."""
     shutil.rmtree(FOLDER)

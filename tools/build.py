@@ -11,7 +11,7 @@ A crate is begun as soon as those below it are proved, and of several that could
 to the program comes first, by the times of docs/TESTING.md. Each has one processor, or more where some would idle,
 and a folder of its own (tools/workplace.py), since rt works on one crate of a folder at a time. What is proved is kept
 in crates/*/out: a build that was stopped goes on where it stopped. Standard error says which crates are being proved
-and for how long: in a live line on a terminal, else in a line a crate. rt's own words go to build/log.
+and for how long, and what is left: in a live line on a terminal, else in a line a crate. rt's own words go to build/log.
 
 The program is built for x86-64-v3, with AVX2, where this machine's processor has it, and for x86-64-v2 elsewhere; in
 build/ it stands beside the name of what it is built for, and ./dspfx runs it where the processor is such a one alone.
@@ -101,18 +101,28 @@ def share(free, ready):
     return max(1, free // max(1, ready))
 
 
-def expected(below, minutes, count):
-    """The minutes that all takes on so many processors: the crates in the order in which they are begun here."""
-    ways, running, done, now, free = longest_ways(below, minutes), [], set(), 0.0, count
-    left = set(below)
+# What several jobs in one crate do more in all than one, by what was measured.
+SHARED = 1.5
+
+
+def spent(minutes, jobs):
+    """The minutes that pass while so many jobs work on what takes one so many minutes."""
+    return minutes * (SHARED / jobs if jobs > 1 else 1)
+
+
+def expected(below, minutes, count, done=(), running=()):
+    """The minutes that all takes on so many processors: the crates in the order in which they are begun here. Some may
+    be done already, and others running: each with the minutes that it still takes, its name and its jobs."""
+    ways, done, running, now = longest_ways(below, minutes), set(done), list(running), 0.0
+    free = count - sum(jobs for _, _, jobs in running)
+    left = set(below) - done - {name for _, name, _ in running}
     while left or running:
         ready = sorted((name for name in left if below[name] <= done), key=lambda name: -ways[name])
         while ready and free:
             name, jobs = ready.pop(0), share(free, len(ready) + 1)
             left.remove(name)
             free -= jobs
-            # (several jobs in one crate take half as much time of the processor again)
-            running.append((now + minutes[name] * (1.5 / jobs if jobs > 1 else 1), name, jobs))
+            running.append((now + spent(minutes[name], jobs), name, jobs))
         now, name, jobs = min(running)
         running.remove((now, name, jobs))
         done.add(name)
@@ -138,6 +148,10 @@ class Run:
             stdout=subprocess.PIPE, stderr=subprocess.STDOUT, start_new_session=True,
         )  # fmt: skip
 
+    def passed(self):
+        """The minutes since it began."""
+        return (time.time() - self.begin) / 60
+
     def is_ended(self):
         """Takes what rt has said, and tells whether that was all."""
         more = os.read(self.process.stdout.fileno(), 1 << 16)
@@ -161,8 +175,10 @@ class Run:
 class Build:
     def __init__(self, top, cpu):
         self.below, self.what, self.cpu = crates_needed(top), "program" if top == PROGRAM else "library", cpu
-        self.ways = longest_ways(self.below, minutes_of_crates(self.below))
+        self.minutes = minutes_of_crates(self.below)
+        self.ways = longest_ways(self.below, self.minutes)
         self.left, self.done, self.running, self.waited = list(self.below), set(), [], set()
+        self.took = self.said = 0.0  # the minutes of the crates that were proved, here and by docs/TESTING.md
         self.count = self.free = int(os.environ.get("JOBS") or processors())
         self.begin, self.is_live = time.time(), sys.stderr.isatty()
         self.log = open(f"{FOLDER}/log", "wb")
@@ -199,14 +215,26 @@ class Build:
         if not run.is_well():
             raise Failed(run.name)
         self.done.add(run.name)
+        said = spent(self.minutes[run.name], run.jobs)
+        if run.passed() > said / 10:  # else an earlier build had proved most of it
+            self.took += run.passed()
+            self.said += said
         if not self.is_live:
-            spent, passed = clock(time.time() - run.begin), clock(time.time() - self.begin)
-            self.say(f"{len(self.done)} of {len(self.below)}: {run.name} is proved in {spent}, {passed} so far")
+            self.say(f"{len(self.done)} of {len(self.below)}: {run.name} is proved in {clock(60 * run.passed())}, {self.so_far()}")
+
+    def so_far(self):
+        """The time that has passed, and the minutes that are left if this machine goes on as it did: it may be twice as
+        slow as that of the table."""
+        pace = self.took / self.said if self.said else 1.0
+        minutes = {name: pace * self.minutes[name] for name in self.minutes}
+        running = [(max(0.0, spent(minutes[run.name], run.jobs) - run.passed()), run.name, run.jobs) for run in self.running]
+        left = expected(self.below, minutes, self.count, self.done, running)
+        return f"{clock(time.time() - self.begin)} so far" + (f", about {max(1, round(left))} min left" if left else "")
 
     def show(self):
         if self.is_live:
-            names = ", ".join(f"{run.name} {clock(time.time() - run.begin)}" for run in self.running)
-            line = f"dspfx: {len(self.done)} of {len(self.below)} crates proved, {clock(time.time() - self.begin)} so far: {names}"
+            names = ", ".join(f"{run.name} {clock(60 * run.passed())}" for run in self.running)
+            line = f"dspfx: {len(self.done)} of {len(self.below)} crates proved, {self.so_far()}: {names}"
             print("\r\033[K" + line[: shutil.get_terminal_size().columns - 1], end="", file=sys.stderr, flush=True)
 
     def run(self):

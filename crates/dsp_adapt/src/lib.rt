@@ -15,6 +15,6 @@ mod weights;
 pub use lms::{Lms, Lms15, Lms31};
 pub use lms_sample::LmsSample;
 pub use lms_unit::LmsUnit;
-pub use pid::{Pid, Pid15, Pid31};
+pub use pid::{Pid, Pid15, Pid31, PidCalls};
 pub use pid_sample::PidSample;
 pub use pid_work::PidWork;

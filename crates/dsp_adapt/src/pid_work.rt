@@ -65,6 +65,17 @@ impl<T: PidSample> PidWork<T> {
             },
         }
     }
+
+    /// The gains A0, A1 and A2.
+    pub fn gains(&self) -> (T, T, T)
+        ensures { (record {
+          a0 = T.number result.0;
+          a1 = T.number result.1;
+          a2 = T.number result.2;
+        }) ≡ pid_gains T.format self.now.kp self.now.ki self.now.kd }
+    {
+        T::gains(self.kp, self.ki, self.kd)
+    }
 }
 
 impl<T: PidSample> Stepwise<T> for PidWork<T> {

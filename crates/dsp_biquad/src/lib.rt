@@ -15,7 +15,7 @@ mod section;
 mod section64;
 
 pub use biquad_sample::BiquadSample;
-pub use biquads::{Biquad15, Biquad31, Biquad64, Biquads};
+pub use biquads::{Biquad15, Biquad31, Biquad64, BiquadCalls, Biquads};
 pub use cascade::Cascade;
 pub use cascade_section::CascadeSection;
 pub use four_sections::FourSections;

@@ -1,5 +1,5 @@
 -- A unit of filters, one for each channel.
-use Rattle.std.proofs.Common.{◌≡◌, ◌∙◌, ap, refl, sym, subst, ℕ, ℤ, true, [], ◌+◌, ◌-◌, ◌*◌, ◌<◌, ◌≤◌, List, ◌++◌}
+use Rattle.std.proofs.Common.{◌≡◌, ◌∙◌, sym, subst, ℕ, ◌+◌, ◌-◌, ◌*◌, ◌<◌, ◌≤◌, List, ◌++◌}
 use Rattle.std.proofs.Common.{get_or, length, take, drop, arith}
 use Rattle.std.specs.Prelude.{All}
 use Rattle.std.proofs.lemmas.List.{take-append-le, take_all}
@@ -7,8 +7,7 @@ use Rattle.std.proofs.Math.Nat.{mul-sub}
 use Rattle.dsp_defs.specs.Shape.{whole_frames, live_frames}
 use Rattle.dsp_unit.specs.Unit.{most_frames}
 use Rattle.dsp_unit.proofs.ChannelLaws.{counts-took}
-use Rattle.dsp_defs.specs.Counts.{Counts}
-use Rattle.dsp_unit.specs.Filter.{FilterState, FilterFinishes, FilterMadeAs, IsByChannel, IsLike, IsNewFilter}
+use Rattle.dsp_unit.specs.Filter.{FilterState, FilterMadeAs, IsByChannel, IsLike, IsNewFilter}
 use Rattle.dsp_unit.specs.Filter.{AreFilters, filter_at, filter_room, no_filter}
 use Rattle.dsp_defs.specs.declared.format.Fmt.{Fmt}
 use Rattle.dsp_defs.specs.declared.script.Block.{Block}
@@ -90,22 +89,3 @@ pub are-first : (format : Fmt) (capacity : ℕ) (filters : List FilterState) →
 are-first format capacity filters are =
     subst (λ k. AreFilters format k filters) (sym (are.alike 0 no_filter
     (let some = are.some in omega (arith, some))).capacity) are
-
--- the end of a filter without a tail
-pub finish-nothing : (old new : FilterState) (given : List ℤ) (before after : Counts) →
-    new ≡ record old { ended = true } → old.tail ≡ [] → given ≡ [] → after ≡ before →
-    FilterFinishes old new given before after
-finish-nothing old new given before after is none nothing same =
-    subst (λ (n : FilterState). FilterFinishes old n given before after) (sym is)
-    (subst (λ g. FilterFinishes old (record old { ended = true }) g before after) (sym nothing)
-    (subst (λ (a : Counts). FilterFinishes old (record old { ended = true }) [] before a) (sym same)
-    (record {
-      made = record { block = refl; format = refl; capacity = refl };
-      ended = refl;
-      tail = refl;
-      count = (let long : length old.tail ≡ 0 = ap length none in omega (arith, long));
-      spent = λ _. none;
-      took = λ n t. record { place = t.place; tail_within = t.tail_within };
-      multiplies = λ n t. refl;
-      turns = λ n t. omega arith;
-    })))

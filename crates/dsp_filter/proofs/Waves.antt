@@ -1,10 +1,10 @@
 -- Four machines side by side, each a sample behind the one before it.
-use Rattle.std.proofs.Common.{◌≡◌, ◌∙◌, ap, ap₂, refl, sym, subst, ℕ, suc, ◌+◌, ◌-◌, ◌<◌, ◌≤◌, ℤ, List, [], ◌∷◌, ◌++◌}
+use Rattle.std.proofs.Common.{◌≡◌, ◌∙◌, ap, ap₂, refl, sym, subst, ℕ, ◌+◌, ◌-◌, ◌<◌, ◌≤◌, ℤ, List, [], ◌∷◌, ◌++◌}
 use Rattle.std.proofs.Common.{length, map, take, drop, set, get_or, take_all, length-set, arith}
 use Rattle.std.proofs.lemmas.List.{append_assoc, map-append, map_more, take_more_set, get_or-drop}
 use Rattle.dsp_defs.specs.Streaming.{Behaviour, GoesOn, then}
 use Rattle.dsp_unit.proofs.GoingOn.{goes-nothing, goes-twice, goes-chain, rest-stays}
-use Rattle.dsp_filter.specs.Waves.{Part, Four, Wave, Works, Turns, Flows, Passes}
+use Rattle.dsp_filter.specs.Waves.{Part, Four, Wave, Works, Turns, Flows}
 
 -- ---- one machine
 pub rests : (m : Part) → Works m m [] []

@@ -32,7 +32,7 @@ impl<T: Sample, W: Stepwise<T> + Drop> StepFilter<T, W> {
 
     /// A filter that has taken nothing, for at most `capacity` samples a call, from work where nothing
     /// was taken.
-    pub fn new(work: W, capacity: usize) -> Self
+    pub fn of_work(work: W, capacity: usize) -> Self
         requires block { W.IsOf (W.block work) }
         requires kept { W.kept work ≡ kept_of_channel T.format (W.block work) [] }
         ensures { IsNewFilter (W.block work) T.format capacity result }
@@ -43,6 +43,22 @@ impl<T: Sample, W: Stepwise<T> + Drop> StepFilter<T, W> {
             ended: false,
             marker: PhantomData,
         }
+    }
+
+    /// What it does with one sample after another.
+    pub fn work(&self) -> &W
+        ensures block { W.block result.now ≡ self.now.block }
+        ensures kept { W.kept result.now ≡ self.now.kept }
+    {
+        &self.work
+    }
+
+    /// How many samples a block of `n` samples gives.
+    pub fn room(&self, n: usize) -> usize
+        requires { n ≤ self.now.capacity }
+        ensures { result ≡ n }
+    {
+        n
     }
 
     /// Writes the next values to the front of the output, and answers their number. The rest of the
@@ -77,6 +93,7 @@ impl<T: Sample, W: Stepwise<T> + Drop> StepFilter<T, W> {
         ensures ended { self.new ≡ record self.old { ended = true } }
         ensures output { output.new ≡ output.old }
         ensures steps { steps.new ≡ steps.old }
+        ensures finished { FilterFinishes self.old self.new [] steps.old steps.new }
     {
         self.ended = true;
         0
@@ -134,7 +151,7 @@ impl<T: Sample, W: Stepwise<T> + Drop> Filter<T> for StepFilter<T, W> {
 
     fn of_block(alloc: Global, block: &Block, capacity: usize) -> Result<Self, AllocError> {
         let work = W::of_block(alloc, block)?;
-        Ok(StepFilter::new(work, capacity))
+        Ok(StepFilter::of_work(work, capacity))
     }
 
     fn process<L: Ledger>(&mut self, input: &[T], output: &mut [T], steps: &mut Steps<L>) -> usize {
@@ -144,7 +161,6 @@ impl<T: Sample, W: Stepwise<T> + Drop> Filter<T> for StepFilter<T, W> {
     }
 
     fn finish<L: Ledger>(&mut self, output: &mut [T], steps: &mut Steps<L>) -> usize {
-        let _work = &self.work;
         StepFilter::finish(self, output, steps)
     }
 

@@ -11,8 +11,8 @@ mod lattice_sample;
 mod making;
 mod numbers;
 
-pub use fir_lattice::{FirLattice, FirLattice15};
+pub use fir_lattice::{FirLattice, FirLattice15, FirLatticeCalls};
 pub use fir_work::FirLatticeWork;
-pub use iir_lattice::IirLattice;
+pub use iir_lattice::{IirLattice, IirLatticeCalls};
 pub use iir_work::IirLatticeWork;
 pub use lattice_sample::{LatticeSample, NarrowSample};

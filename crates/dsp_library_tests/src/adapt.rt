@@ -1,6 +1,6 @@
 //! Callers of dsp_adapt.
 use crate::refusals::{is_length, is_range};
-use dsp_adapt::{Lms15, Lms31, Pid15, Pid31};
+use dsp_adapt::{Lms15, Lms31, Pid15, Pid31, PidCalls};
 use dsp_defs::Steps;
 use std::alloc::Global;
 use std::process::Abort;

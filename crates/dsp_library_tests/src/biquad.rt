@@ -1,6 +1,6 @@
 //! Callers of dsp_biquad.
 use crate::refusals::{is_length, is_range};
-use dsp_biquad::{Biquad15, Biquad31, Biquad64};
+use dsp_biquad::{Biquad15, Biquad31, Biquad64, BiquadCalls};
 use dsp_defs::Steps;
 use std::alloc::Global;
 use std::process::Abort;

@@ -1,7 +1,7 @@
 //! Callers of dsp_lattice.
 use crate::refusals::{is_length, is_range};
 use dsp_defs::Steps;
-use dsp_lattice::{FirLattice15, IirLattice};
+use dsp_lattice::{FirLattice15, FirLatticeCalls, IirLattice, IirLatticeCalls};
 use std::alloc::Global;
 use std::process::Abort;
 use std::sync::ledger::Ledger;

@@ -1,4 +1,4 @@
-use Rattle.std.proofs.Common.{◌∙◌, ap, subst, [], ◌∷◌, ◌++◌, ℤ, List}
+use Rattle.std.proofs.Common.{◌∙◌, subst, [], ◌∷◌, ◌++◌, ℤ, List}
 use Rattle.std.proofs.lemmas.List.{append_assoc}
 use Rattle.dsp_filter.specs.Waves.{Works, part_of}
 use Rattle.dsp_filter.proofs.Waves.{twice}

@@ -1,5 +1,5 @@
 use Rattle.std.proofs.Common.{[], ◌∷◌}
-use Rattle.dsp_filter.specs.Waves.{Part, Works, part_of}
+use Rattle.dsp_filter.specs.Waves.{Works, part_of}
 use Rattle.dsp_filter.proofs.Waves.{rests, twice}
 use Rattle.dsp_filter.proofs.wave.fill.Goals as goal
 

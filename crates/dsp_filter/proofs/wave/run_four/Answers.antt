@@ -1,4 +1,4 @@
-use Rattle.std.proofs.Common.{◌≡◌, ◌∙◌, ap, sym, subst, ◌+◌, ◌-◌, ◌≤◌, [], ◌∷◌, ◌++◌, ℕ, ℤ, List, length, map, take}
+use Rattle.std.proofs.Common.{◌≡◌, sym, subst, ◌+◌, ◌-◌, ◌≤◌, [], ℕ, ℤ, List, length, map, take}
 use Rattle.std.proofs.Common.{arith}
 use Rattle.dsp_filter.specs.Waves.{Flows, Passes, four_of, wave_of}
 use Rattle.dsp_filter.proofs.Waves.{three-read, three-written}

@@ -1,10 +1,10 @@
 use Rattle.std.proofs.Common.{◌≡◌, ◌∙◌, ap, sym, subst, ◌≤◌, ◌*◌, ◌%◌, ℕ, map, length, arith}
 use Rattle.std.proofs.lemmas.List.{length-map}
 use Rattle.std.proofs.lemmas.Grind.{common_steps}
-use Rattle.dsp_biquad.proofs.biquads.Biquads.new.Goals as goal
+use Rattle.dsp_biquad.proofs.biquads.BiquadsBiquadCalls.new.Goals as goal
 
-pub new-requires-2-clause-block : goal.new-requires-2-clause-block
-new-requires-2-clause-block g c =
+pub of_work-requires-clause-block : goal.of_work-requires-clause-block
+of_work-requires-clause-block g c =
     let T = g.T.Sample in
     let S = g.S.CascadeSection in
     let given = map T.number c.args.coefficients.now in

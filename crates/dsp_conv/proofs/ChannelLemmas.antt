@@ -1,9 +1,9 @@
 -- A convolution as the filter of a channel.
 use Rattle.std.proofs.Common.{◌≡◌, ◌∙◌, ap, ap₂, refl, sym, subst, ℕ, ◌+◌, ◌-◌, ◌*◌, ◌/◌, ◌%◌, ◌≤◌, min, ℤ, pos, List}
-use Rattle.std.proofs.Common.{[], ◌∷◌, ◌++◌, length, map, reverse, Bool, true, false, arith, length-append}
+use Rattle.std.proofs.Common.{[], ◌∷◌, ◌++◌, length, true, false, arith, length-append}
 use Rattle.std.specs.Prelude.{◌≤ℤ◌}
 use Rattle.std.proofs.lemmas.Int.{ints}
-use Rattle.std.proofs.lemmas.List.{length-map, length-replicate, length-reverse, same_from_push}
+use Rattle.std.proofs.lemmas.List.{length-replicate, same_from_push}
 use Rattle.dsp_defs.specs.declared.format.Fmt.{Fmt}
 use Rattle.dsp_defs.specs.declared.script.Block.{Block}
 use Rattle.dsp_defs.specs.declared.script.Block.TheVariants as block
@@ -21,12 +21,10 @@ use Rattle.dsp_defs.proofs.KeptLaws.{Each-append}
 use Rattle.dsp_lanes.specs.Turns.{lane_turns}
 use Rattle.dsp_filter.specs.Making.{AreTaps}
 use Rattle.dsp_filter.proofs.LastPlace.{each-last, kinds-of, of-kinds, same-number}
-use Rattle.dsp_window.specs.Rolling.{Rolling, last_samples}
-use Rattle.dsp_window.proofs.Rolls.{length-last_samples}
 use Rattle.dsp_conv.specs.declared.extent.Extent.{Extent}
 use Rattle.dsp_conv.specs.declared.extent.Extent.TheVariants.{Full, Within}
 use Rattle.dsp_conv.specs.Extent.{block_of, place_in, greatest_place}
-use Rattle.dsp_conv.specs.ConvState.{ConvState, StandsFor, CountsFor, Fits, IsSound, conv_channel, kept, kept_of}
+use Rattle.dsp_conv.specs.ConvState.{ConvState, StandsFor, CountsFor, Fits, conv_channel, kept, kept_of}
 use Rattle.dsp_conv.specs.ConvState.{new_conv}
 use Rattle.dsp_conv.specs.ByChannel.{IsConvIn, taps_of}
 use Rattle.dsp_conv.proofs.ExtentLemmas.{kinds-are, kept-are, most-same, live-cost, cost-so-far, place-itself}
@@ -34,35 +32,7 @@ use Rattle.dsp_conv.proofs.ExtentLemmas.{placed-within, no-place}
 use Rattle.dsp_conv.proofs.ConvLemmas.{empty}
 use Rattle.dsp_conv.proofs.Stretches.{turns-within}
 use Rattle.dsp_conv.proofs.CallLemmas.{new-stands}
-
--- ---- every convolution
-
--- a call takes a sample and more, and it keeps as many samples as its taps reach back
-pub record IsConvolution (c : ConvState) : Type 0 where
-  pub some : 1 ≤ c.block
-  pub long : length c.past ≡ length c.taps - 1
-
-pub is-convolution :
-    {X : Type 0} → (number : X → ℤ) (e : Extent) (reversed : List X) (window : Rolling) (tail : List ℤ) (ended : Bool)
-    {count block place skip left greatest : ℕ} {zeros : List ℤ} {c : ConvState} →
-    IsSound count block window zeros skip left place greatest → count ≡ length reversed →
-    record {
-      extent = e;
-      taps = reverse (map number reversed);
-      past = last_samples window.past window.samples;
-      place =
-          place;
-      tail = tail;
-      block = block;
-      ended = ended;
-    } ≡ c → IsConvolution c
-is-convolution number e reversed window tail ended sound counted view_is =
-    subst IsConvolution view_is
-    (record {
-      some = sound.some;
-      long = length-last_samples window.past window.samples sound.filled ∙
-          omega (arith, sound.past, counted, length-reverse (map number reversed), length-map reversed number);
-    })
+use Rattle.dsp_conv.proofs.Inside.{IsConvolution}
 
 -- ---- turns
 
@@ -162,13 +132,14 @@ module _ (format : Fmt) where
       IsNewFilter (block_of e taps) format block (conv_channel format (new_conv e taps block))
   new-channel e taps block some some_taps =
       let c = new_conv e taps block in
+      let long = length-replicate (length taps - 1) (pos 0) in
+      let is : IsConvolution c = record { some = some; taps = some_taps; long = long } in
       record {
         block = refl;
         format = refl;
         capacity = refl;
         stands = stands-channel c [] (new-stands format e taps block some_taps);
-        counts = counts-channel c 0 (record { some = some; long = length-replicate (length taps - 1) (pos 0) })
-            (record { running = refl; place_is = sym (no-place e); whole_is = nothing e });
+        counts = counts-channel c 0 is (record { running = refl; place_is = sym (no-place e); whole_is = nothing e });
       }
     where
       nothing : (e : Extent) → whole_frames (block_of e taps) 0 ≡ live_frames (block_of e taps) 0 + 0
@@ -226,6 +197,7 @@ module _ (format : Fmt) where
     is-new : IsConvolution new
     is-new = record {
       some = subst (λ k. 1 ≤ k) (sym block) is.some;
+      taps = subst (λ l. 1 ≤ length l) (sym taps) is.taps;
       long = kept_long ∙ is.long ∙
           ap (λ l. length l - 1) (sym taps);
     }

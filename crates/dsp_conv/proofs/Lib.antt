@@ -1,5 +1,6 @@
 pub mod ExtentLemmas
 pub mod ConvLemmas
+pub mod Inside
 pub mod CallLemmas
 pub mod ChannelLemmas
 pub mod SliceSums

@@ -5,6 +5,7 @@ use Rattle.std.proofs.Math.IntN.{*ℤ_comm}
 use Rattle.std.proofs.Math.Nat.{mul-suc, mul-le-mul_left}
 use Rattle.std.proofs.lemmas.Nat.{div-add-mod'}
 use Rattle.std.proofs.lemmas.List.{length-map, length-reverse, map-append, get_or-reverse, get_or_past}
+use Rattle.dsp_defs.specs.Counts.{Counts}
 use Rattle.dsp_defs.specs.Formats.{close}
 use Rattle.dsp_defs.specs.Signal.{sample, delayed, values, sum_below}
 use Rattle.dsp_defs.specs.Streaming.{rows}
@@ -16,6 +17,7 @@ use Rattle.dsp_defs.proofs.Signal.{delayed_after}
 use Rattle.dsp_lanes.specs.Turns.{lane_turns}
 use Rattle.dsp_filter.proofs.Slices.{sample-piece}
 use Rattle.dsp_conv.specs.Sums.{convolution_stretch, correlation_at, correlation_stretch, correlation_terms}
+use Rattle.dsp_conv.specs.Sums.{CorrelationRises, RisesAtMost}
 use Rattle.dsp_conv.proofs.SliceSums.{correlation-part, correlation-more, part-sum, piece, times-zero, zero-times}
 
 -- ---- pieces behind one another
@@ -29,19 +31,45 @@ stretch-add f first p q =
 
 -- three pieces that were written
 pub three-written :
-    {X : Type 0} (number : X → ℤ) (f : ℕ → ℤ) (first p q r n : ℕ) (before inside behind : List X) → n ≡ p + (q + r) →
-    map number before ≡ values p (λ i. f (first + i)) → map number inside ≡ values q (λ i. f (first + p + i)) →
-    map number behind ≡ values r (λ i. f (first + (p + q) + i)) →
+    {X : Type 0} (number : X → ℤ) (f : ℕ → ℤ) (first : ℕ) {second third : ℕ} (p q r : ℕ) {n : ℕ}
+    (before inside behind : List X) → n ≡ p + (q + r) → second ≡ first + p → third ≡ first + p + q →
+    map number before ≡ values p (λ i. f (first + i)) → map number inside ≡ values q (λ i. f (second + i)) →
+    map number behind ≡ values r (λ i. f (third + i)) →
     map number (before ++ (inside ++ behind)) ≡ values n (λ i. f (first + i))
-three-written number f first p q r n before inside behind whole is_before is_inside is_behind =
-    let place : first + (p + q) ≡ first + p + q = omega arith in
+three-written number f first p q r before inside behind whole next last is_before is_inside is_behind =
     map-append number before (inside ++ behind)
     ∙ ap₂ (λ l m. l ++ m) is_before
     (map-append number inside behind
-    ∙ ap₂ (λ l m. l ++ m) is_inside (is_behind ∙ ap (λ k. values r (λ i. f (k + i))) place)
+    ∙ ap₂ (λ l m. l ++ m) (is_inside ∙ ap (λ k. values q (λ i. f (k + i))) next)
+    (is_behind ∙ ap (λ k. values r (λ i. f (k + i))) last)
     ∙ sym (stretch-add f (first + p) q r))
     ∙ sym (stretch-add f first p (q + r))
     ∙ ap (λ k. values k (λ i. f (first + i))) (sym whole)
+
+-- and their products
+pub three-risen : {s0 s1 s2 s3 : Counts} (t p q r : ℕ) {n : ℕ} → n ≡ p + (q + r) → RisesAtMost s0 s1 (q * t) →
+    RisesAtMost s1 s2 (p * t) → RisesAtMost s2 s3 (r * t) → RisesAtMost s0 s3 (n * t)
+three-risen t p q r {n = n} whole one two three =
+    let all : n * t ≡ p * t + q * t + r * t = ap (λ k. k * t) whole ∙ omega arith in
+    record {
+      multiplies_rise = omega (arith, one, two, three);
+      multiplies_most = omega (arith, one, two, three, all);
+      turns_most = omega (arith, one, two, three, all);
+    }
+
+pub three-correlated : {s0 s1 s2 s3 : Counts} {n t first second third : ℕ} (p q r : ℕ) {count : ℕ} →
+    count ≡ p + (q + r) → second ≡ first + p → third ≡ first + p + q →
+    CorrelationRises n t first (first + p) s0 s1 → CorrelationRises n t second (second + q) s1 s2 →
+    CorrelationRises n t third (third + r) s2 s3 → CorrelationRises n t first (first + count) s0 s3
+three-correlated {n = n} {t = t} {first = first} {second = second} {third = third} p q r {count = count} whole next last
+    one two three =
+    let made = correlation_products n t in
+    let to_third : second + q ≡ third = omega (arith, next, last) in
+    let to_end : third + r ≡ first + count = omega (arith, whole, last) in
+    record {
+      multiplies = omega (arith, one, two, three, ap made next, ap made to_third, ap made to_end);
+      turns = omega (arith, one, two, three, ap made next, ap made to_third, ap made to_end);
+    }
 
 -- ---- sums over all of the shorter list
 

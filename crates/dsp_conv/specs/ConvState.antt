@@ -3,7 +3,7 @@ use Rattle.std.specs.Prelude.{ℕ, ◌-◌, ◌+◌, ◌≡◌, ◌<◌, ◌≤�
 use Rattle.std.specs.Prelude.{take, drop, replicate, reverse, All, FitsSigned}
 use Rattle.dsp_defs.specs.Formats.{word}
 use Rattle.dsp_defs.specs.Signal.{sample}
-use Rattle.dsp_defs.specs.Streaming.{last_of, rows}
+use Rattle.dsp_defs.specs.Streaming.{Continues, last_of, rows}
 use Rattle.dsp_defs.specs.Shape.{whole_frames, live_frames}
 use Rattle.dsp_defs.specs.Kept.{kept_of_channel}
 use Rattle.dsp_unit.specs.Filter.{FilterState, of_channel, of_whole_channel}
@@ -74,6 +74,16 @@ pub record CountsFor (c : ConvState) (n : ℕ) : Type 0 where
   pub running : c.ended ≡ false
   pub place_is : c.place ≡ place_in c.extent n
   pub whole_is : whole_frames (block_of c.extent c.taps) n ≡ live_count c n + length c.tail
+
+-- a call takes the m samples of `block` and gives `given` values, `out`: it gives the next ones of each signal that the
+-- convolution stands for, and then stands for the longer one; its taps, its blocks and what it gives stay
+pub record Took (format : Fmt) (old new : ConvState) (block out : List ℤ) (m given : ℕ) : Type 0 where
+  pub count : (n : ℕ) → CountsFor old n → live_count old (n + m) ≡ live_count old n + given
+  pub values : (x : List ℤ) → StandsFor format old x → Continues (live_of format old) x block out
+  pub stands : (x : List ℤ) → StandsFor format old x → StandsFor format new (x ++ block)
+  pub counts : (n : ℕ) → CountsFor old n → CountsFor new (n + m)
+  pub same : new ≡ record old { past = new.past; place = new.place; tail = new.tail }
+  pub kept : length new.past ≡ length old.past
 
 -- such numbers can be the kept ones: as many, each sample in the range of the format, and a place last
 pub record Fits (format : Fmt) (c : ConvState) (numbers : List ℤ) : Type 0 where

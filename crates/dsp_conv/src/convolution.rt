@@ -1,4 +1,4 @@
-use crate::extent::Extent;
+use crate::extent::{Extent, place_of};
 use crate::making::{reversed, taps_of, zeros};
 use dsp_defs::{Block, Steps};
 use dsp_filter::{Filter, samples_of};
@@ -56,9 +56,9 @@ impl<T: LaneSample<L>, const L: usize, K: Copy> Convolution<T, L, K> {
     ghost use Rattle.dsp_defs.specs.Streaming.{Continues};
     ghost use Rattle.dsp_defs.specs.declared.limits.TheConstants.{MAX_TAPS, MAX_SAMPLES};
     ghost use Rattle.dsp_lanes.specs.Turns.{lane_turns};
-    ghost use Rattle.dsp_conv.specs.Extent.{given_in, place_in};
+    ghost use Rattle.dsp_conv.specs.Extent.{given_in, place_in, zeros_behind};
     ghost use Rattle.dsp_conv.specs.ConvState.{StandsFor, CountsFor, Fits, kept, kept_of, live_count};
-    ghost use Rattle.dsp_conv.specs.ConvState.{live_of, new_conv, tail_behind};
+    ghost use Rattle.dsp_conv.specs.ConvState.{live_of, new_conv, tail_behind, Took};
 
     /// A convolution that has taken nothing. All its memory is taken here.
     pub(crate) fn of_taps(
@@ -148,24 +148,23 @@ impl<T: LaneSample<L>, const L: usize, K: Copy> Convolution<T, L, K> {
     fn pass_over(&mut self, input: &[T])
         requires block { length input.now ≤ self.old.block }
         requires none { given_in self.old.extent self.old.place (length input.now) ≡ 0 }
-        ensures count { (n : ℕ) → CountsFor self.old n → live_count self.old (n + length input.now)
-            ≡ live_count self.old n }
-        ensures values { (x : List ℤ) → StandsFor T.format self.old x
-            → Continues (live_of T.format self.old) x (map T.number input.now) [] }
-        ensures stands { (x : List ℤ) → StandsFor T.format self.old x
-            → StandsFor T.format self.new (x ++ map T.number input.now) }
-        ensures counts { (n : ℕ) → CountsFor self.old n → CountsFor self.new (n + length input.now) }
-        ensures same { self.new ≡ record self.old {
-          past = self.new.past;
-          place = self.new.place;
-          tail = self.new.tail;
-        } }
-        ensures kept { length self.new.past ≡ length self.old.past }
+        ensures { Took T.format self.old self.new (map T.number input.now) [] (length input.now) 0 }
     {
         let from = input.len().saturating_sub(self.zeros.len());
         self.window.push_block(&input[from..]);
         self.place = self.extent.place_after(self.place, input.len());
         self.owe();
+    }
+
+    /// How many zeros behind the last sample make values.
+    fn zeros_behind(&self) -> usize
+        ensures value { result ≡ zeros_behind self.now.place (length self.now.taps) }
+        ensures few { result ≤ length self.now.past }
+    {
+        match self.place {
+            0 => 0,
+            _ => self.zeros.len(),
+        }
     }
 
     /// The tail becomes what the last samples leave to be given.
@@ -176,11 +175,7 @@ impl<T: LaneSample<L>, const L: usize, K: Copy> Convolution<T, L, K> {
                   self.old.past self.old.place;
             } }
     {
-        let zeros = match self.place {
-            0 => 0,
-            _ => self.zeros.len(),
-        };
-        let given = self.extent.given(self.place, zeros);
+        let given = self.extent.given(self.place, self.zeros_behind());
         self.skip = given.start;
         self.left = given.end - given.start;
     }
@@ -250,7 +245,7 @@ impl<T: LaneSample<L>, const L: usize, K: Copy> Convolution<T, L, K> {
             return false;
         }
         let place = numbers[last];
-        if place < 0 || self.extent.greatest_place() < place as u64 {
+        if place < 0 || self.extent.greatest_place() < place_of(place) {
             return false;
         }
         self.window.fits(&numbers[..last])
@@ -275,7 +270,7 @@ impl<T: LaneSample<L>, const L: usize, K: Copy> Convolution<T, L, K> {
     {
         let last = numbers.len() - 1;
         self.window.restore(&numbers[..last]);
-        self.place = numbers[last] as u64;
+        self.place = place_of(numbers[last]);
         self.owe();
     }
 }
@@ -320,7 +315,7 @@ impl<T: FormatLanes<L>, const L: usize, K: Copy> Filter<T> for Convolution<T, L,
     fn place(&self, numbers: &[i64]) -> Option<u64> {
         let _ = &self.block;
         if self.fits(numbers) {
-            Some(numbers[numbers.len() - 1] as u64)
+            Some(place_of(numbers[numbers.len() - 1]))
         } else {
             None
         }

@@ -1,4 +1,4 @@
-ghost use Rattle.std.specs.Prelude.{◌≡◌, ◌≤◌, ◌+◌, ◌*◌};
+ghost use Rattle.std.specs.Prelude.{◌≡◌, ◌≤◌, ◌<◌, ◌+◌, ◌*◌, ◌^◌, ◌≤ℤ◌, pos};
 ghost use Rattle.dsp_conv.specs.ByChannel.{HasExtent, taps_of};
 
 use dsp_defs::Block;
@@ -20,6 +20,15 @@ fn end_of(first: u32, count: u32) -> u64
     ensures { result ≡ first + count }
 {
     u64::from(first) + u64::from(count)
+}
+
+/// A kept number as the place that it is.
+pub fn place_of(number: i64) -> u64
+    requires { pos 0 ≤ℤ number }
+    ensures place { pos result ≡ number }
+    ensures fits { result < 2 ^ 63 }
+{
+    number as u64
 }
 
 impl Extent {

@@ -29,7 +29,7 @@ use Rattle.dsp_defs.specs.Places.{◌>>=◌, next_at, choice, number, natural_at
 use Rattle.dsp_defs.specs.Tables.{Named}
 use Rattle.dsp_defs.specs.Reading.{block_at, place_of, fed, may_come, next_block, blocks_at}
 use Rattle.dsp_script.proofs.Steps.{bind_ok, read_to, passed, refused, chosen, written_name, one_taken, ok_is, pair}
-use Rattle.dsp_script.proofs.Steps.{pair_is, Strips, Strips-split, Takes, Takes-then, next_takes, one_again}
+use Rattle.dsp_script.proofs.Steps.{pair_is, Strips, Strips-split, Takes, Takes-then, Takes-none, next_takes, one_again}
 use Rattle.dsp_script.proofs.Steps.{choice_run, by_name_is, number_takes, natural_takes, conversion_takes}
 use Rattle.dsp_script.proofs.Steps.{number_read, natural_read, conversion_read}
 use Rattle.dsp_script.proofs.Names.{place_again, place_again_output}
@@ -76,42 +76,32 @@ fits_conversion from next (Format f ∷ args) b h = (f, args, refl, h.0, h.1)
 
 -- ---- forms
 
-took : (environment : Environment) (args : List Argument) (a : Argument) (rest between after : Rest) →
-    Takes (tables_in environment) rest between (argument_symbol a ∷ []) →
-    Takes (tables_in environment) between after (map argument_symbol args) →
-    Takes (tables_in environment) rest after (map argument_symbol (a ∷ args))
-took environment args a rest between after first then = Takes-then
-    (tables_in environment) rest between after (argument_symbol a ∷ []) (map argument_symbol args) first then
-
 pub form_takes : (environment : Environment) (form : Form) (rest after : Rest) (b : Block) →
     block_at environment form rest ≡ Ok (b, after) → (args : List Argument) ×
     Takes (tables_in environment) rest after (map argument_symbol args) × Fits form args b
 unfolding block_at
 form_takes environment (Done made) rest after b e = let p = pair_is made b rest after e in
-    ([], record { strips = ap (λ (r : Rest). r.items) p.1; end = ap (λ (r : Rest). r.end) p.1 }, p.0)
+    ([], Takes-none (tables_in environment) rest after p.1, p.0)
 form_takes environment (Integer low high next) rest after b e =
     let a = bind_ok (next_at (number low high) rest) _ (b, after) e in
     let t = number_takes (tables_in environment) low high rest a.0.1 a.0.0 a.1 in
     let more = form_takes environment (next a.0.0) a.0.1 after b a.2 in
-    (Number a.0.0 ∷ more.0, took environment more.0 (Number a.0.0) rest a.0.1 after t.0 more.1, (t.1, more.2))
+    (Number a.0.0 ∷ more.0, Takes-then t.0 more.1, (t.1, more.2))
 form_takes environment (Natural low high next) rest after b e =
     let a = bind_ok (natural_at low high rest) _ (b, after) e in
     let t = natural_takes (tables_in environment) low high rest a.0.1 a.0.0 a.1 in
-    let more = form_takes environment (next a.0.0) a.0.1 after b a.2 in (
-      Number (pos a.0.0) ∷ more.0,
-      took environment more.0 (Number (pos a.0.0)) rest a.0.1 after t.0 more.1,
-      (t.1, t.2, more.2),
-    )
+    let more = form_takes environment (next a.0.0) a.0.1 after b a.2 in
+    (Number (pos a.0.0) ∷ more.0, Takes-then t.0 more.1, (t.1, t.2, more.2))
 form_takes environment (Numbers rule next) rest after b e =
     let a = bind_ok (list_at environment rule rest) _ (b, after) e in
     let t = list_takes environment rule rest a.0.1 a.0.0 a.1 in
     let more = form_takes environment (next a.0.0) a.0.1 after b a.2 in
-    (Listed a.0.0 ∷ more.0, took environment more.0 (Listed a.0.0) rest a.0.1 after t.0 more.1, (t.1, more.2))
+    (Listed a.0.0 ∷ more.0, Takes-then t.0 more.1, (t.1, more.2))
 form_takes environment (Conversion from next) rest after b e =
     let a = bind_ok (next_at (conversion from) rest) _ (b, after) e in
     let t = conversion_takes (tables_in environment) from rest a.0.1 a.0.0 a.1 in
     let more = form_takes environment (next a.0.0) a.0.1 after b a.2 in
-    (Format a.0.0 ∷ more.0, took environment more.0 (Format a.0.0) rest a.0.1 after t.0 more.1, (t.1, more.2))
+    (Format a.0.0 ∷ more.0, Takes-then t.0 more.1, (t.1, more.2))
 
 parts : (environment : Environment) (args more : List Argument) (a : Argument) (items left : List Item) →
     args ≡ a ∷ more → Strips (tables_in environment) items (map argument_symbol args) left → (between : List Item) ×
@@ -383,10 +373,7 @@ blocks_more : (environment : Environment) (left : ℕ) (correlated : Bool) (flow
 blocks_more environment left correlated flow rest r1 r2 after w args b blocks first a then fits more =
     let m = made w flow args b fits in
     let block-is : block_symbols b ≡ Name (name_of w) ∷ map argument_symbol args = rw (m.0, m.1) refl in
-    let both = Takes-then (tables_in environment) rest r2 after (Name (name_of w) ∷ map argument_symbol args)
-    (flat_map block_symbols blocks ++ Name (codes "output") ∷ [])
-    (Takes-then (tables_in environment) rest r1 r2 (Name (name_of w) ∷ []) (map argument_symbol args) first then)
-    more.takes in
+    let both = Takes-then (Takes-then first then) more.takes in
     let regrouped : flat_map block_symbols (b ∷ blocks) ++ Name (codes "output") ∷ [] ≡
     (Name (name_of w) ∷ map argument_symbol args) ++ (flat_map block_symbols blocks ++ Name (codes "output") ∷ []) =
     ap (λ (x : List Symbol). x ++ Name (codes "output") ∷ [])

@@ -33,7 +33,7 @@ use Rattle.dsp_script.specs.Answers.{GivesUnlessMemory}
 use Rattle.dsp_defs.specs.Reading.{blocks_at, length_at, nothing_of, input_at, script_at, reading, first_fault, kind_at}
 use Rattle.dsp_script.proofs.Steps.{bind_ok, read_to, refused, ok_is, pair, pair_is, choice_run, next_takes}
 use Rattle.dsp_script.proofs.Steps.{begins_word, begins_other, Strips, Strips-split, Strips-from_spells}
-use Rattle.dsp_script.proofs.Steps.{spells_from_Strips, Takes, Takes-then, word_takes, name_takes, natural_takes}
+use Rattle.dsp_script.proofs.Steps.{spells_from_Strips, Takes, Takes-then, Takes-none, word_takes, name_takes, natural_takes}
 use Rattle.dsp_script.proofs.Steps.{word_read, name_read, natural_read}
 use Rattle.dsp_script.proofs.Names.{no_length, no_table, format_again, container_again, input_container_again}
 use Rattle.dsp_script.proofs.ListLaws.{tables_in, braced}
@@ -58,13 +58,12 @@ length_takes tables rest after frames e = tested (begins_with (codes "block") re
         read_to (natural_at 1 MAX_BLOCK_LENGTH a.0.1) b.0 after b.1 p.1 in
         let t = natural_takes tables 1 MAX_BLOCK_LENGTH a.0.1 after b.0.0 read in
         rw (← p.0) (
-          Takes-then tables rest a.0.1 after (Name (codes "block") ∷ []) (Numeral (pos b.0.0) ∷ [])
-              (word_takes tables (codes "block") rest a.0.1 a.0.0 a.1) t.0,
+          Takes-then (word_takes tables (codes "block") rest a.0.1 a.0.0 a.1) t.0,
           (t.1, t.2),
         )
     tested false e =
         let p = pair_is None frames rest after e in
-        rw (← p.0) (record { strips = ap (λ (r : Rest). r.items) p.1; end = ap (λ (r : Rest). r.end) p.1 }, tt)
+        rw (← p.0) (Takes-none tables rest after p.1, tt)
 
 length_read : (tables : List Named) (frames : Option ℕ) (items between : List Item) (end : ℕ) →
     IfSome frames (λ n. (1 ≤ n) × (n ≤ MAX_BLOCK_LENGTH)) → Strips tables items (length_symbols frames) between →
@@ -136,7 +135,7 @@ unfolding kind_at
 kind_takes tables container.Wavex rest after k differs e = absurd (differs refl)
 kind_takes tables container.Wave rest after k differs e =
     let p = pair_is kind.Wave k rest after e in
-    rw (← p.0) (refl, record { strips = ap (λ (r : Rest). r.items) p.1; end = ap (λ (r : Rest). r.end) p.1 }, tt)
+    rw (← p.0) (refl, Takes-none tables rest after p.1, tt)
 kind_takes tables container.Raw rest after k differs e =
     let b = bind_ok (natural_at 1 4294967295 rest) _ (k, after) e in
     let p = pair_is (kind.Raw b.0.0) k b.0.1 after b.2 in
@@ -171,15 +170,9 @@ input_takes tables rest after input e =
     let tk = kind_takes tables b.0.0 c.0.1 after k.0.0 (no_wavex_at a.0.1 b.0.1 b.0.0 b.1) read in
     let tc = natural_takes tables 1 MAX_CHANNELS f.0.1 c.0.1 c.0.0 c.1 in
     let rates = rate_symbols k.0.0 in
-    let t3 = Takes-then tables f.0.1 c.0.1 after (Numeral (pos c.0.0) ∷ []) rates tc.0 tk.1 in
-    let t2 = Takes-then tables b.0.1 f.0.1 after (Name (format_name f.0.0) ∷ []) (Numeral (pos c.0.0) ∷ rates)
-    (name_takes tables format_name every_format b.0.1 f.0.1 f.0.0 f.1) t3 in
-    let t1 = Takes-then tables a.0.1 b.0.1 after (Name (container_name b.0.0) ∷ [])
-    (Name (format_name f.0.0) ∷ Numeral (pos c.0.0) ∷ rates)
-    (name_takes tables container_name input_containers a.0.1 b.0.1 b.0.0 b.1) t2 in
-    let t0 = Takes-then tables rest a.0.1 after (Name (codes "input") ∷ [])
-    (Name (container_name b.0.0) ∷ Name (format_name f.0.0) ∷ Numeral (pos c.0.0) ∷ rates)
-    (word_takes tables (codes "input") rest a.0.1 a.0.0 a.1) t1 in
+    let t0 = Takes-then (word_takes tables (codes "input") rest a.0.1 a.0.0 a.1)
+    (Takes-then (name_takes tables container_name input_containers a.0.1 b.0.1 b.0.0 b.1)
+    (Takes-then (name_takes tables format_name every_format b.0.1 f.0.1 f.0.0 f.1) (Takes-then tc.0 tk.1))) in
     let takes = subst (λ (c' : Container). Takes tables rest after
     (Name (codes "input") ∷ Name (container_name c') ∷ Name (format_name f.0.0) ∷ Numeral (pos c.0.0) ∷ rates))
     (sym tk.0) t0 in
@@ -256,19 +249,8 @@ script_takes rest s e =
     let tg = environment_takes tables v.0.0 n.0.1 g.0.1 g.0.0 g.1 in
     let tb = blocks_take g.0.0 MAX_BLOCKS false (input_flow i.0.0) g.0.1 b.0.1 b.0.0 b.1 in
     let tc = name_takes tables container_name output_containers b.0.1 c.0.1 c.0.0 c.1 in
-    let named = flat_map table_symbols tables in
-    let blocks = flat_map block_symbols b.0.0 ++ Name (codes "output") ∷ [] in
-    let chain = blocks ++ Name (container_name c.0.0) ∷ [] in
-    let t5 = Takes-then tables g.0.1 b.0.1 c.0.1 blocks (Name (container_name c.0.0) ∷ []) tb.takes tc in
-    let t4 = Takes-then tables n.0.1 g.0.1 c.0.1 named chain tg.takes t5 in
-    let t3 = Takes-then tables i.0.1 n.0.1 c.0.1 (length_symbols n.0.0) (named ++ chain) tn.0 t4 in
-    let t2 = Takes-then tables v.0.1 i.0.1 c.0.1 (input_symbols i.0.0) (length_symbols n.0.0 ++ (named ++ chain)) ti.0
-    t3 in
-    let t1 = Takes-then tables d.0.1 v.0.1 c.0.1 (Numeral (pos v.0.0) ∷ [])
-    (input_symbols i.0.0 ++ (length_symbols n.0.0 ++ (named ++ chain))) tv.0 t2 in
-    let t0 = Takes-then tables rest d.0.1 c.0.1 (Name (codes "dspfx") ∷ [])
-    ((Numeral (pos v.0.0) ∷ []) ++ (input_symbols i.0.0 ++ (length_symbols n.0.0 ++ (named ++ chain))))
-    (word_takes tables (codes "dspfx") rest d.0.1 d.0.0 d.1) t1 in
+    let t0 = Takes-then (word_takes tables (codes "dspfx") rest d.0.1 d.0.0 d.1)
+    (Takes-then tv.0 (Takes-then ti.0 (Takes-then tn.0 (Takes-then tg.takes (Takes-then tb.takes tc))))) in
     let strips : Strips tables rest.items (read_symbols tables made) [] =
     rw (nothing_is c.0.1.items z.0 z.1) at t0.strips in
     let fit : IsFit made = record {

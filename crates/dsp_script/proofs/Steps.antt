@@ -157,13 +157,16 @@ pub record Takes (tables : List Named) (rest after : Rest) (symbols : List Symbo
   pub strips : Strips tables rest.items symbols after.items
   pub end : rest.end ≡ after.end
 
-pub Takes-then : (tables : List Named) (a b c : Rest) (xs ys : List Symbol) → Takes tables a b xs →
+pub Takes-then : {tables : List Named} {a b c : Rest} {xs ys : List Symbol} → Takes tables a b xs →
     Takes tables b c ys → Takes tables a c (xs ++ ys)
-Takes-then tables a b c xs ys p q = record {
-  strips =
-      Strips-append tables a.items xs ys b.items c.items p.strips q.strips;
+Takes-then {tables = tables} {a = a} {b = b} {c = c} {xs = xs} {ys = ys} p q = record {
+  strips = Strips-append tables a.items xs ys b.items c.items p.strips q.strips;
   end = p.end ∙ q.end;
 }
+
+-- nothing was taken
+pub Takes-none : (tables : List Named) (a b : Rest) → a ≡ b → Takes tables a b []
+Takes-none tables a b same = record { strips = ap (λ (r : Rest). r.items) same; end = ap (λ (r : Rest). r.end) same }
 
 abbrev pub IsToken : Token → Type 0
 IsToken Bad = ⊥

@@ -12,7 +12,7 @@ use Rattle.dsp_defs.specs.Grammar.{Symbol, Name, table_symbols}
 use Rattle.dsp_defs.specs.Places.{◌>>=◌, named, choice, next_at, begins_with, Environment, list_at, table_word}
 use Rattle.dsp_defs.specs.Places.{new_name, table_at, tables_at, environment_at}
 use Rattle.dsp_script.proofs.Steps.{bind_ok, ok_is, refused, chosen, pair, pair_is, named_is, choice_run}
-use Rattle.dsp_script.proofs.Steps.{written_name, Strips, Strips-split, Takes, Takes-then, one_taken, one_again}
+use Rattle.dsp_script.proofs.Steps.{written_name, Strips, Strips-split, Takes, Takes-then, Takes-none, one_taken, one_again}
 use Rattle.dsp_script.proofs.Steps.{next_takes, begins_word}
 use Rattle.dsp_script.proofs.Loops.{tables_done}
 use Rattle.dsp_script.proofs.ListLaws.{tables_in, braced, braced_takes, braced_read}
@@ -97,9 +97,7 @@ table_takes tables left before rest after t e =
     let word = word_is tables left rest w.0.1 w.0.0 w.1 in
     let name = name_takes tables before w.0.1 n.0.1 n.0.0 n.1 in
     let list = braced_takes tables table_rule n.0.1 l.0.1 l.0.0 l.1 in
-    let behind = Takes-then tables w.0.1 n.0.1 l.0.1 (Name n.0.0 ∷ []) (braced l.0.0) name.0 list.0 in
-    let whole = Takes-then tables rest w.0.1 l.0.1 (Name (codes "table") ∷ []) (Name n.0.0 ∷ braced l.0.0) word.takes
-    behind in
+    let whole = Takes-then word.takes (Takes-then name.0 list.0) in
     let made : Named = record { name = n.0.0; numbers = l.0.0 } in
     let read : IsRead tables left before rest l.0.1 made =
     record {
@@ -141,7 +139,7 @@ no_more tables left before rest after whole e =
     record {
       more = [];
       joined = sym p.0 ∙ sym (append-nil before);
-      takes = record { strips = ap (λ (r : Rest). r.items) p.1; end = ap (λ (r : Rest). r.end) p.1 };
+      takes = Takes-none tables rest after p.1;
       are = tt;
       few = omega arith;
     }
@@ -153,7 +151,7 @@ one_more tables left before rest r1 after t whole first then = record {
   more = t ∷ then.more;
   joined = then.joined ∙ append_assoc before (t ∷ []) then.more;
   takes = subst (Takes tables rest after) (sym (flat_map-cons table_symbols t then.more))
-      (Takes-then tables rest r1 after (table_symbols t) (flat_map table_symbols then.more) first.takes then.takes);
+      (Takes-then first.takes then.takes);
   are = (first.is, then.are);
   few = omega (arith, then.few);
 }
@@ -222,7 +220,7 @@ environment_takes tables version rest after environment e = tested (eqb version 
     tested true first e =
         let p = pair_is None environment rest after e in
         rw (← p.0) (record {
-          takes = record { strips = ap (λ (r : Rest). r.items) p.1; end = ap (λ (r : Rest). r.end) p.1 };
+          takes = Takes-none tables rest after p.1;
           stand = record { few = omega arith; each = tt; allowed = λ _. refl };
         })
     tested false later e =

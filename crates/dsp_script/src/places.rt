@@ -21,12 +21,12 @@ use std::alloc::{AllocError, Global};
 
 /// This word.
 #[tactic(auto, unfolding(dsp_defs::specs::Places::next_at))]
-pub fn word(cursor: &mut Cursor<'_>, name: &[u8]) -> Result<(), ScriptFault>
+pub fn word(cursor: &mut Cursor<'_>, name: &str) -> Result<(), ScriptFault>
     ensures { Gives (λ _. (tt, cursor.new)) result (next_at (choice (named name.now)) cursor.old) }
 {
     let item = cursor.token()?;
     match item.token {
-        Token::Run(run) if run == name => Ok(()),
+        Token::Run(run) if run == name.as_bytes() => Ok(()),
         _ => Err(item.fault(ScriptKind::UnknownWord)),
     }
 }
@@ -257,7 +257,7 @@ pub fn next_block(
     let Token::Run(run) = item.token else {
         return Err(item.fault(ScriptKind::UnknownWord));
     };
-    if run == b"output".as_slice() {
+    if run == "output".as_bytes() {
         return Ok(None);
     }
     let Some(word) = table::word_by_name(run) else {

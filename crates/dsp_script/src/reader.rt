@@ -34,13 +34,13 @@ fn block(
         (block_at lists.now.tables (parameters word flow) cursor.old) }
 {
     match word {
-        Word::Offset => Ok(rows::offset(cursor, flow)?),
+        Word::Offset => rows::offset(cursor, flow),
         Word::Negate => Ok(Block::Negate),
         Word::Abs => Ok(Block::Abs),
-        Word::Scale => Ok(rows::scale(cursor, flow)?),
-        Word::Shift => Ok(rows::shift(cursor, flow)?),
-        Word::Clip => Ok(rows::clip(cursor, flow)?),
-        Word::To => Ok(rows::to(cursor, flow)?),
+        Word::Scale => rows::scale(cursor, flow),
+        Word::Shift => rows::shift(cursor, flow),
+        Word::Clip => rows::clip(cursor, flow),
+        Word::To => rows::to(cursor, flow),
         Word::Add => Ok(Block::Add),
         Word::Sub => Ok(Block::Sub),
         Word::Mult => Ok(Block::Mult),
@@ -60,11 +60,11 @@ fn block(
         Word::ConvPartial => rows::conv_partial(lists, cursor, flow),
         Word::Correlate => rows::correlate(lists, cursor, flow),
         Word::Lms => rows::lms(lists, cursor, flow),
-        Word::Pid => Ok(rows::pid(cursor, flow)?),
+        Word::Pid => rows::pid(cursor, flow),
         Word::MatAdd => rows::mat_add(lists, cursor, flow),
         Word::MatSub => rows::mat_sub(lists, cursor, flow),
-        Word::MatScale => Ok(rows::mat_scale(cursor, flow)?),
-        Word::MatTrans => Ok(rows::mat_trans(cursor, flow)?),
+        Word::MatScale => rows::mat_scale(cursor, flow),
+        Word::MatTrans => rows::mat_trans(cursor, flow),
         Word::MatMult => rows::mat_mult(lists, cursor, flow),
         Word::Power => Ok(Block::Power),
         Word::Dot => Ok(Block::Dot),
@@ -110,8 +110,8 @@ fn blocks(
 fn length(cursor: &mut Cursor<'_>) -> Result<Option<u32>, ScriptFault>
     ensures { Gives (λ n. (n, cursor.new)) result (length_at cursor.old) }
 {
-    if cursor.begins_with(b"block") {
-        word(cursor, b"block")?;
+    if cursor.begins_with("block") {
+        word(cursor, "block")?;
         let frames = natural(cursor, 1, MAX_BLOCK_LENGTH)?;
         Ok(Some(frames))
     } else {
@@ -138,7 +138,7 @@ fn kind(cursor: &mut Cursor<'_>, container: Container) -> Result<InputKind, Scri
 fn input(cursor: &mut Cursor<'_>) -> Result<Input, ScriptFault>
     ensures { Gives (λ i. (i, cursor.new)) result (input_at cursor.old) }
 {
-    word(cursor, b"input")?;
+    word(cursor, "input")?;
     let container = container(cursor, &INPUT_CONTAINERS)?;
     let format = format(cursor)?;
     let channels = byte(cursor, 1, MAX_CHANNELS)?;
@@ -155,7 +155,7 @@ fn input(cursor: &mut Cursor<'_>) -> Result<Input, ScriptFault>
 fn script(alloc: Global, cursor: &mut Cursor<'_>) -> Result<Script, ParseFault>
     ensures { GivesUnlessMemory (λ s. s) result (script_at cursor.old) }
 {
-    word(cursor, b"dspfx")?;
+    word(cursor, "dspfx")?;
     let version = byte(cursor, 1, MAX_VERSION)?;
     let input = input(cursor)?;
     let block = length(cursor)?;

@@ -3,18 +3,18 @@
 
 ghost use Rattle.dsp_defs.specs.Places.{Environment};
 ghost use Rattle.dsp_defs.specs.Reading.{block_at};
-ghost use Rattle.dsp_script.specs.Answers.{Gives, GivesUnlessMemory, parameters};
+ghost use Rattle.dsp_script.specs.Answers.{GivesUnlessMemory, parameters};
 
 use crate::fault::ParseFault;
 use crate::places::{byte, coefficient, conversion, factor, integer, list, natural, side};
 use crate::rules;
 use crate::tables::ListSource;
 use crate::token::Cursor;
-use dsp_defs::{Block, Flow, ScriptFault, Word};
+use dsp_defs::{Block, Flow, Word};
 
 /// `offset VALUE`
-pub fn offset(cursor: &mut Cursor<'_>, flow: Flow) -> Result<Block, ScriptFault>
-    ensures { (tables : Environment) → Gives (λ b. (b, cursor.new)) result
+pub fn offset(cursor: &mut Cursor<'_>, flow: Flow) -> Result<Block, ParseFault>
+    ensures { (tables : Environment) → GivesUnlessMemory (λ b. (b, cursor.new)) result
         (block_at tables (parameters Word.Offset flow) cursor.old) }
 {
     let value = coefficient(cursor, flow.format)?;
@@ -22,8 +22,8 @@ pub fn offset(cursor: &mut Cursor<'_>, flow: Flow) -> Result<Block, ScriptFault>
 }
 
 /// `scale FRACT SHIFT`
-pub fn scale(cursor: &mut Cursor<'_>, flow: Flow) -> Result<Block, ScriptFault>
-    ensures { (tables : Environment) → Gives (λ b. (b, cursor.new)) result
+pub fn scale(cursor: &mut Cursor<'_>, flow: Flow) -> Result<Block, ParseFault>
+    ensures { (tables : Environment) → GivesUnlessMemory (λ b. (b, cursor.new)) result
         (block_at tables (parameters Word.Scale flow) cursor.old) }
 {
     let fract = coefficient(cursor, flow.format)?;
@@ -34,8 +34,8 @@ pub fn scale(cursor: &mut Cursor<'_>, flow: Flow) -> Result<Block, ScriptFault>
 }
 
 /// `shift SHIFT`
-pub fn shift(cursor: &mut Cursor<'_>, flow: Flow) -> Result<Block, ScriptFault>
-    ensures { (tables : Environment) → Gives (λ b. (b, cursor.new)) result
+pub fn shift(cursor: &mut Cursor<'_>, flow: Flow) -> Result<Block, ParseFault>
+    ensures { (tables : Environment) → GivesUnlessMemory (λ b. (b, cursor.new)) result
         (block_at tables (parameters Word.Shift flow) cursor.old) }
 {
     let least = rules::least_shift(flow.format);
@@ -45,8 +45,8 @@ pub fn shift(cursor: &mut Cursor<'_>, flow: Flow) -> Result<Block, ScriptFault>
 }
 
 /// `clip LOW HIGH`
-pub fn clip(cursor: &mut Cursor<'_>, flow: Flow) -> Result<Block, ScriptFault>
-    ensures { (tables : Environment) → Gives (λ b. (b, cursor.new)) result
+pub fn clip(cursor: &mut Cursor<'_>, flow: Flow) -> Result<Block, ParseFault>
+    ensures { (tables : Environment) → GivesUnlessMemory (λ b. (b, cursor.new)) result
         (block_at tables (parameters Word.Clip flow) cursor.old) }
 {
     let low = coefficient(cursor, flow.format)?;
@@ -55,8 +55,8 @@ pub fn clip(cursor: &mut Cursor<'_>, flow: Flow) -> Result<Block, ScriptFault>
 }
 
 /// `to FORMAT`
-pub fn to(cursor: &mut Cursor<'_>, flow: Flow) -> Result<Block, ScriptFault>
-    ensures { (tables : Environment) → Gives (λ b. (b, cursor.new)) result
+pub fn to(cursor: &mut Cursor<'_>, flow: Flow) -> Result<Block, ParseFault>
+    ensures { (tables : Environment) → GivesUnlessMemory (λ b. (b, cursor.new)) result
         (block_at tables (parameters Word.To flow) cursor.old) }
 {
     let format = conversion(cursor, flow.format)?;
@@ -234,8 +234,8 @@ pub fn lms(lists: &ListSource<'_>, cursor: &mut Cursor<'_>, flow: Flow) -> Resul
 }
 
 /// `pid KP KI KD`
-pub fn pid(cursor: &mut Cursor<'_>, flow: Flow) -> Result<Block, ScriptFault>
-    ensures { (tables : Environment) → Gives (λ b. (b, cursor.new)) result
+pub fn pid(cursor: &mut Cursor<'_>, flow: Flow) -> Result<Block, ParseFault>
+    ensures { (tables : Environment) → GivesUnlessMemory (λ b. (b, cursor.new)) result
         (block_at tables (parameters Word.Pid flow) cursor.old) }
 {
     let kp = coefficient(cursor, flow.format)?;
@@ -285,8 +285,8 @@ pub fn mat_sub(
 }
 
 /// `mat_scale ROWS COLUMNS FRACT SHIFT`
-pub fn mat_scale(cursor: &mut Cursor<'_>, flow: Flow) -> Result<Block, ScriptFault>
-    ensures { (tables : Environment) → Gives (λ b. (b, cursor.new)) result
+pub fn mat_scale(cursor: &mut Cursor<'_>, flow: Flow) -> Result<Block, ParseFault>
+    ensures { (tables : Environment) → GivesUnlessMemory (λ b. (b, cursor.new)) result
         (block_at tables (parameters Word.MatScale flow) cursor.old) }
 {
     let rows = side(cursor)?;
@@ -304,8 +304,8 @@ pub fn mat_scale(cursor: &mut Cursor<'_>, flow: Flow) -> Result<Block, ScriptFau
 }
 
 /// `mat_trans ROWS COLUMNS`
-pub fn mat_trans(cursor: &mut Cursor<'_>, flow: Flow) -> Result<Block, ScriptFault>
-    ensures { (tables : Environment) → Gives (λ b. (b, cursor.new)) result
+pub fn mat_trans(cursor: &mut Cursor<'_>, flow: Flow) -> Result<Block, ParseFault>
+    ensures { (tables : Environment) → GivesUnlessMemory (λ b. (b, cursor.new)) result
         (block_at tables (parameters Word.MatTrans flow) cursor.old) }
 {
     let rows = side(cursor)?;

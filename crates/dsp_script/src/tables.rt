@@ -95,7 +95,7 @@ fn table_word(cursor: &mut Cursor<'_>, left: usize) -> Result<(), ScriptFault>
 {
     let item = cursor.token()?;
     match item.token {
-        Token::Run(run) if run == b"table".as_slice() => {
+        Token::Run(run) if run == "table".as_bytes() => {
             if left == 0 {
                 return Err(item.fault(ScriptKind::TooMany {
                     limit: MAX_TABLES as u64,
@@ -153,7 +153,7 @@ impl<'a> Tables<'a> {
     {
         let mut tables = Tables::new(alloc);
         let mut left = MAX_TABLES;
-        while cursor.begins_with(b"table") {
+        while cursor.begins_with("table") {
             let table = table(alloc, cursor, left, &tables)?;
             tables.push(table)?;
             left -= 1;

@@ -187,11 +187,11 @@ impl<'a> Cursor<'a> {
 
     /// The next token is this word.
     #[tactic(auto, unfolding(dsp_defs::specs::Places::first_of))]
-    pub fn begins_with(&self, name: &[u8]) -> bool
+    pub fn begins_with(&self, name: &str) -> bool
         ensures { result ≡ begins_with name.now self.now.items }
     {
         match token_from(self.text, self.at) {
-            Ok((item, _)) => matches!(item.token, Token::Run(run) if run == name),
+            Ok((item, _)) => matches!(item.token, Token::Run(run) if run == name.as_bytes()),
             Err(_) => false,
         }
     }

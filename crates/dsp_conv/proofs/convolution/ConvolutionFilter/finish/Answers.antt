@@ -1,7 +1,8 @@
-use Rattle.std.proofs.Common.{◌≡◌, ◌∙◌, ◌≤◌, ap, min, length, map, take, drop, vec_len, rules, arith, length-take-le}
+use Rattle.std.proofs.Common.{◌≡◌, ◌∙◌, ◌≤◌, ap, min, length, map, take, drop, arith, length-take-le}
 use Rattle.std.proofs.lemmas.List.{length-map, take-append-le}
 use Rattle.dsp_conv.specs.ConvState.{ConvState}
-use Rattle.dsp_conv.proofs.ChannelLemmas.{is-convolution, channel-finished, room-is}
+use Rattle.dsp_conv.proofs.Inside.{inside}
+use Rattle.dsp_conv.proofs.ChannelLemmas.{channel-finished, room-is}
 use Rattle.dsp_conv.proofs.convolution.ConvolutionFilter.finish.Goals as goal
 
 pub returns-clause-finished : goal.returns-clause-finished
@@ -9,8 +10,7 @@ returns-clause-finished g c =
     let number = g.T.Sample.number in
     let d = c.args.self.now in
     let here = c.self.inside in
-    let counted : vec_len here.reversed ≡ length here.reversed.items = search rules in
-    let is = is-convolution number _ here.reversed.items here.window _ _ c.self.invariant counted c.self.view_is in
+    let is = (inside number here.reversed here.zeros c.self.invariant c.self.view_is).is in
     let e = c.finish.ensures in
     let output = c.args.output.now in
     let piece = c.finish.new.output in

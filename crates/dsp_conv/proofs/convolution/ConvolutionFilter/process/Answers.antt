@@ -1,7 +1,8 @@
-use Rattle.std.proofs.Common.{◌≡◌, ◌∙◌, ap, length, map, take, vec_len, rules, arith, length-take-le}
+use Rattle.std.proofs.Common.{◌≡◌, ◌∙◌, ap, length, map, take, arith, length-take-le}
 use Rattle.std.proofs.lemmas.List.{length-map}
 use Rattle.dsp_conv.specs.ConvState.{ConvState}
-use Rattle.dsp_conv.proofs.ChannelLemmas.{is-convolution, channel-fed, room-is}
+use Rattle.dsp_conv.proofs.Inside.{inside}
+use Rattle.dsp_conv.proofs.ChannelLemmas.{channel-fed, room-is}
 use Rattle.dsp_conv.proofs.convolution.ConvolutionFilter.process.Goals as goal
 
 pub returns-clause-fed : goal.returns-clause-fed
@@ -9,8 +10,7 @@ returns-clause-fed g c =
     let number = g.T.Sample.number in
     let d = c.args.self.now in
     let here = c.self.inside in
-    let counted : vec_len here.reversed ≡ length here.reversed.items = search rules in
-    let is = is-convolution number _ here.reversed.items here.window _ _ c.self.invariant counted c.self.view_is in
+    let is = (inside number here.reversed here.zeros c.self.invariant c.self.view_is).is in
     let e = c.process.ensures in
     let given = take c.process.result c.process.new.output in
     let room = room-is g.T.Sample.format d (length c.args.output.now) c.requires.room in

@@ -1,23 +1,20 @@
-use Rattle.std.proofs.Common.{◌≡◌, ◌∙◌, ap, length, vec_len, rules, lit<}
+use Rattle.std.proofs.Common.{◌∙◌, ap, lit<}
 use Rattle.dsp_conv.specs.ConvState.{ConvState}
-use Rattle.dsp_conv.proofs.ChannelLemmas.{is-convolution, channel-fits, channel-restored}
+use Rattle.dsp_conv.proofs.Inside.{inside}
+use Rattle.dsp_conv.proofs.ChannelLemmas.{channel-fits, channel-restored}
 use Rattle.dsp_conv.proofs.convolution.ConvolutionFilter.restore.Goals as goal
 
 pub restore-requires : goal.restore-requires
 restore-requires g c =
     let here = c.self.inside in
-    let counted : vec_len here.reversed ≡ length here.reversed.items = search rules in
-    let is = is-convolution g.T.Sample.number _ here.reversed.items here.window _ _ c.self.invariant counted
-    c.self.view_is in
+    let is = (inside g.T.Sample.number here.reversed here.zeros c.self.invariant c.self.view_is).is in
     let (n, fits) = c.requires.fits in
     (lit< tt, (c.requires.running, channel-fits g.T.Sample.format c.args.self.now c.args.numbers.now n is fits))
 
 pub returns : goal.returns
 returns g c =
     let here = c.self.inside in
-    let counted : vec_len here.reversed ≡ length here.reversed.items = search rules in
-    let is = is-convolution g.T.Sample.number _ here.reversed.items here.window _ _ c.self.invariant counted
-    c.self.view_is in
+    let is = (inside g.T.Sample.number here.reversed here.zeros c.self.invariant c.self.view_is).is in
     let e = c.restore.ensures in
     channel-restored g.T.Sample.format c.args.self.now c.restore.new.self is (ap (λ (s : ConvState). s.extent) e.same)
     (ap (λ (s : ConvState). s.taps) e.same) (ap (λ (s : ConvState). s.block) e.same) e.count

@@ -20,7 +20,7 @@ use Rattle.dsp_defs.specs.Au.{form_bytes_of, form_coded, form_sample_of, form_sa
 use Rattle.dsp_defs.specs.declared.au.Direction.{Direction}
 use Rattle.dsp_defs.specs.declared.au.Direction.TheVariants.{WaveToAu, AuToWave}
 use Rattle.dsp_defs.specs.declared.format.Coding.{Coding}
-use Rattle.dsp_defs.specs.declared.format.Coding.TheVariants.{Raw7, Raw15, Raw31, Wave7, Wave15, Wave24, Wave31}
+use Rattle.dsp_defs.specs.declared.format.Coding.TheVariants.{Wave7, Wave15, Wave24, Wave31}
 use Rattle.dsp_defs.proofs.Signal.{values-add}
 use Rattle.dsp_defs.proofs.SampleLaws.{flat_rows}
 use Rattle.dsp_au.specs.Exchange.{exchanged, exchanged_first, exchanged_sample}
@@ -48,33 +48,23 @@ small-take (suc n) [] h = h
 small-take (suc n) (b ∷ bytes) h = small-cons b (take n bytes) (h 0) (small-take n bytes (λ i. h (suc i)))
 
 pub of_one : (P : List ℕ → Type 0) → ((a : ℕ) → a < 256 → P (a ∷ [])) → (bytes : List ℕ) → AreBytes 1 bytes → P bytes
-of_one P p [] h = absurd (omega (arith, h.0))
 of_one P p (a ∷ []) h = p a (h.1 0)
-of_one P p (a ∷ b ∷ bytes) h = absurd (omega (arith, h.0))
+of_one P p bytes h = absurd (omega (arith, h.0))
 
 pub of_two : (P : List ℕ → Type 0) → ((a b : ℕ) → a < 256 → b < 256 → P (a ∷ b ∷ [])) → (bytes : List ℕ) →
     AreBytes 2 bytes → P bytes
-of_two P p [] h = absurd (omega (arith, h.0))
-of_two P p (a ∷ []) h = absurd (omega (arith, h.0))
 of_two P p (a ∷ b ∷ []) h = p a b (h.1 0) (h.1 1)
-of_two P p (a ∷ b ∷ c ∷ bytes) h = absurd (omega (arith, h.0))
+of_two P p bytes h = absurd (omega (arith, h.0))
 
 pub of_three : (P : List ℕ → Type 0) → ((a b c : ℕ) → a < 256 → b < 256 → c < 256 → P (a ∷ b ∷ c ∷ [])) →
     (bytes : List ℕ) → AreBytes 3 bytes → P bytes
-of_three P p [] h = absurd (omega (arith, h.0))
-of_three P p (a ∷ []) h = absurd (omega (arith, h.0))
-of_three P p (a ∷ b ∷ []) h = absurd (omega (arith, h.0))
 of_three P p (a ∷ b ∷ c ∷ []) h = p a b c (h.1 0) (h.1 1) (h.1 2)
-of_three P p (a ∷ b ∷ c ∷ d ∷ bytes) h = absurd (omega (arith, h.0))
+of_three P p bytes h = absurd (omega (arith, h.0))
 
 pub of_four : (P : List ℕ → Type 0) → ((a b c d : ℕ) → a < 256 → b < 256 → c < 256 → d < 256 → P (a ∷ b ∷ c ∷ d ∷ []))
     → (bytes : List ℕ) → AreBytes 4 bytes → P bytes
-of_four P p [] h = absurd (omega (arith, h.0))
-of_four P p (a ∷ []) h = absurd (omega (arith, h.0))
-of_four P p (a ∷ b ∷ []) h = absurd (omega (arith, h.0))
-of_four P p (a ∷ b ∷ c ∷ []) h = absurd (omega (arith, h.0))
 of_four P p (a ∷ b ∷ c ∷ d ∷ []) h = p a b c d (h.1 0) (h.1 1) (h.1 2) (h.1 3)
-of_four P p (a ∷ b ∷ c ∷ d ∷ e ∷ bytes) h = absurd (omega (arith, h.0))
+of_four P p bytes h = absurd (omega (arith, h.0))
 
 -- ---- one sample
 
@@ -147,9 +137,7 @@ exchanges AuToWave Wave15 bytes wave h = of_two (Exchanges AuToWave Wave15) two_
 exchanges AuToWave Wave24 bytes wave h = of_three (Exchanges AuToWave Wave24)
     (λ a b c ha hb hc. ap (drop 1) (four_in a b c 0 ha hb hc none)) bytes h
 exchanges AuToWave Wave31 bytes wave h = of_four (Exchanges AuToWave Wave31) four_in bytes h
-exchanges direction Raw7 bytes wave h = absurd wave
-exchanges direction Raw15 bytes wave h = absurd wave
-exchanges direction Raw31 bytes wave h = absurd wave
+exchanges direction coding bytes wave h = absurd wave
 
 -- ---- one sample after another
 

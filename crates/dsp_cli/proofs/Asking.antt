@@ -20,10 +20,10 @@ pub draws_nothing : {S : Type 0} (Reads : S → ℕ → S → Type 0) (taken : S
 draws_nothing Reads taken most s = record { reading = s; drawn = Begun; last = inl refl }
 
 -- what a command reads is a script, or a state, which may have so many bytes
-pub draws_of : {S : Type 0} (Reads : S → ℕ → S → Type 0) (taken : S → ℕ) (most : ℕ) (old new : S)
-    (said : Option Command) (command is : Command) → Some command ≡ said → command ≡ is →
+pub draws_of : {S : Type 0} {Reads : S → ℕ → S → Type 0} {taken : S → ℕ} (most : ℕ) {old new : S}
+    {said : Option Command} {command is : Command} → Some command ≡ said → command ≡ is →
     most_of_script (Some is) ≡ most → Draws Reads taken (most + 1) old new →
     Draws Reads taken (most_of_script said + 1) old new
-draws_of Reads taken most old new said command is says is_it reads draws =
+draws_of {S} {Reads} {taken} most {old} {new} says is_it reads draws =
     let same = ap most_of_script (sym says ∙ ap Some is_it) ∙ reads in
     subst (λ n. Draws Reads taken (n + 1) old new) (sym same) draws

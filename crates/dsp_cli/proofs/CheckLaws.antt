@@ -1,5 +1,5 @@
 -- The clauses of the top call on checks, from how it ended.
-use Rattle.std.proofs.Common.{◌≡◌, ◌⊎◌, ℕ, List, sym, ap, ◌∙◌, subst, inl, inr, None, Some, IfSome, IsTrue, IsFalse}
+use Rattle.std.proofs.Common.{◌≡◌, ◌⊎◌, ℕ, List, sym, ap, ◌∙◌, inl, inr, None, Some, IfSome, IsTrue}
 use Rattle.dsp_ports.specs.Ports.{SinkState}
 use Rattle.dsp_defs.specs.Output.{input_header, output}
 use Rattle.dsp_command.specs.Words.{command_of}
@@ -10,18 +10,17 @@ use Rattle.dsp_check.specs.Check.{IsFree as IsCheckable}
 use Rattle.dsp_check.specs.declared.fault.CheckFault.{CheckFault}
 use Rattle.dsp_session.specs.Session.{IsReady}
 use Rattle.dsp_session.proofs.OpeningLaws.{some_frame}
-use Rattle.dsp_cli.specs.Call.{Call, Ending, Went, Printed, Saved, Resumed, Turned, Checked, Stopped, InFirst, InRest}
-use Rattle.dsp_cli.specs.Call.{OfText, OfState, OfBytes, OfScript, Checks, Happened, Reported, Ended}
+use Rattle.dsp_cli.specs.Call.{Call, Ending, Checked, Stopped, OfText, Checks, Happened, Reported}
 use Rattle.dsp_cli.specs.Causes.{Judges, NoneFailed}
-use Rattle.dsp_cli.specs.Run.{HasSource, HasText, HasBlocks, HasOutput, ReportsText}
 use Rattle.dsp_cli.specs.Script.{IfScript, chosen, is_legal_for}
-use Rattle.dsp_cli.specs.declared.fault.Fault.TheVariants.{Usage, ScriptRead, Script as BadText, BlockLength, Memory}
-use Rattle.dsp_cli.specs.declared.fault.Fault.TheVariants.{Stream, State, Part, Conversion, Comparison}
+use Rattle.dsp_cli.specs.declared.fault.Fault.TheVariants.{ScriptRead, Script as BadText, BlockLength, Memory}
+use Rattle.dsp_cli.specs.declared.fault.Fault.TheVariants.{Comparison}
 use Rattle.dsp_cli.proofs.CheckTold.{stop_ends}
-use Rattle.dsp_cli.proofs.ReportLaws.{rose}
-use Rattle.dsp_cli.proofs.StatusLaws.{block_of, legal_not, stream_output}
+use Rattle.dsp_cli.proofs.Endings.{ends_in}
+use Rattle.dsp_cli.proofs.ReportLaws.{rose, reported_zero}
+use Rattle.dsp_cli.proofs.StatusLaws.{legal_not}
 use Rattle.dsp_cli.proofs.Told.{IfSome-always, IfSome-each, IfSome-map, told_whole, told_split, told_script}
-use Rattle.dsp_cli.proofs.Told.{told_faulty}
+use Rattle.dsp_cli.proofs.Told.{told_faulty, told_illegal}
 
 -- the script was read, and may be checked
 pub ready_of : (c : Call) (script : Script) (Did : Type 0) → Checks script Did c → IsReady script (chosen None script)
@@ -60,17 +59,13 @@ module _ (c : Call) (status : ℕ) (report told : SinkState) where
   always each = IfSome-always c.source.left _ (λ _ s _. IfSome-always c.port.left _
       (λ bytes. IfSome-always c.other.left _ (each s bytes)))
 
-  reported_zero : (text : List ℕ) → ReportsText text status report told → NoneFailed c report told → status ≡ 0
-  reported_zero text (inl way) none = way.0
-  reported_zero text (inr way) none = absurd (none.report_kept (rose _ _ way.1))
-
   went_judged : (script : Script) (size : ℕ) → Happened (Checked script size) c →
       Reported (Checked script size) status report told → IfTold Judged
   went_judged script size checked reported =
       IfSome-map c.source.left _ _ (λ text all s reads.
       IfSome-map c.port.left _ _ (λ bytes here.
       IfSome-map c.other.left _ (Judged s bytes) (λ file same legal free none. inl
-      (inl (same, reported_zero _ reported none))) here) (all s reads))
+      (inl (same, reported_zero reported none.report_kept))) here) (all s reads))
       (same_by script size checked)
 
   stop_judged : (fault : CheckFault) → Happened (Stopped (Comparison fault)) c →
@@ -88,44 +83,19 @@ module _ (c : Call) (status : ℕ) (report told : SinkState) where
         | inr (inr (inr (eleven, not))) ↦ inl (inr (not, reported.0 ∙ eleven))
       ])))
 
-  judged_by : (ending : Ending) → Happened ending c → Reported ending status report told →
+  pub judged_by : (ending : Ending) → Happened ending c → Reported ending status report told →
       command_of c.words ≡ Some Check → IfTold Judged
-  judged_by (Went script frames found) went reported check =
-      absurd (subst HasOutput check (stream_output c.words went.stream))
-  judged_by (Printed script) printed reported check = absurd (subst HasBlocks (sym check ∙ printed.0) tt)
-  judged_by (Saved script at x) saved reported check = absurd (subst HasOutput (sym saved.asked ∙ check) tt)
-  judged_by (Resumed script frames found) resumed reported check =
-      absurd (subst HasOutput (sym resumed.asked ∙ check) tt)
-  judged_by (Turned totals) turned reported check = absurd (subst HasOutput (sym turned.asked ∙ check) tt)
   judged_by (Checked script size) checked reported check = went_judged script size checked reported
-  judged_by (Stopped Usage) happened reported check = absurd (subst HasSource (sym check ∙ happened.0.0) tt)
   judged_by (Stopped ScriptRead) happened reported check =
       always (λ _ _ _ _ _ none. absurd (none.script_kept (rose _ _ happened.0.1)))
   judged_by (Stopped (BadText fault)) happened reported check =
       told_faulty c.source c.read fault (λ s. IfSome c.port.left (λ bytes. IfSome c.other.left (Judged s bytes)))
       happened.0.1
   judged_by (Stopped (BlockLength block divisor)) (OfText blocks read, untouched) reported check =
-      let (script, reads, illegal, block_is, unit_is) = read.holds in
-      told_script c.source c.read script (λ s. IfSome c.port.left (λ bytes. IfSome c.other.left (Judged s bytes)))
-      (record { text = read.text; read = read.read; holds = reads })
-      (IfSome-always c.port.left _ (λ bytes. IfSome-always c.other.left (Judged script bytes) (λ file legal free none.
-      absurd (legal_not legal (subst (λ n. IsFalse (is_legal_for script n))
-      (block_is ∙ block_of c.words check script) illegal)))))
-  judged_by (Stopped (BlockLength block divisor)) (OfState go read, untouched) reported check =
-      absurd (subst HasText (sym check ∙ go) tt)
-  judged_by (Stopped (State kind offset)) (OfBytes go read, untouched) reported check =
-      absurd (subst HasText (sym check ∙ go) tt)
-  judged_by (Stopped (State kind offset)) (OfScript at stop read, untouched) reported check =
-      absurd (subst HasOutput (sym stop ∙ check) tt)
+      told_illegal c check block divisor read
+      (λ s. IfSome c.port.left (λ bytes. IfSome c.other.left (Judged s bytes)))
+      (λ s illegal. IfSome-always c.port.left _ (λ bytes. IfSome-always c.other.left (Judged s bytes)
+      (λ file legal free none. absurd (legal_not legal illegal))))
   judged_by (Stopped Memory) happened reported check = always (λ _ _ _ _ _ _. inr reported.0)
-  judged_by (Stopped (Stream fault)) (script, stop) reported check =
-      absurd (subst HasOutput check (stream_output c.words stop.stream))
-  judged_by (Stopped (Part fault)) (InFirst script at stop) reported check =
-      absurd (subst HasOutput (sym stop.asked ∙ check) tt)
-  judged_by (Stopped (Part fault)) (InRest script stop) reported check =
-      absurd (subst HasOutput (sym stop.asked ∙ check) tt)
-  judged_by (Stopped (Conversion fault)) stop reported check = absurd (subst HasOutput (sym stop.asked ∙ check) tt)
   judged_by (Stopped (Comparison fault)) stop reported check = stop_judged fault stop reported
-
-  pub checks : Ended c status report told → command_of c.words ≡ Some Check → IfTold Judged
-  checks end = judged_by end.ending end.happened end.reported
+  judged_by ending happened reported check = absurd (ends_in c ending happened check)

@@ -9,15 +9,14 @@ use Rattle.std.specs.Io.KnownBytes.{IsAtEnd}
 use Rattle.dsp_ports.specs.Ports.{SourceState, Rose}
 use Rattle.dsp_defs.specs.Block.{channels_after}
 use Rattle.dsp_defs.specs.Counts.{Counts}
-use Rattle.dsp_defs.specs.Output.{HasHeader, input_header, known_frames, output, format_of, channels_of}
+use Rattle.dsp_defs.specs.Output.{HasHeader, input_header, output}
 use Rattle.dsp_defs.specs.Shape.{whole_frames, window_at}
 use Rattle.dsp_defs.specs.Sizes.{size_at}
-use Rattle.dsp_defs.specs.Wave.{HeaderFits}
 use Rattle.dsp_defs.specs.declared.limits.TheConstants.{MAX_CHECKED}
 use Rattle.dsp_defs.specs.declared.script.Block.{Block}
 use Rattle.dsp_defs.specs.declared.script.Script.{Script}
 use Rattle.dsp_input.specs.Taking.{IsTakenWhole, frames_in_bytes, input_fault}
-use Rattle.dsp_input.proofs.InputLaws.{frame_in, header_stays, frames_stay, signal_stays, output_stays, some_not_none}
+use Rattle.dsp_input.proofs.InputLaws.{frame_in, frames_stay, signal_stays, output_stays, some_not_none}
 use Rattle.dsp_input.proofs.InputLaws.{fault_told, past_limit}
 use Rattle.dsp_check.specs.Check.{IsCause, IsFree, Stopped}
 use Rattle.dsp_check.specs.Comparing.{IsDecided}
@@ -28,6 +27,7 @@ use Rattle.dsp_session.proofs.OpeningLaws.{some_frame}
 use Rattle.dsp_cli.specs.Fault.{status_of}
 use Rattle.dsp_cli.specs.declared.fault.Fault.TheVariants.{Comparison}
 use Rattle.dsp_cli.proofs.ReportLaws.{rose}
+use Rattle.dsp_cli.proofs.StopLaws.{fits_not_long}
 use Rattle.dsp_cli.proofs.Told.{told_split}
 
 -- ---- the file
@@ -116,12 +116,7 @@ module _ (script : Script) (channels : 1 ≤ script.input.channels) (given more 
       ap (window_at script.blocks) (sym (frames_same has whole)) ∙ free.limits.no_window in
       cc
   comes_later (fault.Riff size limit) (has, whole, is, at) =
-      let long = is.long in
-      let known : known_frames script (input_header script (given ++ more)) ≡ Some long.frames =
-      ap (known_frames script) (header_stays script given more has) ∙ long.known in
-      let fits = subst (HeaderFits script.output (format_of script) (channels_of script)) known
-      (free.limits.fits long.headed) in
-      omega (arith, fits, long.size_is, long.over)
+      fits_not_long script given more size has is.long free.limits.fits
   comes_later (fault.Size size limit) (has, at, inl over) =
       let later = frames_stay script given more has in
       too_many script.input.channels (frames_in_bytes script (given ++ more)) script.blocks

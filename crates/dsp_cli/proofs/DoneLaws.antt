@@ -8,7 +8,7 @@ use Rattle.dsp_defs.specs.Output.{input_header, input_signal, output}
 use Rattle.dsp_command.specs.Report.{report_text}
 use Rattle.dsp_command.specs.Words.{command_of}
 use Rattle.dsp_command.specs.declared.command.Command.{Command}
-use Rattle.dsp_command.specs.declared.command.Command.TheVariants.{Gen, Stop, Go, Convert, Check}
+use Rattle.dsp_command.specs.declared.command.Command.TheVariants.{Gen, Convert, Check}
 use Rattle.dsp_defs.specs.declared.measure.Measure.{Measure}
 use Rattle.dsp_defs.specs.declared.script.Script.{Script}
 use Rattle.dsp_session.specs.Session.{IsReady, cost_of, measures_of}
@@ -26,10 +26,11 @@ use Rattle.dsp_cli.specs.declared.fault.Fault.TheVariants.{Usage, ScriptRead, Sc
 use Rattle.dsp_cli.specs.declared.fault.Fault.TheVariants.{Stream, State, Part, Conversion, Comparison}
 use Rattle.dsp_defs.specs.Au.{target}
 use Rattle.dsp_cli.proofs.CheckLaws as check
+use Rattle.dsp_cli.proofs.Endings.{ends_in}
 use Rattle.dsp_cli.proofs.GeneratedLaws.{generated_frames}
 use Rattle.dsp_input.proofs.InputLaws.{frame_in, signal_stays, output_stays}
 use Rattle.dsp_cli.proofs.ReportLaws.{tells-all}
-use Rattle.dsp_cli.proofs.StatusLaws.{of_stream, blocks_text, conversion_status, comparison_status, stream_or_print}
+use Rattle.dsp_cli.proofs.StatusLaws.{of_stream, blocks_text, conversion_status, comparison_status}
 use Rattle.dsp_cli.proofs.StatusLaws.{reports_done, fault_not_done, refused_not_done, stream_refused}
 use Rattle.dsp_cli.proofs.StatusLaws.{stream_not_refused, part_status, text_source}
 use Rattle.dsp_cli.proofs.PartTold.{first_stays, rest_stays, rest_output}
@@ -42,56 +43,7 @@ pub ready_of : (c : Call) (script : Script) (Did : ℕ → SourceState → Sourc
     IsReady script (chosen_block c.words script)
 ready_of c script Did streams = record { sound = (streams.read.text, streams.read.holds); legal = streams.legal }
 
-module _ (c : Call) (status : ℕ) (report told : SinkState) where
-  -- ---- what is left alone
-
-  pub settled_by : (ending : Ending) → Happened ending c → Reported ending status report told →
-      HasOutput (command_of c.words) → IsDone status → IsSettled c.after
-  settled_by (Went script frames found) went reported output done = went.did.settled
-  settled_by (Printed script) printed reported output done = absurd (subst HasOutput printed.0 output)
-  settled_by (Saved script at x) saved reported output done = saved.did.1.settled
-  settled_by (Resumed script frames found) resumed reported output done = resumed.did.settled
-  settled_by (Turned totals) turned reported output done = turned.did.settled
-  settled_by (Checked script size) checked reported output done = absurd (subst HasOutput checked.asked output)
-  settled_by (Stopped fault) happened reported output done =
-      absurd (fault_not_done fault (subst IsDone reported.0 done))
-
-  part_begun : (fault : PartFault) → status ≡ status_of (Part fault) → IsRefusal status → Untouched c
-  part_begun fault is refused = absurd (omega (arith, is, part_status fault, refused))
-
-  pub untouched_by : (ending : Ending) → Happened ending c → Reported ending status report told →
-      IsRefused (command_of c.words) status → Untouched c
-  untouched_by (Went script frames found) went reported refused =
-      absurd (refused_not_done status (stream_refused c.words status went.stream refused) (reports_done reported))
-  untouched_by (Printed script) printed reported refused = printed.2
-  untouched_by (Saved script at x) saved reported refused =
-      absurd (refused_not_done status (subst (λ command. IsRefused command status) saved.asked refused)
-      (reports_done reported))
-  untouched_by (Resumed script frames found) resumed reported refused =
-      absurd (refused_not_done status (subst (λ command. IsRefused command status) resumed.asked refused)
-      (reports_done reported))
-  untouched_by (Stopped (Part fault)) (InFirst script at stop) reported refused =
-      part_begun fault reported.0 (subst (λ command. IsRefused command status) stop.asked refused)
-  untouched_by (Stopped (Part fault)) (InRest script stop) reported refused =
-      part_begun fault reported.0 (subst (λ command. IsRefused command status) stop.asked refused)
-  untouched_by (Turned totals) turned reported refused =
-      let refusal : IsRefusal status = subst (λ command. IsRefused command status) turned.asked refused in
-      absurd (refused_not_done status refusal (reports_done reported))
-  untouched_by (Checked script size) checked reported refused =
-      let refusal : IsRefusal status × (status ≡ 10 → ⊥) =
-      subst (λ command. IsRefused command status) checked.asked refused in
-      absurd (refused_not_done status refusal.0 (reports_done reported))
-  untouched_by (Stopped (Comparison fault)) (script, stop) reported refused =
-      let refusal : IsRefusal status × (status ≡ 10 → ⊥) =
-      subst (λ command. IsRefused command status) stop.asked refused in
-      absurd (refusal.1 (omega (arith, reported.0, comparison_status fault, refusal.0)))
-  untouched_by (Stopped (Stream fault)) (script, stop) reported refused =
-      absurd (stream_not_refused fault (subst IsRefusal reported.0 (stream_refused c.words status stop.stream refused)))
-  untouched_by (Stopped (Conversion fault)) stop reported refused =
-      let refusal : IsRefusal status = subst (λ command. IsRefused command status) stop.asked refused in
-      absurd (omega (arith, reported.0, conversion_status fault, refusal))
-  untouched_by (Stopped fault) happened reported refused = happened.1
-
+module _ (c : Call) where
   gen_leaves : IsGen c.words → (now : SourceState) → IsReading (command_of c.words) c.port c.later now →
       c.later ≡ c.port
   gen_leaves (seed, frames, is) now reading = (subst (λ command. IsReading command c.port c.later now) is reading).0
@@ -113,34 +65,83 @@ module _ (c : Call) (status : ℕ) (report told : SinkState) where
       (λ named banked is. streams.other_same) (λ seed frames is.
       (gen_leaves (seed, frames, is) streams.now streams.reading, streams.other_same))
 
+  alone : {command : Option Command} → command_of c.words ≡ command → Spares command c → Spares (command_of c.words) c
+  alone is spares = subst (λ command. Spares command c) (sym is) spares
+
   pub spared_by : (ending : Ending) → Happened ending c → Spares (command_of c.words) c
   spared_by (Went script frames found) went = stream_spares went
-  spared_by (Printed script) printed = subst (λ command. Spares command c) (sym printed.0) printed.2.other_same
-  spared_by (Saved script at x) saved = subst (λ command. Spares command c) (sym saved.asked) saved.other_same
-  spared_by (Resumed script frames found) resumed = subst (λ command. Spares command c) (sym resumed.asked)
-      resumed.other_same
-  spared_by (Stopped (Part fault)) (InFirst script at stop) =
-      subst (λ command. Spares command c) (sym stop.asked) stop.other_same
-  spared_by (Stopped (Part fault)) (InRest script stop) =
-      subst (λ command. Spares command c) (sym stop.asked) stop.other_same
-  spared_by (Stopped (State kind offset)) (OfBytes is read, untouched) =
-      subst (λ command. Spares command c) (sym is) untouched.other_same
-  spared_by (Stopped (State kind offset)) (OfScript at is read, untouched) =
-      subst (λ command. Spares command c) (sym is) untouched.other_same
-  spared_by (Turned totals) turned = subst (λ command. Spares command c) (sym turned.asked) turned.spared
-  spared_by (Checked script size) checked = subst (λ command. Spares command c) (sym checked.asked) checked.output_same
-  spared_by (Stopped (Comparison fault)) (script, stop) =
-      subst (λ command. Spares command c) (sym stop.asked) stop.output_same
-  spared_by (Stopped (Stream fault)) (script, stop) = stream_spares stop
-  spared_by (Stopped (Conversion fault)) stop = subst (λ command. Spares command c) (sym stop.asked) stop.spared
-  spared_by (Stopped Usage) happened = subst (λ command. Spares command c) (sym happened.0.0) happened.1.other_same
+  spared_by (Printed script) printed = alone printed.0 printed.2.other_same
+  spared_by (Saved script at x) saved = alone saved.asked saved.other_same
+  spared_by (Resumed script frames found) resumed = alone resumed.asked resumed.other_same
+  spared_by (Turned totals) turned = alone turned.asked turned.spared
+  spared_by (Checked script size) checked = alone checked.asked checked.output_same
+  spared_by (Stopped Usage) happened = alone happened.0.0 happened.1.other_same
   spared_by (Stopped ScriptRead) happened = source_spares (command_of c.words) happened.0.0 happened.1
   spared_by (Stopped (BadText fault)) happened = text_spares happened.0.0 happened.1
   spared_by (Stopped (BlockLength block divisor)) (OfText blocks read, untouched) =
       text_spares (blocks_text (command_of c.words) blocks) untouched
-  spared_by (Stopped (BlockLength block divisor)) (OfState is read, untouched) =
-      subst (λ command. Spares command c) (sym is) untouched.other_same
+  spared_by (Stopped (BlockLength block divisor)) (OfState is read, untouched) = alone is untouched.other_same
   spared_by (Stopped Memory) happened = source_spares (command_of c.words) happened.0 happened.1
+  spared_by (Stopped (State kind offset)) (OfBytes is read, untouched) = alone is untouched.other_same
+  spared_by (Stopped (State kind offset)) (OfScript at is read, untouched) = alone is untouched.other_same
+  spared_by (Stopped (Stream fault)) (script, stop) = stream_spares stop
+  spared_by (Stopped (Part fault)) (InFirst script at stop) = alone stop.asked stop.other_same
+  spared_by (Stopped (Part fault)) (InRest script stop) = alone stop.asked stop.other_same
+  spared_by (Stopped (Conversion fault)) stop = alone stop.asked stop.spared
+  spared_by (Stopped (Comparison fault)) (script, stop) = alone stop.asked stop.output_same
+
+module _ (c : Call) (status : ℕ) (report told : SinkState) where
+  -- ---- what is left alone
+
+  pub settled_by : (ending : Ending) → Happened ending c → Reported ending status report told →
+      HasOutput (command_of c.words) → IsDone status → IsSettled c.after
+  settled_by (Went script frames found) went reported output done = went.did.settled
+  settled_by (Printed script) printed reported output done = absurd (subst HasOutput printed.0 output)
+  settled_by (Saved script at x) saved reported output done = saved.did.1.settled
+  settled_by (Resumed script frames found) resumed reported output done = resumed.did.settled
+  settled_by (Turned totals) turned reported output done = turned.did.settled
+  settled_by (Checked script size) checked reported output done = absurd (subst HasOutput checked.asked output)
+  settled_by (Stopped fault) happened reported output done =
+      absurd (fault_not_done fault (subst IsDone reported.0 done))
+
+  -- what was done is not refused
+  refusal : {command : Option Command} → command_of c.words ≡ command → (IsRefused command status → IsRefusal status) →
+      IsDone status → IsRefused (command_of c.words) status → ⊥
+  refusal is refuses done refused =
+      refused_not_done status (refuses (subst (λ command. IsRefused command status) is refused)) done
+
+  part_begun : {command : Option Command} → command_of c.words ≡ command → (IsRefused command status → IsRefusal status)
+      → (fault : PartFault) → status ≡ status_of (Part fault) → IsRefused (command_of c.words) status → ⊥
+  part_begun is refuses fault status_is refused =
+      let refusal = refuses (subst (λ command. IsRefused command status) is refused) in
+      omega (arith, status_is, part_status fault, refusal)
+
+  pub untouched_by : (ending : Ending) → Happened ending c → Reported ending status report told →
+      IsRefused (command_of c.words) status → Untouched c
+  untouched_by (Went script frames found) went reported refused =
+      absurd (refused_not_done status (stream_refused c.words status went.stream refused) (reports_done reported))
+  untouched_by (Printed script) printed reported refused = printed.2
+  untouched_by (Saved script at x) saved reported refused =
+      absurd (refusal saved.asked (λ r. r) (reports_done reported) refused)
+  untouched_by (Resumed script frames found) resumed reported refused =
+      absurd (refusal resumed.asked (λ r. r) (reports_done reported) refused)
+  untouched_by (Turned totals) turned reported refused =
+      absurd (refusal turned.asked (λ r. r) (reports_done reported) refused)
+  untouched_by (Checked script size) checked reported refused =
+      absurd (refusal checked.asked (λ r. r.0) (reports_done reported) refused)
+  untouched_by (Stopped (Part fault)) (InFirst script at stop) reported refused =
+      absurd (part_begun stop.asked (λ r. r) fault reported.0 refused)
+  untouched_by (Stopped (Part fault)) (InRest script stop) reported refused =
+      absurd (part_begun stop.asked (λ r. r) fault reported.0 refused)
+  untouched_by (Stopped (Comparison fault)) (script, stop) reported refused =
+      let (refusal, not_memory) = subst (λ command. IsRefused command status) stop.asked refused in
+      absurd (not_memory (omega (arith, reported.0, comparison_status fault, refusal)))
+  untouched_by (Stopped (Stream fault)) (script, stop) reported refused =
+      absurd (stream_not_refused fault (subst IsRefusal reported.0 (stream_refused c.words status stop.stream refused)))
+  untouched_by (Stopped (Conversion fault)) stop reported refused =
+      let refusal : IsRefusal status = subst (λ command. IsRefused command status) stop.asked refused in
+      absurd (omega (arith, reported.0, conversion_status fault, refusal))
+  untouched_by (Stopped fault) happened reported refused = happened.1
 
   -- ---- what was done
 
@@ -241,14 +242,6 @@ module _ (c : Call) (status : ℕ) (report told : SinkState) where
       command_of c.words ≡ Some (Gen seed frames) → IsDone status → GenCounted seed frames
   counted_by (Went script count found) went reported seed frames is done =
       went_counts script count found went seed frames is (report_tells (report_text script count found) reported)
-  counted_by (Printed script) printed reported seed frames is done =
-      absurd (stream_or_print c.words (inr (seed, frames, is)) printed.0)
-  counted_by (Saved script at x) saved reported seed frames is done =
-      absurd (let same : Some (Gen seed frames) ≡ Some (Stop at) = sym is ∙ saved.asked in cc)
-  counted_by (Resumed script count found) resumed reported seed frames is done =
-      absurd (let same : Some (Gen seed frames) ≡ Some Go = sym is ∙ resumed.asked in cc)
-  counted_by (Turned totals) turned reported seed frames is done = absurd (subst HasText (sym is ∙ turned.asked) tt)
-  counted_by (Checked script size) checked reported seed frames is done =
-      absurd (subst HasOutput (sym is ∙ checked.asked) tt)
   counted_by (Stopped fault) happened reported seed frames is done =
       absurd (fault_not_done fault (subst IsDone reported.0 done))
+  counted_by ending happened reported seed frames is done = absurd (ends_in c ending happened is)

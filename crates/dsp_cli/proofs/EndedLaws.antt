@@ -1,21 +1,15 @@
 -- The clauses of the top call, from how it ended.
-use Rattle.std.proofs.Common.{◌≡◌, ℕ, List, subst, Some, Result, Ok, Err, IfOk, IfErr}
-use Rattle.dsp_ports.specs.Ports.{SinkState, IsSettled}
-use Rattle.dsp_command.specs.Words.{command_of}
-use Rattle.dsp_command.specs.declared.command.Command.TheVariants.{Gen}
-use Rattle.dsp_cli.specs.Call.{Call, Untouched, HasDone, Spares, Ending, Stopped, Happened, Reported, Ended}
-use Rattle.dsp_cli.specs.Call.{text_of}
+use Rattle.std.proofs.Common.{ℕ, List, subst, Result, Ok, Err, IfOk, IfErr}
+use Rattle.dsp_ports.specs.Ports.{SinkState}
+use Rattle.dsp_cli.specs.Call.{Call, Ending, Stopped, Happened, Reported, Ended, text_of}
 use Rattle.dsp_cli.specs.Causes.{Causes, Completes}
 use Rattle.dsp_cli.specs.Fault.{summary_text}
 use Rattle.dsp_cli.specs.Perform.{IsWhole, Made, Performed, HasStatus}
-use Rattle.dsp_cli.specs.Run.{HasOutput, IsDone, IsRefused, ReportsText}
+use Rattle.dsp_cli.specs.Run.{ReportsText}
 use Rattle.dsp_cli.specs.declared.fault.Fault.{Fault}
 use Rattle.dsp_cli.specs.declared.top.Outcome.{Outcome}
 use Rattle.dsp_cli.specs.declared.top.Outcome.TheVariants as outcome
 use Rattle.dsp_cli.proofs.CheckLaws as check
-use Rattle.dsp_cli.proofs.ConvertLaws as convert
-use Rattle.dsp_cli.proofs.ResumeLaws as resume
-use Rattle.dsp_cli.proofs.DoneLaws as did
 use Rattle.dsp_cli.proofs.CauseLaws as cause
 use Rattle.dsp_cli.proofs.CompleteLaws as complete
 
@@ -47,38 +41,22 @@ module _ (c : Call) (status : ℕ) (report told : SinkState) where
   -- ---- the clauses
 
   module _ (end : Ended c status report told) where
-    pub settled : HasOutput (command_of c.words) → IsDone status → IsSettled c.after
-    settled = did.settled_by c status report told end.ending end.happened end.reported
-
-    pub untouched : IsRefused (command_of c.words) status → Untouched c
-    untouched = did.untouched_by c status report told end.ending end.happened end.reported
-
-    pub spared : Spares (command_of c.words) c
-    spared = did.spared_by c status report told end.ending end.happened
-
-    pub done : IsDone status → HasDone (command_of c.words) c
-    done = did.done_by c status report told end.ending end.happened end.reported
-
-    pub counted : (seed frames : ℕ) → command_of c.words ≡ Some (Gen seed frames) → IsDone status →
-        did.GenCounted c status report told seed frames
-    counted = did.counted_by c status report told end.ending end.happened end.reported
-
     pub causes : Causes c status
     causes = record {
       answer = cause.answer_by c status report told end.ending end.happened end.reported;
       faulty = cause.faulty_by c status report told end.ending end.happened end.reported;
       illegal = cause.illegal_by c status report told end.ending end.happened end.reported;
-      bad_state = resume.bad_state c status report told end;
-      illegal_state = resume.illegal_state c status report told end;
-      long = resume.long c status report told end;
+      bad_state = cause.bad_state_by c status report told end.ending end.happened end.reported;
+      illegal_state = cause.illegal_state_by c status report told end.ending end.happened end.reported;
+      long = cause.long_by c status report told end.ending end.happened end.reported;
     }
 
     pub completes : Completes c status report told
     completes = record {
       runs = complete.runs_by c status report told end.ending end.happened end.reported;
       prints = complete.prints_by c status report told end.ending end.happened end.reported;
-      stops = resume.stops c status report told end;
-      goes = resume.goes c status report told end;
-      converts = convert.converts c status report told end;
-      checks = check.checks c status report told end;
+      stops = complete.stops_by c status report told end.ending end.happened end.reported;
+      goes = complete.goes_by c status report told end.ending end.happened end.reported;
+      converts = complete.turns_by c status report told end.ending end.happened end.reported;
+      checks = check.judged_by c status report told end.ending end.happened end.reported;
     }

@@ -29,7 +29,7 @@ use Rattle.dsp_session.specs.Session.{frame_bytes}
 use Rattle.dsp_session.specs.Stream.{declared_bytes, frames_in_bytes, in_whole_frames, input_fault, short_fault}
 use Rattle.dsp_session.specs.Stream.{wave_fault}
 use Rattle.dsp_input.specs.Taking.{InLimit}
-use Rattle.dsp_input.proofs.InputLaws.{frame_in, frames_of_bytes, good_header}
+use Rattle.dsp_input.proofs.InputLaws.{frames_of_bytes, good_header}
 
 some_product : (a b : ℕ) → 1 ≤ a → 1 ≤ b → 1 ≤ a * b
 some_product a b h k = mul-le-mul h k
@@ -165,24 +165,41 @@ module _ (script : Script) (seed frames : ℕ) (few : (1 ≤ script.input.channe
     | None ↦ length bytes < MAX_INPUT
   ]
 
-  pub generated_in_limit : InLimit script bytes
-  generated_in_limit = by script.input.kind refl
+  -- what follows for the header
+  abbrev Says : Header → Type 0
+  Says h = EndsWithin h × (length (sample_bytes h bytes) ≡ size) ×
+      (script.input.channels * width h.coding ≡ script.input.channels * word_bytes script.input.format)
+
+  says : Says (input_header script bytes)
+  says = by script.input.kind refl
     where
       has : HasHeader script (take MAX_INPUT bytes)
       has = subst (HasHeader script) (sym (take_all MAX_INPUT bytes (omega (arith, all_bytes)))) generated_has
 
-      by : (k : InputKind) → script.input.kind ≡ k → EndsWithin (input_header script bytes)
-      by (kind.Raw rate) is = subst EndsWithin (sym (raw_header_is rate is)) (omega (arith, raw_length rate is, small))
-      by kind.Wave is =
-          subst EndsWithin (sym (wave_header_is is)) (
-            has,
-            omega (
-              arith,
-              small,
-              floor_within size (frame_bytes script
-                  (coding_of container.Wave script.input.format)),
-            ),
+      by : (k : InputKind) → script.input.kind ≡ k → Says (input_header script bytes)
+      by (kind.Raw rate) is =
+          subst Says (sym (raw_header_is rate is)) (
+            omega (arith, raw_length rate is, small),
+            raw_length rate is,
+            ap (λ w. script.input.channels * w) (width-coding_of container.Raw script.input.format),
           )
+      by kind.Wave is =
+          subst Says (sym (wave_header_is is)) (
+            (
+              has,
+              omega (
+                arith,
+                small,
+                floor_within size (frame_bytes script
+                    (coding_of container.Wave script.input.format)),
+              ),
+            ),
+            omega (arith, length-take size (drop 44 bytes), length-drop 44 bytes, wave_length is),
+            ap (λ w. script.input.channels * w) (width-coding_of container.Wave script.input.format),
+          )
+
+  pub generated_in_limit : InLimit script bytes
+  generated_in_limit = says.0
 
   -- as many frames as were asked for
   some : 0 < script.input.channels * word_bytes script.input.format
@@ -199,24 +216,5 @@ module _ (script : Script) (seed frames : ℕ) (few : (1 ≤ script.input.channe
       let same : size ≡ frames * frame + 0 = grind arith in
       ap (λ n. n / frame) same ∙ div-mul-add frames frame 0 some
 
-  sample_count : length (sample_bytes (input_header script bytes) bytes) ≡ size
-  sample_count = by script.input.kind refl
-    where
-      by : (k : InputKind) → script.input.kind ≡ k → length (sample_bytes (input_header script bytes) bytes) ≡ size
-      by (kind.Raw rate) is = ap (λ h. length (sample_bytes h bytes)) (raw_header_is rate is) ∙ raw_length rate is
-      by kind.Wave is =
-          ap (λ h. length (sample_bytes h bytes)) (wave_header_is is)
-          ∙ omega (arith, length-take size (drop 44 bytes), length-drop 44 bytes, wave_length is)
-
-  frame_is : frame_in script bytes ≡ script.input.channels * word_bytes script.input.format
-  frame_is = by script.input.kind refl
-    where
-      by : (k : InputKind) → script.input.kind ≡ k → frame_in script bytes ≡ script.input.channels * word_bytes
-          script.input.format
-      by (kind.Raw rate) is = ap (λ (h : Header). script.input.channels * width h.coding) (raw_header_is rate is) ∙
-          ap (λ w. script.input.channels * w) (width-coding_of container.Raw script.input.format)
-      by kind.Wave is = ap (λ (h : Header). script.input.channels * width h.coding) (wave_header_is is) ∙
-          ap (λ w. script.input.channels * w) (width-coding_of container.Wave script.input.format)
-
   pub generated_frames : frames_in_bytes script bytes ≡ frames
-  generated_frames = frames_of_bytes script bytes ∙ (λ i. sample_count i / frame_is i) ∙ whole
+  generated_frames = frames_of_bytes script bytes ∙ (λ i. says.1 i / says.2 i) ∙ whole

@@ -5,6 +5,7 @@ pub mod PerformLaws
 pub mod GeneratedLaws
 pub mod Told
 pub mod StatusLaws
+pub mod Endings
 pub mod StopLaws
 pub mod DoneLaws
 pub mod CauseLaws
@@ -13,7 +14,5 @@ pub mod EndedLaws
 pub mod ReportLaws
 pub mod StateTold
 pub mod PartTold
-pub mod ResumeLaws
-pub mod ConvertLaws
 pub mod CheckTold
 pub mod CheckLaws

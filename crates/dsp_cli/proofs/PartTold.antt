@@ -1,6 +1,6 @@
 -- What stays of a part of an input where more bytes stand behind it, and that what stops a stream over a part stands
 -- in its way.
-use Rattle.std.proofs.Common.{◌≡◌, ◌⊎◌, ℕ, ◌+◌, ◌-◌, ◌*◌, ◌/◌, ◌<◌, ◌≤◌, min, false, nat_lt, if◌then◌else◌, List, []}
+use Rattle.std.proofs.Common.{◌≡◌, ℕ, ◌+◌, ◌-◌, ◌*◌, ◌/◌, ◌<◌, ◌≤◌, min, false, nat_lt, if◌then◌else◌, List, []}
 use Rattle.std.proofs.Common.{◌++◌, length, take, drop, replicate, Option, Some, None, IfSome, Ok, Err, refl, sym, ap}
 use Rattle.std.proofs.Common.{◌∙◌, subst, arith, append-nil, append_assoc, length-append, inl, inr}
 use Rattle.std.proofs.Math.Seq.{take-append-add}
@@ -11,14 +11,13 @@ use Rattle.std.proofs.lemmas.Nat.{mul-le}
 use Rattle.std.specs.Io.KnownBytes.{IsAtEnd}
 use Rattle.std.specs.Option.{option_map}
 use Rattle.std.specs.Result.{IsOk}
-use Rattle.dsp_ports.specs.Ports.{SourceState, SinkState, one_more}
+use Rattle.dsp_ports.specs.Ports.{SourceState, SinkState, Rose}
 use Rattle.dsp_defs.specs.Block.{Frame}
 use Rattle.dsp_defs.specs.Bytes.{samples}
 use Rattle.dsp_defs.specs.Counts.{Counts}
 use Rattle.dsp_defs.specs.Output.{HasHeader, HeaderIsThere, wanted_of, declared_frames, input_header, input_signal}
-use Rattle.dsp_defs.specs.Output.{known_frames, format_of, channels_of, live_bytes, output_header, output_pad}
-use Rattle.dsp_defs.specs.Output.{sample_bytes, whole_bytes}
-use Rattle.dsp_defs.specs.Wave.{HeaderFits, header_of}
+use Rattle.dsp_defs.specs.Output.{live_bytes, output_header, output_pad, sample_bytes, whole_bytes}
+use Rattle.dsp_defs.specs.Wave.{header_of}
 use Rattle.dsp_defs.specs.declared.format.InputKind.{InputKind}
 use Rattle.dsp_defs.specs.declared.format.InputKind.TheVariants as kind
 use Rattle.dsp_defs.specs.declared.limits.TheConstants.{MAX_INPUT}
@@ -29,7 +28,7 @@ use Rattle.dsp_defs.specs.declared.wave.HeaderFault.TheVariants.{Short}
 use Rattle.dsp_defs.proofs.SampleLaws.{length-samples, samples-append}
 use Rattle.dsp_defs.proofs.WaveLemmas.{header_of-append}
 use Rattle.dsp_unit.proofs.CostLaws.{quotient_more}
-use Rattle.dsp_input.specs.Taking.{Fits, IsTooLong, frame_bytes, in_whole_frames}
+use Rattle.dsp_input.specs.Taking.{frame_bytes, in_whole_frames}
 use Rattle.dsp_session.specs.Resuming.{FirstStopped, RestStopped, IsFirstCause, IsRestCause, IsOfInput, CountsPartFault}
 use Rattle.dsp_session.specs.Resuming.{first_output, later_frames}
 use Rattle.dsp_session.specs.Session.{IsReady}
@@ -47,7 +46,8 @@ use Rattle.dsp_cli.specs.Run.{IsStoppable, IsResumable}
 use Rattle.dsp_cli.proofs.GatherLaws.{gathered_more}
 use Rattle.dsp_input.proofs.InputLaws.{header_stays, frame_in, frames_of_bytes, frames_stay, signal_stays}
 use Rattle.dsp_input.proofs.InputLaws.{some_not_none, fault_told, quotient_is}
-use Rattle.dsp_cli.proofs.StopLaws.{length_blocks}
+use Rattle.dsp_cli.proofs.ReportLaws.{rose}
+use Rattle.dsp_cli.proofs.StopLaws.{fits_not_long, length_blocks}
 use Rattle.dsp_cli.proofs.Told.{told_split}
 
 floor_below : (n f : ℕ) → 0 < f → n / f * f ≤ n
@@ -185,16 +185,6 @@ rest_stays script at given more has some now left whole x =
 
 -- ---- what stands in the way
 
--- a size that fits is not too long
-fits_not_long : (script : Script) (given more : List ℕ) (size : ℕ) → HasHeader script given →
-    IsTooLong script (known_frames script (input_header script given)) size
-    → Fits script (input_header script (given ++ more)) → ⊥
-fits_not_long script given more size has long fits =
-    let known : known_frames script (input_header script (given ++ more)) ≡ Some long.frames =
-    ap (known_frames script) (header_stays script given more has) ∙ long.known in
-    let within = subst (HeaderFits script.output (format_of script) (channels_of script)) known (fits long.headed) in
-    absurd (omega (arith, within, long.size_is, long.over))
-
 raw_fault : (script : Script) (bytes : List ℕ) (rate : ℕ) → script.input.kind ≡ kind.Raw rate →
     input_fault script bytes ≡ None
 raw_fault script bytes rate is = ap (λ k. elim k [ kind.Raw rate ↦ None | kind.Wave ↦ wave_fault script bytes ]) is
@@ -259,18 +249,26 @@ no_fault_far script bytes has fault all = by script.input.kind refl
         (subst (λ k. HeaderIsThere k (wanted_of script) bytes) is has) in
         far header good header.size refl is
 
+-- where no more bytes come, all were given
+all_given : (given more : List ℕ) (now : SourceState) → now.left ≡ Some more → IsAtEnd now.left →
+    given ++ more ≡ given
+all_given given more now left end =
+    let nothing : more ≡ [] = subst IsAtEnd left end in
+    ap (λ xs. given ++ xs) nothing ∙ append-nil given
+
 -- so many frames were declared, or came to the end of the input
 abbrev Counted : Script → List ℕ → SourceState → ℕ → Option ℕ → Type 0
 Counted script given now got declared = elim declared
     [ Some n ↦ got ≡ n | None ↦ (got ≡ frames_in_bytes script given) × IsAtEnd now.left ]
 
--- of the first frames
+-- of the first frames, where no port has failed
 module _ (script : Script) (block at : ℕ) (stop : PartFault) (ready : IsReady script block) (input now : SourceState)
     (sink after : SinkState) (before counts : Counts) where
   pub first_hinders : FirstStopped script block at stop input now sink after before counts → (bytes : List ℕ) →
-      input.left ≡ Some bytes → IsStoppable script at bytes
-      → (now.faults ≡ one_more input.faults) ⊎ (after.faults ≡ one_more sink.faults)
-  first_hinders stopped bytes is_told free = by stop stopped.cause stopped.faults stopped.in_part stopped.missing
+      input.left ≡ Some bytes → IsStoppable script at bytes → (Rose input.faults now.faults → ⊥) →
+      (Rose sink.faults after.faults → ⊥) → ⊥
+  first_hinders stopped bytes is_told free input_kept output_kept =
+      by stop stopped.cause stopped.faults stopped.in_part stopped.missing
     where
       given : List ℕ
       given = stopped.given
@@ -284,8 +282,8 @@ module _ (script : Script) (block at : ℕ) (stop : PartFault) (ready : IsReady 
       here : IsStoppable script at (given ++ more)
       here = subst (IsStoppable script at) split.2 free
 
-      some : (xs : List ℕ) → 0 < frame_in script xs
-      some xs = some_frame script (input_header script xs).coding block ready
+      some : 0 < frame_in script given
+      some = some_frame script (input_header script given).coding block ready
 
       -- the header that was given says what all bytes say
       start_is : HasHeader script given → (input_header script given).start + at * frame_in script given ≤ min
@@ -299,11 +297,8 @@ module _ (script : Script) (block at : ℕ) (stop : PartFault) (ready : IsReady 
 
       -- where no more bytes come, all frames are there
       ended : HasHeader script given → IsAtEnd now.left → at ≤ frames_in_bytes script given
-      ended has end =
-          let nothing : more ≡ [] = subst IsAtEnd split.1 end in
-          let all : length (given ++ more) ≡ length given = ap (λ xs. length (given ++ xs)) nothing ∙
-          ap length (append-nil given) in
-          enough script given (some given) at (omega (arith, start_is has, all)) (declares has)
+      ended has end = enough script given some at
+          (omega (arith, start_is has, ap length (all_given given more now split.1 end))) (declares has)
 
       has_all : HasHeader script (given ++ more)
       has_all = subst (HasHeader script) (take-append-drop MAX_INPUT (given ++ more))
@@ -320,45 +315,37 @@ module _ (script : Script) (block at : ℕ) (stop : PartFault) (ready : IsReady 
           no_fault_far script (given ++ more) has_all fault
           (λ later. ap (input_fault script) (append_assoc given more later) ∙ all (more ++ later))
       at_fault fault (inr (end, found)) missing =
-          let nothing : more ≡ [] = subst IsAtEnd split.1 end in
-          let has : HasHeader script given = subst (HasHeader script)
-          (ap (λ xs. given ++ xs) nothing ∙ append-nil given) has_all in
+          let has = subst (HasHeader script) (all_given given more now split.1 end) has_all in
           omega (arith, missing has, ended has end)
 
       by : (stop : PartFault) → IsFirstCause stop script block at given now →
           CountsPartFault stop input now sink after → (HasHeader script given → frames_in_bytes script given ≤ at)
-          → (IsOfInput stop → HasHeader script given → frames_in_bytes script given < at) →
-          (now.faults ≡ one_more input.faults) ⊎ (after.faults ≡ one_more sink.faults)
+          → (IsOfInput stop → HasHeader script given → frames_in_bytes script given < at) → ⊥
       by (part_fault.Behind place got) (has, at_is, fewer, frames) faults few missing =
-          absurd (not_behind got has fewer (declared_frames script (input_header script given)) (declares has) frames)
-      by (part_fault.Stream fault.Input) cause faults few missing = inl faults.0
-      by (part_fault.Stream fault.Output) cause faults few missing = inr faults.1
+          not_behind got has fewer (declared_frames script (input_header script given)) (declares has) frames
+      by (part_fault.Stream fault.Input) cause faults few missing = input_kept (rose _ _ faults.0)
+      by (part_fault.Stream fault.Output) cause faults few missing = output_kept (rose _ _ faults.1)
       by (part_fault.Stream (fault.Header said offset)) cause faults few missing =
-          absurd (at_fault (said, offset) cause (missing tt))
+          at_fault (said, offset) cause (missing tt)
       by (part_fault.Stream (fault.Lengths (length_fault.Input taken limit))) (all, taken_is, limit_is, wants) faults
           few missing =
           let has : HasHeader script given = subst (HasHeader script) (take_at given more MAX_INPUT all) here.good in
-          absurd (omega (
-            arith,
-            missing tt has,
-            enough script given (some given) at (omega (arith, start_is has, all))
-                (declares has),
-          ))
+          let reached = enough script given some at (omega (arith, start_is has, all)) (declares has) in
+          omega (arith, missing tt has, reached)
       by (part_fault.Stream (fault.Lengths (length_fault.Gather held rest))) (has, full) faults few missing =
           let later = gathered_more script.blocks (frames_in_bytes script given) at (few has) in
-          absurd (omega (arith, full.over, later, here.limits.not_full))
-      by (part_fault.Stream (fault.Lengths (length_fault.Window end full))) none faults few missing = absurd none
+          omega (arith, full.over, later, here.limits.not_full)
+      by (part_fault.Stream (fault.Lengths (length_fault.Window end full))) none faults few missing = none
       by (part_fault.Stream (fault.Lengths (length_fault.Riff size limit))) (has, alone, long, limit_is) faults few
-          missing =
-          absurd (fits_not_long script given more size has long here.limits.fits)
+          missing = fits_not_long script given more size has long here.limits.fits
 
 -- and of the rest
 module _ (script : Script) (block : ℕ) (start : SessionState) (at : ℕ) (stop : PartFault)
     (ready : IsReady script block) (input now : SourceState) (sink after : SinkState) (before counts : Counts) where
   pub rest_hinders : RestStopped script block start at stop input now sink after before counts → (bytes : List ℕ) →
-      input.left ≡ Some bytes → IsResumable script at bytes
-      → (now.faults ≡ one_more input.faults) ⊎ (after.faults ≡ one_more sink.faults)
-  rest_hinders stopped bytes is_told free = by stop stopped.cause stopped.faults
+      input.left ≡ Some bytes → IsResumable script at bytes → (Rose input.faults now.faults → ⊥) →
+      (Rose sink.faults after.faults → ⊥) → ⊥
+  rest_hinders stopped bytes is_told free input_kept output_kept = by stop stopped.cause stopped.faults
     where
       given : List ℕ
       given = stopped.given
@@ -379,9 +366,7 @@ module _ (script : Script) (block : ℕ) (start : SessionState) (at : ℕ) (stop
           declared_frames script (input_header script given) ≡ declared
           → Counted script given now got declared → ⊥
       not_behind got has fewer None none (count, end) =
-          let nothing : more ≡ [] = subst IsAtEnd split.1 end in
-          let all : frames_in_bytes script (given ++ more) ≡ frames_in_bytes script given =
-          ap (λ xs. frames_in_bytes script (given ++ xs)) nothing ∙ ap (frames_in_bytes script) (append-nil given) in
+          let all = ap (frames_in_bytes script) (all_given given more now split.1 end) in
           omega (arith, fewer, count, all, here.reached)
       not_behind got has fewer (Some n) is same =
           let later : declared_frames script (input_header script (given ++ more)) ≡ Some n =
@@ -392,22 +377,17 @@ module _ (script : Script) (block : ℕ) (start : SessionState) (at : ℕ) (stop
       stopped_by length cause = length_blocks script block given more now split.1 (some given) length cause
           here.good.1 here.no_window here.limits
 
-      by : (stop : PartFault) → IsRestCause stop script block at given now → CountsPartFault stop input now sink after
-          → (now.faults ≡ one_more input.faults) ⊎ (after.faults ≡ one_more sink.faults)
+      by : (stop : PartFault) → IsRestCause stop script block at given now →
+          CountsPartFault stop input now sink after → ⊥
       by (part_fault.Behind place got) (has, at_is, fewer, frames) faults =
-          absurd (not_behind got has fewer (declared_frames script (input_header script given)) refl frames)
-      by (part_fault.Stream fault.Input) cause faults = inl faults.0
-      by (part_fault.Stream fault.Output) cause faults = inr faults.1
+          not_behind got has fewer (declared_frames script (input_header script given)) refl frames
+      by (part_fault.Stream fault.Input) cause faults = input_kept (rose _ _ faults.0)
+      by (part_fault.Stream fault.Output) cause faults = output_kept (rose _ _ faults.1)
       by (part_fault.Stream (fault.Header said offset)) cause faults =
-          absurd (some_not_none (input_fault script (given ++ more)) (said, offset)
-          (fault_told script given more now (said, offset) split.1 cause) here.good.0)
-      by (part_fault.Stream (fault.Lengths (length_fault.Input taken limit))) cause faults =
-          absurd (stopped_by (length_fault.Input taken limit) cause)
+          some_not_none (input_fault script (given ++ more)) (said, offset)
+          (fault_told script given more now (said, offset) split.1 cause) here.good.0
       by (part_fault.Stream (fault.Lengths (length_fault.Gather held rest))) (has, some_frames, full) faults =
           let later = gathered_more script.blocks (frames_in_bytes script given)
           (frames_in_bytes script (given ++ more)) (frames_stay script given more has) in
-          absurd (omega (arith, full.over, later, here.limits.not_full))
-      by (part_fault.Stream (fault.Lengths (length_fault.Window end full))) cause faults =
-          absurd (stopped_by (length_fault.Window end full) cause)
-      by (part_fault.Stream (fault.Lengths (length_fault.Riff size limit))) cause faults =
-          absurd (stopped_by (length_fault.Riff size limit) cause)
+          omega (arith, full.over, later, here.limits.not_full)
+      by (part_fault.Stream (fault.Lengths length)) cause faults = stopped_by length cause

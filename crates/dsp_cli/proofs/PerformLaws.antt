@@ -1,6 +1,8 @@
 -- What a run comes to for the words that ask for it.
 use Rattle.std.proofs.Common.{◌≡◌, ◌≤◌, ℕ, Bool, List, length, ◌++◌, Option, None, Some, IsTrue, IsFalse, refl, sym, ap}
-use Rattle.std.proofs.Common.{◌∙◌, subst, flat_map, codes, inl, inr}
+use Rattle.std.proofs.Common.{◌∙◌, subst, flat_map, codes, inl, inr, Result, IfErr}
+use Rattle.std.proofs.lemmas.Result.{err_from_is_err_and}
+use Rattle.std.specs.Result.{IsErrAnd}
 use Rattle.dsp_ports.specs.Ports.{SourceState, SinkState}
 use Rattle.dsp_defs.specs.Counts.{Counts}
 use Rattle.dsp_defs.specs.Output.{format_of, channels_of, input_signal}
@@ -21,33 +23,24 @@ use Rattle.dsp_session.specs.SessionState.{SessionState}
 use Rattle.dsp_state.specs.SavedState.{SavedState}
 use Rattle.dsp_session.specs.Session.{cost_of}
 use Rattle.dsp_session.specs.Stream.{Done, Stopped as StreamStopped}
-use Rattle.dsp_session.specs.declared.fault.StreamFault.{StreamFault}
 use Rattle.dsp_cli.specs.Fault.{summary_text}
 use Rattle.dsp_cli.specs.Call.{Call, call, Untouched, Streams, Went, Saved, Resumed, Checked, Stopped, OfText, OfState}
-use Rattle.dsp_cli.specs.Call.{OfScript, InFirst, InRest, Happened}
+use Rattle.dsp_cli.specs.Call.{GoesOn, OfScript, InFirst, InRest, Happened, RefusesLength}
 use Rattle.dsp_cli.specs.Perform.{NotBegun, Compared, FailsToCompare, ReadsAs, Ran, RanGenerated, Made, FailsToRun}
 use Rattle.dsp_cli.specs.Perform.{FailsToGenerate, LoadsState, RanFirst, FailsToStop, RanRest, FailsToGoOn}
+use Rattle.dsp_cli.specs.Perform.{Continues, StopsAtLength}
 use Rattle.dsp_cli.specs.Run.{HasSource, HasBlocks, IsStream, IsReading, read_from}
-use Rattle.dsp_cli.specs.Script.{named_by, banked_by, chosen, chosen_block, is_banked, is_legal_for}
+use Rattle.dsp_cli.specs.Script.{named_by, banked_by, chosen, is_banked, is_legal_for}
 use Rattle.dsp_cli.specs.declared.fault.Fault.{Fault}
 use Rattle.dsp_cli.specs.declared.fault.Fault.TheVariants.{BlockLength, Memory, Stream, State, Part, Comparison}
-use Rattle.dsp_cli.proofs.StatusLaws.{stream_blocks, stream_text, text_source}
+use Rattle.dsp_cli.proofs.StatusLaws.{block_of, stream_blocks, stream_text, text_source}
 use Rattle.dsp_cli.specs.declared.report.Summary.{Summary}
 
--- the stream of a session of the script, in blocks of the chosen length, has done this
-pub done_by : (banked same_banked : Bool) (script same : Script) (block same_block frames : ℕ)
-    (input now : SourceState) (sink after : SinkState) (before counts : Counts) (found measured : List Measure)
-    → same_banked ≡ banked → same ≡ script → same_block ≡ block → found ≡ measured
-    → Done same_banked same same_block frames input now sink after before counts measured →
-    Done banked script block frames input now sink after before counts found
-done_by banked same_banked script same block same_block frames input now sink after before counts found measured k s b
-    f done =
-    subst (λ t. Done t script block frames input now sink after before counts found) k
-    (subst (λ (t : Script). Done same_banked t block frames input now sink after before counts found) s
-    (subst (λ n. Done same_banked same n frames input now sink after before counts found) b
-    (subst (λ m. Done same_banked same same_block frames input now sink after before counts m) (sym f) done)))
+-- what holds of an error holds of the result that it was made into
+pub err_of : {T E : Type 0} (r : Result T E) (P : E → Type 0) {y : E} → IsErrAnd r (λ e. e ≡ y) → P y → IfErr r P
+err_of r P is holds = let (error, result_is, same) = err_from_is_err_and r is in rw (result_is, same) holds
 
--- and its summary is the report of just that
+-- the summary of a session is the report of just that
 pub text_by : (script : Script) (summary : Summary) →
     summary.input ≡ record { format = script.input.format; channels = script.input.channels }
     → summary.output ≡ record { format = format_of script; channels = channels_of script } →
@@ -60,6 +53,19 @@ text_by script summary came went given made =
     ++ multiplies_line (made i) ++ flat_map measure_line summary.measures.items
 
 -- ---- what a command comes to
+
+-- a length that is not legal was chosen for the script that was read
+length_stops : (c : Call) {command : Option Command} → command_of c.words ≡ command → HasBlocks command →
+    (script : Script) → ReadsAs c.source c.read script → (block divisor : ℕ) →
+    StopsAtLength block divisor (named_by command) script → RefusesLength block divisor c
+length_stops c is blocks script loaded block divisor length =
+    let illegal = subst (λ n. IsFalse (is_legal_for script n)) (sym length.block_is) length.illegal in
+    let block_is = length.block_is ∙ sym (block_of c.words is script) in
+    OfText (subst HasBlocks (sym is) blocks) (record {
+      text = loaded.text;
+      read = loaded.read;
+      holds = (script, loaded.holds, illegal, block_is, length.divisor_is);
+    })
 
 module _ (words : List (List ℕ)) (source read port later : SourceState) (sink after : SinkState) (other : SourceState)
     (before counts : Counts) (script : Script) (loaded : ReadsAs source read script) where
@@ -89,17 +95,6 @@ module _ (words : List (List ℕ)) (source read port later : SourceState) (sink 
     flag : banked_by (Some command) ≡ is_banked words
     flag = ap banked_by (sym is)
 
-    abbrev WentBy : Bool → Summary → Type 0
-    WentBy banked summary =
-        Done banked script (chosen (named_by (Some command)) script) summary.totals.frames_taken
-        (read_from (Some command) script.input port) now sink after
-        before counts summary.measures.items
-
-    abbrev StopsBy : Bool → StreamFault → Type 0
-    StopsBy banked fault =
-        StreamStopped banked script (chosen (named_by (Some command)) script) fault
-        (read_from (Some command) script.input port) now sink after before counts
-
     went : (summary : Summary) → Ran (named_by (Some command)) (banked_by (Some command)) script summary
         (read_from (Some command) script.input port) now sink after before counts → Made (summary_text summary) called
     went summary ran =
@@ -108,7 +103,7 @@ module _ (words : List (List ℕ)) (source read port later : SourceState) (sink 
           happened = streams
               (λ block input now. Done (is_banked words) script block summary.totals.frames_taken input now sink after
               before counts summary.measures.items)
-              ran.legal (subst (λ banked. WentBy banked summary) flag ran.done);
+              ran.legal (rw flag at ran.done);
           whole = tt;
           text_is = ran.text;
         }
@@ -125,26 +120,15 @@ module _ (words : List (List ℕ)) (source read port later : SourceState) (sink 
 
       stops : (fault : Fault) → FailsToRun fault (named_by (Some command)) (banked_by (Some command)) script
           (read_from (Some command) script.input port) now sink after before counts → Happened (Stopped fault) called
-      stops (BlockLength block divisor) (length, untouched) =
-          let chosen_is : chosen (named_by (Some command)) script ≡ chosen_block words script =
-          ap (λ command. chosen (named_by command) script) (sym is) in
-          let illegal : IsFalse (is_legal_for script block) =
-          subst (λ n. IsFalse (is_legal_for script n)) (sym length.block_is) length.illegal in (
-            OfText (stream_blocks words stream)
-                (record {
-                  text = loaded.text;
-                  read = loaded.read;
-                  holds =
-                      (script, loaded.holds, illegal, length.block_is ∙ chosen_is, length.divisor_is);
-                }),
-            left_alone untouched,
-          )
+      stops (BlockLength block divisor) (length, untouched) = (
+        length_stops called is (subst HasBlocks is (stream_blocks words stream)) script loaded block divisor length,
+        left_alone untouched,
+      )
       stops Memory untouched = (text_source (command_of words) (stream_text words stream), left_alone untouched)
       stops (Stream fault) stop = (
         script,
         streams (λ block input now. StreamStopped (is_banked words) script block fault input now sink after before
-            counts) stop.legal
-            (subst (λ banked. StopsBy banked fault) flag stop.stopped),
+            counts) stop.legal (rw flag at stop.stopped),
       )
       stops fault none = absurd none
 
@@ -198,9 +182,8 @@ first_by script at state old new input now sink after before counts script_is at
 
 -- and one that went on has done that
 pub rest_by : (script same : Script) (start : SessionState) (at same_at frames : ℕ) (input now : SourceState)
-    (sink after : SinkState) (before counts : Counts)
-    (found measured : List Measure) → same ≡ script → same_at ≡ at → found ≡ measured
-    → RestDone same start same_at frames input now sink after before counts measured →
+    (sink after : SinkState) (before counts : Counts) (found measured : List Measure) → same ≡ script → same_at ≡ at →
+    found ≡ measured → RestDone same start same_at frames input now sink after before counts measured →
     RestDone script start at frames input now sink after before counts found
 rest_by script same start at same_at frames input now sink after before counts found measured s a f done =
     subst (λ (t : Script). RestDone t start at frames input now sink after before counts found) s
@@ -242,19 +225,7 @@ module _ (words : List (List ℕ)) (source read port later : SourceState) (sink 
       pub first_stops : (fault : Fault) → FailsToStop fault at script port later sink after before counts →
           Happened (Stopped fault) asked
       first_stops (BlockLength block divisor) (length, untouched) =
-          let chosen_is : chosen None script ≡ chosen_block words script =
-          ap (λ command. chosen (named_by command) script) (sym is) in
-          let illegal : IsFalse (is_legal_for script block) =
-          subst (λ n. IsFalse (is_legal_for script n)) (sym length.block_is) length.illegal in (
-            OfText (subst HasBlocks (sym is) tt)
-                (record {
-                  text = loaded.text;
-                  read = loaded.read;
-                  holds =
-                      (script, loaded.holds, illegal, length.block_is ∙ chosen_is, length.divisor_is);
-                }),
-            alone untouched,
-          )
+          (length_stops asked is tt script loaded block divisor length, alone untouched)
       first_stops (State kind offset) (text, untouched) = (
         OfScript at is (record {
           text = loaded.text;
@@ -279,22 +250,26 @@ module _ (words : List (List ℕ)) (source read port later : SourceState) (sink 
 
   -- a run that goes on
   module _ (saved : SavedState) (loaded : LoadsState source read saved) (go : command_of words ≡ Some Go) where
+    goes_on : (Did : ℕ → SessionState → ℕ → Type 0) (start : SessionState) → Continues saved start →
+        Did (chosen None saved.script) start saved.frames → GoesOn saved.script Did asked
+    goes_on Did start continues did = record {
+      asked = go;
+      at = saved.frames;
+      numbers = saved.numbers;
+      read = loaded;
+      legal = continues.legal;
+      start = start;
+      script_is = continues.script_is;
+      stands = continues.stands;
+      did = did;
+      other_same = refl;
+    }
+
     pub rest_ran : (summary : Summary) → RanRest saved summary port later sink after before counts →
         Made (summary_text summary) asked
     rest_ran summary ran = record {
       ending = Resumed saved.script summary.totals.frames_taken summary.measures.items;
-      happened = record {
-        asked = go;
-        at = saved.frames;
-        numbers = saved.numbers;
-        read = loaded;
-        legal = ran.continues.legal;
-        start = ran.start;
-        script_is = ran.continues.script_is;
-        stands = ran.continues.stands;
-        did = ran.done;
-        other_same = refl;
-      };
+      happened = goes_on _ ran.start ran.continues ran.done;
       whole = tt;
       text_is = ran.text;
     }
@@ -313,18 +288,7 @@ module _ (words : List (List ℕ)) (source read port later : SourceState) (sink 
           alone untouched,
         )
     rest_stops Memory untouched = (subst HasSource (sym go) tt, alone untouched)
-    rest_stops (Part fault) stop = InRest saved.script (record {
-      asked = go;
-      at = saved.frames;
-      numbers = saved.numbers;
-      read = loaded;
-      legal = stop.continues.legal;
-      start = stop.start;
-      script_is = stop.continues.script_is;
-      stands = stop.continues.stands;
-      did = stop.stopped;
-      other_same = refl;
-    })
+    rest_stops (Part fault) stop = InRest saved.script (goes_on _ stop.start stop.continues stop.stopped)
     rest_stops fault none = absurd none
 
 -- a check leaves the output alone
@@ -345,26 +309,15 @@ module _ (words : List (List ℕ)) (source read port later : SourceState) (sink 
 
   pub check_stops : (fault : Fault) → FailsToCompare fault script port later other seen before counts →
       Happened (Stopped fault) checking
-  check_stops (BlockLength block divisor) (length, alone) =
-      let chosen_is : chosen None script ≡ chosen_block words script =
-      ap (λ command. chosen (named_by command) script) (sym is) in
-      let illegal : IsFalse (is_legal_for script block) =
-      subst (λ n. IsFalse (is_legal_for script n)) (sym length.block_is) length.illegal in (
-        OfText (subst HasBlocks (sym is) tt)
-            (record {
-              text = loaded.text;
-              read = loaded.read;
-              holds =
-                  (script, loaded.holds, illegal, length.block_is ∙ chosen_is, length.divisor_is);
-            }),
-        record {
-          input_same = alone.input_same;
-          output_same = refl;
-          other_same = alone.other_same;
-          counts_same =
-              alone.counts_same;
-        },
-      )
+  check_stops (BlockLength block divisor) (length, alone) = (
+    length_stops checking is tt script loaded block divisor length,
+    record {
+      input_same = alone.input_same;
+      output_same = refl;
+      other_same = alone.other_same;
+      counts_same = alone.counts_same;
+    },
+  )
   check_stops (Comparison fault) stop = (
     script,
     record

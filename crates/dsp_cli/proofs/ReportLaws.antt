@@ -1,6 +1,6 @@
 -- The report of a run, line by line.
 use Rattle.std.proofs.Common.{◌≡◌, ℕ, zero, suc, ◌+◌, ◌<◌, List, [], ◌∷◌, ◌++◌, length, take, drop, get_or, flat_map}
-use Rattle.std.proofs.Common.{refl, sym, ap, ◌∙◌, arith, append_assoc, append-nil, length-append, subst}
+use Rattle.std.proofs.Common.{refl, sym, ap, ◌∙◌, arith, append_assoc, append-nil, length-append, subst, inl, inr}
 use Rattle.std.proofs.lemmas.List.{take-append-drop, take-append-le, take_all}
 use Rattle.std.specs.Io.KnownBytes.{append_known}
 use Rattle.std.specs.Prelude.{slice_get, Some}
@@ -9,7 +9,7 @@ use Rattle.dsp_ports.proofs.Moved.{append_known-append}
 use Rattle.dsp_command.specs.Report.{measure_line}
 use Rattle.dsp_defs.specs.Streaming.{Begins}
 use Rattle.dsp_defs.specs.declared.measure.Measure.{Measure}
-use Rattle.dsp_cli.specs.Run.{Wrote, Tells}
+use Rattle.dsp_cli.specs.Run.{Wrote, Tells, ReportsText}
 
 abbrev pub lines : List Measure → List ℕ
 lines ms = flat_map measure_line ms
@@ -51,6 +51,12 @@ wrote-more old mid new so_far piece wrote took = wrote-behind old mid new so_far
 -- a count that is one more has risen
 pub rose : (before now : ℕ) → now ≡ one_more before → Rose before now
 rose before now is = omega (arith, is)
+
+-- what was done has status 0, where the report has not failed
+pub reported_zero : {text : List ℕ} {status : ℕ} {report told : SinkState} → ReportsText text status report told →
+    (Rose report.faults told.faults → ⊥) → status ≡ 0
+reported_zero (inl way) kept = way.0
+reported_zero (inr way) kept = absurd (kept (rose _ _ way.1))
 
 -- a front of the text was written, and the report has failed
 pub tells-front : (old new : SinkState) (text written : List ℕ) → Begins written text → Wrote written old new →

@@ -1,5 +1,5 @@
 -- What is so of the state that a source tells, from what was read of it.
-use Rattle.std.proofs.Common.{ℕ, ◌<◌, ℤ, List, length, sym, subst, arith, inl, inr, IfSome}
+use Rattle.std.proofs.Common.{ℕ, ◌<◌, ℤ, List, length, sym, subst, arith, inl, inr, IfSome, Option}
 use Rattle.dsp_ports.specs.Ports.{SourceState}
 use Rattle.dsp_defs.specs.StateBytes.{IsState}
 use Rattle.dsp_defs.specs.StateFields.{HasStateFault}
@@ -10,7 +10,7 @@ use Rattle.dsp_defs.specs.declared.state_kind.StateKind.TheVariants.{NotState, V
 use Rattle.dsp_defs.specs.declared.state_kind.StateKind.TheVariants.{TooLong, LongText}
 use Rattle.dsp_state.proofs.StateFaults.{one_reading, no_fault}
 use Rattle.dsp_cli.specs.Script.{ReadsBytes, IfState}
-use Rattle.dsp_cli.proofs.Told.{IfSome-map, Same, told_text}
+use Rattle.dsp_cli.proofs.Told.{IfSome-always, IfSome-map, Same, told_text}
 
 -- what holds of the state that was read holds of each that is told
 pub told_state : (source now : SourceState) (script : Script) (at : ℕ) (numbers : List ℤ)
@@ -66,7 +66,7 @@ told_same_fault source now kind offset read =
     too_long (LongText size) all here there fault = absurd (omega (arith, here, fault.0))
 
 -- and bytes with a fault are no state
-pub told_fault : (source now : SourceState) (kind : StateKind) (offset : ℕ) →
+told_fault : (source now : SourceState) (kind : StateKind) (offset : ℕ) →
     ReadsBytes source now (λ bytes. HasStateFault kind offset bytes)
     → IfSome source.left (λ bytes. (script : Script) (at : ℕ) (numbers : List ℤ) → IsState bytes script at numbers → ⊥)
 told_fault source now kind offset read =
@@ -77,3 +77,13 @@ told_fault source now kind offset read =
       | inr long ↦ absurd (omega (arith, long.1, state.short))
     ])
     (told_text MAX_STATE source now read.text read.read)
+
+pub IfState-always : (left : Option (List ℕ)) (P : Script → ℕ → List ℤ → Type 0) →
+    ((s : Script) (at : ℕ) (numbers : List ℤ) → P s at numbers) → IfState left P
+IfState-always left P always = IfSome-always left _ (λ _ s at numbers _. always s at numbers)
+
+pub told_no_state : (source now : SourceState) (kind : StateKind) (offset : ℕ) (P : Script → ℕ → List ℤ → Type 0) →
+    ReadsBytes source now (λ bytes. HasStateFault kind offset bytes) → IfState source.left P
+told_no_state source now kind offset P read =
+    IfSome-map source.left _ _ (λ bytes none script at numbers state. absurd (none script at numbers state))
+    (told_fault source now kind offset read)

@@ -4,19 +4,18 @@ use Rattle.std.proofs.Common.{Option, IsSome, IsTrue, IsFalse, true, false, ap}
 use Rattle.dsp_ports.specs.Ports.{SinkState}
 use Rattle.dsp_command.specs.Words.{command_of}
 use Rattle.dsp_command.specs.declared.command.Command.{Command}
-use Rattle.dsp_command.specs.declared.command.Command.TheVariants.{Run, Gen, Print, Stop, Go, Convert, Check}
+use Rattle.dsp_command.specs.declared.command.Command.TheVariants.{Run, Gen, Print, Stop, Go, Convert}
 use Rattle.dsp_defs.specs.declared.script.Script.{Script}
 use Rattle.dsp_session.specs.declared.fault.PartFault.{PartFault}
 use Rattle.dsp_session.specs.declared.fault.PartFault.TheVariants as part_fault
 use Rattle.dsp_session.specs.declared.fault.StreamFault.{StreamFault}
-use Rattle.dsp_session.specs.declared.fault.StreamFault.TheVariants.{Header, Input, Output, Lengths}
+use Rattle.dsp_session.specs.declared.fault.StreamFault.TheVariants.{Header}
 use Rattle.dsp_cli.specs.Fault.{status_of, stream_status}
 use Rattle.dsp_cli.specs.Run.{HasSource, HasText, HasBlocks, HasOutput, IsStream, IsGen, IsPrint, IsDone, IsRefusal}
 use Rattle.dsp_cli.specs.Run.{IsRefused, IsAnswer, ReportsText}
 use Rattle.dsp_cli.specs.Script.{chosen, chosen_block, is_legal_for, named_by}
 use Rattle.dsp_cli.specs.declared.fault.Fault.{Fault}
-use Rattle.dsp_cli.specs.declared.fault.Fault.TheVariants.{Usage, ScriptRead, Script as BadText, BlockLength, Memory}
-use Rattle.dsp_cli.specs.declared.fault.Fault.TheVariants.{Stream, State, Part, Conversion, Comparison}
+use Rattle.dsp_cli.specs.declared.fault.Fault.TheVariants.{Stream, Part, Conversion, Comparison}
 use Rattle.dsp_au.specs.declared.fault.ConvertFault.{ConvertFault}
 use Rattle.dsp_au.specs.declared.fault.ConvertFault.TheVariants as convert_fault
 use Rattle.dsp_check.specs.declared.fault.CheckFault.{CheckFault}
@@ -103,33 +102,20 @@ stream_output words stream = of_stream words HasOutput stream (λ named banked i
 pub conversion_status : (fault : ConvertFault) → (status_of (Conversion fault) ≡ 4) ⊎
     (status_of (Conversion fault) ≡ 5) ⊎ (status_of (Conversion fault) ≡ 7) ⊎ (status_of (Conversion fault) ≡ 8)
 conversion_status (convert_fault.Wave fault offset) = inl refl
-conversion_status (convert_fault.Au fault offset) = inl refl
-conversion_status (convert_fault.Input taken limit) = inr (inl refl)
-conversion_status (convert_fault.Riff size limit) = inr (inl refl)
-conversion_status convert_fault.Read = inr (inr (inl refl))
-conversion_status convert_fault.Write = inr (inr (inr refl))
+conversion_status fault = grind arith
 
 -- those of a check that stops
 pub comparison_status : (fault : CheckFault)
     → (status_of (Comparison fault) ≡ 4) ⊎ (status_of (Comparison fault) ≡ 5) ⊎ (status_of (Comparison fault) ≡ 7)
     ⊎ (status_of (Comparison fault) ≡ 10) ⊎ (status_of (Comparison fault) ≡ 11) ⊎ (status_of (Comparison fault) ≡ 14)
 comparison_status (check_fault.Header fault offset) = inl refl
-comparison_status (check_fault.Input taken limit) = inr (inl refl)
-comparison_status (check_fault.Window end length) = inr (inl refl)
-comparison_status (check_fault.Riff size limit) = inr (inl refl)
-comparison_status (check_fault.Size size limit) = inr (inl refl)
-comparison_status check_fault.Read = inr (inr (inl refl))
-comparison_status check_fault.Memory = inr (inr (inr (inl refl)))
-comparison_status (check_fault.Differs offset) = inr (inr (inr (inr (inl refl))))
-comparison_status check_fault.Other = inr (inr (inr (inr (inr refl))))
+comparison_status fault = grind arith
 
 -- those of a stream that stops, over a whole input or a part of it
 pub stream_statuses : (fault : StreamFault) → (stream_status fault ≡ 4) ⊎ (stream_status fault ≡ 5) ⊎
     (stream_status fault ≡ 7) ⊎ (stream_status fault ≡ 8)
 stream_statuses (Header fault offset) = inl refl
-stream_statuses (Lengths fault) = inr (inl refl)
-stream_statuses Input = inr (inr (inl refl))
-stream_statuses Output = inr (inr (inr refl))
+stream_statuses fault = grind arith
 
 pub part_status : (fault : PartFault) → (status_of (Part fault) ≡ 4) ⊎ (status_of (Part fault) ≡ 5) ⊎
     (status_of (Part fault) ≡ 7) ⊎ (status_of (Part fault) ≡ 8)
@@ -141,25 +127,13 @@ pub reports_done : {text : List ℕ} {status : ℕ} {report told : SinkState} �
 reports_done (inl way) = inl way.0
 reports_done (inr way) = inr way.0
 
-neither : (n : ℕ) → (n ≡ 0 → ⊥) × (n ≡ 9 → ⊥) → IsDone n → ⊥
-neither n not (inl is) = not.0 is
-neither n not (inr is) = not.1 is
-
 -- a fault's status is not that of what is done
 pub fault_not_done : (fault : Fault) → IsDone (status_of fault) → ⊥
-fault_not_done Usage done = neither 1 (λ is. omega (arith, is), λ is. omega (arith, is)) done
-fault_not_done ScriptRead done = neither 6 (λ is. omega (arith, is), λ is. omega (arith, is)) done
-fault_not_done (BadText fault) done = neither 2 (λ is. omega (arith, is), λ is. omega (arith, is)) done
-fault_not_done (BlockLength block divisor) done = neither 3 (λ is. omega (arith, is), λ is. omega (arith, is)) done
-fault_not_done Memory done = neither 10 (λ is. omega (arith, is), λ is. omega (arith, is)) done
-fault_not_done (Stream (Header fault offset)) done = neither 4 (λ is. omega (arith, is), λ is. omega (arith, is)) done
-fault_not_done (Stream (Lengths fault)) done = neither 5 (λ is. omega (arith, is), λ is. omega (arith, is)) done
-fault_not_done (Stream Input) done = neither 7 (λ is. omega (arith, is), λ is. omega (arith, is)) done
-fault_not_done (Stream Output) done = neither 8 (λ is. omega (arith, is), λ is. omega (arith, is)) done
-fault_not_done (State kind offset) done = neither 13 (λ is. omega (arith, is), λ is. omega (arith, is)) done
+fault_not_done (Stream fault) done = omega (arith, stream_statuses fault, done)
 fault_not_done (Part fault) done = omega (arith, part_status fault, done)
 fault_not_done (Conversion fault) done = omega (arith, conversion_status fault, done)
 fault_not_done (Comparison fault) done = omega (arith, comparison_status fault, done)
+fault_not_done fault done = omega (arith, done)
 
 -- that of a refusal is another than those of what is begun
 pub refused_not_done : (status : ℕ) → IsRefusal status → IsDone status → ⊥
@@ -176,60 +150,28 @@ stream_refused words status (inr (seed, frames, is)) refused = subst (λ command
 
 -- ---- which may come
 
--- what any command may end with
+-- what reads a text may end with
 pub any_answers : (command : Option Command) (status : ℕ) → HasText command →
     (status ≡ 2) ⊎ (status ≡ 6) ⊎ (status ≡ 10) → IsAnswer command status
 any_answers None status some is = absurd some
-any_answers (Some (Run named banked)) status some (inl two) = (omega (arith, two), λ e. omega (arith, two, e))
-any_answers (Some (Run named banked)) status some (inr (inl six)) = (omega (arith, six), λ e. omega (arith, six, e))
-any_answers (Some (Run named banked)) status some (inr (inr ten)) = (omega (arith, ten), λ e. omega (arith, ten, e))
-any_answers (Some (Gen seed frames)) status some (inl two) =
-    (omega (arith, two), λ e. omega (arith, two, e), λ e. omega (arith, two, e), λ e. omega (arith, two, e))
-any_answers (Some (Gen seed frames)) status some (inr (inl six)) =
-    (omega (arith, six), λ e. omega (arith, six, e), λ e. omega (arith, six, e), λ e. omega (arith, six, e))
-any_answers (Some (Gen seed frames)) status some (inr (inr ten)) =
-    (omega (arith, ten), λ e. omega (arith, ten, e), λ e. omega (arith, ten, e), λ e. omega (arith, ten, e))
-any_answers (Some Print) status some is = inr is
-any_answers (Some (Stop at)) status some is = (inl (omega (arith, is)), λ e. omega (arith, is, e))
 any_answers (Some Go) status some is = absurd some
 any_answers (Some (Convert direction)) status some is = absurd some
-any_answers (Some Check) status some is = (
-  inl (omega (arith, is)),
-  λ e. omega (arith, is, e),
-  λ e. omega (arith, is, e),
-)
+any_answers command status some is = grind arith
 
 -- and what reads a script or a state
 pub source_answers : (command : Option Command) (status : ℕ) → HasSource command → (status ≡ 6) ⊎ (status ≡ 10) →
     IsAnswer command status
 source_answers None status some is = absurd some
-source_answers (Some Go) status some is = (
-  inl (omega (arith, is)),
-  λ e. omega (arith, is, e),
-  λ e. omega (arith, is, e),
-)
 source_answers (Some (Convert direction)) status some is = absurd some
-source_answers (Some (Run named banked)) status some is = any_answers (Some (Run named banked)) status tt (inr is)
-source_answers (Some (Gen seed frames)) status some is = any_answers (Some (Gen seed frames)) status tt (inr is)
-source_answers (Some Print) status some is = any_answers (Some Print) status tt (inr is)
-source_answers (Some (Stop at)) status some is = any_answers (Some (Stop at)) status tt (inr is)
-source_answers (Some Check) status some is = any_answers (Some Check) status tt (inr is)
+source_answers command status some is = grind arith
 
 -- what a command that works in blocks may end with
 pub length_answers : (command : Option Command) → HasBlocks command → IsAnswer command 3
 length_answers None blocks = absurd blocks
 length_answers (Some Print) blocks = absurd blocks
 length_answers (Some Go) blocks = absurd blocks
-length_answers (Some (Stop at)) blocks = (inl (omega arith), λ e. omega (arith, e))
 length_answers (Some (Convert direction)) blocks = absurd blocks
-length_answers (Some Check) blocks = (inl (omega arith), λ e. omega (arith, e), λ e. omega (arith, e))
-length_answers (Some (Run named banked)) blocks = (omega arith, λ e. omega (arith, e))
-length_answers (Some (Gen seed frames)) blocks = (
-  omega arith,
-  λ e. omega (arith, e),
-  λ e. omega (arith, e),
-  λ e. omega (arith, e),
-)
+length_answers command blocks = grind arith
 
 -- what a run and a gen may end with
 pub stream_answers : (words : List (List ℕ)) (status : ℕ) → IsStream words → status ≤ 10 → status ≢ 1 →
@@ -238,24 +180,3 @@ stream_answers words status (inl (named, banked, is)) few other never =
     subst (λ command. IsAnswer command status) (sym is) (few, other)
 stream_answers words status (inr gen) few other never =
     subst (λ command. IsAnswer command status) (sym gen.2) (few, other, (never gen).0, (never gen).1)
-
--- what a run that is stopped and one that goes on may end with
-pub part_answers : (fault : PartFault) → ((at : ℕ) → IsAnswer (Some (Stop at)) (status_of (Part fault))) ×
-    IsAnswer (Some Go) (status_of (Part fault))
-part_answers fault =
-    let status = part_status fault in (
-      λ at. (inl (omega (arith, status)), λ e. omega (arith, status, e)),
-      (inl (omega (arith, status)), λ e. omega (arith, status, e), λ e. omega (arith, status, e)),
-    )
-
--- what a check may end with
-pub comparison_answers : (fault : CheckFault) → IsAnswer (Some Check) (status_of (Comparison fault))
-comparison_answers check_fault.Other = (inr refl, λ e. omega (arith, e), λ e. omega (arith, e))
-comparison_answers check_fault.Memory = (inl (omega arith), λ e. omega (arith, e), λ e. omega (arith, e))
-comparison_answers (check_fault.Differs offset) = (inl (omega arith), λ e. omega (arith, e), λ e. omega (arith, e))
-comparison_answers check_fault.Read = (inl (omega arith), λ e. omega (arith, e), λ e. omega (arith, e))
-comparison_answers (check_fault.Header fault offset) = (inl (omega arith), λ e. omega (arith, e), λ e. omega (arith, e))
-comparison_answers (check_fault.Input taken limit) = (inl (omega arith), λ e. omega (arith, e), λ e. omega (arith, e))
-comparison_answers (check_fault.Window end length) = (inl (omega arith), λ e. omega (arith, e), λ e. omega (arith, e))
-comparison_answers (check_fault.Riff size limit) = (inl (omega arith), λ e. omega (arith, e), λ e. omega (arith, e))
-comparison_answers (check_fault.Size size limit) = (inl (omega arith), λ e. omega (arith, e), λ e. omega (arith, e))

@@ -2,7 +2,7 @@
 use Rattle.std.proofs.Common.{◌≡◌, ℕ, ◌<◌, ◌≤◌, List, ◌++◌, length, sym, ap, ◌∙◌, subst, arith, inl, inr, None, Some}
 use Rattle.dsp_ports.specs.Ports.{SourceState, SinkState, Rose, one_more, Gave}
 use Rattle.dsp_defs.specs.Generator.{generated_bytes}
-use Rattle.dsp_defs.specs.Output.{input_header, known_frames, format_of, channels_of}
+use Rattle.dsp_defs.specs.Output.{HasHeader, input_header, known_frames, format_of, channels_of}
 use Rattle.dsp_defs.specs.Shape.{window_at}
 use Rattle.dsp_defs.specs.Wave.{HeaderFits}
 use Rattle.dsp_command.specs.Words.{command_of}
@@ -20,7 +20,7 @@ use Rattle.dsp_session.proofs.OpeningLaws.{some_frame}
 use Rattle.dsp_cli.specs.Call.{Call}
 use Rattle.dsp_cli.specs.Causes.{NoneFailed}
 use Rattle.dsp_cli.specs.Run.{IsGen, IsStream, IsReading, IsGood, IsFree, read_from}
-use Rattle.dsp_input.specs.Taking.{InLimit}
+use Rattle.dsp_input.specs.Taking.{Fits, InLimit, IsTooLong}
 use Rattle.dsp_cli.specs.Script.{chosen_block, is_banked}
 use Rattle.dsp_cli.proofs.GatherLaws.{gathered_more}
 use Rattle.dsp_cli.proofs.GeneratedLaws.{generated_good, generated_in_limit}
@@ -29,6 +29,16 @@ use Rattle.dsp_input.proofs.InputLaws.{frame_in}
 use Rattle.dsp_cli.proofs.ReportLaws.{rose}
 use Rattle.dsp_cli.proofs.Told.{told_split}
 use Rattle.dsp_cli.proofs.WordLaws.{gen_makes_few}
+
+-- a size that fits is not too long
+pub fits_not_long : (script : Script) (given more : List ℕ) (size : ℕ) → HasHeader script given →
+    IsTooLong script (known_frames script (input_header script given)) size →
+    Fits script (input_header script (given ++ more)) → ⊥
+fits_not_long script given more size has long fits =
+    let known : known_frames script (input_header script (given ++ more)) ≡ Some long.frames =
+    ap (known_frames script) (header_stays script given more has) ∙ long.known in
+    let within = subst (HeaderFits script.output (format_of script) (channels_of script)) known (fits long.headed) in
+    omega (arith, within, long.size_is, long.over)
 
 -- a length past its limit, over an input of these bytes
 module _ (script : Script) (block : ℕ) (given more : List ℕ) (now : SourceState) (left : now.left ≡ Some more)
@@ -54,11 +64,7 @@ module _ (script : Script) (block : ℕ) (given more : List ℕ) (now : SourceSt
       ap (window_at script.blocks) (sym same) ∙ window in
       cc
   length_blocks (length_fault.Riff size limit) (has, alone, long, at) within window keeps =
-      let known : known_frames script (input_header script (given ++ more)) ≡ Some long.frames =
-      ap (known_frames script) (header_stays script given more has) ∙ long.known in
-      let fits = subst (HeaderFits script.output (format_of script) (channels_of script)) known
-      (keeps.fits long.headed) in
-      absurd (omega (arith, fits, long.size_is, long.over))
+      fits_not_long script given more size has long keeps.fits
 
 module _ (c : Call) (script : Script) (channels : (1 ≤ script.input.channels) ×
     (script.input.channels ≤ MAX_CHANNELS)) where

@@ -1,6 +1,6 @@
 -- What is so of the bytes that a source tells, from what was taken of it.
 use Rattle.std.proofs.Common.{◌≡◌, ◌⊎◌, ℕ, ◌<◌, ◌≤◌, List, ◌++◌, length, refl, sym, ap, ◌∙◌, subst, arith, append-nil}
-use Rattle.std.proofs.Common.{length-append, inl, inr, Option, None, Some, IsSome, IfSome, nat_lt, true}
+use Rattle.std.proofs.Common.{length-append, inl, inr, Option, None, Some, IsSome, IfSome, IsFalse, nat_lt, true}
 use Rattle.std.proofs.lemmas.Bool.Decides.{nat_tests}
 use Rattle.std.specs.Io.KnownBytes.{prepend_known, IsAtEnd}
 use Rattle.dsp_ports.specs.Ports.{SourceState}
@@ -10,9 +10,14 @@ use Rattle.dsp_defs.specs.declared.script.Script.{Script}
 use Rattle.dsp_defs.specs.declared.script_fault.ScriptFault.{ScriptFault}
 use Rattle.dsp_defs.specs.declared.limits.TheConstants.{MAX_SCRIPT}
 use Rattle.dsp_defs.specs.declared.script_fault.ScriptKind.TheVariants.{TooLong}
+use Rattle.dsp_defs.specs.Shape.{unit}
+use Rattle.dsp_command.specs.Words.{command_of}
+use Rattle.dsp_command.specs.declared.command.Command.{Command}
 use Rattle.dsp_script.proofs.ScriptLaws.{one_script, reads_or_fails}
-use Rattle.dsp_cli.specs.Script.{IsReadWhole, ReadsText, IfScript}
+use Rattle.dsp_cli.specs.Call.{Call}
+use Rattle.dsp_cli.specs.Script.{IsReadWhole, ReadsText, IfScript, chosen, chosen_block, is_legal_for, named_by}
 use Rattle.dsp_cli.specs.Perform.{ReadsAs}
+use Rattle.dsp_cli.proofs.StatusLaws.{block_of}
 
 pub IfSome-map : {A : Type 0} (o : Option A) (P Q : A → Type 0) → ((x : A) → P x → Q x) → IfSome o P → IfSome o Q
 IfSome-map None P Q f p = tt
@@ -138,3 +143,15 @@ pub told_faulty : (source now : SourceState) (fault : ScriptFault) (P : Script �
 told_faulty source now fault P has =
     IfSome-map source.left _ _ (λ all first script reads. let none : first_fault all ≡ None =
     no_fault all script reads in absurd (cc)) (told_first source now fault has)
+
+-- what holds of a script whose chosen block length is not legal holds of each that is told
+pub told_illegal : (c : Call) {command : Option Command} → command_of c.words ≡ command → (block divisor : ℕ) →
+    ReadsText c.source c.read (λ text. (script : Script) × Reads text script × IsFalse (is_legal_for script block) ×
+    (block ≡ chosen_block c.words script) × (divisor ≡ unit script.input.channels script.blocks)) →
+    (P : Script → Type 0) →
+    ((script : Script) → IsFalse (is_legal_for script (chosen (named_by command) script)) → P script) →
+    IfScript c.source.left P
+told_illegal c is block divisor read P holds =
+    let (script, reads, illegal, block_is, divisor_is) = read.holds in
+    told_script c.source c.read script P (record { text = read.text; read = read.read; holds = reads })
+    (holds script (subst (λ n. IsFalse (is_legal_for script n)) (block_is ∙ block_of c.words is script) illegal))

@@ -1,41 +1,29 @@
 -- The words of a command, and what a command keeps to.
 use Rattle.std.proofs.Common.{◌≡◌, ℕ, ◌≤◌, List, [], ◌∷◌, length, Option, Some, None, IfSome, Bool, true, false}
-use Rattle.std.proofs.Common.{if◌then◌else◌, nat_le, ◌&&◌, slice_get, refl, subst, arith}
+use Rattle.std.proofs.Common.{if◌then◌else◌, nat_le, slice_get, refl, subst, arith}
 use Rattle.std.specs.Prelude.{codes}
 use Rattle.std.specs.Option.{option_map, option_and_then}
 use Rattle.std.specs.Str.{bytes_eq}
 use Rattle.std.proofs.lemmas.Bool.Decides.{nat_tests}
-use Rattle.dsp_command.specs.Words.{count_of, is_name, are_run_names, are_gen_names, generating, running}
-use Rattle.dsp_command.specs.Words.{direction_of, command_of}
+use Rattle.dsp_command.specs.Words.{command_of, generating, running}
 use Rattle.dsp_defs.specs.declared.au.Direction.{Direction}
 use Rattle.dsp_command.specs.declared.command.Command.{Command}
-use Rattle.dsp_command.specs.declared.command.Command.TheVariants.{Run, Gen, Print, Stop, Go, Convert, Check}
+use Rattle.dsp_command.specs.declared.command.Command.TheVariants.{Run, Gen, Stop, Convert}
 use Rattle.dsp_defs.specs.declared.limits.TheConstants.{MAX_GENERATED}
 
 -- six words are these
 pub six_words : (words : List (List ℕ)) (a b c d e f : List ℕ) → length words ≡ 6 → slice_get words 0 ≡ Some a →
     slice_get words 1 ≡ Some b → slice_get words 2 ≡ Some c → slice_get words 3 ≡ Some d
     → slice_get words 4 ≡ Some e → slice_get words 5 ≡ Some f → words ≡ a ∷ b ∷ c ∷ d ∷ e ∷ f ∷ []
-six_words [] a b c d e f size p q r s t u = absurd (omega (arith, size))
-six_words (v ∷ []) a b c d e f size p q r s t u = absurd (omega (arith, size))
-six_words (v ∷ w ∷ []) a b c d e f size p q r s t u = absurd (omega (arith, size))
-six_words (v ∷ w ∷ x ∷ []) a b c d e f size p q r s t u = absurd (omega (arith, size))
-six_words (v ∷ w ∷ x ∷ y ∷ []) a b c d e f size p q r s t u = absurd (omega (arith, size))
-six_words (v ∷ w ∷ x ∷ y ∷ z ∷ []) a b c d e f size p q r s t u = absurd (omega (arith, size))
 six_words (v ∷ w ∷ x ∷ y ∷ z ∷ last ∷ []) a b c d e f size p q r s t u = cc
-six_words (v ∷ w ∷ x ∷ y ∷ z ∷ last ∷ more ∷ words) a b c d e f size p q r s t u = absurd (omega (arith, size))
+six_words words a b c d e f size p q r s t u = absurd (omega (arith, size))
 
 -- five words are these
 pub five_words : (words : List (List ℕ)) (a b c d e : List ℕ) → length words ≡ 5 → slice_get words 0 ≡ Some a →
     slice_get words 1 ≡ Some b → slice_get words 2 ≡ Some c → slice_get words 3 ≡ Some d
     → slice_get words 4 ≡ Some e → words ≡ a ∷ b ∷ c ∷ d ∷ e ∷ []
-five_words [] a b c d e size p q r s t = absurd (omega (arith, size))
-five_words (v ∷ []) a b c d e size p q r s t = absurd (omega (arith, size))
-five_words (v ∷ w ∷ []) a b c d e size p q r s t = absurd (omega (arith, size))
-five_words (v ∷ w ∷ x ∷ []) a b c d e size p q r s t = absurd (omega (arith, size))
-five_words (v ∷ w ∷ x ∷ y ∷ []) a b c d e size p q r s t = absurd (omega (arith, size))
 five_words (v ∷ w ∷ x ∷ y ∷ z ∷ []) a b c d e size p q r s t = cc
-five_words (v ∷ w ∷ x ∷ y ∷ z ∷ last ∷ words) a b c d e size p q r s t = absurd (omega (arith, size))
+five_words words a b c d e size p q r s t = absurd (omega (arith, size))
 
 -- ---- a gen makes no more frames than may be generated
 
@@ -81,31 +69,22 @@ direction_within : (direction : Option Direction) → IfSome (option_map (λ d. 
 direction_within None = tt
 direction_within (Some direction) = tt
 
+ruleset few_made = (
+  by_test,
+  by_either,
+  generating_within,
+  running_within,
+  stopping_within,
+  named_within,
+  direction_within,
+)
+
 commands_within : (words : List (List ℕ)) → IfSome (command_of words) MakesFew
-commands_within [] = tt
-commands_within (a ∷ []) = tt
-commands_within (a ∷ b ∷ []) = by_test (bytes_eq a (codes "print") && is_name b) (Some Print) tt
-commands_within (a ∷ b ∷ c ∷ []) = tt
-commands_within (a ∷ b ∷ c ∷ d ∷ []) =
-    let runs = if are_run_names b c d then running a None else None in
-    by_either (bytes_eq a (codes "check") && is_name b && is_name c && is_name d) (Some Check) runs tt
-    (by_test (are_run_names b c d) (running a None) (running_within a None))
-commands_within (a ∷ b ∷ c ∷ d ∷ e ∷ []) =
-    let goes = bytes_eq a (codes "resume") && bytes_eq b (codes "go") && are_run_names c d e in
-    let converts = bytes_eq a (codes "convert") && are_gen_names d e in
-    let converted = if converts then option_map (λ d. Convert d) (direction_of b c) else None in
-    by_either (bytes_eq a (codes "gen") && are_gen_names d e) (generating (count_of b) (count_of c))
-    (if goes then Some Go else converted)
-    (generating_within (count_of b) (count_of c))
-    (by_either goes (Some Go) converted tt (by_test converts (option_map (λ d. Convert d) (direction_of b c))
-    (direction_within (direction_of b c))))
-commands_within (a ∷ b ∷ c ∷ d ∷ e ∷ f ∷ []) =
-    let blocks = are_run_names b c d && bytes_eq e (codes "block") in
-    by_either (bytes_eq a (codes "resume") && bytes_eq b (codes "stop") && are_run_names d e f)
-    (option_map (λ n. Stop n) (count_of c))
-    (if blocks then option_and_then (λ n. running a (Some n)) (count_of f) else None) (stopping_within (count_of c))
-    (by_test blocks (option_and_then (λ n. running a (Some n)) (count_of f)) (named_within a (count_of f)))
-commands_within (a ∷ b ∷ c ∷ d ∷ e ∷ f ∷ g ∷ words) = tt
+commands_within (a ∷ b ∷ []) = search few_made
+commands_within (a ∷ b ∷ c ∷ d ∷ []) = search few_made
+commands_within (a ∷ b ∷ c ∷ d ∷ e ∷ []) = search few_made
+commands_within (a ∷ b ∷ c ∷ d ∷ e ∷ f ∷ []) = search few_made
+commands_within words = tt
 
 pub gen_makes_few : (words : List (List ℕ)) (seed frames : ℕ) → command_of words ≡ Some (Gen seed frames) →
     frames ≤ MAX_GENERATED

@@ -10,13 +10,11 @@ use Rattle.dsp_defs.specs.declared.script.Script.{Script}
 use Rattle.dsp_defs.specs.declared.wave.Header.{Header}
 use Rattle.dsp_input.specs.Taking.{frame_bytes}
 use Rattle.dsp_session.specs.SessionState.{SessionState}
-use Rattle.dsp_ports.specs.Ports.{SinkState}
-use Rattle.dsp_defs.specs.Counts.{Counts}
 use Rattle.dsp_chain.specs.Chain.{made_of}
-use Rattle.dsp_session.specs.Session.{StandsFor, SameSession, signal, block_bytes, live_cost_of, products_of}
+use Rattle.dsp_session.specs.Session.{StandsFor, SameSession, signal, live_cost_of, products_of}
 use Rattle.dsp_session.specs.Session.{whole_values}
-use Rattle.dsp_session.specs.Advancing.{Runs, PassesOn, count_of, whole_front}
-use Rattle.dsp_session.proofs.AdvanceLaws.{passed_runs, made_runs}
+use Rattle.dsp_session.specs.Advancing.{MayClose, Runs, count_of, whole_front}
+use Rattle.dsp_session.proofs.AdvanceLaws.{made_runs}
 use Rattle.dsp_session.specs.declared.streaming.Last.{Last}
 use Rattle.dsp_session.proofs.OpeningLaws.{some_frame, floor_within, frames-whole}
 use Rattle.dsp_session.proofs.CloseLaws.{whole_length}
@@ -40,16 +38,13 @@ quotient a n f some =
 floor_less : (n f : ℕ) → 0 < f → n / f ≤ n
 floor_less n f some = grind arith
 
-module _ (session : SessionState) (runs : Runs session) (header : Header) (block : List ℕ) (last : Last)
-    (coding : session.coding ≡ header.coding)
-    (size : length block ≡ block_bytes session.script header.coding session.block) (short : last.count < length block)
-    (frames : session.chain.frames * frame_bytes session.script header.coding ≡ last.before)
-    (limit : last.before + last.count ≤ MAX_INPUT) where
+module _ (session : SessionState) (header : Header) (block : List ℕ) (last : Last)
+    (may : MayClose session header block last) where
   abbrev frame : ℕ
   frame = frame_bytes session.script header.coding
 
   some : 0 < frame
-  some = some_frame session.script header.coding session.block runs.holds.ready
+  some = some_frame session.script header.coding session.block may.runs.holds.ready
 
   abbrev count : ℕ
   count = last.count / frame
@@ -59,26 +54,26 @@ module _ (session : SessionState) (runs : Runs session) (header : Header) (block
 
   pub bytes_long : length bytes ≡ count * frame
   bytes_long = length-take-le (count * frame) block (let within = floor_within last.count frame in
-      omega (arith, within, short))
+      omega (arith, within, may.short))
 
   fed_frames : length (signal session.script header.coding bytes) ≡ count
   fed_frames = frames-whole session.script header.coding some bytes count bytes_long
 
   pub fed_count : count_of session bytes ≡ count
-  fed_count = ap (λ c. length (signal session.script c bytes)) coding ∙ fed_frames
+  fed_count = ap (λ c. length (signal session.script c bytes)) may.coding ∙ fed_frames
 
   pub fed_whole : length bytes ≡ count_of session bytes * frame_bytes session.script session.coding
-  fed_whole = bytes_long ∙ (λ i. sym fed_count i * frame_bytes session.script (sym coding i))
+  fed_whole = bytes_long ∙ (λ i. sym fed_count i * frame_bytes session.script (sym may.coding i))
 
   pub fed_in_block : count_of session bytes ≤ session.block
-  fed_in_block = (let fewer = less last.count session.block frame some (omega (arith, short, size)) in
+  fed_in_block = (let fewer = less last.count session.block frame some (omega (arith, may.short, may.size)) in
       omega (arith, fewer, fed_count))
 
   pub taken_is : (last.before + last.count) / frame ≡ session.chain.frames + count
-  taken_is = ap (λ n. (n + last.count) / frame) (sym frames) ∙ quotient session.chain.frames last.count frame some
+  taken_is = ap (λ n. (n + last.count) / frame) (sym may.frames) ∙ quotient session.chain.frames last.count frame some
 
   pub few : session.chain.frames + count ≤ MAX_INPUT
-  few = (let all = floor_less (last.before + last.count) frame some in omega (arith, all, taken_is, limit))
+  few = (let all = floor_less (last.before + last.count) frame some in omega (arith, all, taken_is, may.limit))
 
   pub fed_few : session.chain.frames + count_of session bytes ≤ MAX_INPUT
   fed_few = omega (arith, few, fed_count)
@@ -96,16 +91,13 @@ module _ (session : SessionState) (runs : Runs session) (header : Header) (block
       let all : length x ≡ session.chain.frames + count = sym stands.chain.counted ∙ counted ∙
       ap (λ n. session.chain.frames + n) fed_count in
       let whole : length (whole_values session.script x) ≡ frames_given session.script.blocks (length x) =
-      whole_length session.script session.block runs.holds.ready x (ap (window_at session.script.blocks) all ∙ none) in
+      whole_length session.script session.block may.runs.holds.ready x
+      (ap (window_at session.script.blocks) all ∙ none) in
       let given_is : frames_given session.script.blocks (length x) ≡ given =
       ap (frames_given session.script.blocks) (all ∙ sym taken_is) ∙ sym is in
       let script : length (whole_values fed.script x) ≡ length (whole_values session.script x) =
       ap (λ (s : Script). length (whole_values s x)) same.script in
       omega (arith, whole, given_is, script)
-
-pub runs_behind : (old new : SessionState) (bytes : List ℕ) (sink after : SinkState) (before counts : Counts) →
-    PassesOn old new bytes sink after before counts → Runs new
-runs_behind = passed_runs
 
 -- the multiplies of the tail, by the frames
 pub limit_is : (session fed : SessionState) → SameSession session fed → Runs fed → (made counts : ℕ) →

@@ -3,7 +3,7 @@ use Rattle.std.proofs.Common.{◌≡◌, ℕ, ◌+◌, ◌≤◌, List, [], ◌�
 use Rattle.std.proofs.Common.{arith, append_assoc, append-nil, length-append, Result, Ok, Err}
 use Rattle.std.proofs.lemmas.List.{take-append-drop}
 use Rattle.std.specs.Io.KnownBytes.{append_known}
-use Rattle.dsp_ports.specs.Ports.{SinkState, Took}
+use Rattle.dsp_ports.specs.Ports.{SinkState, Took, one_more}
 use Rattle.dsp_ports.proofs.Moved.{append_known-append}
 use Rattle.dsp_defs.specs.Block.{Frame, live_chain, whole_chain}
 use Rattle.dsp_defs.specs.Counts.{Counts}
@@ -18,7 +18,7 @@ use Rattle.dsp_chain.specs.Chain.{IsSpent, live_of, whole_of, made_of}
 use Rattle.dsp_session.specs.SessionState.{SessionState}
 use Rattle.dsp_session.specs.Session.{Holds, StandsFor, HasGiven, SameSession, Ends, measured, measures_of}
 use Rattle.dsp_session.specs.Session.{output_bytes, live_values, whole_values, live_cost_of, products_of}
-use Rattle.dsp_session.specs.Passing.{WritesRest, WritesTail, TailCosts}
+use Rattle.dsp_session.specs.Passing.{WritesRest, WritesTail, WroteTail, TailCosts}
 use Rattle.dsp_session.proofs.FeedLaws.{made_live}
 
 -- so much of the tail was given, of which these are the bytes
@@ -126,7 +126,7 @@ module _ (script : Script) (x : List Frame) (frames pieces : ℕ) (session : Ses
         }
 
     -- the sink failed within it
-    pub tail_fails : (count : ℕ) → Begins (live_bytes script x ++ (written ++ take count next.out))
+    tail_fails : (count : ℕ) → Begins (live_bytes script x ++ (written ++ take count next.out))
         (whole_bytes script x ++ [])
     tail_fails count =
         let (rest, split) = begins_next in (
@@ -141,7 +141,7 @@ module _ (script : Script) (x : List Frame) (frames pieces : ℕ) (session : Ses
               ∙ append_assoc (live_bytes script x ++ (written ++ take count next.out)) (drop count next.out) rest,
         )
 
-    pub tail_fails_costs : {E : Type 0} (error : E) → TailCosts {T = Unit {0}} (Err error) script (length x) before
+    tail_fails_costs : {E : Type 0} (error : E) → TailCosts {T = Unit {0}} (Err error) script (length x) before
         counted
     tail_fails_costs error = record { limit = limit_next; exact = tt; turned = turned_next }
 
@@ -179,7 +179,7 @@ module _ (script : Script) (x : List Frame) (frames pieces : ℕ) (session : Ses
         by [] none out = is ∙ ap length out
         by (frame ∷ given) none out = absurd (omega (arith, none))
 
-    pub tail_ends_costs : {E : Type 0} → answer ≡ 0 → TailCosts {T = Unit {0}} {E = E} (Ok tt) script (length x)
+    tail_ends_costs : {E : Type 0} → answer ≡ 0 → TailCosts {T = Unit {0}} {E = E} (Ok tt) script (length x)
         before counted
     tail_ends_costs zero =
         let all : made_of next.chain ≡ products_of script (length x) =
@@ -194,7 +194,7 @@ module _ (script : Script) (x : List Frame) (frames pieces : ℕ) (session : Ses
         (gave.holds.input i).channels 1 (gave.holds.blocks i) x) ∙ ap (λ (s : Script). measures_of s x) script_next
 
 -- the multiplies of a tail are at most those of the whole signal, whatever numbers are kept
-pub tail_within : (first session next : SessionState) (answer : ℕ) {counts counted : Counts} →
+tail_within : (first session next : SessionState) (answer : ℕ) {counts counted : Counts} →
     Ends session next answer counts counted → next.script ≡ first.script → session.chain.frames ≡ first.chain.frames
     → (start before : ℕ) → counts.multiplies + start ≡ before + made_of session.chain →
     counted.multiplies + start ≤ before + products_of first.script first.chain.frames
@@ -205,10 +205,89 @@ tail_within first session next answer {counts} {counted} ends script frames star
 
 -- ---- what was written
 
-pub put_more : (sink mid then : SinkState) (written more : List ℕ) → mid.put ≡ append_known sink.put written →
+put_more : (sink mid then : SinkState) (written more : List ℕ) → mid.put ≡ append_known sink.put written →
     then.put ≡ append_known mid.put more → then.put ≡ append_known sink.put (written ++ more)
 put_more sink mid then written more first put = put ∙ ap (λ known. append_known known more) first ∙
     sym (append_known-append sink.put written more)
+
+-- so much of the tail was given and written by a session that began so
+pub record TailSoFar (old session : SessionState) (frames pieces : ℕ) (sink after : SinkState)
+    (before counts : Counts) : Type 0 where
+  pub same : SameSession old session
+  pub no_fault : after.faults ≡ sink.faults
+  pub counted : session.chain.frames ≡ old.chain.frames
+  pub made : counts.multiplies + made_of old.chain ≡ before.multiplies + made_of session.chain
+  pub written : List ℕ
+  pub put : after.put ≡ append_known sink.put written
+  pub tailing : (x : List Frame) → StandsFor old x →
+      Tailing old.script x frames pieces session written before counts
+
+module _ (old session next : SessionState) (frames pieces : ℕ) (sink mid : SinkState) (before counts : Counts)
+    (so_far : TailSoFar old session frames pieces sink mid before counts) (answer : ℕ) (counted : Counts)
+    (ends : Ends session next answer counts counted) (same : SameSession session next) where
+  still : SameSession old next
+  still = record {
+    script = same.script ∙ so_far.same.script;
+    banked = same.banked ∙ so_far.same.banked;
+    block = same.block ∙ so_far.same.block;
+    coding = same.coding ∙ so_far.same.coding;
+  }
+
+  within : counted.multiplies + made_of old.chain ≤ before.multiplies + products_of old.script old.chain.frames
+  within = tail_within old session next answer ends still.script so_far.counted (made_of old.chain) before.multiplies
+      so_far.made
+
+  -- nothing is left of it
+  pub tail_all : {E : Type 0} → ((x : List Frame) → StandsFor old x → answer ≡ 0) → answer ≡ length next.out →
+      WroteTail {T = Unit {0}} {E = E} (Ok tt) old next sink mid before counted
+  tail_all zero is =
+      let all = λ (x : List Frame) (stands : StandsFor old x).
+      tail_ends _ x _ _ _ _ _ _ (so_far.tailing x stands) _ _ _ ends same (zero x stands) is in
+      record {
+        same = still;
+        written = record {
+          written = so_far.written;
+          put = so_far.put;
+          begins = λ x stands. ([], sym (all x stands) ∙ sym (append-nil _));
+          whole = all;
+        };
+        costs = λ x stands. tail_ends_costs _ x _ _ _ _ _ _ (so_far.tailing x stands) _ _ _ ends same (zero x stands);
+        limit = within;
+        measures = λ x stands. tail_measured _ x _ _ _ _ _ _ (so_far.tailing x stands) _ _ _ ends same (zero x stands);
+        faults = so_far.no_fault;
+      }
+
+  -- the sink failed within a piece
+  pub tail_part : {E : Type 0} (error : E) (count : ℕ) (after : SinkState) →
+      after.put ≡ append_known mid.put (take count next.out) → after.faults ≡ one_more mid.faults →
+      WroteTail {T = Unit {0}} (Err error) old next sink after before counted
+  tail_part error count after put risen = record {
+    same = still;
+    written = record {
+      written = so_far.written ++ take count next.out;
+      put = put_more sink mid after so_far.written (take count next.out) so_far.put put;
+      begins = λ x stands. tail_fails _ x _ _ _ _ _ _ (so_far.tailing x stands) _ _ _ ends same count;
+      whole = λ x stands. tt;
+    };
+    costs = λ x stands. tail_fails_costs _ x _ _ _ _ _ _ (so_far.tailing x stands) _ _ _ ends same error;
+    limit = within;
+    measures = λ x stands. tt;
+    faults = risen ∙ ap one_more so_far.no_fault;
+  }
+
+  -- a piece was written
+  pub tail_next : (answer ≡ 0 → ⊥) → answer ≡ length next.out → (after : SinkState) →
+      after.put ≡ append_known mid.put next.out → after.faults ≡ mid.faults →
+      TailSoFar old next frames (pieces + 1) sink after before counted
+  tail_next some is after put clean = record {
+    same = still;
+    no_fault = clean ∙ so_far.no_fault;
+    counted = ends.counted ∙ so_far.counted;
+    made = omega (arith, ends.multiplies, so_far.made);
+    written = so_far.written ++ next.out;
+    put = put_more sink mid after so_far.written next.out so_far.put put;
+    tailing = λ x stands. tail_goes_on _ x _ _ _ _ _ _ (so_far.tailing x stands) _ _ _ ends same some is;
+  }
 
 -- of one signal
 pub writes_rest : {T E : Type 0} (result : Result T E) (session : SessionState) (behind : List ℕ)

@@ -81,6 +81,11 @@ none_written (y ∷ ys) w answer some is zero = absurd (some_product (length (y 
     some_product : (n w : ℕ) → 0 < n → 0 < w → n * w ≡ 0 → ⊥
     some_product n w a b none = grind arith
 
+-- a session with this state of its chain, and these bytes
+abbrev with_chain : Script → ℕ → Bool → Coding → ChainState → List ℕ → SessionState
+with_chain script block banked coding chain out =
+    record { script = script; banked = banked; block = block; coding = coding; chain = chain; out = out }
+
 module _ (script : Script) (block : ℕ) (ready : IsReady script block) where
   -- the samples of the output of a call
   pub few_samples : place_room (place_behind (input_place script block) script.blocks) ≤ MAX_SAMPLES
@@ -147,6 +152,16 @@ module _ (script : Script) (block : ℕ) (ready : IsReady script block) where
       (λ i. sample_of coding (take (width coding) (drop (i * width coding) bytes)))
   read_row coding count len bytes row new old long is read = ap (take count) (is ∙ written-line len new old long) ∙ read
 
+  -- and their frames
+  pub row_frames : (coding : Coding) (count len : ℕ) (bytes : List ℕ) (row new old : List ℤ) →
+      length bytes ≡ length (signal script coding bytes) * frame_bytes script coding → length new ≡ len →
+      row ≡ take len (new ++ drop (length new) old)
+      → take count new ≡ values (length bytes / width coding)
+      (λ i. sample_of coding (take (width coding) (drop (i * width coding) bytes)))
+      → frames_in script.input.channels (take count row) ≡ signal script coding bytes
+  row_frames coding count len bytes row new old whole long is read =
+      frames_are coding bytes (take count row) whole (read_row coding count len bytes row new old long is read)
+
   -- the bytes that were written to the front of a row
   pub write_row : (coding : Coding) (count len : ℕ) (ys : List ℤ) (new old : List ℕ) → coding ≡ output_coding script →
       length new ≡ len → take count new ≡ flat_map (bytes_of coding) ys
@@ -202,10 +217,10 @@ module _ (script : Script) (block : ℕ) (ready : IsReady script block) where
     module _ (banked : Bool) (turns : (m n : ℕ) → line_turns old.units m n ≡ turns_of banked script m n)
         (coding : Coding) (earlier out : List ℕ) where
       abbrev first : SessionState
-      first = record { script = script; banked = banked; block = block; coding = coding; chain = old; out = earlier }
+      first = with_chain script block banked coding old earlier
 
       abbrev next : SessionState
-      next = record { script = script; banked = banked; block = block; coding = coding; chain = new; out = out }
+      next = with_chain script block banked coding new out
 
       -- its chain is still that of the script
       holds_again : SameChain old new → Holds next
@@ -296,63 +311,23 @@ module _ (script : Script) (block : ℕ) (ready : IsReady script block) where
 
     -- a call that is refused leaves all but the fault
     pub fails : (banked : Bool) (coding : Coding) (earlier : List ℕ) (fault : GatherFull) (before after : Counts) →
-        FailsChain old new fault before after
-        → Fails (record {
-          script = script;
-          banked = banked;
-          block = block;
-          coding = coding;
-          chain = old;
-          out =
-              earlier;
-        }) (record {
-          script = script;
-          banked = banked;
-          block = block;
-          coding = coding;
-          chain = new;
-          out =
-              [];
-        }) fault before after
+        FailsChain old new fault before after → Fails (with_chain script block banked coding old earlier)
+        (with_chain script block banked coding new []) fault before after
     fails banked coding earlier fault before after failed = record {
-      same = λ i. record {
-        script = script;
-        banked = banked;
-        block = block;
-        coding = coding;
-        chain =
-            failed.same i;
-        out = [];
-      };
+      same = λ i. with_chain script block banked coding (failed.same i) [];
       again = failed.again;
       no_steps = failed.no_steps;
     }
 
     -- where it is refused
     pub too_much : (banked : Bool) (coding : Coding) (earlier : List ℕ) (n m : ℕ) → n ≡ m → chain_too_much old n →
-        IsTooMuch (record {
-          script = script;
-          banked = banked;
-          block = block;
-          coding = coding;
-          chain = old;
-          out =
-              earlier;
-        }) m
+        IsTooMuch (with_chain script block banked coding old earlier) m
     too_much banked coding earlier n m same (inl many) =
         inl (subst (λ k. MAX_GATHERED < k) (λ i. gathered (blocks i) (old.frames + same i)) many)
     too_much banked coding earlier n m same (inr failed) = inr failed
 
     pub chain_much : (banked : Bool) (coding : Coding) (earlier : List ℕ) (n m : ℕ) → n ≡ m →
-        IsTooMuch (record {
-          script = script;
-          banked = banked;
-          block = block;
-          coding = coding;
-          chain = old;
-          out =
-              earlier;
-        }) m → chain_too_much old n
+        IsTooMuch (with_chain script block banked coding old earlier) m → chain_too_much old n
     chain_much banked coding earlier n m same (inl many) =
         inl (subst (λ k. MAX_GATHERED < k) (sym (λ i. gathered (blocks i) (old.frames + same i))) many)
     chain_much banked coding earlier n m same (inr failed) = inr failed
@@ -372,15 +347,7 @@ pub still_works :
     (s : SessionState) (chain : ChainState) (out : List ℕ) (coding : Coding)
     (samples_room values_room bytes_room given later : ℕ) →
     IsWorking s coding samples_room values_room bytes_room given → SameChain s.chain chain → later ≤ bytes_room →
-    IsWorking (record {
-      script = s.script;
-      banked = s.banked;
-      block = s.block;
-      coding = s.coding;
-      chain = chain;
-      out =
-          out;
-    }) coding samples_room values_room bytes_room later
+    IsWorking (with_chain s.script s.block s.banked s.coding chain out) coding samples_room values_room bytes_room later
 still_works s chain out coding samples_room values_room bytes_room given later is same within = record {
   holds = record {
     ready = is.holds.ready;

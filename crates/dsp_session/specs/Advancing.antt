@@ -145,6 +145,15 @@ abbrev pub whole_front : Script → Header → ℕ → List ℕ → List ℕ
 whole_front script header count block = take (count / frame_bytes script header.coding * frame_bytes script
     header.coding) block
 
+-- the samples have ended within a block, behind whole blocks of them, so that the stream may be closed
+pub record MayClose (session : SessionState) (header : Header) (block : List ℕ) (last : Last) : Type 0 where
+  pub runs : Runs session
+  pub coding : session.coding ≡ header.coding
+  pub size : length block ≡ block_bytes session.script header.coding session.block
+  pub short : last.count < length block
+  pub frames : session.chain.frames * frame_bytes session.script header.coding ≡ last.before
+  pub limit : last.before + last.count ≤ MAX_INPUT
+
 -- the frames of the last bytes were worked on, and the tail and the pad byte were written and made sure of
 pub record Closed (old new : SessionState) (header : Header) (bytes : List ℕ) (sink after : SinkState)
     (before counts : Counts) : Type 0 where

@@ -1,7 +1,7 @@
 -- Block after block: what is taken, worked on and written.
-use Rattle.std.specs.Prelude.{◌≡◌, ℕ, ◌+◌, ◌*◌, ◌<◌, ◌≤◌, Bool, List, ◌++◌, length, take, None, Result, OnOk}
+use Rattle.std.specs.Prelude.{◌≡◌, ℕ, ◌+◌, ◌*◌, ◌<◌, ◌≤◌, Bool, List, [], ◌++◌, length, take, None, Result, OnOk}
 use Rattle.std.specs.Io.KnownBytes.{append_known}
-use Rattle.dsp_ports.specs.Ports.{SourceState, SinkState, one_more, Gave, Took}
+use Rattle.dsp_ports.specs.Ports.{SourceState, SinkState, CountsFaults, one_more, Gave, Took}
 use Rattle.dsp_defs.specs.Block.{Frame}
 use Rattle.dsp_defs.specs.Counts.{Counts}
 use Rattle.dsp_defs.specs.Output.{live_bytes, output_header, whole_bytes}
@@ -13,7 +13,9 @@ use Rattle.dsp_defs.specs.declared.script.Script.{Script}
 use Rattle.dsp_defs.specs.declared.wave.Header.{Header}
 use Rattle.dsp_input.specs.Taking.{AreAll, Fits, InDeclared, Opens, declared_bytes}
 use Rattle.dsp_session.specs.SessionState.{SessionState}
-use Rattle.dsp_session.specs.Session.{StandsFor, signal, block_bytes, live_cost_of, products_of, turns_of, calls_turns}
+use Rattle.dsp_session.specs.Session.{StandsFor, SameSession, signal, block_bytes, live_cost_of, products_of, turns_of}
+use Rattle.dsp_session.specs.Session.{calls_turns, measured, measures_of}
+use Rattle.dsp_chain.specs.Chain.{made_of}
 use Rattle.dsp_session.specs.declared.fault.LengthFault.TheVariants as length_fault
 use Rattle.dsp_session.specs.declared.fault.StreamFault.{StreamFault}
 use Rattle.dsp_session.specs.declared.fault.StreamFault.TheVariants as fault
@@ -119,3 +121,13 @@ pub record TailCosts {T E : Type 0} (result : Result T E) (script : Script) (n :
     pub limit : counts.multiplies + live_cost_of script n ≤ before.multiplies + products_of script n
     pub exact : OnOk result (counts.multiplies + live_cost_of script n ≡ before.multiplies + products_of script n)
     pub turned : counts.turns + before.multiplies ≤ before.turns + counts.multiplies
+
+-- the tail was written, or a part of it, by a session that began so
+pub record WroteTail {T E : Type 0} (result : Result T E) (old new : SessionState) (sink after : SinkState)
+    (before counts : Counts) : Type 0 where
+  pub same : SameSession old new
+  pub written : WritesTail result old [] sink after
+  pub costs : (x : List Frame) → StandsFor old x → TailCosts result old.script (length x) before counts
+  pub limit : counts.multiplies + made_of old.chain ≤ before.multiplies + products_of old.script old.chain.frames
+  pub measures : (x : List Frame) → StandsFor old x → OnOk result (measured new ≡ measures_of old.script x)
+  pub faults : CountsFaults result sink.faults after.faults

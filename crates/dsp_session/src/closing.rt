@@ -1,14 +1,13 @@
-ghost use Rattle.std.specs.Prelude.{◌≡◌, ◌+◌, ◌*◌, ◌/◌, ◌<◌, ◌≤◌, ℕ, List, [], length, take, IfOk};
+ghost use Rattle.std.specs.Prelude.{◌≡◌, ◌+◌, ◌<◌, ◌≤◌, ℕ, List, [], length, take, IfOk};
 ghost use Rattle.std.specs.Prelude.{IfErr, MatchResult, OnOk};
 ghost use Rattle.dsp_ports.specs.Ports.{CountsFaults, IsSettled, Took};
 ghost use Rattle.dsp_defs.specs.Block.{Frame};
 ghost use Rattle.dsp_defs.specs.Output.{output_pad};
-ghost use Rattle.dsp_input.specs.Taking.{frame_bytes};
-ghost use Rattle.dsp_session.specs.Session.{IsReady, StandsFor, SameSession, block_bytes, measured};
+ghost use Rattle.dsp_session.specs.Session.{IsReady, StandsFor, SameSession, measured};
 ghost use Rattle.dsp_session.specs.Session.{measures_of, products_of, whole_values};
 ghost use Rattle.dsp_chain.specs.Chain.{made_of};
-ghost use Rattle.dsp_session.specs.Passing.{WritesTail, TailCosts};
-ghost use Rattle.dsp_session.specs.Advancing.{Runs, Closed, FailsToClose, whole_front};
+ghost use Rattle.dsp_session.specs.Passing.{WritesTail, WroteTail, TailCosts};
+ghost use Rattle.dsp_session.specs.Advancing.{Closed, FailsToClose, MayClose, whole_front};
 
 use crate::fault::{LengthFault, StreamFault};
 use crate::streaming::{Last, pass_block};
@@ -30,15 +29,8 @@ fn write_tail<U: AnyUnit + Drop, K: Sink, L: Ledger>(
 ) -> Result<(), Failed>
     requires { (x : List Frame) → StandsFor worker.old x
         → length (whole_values worker.old.script x) ≤ frames }
-    ensures same { SameSession worker.old worker.new }
-    ensures written { WritesTail result worker.old [] (K.state output.old) (K.state output.new) }
-    ensures costs { (x : List Frame) → StandsFor worker.old x
-        → TailCosts result worker.old.script (length x) steps.old steps.new }
-    ensures limit { steps.new.multiplies + made_of worker.old.chain
-        ≤ steps.old.multiplies + products_of worker.old.script worker.old.chain.frames }
-    ensures measures { (x : List Frame) → StandsFor worker.old x
-        → OnOk result (measured worker.new ≡ measures_of worker.old.script x) }
-    ensures faults { CountsFaults result (K.state output.old).faults (K.state output.new).faults }
+    ensures { WroteTail result worker.old worker.new (K.state output.old) (K.state output.new)
+        steps.old steps.new }
 {
     // Each piece has at least one of the whole signal's frames.
     for _ in 0..frames {
@@ -106,12 +98,7 @@ pub fn close<U: AnyUnit + Drop, K: Sink, L: Ledger>(
     output: &mut K,
     steps: &mut Steps<L>,
 ) -> Result<(), StreamFault>
-    requires runs { Runs worker.old }
-    requires coding { worker.old.coding ≡ header.coding }
-    requires block { length block.now ≡ block_bytes worker.old.script header.coding worker.old.block }
-    requires short { last.count < length block.now }
-    requires frames { worker.old.chain.frames * frame_bytes worker.old.script header.coding ≡ last.before }
-    requires limit { last.before + last.count ≤ MAX_INPUT }
+    requires { MayClose worker.old header block.now last }
     ensures same { SameSession worker.old worker.new }
     ensures ok { IfOk result (λ _. Closed worker.old worker.new header
         (whole_front worker.old.script header last.count block.now) (K.state output.old)

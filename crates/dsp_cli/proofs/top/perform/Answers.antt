@@ -1,11 +1,10 @@
 use Rattle.std.proofs.Common.{ap, sym, refl, ◌∙◌, subst, Some}
-use Rattle.std.proofs.lemmas.Result.{err_from_is_err_and}
 use Rattle.dsp_cli.specs.Call.{Printed, Turned}
 use Rattle.dsp_cli.specs.Run.{HasSource}
 use Rattle.dsp_cli.proofs.Asking.{draws_of}
 use Rattle.dsp_cli.proofs.WordLaws.{gen_makes_few}
 use Rattle.dsp_cli.proofs.PerformLaws.{run_went, run_stops, gen_went, gen_stops, check_went, check_stops, first_ran}
-use Rattle.dsp_cli.proofs.PerformLaws.{first_stops, rest_ran, rest_stops}
+use Rattle.dsp_cli.proofs.PerformLaws.{err_of, first_stops, rest_ran, rest_stops}
 use Rattle.dsp_cli.proofs.top.perform.Goals as goal
 
 pub returns-in_default-clause-err : goal.returns-in_default-clause-err
@@ -58,9 +57,7 @@ returns-in-Run-clause-ok g c =
 
 pub returns-in_err-summary-in-Run-clause-err : goal.returns-in_err-summary-in-Run-clause-err
 returns-in_err-summary-in-Run-clause-err g c =
-    let p = err_from_is_err_and c.from_residual-in_err-summary-in-Run.result
-    c.from_residual-in_err-summary-in-Run.ensures.1 in
-    rw (p.1, p.2)
+    err_of _ _ c.from_residual-in_err-summary-in-Run.ensures.1
     (run_stops _ _ _ _ _ _ _ _ _ _ _ c.in_ok-script-in-Run.ensures.ok _ _
     (sym c.in-Some.ensures ∙ ap Some c.in-Run.is) _ c.in_err-summary-in-Run.ensures.err)
 
@@ -71,9 +68,7 @@ returns-in-Gen-clause-ok g c =
 
 pub returns-in_err-summary-in-Gen-clause-err : goal.returns-in_err-summary-in-Gen-clause-err
 returns-in_err-summary-in-Gen-clause-err g c =
-    let p = err_from_is_err_and c.from_residual-in_err-summary-in-Gen.result
-    c.from_residual-in_err-summary-in-Gen.ensures.1 in
-    rw (p.1, p.2)
+    err_of _ _ c.from_residual-in_err-summary-in-Gen.ensures.1
     (gen_stops _ _ _ _ _ _ _ _ _ _ c.in_ok-script-in-Gen.ensures.ok _ _ (sym c.in-Some.ensures ∙ ap Some c.in-Gen.is)
     _ c.in_err-summary-in-Gen.ensures.err)
 
@@ -84,9 +79,7 @@ returns-in-Stop-clause-ok g c =
 
 pub returns-in_err-state-in-Stop-clause-err : goal.returns-in_err-state-in-Stop-clause-err
 returns-in_err-state-in-Stop-clause-err g c =
-    let p = err_from_is_err_and c.from_residual-in_err-state-in-Stop.result
-    c.from_residual-in_err-state-in-Stop.ensures.1 in
-    rw (p.1, p.2)
+    err_of _ _ c.from_residual-in_err-state-in-Stop.ensures.1
     (first_stops _ _ _ _ _ _ _ _ _ _ _ c.in_ok-script-in-Stop.ensures.ok _
     (sym c.in-Some.ensures ∙ ap Some c.in-Stop.is) _ c.in_err-state-in-Stop.ensures.err)
 
@@ -97,9 +90,7 @@ returns-in-Go-clause-ok g c =
 
 pub returns-in_err-summary-in-Go-clause-err : goal.returns-in_err-summary-in-Go-clause-err
 returns-in_err-summary-in-Go-clause-err g c =
-    let p = err_from_is_err_and c.from_residual-in_err-summary-in-Go.result
-    c.from_residual-in_err-summary-in-Go.ensures.1 in
-    rw (p.1, p.2)
+    err_of _ _ c.from_residual-in_err-summary-in-Go.ensures.1
     (rest_stops _ _ _ _ _ _ _ _ _ _ _ c.in_ok-saved-in-Go.ensures.ok (sym c.in-Some.ensures ∙ ap Some c.in-Go.is) _
     c.in_err-summary-in-Go.ensures.err)
 
@@ -111,81 +102,70 @@ returns-clause-ok g c =
 
 pub returns-in_err-size-in-Check-clause-err : goal.returns-in_err-size-in-Check-clause-err
 returns-in_err-size-in-Check-clause-err g c =
-    let p = err_from_is_err_and c.from_residual-in_err-size-in-Check.result
-    c.from_residual-in_err-size-in-Check.ensures.1 in
-    rw (p.1, p.2)
+    err_of _ _ c.from_residual-in_err-size-in-Check.ensures.1
     (check_stops _ _ _ _ _ _ _ _ _ _ _ c.in_ok-script-in-Check.ensures.ok
     (sym c.in-Some.ensures ∙ ap Some c.in-Check.is) _ c.in_err-size-in-Check.ensures.err)
 
 -- what was asked of the port of the script
 pub returns-in_err-script-in-Print-clause-asks : goal.returns-in_err-script-in-Print-clause-asks
 returns-in_err-script-in-Print-clause-asks g c =
-    draws_of _ _ _ _ _ _ _ _ c.in-Some.ensures c.in-Print.is refl c.load_script.ensures.asks
+    draws_of _ c.in-Some.ensures c.in-Print.is refl c.load_script.ensures.asks
 
 pub returns-in-Ok-print-clause-asks : goal.returns-in-Ok-print-clause-asks
-returns-in-Ok-print-clause-asks g c =
-    draws_of _ _ _ _ _ _ _ _ c.in-Some.ensures c.in-Print.is refl c.load_script.ensures.asks
+returns-in-Ok-print-clause-asks g c = draws_of _ c.in-Some.ensures c.in-Print.is refl c.load_script.ensures.asks
 
 pub returns-in-Print-clause-asks : goal.returns-in-Print-clause-asks
-returns-in-Print-clause-asks g c =
-    draws_of _ _ _ _ _ _ _ _ c.in-Some.ensures c.in-Print.is refl c.load_script.ensures.asks
+returns-in-Print-clause-asks g c = draws_of _ c.in-Some.ensures c.in-Print.is refl c.load_script.ensures.asks
 
 pub returns-in_err-script-in-Run-clause-asks : goal.returns-in_err-script-in-Run-clause-asks
 returns-in_err-script-in-Run-clause-asks g c =
-    draws_of _ _ _ _ _ _ _ _ c.in-Some.ensures c.in-Run.is refl c.load_script-in-Run.ensures.asks
+    draws_of _ c.in-Some.ensures c.in-Run.is refl c.load_script-in-Run.ensures.asks
 
 pub returns-in_err-summary-in-Run-clause-asks : goal.returns-in_err-summary-in-Run-clause-asks
 returns-in_err-summary-in-Run-clause-asks g c =
-    draws_of _ _ _ _ _ _ _ _ c.in-Some.ensures c.in-Run.is refl c.load_script-in-Run.ensures.asks
+    draws_of _ c.in-Some.ensures c.in-Run.is refl c.load_script-in-Run.ensures.asks
 
 pub returns-in-Run-clause-asks : goal.returns-in-Run-clause-asks
-returns-in-Run-clause-asks g c =
-    draws_of _ _ _ _ _ _ _ _ c.in-Some.ensures c.in-Run.is refl c.load_script-in-Run.ensures.asks
+returns-in-Run-clause-asks g c = draws_of _ c.in-Some.ensures c.in-Run.is refl c.load_script-in-Run.ensures.asks
 
 pub returns-in_err-script-in-Stop-clause-asks : goal.returns-in_err-script-in-Stop-clause-asks
 returns-in_err-script-in-Stop-clause-asks g c =
-    draws_of _ _ _ _ _ _ _ _ c.in-Some.ensures c.in-Stop.is refl c.load_script-in-Stop.ensures.asks
+    draws_of _ c.in-Some.ensures c.in-Stop.is refl c.load_script-in-Stop.ensures.asks
 
 pub returns-in_err-state-in-Stop-clause-asks : goal.returns-in_err-state-in-Stop-clause-asks
 returns-in_err-state-in-Stop-clause-asks g c =
-    draws_of _ _ _ _ _ _ _ _ c.in-Some.ensures c.in-Stop.is refl c.load_script-in-Stop.ensures.asks
+    draws_of _ c.in-Some.ensures c.in-Stop.is refl c.load_script-in-Stop.ensures.asks
 
 pub returns-in-Stop-clause-asks : goal.returns-in-Stop-clause-asks
-returns-in-Stop-clause-asks g c =
-    draws_of _ _ _ _ _ _ _ _ c.in-Some.ensures c.in-Stop.is refl c.load_script-in-Stop.ensures.asks
+returns-in-Stop-clause-asks g c = draws_of _ c.in-Some.ensures c.in-Stop.is refl c.load_script-in-Stop.ensures.asks
 
 pub returns-in_err-saved-in-Go-clause-asks : goal.returns-in_err-saved-in-Go-clause-asks
-returns-in_err-saved-in-Go-clause-asks g c =
-    draws_of _ _ _ _ _ _ _ _ c.in-Some.ensures c.in-Go.is refl c.load_state.ensures.asks
+returns-in_err-saved-in-Go-clause-asks g c = draws_of _ c.in-Some.ensures c.in-Go.is refl c.load_state.ensures.asks
 
 pub returns-in_err-summary-in-Go-clause-asks : goal.returns-in_err-summary-in-Go-clause-asks
-returns-in_err-summary-in-Go-clause-asks g c =
-    draws_of _ _ _ _ _ _ _ _ c.in-Some.ensures c.in-Go.is refl c.load_state.ensures.asks
+returns-in_err-summary-in-Go-clause-asks g c = draws_of _ c.in-Some.ensures c.in-Go.is refl c.load_state.ensures.asks
 
 pub returns-in-Go-clause-asks : goal.returns-in-Go-clause-asks
-returns-in-Go-clause-asks g c =
-    draws_of _ _ _ _ _ _ _ _ c.in-Some.ensures c.in-Go.is refl c.load_state.ensures.asks
+returns-in-Go-clause-asks g c = draws_of _ c.in-Some.ensures c.in-Go.is refl c.load_state.ensures.asks
 
 pub returns-in_err-script-in-Gen-clause-asks : goal.returns-in_err-script-in-Gen-clause-asks
 returns-in_err-script-in-Gen-clause-asks g c =
-    draws_of _ _ _ _ _ _ _ _ c.in-Some.ensures c.in-Gen.is refl c.load_script-in-Gen.ensures.asks
+    draws_of _ c.in-Some.ensures c.in-Gen.is refl c.load_script-in-Gen.ensures.asks
 
 pub returns-in_err-summary-in-Gen-clause-asks : goal.returns-in_err-summary-in-Gen-clause-asks
 returns-in_err-summary-in-Gen-clause-asks g c =
-    draws_of _ _ _ _ _ _ _ _ c.in-Some.ensures c.in-Gen.is refl c.load_script-in-Gen.ensures.asks
+    draws_of _ c.in-Some.ensures c.in-Gen.is refl c.load_script-in-Gen.ensures.asks
 
 pub returns-in-Gen-clause-asks : goal.returns-in-Gen-clause-asks
-returns-in-Gen-clause-asks g c =
-    draws_of _ _ _ _ _ _ _ _ c.in-Some.ensures c.in-Gen.is refl c.load_script-in-Gen.ensures.asks
+returns-in-Gen-clause-asks g c = draws_of _ c.in-Some.ensures c.in-Gen.is refl c.load_script-in-Gen.ensures.asks
 
 pub returns-in_err-script-in-Check-clause-asks : goal.returns-in_err-script-in-Check-clause-asks
 returns-in_err-script-in-Check-clause-asks g c =
-    draws_of _ _ _ _ _ _ _ _ c.in-Some.ensures c.in-Check.is refl c.load_script-in-Check.ensures.asks
+    draws_of _ c.in-Some.ensures c.in-Check.is refl c.load_script-in-Check.ensures.asks
 
 pub returns-in_err-size-in-Check-clause-asks : goal.returns-in_err-size-in-Check-clause-asks
 returns-in_err-size-in-Check-clause-asks g c =
-    draws_of _ _ _ _ _ _ _ _ c.in-Some.ensures c.in-Check.is refl c.load_script-in-Check.ensures.asks
+    draws_of _ c.in-Some.ensures c.in-Check.is refl c.load_script-in-Check.ensures.asks
 
 pub returns-clause-asks : goal.returns-clause-asks
-returns-clause-asks g c =
-    draws_of _ _ _ _ _ _ _ _ c.in-Some.ensures c.in-Check.is refl c.load_script-in-Check.ensures.asks
+returns-clause-asks g c = draws_of _ c.in-Some.ensures c.in-Check.is refl c.load_script-in-Check.ensures.asks

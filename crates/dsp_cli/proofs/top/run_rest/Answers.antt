@@ -52,8 +52,7 @@ returns-clause-ok g c =
         stands = resumed.stands;
       };
       done = rest_by _ _ _ _ _ _ _ _ _ _ _ _ _ _ resumed.script_is resumed.frames_is
-          (c.find_measures.ensures ∙ ap measured c.session.ensures)
-          c.in-Ok-go.ensures.ok;
+          (c.find_measures.ensures ∙ ap measured c.session.ensures) c.in-Ok-go.ensures.ok;
       text = text_by script summary (ap flow_in stays) (c.output_flow.ensures ∙ ap flow_out stays)
           (c.in-Ok-go.ensures.given ∙ ap (λ (s : Script). frames_given s.blocks taken) resumed.script_is)
           (c.in-Ok-go.ensures.multiplies ∙ ap (λ (s : Script). cost_of s taken) resumed.script_is);

@@ -6,7 +6,7 @@ use Rattle.dsp_defs.specs.declared.script.Script.{Script}
 use Rattle.dsp_session.specs.Session.{cost_of}
 use Rattle.dsp_cli.specs.Script.{is_legal_for}
 use Rattle.dsp_cli.specs.declared.report.Summary.{Summary}
-use Rattle.dsp_cli.proofs.PerformLaws.{done_by, text_by}
+use Rattle.dsp_cli.proofs.PerformLaws.{text_by}
 use Rattle.dsp_cli.proofs.top.run_script.Goals as goal
 
 -- the flow of the input, and of the output
@@ -33,8 +33,13 @@ returns-clause-ok g c =
     let legal : IsTrue (is_legal_for script c.chosen-block.result) = subst IsTrue c.legal.ensures passed in
     record {
       legal = subst (λ n. IsTrue (is_legal_for script n)) c.chosen-block.ensures legal;
-      done = done_by _ _ _ _ _ _ _ _ _ _ _ _ _ _ _ c.in-Ok.ensures.banked_is same
-          (c.in-Ok.ensures.block_is ∙ c.chosen-block.ensures) c.find_measures.ensures c.in-Ok-stream.ensures.ok;
+      done = rw (
+        c.in-Ok.ensures.banked_is,
+        same,
+        c.in-Ok.ensures.block_is,
+        c.chosen-block.ensures,
+        ← c.find_measures.ensures,
+      ) at c.in-Ok-stream.ensures.ok;
       text = text_by script summary (ap flow_in stays) (c.output_flow.ensures ∙ ap flow_out stays)
           (c.in-Ok-stream.ensures.given ∙ ap (λ (s : Script). frames_given s.blocks taken) same)
           (c.in-Ok-stream.ensures.multiplies ∙ ap (λ (s : Script). cost_of s taken) same);

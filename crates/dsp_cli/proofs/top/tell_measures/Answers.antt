@@ -1,10 +1,8 @@
-use Rattle.std.proofs.Common.{◌∙◌, refl, ◌+◌, take, get_or, pos, arith, subst}
+use Rattle.std.proofs.Common.{◌∙◌, refl, ◌+◌, pos, arith, subst}
 use Rattle.dsp_defs.specs.declared.measure.Measure.TheVariants.{Power}
 use Rattle.std.proofs.lemmas.Result.{err_from_is_err_and}
 use Rattle.std.proofs.lemmas.List.{take_all}
-use Rattle.dsp_ports.specs.Ports.{Took}
 use Rattle.dsp_ports.proofs.Moved.{Took-nil}
-use Rattle.dsp_command.specs.Report.{measure_line}
 use Rattle.dsp_cli.specs.Run.{Wrote}
 use Rattle.dsp_cli.proofs.ReportLaws.{lines, lines-more, line-begins, wrote-more, tells-front, tells-all}
 use Rattle.dsp_cli.proofs.top.tell_measures.Goals as goal
@@ -15,28 +13,21 @@ loop-measure-init g c = ((Took-nil (g.R.Sink.state c.args.report.now)).put, refl
 pub loop-measure-preserved : goal.loop-measure-preserved
 loop-measure-preserved g c =
     let i = c.loop-measure.measure-index in
-    let ms = c.args.measures.now in
     let took = rw (c.deref.ensures.0, c.measure_line.ensures) at c.in_ok-write_all.ensures.took in
-    let wrote = wrote-more (g.R.Sink.state c.args.report.now) (g.R.Sink.state c.loop-measure.report)
-    (g.R.Sink.state c.write_all.new.sink) (lines (take i ms)) (measure_line (get_or ms i (Power 0 0 (pos 0))))
+    let wrote = wrote-more (g.R.Sink.state c.args.report.now) (g.R.Sink.state c.loop-measure.report) _ _ _
     c.loop-measure.invariant.0 took in (
       subst (λ text. Wrote text (g.R.Sink.state c.args.report.now) (g.R.Sink.state c.write_all.new.sink))
-          (lines-more ms i (i + 1) (Power 0 0 (pos 0)) (omega arith) c.loop-measure-test.true) wrote,
+          (lines-more c.args.measures.now i (i + 1) (Power 0 0 (pos 0)) (omega arith) c.loop-measure-test.true) wrote,
       c.in_ok-write_all.ensures.faults ∙ c.loop-measure.invariant.1,
     )
 
 pub returns-in_err-write_all-clause-tells : goal.returns-in_err-write_all-clause-tells
 returns-in_err-write_all-clause-tells g c =
-    let i = c.loop-measure.measure-index in
-    let ms = c.args.measures.now in
-    let line = measure_line (get_or ms i (Power 0 0 (pos 0))) in
-    let (count, less, took) = c.in_err-write_all.ensures.took in
-    let took' : Took (g.R.Sink.state c.loop-measure.report) (g.R.Sink.state c.write_all.new.sink) (take count line) =
-    rw (c.deref.ensures.0, c.measure_line.ensures) at took in
-    let wrote = wrote-more (g.R.Sink.state c.args.report.now) (g.R.Sink.state c.loop-measure.report)
-    (g.R.Sink.state c.write_all.new.sink) (lines (take i ms)) (take count line) c.loop-measure.invariant.0 took' in
-    tells-front (g.R.Sink.state c.args.report.now) (g.R.Sink.state c.write_all.new.sink) (lines ms) _
-    (line-begins ms i count (Power 0 0 (pos 0)) c.loop-measure-test.true) wrote
+    let (count, less, took) = rw (c.deref.ensures.0, c.measure_line.ensures) at c.in_err-write_all.ensures.took in
+    tells-front _ _ _ _
+    (line-begins c.args.measures.now c.loop-measure.measure-index count (Power 0 0 (pos 0)) c.loop-measure-test.true)
+    (wrote-more (g.R.Sink.state c.args.report.now) (g.R.Sink.state c.loop-measure.report) _ _ _
+    c.loop-measure.invariant.0 took)
     (rw (← c.loop-measure.invariant.1) c.in_err-write_all.ensures.faults)
 
 pub returns-in_err-write_all-clause-faults : goal.returns-in_err-write_all-clause-faults

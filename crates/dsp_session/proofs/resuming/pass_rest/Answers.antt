@@ -66,20 +66,20 @@ pub pass_blocks-requires-clause-part : goal.pass_blocks-requires-clause-part
 pass_blocks-requires-clause-part g c =
     in-end _ _ _ c.in_ok-skipped.ensures.ok.in_limit c.if-skipped-span.false
 
-pub close-requires-clause-runs : goal.close-requires-clause-runs
-close-requires-clause-runs g c = c.in_ok-last.ensures.ok.going.advances.runs
-
-pub close-requires-clause-coding : goal.close-requires-clause-coding
-close-requires-clause-coding g c = c.in_ok-last.ensures.same.coding ∙ c.requires.coding
-
-pub close-requires-clause-block : goal.close-requires-clause-block
-close-requires-clause-block g c = reached_size _ _ _ _ _ _ _ _ _ _ _ _ c.requires.coding c.in_ok-last.ensures.ok
-
-pub close-requires-clause-short : goal.close-requires-clause-short
-close-requires-clause-short g c = c.in_ok-last.ensures.ok.short
-
-pub close-requires-clause-limit : goal.close-requires-clause-limit
-close-requires-clause-limit g c = omega (arith, c.in_ok-last.ensures.ok.read.in_limit)
+pub close-requires : goal.close-requires
+close-requires g c =
+    let reached = c.in_ok-last.ensures.ok in
+    let frame : c.frame_bytes-frame.result ≡ frame_bytes c.args.worker.now.script c.args.header.coding =
+    c.frame_bytes-frame.ensures ∙ ap (λ (s : Script). frame_bytes s c.args.header.coding) c.script.ensures.script in
+    record {
+      runs = reached.going.advances.runs;
+      coding = c.in_ok-last.ensures.same.coding ∙ c.requires.coding;
+      size = reached_size _ _ _ _ _ _ _ _ _ _ _ _ c.requires.coding reached;
+      short = reached.short;
+      frames = reached_frames _ _ _ _ _ _ _ _ _ _ _ _ c.requires.coding
+          (λ i. (c.requires.frames ∙ sym c.from.ensures) i * sym frame i) reached;
+      limit = omega (arith, reached.read.in_limit);
+    }
 
 pub overflow_add-result : goal.overflow_add-result
 overflow_add-result g c = omega (arith, c.in_ok-last.ensures.ok.read.in_limit)
@@ -117,13 +117,6 @@ returns-in_err-last-clause-err g c before opened fits =
     (λ i. (c.from.ensures ∙ sym c.requires.frames) i * frame i) opened
     skips.bytes skips.gave (omega (arith, skips.long, skips.in_part, c.if-skipped-span.false)) skips.no_fault _ _ _ _
     c.in_err-last.ensures.err)
-
-pub close-requires-clause-frames : goal.close-requires-clause-frames
-close-requires-clause-frames g c =
-    let frame : c.frame_bytes-frame.result ≡ frame_bytes c.args.worker.now.script c.args.header.coding =
-    c.frame_bytes-frame.ensures ∙ ap (λ (s : Script). frame_bytes s c.args.header.coding) c.script.ensures.script in
-    reached_frames _ _ _ _ _ _ _ _ _ _ _ _ c.requires.coding
-    (λ i. (c.requires.frames ∙ sym c.from.ensures) i * sym frame i) c.in_ok-last.ensures.ok
 
 pub returns-in_err-close-clause-err : goal.returns-in_err-close-clause-err
 returns-in_err-close-clause-err g c before opened fits =

@@ -37,25 +37,18 @@ returns-in_err-last-clause-refused g c =
     rw (is, same) (plain.broke_stays _ _ _ c.requires.new c.requires.coding refl refl _ _ _ _ _ _ _ _
     c.in_err-last.ensures.err)
 
-pub close-requires-clause-runs : goal.close-requires-clause-runs
-close-requires-clause-runs g c = c.in_ok-last.ensures.ok.going.advances.runs
-
-pub close-requires-clause-coding : goal.close-requires-clause-coding
-close-requires-clause-coding g c = c.in_ok-last.ensures.same.coding ∙ c.requires.coding
-
-pub close-requires-clause-block : goal.close-requires-clause-block
-close-requires-clause-block g c = laws'.reached_size _ _ _ _ _ _ _ _ _ _ _ _ c.requires.coding c.in_ok-last.ensures.ok
-
-pub close-requires-clause-short : goal.close-requires-clause-short
-close-requires-clause-short g c = c.in_ok-last.ensures.ok.short
-
-pub close-requires-clause-frames : goal.close-requires-clause-frames
-close-requires-clause-frames g c =
-    laws'.reached_frames _ _ _ _ _ _ _ _ _ _ _ _ c.requires.coding (nothing _ _ c.requires.new.chain.counted)
-    c.in_ok-last.ensures.ok
-
-pub close-requires-clause-limit : goal.close-requires-clause-limit
-close-requires-clause-limit g c = omega (arith, c.in_ok-last.ensures.ok.read.in_limit)
+pub close-requires : goal.close-requires
+close-requires g c =
+    let reached = c.in_ok-last.ensures.ok in
+    record {
+      runs = reached.going.advances.runs;
+      coding = c.in_ok-last.ensures.same.coding ∙ c.requires.coding;
+      size = laws'.reached_size _ _ _ _ _ _ _ _ _ _ _ _ c.requires.coding reached;
+      short = reached.short;
+      frames = laws'.reached_frames _ _ _ _ _ _ _ _ _ _ _ _ c.requires.coding
+          (nothing _ _ c.requires.new.chain.counted) reached;
+      limit = omega (arith, reached.read.in_limit);
+    }
 
 pub overflow_add-result : goal.overflow_add-result
 overflow_add-result g c = omega (arith, c.in_ok-last.ensures.ok.read.in_limit)

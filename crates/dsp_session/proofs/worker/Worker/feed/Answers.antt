@@ -1,6 +1,5 @@
 use Rattle.std.proofs.Common.{◌≡◌, ◌*◌, ◌∙◌, ap, [], length, take, All, FitsSigned, refl, sym, arith}
 use Rattle.std.proofs.lemmas.List.{length-take-le}
-use Rattle.std.proofs.lemmas.Result.{err_from_is_err_and}
 use Rattle.dsp_unit.specs.Line.{Place, blocks_of, place_room, line_turns}
 use Rattle.dsp_chain.specs.Chain.{ChainState, output_of}
 use Rattle.dsp_unit.specs.Unit.{frames_in}
@@ -11,6 +10,7 @@ use Rattle.dsp_defs.specs.declared.format.Coding.{Coding}
 use Rattle.dsp_session.specs.Session.{signal}
 use Rattle.dsp_chain.proofs.Room.{written-line}
 use Rattle.dsp_session.proofs.WorkerLaws as laws
+use Rattle.std.proofs.lemmas.Result.{err_from_is_err_and}
 use Rattle.dsp_session.proofs.worker.Worker.feed.Goals as goal
 
 pub decode_front-count-requires : goal.decode_front-count-requires
@@ -47,13 +47,9 @@ feed-requires-clause-count g c =
     let ready = c.self.invariant.holds.ready in
     let whole = rw (← c.self.view_is) at c.requires.whole in
     let count = rw (← c.self.view_is) at c.requires.count in
-    let row = laws.read_row script c.self.inside.block ready c.self.inside.input c.decode_front-count.result
-    c.self.inside.samples.len c.args.bytes.now c.deref.result.now c.decode_front-count.new.samples
-    c.self.inside.samples.items
+    let frames = laws.row_frames script c.self.inside.block ready c.self.inside.input _ _ c.args.bytes.now _ _ _ whole
     (c.decode_front-count.auto.samples ∙ c.as_mut_slice.ensures.len) c.deref.ensures.value
     c.decode_front-count.ensures.values in
-    let frames = laws.frames_are script c.self.inside.block ready c.self.inside.input c.args.bytes.now
-    (take c.decode_front-count.result c.deref.result.now) whole row in
     rw (c.self.invariant.holds.input, frames) count
 
 pub returns-in_err-count-clause-refused : goal.returns-in_err-count-clause-refused
@@ -69,22 +65,15 @@ returns-in_err-count-clause-full g c =
     let (error, is, same) = err_from_is_err_and c.from_residual.result c.from_residual.ensures.1 in
     let holds = c.self.invariant.holds in
     let whole = rw (← c.self.view_is) at c.requires.whole in
-    let row = laws.read_row c.self.inside.script c.self.inside.block holds.ready c.self.inside.input
-    c.decode_front-count.result c.self.inside.samples.len c.args.bytes.now c.deref.result.now
-    c.decode_front-count.new.samples c.self.inside.samples.items
-    (c.decode_front-count.auto.samples ∙ c.as_mut_slice.ensures.len) c.deref.ensures.value
-    c.decode_front-count.ensures.values in
     let xs = take c.decode_front-count.result c.deref.result.now in
-    let frames = laws.frames_are c.self.inside.script c.self.inside.block holds.ready c.self.inside.input
-    c.args.bytes.now xs whole row in
-    let count : length (frames_in c.self.inside.chain.input.channels xs) ≡ length
-    (signal c.self.inside.script c.self.inside.input c.args.bytes.now) =
-    ap (λ (p : Place). length (frames_in p.channels xs)) holds.input ∙ ap length frames in
+    let frames = laws.row_frames c.self.inside.script c.self.inside.block holds.ready c.self.inside.input _ _
+    c.args.bytes.now _ _ _ whole (c.decode_front-count.auto.samples ∙ c.as_mut_slice.ensures.len)
+    c.deref.ensures.value c.decode_front-count.ensures.values in
+    let count = ap (λ (p : Place). length (frames_in p.channels xs)) holds.input ∙ ap length frames in
     rw (is, ← c.self.view_is) (
       (λ e. laws.too_much c.self.inside.script c.self.inside.block holds.ready
-          c.self.inside.chain c.feed.new.self holds.input holds.blocks c.self.inside.banked c.self.inside.input []
-          (length (frames_in c.self.inside.chain.input.channels xs))
-          (length (signal c.self.inside.script c.self.inside.input c.args.bytes.now)) count
+          c.self.inside.chain c.feed.new.self holds.input holds.blocks c.self.inside.banked c.self.inside.input [] _ _
+          count
           (c.in_err-count.ensures.full.0 refl)),
       (λ many. refl),
     )
@@ -94,17 +83,11 @@ returns-in_err-count-clause-numbers g c =
     let (error, is, same) = err_from_is_err_and c.from_residual.result c.from_residual.ensures.1 in
     let holds = c.self.invariant.holds in
     let whole = rw (← c.self.view_is) at c.requires.whole in
-    let row = laws.read_row c.self.inside.script c.self.inside.block holds.ready c.self.inside.input
-    c.decode_front-count.result c.self.inside.samples.len c.args.bytes.now c.deref.result.now
-    c.decode_front-count.new.samples c.self.inside.samples.items
-    (c.decode_front-count.auto.samples ∙ c.as_mut_slice.ensures.len) c.deref.ensures.value
-    c.decode_front-count.ensures.values in
     let xs = take c.decode_front-count.result c.deref.result.now in
-    let frames = laws.frames_are c.self.inside.script c.self.inside.block holds.ready c.self.inside.input
-    c.args.bytes.now xs whole row in
-    let count : length (frames_in c.self.inside.chain.input.channels xs) ≡ length
-    (signal c.self.inside.script c.self.inside.input c.args.bytes.now) =
-    ap (λ (p : Place). length (frames_in p.channels xs)) holds.input ∙ ap length frames in
+    let frames = laws.row_frames c.self.inside.script c.self.inside.block holds.ready c.self.inside.input _ _
+    c.args.bytes.now _ _ _ whole (c.decode_front-count.auto.samples ∙ c.as_mut_slice.ensures.len)
+    c.deref.ensures.value c.decode_front-count.ensures.values in
+    let count = ap (λ (p : Place). length (frames_in p.channels xs)) holds.input ∙ ap length frames in
     rw (is, same, ← c.self.view_is) (λ works. laws.numbers c.self.inside.script c.self.inside.block holds.ready
     c.self.inside.chain c.feed.new.self holds.input holds.blocks _ _ _ count (c.in_err-count.ensures.numbers works))
 
@@ -112,24 +95,17 @@ pub returns-clause-full : goal.returns-clause-full
 returns-clause-full g c =
     let holds = c.self.invariant.holds in
     let whole = rw (← c.self.view_is) at c.requires.whole in
-    let row = laws.read_row c.self.inside.script c.self.inside.block holds.ready c.self.inside.input
-    c.decode_front-count.result c.self.inside.samples.len c.args.bytes.now c.deref.result.now
-    c.decode_front-count.new.samples c.self.inside.samples.items
-    (c.decode_front-count.auto.samples ∙ c.as_mut_slice.ensures.len) c.deref.ensures.value
-    c.decode_front-count.ensures.values in
     let xs = take c.decode_front-count.result c.deref.result.now in
-    let frames = laws.frames_are c.self.inside.script c.self.inside.block holds.ready c.self.inside.input
-    c.args.bytes.now xs whole row in
-    let count : length (frames_in c.self.inside.chain.input.channels xs) ≡ length
-    (signal c.self.inside.script c.self.inside.input c.args.bytes.now) =
-    ap (λ (p : Place). length (frames_in p.channels xs)) holds.input ∙ ap length frames in
+    let frames = laws.row_frames c.self.inside.script c.self.inside.block holds.ready c.self.inside.input _ _
+    c.args.bytes.now _ _ _ whole (c.decode_front-count.auto.samples ∙ c.as_mut_slice.ensures.len)
+    c.deref.ensures.value c.decode_front-count.ensures.values in
+    let count = ap (λ (p : Place). length (frames_in p.channels xs)) holds.input ∙ ap length frames in
     rw (← c.self.view_is) (
       (λ e. absurd (cc)),
       (λ many. absurd
           (let e = c.in_ok-count.ensures.full.1 (laws.chain_much c.self.inside.script c.self.inside.block holds.ready
-          c.self.inside.chain c.feed.new.self holds.input holds.blocks c.self.inside.banked c.self.inside.input []
-          (length (frames_in c.self.inside.chain.input.channels xs))
-          (length (signal c.self.inside.script c.self.inside.input c.args.bytes.now)) count many) in cc)),
+          c.self.inside.chain c.feed.new.self holds.input holds.blocks c.self.inside.banked c.self.inside.input [] _ _
+          count many) in cc)),
     )
 
 pub encode_front-self-inside-requires-clause-fits : goal.encode_front-self-inside-requires-clause-fits
@@ -158,13 +134,9 @@ returns-clause-fed g c =
     let holds = c.self.invariant.holds in
     let ready = holds.ready in
     let whole = rw (← c.self.view_is) at c.requires.whole in
-    let row = laws.read_row script c.self.inside.block ready c.self.inside.input c.decode_front-count.result
-    c.self.inside.samples.len c.args.bytes.now c.deref.result.now c.decode_front-count.new.samples
-    c.self.inside.samples.items
+    let frames = laws.row_frames script c.self.inside.block ready c.self.inside.input _ _ c.args.bytes.now _ _ _ whole
     (c.decode_front-count.auto.samples ∙ c.as_mut_slice.ensures.len) c.deref.ensures.value
     c.decode_front-count.ensures.values in
-    let frames = laws.frames_are script c.self.inside.block ready c.self.inside.input c.args.bytes.now
-    (take c.decode_front-count.result c.deref.result.now) whole row in
     let same : c.deref-2.result.now ≡ c.feed.new.out = c.deref-2.ensures.value ∙
     written-line c.self.inside.values.len c.feed.new.out c.self.inside.values.items
     (c.feed.auto.out ∙ c.as_mut_slice-2.ensures.len) in

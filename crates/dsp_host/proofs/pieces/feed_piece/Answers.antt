@@ -1,4 +1,4 @@
-use Rattle.std.proofs.Common.{◌≡◌, ◌≤◌, ◌∙◌, take, length, arith}
+use Rattle.std.proofs.Common.{◌≡◌, ◌≤◌, ◌∙◌, take, length, arith, rules}
 use Rattle.std.proofs.lemmas.List.{length-take-le}
 use Rattle.std.proofs.lemmas.Result.{err_from_is_err_and}
 use Rattle.dsp_host.proofs.Behind as laws
@@ -29,3 +29,6 @@ returns-clause-ok g c =
     length-take-le c.save-kept.result c.save-kept.new.numbers (omega (arith, few, c.save-kept.auto.numbers)) in
     laws.goes _ _ _ _ _ opened _ _ _ _ _ _ _ fed _ _ _ (laws.front_is _ _ _ _ _ opened _ _ _ _ _ _ _ fed)
     (long ∙ c.save-kept.ensures.count) (omega (arith, few, long)) c.save-kept.ensures.stands
+
+pub returns-then-wanted-kept_out-clause-err : goal.returns-then-wanted-kept_out-clause-err
+returns-then-wanted-kept_out-clause-err g c = search rules

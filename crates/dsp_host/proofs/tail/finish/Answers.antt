@@ -49,3 +49,9 @@ giving-preserved g c =
     omega (arith, within, c.tail_bytes-bytes.ensures, c.if-bytes-room.false, c.giving.auto.out) in
     laws.goes_on _ _ _ c.requires.runs _ _ _ _ _ c.giving.invariant _ _ ends c.end-count.ensures.same
     c.end-count.ensures.given c.if-count-eq0.false room _ (c.copy_from_slice.ensures.after ∙ c.out.ensures)
+
+pub returns-in-Some-clause-err : goal.returns-in-Some-clause-err
+returns-in-Some-clause-err g c = search rules
+
+pub returns-then-bytes-room-clause-err : goal.returns-then-bytes-room-clause-err
+returns-then-bytes-room-clause-err g c = search rules

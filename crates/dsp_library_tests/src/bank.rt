@@ -4,7 +4,7 @@ ghost use Rattle.dsp_lanes.specs.Turns.{RisesWithin};
 
 use crate::refusals::{is_length, is_range};
 use dsp_bank::{Bank, BankSample};
-use dsp_biquad::{Biquads, Section};
+use dsp_biquad::{BiquadCalls, Biquads, Section};
 use dsp_defs::Steps;
 use dsp_lanes::FormatLanes;
 use std::alloc::Global;
@@ -133,8 +133,8 @@ fn compare_cascade<T: BankSample + PartialEq + Debug, M: Ledger>(
     kept: &[i64],
     steps: &mut Steps<M>,
 )
-    requires running { IsFalse cascade.old.filter.ended }
-    requires capacity { cascade.old.filter.capacity ≡ 4096 }
+    requires running { IsFalse cascade.old.ended }
+    requires capacity { cascade.old.capacity ≡ 4096 }
 {
     assert_holds!(rt; 1 <= row);
     assert_holds!(rt; row <= 16);

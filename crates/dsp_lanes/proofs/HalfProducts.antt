@@ -1,70 +1,72 @@
 -- Products of 64 bits of the even samples of a vector, and of the odd ones.
-use Rattle.std.proofs.Common.{ℕ, ◌≡◌, List, [], ◌∷◌, length, map, replicate, refl, sym, ap, ◌∙◌, arith, w32, w64}
+use Rattle.std.proofs.Common.{ℕ, ◌≡◌, ◌+◌, ◌*◌, List, [], ◌∷◌, length, map, replicate, refl, sym, ap, ◌∙◌, arith, w32}
+use Rattle.std.proofs.Common.{w64}
 use Rattle.std.proofs.lemmas.Int.{ints, int_wrap-add_left, int_wrap-add_right}
-use Rattle.std.proofs.lemmas.Simd.{length-zip2}
+use Rattle.std.proofs.lemmas.Simd.{length-zip2, Each1-replicate}
 use Rattle.std.specs.Prelude.{ℤ, ◌+ℤ◌, ◌*ℤ◌}
 use Rattle.std.specs.Int.{int_wrap}
 use lib.Lanes.{zip2, Each1}
 use mir.Val.{SFits, to_z, of_z}
 use Rattle.dsp_lanes.specs.Pairs.{in_turn}
 use Rattle.dsp_lanes.specs.Regrouped.{list_sum}
-use Rattle.dsp_lanes.proofs.LaneOps.{bits_of, cast_lanes}
+use Rattle.dsp_defs.specs.Signal.{sample, values}
+use Rattle.dsp_lanes.proofs.LaneOps.{bits_of, cast_lanes, casts_are, splat_bits}
 use Rattle.dsp_lanes.proofs.LaneSums.{plus_in, times_in, raised, raised_fit, summed_fit, lanes_read, products_raise}
 use Rattle.dsp_lanes.proofs.LaneSums.{multiples_raise}
 use Rattle.dsp_lanes.proofs.LaneRows.{list_sum-wraps}
 use Rattle.dsp_lanes.proofs.HalfSums.{picked, evens, odds, products, evens_of_four, odds_of_four, each_even, each_odd}
 use Rattle.dsp_lanes.proofs.HalfSums.{length-evens, length-odds, half_fits, list_sum-halves, in_turn-zip2}
+use Rattle.dsp_lanes.proofs.WordViews.{read_words, factors, evens_are, odds_are}
 
--- ---- one tap
-abbrev tap_half : List ℤ → ℤ → List ℤ → List ℕ → List ℕ
-tap_half sums t xs places = zip2 (plus_in w64) (bits_of w64 sums)
-    (zip2 (times_in w64) (cast_lanes w32 w64 (replicate 2 (of_z w32 t)))
-    (cast_lanes w32 w64 (picked (bits_of w32 xs) places)))
+-- ---- one tap, by the even and the odd ones of eight samples
+abbrev word_sums : List ℤ → List ℤ → List ℤ → List ℤ
+word_sums sums ts xs = map (to_z w64) (zip2 (plus_in w64) (bits_of w64 sums)
+    (zip2 (times_in w64) (bits_of w64 ts) (bits_of w64 xs)))
 
 abbrev tapped : ℤ → List ℤ → List ℤ → List ℤ
 tapped t sums xs = zip2 (λ s x. int_wrap w64 (s +ℤ (t *ℤ x))) sums xs
 
-tap_half_is : (sums xs half : List ℤ) (t : ℤ) (places : List ℕ) → picked (bits_of w32 xs) places ≡ bits_of w32 half →
-    length half ≡ 2 → Each1 (SFits w64) sums → SFits w32 t → Each1 (SFits w32) half
-    → map (to_z w64) (tap_half sums t xs places) ≡ tapped t sums half
-tap_half_is sums xs half t places is long h f g =
-    (lanes_read w64 (tap_half sums t xs places) (tapped t sums half)
-    (ap (λ l. zip2 (plus_in w64) (bits_of w64 sums) (zip2 (times_in w64)
-    (cast_lanes w32 w64 (replicate 2 (of_z w32 t))) (cast_lanes w32 w64 l))) is
-    ∙ multiples_raise w32 w64 (omega arith) (omega arith) 2 sums t half long h f g)
+splat_words : (t : ℤ) → SFits w32 t → bits_of w64 (replicate 4 t) ≡ cast_lanes w32 w64 (replicate 4 (of_z w32 t))
+splat_words t f = sym (ap (cast_lanes w32 w64) (splat_bits w32 4 t) ∙ casts_are w32 w64 (replicate 4 t)
+    (Each1-replicate (SFits w32) 4 t f))
+
+word_sums_are : (sums half : List ℤ) (t : ℤ) → length half ≡ 4 → Each1 (SFits w64) sums → SFits w32 t →
+    Each1 (SFits w32) half → word_sums sums (replicate 4 t) half ≡ tapped t sums half
+word_sums_are sums half t long h f g =
+    (lanes_read w64 _ (tapped t sums half)
+    ((λ i. zip2 (plus_in w64) (bits_of w64 sums) (zip2 (times_in w64) (splat_words t f i)
+    (sym (casts_are w32 w64 half g) i)))
+    ∙ multiples_raise w32 w64 (omega arith) (omega arith) 4 sums t half long h f g)
     (summed_fit w64 (λ s x. s +ℤ (t *ℤ x)) sums half)).0
 
-even_tap : (even xs : List ℤ) (t : ℤ) → length xs ≡ 4 → Each1 (SFits w64) even → SFits w32 t → Each1 (SFits w32) xs →
-    map (to_z w64) (tap_half even t xs (0 ∷ 2 ∷ [])) ≡ tapped t even (evens xs)
-even_tap even xs t long h f g = tap_half_is even xs (evens xs) t (0 ∷ 2 ∷ []) (evens_of_four w32 xs long)
-    (length-evens 2 xs long) h f (each_even (SFits w32) xs g)
+module _ (even odd xs fs es os : List ℤ) (t : ℤ) (long_even : length even ≡ 4) (long_odd : length odd ≡ 4)
+    (long : length xs ≡ 8) (fit_even : Each1 (SFits w64) even) (fit_odd : Each1 (SFits w64) odd) (f : SFits w32 t)
+    (g : Each1 (SFits w32) xs)
+    (fs_is : fs ≡ values 4 (λ i. sample (map (to_z w32) (replicate 8 (of_z w32 t))) (2 * i)))
+    (es_is : es ≡ values 4 (λ i. sample (read_words xs) (2 * i)))
+    (os_is : os ≡ values 4 (λ i. sample (read_words xs) (2 * i + 1))) where
+  even_is : word_sums even fs es ≡ tapped t even (evens xs)
+  even_is =
+      (λ i. word_sums even (factors fs t f fs_is i) (evens_are xs es long g es_is i))
+      ∙ word_sums_are even (evens xs) t (length-evens 4 xs long) fit_even f (each_even (SFits w32) xs g)
 
-odd_tap : (odd xs : List ℤ) (t : ℤ) → length xs ≡ 4 → Each1 (SFits w64) odd → SFits w32 t → Each1 (SFits w32) xs →
-    map (to_z w64) (tap_half odd t xs (1 ∷ 3 ∷ [])) ≡ tapped t odd (odds xs)
-odd_tap odd xs t long h f g = tap_half_is odd xs (odds xs) t (1 ∷ 3 ∷ []) (odds_of_four w32 xs long)
-    (length-odds 2 xs long) h f (each_odd (SFits w32) xs g)
+  odd_is : word_sums odd fs os ≡ tapped t odd (odds xs)
+  odd_is =
+      (λ i. word_sums odd (factors fs t f fs_is i) (odds_are xs os long g os_is i))
+      ∙ word_sums_are odd (odds xs) t (length-odds 4 xs long) fit_odd f (each_odd (SFits w32) xs g)
 
-pub tap_halves : (even odd xs : List ℤ) (t : ℤ) → length even ≡ 2 → length odd ≡ 2 → length xs ≡ 4 →
-    Each1 (SFits w64) even → Each1 (SFits w64) odd → SFits w32 t → Each1 (SFits w32) xs
-    → in_turn (map (to_z w64) (tap_half even t xs (0 ∷ 2 ∷ []))) (map (to_z w64) (tap_half odd t xs (1 ∷ 3 ∷ []))) ≡
-    tapped t (in_turn even odd) xs
-tap_halves even odd xs t long_even long_odd long fit_even fit_odd f g =
-    (λ i. in_turn (even_tap even xs t long fit_even f g i) (odd_tap odd xs t long fit_odd f g i))
-    ∙ in_turn-zip2 (λ s x. int_wrap w64 (s +ℤ (t *ℤ x))) even odd xs (omega arith)
+  pub tap_words : in_turn (word_sums even fs es) (word_sums odd fs os) ≡ tapped t (in_turn even odd) xs
+  tap_words = (λ i. in_turn (even_is i) (odd_is i))
+      ∙ in_turn-zip2 (λ s x. int_wrap w64 (s +ℤ (t *ℤ x))) even odd xs (omega arith)
 
-pub tap_halves_fit : (even odd xs : List ℤ) (t : ℤ) → length even ≡ 2 → length odd ≡ 2 → length xs ≡ 4 →
-    Each1 (SFits w64) even → Each1 (SFits w64) odd → SFits w32 t → Each1 (SFits w32) xs
-    → Each1 (SFits w64) (map (to_z w64) (tap_half even t xs (0 ∷ 2 ∷ []))) ×
-    Each1 (SFits w64) (map (to_z w64) (tap_half odd t xs (1 ∷ 3 ∷ [])))
-    × (length (map (to_z w64) (tap_half even t xs (0 ∷ 2 ∷ []))) ≡ 2) ×
-    (length (map (to_z w64) (tap_half odd t xs (1 ∷ 3 ∷ []))) ≡ 2)
-tap_halves_fit even odd xs t long_even long_odd long fit_even fit_odd f g =
-    let e = half_fits w64 2 (λ s x. s +ℤ (t *ℤ x)) _ even (evens xs) (even_tap even xs t long fit_even f g) long_even
-    (length-evens 2 xs long) in
-    let o = half_fits w64 2 (λ s x. s +ℤ (t *ℤ x)) _ odd (odds xs) (odd_tap odd xs t long fit_odd f g) long_odd
-    (length-odds 2 xs long) in
-    (e.0, o.0, e.1, o.1)
+  pub tap_words_fit : Each1 (SFits w64) (word_sums even fs es) × Each1 (SFits w64) (word_sums odd fs os)
+      × (length (word_sums even fs es) ≡ 4) × (length (word_sums odd fs os) ≡ 4)
+  tap_words_fit =
+      let e = half_fits w64 4 (λ s x. s +ℤ (t *ℤ x)) _ even (evens xs) even_is long_even (length-evens 4 xs long) in
+      let o = half_fits w64 4 (λ s x. s +ℤ (t *ℤ x)) _ odd (odds xs) odd_is long_odd (length-odds 4 xs long) in
+      (e.0, o.0, e.1, o.1)
 
+-- ---- products
 products-evens : (xs ys : List ℤ) → length xs ≡ length ys → products (evens xs) (evens ys) ≡ evens (products xs ys)
 products-evens [] ys e = refl
 products-evens (x ∷ []) [] e = refl
@@ -160,3 +162,53 @@ product_halves_fit even odd ts xs long_even long_odd long_t long_x fit_even fit_
     let o = half_fits w64 2 (λ s p. s +ℤ p) _ odd (odds ps) (odd_products odd ts xs long_t long_x fit_odd f g)
     long_odd (length-odds 2 ps long) in
     (e.0, o.0, e.1, o.1)
+
+-- ---- the products of eight samples, by the even and the odd ones
+word_products_are : (sums t x : List ℤ) → Each1 (SFits w64) sums → Each1 (SFits w32) t → Each1 (SFits w32) x →
+    word_sums sums t x ≡ raised w64 sums (products t x)
+word_products_are sums t x h f g =
+    (lanes_read w64 _ (raised w64 sums (products t x))
+    ((λ i. zip2 (plus_in w64) (bits_of w64 sums) (zip2 (times_in w64) (sym (casts_are w32 w64 t f) i)
+    (sym (casts_are w32 w64 x g) i)))
+    ∙ products_raise w32 w64 (omega arith) (omega arith) sums t x h f g)
+    (raised_fit w64 sums (products t x))).0
+
+module _ (even odd ts xs te to xe xo : List ℤ) (long_even : length even ≡ 4) (long_odd : length odd ≡ 4)
+    (long_t : length ts ≡ 8) (long_x : length xs ≡ 8) (fit_even : Each1 (SFits w64) even)
+    (fit_odd : Each1 (SFits w64) odd) (f : Each1 (SFits w32) ts) (g : Each1 (SFits w32) xs)
+    (te_is : te ≡ values 4 (λ i. sample (read_words ts) (2 * i)))
+    (to_is : to ≡ values 4 (λ i. sample (read_words ts) (2 * i + 1)))
+    (xe_is : xe ≡ values 4 (λ i. sample (read_words xs) (2 * i)))
+    (xo_is : xo ≡ values 4 (λ i. sample (read_words xs) (2 * i + 1))) where
+  abbrev ps : List ℤ
+  ps = products ts xs
+
+  long : length ps ≡ 8
+  long = length-zip2 (λ x y. x *ℤ y) ts xs (omega arith) ∙ long_t
+
+  even_raised : word_sums even te xe ≡ raised w64 even (evens ps)
+  even_raised =
+      (λ i. word_sums even (evens_are ts te long_t f te_is i) (evens_are xs xe long_x g xe_is i))
+      ∙ word_products_are even (evens ts) (evens xs) fit_even (each_even (SFits w32) ts f) (each_even (SFits w32) xs g)
+      ∙ ap (raised w64 even) (products-evens ts xs (omega arith))
+
+  odd_raised : word_sums odd to xo ≡ raised w64 odd (odds ps)
+  odd_raised =
+      (λ i. word_sums odd (odds_are ts to long_t f to_is i) (odds_are xs xo long_x g xo_is i))
+      ∙ word_products_are odd (odds ts) (odds xs) fit_odd (each_odd (SFits w32) ts f) (each_odd (SFits w32) xs g)
+      ∙ ap (raised w64 odd) (products-odds ts xs (omega arith))
+
+  pub product_words_are : int_wrap w64 (list_sum (word_sums even te xe) +ℤ list_sum (word_sums odd to xo)) ≡ int_wrap
+      w64 ((list_sum even +ℤ list_sum odd) +ℤ list_sum (products ts xs))
+  product_words_are =
+      (λ i. int_wrap w64 (list_sum (even_raised i) +ℤ list_sum (odd_raised i)))
+      ∙ halves_raised even odd (evens ps) (odds ps) (long_even ∙ sym (length-evens 4 ps long))
+      (long_odd ∙ sym (length-odds 4 ps long))
+      ∙ ap (λ z. int_wrap w64 ((list_sum even +ℤ list_sum odd) +ℤ z)) (list_sum-halves 4 ps long)
+
+  pub product_words_fit : Each1 (SFits w64) (word_sums even te xe) × Each1 (SFits w64) (word_sums odd to xo)
+      × (length (word_sums even te xe) ≡ 4) × (length (word_sums odd to xo) ≡ 4)
+  product_words_fit =
+      let e = half_fits w64 4 (λ s p. s +ℤ p) _ even (evens ps) even_raised long_even (length-evens 4 ps long) in
+      let o = half_fits w64 4 (λ s p. s +ℤ p) _ odd (odds ps) odd_raised long_odd (length-odds 4 ps long) in
+      (e.0, o.0, e.1, o.1)

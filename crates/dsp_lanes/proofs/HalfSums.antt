@@ -112,20 +112,8 @@ in_turn-zip2 f (a ∷ even) (b ∷ odd) (x ∷ y ∷ xs) e = ap (λ l. f a x ∷
     (in_turn-zip2 f even odd xs (omega arith))
 
 -- ---- both halves, put in turn and read
-abbrev in_turn_of_four : Width → List ℤ → List ℤ → List ℕ
-in_turn_of_four w even odd = pick_l 0 (bits_of w even ++ bits_of w odd) (0 ∷ 2 ∷ 1 ∷ 3 ∷ [])
-
 abbrev pub in_turn_of_eight : Width → List ℤ → List ℤ → List ℕ
 in_turn_of_eight w even odd = pick_l 0 (bits_of w even ++ bits_of w odd) (0 ∷ 4 ∷ 1 ∷ 5 ∷ 2 ∷ 6 ∷ 3 ∷ 7 ∷ [])
-
-turned_four : (w : Width) (even odd : List ℤ) → length even ≡ 2 → length odd ≡ 2 →
-    in_turn_of_four w even odd ≡ bits_of w (in_turn even odd)
-turned_four w even odd long_even long_odd =
-    by_two (λ even. in_turn_of_four w even odd ≡ bits_of w (in_turn even odd))
-    (λ a b. by_two (λ odd. in_turn_of_four w (a ∷ b ∷ []) odd ≡ bits_of w (in_turn (a ∷ b ∷ []) odd)) (λ c d. refl)
-    odd long_odd)
-    even
-    long_even
 
 pub turned_eight : (w : Width) (even odd : List ℤ) → length even ≡ 4 → length odd ≡ 4 →
     in_turn_of_eight w even odd ≡ bits_of w (in_turn even odd)
@@ -135,11 +123,6 @@ turned_eight w even odd long_even long_odd =
     (in_turn (a ∷ b ∷ c ∷ d ∷ []) odd)) (λ e f x y. refl) odd long_odd)
     even
     long_even
-
-pub read_four : (w : Width) (even odd : List ℤ) → length even ≡ 2 → length odd ≡ 2 → Each1 (SFits w) even →
-    Each1 (SFits w) odd → map (to_z w) (in_turn_of_four w even odd) ≡ in_turn even odd
-read_four w even odd long_even long_odd f g = ap (map (to_z w)) (turned_four w even odd long_even long_odd) ∙
-    ints_of_bits w (in_turn even odd) (each_in_turn (SFits w) even odd f g)
 
 pub read_eight : (w : Width) (even odd : List ℤ) → length even ≡ 4 → length odd ≡ 4 → Each1 (SFits w) even →
     Each1 (SFits w) odd → map (to_z w) (in_turn_of_eight w even odd) ≡ in_turn even odd

@@ -1,5 +1,6 @@
 -- Numbers of 32 bits times a power of two, saturated, in lanes: what is too great becomes the least number, less 1.
-use Rattle.std.proofs.Common.{ℕ, ◌≡◌, ◌<◌, ◌≤◌, ◌+◌, ◌-◌, ◌*◌, ◌/◌, ◌^◌, suc, List, length, map, replicate, refl, sym, ap}
+use Rattle.std.proofs.Common.{ℕ, ◌≡◌, ◌<◌, ◌≤◌, ◌+◌, ◌-◌, ◌*◌, ◌/◌, ◌^◌, suc, List, length, map, replicate, refl, sym}
+use Rattle.std.proofs.Common.{ap}
 use Rattle.std.proofs.Common.{◌∙◌, arith, w32, zero, Bool, true, false, cond, pow_mono}
 use Rattle.std.proofs.lemmas.Int.{ints, to_z-of_z, int_wrap_fits, SFits-int_wrap, int_wrap-mul_right}
 use Rattle.std.proofs.lemmas.Simd.{map-map, Each1-replicate, zip2_splat_left, zip2-map}
@@ -13,7 +14,8 @@ use mir.Syntax.{wrap_sub}
 use mir.Val.{SFits, to_z, of_z}
 use borrow.Table.Row.{s_int}
 use borrow.Rule.Simd.Lanes.{act2}
-use Rattle.dsp_lanes.proofs.LaneOps.{bits_of, splat_bits, ints_of_bits, lesser, greater, least_are, most_are, least, most}
+use Rattle.dsp_lanes.proofs.LaneOps.{bits_of, splat_bits, ints_of_bits, lesser, greater, least_are, most_are, least}
+use Rattle.dsp_lanes.proofs.LaneOps.{most}
 use Rattle.dsp_lanes.proofs.LaneOps.{added, subtracted, shifted, shifted_up_by, least_fits, saturated_fits, length-map}
 use Rattle.dsp_lanes.proofs.LaneOps.{Each1-map, map-same, each_shift_fits, shift_fits}
 use Rattle.dsp_defs.specs.Elementwise.{shift_in, IsScaleShift}

@@ -257,6 +257,9 @@ high_words_are even odd long_even long_odd f g =
 pub read_fit : (w : Width) (xs : List ℤ) → Each1 (SFits w) xs → Each1 (SFits w) (map (to_z w) (bits_of w xs))
 read_fit w xs f = (lanes_read w (bits_of w xs) xs refl f).1
 
+pub read_long : (w : Width) (n : ℕ) (xs : List ℤ) → length xs ≡ n → length (map (to_z w) (bits_of w xs)) ≡ n
+read_long w n xs long = length-map (bits_of w xs) (to_z w) ∙ length-map xs (of_z w) ∙ long
+
 abbrev pub product_words : List ℤ → List ℤ → List ℤ
 product_words xs ts = map (to_z w64) (zip2 (times_in w64) (bits_of w64 xs) (bits_of w64 ts))
 
@@ -273,33 +276,36 @@ products_are xs t long f g =
 abbrev pub read_words : List ℤ → List ℤ
 read_words xs = map (to_z w32) (bits_of w32 xs)
 
+pub factors : (fs : List ℤ) (t : ℤ) → SFits w32 t →
+    fs ≡ values 4 (λ i. sample (map (to_z w32) (replicate 8 (of_z w32 t))) (2 * i)) → fs ≡ replicate 4 t
+factors fs t g is = is ∙ (λ i. replicate 4 (to_z-of_z w32 t g i))
+
+pub evens_are : (xs es : List ℤ) → length xs ≡ 8 → Each1 (SFits w32) xs →
+    es ≡ values 4 (λ i. sample (read_words xs) (2 * i)) → es ≡ evens xs
+evens_are xs es long f is = is ∙ (λ i. values 4 (λ k. sample (ints_of_bits w32 xs f i) (2 * k))) ∙
+    by_eight (λ xs. values 4 (λ i. sample xs (2 * i)) ≡ evens xs) (λ a b c d e f x y. refl) xs long
+
+pub odds_are : (xs os : List ℤ) → length xs ≡ 8 → Each1 (SFits w32) xs →
+    os ≡ values 4 (λ i. sample (read_words xs) (2 * i + 1)) → os ≡ odds xs
+odds_are xs os long f is = is ∙ (λ i. values 4 (λ k. sample (ints_of_bits w32 xs f i) (2 * k + 1))) ∙
+    by_eight (λ xs. values 4 (λ i. sample xs (2 * i + 1)) ≡ odds xs) (λ a b c d e f x y. refl) xs long
+
 module _ (xs fs es os : List ℤ) (t : ℤ) (long : length xs ≡ 8) (f : Each1 (SFits w32) xs) (g : SFits w32 t)
     (fs_is : fs ≡ values 4 (λ i. sample (map (to_z w32) (replicate 8 (of_z w32 t))) (2 * i)))
     (es_is : es ≡ values 4 (λ i. sample (read_words xs) (2 * i)))
     (os_is : os ≡ values 4 (λ i. sample (read_words xs) (2 * i + 1))) where
-  factors : fs ≡ replicate 4 t
-  factors = fs_is ∙ (λ i. replicate 4 (to_z-of_z w32 t g i))
-
-  evens_are : es ≡ evens xs
-  evens_are = es_is ∙ (λ i. values 4 (λ k. sample (ints_of_bits w32 xs f i) (2 * k))) ∙
-      by_eight (λ xs. values 4 (λ i. sample xs (2 * i)) ≡ evens xs) (λ a b c d e f x y. refl) xs long
-
-  odds_are : os ≡ odds xs
-  odds_are = os_is ∙ (λ i. values 4 (λ k. sample (ints_of_bits w32 xs f i) (2 * k + 1))) ∙
-      by_eight (λ xs. values 4 (λ i. sample xs (2 * i + 1)) ≡ odds xs) (λ a b c d e f x y. refl) xs long
-
   even_products : (product_words es fs ≡ map (λ x. x *ℤ t) (evens xs)) × Each1 (SFits w64) (product_words es fs)
   even_products =
       let made = products_are (evens xs) t (length-evens 4 xs long) (each_even (SFits w32) xs f) g in
       let same : product_words es fs ≡ product_words (evens xs) (replicate 4 t) =
-      λ i. product_words (evens_are i) (factors i) in
+      λ i. product_words (evens_are xs es long f es_is i) (factors fs t g fs_is i) in
       (same ∙ made.0, subst (λ (l : List ℤ). Each1 (SFits w64) l) (sym same) made.1)
 
   odd_products : (product_words os fs ≡ map (λ x. x *ℤ t) (odds xs)) × Each1 (SFits w64) (product_words os fs)
   odd_products =
       let made = products_are (odds xs) t (length-odds 4 xs long) (each_odd (SFits w32) xs f) g in
       let same : product_words os fs ≡ product_words (odds xs) (replicate 4 t) =
-      λ i. product_words (odds_are i) (factors i) in
+      λ i. product_words (odds_are xs os long f os_is i) (factors fs t g fs_is i) in
       (same ∙ made.0, subst (λ (l : List ℤ). Each1 (SFits w64) l) (sym same) made.1)
 
   pub even_products_fit : Each1 (SFits w64) (product_words es fs)

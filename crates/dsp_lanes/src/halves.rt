@@ -4,20 +4,21 @@ use crate::dot_form::DotForm;
 use crate::fits::q31_fit;
 use crate::kernels::LaneKernels;
 use crate::row_form::RowForm;
+use crate::scales::{even_words, odd_words};
 use std::simd::prelude::*;
 
-/// Four outputs or products.
-pub(crate) struct Halves;
+/// Eight outputs or products.
+pub(crate) struct EightHalves;
 
-/// The sums of the even and of the odd ones.
+/// The sums of the even and of the odd ones of eight.
 #[derive(Clone, Copy)]
-pub(crate) struct HalfSums {
-    even: i64x2,
-    odd: i64x2,
+pub(crate) struct EightSums {
+    even: i64x4,
+    odd: i64x4,
 }
 
-impl RowForm<i32> for Halves {
-    type Sums = HalfSums;
+impl RowForm<i32> for EightHalves {
+    type Sums = EightSums;
 
     ghost use Rattle.std.specs.Prelude.{◌≡◌, FitsSigned, length};
     ghost use Rattle.std.specs.Simd.Lanes.{Each1};
@@ -26,14 +27,14 @@ impl RowForm<i32> for Halves {
     ghost use Rattle.dsp_defs.specs.declared.format.Fmt.TheVariants.{Q31};
     ghost use Rattle.dsp_lanes.specs.Pairs.{in_turn};
 
-    ghost size = { 4 };
+    ghost size = { 8 };
 
     ghost width = { w64 };
 
     ghost lanes = { λ s. in_turn s.even s.odd };
 
     ghost AreSums = { λ s n. (Each1 (FitsSigned w64) s.even) × (Each1 (FitsSigned w64) s.odd)
-        × (length s.even ≡ 2) × (length s.odd ≡ 2) };
+        × (length s.even ≡ 4) × (length s.odd ≡ 4) };
 
     ghost Takes = { λ taps. Unit {0} };
 
@@ -41,31 +42,31 @@ impl RowForm<i32> for Halves {
 
     #[inline(always)]
     fn behind(at: usize) -> usize {
-        at + 4
+        at + 8
     }
 
     #[inline(always)]
-    fn no_sums() -> HalfSums {
-        HalfSums {
-            even: i64x2::splat(0),
-            odd: i64x2::splat(0),
+    fn no_sums() -> EightSums {
+        EightSums {
+            even: i64x4::splat(0),
+            odd: i64x4::splat(0),
         }
     }
 
     #[inline(always)]
-    fn add_tap(sums: HalfSums, taps: &[i32], j: usize, window: &[i32], at: usize) -> HalfSums {
+    fn add_tap(sums: EightSums, taps: &[i32], j: usize, window: &[i32], at: usize) -> EightSums {
         q31_fit(taps);
         q31_fit(window);
-        let tap = i32x2::splat(taps[j]).cast::<i64>();
-        let samples = i32x4::from_slice(&window[at..]);
-        HalfSums {
-            even: sums.even + tap * samples.swizzle([0, 2]).cast::<i64>(),
-            odd: sums.odd + tap * samples.swizzle([1, 3]).cast::<i64>(),
+        let tap = even_words(i32x8::splat(taps[j]));
+        let samples = i32x8::from_slice(&window[at..]);
+        EightSums {
+            even: sums.even + tap * even_words(samples),
+            odd: sums.odd + tap * odd_words(samples),
         }
     }
 
     #[inline(always)]
-    fn add_pair(sums: HalfSums, taps: &[i32], j: usize, window: &[i32], at: usize) -> HalfSums {
+    fn add_pair(sums: EightSums, taps: &[i32], j: usize, window: &[i32], at: usize) -> EightSums {
         let sums = Self::add_tap(sums, taps, j, window, at);
         Self::add_tap(sums, taps, j + 1, window, at + 1)
     }
@@ -74,10 +75,68 @@ impl RowForm<i32> for Halves {
     fn closes(_taps: &[i32], _window: &[i32]) {}
 
     #[inline(always)]
-    fn close(sums: HalfSums, out: &mut [i32], at: usize) {
-        let sums = sums.even.shuffle(sums.odd, [0, 2, 1, 3]);
-        <i32 as LaneKernels<4>>::close_group(sums, out, at)
+    fn close(sums: EightSums, out: &mut [i32], at: usize) {
+        let sums = sums.even.shuffle(sums.odd, [0, 4, 1, 5, 2, 6, 3, 7]);
+        <i32 as LaneKernels<8>>::close_group(sums, out, at)
     }
+}
+
+impl DotForm<i32> for EightHalves {
+    type Sums = EightSums;
+
+    ghost use Rattle.std.specs.Prelude.{◌≡◌, ◌+ℤ◌, FitsSigned, length};
+    ghost use Rattle.std.specs.Simd.Lanes.{Each1};
+    ghost use Rattle.dsp_defs.specs.Numbers.{w64};
+    ghost use Rattle.dsp_lanes.specs.Regrouped.{list_sum};
+
+    ghost size = { 8 };
+
+    ghost width = { w64 };
+
+    ghost value = { λ s. list_sum s.even +ℤ list_sum s.odd };
+
+    ghost AreSums = { λ s. (Each1 (FitsSigned w64) s.even) × (Each1 (FitsSigned w64) s.odd)
+        × (length s.even ≡ 4) × (length s.odd ≡ 4) };
+
+    #[inline(always)]
+    fn size() -> usize {
+        8
+    }
+
+    #[inline(always)]
+    fn no_sums() -> EightSums {
+        EightSums {
+            even: i64x4::splat(0),
+            odd: i64x4::splat(0),
+        }
+    }
+
+    #[inline(always)]
+    fn add_products(sums: EightSums, taps: &[i32], window: &[i32], at: usize) -> EightSums {
+        q31_fit(taps);
+        q31_fit(window);
+        let t = i32x8::from_slice(&taps[at..]);
+        let x = i32x8::from_slice(&window[at..]);
+        EightSums {
+            even: sums.even + even_words(t) * even_words(x),
+            odd: sums.odd + odd_words(t) * odd_words(x),
+        }
+    }
+
+    #[inline(always)]
+    fn total(sums: EightSums) -> i64 {
+        (sums.even + sums.odd).reduce_sum()
+    }
+}
+
+/// Four products.
+pub(crate) struct Halves;
+
+/// The sums of the even and of the odd ones of four.
+#[derive(Clone, Copy)]
+pub(crate) struct HalfSums {
+    even: i64x2,
+    odd: i64x2,
 }
 
 impl DotForm<i32> for Halves {

@@ -2,7 +2,7 @@ use crate::dots::dot_groups;
 use crate::doubled::Doubled;
 use crate::fits::{q31_fit, sums_64_fit};
 use crate::four_dots::{Four, four_sums};
-use crate::halves::Halves;
+use crate::halves::{EightHalves, Halves};
 use crate::kernels::{FilterKernels, LaneKernels};
 use crate::plain::Plain;
 use crate::rows::row_group;
@@ -126,11 +126,7 @@ impl<const L: usize> FilterKernels<L> for i32 {
         at: usize,
         steps: &mut Steps<M>,
     ) {
-        if L == 4 {
-            row_group::<i32, Halves, M>(taps, window, out, at, steps)
-        } else {
-            row_group::<i32, Plain<L>, M>(taps, window, out, at, steps)
-        }
+        row_group::<i32, Plain<L>, M>(taps, window, out, at, steps)
     }
 
     #[inline(always)]
@@ -143,7 +139,7 @@ impl<const L: usize> FilterKernels<L> for i32 {
         steps: &mut Steps<M>,
     ) {
         if L == 4 {
-            row_group::<i32, Doubled<Halves>, M>(taps, window, out, at, steps)
+            row_group::<i32, EightHalves, M>(taps, window, out, at, steps)
         } else {
             row_group::<i32, Doubled<Plain<L>>, M>(taps, window, out, at, steps)
         }
@@ -158,7 +154,10 @@ impl<const L: usize> FilterKernels<L> for i32 {
         small: bool,
         steps: &mut Steps<M>,
     ) -> Four<i64> {
-        if L == 4 {
+        // By eights only where they leave no group of four, since a turn takes one group.
+        if L == 4 && taps.len() % 8 < 4 {
+            four_sums::<i32, EightHalves, M>(taps, window, first, step, steps)
+        } else if L == 4 {
             four_sums::<i32, Halves, M>(taps, window, first, step, steps)
         } else {
             four_sums::<i32, Plain<L>, M>(taps, window, first, step, steps)
@@ -167,7 +166,9 @@ impl<const L: usize> FilterKernels<L> for i32 {
 
     #[inline(always)]
     fn dot<M: Ledger>(taps: &[i32], window: &[i32], steps: &mut Steps<M>) -> i64 {
-        if L == 4 {
+        if L == 4 && taps.len() % 8 < 4 {
+            dot_groups::<i32, EightHalves, M>(taps, window, steps)
+        } else if L == 4 {
             dot_groups::<i32, Halves, M>(taps, window, steps)
         } else {
             dot_groups::<i32, Plain<L>, M>(taps, window, steps)

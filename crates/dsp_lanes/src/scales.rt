@@ -65,7 +65,7 @@ pub(crate) fn moved<const N: usize>(numbers: Simd<i32, N>, places: i32) -> Simd<
 
 /// The even ones of eight words, in lanes of 64 bits.
 #[inline(always)]
-fn even_words(words: i32x8) -> i64x4
+pub(crate) fn even_words(words: i32x8) -> i64x4
     requires long { length words ≡ 8 }
     requires fit { Each1 (FitsSigned w32) words }
     ensures words { result ≡ values 4 (λ i. sample words (2 * i)) }
@@ -77,7 +77,7 @@ fn even_words(words: i32x8) -> i64x4
 
 /// The odd ones of eight words, in lanes of 64 bits.
 #[inline(always)]
-fn odd_words(words: i32x8) -> i64x4
+pub(crate) fn odd_words(words: i32x8) -> i64x4
     requires long { length words ≡ 8 }
     requires fit { Each1 (FitsSigned w32) words }
     ensures words { result ≡ values 4 (λ i. sample words (2 * i + 1)) }

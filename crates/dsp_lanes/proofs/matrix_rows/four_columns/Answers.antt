@@ -1,4 +1,5 @@
-use Rattle.std.proofs.Common.{◌≡◌, ◌≤◌, ◌<◌, ◌∙◌, ◌+◌, ◌*◌, ◌%◌, ℕ, List, ℤ, ap, sym, subst, refl, length, arith, w16, w32}
+use Rattle.std.proofs.Common.{◌≡◌, ◌≤◌, ◌<◌, ◌∙◌, ◌+◌, ◌*◌, ◌%◌, ℕ, List, ℤ, ap, sym, subst, refl, length, arith, w16}
+use Rattle.std.proofs.Common.{w32}
 use Rattle.std.proofs.lemmas.Nat.{mul-le}
 use lib.Lanes.{Each1}
 use mir.Val.{SFits}

@@ -1,4 +1,5 @@
-use Rattle.std.proofs.Common.{ℕ, ◌≡◌, ◌+◌, ◌-◌, ◌*◌, ◌/◌, ◌≤◌, ◌^◌, suc, sym, ap, subst, List, ◌∙◌, arith, map, w32, pow_mono}
+use Rattle.std.proofs.Common.{ℕ, ◌≡◌, ◌+◌, ◌-◌, ◌*◌, ◌/◌, ◌≤◌, ◌^◌, suc, sym, ap, subst, List, ◌∙◌, arith, map, w32}
+use Rattle.std.proofs.Common.{pow_mono}
 use Rattle.std.proofs.Common.{pow-add}
 use Rattle.std.proofs.lemmas.Int.{ints}
 use Rattle.std.proofs.lemmas.Simd.{shifts_fit_splat}

@@ -1,4 +1,5 @@
-use Rattle.std.proofs.Common.{◌≡◌, ◌∙◌, ◌+◌, ◌*◌, ap, refl, sym, ℕ, ℤ, length, map, set, take_all, arith, rules, length-set}
+use Rattle.std.proofs.Common.{◌≡◌, ◌∙◌, ◌+◌, ◌*◌, ap, refl, sym, ℕ, ℤ, length, map, set, take_all, arith, rules}
+use Rattle.std.proofs.Common.{length-set}
 use Rattle.std.proofs.lemmas.List.{length-map}
 use Rattle.dsp_defs.specs.Formats.{close}
 use Rattle.dsp_defs.specs.Signal.{values}

@@ -28,7 +28,6 @@ type EachWindow<T, const L: usize> = EachChannel<T, WindowFilter<T, L, ()>>;
 type EachConvolution<T, const L: usize> = EachChannel<T, Convolution<T, L, ()>>;
 
 /// The unit of any block, in one of the formats that it has.
-#[derive(Drop)]
 pub enum BlockUnit {
     Vector(VectorUnit),
     Complex(ComplexUnit),
@@ -101,6 +100,13 @@ macro_rules! for_unit {
             BlockUnit::Measure($unit) => $result,
         }
     };
+}
+
+// Written out, so that it is proved here and not in each crate that drops a unit.
+impl Drop for BlockUnit {
+    fn drop(self) {
+        for_unit!(self, _unit => {}, _held => {})
+    }
 }
 
 impl Held for BlockUnit {

@@ -10,6 +10,7 @@ use Rattle.dsp_defs.specs.Cost.{section_count, lane_turns}
 use Rattle.dsp_defs.specs.Counts.{Counts}
 use Rattle.dsp_defs.specs.Formats.{word}
 use Rattle.dsp_defs.specs.declared.format.Fmt.{Fmt}
+use Rattle.dsp_defs.specs.declared.format.Fmt.TheVariants.{Q7, Q15, Q31}
 use Rattle.dsp_defs.specs.declared.script.Block.{Block}
 use Rattle.dsp_defs.specs.declared.script.Block.TheVariants.{Biquad}
 use Rattle.dsp_defs.proofs.FrameLemmas.{length-frames_in}
@@ -25,8 +26,10 @@ use Rattle.dsp_unit.proofs.ChannelLaws.{counts-took, length-unit_tail, live-by, 
 use Rattle.dsp_unit.proofs.ChannelOutput.{unit-fed}
 use Rattle.dsp_unit.proofs.SteadyFilters.{steady-size}
 use Rattle.dsp_biquad.specs.Laws.{biquad-steady}
+use Rattle.dsp_biquad.specs.Sections.{size_in}
 use Rattle.dsp_bank.specs.Bank.{BankState, IsNewBank, IsNewBanked, IsWholeBank, bank_block, bank_filters, sections_of}
 use Rattle.dsp_bank.specs.Bank.{unit_of_bank}
+use Rattle.dsp_bank.proofs.Amounts.{kept-few}
 use Rattle.dsp_bank.proofs.BankFed.{filter-of, length-filters}
 
 -- ---- equal pieces
@@ -132,7 +135,29 @@ module _ (format : Fmt) (b : BankState) where
         at_most = omega (arith, many, few);
       }
 
--- a bank that has taken nothing, in a unit of the block
+-- a bank that has taken nothing is whole
+few-sections : (format : Fmt) (numbers : List ℤ) → length numbers ≤ 64 * size_in format
+    → section_count format numbers ≤ 64
+few-sections Q7 numbers few = omega (arith, few)
+few-sections Q15 numbers few = omega (arith, few)
+few-sections Q31 numbers few = omega (arith, few)
+
+pub new-whole : (format : Fmt) (b : BankState) (p : ℕ) (numbers : List ℤ) (channels capacity : ℕ)
+    → IsNewBank format p numbers channels capacity b → 1 ≤ channels → channels < 256
+    → length numbers ≤ 64 * size_in format → IsWholeBank format b
+new-whole format b p numbers channels capacity made some below few =
+    let count = section_count format numbers in
+    let long : length b.kept ≡ channels * count * 4 = ap length made.zeros
+    ∙ length-replicate (channels * count * 4) (pos 0) in
+    let turned : channels * count * 4 ≡ channels * (4 * count) = omega arith in
+    record {
+      some = subst (λ n. 1 ≤ n) (sym made.channels_are) some;
+      size = long ∙ turned
+          ∙ sym (λ i. made.channels_are i * (4 * section_count format (made.coefficients_are i)));
+      few = kept-few (length b.kept) channels count long below (few-sections format numbers few);
+    }
+
+-- in a unit of the block
 pub bank-new : (format : Fmt) (b : BankState) (p : ℕ) (numbers : List ℤ) (channels capacity : ℕ) (block : Block)
     → block ≡ Biquad p numbers → IsNewBank format p numbers channels capacity b → IsNewBanked block format channels
     capacity (unit_of_bank format false b)
@@ -342,3 +367,5 @@ whole-kept format b kept' is size = record {
   size = size ∙ is.size;
   few = (let few = is.few in omega (arith, few, size));
 }
+
+pub ruleset words = (bank-fits_words)

@@ -15,11 +15,18 @@ module _ {X : Type 0} (number : X → ℤ) where
   numbers-map : (xs : List X) (k : ℕ) → numbers_in 4 (map number xs) k ≡ map number (take 4 (drop (k * 4) xs))
   numbers-map xs k = ap (take 4) (drop-map number (k * 4) xs) ∙ take-map number 4 (drop (k * 4) xs)
 
+  -- a piece that was read
+  pub piece-read : (xs : List X) (at size : ℕ) → map number (slice_range xs at (at + size))
+      ≡ take size (drop at (map number xs))
+  piece-read xs at size =
+      let long : at + size - at ≡ size = omega arith in
+      ap (λ m. map number (take m (drop at xs))) long
+      ∙ sym (ap (take size) (drop-map number at xs) ∙ take-map number size (drop at xs))
+
   -- a group that was read
   pub group-read : (xs : List X) (k : ℕ) → map number (slice_range xs (k * 4) (k * 4 + 4))
       ≡ numbers_in 4 (map number xs) k
-  group-read xs k = let long : k * 4 + 4 - k * 4 ≡ 4 = omega arith in ap (λ m. map number (take m (drop (k * 4) xs)))
-      long ∙ sym (numbers-map xs k)
+  group-read xs k = piece-read xs (k * 4) 4
 
   pub four-read : (l : List X) (a b c d : X) → length l ≡ 4 → a ≡ get_or l 0 a → b ≡ get_or l 1 b → c ≡ get_or l 2 c
       → d ≡ get_or l 3 d → map number l ≡ number a ∷ number b ∷ number c ∷ number d ∷ []
@@ -40,12 +47,16 @@ module _ {X : Type 0} (number : X → ℤ) where
   four-set (x ∷ y ∷ z ∷ w ∷ []) a b c d e = refl
   four-set (x ∷ y ∷ z ∷ w ∷ v ∷ l) a b c d e = absurd (omega (arith, e))
 
-  -- it has four numbers
+  -- it has as many numbers
+  pub length-piece : (xs : List X) (at size : ℕ) → at + size ≤ length xs → length (slice_range xs at (at + size)) ≡ size
+  length-piece xs at size inside =
+      let long : at + size - at ≡ size = omega arith in
+      length-take-le (at + size - at) (drop at xs) (omega (arith, length-drop at xs, inside)) ∙ long
+
+  -- and four
   pub length-group : (xs : List X) (n k : ℕ) → length xs ≡ n * 4 → k < n → length (slice_range xs (k * 4) (k * 4 + 4))
       ≡ 4
-  length-group xs n k whole inside =
-      let long : k * 4 + 4 - k * 4 ≡ 4 = omega arith in
-      length-take-le (k * 4 + 4 - k * 4) (drop (k * 4) xs) (omega (arith, length-drop (k * 4) xs, whole, inside)) ∙ long
+  length-group xs n k whole inside = length-piece xs (k * 4) 4 (omega (arith, whole, inside))
 
   module _ (xs piece : List X) (n k : ℕ) (whole : length xs ≡ n * 4) (inside : k < n) (size : length piece ≡ 4) where
     written : List X

@@ -1,4 +1,6 @@
+mod Amounts
 mod Groups
+mod Written
 mod PastRows
 mod RowsGo
 mod Composition

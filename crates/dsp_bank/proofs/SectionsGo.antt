@@ -1,5 +1,5 @@
 -- All channels of a bank through one section more, and through all of them.
-use Rattle.std.proofs.Common.{◌≡◌, ◌∙◌, subst, ℕ, ◌+◌, ◌*◌, ◌<◌, ◌≤◌, ℤ, List, length, arith}
+use Rattle.std.proofs.Common.{◌≡◌, ◌∙◌, refl, subst, ℕ, ◌+◌, ◌*◌, ◌<◌, ◌≤◌, ℤ, List, length, arith}
 use Rattle.std.proofs.lemmas.Nat.{mul-add-lt}
 use Rattle.dsp_defs.specs.Streaming.{Behaviour, GoesOn}
 use Rattle.dsp_defs.specs.declared.format.Fmt.{Fmt}
@@ -23,6 +23,10 @@ module _ (format : Fmt) (p size : ℕ) (numbers : List ℤ) (sections row count 
   abbrev pub LaterStay : ℕ → List ℤ → List ℤ → Type 0
   LaterStay s old kept = (i t : ℕ) → i < row → s ≤ t → t < sections → four_at sections kept i t
       ≡ four_at sections old i t
+
+  -- before the first section
+  pub none-gone : (old frames : List ℤ) → HaveGone 0 old old frames frames
+  none-gone old frames i h = record { values = λ x e. refl; stands = λ x e. refl }
 
   module _ (old mid new frames frames' frames'' : List ℤ) (s : ℕ) (whole : length old ≡ row * sections * 4)
       (inside : s < sections)

@@ -4,6 +4,7 @@ ghost use Rattle.dsp_lanes.specs.Turns.{lane_turns};
 ghost use Rattle.dsp_unit.specs.Channels.{AreFed};
 ghost use Rattle.dsp_bank.specs.Bank.{bank_filters, sections_of};
 
+use crate::kept::zeros;
 use crate::numbers::{put_numbers, take_numbers};
 use crate::{Bank, BankSample};
 use dsp_defs::{Block, MAX_SAMPLES, Measure, Steps};
@@ -135,10 +136,12 @@ impl<T: BankSample + FormatLanes<L>, const L: usize> BankUnit<T, L> {
         let coefficients = samples_of::<T>(alloc, coefficients.as_slice())?;
         let bank = Bank::of_coefficients(alloc, *post_shift, coefficients, channels, frames)?;
         let room = frames * usize::from(channels);
+        let input = zeros(alloc, room)?;
+        let output = zeros(alloc, room)?;
         Ok(BankUnit {
             bank,
-            input: vec![in alloc; T::zero(); room]?,
-            output: vec![in alloc; T::zero(); room]?,
+            input,
+            output,
             ended: false,
         })
     }
@@ -147,6 +150,7 @@ impl<T: BankSample + FormatLanes<L>, const L: usize> BankUnit<T, L> {
 impl<T: BankSample + FormatLanes<L>, const L: usize> Unit for BankUnit<T, L> {
     ghost unit = { λ u. u };
 
+    #[tactic(auto, using(crate::proofs::Amounts::frames))]
     fn feed<M: Ledger>(&mut self, frames: &[i32], out: &mut [i32], steps: &mut Steps<M>) -> usize {
         feed_bank(
             &mut self.bank,
@@ -180,6 +184,7 @@ impl<T: BankSample + FormatLanes<L>, const L: usize> Unit for BankUnit<T, L> {
         }
     }
 
+    #[tactic(auto, using(crate::proofs::BankUnits::words))]
     fn restore(&mut self, numbers: &[i64]) {
         self.bank.restore(numbers);
     }

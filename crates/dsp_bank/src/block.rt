@@ -35,7 +35,8 @@ fn run_frames<T: BankSample, M: Ledger>(
     requires frames { length frames.now ≡ count * row }
     requires out { length out.old ≡ count * row }
     ensures goes { ChannelsTake
-        (block_acts T.format (Biquad post_shift (map T.number coefficients.now))) (4 * (length coefficients.now / T.SIZE)) row count
+        (block_acts T.format (Biquad post_shift (map T.number coefficients.now)))
+        (4 * (length coefficients.now / T.SIZE)) row count
         (map T.number kept.old) (map T.number kept.new)
         (map T.number frames.now) (map T.number out.new) }
     ensures steps { RisesWithin steps.old steps.new
@@ -79,7 +80,8 @@ pub(crate) fn run_block<T: BankSample, M: Ledger>(
     requires outputs { length frames.now + 2 * row ≤ length outputs.old }
     requires out { length out.old ≡ length frames.now }
     ensures goes { ChannelsTake
-        (block_acts T.format (Biquad post_shift (map T.number coefficients.now))) (4 * (length coefficients.now / T.SIZE)) row (length frames.now / row)
+        (block_acts T.format (Biquad post_shift (map T.number coefficients.now)))
+        (4 * (length coefficients.now / T.SIZE)) row (length frames.now / row)
         (map T.number kept.old) (map T.number kept.new)
         (map T.number frames.now) (map T.number out.new) }
     ensures steps { RisesWithin steps.old steps.new

@@ -19,14 +19,15 @@ fn numbers_at<T: BankSample>(coefficients: &[T], section: usize) -> [T; 5]
     ensures { five_of (map T.number result)
         ≡ section_at T.SIZE (map T.number coefficients.now) section }
 {
-    let at = section * T::SIZE;
-    let numbers = &coefficients[at..at + T::SIZE];
+    let size = T::SIZE;
+    let at = section * size;
+    let numbers = &coefficients[at..at + size];
     [
         numbers[0],
-        numbers[T::SIZE - 4],
-        numbers[T::SIZE - 3],
-        numbers[T::SIZE - 2],
-        numbers[T::SIZE - 1],
+        numbers[size - 4],
+        numbers[size - 3],
+        numbers[size - 2],
+        numbers[size - 1],
     ]
 }
 
@@ -80,7 +81,8 @@ pub(crate) fn run_sections<T: BankSample, M: Ledger>(
     requires frames { length frames.old ≡ (count + 2) * row }
     requires outputs { length outputs.old ≡ (count + 2) * row }
     ensures goes { ChannelsGo
-        (block_acts T.format (Biquad post_shift (map T.number coefficients.now))) (4 * (length coefficients.now / T.SIZE)) row count
+        (block_acts T.format (Biquad post_shift (map T.number coefficients.now)))
+        (4 * (length coefficients.now / T.SIZE)) row count
         (map T.number kept.old) (map T.number kept.new)
         (map T.number frames.old) (map T.number outputs.new) }
     ensures steps { RisesWithin steps.old steps.new

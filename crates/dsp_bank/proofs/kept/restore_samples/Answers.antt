@@ -1,8 +1,8 @@
-use Rattle.std.proofs.Common.{◌∙◌, ap, sym, subst, ◌<◌, ◌∷◌, [], ◌++◌, pos, length, map, take, take_all, arith}
-use Rattle.std.proofs.lemmas.List.{take_more, take_more_set, map-append}
+use Rattle.std.proofs.Common.{◌∙◌, ap, sym, subst, ◌<◌, length, map, take_all, arith}
 use Rattle.dsp_defs.specs.Formats.{word}
 use Rattle.dsp_defs.specs.Kept.{Each, IsOfKind, in_words}
 use Rattle.dsp_unit.proofs.ChannelKept.{length-words}
+use Rattle.dsp_bank.proofs.Written.{sample-more}
 use Rattle.dsp_bank.proofs.kept.restore_samples.Goals as goal
 
 pub sample_at-requires-clause-inside : goal.sample_at-requires-clause-inside
@@ -26,10 +26,7 @@ loop-k-preserved g c =
     let size = length-words IsOfKind (word g.T.Sample.format) (length c.args.samples.now) numbers c.requires in
     let room : k < length samples = omega (arith, c.loop-k-test.true, c.loop-k.auto.samples) in
     let inside : k < length numbers = omega (arith, size, c.loop-k-test.true) in
-    ap (map number) (take_more_set samples k c.sample_at.result room)
-    ∙ map-append number (take k samples) (c.sample_at.result ∷ [])
-    ∙ (λ i. c.loop-k.invariant i ++ c.sample_at.ensures i ∷ [])
-    ∙ sym (take_more numbers k (pos 0) inside)
+    sample-more number samples numbers k c.sample_at.result room inside c.sample_at.ensures c.loop-k.invariant
 
 pub returns : goal.returns
 returns g c =

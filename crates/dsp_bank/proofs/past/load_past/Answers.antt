@@ -1,5 +1,5 @@
-use Rattle.std.proofs.Common.{◌∙◌, ◌+◌, ◌*◌, ◌<◌, sym, map, slice_range, below_more, arith}
-use Rattle.std.proofs.lemmas.Nat.{mul-add-lt}
+use Rattle.std.proofs.Common.{◌∙◌, ◌+◌, ◌*◌, ◌<◌, sym, map, slice_range, below_more}
+use Rattle.dsp_bank.proofs.Amounts.{group-inside}
 use Rattle.dsp_bank.proofs.Groups.{group-read, four-read, length-group}
 use Rattle.dsp_bank.proofs.PastRows.{past-here, past-before, later-stays}
 use Rattle.dsp_bank.proofs.past.load_past.Goals as goal
@@ -23,8 +23,7 @@ loop-channel-preserved g c =
     let put = c.put_past.ensures in
     let put' = c.put_past-in-loop-channel.ensures in
     let four = slice_range kept (group * 4) (group * 4 + 4) in
-    let within : group < row * c.args.sections = omega
-    (arith, mul-add-lt i c.args.sections c.args.section row inside c.requires.section) in
+    let within = group-inside c.args.sections row i c.args.section inside c.requires.section in
     let long = length-group number kept (row * c.args.sections) group c.requires.size within in
     let here = sym (group-read number kept group)
     ∙ four-read number four c.index-four-0.result c.index-four-1.result c.index-four-2.result c.index-four-3.result

@@ -1,17 +1,16 @@
-use Rattle.std.proofs.Common.{◌≡◌, ◌≢◌, ◌∷◌, [], ◌∙◌, ◌+◌, ◌*◌, ◌<◌, ap, sym, length, below_more, arith, rules}
-use Rattle.std.proofs.lemmas.Nat.{mul-add-lt}
+use Rattle.std.proofs.Common.{◌≡◌, ◌≢◌, ◌∷◌, [], ◌∙◌, ◌+◌, ◌*◌, ◌<◌, ap, sym, length, below_more, rules}
 use Rattle.std.proofs.lemmas.List.{length-map}
 use Rattle.dsp_defs.proofs.SumLemmas.{sample-map}
-use Rattle.dsp_filter.proofs.Places.{same-frame, same-channel}
+use Rattle.dsp_filter.proofs.Places.{same-channel}
+use Rattle.dsp_bank.proofs.Amounts.{four-begins, group-inside, newest-inside, other-group, second-inside}
 use Rattle.dsp_bank.proofs.Groups.{group-written, group-other}
 use Rattle.dsp_bank.proofs.past.save_past.Goals as goal
 
 pub offset_bounds-kept-at : goal.offset_bounds-kept-at
 offset_bounds-kept-at g c =
-    let group = mul-add-lt c.loop-channel.channel c.args.sections c.args.section c.args.row c.loop-channel-test.true
-    c.requires.section in
-    let below : (c.loop-channel.channel * c.args.sections + c.args.section) * 4 < length c.loop-channel.kept = omega
-    (arith, group, c.requires.size, c.loop-channel.auto.kept) in
+    let below : (c.loop-channel.channel * c.args.sections + c.args.section) * 4 < length c.loop-channel.kept =
+    four-begins c.args.sections c.args.row c.loop-channel.channel c.args.section (length c.loop-channel.kept)
+    c.loop-channel-test.true c.requires.section (c.loop-channel.auto.kept ∙ c.requires.size) in
     search rules
 
 pub loop-channel-preserved : goal.loop-channel-preserved
@@ -27,26 +26,24 @@ loop-channel-preserved g c =
     let frames = c.args.frames.now in
     let outputs = c.args.outputs.now in
     let inside : i < row = c.loop-channel-test.true in
-    let within : group < row * sections = omega (arith, mul-add-lt i sections section row inside c.requires.section) in
+    let within = group-inside sections row i section inside c.requires.section in
     let whole : length kept ≡ row * sections * 4 = c.loop-channel.auto.kept ∙ c.requires.size in
     let size : length piece ≡ 4 = sym (length-map piece number) ∙ ap length c.put_four.ensures in
     let newest = (c.args.count + 1) * row + i in
     let second = c.args.count * row + i in
-    let near = mul-add-lt (c.args.count + 1) row i (c.args.count + 2) (omega arith) inside in
-    let in_frames : newest < length frames = omega (arith, near, c.requires.frames) in
-    let in_outputs : newest < length outputs = omega (arith, near, c.requires.outputs) in
+    let in_frames = newest-inside c.args.count row i (length frames) inside c.requires.frames in
+    let in_outputs = newest-inside c.args.count row i (length outputs) inside c.requires.outputs in
     let x1 = sample-map number frames newest c.index-frames-newest.result in_frames c.index-frames-newest.is in
-    let x2 = sample-map number frames second c.index-frames-second.result (omega (arith, in_frames))
-    c.index-frames-second.is in
+    let x2 = sample-map number frames second c.index-frames-second.result
+    (second-inside c.args.count row i (length frames) inside c.requires.frames) c.index-frames-second.is in
     let y1 = sample-map number outputs newest c.index-outputs-newest.result in_outputs c.index-outputs-newest.is in
-    let y2 = sample-map number outputs second c.index-outputs-second.result (omega (arith, in_outputs))
-    c.index-outputs-second.is in
+    let y2 = sample-map number outputs second c.index-outputs-second.result
+    (second-inside c.args.count row i (length outputs) inside c.requires.outputs) c.index-outputs-second.is in
     record {
       fours = below_more _ i
           (λ j h.
-          let other : j * sections + section ≢ group = λ e. (let same = same-frame sections j i section section
-          c.requires.section c.requires.section e in omega (arith, same, h)) in
-          group-other number kept piece (row * sections) group whole within size (j * sections + section) other
+          group-other number kept piece (row * sections) group whole within size (j * sections + section)
+          (other-group sections j i section c.requires.section h)
           ∙ c.loop-channel.invariant.fours j h)
           (group-written number kept piece (row * sections) group whole within size ∙ c.put_four.ensures
           ∙ (λ k. x1 k ∷ x2 k ∷ y1 k ∷ y2 k ∷ []));

@@ -1,5 +1,5 @@
 use Rattle.std.proofs.Common.{◌≡◌, ◌∙◌, ap, sym, subst, false, ℕ, ◌≤◌, ◌+◌, ◌*◌, ◌/◌, ◌++◌, length, map, take, drop}
-use Rattle.std.proofs.Common.{arith, rules}
+use Rattle.std.proofs.Common.{rules}
 use Rattle.std.proofs.lemmas.List.{length-map}
 use Rattle.dsp_defs.specs.Cost.{section_count}
 use Rattle.dsp_defs.specs.Formats.{lanes}
@@ -11,8 +11,24 @@ use Rattle.dsp_biquad.specs.Sections.{block_acts}
 use Rattle.dsp_biquad.specs.Laws.{count-at}
 use Rattle.dsp_bank.specs.Bank.{BankState, bank_filters}
 use Rattle.dsp_bank.specs.Rows.{ChannelsTake}
+use Rattle.dsp_bank.proofs.Amounts.{for-each, frames-fit, products-by_samples, turns-by_frames, whole-parts}
 use Rattle.dsp_bank.proofs.BankFed.{bank-fed}
 use Rattle.dsp_bank.proofs.bank.Bank.process.Goals as goal
+
+-- the rows have room for the frames
+pub run_block-requires-clause-inner : goal.run_block-requires-clause-inner
+run_block-requires-clause-inner g c =
+    let b = c.self.inside in
+    let few = rw (← c.self.view_is) at c.requires.block in
+    frames-fit (length c.args.frames.now) b.capacity b.channels _ few (ap length c.as_mut_slice-2.ensures.value
+    ∙ c.self.invariant.7)
+
+pub run_block-requires-clause-outputs : goal.run_block-requires-clause-outputs
+run_block-requires-clause-outputs g c =
+    let b = c.self.inside in
+    let few = rw (← c.self.view_is) at c.requires.block in
+    frames-fit (length c.args.frames.now) b.capacity b.channels _ few (ap length c.as_mut_slice-3.ensures.value
+    ∙ c.self.invariant.8)
 
 -- the vectors that the bank then has
 kept-whole : (g : _) (c : goal.After-out-1 g) → take c.self.inside.kept.len (c.run_block.new.kept ++ drop
@@ -100,16 +116,10 @@ returns-clause-fed g c =
     (n * (count * (5 * lane_turns (lanes format) row)))) same c.run_block.ensures.steps in
     let count-is : length items / size ≡ sections = ap (λ l. length l / size) (sym c.as_slice.ensures.value) ∙ same in
     let whole : length c.self.inside.kept.items ≡ row * sections * 4 = is.6 ∙ ap (λ n. row * n * 4) count-is in
-    let long : length kept ≡ row * (4 * sections) = omega (arith, whole, length-map c.self.inside.kept.items number) in
+    let long = for-each (length kept) row sections (length-map c.self.inside.kept.items number ∙ whole) in
     let size' : length c.run_block.new.kept ≡ length c.self.inside.kept.items = c.run_block.auto.kept
     ∙ ap length c.as_mut_slice.ensures.value in
-    let long' : length kept' ≡ row * (4 * sections) = omega (
-      arith,
-      whole,
-      size',
-      length-map c.run_block.new.kept
-          number,
-    ) in
+    let long' = for-each (length kept') row sections (length-map c.run_block.new.kept number ∙ size' ∙ whole) in
     let fed = bank-fed format (before-call g c) kept' count taken given c.args.steps.now c.run_block.new.steps is.3
     long long' goes'' rises in
     subst (λ (b : BankState). AreFed (bank_filters format false b) (bank_filters format false
@@ -132,10 +142,10 @@ returns-clause-multiplies g c =
     let count = frames / row in
     let some = c.self.invariant.3 in
     let whole = rw (← c.self.view_is) at c.requires.whole in
-    let frames-are : count * row ≡ frames = omega (arith, whole, some) in
+    let frames-are = whole-parts frames row whole some in
     let rise = c.run_block.ensures.steps.multiplies_rise
     ∙ ap (λ n. c.args.steps.now.multiplies + n * (count * (5 * row))) (sections-are g c) in
-    let product : sections * (count * (5 * row)) ≡ 5 * sections * (count * row) = omega arith in
+    let product = products-by_samples sections count row in
     let is : c.run_block.new.steps.multiplies ≡ c.args.steps.now.multiplies + 5 * sections * frames =
     rise ∙ ap (λ n. c.args.steps.now.multiplies + n) (product ∙ ap (λ n. 5 * sections * n) frames-are) in
     rw (← c.self.view_is) is
@@ -149,9 +159,8 @@ returns-clause-turns g c =
     let turns = lane_turns (lanes format) row in
     let within = subst (λ n. c.run_block.new.steps.turns ≤ c.args.steps.now.turns + n * (count * (5 * turns)))
     (sections-are g c) c.run_block.ensures.steps.turns_within in
-    let product : sections * (count * (5 * turns)) ≡ 5 * sections * count * turns = omega arith in
-    let is : c.run_block.new.steps.turns ≤ c.args.steps.now.turns + 5 * sections * count * turns = omega
-    (arith, within, product) in
+    let is = subst (λ n. c.run_block.new.steps.turns ≤ c.args.steps.now.turns + n)
+    (turns-by_frames sections count turns) within in
     let own : lanes format ≡ g.row.L = sym g.met.T.FormatLanes.own in
     let is' = subst (λ (n : ℕ). c.run_block.new.steps.turns ≤ c.args.steps.now.turns + 5 * sections * count
     * lane_turns n row) own is in

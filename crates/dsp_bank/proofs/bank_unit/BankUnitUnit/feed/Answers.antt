@@ -1,57 +1,14 @@
-use Rattle.std.proofs.Common.{◌≡◌, ◌≤◌, ◌∙◌, ap, sym, subst, false, Bool, ℕ, ◌+◌, ◌*◌, ◌/◌, ◌%◌, length, take, arith}
-use Rattle.std.proofs.Common.{rules, length-take-le}
-use Rattle.std.proofs.Math.Nat.{mul-mod_right, mul-le-mul_right}
+use Rattle.std.proofs.Common.{◌≡◌, ◌≤◌, ◌∙◌, ap, refl, sym, subst, false, Bool, ℕ, ◌+◌, ◌*◌, ◌/◌, length, take}
+use Rattle.std.proofs.Common.{length-take-le}
 use Rattle.std.proofs.lemmas.List.{take-take}
 use Rattle.dsp_defs.proofs.FrameLemmas.{length-frames_in}
 use Rattle.dsp_lanes.specs.Turns.{lane_turns}
 use Rattle.dsp_unit.specs.Channels.{AreFed}
 use Rattle.dsp_unit.specs.Unit.{Feeds, frames_in}
 use Rattle.dsp_bank.specs.Bank.{BankState, bank_filters, sections_of, unit_of_bank}
+use Rattle.dsp_bank.proofs.Amounts.{as-many, at-most, has-room}
 use Rattle.dsp_bank.proofs.BankUnits.{bank-feeds, bank-output, whole-kept}
 use Rattle.dsp_bank.proofs.bank_unit.BankUnitUnit.feed.Goals as goal
-
--- the frames are whole, at most a block, and have room
-module _ (channels capacity frames count : ℕ) (whole : frames ≡ count * channels) (few : count ≤ capacity) where
-  no-rest : frames % channels ≡ 0
-  no-rest = ap (λ n. n % channels) whole ∙ ap (λ n. n % channels) (let swap : count * channels
-      ≡ channels * count = omega arith in swap) ∙ mul-mod_right channels count
-
-  at-most : frames ≤ capacity * channels
-  at-most = let most = mul-le-mul_right channels few in omega (arith, whole, most)
-
-pub feed_bank-requires : goal.feed_bank-requires
-feed_bank-requires g c =
-    let b = c.self.inside.bank in
-    let frames = c.args.frames.now in
-    let signal = rw (← c.self.view_is) at c.requires.signal in
-    let few = rw (← c.self.view_is) at c.requires.capacity in
-    let room = rw (← c.self.view_is) at c.requires.room in
-    let room' : b.capacity * b.channels ≤ length c.args.out.now = room in
-    let count = length (frames_in b.channels frames) in
-    let most = at-most b.channels b.capacity (length frames) count signal.whole_frames few in
-    let input : length c.as_mut_slice.result.now ≡ b.capacity * b.channels = ap length c.as_mut_slice.ensures.value
-    ∙ c.self.invariant.2 in
-    let output : length c.as_mut_slice-2.result.now ≡ b.capacity * b.channels = ap length
-    c.as_mut_slice-2.ensures.value ∙ c.self.invariant.3 in (
-      search rules,
-      (
-        no-rest b.channels b.capacity (length frames) count signal.whole_frames few,
-        (
-          most,
-          (
-            signal.in_format,
-            (
-              omega (arith, most, input),
-              (
-                omega (arith, most, output),
-                omega
-                    (arith, most, room'),
-              ),
-            ),
-          ),
-        ),
-      ),
-    )
 
 pub returns-clause-output : goal.returns-clause-output
 returns-clause-output g c =
@@ -64,7 +21,8 @@ returns-clause-output g c =
     let room' : b.capacity * b.channels ≤ length c.args.out.now = room in
     let most = at-most b.channels b.capacity (length frames) (length (frames_in b.channels frames))
     signal.whole_frames few in
-    let size = length-take-le (length frames) out (omega (arith, most, room', c.feed_bank.auto.out)) in
+    let size = length-take-le (length frames) out (subst (λ n. length frames ≤ n) (sym c.feed_bank.auto.out)
+    (has-room (length frames) (b.capacity * b.channels) (length c.args.out.now) most room')) in
     rw (← c.self.view_is)
     (bank-output g.T.Sample.format b c.self.inside.ended frames (take (length frames) out) signal.whole_frames few size
     c.feed_bank.ensures.in_format)
@@ -85,8 +43,8 @@ returns-clause-fed g c =
     let running = rw (← c.self.view_is) at c.requires.running in
     let room' : b.capacity * b.channels ≤ length c.args.out.now = room in
     let most = at-most b.channels b.capacity n (length (frames_in b.channels frames)) signal.whole_frames few in
-    let size : length out ≡ n = length-take-le n c.feed_bank.new.out
-    (omega (arith, most, room', c.feed_bank.auto.out)) in
+    let size : length out ≡ n = length-take-le n c.feed_bank.new.out (subst (λ k. n ≤ k) (sym c.feed_bank.auto.out)
+    (has-room n (b.capacity * b.channels) (length c.args.out.now) most room')) in
     let is = c.self.invariant.0 in
     let is' = whole-kept format b b'.kept is c.feed_bank.ensures.size in
     let made = c.feed_bank.ensures.made in
@@ -96,10 +54,11 @@ returns-clause-fed g c =
     (n / b.channels) frames (n / b.channels) out before after) made c.feed_bank.ensures.fed in
     let turns = subst (λ (k : ℕ). after.turns ≤ before.turns + 5 * sections_of format b * (n / b.channels)
     * lane_turns k b.channels) g.met.T.FormatLanes.own c.feed_bank.ensures.turns in
-    let feeds = bank-feeds format b b'.kept frames out before after is is' (omega (arith, size)) whole fed turns in
+    let feeds = bank-feeds format b b'.kept frames out before after is is' (as-many (length out) n size) whole fed
+    turns in
     let feeds' = subst (λ l. Feeds (unit_of_bank format false b) (unit_of_bank format false
     (record b { kept = b'.kept })) (frames_in b.channels frames) (frames_in b.channels l) before after)
-    (take-take n n c.feed_bank.new.out (omega arith)) feeds in
+    (take-take n n c.feed_bank.new.out (as-many n n refl)) feeds in
     rw (← c.self.view_is)
     (subst (λ (e : Bool). Feeds (unit_of_bank format e b) (unit_of_bank format e b') (frames_in b.channels frames)
     (frames_in b.channels out) before after) (sym running)

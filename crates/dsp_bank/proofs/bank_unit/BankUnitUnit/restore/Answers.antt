@@ -1,4 +1,4 @@
-use Rattle.std.proofs.Common.{◌≡◌, ◌≤◌, ◌*◌, sym, subst, length, rules}
+use Rattle.std.proofs.Common.{◌≡◌, ◌≤◌, ◌*◌, sym, subst, length}
 use Rattle.dsp_defs.specs.Formats.{word}
 use Rattle.dsp_defs.specs.declared.limits.TheConstants.{MAX_SAMPLES}
 use Rattle.dsp_defs.specs.Kept.{IsOfKind}
@@ -6,13 +6,6 @@ use Rattle.dsp_unit.proofs.ChannelKept.{length-words}
 use Rattle.dsp_bank.specs.Bank.{BankState, IsWholeBank}
 use Rattle.dsp_bank.proofs.BankUnits.{bank-fits_words, whole-kept}
 use Rattle.dsp_bank.proofs.bank_unit.BankUnitUnit.restore.Goals as goal
-
-pub restore-requires : goal.restore-requires
-restore-requires g c = (
-  search rules,
-  bank-fits_words g.T.Sample.format c.self.inside.bank c.args.numbers.now c.self.invariant.0.size
-      (rw (← c.self.view_is) at c.requires.fits),
-)
 
 pub invariant_of-self : goal.invariant_of-self
 invariant_of-self g c =

@@ -450,13 +450,15 @@ pub fn run<U: AnyUnit + Drop, P: Source, S: Source, K: Sink, R: Sink, O: Source,
     other: &mut O,
     steps: &mut Steps<L>,
 ) -> u8
-    // How it ended: a script, the frames of its input and what its stream did, or the fault; and the report of just that.
+    // How it ended: a script, the frames of its input and what its stream did, or the fault; and the report of
+    // just that.
     ensures ended { Ended (call words.now (P.state script.old) (P.state script.new)
         (S.state input.old) (S.state input.new) (K.state output.old) (K.state output.new)
         (O.state other.old) (O.state other.new) steps.old steps.new) result
         (R.state report.old) (R.state report.new) }
 
-    // A command that is done has written exactly what it is to write for all the input, or has found it in the other file.
+    // A command that is done has written exactly what it is to write for all the input, or has found it in the
+    // other file.
     ensures done { IsDone result → HasDone (command_of words.now)
         (call words.now (P.state script.old) (P.state script.new) (S.state input.old)
         (S.state input.new) (K.state output.old) (K.state output.new) (O.state other.old)

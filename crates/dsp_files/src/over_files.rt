@@ -92,7 +92,8 @@ fn is_stopped(status: u8) -> bool
     status == 4 || status == 5 || status == 7 || status == 8
 }
 
-/// Writes what is left of the output of a run that has ended with this status, and its report, and answers the exit status.
+/// Writes what is left of the output of a run that has ended with this status, and its report, and answers the exit
+/// status.
 fn conclude<R: Files + Print>(
     status: u8,
     output: &mut FileSink<'_, R>,

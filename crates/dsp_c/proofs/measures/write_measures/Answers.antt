@@ -1,4 +1,4 @@
-use Rattle.std.proofs.Common.{◌∙◌, ◌+◌, ◌<◌, ◌++◌, ◌∷◌, [], length, map, take, drop, ap, sym, arith}
+use Rattle.std.proofs.Common.{◌∙◌, ◌+◌, ◌<◌, ◌++◌, ◌∷◌, [], length, map, take, drop, ap, sym, arith, rules}
 use Rattle.std.proofs.lemmas.List.{take_more_set, map-append, drop-set-lt, drop-drop}
 use Rattle.dsp_cli.proofs.ReportLaws.{found-more}
 use Rattle.dsp_session.specs.Session.{measured}
@@ -23,3 +23,6 @@ loop-index-preserved g c =
       drop-set-lt (i + 1) rows i c.row_of.result (omega arith)
           ∙ sym (drop-drop 1 i rows) ∙ ap (drop 1) c.loop-index.invariant.1 ∙ drop-drop 1 i c.args.measures.now,
     )
+
+pub returns-clause-count : goal.returns-clause-count
+returns-clause-count g c = search rules

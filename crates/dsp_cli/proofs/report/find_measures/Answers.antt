@@ -14,6 +14,12 @@ unreachable-requires g c =
     let full : vec_capacity c.loop-index.measures ≤ vec_len c.loop-index.measures = c.in_default.ensures.full in
     omega (arith, full, c.loop-index.invariant.1, size, within)
 
+pub loop-index-init : goal.loop-index-init
+loop-index-init g c = (
+  c.requires.empty,
+  omega (arith, c.requires.room, c.measures-index-end.ensures.count, c.measures-index-end.ensures.stays),
+)
+
 pub loop-index-preserved : goal.loop-index-preserved
 loop-index-preserved g c =
     let i = c.loop-index.index in

@@ -4,6 +4,9 @@ use Rattle.dsp_cli.specs.Asking.{Read}
 use Rattle.dsp_cli.proofs.Asking.{draws_all}
 use Rattle.dsp_cli.proofs.script.read_whole.Goals as goal
 
+pub returns-then-count-eq0-clause-asks : goal.returns-then-count-eq0-clause-asks
+returns-then-count-eq0-clause-asks g c = search rules
+
 pub returns-then-is_err-clause-asks : goal.returns-then-is_err-clause-asks
 returns-then-is_err-clause-asks g c =
     let given = c.in-Ok.ensures in

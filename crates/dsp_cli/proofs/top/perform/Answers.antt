@@ -31,6 +31,15 @@ returns-in-Ok-clause-ok g c =
       text_is = c.converted_report.ensures;
     }
 
+pub returns-in-Convert-clause-err : goal.returns-in-Convert-clause-err
+returns-in-Convert-clause-err g c =
+    record {
+      direction = c.in-Convert.direction;
+      asked = sym c.in-Some.ensures ∙ ap Some c.in-Convert.is;
+      did = c.in-Err.ensures.err;
+      spared = record { script_same = refl; other_same = refl; counts_same = refl };
+    }
+
 pub returns-in-Ok-print-clause-ok : goal.returns-in-Ok-print-clause-ok
 returns-in-Ok-print-clause-ok g c =
     record {

@@ -1,4 +1,4 @@
-use Rattle.std.proofs.Common.{subst, IsTrue}
+use Rattle.std.proofs.Common.{subst, IsTrue, rules}
 use Rattle.dsp_cli.specs.Script.{is_legal_for}
 use Rattle.dsp_cli.proofs.PerformLaws.{first_by}
 use Rattle.dsp_cli.proofs.top.run_first.Goals as goal
@@ -12,3 +12,6 @@ returns-in-Ok-stop-clause-ok g c =
     c.into_state.ensures
     (subst (λ n. IsTrue (is_legal_for c.args.script n)) c.chosen-block.ensures legal) new.short
     c.in-Ok-stop.ensures.ok c.in-Ok-stop.ensures.saved
+
+pub returns-in-Err-clause-err : goal.returns-in-Err-clause-err
+returns-in-Err-clause-err g c = search rules

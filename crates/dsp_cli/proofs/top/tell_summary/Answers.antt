@@ -1,4 +1,4 @@
-use Rattle.std.proofs.Common.{◌∙◌}
+use Rattle.std.proofs.Common.{◌∙◌, rules}
 use Rattle.dsp_cli.proofs.ReportLaws.{wrote-behind, tells-front, tells-all, tells-behind, head-begins}
 use Rattle.dsp_cli.proofs.top.tell_summary.Goals as goal
 
@@ -26,6 +26,9 @@ returns-clause-wrote g c =
     let more = rw c.deref-2.ensures.value at c.in_ok-tell_measures.ensures.wrote in
     c.in_ok-flush.ensures.flushed.put ∙ wrote-behind (g.R.Sink.state c.args.report.now)
     (g.R.Sink.state c.write_all.new.sink) (g.R.Sink.state c.tell_measures.new.report) _ _ took.put more
+
+pub returns-clause-settled : goal.returns-clause-settled
+returns-clause-settled g c = search rules
 
 pub returns-clause-tells : goal.returns-clause-tells
 returns-clause-tells g c = tells-all _ _ _ (returns-clause-wrote g c)

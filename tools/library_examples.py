@@ -15,7 +15,7 @@ TOP = os.path.dirname(os.path.dirname(os.path.abspath(__file__)))
 def plain(text):
     """The text without comments and differences of white space, with the plain forms of what a test asserts."""
     text = re.sub(r"\s+", "", re.sub(r"//[^\n]*", "", text)).replace(",)", ")")
-    text = text.replace("assert_same!", "assert_eq!").replace("assert_holds!", "assert!")
+    text = text.replace("assert_same!", "assert_eq!").replace("assert_holds!", "assert!").replace("!(&rt;", "!(rt;")
     gives = r"assert_gives!\((\w+);(.*?),(\d+),(\w+),(\[[^\]]*\]|\w+)\);"
     return re.sub(gives, r"assert_eq!(\1;\2,\3);assert_eq!(\1;\4,\5);", text)
 

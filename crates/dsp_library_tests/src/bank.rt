@@ -1,8 +1,9 @@
 //! Callers of dsp_bank: banks beside a cascade for each channel, and worked rows.
-ghost use Rattle.std.specs.Prelude.{◌≡◌, IsFalse, length};
+ghost use Rattle.std.specs.Prelude.{◌≡◌, ◌≤◌, ◌<◌, ◌-◌, ◌*◌, ◌%◌, IsFalse, length};
 ghost use Rattle.dsp_lanes.specs.Turns.{RisesWithin};
 
-use crate::refusals::{is_length, is_range};
+use crate::refusals::{refuses_length, refuses_range};
+use crate::same::same_count;
 use dsp_bank::{Bank, BankSample};
 use dsp_biquad::{BiquadCalls, Biquads, Section};
 use dsp_defs::Steps;
@@ -55,18 +56,45 @@ fn copies<T: Copy>(rt: &impl Abort, alloc: Global, value: T, count: usize) -> Ve
     vec![in alloc; value; count].expect(rt, "memory")
 }
 
-/// A bank for blocks of seven frames.
-fn of_seven_frames<T: BankSample + FormatLanes<L>, const L: usize>(
+/// A bank in any format, for blocks of at most so many frames.
+fn bank_of<T: BankSample + FormatLanes<L>, const L: usize>(
     rt: &impl Abort,
     alloc: Global,
     post_shift: u8,
     coefficients: &[T],
     channels: u8,
+    block: usize,
 ) -> Bank<T, L>
     ensures channels { result.channels ≡ channels }
-    ensures capacity { result.capacity ≡ 7 }
+    ensures capacity { result.capacity ≡ block }
 {
-    Bank::<T, L>::new(alloc, post_shift, coefficients, channels, 7).expect(rt, "a bank")
+    Bank::<T, L>::new(alloc, post_shift, coefficients, channels, block).expect(rt, "a bank")
+}
+
+/// Where a piece of so many frames ends that begins at a place of a whole signal, within its length and
+/// that of its output.
+fn piece_end(
+    rt: &impl Abort,
+    at: usize,
+    frames: usize,
+    row: usize,
+    length: usize,
+    room: usize,
+) -> usize
+    ensures some { at < result }
+    ensures few { result - at ≤ 7 * row }
+    ensures whole { (result - at) % row ≡ 0 }
+    ensures within { result ≤ length }
+    ensures room { result ≤ room }
+{
+    assert_holds!(rt; 1 <= row);
+    assert_holds!(rt; row <= 16);
+    let end = length.min(at.saturating_add(frames.saturating_mul(row)));
+    assert_holds!(rt; at < end);
+    assert_holds!(rt; end - at <= 7 * row);
+    assert_holds!(rt; (end - at) % row == 0);
+    assert_holds!(rt; end <= room);
+    end
 }
 
 /// Feeds frames to a bank in pieces of 1, 2, .. 7 frames, and returns what it keeps then.
@@ -86,14 +114,7 @@ fn feed_pieces<T: BankSample + FormatLanes<L>, const L: usize, M: Ledger>(
     let mut at = 0;
     let mut size = 1;
     while at < frames.len() {
-        assert_holds!(rt; at < 4096);
-        assert_holds!(rt; size <= 7);
-        assert_holds!(rt; row <= 16);
-        let end = frames.len().min(at + size * row);
-        assert_holds!(rt; at < end);
-        assert_holds!(rt; end - at <= 7 * row);
-        assert_holds!(rt; (end - at) % row == 0);
-        assert_holds!(rt; end <= out.len());
+        let end = piece_end(rt, at, size, row, frames.len(), out.len());
         bank.process(&frames[at..end], &mut out[at..end], steps);
         at = end;
         size = size % 7 + 1;
@@ -113,12 +134,20 @@ fn channel_of<T: Copy>(
 ) {
     let mut at = channel;
     for value in values {
-        assert_holds!(rt; at < 4096);
-        assert_holds!(rt; row <= 16);
         assert_holds!(rt; at < frames.len());
         *value = frames[at];
-        at += row;
+        at = at.saturating_add(row);
     }
+}
+
+/// How many frames of so many channels a signal has, of which a cascade takes all at once.
+fn frame_count(rt: &impl Abort, samples: usize, row: usize) -> usize
+    ensures { result ≤ 4096 }
+{
+    assert_holds!(rt; 1 <= row);
+    assert_holds!(rt; row <= 16);
+    assert_holds!(rt; samples <= 4096);
+    samples / row
 }
 
 /// Compares what a bank gave and keeps of a channel with a cascade.
@@ -136,10 +165,7 @@ fn compare_cascade<T: BankSample + PartialEq + Debug, M: Ledger>(
     requires running { IsFalse cascade.old.ended }
     requires capacity { cascade.old.capacity ≡ 4096 }
 {
-    assert_holds!(rt; 1 <= row);
-    assert_holds!(rt; row <= 16);
-    assert_holds!(rt; frames.len() <= 4096);
-    let count = frames.len() / row;
+    let count = frame_count(rt, frames.len(), row);
     let mut values = copies(rt, alloc, T::zero(), count);
     let mut outputs = copies(rt, alloc, T::zero(), count);
     channel_of(rt, row, channel, frames, values.as_mut_slice());
@@ -197,8 +223,8 @@ fn run<T: BankSample + FormatLanes<L> + PartialEq + Debug, const L: usize, M: Le
     steps: &mut Steps<M>,
 ) {
     let row = usize::from(channels);
-    let mut first = of_seven_frames::<T, L>(rt, alloc, post_shift, coefficients, channels);
-    let mut second = of_seven_frames::<T, L>(rt, alloc, post_shift, coefficients, channels);
+    let mut first = bank_of::<T, L>(rt, alloc, post_shift, coefficients, channels, 7);
+    let mut second = bank_of::<T, L>(rt, alloc, post_shift, coefficients, channels, 7);
     let mut given = copies(rt, alloc, T::zero(), frames.len());
     let half = 19 * row;
     assert_holds!(rt; half <= frames.len());
@@ -233,10 +259,12 @@ fn case<M: Ledger>(
 ) {
     let sections = usize::from(sections);
     let count = 40 * usize::from(channels);
-    let coefficients = samples15(rt, alloc, seed, 6 * sections, kind > 0);
-    let frames = samples15(rt, alloc, seed, count, kind > 1);
-    let shift = [0, 7, 13][usize::from(kind % 3)];
-    run::<i16, 8, M>(rt, alloc, shift, &coefficients, channels, &frames, steps);
+    {
+        let coefficients = samples15(rt, alloc, seed, 6 * sections, kind > 0);
+        let frames = samples15(rt, alloc, seed, count, kind > 1);
+        let shift = [0, 7, 13][usize::from(kind % 3)];
+        run::<i16, 8, M>(rt, alloc, shift, &coefficients, channels, &frames, steps);
+    }
     let coefficients = samples31(rt, alloc, seed, 5 * sections, kind > 0);
     let frames = samples31(rt, alloc, seed, count, kind > 1);
     let shift = [0, 7, 30][usize::from(kind % 3)];
@@ -282,14 +310,14 @@ const EIGHT_KEPT: [i64; 32] = [
 fn eight_channels<M: Ledger>(rt: &impl Abort, alloc: Global, steps: &mut Steps<M>)
     ensures { RisesWithin steps.old steps.new 160 20 }
 {
-    let mut out = [7i16; 32];
-    let mut kept = [7i64; 32];
     let mut bank = Bank::<i16, 8>::new(alloc, 0, &[16384, 0, 0, 0, 16384, 0], 8, 4).expect(
         rt, "a bank",
     );
+    let mut out = [7i16; 32];
     bank.process(&EIGHT_CHANNELS, &mut out, steps);
     assert_same!(rt; out, EIGHT_HALVED);
-    assert_same!(rt; bank.kept_count(), 32);
+    let mut kept = [7i64; 32];
+    same_count(rt, bank.kept_count(), 32);
     bank.keep(&mut kept);
     assert_same!(rt; kept, EIGHT_KEPT);
 }
@@ -298,9 +326,9 @@ fn eight_channels<M: Ledger>(rt: &impl Abort, alloc: Global, steps: &mut Steps<M
 fn three_channels<M: Ledger>(rt: &impl Abort, alloc: Global, steps: &mut Steps<M>)
     ensures { RisesWithin steps.old steps.new 30 30 }
 {
-    let mut out = [7i32; 6];
     let coefficients = [1073741824, 0, 0, 1073741824, 0];
     let mut bank = Bank::<i32, 4>::new(alloc, 0, &coefficients, 3, 2).expect(rt, "a bank");
+    let mut out = [7i32; 6];
     bank.process(&[800, -1600, i32::MIN, 0, 0, 0], &mut out, steps);
     assert_same!(rt; out, [400, -800, -1073741824, 200, -400, -536870912]);
 }
@@ -315,12 +343,12 @@ pub(crate) fn counted<M: Ledger>(rt: &impl Abort, alloc: Global, steps: &mut Ste
 #[test]
 fn faults(rt: HostRuntime) {
     let alloc = rt.alloc();
-    assert_holds!(rt; is_length(Bank::<i16, 8>::new(alloc, 14, &[0; 5], 17, 0), 5, 6));
-    assert_holds!(rt; is_range(Bank::<i16, 8>::new(alloc, 14, &[0; 6], 17, 0), 14));
-    assert_holds!(rt; is_range(Bank::<i32, 4>::new(alloc, 30, &[0; 5], 17, 0), 17));
-    assert_holds!(rt; is_range(Bank::<i32, 4>::new(alloc, 30, &[0; 5], 16, 0), 0));
-    let bank = Bank::<i16, 8>::new(alloc, 13, &[0; 6], 2, 4).expect(&rt, "a bank");
-    assert_holds!(rt; !bank.fits(&[0; 4]));
-    assert_holds!(rt; !bank.fits(&[0, 0, 0, 0, 0, 0, 0, 32768]));
-    assert_holds!(rt; bank.fits(&[-32768; 8]));
+    refuses_length(&rt, Bank::<i16, 8>::new(alloc, 14, &[0; 5], 17, 0), 5, 6);
+    refuses_range(&rt, Bank::<i16, 8>::new(alloc, 14, &[0; 6], 17, 0), 14);
+    refuses_range(&rt, Bank::<i32, 4>::new(alloc, 30, &[0; 5], 17, 0), 17);
+    refuses_range(&rt, Bank::<i32, 4>::new(alloc, 30, &[0; 5], 16, 0), 0);
+    let bank = bank_of::<i16, 8>(&rt, alloc, 13, &[0; 6], 2, 4);
+    let few = bank.fits(&[0; 4]);
+    let wide = bank.fits(&[0, 0, 0, 0, 0, 0, 0, 32768]);
+    assert_same!(&rt; (few, wide, bank.fits(&[-32768; 8])), (false, false, true));
 }

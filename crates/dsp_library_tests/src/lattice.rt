@@ -1,5 +1,6 @@
 //! Callers of dsp_lattice.
-use crate::refusals::{is_length, is_range};
+use crate::refusals::{refuses_length, refuses_range};
+use crate::step_filters;
 use dsp_defs::Steps;
 use dsp_lattice::{FirLattice15, FirLatticeCalls, IirLattice, IirLatticeCalls};
 use std::alloc::Global;
@@ -19,66 +20,77 @@ fn long_block<M: Ledger>(rt: &impl Abort, alloc: Global, steps: &mut Steps<M>) {
 
 /// A lattice keeps a number a section.
 fn fir_keeps<M: Ledger>(rt: &impl Abort, alloc: Global, steps: &mut Steps<M>) {
-    let mut output = [7i16; 2];
-    let mut kept = [0i64; 1];
     let mut lattice = FirLattice15::new(alloc, &[16384], 2).expect(rt, "a lattice");
-    assert_same!(rt; lattice.room(1), 1);
-    assert_gives!(rt; lattice.process(&[1000], &mut output, steps), 1, output, [1000, 7]);
-    assert_same!(rt; lattice.kept_count(), 1);
-    lattice.keep(&mut kept);
-    assert_same!(rt; kept, [1000]);
+    step_filters::keeps(
+        rt,
+        &mut lattice,
+        &[1000],
+        &mut [7; 2],
+        &[1000, 7],
+        &mut [0; 1],
+        &[1000],
+        steps,
+    );
 }
 
 /// Another lattice goes on from what that one kept.
 fn fir_goes_on<M: Ledger>(rt: &impl Abort, alloc: Global, steps: &mut Steps<M>) {
-    let mut output = [7i16; 2];
     let mut lattice = FirLattice15::new(alloc, &[16384], 2).expect(rt, "a lattice");
-    assert_holds!(rt; !lattice.fits(&[]));
-    assert_holds!(rt; !lattice.fits(&[-32769]));
-    assert_holds!(rt; lattice.fits(&[1000]));
-    lattice.restore(&[1000]);
-    assert_gives!(rt; lattice.process(&[0], &mut output, steps), 1, output, [500, 7]);
-    assert_same!(rt; lattice.finish(&mut output, steps), 0);
-    assert_holds!(rt; lattice.is_ended());
+    step_filters::fits(rt, &lattice, &[(&[], false), (&[-32769], false)]);
+    step_filters::goes_on(
+        rt,
+        &mut lattice,
+        &[1000],
+        &[0],
+        &mut [7; 2],
+        &[500, 7],
+        steps,
+    );
 }
 
 /// A lattice that feeds back keeps a number a section.
 fn iir_keeps<M: Ledger>(rt: &impl Abort, alloc: Global, steps: &mut Steps<M>) {
-    let mut output = [7i16; 2];
-    let mut kept = [0i64; 1];
     let mut lattice = IirLattice::<i16>::new(alloc, &[16384], &[0, 16384], 2).expect(
         rt,
         "a lattice",
     );
-    assert_same!(rt; lattice.room(1), 1);
-    assert_gives!(rt; lattice.process(&[1000], &mut output, steps), 1, output, [500, 7]);
-    assert_same!(rt; lattice.kept_count(), 1);
-    lattice.keep(&mut kept);
-    assert_same!(rt; kept, [1000]);
+    step_filters::keeps(
+        rt,
+        &mut lattice,
+        &[1000],
+        &mut [7; 2],
+        &[500, 7],
+        &mut [0; 1],
+        &[1000],
+        steps,
+    );
 }
 
 /// And another one goes on from that.
 fn iir_goes_on<M: Ledger>(rt: &impl Abort, alloc: Global, steps: &mut Steps<M>) {
-    let mut output = [7i16; 2];
     let mut lattice = IirLattice::<i16>::new(alloc, &[16384], &[0, 16384], 2).expect(
         rt,
         "a lattice",
     );
-    assert_holds!(rt; !lattice.fits(&[0, 0]));
-    assert_holds!(rt; lattice.fits(&[1000]));
-    lattice.restore(&[1000]);
-    assert_gives!(rt; lattice.process(&[0], &mut output, steps), 1, output, [-250, 7]);
-    assert_same!(rt; lattice.finish(&mut output, steps), 0);
-    assert_holds!(rt; lattice.is_ended());
+    step_filters::fits(rt, &lattice, &[(&[0, 0], false)]);
+    step_filters::goes_on(
+        rt,
+        &mut lattice,
+        &[1000],
+        &[0],
+        &mut [7; 2],
+        &[-250, 7],
+        steps,
+    );
 }
 
 /// The ladder alone in Q31, halved and rounded down.
 fn ladder<M: Ledger>(rt: &impl Abort, alloc: Global, steps: &mut Steps<M>) {
-    let mut output = [0i32; 2];
     let mut lattice = IirLattice::<i32>::new(alloc, &[0], &[0, 1073741824], 2).expect(
         rt,
         "a lattice",
     );
+    let mut output = [0i32; 2];
     assert_gives!(rt; lattice.process(&[2, -1], &mut output, steps), 2, output, [1, -1]);
 }
 
@@ -95,11 +107,16 @@ pub(crate) fn counted<M: Ledger>(rt: &impl Abort, alloc: Global, steps: &mut Ste
 #[test]
 fn faults(rt: HostRuntime) {
     let alloc = rt.alloc();
-    assert_holds!(rt; is_length(FirLattice15::new(alloc, &[], 0), 0, 1));
-    assert_holds!(rt; is_length(FirLattice15::new(alloc, &[0; 256], 4), 256, 1));
-    assert_holds!(rt; is_range(FirLattice15::new(alloc, &[0], 0), 0));
-    assert_holds!(rt; is_length(IirLattice::<i32>::new(alloc, &[], &[], 0), 0, 1));
-    assert_holds!(rt; is_length(IirLattice::<i16>::new(alloc, &[1, 2], &[0, 1], 0), 2, 3));
+    refuses_length(&rt, FirLattice15::new(alloc, &[], 0), 0, 1);
+    refuses_length(&rt, FirLattice15::new(alloc, &[0; 256], 4), 256, 1);
+    refuses_range(&rt, FirLattice15::new(alloc, &[0], 0), 0);
+    refuses_length(&rt, IirLattice::<i32>::new(alloc, &[], &[], 0), 0, 1);
+    refuses_length(
+        &rt,
+        IirLattice::<i16>::new(alloc, &[1, 2], &[0, 1], 0),
+        2,
+        3,
+    );
     let long = IirLattice::<i16>::new(alloc, &[1; 255], &[1; 256], 1048577);
-    assert_holds!(rt; is_range(long, 1048577));
+    refuses_range(&rt, long, 1048577);
 }

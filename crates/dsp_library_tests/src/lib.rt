@@ -3,11 +3,12 @@
 
 /// Ends the test where what was found is not what is wanted, and shows both. It is a call, since all that
 /// `assert_eq!` writes would be proved again at each place; that one stands where a clause of the test
-/// follows from what was found.
+/// follows from what was found. `rt` is a reference, which is handed on as it is: a reference to it would
+/// be one more value at each place.
 #[cfg(test)]
 macro_rules! assert_same {
     ($rt:expr; $found:expr, $wanted:expr) => {
-        crate::same::same(&$rt, &$found, &$wanted)
+        crate::same::same($rt, &$found, &$wanted)
     };
 }
 
@@ -16,7 +17,7 @@ macro_rules! assert_same {
 #[cfg(test)]
 macro_rules! assert_holds {
     ($rt:expr; $condition:expr) => {
-        crate::same::holds(&$rt, $condition, stringify!($condition))
+        crate::same::holds($rt, $condition, stringify!($condition))
     };
 }
 
@@ -25,7 +26,7 @@ macro_rules! assert_holds {
 #[cfg(test)]
 macro_rules! assert_gives {
     ($rt:expr; $call:expr, $count:expr, $output:expr, $wanted:expr) => {
-        crate::same::gave(&$rt, $call, $count, &$output, &$wanted)
+        crate::same::gave($rt, $call, $count, &$output, &$wanted)
     };
 }
 
@@ -59,6 +60,8 @@ mod refusals;
 mod same;
 #[cfg(test)]
 mod sat;
+#[cfg(test)]
+mod step_filters;
 #[cfg(test)]
 mod tests;
 #[cfg(test)]

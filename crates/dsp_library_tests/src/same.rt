@@ -8,6 +8,13 @@ pub fn same<A: PartialEq + Debug>(rt: &impl Abort, found: &A, wanted: &A) {
     assert_eq!(rt; *found, *wanted);
 }
 
+/// Ends the test where a count is not what is wanted.
+pub fn same_count(rt: &impl Abort, found: usize, wanted: usize)
+    ensures { found ≡ wanted }
+{
+    assert_eq!(rt; found, wanted);
+}
+
 /// Ends the test where the condition with this text does not hold.
 pub fn holds(rt: &impl Abort, condition: bool, text: &str)
     ensures { IsTrue condition }
@@ -17,15 +24,15 @@ pub fn holds(rt: &impl Abort, condition: bool, text: &str)
 
 /// Ends the test where a call has not given so many values, or where its whole output is not what is
 /// wanted.
-pub fn gave<T: PartialEq + Debug>(
+pub fn gave<A: PartialEq + Debug>(
     rt: &impl Abort,
     count: usize,
     wanted_count: usize,
-    output: &[T],
-    wanted: &[T],
+    output: &A,
+    wanted: &A,
 )
     ensures { count ≡ wanted_count }
 {
-    assert_eq!(rt; count, wanted_count);
-    assert_eq!(rt; *output, *wanted);
+    same_count(rt, count, wanted_count);
+    same(rt, output, wanted);
 }

@@ -45,19 +45,20 @@ fn a_wave_file_becomes_an_au_file_and_back(rt: HostRuntime) {
 /// The byte 7F of a WAVE file is -1, and the samples of 24 bits have a pad byte behind them.
 #[test]
 fn samples_keep_their_values(rt: HostRuntime) {
-    let mut wave = [0; 45];
-    wave[..44].copy_from_slice(&write_open_header(Coding::Wave7, 1, 8000, Some(1)));
-    wave[44] = 0x7F;
-    let mut au = [0; 25];
-    au[..24].copy_from_slice(&write_au(Coding::Wave7, 1, 8000, Some(1)));
-    au[24] = 0xFF;
-    let done = Converted {
-        frames: 1,
-        channels: 1,
-        bits: 8,
-    };
-    converts(&rt, rt.alloc(), Direction::WaveToAu, &wave, Ok(done), &au);
-
+    {
+        let mut wave = [0; 45];
+        wave[..44].copy_from_slice(&write_open_header(Coding::Wave7, 1, 8000, Some(1)));
+        wave[44] = 0x7F;
+        let mut au = [0; 25];
+        au[..24].copy_from_slice(&write_au(Coding::Wave7, 1, 8000, Some(1)));
+        au[24] = 0xFF;
+        let done = Converted {
+            frames: 1,
+            channels: 1,
+            bits: 8,
+        };
+        converts(&rt, rt.alloc(), Direction::WaveToAu, &wave, Ok(done), &au);
+    }
     let mut au = [0; 27];
     au[..24].copy_from_slice(&write_au(Coding::Wave24, 1, 8000, Some(1)));
     au[24..].copy_from_slice(b"\x80\x00\x01");
@@ -107,7 +108,7 @@ fn faults_of_an_au_header_are_named(rt: HostRuntime) {
     ] {
         let mut source = source_of(&rt, alloc, &AU[..size], 7, &[]);
         let found = read_au(&mut source);
-        assert_same!(rt; found, Err(AuOr::Fault { fault, offset }));
+        assert_same!(&rt; found, Err(AuOr::Fault { fault, offset }));
     }
 }
 
@@ -140,7 +141,7 @@ fn faults_of_an_open_header_want_the_most_that_there_is(rt: HostRuntime) {
         file[place] = byte;
         let mut source = source_of(&rt, rt.alloc(), &file, 7, &[]);
         let found = read_open_header(&mut source);
-        assert_same!(rt; found, Err(HeaderOr::Fault { fault, offset }));
+        assert_same!(&rt; found, Err(HeaderOr::Fault { fault, offset }));
     }
     let mut source = source_of(&rt, rt.alloc(), &WAVE, 7, &[]);
     let header = OpenHeader {
@@ -151,7 +152,7 @@ fn faults_of_an_open_header_want_the_most_that_there_is(rt: HostRuntime) {
         channels: 1,
     };
     let found = read_open_header(&mut source);
-    assert_same!(rt; found, Ok(header));
+    assert_same!(&rt; found, Ok(header));
 }
 
 /// The input ends within its second frame, which is not written.
@@ -191,12 +192,12 @@ fn ports_that_fail_are_named(rt: HostRuntime) {
         } else {
             Some(ConvertFault::Read)
         };
-        assert_same!(rt; found.err(), wanted);
+        assert_same!(&rt; found.err(), wanted);
     }
     for call in [1, 2, 3] {
         let mut source = source_of(&rt, rt.alloc(), &AU, 1000, &[]);
         let mut sink = sink_of(&rt, rt.alloc(), 1000, 1000, &[call]);
         let found = convert(Direction::AuToWave, &mut source, &mut sink);
-        assert_same!(rt; found, Err(ConvertFault::Write));
+        assert_same!(&rt; found, Err(ConvertFault::Write));
     }
 }

@@ -9,15 +9,15 @@ ghost use Rattle.dsp_defs.specs.declared.limits.TheConstants.{MAX_BLOCKS, MAX_CO
 ghost use Rattle.dsp_defs.specs.declared.format.Fmt.TheVariants.{Q31};
 ghost use Rattle.dsp_defs.specs.declared.script.Block.TheVariants.{Fir};
 
+use crate::same::same_count;
 use dsp_blocks::BlockUnit;
+use dsp_chain::Chain;
 use dsp_defs::{Block, Blocks, Container, Fmt, Input, InputKind, List, MAX_INPUT, Script, Steps};
+use dsp_unit::AnyUnit;
 use std::alloc::Global;
 use std::marker::Brand;
 use std::process::Abort;
 use std::sync::ledger::{Blank, Ledger};
-
-/// A chain of the blocks of a script.
-type Chain = dsp_chain::Chain<BlockUnit>;
 
 const HALF: i32 = 1 << 30;
 
@@ -65,10 +65,10 @@ fn words(rt: &impl Abort, alloc: Global, numbers: &[i32]) -> Vec<i32>
 }
 
 /// Feeds the chain one piece, and answers how many samples it gave.
-fn feed_piece<L: Ledger>(
+fn feed_piece<U: AnyUnit + Drop, L: Ledger>(
     rt: &impl Abort,
     alloc: Global,
-    chain: &mut Chain,
+    chain: &mut Chain<U>,
     piece: &[i32],
     out: &mut [i32],
     steps: &mut Steps<L>,
@@ -96,7 +96,7 @@ fn feed_piece<L: Ledger>(
 
 /// Feeds a chain of the script the frames, `block` of them a call, and compares what it gives of them
 /// and of their tail, which is none.
-fn gives<L: Ledger>(
+fn gives<U: AnyUnit + Drop, L: Ledger>(
     rt: &impl Abort,
     alloc: Global,
     blank: Blank,
@@ -116,7 +116,7 @@ fn gives<L: Ledger>(
     requires legal { IsTrue (is_legal 2 script.now.blocks block) }
 {
     let mut steps = Steps::<L>::new(blank);
-    let mut chain = Chain::new(alloc, script, block).expect(rt, "memory");
+    let mut chain = Chain::<U>::new(alloc, script, block).expect(rt, "memory");
     let mut out = vec![in alloc; 0; chain.room()].expect(rt, "memory");
     let mut given = Vec::new(alloc);
     let mut taken = 0;
@@ -133,9 +133,38 @@ fn gives<L: Ledger>(
     assert_same!(rt; chain.finish(&mut out, &mut steps), 0);
 }
 
+/// What a chain of the script keeps of two frames.
+fn kept_of_two_frames<U: AnyUnit + Drop, L: Ledger>(
+    rt: &impl Abort,
+    alloc: Global,
+    script: &Script,
+    steps: &mut Steps<L>,
+) -> Vec<i64>
+    requires format { script.now.input.format ≡ Q31 }
+    requires channels { script.now.input.channels ≡ 2 }
+    requires chain { IsChain (input_flow script.now.input) script.now.blocks }
+    requires few_blocks { length script.now.blocks ≤ MAX_BLOCKS }
+    requires one_correlate { correlates script.now.blocks ≤ MAX_CORRELATES }
+    requires legal { IsTrue (is_legal 2 script.now.blocks 2) }
+{
+    let mut chain = Chain::<U>::new(alloc, script, 2).expect(rt, "memory");
+    let mut out = vec![in alloc; 0; chain.room()].expect(rt, "memory");
+    let piece = [1000, 8, -1000, 3];
+    let count = feed_piece(rt, alloc, &mut chain, &piece, &mut out, steps);
+    assert_same!(rt; &out[..count], [250, 2, -125, 1].as_slice());
+    let mut kept = vec![in alloc; 0; chain.kept_count()].expect(rt, "memory");
+    chain.keep(&mut kept);
+    kept
+}
+
 /// Feeds a chain of the script two frames, gives the numbers that it keeps of them to a new one, and feeds
 /// that with the next frame.
-fn resumes<L: Ledger>(rt: &impl Abort, alloc: Global, blank: Blank, script: &Script)
+fn resumes<U: AnyUnit + Drop, L: Ledger>(
+    rt: &impl Abort,
+    alloc: Global,
+    blank: Blank,
+    script: &Script,
+)
     requires name { blank.name ≡ L.name }
     requires parts { blank.parts ≡ 2 }
     requires ledger_parts { L.parts ≡ 2 }
@@ -147,19 +176,15 @@ fn resumes<L: Ledger>(rt: &impl Abort, alloc: Global, blank: Blank, script: &Scr
     requires legal { IsTrue (is_legal 2 script.now.blocks 2) }
 {
     let mut steps = Steps::<L>::new(blank);
-    let mut chain = Chain::new(alloc, script, 2).expect(rt, "memory");
-    let mut out = vec![in alloc; 0; chain.room()].expect(rt, "memory");
-    let piece = [1000, 8, -1000, 3];
-    let count = feed_piece(rt, alloc, &mut chain, &piece, &mut out, &mut steps);
-    assert_same!(rt; &out[..count], [250, 2, -125, 1].as_slice());
-    let mut kept = vec![in alloc; 0; chain.kept_count()].expect(rt, "memory");
-    chain.keep(&mut kept);
+    let kept = kept_of_two_frames::<U, L>(rt, alloc, script, &mut steps);
     // Each filter keeps the last frame that came to it, the left channel before the right one.
-    assert_eq!(rt; kept.as_slice(), [-1000, 3, -500, 1].as_slice());
-    let mut next = Chain::new(alloc, script, 2).expect(rt, "memory");
+    same_count(rt, kept.len(), 4);
+    assert_same!(rt; kept.as_slice(), [-1000, 3, -500, 1].as_slice());
+    let mut next = Chain::<U>::new(alloc, script, 2).expect(rt, "memory");
     assert_holds!(rt; !next.fits(2, &kept[..3]));
     assert_holds!(rt; next.fits(2, &kept));
     next.restore(2, &kept);
+    let mut out = vec![in alloc; 0; next.room()].expect(rt, "memory");
     let count = feed_piece(rt, alloc, &mut next, &[400, -16], &mut out, &mut steps);
     assert_same!(rt; &out[..count], [-25, -4].as_slice());
 }
@@ -170,7 +195,7 @@ fn a_new_chain_goes_on(rt: HostRuntime) {
     let mut blocks = Blocks::new(alloc);
     push_fir(&rt, alloc, &mut blocks, 0, HALF);
     push_fir(&rt, alloc, &mut blocks, QUARTER, HALF);
-    resumes::<Brand>(&rt, alloc, Blank::new(2), &stereo(blocks));
+    resumes::<BlockUnit, Brand>(&rt, alloc, Blank::new(2), &stereo(blocks));
 }
 
 #[test]
@@ -182,7 +207,7 @@ fn two_filters_in_any_blocks(rt: HostRuntime) {
     let script = stereo(blocks);
     for block in 1..4 {
         // Half of the frames is 500 4, -500 1, 200 -8; then half of each and a quarter of the one before.
-        gives::<Brand>(
+        gives::<BlockUnit, Brand>(
             &rt,
             alloc,
             Blank::new(2),
@@ -198,7 +223,7 @@ fn two_filters_in_any_blocks(rt: HostRuntime) {
 fn no_blocks_pass_frames_on(rt: HostRuntime) {
     let alloc = rt.alloc();
     let script = stereo(Blocks::new(alloc));
-    gives::<Brand>(
+    gives::<BlockUnit, Brand>(
         &rt,
         alloc,
         Blank::new(2),

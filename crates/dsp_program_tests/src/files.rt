@@ -60,45 +60,96 @@ const SHORT: &[u8] = &[
 
 const SCRIPT: &[u8] = b"dspfx 1 input raw q15 1 8000 fir {16384} output raw\n";
 
-#[test]
-fn a_run_over_real_files_writes_its_output(rt: HostRuntime) {
-    make(&rt, "first.txt", SCRIPT);
-    make(&rt, "first.raw", &[0xE8, 0x03, 0x18, 0xFC, 0xFF, 0xFF]);
-    answers(
-        &rt,
-        rt.alloc(),
-        &rt,
-        &["run", "first.txt", "first.raw", "halved.raw"],
-        0,
-    );
-    has(
-        &rt,
-        fs::read(&rt, "halved.raw"),
-        &[0xF4, 0x01, 0x0C, 0xFE, 0xFF, 0xFF],
-    );
-    remove(&rt, &["first.txt", "first.raw", "halved.raw"]);
+/// Files that are made, the words of a call over them, the status that it answers, and what stands then
+/// in the file of this name.
+struct Case {
+    files: &'static [(&'static str, &'static [u8])],
+    words: &'static [&'static str],
+    status: u8,
+    name: &'static str,
+    bytes: &'static [u8],
+}
+
+const CASES: &[Case] = &[
+    // A run over real files writes its output.
+    Case {
+        files: &[
+            ("first.txt", SCRIPT),
+            ("first.raw", &[0xE8, 0x03, 0x18, 0xFC, 0xFF, 0xFF]),
+        ],
+        words: &["run", "first.txt", "first.raw", "halved.raw"],
+        status: 0,
+        name: "halved.raw",
+        bytes: &[0xF4, 0x01, 0x0C, 0xFE, 0xFF, 0xFF],
+    },
+    // A generated input needs no file.
+    Case {
+        files: &[(
+            "generated.txt",
+            b"dspfx 1 input raw q15 1 8000 output raw\n",
+        )],
+        words: &["gen", "0", "3", "generated.txt", "made.raw"],
+        status: 0,
+        name: "made.raw",
+        bytes: &[0x6E, 0x3C, 0x50, 0x47, 0xCC, 0xD1],
+    },
+    // The output of the whole blocks stands in the file where the input ends too early.
+    Case {
+        files: &[
+            ("short.txt", b"dspfx 1 input wave q7 1 block 2 output raw\n"),
+            ("short.wav", SHORT),
+        ],
+        words: &["run", "short.txt", "short.wav", "short.raw"],
+        status: 4,
+        name: "short.raw",
+        bytes: &[0x01, 0x02],
+    },
+    // An empty input makes an empty output, also of a file that had bytes.
+    Case {
+        files: &[
+            ("third.txt", SCRIPT),
+            ("empty.raw", b""),
+            ("old.raw", b"old"),
+        ],
+        words: &["run", "third.txt", "empty.raw", "old.raw"],
+        status: 0,
+        name: "old.raw",
+        bytes: b"",
+    },
+];
+
+/// Makes the files of a case, and compares what the program answers to its words.
+fn case_answers(rt: &(impl Files + Print + Abort), alloc: Global, case: &Case) {
+    for (name, bytes) in case.files {
+        make(rt, name, bytes);
+    }
+    answers(rt, alloc, rt, case.words, case.status);
 }
 
 #[test]
-fn a_generated_input_needs_no_file(rt: HostRuntime) {
-    make(
-        &rt,
-        "generated.txt",
-        b"dspfx 1 input raw q15 1 8000 output raw\n",
-    );
+fn calls_over_real_files_write_their_outputs(rt: HostRuntime) {
+    for case in CASES {
+        case_answers(&rt, rt.alloc(), case);
+        has(&rt, fs::read(&rt, case.name), case.bytes);
+    }
+    remove(&rt, &["first.txt", "first.raw", "halved.raw"]);
+    remove(&rt, &["generated.txt", "made.raw"]);
+    remove(&rt, &["short.txt", "short.wav", "short.raw"]);
+    remove(&rt, &["third.txt", "empty.raw", "old.raw"]);
+}
+
+#[test]
+fn a_missing_input_leaves_no_output(rt: HostRuntime) {
+    make(&rt, "second.txt", SCRIPT);
     answers(
         &rt,
         rt.alloc(),
         &rt,
-        &["gen", "0", "3", "generated.txt", "made.raw"],
-        0,
+        &["run", "second.txt", "missing.raw", "none.raw"],
+        7,
     );
-    has(
-        &rt,
-        fs::read(&rt, "made.raw"),
-        &[0x6E, 0x3C, 0x50, 0x47, 0xCC, 0xD1],
-    );
-    remove(&rt, &["generated.txt", "made.raw"]);
+    assert_holds!(&rt; fs::read(&rt, "none.raw").is_err());
+    remove(&rt, &["second.txt"]);
 }
 
 #[test]
@@ -107,9 +158,9 @@ fn a_file_is_copied_by_its_ports(rt: HostRuntime) {
     let mut source = FileSource::new(&rt, "from.raw");
     let mut sink = FileSink::new(rt.alloc(), &rt, "to.raw", "", "from.raw").expect(&rt, "memory");
     let mut bytes = [0; 4];
-    assert_same!(rt; source.read(&mut bytes).ok(), Some(3));
-    assert_same!(rt; sink.write(&bytes[..3]).ok(), Some(3));
-    assert_holds!(rt; sink.flush().is_ok());
+    assert_same!(&rt; source.read(&mut bytes).ok(), Some(3));
+    assert_same!(&rt; sink.write(&bytes[..3]).ok(), Some(3));
+    assert_holds!(&rt; sink.flush().is_ok());
     has(&rt, fs::read(&rt, "to.raw"), &[1, 2, 3]);
     remove(&rt, &["from.raw", "to.raw"]);
 }
@@ -131,10 +182,10 @@ fn a_long_file_is_copied_whole(rt: HostRuntime) {
     );
     let made = fs::read(&rt, "long.raw").expect(&rt, "a file");
     same_count(&rt, made.len(), 100000);
-    assert_same!(rt; &made[16384..16388], [0x42, 0x57, 0x4F, 0x43].as_slice());
-    assert_same!(rt; &made[32768..32772], [0x63, 0x41, 0xC4, 0x2C].as_slice());
-    assert_same!(rt; &made[65536..65540], [0xA7, 0x85, 0xAF, 0xAF].as_slice());
-    assert_same!(rt; &made[99996..], [0x2E, 0xDA, 0x49, 0xF6].as_slice());
+    assert_same!(&rt; &made[16384..16388], [0x42, 0x57, 0x4F, 0x43].as_slice());
+    assert_same!(&rt; &made[32768..32772], [0x63, 0x41, 0xC4, 0x2C].as_slice());
+    assert_same!(&rt; &made[65536..65540], [0xA7, 0x85, 0xAF, 0xAF].as_slice());
+    assert_same!(&rt; &made[99996..], [0x2E, 0xDA, 0x49, 0xF6].as_slice());
     answers(
         &rt,
         rt.alloc(),
@@ -143,58 +194,8 @@ fn a_long_file_is_copied_whole(rt: HostRuntime) {
         0,
     );
     let copied = fs::read(&rt, "copied.raw").expect(&rt, "a file");
-    assert_same!(rt; copied.as_slice(), made.as_slice());
+    assert_same!(&rt; copied.as_slice(), made.as_slice());
     remove(&rt, &["copy.txt", "long.raw", "copied.raw"]);
-}
-
-/// The output of the whole blocks stands in the file where the input ends too early.
-#[test]
-fn a_short_input_leaves_its_blocks(rt: HostRuntime) {
-    make(
-        &rt,
-        "short.txt",
-        b"dspfx 1 input wave q7 1 block 2 output raw\n",
-    );
-    make(&rt, "short.wav", SHORT);
-    answers(
-        &rt,
-        rt.alloc(),
-        &rt,
-        &["run", "short.txt", "short.wav", "short.raw"],
-        4,
-    );
-    has(&rt, fs::read(&rt, "short.raw"), &[0x01, 0x02]);
-    remove(&rt, &["short.txt", "short.wav", "short.raw"]);
-}
-
-#[test]
-fn a_missing_input_leaves_no_output(rt: HostRuntime) {
-    make(&rt, "second.txt", SCRIPT);
-    answers(
-        &rt,
-        rt.alloc(),
-        &rt,
-        &["run", "second.txt", "missing.raw", "none.raw"],
-        7,
-    );
-    assert_holds!(rt; fs::read(&rt, "none.raw").is_err());
-    remove(&rt, &["second.txt"]);
-}
-
-#[test]
-fn an_empty_input_makes_an_empty_output(rt: HostRuntime) {
-    make(&rt, "third.txt", SCRIPT);
-    make(&rt, "empty.raw", b"");
-    make(&rt, "old.raw", b"old");
-    answers(
-        &rt,
-        rt.alloc(),
-        &rt,
-        &["run", "third.txt", "empty.raw", "old.raw"],
-        0,
-    );
-    has(&rt, fs::read(&rt, "old.raw"), b"");
-    remove(&rt, &["third.txt", "empty.raw", "old.raw"]);
 }
 
 /// A disk that is full from the first byte on: the output cannot be written, and no sample is asked for.
@@ -234,29 +235,36 @@ fn short_run_on_a_disk(rt: &(impl Files + Print + Abort), alloc: Global, room: u
     );
 }
 
+/// Commands whose output is a file that they read, by another name.
+const REFUSED: &[&[&str]] = &[
+    &["run", "kept.txt", "kept.raw", "./kept.raw"],
+    &["run", "kept.txt", "kept.raw", "hard.raw"],
+    &["run", "kept.txt", "hard.raw", "kept.raw"],
+    &["run", "kept.txt", "kept.raw", "soft.raw"],
+    &["run", "kept.txt", "soft.raw", "kept.raw"],
+    &["run", "kept.txt", "kept.raw", "folder/kept.raw"],
+    &["run", "kept.txt", "kept.raw", ".//kept.txt"],
+    &["gen", "1", "9", "kept.txt", "./kept.txt"],
+    &["gen", "1", "9", "kept.txt", "folder/kept.txt"],
+    &["convert", "wave", "au", "kept.wav", "./kept.wav"],
+    &["convert", "wave", "au", "kept.wav", "folder/kept.wav"],
+];
+
+/// Gives files other names: hard and symbolic links, and a link to their folder.
+fn link(rt: &(impl Files + Abort)) {
+    fs::hard_link(rt, "kept.raw", "hard.raw").expect(rt, "a file");
+    symlink(rt, "kept.raw", "soft.raw").expect(rt, "a file");
+    symlink(rt, ".", "folder").expect(rt, "a file");
+}
+
 /// Each name of a file that is read as well is refused as an output, and the file stays as it is.
 #[test]
 fn an_output_that_is_read_stays_as_it_is(rt: HostRuntime) {
-    let commands: &[&[&str]] = &[
-        &["run", "kept.txt", "kept.raw", "./kept.raw"],
-        &["run", "kept.txt", "kept.raw", "hard.raw"],
-        &["run", "kept.txt", "hard.raw", "kept.raw"],
-        &["run", "kept.txt", "kept.raw", "soft.raw"],
-        &["run", "kept.txt", "soft.raw", "kept.raw"],
-        &["run", "kept.txt", "kept.raw", "folder/kept.raw"],
-        &["run", "kept.txt", "kept.raw", ".//kept.txt"],
-        &["gen", "1", "9", "kept.txt", "./kept.txt"],
-        &["gen", "1", "9", "kept.txt", "folder/kept.txt"],
-        &["convert", "wave", "au", "kept.wav", "./kept.wav"],
-        &["convert", "wave", "au", "kept.wav", "folder/kept.wav"],
-    ];
     make(&rt, "kept.txt", SCRIPT);
     make(&rt, "kept.raw", &[1, 2, 3, 4]);
     make(&rt, "kept.wav", &SHORT[..46]);
-    fs::hard_link(&rt, "kept.raw", "hard.raw").expect(&rt, "a file");
-    symlink(&rt, "kept.raw", "soft.raw").expect(&rt, "a file");
-    symlink(&rt, ".", "folder").expect(&rt, "a file");
-    for words in commands {
+    link(&rt);
+    for words in REFUSED {
         answers(&rt, rt.alloc(), &rt, words, 8);
     }
     has(&rt, fs::read(&rt, "kept.txt"), SCRIPT);

@@ -7,6 +7,7 @@ use dsp_blocks::BlockUnit;
 use dsp_defs::{Fmt, Measure, Script, Steps};
 use dsp_script::{legal, parse};
 use dsp_session::Session;
+use dsp_unit::AnyUnit;
 use dsp_wave::{Coding, coding_of, width};
 use std::alloc::Global;
 use std::marker::Brand;
@@ -47,9 +48,9 @@ fn frames_of(rt: &impl Abort, bytes: &[u8], frame: usize) -> usize
 }
 
 /// Feeds the session one or two frames of so many bytes, and compares what it gives of them.
-fn feed_frames<L: Ledger>(
+fn feed_frames<U: AnyUnit + Drop, L: Ledger>(
     rt: &impl Abort,
-    session: &mut Session<BlockUnit>,
+    session: &mut Session<U>,
     frame: usize,
     bytes: &[u8],
     wanted: &[u8],
@@ -72,9 +73,9 @@ fn feed_frames<L: Ledger>(
 }
 
 /// Ends the input, and compares the pieces of the tail.
-fn end_gives<L: Ledger>(
+fn end_gives<U: AnyUnit + Drop, L: Ledger>(
     rt: &impl Abort,
-    session: &mut Session<BlockUnit>,
+    session: &mut Session<U>,
     pieces: &[&[u8]],
     steps: &mut Steps<L>,
 ) {
@@ -86,7 +87,7 @@ fn end_gives<L: Ledger>(
 }
 
 /// Compares the first measure, of the script's third block, with a sum of squares.
-fn power_is(rt: &impl Abort, session: &Session<BlockUnit>, value: i64) {
+fn power_is<U: AnyUnit + Drop>(rt: &impl Abort, session: &Session<U>, value: i64) {
     same_count(rt, session.measures(), 1);
     let power = Measure::Power {
         number: 3,
@@ -98,7 +99,37 @@ fn power_is(rt: &impl Abort, session: &Session<BlockUnit>, value: i64) {
 
 /// The samples 1000, -1000 and 400 are halved to x. Of that come a half of x(n) and of x(n-2), and a
 /// quarter of x(n-3): 250, -250, 350, and behind the last sample -125, -25, 50.
-fn three_samples_and_a_tail<L: Ledger>(rt: &impl Abort, alloc: Global, blank: Blank)
+fn feed_three_samples<U: AnyUnit + Drop, L: Ledger>(
+    rt: &impl Abort,
+    session: &mut Session<U>,
+    frame: usize,
+    steps: &mut Steps<L>,
+)
+    requires block { session.old.block ≡ 2 }
+    requires running { IsFalse session.old.chain.ended }
+    requires few { session.old.chain.frames < 90 }
+    requires frame { frame ≡ frame_bytes session.old.script session.old.coding }
+{
+    feed_frames(
+        rt,
+        session,
+        frame,
+        b"\xE8\x03\x18\xFC",
+        b"\xFA\x00\x06\xFF",
+        steps,
+    );
+    feed_frames(rt, session, frame, b"\x90\x01", b"\x5E\x01", steps);
+    power_is(rt, session, 247_500);
+    end_gives(rt, session, &[b"\x83\xFF\xE7\xFF", b"\x32\x00"], steps);
+    power_is(rt, session, 266_250);
+}
+
+/// A session is made of a text, and fed.
+fn three_samples_and_a_tail<U: AnyUnit + Drop, L: Ledger>(
+    rt: &impl Abort,
+    alloc: Global,
+    blank: Blank,
+)
     requires name { blank.name ≡ L.name }
     requires parts { blank.parts ≡ 2 }
     requires ledger_parts { L.parts ≡ 2 }
@@ -108,36 +139,13 @@ fn three_samples_and_a_tail<L: Ledger>(rt: &impl Abort, alloc: Global, blank: Bl
         b"dspfx 1 input raw q15 1 8000 fir {16384} conv {16384 0 16384 8192} power output raw";
     let script = script_of(alloc, text).expect(rt, "a script");
     let frame = frame_size(&script);
-    let mut session = Session::new(alloc, script, 2).expect(rt, "memory");
-    feed_frames(
-        rt,
-        &mut session,
-        frame,
-        b"\xE8\x03\x18\xFC",
-        b"\xFA\x00\x06\xFF",
-        &mut steps,
-    );
-    feed_frames(
-        rt,
-        &mut session,
-        frame,
-        b"\x90\x01",
-        b"\x5E\x01",
-        &mut steps,
-    );
-    power_is(rt, &session, 247_500);
-    end_gives(
-        rt,
-        &mut session,
-        &[b"\x83\xFF\xE7\xFF", b"\x32\x00"],
-        &mut steps,
-    );
-    power_is(rt, &session, 266_250);
+    let mut session = Session::<U>::new(alloc, script, 2).expect(rt, "memory");
+    feed_three_samples(rt, &mut session, frame, &mut steps);
 }
 
 /// Samples of 24 bits, 512 and -2, and then the ends of their range, are 256 times as much in Q31, and
 /// are halved.
-fn samples_of_24_bits<L: Ledger>(rt: &impl Abort, alloc: Global, blank: Blank)
+fn samples_of_24_bits<U: AnyUnit + Drop, L: Ledger>(rt: &impl Abort, alloc: Global, blank: Blank)
     requires name { blank.name ≡ L.name }
     requires parts { blank.parts ≡ 2 }
     requires ledger_parts { L.parts ≡ 2 }
@@ -146,7 +154,7 @@ fn samples_of_24_bits<L: Ledger>(rt: &impl Abort, alloc: Global, blank: Blank)
     let text = b"dspfx 1 input wave q31 2 fir {1073741824} output raw";
     let script = script_of(alloc, text).expect(rt, "a script");
     assert_holds!(rt; script.input.format == Fmt::Q31);
-    let mut session = Session::new(alloc, script, 2).expect(rt, "memory");
+    let mut session = Session::<U>::new(alloc, script, 2).expect(rt, "memory");
     session.set_coding(Coding::Wave24);
     let frame = session.frame_bytes();
     feed_frames(
@@ -162,10 +170,10 @@ fn samples_of_24_bits<L: Ledger>(rt: &impl Abort, alloc: Global, blank: Blank)
 
 #[test]
 fn a_session_is_fed_by_hand(rt: HostRuntime) {
-    three_samples_and_a_tail::<Brand>(&rt, rt.alloc(), Blank::new(2));
+    three_samples_and_a_tail::<BlockUnit, Brand>(&rt, rt.alloc(), Blank::new(2));
 }
 
 #[test]
 fn a_session_takes_the_coding_of_a_header(rt: HostRuntime) {
-    samples_of_24_bits::<Brand>(&rt, rt.alloc(), Blank::new(2));
+    samples_of_24_bits::<BlockUnit, Brand>(&rt, rt.alloc(), Blank::new(2));
 }

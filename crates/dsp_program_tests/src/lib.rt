@@ -4,11 +4,12 @@
 
 /// Ends the test where what was found is not what is wanted, and shows both. It is a call, since all that
 /// `assert_eq!` writes would be proved again at each place; that one stands where a fact that is used later
-/// follows from what was found.
+/// follows from what was found. `rt` is a reference, which is handed on as it is: a reference to it would
+/// be one more value at each place.
 #[cfg(test)]
 macro_rules! assert_same {
     ($rt:expr; $found:expr, $wanted:expr) => {
-        crate::same::same(&$rt, &$found, &$wanted)
+        crate::same::same($rt, &$found, &$wanted)
     };
 }
 
@@ -17,7 +18,7 @@ macro_rules! assert_same {
 #[cfg(test)]
 macro_rules! assert_holds {
     ($rt:expr; $condition:expr) => {
-        crate::same::holds(&$rt, $condition, stringify!($condition))
+        crate::same::holds($rt, $condition, stringify!($condition))
     };
 }
 

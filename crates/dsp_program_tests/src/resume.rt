@@ -10,6 +10,7 @@ use dsp_resume::Resume;
 use dsp_script::{legal, parse};
 use dsp_session::{Session, stream};
 use dsp_state::{LoadFault, load};
+use dsp_unit::AnyUnit;
 use std::alloc::Global;
 use std::marker::Brand;
 use std::process::Abort;
@@ -55,7 +56,7 @@ fn copied(rt: &impl Abort, alloc: Global, bytes: &[u8]) -> Vec<u8> {
 }
 
 /// What one run of a script writes and finds.
-fn run_whole<L: Ledger>(
+fn run_whole<U: AnyUnit + Drop, L: Ledger>(
     rt: &impl Abort,
     alloc: Global,
     text: &[u8],
@@ -65,7 +66,7 @@ fn run_whole<L: Ledger>(
     let script = script_of(alloc, text).expect(rt, "a script");
     let mut source = source_of(rt, alloc, input, 64, &[]);
     let mut sink = sink_of(rt, alloc, 512, 64, &[]);
-    let mut session = Session::<BlockUnit>::new(alloc, script, 4).expect(rt, "memory");
+    let mut session = Session::<U>::new(alloc, script, 4).expect(rt, "memory");
     assert_holds!(rt; stream(&mut session, &mut source, &mut sink, steps).is_ok());
     let mut measures = Vec::new(alloc);
     for index in 0..session.measures() {
@@ -78,7 +79,7 @@ fn run_whole<L: Ledger>(
 }
 
 /// Stops a run after so many frames, and returns what it wrote, and its state.
-fn run_first<L: Ledger>(
+fn run_first<U: AnyUnit + Drop, L: Ledger>(
     rt: &impl Abort,
     alloc: Global,
     text: &[u8],
@@ -89,7 +90,7 @@ fn run_first<L: Ledger>(
     let script = script_of(alloc, text).expect(rt, "a script");
     let mut source = source_of(rt, alloc, input, 3, &[]);
     let mut sink = sink_of(rt, alloc, 512, 5, &[]);
-    let Ok(mut run) = Resume::<BlockUnit>::new(alloc, script, 4, frames) else {
+    let Ok(mut run) = Resume::<U>::new(alloc, script, 4, frames) else {
         panic!(rt; "memory");
     };
     assert_holds!(rt; run.stop(&mut source, &mut sink, steps).is_ok());
@@ -100,7 +101,7 @@ fn run_first<L: Ledger>(
 }
 
 /// Loads a state, compares its frames, and goes on from it over the same input.
-fn run_rest<L: Ledger>(
+fn run_rest<U: AnyUnit + Drop, L: Ledger>(
     rt: &impl Abort,
     alloc: Global,
     state: &[u8],
@@ -108,14 +109,14 @@ fn run_rest<L: Ledger>(
     input: &[u8],
     steps: &mut Steps<L>,
 ) -> Written {
-    let Ok(saved) = load::<BlockUnit>(alloc, state) else {
+    let Ok(saved) = load::<U>(alloc, state) else {
         panic!(rt; "a state");
     };
     assert_holds!(rt; saved.frames() == frames);
     let mut source = source_of(rt, alloc, input, 5, &[]);
     let mut sink = sink_of(rt, alloc, 512, 3, &[]);
     assert_holds!(rt; legal(saved.script(), 4));
-    let mut run = Resume::<BlockUnit>::from_saved(alloc, saved, 4).expect(rt, "memory");
+    let mut run = Resume::<U>::from_saved(alloc, saved, 4).expect(rt, "memory");
     assert_holds!(rt; run.go(&mut source, &mut sink, steps).is_ok());
     let mut measures = Vec::new(alloc);
     for index in 0..run.measures() {
@@ -128,31 +129,38 @@ fn run_rest<L: Ledger>(
 }
 
 /// Stops blocks with states of all kinds after each number of frames, and compares both parts with one run.
-fn play_states<L: Ledger>(rt: &impl Abort, alloc: Global, blank: Blank)
+fn play_states<U: AnyUnit + Drop, L: Ledger>(rt: &impl Abort, alloc: Global, blank: Blank)
     requires name { blank.name ≡ L.name }
     requires parts { blank.parts ≡ 2 }
     requires ledger_parts { L.parts ≡ 2 }
 {
     let mut steps = Steps::<L>::new(blank);
-    let whole = run_whole(rt, alloc, EVERY_STATE, INPUT, &mut steps);
+    let whole = run_whole::<U, L>(rt, alloc, EVERY_STATE, INPUT, &mut steps);
     for frames in 0..10 {
-        let (mut both, state) = run_first(rt, alloc, EVERY_STATE, frames, INPUT, &mut steps);
-        let rest = run_rest(rt, alloc, &state, frames, INPUT, &mut steps);
+        let (mut both, state) = run_first::<U, L>(
+            rt,
+            alloc,
+            EVERY_STATE,
+            frames,
+            INPUT,
+            &mut steps,
+        );
+        let rest = run_rest::<U, L>(rt, alloc, &state, frames, INPUT, &mut steps);
         both.extend_from_slice(&rest.output).expect(rt, "memory");
-        assert_same!(*rt; both.as_slice(), whole.output.as_slice());
-        assert_same!(*rt; rest.measures.as_slice(), whole.measures.as_slice());
+        assert_same!(rt; both.as_slice(), whole.output.as_slice());
+        assert_same!(rt; rest.measures.as_slice(), whole.measures.as_slice());
     }
 }
 
 #[test]
 fn states_of_all_kinds_go_on(rt: HostRuntime) {
-    play_states::<Brand>(&rt, rt.alloc(), Blank::new(2));
+    play_states::<BlockUnit, Brand>(&rt, rt.alloc(), Blank::new(2));
 }
 
 /// Loads bytes, and compares what is wrong with them.
 fn is_wrong(rt: &impl Abort, alloc: Global, bytes: &[u8], wanted: (StateKind, u64)) {
     match load::<BlockUnit>(alloc, bytes) {
-        Err(LoadFault::State { kind, offset }) => assert_same!(*rt; (kind, offset), wanted),
+        Err(LoadFault::State { kind, offset }) => assert_same!(rt; (kind, offset), wanted),
         _ => panic!(rt; "no fault of the state"),
     }
 }
@@ -162,8 +170,8 @@ fn a_state_is_loaded_or_refused(rt: HostRuntime) {
     let Ok(saved) = load::<BlockUnit>(rt.alloc(), STATE) else {
         panic!(rt; "a state");
     };
-    assert_same!(rt; saved.frames(), 1);
-    assert_same!(rt; saved.numbers(), [1000, 0, 500, 0].as_slice());
-    assert_holds!(rt; STATE.len() == 123);
+    assert_same!(&rt; saved.frames(), 1);
+    assert_same!(&rt; saved.numbers(), [1000, 0, 500, 0].as_slice());
+    assert_holds!(&rt; STATE.len() == 123);
     is_wrong(&rt, rt.alloc(), &STATE[..122], (StateKind::Cut, 122));
 }

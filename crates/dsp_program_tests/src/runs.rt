@@ -38,27 +38,48 @@ const HALVES: &[u8] = b"dspfx 1 input raw q15 1 8000 fir {16384} output raw";
 
 const EXAMPLE: &[u8] = &[0xE8, 0x03, 0x18, 0xFC, 0xFF, 0xFF];
 
-#[test]
-fn an_input_that_never_fails_is_run(rt: HostRuntime) {
-    let alloc = rt.alloc();
-    let words = words_of(&rt, alloc, RUN);
-    let mut script = source_of(&rt, alloc, HALVES, 7, &[]);
-    let mut input = CleanSource::new(alloc, EXAMPLE, 3).expect(&rt, "memory");
-    let mut output = sink_of(&rt, alloc, 64, 64, &[]);
-    let mut report = sink_of(&rt, alloc, 512, 500, &[]);
-    let mut other = source_of(&rt, alloc, &[], 1, &[]);
+/// Runs the program of these words over an input that never fails, and compares its status with 0.
+fn runs_to_its_end(
+    rt: &impl Abort,
+    alloc: Global,
+    texts: &[&str],
+    script: &mut MemSource,
+    input: &mut CleanSource,
+    output: &mut MemSink,
+    report: &mut MemSink,
+) {
+    let words = words_of(rt, alloc, texts);
+    let mut other = source_of(rt, alloc, &[], 1, &[]);
     let status = counted::<Brand>(
         alloc,
         &words,
-        &mut script,
-        &mut input,
-        &mut output,
-        &mut report,
+        script,
+        input,
+        output,
+        report,
         &mut other,
         Blank::new(2),
     );
     assert_same!(rt; status, 0);
-    assert_same!(rt;
+}
+
+#[test]
+fn an_input_that_never_fails_is_run(rt: HostRuntime) {
+    let alloc = rt.alloc();
+    let mut script = source_of(&rt, alloc, HALVES, 7, &[]);
+    let mut input = CleanSource::new(alloc, EXAMPLE, 3).expect(&rt, "memory");
+    let mut output = sink_of(&rt, alloc, 64, 64, &[]);
+    let mut report = sink_of(&rt, alloc, 512, 500, &[]);
+    runs_to_its_end(
+        &rt,
+        alloc,
+        RUN,
+        &mut script,
+        &mut input,
+        &mut output,
+        &mut report,
+    );
+    assert_same!(&rt;
         output.bytes(),
         [0xF4, 0x01, 0x0C, 0xFE, 0xFF, 0xFF].as_slice()
     );
@@ -66,23 +87,19 @@ fn an_input_that_never_fails_is_run(rt: HostRuntime) {
 
 /// What a gen of 100,000 frames of noise from 7 writes and reports.
 fn long_gen(alloc: Global, rt: &impl Abort, script: &[u8]) -> (MemSink, MemSink) {
-    let words = words_of(rt, alloc, &["gen", "7", "100000", "s", "o"]);
     let mut script = source_of(rt, alloc, script, 100, &[]);
     let mut input = CleanSource::new(alloc, &[], 1).expect(rt, "memory");
     let mut output = sink_of(rt, alloc, 200_000, 4096, &[]);
     let mut report = sink_of(rt, alloc, 512, 500, &[]);
-    let mut other = source_of(rt, alloc, &[], 1, &[]);
-    let status = counted::<Brand>(
+    runs_to_its_end(
+        rt,
         alloc,
-        &words,
+        &["gen", "7", "100000", "s", "o"],
         &mut script,
         &mut input,
         &mut output,
         &mut report,
-        &mut other,
-        Blank::new(2),
     );
-    assert_same!(rt; status, 0);
     (output, report)
 }
 
@@ -99,11 +116,11 @@ const LONG_SCRIPTS: &[&[u8]] = &[
 #[test]
 fn a_long_gen_is_the_same_in_any_blocks(rt: HostRuntime) {
     let (first, _report) = long_gen(rt.alloc(), &rt, LONG_SCRIPTS[0]);
-    assert_same!(rt; first.bytes().len(), 200_000);
+    assert_same!(&rt; first.bytes().len(), 200_000);
     for script in LONG_SCRIPTS {
         let (output, report) = long_gen(rt.alloc(), &rt, script);
-        assert_holds!(rt; output.bytes() == first.bytes());
-        assert_same!(rt; report.bytes(), LONG_REPORT);
+        assert_holds!(&rt; output.bytes() == first.bytes());
+        assert_same!(&rt; report.bytes(), LONG_REPORT);
     }
 }
 
@@ -111,6 +128,6 @@ fn a_long_gen_is_the_same_in_any_blocks(rt: HostRuntime) {
 fn words_are_kept_in_order(rt: HostRuntime) {
     let words = words_of(&rt, rt.alloc(), RUN);
     same_count(&rt, words.len(), 4);
-    assert_same!(rt; words.word(3), "o");
-    assert_same!(rt; places(&words).and_then(|places| places.output), Some(3));
+    assert_same!(&rt; words.word(3), "o");
+    assert_same!(&rt; places(&words).and_then(|places| places.output), Some(3));
 }

@@ -7,39 +7,58 @@ use dsp_script::{
     unit,
 };
 use std::alloc::{AllocError, Global};
+use std::process::Abort;
 use std::test::Fail;
 
 mod vectors;
 
+/// The name of a kind of fault, as in a report.
+fn name_of(kind: &ScriptKind) -> &'static str {
+    match kind {
+        ScriptKind::TooLong => "TooLong",
+        ScriptKind::BadByte => "BadByte",
+        ScriptKind::UnknownWord => "UnknownWord",
+        ScriptKind::BadNumber => "BadNumber",
+        ScriptKind::OutOfRange { .. } => "OutOfRange",
+        ScriptKind::Missing => "Missing",
+        ScriptKind::NoSuchForm { .. } => "NoSuchForm",
+        ScriptKind::ChannelsHere { .. } => "ChannelsHere",
+        ScriptKind::Length { .. } => "Length",
+        ScriptKind::TooMany { .. } => "TooMany",
+        ScriptKind::BadName => "BadName",
+        ScriptKind::NameTaken => "NameTaken",
+    }
+}
+
+/// The name of a format in a script.
+fn format_name(format: Fmt) -> &'static str {
+    match format {
+        Fmt::Q7 => "q7",
+        Fmt::Q15 => "q15",
+        Fmt::Q31 => "q31",
+    }
+}
+
 /// What stands of a fault in a report.
 fn described(alloc: Global, fault: ScriptFault) -> Result<String, AllocError> {
+    let name = name_of(&fault.kind);
     let offset = fault.offset;
     match fault.kind {
-        ScriptKind::TooLong => format!(in alloc; "TooLong at {offset}"),
-        ScriptKind::BadByte => format!(in alloc; "BadByte at {offset}"),
-        ScriptKind::UnknownWord => format!(in alloc; "UnknownWord at {offset}"),
-        ScriptKind::BadNumber => format!(in alloc; "BadNumber at {offset}"),
         ScriptKind::OutOfRange { low, high } => {
-            format!(in alloc; "OutOfRange at {offset}, low {low}, high {high}")
+            format!(in alloc; "{name} at {offset}, low {low}, high {high}")
         }
-        ScriptKind::Missing => format!(in alloc; "Missing at {offset}"),
         ScriptKind::NoSuchForm { format } => {
-            let name = match format {
-                Fmt::Q7 => "q7",
-                Fmt::Q15 => "q15",
-                Fmt::Q31 => "q31",
-            };
-            format!(in alloc; "NoSuchForm at {offset}, format {name}")
+            let format = format_name(format);
+            format!(in alloc; "{name} at {offset}, format {format}")
         }
         ScriptKind::ChannelsHere { got, wanted } => {
-            format!(in alloc; "ChannelsHere at {offset}, got {got}, wanted {wanted}")
+            format!(in alloc; "{name} at {offset}, got {got}, wanted {wanted}")
         }
         ScriptKind::Length { taps, factor } => {
-            format!(in alloc; "Length at {offset}, taps {taps}, factor {factor}")
+            format!(in alloc; "{name} at {offset}, taps {taps}, factor {factor}")
         }
-        ScriptKind::TooMany { limit } => format!(in alloc; "TooMany at {offset}, limit {limit}"),
-        ScriptKind::BadName => format!(in alloc; "BadName at {offset}"),
-        ScriptKind::NameTaken => format!(in alloc; "NameTaken at {offset}"),
+        ScriptKind::TooMany { limit } => format!(in alloc; "{name} at {offset}, limit {limit}"),
+        _ => format!(in alloc; "{name} at {offset}"),
     }
 }
 
@@ -70,13 +89,22 @@ fn number(field: Option<&[u8]>) -> Result<u64, Fail> {
     Ok(text.parse()?)
 }
 
-/// The outcome of some text so many times.
-fn repeated(alloc: Global, begins: &str, each: &str, times: usize) -> Result<String, Fail> {
+/// Compares the outcome of some text so many times.
+fn repeated_gives(
+    rt: &impl Abort,
+    alloc: Global,
+    begins: &str,
+    each: &str,
+    times: usize,
+    wanted: &str,
+) -> Result<(), Fail> {
     let mut text = String::from_str(alloc, begins)?;
     for _ in 0..times {
         text.push_str(each)?;
     }
-    outcome(alloc, text.as_bytes())
+    let given = outcome(alloc, text.as_bytes())?;
+    assert_same!(rt; given.as_str(), wanted);
+    Ok(())
 }
 
 /// Texts with the outcome of each.
@@ -127,7 +155,7 @@ const ROWS: [(&str, &str); 13] = [
 fn worked_texts(rt: HostRuntime) -> Result<(), Fail> {
     for (text, wanted) in &ROWS {
         let given = outcome(rt.alloc(), text.as_bytes())?;
-        assert_same!(rt; given.as_str(), *wanted);
+        assert_same!(&rt; given.as_str(), *wanted);
     }
     Ok(())
 }
@@ -136,17 +164,26 @@ fn worked_texts(rt: HostRuntime) -> Result<(), Fail> {
 fn texts_at_their_limits(rt: HostRuntime) -> Result<(), Fail> {
     let head = "dspfx 1 input raw q15 1 8000 ";
     let alloc = rt.alloc();
-    let missing = repeated(alloc, "", " ", 1_048_576)?;
-    assert_same!(rt; missing.as_str(), "Missing at 1048576");
-    let long = repeated(alloc, "", " ", 1_048_577)?;
-    assert_same!(rt; long.as_str(), "TooLong at 1048576");
-    let blocks = repeated(alloc, head, "abs ", 65)?;
-    assert_same!(rt; blocks.as_str(), "TooMany at 285, limit 64");
-    let taps = repeated(alloc, "dspfx 1 input raw q15 1 8000 fir{", "1 ", 16_385)?;
-    assert_same!(rt; taps.as_str(), "TooMany at 32801, limit 16384");
-    let correlations = repeated(alloc, head, "correlate {1} ", 2)?;
-    assert_same!(rt; correlations.as_str(), "TooMany at 43, limit 1");
-    Ok(())
+    repeated_gives(&rt, alloc, "", " ", 1_048_576, "Missing at 1048576")?;
+    repeated_gives(&rt, alloc, "", " ", 1_048_577, "TooLong at 1048576")?;
+    repeated_gives(&rt, alloc, head, "abs ", 65, "TooMany at 285, limit 64")?;
+    let taps = "dspfx 1 input raw q15 1 8000 fir{";
+    repeated_gives(
+        &rt,
+        alloc,
+        taps,
+        "1 ",
+        16_385,
+        "TooMany at 32801, limit 16384",
+    )?;
+    repeated_gives(
+        &rt,
+        alloc,
+        head,
+        "correlate {1} ",
+        2,
+        "TooMany at 43, limit 1",
+    )
 }
 
 /// How many cases hold, each a text with its canonical text or its first fault.
@@ -167,7 +204,7 @@ fn texts_that_hold(alloc: Global, cases: &[u8]) -> Result<u32, Fail> {
 
 #[test]
 fn texts_of_the_vectors(rt: HostRuntime) -> Result<(), Fail> {
-    assert_same!(rt; texts_that_hold(rt.alloc(), vectors::TEXTS)?, 232);
+    assert_same!(&rt; texts_that_hold(rt.alloc(), vectors::TEXTS)?, 232);
     Ok(())
 }
 
@@ -177,16 +214,6 @@ fn unit_holds(alloc: Global, case: &[u8]) -> Result<bool, Fail> {
     let script = script(alloc, fields.next().ok_or("a text")?)?;
     let length = number(fields.next())?;
     Ok(unit(&script) == number(fields.next())? && !legal(&script, length))
-}
-
-fn units_that_hold(alloc: Global, cases: &[u8]) -> Result<u32, Fail> {
-    let mut count = 0u32;
-    for case in cases.split(|byte| *byte == 0xfe) {
-        if !case.is_empty() && unit_holds(alloc, case)? {
-            count = count.saturating_add(1);
-        }
-    }
-    Ok(count)
 }
 
 /// A script, the frames of a run taken and given, and the products.
@@ -202,31 +229,46 @@ fn run_holds(alloc: Global, case: &[u8]) -> Result<bool, Fail> {
     Ok(frames_given(&script, frames) == given && cost(&script, frames) == u128::from(products))
 }
 
-fn runs_that_hold(alloc: Global, cases: &[u8]) -> Result<u32, Fail> {
+/// What a case is of.
+#[derive(Clone, Copy)]
+enum Lengths {
+    Unit,
+    Run,
+}
+
+/// How many cases hold of these lengths.
+fn lengths_that_hold(alloc: Global, lengths: Lengths, cases: &[u8]) -> Result<u32, Fail> {
     let mut count = 0u32;
     for case in cases.split(|byte| *byte == 0xfe) {
-        if !case.is_empty() && run_holds(alloc, case)? {
-            count = count.saturating_add(1);
+        if case.is_empty() {
+            continue;
         }
+        let holds = match lengths {
+            Lengths::Unit => unit_holds(alloc, case)?,
+            Lengths::Run => run_holds(alloc, case)?,
+        };
+        count = count.saturating_add(u32::from(holds));
     }
     Ok(count)
 }
 
 #[test]
 fn lengths_of_the_vectors(rt: HostRuntime) -> Result<(), Fail> {
-    assert_same!(rt; units_that_hold(rt.alloc(), vectors::UNITS)?, 17);
-    assert_same!(rt; runs_that_hold(rt.alloc(), vectors::RUNS)?, 38);
+    let units = lengths_that_hold(rt.alloc(), Lengths::Unit, vectors::UNITS)?;
+    let runs = lengths_that_hold(rt.alloc(), Lengths::Run, vectors::RUNS)?;
+    assert_same!(&rt; (units, runs), (17, 38));
     Ok(())
 }
 
 #[test]
 fn worked_lengths(rt: HostRuntime) -> Result<(), Fail> {
-    let halved = b"dspfx 1 input raw q15 1 8000 decimate 2 {16384} output raw";
-    let halved = script(rt.alloc(), halved)?;
-    assert_same!(rt; unit(&halved), 2);
-    assert_holds!(rt; !legal(&halved, 5));
+    {
+        let halved = b"dspfx 1 input raw q15 1 8000 decimate 2 {16384} output raw";
+        let halved = script(rt.alloc(), halved)?;
+        assert_same!(&rt; (unit(&halved), legal(&halved, 5)), (2, false));
+    }
     let third = b"dspfx 1 input raw q15 1 8000 decimate 3 {16384} output raw";
     let third = script(rt.alloc(), third)?;
-    assert_same!(rt; default_block(&third), 258);
+    assert_same!(&rt; default_block(&third), 258);
     Ok(())
 }

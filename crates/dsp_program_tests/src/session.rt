@@ -6,6 +6,7 @@ use dsp_defs::{HeaderFault, Steps, WindowFault};
 use dsp_ports::{MemSink, MemSource};
 use dsp_script::{legal, parse};
 use dsp_session::{Session, StreamFault, Totals, stream};
+use dsp_unit::AnyUnit;
 use std::alloc::Global;
 use std::marker::Brand;
 use std::sync::ledger::{Blank, Ledger};
@@ -115,14 +116,14 @@ fn each_stream_answers_and_writes(rt: HostRuntime) {
             &mut output,
             Blank::new(2),
         );
-        assert_same!(rt; answer, Some(case.answer));
-        assert_same!(rt; output.bytes(), case.output);
+        assert_same!(&rt; answer, Some(case.answer));
+        assert_same!(&rt; output.bytes(), case.output);
     }
 }
 
 /// How many bytes a new session of a script has given, and its window fault where nothing comes, and where
 /// one frame does.
-fn first_windows(
+fn first_windows<U: AnyUnit + Drop>(
     alloc: Global,
     script: &[u8],
 ) -> Option<(usize, Option<WindowFault>, Option<WindowFault>)> {
@@ -130,7 +131,7 @@ fn first_windows(
     if !legal(&script, 2) {
         return None;
     }
-    let session = Session::<BlockUnit>::new(alloc, script, 2).ok()?;
+    let session = Session::<U>::new(alloc, script, 2).ok()?;
     Some((
         session.out().len(),
         session.window_fault(0),
@@ -140,8 +141,8 @@ fn first_windows(
 
 #[test]
 fn a_window_of_one_value_wants_one_frame(rt: HostRuntime) {
-    assert_same!(rt;
-        first_windows(
+    assert_same!(&rt;
+        first_windows::<BlockUnit>(
             rt.alloc(),
             b"dspfx 1 input raw q15 1 8000 conv_partial 0 1 {1} output raw"
         ),

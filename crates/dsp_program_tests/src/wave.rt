@@ -14,14 +14,15 @@ mod headers;
 fn both_ways(rt: &impl Abort, coding: Coding, bytes: &[u8], values: [i32; 3]) {
     let width = width(coding);
     same_count(rt, bytes.len(), 3 * width);
-    let mut samples = [0; 3];
-    decode(coding, bytes, &mut samples);
-    assert_same!(rt; samples, values);
-    let mut written = [0; 12];
-    assert_holds!(rt; bytes.len() <= 12);
-    encode(coding, &samples, &mut written[..bytes.len()]);
-    assert_same!(rt; &written[..bytes.len()], bytes);
-
+    {
+        let mut samples = [0; 3];
+        decode(coding, bytes, &mut samples);
+        assert_same!(rt; samples, values);
+        let mut written = [0; 12];
+        assert_holds!(rt; bytes.len() <= 12);
+        encode(coding, &samples, &mut written[..bytes.len()]);
+        assert_same!(rt; &written[..bytes.len()], bytes);
+    }
     let first = sample_of(coding, &bytes[..width]);
     assert_same!(rt; first, values[0]);
     let mut again = [0; 12];
@@ -52,8 +53,8 @@ fn riff_sizes_count_the_pad_byte(rt: HostRuntime) {
         (Fmt::Q15, 1, 2_147_483_629, 4_294_967_294),
         (Fmt::Q31, 16, u64::MAX, 1_180_591_620_717_411_303_396),
     ] {
-        assert_same!(rt; riff_size(Container::Wave, format, channels, frames), size);
-        assert_same!(rt;
+        assert_same!(&rt; riff_size(Container::Wave, format, channels, frames), size);
+        assert_same!(&rt;
             riff_size(Container::Wavex, format, channels, frames),
             size + 24
         );
@@ -67,13 +68,13 @@ const STEREO: [u8; 44] =
 #[test]
 fn headers_are_those_of_another_writer(rt: HostRuntime) {
     let known = write_header(Container::Wave, Fmt::Q15, 2, 44100, Some(100));
-    assert_same!(rt; known.as_slice(), STEREO.as_slice());
+    assert_same!(&rt; known.as_slice(), STEREO.as_slice());
     let unknown = write_header(Container::Wave, Fmt::Q15, 2, 44100, None);
     let mut want = STEREO;
     for place in [4, 5, 6, 7, 40, 41, 42, 43] {
         want[place] = 0xFF;
     }
-    assert_same!(rt; unknown.as_slice(), want.as_slice());
+    assert_same!(&rt; unknown.as_slice(), want.as_slice());
 }
 
 /// As sox writes it, but for the chunk `fact` that it has besides, for one frame of a channel of 16 bits.
@@ -83,14 +84,14 @@ const EXTENSIBLE: [u8; 68] =
 #[test]
 fn an_extensible_header_names_linear_pcm(rt: HostRuntime) {
     let header = write_header(Container::Wavex, Fmt::Q15, 1, 8000, Some(1));
-    assert_same!(rt; header.as_slice(), EXTENSIBLE.as_slice());
+    assert_same!(&rt; header.as_slice(), EXTENSIBLE.as_slice());
     let wanted = Wanted {
         format: Fmt::Q15,
         channels: 1,
     };
     let mut source = source_of(&rt, rt.alloc(), &EXTENSIBLE, 7, &[]);
     let read = read_header(&mut source, wanted).ok();
-    assert_same!(rt; read.map(|header| header.start), Some(68));
+    assert_same!(&rt; read.map(|header| header.start), Some(68));
 }
 
 /// 4,000,000,000 frames of 64 bytes are 59 * 2^32 + 2,596,929,536 bytes a second.
@@ -99,7 +100,7 @@ fn a_byte_rate_is_kept_modulo_two_to_the_32(rt: HostRuntime) {
     let header = write_header(Container::Wave, Fmt::Q31, 16, 4_000_000_000, Some(0));
     let said = b"\x10\x00\x00\x28\x6B\xEE\x00\x00\xCA\x9A\x40\x00\x20\x00";
     same_count(&rt, header.len(), 44);
-    assert_same!(rt; &header.as_slice()[22..36], said.as_slice());
+    assert_same!(&rt; &header.as_slice()[22..36], said.as_slice());
 }
 
 /// The state 0 goes to 3C6EF35F, 47502932 and D1CCF6E9.
@@ -122,8 +123,8 @@ fn a_generator_gives_the_high_bits_of_its_states(rt: HostRuntime) {
             channels: 1,
         };
         let mut source = GenSource::new(&input, 0, 3);
-        assert_same!(rt; fill(&mut source, &mut block, 100).ok(), Some(count));
-        assert_holds!(rt; block.as_slice().starts_with(bytes));
+        assert_same!(&rt; fill(&mut source, &mut block, 100).ok(), Some(count));
+        assert_holds!(&rt; block.as_slice().starts_with(bytes));
     }
 }
 
@@ -136,19 +137,20 @@ fn a_generated_wave_file_has_a_header_and_a_pad_byte(rt: HostRuntime) {
     };
     let want =
         b"RIFF\x28\x00\x00\x00WAVEfmt \x10\x00\x00\x00\x01\x00\x01\x00\x80\xBB\x00\x00\x80\xBB\x00\x00\x01\x00\x08\x00data\x03\x00\x00\x00\xBC\xC7\x51\x00";
-    let mut source = GenSource::new(&input, 0, 3);
-    let mut block = [0; 64];
-    assert_same!(rt; fill(&mut source, &mut block, 100).ok(), Some(48));
-    assert_same!(rt; &block[..48], want.as_slice());
-
+    {
+        let mut source = GenSource::new(&input, 0, 3);
+        let mut block = [0; 64];
+        assert_same!(&rt; fill(&mut source, &mut block, 100).ok(), Some(48));
+        assert_same!(&rt; &block[..48], want.as_slice());
+    }
     let mut pieces = GenSource::new(&input, 0, 3);
     let mut piece = [0; 5];
     for start in [0, 5, 10, 15, 20, 25, 30, 35, 40] {
-        assert_same!(rt; fill(&mut pieces, &mut piece, 100).ok(), Some(5));
-        assert_same!(rt; piece.as_slice(), &want[start..start + 5]);
+        assert_same!(&rt; fill(&mut pieces, &mut piece, 100).ok(), Some(5));
+        assert_same!(&rt; piece.as_slice(), &want[start..start + 5]);
     }
-    assert_same!(rt; fill(&mut pieces, &mut piece, 100).ok(), Some(3));
-    assert_same!(rt; pieces.read(&mut piece).ok(), Some(0));
+    assert_same!(&rt; fill(&mut pieces, &mut piece, 100).ok(), Some(3));
+    assert_same!(&rt; pieces.read(&mut piece).ok(), Some(0));
 }
 
 /// Samples of two channels follow one another in the order of the file.
@@ -161,17 +163,17 @@ fn a_long_generated_input_ends_where_its_frames_end(rt: HostRuntime) {
     };
     let mut source = GenSource::new(&input, 7, 100_000);
     let mut block = [0; 8];
-    assert_same!(rt; fill(&mut source, &mut block, 100).ok(), Some(8));
-    assert_same!(rt;
+    assert_same!(&rt; fill(&mut source, &mut block, 100).ok(), Some(8));
+    assert_same!(&rt;
         block.as_slice(),
         b"\x20\x3D\xDA\xE9\xCC\x9C\x4E\xED".as_slice()
     );
     for _ in 1..50_000 {
-        assert_same!(rt; fill(&mut source, &mut block, 100).ok(), Some(8));
+        assert_same!(&rt; fill(&mut source, &mut block, 100).ok(), Some(8));
     }
-    assert_same!(rt;
+    assert_same!(&rt;
         block.as_slice(),
         b"\x32\xCD\x49\xEA\xDD\x9E\x20\xE6".as_slice()
     );
-    assert_same!(rt; fill(&mut source, &mut block, 100).ok(), Some(0));
+    assert_same!(&rt; fill(&mut source, &mut block, 100).ok(), Some(0));
 }

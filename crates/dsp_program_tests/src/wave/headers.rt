@@ -32,10 +32,10 @@ fn a_header_is_read_up_to_the_first_sample(rt: HostRuntime) {
         size: Some(8),
         coding: Coding::Wave15,
     };
-    assert_same!(rt; header, Ok(wanted));
+    assert_same!(&rt; header, Ok(wanted));
     let mut samples = [0; 9];
-    assert_same!(rt; fill(&mut source, &mut samples, 100).ok(), Some(8));
-    assert_same!(rt; &samples[..4], b"\xE8\x03\x18\xFC".as_slice());
+    assert_same!(&rt; fill(&mut source, &mut samples, 100).ok(), Some(8));
+    assert_same!(&rt; &samples[..4], b"\xE8\x03\x18\xFC".as_slice());
 }
 
 #[test]
@@ -49,7 +49,7 @@ fn a_cut_file_is_named_where_it_is_cut(rt: HostRuntime) {
         (57, HeaderFault::NoSamples, 57),
     ] {
         let read = read(&rt, rt.alloc(), &LISTED[..length], STEREO_Q15);
-        assert_same!(rt; read, Err(HeaderOr::Fault { fault, offset }));
+        assert_same!(&rt; read, Err(HeaderOr::Fault { fault, offset }));
     }
 }
 
@@ -57,7 +57,7 @@ fn a_cut_file_is_named_where_it_is_cut(rt: HostRuntime) {
 fn a_source_that_fails_gives_no_header(rt: HostRuntime) {
     for number in [1, 2, 3, 4, 5] {
         let mut source = source_of(&rt, rt.alloc(), LISTED, 12, &[number]);
-        assert_same!(rt; read_header(&mut source, STEREO_Q15), Err(HeaderOr::Read));
+        assert_same!(&rt; read_header(&mut source, STEREO_Q15), Err(HeaderOr::Read));
     }
 }
 
@@ -74,7 +74,7 @@ fn a_longer_format_and_a_second_one_are_accepted(rt: HostRuntime) {
         coding: Coding::Wave15,
     };
     let read = read(&rt, rt.alloc(), ACCEPTED, STEREO_Q15);
-    assert_same!(rt; read, Ok(header));
+    assert_same!(&rt; read, Ok(header));
 }
 
 /// A file that is no input.
@@ -355,6 +355,6 @@ fn each_fault_is_named_at_its_place(rt: HostRuntime) {
             fault: cut.fault,
             offset: cut.offset,
         };
-        assert_same!(rt; read(&rt, rt.alloc(), cut.bytes, wanted), Err(fault));
+        assert_same!(&rt; read(&rt, rt.alloc(), cut.bytes, wanted), Err(fault));
     }
 }

@@ -9,7 +9,8 @@ use Rattle.dsp_defs.specs.Grammar.{IsChain, correlates}
 use Rattle.dsp_defs.specs.Measure as measure
 use Rattle.dsp_defs.specs.Shape.{whole_frames, live_frames, frames_behind, gathered}
 use Rattle.dsp_unit.specs.Unit.{UnitState, frames_in}
-use Rattle.dsp_unit.specs.Line.{chain_products, Place, place_behind, place_room, Passes, blocks_of, InLine, AllStand, AllCount}
+use Rattle.dsp_unit.specs.Line.{chain_products, Place, place_behind, place_room, Passes, blocks_of, InLine, AllStand}
+use Rattle.dsp_unit.specs.Line.{AllCount}
 use Rattle.dsp_unit.specs.Line.{AllTaken, AllFew, AllTook, AllGave, line_given, line_made, line_turns, measured_by}
 use Rattle.dsp_defs.specs.declared.fault.GatherFull.{GatherFull}
 use Rattle.dsp_defs.specs.declared.limits.TheConstants.{MAX_BLOCKS, MAX_CORRELATES, MAX_GATHERED, MAX_INPUT}

@@ -201,7 +201,8 @@ impl<U: AnyUnit + Drop> Chain<U> {
         self.room
     }
 
-    /// The first partial convolution whose window ends past the full one, where the frames fed so far and `more` frames are the whole input.
+    /// The first partial convolution whose window ends past the full one, where the frames fed so
+    /// far and `more` frames are the whole input.
     pub fn window_fault(&self, more: u64) -> Option<WindowFault>
         requires { self.now.frames + more ≤ MAX_INPUT }
         ensures { option_map (λ (fault : WindowFault). (fault.end, fault.length)) result

@@ -26,7 +26,8 @@ use Rattle.dsp_conv.specs.declared.extent.Extent.{Extent}
 use Rattle.dsp_conv.specs.declared.extent.Extent.TheVariants.{Full, Within}
 use Rattle.dsp_conv.specs.Extent.{block_of, place_in, place_after, greatest_place, start_in, stop_in, given_in}
 use Rattle.dsp_conv.specs.Extent.{zeros_behind}
-use Rattle.dsp_conv.specs.ConvState.{ConvState, StandsFor, CountsFor, Took, Fits, kept, kept_of, new_conv, tail_behind}
+use Rattle.dsp_conv.specs.ConvState.{ConvState, StandsFor, CountsFor, TakesIn, Fits, kept, kept_of, new_conv}
+use Rattle.dsp_conv.specs.ConvState.{tail_behind}
 use Rattle.dsp_conv.proofs.ConvLemmas.{live-append, tail-is, tail-long, count-more, rows-long, rows-take, rows-skipped}
 use Rattle.dsp_conv.proofs.ConvLemmas.{empty}
 use Rattle.dsp_conv.proofs.ExtentLemmas.{no-place, place-more, kept-are}
@@ -123,15 +124,15 @@ pub took :
     } ≡ old → IsConvolution old → new ≡ owing format e taps size ended past' place' → length block ≡ m →
     past' ≡ drop (length block) (past ++ block) → place' ≡ place_after e place m → start ≡ start_in e place m →
     stop ≡ stop_in e place m → out ≡ rows format (reverse taps) (drop start (past ++ block)) (stop - start) →
-    Took format old new block out m (stop - start)
+    TakesIn format old new block out m (stop - start)
 took format {e = e} {taps = taps} {past = past} {tail = tail} {place = place} {size = size} {ended = ended} {new = new}
     block out past' place' start stop m view is owes long past_is place_is start_is stop_is out_is =
     let here = subst IsConvolution (sym view) is in
     let some : 0 < length taps = here.taps in
     let given : stop - start ≡ given_in e place m = ap₂ (λ p s. p - s) stop_is start_is in
     let value : ℕ → List ℤ → ℕ → List ℤ = λ s p k. rows format (reverse taps) (drop s (p ++ block)) k in
-    subst (λ (c : ConvState). Took format c new block out m (stop - start)) view
-    (subst (λ (c : ConvState). Took format (record {
+    subst (λ (c : ConvState). TakesIn format c new block out m (stop - start)) view
+    (subst (λ (c : ConvState). TakesIn format (record {
       extent = e;
       taps = taps;
       past = past;
@@ -178,11 +179,11 @@ pub took-none :
       ended = ended;
     } ≡ old → IsConvolution old → new ≡ owing format e taps size ended past' place' → length block ≡ m →
     past' ≡ drop (length block) (past ++ block) → place' ≡ place_after e place m →
-    given_in old.extent old.place m ≡ 0 → Took format old new block [] m 0
+    given_in old.extent old.place m ≡ 0 → TakesIn format old new block [] m 0
 took-none format {e = e} {taps = taps} {past = past} {place = place} {old = old} {new = new} block past' place' m view
     is owes long past_is place_is none =
     let empty : given_in e place m ≡ 0 = ap (λ (c : ConvState). given_in c.extent c.place m) view ∙ none in
-    subst (λ k. Took format old new block [] m k) empty
+    subst (λ k. TakesIn format old new block [] m k) empty
     (took format block [] past' place' (start_in e place m) (stop_in e place m) m view is owes long past_is place_is
     refl refl (ap (rows format (reverse taps) (drop (start_in e place m) (past ++ block))) (sym empty)))
 

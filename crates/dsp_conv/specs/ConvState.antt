@@ -77,7 +77,7 @@ pub record CountsFor (c : ConvState) (n : ℕ) : Type 0 where
 
 -- a call takes the m samples of `block` and gives `given` values, `out`: it gives the next ones of each signal that the
 -- convolution stands for, and then stands for the longer one; its taps, its blocks and what it gives stay
-pub record Took (format : Fmt) (old new : ConvState) (block out : List ℤ) (m given : ℕ) : Type 0 where
+pub record TakesIn (format : Fmt) (old new : ConvState) (block out : List ℤ) (m given : ℕ) : Type 0 where
   pub count : (n : ℕ) → CountsFor old n → live_count old (n + m) ≡ live_count old n + given
   pub values : (x : List ℤ) → StandsFor format old x → Continues (live_of format old) x block out
   pub stands : (x : List ℤ) → StandsFor format old x → StandsFor format new (x ++ block)

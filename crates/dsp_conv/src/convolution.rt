@@ -1,4 +1,4 @@
-use crate::extent::{Extent, place_of};
+use crate::extent::{Extent, as_place};
 use crate::making::{reversed, taps_of, zeros};
 use dsp_defs::{Block, Steps};
 use dsp_filter::{Filter, samples_of};
@@ -58,7 +58,7 @@ impl<T: LaneSample<L>, const L: usize, K: Copy> Convolution<T, L, K> {
     ghost use Rattle.dsp_lanes.specs.Turns.{lane_turns};
     ghost use Rattle.dsp_conv.specs.Extent.{given_in, place_in, zeros_behind};
     ghost use Rattle.dsp_conv.specs.ConvState.{StandsFor, CountsFor, Fits, kept, kept_of, live_count};
-    ghost use Rattle.dsp_conv.specs.ConvState.{live_of, new_conv, tail_behind, Took};
+    ghost use Rattle.dsp_conv.specs.ConvState.{live_of, new_conv, tail_behind, TakesIn};
 
     /// A convolution that has taken nothing. All its memory is taken here.
     pub(crate) fn of_taps(
@@ -148,7 +148,7 @@ impl<T: LaneSample<L>, const L: usize, K: Copy> Convolution<T, L, K> {
     fn pass_over(&mut self, input: &[T])
         requires block { length input.now ≤ self.old.block }
         requires none { given_in self.old.extent self.old.place (length input.now) ≡ 0 }
-        ensures { Took T.format self.old self.new (map T.number input.now) [] (length input.now) 0 }
+        ensures { TakesIn T.format self.old self.new (map T.number input.now) [] (length input.now) 0 }
     {
         let from = input.len().saturating_sub(self.zeros.len());
         self.window.push_block(&input[from..]);
@@ -245,7 +245,7 @@ impl<T: LaneSample<L>, const L: usize, K: Copy> Convolution<T, L, K> {
             return false;
         }
         let place = numbers[last];
-        if place < 0 || self.extent.greatest_place() < place_of(place) {
+        if place < 0 || self.extent.greatest_place() < as_place(place) {
             return false;
         }
         self.window.fits(&numbers[..last])
@@ -270,7 +270,7 @@ impl<T: LaneSample<L>, const L: usize, K: Copy> Convolution<T, L, K> {
     {
         let last = numbers.len() - 1;
         self.window.restore(&numbers[..last]);
-        self.place = place_of(numbers[last]);
+        self.place = as_place(numbers[last]);
         self.owe();
     }
 }
@@ -315,7 +315,7 @@ impl<T: FormatLanes<L>, const L: usize, K: Copy> Filter<T> for Convolution<T, L,
     fn place(&self, numbers: &[i64]) -> Option<u64> {
         let _ = &self.block;
         if self.fits(numbers) {
-            Some(place_of(numbers[numbers.len() - 1]))
+            Some(as_place(numbers[numbers.len() - 1]))
         } else {
             None
         }

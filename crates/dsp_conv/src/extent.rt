@@ -23,7 +23,7 @@ fn end_of(first: u32, count: u32) -> u64
 }
 
 /// A kept number as the place that it is.
-pub fn place_of(number: i64) -> u64
+pub fn as_place(number: i64) -> u64
     requires { pos 0 ≤ℤ number }
     ensures place { pos result ≡ number }
     ensures fits { result < 2 ^ 63 }

@@ -82,14 +82,6 @@ module _ (text : List ℕ) (block frames : ℕ) (numbers : List ℤ) (s : Sessio
   goes_not (refusal.Gather told more) bytes room kept_room r =
       record { script = script; may = opened.may; cause = refuses_as (refusal.Gather told more) bytes room r }
 
-  pub keeps_not : (wanted : ℕ) (bytes : List ℕ) (room kept_room : ℕ) →
-      wanted ≡ kept_count s.script (s.chain.frames + frames_of s.script s.coding bytes) → kept_room < wanted
-      → FailsToGoOn (refusal.KeptRoom wanted) text block frames numbers bytes room kept_room
-  keeps_not wanted bytes room kept_room is over =
-      let all : wanted ≡ kept_count script (frames + frames_of script (input_coding script) bytes) = is ∙
-      (λ i. kept_count (behind.script_is i) (all_as bytes i)) in
-      record { script = script; may = opened.may; cause = (all, subst (λ n. kept_room < n) all over) }
-
   -- ---- a piece
 
   module _ (new : SessionState) (count : ℕ) (bytes out after : List ℕ) (before counts : Counts)

@@ -11,8 +11,8 @@ ghost use Rattle.dsp_laws.specs.Stands.{IsStopped, Stands};
 
 /// Once a run or a gen has begun its stream, and however it ended: which bytes were taken, that exactly the output of
 /// them was written, or a front of it where the output has failed, that at most one block was taken beyond what was
-/// written, which length was past its limit, what the multiplies and the turns come to, and what a run that is done says
-/// of itself.
+/// written, which length was past its limit, what the multiplies and the turns come to, and what a run that is done
+/// says of itself.
 pub fn what_stands()
     ensures { (c : Call) (status : ℕ) (report told : SinkState) → Ended c status report told
         → IsStream c.words → IsDone status ⊎ IsStopped status → Stands c status report told }
@@ -26,9 +26,9 @@ pub fn what_is_reported()
 {}
 
 /// Where the status is 1, the words are no command, and only there; where it is 2, the script has a fault; with 3, the
-/// chosen block length isn't legal; with 4, the header of the input or its end is at fault; with 6 to 9 and 14, a port has
-/// failed, once; and with 11, the file of a check is not the output, and the line says the first place where it differs.
-/// Where as many bytes were taken as may be, the status is 5, but for a few ends just there.
+/// chosen block length isn't legal; with 4, the header of the input or its end is at fault; with 6 to 9 and 14, a port
+/// has failed, once; and with 11, the file of a check is not the output, and the line says the first place where it
+/// differs. Where as many bytes were taken as may be, the status is 5, but for a few ends just there.
 pub fn where_statuses_come_from()
     ensures { (c : Call) (status : ℕ) (report told : SinkState) → Ended c status report told
         → Origins c status report told }

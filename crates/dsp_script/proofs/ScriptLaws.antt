@@ -33,7 +33,8 @@ use Rattle.dsp_script.specs.Answers.{GivesUnlessMemory}
 use Rattle.dsp_defs.specs.Reading.{blocks_at, length_at, nothing_of, input_at, script_at, reading, first_fault, kind_at}
 use Rattle.dsp_script.proofs.Steps.{bind_ok, read_to, refused, ok_is, pair, pair_is, choice_run, next_takes}
 use Rattle.dsp_script.proofs.Steps.{begins_word, begins_other, Strips, Strips-split, Strips-from_spells}
-use Rattle.dsp_script.proofs.Steps.{spells_from_Strips, Takes, Takes-then, Takes-none, word_takes, name_takes, natural_takes}
+use Rattle.dsp_script.proofs.Steps.{spells_from_Strips, Takes, Takes-then, Takes-none, word_takes, name_takes}
+use Rattle.dsp_script.proofs.Steps.{natural_takes}
 use Rattle.dsp_script.proofs.Steps.{word_read, name_read, natural_read}
 use Rattle.dsp_script.proofs.Names.{no_length, no_table, format_again, container_again, input_container_again}
 use Rattle.dsp_script.proofs.ListLaws.{tables_in, braced}

@@ -12,7 +12,8 @@ use Rattle.dsp_defs.specs.Grammar.{Symbol, Name, table_symbols}
 use Rattle.dsp_defs.specs.Places.{◌>>=◌, named, choice, next_at, begins_with, Environment, list_at, table_word}
 use Rattle.dsp_defs.specs.Places.{new_name, table_at, tables_at, environment_at}
 use Rattle.dsp_script.proofs.Steps.{bind_ok, ok_is, refused, chosen, pair, pair_is, named_is, choice_run}
-use Rattle.dsp_script.proofs.Steps.{written_name, Strips, Strips-split, Takes, Takes-then, Takes-none, one_taken, one_again}
+use Rattle.dsp_script.proofs.Steps.{written_name, Strips, Strips-split, Takes, Takes-then, Takes-none, one_taken}
+use Rattle.dsp_script.proofs.Steps.{one_again}
 use Rattle.dsp_script.proofs.Steps.{next_takes, begins_word}
 use Rattle.dsp_script.proofs.Loops.{tables_done}
 use Rattle.dsp_script.proofs.ListLaws.{tables_in, braced, braced_takes, braced_read}

@@ -30,8 +30,8 @@ pub fn tables_are_their_numbers()
         → length plain ≤ MAX_SCRIPT → Reads plain s }
 {}
 
-/// The block unit is at least 1 and divides each legal block length, where there is one; and it is a legal length itself
-/// where it is at least 1. So it is 0 exactly where no block length is legal.
+/// The block unit is at least 1 and divides each legal block length, where there is one; and it is a legal length
+/// itself where it is at least 1. So it is 0 exactly where no block length is legal.
 pub fn unit_divides_legal_lengths()
     ensures divides { (s : Script) (length : ℕ) → IsSound s
         → is_legal s.input.channels s.blocks length ≡ true

@@ -16,8 +16,7 @@ mod token;
 
 pub use dsp_defs::{ScriptFault, ScriptKind};
 pub use dsp_shape::{
-    cost, default_block, frames_given, full_length, given_frames, legal, output_flow, output_rate,
-    unit,
+    cost, default_block, frames_given, given_frames, legal, output_flow, output_rate, unit,
 };
 pub use fault::ParseFault;
 pub use laws::{

@@ -22,8 +22,8 @@ use std::alloc::{AllocError, Global};
 use std::marker::Model;
 use std::sync::ledger::Ledger;
 
-/// A script at work, which the session owns: it takes bytes of the input's samples and gives bytes of the output's samples.
-/// A stream also reads the headers of files and writes them.
+/// A script at work, which the session owns: it takes bytes of the input's samples and gives bytes of the
+/// output's samples. A stream also reads the headers of files and writes them.
 #[derive(Drop)]
 pub struct Session<U: Unit + Drop> {
     pub(crate) worker: Worker<U>,

@@ -5,13 +5,12 @@ ghost use Rattle.dsp_defs.specs.Grammar.{IsSound};
 ghost use Rattle.dsp_defs.specs.Shape.{gcd, group_of, given_frames};
 ghost use Rattle.dsp_defs.specs.Shape.{frames_given, pace_after, whole_unit, fits_everywhere};
 ghost use Rattle.dsp_defs.specs.Shape.{is_legal, unit, default_block};
-ghost use Rattle.dsp_defs.specs.Sums.{full_length};
 ghost use Rattle.dsp_defs.specs.Cost.{section_count, block_cost, cost};
 ghost use Rattle.dsp_unit.specs.Unit.{most_frames};
 ghost use Rattle.dsp_shape.specs.FrameRule.{IsRule, rule_of};
 ghost use Rattle.dsp_shape.specs.Lengths.{HasLegalBlock, IsGroup, IsSmall, is_small};
 
-use crate::frame_rule::{FrameRule, convolution_length};
+use crate::frame_rule::FrameRule;
 use crate::output::input_flow;
 use dsp_defs::{
     Block, DEFAULT_BLOCK_LENGTH, Flow, Fmt, List, MAX_BLOCK_LENGTH, MAX_INPUT, MAX_SAMPLES, Script,
@@ -29,14 +28,6 @@ fn gcd(mut a: u64, mut b: u64) -> u64
         b = rest;
     }
     a
-}
-
-/// The length of a convolution of so many samples and taps.
-pub fn full_length(frames: u64, taps: &List) -> u64
-    requires { frames ≤ 2 ^ 63 }
-    ensures { result ≡ full_length frames (length taps.now) }
-{
-    convolution_length(frames, taps.as_slice().len() as u64)
 }
 
 /// The frames that a block is to give of so many: a partial convolution gives all of its window.

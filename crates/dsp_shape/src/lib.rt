@@ -8,7 +8,5 @@ mod output;
 
 pub use frame_rule::FrameRule;
 pub use kept_rule::KeptRule;
-pub use lengths::{
-    cost, default_block, frames_given, full_length, given_frames, legal, most_frames, unit,
-};
+pub use lengths::{cost, default_block, frames_given, given_frames, legal, most_frames, unit};
 pub use output::{input_flow, output_flow, output_rate};

@@ -208,7 +208,8 @@ pub(crate) fn read_chunks<S: Source>(
     }
 }
 
-/// Reads the header of a WAVE file from its begin, and takes the bytes up to the first sample and no more. It takes no memory.
+/// Reads the header of a WAVE file from its begin, and takes the bytes up to the first sample and no
+/// more. It takes no memory.
 ///
 /// A fault has its offset in bytes from the file's begin. The declared size of the samples is in bytes, and no size
 /// means that they go to the end of the file.

@@ -6,7 +6,8 @@ use Rattle.dsp_lanes.proofs.LaneOps.{bits_of, ints_of_bits}
 use Rattle.dsp_lanes.proofs.LaneSums.{lanes_read}
 use Rattle.dsp_defs.specs.Numbers.{floor_shift}
 use Rattle.dsp_lanes.proofs.Fractions.{added_read, lessened_read, same_fractions, whole_above, whole_below, whole_none}
-use Rattle.dsp_sections.proofs.reflections.fractions.Goals.{then-whole-gt0, else-whole-gt0, then-whole-lt0, else-whole-lt0}
+use Rattle.dsp_sections.proofs.reflections.fractions.Goals.{then-whole-gt0, else-whole-gt0, then-whole-lt0}
+use Rattle.dsp_sections.proofs.reflections.fractions.Goals.{else-whole-lt0}
 use Rattle.dsp_sections.proofs.reflections.fractions.Given.{Over}
 use Rattle.dsp_sections.proofs.reflections.fractions.Goals as goal
 

@@ -19,10 +19,10 @@ returns g c =
     let at : last ≡ length c.args.self.now.past = omega (arith, c.len-last.ensures, here) in
     let low : pos 0 ≤ℤ sample numbers last = omega (arith, ints, c.if-place-lt0.false) in
     let greatest = ap (λ (s : ConvState). greatest_place s.extent) c.self.view_is in
-    let few : c.place_of.result ≤ greatest_place c.args.self.now.extent =
-    omega (arith, c.if-greatest_place-place_of.false, c.greatest_place.ensures.greatest, greatest) in
+    let few : c.as_place.result ≤ greatest_place c.args.self.now.extent =
+    omega (arith, c.if-greatest_place-as_place.false, c.greatest_place.ensures.greatest, greatest) in
     let read : to_z w64 (of_z w64 (sample numbers last)) ≡ sample numbers last = omega (arith, ints) in
-    let high = subst (λ z. z ≤ℤ pos (greatest_place c.args.self.now.extent)) (c.place_of.ensures.place ∙ read)
+    let high = subst (λ z. z ≤ℤ pos (greatest_place c.args.self.now.extent)) (c.as_place.ensures.place ∙ read)
     (omega (arith, ints, few)) in
     fits-is g.T.Sample.format c.args.self.now numbers last c.fits.result at (omega (arith, c.if-numbers-last.false))
     low high (rw (here.past_long ∙ sym at) at c.fits.ensures)

@@ -25,8 +25,8 @@ restore-requires g c =
 pub bounds-numbers-last : goal.bounds-numbers-last
 bounds-numbers-last g c = omega (arith, c.requires.fits.count)
 
-pub place_of-self-inside-requires : goal.place_of-self-inside-requires
-place_of-self-inside-requires g c =
+pub as_place-self-inside-requires : goal.as_place-self-inside-requires
+as_place-self-inside-requires g c =
     let numbers = c.args.numbers.now in
     let kept = is-kept g.T.Sample.format c.args.self.now numbers (length numbers - 1) c.requires.fits refl in
     omega (arith, ints, kept.low)
@@ -39,7 +39,7 @@ invariant_of-self g c =
     let here = inside g.T.Sample.number c.self.inside.reversed c.self.inside.zeros inv c.self.view_is in
     let kept = is-kept g.T.Sample.format c.args.self.now numbers last c.requires.fits refl in
     let read : to_z w64 (of_z w64 (sample numbers last)) ≡ sample numbers last = omega (arith, ints) in
-    let place = c.place_of-self-inside.ensures in
+    let place = c.as_place-self-inside.ensures in
     let greatest = ap (λ (s : ConvState). greatest_place s.extent) c.self.view_is in
     moved-sound (take last numbers) inv c.restore.ensures (omega (arith, here, kept.long)) inv.left_within
     (omega (arith, kept.within _ (place.place ∙ read), greatest)) place.fits
@@ -54,7 +54,7 @@ returns g c =
     let read : to_z w64 (of_z w64 (sample numbers last)) ≡ sample numbers last = omega (arith, ints) in
     let past = restored-past d.window c.restore.new.self (take last numbers) c.restore.ensures
     (kept.long ∙ sym here.past_long) in
-    let place = c.place_of-self-inside in
+    let place = c.as_place-self-inside in
     let is = restored g.T.Sample.format _ numbers place.result c.self.view_is here.is c.requires.running c.owe.ensures
     (ap length past ∙ kept.long)
     (ap (λ l. l ++ pos place.result ∷ []) past ∙ kept.parts _ (place.ensures.place ∙ read)) in

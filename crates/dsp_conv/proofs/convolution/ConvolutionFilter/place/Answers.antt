@@ -7,8 +7,8 @@ use Rattle.dsp_conv.proofs.Inside.{inside}
 use Rattle.dsp_conv.proofs.ChannelLemmas.{fits-channel, channel-fits, place-is}
 use Rattle.dsp_conv.proofs.convolution.ConvolutionFilter.place.Goals as goal
 
-pub place_of-requires : goal.place_of-requires
-place_of-requires g c =
+pub as_place-requires : goal.as_place-requires
+as_place-requires g c =
     let kept = is-kept g.T.Sample.format c.args.self.now c.args.numbers.now (length c.args.numbers.now - 1)
     (c.fits.ensures.0 c.if-fits.true) refl in
     omega (arith, ints, kept.low)
@@ -24,7 +24,7 @@ returns-then-fits g c =
     let last : length numbers - 1 ≡ length d.past = omega (arith, fits.count) in
     let read : to_z w64 (of_z w64 (sample numbers (length numbers - 1))) ≡ sample numbers (length numbers - 1) =
     omega (arith, ints) in
-    let place = c.place_of.ensures.place ∙ read ∙ ap (sample numbers) last in
+    let place = c.as_place.ensures.place ∙ read ∙ ap (sample numbers) last in
     record {
       fits = fits-channel format d numbers _ is fits place;
       least = λ n at. ap Some (place-is format d numbers n is at _ place);

@@ -73,6 +73,29 @@ def minutes_of_crates(names):
     return {name: found.get(name, 1.0) for name in names}
 
 
+# What a crate that is proved already takes, in minutes: rt compares its files.
+PASSED = 0.1
+
+
+def is_kept(name, newest):
+    """Whether an earlier build has proved a crate since these files of it and of those below it were made."""
+    try:
+        return os.stat(f"{TOP}/crates/{name}/out/rlib/stamp").st_mtime > newest
+    except FileNotFoundError:
+        return False
+
+
+def kept_crates(below):
+    """The crates that an earlier build has proved, by the times of their files: rt passes by them."""
+    newest, kept = {}, set()
+    for name in below:
+        own = [os.stat(file).st_mtime for file in sources.files_of(name)]
+        newest[name] = max([*own, *(newest[lower] for lower in below[name])], default=0.0)
+        if is_kept(name, newest[name]):
+            kept.add(name)
+    return kept
+
+
 def longest_ways(below, minutes):
     """For each crate the minutes from its beginning to the end of the program on the longest way."""
     ways = {}
@@ -157,7 +180,8 @@ class Run:
 class Build:
     def __init__(self, top, cpu):
         self.below, self.what, self.cpu = crates_needed(top), "program" if top == PROGRAM else "library", cpu
-        self.minutes = minutes_of_crates(self.below)
+        self.kept = kept_crates(self.below)
+        self.minutes = minutes_of_crates(self.below) | dict.fromkeys(self.kept, PASSED)
         self.ways = longest_ways(self.below, self.minutes)
         self.left, self.done, self.running, self.waited = list(self.below), set(), [], set()
         self.took = self.said = 0.0  # the minutes of the crates that were proved, here and by docs/TESTING.md
@@ -194,10 +218,9 @@ class Build:
         if not run.is_well():
             raise Failed(run.name)
         self.done.add(run.name)
-        said = self.minutes[run.name]
-        if run.passed() > said / 10:  # else an earlier build had proved most of it
+        if run.name not in self.kept:
             self.took += run.passed()
-            self.said += said
+            self.said += self.minutes[run.name]
         if not self.is_live:
             self.say(f"{len(self.done)} of {len(self.below)}: {run.name} is proved in {clock(60 * run.passed())}, {self.so_far()}")
 
@@ -287,7 +310,7 @@ def build(top):
 def main(words):
     if words == ["--time"]:
         below, count = crates_needed(), processors()
-        print(f"about {expected(below, minutes_of_crates(below), count):.0f} minutes on {count} processors")
+        print(f"about {expected(below, minutes_of_crates(below) | dict.fromkeys(kept_crates(below), PASSED), count):.0f} minutes on {count} processors")
         return 0
     if words == ["--sum"]:
         print(sources.total())

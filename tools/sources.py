@@ -35,14 +35,19 @@ def built_for(name):
         return OLDER
 
 
+def files_of(crate):
+    """The files that a crate is made of."""
+    for part in ("src", "specs", "proofs"):
+        for folder, folders, names in os.walk(f"{TOP}/crates/{crate}/{part}"):
+            folders.sort()
+            yield from (f"{folder}/{name}" for name in sorted(names))
+
+
 def files():
     """The files that the program is made of."""
     yield f"{TOP}/crates.txt"
     for crate in sorted(os.listdir(f"{TOP}/crates")):
-        for part in ("src", "specs", "proofs"):
-            for folder, folders, names in os.walk(f"{TOP}/crates/{crate}/{part}"):
-                folders.sort()
-                yield from (f"{folder}/{name}" for name in sorted(names))
+        yield from files_of(crate)
 
 
 def total():

@@ -1,78 +1,19 @@
 -- The weights of an adaptive filter, one sample after another.
-use Rattle.std.proofs.Common.{◌≡◌, ◌≢◌, ◌∙◌, ap, refl, sym, subst, ℕ, ◌+◌, ◌^◌, ◌<◌, ◌≤◌, ℤ, pos, negsuc, ◌+ℤ◌, ◌-ℤ◌}
-use Rattle.std.proofs.Common.{◌*ℤ◌, List, [], ◌∷◌, ◌++◌, length, map, take, reverse, SFits, to_z, of_z, arith}
-use Rattle.std.proofs.Common.{lit<}
-use Rattle.std.specs.Prelude.{nat_abs}
-use Rattle.std.specs.Int.{w16, w32, w128}
+use Rattle.std.proofs.Common.{◌≡◌, ◌∙◌, ap, refl, sym, ℕ, ◌+◌, ◌<◌, ℤ, pos, List, [], ◌∷◌, ◌++◌, length, map}
+use Rattle.std.proofs.Common.{take, take_all, reverse, arith}
 use Rattle.std.proofs.lemmas.Int.{to_z-of_z}
 use Rattle.std.proofs.lemmas.List.{map-append, reverse-append, take-map}
 use Rattle.std.proofs.lemmas.List.FromFn.{fill_by_all, get_or-map-range_with_len}
-use Rattle.dsp_defs.specs.Adaptive.{Adapted, adapted, lms, lms_output, reference_now, weight_after}
-use Rattle.dsp_defs.specs.Adaptive.{weights_before}
-use Rattle.dsp_defs.specs.Formats.{word}
-use Rattle.dsp_defs.specs.Numbers.{◌>>◌, saturate}
+use Rattle.dsp_defs.specs.Adaptive.{Adapted, adapted, lms, lms_output, reference_now, weights_before}
 use Rattle.dsp_defs.specs.Signal.{sample}
 use Rattle.dsp_defs.specs.declared.format.Fmt.{Fmt}
-use Rattle.dsp_defs.specs.declared.format.Fmt.TheVariants.{Q7, Q15, Q31}
 use Rattle.dsp_defs.proofs.BlockLaws.{length-values}
 use Rattle.dsp_defs.proofs.FrameLemmas.{map-values}
 use Rattle.dsp_exact.proofs.Recurrences.{outputs-next}
-use Rattle.dsp_exact.proofs.Exact.{abs-shift, exact-add, exact-sub, sum-fits}
+use Rattle.dsp_exact.proofs.Exact.{exact}
 use Rattle.dsp_channelwise.proofs.FewTerms.{twice}
 use Rattle.dsp_channelwise.proofs.KeptStates.{newest-taken}
 use Rattle.dsp_channelwise.specs.Adapting.{pairs_of}
-
--- ---- numbers of a format
-
--- a sample of a format in 32 bits
-pub fits-32 : (f : Fmt) (v : ℤ) → SFits (word f) v → SFits w32 v
-fits-32 Q7 v fits = record { sfits = omega (arith, fits.sfits) }
-fits-32 Q15 v fits = record { sfits = omega (arith, fits.sfits) }
-fits-32 Q31 v fits = fits
-
--- a number of 32 bits in 128, and the difference of two
-in-128 : (a z : ℤ) → SFits w32 z → a ≡ to_z w32 (of_z w32 z) → to_z w128 (of_z w128 a) ≡ z
-in-128 a z fits is =
-    let wide : SFits w128 z = record { sfits = omega (arith, fits.sfits) } in
-    ap (λ v. to_z w128 (of_z w128 v)) (is ∙ to_z-of_z w32 z fits) ∙ to_z-of_z w128 z wide
-
-few : (z : ℤ) → SFits w32 z → nat_abs z ≤ 2 ^ 125
-few (pos n) fits = omega (arith, fits.sfits)
-few (negsuc n) fits = omega (arith, fits.sfits)
-
-pub wide-difference : (a b p q : ℤ) → SFits w32 p → SFits w32 q → a ≡ to_z w32 (of_z w32 p) → b ≡ to_z w32 (of_z w32 q)
-    → to_z w128 (of_z w128 (to_z w128 (of_z w128 a) -ℤ to_z w128 (of_z w128 b))) ≡ p -ℤ q
-wide-difference a b p q fits_p fits_q is_p is_q =
-    (λ i. to_z w128 (of_z w128 (in-128 a p fits_p is_p i -ℤ in-128 b q fits_q is_q i)))
-    ∙ exact-sub p q (few p fits_p) (few q fits_q)
-
--- ---- one weight
-
--- the high word of a product twice, and in another format than Q31 the weight
-high-few : (p high : ℤ) → nat_abs p ≤ 2 ^ 62 → high ≡ p >> 32 → nat_abs high ≤ 2 ^ 125
-high-few p high small is =
-    subst (λ z. nat_abs z ≤ 2 ^ 125) (sym is) (omega (arith, abs-shift p (2 ^ 32) (lit< tt), small))
-
-pub twice-high_fits : (p high : ℤ) → nat_abs p ≤ 2 ^ 62 → high ≡ p >> 32 → SFits w128 (high +ℤ high)
-twice-high_fits p high small is = sum-fits high high (high-few p high small is) (high-few p high small is)
-
-pub twice-high : (p high : ℤ) → nat_abs p ≤ 2 ^ 62 → high ≡ p >> 32
-    → to_z w128 (of_z w128 (high +ℤ high)) ≡ pos 2 *ℤ (p >> 32)
-twice-high p high small is =
-    exact-add high high (high-few p high small is) (high-few p high small is) ∙ twice high
-    ∙ ap (λ z. pos 2 *ℤ z) is
-
-pub weight-else : (f : Fmt) (alpha w x : ℤ) → f ≢ Q31
-    → saturate 16 (w +ℤ (alpha *ℤ x >> 15)) ≡ weight_after f alpha w x
-weight-else Q7 alpha w x not = refl
-weight-else Q15 alpha w x not = refl
-weight-else Q31 alpha w x not = absurd (not refl)
-
--- a word of 16 bits is one of a format that is neither Q7 nor Q31
-pub narrow-fits : (f : Fmt) (v : ℤ) → f ≢ Q7 → f ≢ Q31 → SFits w16 v → SFits (word f) v
-narrow-fits Q7 v wide not fits = absurd (wide refl)
-narrow-fits Q15 v wide not fits = fits
-narrow-fits Q31 v wide not fits = absurd (not refl)
 
 -- ---- inputs and references
 
@@ -130,3 +71,7 @@ lms-more f p mu taps x r w n reference new inside weights is_reference is =
 pub weights-pushed : (first : List ℤ) (ys : List Adapted) (v : Adapted)
     → weights_before first (reverse (ys ++ v ∷ [])) ≡ v.weights
 weights-pushed first ys v = ap (weights_before first) (reverse-append ys (v ∷ []))
+
+pub ruleset given = (to_z-of_z, length-pairs, take_all)
+
+pub ruleset weights = (exact, twice)

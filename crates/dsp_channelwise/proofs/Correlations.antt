@@ -1,6 +1,5 @@
 -- Sums that have all products of a correlation are its values, once they are closed.
-use Rattle.std.proofs.Common.{◌≡◌, ◌∙◌, ap, sym, ℕ, ◌+◌, ◌-◌, ◌*◌, ◌^◌, ◌<◌, ◌≤◌, ℤ, pos, ◌*ℤ◌, List, length, map}
-use Rattle.std.proofs.Common.{nat_eq, false, arith}
+use Rattle.std.proofs.Common.{◌≡◌, ◌∙◌, ap, sym, ℕ, ◌+◌, ◌-◌, ◌*◌, ◌<◌, ℤ, pos, ◌*ℤ◌, List, length, map, nat_eq, false}
 use Rattle.std.specs.Prelude.{max, if◌then◌else◌}
 use Rattle.std.proofs.lemmas.List.{get_or-map, length-map}
 use Rattle.std.proofs.lemmas.List.FromFn.{fill_by_all}
@@ -22,11 +21,3 @@ correlation-is format b x sums m not_none m_is long value =
     ∙ values_cong (2 * m - 1) _ _ (λ n inside. ap (close format) (value n inside))
     ∙ (λ i. values (if sym not_none i then 0 else (2 * m_is i - 1))
     (λ n. close format (sum_below (length x) (λ k. sample x k *ℤ delayed b (k + m_is i - 1) n))))
-
--- ---- sums so far are far within 128 bits
-
-pub small-more : (new old k : ℕ) → new ≤ old + 2 ^ 62 → old ≤ k * 2 ^ 62 → new ≤ (k + 1) * 2 ^ 62
-small-more new old k one so_far = omega (arith, one, so_far)
-
-pub small-enough : (sum k n t : ℕ) → sum ≤ k * 2 ^ 62 → k < n → n + t < 2 ^ 60 → sum ≤ 2 ^ 124
-small-enough sum k n t so_far inside few = omega (arith, so_far, inside, few)

@@ -2,6 +2,7 @@
 use Rattle.std.proofs.Common.{◌≡◌, ℕ, ◌+◌, ◌^◌, ◌≤◌, ℤ, pos, ◌+ℤ◌, ◌*ℤ◌, arith, pow_mono}
 use Rattle.std.proofs.Math.IntN.{+ℤ_idl}
 use Rattle.std.proofs.lemmas.Int.{ints, to_z-of_z}
+use Rattle.std.proofs.lemmas.List.Sums.{fold_more}
 use Rattle.dsp_exact.proofs.Exact.{exact_fits}
 
 -- a number and itself
@@ -15,5 +16,7 @@ small-power p few =
     pow_mono up
 
 pub ruleset few_terms = (to_z-of_z, +ℤ_idl)
+
+pub ruleset folds = (to_z-of_z, fold_more)
 
 pub ruleset powers = (exact_fits, small-power)

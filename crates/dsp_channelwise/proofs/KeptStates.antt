@@ -3,7 +3,10 @@ use Rattle.std.proofs.Common.{◌≡◌, ◌∙◌, ap, ℕ, ◌+◌, ◌*◌, �
 use Rattle.std.proofs.Common.{arith}
 use Rattle.std.proofs.Math.Nat.{mul-le-mul_right}
 use native.Mathlib.Nat.{suc-mul}
-use Rattle.std.proofs.lemmas.List.{take_more, reverse-append}
+use Rattle.std.proofs.lemmas.Int.{to_z-of_z}
+use Rattle.std.proofs.lemmas.List.{take_more, reverse-append, map_push, take_all}
+use Rattle.std.proofs.lemmas.List.Elements.{All-push}
+use Rattle.dsp_exact.proofs.Recurrences.{outputs-next}
 
 -- the newest of a list is what was pushed last
 pub newest-pushed : {A : Type 0} (ys : List A) (v d : A) → get_or (reverse (ys ++ v ∷ [])) 0 d ≡ v
@@ -20,3 +23,5 @@ pub cost-within : (before mid after n all cost : ℕ) → mid ≤ before + n * c
     → after ≤ before + all * cost
 cost-within before mid after n all cost so_far one less =
     omega (arith, so_far, one, mul-le-mul_right cost less, suc-mul n cost)
+
+pub ruleset kept_values = (to_z-of_z, All-push, outputs-next, map_push, newest-pushed, newest-taken, take_all)

@@ -6,7 +6,6 @@ mod Gains
 mod KeptStates
 mod Ladders
 mod MatrixBlocks
-mod NoFilters
 mod Phases
 mod Scattered
 mod SectionLists

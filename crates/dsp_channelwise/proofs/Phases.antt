@@ -1,6 +1,8 @@
 -- The taps of a phase, and what they cost.
 use Rattle.std.proofs.Common.{◌≡◌, sym, ℕ, ◌+◌, ◌*◌, ◌/◌, ◌<◌, ◌≤◌, ℤ, pos, List, length, subst, arith}
 use Rattle.std.proofs.Math.Nat.{mul-le-mul_left, mul-div-le}
+use Rattle.std.proofs.lemmas.Int.{to_z-of_z}
+use Rattle.std.proofs.lemmas.List.{length-reverse}
 use Rattle.std.proofs.lemmas.List.FromFn.{length-map-range_with_len, get_or-map-range_with_len}
 use Rattle.dsp_defs.specs.Signal.{sample}
 use Rattle.dsp_defs.specs.Sums.{phase_taps}
@@ -19,3 +21,5 @@ pub phase-cost : (n factor t : ℕ) → n * factor * (t / factor) ≤ n * t
 phase-cost n factor t =
     let same : n * factor * (t / factor) ≡ n * (factor * (t / factor)) = grind arith in
     subst (λ m. m ≤ n * t) (sym same) (mul-le-mul_left n (mul-div-le t factor))
+
+pub ruleset phases = (to_z-of_z, tap-of-phase, taps-of-phase, phase-cost, length-reverse)

@@ -1,6 +1,5 @@
 -- Lists of coefficients, section after section.
-use Rattle.std.proofs.Common.{◌≡◌, ◌≢◌, sym, subst, refl, ℕ, ◌+◌, ◌-◌, ◌*◌, ◌≤◌, ℤ, pos, List, ◌∷◌, get_or, length}
-use Rattle.std.proofs.Common.{drop, take, arith}
+use Rattle.std.proofs.Common.{◌≡◌, ◌≢◌, sym, refl, ◌-◌, ◌≤◌, ℤ, pos, List, ◌∷◌, get_or, length, drop, take, arith}
 use Rattle.std.proofs.lemmas.List.{take_all}
 use Rattle.dsp_defs.specs.Biquad.{sections}
 use Rattle.dsp_defs.specs.declared.format.Fmt.{Fmt}
@@ -28,10 +27,3 @@ five Q31 (n0 ∷ n1 ∷ n2 ∷ n3 ∷ n4 ∷ later) b0 b1 b2 a1 a2 wide not long
     λ i. record { b0 = sym e0 i; b1 = sym e1 i; b2 = sym e2 i; a1 = sym e3 i; a2 = sym e4 i } ∷ sections Q31
     (sym (take_all (length (n0 ∷ n1 ∷ n2 ∷ n3 ∷ n4 ∷ later) - 5) later (omega arith)) i)
 five Q31 cs b0 b1 b2 a1 a2 wide not long e0 e1 e2 e3 e4 = absurd (omega (arith, long))
-
--- the products of one section, of those that are left
-pub section-cost : (before mid after n a b all : ℕ) → mid + n * (5 * a) ≤ before + all → after ≤ mid + n * 5
-    → a ≡ b + 1 → after + n * (5 * b) ≤ before + all
-section-cost before mid after n a b all so_far one is =
-    let left = subst (λ k. mid + n * (5 * k) ≤ before + all) is so_far in
-    omega (arith, left, one)

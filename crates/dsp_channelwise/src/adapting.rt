@@ -63,6 +63,7 @@ impl<'a> Formula for Moved<'a> {
 
     ghost cost = { λ f. 1 };
 
+    #[tactic(auto, using(crate::proofs::AdaptedStates::weights))]
     fn at<L: Ledger>(&self, k: usize, steps: &mut Steps<L>) -> i32 {
         let w = sample(self.w, k);
         let p = product(self.alpha, back(self.x, k), steps);
@@ -84,6 +85,7 @@ pub(crate) struct Adapted {
 
 /// From the weights before a sample, the inputs up to it and its reference: y, the sum of w_k*x(n-k), the
 /// error wrap(reference - y), and the weights after it.
+#[tactic(auto, using(dsp_exact::proofs::Exact::exact))]
 fn adapted_to<L: Ledger>(
     alloc: Global,
     format: Fmt,
@@ -122,6 +124,7 @@ fn adapted_to<L: Ledger>(
 
 /// The output and the error of each sample, by the first weights from w_{T-1} to w_0; each in the format
 /// of the samples. The source is `arm_lms_q15` and `arm_lms_q31` of CMSIS-DSP.
+#[tactic(auto, using(crate::proofs::AdaptedStates::given))]
 pub fn lms<L: Ledger>(
     alloc: Global,
     format: Fmt,

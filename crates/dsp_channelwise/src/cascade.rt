@@ -74,6 +74,7 @@ impl Recurrence for Narrow {
 
     ghost cost = { λ r. 5 };
 
+    #[tactic(auto, using(crate::proofs::FewTerms::few_terms))]
     fn next<L: Ledger>(&self, x: &[i32], y: &[i32], steps: &mut Steps<L>) -> i32 {
         let (b, a) = self.section.0.split_at(3);
         let forward = sum_below(3, &Weighted { w: b, x }, steps);
@@ -115,6 +116,7 @@ pub fn biquad<L: Ledger>(
 }
 
 /// Y = wrap_64(acc * 2^(p+1))
+#[tactic(auto, using(crate::proofs::FewTerms::powers))]
 fn fed_back(post_shift: u8, acc: i64) -> i64
     requires { post_shift ≤ 30 }
     ensures { result ≡ fed_back post_shift acc }
@@ -150,6 +152,7 @@ impl Recurrence for Wide {
 
     ghost cost = { λ r. 5 };
 
+    #[tactic(auto, using(crate::proofs::FewTerms::few_terms))]
     fn next<L: Ledger>(&self, x: &[i32], y: &[i64], steps: &mut Steps<L>) -> i64 {
         let (p, c) = (self.post_shift, &self.section.0);
         let forward = sum_below(3, &Weighted { w: c, x }, steps);

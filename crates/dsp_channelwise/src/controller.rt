@@ -1,4 +1,6 @@
 //! The controller.
+#![tactic(auto, using(crate::proofs::Gains::controls))]
+
 ghost use Rattle.std.specs.Prelude.{◌≡◌, ◌≢◌, ◌+◌, ◌*◌, ◌≤◌, ◌^◌, All, FitsSigned, IfOk, length, nat_abs};
 ghost use Rattle.dsp_defs.specs.Adaptive.{pid, pid_close, pid_gains, pid_output};
 ghost use Rattle.dsp_defs.specs.Formats.{word};

@@ -1,4 +1,6 @@
 //! The interpolator.
+#![tactic(auto, using(crate::proofs::Phases::phases))]
+
 ghost use Rattle.std.specs.Prelude.{◌≡◌, ◌+◌, ◌*◌, ◌/◌, ◌%◌, ◌<◌, ◌≤◌, ◌^◌, ◌*ℤ◌, All, FitsSigned, IfOk};
 ghost use Rattle.std.specs.Prelude.{length};
 ghost use Rattle.dsp_defs.specs.Formats.{close, word};

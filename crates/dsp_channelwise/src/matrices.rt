@@ -1,4 +1,6 @@
 //! A channel in groups, each of which becomes a matrix.
+#![tactic(auto, using(crate::proofs::MatrixBlocks::matrices))]
+
 ghost use Rattle.std.specs.Prelude.{IfSome, Some, ◌^◌, ◌≡◌, ◌≢◌, ◌+◌, ◌*◌, ◌/◌, ◌%◌, ◌<◌, ◌≤◌, ◌*ℤ◌, ℕ, All};
 ghost use Rattle.std.specs.Prelude.{FitsSigned, IfOk, length, take, drop};
 ghost use Rattle.dsp_defs.specs.Formats.{word};

@@ -1,15 +1,13 @@
 use Rattle.std.proofs.Common.{arith}
-use Rattle.std.specs.Int.{w32}
-use Rattle.std.proofs.lemmas.Int.{to_z-of_z}
 use Rattle.dsp_channelwise.proofs.Gains.{controls, gains-in-Q31, gains-else}
 use Rattle.dsp_channelwise.proofs.controller.gains_by.Goals as goal
 
 pub returns-in-Q31 : goal.returns-in-Q31
 returns-in-Q31 c =
     gains-in-Q31 c.args.format c.args.kp c.args.ki c.args.kd _ _ _ c.in-Q31.is (grind (arith, controls))
-    (grind (arith, controls)) (to_z-of_z w32 c.args.kd c.ranges.kd)
+    (grind (arith, controls)) (grind (arith, controls))
 
 pub returns-in_default : goal.returns-in_default
 returns-in_default c =
     gains-else c.args.format c.args.kp c.args.ki c.args.kd _ _ _ c.in_default.not-Q31 (grind (arith, controls))
-    (grind (arith, controls)) (to_z-of_z w32 c.args.kd c.ranges.kd)
+    (grind (arith, controls)) (grind (arith, controls))

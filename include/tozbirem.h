@@ -8,7 +8,7 @@
  *
  * docs/SCRIPT.md has the language: 38 blocks, three formats, 1 to 16 channels. docs/DEFINITIONS.md says which
  * function of CMSIS-DSP each block stands for. Begin with tozbirem_open(), tozbirem_process() and tozbirem_end();
- * examples/library has whole programs. Build one by
+ * examples/library has whole programs. tools/library.sh proves and builds the library; then build a program by
  *
  *     cc -I build/library program.c build/library/libtozbirem.a
  *
@@ -44,7 +44,7 @@ extern "C" {
 enum tozbirem_status {
     TOZBIREM_OK = 0,
     TOZBIREM_SCRIPT = 2,     /**< a fault in the script: its kind, and first is its offset in bytes */
-    TOZBIREM_BLOCK = 3,      /**< first is no legal block length; second is the unit, or 0 where none is legal */
+    TOZBIREM_BLOCK = 3,      /**< first is no legal block length; second is the block unit, or 0 if none is legal */
     TOZBIREM_MEMORY = 10,    /**< out of memory */
     TOZBIREM_FRAMES = 20,    /**< the input has no whole frames: first is the number of bytes of one */
     TOZBIREM_LENGTH = 21,    /**< the input has more than one block: first is the block length in frames */
@@ -96,7 +96,7 @@ struct tozbirem_plan {
     uint64_t frame_bytes;     /**< bytes of a frame of the input */
     uint64_t given_bytes;     /**< bytes of a frame of the output */
     uint64_t room;            /**< bytes that the output of a call needs, for a block of frames */
-    uint64_t measures;        /**< how many measures the script has: one a channel of each measuring block */
+    uint64_t measures;        /**< how many measures the script has: one a channel, of `dot` and `cmplx_dot` one */
     uint64_t frames_given;    /**< frames of the output, tail included, of an input of the frames asked about */
     uint64_t kept;            /**< how many numbers the blocks keep after these frames */
     uint64_t cost_low;        /**< products of that run: the low 64 bits */
@@ -114,7 +114,7 @@ enum tozbirem_measured { TOZBIREM_POWER = 1, TOZBIREM_DOT, TOZBIREM_CMPLX_DOT, T
 struct tozbirem_measure {
     uint32_t kind;    /**< enum tozbirem_measured */
     uint32_t number;  /**< which block of the script, from 1 */
-    uint32_t channel; /**< which channel, from 0 */
+    uint32_t channel; /**< which channel, from 0; 0 of `dot` and `cmplx_dot` */
     uint32_t found;   /**< 1, or 0 where `max` and `min` had no sample */
     int64_t value;    /**< the sum, the real part of it, or the greatest or least sample */
     int64_t other;    /**< the imaginary part, or the frame of that sample, from 0 */
@@ -153,7 +153,7 @@ uint32_t tozbirem_version(void);
  * @brief          Reads a script, and says what a run of it takes and gives.
  * @param[in]      script         the text of the script; it needs no zero at its end
  * @param[in]      script_length  bytes of the text, at most 1,048,576
- * @param[in]      block          most frames of a call, 1 to 65,536 and a multiple of the script's unit; 0 for the
+ * @param[in]      block          most frames of a call, 1 to 65,536 and a multiple of the block unit; 0 for the
  *                                script's own block length, or its default. It changes no sample
  * @param[in]      frames         frames of an input, for frames_given, kept and the cost
  * @param[out]     plan           what the script is; as it was after another status than TOZBIREM_OK
@@ -262,8 +262,8 @@ uint32_t tozbirem_let_go(struct tozbirem_handle *handle);
  *                 reports where it has one, as "script: UnknownWord at 17".
  * @param[in]      status         what a call returned
  * @param[in]      answer         what it said besides
- * @param[out]     text           the bytes of the line, with no zero and no new line behind them; it stays as it is
- *                                where it is too short
+ * @param[out]     text           the bytes of the line, with no zero and no new line after them; the buffer stays as
+ *                                it is where it is too short
  * @param[in]      text_bytes     bytes of the buffer; 256 are always enough
  * @return         how many bytes the line has
  */
@@ -318,7 +318,8 @@ struct tozbirem {
  * @param[in]      block          most frames of a call, as for tozbirem_plan(); 0 for the script's own or its default
  * @param[in]      kept           room for numbers, which stays where it is
  * @param[in]      kept_numbers   how many fit there, twice as many as a state has: T-1 a channel for `fir`, 4 a section
- *                                and channel for `biquad`; tozbirem_plan() says it for any script and number of frames
+ *                                and channel for `biquad`; tozbirem_plan() says it for any script and number of
+ *                                frames. With too little room tozbirem_process() returns TOZBIREM_KEPT_ROOM
  * @return         TOZBIREM_OK, TOZBIREM_SCRIPT, TOZBIREM_BLOCK, TOZBIREM_MEMORY or TOZBIREM_NULL
  */
 static inline uint32_t tozbirem_open(struct tozbirem *chain, const char *script, uint64_t block, int64_t *kept,

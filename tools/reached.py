@@ -5,6 +5,7 @@ them, and those that have no comment; and counts them.
 usage: reached.py [SOURCE NAME]     (crates/dsp_cli/src/top.rt run)"""
 import os
 import re
+import signal
 import sys
 
 TOP = os.path.dirname(os.path.dirname(os.path.abspath(__file__)))
@@ -125,4 +126,5 @@ def main(words):
 
 
 if __name__ == '__main__':
+    signal.signal(signal.SIGPIPE, signal.SIG_DFL)  # whoever reads no further ends it without a word
     main(sys.argv[1:])

@@ -87,6 +87,13 @@ four_products a b c d e f g h i = record {
       omega (arith, f, g, h, i);
 }
 
+-- two of them
+pub both_groups : (a b c : Counts) (n m : ℕ) → m ≡ n → Rises a b n 1 → Rises b c n 1 → RisesWithin a c (2 * m) 2
+both_groups a b c n m is f g = record { multiplies_rise = omega (arith, is, f, g); turns_within = omega (arith, f, g) }
+
+pub both_products : (a b c : Counts) → Rises a b 1 1 → Rises b c 1 1 → Rises a c 2 2
+both_products a b c f g = record { multiplies_rise = omega (arith, f, g); turns_rise = omega (arith, f, g) }
+
 -- ---- values that are written
 pub write-one : {X : Type 0} (number : X → ℤ) (f : ℕ → ℤ) (at m : ℕ) (out : List X) (v : X) → m ≡ at + 1 →
     at < length out → take at (map number out) ≡ values at f → number v ≡ f at →

@@ -1,5 +1,5 @@
 -- Products of 64 bits of the even samples of a vector, and of the odd ones.
-use Rattle.std.proofs.Common.{ℕ, ◌≡◌, ◌+◌, ◌*◌, List, [], ◌∷◌, length, map, replicate, refl, sym, ap, ◌∙◌, arith, w32}
+use Rattle.std.proofs.Common.{◌≡◌, ◌+◌, ◌*◌, List, [], ◌∷◌, length, map, replicate, refl, sym, ap, ◌∙◌, arith, w32}
 use Rattle.std.proofs.Common.{w64}
 use Rattle.std.proofs.lemmas.Int.{ints, int_wrap-add_left, int_wrap-add_right}
 use Rattle.std.proofs.lemmas.Simd.{length-zip2, Each1-replicate}
@@ -14,7 +14,7 @@ use Rattle.dsp_lanes.proofs.LaneOps.{bits_of, cast_lanes, casts_are, splat_bits}
 use Rattle.dsp_lanes.proofs.LaneSums.{plus_in, times_in, raised, raised_fit, summed_fit, lanes_read, products_raise}
 use Rattle.dsp_lanes.proofs.LaneSums.{multiples_raise}
 use Rattle.dsp_lanes.proofs.LaneRows.{list_sum-wraps}
-use Rattle.dsp_lanes.proofs.HalfSums.{picked, evens, odds, products, evens_of_four, odds_of_four, each_even, each_odd}
+use Rattle.dsp_lanes.proofs.HalfSums.{evens, odds, products, each_even, each_odd}
 use Rattle.dsp_lanes.proofs.HalfSums.{length-evens, length-odds, half_fits, list_sum-halves, in_turn-zip2}
 use Rattle.dsp_lanes.proofs.WordViews.{read_words, factors, evens_are, odds_are}
 
@@ -85,36 +85,6 @@ products-odds (x ∷ w ∷ xs) [] e = refl
 products-odds (x ∷ w ∷ xs) (y ∷ []) e = refl
 products-odds (x ∷ w ∷ xs) (y ∷ z ∷ ys) e = ap (λ l. (w *ℤ z) ∷ l) (products-odds xs ys (omega arith))
 
-abbrev product_half : List ℤ → List ℤ → List ℤ → List ℕ → List ℕ
-product_half sums ts xs places = zip2 (plus_in w64) (bits_of w64 sums)
-    (zip2 (times_in w64) (cast_lanes w32 w64 (picked (bits_of w32 ts) places))
-    (cast_lanes w32 w64 (picked (bits_of w32 xs) places)))
-
-product_half_is : (sums ts xs t x : List ℤ) (places : List ℕ) → picked (bits_of w32 ts) places ≡ bits_of w32 t →
-    picked (bits_of w32 xs) places ≡ bits_of w32 x → Each1 (SFits w64) sums → Each1 (SFits w32) t → Each1 (SFits w32) x
-    → map (to_z w64) (product_half sums ts xs places) ≡ raised w64 sums (products t x)
-product_half_is sums ts xs t x places is_t is_x h f g =
-    (lanes_read w64 (product_half sums ts xs places) (raised w64 sums (products t x))
-    ((λ i. zip2 (plus_in w64) (bits_of w64 sums) (zip2 (times_in w64) (cast_lanes w32 w64 (is_t i))
-    (cast_lanes w32 w64 (is_x i))))
-    ∙ products_raise w32 w64 (omega arith) (omega arith) sums t x h f g)
-    (raised_fit w64 sums (products t x))).0
-
-even_products : (even ts xs : List ℤ) → length ts ≡ 4 → length xs ≡ 4 → Each1 (SFits w64) even →
-    Each1 (SFits w32) ts → Each1 (SFits w32) xs → map (to_z w64) (product_half even ts xs (0 ∷ 2 ∷ [])) ≡ raised w64
-    even (evens (products ts xs))
-even_products even ts xs long_t long_x h f g =
-    product_half_is even ts xs (evens ts) (evens xs) (0 ∷ 2 ∷ []) (evens_of_four w32 ts long_t)
-    (evens_of_four w32 xs long_x) h (each_even (SFits w32) ts f) (each_even (SFits w32) xs g)
-    ∙ ap (raised w64 even) (products-evens ts xs (omega arith))
-
-odd_products : (odd ts xs : List ℤ) → length ts ≡ 4 → length xs ≡ 4 → Each1 (SFits w64) odd → Each1 (SFits w32) ts →
-    Each1 (SFits w32) xs → map (to_z w64) (product_half odd ts xs (1 ∷ 3 ∷ [])) ≡ raised w64 odd (odds (products ts xs))
-odd_products odd ts xs long_t long_x h f g =
-    product_half_is odd ts xs (odds ts) (odds xs) (1 ∷ 3 ∷ []) (odds_of_four w32 ts long_t)
-    (odds_of_four w32 xs long_x) h (each_odd (SFits w32) ts f) (each_odd (SFits w32) xs g)
-    ∙ ap (raised w64 odd) (products-odds ts xs (omega arith))
-
 -- both halves of the sums, raised by both halves of the products
 halves_raised : (even odd p q : List ℤ) → length even ≡ length p → length odd ≡ length q →
     int_wrap w64 (list_sum (raised w64 even p) +ℤ list_sum (raised w64 odd q)) ≡ int_wrap w64
@@ -132,36 +102,6 @@ halves_raised even odd p q long_p long_q =
   where
     swapped : (a b c d : ℤ) → (a +ℤ b) +ℤ (c +ℤ d) ≡ (a +ℤ c) +ℤ (b +ℤ d)
     swapped a b c d = omega (arith, ints)
-
-pub product_halves : (even odd ts xs : List ℤ) → length even ≡ 2 → length odd ≡ 2 → length ts ≡ 4 → length xs ≡ 4 →
-    Each1 (SFits w64) even → Each1 (SFits w64) odd → Each1 (SFits w32) ts → Each1 (SFits w32) xs
-    → int_wrap w64 (list_sum (map (to_z w64) (product_half even ts xs (0 ∷ 2 ∷ []))) +ℤ list_sum
-    (map (to_z w64) (product_half odd ts xs (1 ∷ 3 ∷ []))))
-    ≡ int_wrap w64 ((list_sum even +ℤ list_sum odd) +ℤ list_sum (products ts xs))
-product_halves even odd ts xs long_even long_odd long_t long_x fit_even fit_odd f g =
-    let ps = products ts xs in
-    let long : length ps ≡ 4 = length-zip2 (λ x y. x *ℤ y) ts xs (omega arith) ∙ long_t in
-    let long_p = length-evens 2 ps long in
-    let long_q = length-odds 2 ps long in
-    (λ i. int_wrap w64 (list_sum (even_products even ts xs long_t long_x fit_even f g i) +ℤ list_sum
-    (odd_products odd ts xs long_t long_x fit_odd f g i)))
-    ∙ halves_raised even odd (evens ps) (odds ps) (omega arith) (omega arith)
-    ∙ ap (λ z. int_wrap w64 ((list_sum even +ℤ list_sum odd) +ℤ z)) (list_sum-halves 2 ps long)
-
-pub product_halves_fit : (even odd ts xs : List ℤ) → length even ≡ 2 → length odd ≡ 2 → length ts ≡ 4 →
-    length xs ≡ 4 → Each1 (SFits w64) even → Each1 (SFits w64) odd → Each1 (SFits w32) ts → Each1 (SFits w32) xs
-    → Each1 (SFits w64) (map (to_z w64) (product_half even ts xs (0 ∷ 2 ∷ []))) ×
-    Each1 (SFits w64) (map (to_z w64) (product_half odd ts xs (1 ∷ 3 ∷ [])))
-    × (length (map (to_z w64) (product_half even ts xs (0 ∷ 2 ∷ []))) ≡ 2) ×
-    (length (map (to_z w64) (product_half odd ts xs (1 ∷ 3 ∷ []))) ≡ 2)
-product_halves_fit even odd ts xs long_even long_odd long_t long_x fit_even fit_odd f g =
-    let ps = products ts xs in
-    let long : length ps ≡ 4 = length-zip2 (λ x y. x *ℤ y) ts xs (omega arith) ∙ long_t in
-    let e = half_fits w64 2 (λ s p. s +ℤ p) _ even (evens ps) (even_products even ts xs long_t long_x fit_even f g)
-    long_even (length-evens 2 ps long) in
-    let o = half_fits w64 2 (λ s p. s +ℤ p) _ odd (odds ps) (odd_products odd ts xs long_t long_x fit_odd f g)
-    long_odd (length-odds 2 ps long) in
-    (e.0, o.0, e.1, o.1)
 
 -- ---- the products of eight samples, by the even and the odd ones
 word_products_are : (sums t x : List ℤ) → Each1 (SFits w64) sums → Each1 (SFits w32) t → Each1 (SFits w32) x →

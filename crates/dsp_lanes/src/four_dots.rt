@@ -106,3 +106,82 @@ pub(crate) fn four_sums<T: Sample, F: DotForm<T>, M: Ledger>(
     }
     sums
 }
+
+/// The sums of the products of the taps and of two windows, a group of each a turn and then one after
+/// another. They are known up to a multiple of the form's width.
+#[inline(always)]
+fn two_sums<T: Sample, F: DotForm<T>, M: Ledger>(
+    taps: &[T],
+    window: &[T],
+    first: usize,
+    second: usize,
+    steps: &mut Steps<M>,
+) -> (T::Acc, T::Acc)
+    requires some { 0 < F.size }
+    requires narrows { (z : ℤ) → wrap F.width (wrap (accumulator T.format) z) ≡ wrap F.width z }
+    requires window_first { first + length taps.now ≤ length window.now }
+    requires window_second { second + length taps.now ≤ length window.now }
+    ensures first { wrap F.width (T.total result.0)
+        ≡ wrap F.width (row_at (map T.number taps.now) (map T.number window.now) first) }
+    ensures second { wrap F.width (T.total result.1)
+        ≡ wrap F.width (row_at (map T.number taps.now) (map T.number window.now) second) }
+    ensures steps { RisesWithin steps.old steps.new (2 * length taps.now)
+        (2 * lane_turns F.size (length taps.now)) }
+{
+    let size = F::size();
+    let mut one = F::no_sums();
+    let mut other = F::no_sums();
+    let mut at = 0;
+    'groups: while taps.len() - at >= size {
+        one = add_group::<T, F, M>(one, taps, at, window, first, steps);
+        other = add_group::<T, F, M>(other, taps, at, window, second, steps);
+        at += size;
+    }
+    let mut sum = F::total(one);
+    let mut other_sum = F::total(other);
+    'rest: while at < taps.len() {
+        sum = add_one::<T, M>(sum, taps, at, window, first, steps);
+        other_sum = add_one::<T, M>(other_sum, taps, at, window, second, steps);
+        at += 1;
+    }
+    (sum, other_sum)
+}
+
+/// The same four sums, of two windows and then of the other two: for a form whose sums of four windows
+/// are more than a processor's registers hold.
+#[inline(always)]
+pub(crate) fn four_by_twos<T: Sample, F: DotForm<T>, M: Ledger>(
+    taps: &[T],
+    window: &[T],
+    first: usize,
+    step: usize,
+    steps: &mut Steps<M>,
+) -> Four<T::Acc>
+    requires some { 0 < F.size }
+    requires narrows { (z : ℤ) → wrap F.width (wrap (accumulator T.format) z) ≡ wrap F.width z }
+    requires window { first + 3 * step + length taps.now ≤ length window.now }
+    ensures first { wrap F.width (T.total result.first)
+        ≡ wrap F.width (row_at (map T.number taps.now) (map T.number window.now) first) }
+    ensures second { wrap F.width (T.total result.second)
+        ≡ wrap F.width (row_at (map T.number taps.now) (map T.number window.now) (first + step)) }
+    ensures third { wrap F.width (T.total result.third)
+        ≡ wrap F.width (row_at (map T.number taps.now) (map T.number window.now)
+        (first + 2 * step)) }
+    ensures fourth { wrap F.width (T.total result.fourth)
+        ≡ wrap F.width (row_at (map T.number taps.now) (map T.number window.now)
+        (first + 3 * step)) }
+    ensures steps { RisesWithin steps.old steps.new (4 * length taps.now)
+        (4 * lane_turns F.size (length taps.now)) }
+{
+    let second = first + step;
+    let third = first + 2 * step;
+    let fourth = first + 3 * step;
+    let (first, second) = two_sums::<T, F, M>(taps, window, first, second, steps);
+    let (third, fourth) = two_sums::<T, F, M>(taps, window, third, fourth, steps);
+    Four {
+        first,
+        second,
+        third,
+        fourth,
+    }
+}

@@ -1,8 +1,11 @@
+ghost use Rattle.std.specs.Prelude.{◌≡◌, ◌≤◌, true};
+ghost use Rattle.dsp_lanes.specs.Turns.{lane_turns};
+
 use crate::dots::dot_groups;
 use crate::doubled::Doubled;
 use crate::fits::{q31_fit, sums_64_fit};
-use crate::four_dots::{Four, four_sums};
-use crate::halves::{EightHalves, Halves};
+use crate::four_dots::{Four, four_by_twos, four_sums};
+use crate::halves::EightHalves;
 use crate::kernels::{FilterKernels, LaneKernels};
 use crate::plain::Plain;
 use crate::rows::row_group;
@@ -10,6 +13,15 @@ use crate::scales::{moved, scale_eight, scale_groups};
 use dsp_defs::Steps;
 use std::simd::prelude::*;
 use std::sync::ledger::Ledger;
+
+/// Whether sums of so many products go by eights: where these and their rest take no more turns than
+/// groups of four and theirs.
+#[inline(always)]
+fn go_by_eights(count: usize) -> bool
+    ensures { result ≡ true → lane_turns 8 count ≤ lane_turns 4 count }
+{
+    count % 8 < 4 || count >= 32
+}
 
 impl<const L: usize> LaneKernels<L> for i32 {
     type Sums = Simd<i64, L>;
@@ -154,11 +166,8 @@ impl<const L: usize> FilterKernels<L> for i32 {
         small: bool,
         steps: &mut Steps<M>,
     ) -> Four<i64> {
-        // By eights only where they leave no group of four, since a turn takes one group.
-        if L == 4 && taps.len() % 8 < 4 {
-            four_sums::<i32, EightHalves, M>(taps, window, first, step, steps)
-        } else if L == 4 {
-            four_sums::<i32, Halves, M>(taps, window, first, step, steps)
+        if L == 4 && go_by_eights(taps.len()) {
+            four_by_twos::<i32, EightHalves, M>(taps, window, first, step, steps)
         } else {
             four_sums::<i32, Plain<L>, M>(taps, window, first, step, steps)
         }
@@ -166,10 +175,8 @@ impl<const L: usize> FilterKernels<L> for i32 {
 
     #[inline(always)]
     fn dot<M: Ledger>(taps: &[i32], window: &[i32], steps: &mut Steps<M>) -> i64 {
-        if L == 4 && taps.len() % 8 < 4 {
+        if L == 4 && go_by_eights(taps.len()) {
             dot_groups::<i32, EightHalves, M>(taps, window, steps)
-        } else if L == 4 {
-            dot_groups::<i32, Halves, M>(taps, window, steps)
         } else {
             dot_groups::<i32, Plain<L>, M>(taps, window, steps)
         }

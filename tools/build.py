@@ -8,10 +8,12 @@
     tools/build.py --take SUM  takes the program that a gate which has passed left, if the sources had that sum and have it
 
 A crate is begun as soon as those below it are proved, and of several that could be begun the one on the longest way
-to the program comes first, by the times of docs/TESTING.md. Each has one processor, since several jobs in one crate
-gain nothing, and a folder of its own (tools/workplace.py), since rt works on one crate of a folder at a time. What is proved is kept
-in crates/*/out: a build that was stopped goes on where it stopped. Standard error says which crates are being proved
-and for how long, and what is left: in a live line on a terminal, else in a line a crate. rt's own words go to build/log.
+to the program comes first, by the times of docs/TESTING.md. Each has one processor, but the lowest, for which all others
+wait, those that nobody else can use: several jobs in a crate above others take longer than one, since each loads all
+that is below. Each has a folder of its own (tools/workplace.py), since rt works on one crate of a folder at a time. What
+is proved is kept in crates/*/out: a build that was stopped goes on where it stopped. Standard error says which crates are
+being proved and for how long, and what is left: in a live line on a terminal, else in a line a crate. rt's own words go
+to build/log.
 
 The program is built for x86-64-v3, with AVX2, where this machine's processor has it, and for x86-64-v2 elsewhere; in
 build/ it stands beside the name of what it is built for, and ./dspfx runs it where the processor is such a one alone.
@@ -119,19 +121,35 @@ def processor():
     return wanted
 
 
+def jobs_of(below, free, waiting):
+    """How many of the free processors the next crate has: one, or, where it stands on no other, those that so many
+    crates that wait for one leave."""
+    return 1 if below else max(1, free - waiting)
+
+
+def spent(minutes, jobs):
+    """The minutes that pass while so many jobs work on what takes one so many: by what was measured four take 0.4."""
+    return minutes * (1.6 / jobs if jobs > 1 else 1)
+
+
 def expected(below, minutes, count, done=(), running=()):
     """The minutes that all takes on so many processors: the crates in the order in which they are begun here. Some may
-    be done already, and others running: each with the minutes that it still takes, and its name."""
+    be done already, and others running: each with the minutes that it still takes, its name and its jobs."""
     ways, done, running, now = longest_ways(below, minutes), set(done), list(running), 0.0
-    left = set(below) - done - {name for _, name in running}
+    free = count - sum(jobs for _, _, jobs in running)
+    left = set(below) - done - {name for _, name, _ in running}
     while left or running:
         ready = sorted((name for name in left if below[name] <= done), key=lambda name: -ways[name])
-        for name in ready[: count - len(running)]:
+        while ready and free:
+            name = ready.pop(0)
+            jobs = jobs_of(below[name], free, len(ready))
             left.remove(name)
-            running.append((now + minutes[name], name))
-        now, name = min(running)
-        running.remove((now, name))
+            free -= jobs
+            running.append((now + spent(minutes[name], jobs), name, jobs))
+        now, name, jobs = min(running)
+        running.remove((now, name, jobs))
         done.add(name)
+        free += jobs
     return now
 
 
@@ -142,14 +160,14 @@ def clock(seconds):
 class Run:
     """A run of rt on a crate, in a workplace of its own, and what it said."""
 
-    def __init__(self, name, below, cpu):
-        self.name, self.begin, self.said = name, time.time(), b""
+    def __init__(self, name, below, jobs, cpu):
+        self.name, self.jobs, self.begin, self.said = name, jobs, time.time(), b""
         self.workplace = workplace.Workplace(name, below)
         # (x86-64-v2 is what rt builds for where nothing is said)
         newer = [f"--cpu={cpu}"] if cpu != sources.OLDER else []
         words = ["run", *newer] if name == PROGRAM else ["lib"]
         self.process = subprocess.Popen(
-            ["rt", *words, "--jobs", "1"], cwd=self.workplace.crate(), stdin=subprocess.DEVNULL,
+            ["rt", *words, "--jobs", str(jobs)], cwd=self.workplace.crate(), stdin=subprocess.DEVNULL,
             stdout=subprocess.PIPE, stderr=subprocess.STDOUT, start_new_session=True,
         )  # fmt: skip
 
@@ -185,7 +203,7 @@ class Build:
         self.ways = longest_ways(self.below, self.minutes)
         self.left, self.done, self.running, self.waited = list(self.below), set(), [], set()
         self.took = self.said = 0.0  # the minutes of the crates that were proved, here and by docs/TESTING.md
-        self.count = int(os.environ.get("JOBS") or processors())
+        self.count = self.free = int(os.environ.get("JOBS") or processors())
         self.begin, self.is_live = time.time(), sys.stderr.isatty()
         self.log = open(f"{FOLDER}/log", "wb")
 
@@ -195,14 +213,16 @@ class Build:
     def begin_crates(self):
         """Begins crates while processors are free."""
         ready = sorted((name for name in self.left if self.below[name] <= self.done), key=lambda name: -self.ways[name])
-        while ready and len(self.running) < self.count:
+        while ready and self.free:
             name = ready.pop(0)
+            jobs = jobs_of(self.below[name], self.free, len(ready))
             try:
-                self.running.append(Run(name, self.below[name], self.cpu))
+                self.running.append(Run(name, self.below[name], jobs, self.cpu))
             except workplace.Busy as busy:
                 self.wait_for(busy)
                 continue
             self.left.remove(name)
+            self.free -= jobs
 
     def wait_for(self, busy):
         """Says once that a crate cannot be begun yet; it is tried again."""
@@ -213,6 +233,7 @@ class Build:
     def end(self, run):
         """Takes a run that has ended off the list."""
         self.running.remove(run)
+        self.free += run.jobs
         self.log.write(f"== {run.name}\n".encode() + run.said)
         self.log.flush()
         if not run.is_well():
@@ -220,7 +241,7 @@ class Build:
         self.done.add(run.name)
         if run.name not in self.kept:
             self.took += run.passed()
-            self.said += self.minutes[run.name]
+            self.said += spent(self.minutes[run.name], run.jobs)
         if not self.is_live:
             self.say(f"{len(self.done)} of {len(self.below)}: {run.name} is proved in {clock(60 * run.passed())}, {self.so_far()}")
 
@@ -229,7 +250,7 @@ class Build:
         slow as that of the table."""
         pace = self.took / self.said if self.said else 1.0
         minutes = {name: pace * self.minutes[name] for name in self.minutes}
-        running = [(max(0.0, minutes[run.name] - run.passed()), run.name) for run in self.running]
+        running = [(max(0.0, spent(minutes[run.name], run.jobs) - run.passed()), run.name, run.jobs) for run in self.running]
         left = expected(self.below, minutes, self.count, self.done, running)
         return f"{clock(time.time() - self.begin)} so far" + (f", about {max(1, round(left))} min left" if left else "")
 

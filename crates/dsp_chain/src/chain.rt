@@ -6,7 +6,7 @@ use crate::signal::Signal;
 use dsp_defs::{
     Flow, Fmt, GatherFull, Input, MAX_GATHERED, MAX_INPUT, Measure, Script, Steps, WindowFault,
 };
-use dsp_shape::{FrameRule, KeptRule, most_frames};
+use dsp_shape::{FrameRule, KeptRule, frame_count, most_frames};
 use dsp_unit::{AnyUnit, Unit};
 use std::alloc::{AllocError, Global};
 use std::marker::Model;
@@ -164,7 +164,7 @@ impl<U: AnyUnit + Drop> Chain<U> {
         if let Some(fault) = self.failed {
             return Err(fault);
         }
-        let fed = self.frames + (frames.len() / self.channels) as u64;
+        let fed = self.frames + frame_count(frames.len(), self.channels) as u64;
         if let Some(fault) = gather_fault(&self.links, self.frames, fed) {
             self.failed = Some(fault);
             return Err(fault);

@@ -24,7 +24,7 @@ use dsp_defs::{GatherFull, MAX_INPUT, Measure, Script, Steps, WindowFault};
 use dsp_input::frame_bytes;
 use dsp_script::output_flow;
 use dsp_unit::{AnyUnit, Unit};
-use dsp_wave::{Coding, coding_of, decode, encode, width};
+use dsp_wave::{Coding, coding_of, decode, encode, whole_samples, width};
 use std::alloc::{AllocError, Global};
 use std::marker::Model;
 use std::sync::ledger::Ledger;
@@ -38,9 +38,12 @@ fn decode_front(coding: Coding, bytes: &[u8], samples: &mut [i32]) -> usize
         sample_of coding (take (width coding) (drop (i * width coding) bytes.now))) }
     ensures fits { All (IsValue coding) (take result samples.new) }
 {
-    let width = width(coding);
-    let count = bytes.len() / width;
-    decode(coding, &bytes[..count * width], &mut samples[..count]);
+    let count = whole_samples(coding, bytes.len());
+    decode(
+        coding,
+        &bytes[..count * width(coding)],
+        &mut samples[..count],
+    );
     count
 }
 

@@ -1,4 +1,4 @@
-ghost use Rattle.std.specs.Prelude.{◌≡◌, length};
+ghost use Rattle.std.specs.Prelude.{◌≡◌, ◌/◌, length};
 ghost use Rattle.dsp_defs.specs.Bytes.{IsValue, bytes_of, coding_of, format_in, sample_of, width};
 
 use byteorder::{ByteOrder, LittleEndian};
@@ -38,6 +38,18 @@ pub fn width(coding: Coding) -> usize
         Coding::Raw15 | Coding::Wave15 => 2,
         Coding::Wave24 => 3,
         Coding::Raw31 | Coding::Wave31 => 4,
+    }
+}
+
+/// How many whole samples so many bytes have. The compiler sees each width, and divides by none.
+pub fn whole_samples(coding: Coding, bytes: usize) -> usize
+    ensures { result ≡ bytes / width coding }
+{
+    match coding {
+        Coding::Raw7 | Coding::Wave7 => bytes,
+        Coding::Raw15 | Coding::Wave15 => bytes / 2,
+        Coding::Wave24 => bytes / 3,
+        Coding::Raw31 | Coding::Wave31 => bytes / 4,
     }
 }
 

@@ -11,7 +11,7 @@ mod samples;
 mod slices;
 mod writer;
 
-pub use coding::{bytes_of, coding_of, format_in, sample_of, width};
+pub use coding::{bytes_of, coding_of, format_in, sample_of, whole_samples, width};
 pub use dsp_defs::{Coding, OpenHeader};
 pub use generator::GenSource;
 pub use open::read_open_header;

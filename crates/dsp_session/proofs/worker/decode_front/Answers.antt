@@ -9,39 +9,39 @@ use Rattle.dsp_session.proofs.worker.decode_front.Goals as goal
 pub returns-clause-values : goal.returns-clause-values
 returns-clause-values c =
     let w = width c.args.coding in
-    let count = length c.args.bytes.now / c.width-width.result in
-    let fits : count ≤ length c.args.samples.now = rw c.width-width.ensures
+    let count = c.whole_samples-count.result in
+    let fits : count ≤ length c.args.samples.now = rw c.whole_samples-count.ensures
     (div_within (length c.args.bytes.now) (length c.args.samples.now) w (width-some c.args.coding) c.requires) in
     let cut : length (take count c.args.samples.now) ≡ count = length-take-le count c.args.samples.now fits in
     at_front count c.decode.new.samples c.args.samples.now (c.decode.auto.samples ∙ cut)
-    ∙ rw (cut, c.width-width.ensures) at c.decode.ensures.values
+    ∙ rw (cut, c.width.ensures, c.whole_samples-count.ensures) at c.decode.ensures.values
     ∙ whole_pieces (sample_of c.args.coding) w (length c.args.bytes.now / w) c.args.bytes.now
 
 pub returns-clause-within : goal.returns-clause-within
 returns-clause-within c =
-    rw c.width-width.ensures
+    rw c.whole_samples-count.ensures
     (div_within (length c.args.bytes.now) (length c.args.samples.now) (width c.args.coding) (width-some c.args.coding)
     c.requires)
 
 pub decode-requires : goal.decode-requires
 decode-requires c =
-    let w = c.width-width.result in
-    let count = length c.args.bytes.now / w in
+    let w = width c.args.coding in
+    let count = c.whole_samples-count.result in
     let cut : length (take count c.args.samples.now) ≡ count =
     length-take-le count c.args.samples.now (returns-within c) in
-    length-take-le (count * w) c.args.bytes.now (floor_within (length c.args.bytes.now) w) ∙
-    (λ i. sym cut i * c.width-width.ensures i)
+    length-take-le (count * c.width.result) c.args.bytes.now
+    (rw (c.width.ensures, c.whole_samples-count.ensures) (floor_within (length c.args.bytes.now) w)) ∙
+    (λ i. sym cut i * c.width.ensures i)
   where
-    returns-within : (c : goal.After-decode-arg-1) → length c.args.bytes.now / c.width-width.result ≤ length
-        c.args.samples.now
+    returns-within : (c : goal.After-decode-arg-1) → c.whole_samples-count.result ≤ length c.args.samples.now
     returns-within c =
-        rw c.width-width.ensures
+        rw c.whole_samples-count.ensures
         (div_within (length c.args.bytes.now) (length c.args.samples.now) (width c.args.coding)
         (width-some c.args.coding) c.requires)
 
 pub returns-clause-fits : goal.returns-clause-fits
 returns-clause-fits c =
-    let count = length c.args.bytes.now / c.width-width.result in
+    let count = c.whole_samples-count.result in
     let cut : length (take count c.args.samples.now) ≡ count =
     length-take-le count c.args.samples.now (returns-clause-within c) in
     subst (All (IsValue c.args.coding)) (sym (at_front count c.decode.new.samples c.args.samples.now

@@ -62,27 +62,27 @@ returns-in-Some-gather_fault-clause-refused g c =
 pub gather_fault-requires-clause-few : goal.gather_fault-requires-clause-few
 gather_fault-requires-clause-few g c =
     let is = c.self.invariant.is in
-    let n = c.self.inside.frames + length c.args.frames.now / c.self.inside.channels in
-    let few : n ≤ MAX_INPUT = rw length-frames_in at (rw (← c.self.view_is) at c.requires.count) in
+    let n = c.self.inside.frames + c.frame_count.result in
+    let few : n ≤ MAX_INPUT = rw (length-frames_in, ← c.frame_count.ensures) at (rw (← c.self.view_is) at c.requires.count) in
     rw c.deref.ensures.value (is.few_frames n few)
 
 pub returns-in-Some-gather_fault-clause-full : goal.returns-in-Some-gather_fault-clause-full
 returns-in-Some-gather_fault-clause-full g c =
     let blocks = blocks_of c.self.inside.links.items in
-    let n = c.self.inside.frames + length c.args.frames.now / c.self.inside.channels in
+    let n = c.self.inside.frames + c.frame_count.result in
     let same = ap (λ us. gathered (blocks_of us) n) c.deref.ensures.value in
     let over : MAX_GATHERED < gathered blocks n = subst (λ k. MAX_GATHERED < k) same
     c.in-Some-gather_fault.ensures.full in
-    rw (← c.self.view_is) (λ _. inl (rw length-frames_in over), λ _. refl)
+    rw (← c.self.view_is) (λ _. inl (rw (length-frames_in, ← c.frame_count.ensures) over), λ _. refl)
 
 pub returns-in-Some-gather_fault-clause-numbers : goal.returns-in-Some-gather_fault-clause-numbers
 returns-in-Some-gather_fault-clause-numbers g c =
-    let n = c.self.inside.frames + length c.args.frames.now / c.self.inside.channels in
+    let n = c.self.inside.frames + c.frame_count.result in
     let links = c.deref.ensures.value in
     rw (← c.self.view_is)
     (λ _. (
       c.in-Some-gather_fault.ensures.held ∙ ap (λ us. held (blocks_of us) c.self.inside.frames) links,
-      rw length-frames_in (c.in-Some-gather_fault.ensures.more ∙ ap (λ us. gathered (blocks_of us) n) links),
+      rw (length-frames_in, ← c.frame_count.ensures) (c.in-Some-gather_fault.ensures.more ∙ ap (λ us. gathered (blocks_of us) n) links),
     ))
 
 pub feed_line-requires-clause-running : goal.feed_line-requires-clause-running
@@ -95,9 +95,9 @@ pub feed_line-requires-clause-passes : goal.feed_line-requires-clause-passes
 feed_line-requires-clause-passes g c =
     let is = c.self.invariant.is in
     let links = c.self.inside.links.items in
-    let n = c.self.inside.frames + length c.args.frames.now / c.self.inside.channels in
+    let n = c.self.inside.frames + c.frame_count.result in
     let running = rw (← c.self.view_is) at c.requires.running in
-    let few : n ≤ MAX_INPUT = rw length-frames_in at (rw (← c.self.view_is) at c.requires.count) in
+    let few : n ≤ MAX_INPUT = rw (length-frames_in, ← c.frame_count.ensures) at (rw (← c.self.view_is) at c.requires.count) in
     let same = ap (λ us. gathered (blocks_of us) n) c.deref.ensures.value in
     let fits : gathered (blocks_of links) n ≤ MAX_GATHERED =
     subst (λ k. k ≤ MAX_GATHERED) same c.in_default-gather_fault.ensures.none in
@@ -112,7 +112,7 @@ feed_line-requires-clause-passes g c =
       };
       line = is.line;
       passes = rw (← c.self.view_is) at c.requires.passes;
-      accepts = (c.self.inside.frames, is.counts running, rw length-frames_in taken);
+      accepts = (c.self.inside.frames, is.counts running, rw (length-frames_in, ← c.frame_count.ensures) taken);
       room = rw (← c.self.view_is) at c.requires.room;
     } in
     rw c.as_mut_slice.ensures.value may
@@ -128,15 +128,15 @@ invariant_of-self-2 g c =
     } in
     let links = c.self.inside.links.items in
     let news = c.feed_line.new.links in
-    let n = c.self.inside.frames + length c.args.frames.now / c.self.inside.channels in
+    let n = c.self.inside.frames + c.frame_count.result in
     let running = rw (← c.self.view_is) at c.requires.running in
-    let few : n ≤ MAX_INPUT = rw length-frames_in at (rw (← c.self.view_is) at c.requires.count) in
+    let few : n ≤ MAX_INPUT = rw (length-frames_in, ← c.frame_count.ensures) at (rw (← c.self.view_is) at c.requires.count) in
     let line : InLine p c.as_mut_slice.result.now = subst (InLine p) (sym c.as_mut_slice.ensures.value) is.line in
     let fed = c.feed_line.ensures.fed p line (rw (← c.self.view_is) at c.requires.passes) in
     let whole = written-line c.self.inside.links.len news links
     (omega (arith, c.feed_line.auto.links, c.as_mut_slice.ensures.len)) in
     let blocks : blocks_of news ≡ blocks_of links = fed.feeds.blocks ∙ ap blocks_of c.as_mut_slice.ensures.value in
-    let counts : AllCount news n = rw length-frames_in at
+    let counts : AllCount news n = rw (length-frames_in, ← c.frame_count.ensures) at
     (fed.feeds.counts c.self.inside.frames (subst (λ us. AllCount us c.self.inside.frames)
     (sym c.as_mut_slice.ensures.value) (is.counts running))) in
     let same = ap (λ us. gathered (blocks_of us) n) c.deref.ensures.value in
@@ -167,12 +167,13 @@ returns-clause-fed g c =
     rw (← c.self.view_is)
     (chain-fed _ _ c.as_mut_slice.result.now c.feed_line.new.links c.args.frames.now
     (take c.feed_line.result c.feed_line.new.out) c.args.steps.now c.feed_line.new.steps
-    c.as_mut_slice.ensures.value whole refl refl running c.in_default.is refl is.line (is.counts running) fed)
+    c.as_mut_slice.ensures.value whole refl refl running c.in_default.is
+    (ap (λ n. c.self.inside.frames + n) c.frame_count.ensures) is.line (is.counts running) fed)
 
 pub returns-clause-full : goal.returns-clause-full
 returns-clause-full g c =
     let blocks = blocks_of c.self.inside.links.items in
-    let n = c.self.inside.frames + length c.args.frames.now / c.self.inside.channels in
+    let n = c.self.inside.frames + c.frame_count.result in
     let same = ap (λ us. gathered (blocks_of us) n) c.deref.ensures.value in
     let fits : gathered blocks n ≤ MAX_GATHERED = subst (λ k. k ≤ MAX_GATHERED) same
     c.in_default-gather_fault.ensures.none in
@@ -180,7 +181,7 @@ returns-clause-full g c =
     rw (← c.self.view_is) (
       λ e. absurd (false-true e),
       λ too_much. elim too_much [
-        | inl over ↦ absurd (let over' : MAX_GATHERED < gathered blocks n = rw length-frames_in at over in
+        | inl over ↦ absurd (let over' : MAX_GATHERED < gathered blocks n = rw (length-frames_in, ← c.frame_count.ensures) at over in
             omega (arith, over', fits))
         | inr some ↦ sym works ∙ some
       ],

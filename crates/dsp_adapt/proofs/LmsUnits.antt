@@ -1,7 +1,7 @@
 -- Units of LMS filters.
 use Rattle.std.proofs.Common.{◌≡◌, ◌∙◌, ap, ap₂, sym, refl, subst, ℕ, ◌+◌, ◌-◌, ◌*◌, ◌/◌, ◌<◌, ◌≤◌, ◌≢◌, ℤ, pos, Bool}
 use Rattle.std.proofs.Common.{false, List, [], ◌∷◌, ◌++◌, length, map, reverse, set, arith, length-append, length-set}
-use Rattle.std.proofs.Common.{get_or-set_same, below_more}
+use Rattle.std.proofs.Common.{get_or-set_same, below_more, length-take-le}
 use Rattle.std.specs.Prelude.{All, FitsSigned}
 use Rattle.std.proofs.lemmas.List.{append-nil, length-map, map-append, same_lists, get_or-map, get_or-set_other}
 use Rattle.std.proofs.lemmas.List.{reverse-reverse, length-reverse, length-replicate}
@@ -19,7 +19,7 @@ use Rattle.dsp_defs.specs.declared.script.Block.TheVariants.{Lms}
 use Rattle.dsp_defs.proofs.BlockLaws.{length-values, lms_causal}
 use Rattle.dsp_defs.proofs.FrameLemmas.{length-frames_in, map-values}
 use Rattle.dsp_defs.proofs.Signal.{values_cong}
-use Rattle.dsp_defs.specs.Kept.{lms_kept}
+use Rattle.dsp_defs.specs.Kept.{Each, Fits, IsOfKind, in_words, lms_kept}
 use Rattle.dsp_unit.specs.Unit.{UnitState, MadeAs, CountsFrames, Feeds, IsNew, IsOutput, Restores}
 use Rattle.dsp_unit.specs.Unit as Units
 use Rattle.dsp_unit.proofs.ChannelKept.{append-apart, words-placed}
@@ -260,3 +260,16 @@ lms-new format s block p mu number taps numbers frames is mu_is taps_are made st
       stands = lms-stands format s past weights [] stands;
       counts = lms-counts format s past weights 0;
     }
+
+-- ---- what calls require
+
+-- kept numbers of a unit are those of its filter
+pub fits-words : (format : Fmt) (s : LmsState) (numbers : List ℤ) →
+    Fits format 2 (Lms s.post_shift s.mu s.taps) numbers →
+    Each IsOfKind (in_words (word format) (length s.taps - 1 + length s.taps)) numbers
+fits-words format s numbers fits = fits.1.1
+
+pub ruleset words = (fits-words)
+
+-- the front of a row
+pub ruleset rows = (length-take-le)

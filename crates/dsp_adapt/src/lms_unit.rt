@@ -1,3 +1,5 @@
+ghost use Rattle.std.specs.Prelude.{◌≡◌, IfOk, vec_len};
+
 use crate::pairs::feed_pairs;
 use crate::{Lms, LmsSample};
 use dsp_defs::{Block, MAX_SAMPLES, MakeFault, Measure, Steps};
@@ -35,6 +37,22 @@ impl<T: LmsSample + LaneSample<L>, const L: usize> Model for LmsUnit<T, L> {
         (vec_len u.outputs) (vec_len u.errors) };
 }
 
+/// Rows of as many zeros each.
+fn zero_rows<T: Sample>(
+    alloc: Global,
+    count: usize,
+) -> Result<(Vec<T>, Vec<T>, Vec<T>, Vec<T>), AllocError>
+    ensures { IfOk result (λ r. (vec_len r.0 ≡ count) × (vec_len r.1 ≡ count)
+        × (vec_len r.2 ≡ count) × (vec_len r.3 ≡ count)) }
+{
+    Ok((
+        vec![in alloc; T::zero(); count]?,
+        vec![in alloc; T::zero(); count]?,
+        vec![in alloc; T::zero(); count]?,
+        vec![in alloc; T::zero(); count]?,
+    ))
+}
+
 impl<T: LmsSample + LaneSample<L>, const L: usize> LmsUnit<T, L> {
     ghost use Rattle.std.specs.Prelude.{◌≤◌, ◌*◌, IfOk};
     ghost use Rattle.dsp_unit.specs.Unit.{IsNew};
@@ -63,12 +81,13 @@ impl<T: LmsSample + LaneSample<L>, const L: usize> LmsUnit<T, L> {
             Err(MakeFault::Memory) => return Err(AllocError),
             Err(_) => unreachable!(),
         };
+        let (inputs, references, outputs, errors) = zero_rows(alloc, frames)?;
         Ok(LmsUnit {
             lms,
-            inputs: vec![in alloc; T::zero(); frames]?,
-            references: vec![in alloc; T::zero(); frames]?,
-            outputs: vec![in alloc; T::zero(); frames]?,
-            errors: vec![in alloc; T::zero(); frames]?,
+            inputs,
+            references,
+            outputs,
+            errors,
             ended: false,
         })
     }
@@ -112,6 +131,7 @@ impl<T: LmsSample + LaneSample<L>, const L: usize> Unit for LmsUnit<T, L> {
         }
     }
 
+    #[tactic(auto, using(crate::proofs::LmsUnits::words))]
     fn restore(&mut self, numbers: &[i64]) {
         self.lms.restore(numbers);
     }

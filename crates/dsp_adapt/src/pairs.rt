@@ -45,6 +45,7 @@ pub(crate) fn join_pairs<T: Sample>(first: &[T], second: &[T], out: &mut [i32])
 
 /// Feeds frames of an input and its reference to a filter, by way of a row for each channel that it
 /// takes and gives, and writes as many frames of its output and error.
+#[tactic(auto, using(crate::proofs::LmsUnits::rows))]
 pub(crate) fn feed_pairs<T: LmsSample + LaneSample<L>, const L: usize, M: Ledger>(
     lms: &mut Lms<T, L>,
     frames: &[i32],

@@ -3,11 +3,12 @@ use Rattle.std.proofs.Common.{◌≡◌, ℕ, suc, ◌+◌, ◌*◌, ◌/◌, �
 use Rattle.std.proofs.Common.{None, IfSome, refl, sym, ap, ◌∙◌, subst, arith, append_assoc, append-nil, length-append}
 use Rattle.std.proofs.Common.{length-drop, inl, inr}
 use Rattle.std.specs.Option.{option_map, unwrap_or}
-use Rattle.std.specs.Io.KnownBytes.{IsAtEnd, append_known}
+use Rattle.std.specs.Io.KnownBytes.{IsAtEnd}
+use Rattle.dsp_ports.specs.Ports.{append_put}
 use Rattle.std.proofs.lemmas.List.{take_at, take-append-drop, length-take-le}
 use Rattle.std.proofs.lemmas.Nat.{div-mul-add}
 use Rattle.dsp_ports.specs.Ports.{SourceState, SinkState, Gave, Took, one_more}
-use Rattle.dsp_ports.proofs.Moved.{Gave-nil, Took-nil, Gave-append, Took-append, append_known-append}
+use Rattle.dsp_ports.proofs.Moved.{Gave-nil, Took-nil, Gave-append, Took-append, append_put-append}
 use Rattle.dsp_defs.specs.Block.{Frame}
 use Rattle.dsp_defs.specs.Bytes.{width}
 use Rattle.dsp_defs.specs.Open.{IsOpenGood}
@@ -40,6 +41,7 @@ pub record Going (direction : Direction) (header : OpenHeader) (taken : ℕ) (in
   pub declared : InDeclared (declared_bytes header) taken
   pub in_limit : header.start + taken ≤ MAX_INPUT
   pub gave : Gave input now heard
+  pub going : now.ended ≡ input.ended
   pub took : Took sink after (form_coded (target_form direction) header.coding
       (form_samples (source_form direction) header.coding header.channels heard))
   pub no_input_fault : now.faults ≡ input.faults
@@ -64,6 +66,7 @@ module _ (direction : Direction) (header : OpenHeader) (good : IsOpenGood header
         declared = nothing_declared header.size;
         in_limit = omega (arith, limit);
         gave = Gave-nil input;
+        going = refl;
         took = subst (Took sink sink) (sym nothing) (Took-nil sink);
         no_input_fault = refl;
         no_output_fault = refl;
@@ -97,7 +100,7 @@ module _ (direction : Direction) (header : OpenHeader) (good : IsOpenGood header
     all_long = omega (arith, length-append going.heard new, new_long, going.taken_is)
 
     all_gave : Gave input now (going.heard ++ new)
-    all_gave = Gave-append input mid now going.heard new going.gave read.gave
+    all_gave = Gave-append input mid now going.heard new going.going going.gave read.gave
 
     -- what is written of them
     given_is : exchanged (width header.coding) (take (n * open_frame_bytes header) block) ≡ coded direction header
@@ -136,6 +139,7 @@ module _ (direction : Direction) (header : OpenHeader) (good : IsOpenGood header
             declared = read.declared;
             in_limit = omega (arith, read.in_limit);
             gave = all_gave;
+            going = read.going full ∙ going.going;
             took = all_took;
             no_input_fault = read.no_fault ∙ going.no_input_fault;
             no_output_fault = clean ∙ going.no_output_fault;
@@ -230,7 +234,8 @@ module _ (direction : Direction) (header : OpenHeader) (good : IsOpenGood header
         next k b = omega arith
 
     pub gave_given : (now : SourceState) → Gave input now (going.heard ++ bytes) → Gave before now given
-    gave_given now gave = Gave-append before input now first (going.heard ++ bytes) begun.opened.gave gave
+    gave_given now gave = Gave-append before input now first (going.heard ++ bytes) begun.opened.going begun.opened.gave
+        gave
 
     same_header : (other : OpenHeader) → IsSource direction given other → header ≡ other
     same_header other is = ap (λ (o : Option OpenHeader). unwrap_or o header)
@@ -322,7 +327,7 @@ module _ (direction : Direction) (header : OpenHeader) (good : IsOpenGood header
           given = taken_bytes;
           written = written;
           gave = gave_given taken mid between going last last_declared last_short now
-              (Gave-append input mid now going.heard last going.gave read.gave);
+              (Gave-append input mid now going.heard last going.going going.gave read.gave);
           in_limit = omega (
             arith,
             total taken mid between going last last_declared last_short,
@@ -330,8 +335,8 @@ module _ (direction : Direction) (header : OpenHeader) (good : IsOpenGood header
             read.in_limit,
           );
           unflushed = tt;
-          put = took.put ∙ ap (λ known. append_known known part) (stood taken mid between going).put
-              ∙ sym (append_known-append empty.put (head ++ gives going.heard) part);
+          put = took.put ∙ ap (λ known. append_put known part) (stood taken mid between going).put
+              ∙ sym (append_put-append empty.put (head ++ gives going.heard) part);
           cause = (header, begun.opened.said (going.heard ++ last));
           wrote = (
             header,
@@ -365,7 +370,7 @@ module _ (direction : Direction) (header : OpenHeader) (good : IsOpenGood header
             record {
               given = taken_bytes;
               gave = gave_given taken mid between going last last_declared last_short now
-                  (Gave-append input mid now going.heard last going.gave read.gave);
+                  (Gave-append input mid now going.heard last going.going going.gave read.gave);
               has = begun.opened.said (going.heard ++ last);
               stays = λ more. subst (λ bytes. IsSource direction bytes header)
                   (sym (append_assoc first (going.heard ++ last) more))
@@ -422,7 +427,7 @@ module _ (direction : Direction) (header : OpenHeader) (good : IsOpenGood header
               given = came;
               written = stands;
               gave = gave_given taken mid between going bytes declared less now
-                  (Gave-append input mid now going.heard bytes going.gave gave);
+                  (Gave-append input mid now going.heard bytes going.going going.gave gave);
               in_limit = omega (arith, came_long, limit);
               put = (stood taken mid between going).put;
               unflushed = unflushed_by error empty between stands (stood taken mid between going).settled;
@@ -433,7 +438,7 @@ module _ (direction : Direction) (header : OpenHeader) (good : IsOpenGood header
               lag = lags_of taken mid between going bytes declared less stands ([], sym (append-nil stands));
               hinders = hindered direction error came before now
                   (gave_given taken mid between going bytes declared less now
-                  (Gave-append input mid now going.heard bytes going.gave gave)) cause;
+                  (Gave-append input mid now going.heard bytes going.going going.gave gave)) cause;
             }
 
         wrote_blocks : WroteBlocks direction came stands empty between

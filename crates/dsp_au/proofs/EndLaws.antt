@@ -3,10 +3,10 @@ use Rattle.std.proofs.Common.{length-append, length-take-le, ◌<◌, ◌≡◌,
 use Rattle.std.proofs.Common.{length, take, drop, Option, Some, None, IfSome, refl, sym, ap, ◌∙◌, subst, arith}
 use Rattle.std.proofs.Common.{append_assoc, append-nil, inl, inr}
 use Rattle.std.specs.Option.{unwrap_or}
-use Rattle.std.specs.Io.KnownBytes.{append_known}
+use Rattle.dsp_ports.specs.Ports.{append_put}
 use Rattle.std.proofs.lemmas.List.{take-append-drop}
 use Rattle.dsp_ports.specs.Ports.{SourceState, SinkState, Gave, Took, IsSettled, one_more}
-use Rattle.dsp_ports.proofs.Moved.{Took-nil, append_known-nil, append_known-append}
+use Rattle.dsp_ports.proofs.Moved.{Took-nil, append_put-nil, append_put-append}
 use Rattle.dsp_defs.specs.Bytes.{width}
 use Rattle.dsp_defs.specs.Streaming.{Begins}
 use Rattle.dsp_defs.specs.Au.{form_coded, form_header, form_pad, source_signal, target, target_form, target_of_signal}
@@ -42,7 +42,7 @@ module _ (direction : Direction) (input now : SourceState) (sink : SinkState) wh
           written = [];
           gave = gave;
           in_limit = limit;
-          put = sym (append_known-nil sink.put);
+          put = sym (append_put-nil sink.put);
           unflushed = unflushed_by error sink sink [] refl;
           cause = cause;
           wrote = wrote;
@@ -162,7 +162,7 @@ module _ (direction : Direction) (header : OpenHeader) (count : ℕ) (input now 
       by_wrote front (inl none) = inl none
       by_wrote front (inr (more, e)) = inr (more ++ rest, is ∙ ap (λ xs. xs ++ rest) e ∙ append_assoc front more rest)
 
-  pub done : (converted : Converted) → after.put ≡ append_known between.put last → IsSettled after →
+  pub done : (converted : Converted) → after.put ≡ append_put between.put last → IsSettled after →
       after.faults ≡ between.faults
       → converted.frames ≡ length (source_signal direction header passed.given) →
       converted.channels ≡ header.channels → converted.bits ≡ 8 * width header.coding
@@ -178,8 +178,8 @@ module _ (direction : Direction) (header : OpenHeader) (count : ℕ) (input now 
         room_left = passed.room_left;
         whole = passed.whole;
         fits = passed.fits;
-        put = put ∙ ap (λ known. append_known known last) passed.took.put ∙
-            sym (append_known-append sink.put samples last) ∙ ap (append_known sink.put) (sym is);
+        put = put ∙ ap (λ known. append_put known last) passed.took.put ∙
+            sym (append_put-append sink.put samples last) ∙ ap (append_put sink.put) (sym is);
         told = target_told direction header passed.good passed.given input now passed.stays passed.gave passed.whole;
         lag = further (target direction passed.given) (last, is);
         settled = settled;
@@ -190,7 +190,7 @@ module _ (direction : Direction) (header : OpenHeader) (count : ℕ) (input now 
         bits = bits;
       }
 
-  pub unclosed : (written : List ℕ) → Begins written last → after.put ≡ append_known between.put written →
+  pub unclosed : (written : List ℕ) → Begins written last → after.put ≡ append_put between.put written →
       after.faults ≡ one_more between.faults → Stopped direction fault.Write input now sink after
   unclosed written (rest, begins) put faulty =
       let all : target_with direction header passed.given ≡ (samples ++ written) ++ rest =
@@ -201,8 +201,8 @@ module _ (direction : Direction) (header : OpenHeader) (count : ℕ) (input now 
         gave = passed.gave;
         in_limit = passed.in_limit;
         unflushed = tt;
-        put = put ∙ ap (λ known. append_known known written) passed.took.put ∙
-            sym (append_known-append sink.put samples written);
+        put = put ∙ ap (λ known. append_put known written) passed.took.put ∙
+            sym (append_put-append sink.put samples written);
         cause = (header, passed.has);
         wrote = (header, passed.has, inr ((rest, all), passed.whole));
         faults = (passed.no_input_fault, faulty ∙ ap one_more passed.no_output_fault);

@@ -144,6 +144,7 @@ module _ (old now : SourceState) (block : List ℕ) (count : ℕ) (size : length
         gave = subst (λ xs. Gave old now xs) whole_first filled.gave;
         no_fault =
             filled.no_fault;
+        going = filled.going (omega (arith, all, size));
       }
 
       pub wrong_fields : (fault : AuFault) (offset : ℕ) → au_said block ≡ Err (fault, offset) →
@@ -164,7 +165,7 @@ module _ (old mid now : SourceState) (block : List ℕ) (came : AuCame 0 24 old 
       omega (arith, length-append block rest, came.long, second.long, start) in
       record {
         bytes = block ++ rest;
-        gave = Gave-append old mid now block rest came.gave second.gave;
+        gave = Gave-append old mid now block rest came.going came.gave second.gave;
         in_limit = omega (arith, total, few);
         said = λ more.
             ap au_header_of (append_assoc block rest more) ∙ said (rest ++ more)
@@ -173,6 +174,7 @@ module _ (old mid now : SourceState) (block : List ℕ) (came : AuCame 0 24 old 
         start = sym total;
         good = good;
         no_fault = second.no_fault ∙ came.no_fault;
+        going = second.going ∙ came.going;
       }
 
   cut : (rest : List ℕ) → length rest < header.start - 24 → au_header_of (block ++ rest) ≡ Err (Ended, 24 + length rest)
@@ -199,7 +201,7 @@ module _ (old mid now : SourceState) (block : List ℕ) (came : AuCame 0 24 old 
   stopped error m =
       record {
         bytes = block ++ m.bytes;
-        gave = Gave-append old mid now block m.bytes came.gave m.gave;
+        gave = Gave-append old mid now block m.bytes came.going came.gave m.gave;
         in_limit = omega (arith, length-append block m.bytes, came.long, m.short, few);
         cause = missed error m.bytes m.short m.missed;
       }

@@ -53,6 +53,7 @@ wave_opened header old now h =
       in_limit = h.in_limit;
       gave = h.gave;
       no_fault = h.no_fault;
+      going = h.going;
       good = (open_header-good h.bytes header (subst (λ xs. open_header_of xs ≡ Ok header) (append-nil h.bytes)
           (h.said []))).0;
     }

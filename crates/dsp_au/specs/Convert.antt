@@ -1,7 +1,8 @@
 -- How the bytes that a conversion took and the bytes that it wrote stand to each other at each of its ends.
 use Rattle.std.specs.Prelude.{◌≡◌, ◌⊎◌, ℕ, ◌+◌, ◌-◌, ◌*◌, ◌/◌, ◌<◌, ◌≤◌, nat_lt, if◌then◌else◌, List, ◌++◌}
 use Rattle.std.specs.Prelude.{length, take, Option, Some, None, Result, Ok, Err, IfSome, MatchResult}
-use Rattle.std.specs.Io.KnownBytes.{IsAtEnd, append_known}
+use Rattle.std.specs.Io.KnownBytes.{IsAtEnd}
+use Rattle.dsp_ports.specs.Ports.{append_put}
 use Rattle.std.specs.Option.{option_map}
 use Rattle.dsp_ports.specs.Ports.{SourceState, SinkState, one_more, Gave, Took, IsSettled, settled_after}
 use Rattle.dsp_defs.specs.Au.{FormFits, au_header_of, form_header, open_declared_frames, open_frame_bytes}
@@ -92,6 +93,7 @@ pub record Opened (direction : Direction) (header : OpenHeader) (input now : Sou
   pub in_limit : length first ≤ MAX_INPUT
   pub gave : Gave input now first
   pub no_fault : now.faults ≡ input.faults
+  pub going : now.ended ≡ input.ended
   pub good : IsOpenGood header
 
 -- a further byte is wanted: the header is cut there and has no other fault, or declared samples are still to come
@@ -223,8 +225,8 @@ pub record Passed (direction : Direction) (header : OpenHeader) (count : ℕ) (i
 -- the last bytes were accepted and made sure of, or a front of them was accepted
 abbrev pub Closed : {T E : Type 0} → Result T E → List ℕ → SinkState → SinkState → Type 0
 Closed result bytes sink after =
-    MatchResult result (λ _. (after.put ≡ append_known sink.put bytes) × IsSettled after)
-    (λ _. (written : List ℕ) × Begins written bytes × (after.put ≡ append_known sink.put written))
+    MatchResult result (λ _. (after.put ≡ append_put sink.put bytes) × IsSettled after)
+    (λ _. (written : List ℕ) × Begins written bytes × (after.put ≡ append_put sink.put written))
 
 -- ---- ends before the end
 
@@ -298,7 +300,7 @@ pub record Stopped (direction : Direction) (error : ConvertFault) (input now : S
   pub written : List ℕ
   pub gave : Gave input now given
   pub in_limit : length given ≤ MAX_INPUT
-  pub put : after.put ≡ append_known sink.put written
+  pub put : after.put ≡ append_put sink.put written
   pub unflushed : IsUnflushed error sink after written
   pub cause : IsCause error direction given now
   pub wrote : HasWritten error direction given written now sink after
@@ -322,7 +324,7 @@ pub record Done (direction : Direction) (converted : Converted) (input now : Sou
   pub room_left : header.size ≡ None → length given < MAX_INPUT
   pub whole : IsTakenWhole header (length given) now
   pub fits : FormFits (target_form direction) header
-  pub put : after.put ≡ append_known sink.put (target direction given)
+  pub put : after.put ≡ append_put sink.put (target direction given)
   -- where the input tells its bytes, that is the file in the other form of all of them
   pub told : IfSome input.left (λ bytes. target direction bytes ≡ target direction given)
   pub lag : LagsByOne direction header given (target direction given)

@@ -41,6 +41,7 @@ pub record AuHeaded (old now : SourceState) (header : OpenHeader) : Type 0 where
   pub start : header.start ≡ length bytes
   pub good : IsOpenGood header
   pub no_fault : now.faults ≡ old.faults
+  pub going : now.ended ≡ old.ended
 
 -- ---- what stands between the fields and the samples
 
@@ -49,6 +50,7 @@ pub record AuCame (place count : ℕ) (old now : SourceState) (bytes : List ℕ)
   pub long : length bytes ≡ count
   pub gave : Gave old now bytes
   pub no_fault : now.faults ≡ old.faults
+  pub going : now.ended ≡ old.ended
 
 -- why fewer came: the file has ended, or the source has failed
 abbrev pub IsAuMissed : AuOr → ℕ → SourceState → SourceState → List ℕ → Type 0

@@ -19,7 +19,7 @@ use Rattle.dsp_unit.specs.Filter.{FilterState, FilterCounts, IsByChannel, IsLike
 use Rattle.dsp_unit.specs.Filter.{kept_of_all, tails_of}
 use Rattle.dsp_defs.specs.Kept.{Each, IsOfKind, IsPlace, HasPlace, Fits, FitsAfter, InWord, in_words, kept_kinds}
 use Rattle.dsp_defs.specs.Kept.{kept_numbers, kept_of_channel, sections_kept}
-use Rattle.dsp_unit.specs.Unit.{UnitState, StandsFor, CountsFrames, Feeds, Restores, IsOutput, frames_in}
+use Rattle.dsp_unit.specs.Unit.{UnitState, StandsFor, CountsFrames, Feeds, IsOutput, frames_in}
 use Rattle.dsp_unit.proofs.ChannelFrames.{get_or-default, kept-places}
 use Rattle.dsp_unit.proofs.ChannelKept.{length-numbers_in, numbers-in_pieces, pieces-same, words-placed}
 use Rattle.dsp_unit.proofs.ChannelLaws.{counts-took, length-unit_tail, live-by, whole-by}
@@ -102,25 +102,6 @@ module _ (format : Fmt) (b : BankState) where
   bank-fits_words numbers size fits =
       subst (λ k. Each IsOfKind (in_words (word format) k) numbers) (sym size) (subst (λ ks. Each IsOfKind ks numbers)
       (bank-kinds format b fits.0) fits.1.1)
-
-  -- it goes on from other numbers
-  pub bank-restores : (numbers : List ℤ) → Restores (unit_of_bank format false b) (unit_of_bank format false
-      (record b { kept = numbers })) numbers
-  bank-restores numbers = record {
-    made = record { block = refl; format = refl; channels = refl; capacity = refl; banked = refl };
-    running = refl;
-    kept = refl;
-    stands = λ x keeps. record { running = refl; keeps = keeps; tail_follows = (bank-tail x) };
-    counts = λ n place. record { running = refl; place = place; tail_frames = omega arith };
-  }
-    where
-      bank-tail : (x : List Frame) → whole format b.channels (bank_block b) x ≡ live format b.channels (bank_block b)
-          x ++ []
-      bank-tail x =
-          whole-by format (bank_block b) (biquad-steady format b.post_shift b.coefficients).by_channel b.channels x
-          ∙ sym (live-by format (bank_block b) (biquad-steady format b.post_shift b.coefficients).by_channel
-          b.channels x)
-          ∙ sym (append-nil (live format b.channels (bank_block b) x))
 
   -- what it writes
   pub bank-output : (e : Bool) (frames out : List ℤ) → length frames ≡ length (frames_in b.channels frames)

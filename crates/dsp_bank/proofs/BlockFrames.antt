@@ -1,24 +1,14 @@
 -- The frames of a call among rows that have two frames more.
 use Rattle.std.proofs.Common.{◌≡◌, ◌∙◌, ap, sym, ℕ, ◌+◌, ◌-◌, ◌*◌, ◌<◌, ℤ, List, length, map, take, drop, slice_range}
-use Rattle.std.proofs.Common.{arith, length-drop, length-take-le}
+use Rattle.std.proofs.Common.{arith}
 use Rattle.std.proofs.lemmas.Nat.{mul-add-lt}
 use Rattle.std.proofs.lemmas.Slice.{between-put_mid}
-use borrow.Rule.Slice.PartMut.{put_mid, same_len_mid}
+use borrow.Rule.Slice.PartMut.{put_mid}
 use Rattle.dsp_defs.specs.Signal.{sample}
 use Rattle.dsp_defs.proofs.Signal.{values_cong}
 use Rattle.dsp_unit.specs.Channels.{samples_in}
 use Rattle.dsp_filter.proofs.Slices.{sample-piece}
 use Rattle.dsp_bank.specs.Rows.{channel_after}
-
--- rows whose frames after the first two were written have their length
-pub length-put : {X : Type 0} (row count : ℕ) (inner frames : List X) → length inner ≡ (count + 2) * row
-    → length frames ≡ count * row →
-    length (put_mid (2 * row) (length inner - 2 * row) inner frames) ≡ (count + 2) * row
-length-put row count inner frames long size =
-    let rest : length inner - 2 * row ≡ count * row = omega (arith, long) in
-    let mid : length (take (length inner - 2 * row) (drop (2 * row) inner)) ≡ length inner - 2 * row = length-take-le
-    (length inner - 2 * row) (drop (2 * row) inner) (omega (arith, length-drop (2 * row) inner)) in
-    same_len_mid (2 * row) (length inner - 2 * row) inner frames (size ∙ sym (mid ∙ rest)) ∙ long
 
 module _ {X : Type 0} (number : X → ℤ) (row count i : ℕ) (inside : i < row) where
   -- a channel of the rows after the first two frames

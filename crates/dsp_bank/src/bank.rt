@@ -1,10 +1,9 @@
 use crate::BankSample;
 use crate::block::run_block;
 use crate::kept::{keep_samples, restore_samples, zeros};
-use crate::making::check_channels;
-use dsp_biquad::{check_coefficients, check_shift};
+use crate::making::check_bank;
 use dsp_defs::{MakeFault, Steps};
-use dsp_filter::{are_samples, check_block};
+use dsp_filter::are_samples;
 use dsp_lanes::FormatLanes;
 use dsp_sat::Sample;
 use std::alloc::{AllocError, Global};
@@ -84,10 +83,14 @@ impl<T: BankSample + FormatLanes<L>, const L: usize> Bank<T, L> {
             (length coefficients.now) post_shift channels block)
             (IfErr result (λ e. e ≡ MakeFault.Memory)) (λ e. result ≡ Err e) }
     {
-        check_coefficients(coefficients.len(), T::SIZE)?;
-        check_shift(post_shift, T::GREATEST_SHIFT)?;
-        check_channels(channels)?;
-        check_block(block)?;
+        check_bank(
+            coefficients.len(),
+            T::SIZE,
+            post_shift,
+            T::GREATEST_SHIFT,
+            channels,
+            block,
+        )?;
         let Ok(coefficients) = Vec::from_slice(alloc, coefficients) else {
             return Err(MakeFault::Memory);
         };

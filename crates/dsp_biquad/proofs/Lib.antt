@@ -1,7 +1,6 @@
 pub mod SectionSteps
 pub mod Cascades
 pub mod SectionNumbers
-pub mod TestSignals
 pub mod Scaled
 pub mod Waves
 mod Packed

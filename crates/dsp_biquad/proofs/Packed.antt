@@ -1,6 +1,6 @@
 -- The numbers of four sections in lanes, and out of them.
 use Rattle.std.proofs.Common.{◌≡◌, ◌∙◌, ap, sym, refl, subst, ℕ, zero, suc, ◌≤◌, ◌^◌, ℤ, pos, ◌*ℤ◌, List, [], ◌∷◌}
-use Rattle.std.proofs.Common.{map, SFits, to_z, of_z, to_z-of_z, arith}
+use Rattle.std.proofs.Common.{map, length, SFits, to_z, of_z, to_z-of_z, arith}
 use Rattle.std.specs.Int.{w32, w64, int_wrap}
 use Rattle.std.specs.Simd.Lanes.{Each1}
 use Rattle.std.proofs.lemmas.Int.{int_wrap_fits}
@@ -8,15 +8,28 @@ use Rattle.dsp_defs.specs.Formats.{word}
 use Rattle.dsp_defs.specs.Numbers.{◌>>◌}
 use Rattle.dsp_defs.specs.Parameters.{greatest_biquad_shift}
 use Rattle.dsp_defs.specs.declared.format.Fmt.{Fmt}
+use Rattle.dsp_defs.specs.declared.format.Fmt.TheVariants.{Q7, Q15, Q31}
 use Rattle.dsp_sat.proofs.WideProducts.{word-in-32}
 use Rattle.dsp_sections.specs.SectionWaves.{low, AreWords}
-use Rattle.dsp_sections.proofs.FourSections.{back, words_back}
+use Rattle.dsp_sections.proofs.FourSections.{back, back_fits, words_back}
 use Rattle.dsp_biquad.specs.Scaled.{IsScaled}
 use Rattle.dsp_biquad.specs.Sections.{section_acts}
-use Rattle.dsp_biquad.proofs.Scaled.{acts_scaled}
+use Rattle.dsp_biquad.proofs.Scaled.{acts_scaled, of_scaled, scaled_word}
 
 word-is : (format : Fmt) (z : ℤ) → SFits (word format) z → int_wrap w32 z ≡ z
 word-is format z f = int_wrap_fits w32 z (word-in-32 format z f)
+
+-- numbers of a format and scaled coefficients have 64 bits
+wide-number : (format : Fmt) (z : ℤ) → SFits (word format) z → SFits w64 z
+wide-number format z f = let narrow = word-in-32 format z f in record { sfits = omega (arith, narrow.sfits) }
+
+wide-coefficient : (format : Fmt) (p : ℕ) (b : ℤ) → p ≤ greatest_biquad_shift format → IsScaled format p b → SFits w64 b
+wide-coefficient format p b few is = by format (of_scaled format p b is few)
+  where
+    by : (format : Fmt) → SFits (scaled_word format) b → SFits w64 b
+    by Q7 f = record { sfits = omega (arith, f.sfits) }
+    by Q15 f = record { sfits = omega (arith, f.sfits) }
+    by Q31 f = f
 
 nothing-fits : (format : Fmt) → SFits (word format) (pos 0)
 nothing-fits format = record { sfits = search arith }
@@ -81,62 +94,69 @@ plain-acts format p few b0 b1 b2 a1 a2 l0 l1 l2 l3 l4 e0 e1 e2 e3 e4 =
 pub moved : (format : Fmt) (p q : ℕ) (b : ℤ) → q ≡ p → IsScaled format q b → IsScaled format p b
 moved format p q b same is = subst (λ (n : ℕ). IsScaled format n b) same is
 
-shifted : (p : ℕ) (b : ℤ) → SFits w64 b → (to_z w64 (of_z w64 b) >> p) ≡ (b >> p)
-shifted p b f = ap (λ z. z >> p) (to_z-of_z f)
-
 -- coefficients of four sections without the post shift
-pub coefficients : (format : Fmt) (p : ℕ) (lanes : List ℤ) (a b c d : ℤ) → SFits w64 a → SFits w64 b → SFits w64 c →
-    SFits w64 d
+pub coefficients : (format : Fmt) (p : ℕ) → p ≤ greatest_biquad_shift format → (lanes : List ℤ) (a b c d : ℤ)
     → IsScaled format p a → IsScaled format p b → IsScaled format p c → IsScaled format p d → Each1 (SFits w64) lanes
     → lanes ≡ (to_z w64 (of_z w64 a) >> p) ∷ (to_z w64 (of_z w64 b) >> p) ∷ (to_z w64 (of_z w64 c) >> p) ∷
     (to_z w64 (of_z w64 d) >> p) ∷ []
     → AreFour format lanes (a >> p) (b >> p) (c >> p) (d >> p)
-coefficients format p lanes a b c d fa fb fc fd sa sb sc sd wide is = record {
+coefficients format p few lanes a b c d sa sb sc sd wide is = record {
   wide = wide;
-  is = is ∙ (λ i. shifted p a fa i ∷ shifted p b fb i ∷ shifted p c fc i ∷ shifted p d fd i ∷ []);
+  is = is ∙ (λ i. shifted a sa i ∷ shifted b sb i ∷ shifted c sc i ∷ shifted d sd i ∷ []);
   first = sa.0;
   second = sb.0;
   third = sc.0;
   fourth = sd.0;
 }
+  where
+    shifted : (b : ℤ) → IsScaled format p b → (to_z w64 (of_z w64 b) >> p) ≡ (b >> p)
+    shifted b is = ap (λ z. z >> p) (to_z-of_z (wide-coefficient format p b few is))
 
 -- numbers of four sections
-pub numbers : (format : Fmt) (lanes : List ℤ) (a b c d : ℤ) → SFits w64 a → SFits w64 b → SFits w64 c → SFits w64 d
-    → SFits (word format) a → SFits (word format) b → SFits (word format) c → SFits (word format) d →
-    Each1 (SFits w64) lanes
+pub numbers : (format : Fmt) (lanes : List ℤ) (a b c d : ℤ) → SFits (word format) a → SFits (word format) b →
+    SFits (word format) c → SFits (word format) d → Each1 (SFits w64) lanes
     → lanes ≡ to_z w64 (of_z w64 a) ∷ to_z w64 (of_z w64 b) ∷ to_z w64 (of_z w64 c) ∷ to_z w64 (of_z w64 d) ∷ []
     → AreFour format lanes a b c d
-numbers format lanes a b c d fa fb fc fd wa wb wc wd wide is = record {
+numbers format lanes a b c d wa wb wc wd wide is = record {
   wide = wide;
-  is = is ∙ (λ i. to_z-of_z fa i ∷ to_z-of_z fb i ∷ to_z-of_z fc i ∷ to_z-of_z fd i ∷ []);
+  is = is ∙ (λ i. again a wa i ∷ again b wb i ∷ again c wc i ∷ again d wd i ∷ []);
   first = wa;
   second = wb;
   third = wc;
   fourth = wd;
 }
+  where
+    again : (z : ℤ) → SFits (word format) z → to_z w64 (of_z w64 z) ≡ z
+    again z f = to_z-of_z (wide-number format z f)
 
 -- a sample in 64 bits
-pub read : (format : Fmt) (m n z : ℤ) → SFits (word format) n → SFits w64 m → m ≡ to_z w32 (of_z w32 n) → n ≡ z →
+pub read : (format : Fmt) (m n z : ℤ) → SFits (word format) n → m ≡ to_z w32 (of_z w32 n) → n ≡ z →
     to_z w64 (of_z w64 m) ≡ z
-read format m n z fits wide is is_z = to_z-of_z wide ∙ is ∙ to_z-of_z (word-in-32 format n fits) ∙ is_z
+read format m n z fits is is_z =
+    let same : m ≡ n = is ∙ to_z-of_z (word-in-32 format n fits) in
+    to_z-of_z (subst (SFits w64) (sym same) (wide-number format n fits)) ∙ same ∙ is_z
 
 -- what three sections give to the next
-pub given : (format : Fmt) (lanes : List ℤ) (m0 m1 m2 n0 n1 n2 z0 z1 z2 : ℤ) → SFits w64 m0 → SFits w64 m1 →
-    SFits w64 m2
+pub given : (format : Fmt) (lanes : List ℤ) (m0 m1 m2 n0 n1 n2 z0 z1 z2 : ℤ)
     → SFits (word format) n0 → SFits (word format) n1 → SFits (word format) n2 → m0 ≡ to_z w32 (of_z w32 n0) →
     m1 ≡ to_z w32 (of_z w32 n1) → m2 ≡ to_z w32 (of_z w32 n2)
     → n0 ≡ z0 → n1 ≡ z1 → n2 ≡ z2 → Each1 (SFits w64) lanes
     → lanes ≡ to_z w64 (of_z w64 m0) ∷ to_z w64 (of_z w64 m1) ∷ to_z w64 (of_z w64 m2) ∷ pos 0 ∷ [] →
     AreFour format lanes z0 z1 z2 (pos 0)
-given format lanes m0 m1 m2 n0 n1 n2 z0 z1 z2 w0 w1 w2 f0 f1 f2 e0 e1 e2 i0 i1 i2 wide is = record {
+given format lanes m0 m1 m2 n0 n1 n2 z0 z1 z2 f0 f1 f2 e0 e1 e2 i0 i1 i2 wide is = record {
   wide = wide;
-  is = is ∙ (λ i. read format m0 n0 z0 f0 w0 e0 i0 i ∷ read format m1 n1 z1 f1 w1 e1 i1 i ∷ read format m2 n2 z2 f2 w2
-      e2 i2 i ∷ pos 0 ∷ []);
+  is = is ∙ (λ i. read format m0 n0 z0 f0 e0 i0 i ∷ read format m1 n1 z1 f1 e1 i1 i ∷
+      read format m2 n2 z2 f2 e2 i2 i ∷ pos 0 ∷ []);
   first = subst (SFits (word format)) i0 f0;
   second = subst (SFits (word format)) i1 f1;
   third = subst (SFits (word format)) i2 f2;
   fourth = nothing-fits format;
 }
+
+-- four lanes that were passed on
+pub passed : (format : Fmt) (lanes : List ℤ) → AreWords format lanes →
+    (length (map (to_z w64) (map (of_z w64) lanes)) ≡ 4) × Each1 (SFits w64) (map (to_z w64) (map (of_z w64) lanes))
+passed format lanes words = (ap length (back lanes words.wide) ∙ words.four, back_fits lanes words.wide)
 
 -- a number that is taken out of its lane
 pub number-is : (format : Fmt) (lanes : List ℤ) (lane : ℕ) (m : ℤ) → AreWords format lanes →
@@ -144,10 +164,19 @@ pub number-is : (format : Fmt) (lanes : List ℤ) (lane : ℕ) (m : ℤ) → Are
 number-is format lanes lane m words is = is ∙ ap (λ (l : List ℤ). low l lane) (back lanes words.wide)
 
 -- and is a sample
-module _ (format : Fmt) (lanes : List ℤ) (lane : ℕ) (m : ℤ) (words : AreWords format lanes) (wide : SFits w64 m)
+module _ (format : Fmt) (lanes : List ℤ) (lane : ℕ) (m : ℤ) (words : AreWords format lanes)
     (is : m ≡ low (map (to_z w64) (map (of_z w64) lanes)) lane) where
-  sample-is : to_z w64 (of_z w64 m) ≡ low lanes lane
-  sample-is = to_z-of_z wide ∙ number-is format lanes lane m words is
+  same : m ≡ low lanes lane
+  same = number-is format lanes lane m words is
+
+  pub number-wide : SFits w64 m
+  number-wide = subst (SFits w64) (sym same) (wide-number format (low lanes lane) (words.words lane))
+
+  pub sample-is : to_z w64 (of_z w64 m) ≡ low lanes lane
+  sample-is = to_z-of_z number-wide ∙ same
+
+  pub sample-fits : SFits (word format) (to_z w64 (of_z w64 m))
+  sample-fits = subst (SFits (word format)) (sym sample-is) (words.words lane)
 
   pub narrow : SFits w32 (to_z w64 (of_z w64 m))
   narrow = subst (SFits w32) (sym sample-is) (word-in-32 format (low lanes lane) (words.words lane))

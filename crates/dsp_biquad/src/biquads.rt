@@ -1,7 +1,12 @@
-use crate::making::{check_coefficients, check_shift};
+ghost use Rattle.std.specs.Prelude.{◌≡◌, ℕ, ℤ, List, IfOk, IfErr, MatchOption, length, map};
+ghost use Rattle.dsp_unit.specs.Filter.{FilterState, IsNewFilter};
+ghost use Rattle.dsp_defs.specs.declared.script.Block.{Block};
+ghost use Rattle.dsp_biquad.specs.Making.{cascade_fault};
+
+use crate::making::check_cascade;
 use crate::{Cascade, CascadeSection, Section, Section64};
 use dsp_defs::MakeFault;
-use dsp_filter::{StepFilter, all_fit, check_block};
+use dsp_filter::{StepFilter, all_fit};
 use dsp_sat::Sample;
 use std::alloc::Global;
 
@@ -20,6 +25,16 @@ pub type Biquad64 = Biquads<i32, Section64>;
 
 /// What a cascade has besides the calls of every `StepFilter`.
 pub trait BiquadCalls<T: Sample> {
+    ghost filter: { Self → FilterState };
+
+    // The block of a post shift and the numbers of sections, how many of these a section has, and the
+    // greatest post shift.
+    ghost block_of: { ℕ → List ℤ → Block };
+
+    ghost SIZE: { ℕ };
+
+    ghost GREATEST_SHIFT: { ℕ };
+
     /// A cascade that has taken nothing, from the post shift and the numbers of its sections one after
     /// another, for blocks of at most `block` samples. `Length` where the numbers are none, no whole
     /// sections or those of more than 64, then `Range` where the post shift is too great, `Range` where
@@ -29,29 +44,36 @@ pub trait BiquadCalls<T: Sample> {
         post_shift: u8,
         coefficients: &[T],
         block: usize,
-    ) -> Result<Self, MakeFault>;
+    ) -> Result<Self, MakeFault>
+        ensures made { IfOk result (λ cascade. IsNewFilter
+            (block_of post_shift (map T.number coefficients.now)) T.format block (filter cascade)) }
+        ensures fault { MatchOption (cascade_fault SIZE GREATEST_SHIFT
+            (length coefficients.now) post_shift block) (IfErr result (λ e. e ≡ MakeFault.Memory))
+            (λ e. result ≡ Err e) };
 }
 
 impl<T: Sample, S: CascadeSection<T>> BiquadCalls<T> for Biquads<T, S> {
-    ghost use Rattle.std.specs.Prelude.{◌≡◌, IfOk, IfErr, MatchOption, length, map};
-    ghost use Rattle.dsp_unit.specs.Filter.{IsNewFilter};
-    ghost use Rattle.dsp_biquad.specs.Making.{cascade_fault};
+    ghost filter = { λ f. f };
+
+    ghost block_of = { S.block };
+
+    ghost SIZE = { S.SIZE };
+
+    ghost GREATEST_SHIFT = { S.GREATEST_SHIFT };
 
     fn new(
         alloc: Global,
         post_shift: u8,
         coefficients: &[T],
         block: usize,
-    ) -> Result<Self, MakeFault>
-        ensures made { IfOk result
-            (IsNewFilter (S.block post_shift (map T.number coefficients.now)) T.format block) }
-        ensures fault { MatchOption (cascade_fault S.SIZE S.GREATEST_SHIFT
-            (length coefficients.now) post_shift block) (IfErr result (λ e. e ≡ MakeFault.Memory))
-            (λ e. result ≡ Err e) }
-    {
-        check_coefficients(coefficients.len(), S::SIZE)?;
-        check_shift(post_shift, S::GREATEST_SHIFT)?;
-        check_block(block)?;
+    ) -> Result<Self, MakeFault> {
+        check_cascade(
+            coefficients.len(),
+            S::SIZE,
+            post_shift,
+            S::GREATEST_SHIFT,
+            block,
+        )?;
         all_fit(coefficients);
         let Ok(coefficients) = Vec::from_slice(alloc, coefficients) else {
             return Err(MakeFault::Memory);

@@ -42,8 +42,7 @@ pub(crate) fn plain_in_lanes(
 /// The number in a lane.
 #[inline(always)]
 pub(crate) fn number_in(lanes: Simd<i64, 4>, lane: usize) -> i64
-    requires four { length lanes ≡ 4 }
-    requires fit { Each1 (FitsSigned w64) lanes }
+    requires lanes { (length lanes ≡ 4) × Each1 (FitsSigned w64) lanes }
     requires inside { lane < 4 }
     ensures { result ≡ low lanes lane }
 {

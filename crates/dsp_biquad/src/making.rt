@@ -1,8 +1,8 @@
-ghost use Rattle.std.specs.Prelude.{◌≡◌, ◌≤◌, Err, Ok, MatchOption};
-ghost use Rattle.dsp_biquad.specs.Making.{coefficients_fault, shift_fault};
+ghost use Rattle.std.specs.Prelude.{◌≡◌, ◌≤◌, ◌*◌, ◌%◌, Err, Ok, IfOk, MatchOption};
+ghost use Rattle.dsp_biquad.specs.Making.{cascade_fault, coefficients_fault, shift_fault};
 
 use dsp_defs::{MAX_SECTIONS, MakeFault};
-use dsp_filter::check_multiple;
+use dsp_filter::{check_block, check_multiple};
 
 /// Refuses a count of numbers that is not that of 1..64 sections of `size`.
 pub fn check_coefficients(count: usize, size: usize) -> Result<(), MakeFault>
@@ -23,4 +23,25 @@ pub fn check_shift(post_shift: u8, greatest: u8) -> Result<(), MakeFault>
         });
     }
     Ok(())
+}
+
+/// Refuses the first fault of what a cascade is made of: so many numbers for sections of `size`, a post
+/// shift and the greatest block.
+pub(crate) fn check_cascade(
+    count: usize,
+    size: usize,
+    post_shift: u8,
+    greatest: u8,
+    block: usize,
+) -> Result<(), MakeFault>
+    requires some { 1 ≤ size }
+    requires few { size ≤ 6 }
+    ensures fault { MatchOption (cascade_fault size greatest count post_shift block)
+        (result ≡ Ok tt) (λ e. result ≡ Err e) }
+    ensures sound { IfOk result (λ _. (count % size ≡ 0) × (count ≤ 64 * size)
+        × (post_shift ≤ greatest)) }
+{
+    check_coefficients(count, size)?;
+    check_shift(post_shift, greatest)?;
+    check_block(block)
 }

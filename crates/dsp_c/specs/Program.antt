@@ -16,10 +16,10 @@ AreWords bytes words = (IsUtf8 bytes × (words ≡ words_in bytes)) ⊎ ((IsUtf8
 
 -- a port over bytes, and one that has taken none
 abbrev pub source : List ℕ → SourceState
-source bytes = record { left = Some bytes; taken = 0; faults = 0 }
+source bytes = record { left = Some bytes; taken = 0; faults = 0; ended = false; strayed = false }
 
 abbrev pub empty : SinkState
-empty = record { put = Some []; settled = Some false; faults = 0 }
+empty = record { put = record { told = Some []; strayed = false }; settled = Some false; faults = 0 }
 
 -- the bytes stand at the front of a buffer, as many as it has room for, and the rest of it is as it was
 abbrev pub Holds : List ℕ → List ℕ → List ℕ → Type 0
@@ -40,11 +40,11 @@ pub record Played (words script input other output output_new report report_new 
   pub ended : Ended (call asked (source script) read (source input) later empty after (source other) seen
       (record { multiplies = 0; turns = 0 }) counts) status empty told
   pub written : List ℕ
-  pub written_is : after.put ≡ Some written
+  pub written_is : after.put.told ≡ Some written
   pub held : Holds written output output_new
   pub output_length : lengths.output ≡ length written
   pub text : List ℕ
-  pub text_is : told.put ≡ Some text
+  pub text_is : told.put.told ≡ Some text
   pub text_held : Holds text report report_new
   pub report_length : lengths.report ≡ length text
 

@@ -9,6 +9,8 @@ use std::marker::Model;
 pub struct LentSource<'a> {
     bytes: &'a [u8],
     position: usize,
+    ended: bool,
+    strayed: bool,
 }
 
 impl<'a> Model for LentSource<'a> {
@@ -21,6 +23,8 @@ impl<'a> Model for LentSource<'a> {
       left = Some (drop s.position s.bytes.now);
       taken = s.position;
       faults = 0;
+      ended = s.ended;
+      strayed = s.strayed;
     } };
 
     ghost invariant = { λ s. s.position ≤ length s.bytes.now };
@@ -31,7 +35,12 @@ impl<'a> LentSource<'a> {
     pub fn new(bytes: &'a [u8]) -> LentSource<'a>
         ensures { result ≡ source bytes.now }
     {
-        LentSource { bytes, position: 0 }
+        LentSource {
+            bytes,
+            position: 0,
+            ended: false,
+            strayed: false,
+        }
     }
 }
 
@@ -43,10 +52,12 @@ impl<'a> Source for LentSource<'a> {
     ghost Reads = { λ _ _ _. ⊤ };
 
     fn read(&mut self, into: &mut [u8]) -> Result<usize, Failed> {
+        self.strayed |= self.ended | into.is_empty();
         let count = into.len().min(self.bytes.len() - self.position);
         let end = self.position + count;
         into[..count].copy_from_slice(&self.bytes[self.position..end]);
         self.position = end;
+        self.ended |= count == 0;
         Ok(count)
     }
 }

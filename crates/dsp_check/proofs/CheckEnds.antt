@@ -116,7 +116,7 @@ module _ {script : Script} (sound : IsSound script) {header : Header} {input mid
         Stopped script stop input now other seen before counts
     stops stop {before = before} {counts = counts} (cause, few, compared, faults) cost = record {
       given = given;
-      gave = Gave-append input mid now opened.first bytes opened.gave rest.0;
+      gave = Gave-append input mid now opened.first bytes opened.going opened.gave rest.0;
       in_limit = omega (arith, count, rest.2);
       in_declared = λ _. none_behind script header opened.first opened.opens bytes rest.1;
       cause = cause;
@@ -246,7 +246,7 @@ module _ {script : Script} (sound : IsSound script) {header : Header} {input mid
             HasAll (output_of script header bytes) other seen → Done script size input now other seen before counts
         is_done size_is all = record {
           given = taken;
-          gave = Gave-append input mid now opened.first bytes opened.gave part.gave;
+          gave = Gave-append input mid now opened.first bytes opened.going opened.gave part.gave;
           in_limit = omega (arith, count rest, part.in_limit);
           has = has;
           whole = whole less;

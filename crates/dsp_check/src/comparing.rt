@@ -1,5 +1,5 @@
 //! The bytes of a port against those that are wanted.
-ghost use Rattle.std.specs.Prelude.{◌≡◌, ◌∷◌, [], length, IfOk, IfErr, MatchResult};
+ghost use Rattle.std.specs.Prelude.{◌≡◌, ◌∷◌, [], length, IfOk, IfErr, IfSome, MatchResult};
 ghost use Rattle.std.specs.Prelude.{MatchOption};
 ghost use Rattle.std.specs.Io.KnownBytes.{IsAtEnd};
 ghost use Rattle.dsp_ports.specs.Ports.{CountsFaults, Gave, GaveNothing};
@@ -24,6 +24,8 @@ fn next_byte<O: Source>(other: &mut O) -> Result<Option<u8>, Failed>
         (λ byte. Gave (O.state other.old) (O.state other.new) (byte ∷ [])))
         (λ _. GaveNothing (O.state other.old) (O.state other.new)) }
     ensures faults { CountsFaults result (O.state other.old).faults (O.state other.new).faults }
+    ensures going { IfOk result (λ next. IfSome next (λ _.
+        (O.state other.new).ended ≡ (O.state other.old).ended)) }
 {
     let mut byte = [0];
     match other.read(&mut byte) {

@@ -1,7 +1,7 @@
 -- What a call has done by how it ended: what it left alone, what it wrote and what it counted.
 use Rattle.std.proofs.Common.{◌≡◌, ℕ, ◌+◌, ◌<◌, List, length, sym, ap, ◌∙◌, subst, arith, inl, inr, Option, None, Some}
 use Rattle.std.proofs.Common.{IfSome}
-use Rattle.std.specs.Io.KnownBytes.{append_known}
+use Rattle.dsp_ports.specs.Ports.{append_put}
 use Rattle.dsp_ports.specs.Ports.{SourceState, SinkState, IsSettled}
 use Rattle.dsp_defs.specs.Generator.{generated_bytes}
 use Rattle.dsp_defs.specs.Output.{input_header, input_signal, output}
@@ -162,7 +162,7 @@ module _ (c : Call) (status : ℕ) (report told : SinkState) where
         (λ bytes. Wrote (output s bytes) c.sink c.after)) went.read
         (IfSome-each (read_from (command_of c.words) script.input c.port).left _ (λ bytes is_told.
         let (more, left, all) = told_split _ went.now.left went.did.given bytes went.did.gave.front is_told in
-        went.did.put ∙ ap (append_known c.sink.put) (sym (ap (output script) all ∙
+        went.did.put ∙ ap (append_put c.sink.put) (sym (ap (output script) all ∙
         output_stays script went.did.given more went.did.has frame_some went.now left went.did.whole))))
 
     went_counts : (seed count : ℕ) → command_of c.words ≡ Some (Gen seed count) →
@@ -207,7 +207,7 @@ module _ (c : Call) (status : ℕ) (report told : SinkState) where
       (IfSome-each c.port.left _ (λ bytes is_told.
       let (more, left, all) = told_split _ c.later.left did.given bytes did.gave.front is_told in
       let some = some_frame script (input_header script did.given).coding (chosen None script) ready in
-      did.put ∙ ap (append_known c.sink.put) (sym (ap (first_output script at) all ∙
+      did.put ∙ ap (append_put c.sink.put) (sym (ap (first_output script at) all ∙
       first_stays script did.given more did.has some at did.exact did.frame_count)))))
   done_by (Resumed script frames found) resumed reported done =
       let did = resumed.did in
@@ -228,7 +228,7 @@ module _ (c : Call) (status : ℕ) (report told : SinkState) where
       let did = turned.did in
       let put : (bytes : List ℕ) → target turned.direction bytes ≡ target turned.direction did.given →
       Wrote (target turned.direction bytes) c.sink c.after =
-      λ bytes same. did.put ∙ ap (append_known c.sink.put) (sym same) in
+      λ bytes same. did.put ∙ ap (append_put c.sink.put) (sym same) in
       subst (λ command. HasDone command c) (sym turned.asked)
       (IfSome-map c.port.left _ (λ bytes. Wrote (target turned.direction bytes) c.sink c.after) put did.told)
   done_by (Checked script size) checked reported done =

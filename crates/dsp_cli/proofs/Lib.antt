@@ -1,4 +1,5 @@
 pub mod Asking
+pub mod AskedLaws
 pub mod GatherLaws
 pub mod WordLaws
 pub mod PerformLaws

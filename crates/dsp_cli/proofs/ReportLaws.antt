@@ -2,10 +2,10 @@
 use Rattle.std.proofs.Common.{◌≡◌, ℕ, zero, suc, ◌+◌, ◌<◌, List, [], ◌∷◌, ◌++◌, length, take, drop, get_or, flat_map}
 use Rattle.std.proofs.Common.{refl, sym, ap, ◌∙◌, arith, append_assoc, append-nil, length-append, subst, inl, inr}
 use Rattle.std.proofs.lemmas.List.{take-append-drop, take-append-le, take_all}
-use Rattle.std.specs.Io.KnownBytes.{append_known}
+use Rattle.dsp_ports.specs.Ports.{append_put}
 use Rattle.std.specs.Prelude.{slice_get, Some}
 use Rattle.dsp_ports.specs.Ports.{SinkState, Rose, one_more, Took}
-use Rattle.dsp_ports.proofs.Moved.{append_known-append}
+use Rattle.dsp_ports.proofs.Moved.{append_put-append}
 use Rattle.dsp_command.specs.Report.{measure_line}
 use Rattle.dsp_defs.specs.Streaming.{Begins}
 use Rattle.dsp_defs.specs.declared.measure.Measure.{Measure}
@@ -41,8 +41,8 @@ lines-more ms i j d next within = let step : j ≡ suc i = omega (arith, next) i
 -- what was written before, and a piece behind it
 pub wrote-behind : (old mid new : SinkState) (so_far piece : List ℕ) → Wrote so_far old mid → Wrote piece mid new →
     Wrote (so_far ++ piece) old new
-wrote-behind old mid new so_far piece wrote more = more ∙ ap (λ known. append_known known piece) wrote ∙
-    sym (append_known-append old.put so_far piece)
+wrote-behind old mid new so_far piece wrote more = more ∙ ap (λ known. append_put known piece) wrote ∙
+    sym (append_put-append old.put so_far piece)
 
 pub wrote-more : (old mid new : SinkState) (so_far piece : List ℕ) → Wrote so_far old mid → Took mid new piece →
     Wrote (so_far ++ piece) old new
@@ -63,7 +63,7 @@ pub tells-front : (old new : SinkState) (text written : List ℕ) → Begins wri
     new.faults ≡ one_more old.faults → Tells text old new
 tells-front old new text written begins wrote risen = record {
   count = length written;
-  put = wrote ∙ ap (append_known old.put) (sym (ap (take (length written)) begins.1 ∙
+  put = wrote ∙ ap (append_put old.put) (sym (ap (take (length written)) begins.1 ∙
       take-append-le (length written) written begins.0 (omega arith) ∙
       take_all (length written) written (omega arith)));
   all = λ none. absurd (none (rose _ _ risen));
@@ -73,7 +73,7 @@ tells-front old new text written begins wrote risen = record {
 pub tells-all : (old new : SinkState) (text : List ℕ) → Wrote text old new → Tells text old new
 tells-all old new text wrote = record {
   count = length text;
-  put = wrote ∙ ap (append_known old.put) (sym (take_all (length text) text (omega arith)));
+  put = wrote ∙ ap (append_put old.put) (sym (take_all (length text) text (omega arith)));
   all = λ _. omega arith;
 }
 
@@ -91,7 +91,7 @@ pub tells-behind : (old mid new : SinkState) (head rest : List ℕ) → Wrote he
 tells-behind old mid new head rest wrote faults tells = record {
   count = length head + tells.count;
   put = wrote-behind old mid new head (take tells.count rest) wrote tells.put ∙
-      ap (append_known old.put) (sym (take-behind head rest tells.count (length head + tells.count) refl));
+      ap (append_put old.put) (sym (take-behind head rest tells.count (length head + tells.count) refl));
   all = λ none. let all = tells.all (λ risen. none (subst (λ n. Rose n new.faults) faults risen)) in
       omega (arith, all, length-append head rest);
 }

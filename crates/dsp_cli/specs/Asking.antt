@@ -1,5 +1,9 @@
--- What is asked of the port of a script or a state.
+-- What is asked of the ports.
 use Rattle.std.specs.Prelude.{◌≡◌, ◌⊎◌, ℕ, ◌+◌, ◌<◌, ◌≤◌}
+use Rattle.dsp_ports.specs.Ports.{SinkState, IsInOrder}
+use Rattle.dsp_cli.specs.Call.{Call}
+
+-- ---- the script or the state
 
 -- reads of a port led from one state to another: each asked for something, for no more than was missing to so many
 -- bytes in all, and gave some
@@ -15,3 +19,13 @@ pub record Draws {S : Type 0} (Reads : S → ℕ → S → Type 0) (taken : S �
   pub drawn : Drawn Reads taken most old reading
   pub last : (new ≡ reading) ⊎ ((asked : ℕ) × (1 ≤ asked) × (taken reading + asked ≤ taken old + most) ×
       Reads reading asked new × (taken new ≡ taken reading))
+
+-- ---- the other ports
+
+-- unless it had ended before, no read of the input or of the other file asked for nothing, and none came after one
+-- that gave nothing or failed; and no empty piece was written to the output or the report
+pub record AsksInOrder (c : Call) (report told : SinkState) : Type 0 where
+  pub of_input : IsInOrder c.port c.later
+  pub of_other : IsInOrder c.other c.seen
+  pub of_output : c.after.put.strayed ≡ c.sink.put.strayed
+  pub of_report : told.put.strayed ≡ report.put.strayed

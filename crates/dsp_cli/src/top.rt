@@ -8,7 +8,7 @@ ghost use Rattle.dsp_command.specs.Words.{command_of};
 ghost use Rattle.dsp_command.specs.declared.command.Command.TheVariants.{Gen};
 ghost use Rattle.dsp_defs.specs.declared.limits.TheConstants.{MAX_GENERATED, MAX_SCRIPT, MAX_STATE};
 ghost use Rattle.dsp_session.specs.Session.{IsNew, IsReady, cost_of, measures_of};
-ghost use Rattle.dsp_cli.specs.Asking.{Draws};
+ghost use Rattle.dsp_cli.specs.Asking.{AsksInOrder, Draws};
 ghost use Rattle.dsp_cli.specs.Call.{Ended, Happened, HasDone, Spares, Stopped, Untouched, call};
 ghost use Rattle.dsp_cli.specs.Causes.{Causes, Completes};
 ghost use Rattle.dsp_cli.specs.Fault.{summary_text};
@@ -484,6 +484,10 @@ pub fn run<U: AnyUnit + Drop, P: Source, S: Source, K: Sink, R: Sink, O: Source,
         ≤ (P.state script.old).taken + most_of_script (command_of words.now) + 1 }
     ensures script_asks { Draws P.Reads (λ s. (P.state s).taken)
         (most_of_script (command_of words.now) + 1) script.old script.new }
+    ensures in_order { AsksInOrder (call words.now (P.state script.old) (P.state script.new)
+        (S.state input.old) (S.state input.new) (K.state output.old) (K.state output.new)
+        (O.state other.old) (O.state other.new) steps.old steps.new)
+        (R.state report.old) (R.state report.new) }
 
     // Which statuses may come, which must, and that nothing else stands in the way of 0, or of a check's verdict.
     ensures causes { Causes (call words.now (P.state script.old) (P.state script.new)

@@ -148,7 +148,7 @@ module _ (format : Fmt) where
 
   -- ---- kept numbers
 
-  module _ (c : ConvState) (numbers : List ℤ) (n : ℕ) (is : IsConvolution c) where
+  module _ (c : ConvState) (numbers : List ℤ) (n : ℕ) (long : length c.past ≡ length c.taps - 1) where
     -- the convolution's test and the unit's
     pub fits-channel : Fits format c numbers → pos n ≡ sample numbers (length c.past) →
         FitsChannel format (block_of c.extent c.taps) n numbers
@@ -158,7 +158,7 @@ module _ (format : Fmt) where
         let few : n ≤ greatest_place c.extent = omega (arith, ints, below) in (
           taken-any c.extent c.taps n,
           subst (λ ks. Each IsOfKind ks numbers) (sym (kinds-are c.extent format c.taps n))
-              (subst (λ p. Each IsOfKind (in_words (word format) p ++ Fixed (place_in c.extent n) ∷ []) numbers) is.long
+              (subst (λ p. Each IsOfKind (in_words (word format) p ++ Fixed (place_in c.extent n) ∷ []) numbers) long
               (kinds-of format (length c.past) (place_in c.extent n) numbers fits.count fits.samples
               (sym at ∙ ap pos (sym (place-itself c.extent n few))))),
         )
@@ -167,7 +167,7 @@ module _ (format : Fmt) where
       kinds-at : Each IsOfKind (in_words (word format) (length c.past) ++ Fixed (place_in c.extent n) ∷ []) numbers
       kinds-at =
           subst (λ p. Each IsOfKind (in_words (word format) p ++ Fixed (place_in c.extent n) ∷ []) numbers)
-          (sym is.long)
+          (sym long)
           (subst (λ ks. Each IsOfKind ks numbers) (kinds-are c.extent format c.taps n) fits.1)
 
       pub channel-fits : Fits format c numbers

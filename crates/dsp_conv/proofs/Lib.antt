@@ -3,6 +3,7 @@ pub mod ConvLemmas
 pub mod Inside
 pub mod CallLemmas
 pub mod ChannelLemmas
+pub mod FilterCalls
 pub mod SliceSums
 pub mod Stretches
 pub mod Correlations

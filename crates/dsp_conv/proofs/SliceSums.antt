@@ -16,7 +16,7 @@ use Rattle.dsp_conv.specs.Sums.{correlation_at, correlation_terms}
 
 -- ---- sums
 
-sum-zero : (n : ℕ) (f : ℕ → ℤ) → ((k : ℕ) → k < n → f k ≡ pos 0) → sum_below n f ≡ pos 0
+pub sum-zero : (n : ℕ) (f : ℕ → ℤ) → ((k : ℕ) → k < n → f k ≡ pos 0) → sum_below n f ≡ pos 0
 sum-zero zero f none = refl
 sum-zero (suc n) f none = ap₂ (λ s t. s +ℤ t) (sum-zero n f (λ k below. none k (omega (arith, below))))
     (none n (omega arith))

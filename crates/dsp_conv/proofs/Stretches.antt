@@ -1,24 +1,28 @@
 -- Stretches of values: pieces behind one another, and those that are sums over all of the shorter list.
-use Rattle.std.proofs.Common.{◌≡◌, ◌∙◌, ap, ap₂, sym, ℕ, zero, suc, ◌+◌, ◌-◌, ◌*◌, ◌/◌, ◌≤◌, ℤ, ◌*ℤ◌, List, ◌++◌}
-use Rattle.std.proofs.Common.{length, map, reverse, pos, take, drop, slice_range, arith}
+use Rattle.std.proofs.Common.{◌≡◌, ◌∙◌, ap, ap₂, sym, ℕ, zero, suc, ◌+◌, ◌-◌, ◌*◌, ◌/◌, ◌<◌, ◌≤◌, ℤ, ◌*ℤ◌, List, ◌++◌}
+use Rattle.std.proofs.Common.{length, map, max, min, refl, reverse, pos, take, drop, slice_range, arith}
 use Rattle.std.proofs.Math.IntN.{*ℤ_comm}
 use Rattle.std.proofs.Math.Nat.{mul-suc, mul-le-mul_left}
 use Rattle.std.proofs.lemmas.Nat.{div-add-mod'}
 use Rattle.std.proofs.lemmas.List.{length-map, length-reverse, map-append, get_or-reverse, get_or_past}
+use Rattle.std.proofs.lemmas.Int.{int_wrap_fits, ints}
 use Rattle.dsp_defs.specs.Counts.{Counts}
 use Rattle.dsp_defs.specs.Formats.{close}
+use Rattle.dsp_defs.specs.Numbers.{saturate, wrap, w32, w64, ◌>>◌}
 use Rattle.dsp_defs.specs.Signal.{sample, delayed, values, sum_below}
 use Rattle.dsp_defs.specs.Streaming.{rows}
 use Rattle.dsp_defs.specs.Sums.{convolution_at}
 use Rattle.dsp_defs.specs.Cost.{correlation_products}
 use Rattle.dsp_defs.specs.declared.format.Fmt.{Fmt}
+use Rattle.dsp_defs.specs.declared.format.Fmt.TheVariants.{Q7, Q15, Q31}
 use Rattle.dsp_defs.proofs.Signal.{values_cong, values-add, sum_below_cong, sum_below_reversed, delayed_before}
 use Rattle.dsp_defs.proofs.Signal.{delayed_after}
 use Rattle.dsp_lanes.specs.Turns.{lane_turns}
 use Rattle.dsp_filter.proofs.Slices.{sample-piece}
 use Rattle.dsp_conv.specs.Sums.{convolution_stretch, correlation_at, correlation_stretch, correlation_terms}
 use Rattle.dsp_conv.specs.Sums.{CorrelationRises, RisesAtMost}
-use Rattle.dsp_conv.proofs.SliceSums.{correlation-part, correlation-more, part-sum, piece, times-zero, zero-times}
+use Rattle.dsp_conv.proofs.SliceSums.{correlation-part, correlation-more, part-sum}
+use Rattle.dsp_conv.proofs.SliceSums.{sum-zero, piece, times-zero, zero-times}
 
 -- ---- pieces behind one another
 
@@ -70,6 +74,53 @@ three-correlated {n = n} {t = t} {first = first} {second = second} {third = thir
       multiplies = omega (arith, one, two, three, ap made next, ap made to_third, ap made to_end);
       turns = omega (arith, one, two, three, ap made next, ap made to_third, ap made to_end);
     }
+
+-- ---- sums of nothing
+
+nothing-at : (a b : List ℤ) (n : ℕ) → 1 ≤ length a → 1 ≤ length b → correlation_terms (length a) (length b) n ≡ 0 →
+    correlation_at b a n ≡ pos 0
+nothing-at a b n some taps none =
+    let longest = max (length a) (length b) in
+    let end = min (length a) (n + 1 + length b - longest) in
+    let start = min (n + 1 - longest) end in
+    let from = min (longest - 1 - n) (length b) in
+    correlation-part a b n start end from longest some taps refl refl refl refl
+    ∙ sum-zero (end - start) _ (λ k below. absurd (omega (arith, below, none)))
+
+none-32 : wrap w32 (pos 0) ≡ pos 0
+none-32 = int_wrap_fits w32 (pos 0) (omega (arith, ints))
+
+none-64 : wrap w64 (pos 0) ≡ pos 0
+none-64 = int_wrap_fits w64 (pos 0) (omega (arith, ints))
+
+close-zero : (format : Fmt) → close format (pos 0) ≡ pos 0
+close-zero Q7 = ap (λ z. saturate 8 (z >> 7)) none-32
+close-zero Q15 = ap (λ z. saturate 16 (z >> 15)) none-64
+close-zero Q31 = ap (λ z. wrap w32 (z >> 31)) none-64 ∙ none-32
+
+-- zeros are the values of which none has a term
+pub nothing-written : (format : Fmt) (a b : List ℤ) (first count : ℕ) → 1 ≤ length a → 1 ≤ length b →
+    ((i : ℕ) → i < count → correlation_terms (length a) (length b) (first + i) ≡ 0) →
+    values count (λ _. pos 0) ≡ correlation_stretch format b a first count
+nothing-written format a b first count some taps none =
+    values_cong count _ _ (λ i below. sym (ap (close format) (nothing-at a b (first + i) some taps (none i below)) ∙
+    close-zero format))
+
+-- and nothing is counted
+pub nothing-made : {s : Counts} (n t first count : ℕ) →
+    ((i : ℕ) → i < count → correlation_terms n t (first + i) ≡ 0) → CorrelationRises n t first (first + count) s s
+nothing-made n t first count none =
+    let made : correlation_products n t (first + count) ≡ correlation_products n t first = products count none in
+    record { multiplies = omega (arith, made); turns = omega (arith, made) }
+  where
+    products : (k : ℕ) → ((i : ℕ) → i < k → correlation_terms n t (first + i) ≡ 0) →
+        correlation_products n t (first + k) ≡ correlation_products n t first
+    products zero none = (let same : first + 0 ≡ first = omega arith in ap (correlation_products n t) same)
+    products (suc k) none =
+        let next : first + suc k ≡ first + (k + 1) = omega arith in
+        let before = products k (λ i below. none i (omega (arith, below))) in
+        let last = none k (omega arith) in
+        ap (correlation_products n t) next ∙ omega (arith, correlation-more n t first k, before, last)
 
 -- ---- sums over all of the shorter list
 

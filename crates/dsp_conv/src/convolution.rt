@@ -58,7 +58,8 @@ impl<T: LaneSample<L>, const L: usize, K: Copy> Convolution<T, L, K> {
     ghost use Rattle.dsp_lanes.specs.Turns.{lane_turns};
     ghost use Rattle.dsp_conv.specs.Extent.{given_in, place_in, zeros_behind};
     ghost use Rattle.dsp_conv.specs.ConvState.{StandsFor, CountsFor, Fits, kept, kept_of, live_count};
-    ghost use Rattle.dsp_conv.specs.ConvState.{live_of, new_conv, tail_behind, TakesIn};
+    ghost use Rattle.dsp_conv.specs.ConvState.{conv_channel, live_of, new_conv, tail_behind, TakesIn};
+    ghost use Rattle.dsp_defs.specs.Kept.{FitsChannel};
 
     /// A convolution that has taken nothing. All its memory is taken here.
     pub(crate) fn of_taps(
@@ -273,6 +274,14 @@ impl<T: LaneSample<L>, const L: usize, K: Copy> Convolution<T, L, K> {
         self.place = as_place(numbers[last]);
         self.owe();
     }
+
+    /// Does nothing at run time: a proof learns that numbers which a filter can keep fit.
+    fn fits_if_kept(&self, numbers: &[i64])
+        requires { (n : ℕ) × FitsChannel T.format (conv_channel T.format self.now).block n numbers.now }
+        ensures { Fits T.format self.now numbers.now }
+    {
+        let _ = &self.block;
+    }
 }
 
 impl<T: FormatLanes<L>, const L: usize, K: Copy> Filter<T> for Convolution<T, L, K> {
@@ -288,6 +297,7 @@ impl<T: FormatLanes<L>, const L: usize, K: Copy> Filter<T> for Convolution<T, L,
 
     ghost groups = { conv-groups T.format };
 
+    #[tactic(auto, using(crate::proofs::FilterCalls::tap_counts))]
     fn of_block(alloc: Global, block: &Block, capacity: usize) -> Result<Self, AllocError> {
         let taps = samples_of::<T>(alloc, taps_of(block))?;
         Convolution::of_taps(alloc, Extent::of_block(block), &taps, capacity)
@@ -323,6 +333,7 @@ impl<T: FormatLanes<L>, const L: usize, K: Copy> Filter<T> for Convolution<T, L,
 
     fn restore(&mut self, numbers: &[i64]) {
         let _ = &self.block;
+        self.fits_if_kept(numbers);
         Convolution::restore(self, numbers);
     }
 }

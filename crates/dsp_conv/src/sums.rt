@@ -1,4 +1,4 @@
-ghost use Rattle.std.specs.Prelude.{◌≡◌, ◌≤◌, ◌<◌, ◌+◌, ◌-◌, ◌*◌, ◌*ℤ◌, ◌^◌, length, map, max, reverse};
+ghost use Rattle.std.specs.Prelude.{◌≡◌, ◌≤◌, ◌<◌, ◌+◌, ◌-◌, ◌*◌, ◌*ℤ◌, ◌^◌, length, map, max, pos, reverse};
 ghost use Rattle.dsp_defs.specs.Formats.{close};
 ghost use Rattle.dsp_defs.specs.Counts.{Rises};
 ghost use Rattle.dsp_defs.specs.Signal.{sample, sum_below, values};
@@ -60,6 +60,8 @@ fn middle_of(first: usize, count: usize, from: usize, whole: usize) -> Range<usi
     ensures within { result.end ≤ count }
     ensures from { result.start < result.end → from ≤ first + result.start }
     ensures whole { result.start < result.end → first + result.end ≤ from + whole }
+    ensures before { 0 < result.start → first + result.start ≤ from }
+    ensures behind { result.end < count → from + whole ≤ first + result.end }
 {
     let start = from.saturating_sub(first).min(count);
     let left = whole.saturating_sub(first.saturating_sub(from));
@@ -236,7 +238,7 @@ fn correlation_middle<T: OwnLanes, M: Ledger>(
 
 /// Writes the values from the one with index `first` on of the correlation: those that are sums over
 /// all of `b` in lanes, and those before and behind them one after another.
-pub(crate) fn correlation_values<T: OwnLanes, M: Ledger>(
+fn correlation_sums<T: OwnLanes, M: Ledger>(
     a: &[T],
     b: &[T],
     first: usize,
@@ -259,4 +261,40 @@ pub(crate) fn correlation_values<T: OwnLanes, M: Ledger>(
     correlation_edge(a, b, first, before, steps);
     correlation_middle(a, b, first + middle.start, inside, steps);
     correlation_edge(a, b, first + middle.end, behind, steps);
+}
+
+/// Writes zeros.
+fn clear<T: Sample>(out: &mut [T])
+    ensures { map T.number out.new ≡ values (length out.old) (λ _. pos 0) }
+{
+    for value in out.iter_mut() {
+        *value = T::zero();
+    }
+}
+
+/// Writes the values from the one with index `first` on of the correlation. Where one list is longer
+/// than the other, as many of all values as it is longer are sums of nothing, and so 0.
+pub(crate) fn correlation_values<T: OwnLanes, M: Ledger>(
+    a: &[T],
+    b: &[T],
+    first: usize,
+    out: &mut [T],
+    steps: &mut Steps<M>,
+)
+    requires some { 1 ≤ length a.now }
+    requires taps { 1 ≤ length b.now }
+    requires few { first + length out.old < 2 ^ 64 }
+    ensures values { map T.number out.new ≡ correlation_stretch T.format (map T.number b.now)
+        (map T.number a.now) first (length out.old) }
+    ensures steps { CorrelationRises (length a.now) (length b.now) first
+        (first + length out.old) steps.old steps.new }
+{
+    let from = a.len().saturating_sub(b.len());
+    let whole = b.len().saturating_add(a.len() - 1);
+    let sums = middle_of(first, out.len(), from, whole);
+    let (before, rest) = out.split_at_mut(sums.start);
+    let (inside, behind) = rest.split_at_mut(sums.end - sums.start);
+    clear(before);
+    correlation_sums(a, b, first + sums.start, inside, steps);
+    clear(behind);
 }

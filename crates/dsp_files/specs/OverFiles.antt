@@ -1,5 +1,5 @@
 -- The ports of a run over the files that its words name, and how it ended. What a file holds is not told.
-use Rattle.std.specs.Prelude.{◌≡◌, ◌⊎◌, ℕ, List, [], Option, Some, None, get_or, unwrap_or}
+use Rattle.std.specs.Prelude.{◌≡◌, ◌⊎◌, ℕ, false, List, [], Option, Some, None, get_or, unwrap_or}
 use Rattle.dsp_ports.specs.Ports.{SinkState}
 use Rattle.dsp_defs.specs.Counts.{Counts}
 use Rattle.dsp_command.specs.Words.{places_of}
@@ -28,7 +28,7 @@ name_at words (Some place) = get_or words place []
 
 -- a file of which nothing was asked yet
 abbrev pub new_input : List ℕ → FileInput
-new_input path = record { path = path; taken = 0; faults = 0 }
+new_input path = record { path = path; taken = 0; faults = 0; ended = false; strayed = false }
 
 -- the ports of the files at these places, of which nothing was asked yet
 abbrev pub ports_at : List (List ℕ) → Places → PortStates
@@ -41,6 +41,7 @@ ports_at words places = record {
     input =
         name_at words places.input;
     faults = 0;
+    strayed = false;
   };
   other = new_input (name_at words places.other);
   report = new_sink;

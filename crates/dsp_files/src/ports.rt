@@ -1,6 +1,6 @@
 //! Files as ports. They tell no bytes: what a file holds is not proved. Each counts its faults up to the
 //! greatest `u64`.
-ghost use Rattle.std.specs.Prelude.{◌≡◌, IfOk, ◌≤◌, length, vec_len, vec_capacity};
+ghost use Rattle.std.specs.Prelude.{◌≡◌, false, IfOk, ◌≤◌, length, vec_len, vec_capacity};
 ghost use Rattle.dsp_files.specs.declared.ports.TheConstants.{AHEAD, GATHERED};
 
 use dsp_ports::{Failed, Sink, Source};
@@ -33,6 +33,8 @@ pub struct FileSource<'a, R: Files> {
     ahead: Ahead,
     taken: u64,
     faults: u64,
+    ended: bool,
+    strayed: bool,
 }
 
 impl<'a, R: Files> Model for FileSource<'a, R> {
@@ -40,13 +42,25 @@ impl<'a, R: Files> Model for FileSource<'a, R> {
 
     ghost Value = { FileInput };
 
-    ghost view = { λ s. record { path = s.path.now; taken = s.taken; faults = s.faults } };
+    ghost view = { λ s. record {
+      path = s.path.now;
+      taken = s.taken;
+      faults = s.faults;
+      ended = s.ended;
+      strayed = s.strayed;
+    } };
 }
 
 impl<'a, R: Files> FileSource<'a, R> {
     /// The file of this name, which isn't opened yet.
     pub fn new(files: &'a R, path: &'a str) -> FileSource<'a, R>
-        ensures { result ≡ record { path = path.now; taken = 0; faults = 0 } }
+        ensures { result ≡ record {
+          path = path.now;
+          taken = 0;
+          faults = 0;
+          ended = false;
+          strayed = false;
+        } }
     {
         FileSource {
             files,
@@ -59,6 +73,8 @@ impl<'a, R: Files> FileSource<'a, R> {
             },
             taken: 0,
             faults: 0,
+            ended: false,
+            strayed: false,
         }
     }
 }
@@ -117,6 +133,7 @@ impl<R: Files> Source for FileSource<'_, R> {
     ghost Reads = { λ _ _ _. ⊤ };
 
     fn read(&mut self, into: &mut [u8]) -> Result<usize, Failed> {
+        self.strayed |= self.ended | into.is_empty();
         if into.len() as u64 <= u64::MAX - self.taken {
             if let Ok(count) = read_ahead(
                 self.files,
@@ -126,9 +143,11 @@ impl<R: Files> Source for FileSource<'_, R> {
                 into,
             ) {
                 self.taken += count as u64;
+                self.ended |= count == 0;
                 return Ok(count);
             }
         }
+        self.ended = true;
         self.faults = self.faults.saturating_add(1);
         Err(Failed)
     }
@@ -160,6 +179,7 @@ pub struct FileSink<'a, R: Files> {
     file: Option<R::File>,
     gathered: Option<Gathered>,
     faults: u64,
+    strayed: bool,
 }
 
 impl<'a, R: Files> Model for FileSink<'a, R> {
@@ -171,8 +191,8 @@ impl<'a, R: Files> Model for FileSink<'a, R> {
       path = s.path.now;
       script = s.script.now;
       input = s.input.now;
-      faults =
-          s.faults;
+      faults = s.faults;
+      strayed = s.strayed;
     } };
 }
 
@@ -192,6 +212,7 @@ impl<'a, R: Files> FileSink<'a, R> {
           script = script.now;
           input = input.now;
           faults = 0;
+          strayed = false;
         }) }
     {
         let mut gathered = None;
@@ -207,6 +228,7 @@ impl<'a, R: Files> FileSink<'a, R> {
             file: None,
             gathered,
             faults: 0,
+            strayed: false,
         })
     }
 
@@ -330,6 +352,7 @@ impl<R: Files> Sink for FileSink<'_, R> {
 
     fn write(&mut self, piece: &[u8]) -> Result<usize, Failed> {
         if piece.is_empty() {
+            self.strayed = true;
             return Ok(0);
         }
         match self.accept(piece) {

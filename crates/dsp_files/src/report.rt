@@ -17,6 +17,7 @@ pub struct OutSink<'a, R: Print> {
     rt: &'a R,
     held: ArrayVec<u8, HELD>,
     faults: u64,
+    strayed: bool,
 }
 
 impl<'a, R: Print> Model for OutSink<'a, R> {
@@ -25,7 +26,11 @@ impl<'a, R: Print> Model for OutSink<'a, R> {
 
     ghost Value = { SinkState };
 
-    ghost view = { λ s. record { put = None; settled = None; faults = s.faults } };
+    ghost view = { λ s. record {
+      put = record { told = None; strayed = s.strayed };
+      settled = None;
+      faults = s.faults;
+    } };
 }
 
 impl<'a, R: Print> OutSink<'a, R> {
@@ -37,6 +42,7 @@ impl<'a, R: Print> OutSink<'a, R> {
             rt,
             held: ArrayVec::new(),
             faults: 0,
+            strayed: false,
         }
     }
 
@@ -69,6 +75,7 @@ impl<R: Print> Sink for OutSink<'_, R> {
     ghost Writes = { λ _ _ _. ⊤ };
 
     fn write(&mut self, piece: &[u8]) -> Result<usize, Failed> {
+        self.strayed |= piece.is_empty();
         if self.held.try_extend_from_slice(piece).is_ok() {
             return Ok(piece.len());
         }

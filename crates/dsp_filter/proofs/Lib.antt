@@ -1,4 +1,5 @@
 pub mod Places
+pub mod Groups
 mod Rounds
 mod KeptLists
 pub mod Units
@@ -8,4 +9,3 @@ mod Chains
 mod Waves
 pub mod FrameSamples
 pub mod MemorylessUnits
-mod TestSignals

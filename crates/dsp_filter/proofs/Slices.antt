@@ -4,10 +4,9 @@ use Rattle.std.proofs.Common.{take, drop, set, slice_range, arith, length-append
 use Rattle.std.proofs.Common.{take_at}
 use Rattle.std.proofs.lemmas.List.{take-map, drop-map, get_or-drop, get_or-take, take-append-le, take_more_set}
 use Rattle.std.proofs.Common.{SFits, to_z, of_z}
-use Rattle.std.specs.Int.{Width, w32, w64}
+use Rattle.std.specs.Int.{w32, w64}
 use Rattle.std.proofs.lemmas.Int.{ints}
 use Rattle.dsp_defs.specs.Formats.{word}
-use Rattle.dsp_defs.specs.Kept.{Each, IsOfKind, in_words}
 use Rattle.dsp_defs.specs.Signal.{sample}
 use Rattle.dsp_defs.specs.declared.format.Fmt.{Fmt}
 use Rattle.dsp_defs.specs.declared.format.Fmt.TheVariants.{Q7, Q15, Q31}
@@ -56,25 +55,6 @@ four-written (x ∷ y ∷ []) a b c d e = absurd (omega (arith, e))
 four-written (x ∷ y ∷ z ∷ []) a b c d e = absurd (omega (arith, e))
 four-written (x ∷ y ∷ z ∷ w ∷ []) a b c d e = refl
 four-written (x ∷ y ∷ z ∷ w ∷ v ∷ l) a b c d e = absurd (omega (arith, e))
-
--- four numbers of a width
-pub four-there : (width : Width) (l : List ℤ) → Each IsOfKind (in_words width 4) l →
-    l ≡ sample l 0 ∷ sample l 1 ∷ sample l 2 ∷ sample l 3 ∷ []
-four-there width (a ∷ b ∷ c ∷ d ∷ []) each = refl
-four-there width [] each = absurd each
-four-there width (a ∷ []) each = absurd each.1
-four-there width (a ∷ b ∷ []) each = absurd each.1.1
-four-there width (a ∷ b ∷ c ∷ []) each = absurd each.1.1.1
-four-there width (a ∷ b ∷ c ∷ d ∷ e ∷ l) each = absurd each.1.1.1.1
-
-pub four-fit : (width : Width) (l : List ℤ) → Each IsOfKind (in_words width 4) l → SFits width (sample l 0) ×
-    SFits width (sample l 1) × SFits width (sample l 2) × SFits width (sample l 3)
-four-fit width (a ∷ b ∷ c ∷ d ∷ []) each = (each.0, each.1.0, each.1.1.0, each.1.1.1.0)
-four-fit width [] each = absurd each
-four-fit width (a ∷ []) each = absurd each.1
-four-fit width (a ∷ b ∷ []) each = absurd each.1.1
-four-fit width (a ∷ b ∷ c ∷ []) each = absurd each.1.1.1
-four-fit width (a ∷ b ∷ c ∷ d ∷ e ∷ l) each = absurd each.1.1.1.1
 
 -- a number of the format that was cast to 32 bits
 pub narrow-word : (format : Fmt) (z : ℤ) → SFits (word format) z → to_z w32 (of_z w32 (to_z w64 (of_z w64 z))) ≡ z

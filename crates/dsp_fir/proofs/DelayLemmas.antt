@@ -2,7 +2,7 @@
 use Rattle.std.proofs.Common.{◌≡◌, ◌∙◌, ap, sym, subst, refl, ℕ, zero, suc, ◌+◌, ◌-◌, ◌*◌, ◌<◌, ◌≤◌, ℤ, pos, ◌+ℤ◌}
 use Rattle.std.proofs.Common.{List, [], ◌∷◌, ◌++◌, length, map, get_or, slice_range, None, Some, true, false, drop}
 use Rattle.std.proofs.Common.{length-take-le, length-drop, arith, ⊎_elim}
-use Rattle.std.specs.Prelude.{◌≤ℤ◌, All, fold, max, find, nat_abs, nat_lt, cond, Option, MatchOption, Result, Ok, Err}
+use Rattle.std.specs.Prelude.{◌≤ℤ◌, negsuc, All, fold, max, find, nat_abs, nat_lt, cond, Option}
 use Rattle.std.specs.Option.{option_map}
 use Rattle.std.specs.Simd.Lanes.{zip2}
 use Rattle.std.proofs.lemmas.Bool.{cases_lt}
@@ -21,14 +21,13 @@ use Rattle.dsp_defs.specs.declared.limits.TheConstants.{MAX_DELAY}
 use Rattle.dsp_defs.proofs.FormatLemmas.{wrap-wrap}
 use Rattle.dsp_defs.proofs.Signal.{values_cong, values-add, sum_below_cong, delayed-append}
 use Rattle.dsp_defs.proofs.Streaming.{window_at}
-use Rattle.std.proofs.lemmas.List.{length-append}
+use Rattle.std.proofs.lemmas.List.{drop_all, length-append}
 use Rattle.dsp_lanes.specs.Turns.{RisesWithin}
 use Rattle.dsp_defs.specs.Counts.{Counts}
 use Rattle.dsp_fir.specs.Delays.{greatest_delay, delays_fault, delayed_sum, sparse_rows}
 use Rattle.dsp_defs.specs.Kept.{greatest}
 use Rattle.dsp_fir.specs.ByChannel.{IsWindowIn}
 use Rattle.dsp_defs.specs.declared.script.Block.TheVariants.{Sparse}
-use Rattle.dsp_defs.specs.declared.fault.MakeFault.{MakeFault}
 use Rattle.dsp_defs.specs.declared.fault.MakeFault.TheVariants.{Range}
 use Rattle.dsp_filter.proofs.Slices.{sample-piece}
 use Rattle.dsp_defs.specs.declared.format.Fmt.{Fmt}
@@ -56,6 +55,11 @@ delays-named (d ∷ delays) = ap (λ l. d ∷ l) (delays-named delays)
 pub greatest-named : (delays : List ℕ) → greatest (map pos delays) ≡ greatest_delay delays
 greatest-named delays = ap greatest_delay (delays-named delays)
 
+-- a number that is no less than 0, as a delay
+pub number-read : (read z : ℤ) → read ≡ z → pos 0 ≤ℤ z → pos (nat_abs read) ≡ z
+number-read read (pos k) is low = ap (λ t. pos (nat_abs t)) is
+number-read read (negsuc k) is low = absurd (omega (arith, ints, low))
+
 -- delays without a fault are as they may be
 pub delays-some : (delays : List ℕ) → All (λ d. pos 0 ≤ℤ d) (map pos delays)
 delays-some delays = All-map (λ d. pos 0 ≤ℤ d) pos delays (λ k e h. omega (arith, ints))
@@ -75,18 +79,15 @@ none-over (d ∷ delays) none =
     some_is_some : Some d ≡ None → ⊥
     some_is_some e = cc e
 
-pub delays-fit :
-    (delays : List ℕ) (u : Unit {0}) → MatchOption (delays_fault delays)
-    (◌≡◌ {A = Result (Unit {0}) MakeFault} (Ok u) (Ok tt))
-    (λ e. ◌≡◌ {A = Result (Unit {0}) MakeFault} (Ok u) (Err e)) →
+-- a list whose rest is empty has the fault of no delay
+pub delays-few : (delays : List ℕ) (i : ℕ) → length delays ≤ i → delays_fault delays ≡ delays_fault (drop i delays) →
     All (λ d. d ≤ℤ pos MAX_DELAY) (map pos delays)
-delays-fit delays u answer = none-over delays (none (find (λ d. nat_lt MAX_DELAY d) delays) answer)
+delays-few delays i past same =
+    none-over delays (none (find (λ d. nat_lt MAX_DELAY d) delays) (same ∙ ap delays_fault (drop_all i delays past)))
   where
-    none : (found : Option ℕ) → MatchOption (option_map (λ d. Range (pos d)) found)
-        (◌≡◌ {A = Result (Unit {0}) MakeFault} (Ok u) (Ok tt))
-        (λ e. ◌≡◌ {A = Result (Unit {0}) MakeFault} (Ok u) (Err e)) → found ≡ None
-    none None answer = refl
-    none (Some d) answer = absurd (cc answer)
+    none : (found : Option ℕ) → option_map (λ d. Range (pos d)) found ≡ None → found ≡ None
+    none None is = refl
+    none (Some d) is = absurd (cc is)
 
 -- ---- the sums
 

@@ -1,4 +1,4 @@
-ghost use Rattle.std.specs.Prelude.{◌≡◌, ◌≤ℤ◌, Err, Ok, All, IfOk, MatchOption, map, pos};
+ghost use Rattle.std.specs.Prelude.{◌≡◌, ◌≤ℤ◌, Err, Ok, All, IfOk, OnOk, MatchOption, map, pos};
 ghost use Rattle.dsp_fir.specs.Delays.{delays_fault, greatest_delay};
 
 use dsp_defs::{MAX_DELAY, MakeFault};
@@ -6,7 +6,9 @@ use std::alloc::{AllocError, Global};
 
 /// Refuses the first delay over 65,535 samples.
 pub fn check_delays(delays: &[u32]) -> Result<(), MakeFault>
-    ensures { MatchOption (delays_fault delays.now) (result ≡ Ok tt) (λ e. result ≡ Err e) }
+    ensures fault { MatchOption (delays_fault delays.now) (result ≡ Ok tt) (λ e. result ≡ Err e) }
+    ensures some { OnOk result (All (λ d. pos 0 ≤ℤ d) (map pos delays.now)) }
+    ensures few { OnOk result (All (λ d. d ≤ℤ pos MAX_DELAY) (map pos delays.now)) }
 {
     for delay in delays {
         if *delay > MAX_DELAY {

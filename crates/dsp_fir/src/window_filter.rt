@@ -43,9 +43,10 @@ impl<T: LaneSample<L>, const L: usize, K: Copy> Model for WindowFilter<T, L, K> 
 }
 
 impl<T: LaneSample<L>, const L: usize, K: Copy> WindowFilter<T, L, K> {
-    ghost use Rattle.std.specs.Prelude.{◌≡◌, ◌≤◌, ◌+◌, ◌*◌, ◌++◌, List, [], ℤ, true, length, map, take, drop};
+    ghost use Rattle.std.specs.Prelude.{◌≡◌, ◌≤◌, ◌+◌, ◌*◌, ◌++◌, ℕ, List, [], ℤ, true, length, map, take, drop};
     ghost use Rattle.std.specs.Prelude.{IfOk, IfSome, IsFalse, IsTrue, ◌↔◌, All, FitsSigned};
     ghost use Rattle.dsp_defs.specs.Formats.{word};
+    ghost use Rattle.dsp_defs.specs.Kept.{FitsChannel};
     ghost use Rattle.dsp_defs.specs.Streaming.{Continues};
     ghost use Rattle.dsp_lanes.specs.Turns.{lane_turns};
     ghost use Rattle.dsp_unit.specs.Filter.{IsNewFilter, of_channel};
@@ -177,6 +178,15 @@ impl<T: LaneSample<L>, const L: usize, K: Copy> WindowFilter<T, L, K> {
     {
         self.window.restore(numbers);
     }
+
+    /// Does nothing at run time: a proof learns that numbers which a filter can keep fit.
+    fn fits_if_kept(&self, numbers: &[i64])
+        requires { (n : ℕ) × FitsChannel T.format self.now.block n numbers.now }
+        ensures count { length numbers.now ≡ length self.now.past }
+        ensures samples { All (FitsSigned (word T.format)) numbers.now }
+    {
+        let _taps = &self.taps;
+    }
 }
 
 impl<T: FormatLanes<L>, const L: usize, K: Copy> Filter<T> for WindowFilter<T, L, K> {
@@ -237,6 +247,7 @@ impl<T: FormatLanes<L>, const L: usize, K: Copy> Filter<T> for WindowFilter<T, L
 
     fn restore(&mut self, numbers: &[i64]) {
         let _taps = &self.taps;
+        self.fits_if_kept(numbers);
         WindowFilter::restore(self, numbers);
     }
 }

@@ -27,27 +27,34 @@ part_starts script header end input limit = record {
     none_declared (Some size) = omega arith
 
 module _ (script : Script) (header : Header) (end : ℕ) (bytes : List ℕ) (input now : SourceState)
-    (so_far : TakenSoFar script header end bytes input now) where
+    (so_far : TakenSoFar script header end bytes input now) (going : now.ended ≡ input.ended) where
   module _ (piece : List ℕ) (count : ℕ) (later : SourceState)
       (read : PartRead script header end (length bytes) piece count now later) where
     pub part_longer : length (bytes ++ take count piece) ≡ length bytes + count
     part_longer = omega (arith, length-take-le count piece read.within, length-append bytes (take count piece))
 
+    part_gave : Gave input later (bytes ++ take count piece)
+    part_gave = Gave-append input now later bytes (take count piece) going so_far.gave read.gave
+
     pub part_goes_on : TakenSoFar script header end (bytes ++ take count piece) input later
     part_goes_on = record {
-      gave = Gave-append input now later bytes (take count piece) so_far.gave read.gave;
+      gave = part_gave;
       in_part = omega (arith, part_longer, read.in_part);
       declared = subst (InDeclared (declared_bytes script header)) (sym part_longer) read.declared;
       in_limit = omega (arith, part_longer, read.in_limit);
       no_fault = read.no_fault ∙ so_far.no_fault;
     }
 
+    -- the source goes on where the piece came whole, or the part has ended
+    pub part_going : (count < length piece → length bytes + count ≡ end) → later.ended ≡ input.ended
+    part_going full = read.going full ∙ going
+
     pub part_ends : count < length piece → PartTaken script header end (bytes ++ take count piece) input later
     part_ends short = record {
-      gave = part_goes_on.gave;
-      in_part = part_goes_on.in_part;
-      declared = part_goes_on.declared;
-      in_limit = part_goes_on.in_limit;
+      gave = part_gave;
+      in_part = omega (arith, part_longer, read.in_part);
+      declared = subst (InDeclared (declared_bytes script header)) (sym part_longer) read.declared;
+      in_limit = omega (arith, part_longer, read.in_limit);
       ended = subst (λ n. (n ≡ end) ⊎ AreAll (declared_bytes script header) n later) (sym part_longer)
           (read.ended short);
       room_left = λ none before. omega (
@@ -55,7 +62,8 @@ module _ (script : Script) (header : Header) (end : ℕ) (bytes : List ℕ) (inp
         part_longer,
         read.room_left short none (omega (arith, part_longer, before)),
       );
-      no_fault = part_goes_on.no_fault;
+      no_fault = read.no_fault ∙ so_far.no_fault;
+      going = λ all. part_going (λ _. omega (arith, all, part_longer));
     }
 
   pub part_fails : (size : ℕ) (error : InputFault) (later : SourceState) →
@@ -65,7 +73,7 @@ module _ (script : Script) (header : Header) (end : ℕ) (bytes : List ℕ) (inp
       let all : length bytes + length rest ≡ length (bytes ++ rest) = sym (length-append bytes rest) in
       record {
         bytes = bytes ++ rest;
-        gave = Gave-append input now later bytes rest so_far.gave unread.unread.gave;
+        gave = Gave-append input now later bytes rest going so_far.gave unread.unread.gave;
         in_part = omega (arith, unread.in_part, all);
         declared = subst (InDeclared (declared_bytes script header)) all unread.unread.declared;
         in_limit = omega (arith, unread.unread.in_limit, all);

@@ -65,6 +65,7 @@ pub record Opened (script : Script) (header : Header) (input now : SourceState) 
   pub opens : Opens script header first
   pub gave : Gave input now first
   pub no_fault : now.faults ≡ input.faults
+  pub going : now.ended ≡ input.ended
 
 -- the bytes are the begin of a header and have no fault but that they end
 pub record IsUnheaded (script : Script) (given : List ℕ) : Type 0 where
@@ -158,6 +159,7 @@ pub record PartTaken (script : Script) (header : Header) (end : ℕ) (bytes : Li
     pub ended : (length bytes ≡ end) ⊎ AreAll (declared_bytes script header) (length bytes) now
     pub room_left : header.size ≡ None → length bytes < end → header.start + length bytes < MAX_INPUT
     pub no_fault : now.faults ≡ input.faults
+    pub going : length bytes ≡ end → now.ended ≡ input.ended
 
 -- it was not, and this is why the byte behind those that came did not
 pub record PartLost (script : Script) (header : Header) (end : ℕ) (error : InputFault) (input now : SourceState) :

@@ -1,5 +1,5 @@
 -- A step of a lattice with feedback, from the last section to the first.
-use Rattle.std.proofs.Common.{◌≡◌, ◌∙◌, ap, ap₂, refl, sym, ℕ, zero, suc, ◌+◌, ◌*◌, ◌^◌, ◌<◌, ◌≤◌, ℤ, pos, negsuc}
+use Rattle.std.proofs.Common.{◌≡◌, ◌∙◌, ap, ap₂, refl, sym, ℕ, zero, suc, ◌+◌, ◌*◌, ◌^◌, ◌<◌, ◌≤◌, ℤ, pos}
 use Rattle.std.proofs.Common.{◌+ℤ◌, ◌-ℤ◌, ◌*ℤ◌, List, [], ◌∷◌, ◌++◌, map, reverse, length, take, drop, set, get_or}
 use Rattle.std.proofs.Common.{replicate, arith, append_assoc, SFits}
 use Rattle.std.specs.Prelude.{unsigned_abs, FitsSigned, All}
@@ -7,10 +7,10 @@ use mir.Val.{hbits}
 use Rattle.std.proofs.lemmas.List.{map-append, take_more_set, get_or-drop, drop-drop, drop_all, take_all}
 use Rattle.std.proofs.lemmas.List.{reverse-reverse, length-set}
 use Rattle.std.proofs.lemmas.List.Elements.{All-get_or, All-cons}
-use Rattle.std.proofs.lemmas.Int.{ints, SFits-int_wrap, int_wrap_fits, unsigned_abs-mul, fits_signed_from_abs}
+use Rattle.std.proofs.lemmas.Int.{ints, int_wrap_fits, unsigned_abs-mul, fits_signed_from_abs}
 use Rattle.std.proofs.Math.Nat.{mul-le-mul}
 use Rattle.std.proofs.Math.Seq.{drop-cons}
-use Rattle.dsp_defs.specs.Numbers.{◌>>◌, Width, saturate, wrap, w32, w64}
+use Rattle.dsp_defs.specs.Numbers.{◌>>◌, saturate, wrap, w32, w64}
 use Rattle.dsp_defs.specs.Formats.{word, word_bits, accumulator, close}
 use Rattle.dsp_defs.specs.Signal.{sample, sum_below, outputs}
 use Rattle.dsp_defs.specs.Lattice.{reflected, backward_values, ladder_close, ladder_sum, ladder_output, lattice_iir}
@@ -21,6 +21,7 @@ use Rattle.dsp_sat.proofs.Saturated.{saturated}
 use Rattle.dsp_sat.proofs.Words.{abs_within}
 use Rattle.dsp_defs.specs.declared.format.Fmt.{Fmt}
 use Rattle.dsp_defs.specs.declared.format.Fmt.TheVariants.{Q7, Q15, Q31}
+use Rattle.dsp_defs.proofs.FormatLemmas.{wrap-wrap}
 use Rattle.dsp_lattice.specs.LatticeState.{HasLattice, reflection}
 
 -- ---- one section
@@ -101,10 +102,7 @@ values-fit format f (k ∷ ks) before fits =
     (values-fit format lower ks (drop 1 before) (saturated format (f -ℤ reflected format k (sample before 0))))
 
 abs-add : (a b : ℤ) → unsigned_abs (a +ℤ b) ≤ unsigned_abs a + unsigned_abs b
-abs-add (pos a) (pos b) = omega arith
-abs-add (pos a) (negsuc b) = grind (arith, ints)
-abs-add (negsuc a) (pos b) = grind (arith, ints)
-abs-add (negsuc a) (negsuc b) = grind (arith, ints)
+abs-add a b = omega (arith, ints)
 
 sum-bound : (n most : ℕ) (f : ℕ → ℤ) → ((k : ℕ) → k < n → unsigned_abs (f k) ≤ most) →
     unsigned_abs (sum_below n f) ≤ n * most
@@ -134,9 +132,6 @@ module _ (format : Fmt) (v g : List ℤ) (n : ℕ) where
         (All-get_or (FitsSigned (word format)) v k (pos 0) (omega (arith, below, long_v)) fits_v)
         (All-get_or (FitsSigned (word format)) g k (pos 0) (omega (arith, below, long_g)) fits_g))
 
-wrapped-twice : (w : Width) (z : ℤ) → wrap w (wrap w z) ≡ wrap w z
-wrapped-twice w z = int_wrap_fits w (wrap w z) (SFits-int_wrap w z)
-
 -- a sum that was wrapped is closed as the exact one, since at most 256 products are summed
 pub ladder-closes : (format : Fmt) → HasLattice format → (v g : List ℤ) (n : ℕ) → n ≤ 256 → n ≤ length v →
     n ≤ length g → All (FitsSigned (word format)) v → All (FitsSigned (word format)) g →
@@ -145,9 +140,9 @@ ladder-closes Q7 has v g n few long_v long_g fits_v fits_g = absurd has
 ladder-closes Q15 has v g n few long_v long_g fits_v fits_g =
     let bound = ladder-bound Q15 v g n few long_v long_g fits_v fits_g in
     let fits : SFits w64 (ladder Q15 v g n) = fits_signed_from_abs w64 (ladder Q15 v g n) (omega (arith, bound, few)) in
-    ap (λ s. saturate 16 (s >> 15)) (wrapped-twice w64 (ladder Q15 v g n) ∙ int_wrap_fits w64 (ladder Q15 v g n) fits)
+    ap (λ s. saturate 16 (s >> 15)) (wrap-wrap w64 (ladder Q15 v g n) ∙ int_wrap_fits w64 (ladder Q15 v g n) fits)
 ladder-closes Q31 has v g n few long_v long_g fits_v fits_g =
-    ap (λ s. wrap w32 (s >> 31)) (wrapped-twice w64 (ladder Q31 v g n))
+    ap (λ s. wrap w32 (s >> 31)) (wrap-wrap w64 (ladder Q31 v g n))
 
 -- ---- a sample
 

@@ -116,9 +116,6 @@ kept-more : (ks : List ℤ) (k : ℤ) (x : List (ℤ × ℤ)) →
 kept-more [] k x = refl
 kept-more (a ∷ ks) k x = ap (λ l. latest (map (λ (w : ℤ × ℤ). w.1) x) 0 ∷ l) (kept-more ks k (lattice_stage x a))
 
-pub no-section : (x : List (ℤ × ℤ)) → GoesOn (sections_give []) (lattice_kept []) [] [] x x
-no-section x = record { values = λ y e. refl; stands = λ y e. refl }
-
 pub one-section-more :
     (ks : List ℤ) (k : ℤ) (old new : List ℤ) (b b' : ℤ) (xs ys zs : List (ℤ × ℤ)) → length old ≡ length ks →
     GoesOn (sections_give ks) (lattice_kept ks) old new xs ys →

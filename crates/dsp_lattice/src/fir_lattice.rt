@@ -1,3 +1,8 @@
+ghost use Rattle.std.specs.Prelude.{◌≡◌, IfOk, IfErr, MatchOption, length, map};
+ghost use Rattle.dsp_unit.specs.Filter.{FilterState, IsNewFilter};
+ghost use Rattle.dsp_defs.specs.declared.script.Block.TheVariants.{LatticeFir};
+ghost use Rattle.dsp_lattice.specs.Making.{fir_lattice_fault};
+
 use crate::making::check_reflections;
 use crate::{FirLatticeWork, NarrowSample};
 use dsp_defs::MakeFault;
@@ -14,24 +19,22 @@ pub type FirLattice15 = FirLattice<i16>;
 
 /// What a lattice without feedback has besides the calls of every `StepFilter`.
 pub trait FirLatticeCalls<T: NarrowSample> {
+    ghost filter: { Self → FilterState };
+
     /// A lattice that has taken nothing, from its reflection coefficients k_1 to k_S, for blocks of at
     /// most `block` samples. `Length` where they are not 1 to 255, then `Range` where the block is not in
     /// 1..`MAX_SAMPLES`, then `Memory`. No later call takes memory.
-    fn new(alloc: Global, k: &[T], block: usize) -> Result<Self, MakeFault>;
+    fn new(alloc: Global, k: &[T], block: usize) -> Result<Self, MakeFault>
+        ensures made { IfOk result (λ lattice. IsNewFilter
+            (LatticeFir (map T.number k.now)) T.format block (filter lattice)) }
+        ensures fault { MatchOption (fir_lattice_fault (length k.now) block)
+            (IfErr result (λ e. e ≡ MakeFault.Memory)) (λ e. result ≡ Err e) };
 }
 
 impl<T: NarrowSample> FirLatticeCalls<T> for FirLattice<T> {
-    ghost use Rattle.std.specs.Prelude.{◌≡◌, IfOk, IfErr, MatchOption, length, map};
-    ghost use Rattle.dsp_unit.specs.Filter.{IsNewFilter};
-    ghost use Rattle.dsp_defs.specs.declared.script.Block.TheVariants.{LatticeFir};
-    ghost use Rattle.dsp_lattice.specs.Making.{fir_lattice_fault};
+    ghost filter = { λ f. f };
 
-    fn new(alloc: Global, k: &[T], block: usize) -> Result<Self, MakeFault>
-        ensures made { IfOk result
-            (IsNewFilter (LatticeFir (map T.number k.now)) T.format block) }
-        ensures fault { MatchOption (fir_lattice_fault (length k.now) block)
-            (IfErr result (λ e. e ≡ MakeFault.Memory)) (λ e. result ≡ Err e) }
-    {
+    fn new(alloc: Global, k: &[T], block: usize) -> Result<Self, MakeFault> {
         check_reflections(k.len())?;
         check_block(block)?;
         all_fit(k);

@@ -1,6 +1,6 @@
 -- What stands once a stream has begun, from how the call ended.
 use Rattle.std.proofs.Common.{◌≡◌, ◌⊎◌, ℕ, ◌+◌, ◌≤◌, List, ap, ◌∙◌, subst, arith, inl, inr, None}
-use Rattle.std.specs.Io.KnownBytes.{append_known}
+use Rattle.dsp_ports.specs.Ports.{append_put}
 use Rattle.dsp_ports.specs.Ports.{SourceState, SinkState}
 use Rattle.dsp_defs.specs.Output.{HasHeader, input_header, output, part}
 use Rattle.dsp_command.specs.Report.{report_text, riff_line, input_limit_line}
@@ -71,11 +71,11 @@ module _ (c : Call) (status : ℕ) (report told : SinkState) where
 
   -- what was written by a stream that has stopped
   part_written : {script : Script} {block worked : ℕ} {given written : List ℕ} →
-      c.after.put ≡ append_known c.sink.put written
+      c.after.put ≡ append_put c.sink.put written
       → StreamWrote script block worked given written c.sink c.after c.before c.counts →
       WrotePart script block given c.sink c.after
   part_written put (Nothing none same) = inr (inl none, same)
-  part_written put (Part has is limits made) = inl (has, put ∙ ap (append_known c.sink.put) is)
+  part_written put (Part has is limits made) = inl (has, put ∙ ap (append_put c.sink.put) is)
 
   -- a stream of this script was stopped by this fault
   abbrev Stops : Script → StreamFault → Type 0

@@ -1,41 +1,27 @@
 -- A filter that keeps the open group: what it takes becomes whole groups, and has no tail.
 use Rattle.std.proofs.Common.{◌≡◌, ◌∙◌, ap, ap₂, refl, sym, subst, ℕ, ◌+◌, ◌*◌, ◌/◌, ◌%◌, ◌<◌, ◌≤◌, ℤ, List, [], ◌++◌}
-use Rattle.std.proofs.Common.{length, Some, true, false, Bool, arith, length-append, ⊎_elim}
+use Rattle.std.proofs.Common.{length, Some, false, Bool, arith, length-append}
 use Rattle.std.specs.Prelude.{All, FitsSigned}
 use Rattle.std.specs.Int.{div_ceil}
-use Rattle.std.proofs.lemmas.Bool.{cases_lt}
 use Rattle.std.proofs.lemmas.List.{append-nil}
-use Rattle.std.proofs.lemmas.Nat.{div-add-mod', mul-le}
-use Rattle.std.proofs.Math.Nat.{mod-eq_of_lt, mod-lt, zero-mod, add-mul, div-le_self}
+use Rattle.std.proofs.lemmas.Nat.{mul-le}
+use Rattle.std.proofs.Math.Nat.{mod-eq_of_lt, mod-lt, zero-mod, add-mul}
 use Rattle.dsp_defs.specs.Formats.{word}
 use Rattle.dsp_defs.specs.Shape.{live_frames}
 use Rattle.dsp_defs.specs.Cost.{live_block_cost, block_turns}
 use Rattle.dsp_defs.specs.Streaming.{Continues}
 use Rattle.dsp_defs.specs.Counts.{Counts}
 use Rattle.dsp_defs.specs.Kept.{kept_of_channel, kinds_by, in_words, Each, IsPlace, IsOfKind, FitsChannel, place_of}
-use Rattle.dsp_unit.specs.Unit.{most_frames, most_room}
-use Rattle.dsp_unit.specs.Filter.{FilterStandsFor, FilterCounts, FilterFeeds, FilterFinishes, FilterRestores}
+use Rattle.dsp_unit.specs.Unit.{most_frames}
+use Rattle.dsp_unit.specs.Filter.{FilterStandsFor, FilterCounts, FilterFeeds}
 use Rattle.dsp_unit.specs.Filter.{IsNewFilter, of_channel, steady_filter}
 use Rattle.dsp_unit.proofs.ChannelKept.{words-placed, length-words, fit-words}
-use Rattle.dsp_unit.proofs.CostLaws.{quotient_more}
-use Rattle.dsp_defs.specs.declared.limits.TheConstants.{MAX_MATRIX_SIDE, MAX_SAMPLES}
 use Rattle.dsp_defs.specs.declared.format.Fmt.{Fmt}
 use Rattle.dsp_defs.specs.declared.script.Block.{Block}
 use Rattle.dsp_lanes.specs.Turns.{RisesWithin}
 use Rattle.dsp_matrix.specs.Groups.{Group, IsGrouped, given_groups, left_open}
-use Rattle.dsp_matrix.proofs.GroupLaws.{groups-more, open-more, groups-within, gives-more, stays-open, length-open}
-use Rattle.dsp_matrix.proofs.GroupLaws.{length-given, short-open}
-
--- more samples make no fewer groups
-pub ceil-more : (a b t : ℕ) → a ≤ b → div_ceil a t ≤ div_ceil b t
-ceil-more a b t more =
-    let quotients : a / t ≤ b / t = quotient_more a b t more in
-    ⊎_elim
-    (λ (fewer : a / t < b / t). omega arith)
-    (λ (no_fewer : b / t ≤ a / t). let same : a / t ≡ b / t = omega arith in
-    let rows : a / t * t ≡ b / t * t = ap (λ q. q * t) same in
-    omega (arith, div-add-mod' a t, div-add-mod' b t, rows))
-    (cases_lt (a / t) (b / t))
+use Rattle.dsp_filter.proofs.Groups.{groups-more, open-more, groups-within, ceil-more}
+use Rattle.dsp_matrix.proofs.GroupLaws.{gives-more, stays-open, length-open, length-given, short-open}
 
 module _ (format : Fmt) (block : Block) (g : Group) (is : IsGrouped format block g) where
   -- the room of a unit is enough for each block
@@ -61,21 +47,6 @@ module _ (format : Fmt) (block : Block) (g : Group) (is : IsGrouped format block
       let groups = room-groups p n below in
       let more = room-more n capacity few in
       omega (arith, groups, more, enough)
-
-  -- and few enough for a unit
-  pub room-few : (frames channels : ℕ) → frames * channels ≤ MAX_SAMPLES → channels ≤ 255 →
-      most_frames block frames * channels ≤ most_room
-  room-few frames channels few all =
-      let most = is.most frames in
-      let groups : div_ceil frames g.taken ≤ frames + 1 =
-      (let quotient = div-le_self frames g.taken in omega (arith, quotient)) in
-      let frames_given = mul-le (div_ceil frames g.taken) g.given (frames + 1) (MAX_MATRIX_SIDE * MAX_MATRIX_SIDE)
-      groups is.few_given in
-      let samples = mul-le (div_ceil frames g.taken * g.given) channels
-      ((frames + 1) * (MAX_MATRIX_SIDE * MAX_MATRIX_SIDE)) channels frames_given (omega arith) in
-      let both : most_frames block frames * channels ≡ div_ceil frames g.taken * g.given * channels =
-      ap (λ n. n * channels) most in
-      omega (arith, both, samples, few, all)
 
   module _ (capacity : ℕ) where
     group-stands : (kept x : List ℤ) → kept ≡ kept_of_channel format block x →
@@ -205,31 +176,6 @@ module _ (format : Fmt) (block : Block) (g : Group) (is : IsGrouped format block
         (subst (λ l. FilterFeeds (steady_filter format block capacity old false)
         (steady_filter format block capacity (left_open g (old ++ taken)) false) taken l before after) (sym gives)
         (group-fed old taken before after below risen)))
-
-    pub group-finished : (kept : List ℤ) (ended : Bool) (counts : Counts) →
-        FilterFinishes (steady_filter format block capacity kept ended) (steady_filter format block capacity kept true)
-        [] counts counts
-    group-finished kept ended counts = record {
-      made = record { block = refl; format = refl; capacity = refl };
-      ended = refl;
-      tail = refl;
-      count = omega arith;
-      spent = λ _. refl;
-      took = λ n took. record { place = took.place; tail_within = took.tail_within };
-      multiplies = λ n _. refl;
-      turns = λ n _. omega arith;
-    }
-
-    pub group-restored : (kept numbers : List ℤ) (ended : Bool) →
-        FilterRestores (steady_filter format block capacity kept ended)
-        (steady_filter format block capacity numbers false) numbers
-    group-restored kept numbers ended = record {
-      made = record { block = refl; format = refl; capacity = refl };
-      running = refl;
-      kept = refl;
-      stands = λ x keeps. group-stands numbers x keeps;
-      counts = λ n place. group-counts numbers n (place-group numbers n place);
-    }
 
   -- numbers fit where they are fewer than a group has, each in the format
   pub group-fits : (n : ℕ) (numbers : List ℤ) → length numbers < g.taken → length numbers ≡ n →

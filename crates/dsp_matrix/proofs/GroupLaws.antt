@@ -3,8 +3,6 @@ use Rattle.std.proofs.Common.{◌≡◌, ◌∙◌, ap, ap₂, sym, ℕ, ◌+◌
 use Rattle.std.proofs.Common.{map, take, drop, arith, length-append, length-drop, length-take-le, append_assoc}
 use Rattle.std.proofs.Common.{take_all, min, ⊎_elim}
 use Rattle.std.proofs.lemmas.Bool.{cases_lt}
-use Rattle.std.specs.Int.{div_ceil}
-use Rattle.std.proofs.lemmas.Grind.{div_ceil_times}
 use Rattle.std.proofs.lemmas.List.{length-map, drop-map, append-nil, take-append-drop, take-append-le, drop-append-le}
 use Rattle.std.proofs.lemmas.Nat.{div-mul-add, mod-mul-add, div-add-mod', div_below, mod_below, mul-le}
 use Rattle.std.proofs.Math.Nat.{mul-add-div_right, mod-eq_of_lt}
@@ -16,41 +14,6 @@ use Rattle.dsp_defs.specs.Kept.{open_group}
 use Rattle.dsp_defs.proofs.Signal.{values_cong, values-add}
 use Rattle.dsp_matrix.specs.Groups.{Group, given_group, given_groups, left_open}
 use Rattle.dsp_defs.proofs.BlockLaws.{length-values}
-
--- ---- counts
-
--- of n and m samples there are as many whole groups as of n, and those that the m samples and the open group make
-pub groups-more : (n m p t : ℕ) → 0 < t → p ≡ n % t → n / t + (p + m) / t ≡ (n + m) / t
-groups-more n m p t some phase =
-    let q = n / t in
-    let r = (p + m) / t in
-    let s = (p + m) % t in
-    let whole : n + m ≡ (q + r) * t + s = omega (arith, div-add-mod' n t, div-add-mod' (p + m) t) in
-    sym (ap (λ k. k / t) whole ∙ div-mul-add (q + r) t s (mod_below (p + m) t some))
-
--- and the open group is what is left of both
-pub open-more : (n m p t : ℕ) → 0 < t → p ≡ n % t → (p + m) % t ≡ (n + m) % t
-open-more n m p t some phase =
-    let q = n / t in
-    let r = (p + m) / t in
-    let s = (p + m) % t in
-    let whole : n + m ≡ (q + r) * t + s = omega (arith, div-add-mod' n t, div-add-mod' (p + m) t) in
-    sym (ap (λ k. k % t) whole ∙ mod-mul-add (q + r) t s (mod_below (p + m) t some))
-
--- an open group makes no more than a last group that is not whole
-pub groups-within : (m p t : ℕ) → p < t → (p + m) / t ≤ div_ceil m t
-groups-within m p t within =
-    let some : 0 < t = omega arith in
-    let covered : m ≤ div_ceil m t * t = (div_ceil_times m t some).0 in
-    let below : p + m < (div_ceil m t + 1) * t = omega (arith, covered) in
-    let groups : (p + m) / t < div_ceil m t + 1 = div_below (p + m) t (div_ceil m t + 1) some below in
-    omega (arith, groups)
-
--- a whole group lies within
-pub group-inside : (n t i : ℕ) → i < n / t → i * t + t ≤ n
-group-inside n t i below =
-    let rows : (i + 1) * t ≤ n / t * t = mul-le (i + 1) t (n / t) t (omega arith) (omega arith) in
-    omega (arith, div-add-mod' n t, rows)
 
 -- ---- samples
 

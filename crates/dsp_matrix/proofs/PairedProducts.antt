@@ -12,7 +12,8 @@ use Rattle.dsp_defs.proofs.BlockLaws.{length-values}
 use Rattle.dsp_defs.specs.declared.format.Fmt.TheVariants.{Q15}
 use Rattle.dsp_lanes.specs.MatrixRows.{column_of, column_sum}
 use Rattle.dsp_filter.proofs.Slices.{sample-piece}
-use Rattle.dsp_matrix.proofs.RowWrites.{sample-values, piece-length}
+use Rattle.dsp_unit.proofs.ChannelFrames.{sample-values}
+use Rattle.dsp_matrix.proofs.RowWrites.{piece-length}
 
 -- a number of a piece
 piece-read : (xs : List ℤ) (start n k : ℕ) → k < n → sample (slice_range xs start (start + n)) k ≡ sample xs (start + k)

@@ -1,12 +1,11 @@
 -- Values that are written one after another, and row after row.
-use Rattle.std.proofs.Common.{◌≡◌, ◌∙◌, ap, ap₂, refl, sym, ℕ, zero, suc, ◌+◌, ◌-◌, ◌*◌, ◌<◌, ◌≤◌, ℤ, pos, ◌+ℤ◌, ◌*ℤ◌}
+use Rattle.std.proofs.Common.{◌≡◌, ◌∙◌, ap, ap₂, refl, sym, ℕ, zero, suc, ◌+◌, ◌-◌, ◌*◌, ◌<◌, ◌≤◌, ℤ, ◌+ℤ◌, ◌*ℤ◌}
 use Rattle.std.proofs.Common.{◌/◌, ◌%◌, List, [], ◌∷◌, ◌++◌, length, map, take, drop, slice_range, arith, length-drop}
-use Rattle.std.proofs.Common.{length-take-le, take_at, take_all}
+use Rattle.std.proofs.Common.{length-take-le, take_all}
 use Rattle.std.proofs.lemmas.List.{take-map, drop-map, map-append, append-nil, take-append-le, drop-append-le}
 use Rattle.std.proofs.lemmas.List.{drop_all, drop-drop}
 use Rattle.std.proofs.Math.Seq.{take-append-add, drop-append-add}
 use Rattle.std.proofs.lemmas.Slice.{take-put_mid}
-use Rattle.std.proofs.lemmas.List.FromFn.{get_or-map-range_with_len}
 use Rattle.std.proofs.lemmas.Nat.{div-mul-add, mod-mul-add, mod_below, mul-add-lt}
 use borrow.Rule.Slice.PartMut.{put_mid}
 use Rattle.std.specs.Simd.Lanes.{zip2}
@@ -20,6 +19,7 @@ use Rattle.dsp_defs.proofs.Signal.{values_cong, values-add, sum_below_cong}
 use Rattle.dsp_defs.specs.declared.format.Fmt.{Fmt}
 use Rattle.dsp_lanes.specs.Turns.{RisesWithin}
 use Rattle.dsp_filter.proofs.Slices.{sample-piece}
+use Rattle.dsp_unit.proofs.ChannelFrames.{sample-values}
 use Rattle.dsp_matrix.specs.Groups.{Group}
 use Rattle.dsp_matrix.specs.Matrices.{product_element}
 
@@ -29,10 +29,6 @@ values-suc n f =
     let count : suc n ≡ 1 + n = omega arith in
     ap (λ k. values k f) count ∙ values-add 1 n f
     ∙ ap (λ l. f 0 ∷ l) (values_cong n (λ i. f (1 + i)) (λ i. f (suc i)) (λ i _. ap f (omega arith)))
-
--- a value by its place
-pub sample-values : (n : ℕ) (f : ℕ → ℤ) (i : ℕ) → i < n → sample (values n f) i ≡ f i
-sample-values n f i h = get_or-map-range_with_len f 0 n i i (pos 0) h (omega arith)
 
 -- what is written in front of the rest, and the rest
 pub front-written : {X : Type 0} (n : ℕ) (new rest : List X) → length new ≡ n → take n (new ++ rest) ≡ new
@@ -164,11 +160,6 @@ group-row number g j start end xs first last =
     (sym (take-map number (end - start) (drop start xs)) ∙
     ap₂ (λ n ys. take n ys) size (sym (drop-map number start xs) ∙ ap (λ n. drop n (map number xs)) place))
     (sym rest))
-
--- the front of what was written into a vector
-pub written-front : {X : Type 0} (len m : ℕ) (after rest front : List X) → length after ≡ len → take m after ≡ front →
-    take m (take len (after ++ rest)) ≡ front
-written-front len m after rest front same is = ap (take m) (take_at after rest len same) ∙ is
 
 -- ---- products that are summed
 

@@ -1,9 +1,10 @@
 -- What has no fault is sound.
-use Rattle.std.proofs.Common.{◌≡◌, ◌∙◌, ◌≢◌, refl, sym, ℕ, zero, suc, ◌*◌, ℤ, List, [], ◌∷◌, length, Option, Some}
+use Rattle.std.proofs.Common.{◌≡◌, ◌∙◌, ◌≢◌, refl, sym, ℕ, ◌*◌, ℤ, List, [], ◌∷◌, length, Option, Some}
 use Rattle.std.proofs.Common.{None, Result, Ok, Err, MatchOption, arith}
 use Rattle.std.specs.Prelude.{All, FitsSigned}
 use Rattle.std.specs.Option.{option_or}
 use Rattle.std.proofs.lemmas.Int.{ints}
+use Rattle.std.proofs.lemmas.List.Elements.{All-cons}
 use Rattle.std.proofs.lemmas.Grind.{common_steps}
 use Rattle.std.proofs.lemmas.Bool.Decides.{nat_tests}
 use Rattle.dsp_defs.specs.Elementwise.{IsMatrixScaleShift}
@@ -50,15 +51,11 @@ sound-number Q7 z none = record { sfits = grind (arith, common_steps, ints) }
 sound-number Q15 z none = record { sfits = grind (arith, common_steps, ints) }
 sound-number Q31 z none = record { sfits = grind (arith, common_steps, ints) }
 
-all-cons : (P : ℤ → Type 0) (x : ℤ) (xs : List ℤ) → P x → All P xs → All P (x ∷ xs)
-all-cons P x xs p all zero d h = p
-all-cons P x xs p all (suc k) d h = all k d (omega (arith, h))
-
 sound-numbers : (format : Fmt) (list : List ℤ) → numbers_fault format list ≡ None → All (FitsSigned (word format)) list
 sound-numbers format [] none = λ k d h. absurd (omega (arith, h))
 sound-numbers format (z ∷ zs) none =
     let (first, others) = both (number_fault format z) (numbers_fault format zs) none in
-    all-cons (FitsSigned (word format)) z zs (sound-number format z first) (sound-numbers format zs others)
+    All-cons (FitsSigned (word format)) z zs (sound-number format z first) (sound-numbers format zs others)
 
 sound-shift : (format : Fmt) (places : ℤ) → format ≢ Q7 → shift_fault format places ≡ None →
     IsMatrixScaleShift format places

@@ -8,7 +8,7 @@ use Rattle.dsp_defs.specs.Signal.{sample, values}
 use Rattle.dsp_defs.proofs.BlockLaws.{length-values}
 use Rattle.dsp_defs.proofs.SumLemmas.{sample-map-set_other, sample-map-set_same, same_numbers}
 use Rattle.dsp_matrix.specs.Turning.{IsTurned, StaysTurned}
-use Rattle.dsp_matrix.proofs.RowWrites.{sample-values}
+use Rattle.dsp_unit.proofs.ChannelFrames.{sample-values}
 
 module _ {X : Type 0} (number : X → ℤ) (rows columns : ℕ) (a : List ℤ) (out : List X) (row column at : ℕ) (v : X)
     (inside : row < rows) (place : at ≡ column * rows + row) (room : at < length out)

@@ -123,6 +123,10 @@ word-fits Q7 z h = record { sfits = omega (arith, h.sfits) }
 word-fits Q15 z h = record { sfits = omega (arith, h.sfits) }
 word-fits Q31 z h = h
 
+pub length-extreme_kinds : (format : Fmt) (n : ℕ) → length (extreme_kinds format n) ≡ 4
+length-extreme_kinds format zero = refl
+length-extreme_kinds format (suc n) = refl
+
 pub four-numbers : (xs : List ℤ) → length xs ≡ 4 → xs ≡ sample xs 0 ∷ sample xs 1 ∷ sample xs 2 ∷ sample xs 3 ∷ []
 four-numbers [] e = absurd (omega (arith, e))
 four-numbers (a ∷ []) e = absurd (omega (arith, e))

@@ -3,4 +3,3 @@ pub mod ExtremeLaws
 pub mod MeasureParts
 pub mod MeasureUnits
 pub mod MeasureResults
-pub mod TestSignals

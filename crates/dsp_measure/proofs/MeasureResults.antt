@@ -1,6 +1,6 @@
 -- The results of measures by the numbers that they keep.
 use Rattle.std.proofs.Common.{◌≡◌, ◌∙◌, ap, refl, sym, subst, ℕ, zero, suc, ◌+◌, ◌*◌, ◌<◌, ◌≤◌, ℤ, List, [], ◌∷◌, map}
-use Rattle.std.proofs.Common.{length, drop, Some, None, zero-add, arith}
+use Rattle.std.proofs.Common.{length, drop, Some, zero-add, arith}
 use Rattle.std.specs.Prelude.{slice_get}
 use Rattle.std.specs.List.{range_with_len}
 use Rattle.std.proofs.lemmas.List.FromFn.{length-map-range_with_len}
@@ -15,7 +15,7 @@ use Rattle.dsp_measure.specs.Extremes.{KeepsExtreme}
 use Rattle.dsp_measure.specs.Measures.{block_of, parts_of}
 use Rattle.dsp_measure.specs.declared.measure_block.MeasureBlock.{MeasureBlock}
 use Rattle.dsp_measure.specs.declared.measure_block.MeasureBlock.TheVariants as measure
-use Rattle.dsp_measure.proofs.ExtremeLaws.{four-numbers, word-fits}
+use Rattle.dsp_measure.proofs.ExtremeLaws.{four-numbers, length-extreme_kinds, word-fits}
 use Rattle.dsp_measure.proofs.MeasureParts.{length-kept, kinds-each}
 
 pub get-values : {A : Type 0} (f : ℕ → A) (a n i : ℕ) → i < n →
@@ -24,11 +24,6 @@ get-values f a zero i h = absurd (omega (arith, h))
 get-values f a (suc n) zero h = let here : a + 0 ≡ a = omega arith in ap (λ k. Some (f k)) (sym here)
 get-values f a (suc n) (suc i) h = let next : a + 1 + i ≡ a + suc i = omega arith in
     get-values f (a + 1) n i (omega (arith, h)) ∙ ap (λ k. Some (f k)) next
-
-past-values : {A : Type 0} (f : ℕ → A) (a n i : ℕ) → n ≤ i → slice_get (map f (range_with_len a n)) i ≡ None
-past-values f a zero i h = refl
-past-values f a (suc n) zero h = absurd (omega (arith, h))
-past-values f a (suc n) (suc i) h = past-values f (a + 1) n i (omega (arith, h))
 
 -- the value at an index
 pub value-at : {A : Type 0} (f : ℕ → A) (n i : ℕ) → i < n → Some (f i) ≡ slice_get (values n f) i
@@ -46,19 +41,6 @@ module _ (format : Fmt) (channels number : ℕ) (kept : List ℤ) where
   length-results measure.Min = length-map-range_with_len
       (λ c. Measures.Min number c (kept_extreme (drop (4 * c) kept))) 0 channels
 
-  -- and none behind them
-  pub past-results : (m : MeasureBlock) (i : ℕ) → parts_of m channels ≤ i →
-      None ≡ slice_get (kept_measures format channels number (block_of m) kept) i
-  past-results measure.Power i h = sym (past-values (λ c. Measures.Power number c (sample kept c)) 0 channels i h)
-  past-results measure.Dot zero h = absurd (omega (arith, h))
-  past-results measure.Dot (suc i) h = refl
-  past-results measure.CmplxDot zero h = absurd (omega (arith, h))
-  past-results measure.CmplxDot (suc i) h = refl
-  past-results measure.Max i h = sym (past-values (λ c. Measures.Max number c (kept_extreme (drop (4 * c) kept))) 0
-      channels i h)
-  past-results measure.Min i h = sym (past-values (λ c. Measures.Min number c (kept_extreme (drop (4 * c) kept))) 0
-      channels i h)
-
 -- ---- an extreme of one channel
 
 four-wide : (format : Fmt) (n : ℕ) (p q r s : ℤ) → Each IsOfKind (extreme_kinds format n) (p ∷ q ∷ r ∷ s ∷ []) →
@@ -66,15 +48,12 @@ four-wide : (format : Fmt) (n : ℕ) (p q r s : ℤ) → Each IsOfKind (extreme_
 four-wide format zero p q r s kinds = kinds
 four-wide format (suc n) p q r s kinds = (kinds.0, (word-fits format q kinds.1.0, kinds.1.1))
 
-length-kinds : (format : Fmt) (n : ℕ) → length (extreme_kinds format n) ≡ 4
-length-kinds format zero = refl
-length-kinds format (suc n) = refl
-
 -- its numbers are such in the widest format too
 wide : (format : Fmt) (n : ℕ) (xs : List ℤ) → Each IsOfKind (extreme_kinds format n) xs →
     Each IsOfKind (extreme_kinds Q31 n) xs
 wide format n xs kinds =
-    let whole = four-numbers xs (each-length IsOfKind (extreme_kinds format n) xs kinds ∙ length-kinds format n) in
+    let whole = four-numbers xs (each-length IsOfKind (extreme_kinds format n) xs kinds ∙
+    length-extreme_kinds format n) in
     subst (Each IsOfKind (extreme_kinds Q31 n)) (sym whole)
     (four-wide format n (sample xs 0) (sample xs 1) (sample xs 2) (sample xs 3)
     (subst (Each IsOfKind (extreme_kinds format n)) whole kinds))

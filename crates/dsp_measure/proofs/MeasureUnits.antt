@@ -27,7 +27,7 @@ use Rattle.dsp_measure.specs.Measures.{block_of, channels_of, parts_of, size_of,
 use Rattle.dsp_measure.specs.Measures.{PartsFeed}
 use Rattle.dsp_measure.specs.declared.measure_block.MeasureBlock.{MeasureBlock}
 use Rattle.dsp_measure.specs.declared.measure_block.MeasureBlock.TheVariants as measure
-use Rattle.dsp_measure.proofs.ExtremeLaws.{four-numbers}
+use Rattle.dsp_measure.proofs.ExtremeLaws.{four-numbers, length-extreme_kinds}
 use Rattle.dsp_measure.proofs.MeasureParts.{length-kept, kinds-each, each-kinds, kinds-parts, numbers-parts}
 
 -- ---- what the blocks have in common
@@ -132,10 +132,6 @@ four-kinds format (suc a) zero p q r s kinds place = (let zero_is : p ≡ pos 0 
     kinds.0 in cc)
 four-kinds format (suc a) (suc b) p q r s kinds place =
     (let one : s ≡ pos (suc a) = kinds.1.1.1.0 in let other : s ≡ pos (suc b) = place.1.1.1.0 in cc)
-
-length-extreme_kinds : (format : Fmt) (n : ℕ) → length (extreme_kinds format n) ≡ 4
-length-extreme_kinds format zero = refl
-length-extreme_kinds format (suc n) = refl
 
 extreme-place : (format : Fmt) (a b : ℕ) (xs : List ℤ) → Each IsOfKind (extreme_kinds format a) xs →
     Each IsPlace (extreme_kinds format b) xs → a ≡ b
@@ -411,19 +407,17 @@ measure-new m format channels capacity b is =
       counts = measure-counts m u mine 0 (kinds-place _ zeros (zeros-fit format channels m).1);
     }
 
--- a row that was written whole
-pub whole-row : {X : Type 0} → (size : ℕ) (new old : List X) → length new ≡ size →
-    take size (new ++ drop (length new) old) ≡ new
-whole-row size new old e =
-    let fits : size ≤ length new = omega (arith, e) in
-    let full : length new ≤ size = omega (arith, e) in
-    take-append-le size new (drop (length new) old) fits ∙ take_all size new full
-
+-- what was written in front of the rest
 pub front-row : {X : Type 0} → (size : ℕ) (new rest : List X) → length new ≡ size → take size (new ++ rest) ≡ new
 front-row size new rest e =
     let fits : size ≤ length new = omega (arith, e) in
     let full : length new ≤ size = omega (arith, e) in
     take-append-le size new rest fits ∙ take_all size new full
+
+-- a row that was written whole
+pub whole-row : {X : Type 0} → (size : ℕ) (new old : List X) → length new ≡ size →
+    take size (new ++ drop (length new) old) ≡ new
+whole-row size new old = front-row size new (drop (length new) old)
 
 -- at most four numbers a channel
 pub few-kept : (m : MeasureBlock) (format : Fmt) (channels : ℕ) (kept : List ℤ) → channels_of m ≤ channels →

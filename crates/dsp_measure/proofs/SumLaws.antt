@@ -1,8 +1,8 @@
 -- Sums of products that are wrapped on the way.
 use Rattle.std.proofs.Common.{◌≡◌, ◌∙◌, ap, ap₂, refl, sym, ℕ, zero, suc, ◌+◌, ◌<◌, ℤ, pos, ◌+ℤ◌, ◌-ℤ◌, neg_ℤ, List}
-use Rattle.std.proofs.Common.{◌++◌, ◌*◌, ◌/◌, ◌%◌, length, arith, length-append, add-zero, subst}
+use Rattle.std.proofs.Common.{◌++◌, ◌*◌, ◌/◌, ◌%◌, length, arith, length-append, add-zero}
 use Rattle.std.specs.Prelude.{FitsSigned}
-use Rattle.std.proofs.lemmas.Int.{int_wrap_fits, int_wrap-add_left, SFits-int_wrap}
+use Rattle.std.proofs.lemmas.Int.{int_wrap_fits, int_wrap-add_left}
 use Rattle.std.proofs.lemmas.List.{get_or-append-add}
 use Rattle.dsp_defs.specs.Counts.{Counts, Rises}
 use Rattle.std.proofs.Math.IntN.{+ℤ_assoc, +ℤ_idr}
@@ -79,10 +79,6 @@ pub products-more :
 products-more format start sum more a b n m x y next is summed added =
     sum-more (accumulator format) start sum more n m (products_of format x y) next summed
     (added ∙ ap₂ (λ c d. wrap (accumulator format) (sum +ℤ measured_product format c d)) is.0 is.1)
-
--- a wrapped sum is in the range of the accumulator
-pub wrapped-fits : (format : Fmt) (sum z : ℤ) → sum ≡ wrap (accumulator format) z → FitsSigned (accumulator format) sum
-wrapped-fits format sum z e = subst (FitsSigned (accumulator format)) (sym e) (SFits-int_wrap (accumulator format) z)
 
 -- ---- sums of signals that go on
 

@@ -9,25 +9,25 @@ use Rattle.dsp_ports.proofs.Moved.{Gave-append}
 
 -- the front, and what came of a piece behind it
 pub piece_skipped : (skipped : ℕ) (old mid now : SourceState) (front : List ℕ) → length front ≡ skipped →
-    Gave old mid front
+    Gave old mid front → mid.ended ≡ old.ended
     → (block : List ℕ) (room count : ℕ) → Filled mid now block room count
     → (length (front ++ take count block) ≡ skipped + count) × Gave old now (front ++ take count block)
-piece_skipped skipped old mid now front said gave block room count filled = (
+piece_skipped skipped old mid now front said gave going block room count filled = (
   omega (arith, length-append front (take count block), length-take-le count block filled.within, said),
-  Gave-append old mid now front (take count block) gave filled.gave,
+  Gave-append old mid now front (take count block) going gave filled.gave,
 )
 
 -- a fault within a piece
 pub piece_unskipped : (skipped count room : ℕ) (old mid now : SourceState) (front : List ℕ) → length front ≡ skipped →
     Gave old mid front
-    → mid.faults ≡ old.faults → skipped ≤ room → (size : ℕ) → skipped + size ≤ count → (fault : FillFault)
-    → Unfilled mid now size (room - skipped) fault → Unfilled old now count room fault
-piece_unskipped skipped count room old mid now front said gave clean few size within fault u =
+    → mid.faults ≡ old.faults → mid.ended ≡ old.ended → skipped ≤ room → (size : ℕ) → skipped + size ≤ count →
+    (fault : FillFault) → Unfilled mid now size (room - skipped) fault → Unfilled old now count room fault
+piece_unskipped skipped count room old mid now front said gave clean going few size within fault u =
     let whole : length (front ++ u.bytes) ≡ skipped + length u.bytes =
     omega (arith, length-append front u.bytes, said) in
     record {
       bytes = front ++ u.bytes;
-      gave = Gave-append old mid now front u.bytes gave u.gave;
+      gave = Gave-append old mid now front u.bytes going gave u.gave;
       short = omega (arith, whole, u.short, within);
       in_room = omega (arith, whole, u.in_room, few);
       cause = cause_of fault u.cause whole;

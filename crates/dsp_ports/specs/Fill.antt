@@ -14,6 +14,7 @@ pub record Filled (old new : SourceState) (block : List ℕ) (room count : ℕ) 
   -- the end is seen by a read that asks for more
   pub room_left : count < length block → count < room
   pub no_fault : new.faults ≡ old.faults
+  pub going : length block ≤ count → new.ended ≡ old.ended
 
 -- the source has failed, or all the room was taken
 abbrev pub HasFillCause : FillFault → SourceState → SourceState → ℕ → ℕ → Type 0
@@ -37,6 +38,7 @@ pub record Skipped (old new : SourceState) (count room came : ℕ) : Type 0 wher
   pub gave : Gave old new bytes
   pub end : came < count → IsAtEnd new.left
   pub no_fault : new.faults ≡ old.faults
+  pub going : count ≤ came → new.ended ≡ old.ended
 
 -- so many bytes came by reads of a port, each of which asked for all that was still missing and gave something
 pub data Asked {S : Type 0} (Reads : S → ℕ → S → Type 0) (taken : S → ℕ) (want : ℕ) (start : S) : ℕ → S → Type 0 where

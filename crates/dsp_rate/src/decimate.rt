@@ -50,7 +50,9 @@ impl<T: LaneSample<L> + WideSample, const L: usize> Decimate<T, L> {
     ghost use Rattle.dsp_defs.specs.Sums.{decimate};
     ghost use Rattle.dsp_lanes.specs.Turns.{lane_turns};
     ghost use Rattle.dsp_rate.specs.DecimateState.{StandsFor, CountsFor, Fits, kept, kept_of, new_decimate};
-    ghost use Rattle.dsp_rate.specs.DecimateState.{decimate_fault};
+    ghost use Rattle.dsp_rate.specs.DecimateState.{decimate_channel, decimate_fault};
+    ghost use Rattle.dsp_defs.specs.Kept.{FitsChannel};
+    ghost use Rattle.dsp_unit.specs.Filter.{filter_room};
 
     /// A decimator that has taken nothing, from its factor M and the taps in time-reversed order,
     /// `b[T-1]` to `b[0]`, for blocks of at most `block` samples. `Length` where the taps are not
@@ -202,6 +204,22 @@ impl<T: LaneSample<L> + WideSample, const L: usize> Decimate<T, L> {
         self.window.restore(&numbers[..last]);
         self.phase = numbers[last] as usize;
     }
+
+    /// Does nothing at run time: a proof learns that numbers which a filter can keep fit.
+    fn fits_if_kept(&self, numbers: &[i64])
+        requires { (n : ℕ) × FitsChannel T.format (decimate_channel T.format self.now).block n
+            numbers.now }
+        ensures { Fits T.format self.now numbers.now }
+    {
+        let _taps = &self.taps;
+    }
+
+    /// Does nothing at run time: a proof learns that the room of any call is enough for a block.
+    fn has_room(&self, input: &[T], output: &[T])
+        requires block { length input.now ≤ self.now.block }
+        requires room { filter_room (decimate_channel T.format self.now) ≤ length output.now }
+        ensures { div_ceil (length input.now) self.now.factor ≤ length output.now }
+    {}
 }
 
 impl<T: FormatLanes<L> + WideSample, const L: usize> Filter<T> for Decimate<T, L> {
@@ -232,6 +250,7 @@ impl<T: FormatLanes<L> + WideSample, const L: usize> Filter<T> for Decimate<T, L
     fn process<M: Ledger>(&mut self, input: &[T], output: &mut [T], steps: &mut Steps<M>) -> usize {
         // The proof has the length of the past from the invariant.
         let _taps = &self.taps;
+        self.has_room(input, output);
         Decimate::process(self, input, output, steps)
     }
 
@@ -258,6 +277,7 @@ impl<T: FormatLanes<L> + WideSample, const L: usize> Filter<T> for Decimate<T, L
 
     fn restore(&mut self, numbers: &[i64]) {
         let _taps = &self.taps;
+        self.fits_if_kept(numbers);
         Decimate::restore(self, numbers);
     }
 }

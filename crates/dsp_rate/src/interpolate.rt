@@ -40,14 +40,17 @@ impl<T: LaneSample<L> + WideSample, const L: usize> Model for Interpolate<T, L> 
 }
 
 impl<T: LaneSample<L> + WideSample, const L: usize> Interpolate<T, L> {
-    ghost use Rattle.std.specs.Prelude.{◌≡◌, ◌≤◌, ◌+◌, ◌*◌, ◌++◌, List, [], ℤ, true, length, map, take, drop};
+    ghost use Rattle.std.specs.Prelude.{◌≡◌, ◌≤◌, ◌+◌, ◌*◌, ◌++◌, ℕ, List, [], ℤ, true, length, map, take};
+    ghost use Rattle.std.specs.Prelude.{drop};
     ghost use Rattle.std.specs.Prelude.{IfOk, OnOk, IfErr, IsFalse, IsTrue, ◌↔◌, All, FitsSigned};
     ghost use Rattle.std.specs.Prelude.{MatchOption};
     ghost use Rattle.dsp_defs.specs.Formats.{word};
     ghost use Rattle.dsp_defs.specs.Streaming.{Continues};
     ghost use Rattle.dsp_defs.specs.Sums.{interpolate};
     ghost use Rattle.dsp_lanes.specs.Turns.{lane_turns};
-    ghost use Rattle.dsp_rate.specs.InterpolateState.{StandsFor, interpolate_fault, new_interpolate};
+    ghost use Rattle.dsp_rate.specs.InterpolateState.{StandsFor, interpolate_channel, interpolate_fault};
+    ghost use Rattle.dsp_rate.specs.InterpolateState.{new_interpolate};
+    ghost use Rattle.dsp_defs.specs.Kept.{FitsChannel};
 
     /// An interpolator that has taken nothing, from its factor and the taps in time-reversed order,
     /// `b[T-1]` to `b[0]`, for blocks of at most `block` samples. `Length` where the taps are not
@@ -185,6 +188,16 @@ impl<T: LaneSample<L> + WideSample, const L: usize> Interpolate<T, L> {
     {
         self.window.restore(numbers);
     }
+
+    /// Does nothing at run time: a proof learns that numbers which a filter can keep fit.
+    fn fits_if_kept(&self, numbers: &[i64])
+        requires { (n : ℕ) × FitsChannel T.format (interpolate_channel T.format self.now).block n
+            numbers.now }
+        ensures length { length numbers.now ≡ length self.now.past }
+        ensures samples { All (FitsSigned (word T.format)) numbers.now }
+    {
+        let _phases = &self.phases;
+    }
 }
 
 impl<T: FormatLanes<L> + WideSample, const L: usize> Filter<T> for Interpolate<T, L> {
@@ -237,6 +250,7 @@ impl<T: FormatLanes<L> + WideSample, const L: usize> Filter<T> for Interpolate<T
 
     fn restore(&mut self, numbers: &[i64]) {
         let _phases = &self.phases;
+        self.fits_if_kept(numbers);
         Interpolate::restore(self, numbers);
     }
 }

@@ -34,8 +34,7 @@ use Rattle.dsp_defs.specs.Canon.{symbol_text, line_of, canon}
 use Rattle.dsp_script.specs.Plain.{front_symbols, chain_symbols}
 use Rattle.dsp_script.specs.Printed.{behind_spaces}
 use Rattle.dsp_script.proofs.Tokens.{EndsRun, run_begins}
-use Rattle.dsp_script.proofs.Steps.{both_true}
-use Rattle.dsp_script.proofs.Names.{IsRun, word_run, format_run, container_run}
+use Rattle.dsp_script.proofs.Names.{both_true, IsRun, word_run, format_run, container_run}
 use Rattle.dsp_script.proofs.Numerals.{in_range}
 
 -- ---- numerals

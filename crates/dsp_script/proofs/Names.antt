@@ -71,7 +71,7 @@ well_named words.Max = (refl, refl)
 well_named words.Min = (refl, refl)
 well_named words.Route = (refl, refl)
 
-both_true : (a b : Bool) → (a && b) ≡ true → (a ≡ true) × (b ≡ true)
+pub both_true : (a b : Bool) → (a && b) ≡ true → (a ≡ true) × (b ≡ true)
 both_true true b e = (refl, e)
 both_true false b e = absurd cc
 

@@ -18,7 +18,7 @@ use Rattle.dsp_defs.specs.Parameters.{IsBetween}
 use Rattle.dsp_defs.specs.Grammar.{Symbol, Name, Numeral, OpenBrace, CloseBrace, Whole, IsWritten, unwritten, Spells}
 use Rattle.dsp_defs.specs.Places.{◌>>=◌, or_fault, first_of, Judge, next_at, meaning_of, choice, named, begins_with}
 use Rattle.dsp_defs.specs.Places.{number, natural_at, conversion}
-use Rattle.dsp_script.proofs.Names.{format_again}
+use Rattle.dsp_script.proofs.Names.{both_true, format_again}
 
 -- ---- results
 
@@ -290,11 +290,6 @@ name_takes tables name those rest after x e =
     let n = next_takes (choice (by_name name those)) rest after x e in
     let run = choice_run (by_name name those) n.0.offset n.0.token x n.3 in
     one_taken tables rest after n.0 (Name (name x)) tt n.1 n.2 (rw run.1 (by_name_is name those run.0 x run.2))
-
-pub both_true : (a b : Bool) → (a && b) ≡ true → (a ≡ true) × (b ≡ true)
-both_true true true e = (refl, refl)
-both_true true false e = absurd cc
-both_true false b e = absurd cc
 
 -- low <= n <= high
 abbrev pub is_between : (low high n : ℤ) → Bool

@@ -35,8 +35,7 @@ fn joined(out: &mut String, numbers: &[i32]) -> Result<(), AllocError>
         return Ok(());
     };
     write!(out, "{first}")?;
-    spaced(out, others)?;
-    Ok(())
+    spaced(out, others)
 }
 
 /// Numbers in braces.
@@ -46,8 +45,7 @@ fn braced(out: &mut String, numbers: &[i32]) -> Result<(), AllocError>
 {
     out.push_str("{")?;
     joined(out, numbers)?;
-    out.push_str("}")?;
-    Ok(())
+    out.push_str("}")
 }
 
 /// A number as an argument.
@@ -97,8 +95,7 @@ fn format(out: &mut String, format: Fmt) -> Result<(), AllocError>
         (Name (format_name format) ∷ [])) }
 {
     out.push_str(" ")?;
-    out.push_str(table::format_name(format))?;
-    Ok(())
+    out.push_str(table::format_name(format))
 }
 
 /// A list as an argument.
@@ -228,8 +225,7 @@ fn block(out: &mut String, block: &Block) -> Result<(), AllocError>
 {
     out.push_str(table::row_of(table::word_of(block)).name)?;
     arguments(out, block)?;
-    out.push_str("\n")?;
-    Ok(())
+    out.push_str("\n")
 }
 
 /// The lines of the blocks.
@@ -262,8 +258,7 @@ fn input(out: &mut String, input: &Input) -> Result<(), AllocError>
     let channels = input.channels;
     write!(out, "input {container} {format} {channels}")?;
     rate(out, input.kind)?;
-    out.push_str("\n")?;
-    Ok(())
+    out.push_str("\n")
 }
 
 /// The line of the block length, where there is one.

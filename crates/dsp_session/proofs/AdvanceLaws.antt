@@ -185,6 +185,7 @@ going_starts start header span input sink before runs declared limit part = reco
   in_span = part;
   gave = Gave-nil input;
   no_fault = refl;
+  going = refl;
 }
 
 -- so many frames have at least as many bytes
@@ -271,9 +272,10 @@ module _ (start session : SessionState) (header : Header) (span : Span) (taken :
     declared = read.declared;
     in_limit = omega (arith, read.in_limit);
     in_span = read.in_part;
-    gave = Gave-append input now later going.heard piece going.gave
+    gave = Gave-append input now later going.heard piece going.going going.gave
         (subst (Gave now later) (take_all count piece full) read.gave);
     no_fault = read.no_fault ∙ going.no_fault;
+    going = read.going (λ short. absurd (omega (arith, short, full))) ∙ going.going;
   }
 
 -- ---- the next block did not come, did not pass, or was not whole

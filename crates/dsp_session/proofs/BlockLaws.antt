@@ -3,9 +3,9 @@ use Rattle.std.proofs.Common.{◌≡◌, ℕ, zero, suc, ◌+◌, ◌*◌, ◌/�
 use Rattle.std.proofs.Common.{Some}
 use Rattle.std.proofs.Common.{None, sym, ap, ◌∙◌, subst, arith, append_assoc, append-nil, length-append, inr}
 use Rattle.std.proofs.lemmas.List.{take_at}
-use Rattle.std.specs.Io.KnownBytes.{append_known}
+use Rattle.dsp_ports.specs.Ports.{append_put}
 use Rattle.dsp_ports.specs.Ports.{SourceState, SinkState, Gave, Took}
-use Rattle.dsp_ports.proofs.Moved.{append_known-append}
+use Rattle.dsp_ports.proofs.Moved.{append_put-append}
 use Rattle.dsp_defs.specs.Counts.{Counts}
 use Rattle.dsp_defs.specs.Output.{input_header, output_header, live_bytes, part}
 use Rattle.dsp_defs.specs.Shape.{gathered}
@@ -244,7 +244,7 @@ module _ (script : Script) (block : ℕ) (ready : IsReady script block) (header 
 
       -- the output failed within what stands behind it
       pub stops_within : (written : List ℕ) (after : SinkState) (made : Counts) →
-          after.put ≡ append_known then.put written →
+          after.put ≡ append_put then.put written →
           HasWritten fault.Output script block given (wrote ++ written) now sink after before made →
           CountsFault fault.Output input now sink after
           → made.multiplies ≤ before.multiplies + cost_of script (frames_in_bytes script given)
@@ -255,8 +255,8 @@ module _ (script : Script) (block : ℕ) (ready : IsReady script block) (header 
         written = wrote ++ written;
         gave = standing.gave;
         in_limit = in_limit;
-        put = put ∙ ap (λ known. append_known known written) standing.took.put ∙
-            sym (append_known-append sink.put wrote written);
+        put = put ∙ ap (λ known. append_put known written) standing.took.put ∙
+            sym (append_put-append sink.put wrote written);
         unflushed = tt;
         cause = opens.has (heard ++ bytes);
         wrote = has_written;

@@ -4,9 +4,10 @@ use Rattle.std.proofs.Common.{Some, None, Result, Ok, Err, sym, ap, ◌∙◌, s
 use Rattle.std.proofs.Common.{length-append, inl, inr}
 use Rattle.std.proofs.lemmas.Bool.{cases_lt}
 use Rattle.std.proofs.lemmas.List.{length-take-le}
-use Rattle.std.specs.Io.KnownBytes.{IsAtEnd, append_known}
+use Rattle.std.specs.Io.KnownBytes.{IsAtEnd}
+use Rattle.dsp_ports.specs.Ports.{append_put}
 use Rattle.dsp_ports.specs.Ports.{SourceState, SinkState, one_more, IsSettled}
-use Rattle.dsp_ports.proofs.Moved.{append_known-append}
+use Rattle.dsp_ports.proofs.Moved.{append_put-append}
 use Rattle.dsp_defs.specs.Block.{Frame}
 use Rattle.dsp_defs.specs.Counts.{Counts}
 use Rattle.dsp_defs.specs.Output.{HasHeader, input_header, input_signal, output_header, output_pad, output_coding}
@@ -311,10 +312,10 @@ module _ (script : Script) (block : ℕ) (ready : IsReady script block) (session
       fed_script : fed.script ≡ script
       fed_script = same.script ∙ passed.script_is
 
-      put_then : (final : SinkState) (written : List ℕ) → final.put ≡ append_known mid.put written →
-          final.put ≡ append_known then.put (fed.out ++ written)
-      put_then final written put = put ∙ ap (λ known. append_known known written) passes.took.put ∙
-          sym (append_known-append then.put fed.out written)
+      put_then : (final : SinkState) (written : List ℕ) → final.put ≡ append_put mid.put written →
+          final.put ≡ append_put then.put (fed.out ++ written)
+      put_then final written put = put ∙ ap (λ known. append_put known written) passes.took.put ∙
+          sym (append_put-append then.put fed.out written)
 
       written_is : (written : List ℕ) → head ++ live_bytes script x ++ (fed.out ++ written) ≡ head ++
           (live_bytes script y ++ written)
@@ -382,9 +383,9 @@ module _ (script : Script) (block : ℕ) (ready : IsReady script block) (session
             };
             no_window = ap (window_at script.blocks) (is ∙ sym frames_taken) ∙ no_window;
             put = put_then final tail.written tail.put ∙
-                ap (λ known. append_known known (fed.out ++ tail.written)) passed.took.put ∙
-                sym (append_known-append sink.put (head ++ live_bytes script x) (fed.out ++ tail.written)) ∙
-                ap (append_known sink.put) all;
+                ap (λ known. append_put known (fed.out ++ tail.written)) passed.took.put ∙
+                sym (append_put-append sink.put (head ++ live_bytes script x) (fed.out ++ tail.written)) ∙
+                ap (append_put sink.put) all;
             lag = subst (LagsByOne script block given) all (lag script block ready header passed.first passed.opens
                 session.banked passed.blocks heard rest input now sink then before counts standing
                 (fed.out ++ tail.written));

@@ -2,9 +2,9 @@
 use Rattle.std.proofs.Common.{◌≡◌, ℕ, ◌+◌, ◌≤◌, List, [], ◌∷◌, ◌++◌, length, take, drop, refl, sym, ap, ◌∙◌, subst}
 use Rattle.std.proofs.Common.{arith, append_assoc, append-nil, length-append, Result, Ok, Err}
 use Rattle.std.proofs.lemmas.List.{take-append-drop}
-use Rattle.std.specs.Io.KnownBytes.{append_known}
+use Rattle.dsp_ports.specs.Ports.{append_put}
 use Rattle.dsp_ports.specs.Ports.{SinkState, Took, one_more}
-use Rattle.dsp_ports.proofs.Moved.{append_known-append}
+use Rattle.dsp_ports.proofs.Moved.{append_put-append}
 use Rattle.dsp_defs.specs.Block.{Frame, live_chain, whole_chain}
 use Rattle.dsp_defs.specs.Counts.{Counts}
 use Rattle.dsp_defs.specs.Measure.{measures}
@@ -205,10 +205,10 @@ tail_within first session next answer {counts} {counted} ends script frames star
 
 -- ---- what was written
 
-put_more : (sink mid then : SinkState) (written more : List ℕ) → mid.put ≡ append_known sink.put written →
-    then.put ≡ append_known mid.put more → then.put ≡ append_known sink.put (written ++ more)
-put_more sink mid then written more first put = put ∙ ap (λ known. append_known known more) first ∙
-    sym (append_known-append sink.put written more)
+put_more : (sink mid then : SinkState) (written more : List ℕ) → mid.put ≡ append_put sink.put written →
+    then.put ≡ append_put mid.put more → then.put ≡ append_put sink.put (written ++ more)
+put_more sink mid then written more first put = put ∙ ap (λ known. append_put known more) first ∙
+    sym (append_put-append sink.put written more)
 
 -- so much of the tail was given and written by a session that began so
 pub record TailSoFar (old session : SessionState) (frames pieces : ℕ) (sink after : SinkState)
@@ -218,7 +218,7 @@ pub record TailSoFar (old session : SessionState) (frames pieces : ℕ) (sink af
   pub counted : session.chain.frames ≡ old.chain.frames
   pub made : counts.multiplies + made_of old.chain ≡ before.multiplies + made_of session.chain
   pub written : List ℕ
-  pub put : after.put ≡ append_known sink.put written
+  pub put : after.put ≡ append_put sink.put written
   pub tailing : (x : List Frame) → StandsFor old x →
       Tailing old.script x frames pieces session written before counts
 
@@ -259,7 +259,7 @@ module _ (old session next : SessionState) (frames pieces : ℕ) (sink mid : Sin
 
   -- the sink failed within a piece
   pub tail_part : {E : Type 0} (error : E) (count : ℕ) (after : SinkState) →
-      after.put ≡ append_known mid.put (take count next.out) → after.faults ≡ one_more mid.faults →
+      after.put ≡ append_put mid.put (take count next.out) → after.faults ≡ one_more mid.faults →
       WroteTail {T = Unit {0}} (Err error) old next sink after before counted
   tail_part error count after put risen = record {
     same = still;
@@ -277,7 +277,7 @@ module _ (old session next : SessionState) (frames pieces : ℕ) (sink mid : Sin
 
   -- a piece was written
   pub tail_next : (answer ≡ 0 → ⊥) → answer ≡ length next.out → (after : SinkState) →
-      after.put ≡ append_known mid.put next.out → after.faults ≡ mid.faults →
+      after.put ≡ append_put mid.put next.out → after.faults ≡ mid.faults →
       TailSoFar old next frames (pieces + 1) sink after before counted
   tail_next some is after put clean = record {
     same = still;

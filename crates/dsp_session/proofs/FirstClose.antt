@@ -3,7 +3,8 @@ use Rattle.std.proofs.Common.{◌≡◌, ℕ, ◌+◌, ◌-◌, ◌*◌, ◌/◌
 use Rattle.std.proofs.Common.{None, IfSome, sym, ap, ◌∙◌, subst, arith, append_assoc, length-append, inl, inr}
 use Rattle.std.proofs.lemmas.Bool.{cases_lt}
 use Rattle.std.proofs.lemmas.List.{length-take-le, take_all}
-use Rattle.std.specs.Io.KnownBytes.{IsAtEnd, append_known}
+use Rattle.std.specs.Io.KnownBytes.{IsAtEnd}
+use Rattle.dsp_ports.specs.Ports.{append_put}
 use Rattle.std.specs.Option.{option_map}
 use Rattle.dsp_ports.specs.Ports.{SourceState, SinkState, one_more, Flushed}
 use Rattle.dsp_ports.proofs.Moved.{Gave-append, flushed-settled}
@@ -263,7 +264,7 @@ module _ (start session : SessionState) (header : Header) (span : Span) (block :
             laws.stops_unwritten start session header span last.before input mid between sink first then
             before counts new coding from begun going frames now bytes reached.read.gave declared few in_limit
             in_block fed made passes.same passes.fed final (length fed.out)
-            (put ∙ passes.took.put ∙ ap (append_known then.put)
+            (put ∙ passes.took.put ∙ ap (append_put then.put)
             (sym (take_all (length fed.out) fed.out (omega arith)))) (failed ∙ ap one_more passes.no_fault)
             reached.read.no_fault
 
@@ -303,7 +304,7 @@ module _ (start session : SessionState) (header : Header) (span : Span) (block :
             ∙ ap (λ xs. output_header script header ++ xs) adds ∙
             sym (append_assoc (output_header script header) going.advances.written fed.out)
 
-        put_all : after.put ≡ append_known sink.put ((output_header script header ++ going.advances.written) ++ fed.out)
+        put_all : after.put ≡ append_put sink.put ((output_header script header ++ going.advances.written) ++ fed.out)
         put_all = laws.put_more start session header span last.before input mid between sink first then
             before counts new coding from begun going fed.out after passes.took.put
 
@@ -311,8 +312,8 @@ module _ (start session : SessionState) (header : Header) (span : Span) (block :
             FirstDone script frames fed input now sink final before made
         done final flushed clean = record {
           given = given;
-          gave = Gave-append input mid now begun.opened.first all begun.opened.gave
-              (Gave-append mid between now going.heard bytes going.gave reached.read.gave);
+          gave = Gave-append input mid now begun.opened.first all begun.opened.going begun.opened.gave
+              (Gave-append mid between now going.heard bytes going.going going.gave reached.read.gave);
           has = begun.opened.opens.has all;
           exact = subst (λ (h : Header). length given ≡ h.start + frames * frame_bytes script h.coding)
               (sym header_is) exact_length;
@@ -332,7 +333,7 @@ module _ (start session : SessionState) (header : Header) (span : Span) (block :
             not_full = subst (λ n. n ≤ MAX_GATHERED) (λ i. gathered (going.advances.same.script i).blocks (counted i))
                 passes.not_full;
           };
-          put = flushed.put ∙ put_all ∙ ap (append_known sink.put) (sym output_is);
+          put = flushed.put ∙ put_all ∙ ap (append_put sink.put) (sym output_is);
           lag = subst (λ b. LagsByOne script b given (first_output script frames given))
               (sym (passes.same.block ∙ going.advances.same.block))
               (subst (LagsByOne script start.block given) (sym output_is)

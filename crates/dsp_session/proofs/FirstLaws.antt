@@ -3,9 +3,10 @@ use Rattle.std.proofs.Common.{◌≡◌, ℕ, ◌+◌, ◌-◌, ◌*◌, ◌<◌
 use Rattle.std.proofs.Common.{None, refl, sym, ap, ◌∙◌, subst, arith, append_assoc, append-nil, length-append, inl}
 use Rattle.std.proofs.Common.{inr}
 use Rattle.std.proofs.lemmas.List.{take-append-drop}
-use Rattle.std.specs.Io.KnownBytes.{IsAtEnd, append_known}
+use Rattle.std.specs.Io.KnownBytes.{IsAtEnd}
+use Rattle.dsp_ports.specs.Ports.{append_put}
 use Rattle.dsp_ports.specs.Ports.{SourceState, SinkState, one_more, Gave, Took}
-use Rattle.dsp_ports.proofs.Moved.{Took-nil, Took-append, Gave-nil, Gave-append, append_known-append}
+use Rattle.dsp_ports.proofs.Moved.{Took-nil, Took-append, Gave-nil, Gave-append, append_put-append}
 use Rattle.dsp_defs.specs.Block.{Frame}
 use Rattle.dsp_defs.specs.Counts.{Counts}
 use Rattle.dsp_defs.specs.Output.{HasHeader, declared_frames, output_header, live_bytes}
@@ -52,7 +53,7 @@ module _ (script : Script) (block : ℕ) (ready : IsReady script block) (frames 
       (before counts : Counts)
       → InDeclared (declared_bytes script header) (length bytes) → header.start + length bytes ≤ MAX_INPUT →
       LagsByOne script block (opened.first ++ bytes) written
-      → Gave mid now bytes → after.put ≡ append_known sink.put written
+      → Gave mid now bytes → after.put ≡ append_put sink.put written
       → Begins written (output_header script header ++ live_bytes script (signal script header.coding bytes))
       → ((given : List ℕ) → Begins written (first_output script (frames_in_bytes script given) given) →
       FirstWritten stop script given written sink after)
@@ -67,7 +68,7 @@ module _ (script : Script) (block : ℕ) (ready : IsReady script block) (frames 
       record {
         given = opened.first ++ bytes;
         written = written;
-        gave = Gave-append input mid now opened.first bytes opened.gave gave;
+        gave = Gave-append input mid now opened.first bytes opened.going opened.gave gave;
         in_limit = omega (arith, limit, opened.opens.start, length-append opened.first bytes);
         put = put;
         cause = cause;
@@ -226,7 +227,7 @@ module _ (start session : SessionState) (header : Header) (span : Span) (taken :
   together : (bytes : List ℕ) → signal script header.coding (heard ++ bytes) ≡ x ++ signal script header.coding bytes
   together bytes = signal-append script header.coding some_bytes heard bytes (going.blocks * start.block) whole
 
-  put_so_far : then.put ≡ append_known sink.put (head ++ wrote)
+  put_so_far : then.put ≡ append_put sink.put (head ++ wrote)
   put_so_far = (Took-append sink first then head wrote begun.took going.advances.took).put
 
   clean : then.faults ≡ sink.faults
@@ -264,10 +265,10 @@ module _ (start session : SessionState) (header : Header) (span : Span) (taken :
       (rw (together bytes) (omega (arith, length-append x (signal script header.coding bytes)))) in
       omega (arith, more, cost_so_far)
 
-  pub put_more : (written : List ℕ) (after : SinkState) → after.put ≡ append_known then.put written →
-      after.put ≡ append_known sink.put ((head ++ wrote) ++ written)
-  put_more written after put = put ∙ ap (λ known. append_known known written) put_so_far ∙
-      sym (append_known-append sink.put (head ++ wrote) written)
+  pub put_more : (written : List ℕ) (after : SinkState) → after.put ≡ append_put then.put written →
+      after.put ≡ append_put sink.put ((head ++ wrote) ++ written)
+  put_more written after put = put ∙ ap (λ known. append_put known written) put_so_far ∙
+      sym (append_put-append sink.put (head ++ wrote) written)
 
   module _ (frames : ℕ) (later : SourceState) (bytes : List ℕ) (gave : Gave now later bytes)
       (declared : InDeclared (declared_bytes script header) (taken + length bytes)) (few : frames_heard bytes ≤ frames)
@@ -294,7 +295,7 @@ module _ (start session : SessionState) (header : Header) (span : Span) (taken :
 
     -- all that came was worked on or not, and this front of its values was written
     pub stops_at : (stop : PartFault) (written : List ℕ) (after : SinkState) (made : Counts) →
-        after.put ≡ append_known then.put written
+        after.put ≡ append_put then.put written
         → Begins (wrote ++ written) (live_bytes script (x ++ signal script header.coding bytes))
         → ((given : List ℕ) → Begins ((head ++ wrote) ++ written)
         (first_output script (frames_in_bytes script given) given) →
@@ -308,7 +309,7 @@ module _ (start session : SessionState) (header : Header) (span : Span) (taken :
         first_stops script start.block ready frames header input mid sink begun.opened stop (heard ++ bytes)
         ((head ++ wrote) ++ written) later after before made
         in_all (omega (arith, limit, all_taken)) (lag_at written)
-        (Gave-append mid now later heard bytes going.gave gave) (put_more written after put)
+        (Gave-append mid now later heard bytes going.going going.gave gave) (put_more written after put)
         (begins bytes written front) shape cause faults few fewer cost
 
     -- ---- each end
@@ -316,7 +317,7 @@ module _ (start session : SessionState) (header : Header) (span : Span) (taken :
     read_so_far : now.faults ≡ input.faults
     read_so_far = going.no_fault ∙ begun.opened.no_fault
 
-    nothing_more : then.put ≡ append_known then.put []
+    nothing_more : then.put ≡ append_put then.put []
     nothing_more = (Took-nil then).put
 
     count_is : frames_in_bytes script (begun.opened.first ++ (heard ++ bytes)) ≡ frames_heard bytes
@@ -382,7 +383,7 @@ module _ (start session : SessionState) (header : Header) (span : Span) (taken :
           ap (λ (s : Script). live_cost_of s (length x)) going.advances.same.script in
           omega (arith, feeds.multiplies, after, prior, cost_so_far)
 
-      pub stops_unwritten : (after : SinkState) (count : ℕ) → after.put ≡ append_known then.put (take count fed.out) →
+      pub stops_unwritten : (after : SinkState) (count : ℕ) → after.put ≡ append_put then.put (take count fed.out) →
           after.faults ≡ one_more then.faults → later.faults ≡ now.faults
           → FirstStopped script start.block frames (part_fault.Stream fault.Output) input later sink after before made
       stops_unwritten after count put risen still =

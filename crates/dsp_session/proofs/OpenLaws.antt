@@ -3,7 +3,7 @@ use Rattle.std.proofs.Common.{◌≡◌, ◌≢◌, ℕ, ◌*◌, ◌/◌, ◌<�
 use Rattle.std.proofs.Common.{Option, Some, None, refl, sym, ap, ◌∙◌, subst, arith, append-nil}
 use Rattle.std.proofs.Common.{append_assoc, length-append, length-take-le, inl}
 use Rattle.std.proofs.lemmas.List.{take-append-drop}
-use Rattle.std.specs.Io.KnownBytes.{append_known}
+use Rattle.dsp_ports.specs.Ports.{append_put}
 use Rattle.dsp_ports.specs.Ports.{SourceState, SinkState, one_more, Gave, Took, settled_after}
 use Rattle.dsp_ports.proofs.Moved.{Took-nil}
 use Rattle.dsp_defs.specs.Counts.{Counts}
@@ -170,7 +170,7 @@ module _ (script : Script) (block : ℕ) (counts : Counts) (ready : IsReady scri
       by_size (Some size) = omega arith
 
   stops_first : (banked : Bool) (fault : StreamFault) (after : SinkState) (written : List ℕ) →
-      after.put ≡ append_known sink.put written → IsUnflushed fault sink after written →
+      after.put ≡ append_put sink.put written → IsUnflushed fault sink after written →
       IsCause fault script block first now → HasWritten fault script block first written now sink after counts counts →
       CountsFault fault input now sink after
       → Stopped banked script block fault input now sink after counts counts

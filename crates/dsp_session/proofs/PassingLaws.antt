@@ -49,6 +49,7 @@ pub record Going (script : Script) (block : ℕ) (header : Header) (taken : ℕ)
   pub gave : Gave input now heard
   pub took : Took sink after (live_bytes script (signal script header.coding heard))
   pub not_full : gathered script.blocks (blocks * block) ≤ MAX_GATHERED
+  pub going : now.ended ≡ input.ended
   pub no_input_fault : now.faults ≡ input.faults
   pub no_output_fault : after.faults ≡ sink.faults
   pub cost : counts.multiplies ≡ before.multiplies + live_cost_of script (length (signal script header.coding heard))
@@ -121,8 +122,8 @@ module _ (script : Script) (block : ℕ) (ready : IsReady script block) (header 
 
     all_given : (later : SourceState) (bytes : List ℕ) → Gave now later bytes →
         Gave origin later (first ++ (heard ++ bytes))
-    all_given later bytes gave = Gave-append origin input later first (heard ++ bytes) begun.opened.gave
-        (Gave-append input now later heard bytes going.gave gave)
+    all_given later bytes gave = Gave-append origin input later first (heard ++ bytes) begun.opened.going
+        begun.opened.gave (Gave-append input now later heard bytes going.going going.gave gave)
 
     all_took : Took empty then wrote
     all_took = Took-append empty sink then (output_header script header) live_heard begun.took going.took

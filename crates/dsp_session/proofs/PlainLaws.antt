@@ -139,6 +139,7 @@ module _ (start session : SessionState) (header : Header) (span : Span) (taken :
     took = subst (Took sink then) written_is going.advances.took;
     not_full = subst (λ n. n ≤ MAX_GATHERED) (λ i. gathered (going.advances.same.script i).blocks (frames_are i))
         going.advances.runs.not_full;
+    going = going.going;
     no_input_fault = going.no_fault;
     no_output_fault = going.advances.no_fault;
     cost = (let first : live_cost_of script start.chain.frames ≡ 0 = ap (live_cost_of script) none ∙

@@ -119,7 +119,7 @@ module _ (script : Script) (block : ℕ) (ready : IsReady script block) (start :
         → RestStopped script block start from (part_fault.Behind from got) input now sink sink before before
     behind got bytes now fewer gave limit few clean counted =
         nothing_done (part_fault.Behind from got) (given bytes) now
-        (Gave-append input mid now opened.first bytes opened.gave gave)
+        (Gave-append input mid now opened.first bytes opened.going opened.gave gave)
         (omega (arith, limit, opened.opens.start, length-append opened.first bytes))
         (λ _. within_one header mid opened bytes few (given bytes) refl) (
           opened.opens.has bytes,
@@ -171,7 +171,7 @@ module _ (script : Script) (block : ℕ) (ready : IsReady script block) (start :
         (part_fault.Stream (of_input error)) input now sink sink before before
     unskipped end error now end_is u =
         nothing_done (part_fault.Stream (of_input error)) (given u.bytes) now
-        (Gave-append input mid now opened.first u.bytes opened.gave u.gave)
+        (Gave-append input mid now opened.first u.bytes opened.going opened.gave u.gave)
         (omega (arith, u.in_limit, opened.opens.start, length-append opened.first u.bytes))
         (λ _. within_one header mid opened u.bytes (omega (arith, u.in_part, end_is)) (given u.bytes) refl)
         (input_rest error script block from (given u.bytes) now

@@ -39,7 +39,7 @@ module _ (start : SessionState) (header : Header) (span : Span) (input opened_at
     (from : span.from ≡ start.chain.frames * frame_bytes start.script header.coding)
     (opened : Opened start.script header input opened_at)
     (skip : List ℕ) (skipped : Gave opened_at mid skip) (skip_long : length skip ≡ span.from)
-    (still : mid.faults ≡ opened_at.faults) where
+    (still : (mid.faults ≡ opened_at.faults) × (mid.ended ≡ opened_at.ended)) where
   abbrev script : Script
   script = start.script
 

@@ -3,9 +3,9 @@ use Rattle.std.proofs.Common.{◌≡◌, ℕ, ◌+◌, ◌-◌, ◌*◌, ◌<◌
 use Rattle.std.proofs.Common.{sym, ap, ◌∙◌, subst, arith, append_assoc, append-nil, length-append, inl, inr}
 use Rattle.std.proofs.lemmas.Bool.{cases_lt}
 use Rattle.std.proofs.lemmas.List.{take-append-drop, take_at, drop_at}
-use Rattle.std.specs.Io.KnownBytes.{append_known}
+use Rattle.dsp_ports.specs.Ports.{append_put}
 use Rattle.dsp_ports.specs.Ports.{SourceState, SinkState, one_more, Gave, Took, IsSettled}
-use Rattle.dsp_ports.proofs.Moved.{Took-nil, Gave-append, append_known-append}
+use Rattle.dsp_ports.proofs.Moved.{Took-nil, Gave-append, append_put-append}
 use Rattle.dsp_chain.specs.Chain.{made_of}
 use Rattle.dsp_defs.specs.Block.{Frame}
 use Rattle.dsp_defs.specs.Counts.{Counts}
@@ -47,7 +47,8 @@ module _ (start session : SessionState) (header : Header) (span : Span) (taken :
     (from : span.from ≡ start.chain.frames * frame_bytes start.script header.coding)
     (opened : Opened start.script header input opened_at)
     (skip : List ℕ) (skipped : Gave opened_at mid skip) (skip_long : length skip ≡ span.from)
-    (still : mid.faults ≡ opened_at.faults) (going : Going start session header span taken mid now sink then
+    (still : (mid.faults ≡ opened_at.faults) × (mid.ended ≡ opened_at.ended))
+    (going : Going start session header span taken mid now sink then
     before counts) where
   abbrev script : Script
   script = start.script
@@ -183,16 +184,16 @@ module _ (start session : SessionState) (header : Header) (span : Span) (taken :
     given_long = omega (arith, all_long, opened.opens.start, length-append opened.first (skip ++ (heard ++ bytes)))
 
     gave_all : Gave input end (given bytes)
-    gave_all = Gave-append input opened_at end opened.first (skip ++ (heard ++ bytes)) opened.gave
-        (Gave-append opened_at mid end skip (heard ++ bytes) skipped
-        (Gave-append mid now end heard bytes going.gave gave))
+    gave_all = Gave-append input opened_at end opened.first (skip ++ (heard ++ bytes)) opened.going opened.gave
+        (Gave-append opened_at mid end skip (heard ++ bytes) still.1 skipped
+        (Gave-append mid now end heard bytes going.going going.gave gave))
 
     all_in_limit : length (given bytes) ≤ MAX_INPUT
     all_in_limit = omega (arith, below_limit, given_long)
 
     -- a front of what the frames add was written, or of all
     pub rest_stops : (stop : PartFault) (written : List ℕ) (after : SinkState) (made : Counts) →
-        after.put ≡ append_known sink.put (wrote ++ written)
+        after.put ≡ append_put sink.put (wrote ++ written)
         → ((x : List Frame) → StandsFor start x → RestWritten script x frames (given bytes) (wrote ++ written) end)
         → IsRestCause stop script start.block frames (given bytes) end → CountsPartFault stop input end sink after
         → made.multiplies + live_cost_of script frames ≤ before.multiplies + cost_of script reached
@@ -211,10 +212,10 @@ module _ (start session : SessionState) (header : Header) (span : Span) (taken :
       cost = λ enough. rw count_is cost;
     }
 
-    put_more : (written : List ℕ) (after : SinkState) → after.put ≡ append_known then.put written →
-        after.put ≡ append_known sink.put (wrote ++ written)
-    put_more written after put = put ∙ ap (λ known. append_known known written) going.advances.took.put ∙
-        sym (append_known-append sink.put wrote written)
+    put_more : (written : List ℕ) (after : SinkState) → after.put ≡ append_put then.put written →
+        after.put ≡ append_put sink.put (wrote ++ written)
+    put_more written after put = put ∙ ap (λ known. append_put known written) going.advances.took.put ∙
+        sym (append_put-append sink.put wrote written)
 
     cost_within : counts.multiplies + live_cost_of script frames ≤ before.multiplies + cost_of script reached
     cost_within =
@@ -226,7 +227,7 @@ module _ (start session : SessionState) (header : Header) (span : Span) (taken :
         omega (arith, going.advances.multiplies, within)
 
     read_so_far : now.faults ≡ input.faults
-    read_so_far = going.no_fault ∙ still ∙ opened.no_fault
+    read_so_far = going.no_fault ∙ still.0 ∙ opened.no_fault
 
     later_behind : (x : List Frame) → (x ++ fed) ++ signal script header.coding bytes ≡ with_later x
     later_behind x = append_assoc x fed (signal script header.coding bytes) ∙
@@ -372,7 +373,7 @@ module _ (start session : SessionState) (header : Header) (span : Span) (taken :
             (omega arith)
 
         pub rest_unwritten : (after : SinkState) (count : ℕ) →
-            after.put ≡ append_known then.put (take count last.out) → after.faults ≡ one_more then.faults →
+            after.put ≡ append_put then.put (take count last.out) → after.faults ≡ one_more then.faults →
             end.faults ≡ now.faults
             → RestStopped script start.block start frames (part_fault.Stream fault.Output) input end sink after before
             made
@@ -400,9 +401,9 @@ module _ (start session : SessionState) (header : Header) (span : Span) (taken :
           abbrev added : List ℕ
           added = last.out ++ writes.written
 
-          put_all : after.put ≡ append_known sink.put (wrote ++ added)
-          put_all = put_more added after (writes.put ∙ ap (λ known. append_known known writes.written) took.put ∙
-              sym (append_known-append then.put last.out writes.written))
+          put_all : after.put ≡ append_put sink.put (wrote ++ added)
+          put_all = put_more added after (writes.put ∙ ap (λ known. append_put known writes.written) took.put ∙
+              sym (append_put-append then.put last.out writes.written))
 
           -- behind the live values of x
           behind_live : (x : List Frame) → StandsFor start x →

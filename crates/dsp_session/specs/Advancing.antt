@@ -104,6 +104,7 @@ pub record Going (start session : SessionState) (header : Header) (span : Span) 
   pub in_span : taken ≤ span.end
   pub gave : Gave input now heard
   pub no_fault : now.faults ≡ input.faults
+  pub going : now.ended ≡ input.ended
 
 -- the samples have ended within a block, or the part of them has, and all the blocks before it have passed
 pub record Reached (start session : SessionState) (header : Header) (span : Span) (block : List ℕ) (last : Last)

@@ -1,6 +1,6 @@
 -- Block after block: what is taken, worked on and written.
 use Rattle.std.specs.Prelude.{◌≡◌, ℕ, ◌+◌, ◌*◌, ◌<◌, ◌≤◌, Bool, List, [], ◌++◌, length, take, None, Result, OnOk}
-use Rattle.std.specs.Io.KnownBytes.{append_known}
+use Rattle.dsp_ports.specs.Ports.{append_put}
 use Rattle.dsp_ports.specs.Ports.{SourceState, SinkState, CountsFaults, one_more, Gave, Took}
 use Rattle.dsp_defs.specs.Block.{Frame}
 use Rattle.dsp_defs.specs.Counts.{Counts}
@@ -47,7 +47,7 @@ abbrev pub FailsToPass : StreamFault → Bool → Script → Coding → List Fra
 FailsToPass fault.Output banked script coding x bytes sink after before counts =
     (given written : List ℕ) × (live_bytes script (x ++ signal script coding bytes) ≡ live_bytes script x ++ given) ×
     Begins written given
-    × (length written < length given) × (after.put ≡ append_known sink.put written) ×
+    × (length written < length given) × (after.put ≡ append_put sink.put written) ×
     (after.faults ≡ one_more sink.faults) × PassCosts banked script coding x bytes before counts
     × (gathered script.blocks (length (x ++ signal script coding bytes)) ≤ MAX_GATHERED)
 FailsToPass (fault.Lengths (length_fault.Gather told more)) banked script coding x bytes sink after before counts =
@@ -99,7 +99,7 @@ HasPassed session header block last =
 -- after a front of the bytes a part of the rest was written, and all of it where the sink has not failed
 pub record WritesRest {T E : Type 0} (result : Result T E) (front all : List ℕ) (sink after : SinkState) : Type 0 where
   pub written : List ℕ
-  pub put : after.put ≡ append_known sink.put written
+  pub put : after.put ≡ append_put sink.put written
   pub begins : Begins (front ++ written) all
   pub whole : OnOk result (front ++ written ≡ all)
 
@@ -108,7 +108,7 @@ pub record WritesRest {T E : Type 0} (result : Result T E) (front all : List ℕ
 pub record WritesTail {T E : Type 0} (result : Result T E) (session : SessionState) (behind : List ℕ)
     (sink after : SinkState) : Type 0 where
   pub written : List ℕ
-  pub put : after.put ≡ append_known sink.put written
+  pub put : after.put ≡ append_put sink.put written
   pub begins : (x : List Frame) → StandsFor session x →
       Begins (live_bytes session.script x ++ written) (whole_bytes session.script x ++ behind)
   pub whole : (x : List Frame) → StandsFor session x →

@@ -1,7 +1,8 @@
 -- How the bytes that a stream over a part of an input took, and those that it wrote, stand to each other at each of
 -- its ends. A part is the first frames, up to a place, or all frames behind them.
 use Rattle.std.specs.Prelude.{◌≡◌, ◌⊎◌, ℕ, ◌+◌, ◌-◌, ◌*◌, ◌<◌, ◌≤◌, List, ◌++◌, length, take, drop, Some, None}
-use Rattle.std.specs.Io.KnownBytes.{IsAtEnd, append_known}
+use Rattle.std.specs.Io.KnownBytes.{IsAtEnd}
+use Rattle.dsp_ports.specs.Ports.{append_put}
 use Rattle.dsp_ports.specs.Ports.{SourceState, SinkState, Gave, IsSettled}
 use Rattle.dsp_defs.specs.Block.{Frame}
 use Rattle.dsp_defs.specs.Counts.{Counts}
@@ -123,7 +124,7 @@ pub record FirstDone (script : Script) (frames : ℕ) (session : SessionState) (
   pub stands : StandsFor session (input_signal script given)
   pub runs : Runs session
   pub limits : KeepsLimits script (input_header script given) frames
-  pub put : after.put ≡ append_known sink.put (first_output script frames given)
+  pub put : after.put ≡ append_put sink.put (first_output script frames given)
   pub lag : LagsByOne script session.block given (first_output script frames given)
   pub settled : IsSettled after
   pub no_input_fault : now.faults ≡ input.faults
@@ -146,7 +147,7 @@ pub record FirstStopped (script : Script) (block frames : ℕ) (stop : PartFault
   pub written : List ℕ
   pub gave : Gave input now given
   pub in_limit : length given ≤ MAX_INPUT
-  pub put : after.put ≡ append_known sink.put written
+  pub put : after.put ≡ append_put sink.put written
   pub cause : IsFirstCause stop script block frames given now
   pub wrote : FirstWritten stop script given written sink after
   pub faults : CountsPartFault stop input now sink after
@@ -174,7 +175,7 @@ pub record RestDone (script : Script) (start : SessionState) (from frames : ℕ)
   pub enough : from ≤ frames
   pub limits : KeepsLimits script (input_header script given) frames
   pub no_window : window_at script.blocks frames ≡ None
-  pub put : after.put ≡ append_known sink.put written
+  pub put : after.put ≡ append_put sink.put written
   pub lag : LaterLagsByOne script start.block start from given written
   pub output : (x : List Frame) → StandsFor start x
       → live_bytes script x ++ written ≡ whole_bytes script (x ++ later_frames script from given) ++ output_pad script
@@ -203,7 +204,7 @@ pub record RestStopped (script : Script) (block : ℕ) (start : SessionState) (f
   pub written : List ℕ
   pub gave : Gave input now given
   pub in_limit : length given ≤ MAX_INPUT
-  pub put : after.put ≡ append_known sink.put written
+  pub put : after.put ≡ append_put sink.put written
   pub cause : IsRestCause stop script block from given now
   pub idle : frames_in_bytes script given < from → (after ≡ sink) × (counts ≡ before)
   pub wrote : (x : List Frame) → StandsFor start x → RestWritten script x from given written now
@@ -225,3 +226,4 @@ pub record Skipped (script : Script) (header : Header) (end taken : ℕ) (input 
   pub ended : (taken ≡ end) ⊎ AreAll (declared_bytes script header) taken now
   pub room_left : header.size ≡ None → taken < end → header.start + taken < MAX_INPUT
   pub no_fault : now.faults ≡ input.faults
+  pub going : taken ≡ end → now.ended ≡ input.ended

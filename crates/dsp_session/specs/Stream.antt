@@ -1,6 +1,6 @@
 -- How the bytes that a stream took and the bytes that it wrote stand to each other at each of its ends.
 use Rattle.std.specs.Prelude.{◌≡◌, ◌⊎◌, ℕ, ◌+◌, ◌-◌, ◌*◌, ◌/◌, ◌<◌, ◌≤◌, Bool, List, length, take, Some, None}
-use Rattle.std.specs.Io.KnownBytes.{append_known}
+use Rattle.dsp_ports.specs.Ports.{append_put}
 use Rattle.dsp_defs.specs.Counts.{Counts}
 use Rattle.dsp_ports.specs.Ports.{SourceState, SinkState, one_more, Gave, IsSettled, settled_after}
 use Rattle.dsp_defs.specs.Output.{HasHeader, input_header, input_signal, known_frames, output, part}
@@ -122,7 +122,7 @@ pub record Stopped (banked : Bool) (script : Script) (block : ℕ) (fault : Stre
   pub written : List ℕ
   pub gave : Gave input now given
   pub in_limit : length given ≤ MAX_INPUT
-  pub put : after.put ≡ append_known sink.put written
+  pub put : after.put ≡ append_put sink.put written
   pub unflushed : IsUnflushed fault sink after written
   pub cause : IsCause fault script block given now
   pub wrote : HasWritten fault script block given written now sink after before counts
@@ -152,7 +152,7 @@ pub record Done (banked : Bool) (script : Script) (block frames : ℕ) (input no
   pub whole : IsTakenWhole script given now
   pub limits : KeepsLimits script (input_header script given) frames
   pub no_window : window_at script.blocks frames ≡ None
-  pub put : after.put ≡ append_known sink.put (output script given)
+  pub put : after.put ≡ append_put sink.put (output script given)
   pub lag : LagsByOne script block given (output script given)
   pub settled : IsSettled after
   pub no_input_fault : now.faults ≡ input.faults

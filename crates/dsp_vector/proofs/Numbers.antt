@@ -1,13 +1,14 @@
 -- Numbers of a format that stay in 32 bits.
-use Rattle.std.proofs.Common.{ℤ, pos, negsuc, ◌≡◌, ◌-◌, ◌^◌, ◌-ℤ◌, ◌≤ℤ◌, ◌∙◌, ap, arith, SFits, FitsSigned, w32, to_z}
-use Rattle.std.proofs.Common.{of_z, to_z-of_z, refl, sym, lit<, ◌<◌, ◌*◌, ◌%◌, w8, w16, ℕ, ◌*ℤ◌, nat_abs}
+use Rattle.std.proofs.Common.{ℤ, pos, negsuc, ◌≡◌, ◌≤◌, ◌-◌, ◌^◌, ◌+ℤ◌, ◌-ℤ◌, ◌≤ℤ◌, ◌∙◌, ap, subst, arith, SFits}
+use Rattle.std.proofs.Common.{FitsSigned, w32, to_z, of_z, to_z-of_z, refl, sym, lit<}
+use Rattle.std.proofs.Common.{◌<◌, ◌*◌, ◌%◌, w8, w16, ℕ, ◌*ℤ◌, nat_abs}
 use Rattle.std.specs.Int.{int_max}
 use lib.Signed.{shr_z}
-use Rattle.std.proofs.lemmas.Int.{ints, clamps}
-use Rattle.dsp_defs.specs.Elementwise.{negate, scale, shift, IsScaleShift, IsShift}
+use Rattle.std.proofs.lemmas.Int.{ints, clamps, fits_signed_from_abs}
+use Rattle.dsp_defs.specs.Elementwise.{add, sub, mult, negate, scale, shift, IsScaleShift, IsShift}
 use Rattle.dsp_defs.specs.Formats.{word, word_bits}
 use Rattle.dsp_defs.specs.Numbers.{saturate}
-use Rattle.dsp_sat.proofs.Words.{shift_down-is, shift_up-is}
+use Rattle.dsp_sat.proofs.Words.{abs_within, shift_down-is, shift_up-is}
 use Rattle.dsp_defs.specs.declared.format.Fmt.{Fmt}
 use Rattle.dsp_defs.specs.declared.format.Fmt.TheVariants.{Q7, Q15, Q31}
 
@@ -105,6 +106,73 @@ negated format x m v fits is_m is_v =
     ap (λ z. to_z w32 (of_z w32 (pos 0 -ℤ z))) v_is
     ∙ kept (pos 0 -ℤ int_max x (pos 0 -ℤ greatest format)) (omega (arith, ints, c.2)) (omega (arith, ints, c.1))
     ∙ c.0
+
+-- ---- numbers of 8 or 16 bits
+
+narrow : (format : Fmt) (x : ℤ) → word_bits format < 32 → FitsSigned (word format) x → SFits w16 x
+narrow Q7 x less f = record { sfits = omega (arith, f.sfits) }
+narrow Q15 x less f = f
+narrow Q31 x less f = absurd (omega (arith, less))
+
+-- a format of less than 32 bits, by a number that was tested
+pub is-narrow : (format : Fmt) (n bits : ℕ) → n < 32 → n ≡ bits → bits ≡ word_bits format → word_bits format < 32
+is-narrow format n bits less is is' = omega arith
+
+pub some_bits : (format : Fmt) → 1 ≤ word_bits format
+some_bits Q7 = omega arith
+some_bits Q15 = omega arith
+some_bits Q31 = omega arith
+
+module _ (format : Fmt) (a b : ℤ) (less : word_bits format < 32) (wide_a : SFits w32 a) (wide_b : SFits w32 b)
+    (fits_a : FitsSigned (word format) a) (fits_b : FitsSigned (word format) b) where
+  -- neither the sum nor the difference leaves 32 bits
+  pub sum-fits : SFits w32 (to_z w32 (of_z w32 a) +ℤ to_z w32 (of_z w32 b))
+  sum-fits =
+      let f = narrow format a less fits_a in
+      let g = narrow format b less fits_b in
+      subst (SFits w32) (λ i. sym (to_z-of_z wide_a) i +ℤ sym (to_z-of_z wide_b) i) (both a b f g)
+    where
+      both : (x y : ℤ) → SFits w16 x → SFits w16 y → SFits w32 (x +ℤ y)
+      both x y f g = fits_signed_from_abs w32 (x +ℤ y)
+          (omega (arith, ints, abs_within w16 x f, abs_within w16 y g))
+
+  pub difference-fits : SFits w32 (to_z w32 (of_z w32 a) -ℤ to_z w32 (of_z w32 b))
+  difference-fits =
+      let f = narrow format a less fits_a in
+      let g = narrow format b less fits_b in
+      subst (SFits w32) (λ i. sym (to_z-of_z wide_a) i -ℤ sym (to_z-of_z wide_b) i) (both a b f g)
+    where
+      both : (x y : ℤ) → SFits w16 x → SFits w16 y → SFits w32 (x -ℤ y)
+      both x y f g = fits_signed_from_abs w32 (x -ℤ y)
+          (omega (arith, ints, abs_within w16 x f, abs_within w16 y g))
+
+  pub clamped-sum : (r : ℤ) → SFits w32 r → r ≡ saturate (word_bits format)
+      (to_z w32 (of_z w32 (to_z w32 (of_z w32 a) +ℤ to_z w32 (of_z w32 b)))) → to_z w32 (of_z w32 r) ≡ add format a b
+  clamped-sum r fits is = to_z-of_z fits ∙ is ∙ ap (saturate (word_bits format))
+      (to_z-of_z sum-fits ∙ (λ i. to_z-of_z wide_a i +ℤ to_z-of_z wide_b i))
+
+  pub clamped-difference : (r : ℤ) → SFits w32 r → r ≡ saturate (word_bits format)
+      (to_z w32 (of_z w32 (to_z w32 (of_z w32 a) -ℤ to_z w32 (of_z w32 b)))) → to_z w32 (of_z w32 r) ≡ sub format a b
+  clamped-difference r fits is = to_z-of_z fits ∙ is ∙ ap (saturate (word_bits format))
+      (to_z-of_z difference-fits ∙ (λ i. to_z-of_z wide_a i -ℤ to_z-of_z wide_b i))
+
+-- a number that is read as one of 16 bits
+pub half : (format : Fmt) (x : ℤ) → word_bits format < 32 → SFits w32 x → FitsSigned (word format) x →
+    SFits w16 (to_z w32 (of_z w32 x))
+half format x less wide fits = subst (SFits w16) (sym (to_z-of_z wide)) (narrow format x less fits)
+
+pub half-is : (m x : ℤ) → SFits w16 m → SFits w32 x → m ≡ to_z w32 (of_z w32 x) → to_z w16 (of_z w16 m) ≡ x
+half-is m x fits wide is = to_z-of_z fits ∙ is ∙ to_z-of_z wide
+
+-- their product, shifted down in 32 bits
+pub multiplied-is : (format : Fmt) (a b p r : ℤ) (d : ℕ) → word_bits format < 32 → SFits w32 p → p ≡ a *ℤ b →
+    d ≡ word_bits format - 1 → r ≡ saturate (word_bits format) (to_z w32 (of_z w32
+    (shr_z (to_z w32 (of_z w32 p)) (2 ^ d)))) → r ≡ mult format a b
+multiplied-is Q7 a b p r d less fits product down is =
+    is ∙ ap (saturate 8) (shift_down-is w32 p (a *ℤ b) d 7 fits product down)
+multiplied-is Q15 a b p r d less fits product down is =
+    is ∙ ap (saturate 16) (shift_down-is w32 p (a *ℤ b) d 15 fits product down)
+multiplied-is Q31 a b p r d less fits product down is = absurd (omega (arith, less))
 
 -- a number of 8 or 16 bits, shifted up in 32
 pub grown : (format : Fmt) (x places r : ℤ) → word_bits format < 32 → SFits w32 x →

@@ -121,12 +121,21 @@ refilled container format s (suc n) given ready last all some =
     ∙ ap (λ l. l ++ (made container format s (suc n) ++ last)) (sym (drop_all given ready all))
 
 -- the bytes that a read copied were the next of those that were ready
-pub Gave-ready : (ready : List ℕ) (given count taken : ℕ) (last copied into : List ℕ) → given + count ≤ length ready →
+pub Gave-ready : (ready : List ℕ) (given count taken : ℕ) (ended strayed now told : Bool) (last copied into : List ℕ)
+    → given + count ≤ length ready →
     copied ≡ take count (take (length ready - given) (drop given ready))
-    → Gave (record { left = Some (drop given ready ++ last); taken = taken; faults = 0 })
-    (record { left = Some (drop (given + count) ready ++ last); taken = taken + count; faults = 0 })
+    → told ≡ strayed → Gave (record
+    { left = Some (drop given ready ++ last); taken = taken; faults = 0; ended = ended; strayed = strayed })
+    (record {
+      left = Some (drop (given + count) ready ++ last);
+      taken = taken + count;
+      faults = 0;
+      ended = now;
+      strayed =
+          told;
+    })
     (take count (copied ++ into))
-Gave-ready ready given count taken last copied into fits is =
+Gave-ready ready given count taken ended strayed now told last copied into fits is same_told =
     let rest = drop given ready in
     let front : copied ≡ take count rest = is ∙ ap (take count) (take_rest ready given) in
     let long : length copied ≡ count = ap length front ∙
@@ -138,6 +147,7 @@ Gave-ready ready given count taken last copied into fits is =
           (λ i. (sym (whole ∙ front)) i ++ drop-drop count given ready i))
           ∙ append_assoc (take count (copied ++ into)) (drop (given + count) ready) last);
       count = ap (λ n. taken + n) (sym (ap length whole ∙ long));
+      in_order = λ _. same_told;
     }
 
 -- ---- the whole input

@@ -101,12 +101,13 @@ module _ (old mid between after now : SourceState) (riff : RiffRead old mid) (fi
       all_wants (h.bytes ++ more)) in
       record {
         bytes = bytes;
-        gave = Gave-append old after now all h.bytes all_came.gave h.gave;
+        gave = Gave-append old after now all h.bytes all_came.going all_came.gave h.gave;
         in_limit = omega (arith, length-append all h.bytes, all_ends, h.in_limit);
         said = said;
         heads = λ more. (open_header-good (bytes ++ more) (opened wanted header) (said more)).1;
         start = omega (arith, h.start, length-append all h.bytes, all_ends);
         no_fault = h.no_fault ∙ all_came.no_fault;
+        going = h.going ∙ all_came.going;
       }
 
 -- ---- the first `fmt ` chunk came, and what it wants is known

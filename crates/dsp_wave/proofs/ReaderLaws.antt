@@ -31,6 +31,7 @@ nothing_came place now in_limit = record {
   in_limit =
       omega (arith, in_limit);
   no_fault = refl;
+  going = refl;
 }
 
 pub both_came : (place first second : ℕ) (old mid now : SourceState) (front back : List ℕ) →
@@ -39,9 +40,10 @@ pub both_came : (place first second : ℕ) (old mid now : SourceState) (front ba
 both_came place first second old mid now front back a b =
     record {
       long = omega (arith, length-append front back, a.long, b.long);
-      gave = Gave-append old mid now front back a.gave b.gave;
+      gave = Gave-append old mid now front back a.going a.gave b.gave;
       in_limit = omega (arith, b.in_limit);
       no_fault = b.no_fault ∙ a.no_fault;
+      going = b.going ∙ a.going;
     }
 
 missed_later : (error : HeaderOr) (place first : ℕ) (old mid now : SourceState) (front bytes : List ℕ) →
@@ -95,7 +97,7 @@ module _ (says : Says) (place : ℕ) (old now : SourceState) where
   stops_later first count mid front error needs a m =
       record {
         bytes = front ++ m.bytes;
-        gave = Gave-append old mid now front m.bytes a.gave m.gave;
+        gave = Gave-append old mid now front m.bytes a.going a.gave m.gave;
         in_limit = omega (arith, length-append front m.bytes, a.long, m.in_limit);
         cause = caused error (front ++ m.bytes) (needs m.bytes m.short)
             (missed_later error place first old mid now front m.bytes a.long a.no_fault m.missed);

@@ -14,6 +14,7 @@ whole_read stored taken block count input now read = record {
   room_left = λ short none. read.room_left short none (omega (arith, read.in_limit));
   end = λ short. elim (read.ended short) [ inl is ↦ absurd (omega (arith, is, read.in_limit)) | inr all ↦ all ];
   no_fault = read.no_fault;
+  going = λ full. read.going (λ short. absurd (omega (arith, full, short)));
 }
 
 pub other_cause : (stored : Stored) (taken size : ℕ) (Cause Other : ℕ → Type 0) (input now : SourceState)

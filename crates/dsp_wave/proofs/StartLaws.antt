@@ -196,7 +196,7 @@ module _ (says later : Says) (begin count place : ℕ) (here : place ≡ begin +
   stopped_sooner error s =
       record {
         bytes = front ++ s.bytes;
-        gave = Gave-append old mid now front s.bytes came.gave s.gave;
+        gave = Gave-append old mid now front s.bytes came.going came.gave s.gave;
         in_limit = omega (arith, s.in_limit, end s.bytes);
         cause = cause_sooner error s.bytes s.cause;
       }
@@ -205,9 +205,10 @@ module _ (says later : Says) (begin count place : ℕ) (here : place ≡ begin +
   headed_sooner header h =
       record {
         bytes = front ++ h.bytes;
-        gave = Gave-append old mid now front h.bytes came.gave h.gave;
+        gave = Gave-append old mid now front h.bytes came.going came.gave h.gave;
         in_limit = omega (arith, h.in_limit, end h.bytes);
         said = λ more. said_sooner h.bytes more ∙ h.said more;
         start = omega (arith, h.start, end h.bytes);
         no_fault = h.no_fault ∙ came.no_fault;
+        going = h.going ∙ came.going;
       }

@@ -1,5 +1,5 @@
 -- The generated input as it is given, from a state on.
-use Rattle.std.specs.Prelude.{ℕ, zero, suc, ◌+◌, ◌*◌, ◌%◌, ◌^◌, List, [], ◌∷◌, ◌++◌, drop, if◌then◌else◌, Some}
+use Rattle.std.specs.Prelude.{ℕ, zero, suc, ◌+◌, ◌*◌, ◌%◌, ◌^◌, List, [], ◌∷◌, ◌++◌, drop, if◌then◌else◌, Some, Bool}
 use Rattle.dsp_ports.specs.Ports.{SourceState}
 use Rattle.dsp_defs.specs.Bytes.{bytes_of, coding_of}
 use Rattle.dsp_defs.specs.Generator.{state_sample}
@@ -21,10 +21,20 @@ made container format s (suc n) = bytes_of (coding_of container format) (state_s
 pub record Generation : Type 0 where
   pub rest : List ℕ
   pub taken : ℕ
+  -- whether a read has given nothing, and whether one has asked for nothing or came after such a read
+  pub ended : Bool
+  pub strayed : Bool
 
 -- what is seen of it as a source: it tells all, and never fails
 abbrev pub generation_state : Generation → SourceState
-generation_state generation = record { left = Some generation.rest; taken = generation.taken; faults = 0 }
+generation_state generation =
+    record {
+      left = Some generation.rest;
+      taken = generation.taken;
+      faults = 0;
+      ended = generation.ended;
+      strayed = generation.strayed;
+    }
 
 -- the bytes that are still to come: the rest of those that are ready, the samples, and the pad byte
 abbrev pub to_come : Pieces → List ℕ

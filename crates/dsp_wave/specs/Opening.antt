@@ -44,3 +44,4 @@ pub record OpenHeaded (old now : SourceState) (header : OpenHeader) : Type 0 whe
       { format = format_in header.coding; channels = header.channels }) (closed header)
   pub start : header.start ≡ length bytes
   pub no_fault : now.faults ≡ old.faults
+  pub going : now.ended ≡ old.ended

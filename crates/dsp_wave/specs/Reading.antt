@@ -64,3 +64,4 @@ pub record Headed (says : Says) (place : ℕ) (old now : SourceState) (header : 
   pub said : (more : List ℕ) → says (bytes ++ more) ≡ Ok header
   pub start : header.start ≡ place + length bytes
   pub no_fault : now.faults ≡ old.faults
+  pub going : now.ended ≡ old.ended

@@ -37,6 +37,7 @@ pub record PartRead (stored : Stored) (end taken : ℕ) (block : List ℕ) (coun
         stored.start + taken + count < MAX_INPUT
     pub ended : count < length block → (taken + count ≡ end) ⊎ AreAll (declared_bytes stored) (taken + count) now
     pub no_fault : now.faults ≡ input.faults
+    pub going : (count < length block → taken + count ≡ end) → now.ended ≡ input.ended
 
 -- the same of all samples, which no part ends
 pub record BlockRead (stored : Stored) (taken : ℕ) (block : List ℕ) (count : ℕ) (input now : SourceState) : Type 0 where
@@ -47,6 +48,7 @@ pub record BlockRead (stored : Stored) (taken : ℕ) (block : List ℕ) (count :
   pub room_left : count < length block → stored.size ≡ None → stored.start + taken + count < MAX_INPUT
   pub end : count < length block → AreAll (declared_bytes stored) (taken + count) now
   pub no_fault : now.faults ≡ input.faults
+  pub going : length block ≤ count → now.ended ≡ input.ended
 
 -- why the byte behind so many bytes of samples did not come
 abbrev pub IsUnread : SampleFault → Stored → ℕ → SourceState → SourceState → Type 0

@@ -23,6 +23,7 @@ pub record Came (place count : ℕ) (old now : SourceState) (bytes : List ℕ) :
   pub gave : Gave old now bytes
   pub in_limit : place + count ≤ MAX_INPUT
   pub no_fault : now.faults ≡ old.faults
+  pub going : now.ended ≡ old.ended
 
 -- why fewer came: the file has ended, the source has failed, or all was taken that may be
 abbrev pub IsMissed : HeaderOr → ℕ → SourceState → SourceState → List ℕ → Type 0

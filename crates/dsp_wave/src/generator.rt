@@ -1,10 +1,10 @@
-ghost use Rattle.std.specs.Prelude.{◌≡◌, ◌+◌, ◌<◌, ◌≤◌, ◌⊎◌, [], Some, length, take, IfOk, IsOk, FitsSigned};
+ghost use Rattle.std.specs.Prelude.{◌≡◌, ◌+◌, ◌<◌, ◌≤◌, ◌⊎◌, ◌==◌, ◌||◌, [], false, Some, length, take, IfOk, IsOk, FitsSigned};
 ghost use Rattle.std.specs.Io.KnownBytes.{IsAtEnd};
 ghost use Rattle.arrayvec.specs.ArrayVec.{array_vec_len};
 ghost use Rattle.dsp_defs.specs.Formats.{word};
 ghost use Rattle.dsp_defs.specs.Generator.{generated_bytes, state_sample};
 ghost use Rattle.dsp_defs.specs.declared.limits.TheConstants.{MAX_CHANNELS, MAX_GENERATED};
-ghost use Rattle.dsp_ports.specs.Ports.{CountsFaults, Gave, GaveNothing};
+ghost use Rattle.dsp_ports.specs.Ports.{CountsFaults, Gave, GaveNothing, asked, strayed_after};
 ghost use Rattle.dsp_wave.specs.Generated.{Generation, generation_state, next_state, to_come};
 
 use crate::coding::{bytes_of, coding_of, width};
@@ -83,6 +83,8 @@ impl Pieces {
 pub struct GenSource {
     pieces: Pieces,
     taken: u64,
+    ended: bool,
+    strayed: bool,
 }
 
 impl Model for GenSource {
@@ -93,7 +95,12 @@ impl Model for GenSource {
 
     ghost Value = { Generation };
 
-    ghost view = { λ s. record { rest = to_come s.pieces; taken = s.taken } };
+    ghost view = { λ s. record {
+      rest = to_come s.pieces;
+      taken = s.taken;
+      ended = s.ended;
+      strayed = s.strayed;
+    } };
 
     ghost invariant = { λ s. (s.pieces.given ≤ array_vec_len s.pieces.ready)
         × (s.taken + length (to_come s.pieces) ≤ MAX_INPUT) };
@@ -104,7 +111,12 @@ impl GenSource {
     pub fn new(input: &Input, seed: u32, frames: u32) -> GenSource
         requires channels { input.now.channels ≤ MAX_CHANNELS }
         requires frames { frames ≤ MAX_GENERATED }
-        ensures { result ≡ record { rest = generated_bytes input.now seed frames; taken = 0 } }
+        ensures { result ≡ record {
+          rest = generated_bytes input.now seed frames;
+          taken = 0;
+          ended = false;
+          strayed = false;
+        } }
     {
         let count = u64::from(frames);
         let (container, ready, has_pad) = match input.kind {
@@ -132,6 +144,8 @@ impl GenSource {
                 has_pad,
             },
             taken: 0,
+            ended: false,
+            strayed: false,
         }
     }
 }
@@ -148,16 +162,22 @@ impl Source for GenSource {
         ensures ok { IsOk result }
         ensures within { IfOk result (λ count. count ≤ length into.new) }
         ensures gave { IfOk result (λ count.
-            Gave (generation_state self.old) (generation_state self.new) (take count into.new)) }
+            Gave (asked (generation_state self.old) (length into.old)) (generation_state self.new)
+            (take count into.new)) }
         ensures end { IfOk result (λ count.
             count ≡ 0 → 0 < length into.new → IsAtEnd (Some self.new.rest)) }
+        ensures ended { IfOk result (λ count. self.new.ended ≡ (self.old.ended || (count == 0))) }
+        ensures strayed { self.new.strayed
+            ≡ strayed_after self.old.ended self.old.strayed (length into.old) }
     {
+        self.strayed |= self.ended | into.is_empty();
         self.pieces.refill();
         let piece = &self.pieces.ready[self.pieces.given..];
         let count = into.len().min(piece.len());
         into[..count].copy_from_slice(&piece[..count]);
         self.pieces.given += count;
         self.taken += count as u64;
+        self.ended |= count == 0;
         Ok(count)
     }
 }

@@ -1,4 +1,4 @@
-use Rattle.std.proofs.Common.{◌≡◌, ◌∙◌, ap, sym, ◌++◌, ◌+◌, ◌*◌, ◌/◌, ◌≤◌, ℕ, length, map, take, rules}
+use Rattle.std.proofs.Common.{◌≡◌, ◌∙◌, ap, sym, ◌++◌, ◌+◌, ◌*◌, ◌/◌, ◌≤◌, ℕ, length, map, take}
 use Rattle.std.proofs.Common.{length-take-le, subst, ℤ, List}
 use Rattle.std.specs.Prelude.{All, FitsSigned}
 use Rattle.std.proofs.lemmas.List.{length-map}
@@ -87,20 +87,6 @@ slice_bounds-errors-end g c = within _ _ _ c.requires.errors c.requires.capacity
 
 pub slice_bounds-errors-end-2 : goal.slice_bounds-errors-end-2
 slice_bounds-errors-end-2 g c = sym (cut-long _ c.args.errors.now _ c.requires.errors c.requires.capacity)
-
-pub process-requires : goal.process-requires
-process-requires g c =
-    let inputs = c.split_pairs.auto.first ∙ cut-long _ c.args.inputs.now _ c.requires.inputs c.requires.capacity in
-    let references = c.split_pairs.auto.second ∙ cut-long _ c.args.references.now _ c.requires.references
-    c.requires.capacity in
-    let outputs = cut-long _ c.args.outputs.now _ c.requires.outputs c.requires.capacity in
-    let errors = cut-long _ c.args.errors.now _ c.requires.errors c.requires.capacity in (
-      search rules,
-      (
-        subst (λ (n : ℕ). n ≤ c.args.lms.now.block) (sym inputs) c.requires.capacity,
-        (references ∙ sym inputs, (outputs ∙ sym inputs, errors ∙ sym inputs)),
-      ),
-    )
 
 pub slice_bounds-join_pairs-end : goal.slice_bounds-join_pairs-end
 slice_bounds-join_pairs-end g c = c.requires.room

@@ -24,6 +24,7 @@ returns-in-Ok-2-clause-ok g c =
         long = omega (arith, skipped.long, skipped.within, c.if-came-count.false);
         gave = skipped.gave;
         no_fault = skipped.no_fault;
+        going = skipped.going (omega (arith, c.if-came-count.false));
       },
     )
 

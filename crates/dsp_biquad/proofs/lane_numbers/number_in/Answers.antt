@@ -16,9 +16,9 @@ pub returns : goal.returns
 returns c =
     let lanes = c.args.lanes in
     let lane = c.args.lane in
-    let f = c.requires.fit in
+    let f = c.requires.lanes.1 in
     let v = c.index.result.now in
-    let inside : lane < length lanes = omega (arith, c.requires.four, c.requires.inside) in
+    let inside : lane < length lanes = omega (arith, c.requires.lanes.0, c.requires.inside) in
     let here = lane-read lanes lane v inside (c.index.ensures ∙ ap (λ (l : List ℤ). get_or l lane v) (back lanes f)) in
     to_z-of_z w64 c.from.result (record { sfits = c.from.type_inv }) ∙ c.from.ensures
     ∙ to_z-of_z w32 c.low_word.result (record { sfits = c.low_word.type_inv }) ∙ c.low_word.ensures

@@ -1,5 +1,6 @@
 use Rattle.std.proofs.Common.{arith, rules, ◌∙◌, length-take-le}
 use Rattle.std.proofs.lemmas.Grind.{common_steps}
+use Rattle.dsp_ports.proofs.Moved.{Gave-append, Gave-asked, still_going}
 use Rattle.dsp_cli.specs.Asking.{Read}
 use Rattle.dsp_cli.proofs.Asking.{draws_all}
 use Rattle.dsp_cli.proofs.script.read_whole.Goals as goal
@@ -23,9 +24,16 @@ reading-preserved g c =
     let long = length-take-le c.in-Ok.count c.read.new.into given.within in
     record {
       within = grind (arith, common_steps);
-      gave = grind (arith, common_steps);
+      gave = record {
+        front = grind (arith, common_steps);
+        count = grind (arith, common_steps);
+        in_order = (Gave-append _ _ _ _ _ c.reading.invariant.going c.reading.invariant.gave
+            (Gave-asked _ _ _ _ (search rules) given.gave)).in_order;
+      };
       drawn = Read _ _ _ c.reading.invariant.drawn (search rules)
           (grind (arith, common_steps)) given.asks
           (omega (arith, given.gave.count, long, c.if-count-eq0.false));
+      going = still_going _ _ c.in-Ok.count (omega (arith, c.if-count-eq0.false)) given.ended ∙
+          c.reading.invariant.going;
       no_fault = given.faults ∙ c.reading.invariant.no_fault;
     }

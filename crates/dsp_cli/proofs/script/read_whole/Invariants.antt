@@ -9,6 +9,7 @@ invariant-reading g l =
       within : vec_len l.text ≤ l.fn.limit + 1;
       gave : Gave (g.P.Source.state l.fn.source) (g.P.Source.state l.source) l.text.items;
       drawn : Drawn g.P.Source.Reads (λ s. (g.P.Source.state s).taken) (l.fn.limit + 1) l.fn.source l.source;
+      going : (g.P.Source.state l.source).ended ≡ (g.P.Source.state l.fn.source).ended;
       no_fault : (g.P.Source.state l.source).faults ≡ (g.P.Source.state l.fn.source).faults;
     }
 

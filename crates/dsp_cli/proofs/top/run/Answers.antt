@@ -1,3 +1,4 @@
+use Rattle.dsp_cli.proofs.AskedLaws as asked
 use Rattle.dsp_cli.proofs.DoneLaws as did
 use Rattle.dsp_cli.proofs.EndedLaws as laws
 use Rattle.dsp_cli.proofs.top.run.Goals as goal
@@ -24,6 +25,10 @@ returns-clause-spared g c = let end = returns-clause-ended g c in did.spared_by 
 pub returns-clause-counted : goal.returns-clause-counted
 returns-clause-counted g c =
     let end = returns-clause-ended g c in did.counted_by _ _ _ _ end.ending end.happened end.reported
+
+pub returns-clause-in_order : goal.returns-clause-in_order
+returns-clause-in_order g c =
+    let end = returns-clause-ended g c in asked.order_by _ _ _ _ end.ending end.happened end.reported
 
 pub returns-clause-causes : goal.returns-clause-causes
 returns-clause-causes g c = laws.causes _ _ _ _ (returns-clause-ended g c)

@@ -156,3 +156,20 @@ returns-then-at-machines-clause-steps g c =
       turns_rise = one-rise (length c.args.samples.now) (length c.pairs.samples) at (length c.args.machines.now)
           M.price _ _ _ (c.pairs.auto.samples ∙ c.fours.auto.samples) one so_far.turns_rise last.turns_rise;
     }
+
+pub returns-else-at-machines-clause-acts : goal.returns-else-at-machines-clause-acts
+returns-else-at-machines-clause-acts g c =
+    let all = take_all c.pairs.at c.args.machines.now (omega arith) in
+    let all' = take_all c.pairs.at c.pairs.machines (omega arith) in
+    rw (all, all') at c.pairs.invariant.acts
+
+pub returns-else-at-machines-clause-goes : goal.returns-else-at-machines-clause-goes
+returns-else-at-machines-clause-goes g c =
+    let all = take_all c.pairs.at c.args.machines.now (omega arith) in
+    let all' = take_all c.pairs.at c.pairs.machines (omega arith) in
+    rw (all, all') at c.pairs.invariant.goes
+
+pub returns-else-at-machines-clause-steps : goal.returns-else-at-machines-clause-steps
+returns-else-at-machines-clause-steps g c =
+    let whole : c.pairs.at ≡ length c.args.machines.now = omega arith in
+    rw whole at c.pairs.invariant.steps

@@ -112,6 +112,27 @@ returns-then-not-is_whole-clause-steps g c =
     (ap (λ n. n * of.products) none ∙ omega arith) in
     record { multiplies_rise = omega (arith, products); turns_within = omega (arith, products) }
 
+pub complete_group-given-requires-clause-whole : goal.complete_group-given-requires-clause-whole
+complete_group-given-requires-clause-whole g c =
+    c.is_whole.ensures.0 c.if-not-is_whole.false ∙ ap (λ (o : OpenState). o.size) c.fill-start.ensures.filled ∙
+    c.requires.size
+
+pub complete_group-given-requires-clause-room : goal.complete_group-given-requires-clause-room
+complete_group-given-requires-clause-room g c =
+    let number = g.T.Sample.number in
+    let of = g.W.GroupWork.group (g.W.GroupWork.block c.args.work.now) in
+    let is = g.met.W.GroupWork.grouped (g.W.GroupWork.block c.args.work.now) c.requires.work in
+    let old = c.args.begun.now in
+    let input = c.args.input.now in
+    let start = c.fill-start.result in
+    let within : start ≤ length input = omega (arith, c.fill-start.ensures.count) in
+    let full = filled-full number old c.fill-start.new.self input start within c.fill-start.ensures.filled
+    (c.is_whole.ensures.0 c.if-not-is_whole.false) in
+    let done = completes number of old.numbers input start (length input - start) is.some within refl
+    (full ∙ c.requires.size) in
+    let rows = done.times of.given in
+    omega (arith, rows, c.requires.room)
+
 pub feed_behind-requires-clause-room : goal.feed_behind-requires-clause-room
 feed_behind-requires-clause-room g c =
     let number = g.T.Sample.number in

@@ -87,6 +87,24 @@ slice_bounds-transform-end-in-loop-group g c =
     c.taken-taken.ensures c.given-given.ensures c.loop-group-test.true c.requires.room c.loop-group.auto.output in
     search rules
 
+pub transform-requires-clause-taken : goal.transform-requires-clause-taken
+transform-requires-clause-taken g c =
+    let j = c.loop-group.group in
+    let taken = c.taken-taken.result in
+    let all = length c.args.input.now in
+    piece-length c.args.input.now (j * taken) taken (taken-inside j (all / taken) taken all c.loop-group-test.true refl)
+    ∙ c.taken-taken.ensures
+
+pub transform-requires-clause-given : goal.transform-requires-clause-given
+transform-requires-clause-given g c =
+    let given = c.given-given.result in
+    piece-length c.loop-group.output (c.loop-group.group * given) given
+    (given-inside (g.W.GroupWork.group (g.W.GroupWork.block c.args.work.now)) c.loop-group.group
+    (length c.args.input.now) c.taken-taken.result given (length c.args.output.now)
+    (length c.loop-group.output) c.taken-taken.ensures c.given-given.ensures c.loop-group-test.true c.requires.room
+    c.loop-group.auto.output)
+    ∙ c.given-given.ensures
+
 pub loop-group-preserved : goal.loop-group-preserved
 loop-group-preserved g c =
     let number = g.T.Sample.number in

@@ -1,6 +1,7 @@
 use Rattle.std.proofs.Common.{arith, refl, ap, take, ◌∙◌, inl, inr, length-drop, length-take-le}
 use Rattle.dsp_ports.proofs.Asking.{asked-more, asked-last}
 use Rattle.dsp_ports.proofs.Moved.{Gave-nil, Gave-read, Gave-end, Gave-failed, gave-nothing}
+use Rattle.dsp_ports.proofs.Moved.{Gave-asked, GaveNothing-asked, still_going}
 use Rattle.dsp_ports.specs.Fill.{Begun}
 use Rattle.dsp_ports.specs.Ports.{one_more}
 use Rattle.dsp_ports.proofs.filling.fill.Goals as goal
@@ -13,6 +14,7 @@ loop-filled-init g c = record {
   faults = refl;
   asked =
       Begun;
+  going = refl;
   fresh = λ _. refl;
 }
 
@@ -24,7 +26,8 @@ loop-filled-preserved g c =
       within = omega (arith, given.within, c.min-want.ensures, length-drop c.loop-filled.filled c.loop-filled.block);
       room = omega (arith, given.within, c.min-want.ensures);
       gave = Gave-read _ _ _ c.loop-filled.filled _ c.in-Ok.count c.loop-filled.block c.read.new.into (omega arith)
-          given.within kept.gave given.gave;
+          given.within kept.going kept.gave (Gave-asked _ _ _ _ (omega arith) given.gave);
+      going = still_going _ _ c.in-Ok.count (omega arith) given.ended ∙ kept.going;
       faults = given.faults ∙ kept.faults;
       asked = asked-more _ _ _ _ _ _ _ c.loop-filled.filled _ c.in-Ok.count kept.asked given.asks (omega arith)
           (omega arith)
@@ -75,10 +78,12 @@ returns-in-Ok-eq0-clause-ok g c =
       within = omega arith;
       in_room = kept.room;
       gave = Gave-end _ _ _ c.loop-filled.filled _ c.in-Ok-eq0.field-0 c.loop-filled.block c.read.new.into
-          (omega arith) given.within c.in-Ok-eq0.field-0-test kept.gave given.gave;
+          (omega arith) given.within c.in-Ok-eq0.field-0-test kept.going kept.gave
+          (Gave-asked _ _ _ _ (omega arith) given.gave);
       end = λ _. given.end c.in-Ok-eq0.field-0-test (omega arith);
       room_left = λ _. omega (arith, c.min-want.ensures);
       no_fault = given.faults ∙ kept.faults;
+      going = λ full. absurd (omega (arith, full));
     }
 
 pub returns-in-Ok-eq0-clause-untouched : goal.returns-in-Ok-eq0-clause-untouched
@@ -100,7 +105,7 @@ returns-in-Err-clause-err g c =
     let long = length-take-le c.loop-filled.filled c.loop-filled.block (omega arith) in
     record {
       bytes = take c.loop-filled.filled c.loop-filled.block;
-      gave = Gave-failed _ _ _ _ kept.gave given.gave;
+      gave = Gave-failed _ _ _ _ kept.going kept.gave (GaveNothing-asked _ _ _ (omega arith) given.gave);
       short = omega (arith, long);
       in_room = omega (arith, long);
       cause = (given.faults ∙ ap one_more kept.faults, omega (arith, long, c.min-want.ensures));
@@ -126,6 +131,7 @@ returns-clause-ok g c =
       end = λ short. absurd (omega (arith, short));
       room_left = λ short. absurd (omega (arith, short));
       no_fault = kept.faults;
+      going = λ _. kept.going;
     }
 
 pub returns-clause-asks : goal.returns-clause-asks

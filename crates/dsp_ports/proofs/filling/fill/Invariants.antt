@@ -12,6 +12,7 @@ invariant-loop-filled g l =
       faults : (g.S.Source.state l.input).faults ≡ (g.S.Source.state l.fn.input).faults;
       asked : Asked g.S.Source.Reads (λ s. (g.S.Source.state s).taken) (min (length l.initial.block) l.room)
           l.fn.input l.filled l.input;
+      going : (g.S.Source.state l.input).ended ≡ (g.S.Source.state l.fn.input).ended;
       fresh : l.filled ≡ 0 → l.input ≡ l.fn.input;
     }
 

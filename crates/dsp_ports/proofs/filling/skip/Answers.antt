@@ -11,7 +11,7 @@ returns-in_err-came-clause-err g c =
     let (error, is, same) = err_from_is_err_and c.from_residual.result c.from_residual.ensures.1 in
     let long : length c.fill.new.block ≤ c.args.count - c.loop-skipped.skipped =
     grind (arith, common_steps, c.fill.auto.block, c.min-size.ensures) in
-    rw (is, same) (piece_unskipped _ c.args.count c.args.room _ _ _ front said gave kept.faults kept.room _
+    rw (is, same) (piece_unskipped _ c.args.count c.args.room _ _ _ front said gave kept.faults kept.going kept.room _
     (omega (arith, long, kept.within)) _ c.in_err-came.ensures.err)
 
 pub returns-then-came-size-clause-ok : goal.returns-then-came-size-clause-ok
@@ -21,7 +21,7 @@ returns-then-came-size-clause-ok g c =
     let long : length c.fill.new.block ≡ c.min-size.result =
     grind (arith, common_steps, c.fill.auto.block, c.min-size.ensures) in
     let filled = c.in_ok-came.ensures.ok in
-    let (all, whole) = piece_skipped _ _ _ _ front said gave _ _ _ filled in
+    let (all, whole) = piece_skipped _ _ _ _ front said gave kept.going _ _ _ filled in
     record {
       bytes = front ++ take c.in_ok-came.came c.fill.new.block;
       long = all;
@@ -30,6 +30,7 @@ returns-then-came-size-clause-ok g c =
       gave = whole;
       end = λ less. filled.end (omega (arith, long, c.if-came-size.true));
       no_fault = filled.no_fault ∙ kept.faults;
+      going = λ all. absurd (omega (arith, all, c.if-came-size.true, c.min-size.ensures));
     }
 
 pub loop-skipped-preserved : goal.loop-skipped-preserved
@@ -39,10 +40,11 @@ loop-skipped-preserved g c =
     let long : length c.fill.new.block ≡ c.min-size.result =
     grind (arith, common_steps, c.fill.auto.block, c.min-size.ensures) in
     let filled = c.in_ok-came.ensures.ok in
-    let (all, whole) = piece_skipped _ _ _ _ front said gave _ _ _ filled in
+    let (all, whole) = piece_skipped _ _ _ _ front said gave kept.going _ _ _ filled in
     record {
       within = omega (arith, filled.within, long, c.min-size.ensures);
       room = omega (arith, filled.in_room, kept.room);
       came = (front ++ take c.in_ok-came.came c.fill.new.block, all, whole);
       faults = filled.no_fault ∙ kept.faults;
+      going = filled.going (omega (arith, long)) ∙ kept.going;
     }

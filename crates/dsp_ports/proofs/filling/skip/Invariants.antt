@@ -9,6 +9,7 @@ invariant-loop-skipped g l =
       room : l.skipped ≤ l.room;
       came : (bytes : List ℕ) × (length bytes ≡ l.skipped) ×
           Gave (g.S.Source.state l.fn.input) (g.S.Source.state l.input) bytes;
+      going : (g.S.Source.state l.input).ended ≡ (g.S.Source.state l.fn.input).ended;
       faults : (g.S.Source.state l.input).faults ≡ (g.S.Source.state l.fn.input).faults;
     }
 

@@ -115,7 +115,8 @@ returns-in_err-last-clause-err g c before opened fits =
     rw (is, gives, ← c.requires.frames)
     (ends.broke_rest _ _ _ _ _ _ _ _ _ c.requires.runs c.requires.coding
     (λ i. (c.from.ensures ∙ sym c.requires.frames) i * frame i) opened
-    skips.bytes skips.gave (omega (arith, skips.long, skips.in_part, c.if-skipped-span.false)) skips.no_fault _ _ _ _
+    skips.bytes skips.gave (omega (arith, skips.long, skips.in_part, c.if-skipped-span.false))
+    (skips.no_fault, skips.going (omega (arith, skips.in_part, c.if-skipped-span.false))) _ _ _ _
     c.in_err-last.ensures.err)
 
 pub returns-in_err-close-clause-err : goal.returns-in_err-close-clause-err
@@ -128,7 +129,8 @@ returns-in_err-close-clause-err g c before opened fits =
     rw (is, gives, ← c.requires.frames)
     (ends.unclosed_rest _ _ _ _ _ _ _ _ _ c.requires.runs c.requires.coding
     (λ i. (c.from.ensures ∙ sym c.requires.frames) i * frame i) opened
-    skips.bytes skips.gave (omega (arith, skips.long, skips.in_part, c.if-skipped-span.false)) skips.no_fault _ _ _ _
+    skips.bytes skips.gave (omega (arith, skips.long, skips.in_part, c.if-skipped-span.false))
+    (skips.no_fault, skips.going (omega (arith, skips.in_part, c.if-skipped-span.false))) _ _ _ _
     _ refl c.in_ok-last.ensures.ok _ _ _ _ c.in_err-close.ensures.err)
 
 pub returns-clause-ok : goal.returns-clause-ok
@@ -139,5 +141,6 @@ returns-clause-ok g c before opened fits =
     rw (frame, ← c.requires.frames)
     (ends.closed_rest _ _ _ _ _ _ _ _ _ c.requires.runs c.requires.coding
     (λ i. (c.from.ensures ∙ sym c.requires.frames) i * frame i) opened
-    skips.bytes skips.gave (omega (arith, skips.long, skips.in_part, c.if-skipped-span.false)) skips.no_fault _ _ _ _
+    skips.bytes skips.gave (omega (arith, skips.long, skips.in_part, c.if-skipped-span.false))
+    (skips.no_fault, skips.going (omega (arith, skips.in_part, c.if-skipped-span.false))) _ _ _ _
     _ refl c.in_ok-last.ensures.ok fits _ _ _ c.in_ok-close.ensures.ok)

@@ -18,3 +18,4 @@ returns-then-count-lt-PIECE-clause-ok g c =
 
 pub skipping-preserved : goal.skipping-preserved
 skipping-preserved g c = laws.skip_more _ _ _ _ _ _ c.skipping.invariant _ _ _ c.in_ok-count.ensures.ok
+    (λ short. absurd (omega (arith, short, c.if-count-lt-PIECE.false)))

@@ -1,16 +1,9 @@
 use Rattle.std.proofs.Common.{◌≢◌, ◌∙◌, ◌+◌, ◌*◌, ◌<◌, pos, length, arith, rules, below_more, SFits, to_z, of_z}
-use Rattle.std.proofs.Common.{to_z-of_z, w32, ◌≡◌, ap, sym, ℕ, ◌/◌, ◌%◌, get_or-set_other, get_or-set_same}
-use Rattle.std.proofs.lemmas.Nat.{div-mul-add, mod-mul-add, mul-add-lt}
+use Rattle.std.proofs.Common.{to_z-of_z, w32, get_or-set_other, get_or-set_same}
+use Rattle.std.proofs.lemmas.Nat.{mul-add-lt}
 use Rattle.dsp_defs.specs.Signal.{sample}
+use Rattle.dsp_filter.proofs.Places.{same-frame, same-channel}
 use Rattle.dsp_vector.proofs.routes.copy_channel.Goals as goal
-
-same-frame : (channels n i c d : ℕ) → c < channels → d < channels → n * channels + c ≡ i * channels + d → n ≡ i
-same-frame channels n i c d h k e = sym (div-mul-add n channels c h) ∙ ap (λ p. p / channels) e ∙
-    div-mul-add i channels d k
-
-same-channel : (channels n i c d : ℕ) → c < channels → d < channels → n * channels + c ≡ i * channels + d → c ≡ d
-same-channel channels n i c d h k e = sym (mod-mul-add n channels c h) ∙ ap (λ p. p % channels) e ∙
-    mod-mul-add i channels d k
 
 pub loop-n-preserved : goal.loop-n-preserved
 loop-n-preserved c =

@@ -26,6 +26,7 @@ returns-in-Ok-2-clause-ok g c =
         gave = skipped.gave;
         in_limit = omega (arith, skipped.in_room, c.if-came-count.false);
         no_fault = skipped.no_fault;
+        going = skipped.going (omega (arith, c.if-came-count.false));
       },
     )
 

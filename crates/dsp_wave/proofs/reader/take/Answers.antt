@@ -31,6 +31,7 @@ returns-in-Ok-2-clause-ok g c =
           (take_all c.in-Ok.count c.fill.new.block (omega (arith, all))) filled.gave;
       in_limit = omega (arith, all, filled.in_room);
       no_fault = filled.no_fault;
+      going = filled.going (omega (arith, all));
     }
 
 pub returns-in-Err-Failed-clause-err : goal.returns-in-Err-Failed-clause-err

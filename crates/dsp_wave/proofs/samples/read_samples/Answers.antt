@@ -96,6 +96,11 @@ module _ (stored : Stored) (end taken stop : ℕ) (declared : InDeclared (declar
       ended = λ short. ends (declared_bytes stored) declared stop_is (by-size stored.size full)
           (omega (arith, short, all-long));
       no_fault = filled.no_fault;
+      going = λ part. filled.going (elim (cases_lt count want) [
+        | inl cut ↦ absurd (omega
+            (arith, part (omega (arith, cut, all-long, want_is)), before (declared_bytes stored) stop_is count cut))
+        | inr all ↦ omega (arith, all, long)
+      ]);
     }
       where
         by-size : (size : Option ℕ) → ((n : ℕ) → size ≡ Some n → want ≤ count)

@@ -36,5 +36,5 @@ unreachable-requires-in-Err g c =
 
 pub invariant_of-result : goal.invariant_of-result
 invariant_of-result g c =
-    new-rows c.in-Ok.lms _ _ _ c.args.frames _ _ _ _ c.in-Ok.ensures.made c.requires.samples c.in_ok-vec.ensures.len
-    c.in_ok-vec-2.ensures.len c.in_ok-vec-3.ensures.len c.in_ok-vec-4.ensures.len
+    let rows = c.in_ok-inputs.ensures in
+    new-rows c.in-Ok.lms _ _ _ c.args.frames _ _ _ _ c.in-Ok.ensures.made c.requires.samples rows.0 rows.1 rows.2 rows.3

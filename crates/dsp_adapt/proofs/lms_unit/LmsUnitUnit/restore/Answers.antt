@@ -1,11 +1,8 @@
-use Rattle.std.proofs.Common.{sym, subst, Bool, rules}
+use Rattle.std.proofs.Common.{sym, subst, Bool}
 use Rattle.dsp_unit.specs.Unit.{Restores}
 use Rattle.dsp_adapt.specs.LmsUnit.{unit_of_lms}
 use Rattle.dsp_adapt.proofs.LmsUnits.{lms-restores}
 use Rattle.dsp_adapt.proofs.lms_unit.LmsUnitUnit.restore.Goals as goal
-
-pub restore-requires : goal.restore-requires
-restore-requires g c = (search rules, (rw (← c.self.view_is) at c.requires.fits).1.1)
 
 pub returns : goal.returns
 returns g c =

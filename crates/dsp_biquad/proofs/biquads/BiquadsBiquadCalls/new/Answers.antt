@@ -1,6 +1,5 @@
-use Rattle.std.proofs.Common.{◌≡◌, ◌∙◌, ap, sym, subst, ◌≤◌, ◌*◌, ◌%◌, ℕ, map, length, arith}
+use Rattle.std.proofs.Common.{◌≡◌, ◌∙◌, ap, sym, subst, ◌≤◌, ◌*◌, ◌%◌, ℕ, map, length}
 use Rattle.std.proofs.lemmas.List.{length-map}
-use Rattle.std.proofs.lemmas.Grind.{common_steps}
 use Rattle.dsp_biquad.proofs.biquads.BiquadsBiquadCalls.new.Goals as goal
 
 pub of_work-requires-clause-block : goal.of_work-requires-clause-block
@@ -11,12 +10,10 @@ of_work-requires-clause-block g c =
     let size = length-map c.args.coefficients.now T.number in
     let is : c.SIZE.result ≡ S.SIZE = c.SIZE.ensures in
     let greatest : c.GREATEST_SHIFT.result ≡ S.GREATEST_SHIFT = c.GREATEST_SHIFT.ensures in
-    let shift : c.args.post_shift ≤ c.GREATEST_SHIFT.result =
-    grind (arith, common_steps, c.in_ok-check_shift.ensures) in
-    let whole : length c.args.coefficients.now % c.SIZE.result ≡ 0 =
-    grind (arith, common_steps, c.in_ok-check_coefficients.ensures) in
-    let few : length c.args.coefficients.now ≤ 64 * c.SIZE.result =
-    grind (arith, common_steps, c.in_ok-check_coefficients.ensures) in
+    let sound = c.in_ok-check_cascade.ensures.sound in
+    let shift : c.args.post_shift ≤ c.GREATEST_SHIFT.result = sound.2 in
+    let whole : length c.args.coefficients.now % c.SIZE.result ≡ 0 = sound.0 in
+    let few : length c.args.coefficients.now ≤ 64 * c.SIZE.result = sound.1 in
     let fits = g.met.S.CascadeSection.of_numbers c.args.post_shift given (record {
       shift = subst (λ n. c.args.post_shift ≤ n) greatest shift;
       in_format = c.all_fit.ensures;

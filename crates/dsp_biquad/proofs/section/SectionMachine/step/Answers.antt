@@ -22,9 +22,9 @@ returns-clause-goes g c =
     let s = c.args.self.now in
     let x = g.T.Sample.number c.args.x in
     let y = g.T.Sample.number c.closed-y.result in
-    let x_is = read format c.from-x0.result c.number.result x c.number.ensures.fits (search rules) c.from-x0.ensures
+    let x_is = read format c.from-x0.result c.number.result x c.number.ensures.fits c.from-x0.ensures
     c.number.ensures.value in
-    let y_is = read format c.from-self.result c.number-2.result y c.number-2.ensures.fits (search rules)
+    let y_is = read format c.from-self.result c.number-2.result y c.number-2.ensures.fits
     c.from-self.ensures c.number-2.ensures.value in
     let b0 = to_z-of_z w64 s.b0 (search rules) in
     let b1 = to_z-of_z w64 s.b1 (search rules) in

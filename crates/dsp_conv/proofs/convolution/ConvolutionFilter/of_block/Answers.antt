@@ -1,6 +1,5 @@
-use Rattle.std.proofs.Common.{◌≡◌, ◌∙◌, ◌≤◌, lit<, ap, sym, subst, ℕ, ℤ, List, Result, Ok, Err, length, map, arith}
+use Rattle.std.proofs.Common.{◌≡◌, ◌∙◌, ◌≤◌, ap, sym, subst, ℕ, ℤ, List, Result, Ok, Err, length, map}
 use Rattle.std.specs.Prelude.{All, FitsSigned, IfOk}
-use Rattle.std.proofs.lemmas.List.{length-map}
 use Rattle.dsp_defs.specs.Formats.{word}
 use Rattle.dsp_defs.specs.declared.format.Fmt.{Fmt}
 use Rattle.dsp_defs.specs.declared.script.Block.{Block}
@@ -35,15 +34,6 @@ samples_of-requires g c =
 
 pub of_block-requires : goal.of_block-requires
 of_block-requires g c = has-extent g.T.Sample.format c.args.block.now c.requires.block
-
-pub of_taps-requires : goal.of_taps-requires
-of_taps-requires g c =
-    let number = g.T.Sample.number in
-    let are = are-taps g.T.Sample.format c.args.block.now c.requires.block in
-    let taps : length c.deref.result.now ≡ length (taps_of c.args.block.now) =
-    ap length c.deref.ensures.value ∙ sym (length-map c.in_ok-taps.taps.items number) ∙
-    ap length (c.in_ok-taps.ensures ∙ c.taps_of.ensures) in
-    (lit< tt, (omega (arith, taps, are.0), (omega (arith, taps, are.1), (c.requires.some, c.requires.few))))
 
 -- a new convolution is a new filter
 new-filter :

@@ -18,7 +18,7 @@ returns-then-fits g c =
     let format = g.T.Sample.format in
     let d = c.args.self.now in
     let here = c.self.inside in
-    let is = (inside g.T.Sample.number here.reversed here.zeros c.self.invariant c.self.view_is).is in
+    let long = (inside g.T.Sample.number here.reversed here.zeros c.self.invariant c.self.view_is).is.long in
     let numbers = c.args.numbers.now in
     let fits = c.fits.ensures.0 c.if-fits.true in
     let last : length numbers - 1 ≡ length d.past = omega (arith, fits.count) in
@@ -26,13 +26,13 @@ returns-then-fits g c =
     omega (arith, ints) in
     let place = c.as_place.ensures.place ∙ read ∙ ap (sample numbers) last in
     record {
-      fits = fits-channel format d numbers _ is fits place;
-      least = λ n at. ap Some (place-is format d numbers n is at _ place);
+      fits = fits-channel format d numbers _ long fits place;
+      least = λ n at. ap Some (place-is format d numbers n long at _ place);
     }
 
 pub returns-else-fits-clause-least : goal.returns-else-fits-clause-least
 returns-else-fits-clause-least g c = λ n at.
     let here = c.self.inside in
-    let is = (inside g.T.Sample.number here.reversed here.zeros c.self.invariant c.self.view_is).is in
+    let long = (inside g.T.Sample.number here.reversed here.zeros c.self.invariant c.self.view_is).is.long in
     absurd (false≢true (sym c.if-fits.false ∙ c.fits.ensures.1
-    (channel-fits g.T.Sample.format c.args.self.now c.args.numbers.now n is at)))
+    (channel-fits g.T.Sample.format c.args.self.now c.args.numbers.now n long at)))

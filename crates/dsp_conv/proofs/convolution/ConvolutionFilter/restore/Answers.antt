@@ -1,15 +1,8 @@
-use Rattle.std.proofs.Common.{◌∙◌, ap, lit<}
+use Rattle.std.proofs.Common.{◌∙◌, ap}
 use Rattle.dsp_conv.specs.ConvState.{ConvState}
 use Rattle.dsp_conv.proofs.Inside.{inside}
-use Rattle.dsp_conv.proofs.ChannelLemmas.{channel-fits, channel-restored}
+use Rattle.dsp_conv.proofs.ChannelLemmas.{channel-restored}
 use Rattle.dsp_conv.proofs.convolution.ConvolutionFilter.restore.Goals as goal
-
-pub restore-requires : goal.restore-requires
-restore-requires g c =
-    let here = c.self.inside in
-    let is = (inside g.T.Sample.number here.reversed here.zeros c.self.invariant c.self.view_is).is in
-    let (n, fits) = c.requires.fits in
-    (lit< tt, (c.requires.running, channel-fits g.T.Sample.format c.args.self.now c.args.numbers.now n is fits))
 
 pub returns : goal.returns
 returns g c =

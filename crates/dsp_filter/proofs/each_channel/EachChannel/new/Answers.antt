@@ -1,11 +1,23 @@
 use Rattle.std.proofs.Common.{◌≤◌, ◌≡◌, sym, subst, map, length, IfOk, arith}
 use Rattle.std.specs.Prelude.{All}
 use Rattle.std.proofs.lemmas.List.{length-map, length_push}
+use Rattle.std.proofs.lemmas.Nat.{mul-le}
 use Rattle.std.proofs.lemmas.List.Elements.{All-map, All-push}
 use Rattle.dsp_unit.specs.Filter.{IsNewFilter, filter_at, no_filter}
 use Rattle.dsp_unit.specs.Unit.{IsNew, most_frames}
 use Rattle.dsp_filter.proofs.Units.{new-filters}
 use Rattle.dsp_filter.proofs.each_channel.EachChannel.new.Goals as goal
+
+pub of_block-requires-clause-few : goal.of_block-requires-clause-few
+of_block-requires-clause-few g c =
+    let all = mul-le c.args.frames 1 c.args.frames c.args.channels (omega arith) (omega (arith, c.requires.channels)) in
+    omega (arith, all, c.requires.samples)
+
+pub most_frames-requires-clause-fits : goal.most_frames-requires-clause-fits
+most_frames-requires-clause-fits g c =
+    let most = most_frames c.args.block.now c.args.frames in
+    let all = mul-le most 1 most c.args.channels (omega arith) (omega (arith, c.requires.channels)) in
+    omega (arith, all, c.requires.room)
 
 pub of_filters-requires-clause-alike : goal.of_filters-requires-clause-alike
 of_filters-requires-clause-alike g c =

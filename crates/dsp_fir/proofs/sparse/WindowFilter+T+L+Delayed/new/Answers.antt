@@ -1,29 +1,17 @@
-use Rattle.std.proofs.Common.{◌≡◌, ◌∙◌, ◌≤◌, ap, pos, arith}
-use Rattle.std.proofs.lemmas.Grind.{common_steps}
-use Rattle.std.proofs.lemmas.List.{length-map}
-use Rattle.dsp_defs.specs.declared.limits.TheConstants.{MAX_SAMPLES}
-use Rattle.dsp_fir.specs.WindowState.{DelayState}
-use Rattle.dsp_fir.proofs.DelayLemmas.{delays-some, delays-fit}
+use Rattle.std.proofs.Common.{◌≡◌, ◌∙◌, ap, map, pos}
+use Rattle.dsp_defs.specs.Kept.{greatest}
+use Rattle.dsp_defs.specs.declared.script.Block.TheVariants.{Sparse}
+use Rattle.dsp_fir.specs.WindowState.{DelayState, new_filter}
+use Rattle.dsp_fir.proofs.DelayLemmas.{greatest-named}
 use Rattle.dsp_fir.proofs.sparse.WindowFilter+T+L+Delayed.new.Goals as goal
 
-pub of_taps-requires : goal.of_taps-requires
-of_taps-requires g c =
+pub returns-clause-made : goal.returns-clause-made
+returns-clause-made g c =
+    let number = g.T.Sample.number in
     let ds = c.args.delays.now in
-    let taps = c.args.taps.now in
     let named : c.in-Ok-new.delays.delays ≡ ds = ap (λ (d : DelayState). d.delays) c.in-Ok-new.ensures ∙
     c.in-Ok-from_slice.ensures.items in
-    let long = length-map taps g.T.Sample.number in
-    let as_many = length-map ds pos in
-    let fits : c.args.block ≤ MAX_SAMPLES = grind (arith, common_steps) in (
-      omega arith,
-      (
-        rw (named, c.in-Ok.ensures.items) (
-          omega (arith, long),
-          omega (arith, long, as_many),
-          (omega (arith, long), omega (arith, long), c.all_fit.ensures),
-          delays-some ds,
-          delays-fit ds c.in_ok-check_delays.field-0 c.in_ok-check_delays.ensures,
-        ),
-        (fits, ap (λ (d : DelayState). d.room) c.in-Ok-new.ensures),
-      ),
-    )
+    c.in-Ok-of_taps.ensures.made
+    ∙ (λ i. new_filter (Sparse (map number (c.in-Ok.ensures.items i)) (map pos (named i)))
+    (greatest (map pos (named i))) c.args.block)
+    ∙ ap (λ p. new_filter (Sparse (map number c.args.taps.now) (map pos ds)) p c.args.block) (greatest-named ds)

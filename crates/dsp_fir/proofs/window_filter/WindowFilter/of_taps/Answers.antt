@@ -1,6 +1,9 @@
-use Rattle.std.proofs.Common.{◌≡◌, ◌∙◌, ap, map, arith}
+use Rattle.std.proofs.Common.{◌≡◌, ◌∙◌, ap, sym, subst, ℕ, length, map, pos, arith}
+use Rattle.std.specs.Prelude.{IfSome}
+use Rattle.std.proofs.lemmas.List.{length-replicate}
+use Rattle.dsp_window.specs.Rolling.{Rolling}
 use Rattle.dsp_fir.specs.Laws.{windowed}
-use Rattle.dsp_fir.specs.WindowState.{block_of, past_count}
+use Rattle.dsp_fir.specs.WindowState.{DelayState, block_of, past_count}
 use Rattle.dsp_fir.proofs.ChannelLemmas.{new-channel}
 use Rattle.dsp_fir.proofs.window_filter.WindowFilter.of_taps.Goals as goal
 
@@ -29,3 +32,17 @@ returns-clause-stands g c =
     ap (λ l. past_count (block_of (map T.number l) c.args.delays)) c.deref.ensures.value in
     (new-channel T.format block c.args.capacity c.past_of-past.result c.in_ok-window.window
     (windowed T.format block c.requires.block) depth c.in_ok-window.ensures.made).stands.keeps
+
+pub invariant_of-result : goal.invariant_of-result
+invariant_of-result g c =
+    let T = g.T.Sample in
+    let depth : c.past_of-past.result ≡ past_count (block_of (map T.number c.args.taps.items) c.args.delays) =
+    c.past_of-past.ensures ∙ ap (λ l. past_count (block_of (map T.number l) c.args.delays)) c.deref.ensures.value in
+    let window = c.in_ok-window.window in
+    let made = c.in_ok-window.ensures.made in
+    let past : window.past ≡ c.past_of-past.result = ap (λ (w : Rolling). w.past) made in
+    let long : length window.samples ≡ c.past_of-past.result = ap (λ (w : Rolling). length w.samples) made ∙
+    length-replicate c.past_of-past.result (pos 0) in
+    let room = subst (λ (n : ℕ). IfSome c.args.delays (λ (d : DelayState). d.room ≡ n))
+    (sym (ap (λ (w : Rolling). w.room) made)) c.requires.room in
+    (c.requires.block, depth, past, omega (arith, past, long), room)

@@ -1,9 +1,8 @@
-use Rattle.std.proofs.Common.{◌∙◌, ap, sym, subst, map, pos, arith}
+use Rattle.std.proofs.Common.{◌∙◌, ap, sym, subst, map, pos}
 use Rattle.std.specs.Prelude.{IfOk}
 use Rattle.dsp_defs.specs.declared.script.Block.{Block}
 use Rattle.dsp_defs.specs.declared.script.Block.TheVariants.{Fir, Sparse}
 use Rattle.dsp_unit.specs.Filter.{IsNewFilter}
-use Rattle.dsp_fir.specs.ByChannel.{IsWindowIn}
 use Rattle.dsp_fir.specs.WindowState.{DelayState, channel_state}
 use Rattle.dsp_fir.proofs.window_filter.WindowFilterFilter.of_block.Goals as goal
 
@@ -13,20 +12,6 @@ returns-in_ok-taps-in-Fir g c =
     let same = ap Fir (c.in_ok-taps-in-Fir.ensures ∙ c.as_slice.ensures) ∙ sym c.in-Fir.is in
     subst (λ (b : Block). IfOk c.of_taps.result (λ f. IsNewFilter b T.format c.args.capacity
     (channel_state T.format f))) same c.of_taps.ensures.fresh
-
-pub of_taps-requires-in-Sparse : goal.of_taps-requires-in-Sparse
-of_taps-requires-in-Sparse g c =
-    let T = g.T.Sample in
-    let delays = ap (λ (d : DelayState). map pos d.delays) c.in_ok-delays-in-Sparse-2.ensures ∙
-    c.in_ok-delays-in-Sparse.ensures ∙ c.as_slice-in-Sparse-2.ensures in
-    let same = (λ i. Sparse ((c.in_ok-taps-in-Sparse.ensures ∙ c.as_slice-in-Sparse.ensures) i) (delays i)) ∙
-    sym c.in-Sparse.is in (
-      omega arith,
-      (
-        subst (IsWindowIn T.format) (sym same) c.requires.block,
-        (c.requires.few, ap (λ (d : DelayState). d.room) c.in_ok-delays-in-Sparse-2.ensures),
-      ),
-    )
 
 pub returns-in_ok-delays-in-Sparse-2 : goal.returns-in_ok-delays-in-Sparse-2
 returns-in_ok-delays-in-Sparse-2 g c =

@@ -1,14 +1,7 @@
-use Rattle.std.proofs.Common.{◌≡◌, ◌∙◌, subst, length, map, take, vec_len, rules, lit<, arith, length-take-le}
+use Rattle.std.proofs.Common.{◌≡◌, ◌∙◌, subst, length, map, take, vec_len, rules, arith, length-take-le}
 use Rattle.std.proofs.lemmas.List.{length-map}
 use Rattle.dsp_rate.proofs.ChannelLemmas.{IsDecimator, is-decimator, room-enough, channel-fed}
 use Rattle.dsp_rate.proofs.decimate.DecimateFilter.process.Goals as goal
-
-pub process-requires : goal.process-requires
-process-requires g c =
-    let d = c.args.self.now in
-    let room = room-enough (length c.args.input.now) d.block d.factor (length c.args.output.now) c.requires.block
-    c.requires.room in
-    (lit< tt, (c.requires.running, (c.requires.block, room)))
 
 pub returns-clause-fed : goal.returns-clause-fed
 returns-clause-fed g c =

@@ -1,4 +1,4 @@
-use Rattle.std.proofs.Common.{◌≡◌, ◌∙◌, ap, ℕ, List, ◌*◌, length, Some, arith}
+use Rattle.std.proofs.Common.{◌≡◌, ◌∙◌, ap, ℕ, List, ◌*◌, length, Some, arith, false}
 use Rattle.dsp_defs.specs.Generator.{generated_bytes}
 use Rattle.dsp_defs.specs.Wave.{wave_header, data_size}
 use Rattle.dsp_defs.specs.declared.format.Container.TheVariants.{Wave}
@@ -43,4 +43,4 @@ invariant_of-result c =
     (omega arith, omega (arith, small, ap length (begins c)))
 
 pub returns : goal.returns
-returns c = ap (λ (l : List ℕ). record { rest = l; taken = 0 }) (begins c)
+returns c = ap (λ (l : List ℕ). record { rest = l; taken = 0; ended = false; strayed = false }) (begins c)

@@ -1,4 +1,4 @@
-use Rattle.std.proofs.Common.{ap, arith, drop, length, length-take, length-drop, ◌+◌, ◌-◌, ◌≤◌, [], ◌∷◌, ◌++◌, ℕ}
+use Rattle.std.proofs.Common.{◌||◌, ap, arith, drop, length, length-take, length-drop, ◌+◌, ◌-◌, ◌≤◌, [], ◌∷◌, ◌++◌, ℕ}
 use Rattle.std.proofs.Common.{List, if◌then◌else◌}
 use Rattle.dsp_wave.specs.Generated.{made}
 use Rattle.dsp_wave.proofs.GeneratorLemmas.{Gave-ready}
@@ -23,4 +23,5 @@ returns-clause-gave c =
     ) in
     let rest = drop c.min-count.result c.args.into.now in
     rw (← c.self.view_is, ← c.refill.ensures.same) (Gave-ready pieces.ready.items pieces.given c.min-count.result
-    c.self.inside.taken last c.copy_from_slice.new.self rest fits copied)
+    c.self.inside.taken _ _ _ _ last c.copy_from_slice.new.self rest fits copied
+    (ap (λ none. c.self.inside.strayed || (c.self.inside.ended || none)) c.is_empty.ensures))

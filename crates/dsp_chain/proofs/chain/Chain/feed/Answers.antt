@@ -1,5 +1,5 @@
 use Rattle.std.proofs.Common.{◌≡◌, ◌∙◌, ap, inl, inr, refl, sym, subst, take, length, arith, true, false, Option}
-use Rattle.std.proofs.Common.{Some, None, ◌+◌, ◌/◌, ◌<◌, ◌≤◌}
+use Rattle.std.proofs.Common.{Some, None, ◌+◌, ◌<◌, ◌≤◌}
 use Rattle.std.specs.Prelude.{is_some}
 use Rattle.dsp_unit.specs.Line.{Place, InLine, AllCount, AllTaken, blocks_of, place_behind, place_room}
 use Rattle.dsp_defs.specs.Shape.{gathered, held}
@@ -63,7 +63,8 @@ pub gather_fault-requires-clause-few : goal.gather_fault-requires-clause-few
 gather_fault-requires-clause-few g c =
     let is = c.self.invariant.is in
     let n = c.self.inside.frames + c.frame_count.result in
-    let few : n ≤ MAX_INPUT = rw (length-frames_in, ← c.frame_count.ensures) at (rw (← c.self.view_is) at c.requires.count) in
+    let few : n ≤ MAX_INPUT = rw (length-frames_in, ← c.frame_count.ensures)
+    at (rw (← c.self.view_is) at c.requires.count) in
     rw c.deref.ensures.value (is.few_frames n few)
 
 pub returns-in-Some-gather_fault-clause-full : goal.returns-in-Some-gather_fault-clause-full
@@ -82,7 +83,8 @@ returns-in-Some-gather_fault-clause-numbers g c =
     rw (← c.self.view_is)
     (λ _. (
       c.in-Some-gather_fault.ensures.held ∙ ap (λ us. held (blocks_of us) c.self.inside.frames) links,
-      rw (length-frames_in, ← c.frame_count.ensures) (c.in-Some-gather_fault.ensures.more ∙ ap (λ us. gathered (blocks_of us) n) links),
+      rw (length-frames_in, ← c.frame_count.ensures)
+      (c.in-Some-gather_fault.ensures.more ∙ ap (λ us. gathered (blocks_of us) n) links),
     ))
 
 pub feed_line-requires-clause-running : goal.feed_line-requires-clause-running
@@ -97,7 +99,8 @@ feed_line-requires-clause-passes g c =
     let links = c.self.inside.links.items in
     let n = c.self.inside.frames + c.frame_count.result in
     let running = rw (← c.self.view_is) at c.requires.running in
-    let few : n ≤ MAX_INPUT = rw (length-frames_in, ← c.frame_count.ensures) at (rw (← c.self.view_is) at c.requires.count) in
+    let few : n ≤ MAX_INPUT = rw (length-frames_in, ← c.frame_count.ensures)
+    at (rw (← c.self.view_is) at c.requires.count) in
     let same = ap (λ us. gathered (blocks_of us) n) c.deref.ensures.value in
     let fits : gathered (blocks_of links) n ≤ MAX_GATHERED =
     subst (λ k. k ≤ MAX_GATHERED) same c.in_default-gather_fault.ensures.none in
@@ -130,7 +133,8 @@ invariant_of-self-2 g c =
     let news = c.feed_line.new.links in
     let n = c.self.inside.frames + c.frame_count.result in
     let running = rw (← c.self.view_is) at c.requires.running in
-    let few : n ≤ MAX_INPUT = rw (length-frames_in, ← c.frame_count.ensures) at (rw (← c.self.view_is) at c.requires.count) in
+    let few : n ≤ MAX_INPUT = rw (length-frames_in, ← c.frame_count.ensures)
+    at (rw (← c.self.view_is) at c.requires.count) in
     let line : InLine p c.as_mut_slice.result.now = subst (InLine p) (sym c.as_mut_slice.ensures.value) is.line in
     let fed = c.feed_line.ensures.fed p line (rw (← c.self.view_is) at c.requires.passes) in
     let whole = written-line c.self.inside.links.len news links
@@ -181,7 +185,8 @@ returns-clause-full g c =
     rw (← c.self.view_is) (
       λ e. absurd (false-true e),
       λ too_much. elim too_much [
-        | inl over ↦ absurd (let over' : MAX_GATHERED < gathered blocks n = rw (length-frames_in, ← c.frame_count.ensures) at over in
+        | inl over ↦ absurd (let over' : MAX_GATHERED < gathered blocks n =
+            rw (length-frames_in, ← c.frame_count.ensures) at over in
             omega (arith, over', fits))
         | inr some ↦ sym works ∙ some
       ],

@@ -84,7 +84,7 @@ returns-in-Some-gather_fault-clause-numbers g c =
     (λ _. (
       c.in-Some-gather_fault.ensures.held ∙ ap (λ us. held (blocks_of us) c.self.inside.frames) links,
       rw (length-frames_in, ← c.frame_count.ensures)
-      (c.in-Some-gather_fault.ensures.more ∙ ap (λ us. gathered (blocks_of us) n) links),
+          (c.in-Some-gather_fault.ensures.more ∙ ap (λ us. gathered (blocks_of us) n) links),
     ))
 
 pub feed_line-requires-clause-running : goal.feed_line-requires-clause-running

@@ -46,27 +46,6 @@ fn encode_by(coding: Coding, samples: &[i32], bytes: &mut [u8])
     }
 }
 
-/// How many samples are written at a time. The compiler sees their number, and packs them.
-const GROUP: usize = 32;
-
-/// The same, a group of samples after another: for samples of 8 bits, which the compiler does not pack
-/// otherwise.
-#[inline(always)]
-fn encode_groups(coding: Coding, samples: &[i32], bytes: &mut [u8])
-    requires room { length bytes.old ≡ length samples.now * width coding }
-    requires fits { All (IsValue coding) samples.now }
-    ensures { bytes.new ≡ flat_map (bytes_of coding) samples.now }
-{
-    let width = width(coding);
-    let mut at = 0;
-    'groups: while samples.len() - at >= GROUP {
-        let group = &samples[at..at + GROUP];
-        encode_by(coding, group, &mut bytes[at * width..(at + GROUP) * width]);
-        at += GROUP;
-    }
-    encode_by(coding, &samples[at..], &mut bytes[at * width..]);
-}
-
 /// Reads as many samples as there is room for from their bytes, one after another: there are to be
 /// `width(coding)` bytes for each sample of `samples`.
 pub fn decode(coding: Coding, bytes: &[u8], samples: &mut [i32])
@@ -94,10 +73,10 @@ pub fn encode(coding: Coding, samples: &[i32], bytes: &mut [u8])
     ensures { bytes.new ≡ flat_map (bytes_of coding) samples.now }
 {
     match coding {
-        Coding::Raw7 => encode_groups(Coding::Raw7, samples, bytes),
+        Coding::Raw7 => encode_by(Coding::Raw7, samples, bytes),
         Coding::Raw15 => encode_by(Coding::Raw15, samples, bytes),
         Coding::Raw31 => encode_by(Coding::Raw31, samples, bytes),
-        Coding::Wave7 => encode_groups(Coding::Wave7, samples, bytes),
+        Coding::Wave7 => encode_by(Coding::Wave7, samples, bytes),
         Coding::Wave15 => encode_by(Coding::Wave15, samples, bytes),
         Coding::Wave24 => encode_by(Coding::Wave24, samples, bytes),
         Coding::Wave31 => encode_by(Coding::Wave31, samples, bytes),

@@ -147,7 +147,7 @@ fn a_generated_wave_file_has_a_header_and_a_pad_byte(rt: HostRuntime) {
     let mut piece = [0; 5];
     for start in [0, 5, 10, 15, 20, 25, 30, 35, 40] {
         assert_same!(&rt; fill(&mut pieces, &mut piece, 100).ok(), Some(5));
-        assert_same!(&rt; piece.as_slice(), &want[start..start + 5]);
+        assert_holds!(&rt; want.get(start..start + 5) == Some(piece.as_slice()));
     }
     assert_same!(&rt; fill(&mut pieces, &mut piece, 100).ok(), Some(3));
     assert_same!(&rt; pieces.read(&mut piece).ok(), Some(0));

@@ -1,4 +1,5 @@
 pub mod SampleBytes
+mod Packing
 pub mod GeneratorLemmas
 pub mod FormatLaws
 pub mod ReaderLaws

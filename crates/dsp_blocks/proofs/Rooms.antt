@@ -5,6 +5,7 @@ use Rattle.std.proofs.Math.Nat.{div-le_self}
 use Rattle.std.proofs.lemmas.Nat.{mul-le}
 use Rattle.dsp_unit.specs.Unit.{most_frames, most_room}
 use Rattle.dsp_defs.specs.Grammar.{Suits}
+use Rattle.dsp_blocks.specs.BlockUnit.{HasRoom}
 use Rattle.dsp_defs.specs.declared.flow.Flow.{Flow}
 use Rattle.dsp_defs.specs.declared.limits.TheConstants.{MAX_FACTOR, MAX_MATRIX_SIDE, MAX_SAMPLES}
 use Rattle.dsp_defs.specs.declared.script.Block.{Block}
@@ -29,7 +30,7 @@ elements-few : (rows columns : ℕ) → rows ≤ MAX_MATRIX_SIDE → columns ≤
 elements-few rows columns short narrow = mul-le rows columns MAX_MATRIX_SIDE MAX_MATRIX_SIDE short narrow
 
 -- a block that suits its place gives few samples of so few frames
-pub room-few : (flow : Flow) (b : Block) (frames : ℕ) → Suits flow b → flow.channels ≤ 255 →
+room-few : (flow : Flow) (b : Block) (frames : ℕ) → Suits flow b → flow.channels ≤ 255 →
     frames * flow.channels ≤ MAX_SAMPLES →
     most_frames b frames * flow.channels ≤ most_room
 room-few flow (Interpolate factor taps) frames suits few samples =
@@ -54,3 +55,13 @@ room-few flow (MatMult rows columns given matrix) frames suits few samples =
     let p = suits.parameters in groups-few (rows * columns) (rows * given) frames flow.channels
     (elements-few rows given p.1 p.2.2.1) few samples
 room-few flow block frames suits few samples = omega (arith, samples)
+
+-- a block that suits its place has room there
+pub has-room : (flow : Flow) (b : Block) (frames : ℕ) → Suits flow b → flow.channels ≤ 255 →
+    1 ≤ flow.channels → 1 ≤ frames → frames * flow.channels ≤ MAX_SAMPLES → HasRoom b flow.channels frames
+has-room flow b frames suits few channels some samples = record {
+  channels = channels;
+  frames = some;
+  samples = samples;
+  given = room-few flow b frames suits few samples;
+}

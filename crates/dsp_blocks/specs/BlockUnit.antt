@@ -1,5 +1,8 @@
 -- What a contract sees of the unit of any block.
-use Rattle.dsp_unit.specs.Unit.{UnitState}
+use Rattle.std.specs.Prelude.{ℕ, ◌*◌, ◌≤◌}
+use Rattle.dsp_unit.specs.Unit.{UnitState, most_frames, most_room}
+use Rattle.dsp_defs.specs.declared.limits.TheConstants.{MAX_SAMPLES}
+use Rattle.dsp_defs.specs.declared.script.Block.{Block}
 use Rattle.dsp_blocks.specs.declared.block_unit.BlockUnit.{BlockUnit}
 use Rattle.dsp_blocks.specs.declared.block_unit.BlockUnit.TheVariants as unit
 
@@ -36,3 +39,10 @@ state_of (unit.Matrix15 u) = u
 state_of (unit.Matrix31 u) = u
 state_of (unit.MatMult15 u) = u
 state_of (unit.Measure u) = u
+
+-- a place of c channels at which a call takes at most n frames: some of each, and few samples are taken and given
+pub record HasRoom (b : Block) (c n : ℕ) : Type 0 where
+  pub channels : 1 ≤ c
+  pub frames : 1 ≤ n
+  pub samples : n * c ≤ MAX_SAMPLES
+  pub given : most_frames b n * c ≤ most_room

@@ -1,6 +1,6 @@
 use crate::{Drive, Held, Look};
 use dsp_biquad::{Cascade, CascadeSection};
-use dsp_defs::{Block, MAX_SAMPLES};
+use dsp_defs::Block;
 use dsp_filter::{EachChannel, StepFilter};
 use dsp_sat::Sample;
 use std::alloc::{AllocError, Global};
@@ -12,8 +12,9 @@ pub struct Cascades<T: Sample, S: CascadeSection<T>> {
 }
 
 impl<T: Sample, S: CascadeSection<T>> Cascades<T, S> {
-    ghost use Rattle.std.specs.Prelude.{◌≤◌, ◌*◌, IfOk};
-    ghost use Rattle.dsp_unit.specs.Unit.{IsNew, most_frames, most_room};
+    ghost use Rattle.std.specs.Prelude.{IfOk};
+    ghost use Rattle.dsp_unit.specs.Unit.{IsNew};
+    ghost use Rattle.dsp_blocks.specs.BlockUnit.{HasRoom};
 
     /// A cascade for each channel that has taken nothing.
     pub fn new(
@@ -23,10 +24,7 @@ impl<T: Sample, S: CascadeSection<T>> Cascades<T, S> {
         frames: usize,
     ) -> Result<Self, AllocError>
         requires block { S.IsOf block.now }
-        requires channels { 1 ≤ channels }
-        requires frames { 1 ≤ frames }
-        requires samples { frames * channels ≤ MAX_SAMPLES }
-        requires room { most_frames block.now frames * channels ≤ most_room }
+        requires room { HasRoom block.now channels frames }
         ensures { IfOk result (λ u. IsNew block.now T.format channels frames u.unit) }
     {
         Ok(Cascades {

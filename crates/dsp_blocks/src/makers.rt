@@ -1,5 +1,5 @@
 ghost use Rattle.std.specs.Prelude.{◌≤◌, ◌≢◌, ◌*◌, IfOk, true};
-ghost use Rattle.dsp_unit.specs.Unit.{IsMade, IsNew, most_frames, most_room};
+ghost use Rattle.dsp_unit.specs.Unit.{IsMade, IsNew};
 ghost use Rattle.dsp_defs.specs.Grammar.{Suits};
 ghost use Rattle.dsp_defs.specs.declared.format.Fmt.TheVariants.{Q7, Q15, Q31};
 ghost use Rattle.dsp_fir.specs.ByChannel.{IsWindowIn};
@@ -10,7 +10,7 @@ ghost use Rattle.dsp_conv.specs.ByChannel.{IsConvIn, IsCorrelateIn};
 ghost use Rattle.dsp_adapt.specs.LmsUnit.{IsLmsIn};
 ghost use Rattle.dsp_adapt.specs.PidState.{IsPidBlock};
 ghost use Rattle.dsp_matrix.specs.Matrices.{IsElementwiseIn, IsProductIn};
-ghost use Rattle.dsp_blocks.specs.BlockUnit.{state_of};
+ghost use Rattle.dsp_blocks.specs.BlockUnit.{HasRoom, state_of};
 
 use crate::{BlockUnit, Cascades};
 use dsp_adapt::LmsUnit;
@@ -28,10 +28,7 @@ pub fn fir(
     frames: usize,
 ) -> Result<BlockUnit, AllocError>
     requires block { IsWindowIn format block.now }
-    requires channels { 1 ≤ channels }
-    requires frames { 1 ≤ frames }
-    requires samples { frames * channels ≤ MAX_SAMPLES }
-    requires room { most_frames block.now frames * channels ≤ most_room }
+    requires room { HasRoom block.now channels frames }
     ensures { IfOk result (λ u. IsNew block.now format channels frames (state_of u)) }
 {
     match format {
@@ -51,10 +48,7 @@ pub fn decimate(
 ) -> Result<BlockUnit, AllocError>
     requires block { IsDecimateIn format block.now }
     requires wide { format ≢ Q7 }
-    requires channels { 1 ≤ channels }
-    requires frames { 1 ≤ frames }
-    requires samples { frames * channels ≤ MAX_SAMPLES }
-    requires room { most_frames block.now frames * channels ≤ most_room }
+    requires room { HasRoom block.now channels frames }
     ensures { IfOk result (λ u. IsNew block.now format channels frames (state_of u)) }
 {
     match format {
@@ -74,10 +68,7 @@ pub fn interpolate(
 ) -> Result<BlockUnit, AllocError>
     requires block { IsInterpolateIn format block.now }
     requires wide { format ≢ Q7 }
-    requires channels { 1 ≤ channels }
-    requires frames { 1 ≤ frames }
-    requires samples { frames * channels ≤ MAX_SAMPLES }
-    requires room { most_frames block.now frames * channels ≤ most_room }
+    requires room { HasRoom block.now channels frames }
     ensures { IfOk result (λ u. IsNew block.now format channels frames (state_of u)) }
 {
     match format {
@@ -95,10 +86,7 @@ pub fn lattice_fir(
     frames: usize,
 ) -> Result<BlockUnit, AllocError>
     requires block { IsFirLatticeIn Q15 block.now }
-    requires channels { 1 ≤ channels }
-    requires frames { 1 ≤ frames }
-    requires samples { frames * channels ≤ MAX_SAMPLES }
-    requires room { most_frames block.now frames * channels ≤ most_room }
+    requires room { HasRoom block.now channels frames }
     ensures { IfOk result (λ u. IsNew block.now Q15 channels frames (state_of u)) }
 {
     Ok(BlockUnit::LatticeFir15(EachChannel::new(alloc, block, channels, frames)?))
@@ -114,10 +102,7 @@ pub fn lattice_iir(
 ) -> Result<BlockUnit, AllocError>
     requires block { IsIirLatticeIn format block.now }
     requires wide { format ≢ Q7 }
-    requires channels { 1 ≤ channels }
-    requires frames { 1 ≤ frames }
-    requires samples { frames * channels ≤ MAX_SAMPLES }
-    requires room { most_frames block.now frames * channels ≤ most_room }
+    requires room { HasRoom block.now channels frames }
     ensures { IfOk result (λ u. IsNew block.now format channels frames (state_of u)) }
 {
     match format {
@@ -137,10 +122,7 @@ pub fn biquad(
 ) -> Result<BlockUnit, AllocError>
     requires block { IsBiquadIn format block.now }
     requires wide { format ≢ Q7 }
-    requires channels { 1 ≤ channels }
-    requires frames { 1 ≤ frames }
-    requires samples { frames * channels ≤ MAX_SAMPLES }
-    requires room { most_frames block.now frames * channels ≤ most_room }
+    requires room { HasRoom block.now channels frames }
     ensures { IfOk result (λ u. IsNew block.now format channels frames (state_of u)) }
 {
     match format {
@@ -160,9 +142,7 @@ pub fn bank(
 ) -> Result<BlockUnit, AllocError>
     requires block { IsBiquadIn format block.now }
     requires wide { format ≢ Q7 }
-    requires channels { 1 ≤ channels }
-    requires frames { 1 ≤ frames }
-    requires samples { frames * channels ≤ MAX_SAMPLES }
+    requires room { HasRoom block.now channels frames }
     ensures { IfOk result (λ u. IsMade true block.now format channels frames (state_of u)) }
 {
     match format {
@@ -180,10 +160,7 @@ pub fn biquad64(
     frames: usize,
 ) -> Result<BlockUnit, AllocError>
     requires block { IsBiquad64 block.now }
-    requires channels { 1 ≤ channels }
-    requires frames { 1 ≤ frames }
-    requires samples { frames * channels ≤ MAX_SAMPLES }
-    requires room { most_frames block.now frames * channels ≤ most_room }
+    requires room { HasRoom block.now channels frames }
     ensures { IfOk result (λ u. IsNew block.now Q31 channels frames (state_of u)) }
 {
     Ok(BlockUnit::Biquad64(Cascades::new(alloc, block, channels, frames)?))
@@ -198,10 +175,7 @@ pub fn conv(
     frames: usize,
 ) -> Result<BlockUnit, AllocError>
     requires block { IsConvIn format block.now }
-    requires channels { 1 ≤ channels }
-    requires frames { 1 ≤ frames }
-    requires samples { frames * channels ≤ MAX_SAMPLES }
-    requires room { most_frames block.now frames * channels ≤ most_room }
+    requires room { HasRoom block.now channels frames }
     ensures { IfOk result (λ u. IsNew block.now format channels frames (state_of u)) }
 {
     match format {
@@ -220,10 +194,7 @@ pub fn correlate(
     frames: usize,
 ) -> Result<BlockUnit, AllocError>
     requires block { IsCorrelateIn format block.now }
-    requires channels { 1 ≤ channels }
-    requires frames { 1 ≤ frames }
-    requires samples { frames * channels ≤ MAX_SAMPLES }
-    requires room { most_frames block.now frames * channels ≤ most_room }
+    requires room { HasRoom block.now channels frames }
     ensures { IfOk result (λ u. IsNew block.now format channels frames (state_of u)) }
 {
     match format {
@@ -263,10 +234,7 @@ pub fn pid(
 ) -> Result<BlockUnit, AllocError>
     requires block { IsPidBlock block.now }
     requires suits { Suits (record { format = format; channels = channels }) block.now }
-    requires channels { 1 ≤ channels }
-    requires frames { 1 ≤ frames }
-    requires samples { frames * channels ≤ MAX_SAMPLES }
-    requires room { most_frames block.now frames * channels ≤ most_room }
+    requires room { HasRoom block.now channels frames }
     ensures { IfOk result (λ u. IsNew block.now format channels frames (state_of u)) }
 {
     match format {
@@ -286,10 +254,7 @@ pub fn matrix(
 ) -> Result<BlockUnit, AllocError>
     requires block { IsElementwiseIn format block.now }
     requires wide { format ≢ Q7 }
-    requires channels { 1 ≤ channels }
-    requires frames { 1 ≤ frames }
-    requires samples { frames * channels ≤ MAX_SAMPLES }
-    requires room { most_frames block.now frames * channels ≤ most_room }
+    requires room { HasRoom block.now channels frames }
     ensures { IfOk result (λ u. IsNew block.now format channels frames (state_of u)) }
 {
     match format {
@@ -307,10 +272,7 @@ pub fn product(
     frames: usize,
 ) -> Result<BlockUnit, AllocError>
     requires block { IsProductIn Q15 block.now }
-    requires channels { 1 ≤ channels }
-    requires frames { 1 ≤ frames }
-    requires samples { frames * channels ≤ MAX_SAMPLES }
-    requires room { most_frames block.now frames * channels ≤ most_room }
+    requires room { HasRoom block.now channels frames }
     ensures { IfOk result (λ u. IsNew block.now Q15 channels frames (state_of u)) }
 {
     Ok(BlockUnit::MatMult15(EachChannel::new(alloc, block, channels, frames)?))

@@ -1,11 +1,11 @@
-ghost use Rattle.std.specs.Prelude.{◌≤◌, ◌*◌, IfOk};
+ghost use Rattle.std.specs.Prelude.{IfOk};
 ghost use Rattle.dsp_defs.specs.Grammar.{Suits};
 ghost use Rattle.dsp_unit.specs.Unit.{IsNew};
-ghost use Rattle.dsp_blocks.specs.BlockUnit.{state_of};
+ghost use Rattle.dsp_blocks.specs.BlockUnit.{HasRoom, state_of};
 
 use crate::{BlockUnit, makers};
 use dsp_complex::ComplexUnit;
-use dsp_defs::{Block, Fmt, MAX_SAMPLES};
+use dsp_defs::{Block, Fmt};
 use dsp_unit::AnyUnit;
 use dsp_vector::VectorUnit;
 use std::alloc::{AllocError, Global};
@@ -19,9 +19,7 @@ fn plain(
     frames: usize,
 ) -> Result<BlockUnit, AllocError>
     requires suits { Suits (record { format = format; channels = channels }) block.now }
-    requires channels { 1 ≤ channels }
-    requires frames { 1 ≤ frames }
-    requires samples { frames * channels ≤ MAX_SAMPLES }
+    requires room { HasRoom block.now channels frames }
     ensures { IfOk result (λ u. IsNew block.now format channels frames (state_of u)) }
 {
     match block {

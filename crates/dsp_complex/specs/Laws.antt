@@ -6,7 +6,6 @@ use Rattle.dsp_unit.specs.Unit.{most_frames}
 use Rattle.dsp_unit.specs.Memoryless.{IsMemoryless}
 use Rattle.dsp_defs.specs.declared.format.Fmt.{Fmt}
 use Rattle.dsp_filter.specs.Memoryless.{price}
-use Rattle.dsp_defs.specs.declared.script.Block.TheVariants.{Conj}
 use Rattle.dsp_complex.specs.declared.operation.Operation.{Operation}
 use Rattle.dsp_complex.specs.declared.operation.Operation.TheVariants as operation
 use Rattle.dsp_complex.specs.ComplexUnit.{block_of}

@@ -8,6 +8,7 @@ use crate::frames::{Conjugate, Product, RealProduct, SquaredMagnitude, give_fram
 use crate::scalars::ComplexSample;
 use dsp_defs::{Block, Fmt, Steps};
 use dsp_filter::FrameWork;
+use dsp_shape::frame_count;
 use std::alloc::{AllocError, Global};
 use std::sync::ledger::Ledger;
 
@@ -43,7 +44,7 @@ impl Operation {
         ensures turns { steps.new.turns ≤ steps.old.turns + length
             (frames_in channels frames.now) * price (block_of self) channels }
     {
-        let count = frames.len() / channels;
+        let count = frame_count(frames.len(), channels);
         match self {
             Operation::Conj => give_frames::<T, Conjugate, L>(Conjugate, frames, count, out, steps),
             Operation::CmplxMult => give_frames::<T, Product, L>(

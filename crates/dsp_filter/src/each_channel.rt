@@ -2,7 +2,7 @@ use crate::kept::{count_kept, keep_channels, place_channels, restore_channels};
 use crate::{Filter, feed_block, finish_channels};
 use dsp_defs::{Block, MAX_SAMPLES, Measure, Steps};
 use dsp_sat::Sample;
-use dsp_shape::most_frames;
+use dsp_shape::{frame_count, most_frames};
 use dsp_unit::Unit;
 use std::alloc::{AllocError, Global};
 use std::marker::Model;
@@ -92,7 +92,7 @@ impl<T: Sample, F: Filter<T> + Drop> Unit for EachChannel<T, F> {
     ghost unit = { λ u. u };
 
     fn feed<L: Ledger>(&mut self, frames: &[i32], out: &mut [i32], steps: &mut Steps<L>) -> usize {
-        let count = frames.len() / self.filters.len();
+        let count = frame_count(frames.len(), self.filters.len());
         let given = feed_block(
             self.filters.as_mut_slice(),
             frames,

@@ -11,6 +11,7 @@ ghost use Rattle.dsp_measure.specs.Sums.{with_complex, with_complex_channels, wi
 use crate::MeasureSample;
 use dsp_defs::Steps;
 use dsp_sat::Sample;
+use dsp_shape::frame_count;
 use std::sync::ledger::Ledger;
 
 /// The sums with one complex product more, of a+ib and c+id.
@@ -122,5 +123,5 @@ pub fn add_complex_channels<T: MeasureSample, L: Ledger>(
             T::of_number(frames[place + 3]),
         )
     };
-    add_complex::<T, _, L>(start, frames.len() / channels, at, steps)
+    add_complex::<T, _, L>(start, frame_count(frames.len(), channels), at, steps)
 }

@@ -9,6 +9,7 @@ ghost use Rattle.dsp_measure.specs.Sums.{with_channels, with_products};
 use crate::MeasureSample;
 use dsp_defs::Steps;
 use dsp_sat::Sample;
+use dsp_shape::frame_count;
 use std::sync::ledger::Ledger;
 
 /// A sum that goes on by `count` products, where `at` gives the two samples of each place. It stays in
@@ -90,7 +91,7 @@ fn add_strided<T: MeasureSample, L: Ledger>(
             T::of_number(frames[place + second]),
         )
     };
-    add_products::<T, _, L>(start, frames.len() / channels, at, steps)
+    add_products::<T, _, L>(start, frame_count(frames.len(), channels), at, steps)
 }
 
 /// A sum that goes on by the products of two channels of the frames.

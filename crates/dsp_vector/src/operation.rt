@@ -10,6 +10,7 @@ use crate::joins::{Difference, Product, Sum, join_pairs};
 use crate::routes::route_frames;
 use dsp_defs::{Block, Fmt, List, Steps};
 use dsp_filter::FrameWork;
+use dsp_shape::frame_count;
 use std::alloc::{AllocError, Global};
 use std::sync::ledger::Ledger;
 
@@ -92,7 +93,7 @@ impl Operation {
             Operation::Mult => join_pairs::<T, Product, L>(Product, frames, out, steps),
             Operation::Route { channels: list } => {
                 let list = list.as_slice();
-                let count = frames.len() / channels;
+                let count = frame_count(frames.len(), channels);
                 route_frames(list, frames, count, channels, out);
                 count * list.len()
             }

@@ -25,7 +25,7 @@ feed_block-given-requires-clause-whole g c =
     let slice : length c.as_mut_slice.result.now ≡ c.len.result =
     omega (arith, c.as_mut_slice.ensures.len, c.len.ensures) in
     let whole' : length frames ≡ length frames / c.len.result * c.len.result = rw size at whole in
-    rw slice whole'
+    rw slice (whole' ∙ ap (λ n. n * c.len.result) (sym c.frame_count-count.ensures))
 
 pub feed_block-given-requires-clause-accepts : goal.feed_block-given-requires-clause-accepts
 feed_block-given-requires-clause-accepts g c =
@@ -40,13 +40,13 @@ feed_block-given-requires-clause-accepts g c =
       c.len.ensures,
       c.self.inside.filters.ok.0,
     ) in
-    let count : length (frames_in (length olds) frames) ≡ length frames / c.len.result =
-    length-frames_in (length olds) frames ∙ ap (λ n. length frames / n) size in
-    let all : All (λ f. FilterAccepts f (length frames / c.len.result)) olds =
+    let count : length (frames_in (length olds) frames) ≡ c.frame_count-count.result =
+    length-frames_in (length olds) frames ∙ ap (λ n. length frames / n) size ∙ sym c.frame_count-count.ensures in
+    let all : All (λ f. FilterAccepts f c.frame_count-count.result) olds =
     subst (λ n. All (λ f. FilterAccepts f n) olds) count
     (accept-filters g.T.Sample.format c.self.inside.capacity olds c.self.invariant.0 running
     (length (frames_in (length olds) frames)) accepts) in
-    subst (λ xs. All (λ f. FilterAccepts f (length frames / c.len.result)) (map g.F.Filter.filter xs))
+    subst (λ xs. All (λ f. FilterAccepts f c.frame_count-count.result) (map g.F.Filter.filter xs))
     (sym c.as_mut_slice.ensures.value) all
 
 pub invariant_of-self : goal.invariant_of-self
@@ -61,9 +61,9 @@ invariant_of-self g c =
     let written : take c.self.inside.filters.len (made ++ drop (length made) items) ≡ made =
     written-whole c.self.inside.filters.len made items size in
     let running : (filter_at olds 0).ended ≡ false = rw (← c.self.view_is) at c.requires.running in
-    let fed : AreFed olds (map filter made) (length c.args.frames.now / c.len.result) c.args.frames.now
+    let fed : AreFed olds (map filter made) c.frame_count-count.result c.args.frames.now
     c.feed_block-given.result c.feed_block-given.new.out c.args.steps.now c.feed_block-given.new.steps =
-    subst (λ fs. AreFed (map filter fs) (map filter made) (length c.args.frames.now / c.len.result) c.args.frames.now
+    subst (λ fs. AreFed (map filter fs) (map filter made) c.frame_count-count.result c.args.frames.now
     c.feed_block-given.result c.feed_block-given.new.out c.args.steps.now c.feed_block-given.new.steps)
     c.as_mut_slice.ensures.value c.feed_block-given.ensures.fed in
     let are' : AreFilters g.T.Sample.format c.self.inside.capacity (map filter made) =
@@ -90,9 +90,9 @@ returns-clause-running g c =
     let written : take c.self.inside.filters.len (made ++ drop (length made) items) ≡ made =
     written-whole c.self.inside.filters.len made items size in
     let running : (filter_at olds 0).ended ≡ false = rw (← c.self.view_is) at c.requires.running in
-    let fed : AreFed olds (map filter made) (length c.args.frames.now / c.len.result) c.args.frames.now
+    let fed : AreFed olds (map filter made) c.frame_count-count.result c.args.frames.now
     c.feed_block-given.result c.feed_block-given.new.out c.args.steps.now c.feed_block-given.new.steps =
-    subst (λ fs. AreFed (map filter fs) (map filter made) (length c.args.frames.now / c.len.result) c.args.frames.now
+    subst (λ fs. AreFed (map filter fs) (map filter made) c.frame_count-count.result c.args.frames.now
     c.feed_block-given.result c.feed_block-given.new.out c.args.steps.now c.feed_block-given.new.steps)
     c.as_mut_slice.ensures.value c.feed_block-given.ensures.fed in
     let (m, counted) = c.self.invariant.0.counted running in
@@ -112,9 +112,9 @@ returns-clause-output g c =
     let written : take c.self.inside.filters.len (made ++ drop (length made) items) ≡ made =
     written-whole c.self.inside.filters.len made items size in
     let running : (filter_at olds 0).ended ≡ false = rw (← c.self.view_is) at c.requires.running in
-    let fed : AreFed olds (map filter made) (length c.args.frames.now / c.len.result) c.args.frames.now
+    let fed : AreFed olds (map filter made) c.frame_count-count.result c.args.frames.now
     c.feed_block-given.result c.feed_block-given.new.out c.args.steps.now c.feed_block-given.new.steps =
-    subst (λ fs. AreFed (map filter fs) (map filter made) (length c.args.frames.now / c.len.result) c.args.frames.now
+    subst (λ fs. AreFed (map filter fs) (map filter made) c.frame_count-count.result c.args.frames.now
     c.feed_block-given.result c.feed_block-given.new.out c.args.steps.now c.feed_block-given.new.steps)
     c.as_mut_slice.ensures.value c.feed_block-given.ensures.fed in
     let channels : length olds ≡ c.len-2.result = omega
@@ -149,9 +149,9 @@ returns-clause-fed g c =
     let written : take c.self.inside.filters.len (made ++ drop (length made) items) ≡ made =
     written-whole c.self.inside.filters.len made items size in
     let running : (filter_at olds 0).ended ≡ false = rw (← c.self.view_is) at c.requires.running in
-    let fed : AreFed olds (map filter made) (length c.args.frames.now / c.len.result) c.args.frames.now
+    let fed : AreFed olds (map filter made) c.frame_count-count.result c.args.frames.now
     c.feed_block-given.result c.feed_block-given.new.out c.args.steps.now c.feed_block-given.new.steps =
-    subst (λ fs. AreFed (map filter fs) (map filter made) (length c.args.frames.now / c.len.result) c.args.frames.now
+    subst (λ fs. AreFed (map filter fs) (map filter made) c.frame_count-count.result c.args.frames.now
     c.feed_block-given.result c.feed_block-given.new.out c.args.steps.now c.feed_block-given.new.steps)
     c.as_mut_slice.ensures.value c.feed_block-given.ensures.fed in
     let channels : length olds ≡ c.len-2.result = omega
@@ -164,9 +164,10 @@ returns-clause-fed g c =
     (length c.args.out.now) fits room in omega (arith, bound, c.feed_block-given.auto.out)) in
     let fed' : AreFed olds (map filter made) (length c.args.frames.now / length olds) c.args.frames.now
     c.feed_block-given.result c.feed_block-given.new.out c.args.steps.now c.feed_block-given.new.steps =
-    subst (λ k. AreFed olds (map filter made) (length c.args.frames.now / k) c.args.frames.now
+    subst (λ n. AreFed olds (map filter made) n c.args.frames.now
     c.feed_block-given.result c.feed_block-given.new.out c.args.steps.now c.feed_block-given.new.steps)
-    (omega (arith, channels, c.len.ensures, c.len-2.ensures)) fed in
+    (c.frame_count-count.ensures ∙ ap (λ k. length c.args.frames.now / k)
+    (let same : c.len.result ≡ length olds = omega (arith, channels, c.len.ensures, c.len-2.ensures) in same)) fed in
     rw (← c.self.view_is)
     (subst (λ fs. Feeds (unit_of_filters g.T.Sample.format c.self.inside.capacity olds)
     (unit_of_filters g.T.Sample.format c.self.inside.capacity (map filter fs))
@@ -182,8 +183,8 @@ returns-clause-fed g c =
     c.feed_block-given.new.out within (map filter made) c.args.frames.now c.args.steps.now
     c.feed_block-given.new.steps running fed')))
 
-pub nonzero_div-count : goal.nonzero_div-count
-nonzero_div-count g c =
+pub frame_count-count-requires : goal.frame_count-count-requires
+frame_count-count-requires g c =
     let some = c.self.invariant.0.some in
     omega (
       arith,
@@ -260,7 +261,7 @@ feed_block-given-requires-clause-input g c =
       c.len.ensures,
       c.self.inside.filters.ok.0,
     ) in
-    let count : length (frames_in (length olds) frames) ≡ length frames / c.len.result =
-    length-frames_in (length olds) frames ∙ ap (λ n. length frames / n) size in
+    let count : length (frames_in (length olds) frames) ≡ c.frame_count-count.result =
+    length-frames_in (length olds) frames ∙ ap (λ n. length frames / n) size ∙ sym c.frame_count-count.ensures in
     let few = rw (← c.self.view_is) at c.requires.capacity in
     omega (arith, few, count, c.as_mut_slice-2.ensures.len, c.self.invariant.1)

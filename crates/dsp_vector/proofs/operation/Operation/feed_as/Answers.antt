@@ -1,4 +1,4 @@
-use Rattle.std.proofs.Common.{◌∙◌, ap, refl, ◌*◌, ◌/◌, ◌≤◌, map, length, arith, rules, SFits, to_z-of_z, w32}
+use Rattle.std.proofs.Common.{◌∙◌, ap, sym, refl, ◌*◌, ◌/◌, ◌≤◌, map, length, arith, rules, SFits, to_z-of_z, w32}
 use Rattle.dsp_defs.specs.Elementwise.{add, negate, abs, scale, shift, clip, convert, sub, mult}
 use Rattle.dsp_defs.specs.declared.format.Fmt.TheVariants.{Q7, Q15, Q31}
 use Rattle.dsp_defs.specs.declared.script.Block.TheVariants.{Offset, Negate, Abs, Scale, Shift, Clip, To, Add, Sub}
@@ -112,24 +112,26 @@ returns-in-Route-clause-given g c =
     rw (c.in-Route.is, length-frames_in) at c.requires.room in
     let room' : length frames / channels * length list ≤ length c.route_frames.new.out =
     omega (arith, room, c.route_frames.auto.out) in
-    rw (c.in-Route.is, c.as_slice-list.ensures)
+    rw (c.in-Route.is, c.as_slice-list.ensures, c.frame_count-count.ensures)
     (route-gives g.T.Sample.format channels list frames c.route_frames.new.out c.requires.signal c.requires.some suits
-    room' (rw c.as_slice-list.ensures at c.route_frames.ensures))
+    room' (rw c.frame_count-count.ensures at (rw c.as_slice-list.ensures at c.route_frames.ensures)))
 
 pub route_frames-requires : goal.route_frames-requires
 route_frames-requires g c = record {
   inside = rw c.as_slice-list.ensures (route-inside g.T.Sample.format c.args.channels c.in-Route.list c.requires.some
       (rw c.in-Route.is at c.requires.suits));
   whole = c.requires.signal.whole_frames ∙ ap (λ n. n * c.args.channels)
-      (length-frames_in c.args.channels c.args.frames.now);
-  room = rw c.as_slice-list.ensures (rw (c.in-Route.is, length-frames_in) at c.requires.room);
+      (length-frames_in c.args.channels c.args.frames.now ∙ sym c.frame_count-count.ensures);
+  room = rw (c.as_slice-list.ensures, c.frame_count-count.ensures)
+      (rw (c.in-Route.is, length-frames_in) at c.requires.room);
 }
 
 pub overflow_mul-result : goal.overflow_mul-result
 overflow_mul-result g c =
-    let room = rw (← c.as_slice-list.ensures) at (rw (c.in-Route.is, length-frames_in) at c.requires.room) in
+    let room = rw (← c.as_slice-list.ensures, ← c.frame_count-count.ensures) at
+    (rw (c.in-Route.is, length-frames_in) at c.requires.room) in
     search (rules, room)
 
 pub returns-in-Route-clause-within : goal.returns-in-Route-clause-within
-returns-in-Route-clause-within g c = rw c.as_slice-list.ensures
+returns-in-Route-clause-within g c = rw (c.as_slice-list.ensures, c.frame_count-count.ensures)
     (rw (c.in-Route.is, length-frames_in) at c.requires.room)

@@ -13,6 +13,7 @@ use crate::same::same_count;
 use dsp_blocks::BlockUnit;
 use dsp_chain::Chain;
 use dsp_defs::{Block, Blocks, Container, Fmt, Input, InputKind, List, MAX_INPUT, Script, Steps};
+use dsp_shape::frame_count;
 use dsp_unit::AnyUnit;
 use std::alloc::Global;
 use std::marker::Brand;
@@ -187,6 +188,14 @@ fn resumes<U: AnyUnit + Drop, L: Ledger>(
     let mut out = vec![in alloc; 0; next.room()].expect(rt, "memory");
     let count = feed_piece(rt, alloc, &mut next, &[400, -16], &mut out, &mut steps);
     assert_same!(rt; &out[..count], [-25, -4].as_slice());
+}
+
+/// With one channel, with two and with more; a rest is no frame.
+#[test]
+fn samples_make_frames(rt: HostRuntime) {
+    same_count(&rt, frame_count(7, 1), 7);
+    same_count(&rt, frame_count(7, 2), 3);
+    same_count(&rt, frame_count(7, 3), 2);
 }
 
 #[test]

@@ -4,7 +4,7 @@ use dsp_defs::{Container, Fmt, Input, InputKind, Wanted};
 use dsp_ports::{Source, fill};
 use dsp_wave::{
     Coding, GenSource, HeaderOr, bytes_of, decode, encode, read_header, riff_size, sample_of,
-    width, write_header,
+    whole_samples, width, write_header,
 };
 use std::process::Abort;
 
@@ -14,6 +14,7 @@ mod headers;
 fn both_ways(rt: &impl Abort, coding: Coding, bytes: &[u8], values: [i32; 3]) {
     let width = width(coding);
     same_count(rt, bytes.len(), 3 * width);
+    same_count(rt, whole_samples(coding, bytes.len() + width - 1), 3);
     {
         let mut samples = [0; 3];
         decode(coding, bytes, &mut samples);

@@ -10,7 +10,8 @@ returns-clause-sums g c =
     let channels = c.args.channels in
     let count = length frames / channels in
     let of = samples_in channels count frames in
-    c.add_complex.ensures.sums (of 0) (of 1) (of 2) (of 3) (length-samples_in channels count frames 0 ∙ sym c.frame_count.ensures)
+    c.add_complex.ensures.sums (of 0) (of 1) (of 2) (of 3)
+    (length-samples_in channels count frames 0 ∙ sym c.frame_count.ensures)
     (λ n s short is. let less : n < count = rw c.frame_count.ensures at short in (
       is.0 ∙ sym (sample-values count (λ k. sample frames (k * channels + 0)) n less),
       is.1.0 ∙ sym (sample-values count (λ k. sample frames (k * channels + 1)) n less),

@@ -25,7 +25,8 @@ returns-in-CmplxMult-clause-given g c =
     length c.give_frames-in-CmplxMult.new.out = omega (arith, room, c.give_frames-in-CmplxMult.auto.out) in
     rw (c.in-CmplxMult.is, c.give_frames-in-CmplxMult.ensures.count, c.frame_count-count.ensures)
     (frames-give g.T.Sample.format c.args.channels 4 2 CmplxMult c.args.frames.now c.give_frames-in-CmplxMult.new.out
-    wanted (lit< tt) refl (λ x. refl) room' (rw c.frame_count-count.ensures at c.give_frames-in-CmplxMult.ensures.values)
+    wanted (lit< tt) refl (λ x. refl) room'
+    (rw c.frame_count-count.ensures at c.give_frames-in-CmplxMult.ensures.values)
     (rw c.frame_count-count.ensures at c.give_frames-in-CmplxMult.ensures.fits))
 
 pub returns-in-CmplxMultReal-clause-given : goal.returns-in-CmplxMultReal-clause-given

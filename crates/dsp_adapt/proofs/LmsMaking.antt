@@ -1,43 +1,20 @@
 -- New LMS filters, and what they keep.
 use Rattle.std.proofs.Common.{◌≡◌, ◌∙◌, ap, sym, refl, subst, ℕ, ◌+◌, ◌-◌, ◌*◌, ◌≤◌, ℤ, pos, List, [], ◌++◌, length}
-use Rattle.std.proofs.Common.{map, take, drop, replicate, reverse, Option, Some, None, Result, Ok, Err, take_all}
+use Rattle.std.proofs.Common.{map, take, drop, replicate, reverse, None, take_all}
 use Rattle.std.proofs.Common.{take_at, arith, length-append, length-drop, length-take-le}
-use Rattle.std.specs.Option.{MatchOption, option_or}
 use Rattle.std.proofs.lemmas.List.{append-nil, length-map, length-replicate, length-reverse, reverse-reverse}
 use Rattle.std.proofs.lemmas.Slice.{take-put_mid}
 use Rattle.std.proofs.lemmas.Grind.{common_steps}
 use borrow.Rule.Slice.PartMut.{put_mid}
-use Rattle.dsp_defs.specs.declared.fault.MakeFault.{MakeFault}
 use Rattle.dsp_defs.specs.declared.format.Fmt.{Fmt}
 use Rattle.dsp_defs.specs.declared.limits.TheConstants.{MAX_SAMPLES, MAX_TAPS}
-use Rattle.dsp_filter.specs.Making.{block_fault, taps_fault}
 use Rattle.dsp_window.specs.Rolling.{Rolling, last_samples}
 use Rattle.dsp_defs.specs.declared.script.Block.{Block}
 use Rattle.dsp_defs.specs.declared.script.Block.TheVariants.{Lms}
 use Rattle.dsp_adapt.specs.LmsState.{LmsState, StandsFor, lms_fault, new_lms}
 use Rattle.dsp_adapt.specs.LmsUnit.{HasRows, IsLmsIn}
 
--- ---- faults
-
--- a test that passed found no fault
-pub passed : {A : Type 0} (fault : Option MakeFault) (a b : A) →
-    MatchOption fault (◌≡◌ {A = Result A MakeFault} (Ok a) (Ok b)) (λ e. Ok a ≡ Err e) → fault ≡ None
-passed None a b h = refl
-passed (Some e) a b h = cc
-
-pub taps-within : (taps : ℕ) → taps_fault taps ≡ None → (1 ≤ taps) × (taps ≤ MAX_TAPS)
-taps-within taps none = (grind (arith, common_steps), grind (arith, common_steps))
-
-pub block-within : (block : ℕ) → block_fault block ≡ None → block ≤ MAX_SAMPLES
-block-within block none = grind (arith, common_steps)
-
--- three tests passed
-pub no-fault : (P : Type 0) (Q : MakeFault → Type 0) (first second third : Option MakeFault) → first ≡ None →
-    second ≡ None → third ≡ None → P → MatchOption (option_or first (option_or second third)) P Q
-no-fault P Q None None None a b c p = p
-no-fault P Q (Some e) second third a b c p = absurd (cc a)
-no-fault P Q None (Some e) third a b c p = absurd (cc b)
-no-fault P Q None None (Some e) a b c p = absurd (cc c)
+-- ---- blocks and faults
 
 -- the block of an LMS filter is no other
 pub block-is : (format : Fmt) (block : Block) → IsLmsIn format block →

@@ -5,7 +5,7 @@ use Rattle.std.proofs.Common.{refl, sym, ap, ◌∙◌, subst, arith, length-dro
 use Rattle.std.specs.Int.{from_be_bytes}
 use Rattle.std.specs.Result.{result_unwrap_or}
 use Rattle.std.specs.Str.{bytes_eq}
-use Rattle.std.proofs.lemmas.Grind.{common_steps}
+use Rattle.std.proofs.lemmas.Bool.{ltb-false}
 use Rattle.dsp_defs.specs.Au.{Form, WaveForm, AuForm, au_header_of, au_said, au_whole, big_u32_at, coding_of_encoding}
 use Rattle.dsp_defs.specs.Au.{form_header_of}
 use Rattle.dsp_defs.specs.Bytes.{AreBytes}
@@ -162,7 +162,7 @@ au_whole_said bytes header e = by (not (bytes_eq (take 4 bytes) (codes ".snd")))
         all ≡ Ok header → (24 ≤ length bytes) × (au_said (take 24 bytes) ≡ Ok header)
     by true short is e = absurd cc
     by false true is e = absurd cc
-    by false false is e = whole (grind (arith, common_steps, is)) (au_said (take 24 bytes)) refl e
+    by false false is e = whole (ltb-false _ _ is) (au_said (take 24 bytes)) refl e
 
 au_rate_small : (bytes : List ℕ) (header : OpenHeader) → Small bytes → au_header_of bytes ≡ Ok header →
     header.rate < 2 ^ 32

@@ -25,6 +25,12 @@ pub five_words : (words : List (List ℕ)) (a b c d e : List ℕ) → length wor
 five_words (v ∷ w ∷ x ∷ y ∷ z ∷ []) a b c d e size p q r s t = cc
 five_words words a b c d e size p q r s t = absurd (omega (arith, size))
 
+-- four words are these
+pub four_words : (words : List (List ℕ)) (a b c d : List ℕ) → length words ≡ 4 → slice_get words 0 ≡ Some a →
+    slice_get words 1 ≡ Some b → slice_get words 2 ≡ Some c → slice_get words 3 ≡ Some d → words ≡ a ∷ b ∷ c ∷ d ∷ []
+four_words (v ∷ w ∷ x ∷ y ∷ []) a b c d size p q r s = cc
+four_words words a b c d size p q r s = absurd (omega (arith, size))
+
 -- ---- a gen makes no more frames than may be generated
 
 abbrev MakesFew : Command → Type 0

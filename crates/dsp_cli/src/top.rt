@@ -293,7 +293,6 @@ fn check_script<S: Source, O: Source, L: Ledger>(
 }
 
 /// Does what the words say, but for the report.
-#[tactic(auto, using(crate::proofs::Asking::draws_nothing))]
 fn perform<U: AnyUnit + Drop, P: Source, S: Source, K: Sink, O: Source, L: Ledger>(
     alloc: Global,
     words: &Words,

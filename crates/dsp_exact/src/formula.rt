@@ -1,5 +1,4 @@
 //! Values given by a formula of their number, and sums of terms.
-#![tactic(auto, using(crate::proofs::Steps::steps))]
 
 ghost use Rattle.std.specs.Prelude.{◌≡◌, ◌+◌, ◌*◌, ◌^◌, ◌<◌, ◌≤◌, ℕ, ℤ, All, FitsSigned, IfOk, length, nat_abs};
 ghost use Rattle.dsp_defs.specs.Formats.{word};

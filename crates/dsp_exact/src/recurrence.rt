@@ -28,7 +28,6 @@ pub trait Recurrence {
 }
 
 /// The values for a whole signal.
-#[tactic(auto, using(crate::proofs::Steps::steps))]
 pub fn outputs<R: Recurrence, L: Ledger>(
     alloc: Global,
     recurrence: &R,

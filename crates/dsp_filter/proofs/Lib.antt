@@ -3,6 +3,7 @@ pub mod Groups
 mod Rounds
 mod KeptLists
 pub mod Units
+pub mod Faults
 pub mod Slices
 pub mod LastPlace
 mod Chains

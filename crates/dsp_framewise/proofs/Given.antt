@@ -1,13 +1,13 @@
 -- The frame that a block gives of one frame: its length, its samples and its products.
 use Rattle.std.proofs.Common.{◌≡◌, ◌∙◌, sym, ℕ, zero, suc, ◌*◌, ◌<◌, ◌≤◌, ℤ, pos, negsuc, ◌^◌, ◌≤ℤ◌}
-use Rattle.std.proofs.Common.{SFits, [], ◌∷◌, length, arith, rules, lit<}
+use Rattle.std.proofs.Common.{ap, map, to_z, of_z, SFits, [], ◌∷◌, length, arith, rules, lit<}
 use Rattle.std.specs.Prelude.{All, FitsSigned}
 use Rattle.std.specs.Int.{Width, w8, w16, w32}
 use mir.Val.{hbits}
 use lib.Signed.{mag}
 use Rattle.dsp_sat.proofs.WideProducts.{word-in-32}
-use Rattle.std.proofs.lemmas.Int.{ints}
-use Rattle.std.proofs.lemmas.List.{length-map}
+use Rattle.std.proofs.lemmas.Int.{ints, to_z-of_z}
+use Rattle.std.proofs.lemmas.List.{length-map, get_or-map}
 use Rattle.dsp_defs.specs.Signal.{sample}
 use Rattle.dsp_defs.specs.Block.{Frame, channels_after, given_frame}
 use Rattle.dsp_defs.specs.Cost.{whole_block_cost}
@@ -49,6 +49,15 @@ sample-fits format [] k all = zero-fits format
 sample-fits format (x ∷ frame) zero all = all 0 (pos 0) (omega arith)
 sample-fits format (x ∷ frame) (suc k) all = sample-fits format frame k
     (λ j d inside. all (suc j) d (omega (arith, inside)))
+
+-- a sample of a frame that is made sample by sample
+pub mapped : (f : ℤ → ℤ) (frame : Frame) (j : ℕ) (x r : ℤ) → j < length frame → SFits w32 x → SFits w32 r →
+    x ≡ sample frame j → r ≡ f (to_z w32 (of_z w32 x)) → to_z w32 (of_z w32 r) ≡ sample (map f frame) j
+mapped f frame j x r inside fits_x fits_r is_x is_r =
+    to_z-of_z w32 r fits_r
+    ∙ is_r
+    ∙ ap f (to_z-of_z w32 x fits_x ∙ is_x)
+    ∙ sym (get_or-map f frame j (pos 0) (pos 0) inside)
 
 -- numbers up to what the width holds
 between : (w : Width) (low v : ℤ) (high : ℕ) → mag low < 2 ^ hbits w → high < 2 ^ hbits w → IsBetween low (pos high) v

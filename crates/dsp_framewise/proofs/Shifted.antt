@@ -1,10 +1,12 @@
 -- How large products of the parts of complex numbers are, shifted too.
-use Rattle.std.proofs.Common.{ℕ, ◌-◌, ◌*◌, ◌^◌, ◌<◌, ◌≤◌, ℤ, pos, negsuc, arith, lit<, nat_abs}
+use Rattle.std.proofs.Common.{◌≡◌, ◌≢◌, ap, refl, ℕ, ◌+◌, ◌-◌, ◌*◌, ◌^◌, ◌<◌, ◌≤◌, ℤ, pos, negsuc, ◌+ℤ◌, ◌*ℤ◌}
+use Rattle.std.proofs.Common.{arith, lit<, nat_abs, SFits, to_z, of_z}
+use Rattle.std.specs.Int.{w128}
 use Rattle.std.proofs.lemmas.Int.{to_z-of_z}
 use Rattle.std.proofs.Math.Nat.{div-le_of_le-mul, div-lt_iff_lt-mul}
 use Rattle.dsp_defs.specs.Numbers.{◌>>◌}
 use Rattle.dsp_defs.specs.Formats.{word_bits}
-use Rattle.dsp_defs.specs.Complex.{product_shift}
+use Rattle.dsp_defs.specs.Complex.{cmplx_mag_squared, product_shift}
 use Rattle.dsp_defs.specs.declared.format.Fmt.{Fmt}
 use Rattle.dsp_defs.specs.declared.format.Fmt.TheVariants.{Q7, Q15, Q31}
 
@@ -31,5 +33,19 @@ pub shifted-fit : (format : Fmt) → 2 ^ (word_bits format - 3) ≤ 2 ^ 125
 shifted-fit Q7 = omega arith
 shifted-fit Q15 = omega arith
 shifted-fit Q31 = omega arith
+
+-- the sum of two numbers that are read at 128 bits
+pub sum-small : (a b s : ℤ) (m : ℕ) → SFits w128 a → SFits w128 b →
+    nat_abs s ≤ nat_abs (to_z w128 (of_z w128 a)) + nat_abs (to_z w128 (of_z w128 b)) → nat_abs a ≤ m → nat_abs b ≤ m →
+    nat_abs s ≤ 2 * m
+sum-small a b s m fits_a fits_b small small_a small_b =
+    omega (arith, ap nat_abs (to_z-of_z w128 a fits_a), ap nat_abs (to_z-of_z w128 b fits_b))
+
+-- where the sum of the squares is shifted
+pub sum-shifted : (format : Fmt) (a b : ℤ) → format ≢ Q31 →
+    (a *ℤ a +ℤ b *ℤ b >> product_shift format) ≡ cmplx_mag_squared format a b
+sum-shifted Q7 a b not = refl
+sum-shifted Q15 a b not = refl
+sum-shifted Q31 a b not = absurd (not refl)
 
 pub ruleset parts = (to_z-of_z, shifted-fit, products-fit)

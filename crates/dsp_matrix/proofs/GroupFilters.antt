@@ -19,7 +19,7 @@ use Rattle.dsp_unit.proofs.ChannelKept.{words-placed, length-words, fit-words}
 use Rattle.dsp_defs.specs.declared.format.Fmt.{Fmt}
 use Rattle.dsp_defs.specs.declared.script.Block.{Block}
 use Rattle.dsp_lanes.specs.Turns.{RisesWithin}
-use Rattle.dsp_matrix.specs.Groups.{Group, IsGrouped, given_groups, left_open}
+use Rattle.dsp_matrix.specs.Groups.{Group, IsBegun, IsGrouped, OpenState, given_groups, left_open}
 use Rattle.dsp_filter.proofs.Groups.{groups-more, open-more, groups-within, ceil-more}
 use Rattle.dsp_matrix.proofs.GroupLaws.{gives-more, stays-open, length-open, length-given, short-open}
 
@@ -40,6 +40,23 @@ module _ (format : Fmt) (block : Block) (g : Group) (is : IsGrouped format block
       let rows = mul-le ((p + n) / g.taken) g.given (div_ceil n g.taken) g.given (groups-within n p g.taken below)
       (omega arith) in
       omega (arith, most, rows)
+
+  -- and one group more than a block has whole
+  pub room-exact : (n : ℕ) → most_frames block n ≤ (n / g.taken + 1) * g.given
+  room-exact n =
+      let most = is.most n in
+      let ceil : div_ceil n g.taken ≤ n / g.taken + 1 = grind (arith, is.some) in
+      let rows = mul-le (div_ceil n g.taken) g.given (n / g.taken + 1) g.given ceil (omega arith) in
+      omega (arith, most, rows)
+
+  -- what is left behind whole groups is not whole
+  pub begun-again : (old new : OpenState) (x : List ℤ) → old.size ≡ g.taken →
+      new ≡ record old { numbers = left_open g x } → IsBegun g new
+  begun-again old new x size left =
+      let same = ap (λ (o : OpenState). o.size) left in
+      let long = ap (λ (o : OpenState). length o.numbers) left ∙ length-open g.taken g.given g.result is.some x in
+      let below = mod-lt (length x) is.some in
+      (same ∙ size, omega (arith, same, size, long, below))
 
   pub room-within : (p n capacity room : ℕ) → p < g.taken → n ≤ capacity → most_frames block capacity ≤ room →
       (p + n) / g.taken * g.given ≤ room

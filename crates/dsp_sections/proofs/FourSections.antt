@@ -6,7 +6,7 @@ use Rattle.std.specs.Prelude.{nat_abs}
 use Rattle.std.specs.List.{range_with_len}
 use Rattle.std.specs.Int.{int_wrap, saturate_to_bits}
 use Rattle.std.proofs.lemmas.Int.{ints, int_wrap_fits, SFits-int_wrap, int_wrap-add_left, int_wrap-add_right}
-use Rattle.std.proofs.lemmas.Int.{int_wrap-add_same, fits_signed_mul, to_z-of_z, unsigned_abs-mul}
+use Rattle.std.proofs.lemmas.Int.{fits_signed_mul, to_z-of_z, unsigned_abs-mul}
 use Rattle.std.proofs.lemmas.List.FromFn.{get_or-map-range_with_len}
 use Rattle.std.proofs.lemmas.Simd.{map-map}
 use Rattle.std.proofs.Math.ListN.{get_or-map}
@@ -241,6 +241,10 @@ back xs f = ints_of_bits w64 xs f
 
 pub back_fits : (xs : List ℤ) → Each1 (SFits w64) xs → Each1 (SFits w64) (map (to_z w64) (map (of_z w64) xs))
 back_fits xs f = subst (λ (l : List ℤ). Each1 (SFits w64) l) (sym (back xs f)) f
+
+pub back_four : (lanes : List ℤ) → Each1 (SFits w64) lanes → length lanes ≡ 4 →
+    length (map (to_z w64) (map (of_z w64) lanes)) ≡ 4
+back_four lanes wide four = ap length (back lanes wide) ∙ four
 
 -- the low word of a lane of which the low words are known
 pub low_of : (xs : List ℤ) (h : ℕ → ℤ) → map (int_wrap w32) xs ≡ values 4 h → (i : ℕ) → i < 4 → low xs i ≡ h i

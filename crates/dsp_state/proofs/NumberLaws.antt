@@ -1,15 +1,17 @@
 -- Numbers of 8 bytes each, read and written.
 use Rattle.std.proofs.Common.{◌≡◌, ◌∙◌, ap, refl, sym, ℕ, zero, suc, ◌+◌, ◌-◌, ◌*◌, ◌<◌, ◌≤◌, ◌^◌, List, [], ◌∷◌}
 use Rattle.std.proofs.Common.{◌++◌, length, take, drop, get_or, All, add-one, arith, take-take, length-take}
-use Rattle.std.proofs.Common.{length-drop, pos, ℤ, subst, FitsSigned}
+use Rattle.std.proofs.Common.{length-drop, pos, ℤ, subst, FitsSigned, Bool, true, false, not}
 use Rattle.std.specs.Int.{w32, w64, to_le_bytes, from_le_bytes, cast_signed}
 use Rattle.std.specs.List.{flat_map}
+use Rattle.std.specs.Str.{bytes_eq}
 use Rattle.std.proofs.lemmas.Grind.{flat_map-append}
 use Rattle.std.proofs.lemmas.Int.{of_z-to_z}
 use Rattle.std.proofs.lemmas.List.{append-nil, get_or-take, drop-take, take_all}
 use Rattle.std.proofs.lemmas.List.Elements.{All-head, All-tail, All-take, All-drop, All-from_get_or}
 use Rattle.std.proofs.lemmas.List.FromFn.{map-range_with_len_more, get_or-map-range_with_len, length-map-range_with_len}
 use Rattle.std.proofs.lemmas.Nat.{le_bytes_8}
+use Rattle.std.proofs.lemmas.Slice.Eq.{bytes_eq-Decides}
 use Rattle.std.proofs.Math.Facts.{sfits_to_z}
 use Rattle.std.proofs.Math.Seq.{take-add}
 use Rattle.byteorder.specs.Endian.{little_number}
@@ -123,3 +125,12 @@ pub from_place : (bytes : List ℕ) (at place : ℕ) → at ≡ place →
     take (length bytes - at) (drop at bytes) ≡ drop place bytes
 from_place bytes at place is = take_all (length bytes - at) (drop at bytes) (omega (arith, length-drop at bytes)) ∙
     ap (λ n. drop n bytes) is
+
+-- ---- bytes that were compared
+
+pub same_bytes : (xs ys : List ℕ) → false ≡ not (bytes_eq xs ys) → xs ≡ ys
+same_bytes xs ys h = tested (bytes_eq xs ys) refl h
+  where
+    tested : (b : Bool) → bytes_eq xs ys ≡ b → false ≡ not b → xs ≡ ys
+    tested true is h = (bytes_eq-Decides xs ys).0 is
+    tested false is h = absurd cc

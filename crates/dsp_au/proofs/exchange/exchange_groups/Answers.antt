@@ -1,9 +1,30 @@
-use Rattle.std.proofs.Common.{◌≡◌, ◌∙◌, ap, sym, ◌+◌, ◌-◌, ◌*◌, ◌/◌, ◌<◌, ◌≤◌, length, take, drop, arith, length-take}
+use Rattle.std.proofs.Common.{◌≡◌, ◌∙◌, ℕ, ap, sym, ◌+◌, ◌-◌, ◌*◌, ◌/◌, ◌<◌, ◌≤◌, length, take, drop, arith, length-take}
 use Rattle.std.proofs.Common.{length-drop}
 use Rattle.std.proofs.lemmas.List.{take_all}
 use Rattle.dsp_au.specs.Exchange.{exchanged, exchanged_first}
 use Rattle.dsp_au.proofs.ExchangeLaws as laws
 use Rattle.dsp_au.proofs.exchange.exchange_groups.Goals as goal
+
+-- what is left behind the groups is whole samples
+left_whole : (w k : ℕ) → 48 / w * w ≡ 48 → 1 ≤ w → k / w * w ≡ k → (k / w - k / 48 * (48 / w)) * w ≡ k - k / 48 * 48
+left_whole w k group some whole =
+    let place = laws.groups_end (k / 48) (48 / w) w 48 group in
+    laws.samples_left (k / 48 * (48 / w)) (k / w) w some (omega (arith, place, whole)) ∙ omega (arith, place, whole)
+
+pub exchange_by-requires-clause-whole : goal.exchange_by-requires-clause-whole
+exchange_by-requires-clause-whole c =
+    let w = c.args.width in
+    let k = length c.args.bytes.now in
+    let now = c.loop-i.bytes in
+    let same : length now ≡ k = c.loop-i.auto.bytes in
+    let size = left_whole w k c.requires.group c.requires.some c.requires.whole in
+    let long : length (take (length now - k / 48 * 48) (drop (k / 48 * 48) now)) ≡ k - k / 48 * 48 = omega (
+      arith,
+      length-take (length now - k / 48 * 48) (drop (k / 48 * 48) now),
+      length-drop (k / 48 * 48) now,
+      same,
+    ) in
+    rw long (ap (λ m. m * w) (laws.counted (k / w - k / 48 * (48 / w)) w _ c.requires.some size) ∙ size)
 
 pub loop-i-preserved : goal.loop-i-preserved
 loop-i-preserved c =

@@ -1,7 +1,7 @@
 use Rattle.std.proofs.Common.{ap, sym, refl, ◌∙◌, subst, Some}
 use Rattle.dsp_cli.specs.Call.{Printed, Turned}
 use Rattle.dsp_cli.specs.Run.{HasSource}
-use Rattle.dsp_cli.proofs.Asking.{draws_of}
+use Rattle.dsp_cli.proofs.Asking.{draws_nothing, draws_of}
 use Rattle.dsp_cli.proofs.WordLaws.{gen_makes_few}
 use Rattle.dsp_cli.proofs.PerformLaws.{run_went, run_stops, gen_went, gen_stops, check_went, check_stops, first_ran}
 use Rattle.dsp_cli.proofs.PerformLaws.{err_of, first_stops, rest_ran, rest_stops}
@@ -116,6 +116,15 @@ returns-in_err-size-in-Check-clause-err g c =
     (sym c.in-Some.ensures ∙ ap Some c.in-Check.is) _ c.in_err-size-in-Check.ensures.err)
 
 -- what was asked of the port of the script
+pub returns-in_default-clause-asks : goal.returns-in_default-clause-asks
+returns-in_default-clause-asks g c = draws_nothing _ _ _ _
+
+pub returns-in-Ok-clause-asks : goal.returns-in-Ok-clause-asks
+returns-in-Ok-clause-asks g c = draws_nothing _ _ _ _
+
+pub returns-in-Convert-clause-asks : goal.returns-in-Convert-clause-asks
+returns-in-Convert-clause-asks g c = draws_nothing _ _ _ _
+
 pub returns-in_err-script-in-Print-clause-asks : goal.returns-in_err-script-in-Print-clause-asks
 returns-in_err-script-in-Print-clause-asks g c =
     draws_of _ c.in-Some.ensures c.in-Print.is refl c.load_script.ensures.asks

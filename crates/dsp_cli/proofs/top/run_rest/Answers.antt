@@ -1,4 +1,4 @@
-use Rattle.std.proofs.Common.{◌≡◌, ◌∙◌, ◌≤◌, ap, sym, subst, None, IsTrue, arith, vec_capacity}
+use Rattle.std.proofs.Common.{◌≡◌, ◌∙◌, ◌≤◌, ap, sym, subst, None, IsTrue, arith, rules, vec_capacity}
 use Rattle.dsp_chain.specs.Line.{measure_counts}
 use Rattle.dsp_defs.specs.Output.{format_of, channels_of}
 use Rattle.dsp_defs.specs.Shape.{frames_given}
@@ -57,3 +57,48 @@ returns-clause-ok g c =
           (c.in-Ok-go.ensures.given ∙ ap (λ (s : Script). frames_given s.blocks taken) resumed.script_is)
           (c.in-Ok-go.ensures.multiplies ∙ ap (λ (s : Script). cost_of s taken) resumed.script_is);
     }
+
+pub chosen-block-requires : goal.chosen-block-requires
+chosen-block-requires g c = search rules
+
+pub legal-requires : goal.legal-requires
+legal-requires g c = search rules
+
+pub unit-unit-requires : goal.unit-unit-requires
+unit-unit-requires g c = search rules
+
+pub returns-then-not-legal-clause-err : goal.returns-then-not-legal-clause-err
+returns-then-not-legal-clause-err g c = search rules
+
+pub same-saved : goal.same-saved
+same-saved g c = search rules
+
+pub from_saved-requires : goal.from_saved-requires
+from_saved-requires g c = search rules
+
+pub returns-in_default-clause-err : goal.returns-in_default-clause-err
+returns-in_default-clause-err g c = search rules
+
+pub returns-in_default-with_capacity-clause-err : goal.returns-in_default-with_capacity-clause-err
+returns-in_default-with_capacity-clause-err g c = search rules
+
+pub same-resume : goal.same-resume
+same-resume g c = search rules
+
+pub go-requires-clause-goes : goal.go-requires-clause-goes
+go-requires-clause-goes g c = search rules
+
+pub go-requires-clause-runs : goal.go-requires-clause-runs
+go-requires-clause-runs g c = search rules
+
+pub go-requires-clause-frames : goal.go-requires-clause-frames
+go-requires-clause-frames g c = search rules
+
+pub returns-in-Err-clause-err : goal.returns-in-Err-clause-err
+returns-in-Err-clause-err g c = search rules
+
+pub find_measures-requires-clause-empty : goal.find_measures-requires-clause-empty
+find_measures-requires-clause-empty g c = search rules
+
+pub output_flow-requires : goal.output_flow-requires
+output_flow-requires g c = search rules

@@ -23,3 +23,8 @@ loop-k-preserved g c =
       counted = tap-counted _ _ _ k _ n (lane_turns g.row.L n) _ _ refl size (ap (lane_turns g.row.L) size)
           c.loop-k.invariant.counted c.delayed.ensures.steps;
     }
+
+pub returns-clause-sums : goal.returns-clause-sums
+returns-clause-sums g c =
+    let all : c.loop-k.k ≡ length c.args.taps.now = omega arith in
+    rw all at c.loop-k.invariant.summed

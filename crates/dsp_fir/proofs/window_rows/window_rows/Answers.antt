@@ -1,4 +1,5 @@
-use Rattle.std.proofs.Common.{◌≡◌, ◌∙◌, ◌-◌, ap, None, Some, map, pos, length, vec_len, arith, rules}
+use Rattle.std.proofs.Common.{◌≡◌, ◌∙◌, ◌-◌, ap, sym, None, Some, map, pos, length, vec_len, arith, rules}
+use Rattle.std.proofs.lemmas.List.{length-map}
 use Rattle.dsp_defs.specs.Kept.{greatest}
 use Rattle.dsp_fir.specs.Delays.{sparse_rows}
 use Rattle.dsp_fir.proofs.BlockLemmas.{block-values}
@@ -39,3 +40,24 @@ returns-in-Some-clause-values g c = λ x taken size shows.
     (named-values T.format taps ds past x taken window (map T.number c.delayed_rows.new.out) count
     (rw same at c.requires.block) depth (rw same at shows) size
     (c.delayed_rows.ensures.out ∙ ap (λ d. sparse_rows T.format taps d past window count) c.deref.ensures.value))
+
+pub rows-requires-clause-taps : goal.rows-requires-clause-taps
+rows-requires-clause-taps g c =
+    let same : c.args.delays.now ≡ None = search rules in
+    let is = rw same at c.requires.block in
+    omega (arith, is.0, length-map c.args.taps.now g.T.Sample.number)
+
+pub rows-requires-clause-window : goal.rows-requires-clause-window
+rows-requires-clause-window g c =
+    let same : c.args.delays.now ≡ None = search rules in
+    let is = rw same at c.requires.block in
+    let long = rw same at c.requires.window in
+    omega (arith, is.0, long, length-map c.args.taps.now g.T.Sample.number)
+
+pub delayed_rows-requires-clause-same : goal.delayed_rows-requires-clause-same
+delayed_rows-requires-clause-same g c =
+    let ds = c.in-Some.field-0.delays.items in
+    let same : c.args.delays.now ≡ Some (record { delays = ds; room = vec_len c.in-Some.field-0.sums }) =
+    search rules in
+    let is = rw same at c.requires.block in
+    ap length c.deref.ensures.value ∙ sym (length-map ds pos) ∙ is.1 ∙ length-map c.args.taps.now g.T.Sample.number

@@ -1,28 +1,88 @@
-use Rattle.std.proofs.Common.{arith, rules}
+use Rattle.std.proofs.Common.{◌∙◌, ap, to_z, of_z, arith, rules}
+use Rattle.std.specs.Int.{w32}
 use Rattle.std.proofs.lemmas.Int.{to_z-of_z}
-use Rattle.std.proofs.lemmas.Grind.{common_steps}
-use Rattle.dsp_framewise.proofs.Given.{block-held, clamped-fits}
+use Rattle.dsp_defs.specs.Elementwise.{abs, add, clip, convert, negate, scale, shift}
+use Rattle.dsp_framewise.proofs.Given.{block-held, clamped-fits, mapped, sample-fits}
 use Rattle.dsp_framewise.proofs.frames.given_sample.Goals as goal
 
 pub returns-in-Offset-clause-value : goal.returns-in-Offset-clause-value
 returns-in-Offset-clause-value g c =
+    let x = c.sample-x in
+    let r = c.add in
     let held = rw c.in-Offset.is at (block-held _ c.args.block.now c.requires.suits) in
-    grind (arith, common_steps, to_z-of_z)
+    let one = to_z w32 (of_z w32 x.result) in
+    let inside = rw c.in-Offset.is at c.requires.channel in
+    rw c.in-Offset.is (mapped (λ a. add c.args.format a c.in-Offset.value) c.args.frame.now
+    c.args.j x.result r.result inside
+    (record { sfits = x.type_inv }) (record { sfits = r.type_inv }) x.ensures
+    (r.ensures.value ∙ ap (add c.args.format one) (to_z-of_z w32 _ held)))
+
+pub returns-in-Negate-clause-value : goal.returns-in-Negate-clause-value
+returns-in-Negate-clause-value g c =
+    let x = c.sample-x in
+    let r = c.negate in
+    let inside = rw c.in-Negate.is at c.requires.channel in
+    rw c.in-Negate.is (mapped (negate c.args.format) c.args.frame.now c.args.j x.result r.result inside
+    (record { sfits = x.type_inv }) (record { sfits = r.type_inv }) x.ensures
+    r.ensures.value)
+
+pub returns-in-Abs-clause-value : goal.returns-in-Abs-clause-value
+returns-in-Abs-clause-value g c =
+    let x = c.sample-x in
+    let r = c.abs in
+    let inside = rw c.in-Abs.is at c.requires.channel in
+    rw c.in-Abs.is (mapped (abs c.args.format) c.args.frame.now c.args.j x.result r.result inside
+    (record { sfits = x.type_inv }) (record { sfits = r.type_inv }) x.ensures
+    r.ensures.value)
 
 pub returns-in-Scale-clause-value : goal.returns-in-Scale-clause-value
 returns-in-Scale-clause-value g c =
+    let x = c.sample-x in
+    let r = c.scale in
     let held = rw c.in-Scale.is at (block-held _ c.args.block.now c.requires.suits) in
-    grind (arith, common_steps, to_z-of_z)
-
-pub returns-in-Clip-clause-value : goal.returns-in-Clip-clause-value
-returns-in-Clip-clause-value g c =
-    let held = rw c.in-Clip.is at (block-held _ c.args.block.now c.requires.suits) in
-    grind (arith, common_steps, to_z-of_z)
+    let one = to_z w32 (of_z w32 x.result) in
+    let inside = rw c.in-Scale.is at c.requires.channel in
+    rw c.in-Scale.is (mapped (scale c.args.format c.in-Scale.fract c.in-Scale.shift) c.args.frame.now
+    c.args.j x.result r.result inside
+    (record { sfits = x.type_inv }) (record { sfits = r.type_inv }) x.ensures
+    (r.ensures.value ∙ (λ i. scale c.args.format (to_z-of_z w32 _ held.0 i) (to_z-of_z w32 _ held.1 i) one)))
 
 pub returns-in-Shift-clause-value : goal.returns-in-Shift-clause-value
 returns-in-Shift-clause-value g c =
+    let x = c.sample-x in
+    let r = c.shift_in in
     let held = rw c.in-Shift.is at (block-held _ c.args.block.now c.requires.suits) in
-    grind (arith, common_steps, to_z-of_z)
+    let one = to_z w32 (of_z w32 x.result) in
+    let inside = rw c.in-Shift.is at c.requires.channel in
+    rw c.in-Shift.is (mapped (shift c.args.format c.in-Shift.shift) c.args.frame.now c.args.j x.result r.result inside
+    (record { sfits = x.type_inv }) (record { sfits = r.type_inv }) x.ensures
+    (r.ensures.value ∙ ap (λ s. shift c.args.format s one) (to_z-of_z w32 _ held)))
+
+pub returns-in-Clip-clause-value : goal.returns-in-Clip-clause-value
+returns-in-Clip-clause-value g c =
+    let x = c.sample-x in
+    let r = c.clip in
+    let held = rw c.in-Clip.is at (block-held _ c.args.block.now c.requires.suits) in
+    let one = to_z w32 (of_z w32 x.result) in
+    let inside = rw c.in-Clip.is at c.requires.channel in
+    rw c.in-Clip.is (mapped (clip c.in-Clip.low c.in-Clip.high) c.args.frame.now c.args.j x.result r.result inside
+    (record { sfits = x.type_inv }) (record { sfits = r.type_inv }) x.ensures
+    (r.ensures.value ∙ (λ i. clip (to_z-of_z w32 _ held.0 i) (to_z-of_z w32 _ held.1 i) one)))
+
+pub returns-in-To-clause-value : goal.returns-in-To-clause-value
+returns-in-To-clause-value g c =
+    let x = c.sample-x in
+    let r = c.convert in
+    let inside = rw c.in-To.is at c.requires.channel in
+    rw c.in-To.is (mapped (convert c.args.format c.in-To.to) c.args.frame.now c.args.j x.result r.result inside
+    (record { sfits = x.type_inv }) (record { sfits = r.type_inv }) x.ensures
+    r.ensures.value)
+
+pub returns-in-Route-clause-fits : goal.returns-in-Route-clause-fits
+returns-in-Route-clause-fits g c =
+    let r = c.sample-in-Route in
+    rw (c.in-Route.is, to_z-of_z w32 r.result (record { sfits = r.type_inv }), r.ensures)
+    (sample-fits c.args.format c.args.frame.now _ c.requires.format)
 
 pub returns-in-Clip-clause-fits : goal.returns-in-Clip-clause-fits
 returns-in-Clip-clause-fits g c =

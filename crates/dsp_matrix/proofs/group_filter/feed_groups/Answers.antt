@@ -76,6 +76,24 @@ short-is g c =
     c.fill-start.ensures.count
     (λ whole. let no : false ≡ true = sym c.if-not-is_whole.true ∙ c.is_whole.ensures.1 (long ∙ whole ∙ sym size) in cc)
 
+no-group : (g : _) (c : Then-not-is_whole g) → (length c.args.begun.now.numbers + length c.args.input.now) /
+    (g.W.GroupWork.group (g.W.GroupWork.block c.args.work.now)).taken ≡ 0
+no-group g c =
+    let number = g.T.Sample.number in
+    let of = g.W.GroupWork.group (g.W.GroupWork.block c.args.work.now) in
+    let is = g.met.W.GroupWork.grouped (g.W.GroupWork.block c.args.work.now) c.requires.work in
+    let old = c.args.begun.now.numbers in
+    let input = c.args.input.now in
+    let short = short-is g c in
+    let long = length-map input number in
+    ap (λ n. (length old + n) / of.taken) (sym long) ∙
+    still-none of is.some old (map number input) (omega (arith, short.1, c.requires.size, long))
+
+pub returns-then-not-is_whole-clause-given : goal.returns-then-not-is_whole-clause-given
+returns-then-not-is_whole-clause-given g c =
+    let of = g.W.GroupWork.group (g.W.GroupWork.block c.args.work.now) in
+    sym (ap (λ n. n * of.given) (no-group g c) ∙ omega arith)
+
 pub returns-then-not-is_whole-clause-out : goal.returns-then-not-is_whole-clause-out
 returns-then-not-is_whole-clause-out g c =
     let of = g.W.GroupWork.group (g.W.GroupWork.block c.args.work.now) in
@@ -99,17 +117,9 @@ returns-then-not-is_whole-clause-begun g c =
 
 pub returns-then-not-is_whole-clause-steps : goal.returns-then-not-is_whole-clause-steps
 returns-then-not-is_whole-clause-steps g c =
-    let number = g.T.Sample.number in
     let of = g.W.GroupWork.group (g.W.GroupWork.block c.args.work.now) in
-    let is = g.met.W.GroupWork.grouped (g.W.GroupWork.block c.args.work.now) c.requires.work in
-    let old = c.args.begun.now.numbers in
-    let input = c.args.input.now in
-    let short = short-is g c in
-    let long = length-map input number in
-    let none : (length old + length input) / of.taken ≡ 0 = ap (λ n. (length old + n) / of.taken) (sym long) ∙
-    still-none of is.some old (map number input) (omega (arith, short.1, c.requires.size, long)) in
-    let products : (length old + length input) / of.taken * of.products ≡ 0 =
-    (ap (λ n. n * of.products) none ∙ omega arith) in
+    let products : product_count of (length c.args.begun.now.numbers + length c.args.input.now) ≡ 0 =
+    (ap (λ n. n * of.products) (no-group g c) ∙ omega arith) in
     record { multiplies_rise = omega (arith, products); turns_within = omega (arith, products) }
 
 pub complete_group-given-requires-clause-whole : goal.complete_group-given-requires-clause-whole

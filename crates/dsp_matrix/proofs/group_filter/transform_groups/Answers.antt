@@ -1,5 +1,6 @@
 use Rattle.std.proofs.Common.{◌≡◌, ◌∙◌, ◌+◌, ◌*◌, ◌/◌, ◌%◌, ◌<◌, ◌≤◌, ℕ, length, map, take, drop, ap, sym, subst}
 use Rattle.std.proofs.Common.{refl, mul-le-mul_right, div-mul-le_self, arith, rules, take_all}
+use borrow.Author.Rules.{scaled_fits≤}
 use Rattle.std.proofs.lemmas.List.{length-map}
 use Rattle.std.proofs.lemmas.Nat.{mul-le}
 use Rattle.dsp_defs.specs.Signal.{values}
@@ -158,3 +159,13 @@ returns-clause-steps g c =
     let of = g.W.GroupWork.group (g.W.GroupWork.block c.args.work.now) in
     subst (λ n. RisesWithin c.args.steps.now c.loop-group.steps (n * of.products) (n * of.products)) (done g c)
     c.loop-group.invariant.counted
+
+pub offset_bounds-output-at : goal.offset_bounds-output-at
+offset_bounds-output-at g c =
+    let room = given-inside (g.W.GroupWork.group (g.W.GroupWork.block c.args.work.now)) c.loop-group.group
+    (length c.args.input.now) c.taken-taken.result c.given-given.result (length c.args.output.now)
+    (length c.loop-group.output)
+    c.taken-taken.ensures c.given-given.ensures c.loop-group-test.true c.requires.room c.loop-group.auto.output in
+    let inside : c.loop-group.group * c.given-given.result ≤ length c.args.output.now =
+    omega (arith, room, c.loop-group.auto.output) in
+    search (rules, scaled_fits≤)

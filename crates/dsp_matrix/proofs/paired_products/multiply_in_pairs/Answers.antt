@@ -1,4 +1,4 @@
-use Rattle.std.proofs.Common.{◌≡◌, ◌≤◌, ◌∙◌, ◌+◌, ◌*◌, ◌/◌, ℤ, ap, sym, refl, length, take, arith}
+use Rattle.std.proofs.Common.{◌≡◌, ◌≤◌, ◌∙◌, ◌+◌, ◌*◌, ◌/◌, ℤ, ap, sym, refl, length, take, take_all, arith}
 use Rattle.std.proofs.lemmas.List.{map-id}
 use Rattle.dsp_defs.specs.Matrix.{multiplied}
 use Rattle.dsp_matrix.proofs.PairedProducts.{two-rows, all-pairs, pair-room}
@@ -62,3 +62,13 @@ returns-clause-steps g c =
     ap (λ m. m * columns) (all-pairs c.args.rows given c.requires.paired.rows_even) in
     let counted = c.loop-pair.invariant.counted in
     record { multiplies_rise = omega (arith, counted, all); turns_within = omega (arith, counted, all) }
+
+pub returns-clause-out : goal.returns-clause-out
+returns-clause-out g c =
+    let given = c.args.given in
+    let out = c.loop-pair.out in
+    let last : c.loop-pair.pair ≡ c.args.rows / 2 = omega arith in
+    let all : c.loop-pair.pair * (2 * given) ≡ c.args.rows * given =
+    ap (λ p. p * (2 * given)) last ∙ all-pairs c.args.rows given c.requires.paired.rows_even in
+    sym (take_all (c.args.rows * given) out (omega (arith, c.loop-pair.auto.out, c.requires.out))) ∙
+    rw all at c.loop-pair.invariant.written

@@ -1,5 +1,8 @@
-use Rattle.std.proofs.Common.{◌≡◌, ◌∙◌, ◌+◌, ◌*◌, ◌≤◌, ℕ, length, map, slice_range, ap₂, refl, subst, arith}
+use Rattle.std.proofs.Common.{◌≡◌, ◌∙◌, ◌+◌, ◌*◌, ◌≤◌, ℕ, length, map, slice_range, ap₂, refl, sym, subst, arith}
+use Rattle.std.proofs.Common.{rules, take_all}
+use borrow.Author.Rules.{scaled_fits≤}
 use Rattle.std.specs.Prelude.{◌*ℤ◌}
+use Rattle.std.proofs.lemmas.List.{length-map}
 use Rattle.std.proofs.lemmas.Nat.{mul-le}
 use Rattle.dsp_defs.specs.Formats.{close}
 use Rattle.dsp_defs.specs.Signal.{sample, sum_below, values}
@@ -40,3 +43,18 @@ loop-row-preserved g c =
           (subst (λ (n : ℕ). RisesWithin c.loop-row.steps c.multiply_row.new.steps n n)
           (ap₂ (λ n m. n * m) cut row_long) c.multiply_row.ensures.steps);
     }
+
+pub offset_bounds-out-at : goal.offset_bounds-out-at
+offset_bounds-out-at g c =
+    let rows_out : (c.loop-row.row + 1) * c.args.given ≤ c.args.rows * c.args.given =
+    mul-le (c.loop-row.row + 1) c.args.given c.args.rows c.args.given (omega arith) (omega arith) in
+    let inside : c.loop-row.row * c.args.given ≤ length c.args.out.now = omega (arith, rows_out, c.requires.out) in
+    search (rules, scaled_fits≤)
+
+pub returns-clause-out : goal.returns-clause-out
+returns-clause-out g c =
+    let out = map g.T.Sample.number c.loop-row.out in
+    let all : c.loop-row.row ≡ c.args.rows = omega arith in
+    let long : length out ≡ c.args.rows * c.args.given = length-map c.loop-row.out g.T.Sample.number ∙
+    c.loop-row.auto.out ∙ c.requires.out in
+    sym (take_all (c.args.rows * c.args.given) out (omega (arith, long))) ∙ rw all at c.loop-row.invariant.written

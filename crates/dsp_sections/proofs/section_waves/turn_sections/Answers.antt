@@ -1,4 +1,4 @@
-use Rattle.std.proofs.Common.{◌≡◌, ◌∙◌, ap, sym, subst, refl, ◌*ℤ◌, ℤ, List, [], ◌∷◌, map, SFits, to_z, of_z, w32, w64}
+use Rattle.std.proofs.Common.{◌≡◌, ◌∙◌, ap, sym, subst, refl, ◌*ℤ◌, ℤ, List, [], ◌∷◌, length, map, SFits, to_z, of_z, w32, w64}
 use Rattle.std.proofs.lemmas.Int.{int_wrap_fits}
 use Rattle.dsp_sat.proofs.WideProducts.{word-in-32}
 use Rattle.dsp_sat.proofs.Words.{widened}
@@ -6,7 +6,7 @@ use Rattle.dsp_defs.specs.Biquad.{section_close}
 use Rattle.dsp_defs.specs.Formats.{word}
 use Rattle.dsp_defs.specs.Signal.{sample}
 use Rattle.dsp_sections.specs.SectionWaves.{low}
-use Rattle.dsp_sections.proofs.FourSections.{total, back, back_fits, product_known, sum_known, moved_words, last_known}
+use Rattle.dsp_sections.proofs.FourSections.{total, back, back_fits, back_four, product_known, sum_known, moved_words, last_known}
 use Rattle.dsp_sections.proofs.FourSections.{words_back, are_sums, outputs_at}
 use Rattle.dsp_sections.proofs.section_waves.turn_sections.Goals as goal
 
@@ -182,3 +182,73 @@ returns-clause-turn g c =
           c.index.ensures (record { sfits = c.low_word.type_inv }) c.low_word.ensures
           ∙ sym (ap (λ (k : List ℤ). low k 3) y_back);
     }
+
+pub moved_up-x0-requires-clause-four : goal.moved_up-x0-requires-clause-four
+moved_up-x0-requires-clause-four g c = back_four c.args.lanes.now.given c.requires.given.wide c.requires.given.four
+
+pub low_products-requires-clause-four_a : goal.low_products-requires-clause-four_a
+low_products-requires-clause-four_a g c = back_four c.args.lanes.now.b0 c.requires.b0.wide c.requires.b0.four
+
+pub low_products-requires-clause-four_b : goal.low_products-requires-clause-four_b
+low_products-requires-clause-four_b g c =
+    back_four c.moved_up-x0.result c.moved_up-x0.ensures.fit
+    (ap length c.moved_up-x0.ensures.value)
+
+pub low_products-requires-clause-fit_b : goal.low_products-requires-clause-fit_b
+low_products-requires-clause-fit_b g c = back_fits c.moved_up-x0.result c.moved_up-x0.ensures.fit
+
+pub low_products-requires-2-clause-four_a : goal.low_products-requires-2-clause-four_a
+low_products-requires-2-clause-four_a g c = back_four c.args.lanes.now.b1 c.requires.b1.wide c.requires.b1.four
+
+pub low_products-requires-2-clause-four_b : goal.low_products-requires-2-clause-four_b
+low_products-requires-2-clause-four_b g c = back_four c.args.lanes.now.x1 c.requires.x1.wide c.requires.x1.four
+
+pub low_products-requires-3-clause-four_a : goal.low_products-requires-3-clause-four_a
+low_products-requires-3-clause-four_a g c = back_four c.args.lanes.now.b2 c.requires.b2.wide c.requires.b2.four
+
+pub low_products-requires-3-clause-four_b : goal.low_products-requires-3-clause-four_b
+low_products-requires-3-clause-four_b g c = back_four c.args.lanes.now.x2 c.requires.x2.wide c.requires.x2.four
+
+pub low_products-requires-4-clause-four_a : goal.low_products-requires-4-clause-four_a
+low_products-requires-4-clause-four_a g c = back_four c.args.lanes.now.a1 c.requires.a1.wide c.requires.a1.four
+
+pub low_products-requires-4-clause-four_b : goal.low_products-requires-4-clause-four_b
+low_products-requires-4-clause-four_b g c = back_four c.args.lanes.now.y1 c.requires.y1.wide c.requires.y1.four
+
+pub low_products-requires-5-clause-four_a : goal.low_products-requires-5-clause-four_a
+low_products-requires-5-clause-four_a g c = back_four c.args.lanes.now.a2 c.requires.a2.wide c.requires.a2.four
+
+pub low_products-requires-5-clause-four_b : goal.low_products-requires-5-clause-four_b
+low_products-requires-5-clause-four_b g c = back_four c.args.lanes.now.y2 c.requires.y2.wide c.requires.y2.four
+
+pub sums_of_five-sums-requires-clause-four_1 : goal.sums_of_five-sums-requires-clause-four_1
+sums_of_five-sums-requires-clause-four_1 g c =
+    back_four c.low_products.result c.low_products.ensures.fit
+    (ap length c.low_products.ensures.value)
+
+pub sums_of_five-sums-requires-clause-four_2 : goal.sums_of_five-sums-requires-clause-four_2
+sums_of_five-sums-requires-clause-four_2 g c =
+    back_four c.low_products-2.result c.low_products-2.ensures.fit
+    (ap length c.low_products-2.ensures.value)
+
+pub sums_of_five-sums-requires-clause-four_3 : goal.sums_of_five-sums-requires-clause-four_3
+sums_of_five-sums-requires-clause-four_3 g c =
+    back_four c.low_products-3.result c.low_products-3.ensures.fit
+    (ap length c.low_products-3.ensures.value)
+
+pub sums_of_five-sums-requires-clause-four_4 : goal.sums_of_five-sums-requires-clause-four_4
+sums_of_five-sums-requires-clause-four_4 g c =
+    back_four c.low_products-4.result c.low_products-4.ensures.fit
+    (ap length c.low_products-4.ensures.value)
+
+pub sums_of_five-sums-requires-clause-four_5 : goal.sums_of_five-sums-requires-clause-four_5
+sums_of_five-sums-requires-clause-four_5 g c =
+    back_four c.low_products-5.result c.low_products-5.ensures.fit
+    (ap length c.low_products-5.ensures.value)
+
+pub close_four-y-requires-clause-shift : goal.close_four-y-requires-clause-shift
+close_four-y-requires-clause-shift g c = c.requires.shift
+
+pub close_four-y-requires-clause-four : goal.close_four-y-requires-clause-four
+close_four-y-requires-clause-four g c = back_four c.sums_of_five-sums.result c.sums_of_five-sums.ensures.fit
+    (ap length c.sums_of_five-sums.ensures.value)

@@ -1,17 +1,12 @@
-use Rattle.std.proofs.Common.{◌≡◌, ◌∙◌, ℕ, Bool, true, false, not, List, refl, sym, subst}
-use Rattle.std.specs.Str.{bytes_eq}
-use Rattle.std.proofs.lemmas.Slice.Eq.{bytes_eq-Decides}
+use Rattle.std.proofs.Common.{◌≡◌, ◌∙◌, ◌≤◌, true, false, length, sym, ap, subst}
 use Rattle.dsp_defs.specs.Canon.{canon}
+use Rattle.dsp_defs.specs.Grammar.{Reads}
+use Rattle.dsp_defs.specs.Shape.{default_block, is_legal}
 use Rattle.dsp_defs.specs.StateBytes.{CanRun}
+use Rattle.dsp_defs.specs.declared.limits.TheConstants.{MAX_SCRIPT}
 use Rattle.dsp_defs.specs.declared.script.Script.{Script}
+use Rattle.dsp_state.proofs.NumberLaws.{same_bytes}
 use Rattle.dsp_state.proofs.fields.read_canonical.Goals as goal
-
-same_bytes : (xs ys : List ℕ) → false ≡ not (bytes_eq xs ys) → xs ≡ ys
-same_bytes xs ys h = tested (bytes_eq xs ys) refl h
-  where
-    tested : (b : Bool) → bytes_eq xs ys ≡ b → false ≡ not b → xs ≡ ys
-    tested true is h = (bytes_eq-Decides xs ys).0 is
-    tested false is h = absurd cc
 
 pub returns-clause-some : goal.returns-clause-some
 returns-clause-some c script same =
@@ -28,3 +23,17 @@ returns-clause-some c script same =
       },
       sym c.in_ok-canonical.ensures ∙ text,
     )
+
+pub returns-then-not-legal-clause-none : goal.returns-then-not-legal-clause-none
+returns-then-not-legal-clause-none c none script runs is =
+    let short : length (canon script) ≤ MAX_SCRIPT = subst (λ bytes. length bytes ≤ MAX_SCRIPT) (sym is) c.requires in
+    let reads : Reads c.args.text.now script =
+    subst (λ bytes. Reads bytes script) is (c.canonical_text_is_read_back.ensures script runs.sound short) in
+    let same : script ≡ c.in-Ok.script =
+    c.one_reading.ensures.one c.args.text.now script c.in-Ok.script reads c.in-Ok.ensures.reads in
+    let legal = subst (λ (s : Script). is_legal s.input.channels s.blocks (default_block s.input.channels s.blocks) ≡
+    true) same (c.default_length_is_legal.ensures script runs.block runs.sound runs.legal) in
+    let found : Script = c.in-Ok.script in
+    let both : false ≡ true = c.if-not-legal.ensures
+    ∙ ap (is_legal found.input.channels found.blocks) c.default_block.ensures ∙ legal in
+    cc

@@ -149,3 +149,8 @@ returns-clause-numbers g c =
     c.kept_count_of-count.result c.kept_count_of-count.ensures (c.from-2.ensures ∙ c.requires.frames) in
     let piece = from_place bytes c.args.at (numbers_place bytes) c.requires.at in
     c.in_ok-numbers.ensures ∙ (λ i. values (count i) (λ k. number_of (take 8 (drop (k * 8) (piece i)))))
+
+pub new-requires-clause-legal : goal.new-requires-clause-legal
+new-requires-clause-legal g c =
+    let runs = c.requires.text.runs in
+    rw c.default_block.ensures (c.default_length_is_legal.ensures c.args.script.now runs.block runs.sound runs.legal)

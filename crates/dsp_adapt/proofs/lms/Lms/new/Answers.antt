@@ -4,7 +4,8 @@ use Rattle.dsp_filter.specs.Making.{block_fault, taps_fault}
 use Rattle.dsp_window.specs.Rolling.{Rolling}
 use Rattle.dsp_window.proofs.Pushed.{new-past}
 use Rattle.dsp_adapt.specs.LmsState.{LmsState, StandsFor, shift_fault}
-use Rattle.dsp_adapt.proofs.LmsMaking.{passed, taps-within, block-within, no-fault, new-stands}
+use Rattle.dsp_filter.proofs.Faults.{passed, taps-within, block-within, no-fault}
+use Rattle.dsp_adapt.proofs.LmsMaking.{new-stands}
 use Rattle.dsp_adapt.proofs.lms.Lms.new.Goals as goal
 
 pub new-requires-clause-past : goal.new-requires-clause-past

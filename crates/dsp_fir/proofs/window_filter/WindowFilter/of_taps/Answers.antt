@@ -1,7 +1,8 @@
-use Rattle.std.proofs.Common.{◌≡◌, ◌∙◌, ap, sym, subst, ℕ, length, map, pos, arith}
+use Rattle.std.proofs.Common.{◌≡◌, ◌∙◌, ap, sym, subst, false, ℕ, length, map, pos, arith}
 use Rattle.std.specs.Prelude.{IfSome}
 use Rattle.std.proofs.lemmas.List.{length-replicate}
 use Rattle.dsp_window.specs.Rolling.{Rolling}
+use Rattle.dsp_window.proofs.Pushed.{new-past}
 use Rattle.dsp_fir.specs.Laws.{windowed}
 use Rattle.dsp_fir.specs.WindowState.{DelayState, block_of, past_count}
 use Rattle.dsp_fir.proofs.ChannelLemmas.{new-channel}
@@ -46,3 +47,13 @@ invariant_of-result g c =
     let room = subst (λ (n : ℕ). IfSome c.args.delays (λ (d : DelayState). d.room ≡ n))
     (sym (ap (λ (w : Rolling). w.room) made)) c.requires.room in
     (c.requires.block, depth, past, omega (arith, past, long), room)
+
+pub returns-clause-made : goal.returns-clause-made
+returns-clause-made g c =
+    let block = block_of (map g.T.Sample.number c.args.taps.items) c.args.delays in
+    let depth : c.past_of-past.result ≡ past_count block = c.past_of-past.ensures ∙
+    ap (λ l. past_count (block_of (map g.T.Sample.number l) c.args.delays)) c.deref.ensures.value in
+    let past = new-past c.in_ok-window.window c.past_of-past.result (past_count block) _ c.in_ok-window.ensures.made
+    depth in
+    let room = ap (λ (w : Rolling). w.room) c.in_ok-window.ensures.made in
+    (λ i. record { block = block; past = past i; capacity = room i; ended = false })

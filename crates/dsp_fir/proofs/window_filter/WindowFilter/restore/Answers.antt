@@ -19,3 +19,9 @@ invariant_of-self g c =
     let room = subst (λ (n : ℕ). IfSome c.self.inside.delays (λ (d : DelayState). d.room ≡ n))
     (sym (ap (λ (w : Rolling). w.room) c.restore.ensures)) inv.4 in
     (inv.0, inv.1, past ∙ inv.2, omega (arith, past, samples, long), room)
+
+pub restore-requires-clause-length : goal.restore-requires-clause-length
+restore-requires-clause-length g c =
+    let old = c.self.inside.window in
+    c.requires.length ∙ ap (λ (s : WindowState). length s.past) (sym c.self.view_is) ∙
+    length-last_samples old.past old.samples c.self.invariant.3

@@ -1,7 +1,9 @@
-use Rattle.std.proofs.Common.{◌≡◌, ◌∙◌, ap, subst, ℕ, ◌*◌, ◌+◌, ◌-◌, ◌≤◌, length, map, take, drop, arith}
+use Rattle.std.proofs.Common.{◌≡◌, ◌∙◌, ap, sym, subst, ℕ, ◌*◌, ◌+◌, ◌-◌, ◌≤◌, length, map, take, drop, arith, rules}
 use Rattle.std.proofs.Common.{length-take-le, length-drop}
+use Rattle.std.proofs.lemmas.List.{take_all, length-map}
 use Rattle.dsp_defs.specs.Counts.{Rises}
 use Rattle.dsp_defs.specs.Lattice.{lattice_fir}
+use Rattle.dsp_filter.proofs.Units.{written-whole}
 use Rattle.dsp_lattice.specs.LatticeState.{filter_kept}
 use Rattle.dsp_lattice.proofs.Sections.{piece-more, piece-rest, piece-long}
 use Rattle.dsp_lattice.proofs.fir_work.FirLatticeWorkStepwise.run.Goals as goal
@@ -40,3 +42,54 @@ loop-start-preserved g c =
             omega (arith, so_far.steps, paid);
       };
     })
+
+pub invariant_of-self : goal.invariant_of-self
+invariant_of-self g c =
+    let states = c.self.inside.states in
+    let backward = c.self.inside.backward in
+    let states_size : states.len ≡ length states.items = search rules in
+    let backward_size : backward.len ≡ length backward.items = search rules in
+    let same = c.loop-start.auto.states ∙ ap length c.as_mut_slice-states.ensures.value in
+    let same' = c.loop-start.auto.backward ∙ ap length c.as_mut_slice-backward.ensures.value in (
+      ap length (written-whole states.len c.loop-start.states states.items (same ∙ sym states_size)) ∙ same ∙
+          c.self.invariant.0,
+      ap length (written-whole backward.len c.loop-start.backward backward.items (same' ∙ sym backward_size)) ∙
+          same' ∙ c.self.invariant.1,
+      c.self.invariant.2,
+    )
+
+pub returns-clause-goes : goal.returns-clause-goes
+returns-clause-goes g c =
+    let start = c.loop-start.start in
+    let old = c.self.inside.states in
+    let size : old.len ≡ length old.items = search rules in
+    let written = written-whole old.len c.loop-start.states old.items
+    (c.loop-start.auto.states ∙ ap length c.as_mut_slice-states.ensures.value ∙ sym size) in
+    let inputs = take_all start c.args.samples.now (omega arith) in
+    let outputs = take_all start c.loop-start.samples (omega arith) in
+    let k = c.as_slice-coefficients.ensures.value in
+    let first = c.as_mut_slice-states.ensures.value in
+    rw (← c.self.view_is, written) (rw (inputs, outputs, k, first) at c.loop-start.invariant.goes)
+
+pub returns-clause-size : goal.returns-clause-size
+returns-clause-size g c =
+    let number = g.T.Sample.number in
+    let old = c.self.inside.states in
+    let new = c.loop-start.states in
+    let size : old.len ≡ length old.items = search rules in
+    let same = c.loop-start.auto.states ∙ ap length c.as_mut_slice-states.ensures.value in
+    let written = written-whole old.len new old.items (same ∙ sym size) in
+    rw (← c.self.view_is, written) (length-map new number ∙ same ∙ sym (length-map old.items number))
+
+pub returns-clause-steps : goal.returns-clause-steps
+returns-clause-steps g c =
+    let start = c.loop-start.start in
+    let given = c.as_slice-coefficients.result.now in
+    let items = c.self.inside.coefficients.items in
+    let n = length c.args.samples.now in
+    let done : start ≡ n = omega arith in
+    let turned : length given * (n * 2) ≡ n * (2 * length given) = omega arith in
+    let long = ap length c.as_slice-coefficients.ensures.value ∙ sym (length-map items g.T.Sample.number) in
+    rw (← c.self.view_is)
+    (subst (λ (m : ℕ). Rises c.args.steps.now c.loop-start.steps m m)
+    (ap (λ s. length given * (s * 2)) done ∙ turned ∙ ap (λ m. n * (2 * m)) long) c.loop-start.invariant.steps)

@@ -1,5 +1,7 @@
-use Rattle.std.proofs.Common.{◌≡◌, ◌∙◌, ap, sym, ◌-◌, get_or, length, map, drop, reverse, arith, rules, length-drop}
+use Rattle.std.proofs.Common.{◌≡◌, ◌∙◌, ap, ap₂, sym, subst, ℕ, ◌+◌, ◌-◌, ◌*◌, get_or, length, map, drop, reverse}
+use Rattle.std.proofs.Common.{arith, rules, length-drop}
 use Rattle.std.proofs.lemmas.List.{take_all, length-map, length-reverse}
+use Rattle.dsp_defs.specs.Counts.{Rises}
 use Rattle.dsp_defs.specs.Lattice.{lattice_iir}
 use Rattle.dsp_defs.specs.Kept.{ladder_kept}
 use Rattle.dsp_unit.proofs.GoingOn.{goes-more, rest-stays}
@@ -66,3 +68,24 @@ returns-clause-size g c =
     rw (← c.self.view_is, written)
     (length-reverse (drop 1 (map number new)) ∙ length-drop 1 (map number new) ∙ ap (λ n. n - 1) values ∙
     sym (length-drop 1 (map number old.items)) ∙ sym (length-reverse (drop 1 (map number old.items))))
+
+pub returns-clause-steps : goal.returns-clause-steps
+returns-clause-steps g c =
+    let items = c.self.inside.reflections.items in
+    let done : c.loop-sample.sample-index ≡ length c.args.samples.now = omega arith in
+    let long = ap length c.as_slice-reflections.ensures.value ∙ sym (length-map items g.T.Sample.number) in
+    rw (← c.self.view_is)
+    (subst (λ (m : ℕ). Rises c.args.steps.now c.loop-sample.steps m m) (ap₂ (λ a b. a * (3 * b + 1)) done long)
+    c.loop-sample.invariant.steps)
+
+pub invariant_of-self : goal.invariant_of-self
+invariant_of-self g c =
+    let old = c.self.inside.backward in
+    let size : old.len ≡ length old.items = search rules in
+    let same = c.loop-sample.auto.backward ∙ ap length c.as_mut_slice-backward.ensures.value in (
+      c.self.invariant.0,
+      ap length (written-whole old.len c.loop-sample.backward old.items (same ∙ sym size)) ∙ same ∙
+          c.self.invariant.1,
+      c.self.invariant.2,
+      c.self.invariant.3,
+    )

@@ -1,7 +1,7 @@
-use Rattle.std.proofs.Common.{◌<◌, length, map, ap, arith}
+use Rattle.std.proofs.Common.{◌<◌, ◌++◌, length, map, ap, arith}
 use Rattle.std.proofs.lemmas.List.{length-map}
 use Rattle.dsp_matrix.specs.Groups.{OpenState}
-use Rattle.dsp_matrix.proofs.GroupFilters.{room-within, group-process}
+use Rattle.dsp_matrix.proofs.GroupFilters.{begun-again, room-within, group-process}
 use Rattle.dsp_matrix.proofs.group_filter.GroupFilterFilter.process.Goals as goal
 
 pub feed_groups-requires-clause-room : goal.feed_groups-requires-clause-room
@@ -38,3 +38,14 @@ returns-clause-fed g c =
     c.args.steps.now c.feed_groups.new.steps below (rw (← c.self.view_is) at c.requires.running)
     (length-map c.args.input.now number) c.feed_groups.ensures.out
     (ap (λ (o : OpenState). o.numbers) c.feed_groups.ensures.begun) c.feed_groups.ensures.steps)
+
+pub invariant_of-self : goal.invariant_of-self
+invariant_of-self g c =
+    let block = g.W.GroupWork.block c.self.inside.work in
+    let is = g.met.W.GroupWork.grouped block c.self.invariant.0 in (
+      c.self.invariant.0,
+      begun-again g.T.Sample.format block (g.W.GroupWork.group block) is c.self.inside.begun c.feed_groups.new.begun
+          (c.self.inside.begun.numbers ++ map g.T.Sample.number c.args.input.now) c.self.invariant.1.0
+          c.feed_groups.ensures.begun,
+      c.self.invariant.2,
+    )

@@ -1,5 +1,6 @@
 use Rattle.std.proofs.Common.{◌≡◌, ◌∙◌, ◌+◌, ◌*◌, ap, ap₂, sym, map, length, ℤ}
 use Rattle.std.proofs.lemmas.List.{map-id}
+use Rattle.dsp_defs.specs.Matrix.{multiplied}
 use Rattle.dsp_defs.specs.Signal.{values}
 use Rattle.dsp_defs.proofs.BlockLaws.{length-values}
 use Rattle.dsp_defs.specs.declared.format.Fmt.TheVariants.{Q15}
@@ -25,3 +26,12 @@ returns-clause-out g c =
     (product_element Q15 (λ rows columns k l. l * rows + k) (c.from-columns.ensures i) (c.from-given.ensures i)
     samples (turned i)))
     ∙ turned-element Q15 p.columns p.given samples p.matrix.items p.turned.items p.rows c.self.invariant.0)
+
+pub returns-then-self-clause-out : goal.returns-then-self-clause-out
+returns-then-self-clause-out g c =
+    rw (← c.self.view_is)
+    (map-id c.multiply_in_pairs.new.out
+    ∙ c.multiply_in_pairs.ensures.out
+    ∙ (λ i. values (c.from-rows.ensures i * c.from-given.ensures i)
+    (multiplied (c.from-columns.ensures i) (c.from-given.ensures i) (c.deref.ensures.value i)
+    (sym (map-id c.args.samples.now) i))))

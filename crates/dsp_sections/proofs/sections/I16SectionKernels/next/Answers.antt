@@ -1,5 +1,5 @@
 use Rattle.std.proofs.Common.{◌≡◌, ◌≤◌, ◌+◌, ◌-◌, ◌*◌, ◌^◌, ◌∙◌, ap, sym, ℕ, ℤ, List, pos, ◌+ℤ◌, ◌-ℤ◌, ◌*ℤ◌, arith}
-use Rattle.std.proofs.Common.{w32, SFits, to_z, of_z, pow_mono}
+use Rattle.std.proofs.Common.{w16, w32, SFits, to_z, of_z, pow_mono}
 use Rattle.std.proofs.lemmas.Int.{ints, to_z-of_z}
 use Rattle.std.proofs.lemmas.Nat.{pow-add}
 use Rattle.std.proofs.lemmas.Simd.{shifts_fit_splat}
@@ -8,6 +8,7 @@ use lib.Signed.{shr_z}
 use Rattle.dsp_defs.specs.Signal.{sample, values}
 use Rattle.dsp_defs.specs.declared.format.Fmt.TheVariants.{Q15}
 use Rattle.dsp_sections.specs.Sections.{five_of, next_output}
+use Rattle.dsp_lanes.proofs.LaneOps.{casts_asked, each_widens}
 use Rattle.dsp_lanes.proofs.LaneSums.{map-self}
 use Rattle.dsp_sections.proofs.SectionLanes.{next_16_cast, next_16_read}
 use Rattle.dsp_sections.proofs.sections.I16SectionKernels.next.Goals as goal
@@ -121,3 +122,23 @@ returns-clause-fit g c =
     (fit 0 (pos 0) (omega arith)) (fit 1 (pos 0) (omega arith)) (fit 2 (pos 0) (omega arith))
     (fit 3 (pos 0) (omega arith)) (fit 4 (pos 0) (omega arith))
     k e both.0 both.1 both.2).1
+
+pub overflow_cast-p0-2 : goal.overflow_cast-p0-2
+overflow_cast-p0-2 g c = casts_asked w16 w32 c.args.x c.requires.fit_x
+    (each_widens w16 w32 (omega arith) c.args.x c.requires.fit_x)
+
+pub overflow_cast-p1-2 : goal.overflow_cast-p1-2
+overflow_cast-p1-2 g c = casts_asked w16 w32 c.args.x1 c.requires.fit_x1
+    (each_widens w16 w32 (omega arith) c.args.x1 c.requires.fit_x1)
+
+pub overflow_cast-p2-2 : goal.overflow_cast-p2-2
+overflow_cast-p2-2 g c = casts_asked w16 w32 c.args.x2 c.requires.fit_x2
+    (each_widens w16 w32 (omega arith) c.args.x2 c.requires.fit_x2)
+
+pub overflow_cast-p3-2 : goal.overflow_cast-p3-2
+overflow_cast-p3-2 g c = casts_asked w16 w32 c.args.y1 c.requires.fit_y1
+    (each_widens w16 w32 (omega arith) c.args.y1 c.requires.fit_y1)
+
+pub overflow_cast-p4-2 : goal.overflow_cast-p4-2
+overflow_cast-p4-2 g c = casts_asked w16 w32 c.args.y2 c.requires.fit_y2
+    (each_widens w16 w32 (omega arith) c.args.y2 c.requires.fit_y2)

@@ -198,6 +198,9 @@ class Gallery:
         self.wave("microphones", "expected.wav", 2, 4, RATE, pack([value for frame in zip(*given) for value in frame]))
 
 
+if len(sys.argv) > 2 or sys.argv[-1].startswith("-"):
+    print(__doc__.strip())
+    sys.exit(sys.argv[1:] not in (["-h"], ["--help"]))
 gallery = Gallery(sys.argv[1] if len(sys.argv) > 1 else HERE)
 gallery.lowpass()
 gallery.convert()

@@ -1,10 +1,12 @@
 # Runs a script over each WAVE file of a folder: make -j -f examples/many.mk SCRIPT=.. FROM=.. TO=..
-# Only what is older than its recording or the script is run again.
+# Only what is older than its recording or the script is run again. Names with spaces are not for make.
 SCRIPT = examples/lowpass/script.txt
 FROM = recordings
 TO = filtered
 
-all: $(patsubst $(FROM)/%,$(TO)/%,$(wildcard $(FROM)/*.wav))
+RECORDINGS = $(or $(wildcard $(FROM)/*.wav),$(error no .wav file is in $(FROM)))
+
+all: $(patsubst $(FROM)/%,$(TO)/%,$(RECORDINGS))
 
 $(TO)/%.wav: $(FROM)/%.wav $(SCRIPT)
 	@mkdir -p $(TO)

@@ -107,7 +107,12 @@ def longest_ways(below, minutes):
 
 
 def processors():
-    """Those of this machine, with 2 GB of free memory each."""
+    """Those that JOBS says, or else those of this machine, with 2 GB of free memory each."""
+    wanted = os.environ.get("JOBS")
+    if wanted:
+        if not re.fullmatch("[1-9][0-9]{0,3}", wanted):
+            raise Wrong(f"JOBS is {wanted}, and not a number from 1 to 9999")
+        return int(wanted)
     with open("/proc/meminfo") as file:
         free = int(re.search(r"MemAvailable:\s+(\d+)", file.read())[1]) >> 21
     return max(1, min(len(os.sched_getaffinity(0)), free))
@@ -203,7 +208,7 @@ class Build:
         self.ways = longest_ways(self.below, self.minutes)
         self.left, self.done, self.running, self.waited = list(self.below), set(), [], set()
         self.took = self.said = 0.0  # the minutes of the crates that were proved, here and by docs/TESTING.md
-        self.count = self.free = int(os.environ.get("JOBS") or processors())
+        self.count = self.free = processors()
         self.begin, self.is_live = time.time(), sys.stderr.isatty()
         self.log = open(f"{FOLDER}/log", "wb")
 
@@ -328,26 +333,31 @@ def build(top):
     return 0
 
 
-def main(words):
+def told(words):
+    """Prints what an option asks for."""
     if words == ["--time"]:
         below, count = crates_needed(), processors()
         print(f"about {expected(below, minutes_of_crates(below) | dict.fromkeys(kept_crates(below), PASSED), count):.0f} minutes on {count} processors")
-        return 0
-    if words == ["--sum"]:
+    elif words == ["--sum"]:
         print(sources.total())
-        return 0
+    else:
+        print(__doc__.strip())
+    return 0
+
+
+def main(words):
     if len(words) == 2 and words[0] == "--take":
         return take(words[1])
-    if words not in ([], ["--library"]):
+    if words not in ([], ["--library"], ["--time"], ["--sum"], ["-h"], ["--help"]):
         print(f"build: {' '.join(words)}: there is no such option", file=sys.stderr)
         return 70
     try:
-        return build(LIBRARY if words else PROGRAM)
+        return told(words) if words not in ([], ["--library"]) else build(LIBRARY if words else PROGRAM)
     except KeyboardInterrupt:
         print("\ndspfx: stopped; the next call goes on where this one did", file=sys.stderr)
         return 130
     except Wrong as wrong:
-        print(f"dspfx: not built: {wrong}", file=sys.stderr)
+        print(f"dspfx: {wrong}", file=sys.stderr)
         return 70
     except Failed as failed:
         with open(f"{FOLDER}/log", errors="replace") as log:

@@ -12,6 +12,7 @@ import difflib
 import errno
 import os
 import re
+import stat
 import subprocess
 import sys
 from math import gcd, lcm
@@ -92,6 +93,9 @@ def words_fault(words):
     if name not in COMMANDS:
         near = difflib.get_close_matches(name, COMMANDS, 1)
         return f"{named(name)} is no command" + (f"; {near[0]} is one" if near else f": {', '.join(COMMANDS)}")
+    odd = next((word for word in words if re.search("[\ud800-\udfff]", word)), None)
+    if odd:
+        return f"words are UTF-8, and {named(odd)} is none"
     if "" in rest:
         return f"word {words.index('', 1)} after {name} is empty (a variable that is not set?)"
     option = next((word for word in rest if re.match(r"--?[a-z]", word)), None)
@@ -110,6 +114,8 @@ def run_fault(rest, usage):
         fault = count_fault("N of `block N`", rest[4], MOST_NUMBER)
         if fault:
             return fault
+    elif len(rest) == 5:
+        return f"a block length is `block N`, and here is `{rest[3]} {rest[4]}`: {usage}"
     elif len(rest) != 3:
         return f"{usage.split()[0]} takes 3 words, or 5 with `block N`, and here are {len(rest)}: {usage}"
     return same_words(rest[0], rest[1], rest[2])
@@ -213,6 +219,16 @@ def block_before(text, offset):
     return next((token for token, _ in reversed(tokens_before(text, offset)) if token in language.BLOCKS), None)
 
 
+def wants_list(before):
+    """Whether a list comes next after these tokens, the last block's numbers being there."""
+    place = max((at for at, token in enumerate(before) if token in language.BLOCKS), default=None)
+    if place is None:
+        return False
+    kind, rest = language.BLOCKS[before[place]], before[place + 1 :]
+    lists = re.sub(r"\{[^}]*\}", "list", " ".join(rest[kind.numbers :])).split()
+    return kind.numbers <= len(rest) and len(lists) < kind.lists
+
+
 def what_is_no_text(text):
     """What is said of a script that is a file of samples, or None."""
     start = text[:4096]
@@ -264,17 +280,23 @@ def hint_of_word(text, offset):
         return "the output is the end of a script"
     if word == "table" and before[1] == "1":
         return "tables are of version 2: write `dspfx 2`"
+    if word == "input":
+        return "`input` comes once, after the version"
+    if not word:
+        return f"a block or `output` is wanted here, and no {text[offset : offset + 1].decode('latin1')}"
     if word in ("block", "table"):
         return f"`{word}` comes directly after the input" + (" or another table" if word == "table" else "")
-    if before[-1] in language.BLOCKS and language.BLOCKS[before[-1]].lists and not language.BLOCKS[before[-1]].numbers:
+    if wants_list(before):
         return f"a list in braces is wanted, or the name of a table; {word} names none"
     near = difflib.get_close_matches(word, [*language.BLOCKS, "output", "input"], 1)
-    return f"{word} is no block" + (f"; {near[0]} is one" if near else ": docs/SCRIPT.md lists them") if word else None
+    return f"{word} is no block" + (f"; {near[0]} is one" if near else ": docs/SCRIPT.md lists them")
 
 
 def hint_of_number(text, offset):
     place = open_brace(text, offset)
     word = word_at(text, offset) or text[offset : offset + 1].decode("latin1")
+    if re.match(r"[0-9-]", word):
+        return f"{word} is no number: 1 to 20 decimal digits, behind a `-` or not"
     if place:
         return f"the list that begins at {place} is not closed: a `}}` is missing before {word}"
     before = [token for token, _ in tokens_before(text, offset)]
@@ -283,11 +305,14 @@ def hint_of_number(text, offset):
     if before[-3:-1] in (["input", "raw"], ["input", "wave"]):
         return "the number of channels is missing, 1 to 16"
     block = block_before(text, offset)
-    return f"{block} takes {language.BLOCKS[block].numbers} numbers before its list" if block else "a number is wanted here"
+    if not block:
+        return "a number is wanted here"
+    kind = language.BLOCKS[block]
+    return f"{block} takes {kind.numbers} number{'s' * (kind.numbers != 1)}" + " before its list" * (kind.lists > 0)
 
 
 def hint_of_missing(text, offset):
-    if not text.strip(WHITE):
+    if not tokens_before(text, len(text)):
         return "the script is empty"
     place = open_brace(text, offset)
     if place:
@@ -324,11 +349,12 @@ def hint_of_length(text, offset, fields):
 
 def hint_of_many(text, offset, fields):
     limit = fields.get("limit")
-    if limit == "1":
+    is_list = open_brace(text, offset) or wants_list([token for token, _ in tokens_before(text, offset)])
+    if limit == "1" and not is_list:
         return "a script has at most one correlate"
-    if limit == "64" and not open_brace(text, offset):
+    if limit == "64" and not is_list:
         return "a script has at most 64 blocks and 64 tables, and a cascade at most 64 sections"
-    return f"a list has at most {limit} numbers here"
+    return f"a list has at most {limit} number{'s' * (limit != '1')} here"
 
 
 def hint_of_range(text, offset, fields):
@@ -426,6 +452,8 @@ def explain_block(words, _):
         yield f"the groups of this script are whole at multiples of {unit} frames, and a block has at most {MOST_BLOCK}: no length is legal"
     elif length is None or (length % unit == 0 and 0 < length <= MOST_BLOCK):
         yield "so many frames would be more than 1,048,576 samples, all channels together, at a place of the chain: choose a shorter block"
+    elif unit == 1:
+        yield f"a block has 1 to {MOST_BLOCK} frames"
     else:
         below = min(length, MOST_BLOCK) // unit * unit
         near = sorted({it for it in (below, below + unit) if 0 < it <= MOST_BLOCK})
@@ -500,7 +528,7 @@ def wave_hints(of_file, data, script, length):
         to = f" to {script.form}" if script.form != has else ""
         yield f"{of_file}has {bits} bits and {channels} channel{'s' * (channels != 1)}: `input wave {has} {channels}{to}` in place of `input wave {script.form} {script.channels}`"
     elif size != 0xFFFFFFFF and length < start + size // (channels * bits // 8) * (channels * bits // 8):
-        yield f"{of_file}was cut: its header declares {size} bytes of samples, and {length - start} came; the output has the whole blocks of these"
+        yield f"{of_file}was cut: its header declares {size} bytes of samples, and {length - start} came; a run writes the whole blocks of these"
     else:
         yield f"{of_file}has a header that contradicts itself (docs/WAVE.md): sox -D IN OUT.wav writes it anew"
 
@@ -518,10 +546,11 @@ def explain_lengths(words, _):
         yield "a correlation holds at most 1,048,576 samples of a channel: correlate a shorter part of the recording, or decimate before it"
     if "conv_partial" in found:
         yield "a window of conv_partial that ends past the convolution (`window end E, length L`) takes a smaller first or count"
-    if script and script.output != "raw":
-        yield "a WAVE file has at most 4 GiB: `output raw` has no limit"
-    if script is None or not found & {"correlate", "conv_partial"}:
-        yield "an input has at most 2^40 bytes"
+    if script and script.output != "raw" or words.command == "convert":
+        more = "" if words.command == "convert" else ": `output raw` has no limit"
+        yield f"where the report has `riff size`, the output is longer than a WAVE file, which has at most 4 GiB{more}"
+    if not words.input or not os.path.isfile(words.input) or os.path.getsize(words.input) > 1 << 40:
+        yield "where the report has `input taken`, the input has more than 2^40 bytes"
 
 
 # ---- 6 to 10: files
@@ -529,6 +558,13 @@ def explain_lengths(words, _):
 
 def reason_of(number):
     return f"{os.strerror(number)[0].lower()}{os.strerror(number)[1:]}"
+
+
+def folder_here():
+    try:
+        return os.getcwd()
+    except OSError:
+        return "a folder that was removed"
 
 
 def fault_of_reading(path):
@@ -549,7 +585,7 @@ def explain_reading(name):
             if path == "-":
                 yield "a pipe is read as /dev/stdin"
             elif not os.path.exists(path) and not os.path.isabs(path):
-                yield f"files are looked for in {os.getcwd()}"
+                yield f"files are looked for in {folder_here()}"
 
     return lines
 
@@ -567,16 +603,26 @@ def same_file(words):
 
 def fault_of_writing(path):
     """Why a file cannot be written, or None where nothing is found. Nothing is made or changed."""
-    folder = os.path.dirname(os.path.abspath(path)) if not os.path.isdir(path) else path
+    folder = os.path.dirname(path) or "."
     if os.path.isdir(path):
         return "is a folder"
     if not os.path.isdir(folder):
-        return f"there is no folder {named(os.path.dirname(path))}" if not os.path.exists(folder) else f"{named(folder)} is no folder"
-    if len(os.path.basename(path).encode(errors="surrogateescape")) > 255:
-        return reason_of(errno.ENAMETOOLONG)
-    if os.path.exists(path) and not os.access(path, os.W_OK) or not os.path.exists(path) and not os.access(folder, os.W_OK):
-        return reason_of(errno.EROFS if os.statvfs(folder).f_flag & os.ST_RDONLY else errno.EACCES)
-    if os.path.realpath(path) == "/dev/full" or os.statvfs(folder).f_bavail == 0:
+        return f"there is no folder {named(folder)}" if not os.path.exists(folder) else f"{named(folder)} is no folder"
+    room = os.statvfs(folder)
+    try:
+        # (a pipe would wait for who reads it)
+        if not stat.S_ISFIFO(os.stat(path).st_mode):
+            os.close(os.open(path, os.O_WRONLY | os.O_NONBLOCK))
+    except FileNotFoundError:
+        if os.path.islink(path):
+            return f"is a link to {named(os.readlink(path))}, which cannot be made"
+        if not os.access(folder, os.W_OK):
+            return reason_of(errno.EROFS if room.f_flag & os.ST_RDONLY else errno.EACCES)
+    except OSError as error:
+        return reason_of(error.errno)
+    # (a file system without blocks, as that of pipes, has no room that could be full)
+    is_full = os.path.exists(path) and os.path.samefile(path, "/dev/full")
+    if is_full or room.f_blocks and not room.f_bavail:
         return reason_of(errno.ENOSPC)
     return None
 
@@ -594,8 +640,9 @@ def explain_writing(words, _):
 
 
 def explain_report(words, _):
-    rest = "nothing else was to be written" if words.command == "check" else "the output is complete"
-    yield f"standard output cannot be written (closed, or a full disk), so the report is not whole; {rest}"
+    what = {"print": "text", "resume stop": "state"}.get(words.command, "report")
+    rest = "nothing else was to be written" if words.command in ("check", "print") else "the output is complete"
+    yield f"standard output cannot be written (closed, or a full disk), so the {what} is not whole; {rest}"
 
 
 def explain_memory(words, _):
@@ -647,8 +694,11 @@ def main(program, status, *words):
         lines = explain_script(words, program)
     else:
         lines = (f"dspfx: {line}" for line in EXPLAINED.get(int(status), lambda *_: ())(words, program))
-    for line in lines:
-        print(line, file=sys.stderr)
+    try:
+        for line in lines:
+            print(line, file=sys.stderr)
+    except KeyboardInterrupt:
+        sys.exit(130)
 
 
 if __name__ == "__main__":

@@ -12,11 +12,13 @@ import math
 import os
 import re
 import shutil
+import signal
 import socket
 import struct
 import subprocess
 import sys
 import tempfile
+import time
 import unittest
 import unittest.mock
 
@@ -189,11 +191,13 @@ class Faults(Case):
             (["gen", "9999999999", "1", "s.txt", "o"], "SEED is at most 4294967295"),
             (["run", "s.txt", "", "o"], "word 2 after run is empty"), (["version"], "--version is one"),
             (["test", "all"], "test takes no further words"),
+            (["run", "s.txt", "a", "b", "blocks", "4"], "a block length is `block N`, and here is `blocks 4`"),
         ):  # fmt: skip
             with self.subTest(words):
                 ran = self.dspfx(*words)
                 self.ends(ran, 1, hint)
                 self.assertRegex(ran.out, r"\Adspfx: usage: [^\n]*\n\Z")
+        self.ends(self.dspfx("run", b"\xff", "a", "b"), 1, "dspfx: words are UTF-8, and ")
 
     def test_the_usage_line(self):
         """It names each command that the wrapper explains, and no other; help and completion know them too."""
@@ -234,6 +238,23 @@ class Faults(Case):
         self.script("dspfx 1\ninput wave q15\noutput raw", "the number of channels is missing")
         self.script("dspfx 1 input wave q15 1 table a {1} fir a output raw", "write `dspfx 2`")
 
+    def test_lists_and_numbers(self):
+        head = "dspfx 2\ninput raw q15 1 8000\ntable two {1 2}\n"
+        self.script("# to be written\n", "the script is empty")
+        self.script(head + "fir {1 2}}\noutput raw", "is wanted here, and no }")
+        self.script(head + "abs {1}\noutput raw", "is wanted here, and no {")
+        self.script(head + "shift\noutput raw", "dspfx: shift takes 1 number\n")
+        self.script(head + "biquad {1}\noutput raw", "biquad takes 1 number before its list")
+        for number in ("0x10", "1e3", "-", "1" * 21):
+            self.script(head + f"fir {{1 {number}}}\noutput raw", f"{number} is no number: 1 to 20 decimal digits")
+        for block in ("fir", "biquad 0", "sparse {1 2}"):
+            self.script(head + f"{block} three\noutput raw", "or the name of a table; three names none")
+        self.script(head + "fir two three\noutput raw", "three is no block")
+        for numbers in ("{1 2}", "two"):
+            self.script(head + f"mat_add 1 1 {numbers}\noutput raw", "a list has at most 1 number here")
+        self.script(head + f"mat_add 8 8 {{{' 1' * 65}}}\noutput raw", "a list has at most 64 numbers here")
+        self.script(head + "abs " * 65 + "output raw", "at most 64 blocks")
+
     def test_states(self):
         """A state that is cut or other, and inputs that have not so many frames."""
         self.write("s.txt", COPY)
@@ -263,6 +284,8 @@ class Faults(Case):
         self.write("in.raw", bytes(100))
         self.ends(self.dspfx("run", "s.txt", "in.raw", "o", "block", "100"), 3, "multiple of 6 frames", "96 and 102")
         self.ends(self.dspfx("run", "s.txt", "in.raw", "o", "block", "65537"), 3, "nearest to 65537: 65532")
+        self.write("one.txt", COPY)
+        self.ends(self.dspfx("run", "one.txt", "in.raw", "o", "block", "0"), 3, "a block has 1 to 65536 frames")
         self.write("s.txt", "dspfx 1 input raw q15 1 8000 block 5 decimate 2 {1} output raw")
         for words in (["run", "s.txt", "in.raw", "o"], ["check", "s.txt", "in.raw", "in.raw"]):
             self.ends(self.dspfx(*words), 3, "block length 5, unit 2", "multiple of 2 frames", "nearest to 5: 4 and 6")
@@ -284,7 +307,11 @@ class Faults(Case):
     def test_lengths(self):
         self.write("s.txt", "dspfx 1 input raw q7 1 8000 correlate {1} output raw")
         self.write("in", bytes(1048577))
-        self.ends(self.dspfx("run", "s.txt", "in", "o"), 5, "at most 1,048,576 samples")
+        ran = self.dspfx("run", "s.txt", "in", "o")
+        self.ends(ran, 5, "at most 1,048,576 samples")
+        self.assertNotIn("2^40", ran.err)
+        self.write("au", au_file(16, 1, [], size=0xFFFFFFFE))
+        self.ends(self.dspfx("convert", "au", "wave", "au", "o"), 5, "riff size 4294967330", "which has at most 4 GiB\n")
 
     def test_a_torn_frame(self):
         """The last frame of a raw input is left out where it is not whole, and the page says so."""
@@ -305,6 +332,13 @@ class Faults(Case):
         self.ends(self.dspfx("run", "s.txt", "in", "missing/o"), 8, "there is no folder missing")
         self.ends(self.dspfx("run", "s.txt", "in", "folder"), 8, "output folder: is a folder")
         self.ends(self.dspfx("run", "s.txt", "in", "/dev/full"), 8, "no space left on device")
+        os.symlink("loop", self.path("loop"))
+        self.ends(self.dspfx("run", "s.txt", "in", "loop"), 8, "too many levels of symbolic links")
+        os.symlink("missing/o", self.path("link"))
+        self.ends(self.dspfx("run", "s.txt", "in", "link"), 8, "output link: is a link to missing/o, which cannot be made")
+        self.write("long", bytes(1 << 20))
+        ran = Ran(self.folder, ["bash", "-c", f"{DSPFX} run s.txt long >(true)"])
+        self.ends(ran, 8, "or a pipe that was closed")
         if os.geteuid():
             os.chmod(self.path("folder"), 0o555)
             self.ends(self.dspfx("run", "s.txt", "in", "folder/o"), 8, "permission denied")
@@ -729,6 +763,22 @@ class Installing(Case):
         self.assertEqual(self.files(), [])
         self.assertEqual(self.install("--other").returncode, 1)
 
+    def test_words(self):
+        prefix = self.path("prefix")
+        for words in ((prefix, "--uninstall"), (prefix, "more"), ("",), ("--uninstall", "")):
+            self.assertEqual(self.install(*words).returncode, 1, words)
+        self.assertEqual(os.listdir(self.folder), [])
+        ran = self.install("--help")
+        self.assertEqual((ran.returncode, ran.stdout.split()[0]), (0, "Installs"))
+
+    def test_for_others(self):
+        """What is installed can be read by all, whoever installs it."""
+        self.addCleanup(os.umask, os.umask(0o077))
+        self.assertEqual(self.install(self.path("prefix")).returncode, 0)
+        for folder, _, names in os.walk(self.path("prefix")):
+            for path in (folder, *(f"{folder}/{name}" for name in names)):
+                self.assertEqual(os.stat(path).st_mode & 0o044, 0o044, path)
+
     def test_the_page(self):
         self.write("dspfx.1", Ran(self.folder, [sys.executable, f"{TOP}/tools/man.py"]).out)
         if shutil.which("mandoc"):
@@ -736,6 +786,7 @@ class Installing(Case):
             self.assertEqual((ran.status, ran.out + ran.err), (0, ""))
         if shutil.which("man"):
             text = re.sub(r"\s+", " ", Ran(self.folder, ["man", "-l", "dspfx.1"]).out)
+            self.assertNotIn("no program to run", text)
             for words in ("gen SEED FRAMES SCRIPT OUT", "convert au wave IN OUT", "dspfx: output not written", "SEE ALSO"):
                 self.assertIn(words, text)
 
@@ -807,6 +858,53 @@ class Wrapper(Case):
             self.ends(self.dspfx("--version"), 0, f"dspfx {file.read().strip()} (")
         self.ends(self.dspfx("help", "more"), 1, "dspfx: usage")
 
+    def test_closed_streams(self):
+        """The report goes into no file that is opened for a stream that is closed."""
+        self.write("s.txt", COPY)
+        for closed in ("<&-", ">&-", "2>&-", "<&- >&-", "<&- >&- 2>&-"):
+            with self.subTest(closed):
+                ran = Ran(self.folder, ["bash", "-c", f"{DSPFX} gen 1 3 s.txt o {closed}"])
+                self.assertEqual(ran.status, 9 if ">&- " in closed + " " and closed != "2>&-" else 0)
+                # (from the seed 1 on, 1664525*s + 1013904223, its upper 16 bits)
+                self.assertEqual(self.content("o"), struct.pack("<3H", 0x3C88, 0x5E88, 0x8116))
+        for words, hint in (("print s.txt", "so the text is not whole; nothing else"), ("resume stop 0 s.txt s.txt o", "so the state is not whole")):
+            self.ends(Ran(self.folder, ["bash", "-c", f"{DSPFX} {words} >/dev/full"]), 9, hint)
+        for word in ("--help", "--version"):
+            self.ends(Ran(self.folder, ["bash", "-c", f"{DSPFX} {word} >/dev/full"]), 9, "dspfx: standard output: no space left on device\n")
+
+    def test_no_program(self):
+        self.write("s.txt", COPY)
+        self.write("program", "#!/bin/sh\necho ran\n")
+        for name, status in (("none", 70), ("s.txt", 70), (self.folder, 70), ("program", 0)):
+            os.chmod(self.path("program"), 0o755)
+            ran = self.with_variables(DSPFX_PROGRAM=name)
+            self.ends(ran, status, "DSPFX_PROGRAM is no program that can be run" if status else "ran\n")
+        self.ends(self.with_variables(DSPFX_PROGRAM="program", DSPFX_PROVED="1"), 70, "of which no proof is known")
+
+    def with_variables(self, **variables):
+        return Ran(self.folder, ["env", *(f"{name}={value}" for name, value in variables.items()), DSPFX, "print", "s.txt"])
+
+    def test_ctrl_c_at_the_hints(self):
+        """Ctrl-C ends a wrapper that runs the script of a check once more, without a word, and no file is left."""
+        self.write("program", "#!/bin/sh\n[ $1 != check ] || exit 11\n>begun\nexec sleep 60\n")
+        os.chmod(self.path("program"), 0o755)
+        for name in ("s", "in", "out"):
+            self.write(name, "")
+        os.mkdir(self.path("temporary"))
+        environment = dict(os.environ, DSPFX_PROGRAM="./program", TMPDIR=self.path("temporary"))
+        running = subprocess.Popen([DSPFX, "check", "s", "in", "out"], cwd=self.folder, env=environment,
+                                   stderr=subprocess.PIPE, start_new_session=True)  # fmt: skip
+        while not os.path.exists(self.path("begun")) and running.poll() is None:
+            time.sleep(0.1)
+        os.killpg(running.pid, signal.SIGINT)
+        self.assertEqual((running.communicate()[1], running.returncode), (b"", -signal.SIGINT))
+        self.assertEqual(os.listdir(self.path("temporary")), [])
+
+    def test_processors(self):
+        for jobs in ("0", "-1", "two"):
+            ran = Ran(self.folder, ["env", f"JOBS={jobs}", f"{TOP}/tools/build.py", "--time"])
+            self.ends(ran, 70, f"JOBS is {jobs}, and not a number")
+
     def test_a_link(self):
         os.symlink(DSPFX, self.path("mine"))
         self.write("s.txt", COPY)
@@ -850,7 +948,7 @@ class Wrapper(Case):
         ran = subprocess.run(["script", "-qec", f"{DSPFX} run s in out", "/dev/null"], cwd=self.folder, env=environment,
                              stdin=subprocess.DEVNULL, stdout=subprocess.PIPE)  # fmt: skip
         said = ran.stdout.decode()
-        self.assertRegex(said, r"\A\r\033\[Kdspfx: [45]0 % of the input, [\d.]+ MB a second, 0:0\d left\r\033\[K")
+        self.assertRegex(said, r"\A\r\033\[Kdspfx: [4-9]0 % of the input, [\d.]+ MB a second, 0:0\d left\r\033\[K")
         self.assertTrue(said.endswith("\r\033[Kdone\r\n"), said[-60:])
 
 if __name__ == "__main__":

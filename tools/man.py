@@ -1,7 +1,7 @@
 #!/usr/bin/env python3
 """Writes the man page dspfx.1 to standard output, from tools/help.txt, docs/USE.md and VERSION.
 
-Commands and variables come from tools/help.txt, and the exit statuses from the table in docs/USE.md.
+Commands come from tools/help.txt, and the exit statuses from the table in docs/USE.md.
 """
 import os
 import re
@@ -57,8 +57,8 @@ def listed(lines):
 
 
 def statuses(text):
-    """The rows of the table of statuses: status, report and meaning."""
-    for line in re.findall(r"^\| \d+ \|.*$", text, re.M):
+    """The rows of the table of statuses: status, report and meaning. (70 is that of ./dspfx itself.)"""
+    for line in re.findall(r"^\| (?!70 )\d+ \|.*$", text, re.M):
         yield [plain(cell) for cell in line.strip("| ").split("|")]
 
 
@@ -74,7 +74,8 @@ def main():
                       ".SH COMMANDS", *listed(parts["Commands of the program"]), ".SH EXIT STATUS"]  # fmt: skip
     for status, report, meaning in statuses(read("docs/USE.md")):
         out += [".TP", f"\\fB{status}\\fR", roff(f"{report}: {meaning}" if report else meaning)]
-    out += [".SH FILES", roff("A script is text, docs/SCRIPT.md describes it; samples are raw words or WAVE files, docs/WAVE.md."),
+    out += [".PP", roff("The program writes its report alone. What is said of standard error is of the command in the repository."),
+            ".SH FILES", roff("A script is text, docs/SCRIPT.md describes it; samples are raw words or WAVE files, docs/WAVE.md."),
             ".SH SEE ALSO", roff("docs/USE.md has recipes, docs/DEVICES.md the Arm cores on which the same bits come out.")]  # fmt: skip
     print("\n".join(out))
 

@@ -5,6 +5,7 @@ After two seconds standard error shows how much of the input is read, by the pro
 many bytes a second that is, and the time that is left. It ends with the process, and leaves an empty line.
 """
 import os
+import shutil
 import sys
 import time
 
@@ -34,7 +35,8 @@ def place_in(process, path):
 
 
 def show(text):
-    print(f"\r\033[K{text}", end="", file=sys.stderr, flush=True)
+    width = shutil.get_terminal_size().columns - 1
+    print(f"\r\033[K{text[:width]}", end="", file=sys.stderr, flush=True)
 
 
 def line(place, size, seconds):

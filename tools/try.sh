@@ -19,7 +19,7 @@ for place in $(seq $#); do
 done
 log=$(mktemp) || exit 70
 trap 'rm -f "$log"' EXIT
-(cd "$top/crates/dspfx" && exec rt try --seconds 600 -- "${words[@]}") 2>"$log" </dev/null
+(cd "$top/crates/dspfx" && exec rt try --seconds 600 -- "${words[@]}") 2>"$log"
 status=$?
 grep -q '^run=ended ' "$log" || {
     cat "$log" >&2

@@ -4,6 +4,7 @@ import functools
 import math
 import os
 import re
+import shutil
 import subprocess
 import sys
 import tempfile
@@ -102,6 +103,9 @@ def has_tests(crate):
 
 def test():
     """Runs the tests of all crates, and the cases, without proofs, side by side. 1 where one fails."""
+    if not shutil.which("rt"):
+        say("rt, the command of the Rattle toolchain, is not on the PATH")
+        return 70
     tasks = {"cases of dsp_replay": cases}
     for crate in sorted(filter(has_tests, os.listdir(f"{TOP}/crates"))):
         tasks[f"tests of {crate}"] = functools.partial(tests, crate)
@@ -129,6 +133,13 @@ def main(word, *others):
 
 if __name__ == "__main__":
     try:
-        sys.exit(main(*sys.argv[1:]))
+        status = main(*sys.argv[1:])
+        sys.stdout.flush()
+        sys.exit(status)
     except KeyboardInterrupt:
         sys.exit(130)
+    except OSError as error:
+        # (what is left to write would be tried once more at the end)
+        sys.stdout = None
+        say(f"{error.filename or 'standard output'}: {error.strerror.lower()}")
+        sys.exit(70 if error.filename else 9)

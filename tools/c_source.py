@@ -13,6 +13,7 @@ CAST = r"\(\s*(?:\w+_t|(?:unsigned\s+|signed\s+)?(?:char|short|int|long)|float|d
 KNOWN = {f"INT{bits}_{end}": value for bits in (8, 16, 32) for end, value in
          (("MAX", 2 ** (bits - 1) - 1), ("MIN", -(2 ** (bits - 1))))}  # fmt: skip
 
+PREPROCESSED = "`cc -E -P FILE | tools/coefficients.py - --name NAME`"
 CASCADE = ["numStages", "pState", "pCoeffs", "postShift"]
 INSTANCES = {
     r"arm_biquad_casd_df1_inst_q(?:15|31)": ("biquad", CASCADE),
@@ -60,12 +61,12 @@ def value_of(text, defined, depth=0):
     bare = re.sub(CAST, "", text).strip()
     bare = re.sub(r"\b(0[xX][0-9a-fA-F]+|\d+)[uUlL]+\b", r"\1", bare)
     bare = re.sub(r"(\d\.?\d*(?:[eE][-+]?\d+)?)[fF]\b", r"\1", bare) if not re.search(r"0[xX]", bare) else bare
-    bare = re.sub(r"(?<![\w.])0([0-7]+)(?![\w.])", r"0o\1", bare)
+    bare = re.sub(r"(?<![\w.])(?<!\d[eE][-+])(?<!\.[eE][-+])0([0-7]+)(?![\w.])", r"0o\1", bare)
     try:
         return of_tree(ast.parse(bare, mode="eval").body, defined, depth)
     except (SyntaxError, ValueError, RecursionError, ZeroDivisionError, TypeError) as error:
-        macro = re.match(r"[A-Za-z_]\w*\s*\(", bare)
-        more = "; `cc -E -P FILE | tools/coefficients.py - --name NAME` replaces macros first" if macro else ""
+        macro = re.match(r"[A-Za-z_]\w*\s*(\(|$)", bare)
+        more = f"; {PREPROCESSED} replaces macros first" if macro else ""
         raise ValueError(f"no number: {text.strip()[:60]}{more}") from error
 
 
@@ -138,10 +139,21 @@ def uses(text):
 
 
 def arrays(text):
-    """The arrays by name: type, lengths in brackets, and numbers."""
+    """The arrays by name: type, name, lengths in brackets, and numbers; the same name stands twice between #else."""
     kinds = "|".join(TYPES)
     array = rf"\b({kinds})\s+(?:const\s+)?(\w+)\s*((?:\[[^]]*\]\s*)+)[^=;{{]*=\s*\{{(.*?)\}}\s*;"
-    return {it[1]: it for it in re.findall(array, text, re.S)}
+    found = {}
+    for it in re.findall(array, text, re.S):
+        found.setdefault(it[1], set()).add(it)
+    return found
+
+
+def definitions(text):
+    """What each name is defined as; a name with several definitions is left out."""
+    found = {}
+    for name, value in re.findall(r"^[ \t]*#[ \t]*define[ \t]+(\w+)[ \t]+(.+?)[ \t]*$", text, re.M):
+        found.setdefault(name, set()).add(value)
+    return {name: values.pop() for name, values in found.items() if len(values) == 1}
 
 
 def choose(found, instances, name):
@@ -179,14 +191,17 @@ def filled(name, values, lengths, defined):
 def read(text, name):
     """The array of this name, or of the instance of this name, or the only one."""
     text = without_comments(text)
-    defined = dict(re.findall(r"^[ \t]*#[ \t]*define[ \t]+(\w+)[ \t]+(.+?)[ \t]*$", text, re.M))
-    found, instances = arrays(text), uses(text)
+    defined, found, instances = definitions(text), arrays(text), uses(text)
     chosen = choose(found, instances, name)
+    if not found:
+        raise ValueError(f"there is no array with numbers of one of the types {', '.join(TYPES)}")
     if chosen is None:
-        raise ValueError(f"--name says which array: {', '.join(found) or 'there is none'}")
+        raise ValueError(f"--name says which array: {', '.join(found)}")
     if chosen not in found:
         raise ValueError(f"no array {chosen}, only {', '.join(found) or 'none'}")
-    kind, _, lengths, body = found[chosen]
+    if len(found[chosen]) > 1:
+        raise ValueError(f"{chosen} is there {len(found[chosen])} times: {PREPROCESSED} leaves out what is not compiled")
+    kind, _, lengths, body = found[chosen].pop()
     form = TYPES[kind]
     words = [it for it in re.sub(r"[{}]", " ", body).split(",") if it.strip()]
     values = filled(chosen, [element(word, defined, form) for word in words], lengths, defined)

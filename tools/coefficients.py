@@ -34,7 +34,11 @@ REVERSED = ("fir", "decimate", "interpolate", "lms")
 SECTIONS = ("biquad", "biquad64")
 SUMS = ("fir", "decimate", "interpolate", "sparse", "conv", "conv_partial", "correlate")
 SHIFTS = {("biquad", "q15"): 13, ("biquad", "q31"): 30, ("biquad64", "q31"): 30}
-MOST_NUMBERS = 16384
+MOST_NUMBERS, MOST = 16384, 4294967295
+# The least and the greatest of the numbers before a list.
+RANGES = {"decimate": [(1, 255)], "interpolate": [(1, 255)], "conv_partial": [(0, MOST), (1, MOST)],
+          "mat_add": [(1, 64)] * 2, "mat_sub": [(1, 64)] * 2, "mat_mult": [(1, 64)] * 3}  # fmt: skip
+NAMES = {"c": ("a C array", r"[A-Za-z_]\w*"), "table": ("a table", r"[a-z][a-z0-9_-]{0,31}")}
 NO_SOS = "scipy.signal.tf2sos(b, a), or output='sos' of the design"
 
 
@@ -59,7 +63,10 @@ class Numbers:
 
 def of_npy(data):
     """The numbers of a .npy file of one or two dimensions."""
-    values, shape, kind = samples.array_of_npy(data)
+    try:
+        values, shape, kind = samples.array_of_npy(data)
+    except (IndexError, KeyError, SyntaxError, TypeError, struct.error):
+        stop(f"the .npy file is not read: {samples.CUT}")
     return Numbers(values, kind[0] == "i", columns=shape[1] if len(shape) == 2 else None)
 
 
@@ -75,7 +82,9 @@ def of_text(text):
     try:
         return Numbers([int(word) if is_whole else float(word) for word in words], is_whole, columns=columns)
     except ValueError:
-        stop(f"no number: {next(word for word in words if not is_number(word))[:60]!r}; a script, a C array, a .npy file or numbers are read")
+        # (a word of thousands of digits is none either)
+        word = next((word for word in words if not is_number(word)), max(words, key=len))
+        stop(f"no number: {word[:60]!r}; a script, a C array, a .npy file or numbers are read")
 
 
 def is_number(word):
@@ -96,13 +105,24 @@ def of_script(text, name, place):
     if not lists and named is None:
         stop("the script has no list" if place is None else f"block {place} has no list, or is not there")
     if named is not None and place is None:
-        form = next((it.form for _, it in lists if named in it.lists), script.form)
-        return Numbers(named, True, form, script=script)
+        return of_table(script, named, [it for _, it in lists if named in it.lists])
     number, block = lists[0]
     if len(lists) > 1:
         note(f"of {len(lists)} lists that of block {number} is taken: --place names another")
+    return of_block(script, block)
+
+
+def of_block(script, block):
     shift = int(block.numbers[0]) if block.word in SECTIONS else None
     return Numbers(block.lists[0], True, block.form, shift, " ".join([block.word, *block.numbers]), script=script)
+
+
+def of_table(script, values, blocks):
+    """A table, as the blocks take it that have it as their first list, where these are one."""
+    said = {(" ".join([it.word, *it.numbers]), it.form) for it in blocks if it.lists[0] == values}
+    if len(said) == 1:
+        return of_block(script, next(it for it in blocks if it.lists[0] == values))
+    return Numbers(values, True, blocks[0].form if blocks else script.form, script=script)
 
 
 def of_c(text, name):
@@ -113,7 +133,7 @@ def of_c(text, name):
 
 def read(path, name, place=None):
     try:
-        with sys.stdin.buffer if path == "-" else open(path, "rb") as file:
+        with open(0 if path == "-" else path, "rb") as file:
             data = file.read()
         if data.startswith(b"\x93NUMPY"):
             return of_npy(data)
@@ -123,7 +143,7 @@ def read(path, name, place=None):
         return of_c(text, name) if re.search(r"\]\s*[^=;{]*=\s*\{", text) else of_text(text)
     except OSError as error:
         stop(f"{path}: {error.strerror[0].lower()}{error.strerror[1:]}")
-    except (IndexError, KeyError, struct.error, SyntaxError, ValueError) as error:
+    except ValueError as error:
         stop(error)
 
 
@@ -208,17 +228,18 @@ def note_error(design, numbers, form, shift):
 
 
 def levels(sections):
-    """The greatest output of each section of a cascade for inputs of at most 1: the sum of the absolute
-    values of the impulse's answer so far; None from the first section on that does not settle."""
+    """The greatest output of each section of a cascade for inputs of at most 1, the sum of the absolute values of the
+    impulse's answer so far, and whether that is all of it; None from the first section on that does not settle."""
     signal, found = [1.0] + [0.0] * 65535, []
     for b0, b1, b2, a1, a2 in sections:
         x1 = x2 = y1 = y2 = 0.0
         if abs(a2) >= 1 or abs(a1) >= 1 - a2:
-            return found + [None]
+            return found + [(None, True)]
         for place, x in enumerate(signal):
             y = b0 * x + b1 * x1 + b2 * x2 + a1 * y1 + a2 * y2
             x1, x2, y1, y2, signal[place] = x, x1, y, y1, y
-        found.append(sum(map(abs, signal)))
+        total, late = (sum(map(abs, it)) for it in (signal, signal[len(signal) // 2 :]))
+        found.append((total, late <= total / 1000))
     return found
 
 
@@ -227,9 +248,9 @@ def note_sums(numbers, block, form, shift, level=1.0, where=""):
     word, one = block[0], 2 ** BITS[form]
     if word in SECTIONS:
         sections = [[it * 2**shift / one for it in row] for row in in_fives(numbers, form)]
-        for place, reach in enumerate(levels(sections), 1):
+        for place, (reach, is_all) in enumerate(levels(sections), 1):
             level_now = None if reach is None else reach * level
-            note_level(f"{where}section {place}", level_now, form == "q31")
+            note_level(f"{where}section {place}", level_now, form == "q31", "" if is_all else "at least ")
         return 1.0 if level_now is None else level_now
     phases = int(block[1]) if word == "interpolate" and len(block) > 1 else 1
     reach = level * max((sum(map(abs, numbers[phase::phases])) / one for phase in range(phases)), default=0)
@@ -237,12 +258,12 @@ def note_sums(numbers, block, form, shift, level=1.0, where=""):
     return reach
 
 
-def note_level(what, level, wraps):
+def note_level(what, level, wraps, least=""):
     if level is None:
         note(f"{what} does not settle")
     else:
         beyond = "" if level <= 1 else ", and wraps beyond it" if wraps else ", and is clipped at it"
-        note(f"{what} can reach {level:.3f} of full scale{beyond}")
+        note(f"{what} can reach {least}{level:.3f} of full scale{beyond}")
 
 
 def plain_level(block, level):
@@ -252,7 +273,7 @@ def plain_level(block, level):
         "offset": lambda: level + abs(numbers[0]) / one,
         "scale": lambda: level * abs(numbers[0]) / one * 2.0 ** numbers[1],
         "shift": lambda: level * 2.0 ** numbers[0],
-        "clip": lambda: min(level, max(map(abs, numbers)) / one),
+        "clip": lambda: max(abs(min(max(it, numbers[0] / one), numbers[1] / one)) for it in (-level, level)),
         "add": lambda: 2 * level,
         "sub": lambda: 2 * level,
         "mult": lambda: level * level,
@@ -373,6 +394,37 @@ def test_numbers(numbers, block, form, shift, kind):
         stop(f"{len(numbers)} numbers: a list has 1 to {MOST_NUMBERS}")
     if kind in ("script", "block") and language.BLOCKS[word].lists != 1:
         stop(f"{word} has {language.BLOCKS[word].lists} lists: --as table writes one of them")
+    if kind in ("script", "block"):
+        test_parameters(len(numbers), word, [int(it) for it in block[1:]], form)
+
+
+def test_parameters(count, word, before, form):
+    """Refuses numbers before a list that are out of range, and lists of another length than the block takes."""
+    of_lms = [(0, 14 if form == "q15" else 30), (-(2 ** BITS[form]), 2 ** BITS[form] - 1)]
+    for value, (least, most) in zip(before, of_lms if word == "lms" else RANGES.get(word, [])):
+        if not least <= value <= most:
+            stop(f"{value} is out of range: this number of {word} is {least} to {most}")
+    if word.startswith("mat_"):
+        wanted = math.prod(before[1:] if word == "mat_mult" else before)
+        if count != wanted:
+            stop(f"this {word} takes {wanted} numbers, and these are {count}")
+    most = {"route": 16, "lattice_fir": 255}.get(word, 64 * (6 if form == "q15" else 5) if word in SECTIONS else count)
+    if count > most:
+        stop(f"{word} takes at most {most} numbers, and these are {count}")
+
+
+def test_words(words, given, word, name):
+    """Refuses options that do not go with what is read, with the block or with what is written."""
+    if words.place is not None and given.script is None:
+        stop("--place is of a script, and this is none")
+    wanted = language.BLOCKS[word].channels
+    if words.kind == "script" and wanted not in (None, words.channels):
+        stop(f"{word} takes {wanted} channels: --channels {wanted}")
+    if words.rate > MOST:
+        stop(f"--rate is at most {MOST}")
+    what, names = NAMES.get(words.kind, ("", ".*"))
+    if not re.fullmatch(names, name, re.ASCII):
+        stop(f"{name} is no name of {what}: --name")
 
 
 def main():
@@ -397,7 +449,9 @@ def main():
     numbers = given.values
     if not given.is_whole:
         numbers, shift = quantised(given, word, form, shift)
+    name = (words.name or "coefficients").lower() if words.kind == "table" else words.name or "coefficients"
     test_numbers(numbers, block, form, shift, words.kind)
+    test_words(words, given, word, name)
     if given.script:
         judge(given.script)
     elif word in SECTIONS or word in SUMS:
@@ -407,15 +461,15 @@ def main():
         block = [word, str(shift)]
     listed = "{" + " ".join(map(str, numbers)) + "}"
     head = f"input {words.input} {form} {words.channels}" + f" {words.rate}" * (words.input == "raw")
-    name = words.name or "coefficients"
     print({
         "script": lambda: f"dspfx 1\n{head}\n{' '.join(block)} {listed}\noutput {words.input}\n",
         "block": lambda: f"{' '.join(block)} {listed}\n",
-        "table": lambda: f"table {name.lower()} {listed}\n",
+        "table": lambda: f"table {name} {listed}\n",
         "c": lambda: as_c(numbers, name, form, shift),
         "design": lambda: as_design(numbers, word, form, shift),
     }[words.kind](), end="")  # fmt: skip
 
 
 if __name__ == "__main__":
+    samples.end_quietly()
     main()

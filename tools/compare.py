@@ -57,7 +57,7 @@ def report(first, second, channels, within, unit):
         lines += [f"lengths: {len(first)} and {len(second)} samples"]
     is_same = not wrong and len(first) == len(second)
     if is_same:
-        lines += [f"same: {common} samples" + (f", within {shown(within)}" if within else "")]
+        lines += [f"same: {common} samples" + (f", within {shown(within)}{unit}" if within else "")]
     return lines, is_same
 
 
@@ -67,6 +67,8 @@ def measured(first, second, unit):
     noise, power = sum(it * it for it in differences), sum(it * it for it in first)
     greatest = max(map(abs, differences), default=0)
     ratio = "none, the first file is zeros" if not power else "none, there is no difference" if not noise else None
+    if not math.isfinite(power + noise):
+        ratio = "none, a sample is not finite"
     return [
         f"greatest: {f'{greatest:.4g}' if unit else shown(greatest)}{unit}",
         f"signal to noise: {ratio or f'{10 * math.log10(power / noise):.1f} dB'}",
@@ -75,14 +77,16 @@ def measured(first, second, unit):
 
 def lag_of(first, second, channels, most):
     """How many frames later the second file has what the first has: the shift with the least mean difference."""
-    best = None
+    best, top = None, loudest(first, channels) if first else 0
     for lag in sorted(range(-most, most + 1), key=abs):
-        a, b = first[max(0, -lag) * channels :], second[max(0, lag) * channels :]
+        left_out = max(0, -lag) * channels
+        a, b = first[left_out:], second[max(0, lag) * channels :]
         count = min(len(a), len(b))
         if 2 * count < min(len(first), len(second)) or not count:
             continue
         # (a stretch from where the reference is loudest says enough of long files)
-        start = max(0, min(loudest(a, channels) - LOOKED_AT // 2, count - LOOKED_AT))
+        place = top - left_out if top >= left_out else loudest(a, channels)
+        start = max(0, min(place - LOOKED_AT // 2, count - LOOKED_AT))
         pairs = list(zip(a[start:count], b[start:count]))[:LOOKED_AT]
         mean = sum((x - y) * (x - y) for x, y in pairs) / len(pairs)
         if best is None or mean < best[0]:
@@ -117,9 +121,17 @@ def compare(words):
         left, right = left[max(0, -lag) * channels :], right[max(0, lag) * channels :]
     if words.common:
         count = min(len(left), len(right))
+        if not count:
+            raise ValueError("the files have no frames in common")
         left, right = left[:count], right[:count]
     lines, is_same = report(left, right, channels, words.within, unit)
     return head + lines, is_same
+
+
+def tolerance(word):
+    if not float(word) >= 0:
+        raise ValueError
+    return float(word)
 
 
 def main():
@@ -127,22 +139,24 @@ def main():
     parser.add_argument("first", help="the reference")
     parser.add_argument("second")
     parser.add_argument("--offset", type=int, default=0, metavar="N", help="leaves out the first N frames of the second file")
-    parser.add_argument("--lag", type=int, metavar="N", help="finds a shift of at most N frames, and compares with it")
+    parser.add_argument("--lag", type=samples.natural, metavar="N", help="finds a shift of at most N frames, and compares with it")
     parser.add_argument("--common", action="store_true", help="only the frames that both files have")
-    parser.add_argument("--within", type=float, default=0, metavar="N", help="differences up to N last places are none; else 0")
+    parser.add_argument("--within", type=tolerance, default=0, metavar="N",
+                        help="differences up to N last places are none, or up to N of full scale of two files of fractions; else 0")  # fmt: skip
     samples.add_arguments(parser)
     words = parser.parse_args()
     try:
         lines, is_same = compare(words)
+        print(*lines, sep="\n", flush=True)
     except OSError as error:
-        print(f"compare: {error.filename}: {error.strerror[0].lower()}{error.strerror[1:]}", file=sys.stderr)
+        print(f"compare: {samples.reason_of(error)}", file=sys.stderr)
         sys.exit(2)
     except ValueError as error:
         print(f"compare: {error}", file=sys.stderr)
         sys.exit(2)
-    print(*lines, sep="\n")
     sys.exit(0 if is_same else 1)
 
 
 if __name__ == "__main__":
+    samples.end_quietly()
     main()

@@ -30,7 +30,8 @@ class Layout:
         self.is_wave = output[:4] == b"RIFF"
         self.channels, self.bits = channels, samples.BITS[form] + 1
         self.width = self.bits // 8
-        self.start = output.index(b"data", 12) + 8 if self.is_wave else 0
+        # (`data` stands behind 16 or 40 bytes of `fmt `, and may stand in them)
+        self.start = output.index(b"data", 36) + 8 if self.is_wave else 0
         self.end = self.start + frames * channels * self.width
 
     def samples(self, data):
@@ -108,9 +109,11 @@ def told(program, script, source, path):
     """The lines, or why there are none."""
     try:
         yield from lines(program, script, source, path)
-    except Unknown as fault:
+    except (OSError, Unknown) as fault:
         yield f"which sample that is cannot be said: {fault}"
 
 
 if __name__ == "__main__":
+    if len(sys.argv) != 5:
+        sys.exit(__doc__.strip())
     print(*told(*sys.argv[1:]), sep="\n")

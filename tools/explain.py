@@ -268,6 +268,8 @@ def hint_of_word(text, offset):
     word, before = word_at(text, offset), [token for token, _ in tokens_before(text, offset)]
     if not before or before == ["dspfx"]:
         return "a script begins with `dspfx 1` or `dspfx 2`"
+    if len(before) == 2:
+        return "the input comes after the version, as in `input wave q15 2` or `input raw q15 1 48000`"
     if len(before) > 2 and before[-3:-1] == ["input", "wave"] or (re.fullmatch(r"\d+", word) and "wave" in before[2:4] and len(before) == 6):
         return "`input wave FORMAT CHANNELS` has no rate, which the file says; `input raw` has one"
     if before[-1] == "input":
@@ -343,8 +345,9 @@ def hint_of_length(text, offset, fields):
         "interpolate": f"interpolate {factor} takes a multiple of {factor} taps, and these are {taps}",
         "biquad": f"a biquad has {factor} numbers a section, and these are {taps}",
         "biquad64": f"a biquad64 has {factor} numbers a section, and these are {taps}",
+        "lattice_iir": f"lattice_iir takes {factor} numbers here, one more than its first list has, and these are {taps}",
         "sparse": f"sparse takes at least 2 taps, and as many delays; here are {taps}",
-    }.get(block, f"the list has {taps} numbers, and a multiple of {factor} is wanted")
+    }.get(block, f"{block} takes {factor} numbers here, and these are {taps}")
 
 
 def hint_of_many(text, offset, fields):
@@ -359,6 +362,8 @@ def hint_of_many(text, offset, fields):
 
 def hint_of_range(text, offset, fields):
     low, high, block = fields.get("low"), fields.get("high"), block_before(text, offset)
+    if len(tokens_before(text, offset)) == 1:
+        return "a script begins with `dspfx 1` or `dspfx 2`"
     of = f" in {block}" if block else ""
     more = ": tools/coefficients.py scales a design" if low == "-32768" else ""
     return f"this number is {low} to {high}{of}{more}"
@@ -386,8 +391,11 @@ def fields_of(text):
 
 
 def explain_script(words, program):
-    """Where the fault of a script is, and what to do. A script that cannot be read again shows nothing."""
-    if not words.script or not os.path.isfile(words.script):
+    """Where the fault of a script is, and what to do."""
+    if not words.script:
+        return
+    if not os.path.isfile(words.script):
+        yield f"dspfx: {named(words.script)} is no file that can be read twice, so the place of the fault is not shown"
         return
     report = subprocess.run([program, "print", words.script], stdout=subprocess.PIPE, stderr=subprocess.DEVNULL).stdout
     found = re.match(rb"dspfx: script: (\w+) at (\d+)(.*)", report)
@@ -405,9 +413,16 @@ def explain_script(words, program):
 # ---- 3, 4, 5: block lengths, headers, lengths
 
 
+def test_is_file(path):
+    """An OSError where a file cannot be read twice. (A pipe would be waited for.)"""
+    if not os.path.isfile(path):
+        raise OSError(errno.EINVAL, "no file that can be read twice")
+
+
 def sound_script(words):
     """The parts of the script, or None where it cannot be read again."""
     try:
+        test_is_file(words.script)
         if words.first == "state":
             with open(words.script, "rb") as file:
                 return language.read_script(state.read_state(file.read())[0])
@@ -462,11 +477,11 @@ def explain_block(words, _):
 
 def explain_header(words, _):
     """What an input is that is at fault, and what to do."""
-    try:
-        with open(words.input, "rb") as file:
-            data = file.read(1 << 16)
-    except (OSError, TypeError):
+    if not os.path.isfile(words.input):
+        yield f"{named(words.input)} is no file that can be read twice; docs/WAVE.md says what the fault of its header is"
         return
+    with open(words.input, "rb") as file:
+        data = file.read(1 << 16)
     wanted = "an AU file" if words.words[:2] == ["convert", "au"] else "a WAVE file"
     of_file = f"{named(words.input)} "
     if not data:
@@ -524,6 +539,8 @@ def wave_hints(of_file, data, script, length):
     has = {8: "q7", 16: "q15", 24: "q31", 32: "q31"}.get(bits)
     if has is None:
         yield f"{of_file}has {bits} bits, and 8, 16, 24 and 32 are read: {TO_WAVE}"
+    elif not 1 <= channels <= 16:
+        yield f"{of_file}has {channels} channels, and 1 to 16 are read"
     elif script and (script.form != has or script.channels != channels):
         to = f" to {script.form}" if script.form != has else ""
         yield f"{of_file}has {bits} bits and {channels} channel{'s' * (channels != 1)}: `input wave {has} {channels}{to}` in place of `input wave {script.form} {script.channels}`"
@@ -662,10 +679,13 @@ def explain_state(words, _):
         yield f"the canonical text of the script has more than {SCRIPT_MOST} bytes, and a state holds it"
         return
     try:
+        test_is_file(words.script)
         with open(words.script, "rb") as file:
             list(state.lines_of(file.read()))
         fault = "its script or its numbers are none that a run can have"
-    except (OSError, state.Fault) as found:
+    except OSError as found:
+        fault = found.strerror
+    except state.Fault as found:
         fault = found
     yield f"state {named(words.script)}: {fault}"
     yield "`./dspfx resume stop K SCRIPT IN OUT > STATE` makes one"
@@ -702,4 +722,6 @@ def main(program, status, *words):
 
 
 if __name__ == "__main__":
+    if len(sys.argv) < 3:
+        sys.exit(__doc__.strip())
     main(*sys.argv[1:])

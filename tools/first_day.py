@@ -237,6 +237,14 @@ class Faults(Case):
         self.script("dspfx 1\ninput raw q15 2\noutput raw", "needs a rate, as in `input raw q15 2 48000`")
         self.script("dspfx 1\ninput wave q15\noutput raw", "the number of channels is missing")
         self.script("dspfx 1 input wave q15 1 table a {1} fir a output raw", "write `dspfx 2`")
+        self.script("dspfx 3 " + COPY[8:], "begins with `dspfx 1` or `dspfx 2`")
+        self.script("dspfx 1 fir {1} output raw", "the input comes after the version")
+        self.script(head + "shift 1 " + COPY[8:], "`input` comes once")
+        self.script(head + "fir {1} {2}\noutput raw", "a block or `output` is wanted here, and no {")
+        self.script(head + "biquad {1}\noutput raw", "biquad takes 1 number before its list\n")
+        self.script(head + "pid 1 2\noutput raw", "pid takes 3 numbers\n")
+        self.script(head + "lattice_iir {1 2} {3 4}\noutput raw", "lattice_iir takes 3 numbers here, one more than its first list has")
+        self.script(head + "mat_add 2 2 {1 2 3}\noutput raw", "mat_add takes 4 numbers here, and these are 3")
 
     def test_lists_and_numbers(self):
         head = "dspfx 2\ninput raw q15 1 8000\ntable two {1 2}\n"
@@ -272,6 +280,39 @@ class Faults(Case):
         self.ends(self.dspfx("resume", "go", "none", "in.raw", "o"), 6, "state none: no such file")
         self.ends(self.dspfx("resume", "stop", "4", "s.txt", "in.raw", "o"), 5, "resume at 4, input 3", "name a smaller K")
 
+    def test_states_that_are_shown(self):
+        """What tools/state.py says of good and bad states."""
+        text = f"{COPY.replace(' input', chr(10) + 'input').replace(' output', chr(10) + 'output')}\n".encode()
+        good = b"DSPSTATE" + struct.pack("<II", 1, len(text)) + text + struct.pack("<I", 2)
+        for data, status, hint in (
+            (good, 0, "after 2 frames of\n    dspfx 1\n    input raw q15 1 8000\n    output raw\n"),
+            (good + b"x", 1, "state: state: its blocks keep 0 numbers of 8 bytes after 2 frames, and 1 bytes are there\n"),
+            (good.replace(b"dspfx", b"dspxx"), 1, "state: state: its script is none\n"), (b"", 1, "no saved state"),
+        ):  # fmt: skip
+            self.write("state", data)
+            self.ends(self.tool("state", "state"), status, hint)
+        self.ends(self.tool("state", "none"), 1, "state: none: no such file or directory\n")
+        self.ends(self.tool("state", "--help"), 0, "tools/state.py STATE")
+        self.write("state", good)
+        self.ends(Ran(self.folder, ["bash", "-c", f"{sys.executable} {TOP}/tools/state.py state >/dev/full"]), 1,
+                  "state: standard output: no space left on device\n")  # fmt: skip
+
+    def test_what_is_read_once(self):
+        """After a fault of a pipe the wrapper waits for nothing, and says that it cannot look."""
+        self.write("s.txt", "dspfx 1 input wave q15 1 output wave")
+        self.write("in.raw", b"")
+        self.write("in.wav", wave_file(24, 1, [1, 2]))
+        self.write("bad.txt", "dspfx 1 input raw q15 1 8000 fur")
+        self.write("block.txt", "dspfx 1 input raw q15 1 8000 block 2 decimate 3 {1} output raw")
+        os.mkfifo(self.path("pipe"))
+        for name, words, status, hint in (
+            ("in.wav", "s.txt pipe o", 4, "dspfx: pipe is no file that can be read twice; docs/WAVE.md says"),
+            ("bad.txt", "pipe in.raw o", 2, "dspfx: pipe is no file that can be read twice, so the place of the fault is not shown"),
+            ("block.txt", "pipe in.raw o", 3, "a multiple of the unit that the report names"),
+        ):  # fmt: skip
+            with self.subTest(words):
+                self.ends(Ran(self.folder, ["bash", "-c", f"cat {name} >pipe & timeout 100 {DSPFX} run {words}"]), status, hint)
+
     def test_a_good_script_is_run_once(self):
         self.write("count", f"#!/bin/sh\necho call >>{self.path('calls')}\nexit 0\n")
         os.chmod(self.path("count"), 0o755)
@@ -298,7 +339,7 @@ class Faults(Case):
             ("24", wave_file(24, 1, [1]), "`input wave q31 1 to q15`"), ("stereo", wave_file(16, 2, [1, 2]), "`input wave q15 2`"),
             ("float", bytes(floats), "holds floating point"), ("empty", b"", "is empty"), ("raw", b"1234" * 9, "is no WAVE file"),
             ("au", au_file(16, 1, [1]), "convert au wave"), ("cut", wave_file(16, 1, range(9))[:50], "was cut"),
-            ("flac", b"fLaC" + bytes(50), "is a FLAC file"),
+            ("flac", b"fLaC" + bytes(50), "is a FLAC file"), ("wide", wave_file(16, 17, range(17)), "has 17 channels, and 1 to 16 are read"),
         ):  # fmt: skip
             with self.subTest(name):
                 self.write("in", data)
@@ -355,6 +396,18 @@ class Faults(Case):
                 pipe.write(bytes(4))
 
 
+    def test_a_signal_at_once(self):
+        """A program that has hardly begun ends with the wrapper too."""
+        self.write("program", "#!/bin/sh\necho $$ >pid\nkill -TERM $PPID\nexec sleep 100\n")
+        os.chmod(self.path("program"), 0o755)
+        environment = dict(os.environ, DSPFX_PROGRAM=self.path("program"))
+        for _ in range(10):
+            ran = subprocess.run([DSPFX, "run", "s", "in", "o"], cwd=self.folder, env=environment, stdout=subprocess.DEVNULL)
+            self.assertEqual(ran.returncode, -15)
+            with self.assertRaises(ProcessLookupError):
+                os.kill(int(self.content("pid")), 0)
+
+
 class Checking(Case):
     """A file against the output of a script: what the report says, and what the wrapper adds."""
 
@@ -406,6 +459,16 @@ class Checking(Case):
         self.checked(self.changed(47), 11, "the pad byte, byte 47: wanted 0, found 1\n", "0 of 3 samples differ\n")
         self.write("s.txt", "dspfx 1 input wave q7 1 output raw")
         self.checked(b"\x80\x05\x7e", 11, "byte 2 is of frame 2 channel 0: wanted 127, found 126\n")
+
+    def test_a_rate_that_reads_as_data(self):
+        """The four bytes of the rate are those of the word `data`."""
+        rate = int.from_bytes(b"data", "little")
+        self.write("s.txt", "dspfx 1 input wave q15 1 output wave")
+        self.right = wave_file(16, 1, [1, 2, 3], rate)
+        self.right = self.right[:28] + struct.pack("<I", 2 * rate % 2**32) + self.right[32:]
+        self.write("in.wav", self.right)
+        self.checked(self.right, 0, "bytes 50")
+        self.checked(self.changed(46), 11, "byte 46 is of frame 1 channel 0: wanted 2, found 3\n")
 
     def test_no_output(self):
         self.write("s.txt", "dspfx 1 input wave q15 2 decimate 7 {1} output raw")
@@ -493,11 +556,45 @@ class Reading(Case):
         self.is_read("x.hex", "FF85 0001 7fff", "q15", 1, [-123, 1, 32767], is_hex=True)
         self.is_read("x.csv", "left,right\n1,2\n3,4\n", "q15", 2, [1, 2, 3, 4], channels=2)
         self.is_read("x.csv", "n;value\n0;5\n1;-6\n", "q15", 1, [5, -6], column="value")
+        self.is_read("x.csv", "n,left,right\n0,1,2\n1,3,4\n", "q15", 2, [1, 2, 3, 4], column="left,right")
         self.is_read("x.txt", "0.5\n-1e-1\n0", "float", 1, [0.5, -0.1, 0])
         for text, options in (("n,value\n0,5\n", {}), ("a,b\n1,2\n", {"column": "c"}), ("40000", {}), ("0x12345", {}),
                               ("$1 = {1, 2...}", {}), ("one two\nthree", {}), ("", {}), ("dspfx 1 input raw\n", {"column": "dspfx 1 input raw"})):  # fmt: skip
             with self.assertRaises(ValueError, msg=text):
                 self.read("x.csv", text, **options)
+
+    def refuses(self, name, content, hint, **options):
+        with self.assertRaisesRegex(ValueError, hint):
+            self.read(name, content, **options)
+
+    def test_first_lines(self):
+        """A first line that is no heading is not left out."""
+        self.is_read("x.txt", "0X10\n0X11\n", "q15", 1, [16, 17])
+        self.is_read("x.hex", "FFFF\n0001\n", "q15", 1, [-1, 1], is_hex=True)
+        self.is_read("x.csv", "beef\n1\n", "q15", 1, [1], column="beef")
+        self.is_read("x.csv", "n,value,\n0,5,\n1,-6,\n", "q15", 1, [5, -6], column="value")
+        for text, hint in (
+            ("FFFF\n0001\n", "FFFF is a heading or hexadecimal: --column names the column, --hex says"),
+            ("FFFF 0001\n0002\n", "FFFF 0001 is a heading or hexadecimal"), ("nan\n0.5\n", "no number: nan"),
+            ("0.5f\n0.25\n", "no number: 0.5f"), ("value\n0,5\n", "a row of 2 cells under a heading of 1: 0,5"),
+            ('$1 = "\\001\\377"', "gdb shows bytes as text: `print/d` shows numbers"),
+        ):  # fmt: skip
+            self.refuses("x.txt", text, hint)
+        self.refuses("x.hex", ":10010000214601360121470136007EFE09D2190140\n", "an Intel HEX file: `objcopy -I ihex", is_hex=True)
+        self.refuses("x.hex", "12 xyz", "no number: xyz", is_hex=True)
+
+    def test_whole_numbers_with_points(self):
+        """numpy.savetxt writes 1000 as 1.000000000000000000e+03."""
+        self.refuses("x.txt", "1.000000000000000000e+03\n0.000000000000000000e+00\n", "numbers as 1000 are no fractions of full scale")
+        self.refuses("x", npy_file("<f8", "d", (2,), [1.0, -2.0]), "numbers as -2 are no fractions of full scale")
+        self.is_read("x", npy_file("<f8", "d", (2,), [1.0, -2.5]), "float", 1, [1, -2.5])
+
+    def test_damaged_files(self):
+        for data in (wave_file(16, 1, [1])[:30], au_file(16, 1, [1])[:20], npy_file("<i2", "h", (9,), [1]), b"\x93NUMPY"):
+            self.refuses("x", data, "x: it was cut, or is damaged|the WAVE file has no samples")
+        self.refuses("x", npy_file("<i2", "h", (2, 0), []), r"shape \(2, 0\) is not read")
+        fields = npy_file("<i2", "h", (1,), [1]).replace(b"'<i2'", b"[('a', '<i2')]").replace(b" " * 9, b"", 1)
+        self.refuses("x", fields, r"an array of \[\('a', '<i2'\)\] and shape \(1,\) is not read")
 
 
 class Comparing(Case):
@@ -530,6 +627,12 @@ class Comparing(Case):
         self.write("nan.npy", npy_file("<f8", "d", (3,), [math.nan] * 3))
         self.assertEqual(self.tool("compare", "nan.npy", "b.raw", "--within", "9").status, 1)
 
+    def test_samples_that_are_not_finite(self):
+        self.write("a.raw", words16(1, 2))
+        self.write("inf.npy", npy_file("<f8", "d", (2,), [math.inf, 2 / 32768]))
+        for names in (("a.raw", "inf.npy"), ("inf.npy", "a.raw")):
+            self.ends(self.tool("compare", *names), 1, "differ: 1 of 2 samples", "signal to noise: none, a sample is not finite\n")
+
     def test_a_shift(self):
         values = [(it * it * 7919) % 30011 - 15000 for it in range(600)]
         self.write("a.raw", words16(*values))
@@ -554,6 +657,14 @@ class Comparing(Case):
         self.ends(self.tool("compare", "a.raw", "a.raw", "--channels", "2"), 2, "no whole number of frames")
         self.ends(self.tool("compare", "a.raw", "a.raw", "--offset", "9"), 2, "leaves none")
         self.ends(self.tool("compare", "a.raw", "none.raw"), 2, "compare: none.raw: no such file or directory")
+        self.write("empty.raw", b"")
+        self.ends(self.tool("compare", "a.raw", "empty.raw"), 1, "lengths: 3 and 0 samples")
+        self.ends(self.tool("compare", "a.raw", "empty.raw", "--common"), 2, "no frames in common")
+        self.ends(self.tool("compare", "a.raw", "a.raw", "--lag", "-1"), 2, "--lag: invalid natural value: '-1'")
+        for within in ("-1", "nan"):
+            self.ends(self.tool("compare", "a.raw", "a.raw", "--within", within), 2, f"--within: invalid tolerance value: '{within}'")
+        self.ends(Ran(self.folder, ["bash", "-c", f"{sys.executable} {TOP}/tools/compare.py a.raw a.raw >/dev/full"]), 2,
+                  "compare: standard output: no space left on device\n")  # fmt: skip
         self.write("script.txt", COPY)
         self.ends(self.tool("compare", "a.raw", "script.txt"), 2, "script.txt: no numbers")
         self.write("torn.raw", words16(1, 2, 3) + b"\1")
@@ -604,6 +715,49 @@ class Coefficients(Case):
         self.write("bad.c", C_SOURCE.replace("EQ_STAGES (2)", "EQ_STAGES (3)"))
         self.refuses("has 12 numbers, and 3 stages of q15 have 18", "bad.c", "--name", "eq")
 
+    def test_numbers_of_c(self):
+        self.write("f.c", "float32_t taps[4] = {1e-05f, 2.5E-05, 0.25e+01f / 10, 1.e-01};")
+        self.gives("fir {3277 8192 1 0}\n", "f.c")
+        self.write("octal.c", "q15_t taps[3] = {010, 8-07, 0};")
+        self.gives("fir {8 1 0}\n", "octal.c")
+
+    def test_what_is_not_compiled(self):
+        """Of two arrays or values between #ifdef and #else none is chosen."""
+        self.write("f.c", "#ifdef FAST\nq15_t taps[2] = {1, 2};\n#else\nq15_t taps[2] = {3, 4};\n#endif\n")
+        self.refuses("taps is there 2 times: `cc -E -P FILE", "f.c")
+        self.write("f.c", "#ifdef FAST\n#define GAIN 1\n#else\n#define GAIN 2\n#endif\nq15_t taps[2] = {GAIN, 2};\n")
+        self.refuses("no number: GAIN; `cc -E -P FILE", "f.c")
+        self.write("f.c", "int taps[2] = {1, 2};")
+        self.refuses("there is no array with numbers of one of the types q7_t,", "f.c")
+
+    def test_what_no_script_takes(self):
+        self.write("taps.txt", "0.5 0.25\n")
+        for hint, *words in (
+            ("0 is out of range: this number of decimate is 1 to 255", "--block", "decimate 0"),
+            ("256 is out of range: this number of decimate is 1 to 255", "--block", "decimate 256"),
+            ("15 is out of range: this number of lms is 0 to 14", "--block", "lms 15 1", "--channels", "2"),
+            ("lms takes 2 channels: --channels 2", "--block", "lms 0 1"),
+            ("this mat_add takes 9 numbers, and these are 2", "--block", "mat_add 3 3"),
+            ("--rate is at most 4294967295", "--rate", "4294967296"), ("--place is of a script", "--place", "1"),
+            ("2nd is no name of a table", "--as", "table", "--name", "2nd"), ("a b is no name of a C array", "--as", "c", "--name", "a b"),
+        ):  # fmt: skip
+            self.refuses(hint, "taps.txt", *words)
+        self.write("sos.txt", "0.5 0 0 1 0 0\n" * 65)
+        self.refuses("biquad takes at most 384 numbers, and these are 390", "sos.txt", "--block", "biquad")
+        self.write("long.txt", "9" * 5000)
+        self.refuses("no number: '9999", "long.txt")
+
+    def test_a_script_that_is_none(self):
+        self.write("s.txt", COPY.replace("output", "biquad )1 {1 0 2 3 4 5} output"))
+        self.refuses("no sound script: ./dspfx print SCRIPT says", "s.txt")
+
+    def test_tables(self):
+        """A table is of the block that uses it."""
+        self.write("s.txt", "dspfx 2 input raw q15 1 8000 table a {16384 8192} table b {16384 0 0 0 8192 0} conv a biquad 1 b output raw")
+        self.gives("conv {16384 8192}\n", "s.txt", "--name", "a")
+        self.gives("biquad 1 {16384 0 0 0 8192 0}\n", "s.txt", "--name", "b")
+        self.assertEqual(self.tool("coefficients", "s.txt", "--name", "a", "--as", "design").out, "0.5\n0.25\n")
+
     def test_post_shifts(self):
         self.write("sos.txt", "1 0.5 0.25 1 -1.75 0.5\n")
         self.refuses("--post-shift 1 is the least", "sos.txt", "--block", "biquad", "--post-shift", "0")
@@ -650,6 +804,13 @@ class Coefficients(Case):
         err = self.gives("biquad 0 {16384 0 0 0 24576 0 16384 0 0 0 24576 0}\n", "sos.txt", "--block", "biquad")
         for place in (1, 2):
             self.assertIn(f"section {place} can reach {(b0 / (1 - a1)) ** place:.3f} of full scale", err)
+        # (the answer of this one goes on for millions of frames, and its sum is 1)
+        self.write("sos.txt", f"{2**-20} 0 0 1 {2**-20 - 1} 0\n")
+        err = self.gives("biquad 0 {2048 0 0 2147481600 0}\n", "sos.txt", "--block", "biquad", "--format", "q31")
+        self.assertIn(f"section 1 can reach at least {1 - (1 - 2**-20) ** 65536:.3f} of full scale", err)
+        self.write("s.txt", "dspfx 1 input raw q15 1 8000 shift -10 clip 16384 20000 fir {32767 32767} shift 1 output raw")
+        err = self.gives("fir {32767 32767}\n", "s.txt")
+        self.assertIn("block 3 fir: a sum can reach 1.000 of full scale\n", err)
 
 
 class Pictures(Case):
@@ -716,6 +877,17 @@ class Pictures(Case):
             self.assertEqual(x, other)
             self.assertLess(abs(y - ideal), 3 * 2**-15)
 
+    def test_a_design_of_whole_numbers(self):
+        """Coefficients of a script or a C array are drawn as the filter that they are."""
+        for name, text, wanted in (
+            ("fir.txt", "fir {8192 16384}", [0.5, 0.25, 0, 0]), ("conv.txt", "conv {8192 16384}", [0.25, 0.5, 0, 0]),
+            ("biquad.txt", "biquad 1 {8192 0 4096 0 8192 0}", [0.5, 0.5, 0.25, 0.125]),
+        ):  # fmt: skip
+            self.write(name, f"dspfx 1 input raw q15 1 8000 {text} output raw")
+            found = self.curves("response", name, "--design", name, "--frames", "4")
+            for curve in ("script impulse", "ideal impulse"):
+                self.assertEqual([y for _, y in found[curve][:4]], wanted)
+
     def test_files(self):
         tone = [round(20000 * math.sin(2 * math.pi * 1000 * n / 8000)) for n in range(800)]
         silence = [0] * 800
@@ -732,6 +904,9 @@ class Pictures(Case):
         found = self.curves("difference", "a.wav", "b.wav")
         self.assertEqual(found["channel 0"], [(0, 0), (1, 0)])
         self.assertEqual(found["channel 1"], [(0, 0), (1, -2)])
+        self.write("longer.wav", wave_file(16, 2, [0] * 6))
+        self.ends(self.tool("plot", "difference", "x.png", "a.wav", "longer.wav"), 0, "of 2 and 3 frames those that both files have are drawn")
+        self.ends(self.tool("plot", "files", "x.png", "none.wav"), 1, "plot: none.wav: no such file or directory\n")
         self.write("c.wav", wave_file(16, 1, [0, 0]))
         self.assertEqual(self.tool("plot", "difference", "x.png", "a.wav", "c.wav").status, 1)
 

@@ -61,6 +61,8 @@ def read_blocks(tokens, tables, form):
         word = tokens.pop(0)
         kind = BLOCKS[word]
         numbers = [tokens.pop(0) for _ in range(kind.numbers)]
+        if not all(it in FORMATS if word == "to" else re.fullmatch(r"-?\d+", it) for it in numbers):
+            raise ValueError
         blocks.append(Block(word, numbers, [read_list(tokens, tables) for _ in range(kind.lists)], form))
         form = numbers[0] if word == "to" else form
     return blocks
@@ -70,6 +72,8 @@ def read_script(text):
     """The parts of a script; a ValueError where it is none."""
     tokens = re.findall(r"[{}]|[^\s{}]+", re.sub(r"#.*", "", text))
     try:
+        if tokens[0] != "dspfx" or int(tokens[1]) not in (1, 2) or tokens[2] != "input":
+            raise ValueError
         container, form, channels = tokens[3:6]
         FORMATS[form]
         rate = int(tokens[6]) if container == "raw" else None

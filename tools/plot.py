@@ -77,7 +77,7 @@ def draw_files(words):
             signal, name = fraction(file, channel), f"{path} channel {channel}"
             curves.append(Curve(left, f"{name} waveform", 1000 * numpy.arange(len(signal)) / file.rate, signal))
             curves.append(Curve(right, f"{name} spectrum", *spectrum(signal, file.rate)))
-        left.set(title=path, ylim=(-1.05, 1.05))
+        left.set(title=path.replace("$", r"\$"), ylim=(-1.05, 1.05))
         right.set(ylim=(-120, 5))
         labelled(left, "of full scale", "ms")
         labelled(right, "dB of full scale", "Hz")
@@ -123,12 +123,21 @@ def answers(words):
     return given, answer.rate
 
 
-def ideal_answer(path, count):
-    """The answer of a design to an impulse."""
+def design_of(path, form):
+    """The fractions of a file, b[0] first or as rows of sections, and whether they are sections."""
     given = coefficients.read(path, None)
-    design = [it / 2 ** samples.BITS[given.form or "q15"] for it in given.values] if given.is_whole else given.values
+    if not given.is_whole:
+        return given.values, coefficients.is_sections(given)
+    word = (given.block or ("fir" if given.shift is None else "biquad")).split()[0]
+    text = coefficients.as_design(given.values, word, given.form or form, given.shift)
+    return [float(it) for it in text.split()], word in coefficients.SECTIONS
+
+
+def ideal_answer(path, count, form):
+    """The answer of a design to an impulse."""
+    design, is_sections = design_of(path, form)
     signal = numpy.zeros(count)
-    if given.is_whole or not coefficients.is_sections(given):
+    if not is_sections:
         signal[: len(design)] = design[:count]
         return signal
     signal[0] = 1
@@ -144,7 +153,7 @@ def draw_response(words):
     (impulse, step), rate = answers(words)
     drawn = [("script", impulse, step, "-")]
     if words.design:
-        ideal = ideal_answer(words.design, len(impulse))
+        ideal = ideal_answer(words.design, len(impulse), words.format)
         drawn.append(("ideal", ideal, numpy.cumsum(ideal), "--"))
     figure, (first, second, third) = pyplot.subplots(1, 3, figsize=(12, 3.2))
     curves = []
@@ -176,7 +185,9 @@ def draw_difference(words):
         places = difference * (2**15 if first.form == "float" else 1)
         bits = numpy.sign(places) * numpy.log2(numpy.abs(places) + 1)
         curves.append(Curve(axes, f"channel {channel}", numpy.arange(count), bits))
-    axes.set(title=f"{words.second} less {words.first}")
+    if first.frames() != second.frames():
+        print(f"plot: of {first.frames()} and {second.frames()} frames those that both files have are drawn", file=sys.stderr)
+    axes.set(title=f"{words.second} less {words.first}".replace("$", r"\$"))
     labelled(axes, "bits", "frames")
     return figure, curves
 
@@ -188,10 +199,6 @@ def write_data(path, curves):
         rows.writerow(["curve", "x", "y"])
         for curve in curves:
             rows.writerows((curve.name, repr(float(x)), repr(float(y))) for x, y in zip(curve.across, curve.up))
-
-
-def natural(word):
-    return samples.positive(str(int(word) + 1)) - 1
 
 
 def test_outputs(words, read):
@@ -210,7 +217,7 @@ def main():
     commands = parser.add_subparsers(required=True)
     for name, draw, arguments in (
         ("files", draw_files, [("files", {"nargs": "+"})]),
-        ("response", draw_response, [("script", {}), ("--design", {}), ("--channel", {"type": natural, "default": 0}),
+        ("response", draw_response, [("script", {}), ("--design", {}), ("--channel", {"type": samples.natural, "default": 0}),
                                      ("--frames", {"type": samples.positive, "default": 4096}),
                                      ("--shown", {"type": samples.positive, "default": 100, "help": "frames of the first two"})]),
         ("difference", draw_difference, [("first", {}), ("second", {})]),
@@ -235,8 +242,12 @@ def main():
             write_data(words.data, curves)
         figure.tight_layout()
         figure.savefig(words.out, dpi=100)
-    except (OSError, ValueError) as error:
+    except OSError as error:
+        sys.exit(f"plot: {samples.reason_of(error)}")
+    except ValueError as error:
         sys.exit(f"plot: {error}")
+    except KeyboardInterrupt:
+        sys.exit(130)
 
 
 if __name__ == "__main__":

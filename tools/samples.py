@@ -11,6 +11,7 @@ import ast
 import csv
 import math
 import re
+import signal
 import struct
 import sys
 
@@ -20,6 +21,7 @@ OF_WIDTH = {8: "q7", 16: "q15", 24: "q31", 32: "q31"}
 TEXTS = (".txt", ".csv", ".log", ".gdb", ".hex")
 PCM, FLOAT, EXTENSIBLE = 1, 3, 0xFFFE
 UNKNOWN_SIZE = 0xFFFFFFFF
+CUT = "it was cut, or is damaged"
 
 
 class Samples:
@@ -114,8 +116,8 @@ def array_of_npy(data):
     start = (10 if data[6] == 1 else 12) + length
     head = ast.literal_eval(data[start - length : start].decode())
     codes = {"f8": "d", "f4": "f", "i1": "b", "i2": "h", "i4": "i", "i8": "q"}
-    order, kind, shape = head["descr"][0], head["descr"][1:], head["shape"]
-    if kind not in codes or len(shape) not in (1, 2):
+    order, kind, shape = head["descr"][0], str(head["descr"])[1:], head["shape"]
+    if kind not in codes or len(shape) not in (1, 2) or 0 in shape[1:]:
         raise ValueError(f"an array of {head['descr']} and shape {shape} is not read")
     count = math.prod(shape)
     values = list(struct.unpack_from(f"{'>' if order == '>' else '<'}{count}{codes[kind]}", data, start))
@@ -129,9 +131,16 @@ def read_npy(data, form, channels, rate):
     values, shape, kind = array_of_npy(data)
     channels = shape[1] if len(shape) == 2 else channels
     if kind[0] == "f":
-        return Samples(values, "float", channels, rate)
+        return Samples(as_fractions(values), "float", channels, rate)
     form = {"i1": "q7", "i2": "q15", "i4": "q31", "i8": form}[kind]
     return Samples(in_range(values, form, "the array"), form, channels, rate)
+
+
+def as_fractions(values):
+    """Fractions of full scale. Whole numbers with a point, as numpy.savetxt writes them, are taken for none."""
+    if all(it.is_integer() for it in values) and max(map(abs, values), default=0) > 1:
+        raise ValueError(f"numbers as {max(values, key=abs):g} are no fractions of full scale: write whole numbers as such (numpy: astype(int), fmt='%d')")
+    return values
 
 
 def in_range(values, form, what):
@@ -145,7 +154,7 @@ def in_range(values, form, what):
 def number_of(word, form, is_hex):
     """A whole number or a fraction. A hexadecimal word is taken in two's complement of the format's width."""
     bare = word.lower()
-    if is_hex or re.match(r"[-+]?0x", bare):
+    if re.fullmatch(r"[-+]?(0x)?[0-9a-f]+" if is_hex else r"[-+]?0x[0-9a-f]+", bare):
         value, width = int(bare, 16), BITS[form] + 1
         if value >= 2**width:
             raise ValueError(f"{word} has more than {width} bits: --format names another format")
@@ -175,8 +184,12 @@ def words_of_csv(lines, wanted, channels):
     text = "\n".join(lines)
     mark = max(",;\t", key=lines[0].count)
     rows = [row for row in csv.reader(text.splitlines(), delimiter=mark) if any(cell.strip() for cell in row)]
+    if not rows:
+        raise ValueError("no numbers")
     places = column_places(rows[0], wanted, channels)
     for row in rows[1:]:
+        if any(cell.strip() for cell in row[len(rows[0]) :]):
+            raise ValueError(f"a row of {len(row)} cells under a heading of {len(rows[0])}: {mark.join(row)[:60]}")
         for place in places:
             if place >= len(row):
                 raise ValueError(f"a row of {len(row)} cells: {mark.join(row)[:60]}")
@@ -188,6 +201,8 @@ def words_of_lines(lines):
     for line in lines:
         line = re.sub(r"^\s*0x[0-9a-fA-F]+(\s*<[^>]*>)?:", " ", line)
         line = re.sub(r"^\s*\$\d+\s*=", " ", line)
+        if line.lstrip().startswith('"\\'):
+            raise ValueError("gdb shows bytes as text: `print/d` shows numbers")
         # (gdb shortens equal numbers: {0 <repeats 15 times>, 1})
         line = re.sub(r"([-\w.]+)\s*<repeats (\d+) times>", lambda it: f"{it[1]} " * int(it[2]), line)
         if "..." in line:
@@ -197,7 +212,8 @@ def words_of_lines(lines):
 
 def is_heading(line):
     """Whether a line of text has words that are no numbers, as the first one of CSV files has."""
-    return bool(re.search(r"[A-Za-z_]", re.sub(r"0x[0-9a-fA-F]+|<[^>]*>|\d[eE][-+]?\d", "", line))) and ":" not in line
+    words = re.split(r"[\s,;\"'{}()[\]]+", re.sub(r"<[^>]*>", "", line))
+    return ":" not in line and any((it[:1].isalpha() or it[:1] == "_") and it.lower() not in ("nan", "inf") for it in words)
 
 
 def read_text(text, form, channels, rate, column=None, is_hex=False):
@@ -205,15 +221,20 @@ def read_text(text, form, channels, rate, column=None, is_hex=False):
     lines = [line for line in re.sub(r"#.*", "", text.lstrip("\ufeff")).splitlines() if line.strip()]
     if not lines:
         raise ValueError("no numbers")
+    if re.fullmatch(r":[0-9A-Fa-f]{10,}\s*", lines[0]):
+        raise ValueError("an Intel HEX file: `objcopy -I ihex -O binary FILE FILE.raw` makes raw words of it")
+    if column is None and not is_hex and is_heading(lines[0]) and re.fullmatch(r"[0-9A-Fa-f\s,;]+", lines[0]):
+        raise ValueError(f"{lines[0].strip()[:40]} is a heading or hexadecimal: --column names the column, --hex says hexadecimal")
     if column is not None or (not is_hex and is_heading(lines[0])):
         words = words_of_csv(lines, column, channels)
+        channels = max(channels, (column or "").count(",") + 1)
     else:
         words = words_of_lines(lines)
     values = [number_of(word, form, is_hex) for word in words]
     if not values:
         raise ValueError("no numbers after the heading" if is_heading(lines[0]) else "no numbers")
     if any(isinstance(value, float) for value in values):
-        return Samples([float(value) for value in values], "float", channels, rate)
+        return Samples(as_fractions([float(value) for value in values]), "float", channels, rate)
     return Samples(in_range(values, form, "the text"), form, channels, rate)
 
 
@@ -232,7 +253,9 @@ def read(path, form="q15", channels=1, rate=48000, column=None, is_hex=False):
             return read_text(data.decode("utf-8", "replace"), form, channels, rate, column, is_hex)
         if len(data) % struct.calcsize(CODES[form]):
             raise ValueError(f"{len(data)} bytes are no whole number of {form} samples")
-    except (ValueError, KeyError, IndexError, SyntaxError, struct.error) as error:
+    except (IndexError, KeyError, SyntaxError, TypeError, struct.error) as error:
+        raise ValueError(f"{path}: {CUT}") from error
+    except (ValueError, csv.Error) as error:
         raise ValueError(f"{path}: {error}") from error
     return Samples(decoded(data, form), form, channels, rate)
 
@@ -245,11 +268,26 @@ def add_arguments(parser):
     parser.add_argument("--hex", action="store_true", help="bare words of text files are hexadecimal")
 
 
+def natural(word):
+    return positive(str(int(word) + 1)) - 1
+
+
 def positive(word):
     value = int(word)
     if value < 1:
         raise ValueError
     return value
+
+
+def end_quietly():
+    """Lets whoever reads no further, and Ctrl-C, end a tool without a word."""
+    for it in (signal.SIGINT, signal.SIGPIPE):
+        signal.signal(it, signal.SIG_DFL)
+
+
+def reason_of(error):
+    """Which file is not read or written, and why."""
+    return f"{error.filename or 'standard output'}: {error.strerror[0].lower()}{error.strerror[1:]}"
 
 
 def read_by(words, path):

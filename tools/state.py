@@ -11,6 +11,7 @@ import sys
 import textwrap
 
 import language
+import samples
 
 MARK, HEAD = b"DSPSTATE", 16
 SECTION = ("x(n-1)", "x(n-2)", "y(n-1)", "y(n-2)")
@@ -117,7 +118,7 @@ def lines_of(data):
         raise Fault("its script is none") from error
     wanted = sum(channels * sum(count for _, count in parts) for _, _, channels, parts in places)
     if len(rest) != 8 * wanted:
-        raise Fault(f"its blocks keep {wanted} numbers after {frames} frames, and {len(rest) // 8} are there")
+        raise Fault(f"its blocks keep {wanted} numbers of 8 bytes after {frames} frames, and {len(rest)} bytes are there")
     numbers = iter(struct.unpack(f"<{wanted}q", rest))
     yield f"after {frames} frames of"
     yield from (f"    {line}" for line in text.splitlines())
@@ -130,18 +131,25 @@ def lines_of(data):
 
 
 def main(words):
-    if len(words) != 1:
-        print(__doc__.strip(), file=sys.stderr)
-        return 1
+    is_help = words in (["--help"], ["-h"])
+    if is_help or len(words) != 1:
+        print(__doc__.strip(), file=sys.stdout if is_help else sys.stderr)
+        return 0 if is_help else 1
     try:
         with open(words[0], "rb") as file:
-            for line in lines_of(file.read()):
-                print(line)
-    except (OSError, Fault) as fault:
-        print(f"{words[0]}: {fault}", file=sys.stderr)
+            data = file.read()
+        for line in lines_of(data):
+            print(line)
+        sys.stdout.flush()
+    except OSError as error:
+        print(f"state: {samples.reason_of(error)}", file=sys.stderr)
+        return 1
+    except Fault as fault:
+        print(f"state: {words[0]}: {fault}", file=sys.stderr)
         return 1
     return 0
 
 
 if __name__ == "__main__":
+    samples.end_quietly()
     sys.exit(main(sys.argv[1:]))

@@ -581,7 +581,8 @@ class Reading(Case):
         ):  # fmt: skip
             self.refuses("x.txt", text, hint)
         self.refuses("x.hex", ":10010000214601360121470136007EFE09D2190140\n", "an Intel HEX file: `objcopy -I ihex", is_hex=True)
-        self.refuses("x.hex", "12 xyz", "no number: xyz", is_hex=True)
+        self.refuses("x.hex", "12 xyz", "no hexadecimal number: xyz", is_hex=True)
+        self.refuses("x.hex", "12 1.5", "no hexadecimal number: 1.5", is_hex=True)
 
     def test_whole_numbers_with_points(self):
         """numpy.savetxt writes 1000 as 1.000000000000000000e+03."""

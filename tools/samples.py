@@ -159,6 +159,8 @@ def number_of(word, form, is_hex):
         if value >= 2**width:
             raise ValueError(f"{word} has more than {width} bits: --format names another format")
         return value - 2**width if value >= 2 ** (width - 1) else value
+    if is_hex:
+        raise ValueError(f"no hexadecimal number: {word[:40]}")
     if re.fullmatch(r"[-+]?\d+", bare):
         return int(bare)
     if re.fullmatch(r"[-+]?(\d+\.?\d*|\.\d+)(e[-+]?\d+)?", bare):

@@ -163,7 +163,7 @@ least a b = cond (lt_z a b) a b
 abbrev pub most : ℤ → ℤ → ℤ
 most a b = cond (lt_z a b) b a
 
-less_is : (w : Width) (a b : ℤ) → SFits w a → SFits w b →
+pub less_is : (w : Width) (a b : ℤ) → SFits w a → SFits w b →
     top (hbits w) (act2 (mask (lt signed)) (s_int w) (s_int w) (s_int w) (of_z w a) (of_z w b)) ≡ lt_z a b
 less_is w a b f g = ap (top (hbits w)) (less_lane w (of_z w a) (of_z w b)) ∙
     top_of w (lt_z (to_z w (of_z w a)) (to_z w (of_z w b))) ∙ ap (λ z. lt_z z (to_z w (of_z w b))) (to_z-of_z w a f) ∙

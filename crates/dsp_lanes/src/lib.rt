@@ -41,5 +41,6 @@ pub use lanes::Lanes;
 pub use matrix_rows::multiply_two_rows;
 pub use own_lanes::OwnLanes;
 pub use pair_dots::PairDots;
+pub use plain::Plain;
 pub use regroup::sums_regroup;
-pub use weights::{WeightSample, update_weights};
+pub use weights::{WeightSample, saturating_sum, update_weights};

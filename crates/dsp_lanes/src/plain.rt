@@ -3,7 +3,7 @@ use crate::kernels::LaneKernels;
 use crate::row_form::RowForm;
 
 /// A lane of the accumulator's width for each output or product, of any number L.
-pub(crate) struct Plain<const L: usize>;
+pub struct Plain<const L: usize>;
 
 impl<T: LaneKernels<L>, const L: usize> RowForm<T> for Plain<L> {
     type Sums = T::Sums;

@@ -77,7 +77,7 @@ pub fn update_weights<T: WeightSample, M: Ledger>(
 
 /// The saturated sums of four numbers and four changes. No step overflows, since each change is cut first.
 #[inline(always)]
-fn saturating_sum(values: i32x4, changes: i32x4) -> i32x4
+pub fn saturating_sum(values: i32x4, changes: i32x4) -> i32x4
     requires values { Each1 (FitsSigned w32) values }
     requires changes { Each1 (FitsSigned w32) changes }
     requires long { length values ≡ 4 }

@@ -9,8 +9,8 @@ use dsp_sat::{Sample, product};
 use std::sync::ledger::Ledger;
 
 /// The output for the next sample. The coefficients are in order from the last section to the first, as
-/// are the values g of the sections, with that of the first section's input after them. In Q15 groups of
-/// sections go in lanes; the sections that are left, and all of Q31, go one after another.
+/// are the values g of the sections, with that of the first section's input after them. Groups of
+/// sections go in lanes, and the sections that are left one after another.
 #[inline(always)]
 pub(crate) fn ladder_step<T: LatticeSample, L: Ledger>(
     reflections: &[T],

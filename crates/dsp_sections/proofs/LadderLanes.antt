@@ -20,7 +20,7 @@ use Rattle.dsp_defs.specs.Signal.{sample}
 use Rattle.dsp_lanes.proofs.LaneOps.{bits_of, subtracted, most, most_are, greater, map-same, Each1-map}
 use Rattle.dsp_lanes.proofs.LaneSums.{plus_in, lanes_read}
 use Rattle.dsp_lanes.proofs.Fractions.{less_in}
-use Rattle.dsp_lanes.proofs.HalfSums.{by_eight}
+use Rattle.dsp_lanes.proofs.HalfSums.{by_four, by_eight}
 
 -- ---- lanes that hold numbers of a width
 
@@ -80,6 +80,12 @@ next_of_eight w v xs long =
     bits_of w (drop 1 xs ++ (v ∷ [])))
     (λ a b c d e f x y. refl) xs long
 
+pub next_of_four : (w : Width) (v : ℤ) (xs : List ℤ) → length xs ≡ 4
+    → pick_l 0 (bits_of w xs ++ bits_of w (replicate 4 v)) (1 ∷ 2 ∷ 3 ∷ 4 ∷ []) ≡ bits_of w (drop 1 xs ++ (v ∷ []))
+next_of_four w v xs long =
+    by_four (λ xs. pick_l 0 (bits_of w xs ++ bits_of w (replicate 4 v)) (1 ∷ 2 ∷ 3 ∷ 4 ∷ []) ≡ bits_of w
+    (drop 1 xs ++ (v ∷ []))) (λ a b c d. refl) xs long
+
 -- ---- the last of one group, and another but its last
 
 pub behind_eight : (w : Width) (fs xs : List ℤ) → length fs ≡ 8 → length xs ≡ 8
@@ -91,6 +97,13 @@ behind_eight w fs xs long_f long =
     (λ a b c d e f x y. by_eight (λ xs. pick_l 0 (bits_of w (a ∷ b ∷ c ∷ d ∷ e ∷ f ∷ x ∷ y ∷ []) ++ bits_of w xs)
     (7 ∷ 8 ∷ 9 ∷ 10 ∷ 11 ∷ 12 ∷ 13 ∷ 14 ∷ []) ≡ bits_of w (y ∷ take 7 xs))
     (λ a' b' c' d' e' f' x' y'. refl) xs long) fs long_f
+
+pub behind_four : (w : Width) (fs xs : List ℤ) → length fs ≡ 4 → length xs ≡ 4
+    → pick_l 0 (bits_of w fs ++ bits_of w xs) (3 ∷ 4 ∷ 5 ∷ 6 ∷ []) ≡ bits_of w (sample fs 3 ∷ take 3 xs)
+behind_four w fs xs long_f long =
+    by_four (λ fs. pick_l 0 (bits_of w fs ++ bits_of w xs) (3 ∷ 4 ∷ 5 ∷ 6 ∷ []) ≡ bits_of w (sample fs 3 ∷ take 3 xs))
+    (λ a b c d. by_four (λ xs. pick_l 0 (bits_of w (a ∷ b ∷ c ∷ d ∷ []) ++ bits_of w xs) (3 ∷ 4 ∷ 5 ∷ 6 ∷ []) ≡
+    bits_of w (d ∷ take 3 xs)) (λ a' b' c' d'. refl) xs long) fs long_f
 
 pub behind_fit : (w : Width) (n : ℕ) (fs xs : List ℤ) → AreIn w (suc n) fs → AreIn w (suc n) xs →
     AreIn w (suc n) (sample fs n ∷ take n xs)

@@ -1,11 +1,15 @@
 -- The sections of a lattice with feedback, a group at a time.
 use Rattle.std.proofs.Common.{ℕ, zero, suc, ◌≡◌, ◌<◌, ◌≤◌, ◌+◌, ◌-◌, List, [], ◌∷◌, ◌++◌, length, map, take, drop}
+use Rattle.std.proofs.Common.{replicate}
 use Rattle.std.proofs.Common.{refl, sym, ap, ap₂, ◌∙◌, arith, append_assoc, drop-drop, take-append-drop}
 use Rattle.std.proofs.lemmas.Int.{ints}
 use Rattle.std.proofs.lemmas.List.{take_all}
 use Rattle.std.proofs.lemmas.Simd.{length-chunk, length-zip2, take_more_put_chunk, get_or-put_chunk_below}
 use Rattle.std.specs.Prelude.{ℤ, pos, negsuc, ◌+ℤ◌, ◌-ℤ◌, ◌*ℤ◌}
-use lib.Lanes.{zip2, chunk, put_chunk}
+use lib.Lanes.{zip2, chunk, put_chunk, Each1}
+use lib.IntN.{+ℤ_comm}
+use mir.Syntax.{Width}
+use mir.Val.{SFits, to_z}
 use Rattle.dsp_defs.specs.Formats.{word_bits}
 use Rattle.dsp_defs.specs.Lattice.{reflected, backward_values}
 use Rattle.dsp_defs.specs.Numbers.{saturate}
@@ -14,6 +18,10 @@ use Rattle.dsp_defs.proofs.Signal.{sum_below_cong}
 use Rattle.dsp_defs.specs.declared.format.Fmt.{Fmt}
 use Rattle.dsp_sections.specs.Ladders.{lowered_values, raised_values}
 use Rattle.dsp_lanes.proofs.Groups.{rest-group}
+use Rattle.dsp_lanes.proofs.LaneOps.{bits_of, ints_of_bits}
+use Rattle.dsp_lanes.proofs.LaneSums.{lanes_read}
+use Rattle.dsp_lanes.proofs.Fractions.{less_in}
+use Rattle.dsp_sections.proofs.LadderLanes.{AreIn, lanes_fit, complements_are, complements_fit}
 
 -- ---- what sections pass on, value by value
 
@@ -106,6 +114,41 @@ complements-saturate h [] (p ∷ ps) = refl
 complements-saturate h (f ∷ fs) [] = refl
 complements-saturate h (f ∷ fs) (p ∷ ps) = ap₂ (λ v l. v ∷ l) (complement-saturates h f p)
     (complements-saturate h fs ps)
+
+-- ... in lanes, where rs are the saturated sums
+abbrev pub turned_lanes : Width → ℕ → List ℤ → List ℤ
+turned_lanes w n xs = map (to_z w) (zip2 (less_in w) (bits_of w (replicate n (negsuc 0))) (bits_of w xs))
+
+pub turned_fit : (w : Width) (n : ℕ) (xs : List ℤ) → SFits w (negsuc 0) → AreIn w n xs → AreIn w n (turned_lanes w n xs)
+turned_fit w n xs one f = lanes_fit w n _ _ (complements_are w n xs one f) (complements_fit w n xs f)
+
+pub lowered_are : (w : Width) (n h : ℕ) (fs ps rs : List ℤ) → SFits w (negsuc 0) → AreIn w n fs → AreIn w n ps →
+    Each1 (SFits w) rs
+    → rs ≡ zip2 (λ x y. saturate h (x +ℤ y)) (map (to_z w) (bits_of w ps)) (turned_lanes w n fs)
+    → (turned_lanes w n rs ≡ zip2 (λ f p. saturate h (f -ℤ p)) fs ps) × AreIn w n (turned_lanes w n rs)
+lowered_are w n h fs ps rs one f g fit is =
+    let turned : ℤ → ℤ = λ x. negsuc 0 -ℤ x in
+    let read : (xs : List ℤ) → AreIn w n xs → turned_lanes w n xs ≡ map turned xs =
+    λ xs p. (lanes_read w _ (map turned xs) (complements_are w n xs one p) (complements_fit w n xs p).0).0 in
+    let first = lanes_fit w n _ ps refl g in
+    let r : AreIn w n rs = (
+      fit,
+      ap length is ∙ length-zip2 (λ x y. saturate h (x +ℤ y)) (map (to_z w) (bits_of w ps))
+          (turned_lanes w n fs) (first.1 ∙ sym (turned_fit w n fs one f).1) ∙ first.1,
+    ) in (
+      read rs r
+          ∙ ap (map turned) (is ∙ (λ i. zip2 (λ x y. saturate h (x +ℤ y)) (ints_of_bits w ps g.0 i) (read fs f i)))
+          ∙ complements-saturate h fs ps,
+      turned_fit w n rs one r,
+    )
+
+-- saturated sums, the other way round
+pub sums-turned : (h : ℕ) (xs ys : List ℤ) →
+    zip2 (λ x y. saturate h (x +ℤ y)) xs ys ≡ zip2 (λ y x. saturate h (y +ℤ x)) ys xs
+sums-turned h [] [] = refl
+sums-turned h [] (y ∷ ys) = refl
+sums-turned h (x ∷ xs) [] = refl
+sums-turned h (x ∷ xs) (y ∷ ys) = ap₂ (λ v l. v ∷ l) (ap (saturate h) (+ℤ_comm x y)) (sums-turned h xs ys)
 
 -- ---- the values of a group
 

@@ -7,5 +7,6 @@ mod SectionLanes
 mod LadderLanes
 mod LadderProducts
 mod LadderSections
+mod LadderWords
 pub mod ScaledShifts
 pub mod FourSections

@@ -45,7 +45,7 @@ small_fits : (p : ℤ) → IsSmall p → SFits w32 p
 small_fits (pos a) f = record { sfits = omega (arith, f) }
 small_fits (negsuc a) f = record { sfits = omega (arith, f) }
 
-word_between : (z : ℤ) → negsuc (2 ^ 31 - 1) ≤ℤ z → z ≤ℤ pos (2 ^ 31 - 1) → SFits w32 z
+pub word_between : (z : ℤ) → negsuc (2 ^ 31 - 1) ≤ℤ z → z ≤ℤ pos (2 ^ 31 - 1) → SFits w32 z
 word_between (pos n) low high = record { sfits = omega (arith, ints, high) }
 word_between (negsuc n) low high = record { sfits = omega (arith, ints, low) }
 

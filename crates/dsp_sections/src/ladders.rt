@@ -1,6 +1,6 @@
 //! The sections of a lattice with feedback, a group at a time. What a section passes on is what it was
 //! given less a product that is known before, saturated: the values of a group are guessed as if no step
-//! saturates, and then each is tested.
+//! saturates, and the guess is tested.
 ghost use Rattle.std.specs.Prelude.{◌≡◌, ◌+◌, ◌-◌, ◌*◌, ◌<◌, ◌≤◌, ◌+ℤ◌, ◌-ℤ◌, length, map, All, FitsSigned};
 ghost use Rattle.std.specs.Simd.Lanes.{Each1, zip2, chunk, put_chunk};
 ghost use Rattle.dsp_defs.specs.Counts.{Rises};
@@ -12,24 +12,12 @@ ghost use Rattle.dsp_sections.specs.Ladders.{lowered_values, raised_values, Sect
 
 use crate::ladder_lanes::LadderLanes;
 use dsp_defs::Steps;
-use dsp_lanes::{DotForm, PairDots};
+use dsp_lanes::{DotForm, PairDots, Plain};
 use dsp_sat::{Sample, WideSample};
 use std::sync::ledger::Ledger;
 
-/// Values less products, saturated.
-#[inline(always)]
-fn lowered<T: LadderLanes>(values: T::Lanes, products: T::Lanes) -> T::Lanes
-    requires fit_values { T.AreLanes values }
-    requires fit_products { T.AreLanes products }
-    ensures value { T.lanes result ≡ zip2 (λ f p. saturate (word_bits T.format) (f -ℤ p))
-        (T.lanes values) (T.lanes products) }
-    ensures fit { T.AreLanes result }
-{
-    T::complements(T::sums(products, T::complements(values)))
-}
-
-/// What each section of a group passes on. A guess in which each value is what its section makes of the
-/// one before it is right; from any other, each step sets one value more right.
+/// What each section of a group passes on: the guess if it is right. From any other, each step sets one
+/// value more right.
 #[inline(always)]
 fn passed_on<T: LadderLanes>(front: T::Lanes, products: T::Lanes) -> T::Lanes
     requires fit_front { T.AreLanes front }
@@ -38,11 +26,10 @@ fn passed_on<T: LadderLanes>(front: T::Lanes, products: T::Lanes) -> T::Lanes
         (sample (T.lanes front) (T.size - 1)) (T.lanes products) }
     ensures fit { T.AreLanes result }
 {
-    let guess = T::guess(front, products);
-    let mut values = lowered::<T>(T::behind(front, guess), products);
-    if !T::are_same(values, guess) {
-        for right in 1..T::size() {
-            values = lowered::<T>(T::behind(front, values), products);
+    let (mut values, is_right) = T::guess(front, products);
+    if !is_right {
+        for right in 0..T::size() {
+            values = T::lowered(T::behind(front, values), products);
         }
     }
     values
@@ -167,19 +154,14 @@ impl LadderSample for i16 {
 }
 
 impl LadderSample for i32 {
-    // Products of 64 bits leave lanes nothing to gain.
     #[inline(always)]
     fn ladder_groups<L: Ledger>(
-        _reflections: &[i32],
-        _ladder: &[i32],
-        _backward: &mut [i32],
+        reflections: &[i32],
+        ladder: &[i32],
+        backward: &mut [i32],
         x: i32,
-        _steps: &mut Steps<L>,
+        steps: &mut Steps<L>,
     ) -> LadderGroups<i32> {
-        LadderGroups {
-            at: 0,
-            f: x,
-            sum: Self::empty(),
-        }
+        section_groups::<i32, Plain<4>, L>(reflections, ladder, backward, x, steps)
     }
 }

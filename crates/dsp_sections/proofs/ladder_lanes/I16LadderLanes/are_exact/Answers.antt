@@ -5,10 +5,13 @@ use Rattle.dsp_sections.proofs.LadderLanes.{lanes_fit, cut_lanes, cut_exact}
 use Rattle.dsp_sections.proofs.ladder_lanes.I16LadderLanes.are_exact.Goals as goal
 
 pub are_same-requires-clause-fit_a : goal.are_same-requires-clause-fit_a
-are_same-requires-clause-fit_a c = lanes_fit w16 8 _ c.args.k refl c.requires.fit
+are_same-requires-clause-fit_a c = (lanes_fit w16 8 _ c.args.k refl c.requires.fit).0
 
 pub are_same-requires-clause-fit_b : goal.are_same-requires-clause-fit_b
-are_same-requires-clause-fit_b c = let cut = cut_lanes c.args.k c.requires.fit in lanes_fit w16 8 _ _ cut.0 cut.1
+are_same-requires-clause-fit_b c = let cut = cut_lanes c.args.k c.requires.fit in (lanes_fit w16 8 _ _ cut.0 cut.1).0
+
+pub are_same-requires-clause-long_b : goal.are_same-requires-clause-long_b
+are_same-requires-clause-long_b c = let cut = cut_lanes c.args.k c.requires.fit in (lanes_fit w16 8 _ _ cut.0 cut.1).1
 
 pub returns : goal.returns
 returns c h =

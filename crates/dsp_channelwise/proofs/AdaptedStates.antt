@@ -1,7 +1,6 @@
 -- The weights of an adaptive filter, one sample after another.
-use Rattle.std.proofs.Common.{◌≡◌, ◌∙◌, ap, refl, sym, ℕ, ◌+◌, ◌<◌, ℤ, pos, List, [], ◌∷◌, ◌++◌, length, map}
+use Rattle.std.proofs.Common.{◌≡◌, ◌∙◌, ap, refl, sym, ℕ, ◌+◌, ◌<◌, ◌≤◌, ℤ, pos, List, [], ◌∷◌, ◌++◌, length, map}
 use Rattle.std.proofs.Common.{take, take_all, reverse, arith}
-use Rattle.std.proofs.lemmas.Int.{to_z-of_z}
 use Rattle.std.proofs.lemmas.List.{map-append, reverse-append, take-map}
 use Rattle.std.proofs.lemmas.List.FromFn.{fill_by_all, get_or-map-range_with_len}
 use Rattle.dsp_defs.specs.Adaptive.{Adapted, adapted, lms, lms_output, reference_now, weights_before}
@@ -10,8 +9,6 @@ use Rattle.dsp_defs.specs.declared.format.Fmt.{Fmt}
 use Rattle.dsp_defs.proofs.BlockLaws.{length-values}
 use Rattle.dsp_defs.proofs.FrameLemmas.{map-values}
 use Rattle.dsp_exact.proofs.Recurrences.{outputs-next}
-use Rattle.dsp_exact.proofs.Exact.{exact}
-use Rattle.dsp_channelwise.proofs.FewTerms.{twice}
 use Rattle.dsp_channelwise.proofs.KeptStates.{newest-taken}
 use Rattle.dsp_channelwise.specs.Adapting.{pairs_of}
 
@@ -67,11 +64,14 @@ lms-more f p mu taps x r w n reference new inside weights is_reference is =
     ∙ (λ i. adapted f p mu (weights i) (sym (inputs-so-far x r (n + 1)) i)
     ((is_reference ∙ sym (reference-so-far x r n inside)) i))))
 
+-- all samples at the end
+pub lms-all : (f : Fmt) (p : ℕ) (read mu : ℤ) (taps x r : List ℤ) (n : ℕ) → read ≡ mu → length x ≤ n
+    → lms f p read taps (take n (pairs_of x r)) ≡ lms f p mu taps (pairs_of x r)
+lms-all f p read mu taps x r n is end =
+    let all = take_all n (pairs_of x r) (omega (arith, end, length-pairs x r)) in
+    λ i. lms f p (is i) taps (all i)
+
 -- and its weights
 pub weights-pushed : (first : List ℤ) (ys : List Adapted) (v : Adapted)
     → weights_before first (reverse (ys ++ v ∷ [])) ≡ v.weights
 weights-pushed first ys v = ap (weights_before first) (reverse-append ys (v ∷ []))
-
-pub ruleset given = (to_z-of_z, length-pairs, take_all)
-
-pub ruleset weights = (exact, twice)

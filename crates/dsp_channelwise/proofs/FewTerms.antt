@@ -1,22 +1,30 @@
 -- Sums of a few terms, folds and powers.
-use Rattle.std.proofs.Common.{◌≡◌, ℕ, ◌+◌, ◌^◌, ◌≤◌, ℤ, pos, ◌+ℤ◌, ◌*ℤ◌, arith, pow_mono}
+use Rattle.std.proofs.Common.{◌≡◌, ap, ℕ, ◌+◌, ◌*◌, ◌^◌, ◌≤◌, ℤ, pos, ◌+ℤ◌, ◌*ℤ◌, SFits, arith, pow_mono}
+use Rattle.std.specs.Int.{w64}
 use Rattle.std.proofs.Math.IntN.{+ℤ_idl}
-use Rattle.std.proofs.lemmas.Int.{ints, to_z-of_z}
-use Rattle.std.proofs.lemmas.List.Sums.{fold_more}
-use Rattle.dsp_exact.proofs.Exact.{exact_fits}
+use Rattle.std.proofs.lemmas.Int.{ints}
 
 -- a number and itself
 pub twice : (z : ℤ) → z +ℤ z ≡ pos 2 *ℤ z
 twice z = omega (arith, ints)
 
+-- sums that begin with nothing
+pub two-terms : (a b : ℤ) → pos 0 +ℤ a +ℤ b ≡ a +ℤ b
+two-terms a b = ap (λ z. z +ℤ b) (+ℤ_idl a)
+
+pub three-terms : (a b c : ℤ) → pos 0 +ℤ a +ℤ b +ℤ c ≡ a +ℤ b +ℤ c
+three-terms a b c = ap (λ z. z +ℤ c) (two-terms a b)
+
 -- the power of a post shift fits far within 64 bits
-pub small-power : (p : ℕ) → p ≤ 30 → 2 ^ (p + 1) ≤ 2 ^ 31
-small-power p few =
+pub power-fits : (p : ℕ) → p ≤ 30 → SFits w64 (pos (2 ^ (p + 1)))
+power-fits p few =
     let up : p + 1 ≤ 31 = omega arith in
-    pow_mono up
+    let small : 2 ^ (p + 1) ≤ 2 ^ 31 = pow_mono up in
+    record { sfits = omega arith }
 
-pub ruleset few_terms = (to_z-of_z, +ℤ_idl)
-
-pub ruleset folds = (to_z-of_z, fold_more)
-
-pub ruleset powers = (exact_fits, small-power)
+-- the products of a section, and of those after it
+pub section-cost : (before old new length slice all later : ℕ) → all ≡ later + 1 → slice ≡ length
+    → new ≤ old + slice * 5 → old + length * (5 * all) ≤ before → new + length * (5 * later) ≤ before
+section-cost before old new length slice all later one same made so_far =
+    let next : old + length * (5 * (later + 1)) ≤ before = rw one at so_far in
+    omega (arith, next, same, made)

@@ -1,7 +1,7 @@
 -- The sections of a lattice, one after another.
-use Rattle.std.proofs.Common.{◌≡◌, ◌∙◌, ap, sym, ℕ, ◌+◌, ◌<◌, ℤ, pos, ◌+ℤ◌, ◌-ℤ◌, List, [], ◌∷◌, ◌++◌, length, drop}
-use Rattle.std.proofs.Common.{get_or, append_assoc, add-one, drop-cons, arith}
-use Rattle.std.proofs.lemmas.List.{drop-drop, get_or-drop}
+use Rattle.std.proofs.Common.{◌≡◌, ◌∙◌, ap, sym, ℕ, ◌+◌, ◌<◌, ◌≤◌, ℤ, pos, ◌+ℤ◌, ◌-ℤ◌, List, [], ◌∷◌, ◌++◌, length}
+use Rattle.std.proofs.Common.{drop, get_or, append_assoc, add-one, drop-cons, arith}
+use Rattle.std.proofs.lemmas.List.{drop_all, drop-drop, get_or-drop}
 use Rattle.dsp_defs.specs.Numbers.{saturate}
 use Rattle.dsp_defs.specs.Formats.{word_bits}
 use Rattle.dsp_defs.specs.Signal.{sample}
@@ -29,3 +29,9 @@ step-back format f k before m lower upper ys zs r inside is_lower is_upper pushe
     let later = ap (λ b. upper ∷ backward_values format lower (drop (m + 1) k) b) (sym (drop-drop 1 (m + 1) before)) in
     rw (pushed, append_assoc) (ap (λ l. ys ++ l) (later ∙ one
     ∙ ap (λ l. backward_values format f l (drop (m + 1) before)) (sym cut)) ∙ so_far)
+
+-- the last of them
+pub back-ends : (format : Fmt) (f : ℤ) (k before : List ℤ) (m : ℕ) (ys zs r : List ℤ) → length k ≤ m
+    → zs ≡ ys ++ f ∷ [] → ys ++ backward_values format f (drop m k) before ≡ r → zs ≡ r
+back-ends format f k before m ys zs r end pushed so_far =
+    pushed ∙ sym (ap (λ l. ys ++ backward_values format f l before) (drop_all m k end)) ∙ so_far

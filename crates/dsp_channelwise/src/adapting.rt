@@ -63,7 +63,6 @@ impl<'a> Formula for Moved<'a> {
 
     ghost cost = { λ f. 1 };
 
-    #[tactic(auto, using(crate::proofs::AdaptedStates::weights))]
     fn at<L: Ledger>(&self, k: usize, steps: &mut Steps<L>) -> i32 {
         let w = sample(self.w, k);
         let p = product(self.alpha, back(self.x, k), steps);
@@ -124,7 +123,6 @@ fn adapted_to<L: Ledger>(
 
 /// The output and the error of each sample, by the first weights from w_{T-1} to w_0; each in the format
 /// of the samples. The source is `arm_lms_q15` and `arm_lms_q31` of CMSIS-DSP.
-#[tactic(auto, using(crate::proofs::AdaptedStates::given))]
 pub fn lms<L: Ledger>(
     alloc: Global,
     format: Fmt,

@@ -19,7 +19,7 @@ use std::sync::ledger::Ledger;
 
 /// The coefficients of a section: b0, b1, b2, and those of the feedback, a1 and a2.
 #[derive(Clone, Copy)]
-pub(crate) struct Section([i32; 5]);
+pub(crate) struct Section([i32; 3], [i32; 2]);
 
 /// The first section of these numbers and the numbers after it. A section has six numbers in Q15, where
 /// the second is not used, and else five.
@@ -31,11 +31,14 @@ fn first_section(format: Fmt, numbers: &[i32]) -> Option<(Section, &[i32])>
 {
     match format {
         Fmt::Q15 => match numbers {
-            [b0, _, b1, b2, a1, a2, rest @ ..] => Some((Section([*b0, *b1, *b2, *a1, *a2]), rest)),
+            [b0, _, b1, b2, a1, a2, rest @ ..] => Some((
+                Section([*b0, *b1, *b2], [*a1, *a2]),
+                rest,
+            )),
             _ => None,
         },
         _ => match numbers {
-            [b0, b1, b2, a1, a2, rest @ ..] => Some((Section([*b0, *b1, *b2, *a1, *a2]), rest)),
+            [b0, b1, b2, a1, a2, rest @ ..] => Some((Section([*b0, *b1, *b2], [*a1, *a2]), rest)),
             _ => None,
         },
     }
@@ -74,9 +77,8 @@ impl Recurrence for Narrow {
 
     ghost cost = { λ r. 5 };
 
-    #[tactic(auto, using(crate::proofs::FewTerms::few_terms))]
     fn next<L: Ledger>(&self, x: &[i32], y: &[i32], steps: &mut Steps<L>) -> i32 {
-        let (b, a) = self.section.0.split_at(3);
+        let Section(b, a) = &self.section;
         let forward = sum_below(3, &Weighted { w: b, x }, steps);
         let back = sum_below(2, &Weighted { w: a, x: y }, steps);
         section_close(self.format, self.post_shift, sum(forward, back))
@@ -116,7 +118,6 @@ pub fn biquad<L: Ledger>(
 }
 
 /// Y = wrap_64(acc * 2^(p+1))
-#[tactic(auto, using(crate::proofs::FewTerms::powers))]
 fn fed_back(post_shift: u8, acc: i64) -> i64
     requires { post_shift ≤ 30 }
     ensures { result ≡ fed_back post_shift acc }
@@ -152,12 +153,11 @@ impl Recurrence for Wide {
 
     ghost cost = { λ r. 5 };
 
-    #[tactic(auto, using(crate::proofs::FewTerms::few_terms))]
     fn next<L: Ledger>(&self, x: &[i32], y: &[i64], steps: &mut Steps<L>) -> i64 {
-        let (p, c) = (self.post_shift, &self.section.0);
-        let forward = sum_below(3, &Weighted { w: c, x }, steps);
-        let y1 = fed_product(p, back_wide(y, 0), c[3], steps);
-        let y2 = fed_product(p, back_wide(y, 1), c[4], steps);
+        let Section(b, a) = &self.section;
+        let forward = sum_below(3, &Weighted { w: b, x }, steps);
+        let y1 = fed_product(self.post_shift, back_wide(y, 0), a[0], steps);
+        let y2 = fed_product(self.post_shift, back_wide(y, 1), a[1], steps);
         wrap64(sum(sum(forward, i128::from(y1)), i128::from(y2)))
     }
 }

@@ -106,7 +106,6 @@ fn ladder_value<L: Ledger>(format: Fmt, v: &[i32], g: &[i32], steps: &mut Steps<
 /// y(n), the ladder sum as a sample, as many values as x has samples, by k from k_S to k_1 and v from
 /// v_S to v_0; each in the format of the samples. The source is `arm_iir_lattice_q15` and
 /// `arm_iir_lattice_q31` of CMSIS-DSP.
-#[tactic(auto, using(crate::proofs::KeptStates::kept_values))]
 pub fn lattice_iir<L: Ledger>(
     alloc: Global,
     format: Fmt,

@@ -62,7 +62,6 @@ fn newest(x: &[Pair], k: usize) -> Pair
 
 /// The sections k_1 to k_S one after another, from f_0(n) = g_0(n) = x(n), as many values as x has samples;
 /// each in Q15. The source is `arm_fir_lattice_q15` of CMSIS-DSP.
-#[tactic(auto, using(crate::proofs::FewTerms::folds))]
 pub fn lattice_fir<L: Ledger>(
     alloc: Global,
     k: &[i32],

@@ -59,7 +59,6 @@ impl<'a> Terms for SparseDelays<'a> {
     ghost term = { λ t k. sparse_term t.of.format (sample t.of.b.now k)
         (delayed t.of.x.now t.n (get_or (map nat_abs t.of.delays.now) k 0)) };
 
-    #[tactic(auto, using(crate::proofs::Delays::delays))]
     fn term<L: Ledger>(&self, k: usize, steps: &mut Steps<L>) -> i128 {
         let delay = self.of.delays[k].unsigned_abs() as usize;
         let x = delayed(self.of.x, self.n, delay);

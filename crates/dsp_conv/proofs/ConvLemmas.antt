@@ -55,7 +55,7 @@ pub map-replicate : {X : Type 0} → (f : X → ℤ) (x : X) (n : ℕ) → map f
 map-replicate f x zero = refl
 map-replicate f x (suc n) = ap (λ l. f x ∷ l) (map-replicate f x n)
 
-pub empty : (xs : List ℤ) → length xs ≡ 0 → xs ≡ []
+pub empty : {X : Type 0} (xs : List X) → length xs ≡ 0 → xs ≡ []
 empty [] none = refl
 empty (x ∷ xs) none = absurd (omega (arith, none))
 

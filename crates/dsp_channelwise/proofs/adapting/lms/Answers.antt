@@ -1,15 +1,29 @@
-use Rattle.std.proofs.Common.{◌≡◌, ◌∙◌, ◌<◌, ◌++◌, ◌∷◌, [], ap, sym, arith, rules, length, to_z, of_z}
+use Rattle.std.proofs.Common.{◌≡◌, ◌∙◌, ◌<◌, ap, arith, rules, length, to_z, of_z}
 use Rattle.std.specs.Prelude.{FitsSigned, map}
 use Rattle.std.specs.Int.{w32}
 use Rattle.std.proofs.lemmas.Int.{to_z-of_z}
-use Rattle.std.proofs.lemmas.List.{map_push}
+use Rattle.std.proofs.lemmas.List.{length-reverse}
 use Rattle.dsp_defs.specs.Adaptive.{errors_of, outputs_of}
 use Rattle.dsp_defs.specs.Formats.{word}
 use Rattle.dsp_exact.proofs.Pushed.{all-more}
 use Rattle.dsp_channelwise.specs.Adapting.{adapted_of}
-use Rattle.dsp_channelwise.proofs.KeptStates.{cost-within}
-use Rattle.dsp_channelwise.proofs.AdaptedStates.{lms-more, weights-pushed}
+use Rattle.dsp_channelwise.proofs.KeptStates.{cost-within, map-more}
+use Rattle.dsp_channelwise.proofs.AdaptedStates.{lms-all, lms-more, weights-pushed}
 use Rattle.dsp_channelwise.proofs.adapting.lms.Goals as goal
+
+pub loop-n-init : goal.loop-n-init
+loop-n-init g c =
+    let empty = c.in_ok-outputs.ensures.items in
+    let none = c.in_ok-errors.ensures.items in
+    record {
+      outputs = empty;
+      errors = none;
+      weights = c.in_ok-w.ensures;
+      long = ap length c.in_ok-w.ensures ∙ length-reverse c.args.taps.now;
+      output_fits = λ k d inside. absurd (omega (arith, inside, ap length empty));
+      error_fits = λ k d inside. absurd (omega (arith, inside, ap length none));
+      products = omega arith;
+    }
 
 pub loop-n-preserved : goal.loop-n-preserved
 loop-n-preserved g c =
@@ -23,10 +37,8 @@ loop-n-preserved g c =
     c.args.reference.now _ c.loop-n.n _ new inside (c.deref.ensures.value ∙ so_far.weights)
     (search (rules, to_z-of_z)) c.in_ok-next.ensures.value in
     record {
-      outputs = c.in_ok-push.ensures.items ∙ (λ j. so_far.outputs j ++ output j ∷ []) ∙ sym (map_push outputs_of _ new)
-          ∙ ap (map outputs_of) (sym more);
-      errors = c.in_ok-push-2.ensures.items ∙ (λ j. so_far.errors j ++ error j ∷ []) ∙ sym (map_push errors_of _ new)
-          ∙ ap (map errors_of) (sym more);
+      outputs = map-more outputs_of _ _ _ _ _ new c.in_ok-push.ensures.items output so_far.outputs more;
+      errors = map-more errors_of _ _ _ _ _ new c.in_ok-push-2.ensures.items error so_far.errors more;
       weights = grind (arith, weights-pushed, more);
       long = grind arith;
       output_fits = all-more (FitsSigned (word c.args.format)) _ _ _ _ c.in_ok-push.ensures.items output
@@ -43,3 +55,24 @@ returns-in_err-push-clause-products g c =
 pub returns-in_err-push-2-clause-products : goal.returns-in_err-push-2-clause-products
 returns-in_err-push-2-clause-products g c =
     cost-within _ _ _ c.loop-n.n _ _ c.loop-n.invariant.products (grind arith) (omega arith)
+
+pub returns-in_err-next-clause-products : goal.returns-in_err-next-clause-products
+returns-in_err-next-clause-products g c =
+    cost-within _ _ _ c.loop-n.n _ _ c.loop-n.invariant.products (omega (
+      arith,
+      c.adapted_to.ensures.products,
+      ap length c.deref.ensures.value,
+      c.loop-n.invariant.long,
+    )) c.loop-n-test.true
+
+pub returns-clause-outputs : goal.returns-clause-outputs
+returns-clause-outputs g c =
+    c.loop-n.invariant.outputs
+    ∙ ap (map outputs_of) (lms-all c.args.format c.args.post_shift _ c.args.mu c.args.taps.now c.args.x.now
+    c.args.reference.now c.loop-n.n (to_z-of_z w32 c.args.mu c.ranges.mu) c.loop-n-test.false)
+
+pub returns-clause-errors : goal.returns-clause-errors
+returns-clause-errors g c =
+    c.loop-n.invariant.errors
+    ∙ ap (map errors_of) (lms-all c.args.format c.args.post_shift _ c.args.mu c.args.taps.now c.args.x.now
+    c.args.reference.now c.loop-n.n (to_z-of_z w32 c.args.mu c.ranges.mu) c.loop-n-test.false)

@@ -1,9 +1,43 @@
-use Rattle.std.proofs.Common.{◌≡◌, ◌-◌, ◌*◌, ◌<◌, ◌∙◌, ◌*ℤ◌, ◌+◌, ℕ, ap, sym, length, map, arith}
+use Rattle.std.proofs.Common.{◌≡◌, ◌-◌, ◌*◌, ◌<◌, ◌∙◌, ◌+ℤ◌, ◌*ℤ◌, ◌+◌, ℕ, ap, sym, length, map, take_all, arith, rules}
+use Rattle.std.proofs.Common.{to_z, of_z}
+use Rattle.std.specs.Prelude.{nat_abs}
+use Rattle.std.specs.Int.{w32}
+use Rattle.std.proofs.lemmas.Int.{to_z-of_z}
+use Rattle.std.proofs.lemmas.List.{take-append-le}
 use Rattle.std.proofs.lemmas.Result.{IfOk-weaker}
 use Rattle.dsp_defs.specs.Formats.{close}
 use Rattle.dsp_defs.specs.Signal.{delayed, sample, sum_below}
+use Rattle.dsp_exact.proofs.Pushed.{cost-more}
+use Rattle.dsp_exact.proofs.Steps.{sum-push}
 use Rattle.dsp_channelwise.proofs.Correlations.{correlation-is}
 use Rattle.dsp_channelwise.proofs.correlation.correlate.Goals as goal
+
+pub loop-k-preserved : goal.loop-k-preserved
+loop-k-preserved g c =
+    let so_far = c.loop-k.invariant in
+    let k = c.loop-k.k in
+    let m = c.max-m.result in
+    let new = c.scatter.new.sums in
+    let old = c.as_mut_slice.ensures.value in
+    let size = c.scatter.ensures.length ∙ c.as_mut_slice.ensures.len in
+    let kept = take-append-le c.loop-k.sums.len new _ (omega (arith, size))
+    ∙ take_all c.loop-k.sums.len new (omega (arith, size)) in
+    let long = ap length old ∙ so_far.long in
+    let x : to_z w32 (of_z w32 (sample c.args.x.now k)) ≡ sample c.args.x.now k = search (rules, to_z-of_z) in
+    record {
+      long = ap length kept ∙ c.scatter.ensures.length ∙ long;
+      value = λ n inside. ap (λ l. sample l n) kept ∙ c.scatter.ensures.values n (omega (arith, inside, long))
+          ∙ (λ i. (ap (λ l. sample l n) old ∙ so_far.value n inside) i +ℤ x i *ℤ delayed c.args.taps.now (k + m - 1) n)
+          ∙ sym (sum-push (λ j. sample c.args.x.now j *ℤ delayed c.args.taps.now (j + m - 1) n) k);
+      small = λ n inside. omega (
+        arith,
+        ap (λ l. nat_abs (sample l n)) kept,
+        ap (λ l. nat_abs (sample l n)) old,
+        c.scatter.ensures.small n (omega (arith, inside, long)),
+        so_far.small n inside,
+      );
+      products = cost-more _ _ _ k _ so_far.products c.scatter.ensures.products;
+    }
 
 pub returns-clause-values : goal.returns-clause-values
 returns-clause-values g c =

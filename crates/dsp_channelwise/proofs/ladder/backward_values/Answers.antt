@@ -1,6 +1,8 @@
-use Rattle.std.proofs.Common.{arith}
+use Rattle.std.proofs.Common.{◌∙◌, ap, drop, arith}
+use Rattle.std.specs.Int.{w32}
 use Rattle.std.proofs.lemmas.Int.{to_z-of_z}
-use Rattle.dsp_channelwise.proofs.Ladders.{step-back}
+use Rattle.dsp_defs.specs.Lattice.{backward_values}
+use Rattle.dsp_channelwise.proofs.Ladders.{back-ends, step-back}
 use Rattle.dsp_channelwise.proofs.ladder.backward_values.Goals as goal
 
 pub loop-m-preserved : goal.loop-m-preserved
@@ -9,3 +11,10 @@ loop-m-preserved g c = record {
       (grind (arith, to_z-of_z)) (grind (arith, to_z-of_z)) c.in_ok-push.ensures.items c.loop-m.invariant.rest;
   products = grind (arith, c.loop-m.invariant.products, c.ladder_step-lower.ensures.products);
 }
+
+pub returns-clause-values : goal.returns-clause-values
+returns-clause-values g c =
+    back-ends c.args.format _ c.args.k.now _ c.loop-m.m c.loop-m.values.items _ _ c.loop-m-test.false
+    c.in_ok-push-2.ensures.items c.loop-m.invariant.rest
+    ∙ ap (λ f. backward_values c.args.format f c.args.k.now (drop 1 c.args.before.now))
+    (to_z-of_z w32 c.args.f c.ranges.f)

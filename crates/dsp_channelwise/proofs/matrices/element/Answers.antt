@@ -1,4 +1,4 @@
-use Rattle.std.proofs.Common.{◌≡◌, ◌∙◌, ap, sym, to_z, of_z, arith}
+use Rattle.std.proofs.Common.{◌≡◌, ◌∙◌, ap, sym, to_z, of_z, arith, rules}
 use Rattle.std.specs.Int.{w32}
 use Rattle.std.proofs.lemmas.Int.{to_z-of_z}
 use Rattle.dsp_defs.specs.Matrix.{multiplied}
@@ -10,3 +10,12 @@ returns-in-MatMult-clause-value g c =
     let value : to_z w32 (of_z w32 c.close.result) ≡ multiplied c.in-MatMult.columns c.in-MatMult.given
     c.in-MatMult.matrix c.args.a.now c.args.i = grind (arith, to_z-of_z) in
     value ∙ ap (λ b. element c.args.format b c.args.a.now c.args.i) (sym c.in-MatMult.is)
+
+pub returns-in-MatAdd : goal.returns-in-MatAdd
+returns-in-MatAdd g c = search rules
+
+pub returns-in-MatSub : goal.returns-in-MatSub
+returns-in-MatSub g c = search rules
+
+pub returns-in-MatScale : goal.returns-in-MatScale
+returns-in-MatScale g c = search rules

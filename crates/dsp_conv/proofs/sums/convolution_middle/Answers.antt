@@ -4,7 +4,7 @@ use Rattle.std.proofs.lemmas.List.{length-map, length-reverse}
 use Rattle.dsp_defs.specs.Formats.{lanes}
 use Rattle.dsp_defs.specs.Streaming.{rows}
 use Rattle.dsp_lanes.specs.Turns.{lane_turns}
-use Rattle.dsp_conv.proofs.ConvLemmas.{map-reverse}
+use Rattle.dsp_conv.proofs.ConvLemmas.{empty, map-reverse}
 use Rattle.dsp_conv.proofs.Stretches.{convolution-middle, turns-within}
 use Rattle.dsp_conv.proofs.sums.convolution_middle.Goals as goal
 
@@ -44,3 +44,8 @@ returns-clause-steps g c =
       multiplies_most = omega (arith, rise, products);
       turns_most = omega (arith, rise, rounds, turns);
     }
+
+pub returns-then-is_empty-clause-values : goal.returns-then-is_empty-clause-values
+returns-then-is_empty-clause-values g c =
+    let none : length c.args.out.now ≡ 0 = search rules in
+    rw (empty c.args.out.now none) refl

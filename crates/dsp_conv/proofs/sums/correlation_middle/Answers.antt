@@ -1,6 +1,7 @@
 use Rattle.std.proofs.Common.{◌≡◌, ◌∙◌, ◌≤◌, length, map, refl, rules, arith}
 use Rattle.std.proofs.lemmas.List.{length-map}
 use Rattle.dsp_defs.specs.Formats.{lanes}
+use Rattle.dsp_conv.proofs.ConvLemmas.{empty}
 use Rattle.dsp_conv.proofs.Stretches.{middle-stretch, middle-products, turns-within}
 use Rattle.dsp_conv.proofs.sums.correlation_middle.Goals as goal
 
@@ -32,3 +33,8 @@ returns-clause-steps g c =
       multiplies = omega (arith, rise, products);
       turns = omega (arith, rise, products, turns);
     }
+
+pub returns-then-is_empty-clause-values : goal.returns-then-is_empty-clause-values
+returns-then-is_empty-clause-values g c =
+    let none : length c.args.out.now ≡ 0 = search rules in
+    rw (empty c.args.out.now none) refl

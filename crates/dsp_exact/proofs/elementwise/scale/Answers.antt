@@ -1,4 +1,4 @@
-use Rattle.std.proofs.Common.{◌∙◌, ap, sym, subst, pos, ◌-ℤ◌, ◌*ℤ◌}
+use Rattle.std.proofs.Common.{◌∙◌, ap, sym, subst, pos, ◌-ℤ◌, ◌*ℤ◌, rules}
 use Rattle.std.specs.Int.{w32}
 use Rattle.std.specs.Prelude.{FitsSigned, nat_abs}
 use Rattle.std.proofs.lemmas.Int.{to_z-of_z}
@@ -53,3 +53,21 @@ returns-in-Q15-clause-fits g c =
     let r = c.saturate-in-Q15 in
     subst (FitsSigned (word c.args.format)) (sym (to_z-of_z w32 r.result
     (record { sfits = r.type_inv }))) r.ensures.fits
+
+pub floor_shift-requires : goal.floor_shift-requires
+floor_shift-requires g c = search rules
+
+pub floor_shift-requires-in-Q15 : goal.floor_shift-requires-in-Q15
+floor_shift-requires-in-Q15 g c = search rules
+
+pub moved-requires-clause-small : goal.moved-requires-clause-small
+moved-requires-clause-small g c = search rules
+
+pub moved-requires-clause-few : goal.moved-requires-clause-few
+moved-requires-clause-few g c = search rules
+
+pub returns-in-Q31-clause-value : goal.returns-in-Q31-clause-value
+returns-in-Q31-clause-value g c = search rules
+
+pub returns-in-Q31-clause-fits : goal.returns-in-Q31-clause-fits
+returns-in-Q31-clause-fits g c = search rules

@@ -1,4 +1,4 @@
-use Rattle.std.proofs.Common.{◌≡◌, ◌∙◌, ◌+ℤ◌, ◌*ℤ◌, ◌-◌, ◌*◌, ◌^◌, ap, refl, sym, subst, arith}
+use Rattle.std.proofs.Common.{◌≡◌, ◌∙◌, ◌+ℤ◌, ◌*ℤ◌, ◌-◌, ◌*◌, ◌^◌, ap, refl, sym, subst, arith, rules}
 use Rattle.std.specs.Int.{w32, w128}
 use Rattle.std.specs.Prelude.{FitsSigned}
 use Rattle.std.proofs.lemmas.Int.{to_z-of_z}
@@ -53,3 +53,36 @@ returns-in_default g c =
       fits = subst (FitsSigned (word format)) (sym is) r.ensures.fits;
       products = omega (arith, aa.ensures.products, bb.ensures.products);
     }
+
+pub shifted-aa-requires : goal.shifted-aa-requires
+shifted-aa-requires g c = search rules
+
+pub shifted-bb-requires : goal.shifted-bb-requires
+shifted-bb-requires g c = search rules
+
+pub sum-requires-clause-left : goal.sum-requires-clause-left
+sum-requires-clause-left g c = search rules
+
+pub sum-requires-clause-right : goal.sum-requires-clause-right
+sum-requires-clause-right g c = search rules
+
+pub product-aa-requires : goal.product-aa-requires
+product-aa-requires g c = search rules
+
+pub product-bb-requires : goal.product-bb-requires
+product-bb-requires g c = search rules
+
+pub sum-requires-in_default : goal.sum-requires-in_default
+sum-requires-in_default g c = search rules
+
+pub overflow_cast-product_shift : goal.overflow_cast-product_shift
+overflow_cast-product_shift g c = search rules
+
+pub overflow_shr-sum : goal.overflow_shr-sum
+overflow_shr-sum g c = search rules
+
+pub returns-in-Q31-clause-value : goal.returns-in-Q31-clause-value
+returns-in-Q31-clause-value g c = search rules
+
+pub returns-in-Q31-clause-fits : goal.returns-in-Q31-clause-fits
+returns-in-Q31-clause-fits g c = search rules

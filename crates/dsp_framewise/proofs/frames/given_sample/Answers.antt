@@ -1,7 +1,10 @@
-use Rattle.std.proofs.Common.{◌∙◌, ap, to_z, of_z, arith, rules}
+use Rattle.std.proofs.Common.{◌≡◌, ◌∙◌, ap, sym, pos, to_z, of_z, arith, rules}
 use Rattle.std.specs.Int.{w32}
+use Rattle.std.specs.Prelude.{nat_abs}
+use Rattle.std.proofs.lemmas.List.{get_or-map}
 use Rattle.std.proofs.lemmas.Int.{to_z-of_z}
 use Rattle.dsp_defs.specs.Elementwise.{abs, add, clip, convert, negate, scale, shift}
+use Rattle.dsp_defs.specs.Signal.{sample}
 use Rattle.dsp_framewise.proofs.Given.{block-held, clamped-fits, mapped, sample-fits}
 use Rattle.dsp_framewise.proofs.frames.given_sample.Goals as goal
 
@@ -78,6 +81,18 @@ returns-in-To-clause-value g c =
     (record { sfits = x.type_inv }) (record { sfits = r.type_inv }) x.ensures
     r.ensures.value)
 
+pub returns-in-Route-clause-value : goal.returns-in-Route-clause-value
+returns-in-Route-clause-value g c =
+    let frame = c.args.frame.now in
+    let j = c.args.j in
+    let r = c.sample-in-Route in
+    let numbers = c.as_slice.result.now in
+    let inside = rw c.in-Route.is at c.requires.channel in
+    let number : to_z w32 (of_z w32 (sample numbers j)) ≡ sample numbers j = search (rules, to_z-of_z) in
+    rw c.in-Route.is (to_z-of_z w32 r.result (record { sfits = r.type_inv }) ∙ r.ensures ∙ ap (sample frame)
+    (c.unsigned_abs.ensures.value ∙ ap nat_abs (number ∙ ap (λ l. sample l j) c.as_slice.ensures))
+    ∙ sym (get_or-map (λ a. sample frame (nat_abs a)) c.in-Route.channels j (pos 0) (pos 0) inside))
+
 pub returns-in-Route-clause-fits : goal.returns-in-Route-clause-fits
 returns-in-Route-clause-fits g c =
     let r = c.sample-in-Route in
@@ -93,3 +108,45 @@ returns-in-Clip-clause-fits g c =
 
 pub unreachable-requires : goal.unreachable-requires
 unreachable-requires g c = search (rules, c.in_default)
+
+pub returns-in-Add : goal.returns-in-Add
+returns-in-Add g c = search rules
+
+pub returns-in-Sub : goal.returns-in-Sub
+returns-in-Sub g c = search rules
+
+pub returns-in-Mult : goal.returns-in-Mult
+returns-in-Mult g c = search rules
+
+pub returns-in-Conj : goal.returns-in-Conj
+returns-in-Conj g c = search rules
+
+pub returns-in-Conj-2 : goal.returns-in-Conj-2
+returns-in-Conj-2 g c = search rules
+
+pub returns-in-CmplxMult : goal.returns-in-CmplxMult
+returns-in-CmplxMult g c = search rules
+
+pub returns-in-CmplxMult-2 : goal.returns-in-CmplxMult-2
+returns-in-CmplxMult-2 g c = search rules
+
+pub returns-in-CmplxMultReal : goal.returns-in-CmplxMultReal
+returns-in-CmplxMultReal g c = search rules
+
+pub returns-in-MagSquared : goal.returns-in-MagSquared
+returns-in-MagSquared g c = search rules
+
+pub returns-in-Power : goal.returns-in-Power
+returns-in-Power g c = search rules
+
+pub returns-in-Power-2 : goal.returns-in-Power-2
+returns-in-Power-2 g c = search rules
+
+pub returns-in-Power-3 : goal.returns-in-Power-3
+returns-in-Power-3 g c = search rules
+
+pub returns-in-Power-4 : goal.returns-in-Power-4
+returns-in-Power-4 g c = search rules
+
+pub returns-in-Power-5 : goal.returns-in-Power-5
+returns-in-Power-5 g c = search rules

@@ -1,10 +1,10 @@
 use Rattle.std.proofs.Common.{◌≡◌, ◌∙◌, ap, ap₂, sym, ◌+◌, ◌-◌, ◌*◌, ◌≤◌, ◌++◌, ℕ, min, max, length, map, take, drop}
-use Rattle.std.proofs.Common.{vec_len, rules, true, arith, length-take-le}
+use Rattle.std.proofs.Common.{vec_len, rules, true, arith, length-take-le, subst}
 use Rattle.std.proofs.lemmas.List.{drop_at, length-map}
 use Rattle.dsp_defs.specs.Formats.{close}
 use Rattle.dsp_defs.specs.Signal.{values}
 use Rattle.dsp_filter.proofs.Slices.{front-written}
-use Rattle.dsp_conv.specs.Sums.{correlation_at}
+use Rattle.dsp_conv.specs.Sums.{CorrelationRises, correlation_at}
 use Rattle.dsp_conv.specs.CorrelateState.{CorrelateState, tail_of}
 use Rattle.dsp_conv.proofs.ConvLemmas.{empty}
 use Rattle.dsp_conv.proofs.Correlations.{correlate-values, correlation-some, piece-given, length-dropped}
@@ -94,3 +94,25 @@ returns-clause-rest g c =
     let written : length (take count output) ≡ count = length-take-le count output
     (omega (arith, c.min-count.ensures)) in
     drop_at c.correlation_values.new.out (drop count output) count (c.correlation_values.auto.out ∙ written)
+
+pub returns-clause-multiplies : goal.returns-clause-multiplies
+returns-clause-multiplies g c =
+    let d = c.self.inside in
+    let number = g.T.Sample.number in
+    let taps = ap length c.deref.ensures.value ∙ sym (length-map d.taps.items number) in
+    let written = length-take-le c.min-count.result c.args.output.now (omega (arith, c.min-count.ensures)) in
+    let rises = subst (λ (p : ℕ × ℕ × ℕ). CorrelationRises p.0 p.1 d.given (d.given + p.2) c.args.steps.now
+    c.correlation_values.new.steps) (λ i. (c.slice-samples.ensures.length i, taps i, written i))
+    c.correlation_values.ensures.steps in
+    rw (← c.self.view_is) rises.multiplies
+
+pub returns-clause-turns : goal.returns-clause-turns
+returns-clause-turns g c =
+    let d = c.self.inside in
+    let number = g.T.Sample.number in
+    let taps = ap length c.deref.ensures.value ∙ sym (length-map d.taps.items number) in
+    let written = length-take-le c.min-count.result c.args.output.now (omega (arith, c.min-count.ensures)) in
+    let rises = subst (λ (p : ℕ × ℕ × ℕ). CorrelationRises p.0 p.1 d.given (d.given + p.2) c.args.steps.now
+    c.correlation_values.new.steps) (λ i. (c.slice-samples.ensures.length i, taps i, written i))
+    c.correlation_values.ensures.steps in
+    rw (← c.self.view_is) rises.turns

@@ -1,6 +1,7 @@
 -- The program `dspfx` over bytes in memory.
 use Rattle.std.specs.Prelude.{◌≡◌, ◌⊎◌, IsUtf8, ℕ, ◌==◌, false, List, [], ◌++◌, length, take, drop, Some}
 use Rattle.std.specs.List.{slice_split}
+use Rattle.dsp_ports.specs.Memory.{lent}
 use Rattle.dsp_ports.specs.Ports.{SourceState, SinkState}
 use Rattle.dsp_defs.specs.Counts.{Counts}
 use Rattle.dsp_cli.specs.Call.{Ended, call}
@@ -14,10 +15,7 @@ words_in text = slice_split (λ b. b == 32) text
 abbrev pub AreWords : List ℕ → List (List ℕ) → Type 0
 AreWords bytes words = (IsUtf8 bytes × (words ≡ words_in bytes)) ⊎ ((IsUtf8 bytes → ⊥) × (words ≡ []))
 
--- a port over bytes, and one that has taken none
-abbrev pub source : List ℕ → SourceState
-source bytes = record { left = Some bytes; taken = 0; faults = 0; ended = false; strayed = false }
-
+-- a port that has taken no bytes
 abbrev pub empty : SinkState
 empty = record { put = record { told = Some []; strayed = false }; settled = Some false; faults = 0 }
 
@@ -37,7 +35,7 @@ pub record Played (words script input other output output_new report report_new 
   pub seen : SourceState
   pub told : SinkState
   pub counts : Counts
-  pub ended : Ended (call asked (source script) read (source input) later empty after (source other) seen
+  pub ended : Ended (call asked (lent script) read (lent input) later empty after (lent other) seen
       (record { multiplies = 0; turns = 0 }) counts) status empty told
   pub written : List ℕ
   pub written_is : after.put.told ≡ Some written

@@ -7,7 +7,6 @@ mod exports;
 mod handles;
 mod held;
 mod hidden;
-mod lent;
 mod loose;
 mod measures;
 mod pieces;

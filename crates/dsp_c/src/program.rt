@@ -1,10 +1,9 @@
 ghost use Rattle.std.specs.Prelude.{◌≡◌, ◌++◌, IfErr, IfOk, length, take, drop};
 ghost use Rattle.dsp_c.specs.Program.{AreWords, Played, words_in};
 
-use crate::lent::LentSource;
 use dsp_cli::{Words, run};
 use dsp_defs::Steps;
-use dsp_ports::MemSink;
+use dsp_ports::{LentSource, MemSink};
 use dsp_unit::AnyUnit;
 use std::alloc::{AllocError, Global};
 use std::sync::ledger::{Blank, Ledger};

@@ -1,6 +1,7 @@
 //! Files and standard output as ports, and the whole program over the files that its words name.
 #![tactic(auto)]
 
+mod open;
 mod over_files;
 mod ports;
 mod report;

@@ -11,7 +11,11 @@ use std::alloc::{AllocError, Global};
 use std::fs::Files;
 use std::io::Print;
 use std::marker::Model;
+use std::os::fd::AsRawFd;
 use std::sync::ledger::{Blank, Ledger};
+
+/// How many bytes of an input are read ahead. A script is read whole, by large reads.
+const AHEAD: usize = 16_384;
 
 /// The status of what was done and could not be reported.
 const NOT_REPORTED: u8 = 9;
@@ -57,7 +61,7 @@ fn named(words: &Words, place: Option<usize>) -> &str
 impl<'a, R: Files + Print> FilePorts<'a, R> {
     /// The ports of the files that the words name, each at its place; none is opened yet. An output that is the file
     /// of the script or of the input, by whatever name, will not be written. It errs where memory is wanting, and
-    /// takes none where the words name no output.
+    /// takes none for a place that the words do not name.
     pub fn new(alloc: Global, rt: &'a R, words: &'a Words) -> Result<FilePorts<'a, R>, AllocError>
         ensures { IfOk result (λ ports. ports ≡ new_ports words.now) }
     {
@@ -76,10 +80,10 @@ impl<'a, R: Files + Print> FilePorts<'a, R> {
         let input = named(words, input);
         let output = FileSink::new(alloc, rt, named(words, output), script, input)?;
         Ok(FilePorts {
-            script: FileSource::new(rt, script),
-            input: FileSource::new(rt, input),
+            script: FileSource::new(alloc, rt, script, 0)?,
+            input: FileSource::new(alloc, rt, input, AHEAD)?,
             output,
-            other: FileSource::new(rt, named(words, other)),
+            other: FileSource::new(alloc, rt, named(words, other), AHEAD)?,
             report: OutSink::new(rt),
         })
     }
@@ -117,7 +121,7 @@ fn conclude<R: Files + Print>(
 /// Does what the words say over new ports of the files that they name, and answers the exit status of
 /// `dsp_cli::run`. Where a run stopped and what it had accepted before cannot be written, it reports in place of the
 /// run's line that the output is not written, and answers 8; where a command was done and cannot report it, 9.
-pub fn run_files<U: AnyUnit + Drop, R: Files + Print, L: Ledger>(
+pub fn run_files<U: AnyUnit + Drop, R: Files<File: AsRawFd> + Print, L: Ledger>(
     alloc: Global,
     words: &Words,
     ports: &mut FilePorts<'_, R>,

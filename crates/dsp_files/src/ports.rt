@@ -1,27 +1,27 @@
 //! Files as ports. They tell no bytes: what a file holds is not proved. Each counts its faults up to the
 //! greatest `u64`.
-ghost use Rattle.std.specs.Prelude.{◌≡◌, false, IfOk, ◌≤◌, length, vec_len, vec_capacity};
-ghost use Rattle.dsp_files.specs.declared.ports.TheConstants.{AHEAD, GATHERED};
+ghost use Rattle.std.specs.Prelude.{◌≡◌, false, IfOk, IsTrue, ◌<◌, ◌≤◌, length, vec_len};
+ghost use Rattle.dsp_files.specs.declared.ports.TheConstants.{GATHERED};
 
-use dsp_ports::{Failed, Sink, Source};
+use crate::open::open_past_streams;
+use dsp_ports::{Failed, Piece, Sink, Source, Taker};
 use std::alloc::{AllocError, Global};
 use std::fs::{Files, Metadata, OpenFile, OpenOptions};
 use std::io::{ErrorKind, Read, Write};
 use std::marker::Model;
+use std::os::fd::AsRawFd;
 use std::os::unix::fs::{FileTypeExt, MetadataExt};
 use std::{fs, io};
 
-/// How many bytes a source reads ahead.
-const AHEAD: usize = 16_384;
-
-/// The bytes that were read ahead, of which those from `start` to `end` are still to be given.
+/// The bytes that were read ahead, of which those from `start` to `end` are still to be given. The room for them is
+/// taken into use at the first read.
 #[derive(Drop)]
 struct Ahead {
-    bytes: [u8; AHEAD],
+    bytes: Vec<u8>,
     start: usize,
     end: usize,
     ghost in_order: { start ≤ end },
-    ghost within: { end ≤ AHEAD },
+    ghost within: { end ≤ vec_len bytes },
 }
 
 /// A file that is opened at the first read, and read ahead: so that small reads are few calls.
@@ -52,22 +52,30 @@ impl<'a, R: Files> Model for FileSource<'a, R> {
 }
 
 impl<'a, R: Files> FileSource<'a, R> {
-    /// The file of this name, which isn't opened yet.
-    pub fn new(files: &'a R, path: &'a str) -> FileSource<'a, R>
-        ensures { result ≡ record {
+    /// The file of this name, which isn't opened yet, and the room to read so many bytes ahead: none for a caller who
+    /// asks for many at once. A source with an empty name takes no room, and gives nothing. It errs where memory is
+    /// wanting.
+    pub fn new(
+        alloc: Global,
+        files: &'a R,
+        path: &'a str,
+        room: usize,
+    ) -> Result<FileSource<'a, R>, AllocError>
+        ensures { IfOk result (λ source. source ≡ record {
           path = path.now;
           taken = 0;
           faults = 0;
           ended = false;
           strayed = false;
-        } }
+        }) }
     {
-        FileSource {
+        let room = if path.is_empty() { 0 } else { room };
+        Ok(FileSource {
             files,
             path,
             file: None,
             ahead: Ahead {
-                bytes: [0; AHEAD],
+                bytes: Vec::with_capacity(alloc, room)?,
                 start: 0,
                 end: 0,
             },
@@ -75,12 +83,12 @@ impl<'a, R: Files> FileSource<'a, R> {
             faults: 0,
             ended: false,
             strayed: false,
-        }
+        })
     }
 }
 
 /// Reads from the file, which is opened where it isn't yet.
-fn read_file<R: Files>(
+fn read_file<R: Files<File: AsRawFd>>(
     files: &R,
     path: &str,
     file: &mut Option<R::File>,
@@ -89,7 +97,7 @@ fn read_file<R: Files>(
     ensures { IfOk result (λ count. count ≤ length into.new) }
 {
     if file.is_none() {
-        *file = Some(fs::open(files, path)?);
+        *file = Some(open_past_streams(files, OpenOptions::new().read(true), path)?);
     }
     match file {
         Some(file) => file.read(into),
@@ -97,9 +105,9 @@ fn read_file<R: Files>(
     }
 }
 
-/// Gives bytes that were read ahead, and where there are none reads ahead first. A read of as many bytes
-/// goes to the file itself.
-fn read_ahead<R: Files>(
+/// Gives bytes that were read ahead, and where there are none reads ahead first. A read of as many bytes as there is
+/// room for goes to the file itself.
+fn read_ahead<R: Files<File: AsRawFd>>(
     files: &R,
     path: &str,
     file: &mut Option<R::File>,
@@ -109,12 +117,16 @@ fn read_ahead<R: Files>(
     ensures { IfOk result (λ count. count ≤ length into.new) }
 {
     if ahead.start == ahead.end {
-        if into.len() >= AHEAD {
+        let room = ahead.bytes.capacity();
+        if into.len() >= room {
             return read_file(files, path, file, into);
         }
-        let count = read_file(files, path, file, &mut ahead.bytes)?;
         ahead.start = 0;
-        ahead.end = count;
+        ahead.end = 0;
+        if ahead.bytes.resize(room, 0).is_err() {
+            unreachable!();
+        }
+        ahead.end = read_file(files, path, file, &mut ahead.bytes)?;
     }
     let ready = &ahead.bytes[ahead.start..ahead.end];
     let count = into.len().min(ready.len());
@@ -123,7 +135,7 @@ fn read_ahead<R: Files>(
     Ok(count)
 }
 
-impl<R: Files> Source for FileSource<'_, R> {
+impl<R: Files<File: AsRawFd>> Source for FileSource<'_, R> {
     ghost use Rattle.std.specs.Prelude.{⊤};
     ghost use Rattle.dsp_files.specs.Files.{input_state};
 
@@ -151,6 +163,20 @@ impl<R: Files> Source for FileSource<'_, R> {
         self.faults = self.faults.saturating_add(1);
         Err(Failed)
     }
+
+    fn lend<T: Taker>(&mut self, count: usize, taker: &mut T) -> bool {
+        let ready = self.ahead.end - self.ahead.start;
+        if count == 0 || count > ready || count as u64 > u64::MAX - self.taken {
+            return false;
+        }
+        self.strayed |= self.ended | (count == 0);
+        let start = self.ahead.start;
+        let end = start + count;
+        taker.take(&self.ahead.bytes[start..end]);
+        self.ahead.start = end;
+        self.taken += count as u64;
+        true
+    }
 }
 
 /// How many bytes a sink gathers.
@@ -159,12 +185,13 @@ const GATHERED: usize = 65_536;
 /// A piece of so many bytes is written by itself, since copying it costs more than a call.
 const ALONE: usize = 16_384;
 
-/// The bytes that were accepted, and not written to the file yet.
+/// The bytes that were accepted, and not written to the file yet: the first `count`. The others are room.
 #[derive(Drop)]
 struct Gathered {
     bytes: Vec<u8>,
-    ghost within: { vec_len bytes ≤ GATHERED },
-    ghost room: { GATHERED ≤ vec_capacity bytes },
+    count: usize,
+    ghost long: { vec_len bytes ≡ GATHERED },
+    ghost within: { count ≤ GATHERED },
 }
 
 /// A file that is opened and emptied, or made, at the first write or flush. A file that the run reads, by this name
@@ -217,8 +244,8 @@ impl<'a, R: Files> FileSink<'a, R> {
     {
         let mut gathered = None;
         if !path.is_empty() {
-            let bytes = Vec::with_capacity(alloc, GATHERED)?;
-            gathered = Some(Gathered { bytes });
+            let bytes = vec![in alloc; 0; GATHERED]?;
+            gathered = Some(Gathered { bytes, count: 0 });
         }
         Ok(FileSink {
             files,
@@ -261,11 +288,13 @@ fn is_named<R: Files>(files: &R, file: &Metadata, name: &str) -> bool {
 
 /// Opens a file for writing and empties it, or makes it where it is not there. A file that has one of these other
 /// names too is left as it is.
-fn open_output<R: Files>(files: &R, path: &str, script: &str, input: &str) -> io::Result<R::File> {
-    let file = OpenOptions::new()
-        .write(true)
-        .create(true)
-        .open(files, path)?;
+fn open_output<R: Files<File: AsRawFd>>(
+    files: &R,
+    path: &str,
+    script: &str,
+    input: &str,
+) -> io::Result<R::File> {
+    let file = open_past_streams(files, OpenOptions::new().write(true).create(true), path)?;
     let opened = file.metadata()?;
     if is_storage(&opened) {
         if is_named(files, &opened, script) || is_named(files, &opened, input) {
@@ -278,11 +307,11 @@ fn open_output<R: Files>(files: &R, path: &str, script: &str, input: &str) -> io
 
 /// Writes what was gathered. After a failure it is given up, since a part of it may have been written.
 fn spill_to<F: Write>(file: &mut F, gathered: &mut Gathered) -> io::Result<()> {
-    let written = match gathered.bytes.as_slice() {
-        [] => Ok(()),
-        bytes => file.write_all(bytes),
+    let written = match gathered.count {
+        0 => Ok(()),
+        count => file.write_all(&gathered.bytes[..count]),
     };
-    gathered.bytes.clear();
+    gathered.count = 0;
     written
 }
 
@@ -292,22 +321,37 @@ fn gather<F: Write>(file: &mut F, gathered: &mut Gathered, piece: &[u8]) -> io::
     ensures { IfOk result (λ count. count ≤ length piece.now) }
 {
     let is_long = piece.len() >= ALONE;
-    if is_long || gathered.bytes.len() == GATHERED {
+    if is_long || gathered.count == GATHERED {
         spill_to(file, gathered)?;
     }
     if is_long {
         return file.write(piece);
     }
-    let count = piece.len().min(GATHERED - gathered.bytes.len());
-    match gathered.bytes.extend_from_slice(&piece[..count]) {
-        Ok(()) => Ok(count),
-        Err(_) => unreachable!(),
-    }
+    let count = piece.len().min(GATHERED - gathered.count);
+    let end = gathered.count + count;
+    gathered.bytes[gathered.count..end].copy_from_slice(&piece[..count]);
+    gathered.count = end;
+    Ok(count)
 }
 
-impl<R: Files> FileSink<'_, R> {
+/// Makes a piece that is not long behind what was gathered, where there is room for all of it, and answers whether it
+/// did.
+fn gather_made<P: Piece>(gathered: &mut Gathered, piece: &P) -> bool
+    ensures { IsTrue result → 0 < length (P.bytes piece.now) }
+{
+    let size = piece.size();
+    if size == 0 || size >= ALONE || size > GATHERED - gathered.count {
+        return false;
+    }
+    let end = gathered.count + size;
+    piece.write_to(&mut gathered.bytes[gathered.count..end]);
+    gathered.count = end;
+    true
+}
+
+impl<R: Files<File: AsRawFd>> FileSink<'_, R> {
     /// Writes the piece to the file where that was not open yet, and else gathers it.
-    fn accept(&mut self, piece: &[u8]) -> io::Result<usize>
+    fn put(&mut self, piece: &[u8]) -> io::Result<usize>
         ensures count { IfOk result (λ count. count ≤ length piece.now) }
         ensures same { self.new ≡ self.old }
     {
@@ -341,7 +385,7 @@ impl<R: Files> FileSink<'_, R> {
     }
 }
 
-impl<R: Files> Sink for FileSink<'_, R> {
+impl<R: Files<File: AsRawFd>> Sink for FileSink<'_, R> {
     ghost use Rattle.std.specs.Prelude.{⊤};
     ghost use Rattle.dsp_files.specs.Files.{output_state};
 
@@ -355,12 +399,19 @@ impl<R: Files> Sink for FileSink<'_, R> {
             self.strayed = true;
             return Ok(0);
         }
-        match self.accept(piece) {
+        match self.put(piece) {
             Ok(count) if count > 0 => Ok(count),
             _ => {
                 self.faults = self.faults.saturating_add(1);
                 Err(Failed)
             }
+        }
+    }
+
+    fn accept<P: Piece>(&mut self, piece: &P) -> bool {
+        match (&self.file, &mut self.gathered) {
+            (Some(_), Some(gathered)) => gather_made(gathered, piece),
+            _ => false,
         }
     }
 

@@ -12,6 +12,7 @@ ghost use Rattle.dsp_host.specs.Pieces.{IsFull, IsReopened, NotFed, Refuses, fra
 use crate::opening::open;
 use crate::refusal::Refusal;
 use dsp_defs::{GatherFull, MAX_INPUT, Steps};
+use dsp_ports::Piece as _;
 use dsp_session::Session;
 use dsp_unit::AnyUnit;
 use std::alloc::Global;
@@ -138,7 +139,7 @@ pub(crate) fn feed_judged<U: AnyUnit + Drop, L: Ledger>(
 {
     match session.feed(bytes, steps) {
         Ok(given) => {
-            out[..given].copy_from_slice(session.out());
+            session.out().write_to(&mut out[..given]);
             Ok(given)
         }
         Err(GatherFull { held, more }) => Err(Refusal::Gather { held, more }),

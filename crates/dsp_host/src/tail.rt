@@ -4,6 +4,7 @@ ghost use Rattle.dsp_host.specs.Tail.{Finished, NotFinished};
 
 use crate::refusal::Refusal;
 use dsp_defs::{MAX_INPUT, Steps, WindowFault};
+use dsp_ports::Piece;
 use dsp_session::Session;
 use dsp_unit::AnyUnit;
 use std::sync::ledger::Ledger;
@@ -35,7 +36,7 @@ pub fn finish<U: AnyUnit + Drop, L: Ledger>(
         if count == 0 {
             return Ok(given);
         }
-        out[given..given + count].copy_from_slice(session.out());
+        session.out().write_to(&mut out[given..given + count]);
         given += count;
     }
 }

@@ -27,10 +27,9 @@ module _ (script : Script) (header : Header) (input now : SourceState) where
   names cause.LimitReached n is = (is.0, refl, refl, is.1, is.2)
   names (cause.Short declared got offset) n is = (declared, is.0, ap (Short declared) is.1, is.2, is.3, is.4, is.5)
 
-  pub part_unread : (frame end taken size : ℕ) (found : SampleFault) → frame ≡ frame_bytes script header.coding
-      → (let at : Stored = record { start = header.start; size = header.size; frame = frame } in
-      samples.PartUnread at end taken size (λ n. samples.IsUnread found at n input now) input now)
+  pub part_unread : (at : Stored) (end taken size : ℕ) (found : SampleFault) → at ≡ stored script header
+      → samples.PartUnread at end taken size (λ n. samples.IsUnread found at n input now) input now
       → PartUnread script header end taken size (named found) input now
-  part_unread frame end taken size found is unread =
+  part_unread at end taken size found is unread =
       part_cause (stored script header) end taken size (λ n. samples.IsUnread found (stored script header) n input now)
       (λ n. IsUnread (named found) script header n input now) input now (names found) (rw is at unread)

@@ -6,6 +6,6 @@ mod blocks;
 mod fault;
 mod header;
 
-pub use blocks::read_block;
+pub use blocks::{has_block, read_block};
 pub use fault::InputFault;
 pub use header::{frame_bytes, known_frames, long_riff, output_header, read_input_header};

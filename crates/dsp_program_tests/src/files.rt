@@ -10,12 +10,17 @@ use std::alloc::{AllocError, Global};
 use std::fs::{self, Files};
 use std::io::{self, Print};
 use std::marker::Brand;
+use std::os::fd::AsRawFd;
 use std::os::unix::fs::symlink;
 use std::process::Abort;
 use std::sync::ledger::Blank;
 
 /// What the program answers to these words, with a counter of its own.
-fn answer(alloc: Global, rt: &(impl Files + Print), words: &Words) -> Result<u8, AllocError> {
+fn answer(
+    alloc: Global,
+    rt: &(impl Files<File: AsRawFd> + Print),
+    words: &Words,
+) -> Result<u8, AllocError> {
     let mut ports = FilePorts::new(alloc, rt, words)?;
     Ok(run_files::<BlockUnit, _, Brand>(alloc, words, &mut ports, Blank::new(2)))
 }
@@ -24,7 +29,7 @@ fn answer(alloc: Global, rt: &(impl Files + Print), words: &Words) -> Result<u8,
 fn answers(
     rt: &impl Abort,
     alloc: Global,
-    disk: &(impl Files + Print),
+    disk: &(impl Files<File: AsRawFd> + Print),
     texts: &[&str],
     status: u8,
 ) {
@@ -119,7 +124,7 @@ const CASES: &[Case] = &[
 ];
 
 /// Makes the files of a case, and compares what the program answers to its words.
-fn case_answers(rt: &(impl Files + Print + Abort), alloc: Global, case: &Case) {
+fn case_answers(rt: &(impl Files<File: AsRawFd> + Print + Abort), alloc: Global, case: &Case) {
     for (name, bytes) in case.files {
         make(rt, name, bytes);
     }
@@ -155,7 +160,7 @@ fn a_missing_input_leaves_no_output(rt: HostRuntime) {
 #[test]
 fn a_file_is_copied_by_its_ports(rt: HostRuntime) {
     make(&rt, "from.raw", &[1, 2, 3]);
-    let mut source = FileSource::new(&rt, "from.raw");
+    let mut source = FileSource::new(rt.alloc(), &rt, "from.raw", 16_384).expect(&rt, "memory");
     let mut sink = FileSink::new(rt.alloc(), &rt, "to.raw", "", "from.raw").expect(&rt, "memory");
     let mut bytes = [0; 4];
     assert_same!(&rt; source.read(&mut bytes).ok(), Some(3));
@@ -218,7 +223,12 @@ fn a_short_input_on_a_full_disk_is_not_written(rt: HostRuntime) {
 
 /// Writes three blocks of one byte each, of an input that is short, to a disk with so many bytes of
 /// room, and compares the status.
-fn short_run_on_a_disk(rt: &(impl Files + Print + Abort), alloc: Global, room: u64, status: u8) {
+fn short_run_on_a_disk(
+    rt: &(impl Files<File: AsRawFd> + Print + Abort),
+    alloc: Global,
+    room: u64,
+    status: u8,
+) {
     make(
         rt,
         "full.txt",

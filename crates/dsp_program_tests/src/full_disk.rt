@@ -3,6 +3,7 @@ use std::alloc::Allocator;
 use std::fmt::Display;
 use std::fs::{Files, Metadata, OpenFile, OpenOptions};
 use std::io::{self, ErrorKind, Print, Read, Seek, SeekFrom, Write};
+use std::os::fd::{AsRawFd, RawFd};
 
 /// A runtime whose disk has room for so many bytes of each file.
 #[derive(Drop)]
@@ -60,6 +61,12 @@ impl<F: OpenFile> OpenFile for FullFile<F> {
 
     fn sync_data(&self) -> io::Result<()> {
         self.file.sync_data()
+    }
+}
+
+impl<F: AsRawFd> AsRawFd for FullFile<F> {
+    fn as_raw_fd(&self) -> RawFd {
+        self.file.as_raw_fd()
     }
 }
 

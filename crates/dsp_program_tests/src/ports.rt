@@ -1,5 +1,7 @@
 use crate::memory::{sink_of, source_of};
-use dsp_ports::{CleanSink, CleanSource, FillFault, Sink, Source, fill, write_all};
+use dsp_ports::{
+    CleanSink, CleanSource, FillFault, LentSource, Sink, Source, Taker, fill, write_all,
+};
 
 #[test]
 fn a_read_that_is_listed_fails_and_the_others_go_on(rt: HostRuntime) {
@@ -53,4 +55,35 @@ fn a_block_is_filled_in_pieces_up_to_the_room(rt: HostRuntime) {
         fill(&mut short, &mut block, 9).err(),
         Some(FillFault::Failed)
     );
+}
+
+/// The last byte that was lent.
+#[derive(Drop)]
+struct LastLent {
+    byte: Option<u8>,
+}
+
+impl Taker for LastLent {
+    ghost use Rattle.std.specs.Prelude.{⊤, length};
+
+    ghost room = { λ _. 8 };
+
+    ghost Takes = { λ _ _ _. ⊤ };
+
+    fn take(&mut self, bytes: &[u8]) {
+        self.byte = bytes.last().copied();
+    }
+}
+
+#[test]
+fn bytes_are_lent_where_they_lie(rt: HostRuntime) {
+    let mut source = LentSource::new(b"abcdefg");
+    let mut lent = LastLent { byte: None };
+    assert_holds!(&rt; source.lend(3, &mut lent));
+    assert_same!(&rt; lent.byte, Some(b'c'));
+    assert_holds!(&rt; !source.lend(5, &mut lent));
+    assert_same!(&rt; lent.byte, Some(b'c'));
+    let mut block = [0; 8];
+    assert_same!(&rt; source.read(&mut block).ok(), Some(4));
+    assert_same!(&rt; block.as_slice(), b"defg\0\0\0\0".as_slice());
 }

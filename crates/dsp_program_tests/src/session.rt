@@ -3,7 +3,7 @@ ghost use Rattle.std.specs.Prelude.{◌≡◌};
 use crate::memory::{sink_of, source_of};
 use dsp_blocks::BlockUnit;
 use dsp_defs::{HeaderFault, Steps, WindowFault};
-use dsp_ports::{MemSink, MemSource};
+use dsp_ports::{MemSink, MemSource, Piece};
 use dsp_script::{legal, parse};
 use dsp_session::{Session, StreamFault, Totals, stream};
 use dsp_unit::AnyUnit;
@@ -133,7 +133,7 @@ fn first_windows<U: AnyUnit + Drop>(
     }
     let session = Session::<U>::new(alloc, script, 2).ok()?;
     Some((
-        session.out().len(),
+        session.out().size(),
         session.window_fault(0),
         session.window_fault(1),
     ))

@@ -192,6 +192,45 @@ going_starts start header span input sink before runs declared limit part = reco
 few : (frames frame bytes : ℕ) → 0 < frame → frames * frame ≤ bytes → frames ≤ bytes
 few frames frame bytes some h = grind arith
 
+-- a block for which there is room in bytes
+pub block_in_limit : (made block frame taken size start : ℕ) → 0 < frame → made * frame ≤ taken → size ≡ block * frame →
+    start + taken + size ≤ MAX_INPUT → made + block ≤ MAX_INPUT
+block_in_limit made block frame taken size start some before is within =
+    let both : (made + block) * frame ≡ made * frame + block * frame = sum made block frame in
+    few (made + block) frame MAX_INPUT some (omega (arith, both, before, is, within))
+  where
+    sum : (a b f : ℕ) → (a + b) * f ≡ a * f + b * f
+    sum a b f = grind arith
+
+-- the bytes of the frames that were taken are among those that have passed
+pub going_frames : (start session : SessionState) (header : Header) (span : Span) (taken : ℕ) (input now : SourceState)
+    (sink then : SinkState) (before counts : Counts) → start.coding ≡ header.coding
+    → start.chain.frames * frame_bytes start.script header.coding ≤ span.from
+    → Going start session header span taken input now sink then before counts
+    → session.chain.frames * frame_bytes session.script session.coding ≤ taken
+going_frames start session header span taken input now sink then before counts coding from going =
+    let advances = going.advances in
+    let frame = frame_bytes start.script start.coding in
+    let heard : length going.heard ≡ going.blocks * start.block * frame =
+    frames_of_blocks start.script start.coding start.block going.blocks (length going.heard) advances.long in
+    let all : session.chain.frames * frame_bytes session.script session.coding ≡
+    (start.chain.frames + going.blocks * start.block) * frame =
+    (λ i. advances.counted i * frame_bytes (advances.same.script i) (advances.same.coding i)) in
+    let first : start.chain.frames * frame ≤ span.from = rw coding from in
+    omega (arith, all, sum start.chain.frames (going.blocks * start.block) frame, heard, first, going.taken_is)
+  where
+    sum : (a b f : ℕ) → (a + b) * f ≡ a * f + b * f
+    sum a b f = grind arith
+
+-- nothing has changed where no block was lent
+pub still_going : (start session new : SessionState) (header : Header) (span : Span) (taken : ℕ)
+    (input now later : SourceState) (sink then last : SinkState) (before counts made : Counts)
+    → Going start session header span taken input now sink then before counts
+    → (new ≡ session) × (later ≡ now) × (last ≡ then) × (made ≡ counts)
+    → Going start new header span taken input later sink last before made
+still_going start session new header span taken input now later sink then last before counts made going
+    (worker, source, output, steps) = rw (worker, source, output, steps) going
+
 add_up : (a b c f : ℕ) → (a + (b + c)) * f ≡ a * f + (b * f + c * f)
 add_up a b c f = grind arith
 

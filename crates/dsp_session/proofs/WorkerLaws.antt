@@ -1,8 +1,7 @@
 -- What the calls of a chain make of bytes.
-use Rattle.std.proofs.Common.{◌≡◌, ℕ, suc, ◌+◌, ◌*◌, ◌/◌, ◌^◌, ◌<◌, ◌≤◌, ℤ, Bool, List, [], ◌∷◌, ◌++◌, length, take}
-use Rattle.std.proofs.Common.{drop, fold, flat_map, length-append, All, FitsSigned, refl, sym, ap, ◌∙◌, subst, arith}
+use Rattle.std.proofs.Common.{◌≡◌, ℕ, ◌+◌, ◌*◌, ◌/◌, ◌^◌, ◌<◌, ◌≤◌, ℤ, Bool, List, [], ◌∷◌, ◌++◌, length, take}
+use Rattle.std.proofs.Common.{drop, fold, flat_map, All, FitsSigned, refl, sym, ap, ◌∙◌, subst, arith}
 use Rattle.std.proofs.Common.{inl, inr}
-use Rattle.std.proofs.lemmas.List.Concat.{flat_map-cons}
 use Rattle.dsp_defs.specs.Block.{Frame, format_after, channels_after}
 use Rattle.dsp_defs.specs.Bytes.{IsValue, format_in, width, bytes_of, sample_of}
 use Rattle.dsp_defs.specs.Counts.{Counts}
@@ -12,7 +11,7 @@ use Rattle.dsp_unit.specs.Line.{Place, Passes, place_after, place_behind, place_
 use Rattle.dsp_unit.specs.Line.{line_turns}
 use Rattle.dsp_defs.specs.Signal.{values}
 use Rattle.dsp_unit.specs.Unit.{frames_in}
-use Rattle.dsp_defs.specs.declared.limits.TheConstants.{MAX_SAMPLES, MAX_GATHERED}
+use Rattle.dsp_defs.specs.declared.limits.TheConstants.{MAX_SAMPLES, MAX_GATHERED, MAX_INPUT}
 use Rattle.dsp_defs.specs.declared.format.Coding.{Coding}
 use Rattle.dsp_defs.specs.declared.format.Coding.TheVariants.{Raw7, Raw15, Raw31, Wave7, Wave15, Wave24, Wave31}
 use Rattle.std.proofs.lemmas.Nat.{mul-le}
@@ -20,8 +19,9 @@ use Rattle.dsp_defs.specs.declared.script.Block.{Block}
 use Rattle.dsp_defs.specs.declared.script.Script.{Script}
 use Rattle.dsp_defs.proofs.BlockLaws.{length-values}
 use Rattle.dsp_unit.proofs.ChainPlaces.{legal_is_open, open_behind}
-use Rattle.dsp_defs.proofs.CodingLemmas.{width-some, length-bytes_of, IsValue-coding_of, IsValue-fits}
+use Rattle.dsp_defs.proofs.CodingLemmas.{width-some, IsValue-coding_of, IsValue-fits}
 use Rattle.dsp_defs.proofs.SampleLaws.{decoded, encoded}
+use Rattle.std.proofs.lemmas.List.{length-take-le}
 use Rattle.std.proofs.lemmas.List.Elements.{All-weaker}
 use Rattle.dsp_defs.specs.Shape.{frames_behind, gathered, held, whole_frames}
 use Rattle.dsp_defs.specs.declared.fault.GatherFull.{GatherFull}
@@ -30,8 +30,11 @@ use Rattle.dsp_chain.specs.Chain.{ChainState, ChainStandsFor, SameChain, FeedsCh
 use Rattle.dsp_chain.specs.Chain.{IsNewChain, IsTooMuch as chain_too_much, given_of, live_of, output_of, input_place}
 use Rattle.dsp_chain.specs.Chain.{made_of}
 use Rattle.dsp_input.specs.Taking.{frame_bytes}
+use Rattle.dsp_wave.proofs.CodedSizes.{size_of_coded}
 use Rattle.dsp_session.specs.SessionState.{SessionState}
+use Rattle.dsp_session.specs.SampleRow.{SampleRow, HasRead}
 use Rattle.dsp_session.specs.Working.{IsWorking}
+use Rattle.dsp_session.proofs.OpeningLaws.{frames-whole, some_frame}
 use Rattle.dsp_session.specs.Session.{IsReady, Holds, Feeds, Fails, IsTooMuch, Ends, given_bytes, signal, live_values}
 use Rattle.dsp_session.specs.Session.{products_of, turns_of}
 
@@ -46,22 +49,29 @@ channels_behind : (p : Place) (blocks : List Block) →
 channels_behind p [] = refl
 channels_behind p (block ∷ blocks) = channels_behind (place_after p block) blocks
 
--- the bytes of samples
-length-written : (coding : Coding) (ys : List ℤ) → length (flat_map (bytes_of coding) ys) ≡ length ys * width coding
-length-written coding [] = no_more (width coding)
-  where
-    no_more : (w : ℕ) → 0 ≡ 0 * w
-    no_more w = omega arith
-length-written coding (y ∷ ys) =
-    ap length (flat_map-cons (bytes_of coding) y ys) ∙ length-append (bytes_of coding y) (flat_map (bytes_of coding) ys)
-    ∙ (λ i. length-bytes_of coding y i + length-written coding ys i) ∙ one_more (length ys) (width coding)
-  where
-    one_more : (n w : ℕ) → w + n * w ≡ suc n * w
-    one_more n w = omega arith
-
 -- rows have room
 pub row_room : (n b c w : ℕ) → n ≤ b → n * (c * w) ≤ b * c * w
 row_room n b c w h = grind arith
+
+-- how many bytes the samples have that were given to the front of a row
+pub given_size : (coding : Coding) (count len w : ℕ) (new old : List ℤ) → length new ≡ len → count ≤ len →
+    w ≡ width coding → count * w ≡ length (flat_map (bytes_of coding)
+    (take count (take len (new ++ drop (length new) old))))
+given_size coding count len w new old long within is =
+    let row : List ℤ = take len (new ++ drop (length new) old) in
+    let size : length (take count row) ≡ count =
+    ap (λ zs. length (take count zs)) (written-line len new old long)
+    ∙ length-take-le count new (omega (arith, within, long)) in
+    sym (size_of_coded coding (take count row) ∙ (λ i. size i * sym is i))
+
+-- the bytes of some of the samples that there is room for have room
+pub bytes_room : (coding : Coding) (count values bytes room : ℕ) (xs : List ℤ) → length xs ≡ count → count ≤ values →
+    values ≡ room → bytes ≡ room * width coding → length (flat_map (bytes_of coding) xs) ≤ bytes
+bytes_room coding count values bytes room xs long within values_are bytes_are =
+    let size : length (flat_map (bytes_of coding) xs) ≡ count * width coding =
+    size_of_coded coding xs ∙ ap (λ n. n * width coding) long in
+    let less = mul-le count (width coding) room (width coding) (omega (arith, within, values_are)) (omega arith) in
+    omega (arith, size, less, bytes_are)
 
 few_width : (coding : Coding) → width coding ≤ 4
 few_width Raw7 = omega arith
@@ -143,31 +153,41 @@ module _ (script : Script) (block : ℕ) (ready : IsReady script block) where
       at_most = rw frames_are few;
     }
 
-  -- the samples that were read to the front of a row
-  pub read_row : (coding : Coding) (count len : ℕ) (bytes : List ℕ) (row new old : List ℤ) → length new ≡ len →
-      row ≡ take len (new ++ drop (length new) old)
-      → take count new ≡ values (length bytes / width coding)
-      (λ i. sample_of coding (take (width coding) (drop (i * width coding) bytes)))
-      → take count row ≡ values (length bytes / width coding)
-      (λ i. sample_of coding (take (width coding) (drop (i * width coding) bytes)))
-  read_row coding count len bytes row new old long is read = ap (take count) (is ∙ written-line len new old long) ∙ read
+  -- bytes of whole frames whose samples stand in a row
+  pub record IsBlock (coding : Coding) (made : ℕ) (bytes : List ℕ) (xs : List ℤ) : Type 0 where
+    pub whole : length bytes ≡ length (signal script coding bytes) * frame_bytes script coding
+    pub read : xs ≡ values (length bytes / width coding) (λ i. sample_of coding
+        (take (width coding) (drop (i * width coding) bytes)))
+    pub fits : All (IsValue coding) xs
+    pub few : length (signal script coding bytes) ≤ block
+    pub in_limit : made + length (signal script coding bytes) ≤ MAX_INPUT
 
-  -- and their frames
-  pub row_frames : (coding : Coding) (count len : ℕ) (bytes : List ℕ) (row new old : List ℤ) →
-      length bytes ≡ length (signal script coding bytes) * frame_bytes script coding → length new ≡ len →
-      row ≡ take len (new ++ drop (length new) old)
-      → take count new ≡ values (length bytes / width coding)
-      (λ i. sample_of coding (take (width coding) (drop (i * width coding) bytes)))
-      → frames_in script.input.channels (take count row) ≡ signal script coding bytes
-  row_frames coding count len bytes row new old whole long is read =
-      frames_are coding bytes (take count row) whole (read_row coding count len bytes row new old long is read)
+  -- those that a source has lent
+  pub lent_block : (old new : SampleRow) (bytes : List ℕ) (size frames made count : ℕ) (now : Coding) (xs : List ℤ) →
+      size ≡ frames * frame_bytes script old.coding → frames ≤ block → made + frames ≤ MAX_INPUT →
+      length bytes ≡ size → HasRead old bytes new → now ≡ new.coding → count ≡ size / width now →
+      xs ≡ take count new.row → IsBlock old.coding made bytes xs
+  lent_block old new bytes size frames made count now xs whole few in_limit long read now_is count_is xs_are =
+      let n : length (signal script old.coding bytes) ≡ frames = frames-whole script old.coding
+      (some_frame script old.coding block ready) bytes frames (long ∙ whole) in
+      let same : count ≡ length bytes / width old.coding = count_is ∙
+      (λ i. sym long i / width ((now_is ∙ read.coding) i)) in
+      let row = xs_are ∙ ap (λ k. take k new.row) same in
+      record {
+        whole = long ∙ whole ∙ ap (λ m. m * frame_bytes script old.coding) (sym n);
+        read = row ∙ read.samples;
+        fits = subst (All (IsValue old.coding)) (sym row) read.fits;
+        few = omega (arith, n, few);
+        in_limit = omega (arith, n, in_limit);
+      }
 
-  -- the bytes that were written to the front of a row
-  pub write_row : (coding : Coding) (count len : ℕ) (ys : List ℤ) (new old : List ℕ) → coding ≡ output_coding script →
-      length new ≡ len → take count new ≡ flat_map (bytes_of coding) ys
-      → take count (take len (new ++ drop (length new) old)) ≡ flat_map (bytes_of (output_coding script)) ys
-  write_row coding count len ys new old is long written = ap (take count) (written-line len new old long) ∙ written ∙
-      ap (λ (c : Coding). flat_map (bytes_of c) ys) is
+  -- the bytes of the samples that were given to the front of a row
+  pub given_row : (coding : Coding) (count len : ℕ) (new old : List ℤ) → coding ≡ output_coding script →
+      length new ≡ len → flat_map (bytes_of coding) (take count (take len (new ++ drop (length new) old)))
+      ≡ flat_map (bytes_of (output_coding script)) (take count new)
+  given_row coding count len new old is long =
+      ap (λ zs. flat_map (bytes_of coding) (take count zs)) (written-line len new old long)
+      ∙ ap (λ (c : Coding). flat_map (bytes_of c) (take count new)) is
 
   -- what the chain gives are values of the output's coding
   pub gives_values : (coding : Coding) (ys : List ℤ) → coding ≡ output_coding script →
@@ -204,7 +224,7 @@ module _ (script : Script) (block : ℕ) (ready : IsReady script block) where
         length ys ≡ length (frames_in (output_of old).channels ys) * (output_of old).channels
         → length out ≡ length (frames_in (output_of old).channels ys) * given_bytes script
     size_is ys out given whole =
-        ap length given ∙ length-written (output_coding script) ys ∙ ap (λ n. n * width (output_coding script)) whole
+        ap length given ∙ size_of_coded (output_coding script) ys ∙ ap (λ n. n * width (output_coding script)) whole
         ∙ group (length (frames_in (output_of old).channels ys)) (output_of old).channels (width (output_coding script))
         ∙ ap (λ c. length (frames_in (output_of old).channels ys) * (c * width (output_coding script))) gives_channels
       where
@@ -342,13 +362,15 @@ module _ (script : Script) (block : ℕ) (ready : IsReady script block) where
           (λ i. gathered (blocks i) (old.frames + same i)),
     )
 
--- what holds of a worker holds of it with another state of its chain, and other bytes within its room
+-- what holds of a worker holds of it with another state of its chain, and other samples that were given
 pub still_works :
     (s : SessionState) (chain : ChainState) (out : List ℕ) (coding : Coding)
-    (samples_room values_room bytes_room given later : ℕ) →
-    IsWorking s coding samples_room values_room bytes_room given → SameChain s.chain chain → later ≤ bytes_room →
+    (samples_room values_room bytes_room given later : ℕ) (ys zs : List ℤ) →
+    IsWorking s coding samples_room values_room bytes_room given ys → SameChain s.chain chain → later ≤ values_room →
+    All (IsValue coding) zs →
     IsWorking (with_chain s.script s.block s.banked s.coding chain out) coding samples_room values_room bytes_room later
-still_works s chain out coding samples_room values_room bytes_room given later is same within = record {
+    zs
+still_works s chain out coding samples_room values_room bytes_room given later ys zs is same within fit = record {
   holds = record {
     ready = is.holds.ready;
     input = same.input ∙ is.holds.input;
@@ -360,7 +382,8 @@ still_works s chain out coding samples_room values_room bytes_room given later i
   samples = is.samples;
   values = is.values ∙ room;
   bytes = is.bytes ∙ ap (λ r. r * width coding) room;
-  given = within;
+  within = within;
+  given_fit = fit;
 }
   where
     room : place_room (output_of s.chain) ≡ place_room (output_of chain)

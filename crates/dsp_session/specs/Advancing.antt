@@ -1,6 +1,6 @@
 -- How a session goes on from any state that it is in, whatever it has taken before: by a call, by whole blocks, and
 -- to its end.
-use Rattle.std.specs.Prelude.{◌≡◌, ℕ, zero, suc, ◌+◌, ◌*◌, ◌/◌, ◌<◌, ◌≤◌, false, Bool, List, ◌++◌, length, take}
+use Rattle.std.specs.Prelude.{◌≡◌, ℕ, zero, suc, ◌+◌, ◌*◌, ◌/◌, ◌<◌, ◌≤◌, true, false, Bool, List, ◌++◌, length, take}
 use Rattle.std.specs.Prelude.{Some, None, Ok, Err}
 use Rattle.dsp_ports.specs.Ports.{SourceState, SinkState, one_more, Gave, Took, IsSettled}
 use Rattle.dsp_ports.specs.declared.source.Failed.{Failed}
@@ -23,6 +23,7 @@ use Rattle.dsp_session.specs.declared.fault.LengthFault.TheVariants as length_fa
 use Rattle.dsp_session.specs.declared.fault.StreamFault.{StreamFault}
 use Rattle.dsp_session.specs.declared.fault.StreamFault.TheVariants as fault
 use Rattle.dsp_session.specs.declared.streaming.Last.{Last}
+use Rattle.dsp_session.specs.declared.streaming.Next.{Next}
 use Rattle.dsp_session.specs.declared.streaming.Span.{Span}
 
 -- it can take more: nothing of its tail was given, no call was refused, and a correlation has gathered no more than
@@ -127,6 +128,16 @@ pub data Breaks (session new : SessionState) (header : Header) (end taken : ℕ)
       PartRead session.script header end taken piece (length piece) input now
       → FailsToPassOn stop session new piece sink after before counts →
       Breaks session new header end taken stop input now sink after before counts
+
+-- the next block was lent and passed, so many bytes; or nothing has changed
+abbrev pub PassesLent : Bool → SessionState → SessionState → ℕ → Next → SourceState → SourceState → SinkState →
+    SinkState → Counts → Counts → Type 0
+PassesLent true old new size next input now sink after before counts =
+    (piece : List ℕ) × (length piece ≡ size) ×
+    PartRead old.script next.header next.end next.taken piece size input now ×
+    PassesOn old new piece sink after before counts
+PassesLent false old new size next input now sink after before counts =
+    (new ≡ old) × (now ≡ input) × (after ≡ sink) × (counts ≡ before)
 
 -- and all the blocks before it have passed
 pub record Broke (start new : SessionState) (header : Header) (span : Span) (stop : StreamFault)

@@ -5,5 +5,7 @@ pub mod Opening
 pub mod Stream
 pub mod Passing
 pub mod Working
+pub mod SampleRow
+pub mod Feeding
 pub mod Advancing
 pub mod Resuming

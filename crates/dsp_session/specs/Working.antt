@@ -1,7 +1,7 @@
--- What always holds of a worker: of what is seen of it, the coding of its output, the room of its rows, and the bytes
+-- What always holds of a worker: of what is seen of it, the coding of its output, the room of its rows, and the samples
 -- given.
-use Rattle.std.specs.Prelude.{◌≡◌, ℕ, ◌≤◌, ◌*◌}
-use Rattle.dsp_defs.specs.Bytes.{format_in, width}
+use Rattle.std.specs.Prelude.{◌≡◌, ℕ, ℤ, ◌≤◌, ◌*◌, All, List}
+use Rattle.dsp_defs.specs.Bytes.{IsValue, format_in, width}
 use Rattle.dsp_defs.specs.Output.{output_coding}
 use Rattle.dsp_defs.specs.declared.format.Coding.{Coding}
 use Rattle.dsp_unit.specs.Line.{place_room}
@@ -9,7 +9,8 @@ use Rattle.dsp_chain.specs.Chain.{output_of}
 use Rattle.dsp_session.specs.Session.{Holds}
 use Rattle.dsp_session.specs.SessionState.{SessionState}
 
-pub record IsWorking (s : SessionState) (coding : Coding) (samples_room values_room bytes_room count : ℕ) : Type 0 where
+pub record IsWorking (s : SessionState) (coding : Coding) (samples_room values_room bytes_room count : ℕ)
+    (given : List ℤ) : Type 0 where
   pub holds : Holds s
   -- the input has samples of the script's format, and the output the coding of its own
   pub input : format_in s.coding ≡ s.script.input.format
@@ -18,4 +19,6 @@ pub record IsWorking (s : SessionState) (coding : Coding) (samples_room values_r
   pub samples : samples_room ≡ s.block * s.script.input.channels
   pub values : values_room ≡ place_room (output_of s.chain)
   pub bytes : bytes_room ≡ place_room (output_of s.chain) * width coding
-  pub given : count ≤ bytes_room
+  -- what a call gave are samples that have bytes
+  pub within : count ≤ values_room
+  pub given_fit : All (IsValue coding) given

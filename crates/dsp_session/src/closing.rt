@@ -37,7 +37,7 @@ fn write_tail<U: AnyUnit + Drop, K: Sink, L: Ledger>(
         if worker.end(steps) == 0 {
             return Ok(());
         }
-        write_all(output, worker.out())?;
+        worker.write_out(output)?;
     }
     let _spent = worker.end(steps);
     Ok(())

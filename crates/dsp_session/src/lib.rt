@@ -6,6 +6,7 @@ mod closing;
 mod fault;
 mod opening;
 mod resuming;
+mod samples;
 mod session;
 mod streaming;
 mod worker;

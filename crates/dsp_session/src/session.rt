@@ -18,6 +18,7 @@ ghost use Rattle.dsp_session.specs.Session.{Ends, call_room, given_bytes, measur
 use crate::worker::Worker;
 use dsp_defs::{Coding, GatherFull, MAX_INPUT, Measure, Script, Steps, WindowFault};
 use dsp_unit::{AnyUnit, Unit};
+use dsp_wave::Coded;
 use std::alloc::{AllocError, Global};
 use std::marker::Model;
 use std::sync::ledger::Ledger;
@@ -156,9 +157,9 @@ impl<U: AnyUnit + Drop> Session<U> {
         self.worker.fault()
     }
 
-    /// The bytes that the last call gave.
-    pub fn out(&self) -> &[u8]
-        ensures { result.now ≡ self.now.out }
+    /// The bytes that the last call gave, which `write_to` makes where the caller wants them.
+    pub fn out(&self) -> Coded<'_>
+        ensures { result ≡ self.now.out }
     {
         self.worker.out()
     }

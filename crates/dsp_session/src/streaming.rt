@@ -1,12 +1,15 @@
-ghost use Rattle.std.specs.Prelude.{◌≡◌, ◌+◌, ◌*◌, ◌/◌, ◌≤◌, [], length, IfOk, IfErr};
+ghost use Rattle.std.specs.Prelude.{◌≡◌, ◌+◌, ◌*◌, ◌/◌, ◌≤◌, ℕ, List, [], length, IfOk, IfErr};
+ghost use Rattle.dsp_defs.specs.Counts.{Counts};
 ghost use Rattle.dsp_ports.specs.Ports.{SourceState, SinkState};
 ghost use Rattle.dsp_defs.specs.Shape.{frames_given};
 ghost use Rattle.dsp_input.specs.Taking.{InDeclared, declared_bytes, frame_bytes};
 ghost use Rattle.dsp_session.specs.Session.{StandsFor, SameScript, SameSession, signal, block_bytes, cost_of};
 ghost use Rattle.dsp_session.specs.Session.{measured};
 ghost use Rattle.dsp_session.specs.Opening.{Begun};
+ghost use Rattle.dsp_session.specs.SessionState.{SessionState};
+ghost use Rattle.dsp_session.specs.Feeding.{IsFed};
 ghost use Rattle.dsp_session.specs.Stream.{Stopped, StaysRefused, Done};
-ghost use Rattle.dsp_session.specs.Advancing.{Runs, PassesOn, FailsToPassOn, Reached, Broke};
+ghost use Rattle.dsp_session.specs.Advancing.{Runs, PassesOn, PassesLent, FailsToPassOn, Reached, Breaks, Broke};
 
 use crate::closing::close;
 use crate::fault::{LengthFault, StreamFault};
@@ -14,8 +17,8 @@ use crate::opening::open;
 use crate::session::Session;
 use crate::worker::Worker;
 use dsp_defs::{GatherFull, Header, MAX_INPUT, Steps};
-use dsp_input::{frame_bytes, read_block};
-use dsp_ports::{Sink, Source, write_all};
+use dsp_input::{frame_bytes, has_block, read_block};
+use dsp_ports::{Sink, Source};
 use dsp_script::{cost, frames_given};
 use dsp_unit::AnyUnit;
 use std::sync::ledger::Ledger;
@@ -49,6 +52,31 @@ pub const WHOLE: Span = Span {
     end: u64::MAX,
 };
 
+/// Writes what a call of the worker gave, or says why it was refused.
+fn pass_on<U: AnyUnit + Drop, K: Sink>(
+    worker: &mut Worker<U>,
+    fed: Result<usize, GatherFull>,
+    output: &mut K,
+) -> Result<(), StreamFault>
+    ensures ok { (old : SessionState) (bytes : List ℕ) (before after : Counts) → Runs old
+        → IsFed fed old worker.old bytes before after
+        → IfOk result (λ _. PassesOn old worker.new bytes (K.state output.old) (K.state output.new)
+        before after) }
+    ensures err { (old : SessionState) (bytes : List ℕ) (before after : Counts) → Runs old
+        → IsFed fed old worker.old bytes before after
+        → IfErr result (λ fault. FailsToPassOn fault old worker.new bytes (K.state output.old)
+        (K.state output.new) before after) }
+    ensures same { worker.new ≡ worker.old }
+{
+    if let Err(GatherFull { held, more }) = fed {
+        return Err(StreamFault::Lengths(LengthFault::Gather { held, more }));
+    }
+    match worker.write_out(output) {
+        Ok(()) => Ok(()),
+        Err(_) => Err(StreamFault::Output),
+    }
+}
+
 /// Works on the frames of some bytes, and writes the live values that they add.
 pub fn pass_block<U: AnyUnit + Drop, K: Sink, L: Ledger>(
     worker: &mut Worker<U>,
@@ -69,16 +97,51 @@ pub fn pass_block<U: AnyUnit + Drop, K: Sink, L: Ledger>(
     ensures err { IfErr result (λ fault. FailsToPassOn fault worker.old worker.new bytes.now
         (K.state output.old) (K.state output.new) steps.old steps.new) }
 {
-    match worker.feed(bytes, steps) {
-        Ok(_) => {}
-        Err(GatherFull { held, more }) => {
-            return Err(StreamFault::Lengths(LengthFault::Gather { held, more }));
-        }
+    let fed = worker.feed(bytes, steps);
+    pass_on(worker, fed, output)
+}
+
+/// Where the next block of samples stands: of a part that ends behind `end` bytes of samples, behind `taken`.
+#[derive(Clone, Copy)]
+struct Next {
+    header: Header,
+    end: u64,
+    taken: u64,
+}
+
+/// Works on the next block of so many bytes where the input lends them, and answers whether it did: else nothing has
+/// changed.
+fn pass_lent<U: AnyUnit + Drop, S: Source, K: Sink, L: Ledger>(
+    worker: &mut Worker<U>,
+    size: usize,
+    next: Next,
+    input: &mut S,
+    output: &mut K,
+    steps: &mut Steps<L>,
+) -> Result<bool, StreamFault>
+    requires runs { Runs worker.old }
+    requires size { size ≡ block_bytes worker.old.script worker.old.coding worker.old.block }
+    requires coding { worker.old.coding ≡ next.header.coding }
+    requires limit { next.header.start + next.taken ≤ MAX_INPUT }
+    requires frames { worker.old.chain.frames * frame_bytes worker.old.script worker.old.coding
+        ≤ next.taken }
+    requires part { next.taken ≤ next.end }
+    ensures ok { IfOk result (λ passed. PassesLent passed worker.old worker.new size next
+        (S.state input.old) (S.state input.new) (K.state output.old) (K.state output.new) steps.old
+        steps.new) }
+    ensures err { IfErr result (λ fault. Breaks worker.old worker.new next.header next.end next.taken
+        fault (S.state input.old) (S.state input.new) (K.state output.old) (K.state output.new) steps.old
+        steps.new) }
+{
+    let Next { header, end, taken } = next;
+    if !has_block(worker.script(), header, end, taken, size) {
+        return Ok(false);
     }
-    match write_all(output, worker.out()) {
-        Ok(()) => Ok(()),
-        Err(_) => Err(StreamFault::Output),
-    }
+    let Some(fed) = worker.feed_from(input, size, steps) else {
+        return Ok(false);
+    };
+    pass_on(worker, fed, output)?;
+    Ok(true)
 }
 
 /// Works on block after block until the samples end, or the part of them.
@@ -108,6 +171,15 @@ pub fn pass_blocks<U: AnyUnit + Drop, S: Source, K: Sink, L: Ledger>(
 {
     let mut taken = span.from;
     'passing: loop {
+        let next = Next {
+            header,
+            end: span.end,
+            taken,
+        };
+        if pass_lent(worker, block.len(), next, input, output, steps)? {
+            taken += block.len() as u64;
+            continue 'passing;
+        }
         let count = read_block(worker.script(), header, span.end, taken, block, input)?;
         if count < block.len() {
             return Ok(Last {

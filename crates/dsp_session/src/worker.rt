@@ -1,64 +1,36 @@
 ghost use Rattle.std.specs.Prelude.{◌≡◌, ◌+◌, ◌*◌, ◌/◌, ◌<◌, ◌≤◌, ◌↔◌, List, [], length, take, drop};
-ghost use Rattle.std.specs.Prelude.{flat_map, All, IfOk, IfErr, IsErr, IsFalse, IsTrue, Some, None};
+ghost use Rattle.std.specs.Prelude.{IfOk, IfErr, IfSome, IsErr, IsFalse, IsNone, IsTrue, MatchResult, Some, None, ℕ};
 ghost use Rattle.std.specs.Prelude.{slice_get};
 ghost use Rattle.std.specs.Option.{option_map};
-ghost use Rattle.dsp_defs.specs.Bytes.{IsValue, bytes_of, format_in, sample_of, width};
+ghost use Rattle.dsp_defs.specs.Bytes.{format_in};
 ghost use Rattle.dsp_defs.specs.Shape.{gathered, held, window_at};
-ghost use Rattle.dsp_defs.specs.Signal.{values};
 ghost use Rattle.dsp_defs.specs.declared.fault.GatherFull.{GatherFull};
 ghost use Rattle.dsp_defs.specs.declared.fault.WindowFault.{WindowFault};
+ghost use Rattle.dsp_ports.specs.Ports.{CountsFaults, Took};
 ghost use Rattle.dsp_chain.specs.Chain.{IsNewChain, input_place};
 ghost use Rattle.dsp_chain.specs.Line.{measure_counts};
 ghost use Rattle.dsp_defs.specs.KeptOfScript.{Fits, kept, kept_count};
 ghost use Rattle.dsp_input.specs.Taking.{frame_bytes};
 ghost use Rattle.dsp_session.specs.Keeping.{Restores};
 ghost use Rattle.dsp_session.specs.Advancing.{Runs};
+ghost use Rattle.dsp_session.specs.Feeding.{IsFed, IsFedFrom, MayTake};
 ghost use Rattle.dsp_chain.specs.Restored.{kept_of};
 ghost use Rattle.dsp_defs.specs.Block.{Frame};
 ghost use Rattle.dsp_session.specs.Session.{IsReady, IsNew, StandsFor, SameScript, SameSession, Feeds, Fails};
 ghost use Rattle.dsp_session.specs.Session.{IsTooMuch, Ends, block_bytes, call_room, given_bytes, measured};
 ghost use Rattle.dsp_session.specs.Session.{signal, tail_bytes};
 
+use crate::samples::Samples;
 use dsp_chain::Chain;
 use dsp_defs::{GatherFull, MAX_INPUT, Measure, Script, Steps, WindowFault};
 use dsp_input::frame_bytes;
+use dsp_ports::{Failed, LentSource, Sink, Source, write_piece};
 use dsp_script::output_flow;
 use dsp_unit::{AnyUnit, Unit};
-use dsp_wave::{Coding, coding_of, decode, encode, whole_samples, width};
+use dsp_wave::{Coded, Coding, coding_of, whole_samples, width};
 use std::alloc::{AllocError, Global};
 use std::marker::Model;
 use std::sync::ledger::Ledger;
-
-/// Reads the samples of some bytes to the front, and answers their number.
-fn decode_front(coding: Coding, bytes: &[u8], samples: &mut [i32]) -> usize
-    requires { length bytes.now ≤ length samples.old * width coding }
-    ensures count { result ≡ length bytes.now / width coding }
-    ensures within { result ≤ length samples.old }
-    ensures values { take result samples.new ≡ values (length bytes.now / width coding) (λ i.
-        sample_of coding (take (width coding) (drop (i * width coding) bytes.now))) }
-    ensures fits { All (IsValue coding) (take result samples.new) }
-{
-    let count = whole_samples(coding, bytes.len());
-    decode(
-        coding,
-        &bytes[..count * width(coding)],
-        &mut samples[..count],
-    );
-    count
-}
-
-/// Writes the bytes of some samples to the front, and answers their number.
-fn encode_front(coding: Coding, samples: &[i32], bytes: &mut [u8]) -> usize
-    requires room { length samples.now * width coding ≤ length bytes.old }
-    requires fits { All (IsValue coding) samples.now }
-    ensures count { result ≡ length samples.now * width coding }
-    ensures within { result ≤ length bytes.old }
-    ensures bytes { take result bytes.new ≡ flat_map (bytes_of coding) samples.now }
-{
-    let count = samples.len() * width(coding);
-    encode(coding, samples, &mut bytes[..count]);
-    count
-}
 
 /// The chain of a script, banked or not.
 fn chain_of<U: AnyUnit + Drop>(
@@ -76,23 +48,24 @@ fn chain_of<U: AnyUnit + Drop>(
     }
 }
 
-/// The blocks of a script at work on bytes.
+/// The blocks of a script at work on bytes. What a call gave stands as samples at the front of `values`, and `bytes` has
+/// room for their bytes.
 #[derive(Drop)]
 pub struct Worker<U: Unit + Drop> {
     script: Script,
     banked: bool,
     chain: Chain<U>,
-    input: Coding,
+    samples: Samples,
     output: Coding,
     block: usize,
-    samples: Vec<i32>,
     values: Vec<i32>,
     bytes: Vec<u8>,
     given: usize,
 }
 
 impl<U: Unit + Drop> Model for Worker<U> {
-    ghost use Rattle.std.specs.Prelude.{take, vec_len};
+    ghost use Rattle.std.specs.Prelude.{flat_map, length, take, vec_len};
+    ghost use Rattle.dsp_defs.specs.Bytes.{bytes_of};
     ghost use Rattle.dsp_session.specs.SessionState.{SessionState};
     ghost use Rattle.dsp_session.specs.Working.{IsWorking};
 
@@ -102,9 +75,9 @@ impl<U: Unit + Drop> Model for Worker<U> {
       script = w.script;
       banked = w.banked;
       block = w.block;
-      coding = w.input;
+      coding = w.samples.coding;
       chain = w.chain;
-      out = take w.given w.bytes.items;
+      out = flat_map (bytes_of w.output) (take w.given w.values.items);
     } };
 
     ghost invariant = { λ w. IsWorking
@@ -112,11 +85,12 @@ impl<U: Unit + Drop> Model for Worker<U> {
           script = w.script;
           banked = w.banked;
           block = w.block;
-          coding = w.input;
+          coding = w.samples.coding;
           chain = w.chain;
-          out = take w.given w.bytes.items;
+          out = flat_map (bytes_of w.output) (take w.given w.values.items);
         })
-        w.output (vec_len w.samples) (vec_len w.values) (vec_len w.bytes) w.given };
+        w.output (length w.samples.row) (vec_len w.values) (vec_len w.bytes) w.given
+        (take w.given w.values.items) };
 }
 
 impl<U: AnyUnit + Drop> Worker<U> {
@@ -132,17 +106,16 @@ impl<U: AnyUnit + Drop> Worker<U> {
         let output = coding_of(script.output, flow.format);
         let block = block as usize;
         let room = chain.room();
-        let samples = vec![in alloc; 0; block * usize::from(script.input.channels)]?;
+        let samples = Samples::new(alloc, input, block * usize::from(script.input.channels))?;
         let values = vec![in alloc; 0; room]?;
         let bytes = vec![in alloc; 0; room * width(output)]?;
         Ok(Worker {
             script,
             banked,
             chain,
-            input,
+            samples,
             output,
             block,
-            samples,
             values,
             bytes,
             given: 0,
@@ -176,7 +149,7 @@ impl<U: AnyUnit + Drop> Worker<U> {
         ensures value { result ≡ frame_bytes self.now.script self.now.coding }
         ensures some { 0 < result }
     {
-        frame_bytes(&self.script, self.input) as usize
+        frame_bytes(&self.script, self.samples.coding()) as usize
     }
 
     /// The bytes that one call gives at most.
@@ -226,7 +199,7 @@ impl<U: AnyUnit + Drop> Worker<U> {
     pub fn block_bytes(&self) -> usize
         ensures { result ≡ block_bytes self.now.script self.now.coding self.now.block }
     {
-        self.block * frame_bytes(&self.script, self.input) as usize
+        self.block * frame_bytes(&self.script, self.samples.coding()) as usize
     }
 
     /// The samples of the input stand in this coding of its format.
@@ -235,14 +208,57 @@ impl<U: AnyUnit + Drop> Worker<U> {
         ensures coding { self.new ≡ record self.old { coding = coding } }
         ensures same { SameScript self.old self.new }
     {
-        self.input = coding;
+        self.samples.set_coding(coding);
     }
 
     /// The bytes that the last call gave.
-    pub fn out(&self) -> &[u8]
-        ensures { result.now ≡ self.now.out }
+    pub fn out(&self) -> Coded<'_>
+        ensures { result ≡ self.now.out }
     {
-        &self.bytes[..self.given]
+        Coded::new(self.output, &self.values[..self.given])
+    }
+
+    /// Writes the bytes that the last call gave, or a front of them where the sink fails.
+    pub fn write_out<K: Sink>(&mut self, output: &mut K) -> Result<(), Failed>
+        ensures same { self.new ≡ self.old }
+        ensures took { MatchResult result
+            (λ _. Took (K.state output.old) (K.state output.new) self.old.out)
+            (λ _. (count : ℕ) × (count < length self.old.out)
+            × Took (K.state output.old) (K.state output.new) (take count self.old.out)) }
+        ensures faults { CountsFaults result (K.state output.old).faults (K.state output.new).faults }
+    {
+        let given = Coded::new(self.output, &self.values[..self.given]);
+        write_piece(output, &given, self.bytes.as_mut_slice())
+    }
+
+    /// Takes the frames of the next `size` bytes of a source, at most a block, where it lends them, gives the bytes of
+    /// the live values that they add, and answers their number. Where it does not, the answer is `None`, and nothing
+    /// has changed.
+    pub fn feed_from<S: Source, L: Ledger>(
+        &mut self,
+        input: &mut S,
+        size: usize,
+        steps: &mut Steps<L>,
+    ) -> Option<Result<usize, GatherFull>>
+        requires { MayTake self.old size }
+        ensures none { IsNone result → (self.new ≡ self.old) × (input.new ≡ input.old)
+            × (steps.new ≡ steps.old) × S.Refuses input.old size }
+        ensures some { IfSome result (λ fed. IsFedFrom fed self.old self.new size (S.state input.old)
+            (S.state input.new) steps.old steps.new) }
+    {
+        if !input.lend(size, &mut self.samples) {
+            return None;
+        }
+        self.given = 0;
+        let count = whole_samples(self.samples.coding(), size);
+        let samples = self.samples.front(count);
+        match self.chain.feed(samples, self.values.as_mut_slice(), steps) {
+            Ok(given) => {
+                self.given = given;
+                Some(Ok(given * width(self.output)))
+            }
+            Err(fault) => Some(Err(fault)),
+        }
     }
 
     /// Takes the frames of some bytes, at most a block, gives the bytes of the live values that they
@@ -252,37 +268,13 @@ impl<U: AnyUnit + Drop> Worker<U> {
         bytes: &[u8],
         steps: &mut Steps<L>,
     ) -> Result<usize, GatherFull>
-        requires running { IsFalse self.old.chain.ended }
-        requires whole { length bytes.now
-            ≡ length (signal self.old.script self.old.coding bytes.now) * frame_bytes
-            self.old.script self.old.coding }
-        requires block { length (signal self.old.script self.old.coding bytes.now) ≤ self.old.block }
-        requires count { self.old.chain.frames + length
-            (signal self.old.script self.old.coding bytes.now) ≤ MAX_INPUT }
-        ensures same { SameSession self.old self.new }
-        ensures given { IfOk result (λ given. given ≡ length self.new.out) }
-        ensures within { IfOk result (λ given. given ≤ call_room self.old) }
-        ensures fed { IfOk result (λ _. Feeds self.old self.new bytes.now steps.old steps.new) }
-        ensures full { IsErr result ↔ IsTooMuch self.old
-            (length (signal self.old.script self.old.coding bytes.now)) }
-        ensures numbers { self.old.chain.failed ≡ None
-            → IfErr result (λ (fault : GatherFull).
-            (fault.held ≡ held self.old.script.blocks self.old.chain.frames)
-            × (fault.held + fault.more ≡ gathered self.old.script.blocks
-            (self.old.chain.frames + length (signal self.old.script self.old.coding bytes.now)))) }
-        ensures refused { IfErr result (λ fault. Fails self.old self.new fault steps.old steps.new) }
+        requires { MayTake self.old (length bytes.now) }
+        ensures { IsFed result self.old self.new bytes.now steps.old steps.new }
     {
-        self.given = 0;
-        let count = decode_front(self.input, bytes, self.samples.as_mut_slice());
-        let count = self
-            .chain
-            .feed(&self.samples[..count], self.values.as_mut_slice(), steps)?;
-        self.given = encode_front(
-            self.output,
-            &self.values[..count],
-            self.bytes.as_mut_slice(),
-        );
-        Ok(self.given)
+        match self.feed_from(&mut LentSource::new(bytes), bytes.len(), steps) {
+            Some(fed) => fed,
+            None => unreachable!(),
+        }
     }
 
     /// The first partial convolution whose window ends past the full one, where the frames fed so
@@ -303,13 +295,8 @@ impl<U: AnyUnit + Drop> Worker<U> {
         ensures within { result ≤ call_room self.old }
         ensures ends { Ends self.old self.new result steps.old steps.new }
     {
-        let count = self.chain.finish(self.values.as_mut_slice(), steps);
-        self.given = encode_front(
-            self.output,
-            &self.values[..count],
-            self.bytes.as_mut_slice(),
-        );
-        self.given
+        self.given = self.chain.finish(self.values.as_mut_slice(), steps);
+        self.given * width(self.output)
     }
 
     /// How many numbers the blocks keep of so many frames.

@@ -1,5 +1,7 @@
 pub mod SampleBytes
 mod Packing
+pub mod CodedSizes
+pub mod LentBlocks
 pub mod GeneratorLemmas
 pub mod FormatLaws
 pub mod ReaderLaws

@@ -50,6 +50,12 @@ pub record BlockRead (stored : Stored) (taken : ℕ) (block : List ℕ) (count :
   pub no_fault : now.faults ≡ input.faults
   pub going : length block ≤ count → now.ended ≡ input.ended
 
+-- the samples, and the part of them that ends at `end`, have so many bytes behind the first ones, which may be taken
+pub record HasBlock (stored : Stored) (end taken size : ℕ) : Type 0 where
+  pub declared : InDeclared (declared_bytes stored) (taken + size)
+  pub in_limit : stored.start + taken + size ≤ MAX_INPUT
+  pub in_part : taken + size ≤ end
+
 -- why the byte behind so many bytes of samples did not come
 abbrev pub IsUnread : SampleFault → Stored → ℕ → SourceState → SourceState → Type 0
 IsUnread fault.Failed stored taken input now =

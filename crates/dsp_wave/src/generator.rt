@@ -11,7 +11,7 @@ use crate::coding::{bytes_of, coding_of, width};
 use crate::writer::{HEADER_ROOM, append, data_size, write_header};
 use arrayvec::ArrayVec;
 use dsp_defs::{Container, Fmt, GENERATED_RATE, Input, InputKind};
-use dsp_ports::{Failed, Source};
+use dsp_ports::{Failed, Source, Taker};
 use std::marker::Model;
 
 /// The state behind a state of the generator.
@@ -179,5 +179,10 @@ impl Source for GenSource {
         self.taken += count as u64;
         self.ended |= count == 0;
         Ok(count)
+    }
+
+    // It makes its bytes one piece at a time.
+    fn lend<T: Taker>(&mut self, _count: usize, _taker: &mut T) -> bool {
+        false
     }
 }

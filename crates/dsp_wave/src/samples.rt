@@ -1,7 +1,7 @@
 //! The samples of a file, block by block, whatever its header was.
 
-ghost use Rattle.std.specs.Prelude.{◌≡◌, ◌+◌, ◌≤◌, length, IfOk, IfErr};
-ghost use Rattle.dsp_wave.specs.Samples.{InDeclared, IsUnread, PartRead, PartUnread, declared_bytes};
+ghost use Rattle.std.specs.Prelude.{◌≡◌, ◌+◌, ◌≤◌, length, IfOk, IfErr, IsTrue};
+ghost use Rattle.dsp_wave.specs.Samples.{HasBlock, InDeclared, IsUnread, PartRead, PartUnread, declared_bytes};
 ghost use Rattle.dsp_wave.specs.Samples.{in_whole_frames};
 
 use dsp_defs::MAX_INPUT;
@@ -39,6 +39,24 @@ fn in_whole_frames(frame: u64, size: u32) -> u64
     ensures few { result ≤ size }
 {
     u64::from(size) / frame * frame
+}
+
+/// Whether the samples, and the part of them that ends behind `end` bytes, have so many bytes behind the first `taken`
+/// ones, and these may be taken.
+pub fn has_block(stored: Stored, end: u64, taken: u64, size: usize) -> bool
+    requires limit { stored.start + taken ≤ MAX_INPUT }
+    requires frame { 1 ≤ stored.frame }
+    requires part { taken ≤ end }
+    ensures { IsTrue result → HasBlock stored end taken size }
+{
+    let size = size as u64;
+    if size > MAX_INPUT - stored.start - taken || size > end - taken {
+        return false;
+    }
+    match stored.size {
+        Some(declared) => taken + size <= in_whole_frames(stored.frame, declared),
+        None => true,
+    }
 }
 
 /// Takes the next block of samples behind `taken` bytes of them: less than a block where the samples end,

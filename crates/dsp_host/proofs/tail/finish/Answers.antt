@@ -26,8 +26,8 @@ returns-then-count-eq0-clause-ok g c =
           zero;
     }
 
-pub slice_bounds-copy_from_slice-end : goal.slice_bounds-copy_from_slice-end
-slice_bounds-copy_from_slice-end g c =
+pub slice_bounds-write_to-end : goal.slice_bounds-write_to-end
+slice_bounds-write_to-end g c =
     let within = laws.within _ _ _ c.requires.runs _ _ _ _ _ c.giving.invariant _ _ c.end-count.ensures.ends
     c.end-count.ensures.same c.end-count.ensures.given in
     omega (arith, within, c.tail_bytes-bytes.ensures, c.if-bytes-room.false, c.giving.auto.out)
@@ -48,7 +48,7 @@ giving-preserved g c =
     let room : c.giving.given + c.end-count.result ≤ length c.giving.out =
     omega (arith, within, c.tail_bytes-bytes.ensures, c.if-bytes-room.false, c.giving.auto.out) in
     laws.goes_on _ _ _ c.requires.runs _ _ _ _ _ c.giving.invariant _ _ ends c.end-count.ensures.same
-    c.end-count.ensures.given c.if-count-eq0.false room _ (c.copy_from_slice.ensures.after ∙ c.out.ensures)
+    c.end-count.ensures.given c.if-count-eq0.false room _ (c.write_to.ensures ∙ c.out.ensures)
 
 pub returns-in-Some-clause-err : goal.returns-in-Some-clause-err
 returns-in-Some-clause-err g c = search rules

@@ -21,17 +21,18 @@ returns-then-end-eq0 g c =
     laws.tail_all _ _ _ _ _ _ _ _ _ c.loop.invariant _ _ c.end.ensures.ends c.end.ensures.same
     (λ x stands. c.if-end-eq0.true) c.end.ensures.given
 
-pub returns-in_err-write_all : goal.returns-in_err-write_all
-returns-in_err-write_all g c =
+pub returns-in_err-write_out : goal.returns-in_err-write_out
+returns-in_err-write_out g c =
     let (error, is, same) = err_from_is_err_and c.from_residual.result c.from_residual.ensures.1 in
-    let (count, less, took) = rw c.out.ensures at c.in_err-write_all.ensures.took in
-    rw is (laws.tail_part _ _ _ _ _ _ _ _ _ c.loop.invariant _ _ c.end.ensures.ends c.end.ensures.same error count _
-    took.put c.in_err-write_all.ensures.faults)
+    let (count, less, took) = c.in_err-write_out.ensures.took in
+    rw (is, c.write_out.ensures.same) (laws.tail_part _ _ _ _ _ _ _ _ _ c.loop.invariant _ _ c.end.ensures.ends
+    c.end.ensures.same error count _ took.put c.in_err-write_out.ensures.faults)
 
 pub loop-preserved : goal.loop-preserved
 loop-preserved g c =
-    laws.tail_next _ _ _ _ _ _ _ _ _ c.loop.invariant _ _ c.end.ensures.ends c.end.ensures.same c.if-end-eq0.false
-    c.end.ensures.given _ (rw c.out.ensures at c.in_ok-write_all.ensures.took).put c.in_ok-write_all.ensures.faults
+    rw c.write_out.ensures.same
+    (laws.tail_next _ _ _ _ _ _ _ _ _ c.loop.invariant _ _ c.end.ensures.ends c.end.ensures.same c.if-end-eq0.false
+    c.end.ensures.given _ c.in_ok-write_out.ensures.took.put c.in_ok-write_out.ensures.faults)
 
 pub returns : goal.returns
 returns g c =

@@ -1,16 +1,17 @@
+use Rattle.std.proofs.Common.{length}
+use Rattle.dsp_session.specs.Session.{signal}
 use Rattle.dsp_session.proofs.session.Session.feed.Goals as goal
 
-pub feed-requires-clause-running : goal.feed-requires-clause-running
-feed-requires-clause-running g c = rw (← c.self.view_is) at c.requires.running
-
-pub feed-requires-clause-whole : goal.feed-requires-clause-whole
-feed-requires-clause-whole g c = rw (← c.self.view_is) at c.requires.whole
-
-pub feed-requires-clause-block : goal.feed-requires-clause-block
-feed-requires-clause-block g c = rw (← c.self.view_is) at c.requires.block
-
-pub feed-requires-clause-count : goal.feed-requires-clause-count
-feed-requires-clause-count g c = rw (← c.self.view_is) at c.requires.count
+pub feed-requires : goal.feed-requires
+feed-requires g c =
+    let s = c.args.self.now in
+    rw c.self.view_is (record {
+      running = c.requires.running;
+      frames = length (signal s.script s.coding c.args.bytes.now);
+      whole = c.requires.whole;
+      few = c.requires.block;
+      in_limit = c.requires.count;
+    })
 
 pub returns-clause-same : goal.returns-clause-same
 returns-clause-same g c = rw (← c.self.view_is) c.feed.ensures.same

@@ -16,14 +16,15 @@ pub invariant_of-result : goal.invariant_of-result
 invariant_of-result g c =
     let new = c.in_ok-chain.ensures in record {
       holds = record { ready = c.requires; input = new.input; blocks = new.blocks_are; turns = new.turns };
-      input = ap format_in c.coding_of-input.ensures ∙ format_in-coding_of c.container.result
-          c.args.script.input.format;
+      input = ap format_in (c.in_ok-samples.ensures.0 ∙ c.coding_of-input.ensures) ∙
+          format_in-coding_of c.container.result c.args.script.input.format;
       output = c.coding_of-output.ensures ∙ ap (λ (flow : Flow). coding_of c.args.script.output flow.format)
           c.output_flow-flow.ensures;
-      samples = c.in_ok-samples.ensures.len ∙ ap (λ n. c.args.block * n) c.from.ensures;
+      samples = c.in_ok-samples.ensures.1 ∙ ap (λ n. c.args.block * n) c.from.ensures;
       values = c.in_ok-values.ensures.len ∙ c.room-room.ensures;
       bytes = c.in_ok-bytes.ensures.len ∙ (λ i. c.room-room.ensures i * c.width.ensures i);
-      given = omega arith;
+      within = omega arith;
+      given_fit = λ k d less. absurd (omega (arith, less));
     }
 
 pub returns : goal.returns
@@ -32,7 +33,8 @@ returns g c =
       script_is = refl;
       banked_is = refl;
       block_is = refl;
-      coding_is = c.coding_of-input.ensures ∙ ap (λ container. coding_of container c.args.script.input.format)
+      coding_is = c.in_ok-samples.ensures.0 ∙ c.coding_of-input.ensures ∙
+          ap (λ container. coding_of container c.args.script.input.format)
           c.container.ensures;
       stands = record {
         holds = record { ready = c.requires; input = new.input; blocks = new.blocks_are; turns = new.turns };

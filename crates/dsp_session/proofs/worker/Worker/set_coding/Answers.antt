@@ -3,7 +3,8 @@ use Rattle.dsp_session.specs.SessionState.{SessionState}
 use Rattle.dsp_session.proofs.worker.Worker.set_coding.Goals as goal
 
 pub returns-clause-coding : goal.returns-clause-coding
-returns-clause-coding g c = ap (λ (s : SessionState). record s { coding = c.args.coding }) c.self.view_is
+returns-clause-coding g c = rw c.set_coding.ensures
+    (ap (λ (s : SessionState). record s { coding = c.args.coding }) c.self.view_is)
 
 pub returns-clause-same : goal.returns-clause-same
 returns-clause-same g c = record {
@@ -14,7 +15,7 @@ returns-clause-same g c = record {
 
 pub invariant_of-self : goal.invariant_of-self
 invariant_of-self g c =
-    let is = c.self.invariant in record {
+    let is = c.self.invariant in rw c.set_coding.ensures (record {
       holds = record {
         ready = is.holds.ready;
         input = is.holds.input;
@@ -27,5 +28,6 @@ invariant_of-self g c =
       samples = is.samples;
       values = is.values;
       bytes = is.bytes;
-      given = is.given;
-    }
+      within = is.within;
+      given_fit = is.given_fit;
+    })

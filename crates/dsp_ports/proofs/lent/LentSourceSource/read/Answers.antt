@@ -1,6 +1,6 @@
 use Rattle.std.proofs.Common.{◌||◌, ap, arith, drop}
 use Rattle.dsp_ports.proofs.Moved.{Gave-copied}
-use Rattle.dsp_c.proofs.lent.LentSourceSource.read.Goals as goal
+use Rattle.dsp_ports.proofs.lent.LentSourceSource.read.Goals as goal
 
 pub returns-clause-gave : goal.returns-clause-gave
 returns-clause-gave c =

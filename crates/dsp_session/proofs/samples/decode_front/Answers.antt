@@ -4,7 +4,7 @@ use Rattle.std.proofs.lemmas.List.{length-take-le}
 use Rattle.dsp_defs.proofs.CodingLemmas.{width-some}
 use Rattle.dsp_session.proofs.OpeningLaws.{floor_within}
 use Rattle.dsp_session.proofs.Pieces.{whole_pieces, at_front, div_within}
-use Rattle.dsp_session.proofs.worker.decode_front.Goals as goal
+use Rattle.dsp_session.proofs.samples.decode_front.Goals as goal
 
 pub returns-clause-values : goal.returns-clause-values
 returns-clause-values c =

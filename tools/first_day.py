@@ -70,6 +70,12 @@ class Case(unittest.TestCase):
             self.assertIn(text, ran.out + ran.err)
 
 
+def program_alone():
+    """The program that ./dspfx runs."""
+    is_proved = subprocess.run([f"{TOP}/tools/sources.py", "dspfx"]).returncode == 0
+    return os.environ.get("DSPFX_PROGRAM", f"{TOP}/build/{'dspfx' if is_proved else 'unproved'}")
+
+
 def words16(*values):
     return struct.pack(f"<{len(values)}h", *values)
 
@@ -924,8 +930,7 @@ class Installing(Case):
     """tools/install.sh puts the program, its page and its completion under a prefix, and takes them away."""
 
     def install(self, *words):
-        program = os.environ.get("DSPFX_PROGRAM", f"{TOP}/build/unproved")
-        return subprocess.run([f"{TOP}/tools/install.sh", *words], env=dict(os.environ, DSPFX_PROGRAM=program),
+        return subprocess.run([f"{TOP}/tools/install.sh", *words], env=dict(os.environ, DSPFX_PROGRAM=program_alone()),
                               stdout=subprocess.PIPE, stderr=subprocess.STDOUT, text=True)  # fmt: skip
 
     def files(self):
@@ -1035,14 +1040,20 @@ class Wrapper(Case):
         self.ends(self.dspfx("help", "more"), 1, "dspfx: usage")
 
     def test_closed_streams(self):
-        """The report goes into no file that is opened for a stream that is closed."""
+        """Where streams are closed, the report goes into no file: by ./dspfx, and by the program alone."""
         self.write("s.txt", COPY)
-        for closed in ("<&-", ">&-", "2>&-", "<&- >&-", "<&- >&- 2>&-"):
-            with self.subTest(closed):
-                ran = Ran(self.folder, ["bash", "-c", f"{DSPFX} gen 1 3 s.txt o {closed}"])
-                self.assertEqual(ran.status, 9 if ">&- " in closed + " " and closed != "2>&-" else 0)
-                # (from the seed 1 on, 1664525*s + 1013904223, its upper 16 bits)
-                self.assertEqual(self.content("o"), struct.pack("<3H", 0x3C88, 0x5E88, 0x8116))
+        self.dspfx("print", "s.txt")  # (which compiles the program where there is none)
+        for program in (DSPFX, program_alone()):
+            for closed in ("<&-", ">&-", "2>&-", "<&- >&-", "<&- >&- 2>&-"):
+                with self.subTest(f"{program} {closed}"):
+                    status = 9 if ">&- " in closed + " " and closed != "2>&-" else 0
+                    self.ends(Ran(self.folder, ["bash", "-c", f"{program} gen 1 3 s.txt o {closed}"]), status)
+                    # (from the seed 1 on, 1664525*s + 1013904223, its upper 16 bits)
+                    self.assertEqual(self.content("o"), struct.pack("<3H", 0x3C88, 0x5E88, 0x8116))
+                    self.ends(Ran(self.folder, ["bash", "-c", f"{program} run s.txt o copy {closed}"]), status)
+                    self.assertEqual(self.content("copy"), self.content("o"))
+        for words, status in (("run s.txt /dev/stdin copy <&-", 7), ("run s.txt o /dev/stdout >&-", 8)):
+            self.ends(Ran(self.folder, ["bash", "-c", f"{program_alone()} {words}"]), status)
         for words, hint in (("print s.txt", "so the text is not whole; nothing else"), ("resume stop 0 s.txt s.txt o", "so the state is not whole")):
             self.ends(Ran(self.folder, ["bash", "-c", f"{DSPFX} {words} >/dev/full"]), 9, hint)
         for word in ("--help", "--version"):

@@ -722,20 +722,17 @@ class Coefficients(Case):
         self.write("bad.c", C_SOURCE.replace("EQ_STAGES (2)", "EQ_STAGES (3)"))
         self.refuses("has 12 numbers, and 3 stages of q15 have 18", "bad.c", "--name", "eq")
 
-    def test_numbers_of_c(self):
-        self.write("f.c", "float32_t taps[4] = {1e-05f, 2.5E-05, 0.25e+01f / 10, 1.e-01};")
-        self.gives("fir {3277 8192 1 0}\n", "f.c")
-        self.write("octal.c", "q15_t taps[3] = {010, 8-07, 0};")
-        self.gives("fir {8 1 0}\n", "octal.c")
-
-    def test_what_is_not_compiled(self):
-        """Of two arrays or values between #ifdef and #else none is chosen."""
-        self.write("f.c", "#ifdef FAST\nq15_t taps[2] = {1, 2};\n#else\nq15_t taps[2] = {3, 4};\n#endif\n")
-        self.refuses("taps is there 2 times: `cc -E -P FILE", "f.c")
-        self.write("f.c", "#ifdef FAST\n#define GAIN 1\n#else\n#define GAIN 2\n#endif\nq15_t taps[2] = {GAIN, 2};\n")
-        self.refuses("no number: GAIN; `cc -E -P FILE", "f.c")
-        self.write("f.c", "int taps[2] = {1, 2};")
-        self.refuses("there is no array with numbers of one of the types q7_t,", "f.c")
+    def test_arrays_of_c(self):
+        """Numbers as C writes them; and of two arrays or values between #ifdef and #else none is chosen."""
+        for judge, told, text in (
+            (self.gives, "fir {3277 8192 1 0}\n", "float32_t taps[4] = {1e-05f, 2.5E-05, 0.25e+01f / 10, 1.e-01};"),
+            (self.gives, "fir {8 1 0}\n", "q15_t taps[3] = {010, 8-07, 0};"),
+            (self.refuses, "taps is there 2 times: `cc -E -P FILE", "#ifdef FAST\nq15_t taps[2] = {1, 2};\n#else\nq15_t taps[2] = {3, 4};\n#endif\n"),
+            (self.refuses, "no number: GAIN; `cc -E -P FILE", "#ifdef FAST\n#define GAIN 1\n#else\n#define GAIN 2\n#endif\nq15_t taps[2] = {GAIN, 2};\n"),
+            (self.refuses, "there is no array with numbers of one of the types q7_t,", "int taps[2] = {1, 2};"),
+        ):  # fmt: skip
+            self.write("f.c", text)
+            judge(told, "f.c")
 
     def test_what_no_script_takes(self):
         self.write("taps.txt", "0.5 0.25\n")

@@ -58,7 +58,7 @@ enum tozbirem_status {
     TOZBIREM_OVERLAP = 29,   /**< the output overlaps the input; only of tozbirem_process() */
     TOZBIREM_ENDED = 30,     /**< the signal has ended; only of tozbirem_process() and tozbirem_end() */
     TOZBIREM_FULL = 31,      /**< `correlate` would hold first samples of a channel; only of tozbirem_push() */
-    TOZBIREM_EMPTY = 32      /**< the handle holds no signal; only of tozbirem_push() and tozbirem_keep() */
+    TOZBIREM_EMPTY = 32      /**< the handle holds no signal; of a chain, below, it is not open */
 };
 
 /** @brief The kind of a fault in a script, by its name in docs/SCRIPT.md, with what low and high say. */
@@ -79,14 +79,14 @@ enum tozbirem_fault {
 
 /** @brief What a call says besides its status. */
 struct tozbirem_answer {
-    uint64_t given;  /**< bytes that were written to the output */
-    uint64_t kept;   /**< numbers that were written to kept_out, or measures */
-    uint64_t first;  /**< by the status */
-    uint64_t second; /**< by the status */
-    int64_t low;     /**< by the kind of a fault in a script */
-    int64_t high;    /**< by the kind of a fault in a script */
-    uint32_t kind;   /**< enum tozbirem_fault, or 0 */
-    uint32_t unused;
+    uint64_t given;  /**< bytes that were written to the output; 0 where the call was refused */
+    uint64_t kept;   /**< numbers that were written to kept_out, or measures; 0 where the call was refused */
+    uint64_t first;  /**< what enum tozbirem_status says of the status; else 0 */
+    uint64_t second; /**< what enum tozbirem_status says of the status; else 0 */
+    int64_t low;     /**< what enum tozbirem_fault says of the kind; else 0 */
+    int64_t high;    /**< what enum tozbirem_fault says of the kind; else 0 */
+    uint32_t kind;   /**< enum tozbirem_fault with TOZBIREM_SCRIPT, else 0 */
+    uint32_t unused; /**< always 0 */
 };
 
 /** @brief What a script is, and what a run of it takes and gives. */
@@ -127,8 +127,8 @@ struct tozbirem_measure {
  * lock or as one starts or ends, and one call at a time uses it.
  */
 struct tozbirem_handle {
-    uint8_t is_full; /**< 1 where it holds a signal, else 0 */
-    void *at;        /**< what it holds */
+    uint8_t is_full; /**< 1 where it holds a signal, else 0; set by the library alone */
+    void *at;        /**< what it holds; of no use where is_full is 0 */
 };
 #define TOZBIREM_EMPTY_HANDLE {0, NULL}
 
@@ -179,7 +179,9 @@ uint32_t tozbirem_plan(const void *script, size_t script_length, uint64_t block,
  * @param[out]     kept_out       the numbers to go on from
  * @param[in]      kept_room      how many numbers fit there; TOZBIREM_KEPT_ROOM says how many are needed
  * @param[out]     answer         given and kept, or the fault
- * @return         TOZBIREM_OK, or why nothing was done; output and kept_out are then as before
+ * @return         TOZBIREM_OK, or why nothing was done; output and kept_out are then as before: TOZBIREM_SCRIPT,
+ *                 TOZBIREM_BLOCK, TOZBIREM_MEMORY, TOZBIREM_FRAMES, TOZBIREM_LENGTH, TOZBIREM_INPUT, TOZBIREM_ROOM,
+ *                 TOZBIREM_GATHER, TOZBIREM_STATE or TOZBIREM_KEPT_ROOM
  */
 uint32_t tozbirem_feed(const void *script, size_t script_length, uint64_t block, uint64_t frames,
                        const int64_t *kept, size_t kept_count, const void *input, size_t input_bytes,
@@ -200,7 +202,8 @@ uint32_t tozbirem_feed(const void *script, size_t script_length, uint64_t block,
  * @param[out]     measures       the measures, in the order of the script, and in a block by channel
  * @param[in]      measures_room  how many fit there; the plan says how many there are, and no more are written than fit
  * @param[out]     answer         given, and kept, which is the number of measures, or the fault
- * @return         TOZBIREM_OK, or why nothing was done
+ * @return         TOZBIREM_OK, or why nothing was done: TOZBIREM_SCRIPT, TOZBIREM_BLOCK, TOZBIREM_MEMORY,
+ *                 TOZBIREM_ROOM, TOZBIREM_WINDOW or TOZBIREM_STATE
  */
 uint32_t tozbirem_finish(const void *script, size_t script_length, uint64_t block, uint64_t frames,
                          const int64_t *kept, size_t kept_count, void *output, size_t output_bytes,
@@ -294,70 +297,91 @@ uint32_t tozbirem_program(const void *words, size_t words_length, const void *sc
 
 /*
  * ---- A chain: the script of a signal, the number of its frames, and where its numbers are. These functions test
- * null pointers, and lengths are in frames.
+ * null pointers, and whether the chain is open. Lengths of input and output are in frames where they are counts, and
+ * in bytes where they are rooms. A call that is refused changes nothing but chain->answer.
  */
 
-/** @brief A signal that goes through a script. It owns nothing; its script and its numbers must stay where they are. */
+/** @brief What is_open is in a chain that is open. */
+#define TOZBIREM_IS_OPEN 0x546F7A62u
+
+/**
+ * @brief A signal that goes through a script. It owns nothing: nothing is freed, and its script and its numbers must
+ * stay where they are. A chain whose bytes are all 0, and one that tozbirem_open() refused, is not open: the functions
+ * below refuse it with TOZBIREM_EMPTY. Any field may be read; tozbirem_open() and tozbirem_resume() set them.
+ */
 struct tozbirem {
-    const char *script;            /**< the text, which ends with a zero */
-    size_t script_length;          /**< bytes of it */
-    uint64_t frames;               /**< frames that came so far */
+    const char *script;            /**< the text, which ends with a zero; NULL where tozbirem_open() was not called */
+    size_t script_length;          /**< bytes of it, without the zero */
+    uint64_t frames;               /**< frames of the input that came so far, at most 2^40 */
     int64_t *kept;                 /**< room for two states, one after the other */
-    size_t kept_room;              /**< numbers of each */
-    size_t kept_count;             /**< numbers of the present state */
-    int half;                      /**< which of the two is the present one */
-    int has_ended;                 /**< whether tozbirem_end() was called */
-    struct tozbirem_plan plan;     /**< what the script is, in its block length */
-    struct tozbirem_answer answer; /**< what the last call said */
+    size_t kept_room;              /**< how many numbers fit in each */
+    size_t kept_count;             /**< numbers of the present state; 0 before the first frame */
+    int half;                      /**< which of the two is the present one, 0 or 1 */
+    int has_ended;                 /**< 1 after tozbirem_end() returned TOZBIREM_OK, else 0 */
+    uint32_t is_open;              /**< TOZBIREM_IS_OPEN where tozbirem_open() returned TOZBIREM_OK, else another */
+    struct tozbirem_plan plan;     /**< what the script is, in its block length; all 0 where the chain is not open */
+    struct tozbirem_answer answer; /**< what the last call said that came as far as the library */
 };
 
 /**
  * @brief          Begins a signal.
- * @param[out]     chain          the chain
+ * @param[out]     chain          the chain; what it was before does not matter
  * @param[in]      script         the text of a script, which ends with a zero, and stays where it is
  * @param[in]      block          most frames of a call, as for tozbirem_plan(); 0 for the script's own or its default
  * @param[in]      kept           room for numbers, which stays where it is
  * @param[in]      kept_numbers   how many fit there, twice as many as a state has: T-1 a channel for `fir`, 4 a section
  *                                and channel for `biquad`; tozbirem_plan() says it for any script and number of
  *                                frames. With too little room tozbirem_process() returns TOZBIREM_KEPT_ROOM
- * @return         TOZBIREM_OK, TOZBIREM_SCRIPT, TOZBIREM_BLOCK, TOZBIREM_MEMORY or TOZBIREM_NULL
+ * @return         TOZBIREM_OK; TOZBIREM_SCRIPT, TOZBIREM_BLOCK or TOZBIREM_MEMORY, as tozbirem_plan(); TOZBIREM_NULL
+ *                 for a null pointer. After another status than TOZBIREM_OK the chain is not open
  */
 static inline uint32_t tozbirem_open(struct tozbirem *chain, const char *script, uint64_t block, int64_t *kept,
                                      size_t kept_numbers)
 {
-    if (!chain || !script || !kept) return TOZBIREM_NULL;
+    if (!chain) return TOZBIREM_NULL;
     memset(chain, 0, sizeof *chain);
+    if (!script || !kept) return TOZBIREM_NULL;
     chain->script = script;
     chain->script_length = strlen(script);
     chain->kept = kept;
     chain->kept_room = kept_numbers / 2;
-    return tozbirem_plan(script, chain->script_length, block, 0, &chain->plan, &chain->answer);
+    uint32_t status = tozbirem_plan(script, chain->script_length, block, 0, &chain->plan, &chain->answer);
+    if (status == TOZBIREM_OK) chain->is_open = TOZBIREM_IS_OPEN;
+    return status;
 }
 
 /**
  * @brief          The numbers that the chain keeps now: chain->kept_count of them, after chain->frames frames.
  * @param[in]      chain          the chain
- * @return         where they are; NULL for a null pointer. Copy them, with the two counts, to save the state
+ * @return         where they are; NULL for a null pointer and for a chain that is not open. Copy them, with the two
+ *                 counts, to save the state
  */
 static inline int64_t *tozbirem_state(const struct tozbirem *chain)
 {
-    return chain ? chain->kept + (chain->half ? chain->kept_room : 0) : NULL;
+    if (!chain || chain->is_open != TOZBIREM_IS_OPEN) return NULL;
+    return chain->kept + (chain->half ? chain->kept_room : 0);
 }
 
 /**
- * @brief          Goes on from a state that was saved, in a chain of the same script. The next call judges the numbers.
+ * @brief          Goes on from a state that was saved, in a chain of the same script, also one that has ended. The next
+ *                 call judges the numbers: tozbirem_process() and tozbirem_end() return TOZBIREM_STATE where the script
+ *                 keeps no such ones after so many frames.
  * @param[in,out]  chain          the chain
  * @param[in]      frames         how many frames came before
- * @param[in]      numbers        the numbers of the state
- * @param[in]      count          how many these are
- * @return         TOZBIREM_OK, TOZBIREM_KEPT_ROOM or TOZBIREM_NULL
+ * @param[in]      numbers        the numbers of the state; may be NULL if there are none
+ * @param[in]      count          how many these are, at most chain->kept_room
+ * @return         TOZBIREM_OK; TOZBIREM_KEPT_ROOM for more numbers than have room; TOZBIREM_NULL for a null pointer;
+ *                 TOZBIREM_EMPTY where the chain is not open
  */
 static inline uint32_t tozbirem_resume(struct tozbirem *chain, uint64_t frames, const int64_t *numbers, size_t count)
 {
-    if (!chain || !chain->kept || (!numbers && count)) return TOZBIREM_NULL;
+    if (!chain || (!numbers && count)) return TOZBIREM_NULL;
+    if (chain->is_open != TOZBIREM_IS_OPEN) return TOZBIREM_EMPTY;
     memset(&chain->answer, 0, sizeof chain->answer);
-    chain->answer.first = count;
-    if (count > chain->kept_room) return TOZBIREM_KEPT_ROOM;
+    if (count > chain->kept_room) {
+        chain->answer.first = count;
+        return TOZBIREM_KEPT_ROOM;
+    }
     if (count) memmove(tozbirem_state(chain), numbers, count * sizeof *numbers);
     chain->kept_count = count;
     chain->frames = frames;
@@ -369,18 +393,21 @@ static inline uint32_t tozbirem_resume(struct tozbirem *chain, uint64_t frames, 
  * @brief          Takes the next frames of the signal, and writes what they add to the output.
  * @param[in,out]  chain          the chain
  * @param[in]      input          the frames; may be NULL if there are none
- * @param[in]      frames         how many these are, at most chain->plan.block
- * @param[out]     output         room for chain->plan.room bytes; it may not be the input
+ * @param[in]      frames         how many these are, at most chain->plan.block; 0 gives nothing
+ * @param[out]     output         room for chain->plan.room bytes; it may not overlap the input, nor be NULL
  * @param[in]      output_bytes   bytes of it
- * @param[out]     given          how many frames were written there
- * @return         TOZBIREM_OK, or why nothing was done
+ * @param[out]     given          how many frames were written there; as it was after another status than TOZBIREM_OK
+ * @return         TOZBIREM_OK, or why nothing was done: TOZBIREM_NULL, TOZBIREM_EMPTY where the chain is not open,
+ *                 TOZBIREM_ENDED after tozbirem_end(), TOZBIREM_LENGTH for more than a block of frames,
+ *                 TOZBIREM_OVERLAP, and of tozbirem_feed() TOZBIREM_ROOM, TOZBIREM_KEPT_ROOM, TOZBIREM_STATE,
+ *                 TOZBIREM_INPUT, TOZBIREM_GATHER or TOZBIREM_MEMORY
  */
 static inline uint32_t tozbirem_process(struct tozbirem *chain, const void *input, size_t frames, void *output,
                                         size_t output_bytes, size_t *given)
 {
-    if (!chain || !chain->kept || !output || !given || (!input && frames)) return TOZBIREM_NULL;
+    if (!chain || !output || !given || (!input && frames)) return TOZBIREM_NULL;
+    if (chain->is_open != TOZBIREM_IS_OPEN) return TOZBIREM_EMPTY;
     if (chain->has_ended) return TOZBIREM_ENDED;
-    if (!chain->plan.given_bytes) return TOZBIREM_SCRIPT;
     if (frames > chain->plan.block) {
         memset(&chain->answer, 0, sizeof chain->answer);
         chain->answer.first = chain->plan.block;
@@ -405,20 +432,22 @@ static inline uint32_t tozbirem_process(struct tozbirem *chain, const void *inpu
 /**
  * @brief          Ends the signal: writes its tail and its measures. tozbirem_resume() can go on from the state.
  * @param[in,out]  chain          the chain
- * @param[out]     output         room for the tail
- * @param[in]      output_bytes   bytes of it
- * @param[out]     given          how many frames were written there
- * @param[out]     measures       room for chain->plan.measures measures; may be NULL if there are none
- * @param[in]      room           how many fit there
- * @return         TOZBIREM_OK, or why nothing was done
+ * @param[out]     output         room for the tail, which only `conv`, `conv_partial` and `correlate` give; not NULL
+ * @param[in]      output_bytes   bytes of it; with TOZBIREM_ROOM chain->answer.first says how many the tail has
+ * @param[out]     given          how many frames were written there; as it was after another status than TOZBIREM_OK
+ * @param[out]     measures       room for chain->plan.measures measures; may be NULL if room is 0
+ * @param[in]      room           how many fit there; no more are written, and chain->answer.kept says how many were
+ * @return         TOZBIREM_OK, or why nothing was done: TOZBIREM_NULL, TOZBIREM_EMPTY where the chain is not open,
+ *                 TOZBIREM_ENDED where it has ended, and of tozbirem_finish() TOZBIREM_ROOM, TOZBIREM_WINDOW,
+ *                 TOZBIREM_STATE or TOZBIREM_MEMORY
  */
 static inline uint32_t tozbirem_end(struct tozbirem *chain, void *output, size_t output_bytes, size_t *given,
                                     struct tozbirem_measure *measures, size_t room)
 {
     struct tozbirem_measure none;
-    if (!chain || !chain->kept || !output || !given || (!measures && room)) return TOZBIREM_NULL;
+    if (!chain || !output || !given || (!measures && room)) return TOZBIREM_NULL;
+    if (chain->is_open != TOZBIREM_IS_OPEN) return TOZBIREM_EMPTY;
     if (chain->has_ended) return TOZBIREM_ENDED;
-    if (!chain->plan.given_bytes) return TOZBIREM_SCRIPT;
     uint32_t status = tozbirem_finish(chain->script, chain->script_length, chain->plan.block, chain->frames,
                                       tozbirem_state(chain), chain->kept_count, output, output_bytes,
                                       measures ? measures : &none, room, &chain->answer);
@@ -430,11 +459,11 @@ static inline uint32_t tozbirem_end(struct tozbirem *chain, void *output, size_t
 
 /**
  * @brief          What the last call on a chain said, in a line of text that ends with a zero.
- * @param[in]      chain          the chain
+ * @param[in]      chain          the chain, open or not
  * @param[in]      status         what the call returned
  * @param[out]     text           the line, or an empty text where the buffer is too short for it
  * @param[in]      size           bytes of the buffer; 256 are always enough
- * @return         text
+ * @return         text, or an empty text for a null pointer or a buffer of no bytes
  */
 static inline const char *tozbirem_text(const struct tozbirem *chain, uint32_t status, char *text, size_t size)
 {

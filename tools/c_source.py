@@ -3,16 +3,17 @@
 An array is found by its name, or by the name of a CMSIS-DSP instance that points to it; the instance, whether it is
 initialised or set by its init function, tells the block, its numbers and its post shift.
 """
-import ast
+import math
 import re
+
+import c_values
 
 BITS = {"q7": 7, "q15": 15, "q31": 31}
 TYPES = {"q7_t": "q7", "int8_t": "q7", "q15_t": "q15", "int16_t": "q15", "short": "q15", "q31_t": "q31", "int32_t": "q31"}
-TYPES |= dict.fromkeys(["float", "double", "float32_t", "float64_t"])
-CAST = r"\(\s*(?:\w+_t|(?:unsigned\s+|signed\s+)?(?:char|short|int|long)|float|double)\s*\)"
-KNOWN = {f"INT{bits}_{end}": value for bits in (8, 16, 32) for end, value in
-         (("MAX", 2 ** (bits - 1) - 1), ("MIN", -(2 ** (bits - 1))))}  # fmt: skip
-
+TYPES |= dict.fromkeys(c_values.FLOATS)
+# What is known of the lines of an #if, where something is: they are left out and those after #else are kept, they are
+# kept, or all up to #endif are left out.
+LEFT_OUT, KEPT, DONE = 1, 2, 3
 PREPROCESSED = "`cc -E -P FILE | tools/coefficients.py - --name NAME`"
 CASCADE = ["numStages", "pState", "pCoeffs", "postShift"]
 INSTANCES = {
@@ -40,71 +41,66 @@ class Array:
 
 
 def without_comments(text):
-    """The text without comments, joined lines, and what `#if 0` leaves out."""
-    text = re.sub(r"/\*.*?\*/|//[^\n]*", " ", text, flags=re.S).replace("\\\n", " ")
-    kept, open_ifs = [], []  # of each #if that is open: whether its lines are left out, or None where that is not known
+    """The text without comments, joined lines, and what `#if 0` leaves out. Other conditions stay."""
+    # (what is in quotes begins no comment)
+    text = re.sub(r'/\*.*?\*/|//[^\n]*|("(?:\\.|[^"\\\n])*"|\'(?:\\.|[^\'\\\n])+\')', lambda it: it[1] or " ", text.replace("\\\n", ""), flags=re.S)
+    kept, open_ifs = [], []
     for line in text.split("\n"):
         word = re.match(r"\s*#\s*(if\w*|else|elif|endif)\b\s*(.*)", line)
+        known = open_ifs[-1] if open_ifs else None
         if word and word[1].startswith("if"):
-            open_ifs.append({"0": True, "1": False}.get(word[2].strip()) if word[1] == "if" else None)
+            known = {"0": LEFT_OUT, "1": KEPT}.get(word[2].strip()) if word[1] == "if" else None
+            open_ifs.append(known)
         elif word and word[1] == "endif" and open_ifs:
             open_ifs.pop()
-        elif word and open_ifs and open_ifs[-1] is not None:
-            open_ifs[-1] = not open_ifs[-1] if word[1] == "else" else None
-        elif not any(open_ifs):
+        elif word and open_ifs:
+            known = open_ifs[-1] = after(word[1], known)
+        if not any(it in (LEFT_OUT, DONE) for it in open_ifs) and not (word and known):
             kept.append(line)
     return "\n".join(kept)
 
 
-def value_of(text, defined, depth=0):
-    """The value of a constant expression of C: numbers with suffixes, names that are defined, + - * / << >> | &."""
-    bare = re.sub(CAST, "", text).strip()
-    bare = re.sub(r"\b(0[xX][0-9a-fA-F]+|\d+)[uUlL]+\b", r"\1", bare)
-    bare = re.sub(r"(\d\.?\d*(?:[eE][-+]?\d+)?)[fF]\b", r"\1", bare) if not re.search(r"0[xX]", bare) else bare
-    bare = re.sub(r"(?<![\w.])(?<!\d[eE][-+])(?<!\.[eE][-+])0([0-7]+)(?![\w.])", r"0o\1", bare)
+def after(word, known):
+    """What is known of the lines after an #else or #elif, by what was known of those before it."""
+    if known in (KEPT, DONE):
+        return DONE
+    return KEPT if word == "else" and known == LEFT_OUT else None
+
+
+def constant(text, defined):
+    """The value of a constant expression with its type, and whether it is written as the bits of a word."""
     try:
-        return of_tree(ast.parse(bare, mode="eval").body, defined, depth)
-    except (SyntaxError, ValueError, RecursionError, ZeroDivisionError, TypeError) as error:
-        macro = re.match(r"[A-Za-z_]\w*\s*(\(|$)", bare)
-        more = f"; {PREPROCESSED} replaces macros first" if macro else ""
-        raise ValueError(f"no number: {text.strip()[:60]}{more}") from error
+        return c_values.constant_of(text, defined)
+    except ValueError as fault:
+        macro = re.match(r"\s*[A-Za-z_]\w*\s*(\(|$)", text)
+        why = f" ({fault})" if str(fault) else ""
+        more = f"; {PREPROCESSED} replaces macros first" if macro and not why else ""
+        raise ValueError(f"no number: {' '.join(text.split())[:60]}{why}{more}") from fault
 
 
-def of_tree(tree, defined, depth):
-    if isinstance(tree, ast.Constant) and isinstance(tree.value, (int, float)):
-        return tree.value
-    if isinstance(tree, ast.Name) and depth < 20:
-        if tree.id in defined:
-            return value_of(defined[tree.id], defined, depth + 1)
-        if tree.id in KNOWN:
-            return KNOWN[tree.id]
-    if isinstance(tree, ast.UnaryOp):
-        value = of_tree(tree.operand, defined, depth)
-        return {ast.USub: lambda: -value, ast.UAdd: lambda: value, ast.Invert: lambda: ~value}[type(tree.op)]()
-    if isinstance(tree, ast.BinOp):
-        a, b = (of_tree(it, defined, depth) for it in (tree.left, tree.right))
-        is_whole = isinstance(a, int) and isinstance(b, int)
-        operations = {
-            ast.Add: lambda: a + b, ast.Sub: lambda: a - b, ast.Mult: lambda: a * b,
-            ast.Div: lambda: int(a / b) if is_whole else a / b, ast.LShift: lambda: a << b, ast.RShift: lambda: a >> b,
-            ast.BitOr: lambda: a | b, ast.BitAnd: lambda: a & b,
-        }  # fmt: skip
-        if type(tree.op) in operations:
-            return operations[type(tree.op)]()
-    raise ValueError("not read")
+def whole(text, defined):
+    """The value of a constant expression that is a whole number."""
+    value = constant(text, defined)[0]
+    if value.is_float():
+        raise ValueError(f"no whole number: {' '.join(text.split())[:60]}")
+    return value.number
 
 
-def element(word, defined, form):
-    """A number of an array. A hexadecimal one, or one with a cast, is wrapped to the width of its type."""
-    value = value_of(word, defined)
+def element(word, defined, kind):
+    """A number of an array, as its type holds it. Only one that is written as the bits of a word is wrapped."""
+    value, is_bits = constant(word, defined)
+    form = TYPES[kind]
     if form is None:
-        return float(value)
-    if not isinstance(value, int):
-        raise ValueError(f"no whole number: {word.strip()[:60]}")
-    wide = 2 ** (BITS[form] + 1)
-    if re.search(r"0[xX]|" + CAST, word) and wide // 2 <= value < wide:
-        return value - wide
-    return value
+        return c_values.of_float(value.number, c_values.FLOATS[kind]).number
+    if value.is_float():
+        raise ValueError(f"no whole number: {' '.join(word.split())[:60]}")
+    width = BITS[form] + 1
+    number = value.number
+    if (is_bits or not value.is_signed) and 1 << width - 1 <= number < 1 << width:
+        return number - (1 << width)
+    # (as 0xFFFF8000 and -1u, whose upper bits repeat the sign)
+    upper = number - (1 << value.bits)
+    return upper if not value.is_signed and c_values.fits(upper, width, True) else number
 
 
 def fields_of(text, names):
@@ -139,21 +135,23 @@ def uses(text):
 
 
 def arrays(text):
-    """The arrays by name: type, name, lengths in brackets, and numbers; the same name stands twice between #else."""
+    """The arrays by name: type, name, lengths in brackets, and numbers; the same name is there twice between #else."""
     kinds = "|".join(TYPES)
-    array = rf"\b({kinds})\s+(?:const\s+)?(\w+)\s*((?:\[[^]]*\]\s*)+)[^=;{{]*=\s*\{{(.*?)\}}\s*;"
+    array = rf"(\b(?:unsigned|long)\s+)?\b({kinds})\s+(?:int\s+)?(?:const\s+)?(\w+)\s*((?:\[[^]]*\]\s*)+)[^=;{{]*=\s*\{{(.*?)\}}\s*;"
     found = {}
-    for it in re.findall(array, text, re.S):
-        found.setdefault(it[1], set()).add(it)
+    for other, kind, name, lengths, body in re.findall(array, text, re.S):
+        if not other:
+            found.setdefault(name, set()).add((kind, name, lengths, body))
     return found
 
 
 def definitions(text):
-    """What each name is defined as; a name with several definitions is left out."""
+    """What each name is defined as; a name with several definitions, or with an #undef, is left out."""
     found = {}
     for name, value in re.findall(r"^[ \t]*#[ \t]*define[ \t]+(\w+)[ \t]+(.+?)[ \t]*$", text, re.M):
         found.setdefault(name, set()).add(value)
-    return {name: values.pop() for name, values in found.items() if len(values) == 1}
+    undone = set(re.findall(r"^[ \t]*#[ \t]*undef[ \t]+(\w+)", text, re.M))
+    return {name: values.pop() for name, values in found.items() if len(values) == 1 and name not in undone}
 
 
 def choose(found, instances, name):
@@ -170,20 +168,42 @@ def of_instance(pointing, defined):
     """The block and the post shift that the instances of an array tell, which must agree."""
     told = set()
     for _, word, fields in pointing:
-        before = [str(value_of(fields[it], defined)) for it in ("M", "L") if it in fields]
-        shift = value_of(fields["postShift"], defined) if "postShift" in fields else 0 if word.startswith("biquad") else None
+        before = [str(whole(fields[it], defined)) for it in ("M", "L") if it in fields]
+        shift = whole(fields["postShift"], defined) if "postShift" in fields else 0 if word.startswith("biquad") else None
         told.add((" ".join([word, *before]), shift))
     if len(told) > 1:
         raise ValueError(f"instances of the array differ: {', '.join(sorted(f'{block}, post shift {shift}' for block, shift in told))}")
     return told.pop() if told else (None, None)
 
 
-def filled(name, values, lengths, defined):
+def rows_of(body):
+    """The numbers of an array, as texts, in rows where they are in braces."""
+    if "#" in body:
+        raise ValueError(f"a line of the preprocessor is between its numbers: {PREPROCESSED} replaces it")
+    rows = [re.split(",", it) for it in re.findall(r"\{([^{}]*)\}", body)]
+    if rows and re.sub(r"\{[^{}]*\}|[\s,]", "", body):
+        raise ValueError("numbers in braces are beside others, or braces in braces")
+    found = [row if row[-1].strip() else row[:-1] for row in rows or [body.split(",")]]
+    if any(not word.strip() for row in found for word in row):
+        raise ValueError("a number is missing between two commas")
+    return found if rows else found[0], bool(rows)
+
+
+def filled(name, body, lengths, defined, kind):
     """The numbers of an array of these lengths, with the zeros that C adds."""
-    wanted = 1
-    for length in re.findall(r"\[([^]]*)\]", lengths):
-        wanted *= value_of(length, defined) if length.strip() else 0
-    if wanted and len(values) > wanted:
+    sizes = [whole(it, defined) if it.strip() else None for it in re.findall(r"\[([^]]*)\]", lengths)]
+    if any(it is not None and it < 1 for it in sizes) or None in sizes[1:]:
+        raise ValueError(f"{name} has no length of 1 or more in each bracket")
+    words, has_rows = rows_of(body)
+    wide = math.prod(sizes[1:])
+    if has_rows and len(sizes) != 2 and any(len(row) > 1 for row in words):
+        raise ValueError(f"{name} has rows of numbers in braces, and {len(sizes)} length{'s' * (len(sizes) != 1)}")
+    rows = [[element(word, defined, kind) for word in row] for row in (words if has_rows else [words])]
+    if has_rows and any(len(row) > wide for row in rows):
+        raise ValueError(f"{name} has a row of {max(map(len, rows))} numbers and the length {wide}")
+    values = [it for row in rows for it in (row + [0] * (wide - len(row)) if has_rows else row)]
+    wanted = (-(-len(values) // wide) if sizes[0] is None else sizes[0]) * wide
+    if len(values) > wanted:
         raise ValueError(f"{name} has {len(values)} numbers and the length {wanted}")
     return values + [0] * (wanted - len(values))
 
@@ -203,13 +223,12 @@ def read(text, name):
         raise ValueError(f"{chosen} is there {len(found[chosen])} times: {PREPROCESSED} leaves out what is not compiled")
     kind, _, lengths, body = found[chosen].pop()
     form = TYPES[kind]
-    words = [it for it in re.sub(r"[{}]", " ", body).split(",") if it.strip()]
-    values = filled(chosen, [element(word, defined, form) for word in words], lengths, defined)
+    values = filled(chosen, body, lengths, defined, kind)
     pointing = [it for it in instances if pointed(it[2].get("pCoeffs")) == chosen and name in (None, chosen, it[0])]
     block, shift = of_instance(pointing, defined)
     beside = next((it for key, it in defined.items() if key.lower() in (f"{chosen}_post_shift".lower(), f"{chosen}_postshift".lower())), None)
     if shift is None and beside is not None:
-        shift = value_of(beside, defined)
+        shift = whole(beside, defined)
     for _, word, fields in pointing:
         test_stages(chosen, values, form, word, fields, defined)
     return Array(values, form, block, shift)
@@ -218,6 +237,6 @@ def read(text, name):
 def test_stages(name, values, form, word, fields, defined):
     """Refuses an instance whose stages are not those of its array."""
     if word.startswith("biquad") and "numStages" in fields:
-        stages, width = value_of(fields["numStages"], defined), 6 if form == "q15" else 5
+        stages, width = whole(fields["numStages"], defined), 6 if form == "q15" else 5
         if stages * width != len(values):
             raise ValueError(f"{name} has {len(values)} numbers, and {stages} stages of {form} have {stages * width}")

@@ -24,6 +24,7 @@ import math
 import re
 import struct
 import sys
+from fractions import Fraction
 
 import c_source
 import language
@@ -39,6 +40,7 @@ MOST_NUMBERS, MOST = 16384, 4294967295
 RANGES = {"decimate": [(1, 255)], "interpolate": [(1, 255)], "conv_partial": [(0, MOST), (1, MOST)],
           "mat_add": [(1, 64)] * 2, "mat_sub": [(1, 64)] * 2, "mat_mult": [(1, 64)] * 3}  # fmt: skip
 NAMES = {"c": ("a C array", r"[A-Za-z_]\w*"), "table": ("a table", r"[a-z][a-z0-9_-]{0,31}")}
+NUMBER, LONGEST = r"(?i:[-+]?(([0-9]+\.?[0-9]*|\.[0-9]+)(e[-+]?[0-9]+)?|nan|inf(inity)?))", 1000
 NO_SOS = "scipy.signal.tf2sos(b, a), or output='sos' of the design"
 
 
@@ -78,21 +80,11 @@ def of_text(text):
     if not words:
         stop("the file has no numbers")
     columns = len(lines[0]) if len({len(line) for line in lines}) == 1 else None
-    is_whole = all(re.fullmatch(r"[-+]?\d+", word) for word in words)
-    try:
-        return Numbers([int(word) if is_whole else float(word) for word in words], is_whole, columns=columns)
-    except ValueError:
-        # (a word of thousands of digits is none either)
-        word = next((word for word in words if not is_number(word)), max(words, key=len))
-        stop(f"no number: {word[:60]!r}; a script, a C array, a .npy file or numbers are read")
-
-
-def is_number(word):
-    try:
-        float(word)
-        return True
-    except ValueError:
-        return False
+    is_whole = all(re.fullmatch(r"[-+]?[0-9]+", word) for word in words)
+    wrong = next((word for word in words if not re.fullmatch(NUMBER, word) or len(word) > LONGEST), None)
+    if wrong is not None:
+        stop(f"no number: {wrong[:60]!r}; a script, a C array, a .npy file or numbers are read")
+    return Numbers([int(word) if is_whole else float(word) for word in words], is_whole, columns=columns)
 
 
 def of_script(text, name, place):
@@ -177,13 +169,15 @@ def of_sections(rows, are_rows=True):
     if any(row[3] == 0 or (row[3] != rows[0][3] and not are_rows) for row in rows):
         stop("the fourth number of each row is a0, which is 1: rows are b0 b1 b2 a0 a1 a2, as scipy's sos has them. "
              "Rows of an instance, b0 b1 b2 a1 a2, are written b0 b1 b2 1 -a1 -a2")  # fmt: skip
-    return [[b0 / a0, b1 / a0, b2 / a0, -a1 / a0, -a2 / a0] for b0, b1, b2, a0, a1, a2 in rows]
+    exact = [[Fraction(it) for it in row] for row in rows]
+    return [[b0 / a0, b1 / a0, b2 / a0, -a1 / a0, -a2 / a0] for b0, b1, b2, a0, a1, a2 in exact]
 
 
 def rounded(values, form):
     """Rounded half up; 1 becomes the greatest number."""
     one = 2 ** BITS[form]
-    return [max(-one, min(one - 1, math.floor(value * one + 0.5))) for value in values]
+    # (as fractions, since the sum of a float and 0.5 is rounded)
+    return [max(-one, min(one - 1, math.floor(Fraction(value) * one + Fraction(1, 2)))) for value in values]
 
 
 def halvings(values):
@@ -209,10 +203,10 @@ def quantised(given, word, form, shift):
     flat = [value for row in sections for value in row]
     least, most = halvings(flat), SHIFTS[word, form]
     if shift is None:
-        fits = lambda p: all(-1 <= it / 2**p and it / 2**p + 2.0 ** -(BITS[form] + 1) < 1 for it in flat)
+        fits = lambda p: all(-1 <= it / 2**p and it / 2**p + Fraction(1, 2 ** (BITS[form] + 1)) < 1 for it in flat)
         shift = next((p for p in range(most + 1) if fits(p)), None)
     if shift is None or shift < least:
-        greatest = max(flat, key=abs)
+        greatest = float(max(flat, key=abs))
         stop(f"a coefficient is {greatest:g}, and --post-shift {least} is the least that holds it"
              if least <= most else f"a coefficient is {greatest:g}, and no post shift holds it")  # fmt: skip
     numbers = rounded([value / 2**shift for value in flat], form)
@@ -357,7 +351,7 @@ def chosen_block(words, given):
 
 
 def of_word(word, what):
-    if not re.fullmatch(r"-?\d+", word):
+    if not re.fullmatch(r"-?[0-9]{1,20}", word):
         stop(f"{word} is no {what}")
     return int(word)
 

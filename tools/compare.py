@@ -110,8 +110,6 @@ def compare(words):
         raise ValueError("a file has no whole number of frames: --channels says how many channels raw and text files have")
     left, right, unit = in_common(first, second)
     channels, head = first.channels, []
-    if words.offset < 0:
-        raise ValueError("--offset leaves out frames of the second file; exchange the files for the first")
     if words.offset and words.offset * channels >= len(right):
         raise ValueError(f"--offset {words.offset} leaves none of the {second.frames()} frames of the second file")
     right = right[words.offset * channels :]
@@ -129,7 +127,7 @@ def compare(words):
 
 
 def tolerance(word):
-    if not float(word) >= 0:
+    if not 0 <= float(word) < math.inf:
         raise ValueError
     return float(word)
 
@@ -138,7 +136,7 @@ def main():
     parser = argparse.ArgumentParser(description=__doc__, formatter_class=argparse.RawDescriptionHelpFormatter)
     parser.add_argument("first", help="the reference")
     parser.add_argument("second")
-    parser.add_argument("--offset", type=int, default=0, metavar="N", help="leaves out the first N frames of the second file")
+    parser.add_argument("--offset", type=samples.natural, default=0, metavar="N", help="leaves out the first N frames of the second file; exchange the files for the first")
     parser.add_argument("--lag", type=samples.natural, metavar="N", help="finds a shift of at most N frames, and compares with it")
     parser.add_argument("--common", action="store_true", help="only the frames that both files have")
     parser.add_argument("--within", type=tolerance, default=0, metavar="N",

@@ -1,8 +1,7 @@
 #!/usr/bin/env python3
-"""Tests of what a first day with the program stumbled over: aliases, faults, pictures, comparisons, coefficients.
+"""Tests of what a first day with the program stumbled over: aliases, faults, pictures, and the wrapper.
 
-    tools/first_day.py [CLASS ..]      Aliases, Faults, Checking, Reading, Comparing, Coefficients, Pictures,
-                                       Wrapper, Installing, Machines
+    tools/first_day.py [CLASS ..]      Aliases, Faults, MixUps, Checking, Pictures, Wrapper
 
 Each case calls a command as a user does, and compares numbers and texts with what is worked out here. DSPFX_PROGRAM
 names another program for ./dspfx. Pictures are left out where matplotlib is not there.
@@ -13,91 +12,17 @@ import os
 import re
 import shutil
 import signal
-import socket
 import struct
 import subprocess
 import sys
-import tempfile
 import time
 import unittest
 import unittest.mock
 
-TOP = os.path.dirname(os.path.dirname(os.path.abspath(__file__)))
-DSPFX = f"{TOP}/dspfx"
-COPY = "dspfx 1 input raw q15 1 8000 output raw"
+import day
+from day import COPY, DSPFX, TOP, Case, Ran, au_file, program_alone, wave_file, words16
+
 HAS_PLOTS = importlib.util.find_spec("matplotlib") and importlib.util.find_spec("numpy")
-
-
-class Ran:
-    """What a command wrote, and its status."""
-
-    def __init__(self, folder, words, data=None):
-        ran = subprocess.run(words, cwd=folder, input=data, stdin=None if data is not None else subprocess.DEVNULL,
-                             stdout=subprocess.PIPE, stderr=subprocess.PIPE)  # fmt: skip
-        self.status = ran.returncode
-        self.out, self.err = (it.decode(errors="replace") for it in (ran.stdout, ran.stderr))
-
-
-class Case(unittest.TestCase):
-    """A case has a folder of its own."""
-
-    def setUp(self):
-        self.folder = tempfile.mkdtemp()
-        self.addCleanup(shutil.rmtree, self.folder)
-
-    def path(self, name):
-        return f"{self.folder}/{name}"
-
-    def write(self, name, content):
-        with open(self.path(name), "wb") as file:
-            file.write(content.encode() if isinstance(content, str) else content)
-        return name
-
-    def content(self, name):
-        with open(self.path(name), "rb") as file:
-            return file.read()
-
-    def dspfx(self, *words):
-        return Ran(self.folder, [DSPFX, *words])
-
-    def tool(self, name, *words):
-        return Ran(self.folder, [sys.executable, f"{TOP}/tools/{name}.py", *words])
-
-    def ends(self, ran, status, *texts):
-        """The status, and texts on either stream."""
-        self.assertEqual(ran.status, status, ran.out + ran.err)
-        for text in texts:
-            self.assertIn(text, ran.out + ran.err)
-
-
-def program_alone():
-    """The program that ./dspfx runs."""
-    is_proved = subprocess.run([f"{TOP}/tools/sources.py", "dspfx"]).returncode == 0
-    return os.environ.get("DSPFX_PROGRAM", f"{TOP}/build/{'dspfx' if is_proved else 'unproved'}")
-
-
-def words16(*values):
-    return struct.pack(f"<{len(values)}h", *values)
-
-
-def wave_file(bits, channels, values, rate=8000, is_extensible=False):
-    """A WAVE file, by formulas of its own: values are whole numbers of so many bits."""
-    width = bits // 8
-    data = b"".join((value + 128 if bits == 8 else value).to_bytes(width, "little", signed=bits > 8) for value in values)
-    tail = struct.pack("<HHI", 22, bits, 0) + bytes.fromhex("0100000000001000800000aa00389b71") if is_extensible else b""
-    form = struct.pack("<HHIIHH", 0xFFFE if is_extensible else 1, channels, rate, rate * channels * width, channels * width, bits)
-    body = b"WAVEfmt " + struct.pack("<I", len(form + tail)) + form + tail + b"data" + struct.pack("<I", len(data)) + data
-    return b"RIFF" + struct.pack("<I", len(body)) + body + b"\0" * (len(data) % 2)
-
-
-def au_file(bits, channels, values, rate=8000, size=None):
-    data = b"".join(value.to_bytes(bits // 8, "big", signed=True) for value in values)
-    return b".snd" + struct.pack(">5I", 24, len(data) if size is None else size, {8: 2, 16: 3, 24: 4, 32: 5}[bits], rate, channels) + data
-
-
-def npy_file(kind, code, shape, values):
-    head = f"{{'descr': '{kind}', 'fortran_order': False, 'shape': {shape}, }}".ljust(117) + "\n"
-    return b"\x93NUMPY\1\0" + struct.pack("<H", len(head)) + head.encode() + struct.pack(f"<{len(values)}{code}", *values)
 
 
 class Aliases(Case):
@@ -208,11 +133,11 @@ class Faults(Case):
     def test_the_usage_line(self):
         """It names each command that the wrapper explains, and no other; help and completion know them too."""
         sys.path.insert(0, f"{TOP}/tools")
-        import explain
+        import word_hints
 
         line = self.dspfx("no", "command").out
         named = {part.split()[0] for part in line.strip().removeprefix("dspfx: usage: ").split(", ")}
-        self.assertEqual(named, set(explain.COMMANDS))
+        self.assertEqual(named, set(word_hints.COMMANDS))
         for name in ("help.txt", "completion.bash"):
             with open(f"{TOP}/tools/{name}") as file:
                 text = file.read()
@@ -414,6 +339,99 @@ class Faults(Case):
                 os.kill(int(self.content("pid")), 0)
 
 
+class MixUps(Case):
+    """A file with a header that is read as samples, raw samples that are read as a file with one, and an end by a signal."""
+
+    RAW = "dspfx 1 input raw q15 1 8000 fir {16384} output raw"
+
+    def setUp(self):
+        super().setUp()
+        self.write("raw.txt", self.RAW)
+        self.write("in.wav", wave_file(24, 2, range(8)))
+
+    def test_a_header_as_samples(self):
+        """The run is right by its script: its status, its report and its output are as ever, and one line more is said."""
+        hint = "dspfx: in.wav is a WAVE file, and with `input raw` its header is read as samples: `input wave q31 2` reads its samples alone\n"
+        self.write("in.raw", self.content("in.wav"))
+        state = self.content_of("resume", "stop", "3", "raw.txt", "in.raw", "o")
+        self.write("state", state)
+        for words in (["run", "raw.txt", "in.wav", "o"], ["bank", "raw.txt", "in.wav", "o"], ["resume", "stop", "3", "raw.txt", "in.wav", "o"],
+                      ["resume", "go", "state", "in.wav", "o"]):  # fmt: skip
+            with self.subTest(words):
+                ran, plain = self.dspfx(*words), self.dspfx(*(it.replace(".wav", ".raw") for it in words))
+                self.assertEqual((ran.status, ran.out), (0, plain.out))
+                self.assertEqual(ran.err.count(hint), 1, ran.err)
+        self.dspfx("run", "raw.txt", "in.wav", "o")
+        self.ends(self.dspfx("check", "raw.txt", "in.wav", "o"), 0, hint)
+        self.ends(self.dspfx("check", "raw.txt", "in.wav", "in.wav"), 11, hint)
+        floats = bytearray(wave_file(32, 1, [1, 2]))
+        floats[20] = 3
+        self.write("floats.wav", floats)
+        self.ends(self.dspfx("run", "raw.txt", "floats.wav", "o"), 0, "-b 16 OUT.wav` and then `input wave q15 1` read its samples alone")
+        self.write("in.au", au_file(16, 1, range(8)))
+        self.ends(self.dspfx("run", "raw.txt", "in.au", "o"), 0, "in.au is a Sun AU file", "`./dspfx convert au wave in.au NEW.wav`")
+
+    def content_of(self, *words):
+        return subprocess.run([DSPFX, *words], cwd=self.folder, stdout=subprocess.PIPE, stderr=subprocess.DEVNULL, check=True).stdout
+
+    def test_a_name_of_another_form(self):
+        """An output that is named as a WAVE file, and has no header."""
+        hint = "out.wav has raw samples, and no header as its name says: `output wave` in the script writes one\n"
+        self.write("in.raw", bytes(6))
+        for words in (["run", "raw.txt", "in.raw", "out.wav"], ["gen", "1", "9", "raw.txt", "out.wav"], ["resume", "stop", "1", "raw.txt", "in.raw", "out.wav"]):
+            ran = self.dspfx(*words)
+            self.ends(ran, 0)
+            self.assertEqual(ran.err.count(f"dspfx: {hint}"), 1, ran.err)
+        self.write("wave.txt", "dspfx 1 input raw q15 1 8000 output wave")
+        self.assertNotIn("header", self.dspfx("run", "wave.txt", "in.raw", "out.wav").err)
+        self.assertNotIn("header", self.dspfx("run", "raw.txt", "in.raw", "out.raw").err)
+
+    def test_a_text_in_place_of_a_file(self):
+        self.ends(self.dspfx("run", self.RAW, "in.wav", "o"), 6, "SCRIPT is the name of a file, and here is the text of a script")
+
+    def test_where_nothing_is_mixed_up(self):
+        self.write("wave.txt", "dspfx 1 input wave q31 2 output wave")
+        self.write("short", b"RIF")
+        for words in (["run", "wave.txt", "in.wav", "o"], ["convert", "wave", "au", "in.wav", "o"], ["run", "raw.txt", "short", "o"],
+                      ["gen", "1", "9", "raw.txt", "o"]):  # fmt: skip
+            ran = self.dspfx(*words)
+            self.ends(ran, 0)
+            self.assertNotIn("header", ran.err)
+        self.write("python3", "#!/bin/sh\n>called\nexec false\n")
+        os.chmod(self.path("python3"), 0o755)
+        environment = dict(os.environ, PATH=f"{self.folder}:{os.environ['PATH']}", DSPFX_PROGRAM=program_alone())
+        for count, script in ((0, "wave.txt"), (1, "raw.txt")):  # (and a run takes no time for what is not mixed up)
+            ran = subprocess.run([DSPFX, "run", script, "in.wav", "o"], cwd=self.folder, env=environment, stdout=subprocess.DEVNULL)
+            self.assertEqual((ran.returncode, os.path.exists(self.path("called"))), (0, bool(count)))
+        ran = Ran(self.folder, ["bash", "-c", f"{DSPFX} run raw.txt <(cat in.wav) o"])
+        self.ends(ran, 0)
+        self.assertNotIn("header", ran.err)
+
+    def test_raw_samples_as_a_wave_file(self):
+        self.write("wave.txt", "dspfx 1 input wave q31 2 output wave")
+        self.write("in.raw", bytes(64))
+        hint = "write `input raw q31 2 RATE`, as `input raw q31 2 48000`, in place of `input wave q31 2`"
+        self.ends(self.dspfx("run", "wave.txt", "in.raw", "o"), 4, "in.raw is no WAVE file; if it has raw samples, " + hint)
+        self.ends(self.dspfx("convert", "wave", "au", "in.raw", "o"), 4, "as `input raw q15 1 48000`")
+
+    def test_an_end_by_a_signal(self):
+        """The status is of the shell, 128 more than the signal, and none of the program's own."""
+        self.write("program", "#!/bin/sh\nkill -$NAME $$\n")
+        os.chmod(self.path("program"), 0o755)
+        for name, number, hint in (("KILL", 9, "where memory runs out"), ("SEGV", 11, "please report it"), ("TERM", 15, "another process ended it"),
+                                   ("XFSZ", 25, "`ulimit -f`"), ("ILL", 4, "CPU=x86-64-v2 ./dspfx prove")):  # fmt: skip
+            with self.subTest(name):
+                ran = Ran(self.folder, ["env", f"NAME={name}", "DSPFX_PROGRAM=program", DSPFX, "run", "raw.txt", "in.wav", "o"])
+                self.ends(ran, 128 + number, f"SIG{name} ended it ({128 + number} is 128 and the number of the signal)", hint)
+                self.assertEqual((ran.out, ran.err.count("\n")), ("", 2))
+
+    def test_a_program_of_another_machine(self):
+        self.write("program", b"\x7fELF and nothing more")
+        os.chmod(self.path("program"), 0o755)
+        ran = Ran(self.folder, ["env", "DSPFX_PROGRAM=program", DSPFX, "run", "raw.txt", "in.wav", "o"])
+        self.ends(ran, 126, "status 126 is of the shell, and not of dspfx")
+
+
 class Checking(Case):
     """A file against the output of a script: what the report says, and what the wrapper adds."""
 
@@ -520,303 +538,6 @@ class Checking(Case):
         self.ends(self.dspfx("check", "raw.txt", "long.raw", "none"), 5, "dspfx: lengths: check size 16777217, limit 16777216\n", "check a shorter part")
 
 
-class Reading(Case):
-    """One reader for all sample files."""
-
-    def read(self, name, content, **options):
-        self.write(name, content)
-        sys.path.insert(0, f"{TOP}/tools")
-        import samples
-
-        return samples.read(self.path(name), **options)
-
-    def is_read(self, name, content, form, count, values, **options):
-        found = self.read(name, content, **options)
-        self.assertEqual((found.form, found.channels, list(found.values)), (form, count, values))
-
-    def test_wave(self):
-        for is_extensible in (False, True):
-            for bits, form, by in ((8, "q7", 1), (16, "q15", 1), (24, "q31", 256), (32, "q31", 1)):
-                values = [-(2 ** (bits - 1)), 1, -1, 2 ** (bits - 1) - 1, 5, 6]
-                file = wave_file(bits, 2, values, 44100, is_extensible)
-                self.is_read("x", file, form, 2, [it * by for it in values])
-                self.assertEqual(self.read("x", file).rate, 44100)
-        with self.assertRaises(ValueError):
-            self.read("x", wave_file(16, 1, range(10))[:-4])
-
-    def test_au(self):
-        for bits, form, by in ((8, "q7", 1), (16, "q15", 1), (24, "q31", 256), (32, "q31", 1)):
-            values = [-(2 ** (bits - 1)), 1, -1, 2 ** (bits - 1) - 1]
-            self.is_read("x", au_file(bits, 2, values), form, 2, [it * by for it in values])
-            self.is_read("x", au_file(bits, 2, values, size=0xFFFFFFFF), form, 2, [it * by for it in values])
-
-    def test_npy(self):
-        self.is_read("x", npy_file("<i2", "h", (2, 2), [1, 2, 3, -4]), "q15", 2, [1, 2, 3, -4])
-        self.is_read("x", npy_file("<f8", "d", (3,), [0.5, -1.0, 0.25]), "float", 1, [0.5, -1.0, 0.25])
-
-    def test_text(self):
-        self.is_read("x.txt", "1 -2, 0x10\n# 7\n0xfffe;0x8000", "q15", 1, [1, -2, 16, -2, -32768])
-        self.is_read("x.gdb", "0x20000010 <output>:\t1\t-2\n0x20000014 <output+4>:\t3\t4\n", "q15", 1, [1, -2, 3, 4])
-        self.is_read("x.gdb", "0x20000010:\t0xff85\t0x0001\n", "q15", 1, [-123, 1])
-        self.is_read("x.gdb", "$1 = {0 <repeats 3 times>, -7, 9}\n", "q15", 1, [0, 0, 0, -7, 9])
-        self.is_read("x.hex", "FF85 0001 7fff", "q15", 1, [-123, 1, 32767], is_hex=True)
-        self.is_read("x.csv", "left,right\n1,2\n3,4\n", "q15", 2, [1, 2, 3, 4], channels=2)
-        self.is_read("x.csv", "n;value\n0;5\n1;-6\n", "q15", 1, [5, -6], column="value")
-        self.is_read("x.csv", "n,left,right\n0,1,2\n1,3,4\n", "q15", 2, [1, 2, 3, 4], column="left,right")
-        self.is_read("x.txt", "0.5\n-1e-1\n0", "float", 1, [0.5, -0.1, 0])
-        for text, options in (("n,value\n0,5\n", {}), ("a,b\n1,2\n", {"column": "c"}), ("40000", {}), ("0x12345", {}),
-                              ("$1 = {1, 2...}", {}), ("one two\nthree", {}), ("", {}), ("dspfx 1 input raw\n", {"column": "dspfx 1 input raw"})):  # fmt: skip
-            with self.assertRaises(ValueError, msg=text):
-                self.read("x.csv", text, **options)
-
-    def refuses(self, name, content, hint, **options):
-        with self.assertRaisesRegex(ValueError, hint):
-            self.read(name, content, **options)
-
-    def test_first_lines(self):
-        """A first line that is no heading is not left out."""
-        self.is_read("x.txt", "0X10\n0X11\n", "q15", 1, [16, 17])
-        self.is_read("x.hex", "FFFF\n0001\n", "q15", 1, [-1, 1], is_hex=True)
-        self.is_read("x.csv", "beef\n1\n", "q15", 1, [1], column="beef")
-        self.is_read("x.csv", "n,value,\n0,5,\n1,-6,\n", "q15", 1, [5, -6], column="value")
-        for text, hint in (
-            ("FFFF\n0001\n", "FFFF is a heading or hexadecimal: --column names the column, --hex says"),
-            ("FFFF 0001\n0002\n", "FFFF 0001 is a heading or hexadecimal"), ("nan\n0.5\n", "no number: nan"),
-            ("0.5f\n0.25\n", "no number: 0.5f"), ("value\n0,5\n", "a row of 2 cells under a heading of 1: 0,5"),
-            ('$1 = "\\001\\377"', "gdb shows bytes as text: `print/d` shows numbers"),
-        ):  # fmt: skip
-            self.refuses("x.txt", text, hint)
-        self.refuses("x.hex", ":10010000214601360121470136007EFE09D2190140\n", "an Intel HEX file: `objcopy -I ihex", is_hex=True)
-        self.refuses("x.hex", "12 xyz", "no hexadecimal number: xyz", is_hex=True)
-        self.refuses("x.hex", "12 1.5", "no hexadecimal number: 1.5", is_hex=True)
-
-    def test_whole_numbers_with_points(self):
-        """numpy.savetxt writes 1000 as 1.000000000000000000e+03."""
-        self.refuses("x.txt", "1.000000000000000000e+03\n0.000000000000000000e+00\n", "numbers as 1000 are no fractions of full scale")
-        self.refuses("x", npy_file("<f8", "d", (2,), [1.0, -2.0]), "numbers as -2 are no fractions of full scale")
-        self.is_read("x", npy_file("<f8", "d", (2,), [1.0, -2.5]), "float", 1, [1, -2.5])
-
-    def test_damaged_files(self):
-        for data in (wave_file(16, 1, [1])[:30], au_file(16, 1, [1])[:20], npy_file("<i2", "h", (9,), [1]), b"\x93NUMPY"):
-            self.refuses("x", data, "x: it was cut, or is damaged|the WAVE file has no samples")
-        self.refuses("x", npy_file("<i2", "h", (2, 0), []), r"shape \(2, 0\) is not read")
-        fields = npy_file("<i2", "h", (1,), [1]).replace(b"'<i2'", b"[('a', '<i2')]").replace(b" " * 9, b"", 1)
-        self.refuses("x", fields, r"an array of \[\('a', '<i2'\)\] and shape \(1,\) is not read")
-
-
-class Comparing(Case):
-    """tools/compare.py says all places, and never says `same` wrongly."""
-
-    def test_a_wrong_bit(self):
-        values = list(range(500))
-        self.write("a.raw", words16(*values))
-        wrong = bytearray(words16(*values))
-        wrong[201] ^= 1
-        self.write("b.raw", bytes(wrong))
-        ran = self.tool("compare", "a.raw", "b.raw")
-        self.ends(ran, 1, "frame 100 channel 0: wanted 100, found 356, by 256\n", "differ: 1 of 500 samples", "greatest: 256")
-
-    def test_many_places(self):
-        self.write("a.raw", words16(*range(100)))
-        self.write("b.raw", words16(*(it + (it >= 60) for it in range(100))))
-        ran = self.tool("compare", "a.raw", "b.raw", "--channels", "2")
-        self.ends(ran, 1, "frame 30 channel 0: wanted 60, found 61, by 1", "and 20 more", "differ: 40 of 100 samples")
-        self.assertEqual(ran.out.count("wanted"), 20)
-        self.ends(self.tool("compare", "a.raw", "b.raw", "--within", "1"), 0, "greatest: 1", "same: 100 samples, within 1")
-
-    def test_fractions(self):
-        values = [1000, -20000, 30000]
-        self.write("a.npy", npy_file("<f8", "d", (3,), [(it + 0.5) / 32768 for it in values]))
-        self.write("b.raw", words16(*values))
-        noise, power = 3 * 0.25, sum((it + 0.5) ** 2 for it in values)
-        self.ends(self.tool("compare", "a.npy", "b.raw"), 1, "greatest: 0.5 last places", f"signal to noise: {10 * math.log10(power / noise):.1f} dB")
-        self.ends(self.tool("compare", "a.npy", "b.raw", "--within", "0.5"), 0, "within 0.5")
-        self.write("nan.npy", npy_file("<f8", "d", (3,), [math.nan] * 3))
-        self.assertEqual(self.tool("compare", "nan.npy", "b.raw", "--within", "9").status, 1)
-
-    def test_samples_that_are_not_finite(self):
-        self.write("a.raw", words16(1, 2))
-        self.write("inf.npy", npy_file("<f8", "d", (2,), [math.inf, 2 / 32768]))
-        for names in (("a.raw", "inf.npy"), ("inf.npy", "a.raw")):
-            self.ends(self.tool("compare", *names), 1, "differ: 1 of 2 samples", "signal to noise: none, a sample is not finite\n")
-
-    def test_a_shift(self):
-        values = [(it * it * 7919) % 30011 - 15000 for it in range(600)]
-        self.write("a.raw", words16(*values))
-        self.write("late.raw", words16(*([0] * 37 + values[:-37])))
-        self.write("early.raw", words16(*values[21:]))
-        self.ends(self.tool("compare", "a.raw", "late.raw", "--lag", "50", "--common"), 0, "lag: 37 frames", "same: 563 samples")
-        self.ends(self.tool("compare", "a.raw", "early.raw", "--lag", "50"), 0, "lag: -21 frames", "same: 579 samples")
-        self.ends(self.tool("compare", "a.raw", "late.raw", "--lag", "50"), 1, "lengths: 600 and 563 samples")
-
-    def test_wave_of_all_kinds(self):
-        values = [-5, 7, 100, -100]
-        self.write("a.wav", wave_file(24, 2, values))
-        self.write("b.wav", wave_file(32, 2, [it * 256 for it in values], is_extensible=True))
-        self.write("c.au", au_file(24, 2, values))
-        for other in ("b.wav", "c.au"):
-            self.ends(self.tool("compare", "a.wav", other), 0, "same: 4 samples")
-        self.write("d.wav", wave_file(24, 1, values))
-        self.ends(self.tool("compare", "a.wav", "d.wav"), 2, "2 channels and 1")
-
-    def test_what_is_not_compared(self):
-        self.write("a.raw", words16(1, 2, 3))
-        self.ends(self.tool("compare", "a.raw", "a.raw", "--channels", "2"), 2, "no whole number of frames")
-        self.ends(self.tool("compare", "a.raw", "a.raw", "--offset", "9"), 2, "leaves none")
-        self.ends(self.tool("compare", "a.raw", "none.raw"), 2, "compare: none.raw: no such file or directory")
-        self.write("empty.raw", b"")
-        self.ends(self.tool("compare", "a.raw", "empty.raw"), 1, "lengths: 3 and 0 samples")
-        self.ends(self.tool("compare", "a.raw", "empty.raw", "--common"), 2, "no frames in common")
-        self.ends(self.tool("compare", "a.raw", "a.raw", "--lag", "-1"), 2, "--lag: invalid natural value: '-1'")
-        for within in ("-1", "nan"):
-            self.ends(self.tool("compare", "a.raw", "a.raw", "--within", within), 2, f"--within: invalid tolerance value: '{within}'")
-        self.ends(Ran(self.folder, ["bash", "-c", f"{sys.executable} {TOP}/tools/compare.py a.raw a.raw >/dev/full"]), 2,
-                  "compare: standard output: no space left on device\n")  # fmt: skip
-        self.write("script.txt", COPY)
-        self.ends(self.tool("compare", "a.raw", "script.txt"), 2, "script.txt: no numbers")
-        self.write("torn.raw", words16(1, 2, 3) + b"\1")
-        self.ends(self.tool("compare", "a.raw", "torn.raw"), 2, "torn.raw: 7 bytes are no whole number of q15 samples")
-
-
-C_SOURCE = """
-#define EQ_STAGES (2)
-#define EQ_POSTSHIFT (2u)
-#if 0
-q15_t eq_coeffs[12] = {0};
-#endif
-const short eq_coeffs[12] = {1<<14, 0, INT16_MAX, -(1<<13), 3, 4, 5, 0, 6, 7, 8, 9};
-arm_biquad_casd_df1_inst_q15 eq = { EQ_STAGES, eq_state, (q15_t *)eq_coeffs, EQ_POSTSHIFT };
-q31_t taps[4] = {1, 2, 3, 4};
-q15_t six[6] = {1, 0, 2, 3, 4, 5};
-q31_t wide[5] = {1, 2, 3, 4, 5};
-#define WIDE_POST_SHIFT (1u)
-void init(void) { arm_fir_decimate_init_q31(&down, 4, 2, taps, state, 64); }
-"""
-EQ = "biquad 2 {16384 0 32767 -8192 3 4 5 0 6 7 8 9}\n"
-
-
-class Coefficients(Case):
-    """tools/coefficients.py writes no wrong filter."""
-
-    def refuses(self, hint, *words):
-        ran = self.tool("coefficients", *words)
-        self.ends(ran, 1, hint)
-        self.assertEqual(ran.out, "")
-
-    def gives(self, text, *words):
-        ran = self.tool("coefficients", *words, "--as", "block")
-        self.assertEqual((ran.status, ran.out), (0, text), ran.err)
-        return ran.err
-
-    def test_c_sources(self):
-        self.write("f.c", C_SOURCE)
-        self.gives(EQ, "f.c", "--name", "eq")
-        self.gives(EQ, "f.c", "--name", "eq_coeffs")
-        self.gives("decimate 2 {1 2 3 4}\n", "f.c", "--name", "taps")
-        self.gives("biquad 1 {1 2 3 4 5}\n", "f.c", "--name", "wide")
-        self.refuses("--name says which array", "f.c")
-        self.refuses("may be taps or sections", "f.c", "--name", "six")
-        self.gives("fir {1 0 2 3 4 5}\n", "f.c", "--name", "six", "--block", "fir")
-        self.refuses("need their post shift", "f.c", "--name", "six", "--block", "biquad")
-        self.gives("biquad 3 {1 0 2 3 4 5}\n", "f.c", "--name", "six", "--block", "biquad 3")
-        self.write("bad.c", C_SOURCE.replace("EQ_STAGES (2)", "EQ_STAGES (3)"))
-        self.refuses("has 12 numbers, and 3 stages of q15 have 18", "bad.c", "--name", "eq")
-
-    def test_arrays_of_c(self):
-        """Numbers as C writes them; and of two arrays or values between #ifdef and #else none is chosen."""
-        for judge, told, text in (
-            (self.gives, "fir {3277 8192 1 0}\n", "float32_t taps[4] = {1e-05f, 2.5E-05, 0.25e+01f / 10, 1.e-01};"),
-            (self.gives, "fir {8 1 0}\n", "q15_t taps[3] = {010, 8-07, 0};"),
-            (self.refuses, "taps is there 2 times: `cc -E -P FILE", "#ifdef FAST\nq15_t taps[2] = {1, 2};\n#else\nq15_t taps[2] = {3, 4};\n#endif\n"),
-            (self.refuses, "no number: GAIN; `cc -E -P FILE", "#ifdef FAST\n#define GAIN 1\n#else\n#define GAIN 2\n#endif\nq15_t taps[2] = {GAIN, 2};\n"),
-            (self.refuses, "there is no array with numbers of one of the types q7_t,", "int taps[2] = {1, 2};"),
-        ):  # fmt: skip
-            self.write("f.c", text)
-            judge(told, "f.c")
-
-    def test_what_no_script_takes(self):
-        self.write("taps.txt", "0.5 0.25\n")
-        for hint, *words in (
-            ("0 is out of range: this number of decimate is 1 to 255", "--block", "decimate 0"),
-            ("256 is out of range: this number of decimate is 1 to 255", "--block", "decimate 256"),
-            ("15 is out of range: this number of lms is 0 to 14", "--block", "lms 15 1", "--channels", "2"),
-            ("lms takes 2 channels: --channels 2", "--block", "lms 0 1"),
-            ("this mat_add takes 9 numbers, and these are 2", "--block", "mat_add 3 3"),
-            ("--rate is at most 4294967295", "--rate", "4294967296"), ("--place is of a script", "--place", "1"),
-            ("2nd is no name of a table", "--as", "table", "--name", "2nd"), ("a b is no name of a C array", "--as", "c", "--name", "a b"),
-        ):  # fmt: skip
-            self.refuses(hint, "taps.txt", *words)
-        self.write("sos.txt", "0.5 0 0 1 0 0\n" * 65)
-        self.refuses("biquad takes at most 384 numbers, and these are 390", "sos.txt", "--block", "biquad")
-        self.write("long.txt", "9" * 5000)
-        self.refuses("no number: '9999", "long.txt")
-
-    def test_a_script_that_is_none(self):
-        self.write("s.txt", COPY.replace("output", "biquad )1 {1 0 2 3 4 5} output"))
-        self.refuses("no sound script: ./dspfx print SCRIPT says", "s.txt")
-
-    def test_tables(self):
-        """A table is of the block that uses it."""
-        self.write("s.txt", "dspfx 2 input raw q15 1 8000 table a {16384 8192} table b {16384 0 0 0 8192 0} conv a biquad 1 b output raw")
-        self.gives("conv {16384 8192}\n", "s.txt", "--name", "a")
-        self.gives("biquad 1 {16384 0 0 0 8192 0}\n", "s.txt", "--name", "b")
-        self.assertEqual(self.tool("coefficients", "s.txt", "--name", "a", "--as", "design").out, "0.5\n0.25\n")
-
-    def test_post_shifts(self):
-        self.write("sos.txt", "1 0.5 0.25 1 -1.75 0.5\n")
-        self.refuses("--post-shift 1 is the least", "sos.txt", "--block", "biquad", "--post-shift", "0")
-        self.refuses("--post-shift 1 is the least", "sos.txt", "--block", "biquad 0")
-        self.refuses("says the post shift 2, and --post-shift 3", "sos.txt", "--block", "biquad 2", "--post-shift", "3")
-        self.gives("biquad 2 {8192 0 4096 2048 14336 -4096}\n", "sos.txt", "--block", "biquad 2")
-        self.gives("biquad 1 {16384 0 8192 4096 28672 -8192}\n", "sos.txt", "--block", "biquad")
-        self.refuses("no post shift", "sos.txt", "--block", "fir", "--post-shift", "1")
-
-    def test_what_is_no_filter(self):
-        self.write("sos.txt", "1 0.5 0.25 1 -1.75 0.5\n" * 2)
-        self.refuses("look like second-order sections", "sos.txt")
-        self.write("ba.txt", "0.1 0.2 0.1 0.5\n1 0.5 0.25 0.125\n")
-        self.refuses("b and a of a transfer function", "ba.txt")
-        self.write("ba6.txt", "0.1 0.2 0.1 0.5 0.25 0.125\n1 0.5 0.25 0.5 0.25 0.125\n")
-        self.refuses("no second-order sections", "ba6.txt", "--block", "biquad")
-        self.write("big.txt", "1.25 0.5\n")
-        self.refuses("divide all by 2", "big.txt")
-        self.write("taps.txt", "0.5 0.25 0.125\n")
-        self.refuses("--block 'decimate N'", "taps.txt", "--block", "decimate")
-        self.refuses("a multiple of 2 taps", "taps.txt", "--block", "interpolate 2")
-        self.refuses("decimate has no q7", "taps.txt", "--block", "decimate 2", "--format", "q7")
-        self.refuses("is no block", "taps.txt", "--block", "firr")
-        self.write("in.wav", wave_file(16, 1, [1, 2]))
-        self.refuses("a script, a C array, a .npy file or numbers are read", "in.wav")
-        self.refuses("none.txt: no such file or directory", "none.txt")
-        self.write("macro.c", "#define HALF(x) (x / 2)\nq15_t taps[2] = {HALF(8), 3};")
-        self.refuses("`cc -E -P FILE | tools/coefficients.py - --name NAME` replaces macros first", "macro.c")
-
-    def test_a_script_of_several_filters(self):
-        self.write("s.txt", "dspfx 2 input raw q15 1 8000 table half {16384 16384} fir half shift 1 biquad 1 {16384 0 0 0 0 0} fir {32767 1} output raw")
-        err = self.gives("fir {16384 16384}\n", "s.txt")
-        self.assertIn("block 1 fir: a sum can reach 1.000 of full scale\n", err)
-        self.assertIn("block 2 shift: a sample can reach 2.000 of full scale, and is clipped at it\n", err)
-        self.assertIn("block 3 biquad: section 1 can reach 1.000 of full scale\n", err)
-        self.assertIn("block 4 fir: a sum can reach 1.000 of full scale\n", err)
-        self.assertIn("--place names another", err)
-        self.gives("fir {32767 1}\n", "s.txt", "--place", "4")
-
-    def test_worst_cases(self):
-        """The greatest sum of a cascade is that of the absolute values of its answer to an impulse."""
-        b0, a1 = 0.5, 0.75
-        self.write("sos.txt", f"{b0} 0 0 1 {-a1} 0\n{b0} 0 0 1 {-a1} 0\n")
-        err = self.gives("biquad 0 {16384 0 0 0 24576 0 16384 0 0 0 24576 0}\n", "sos.txt", "--block", "biquad")
-        for place in (1, 2):
-            self.assertIn(f"section {place} can reach {(b0 / (1 - a1)) ** place:.3f} of full scale", err)
-        # (the answer of this one goes on for millions of frames, and its sum is 1)
-        self.write("sos.txt", f"{2**-20} 0 0 1 {2**-20 - 1} 0\n")
-        err = self.gives("biquad 0 {2048 0 0 2147481600 0}\n", "sos.txt", "--block", "biquad", "--format", "q31")
-        self.assertIn(f"section 1 can reach at least {1 - (1 - 2**-20) ** 65536:.3f} of full scale", err)
-        self.write("s.txt", "dspfx 1 input raw q15 1 8000 shift -10 clip 16384 20000 fir {32767 32767} shift 1 output raw")
-        err = self.gives("fir {32767 32767}\n", "s.txt")
-        self.assertIn("block 3 fir: a sum can reach 1.000 of full scale\n", err)
-
-
 class Pictures(Case):
     """What tools/plot.py draws is right for every output."""
 
@@ -921,108 +642,6 @@ class Pictures(Case):
         os.symlink("a.wav", self.path("a.png"))
         self.ends(self.tool("plot", "files", "a.png", "a.wav"), 1, "is read: name another output")
         self.assertEqual(self.content("a.wav"), before)
-
-
-class Installing(Case):
-    """tools/install.sh puts the program, its page and its completion under a prefix, and takes them away."""
-
-    def install(self, *words):
-        return subprocess.run([f"{TOP}/tools/install.sh", *words], env=dict(os.environ, DSPFX_PROGRAM=program_alone()),
-                              stdout=subprocess.PIPE, stderr=subprocess.STDOUT, text=True)  # fmt: skip
-
-    def files(self):
-        return sorted(name for _, _, names in os.walk(self.path("prefix")) for name in names)
-
-    def test_there_and_away(self):
-        self.assertEqual(self.install(self.path("prefix")).returncode, 0)
-        self.assertEqual(self.files(), ["dspfx", "dspfx", "dspfx.1"])
-        self.assertTrue(os.access(self.path("prefix/bin/dspfx"), os.X_OK))
-        self.assertEqual(self.install("--uninstall", self.path("prefix")).returncode, 0)
-        self.assertEqual(self.files(), [])
-        self.assertEqual(self.install("--other").returncode, 1)
-
-    def test_words(self):
-        prefix = self.path("prefix")
-        for words in ((prefix, "--uninstall"), (prefix, "more"), ("",), ("--uninstall", "")):
-            self.assertEqual(self.install(*words).returncode, 1, words)
-        self.assertEqual(os.listdir(self.folder), [])
-        ran = self.install("--help")
-        self.assertEqual((ran.returncode, ran.stdout.split()[0]), (0, "Installs"))
-
-    def test_for_others(self):
-        """What is installed can be read by all, whoever installs it."""
-        self.addCleanup(os.umask, os.umask(0o077))
-        self.assertEqual(self.install(self.path("prefix")).returncode, 0)
-        for folder, _, names in os.walk(self.path("prefix")):
-            for path in (folder, *(f"{folder}/{name}" for name in names)):
-                self.assertEqual(os.stat(path).st_mode & 0o044, 0o044, path)
-
-    def test_the_page(self):
-        self.write("dspfx.1", Ran(self.folder, [sys.executable, f"{TOP}/tools/man.py"]).out)
-        if shutil.which("mandoc"):
-            ran = Ran(self.folder, ["mandoc", "-T", "lint", "-W", "warning", "dspfx.1"])
-            self.assertEqual((ran.status, ran.out + ran.err), (0, ""))
-        if shutil.which("man"):
-            text = re.sub(r"\s+", " ", Ran(self.folder, ["man", "-l", "dspfx.1"]).out)
-            self.assertNotIn("no program to run", text)
-            for words in ("gen SEED FRAMES SCRIPT OUT", "convert au wave IN OUT", "dspfx: output not written", "SEE ALSO"):
-                self.assertIn(words, text)
-
-    def test_completion(self):
-        def completed(*words):
-            script = f"source {TOP}/tools/completion.bash; COMP_WORDS=({' '.join(words)}); COMP_CWORD={len(words) - 1}; _dspfx 2>/dev/null; echo ${{COMPREPLY[*]}}"
-            return Ran(self.folder, ["bash", "-c", script]).out.split()
-
-        self.write("script.txt", COPY)
-        self.assertEqual(completed("dspfx", "ru"), ["run"])
-        self.assertEqual(completed("dspfx", "run", "scr"), ["script.txt"])
-        self.assertEqual(completed("dspfx", "run", "a", "b", "c", "bl"), ["block"])
-        self.assertEqual(completed("dspfx", "bank", "scr"), ["script.txt"])
-        self.assertEqual(completed("dspfx", "che"), ["check"])
-        self.assertEqual(completed("dspfx", "check", "a", "b", "scr"), ["script.txt"])
-        self.assertEqual(completed("dspfx", "convert", "au", "''"), ["wave"])
-        self.assertEqual(completed("dspfx", "gen", "7", "s"), [])
-        self.assertEqual(completed("dspfx", "convert", "au", "w"), ["wave"])
-
-
-class Machines(Case):
-    """The recipe for several machines, over an sshd on this machine."""
-
-    @unittest.skipUnless(all(map(shutil.which, ("parallel", "rsync", "ssh", "ssh-keygen"))) and os.path.exists("/usr/sbin/sshd"),
-                         "no sshd, parallel and rsync")  # fmt: skip
-    def test_the_recipe(self):
-        for key in ("host", "user"):
-            subprocess.run(["ssh-keygen", "-q", "-t", "ed25519", "-N", "", "-f", self.path(key)], check=True)
-        port = self.free_port()
-        self.write("config", f"Port {port}\nListenAddress 127.0.0.1\nHostKey {self.path('host')}\nPidFile none\n"
-                             f"AuthorizedKeysFile {self.path('user.pub')}\nStrictModes no\nUsePAM no\nPermitRootLogin yes\n")  # fmt: skip
-        if os.geteuid() == 0:
-            os.makedirs("/run/sshd", exist_ok=True)
-        server = subprocess.Popen(["/usr/sbin/sshd", "-D", "-f", self.path("config"), "-E", self.path("log")])
-        self.addCleanup(server.wait)
-        self.addCleanup(server.terminate)
-        with open(f"{TOP}/docs/USE.md") as file:
-            recipe = re.search(r"^```bash\n(parallel -S one,two .*?)^```", file.read(), re.M | re.S)[1]
-        login = (f"ssh -p {port} -i {self.path('user')} -o StrictHostKeyChecking=no -o UserKnownHostsFile=/dev/null"
-                 " -o LogLevel=ERROR -o ConnectionAttempts=5 127.0.0.1")  # fmt: skip
-        for folder in ("build", "out/recordings"):
-            os.makedirs(self.path(folder))
-        os.symlink(f"{TOP}/examples", self.path("examples"))
-        shutil.copy(os.environ.get("DSPFX_PROGRAM", f"{TOP}/build/dspfx"), self.path("build/dspfx"))
-        for name in ("one", "two"):
-            shutil.copy(f"{TOP}/examples/lowpass/in.wav", self.path(f"out/recordings/{name}.wav"))
-        work = f"dspfx-test-{os.getpid()}"
-        recipe = recipe.replace("-S one,two", f"--will-cite -S '{login}'").replace("dspfx-run", work)
-        self.ends(Ran(self.folder, ["bash", "-eu", "-c", recipe]), 0)
-        for name in ("one", "two"):
-            with open(f"{TOP}/examples/lowpass/expected.wav", "rb") as file:
-                self.assertEqual(self.content(f"out/filtered/{name}.wav"), file.read())
-        self.assertFalse(os.path.exists(os.path.expanduser(f"~/{work}")))
-
-    def free_port(self):
-        with socket.socket() as it:
-            it.bind(("127.0.0.1", 0))
-            return it.getsockname()[1]
 
 
 class Wrapper(Case):
@@ -1135,12 +754,6 @@ class Wrapper(Case):
         self.assertRegex(said, r"\A\r\033\[Kdspfx: [4-9]0 % of the input, [\d.]+ MB a second, 0:0\d left\r\033\[K")
         self.assertTrue(said.endswith("\r\033[Kdone\r\n"), said[-60:])
 
+
 if __name__ == "__main__":
-    program = unittest.main(verbosity=0, exit=False)
-    counts = program.result
-    # (a test with several cases counts once)
-    bad = len({re.sub(r" [\[(].*", "", str(case)) if "[" in str(case) else str(case) for case, _ in counts.failures + counts.errors})
-    print(f"{counts.testsRun - len(counts.skipped) - bad} passed, {bad} failed")
-    for case, why in {str(why): (case, why) for case, why in counts.skipped}.values():
-        print(f"skipped: {why}")
-    sys.exit(bad > 0)
+    day.main()

@@ -10,6 +10,7 @@ import array
 import ast
 import csv
 import math
+import os
 import re
 import signal
 import struct
@@ -19,6 +20,10 @@ CODES = {"q7": "b", "q15": "h", "q31": "i"}
 BITS = {"q7": 7, "q15": 15, "q31": 31}
 OF_WIDTH = {8: "q7", 16: "q15", 24: "q31", 32: "q31"}
 TEXTS = (".txt", ".csv", ".log", ".gdb", ".hex")
+RAW = (".raw", ".bin", ".pcm", ".dat")
+SOUNDS = {b"RIFX": "a big-endian WAVE file", b"RF64": "an RF64 file", b"FORM": "an AIFF file", b"fLaC": "a FLAC file",
+          b"OggS": "an Ogg file", b"ID3": "an MP3 file", b"caff": "a CAF file"}  # fmt: skip
+OTHERS = {**SOUNDS, b"PK\3\4": "an archive", b"\x1f\x8b": "a gzip file", b"\x7fELF": "a program"}
 PCM, FLOAT, EXTENSIBLE = 1, 3, 0xFFFE
 UNKNOWN_SIZE = 0xFFFFFFFF
 CUT = "it was cut, or is damaged"
@@ -67,14 +72,25 @@ def of_pcm(data, bits, is_big=False, is_unsigned=False):
     return words_of(data, CODES[OF_WIDTH[bits]], is_big)
 
 
+def whole_frames(body, width, size):
+    """The whole frames of samples. Those of a declared size are whole; where it is not known, a pad byte may follow."""
+    if size != UNKNOWN_SIZE and len(body) % width:
+        raise ValueError(f"{len(body)} bytes of samples are no whole number of frames of {width} bytes")
+    return body[: len(body) // width * width]
+
+
 def read_wave(data):
     """A WAVE file of 8 to 32 bits or of floats, with an extension or without."""
+    if data[8:12] != b"WAVE":
+        raise ValueError("a RIFF file, but no WAVE file")
     place, tag, size = 12, None, 0
     while place + 8 <= len(data):
         kind, size = struct.unpack_from("<4sI", data, place)
         place += 8
         if kind == b"fmt " and tag is None:
-            tag, channels, rate, _, _, bits = struct.unpack_from("<HHIIHH", data, place)
+            tag, channels, rate, _, width, bits = struct.unpack_from("<HHIIHH", data, place)
+            if size < (40 if tag == EXTENSIBLE else 16):
+                raise ValueError(f"a WAVE file whose `fmt ` has {size} bytes is not read")
             if tag == EXTENSIBLE:
                 (tag,) = struct.unpack_from("<H", data, place + 24)
         elif kind == b"data":
@@ -86,10 +102,12 @@ def read_wave(data):
         raise ValueError("the WAVE file has no `fmt ` before its samples")
     if not 1 <= channels or not ((tag == PCM and bits in OF_WIDTH) or (tag == FLOAT and bits in (32, 64))):
         raise ValueError(f"a WAVE file with tag {tag}, {bits} bits and {channels} channels is not read")
+    if width != channels * bits // 8:
+        raise ValueError(f"a WAVE file with frames of {width} bytes for {channels} channels of {bits} bits is not read")
     body = data[place:] if size == UNKNOWN_SIZE else data[place : place + size]
     if size != UNKNOWN_SIZE and len(body) < size:
         raise ValueError(f"the WAVE file is cut: it declares {size} bytes of samples and has {len(body)}")
-    body = body[: len(body) // (channels * bits // 8) * (channels * bits // 8)]
+    body = whole_frames(body, channels * bits // 8, size)
     if tag == FLOAT:
         return Samples(words_of(body, "f" if bits == 32 else "d"), "float", channels, rate)
     return Samples(of_pcm(body, bits, is_unsigned=True), OF_WIDTH[bits], channels, rate)
@@ -104,7 +122,7 @@ def read_au(data):
     body = data[start:] if size == UNKNOWN_SIZE else data[start : start + size]
     if size != UNKNOWN_SIZE and len(body) < size:
         raise ValueError(f"the AU file is cut: it declares {size} bytes of samples and has {len(body)}")
-    body = body[: len(body) // (channels * bits // 8) * (channels * bits // 8)]
+    body = whole_frames(body, channels * bits // 8, size)
     if encoding in (6, 7):
         return Samples(words_of(body, "f" if bits == 32 else "d", is_big=True), "float", channels, rate)
     return Samples(of_pcm(body, bits, is_big=True), OF_WIDTH[bits], channels, rate)
@@ -121,6 +139,8 @@ def array_of_npy(data):
         raise ValueError(f"an array of {head['descr']} and shape {shape} is not read")
     count = math.prod(shape)
     values = list(struct.unpack_from(f"{'>' if order == '>' else '<'}{count}{codes[kind]}", data, start))
+    if len(data) != start + count * struct.calcsize(codes[kind]):
+        raise ValueError("more bytes follow the array of the .npy file")
     if head["fortran_order"] and len(shape) == 2:
         values = [values[column * shape[0] + row] for row in range(shape[0]) for column in range(shape[1])]
     return values, shape, kind
@@ -161,9 +181,9 @@ def number_of(word, form, is_hex):
         return value - 2**width if value >= 2 ** (width - 1) else value
     if is_hex:
         raise ValueError(f"no hexadecimal number: {word[:40]}")
-    if re.fullmatch(r"[-+]?\d+", bare):
+    if re.fullmatch(r"[-+]?[0-9]+", bare):
         return int(bare)
-    if re.fullmatch(r"[-+]?(\d+\.?\d*|\.\d+)(e[-+]?\d+)?", bare):
+    if re.fullmatch(r"[-+]?([0-9]+\.?[0-9]*|\.[0-9]+)(e[-+]?[0-9]+)?", bare):
         return float(bare)
     raise ValueError(f"no number: {word[:40]}")
 
@@ -240,6 +260,20 @@ def read_text(text, form, channels, rate, column=None, is_hex=False):
     return Samples(in_range(values, form, "the text"), form, channels, rate)
 
 
+def test_kind(path, data):
+    """Refuses what is neither raw words nor text: by the first bytes of other formats, and by the ending of the name."""
+    ending = os.path.splitext(path.lower())[1]
+    if ending in (".wav", ".wave", ".au", ".snd", ".npy"):
+        raise ValueError(f"its name ends with {ending}, and its first bytes are not those of such a file")
+    kind = next((name for mark, name in OTHERS.items() if data.startswith(mark)), None)
+    if ending in (".flac", ".mp3", ".ogg", ".opus", ".m4a", ".aif", ".aiff", ".caf", ".npz", ".mat", ".zip", ".gz"):
+        kind = kind or f"a {ending} file"
+    if kind and ending not in RAW + TEXTS:
+        raise ValueError(f"{kind} is not read: sox or ffmpeg make a WAVE file of sound, and raw words are in a file with the ending .raw")
+    if ending in TEXTS and data[:2] in (b"\xff\xfe", b"\xfe\xff"):
+        raise ValueError("the text is UTF-16: save it as UTF-8")
+
+
 def read(path, form="q15", channels=1, rate=48000, column=None, is_hex=False):
     """The samples of a file, by its first bytes, or else by the ending of its name."""
     with open(path, "rb") as file:
@@ -251,6 +285,7 @@ def read(path, form="q15", channels=1, rate=48000, column=None, is_hex=False):
             return read_au(data)
         if data[:6] == b"\x93NUMPY":
             return read_npy(data, form, channels, rate)
+        test_kind(path, data)
         if path.lower().endswith(TEXTS):
             return read_text(data.decode("utf-8", "replace"), form, channels, rate, column, is_hex)
         if len(data) % struct.calcsize(CODES[form]):
@@ -271,14 +306,15 @@ def add_arguments(parser):
 
 
 def natural(word):
-    return positive(str(int(word) + 1)) - 1
+    if not re.fullmatch("[0-9]{1,18}", word):
+        raise ValueError
+    return int(word)
 
 
 def positive(word):
-    value = int(word)
-    if value < 1:
+    if natural(word) < 1:
         raise ValueError
-    return value
+    return int(word)
 
 
 def end_quietly():

@@ -1,6 +1,7 @@
 """Samples as arrays: of numpy where it is installed, else of the module `array`."""
 
 import array
+import collections.abc
 import ctypes
 from typing import Any, Sequence, Union
 
@@ -14,6 +15,7 @@ Array = Any  # an array of numpy, or array.array
 BITS = {"q7": 7, "q15": 15, "q31": 31}
 CODES = {7: "b", 15: "h", 31: "i"}
 NAMES = {7: "int8", 15: "int16", 31: "int32"}
+BOOLS = {bool} if numpy is None else {bool, numpy.bool_}
 NOWHERE = ctypes.create_string_buffer(16)  # the address of an array of nothing
 
 
@@ -21,6 +23,23 @@ def bytes_are_cast(samples, bits):
     """Refuses bytes, of which nobody can say whether they are words or numbers."""
     if isinstance(samples, (bytes, bytearray)) or (isinstance(samples, memoryview) and samples.format in "Bc"):
         raise TypeError(f"bytes are cast to words first: memoryview(data).cast({CODES[bits]!r})")
+
+
+def test_order(samples):
+    """Refuses what gives no samples in an order, or samples without a value: sets, mappings, texts, bools, masked ones."""
+    if type(samples) is array.array or (numpy is not None and type(samples) is numpy.ndarray):
+        return
+    if isinstance(samples, (collections.abc.Set, collections.abc.Mapping, str)):
+        raise TypeError(f"samples come in an order, as in a list, and not as {type(samples).__name__}")
+    if isinstance(samples, (list, tuple)):
+        rows = samples if samples and isinstance(samples[0], (list, tuple)) else [samples]
+        for row in rows:
+            if isinstance(row, (list, tuple)) and not BOOLS.isdisjoint(map(type, row)):
+                raise no_whole_numbers("bool")
+            if isinstance(row, (collections.abc.Set, collections.abc.Mapping)):
+                raise TypeError(f"a frame comes in an order, as in a list, and not as {type(row).__name__}")
+    if numpy is not None and isinstance(samples, numpy.ma.MaskedArray) and numpy.ma.is_masked(samples):
+        raise ValueError("a masked sample has no value: filled() gives it one")
 
 
 def out_of_range(bits):
@@ -34,6 +53,7 @@ def no_whole_numbers(kind):
 def words(samples, bits, channels=1):
     """The samples as one run of words of the format, frame by frame."""
     bytes_are_cast(samples, bits)
+    test_order(samples)
     return _numpy_words(samples, bits, channels) if numpy is not None else _plain_words(samples, bits, channels)
 
 
@@ -68,6 +88,8 @@ def _plain_words(samples, bits, channels):
     if isinstance(samples, memoryview):
         if samples.ndim == 2 and samples.shape[1] != channels:
             raise ValueError(f"frames of {samples.shape[1]} channels, where {channels} are needed")
+        if samples.format == "?":
+            raise no_whole_numbers("bool")
         if samples.format == CODES[bits]:
             found = array.array(CODES[bits])
             found.frombytes(samples.tobytes())
@@ -77,7 +99,7 @@ def _plain_words(samples, bits, channels):
         return samples
     samples = list(samples)
     if samples and hasattr(samples[0], "__len__"):
-        if any(len(frame) != channels for frame in samples):
+        if any(not hasattr(frame, "__len__") or len(frame) != channels for frame in samples):
             raise ValueError(f"frames of {channels} channels are needed")
         samples = [it for frame in samples for it in frame]
     try:
@@ -152,10 +174,12 @@ def column(found, channel, channels):
 def matrix(rows, bits):
     """A matrix as words row by row, and how many rows and columns it has."""
     if numpy is not None:
+        test_order(rows)
         found = numpy.asarray(rows)
         if found.ndim != 2:
             raise ValueError(f"an array of the shape {found.shape}, where a matrix is needed")
         return words(found.reshape(-1), bits), found.shape
+    test_order(rows)
     if isinstance(rows, memoryview):
         rows = rows.tolist()
     rows = [list(row) for row in rows]

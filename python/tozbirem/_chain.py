@@ -51,6 +51,7 @@ def whole(value) -> str:
 def listed(values) -> str:
     """A list of a script: numbers in braces."""
     _arrays.bytes_are_cast(values, 15)
+    _arrays.test_order(values)
     flat = values.reshape(-1).tolist() if hasattr(values, "reshape") else values
     return "{" + " ".join(map(whole, flat)) + "}"
 
@@ -155,8 +156,12 @@ class Chain:
         return f"<tozbirem.Chain of {self.channels} channels {self.format} after {self.frames} frames>"
 
     def _plan(self, block: int, frames: int = 0):
-        plan, answer = Plan(), Answer()
-        status = LIBRARY.tozbirem_plan(self._script, len(self._script), block, index(frames), byref(plan), byref(answer))
+        plan, answer, frames = Plan(), Answer(), index(frames)
+        if frames < 0:
+            raise ValueError(f"a signal has no {frames} frames")
+        # (more than 2^40 of any number are refused, and the call takes numbers of 64 bits)
+        frames = min(frames, (1 << 64) - 1)
+        status = LIBRARY.tozbirem_plan(self._script, len(self._script), block, frames, byref(plan), byref(answer))
         judge(status, answer, self._script, self._own)
         return plan
 
@@ -221,8 +226,14 @@ class Chain:
         return _arrays.shaped(tail, self.output_channels)
 
     def run(self, samples: _arrays.Samples) -> _arrays.Array:
-        """Takes a whole signal, and returns all that it gives: `process` and `finish` in one."""
-        given = [self.process(samples), self.finish()]
+        """Takes a whole signal, and returns all that it gives: `process` and `finish` in one, or nothing has changed."""
+        self._must_go_on()
+        before = self._now()
+        try:
+            given = [self.process(samples), self.finish()]
+        except BaseException:
+            self._go_on_from(before)
+            raise
         return _arrays.joined(given) if len(given[1]) else given[0]
 
     def measures(self) -> List[Measure]:
@@ -303,25 +314,37 @@ class Chain:
 
     @state.setter
     def state(self, state: Tuple[int, Sequence[int]]) -> None:
-        frames, numbers = index(state[0]), state[1]
-        if not 0 <= frames <= 1 << 40:
-            raise TozbiremError(26, "a signal has 0 to 2^40 frames")
+        frames, numbers = state_of(state)
         before, ended = self._now(), self._measures
         try:
-            self._go_on_from((frames, array.array("q", numbers), len(numbers)))
+            self._go_on_from((frames, numbers, len(numbers)))
             self._measures = None
             self._hold(self.unit)
-        except BaseException as error:
+        except BaseException:
             self._go_on_from(before)
             self._measures = ended
-            if isinstance(error, OverflowError):
-                raise TozbiremError(26, "these blocks keep no numbers of more than 64 bits") from None
             raise
 
     def __reduce__(self):
         self._save()
         numbers = array.array("q", self._kept[: self._kept_count]).tobytes()
         return restored, (self._script, self._own, self._frames, numbers, self._measures)
+
+
+def state_of(state) -> Tuple[int, Any]:
+    """The frames of a state and its numbers as an array, where they are of the right kind."""
+    if not isinstance(state, (tuple, list)) or len(state) != 2:
+        raise TypeError("a state is a pair: how many frames came, and the numbers that the blocks keep")
+    frames, numbers = index(state[0]), state[1]
+    if isinstance(numbers, (bytes, bytearray, memoryview, str)):
+        raise TypeError(f"the numbers of a state are whole numbers, and not {type(numbers).__name__}")
+    _arrays.test_order(numbers)
+    if not 0 <= frames <= 1 << 40:
+        raise TozbiremError(26, "a signal has 0 to 2^40 frames")
+    try:
+        return frames, array.array("q", numbers)
+    except OverflowError:
+        raise TozbiremError(26, "these blocks keep no numbers of more than 64 bits") from None
 
 
 def restored(script, own, frames, numbers, measures) -> Chain:

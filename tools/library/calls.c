@@ -129,6 +129,30 @@ static void test_null(void)
     CHECK(tozbirem_state(NULL) == NULL && chain.frames == 0);
 }
 
+/* A chain that is not open: all bytes 0, all bytes 255, and one that was open before it was opened in vain. */
+static void test_not_open(void)
+{
+    int16_t input[2] = {1, 2}, output[ROOM];
+    int64_t kept[NUMBERS];
+    struct tozbirem chain;
+    struct tozbirem_measure measures[2];
+    char line[256];
+    size_t given = 77;
+    for (int kind = 0; kind < 5; kind++) {
+        if (kind < 2) memset(&chain, kind ? 255 : 0, sizeof chain);
+        if (kind > 1) CHECK(tozbirem_open(&chain, FIR, 0, kept, NUMBERS) == TOZBIREM_OK && chain.is_open == TOZBIREM_IS_OPEN);
+        if (kind == 2) CHECK(tozbirem_open(&chain, FIR, 3, NULL, NUMBERS) == TOZBIREM_NULL);
+        if (kind == 3) CHECK(tozbirem_open(&chain, FIR, 65537, kept, NUMBERS) == TOZBIREM_BLOCK && chain.plan.block == 0);
+        if (kind == 4) CHECK(tozbirem_open(&chain, NULL, 0, kept, NUMBERS) == TOZBIREM_NULL);
+        CHECK(chain.is_open != TOZBIREM_IS_OPEN);
+        CHECK(tozbirem_process(&chain, input, 1, output, sizeof output, &given) == TOZBIREM_EMPTY);
+        CHECK(tozbirem_process(&chain, NULL, 0, output, sizeof output, &given) == TOZBIREM_EMPTY);
+        CHECK(tozbirem_end(&chain, output, sizeof output, &given, measures, 2) == TOZBIREM_EMPTY);
+        CHECK(tozbirem_resume(&chain, 1, kept, 1) == TOZBIREM_EMPTY && tozbirem_state(&chain) == NULL && given == 77);
+        CHECK(!strcmp(tozbirem_text(&chain, TOZBIREM_EMPTY, line, sizeof line), "the handle holds no signal"));
+    }
+}
+
 static void test_chains(void)
 {
     int16_t input[6] = {1000, -1000, 2000, -2000, 3000, -3000}, output[ROOM], *place = output;
@@ -139,8 +163,8 @@ static void test_chains(void)
     CHECK(tozbirem_open(&chain, FIR, 2, kept, 6) == TOZBIREM_OK);
     CHECK(tozbirem_process(&chain, input, 1, output, sizeof output, &given) == TOZBIREM_KEPT_ROOM && chain.answer.first == 4);
     CHECK(tozbirem_open(&chain, "dspfx 1 inputt", 2, kept, 8) == TOZBIREM_SCRIPT && chain.answer.first == 8);
-    CHECK(tozbirem_process(&chain, input, 1, output, sizeof output, &given) == TOZBIREM_SCRIPT);
-    CHECK(tozbirem_end(&chain, output, sizeof output, &given, measures, 2) == TOZBIREM_SCRIPT);
+    CHECK(tozbirem_process(&chain, input, 1, output, sizeof output, &given) == TOZBIREM_EMPTY);
+    CHECK(tozbirem_end(&chain, output, sizeof output, &given, measures, 2) == TOZBIREM_EMPTY);
     CHECK(tozbirem_open(&chain, FIR, 2, kept, 8) == TOZBIREM_OK && chain.plan.block == 2);
     CHECK(tozbirem_process(&chain, input, 3, output, sizeof output, &given) == TOZBIREM_LENGTH && chain.answer.first == 2);
     CHECK(tozbirem_process(&chain, output, 1, output, sizeof output, &given) == TOZBIREM_OVERLAP);
@@ -344,6 +368,7 @@ int main(void)
     test_pieces();
     test_ends();
     test_null();
+    test_not_open();
     test_chains();
     test_texts();
     test_handles();

@@ -1,5 +1,4 @@
 pub mod LmsUnits
 pub mod LmsSteps
-pub mod PidSteps
 pub mod ShiftedWraps
 pub mod LmsMaking

@@ -3,7 +3,7 @@ use Rattle.std.proofs.Common.{◌≡◌, ◌∙◌, ap, ap₂, sym, subst, refl,
 use Rattle.std.proofs.Common.{◌-ℤ◌, List, [], ◌∷◌, ◌++◌, length, map, reverse, take, drop, set, arith, length-append}
 use Rattle.std.proofs.Common.{length-take-le, append_assoc, take_all}
 use Rattle.std.proofs.lemmas.List.{take_more, take-append-drop, get_or-take, get_or-reverse, length-reverse}
-use Rattle.std.proofs.lemmas.List.{length-map, map-append, reverse-append, reverse-reverse, get_or-drop}
+use Rattle.std.proofs.lemmas.List.{length-map, map-append, reverse-reverse, get_or-drop}
 use Rattle.std.proofs.lemmas.List.{take_more_set, append-nil, length-take, length-drop}
 use Rattle.std.proofs.lemmas.Simd.{map-map}
 use Rattle.std.specs.List.{range_with_len}
@@ -19,6 +19,7 @@ use Rattle.dsp_defs.proofs.Signal.{reverse-values}
 use Rattle.dsp_defs.proofs.Streaming.{window_at}
 use Rattle.dsp_defs.proofs.BlockLaws.{length-values}
 use Rattle.dsp_defs.proofs.SumLemmas.{same_numbers}
+use Rattle.dsp_defs.proofs.Causal.{map-reverse}
 use Rattle.dsp_unit.proofs.ChannelFrames.{values-of, sample-values}
 use Rattle.dsp_unit.proofs.GoingOn.{outputs-next, reverse-more}
 use Rattle.dsp_defs.specs.Counts.{Counts}
@@ -33,13 +34,7 @@ use Rattle.dsp_adapt.specs.LmsState.{Adapts, LmsState, StandsFor, first_pairs, i
 
 -- ---- pairs
 
-reverse-map : {A B : Type 0} (f : A → B) (xs : List A) → map f (reverse xs) ≡ reverse (map f xs)
-reverse-map f [] = refl
-reverse-map f (a ∷ xs) =
-    ap (map f) (reverse-append (a ∷ []) xs) ∙ map-append f (reverse xs) (a ∷ []) ∙
-    ap (λ l. l ++ f a ∷ []) (reverse-map f xs) ∙ sym (reverse-append (f a ∷ []) (map f xs))
-
-pub pairs-more : (i : ℕ) (inputs references : List ℤ) →
+pairs-more : (i : ℕ) (inputs references : List ℤ) →
     first_pairs (i + 1) inputs references ≡ first_pairs i inputs references ++ (sample inputs i, sample references i) ∷
     []
 pairs-more i inputs references =
@@ -47,7 +42,7 @@ pairs-more i inputs references =
     let here : i + 0 ≡ i = omega arith in
     values-add i 1 pair ∙ ap (λ k. values i pair ++ pair k ∷ []) here
 
-pub inputs-first : (i : ℕ) (inputs references : List ℤ) → i ≤ length inputs →
+inputs-first : (i : ℕ) (inputs references : List ℤ) → i ≤ length inputs →
     inputs_of (first_pairs i inputs references) ≡ take i inputs
 inputs-first i inputs references within =
     map-map (λ (s : ℤ × ℤ). s.0) (λ k. (sample inputs k, sample references k)) (range_with_len 0 i)
@@ -73,7 +68,7 @@ module _ (format : Fmt) (p : ℕ) (mu : ℤ) (taps : List ℤ) (x : List (ℤ ×
       let more : inputs_of x ++ take (i + 1) inputs ≡ (inputs_of x ++ take i inputs) ++ a ∷ [] =
       ap (λ l. inputs_of x ++ l) (take_more inputs i (pos 0) inside) ∙
       sym (append_assoc (inputs_of x) (take i inputs) (a ∷ [])) in
-      ap (λ l. a ∷ l) (reverse-map (λ (s : ℤ × ℤ). s.0) (x ++ first_pairs i inputs references) ∙ ap reverse before)
+      ap (λ l. a ∷ l) (map-reverse (λ (s : ℤ × ℤ). s.0) (x ++ first_pairs i inputs references) ∙ ap reverse before)
       ∙ sym (reverse-more (inputs_of x ++ take i inputs) a)
       ∙ ap reverse (sym more)
 
@@ -253,7 +248,7 @@ kept-stands format s numbers x size keeps is =
 
 -- ---- a block
 
-pub begins : (format : Fmt) (p : ℕ) (mu : ℤ) (taps : List ℤ) (x : List (ℤ × ℤ)) (weights : List ℤ) →
+begins : (format : Fmt) (p : ℕ) (mu : ℤ) (taps : List ℤ) (x : List (ℤ × ℤ)) (weights : List ℤ) →
     weights ≡ weights_after format p mu taps x → Adapts format p mu taps x [] weights [] []
 begins format p mu taps x weights is = record {
   weights_are = is ∙ ap (weights_after format p mu taps) (sym (append-nil x));

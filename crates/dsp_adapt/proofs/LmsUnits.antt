@@ -6,8 +6,6 @@ use Rattle.std.specs.Prelude.{All, FitsSigned}
 use Rattle.std.proofs.lemmas.List.{append-nil, length-map, map-append, same_lists, get_or-map, get_or-set_other}
 use Rattle.std.proofs.lemmas.List.{reverse-reverse, length-reverse, length-replicate}
 use Rattle.std.proofs.lemmas.List.FromFn.{get_or-map-range_with_len}
-use Rattle.std.specs.Int.{w32}
-use Rattle.dsp_defs.specs.declared.format.Fmt.TheVariants.{Q7, Q15, Q31}
 use Rattle.dsp_defs.specs.Adaptive.{Adapted, lms, outputs_of, errors_of}
 use Rattle.dsp_defs.specs.Block.{Frame, frames_in, input_pairs, pair_frame}
 use Rattle.dsp_defs.specs.Counts.{Counts}
@@ -17,12 +15,14 @@ use Rattle.dsp_defs.specs.Streaming.{Continues}
 use Rattle.dsp_defs.specs.declared.format.Fmt.{Fmt}
 use Rattle.dsp_defs.specs.declared.script.Block.TheVariants.{Lms}
 use Rattle.dsp_defs.proofs.BlockLaws.{length-values, lms_causal}
-use Rattle.dsp_defs.proofs.FrameLemmas.{length-frames_in, map-values}
+use Rattle.dsp_defs.proofs.FrameLemmas.{length-frames_in}
 use Rattle.dsp_defs.proofs.Signal.{values_cong}
+use Rattle.dsp_defs.proofs.Causal.{map-values}
+use Rattle.dsp_defs.proofs.KeptLaws.{in_words-place}
 use Rattle.dsp_defs.specs.Kept.{Each, Fits, IsOfKind, in_words, lms_kept}
-use Rattle.dsp_unit.specs.Unit.{UnitState, MadeAs, CountsFrames, Feeds, IsNew, IsOutput, Restores}
+use Rattle.dsp_unit.specs.Unit.{MadeAs, CountsFrames, Feeds, IsNew, IsOutput, Restores}
 use Rattle.dsp_unit.specs.Unit as Units
-use Rattle.dsp_unit.proofs.ChannelKept.{append-apart, words-placed}
+use Rattle.dsp_unit.proofs.ChannelKept.{append-apart}
 use Rattle.dsp_unit.proofs.ChannelFrames.{sample-values}
 use Rattle.dsp_defs.specs.declared.script.Block.{Block}
 use Rattle.dsp_adapt.specs.LmsState.{LmsState, new_lms, StandsFor, kept, lms_outputs, lms_errors, pairs}
@@ -30,11 +30,6 @@ use Rattle.dsp_adapt.specs.LmsUnit.{lms_frames, unit_of_lms}
 use Rattle.dsp_adapt.proofs.LmsSteps.{kept-stands}
 
 -- ---- frames of two channels
-
-pub fits-32 : (format : Fmt) (z : ℤ) → FitsSigned (word format) z → FitsSigned w32 z
-fits-32 Q7 z fits = record { sfits = omega (arith, fits.sfits) }
-fits-32 Q15 z fits = record { sfits = omega (arith, fits.sfits) }
-fits-32 Q31 z fits = fits
 
 module _ (out : List ℤ) (n : ℕ) (a b : ℤ) (room : n * 2 + 1 < length out) where
   before-pair : (k : ℕ) → k < n * 2 → sample (set (set out (n * 2) a) (n * 2 + 1) b) k ≡ sample out k
@@ -139,7 +134,7 @@ frames-given format s x more outs errs n size outputs errors =
 
 module _ (format : Fmt) (s : LmsState) (past : length s.past ≡ length s.taps - 1)
     (weights : length s.weights ≡ length s.taps) where
-  pub lms-stands : (x : List Frame) → StandsFor format s (input_pairs x) →
+  lms-stands : (x : List Frame) → StandsFor format s (input_pairs x) →
       Units.StandsFor (unit_of_lms format s false) x
   lms-stands x stands = record {
     running = refl;
@@ -147,19 +142,19 @@ module _ (format : Fmt) (s : LmsState) (past : length s.past ≡ length s.taps -
     tail_follows = sym (append-nil _);
   }
 
-  pub stands-lms : (x : List Frame) → Units.StandsFor (unit_of_lms format s false) x →
+  stands-lms : (x : List Frame) → Units.StandsFor (unit_of_lms format s false) x →
       StandsFor format s (input_pairs x)
   stands-lms x stands = kept-stands format s (kept s) (input_pairs x) past refl stands.keeps
 
-  pub lms-counts : (n : ℕ) → CountsFrames (unit_of_lms format s false) n
+  lms-counts : (n : ℕ) → CountsFrames (unit_of_lms format s false) n
   lms-counts n = record {
     running = refl;
-    place = words-placed (word format) (length s.taps - 1 + length s.taps) (kept s)
+    place = in_words-place (word format) (length s.taps - 1 + length s.taps) (kept s)
         (length-append s.past (reverse s.weights) ∙ ap₂ (λ (m n : ℕ). m + n) past (length-reverse s.weights ∙ weights));
     tail_frames = omega arith;
   }
 
-pub made-as : (format : Fmt) (old new : LmsState) (e e' : Bool) →
+made-as : (format : Fmt) (old new : LmsState) (e e' : Bool) →
     new ≡ record old { weights = new.weights; past = new.past } →
     MadeAs (unit_of_lms format old e) (unit_of_lms format new e')
 made-as format old new e e' same = record {
@@ -175,10 +170,10 @@ module _
     (weights : length old.weights ≡ length old.taps)
     (same : new ≡ record old { weights = new.weights; past = new.past })
     (past_stays : length new.past ≡ length old.past) (weights_stay : length new.weights ≡ length old.weights) where
-  pub past-after : length new.past ≡ length new.taps - 1
+  past-after : length new.past ≡ length new.taps - 1
   past-after = past_stays ∙ past ∙ ap (λ (s : LmsState). length s.taps - 1) (sym same)
 
-  pub weights-after : length new.weights ≡ length new.taps
+  weights-after : length new.weights ≡ length new.taps
   weights-after = weights_stay ∙ weights ∙ ap (λ (s : LmsState). length s.taps) (sym same)
 
   -- fed with n frames, it gives n frames

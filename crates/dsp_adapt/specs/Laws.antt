@@ -4,7 +4,7 @@ use Rattle.std.specs.Prelude.{ℤ, refl}
 use Rattle.std.proofs.Common.{arith}
 use Rattle.dsp_unit.specs.Filter.{IsSteady, IsStepwise}
 use Rattle.dsp_defs.proofs.KeptLaws.{kept_of_channel-place}
-use Rattle.dsp_unit.proofs.ChannelKept.{words-placed}
+use Rattle.dsp_defs.proofs.KeptLaws.{in_words-place}
 use Rattle.dsp_filter.proofs.Units.{less-scaled}
 use Rattle.dsp_defs.specs.Formats.{word}
 use Rattle.dsp_defs.specs.declared.format.Fmt.{Fmt}
@@ -34,7 +34,7 @@ pid-steady format kp ki kd = record {
   live_same = λ n. refl;
   whole_same = λ n. refl;
   kinds_same = λ n. refl;
-  placed = λ numbers size. words-placed (word format) 3 numbers size;
+  placed = λ numbers size. in_words-place (word format) 3 numbers size;
   live_cost = λ n. omega arith;
 }
 

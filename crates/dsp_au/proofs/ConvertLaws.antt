@@ -34,14 +34,14 @@ use Rattle.dsp_au.proofs.ExchangeLaws.{Small}
 
 pub record Going (direction : Direction) (header : OpenHeader) (taken : ℕ) (input now : SourceState)
     (sink after : SinkState) : Type 0 where
-  pub heard : List ℕ
+  heard : List ℕ
   pub blocks : ℕ
-  pub blocks_heard : length heard ≡ blocks * block_bytes header
+  blocks_heard : length heard ≡ blocks * block_bytes header
   pub taken_is : taken ≡ length heard
   pub declared : InDeclared (declared_bytes header) taken
   pub in_limit : header.start + taken ≤ MAX_INPUT
   pub gave : Gave input now heard
-  pub going : now.ended ≡ input.ended
+  going : now.ended ≡ input.ended
   pub took : Took sink after (form_coded (target_form direction) header.coding
       (form_samples (source_form direction) header.coding header.channels heard))
   pub no_input_fault : now.faults ≡ input.faults
@@ -201,7 +201,7 @@ module _ (direction : Direction) (header : OpenHeader) (good : IsOpenGood header
     total : length given ≡ header.start + (taken + length bytes)
     total = omega (arith, given_long (going.heard ++ bytes), behind_long)
 
-    pub given_signal : source_signal direction header given ≡ signal direction header good going.heard ++ signal
+    given_signal : source_signal direction header given ≡ signal direction header good going.heard ++ signal
         direction header good bytes
     given_signal =
         source_is (going.heard ++ bytes) (in_declared (declared_bytes header) _ _ (sym behind_long) declared)
@@ -213,7 +213,7 @@ module _ (direction : Direction) (header : OpenHeader) (good : IsOpenGood header
         (frames_of_blocks direction header good going.blocks (length going.heard) going.blocks_heard)
 
     -- the blocks so far
-    pub blocks_are : take (going.blocks * block_frames header) (source_signal direction header given) ≡ signal
+    blocks_are : take (going.blocks * block_frames header) (source_signal direction header given) ≡ signal
         direction header good going.heard
     blocks_are = ap (take (going.blocks * block_frames header)) given_signal ∙
         take_at (signal direction header good going.heard) (signal direction header good bytes)
@@ -233,7 +233,7 @@ module _ (direction : Direction) (header : OpenHeader) (good : IsOpenGood header
         next : (k b : ℕ) → (k + 1) * b ≡ k * b + b
         next k b = omega arith
 
-    pub gave_given : (now : SourceState) → Gave input now (going.heard ++ bytes) → Gave before now given
+    gave_given : (now : SourceState) → Gave input now (going.heard ++ bytes) → Gave before now given
     gave_given now gave = Gave-append before input now first (going.heard ++ bytes) begun.opened.going begun.opened.gave
         gave
 
@@ -241,7 +241,7 @@ module _ (direction : Direction) (header : OpenHeader) (good : IsOpenGood header
     same_header other is = ap (λ (o : Option OpenHeader). unwrap_or o header)
         (sym (begun.opened.said (going.heard ++ bytes)) ∙ is)
 
-    pub kept_declared : (other : OpenHeader) → IsSource direction given other →
+    kept_declared : (other : OpenHeader) → IsSource direction given other →
         IfSome (declared_bytes other) (λ size. length given ≤ other.start + size)
     kept_declared other is =
         subst (λ (h : OpenHeader). IfSome (declared_bytes h) (λ size. length given ≤ h.start + size))
@@ -252,13 +252,13 @@ module _ (direction : Direction) (header : OpenHeader) (good : IsOpenGood header
         by_size None within = tt
         by_size (Some size) within = omega (arith, total, within)
 
-    pub lags_of : (written : List ℕ) → Begins (head ++ gives going.heard) written → (other : OpenHeader) →
+    lags_of : (written : List ℕ) → Begins (head ++ gives going.heard) written → (other : OpenHeader) →
         IsSource direction given other → LagsByOne direction other given written
     lags_of written begins other is =
         subst (λ (h : OpenHeader). LagsByOne direction h given written) (same_header other is) (lags written begins)
 
     -- where less than a block came, exactly the blocks before it stand in the output
-    pub blocks_stand : length bytes < block_bytes header →
+    blocks_stand : length bytes < block_bytes header →
         target_blocks direction header given ≡ head ++ gives going.heard
     blocks_stand less =
         let x = source_signal direction header given in

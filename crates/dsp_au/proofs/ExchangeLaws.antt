@@ -24,6 +24,7 @@ use Rattle.dsp_defs.specs.declared.format.Coding.TheVariants.{Wave7, Wave15, Wav
 use Rattle.dsp_defs.proofs.Signal.{values-add}
 use Rattle.dsp_defs.proofs.SampleLaws.{flat_rows}
 use Rattle.dsp_au.specs.Exchange.{exchanged, exchanged_first, exchanged_sample}
+use Rattle.dsp_wave.proofs.SampleBytes.{within-bytes}
 
 -- ---- bytes
 
@@ -125,7 +126,7 @@ Exchanges direction coding bytes =
     form_bytes_of (target_form direction) coding (form_sample_of (source_form direction) coding bytes) ≡
     exchanged_sample bytes
 
-pub exchanges : (direction : Direction) (coding : Coding) (bytes : List ℕ) → IsWave coding →
+exchanges : (direction : Direction) (coding : Coding) (bytes : List ℕ) → IsWave coding →
     AreBytes (width coding) bytes → Exchanges direction coding bytes
 exchanges WaveToAu Wave7 bytes wave h = of_one (Exchanges WaveToAu Wave7) one_out bytes h
 exchanges WaveToAu Wave15 bytes wave h = of_two (Exchanges WaveToAu Wave15) two_out bytes h
@@ -141,7 +142,7 @@ exchanges direction coding bytes wave h = absurd wave
 
 -- ---- one sample after another
 
-pub more_values : {A : Type 0} (f : A → List ℕ) (h : ℕ → A) (n : ℕ) →
+more_values : {A : Type 0} (f : A → List ℕ) (h : ℕ → A) (n : ℕ) →
     flat_map f (values (n + 1) h) ≡ flat_map f (values n h) ++ f (h n)
 more_values f h n =
     let here : n + 0 ≡ n = omega arith in
@@ -161,9 +162,6 @@ flat_values f h e p (suc n) same =
     ∙ sym (more_values e p n)
     ∙ ap (λ k. flat_map e (values k p)) (sym one)
 
-pub sample_within : (i n w : ℕ) → i < n → i * w + w ≤ n * w
-sample_within i n w h = grind arith
-
 -- the bytes of whole frames in the other form are those of the same signal
 pub exchanged-signal : (direction : Direction) (coding : Coding) (channels n : ℕ) (bytes : List ℕ) → IsWave coding →
     Small bytes
@@ -181,7 +179,7 @@ exchanged-signal direction coding channels n bytes wave small some some_width wh
     ∙ flat_rows g h channels n
     ∙ flat_values g h exchanged_sample (λ i. take w (drop (i * w) bytes)) (n * channels)
     (λ i below.
-    let room : i * w + w ≤ length bytes = omega (arith, sample_within i (n * channels) w below, size) in
+    let room : i * w + w ≤ length bytes = omega (arith, within-bytes i (n * channels) w below, size) in
     exchanges direction coding (take w (drop (i * w) bytes)) wave (
       length-take-le w (drop (i * w) bytes) (omega (arith, room, length-drop (i * w) bytes)),
       small-take w (drop (i * w) bytes) (small-drop (i * w) bytes small),
@@ -196,11 +194,11 @@ exchanged-signal direction coding channels n bytes wave small some some_width wh
 
 -- ---- one sample more, in place
 
-pub one_more_part : (i g n : ℕ) (old now out front : List ℕ) → i < n → length now ≡ length old → n * g ≤ length old
+one_more_part : (i g n : ℕ) (old now out front : List ℕ) → i < n → length now ≡ length old → n * g ≤ length old
     → take (i * g) now ≡ front → length out ≡ g
     → take ((i + 1) * g) (put_mid (i * g) g now out) ≡ front ++ out
 one_more_part i g n old now out front below same room is long =
-    let bound = sample_within i n g below in
+    let bound = within-bytes i n g below in
     let end : (i + 1) * g ≡ i * g + length out = rw long (omega arith) in
     take-put_mid (i * g) g now out ((i + 1) * g) end (omega (arith, bound, room, same)) ∙ ap (λ xs. xs ++ out) is
 
@@ -217,7 +215,7 @@ pub rest_stays : (i w n : ℕ) (old now out : List ℕ) → i < n → length now
     drop (i * w) now ≡ drop (i * w) old → length out ≡ w
     → drop ((i + 1) * w) (put_mid (i * w) w now out) ≡ drop ((i + 1) * w) old
 rest_stays i w n old now out below same room rest long =
-    let bound = sample_within i n w below in
+    let bound = within-bytes i n w below in
     let next : (i + 1) * w ≡ i * w + w = omega arith in
     drop-put_mid (i * w) w now out ((i + 1) * w) (omega (arith, next)) (omega (arith, bound, room, same)) long
     ∙ ap (λ k. drop k now) next
@@ -229,7 +227,7 @@ rest_stays i w n old now out below same room rest long =
 -- ---- a group of samples more, in place
 
 -- the first samples, and then as many of those behind them
-pub exchanged_join : (a b w : ℕ) (bytes : List ℕ) →
+exchanged_join : (a b w : ℕ) (bytes : List ℕ) →
     exchanged_first a w bytes ++ exchanged_first b w (drop (a * w) bytes) ≡ exchanged_first (a + b) w bytes
 exchanged_join a b w bytes =
     let part : ℕ → List ℕ = λ i. take w (drop (i * w) bytes) in
@@ -243,12 +241,12 @@ exchanged_join a b w bytes =
     ∙ sym (ap (flat_map exchanged_sample) (values-add a b part))
 
 -- Bytes behind the samples change nothing.
-pub exchanged_taken : (n w k : ℕ) (bytes : List ℕ) → n * w ≤ k →
+exchanged_taken : (n w k : ℕ) (bytes : List ℕ) → n * w ≤ k →
     exchanged_first n w (take k bytes) ≡ exchanged_first n w bytes
 exchanged_taken n w k bytes room =
     flat_values exchanged_sample (λ i. take w (drop (i * w) (take k bytes))) exchanged_sample
     (λ i. take w (drop (i * w) bytes)) n (λ i below.
-    let within = sample_within i n w below in
+    let within = within-bytes i n w below in
     let split : i * w + (k - i * w) ≡ k = omega (arith, within, room) in
     ap (λ m. exchanged_sample (take w (drop (i * w) (take m bytes)))) (sym split)
     ∙ ap (λ xs. exchanged_sample (take w xs)) (drop-take (i * w) (k - i * w) bytes)
@@ -310,7 +308,7 @@ counted k w q some is = grind arith
 -- ---- samples of three bytes in vectors
 
 -- five samples in the other order, and the bytes that follow
-abbrev pub fives : List ℕ → List ℕ
+abbrev fives : List ℕ → List ℕ
 fives bytes = exchanged_first 5 3 bytes ++ drop 15 bytes
 
 abbrev turned : List ℕ

@@ -5,7 +5,7 @@ use Rattle.std.specs.List.{flat_map}
 use Rattle.std.specs.Option.{option_map}
 use Rattle.std.proofs.lemmas.Grind.{flat_map-append}
 use Rattle.std.proofs.lemmas.List.{drop_at, take_all, take-take, length-take-le}
-use Rattle.std.proofs.Math.Nat.{mul-le-mul}
+use Rattle.std.proofs.Math.Nat.{mul-le-mul, div-mul-le_self}
 use Rattle.dsp_defs.specs.Block.{Frame}
 use Rattle.dsp_defs.specs.Bytes.{width}
 use Rattle.dsp_defs.specs.Open.{IsOpenGood}
@@ -26,9 +26,6 @@ some_product a b h k = mul-le-mul h k
 
 pub some_frame : (header : OpenHeader) → IsOpenGood header → 0 < open_frame_bytes header
 some_frame header good = some_product header.channels (width header.coding) good.some (width-some header.coding)
-
-pub floor_within : (n f : ℕ) → n / f * f ≤ n
-floor_within n f = grind (arith)
 
 module _ (direction : Direction) (header : OpenHeader) (good : IsOpenGood header) where
   abbrev frame : ℕ
@@ -76,7 +73,7 @@ module _ (direction : Direction) (header : OpenHeader) (good : IsOpenGood header
       → exchanged (width header.coding) (take (n * frame) block) ≡ coded (signal (take count block))
   exchanged-is block count n small within is =
       let long : length (take count block) ≡ count = length-take-le count block within in
-      let bound : n * frame ≤ count = rw is (floor_within count frame) in
+      let bound : n * frame ≤ count = rw is (div-mul-le_self count frame) in
       let whole : length (take (n * frame) block) ≡ n * frame =
       length-take-le (n * frame) block (omega (arith, bound, within)) in
       let same : take (length (take count block) / frame * frame) (take count block) ≡ take (n * frame) block =
@@ -96,7 +93,7 @@ module _ (direction : Direction) (header : OpenHeader) (good : IsOpenGood header
         → sample_bytes_at header.start size (first ++ bytes) ≡ bytes
     by_size bytes None declared = dropped bytes
     by_size bytes (Some size) declared = ap (take size) (dropped bytes) ∙
-        take_all size bytes (omega (arith, declared, floor_within size frame))
+        take_all size bytes (omega (arith, declared, div-mul-le_self size frame))
 
     pub signal_is : (bytes : List ℕ) → InDeclared (declared_bytes header) (length bytes) →
         source_signal direction header (first ++ bytes) ≡ signal bytes

@@ -4,7 +4,6 @@ use Rattle.std.proofs.Common.{length, take, drop, refl, sym, ap, ap₂, ◌∙�
 use Rattle.std.proofs.Common.{of_z, to_z-of_z, w8, w16, w32}
 use Rattle.std.specs.Int.{from_le_bytes, to_be_bytes, from_be_bytes}
 use Rattle.std.specs.List.{flat_map}
-use Rattle.std.proofs.lemmas.Int.{ints}
 use Rattle.std.proofs.lemmas.List.{take-append-le, take_all}
 use Rattle.std.proofs.lemmas.List.Concat.{flat_map-cons}
 use Rattle.std.proofs.lemmas.List.FromFn.{get_or-map-range_with_len, length-map-range_with_len}
@@ -17,22 +16,14 @@ use Rattle.dsp_defs.specs.Open.{IsWave}
 use Rattle.dsp_defs.specs.Signal.{sample, values}
 use Rattle.dsp_defs.specs.declared.format.Coding.{Coding}
 use Rattle.dsp_defs.specs.declared.format.Coding.TheVariants.{Raw7, Raw15, Raw31, Wave7, Wave15, Wave24, Wave31}
-use Rattle.dsp_defs.proofs.BytesLaws.{sample_of-bytes_of, sample_of-IsValue}
+use Rattle.dsp_defs.proofs.BytesLaws.{sample_of-bytes_of, sample_of-IsValue, byte_fits, half_fits, word_fits}
 use Rattle.dsp_defs.proofs.CodingLemmas.{length-bytes_of}
-use Rattle.dsp_defs.proofs.SampleLaws.{flat_rows}
+use Rattle.dsp_defs.proofs.SampleLaws.{flat_rows, frame_bytes}
 use Rattle.dsp_defs.proofs.Signal.{values_cong}
+use Rattle.dsp_defs.proofs.BytesLaws.{lowest_byte}
 use Rattle.dsp_au.proofs.ExchangeLaws.{of_one, of_two, of_three, of_four, small-cons, small-nil}
 
 -- ---- a value is read back
-
-byte_fits : (z : ℤ) → SFits w8 z → of_z w8 z < 256
-byte_fits z h = omega (arith, ints)
-
-half_fits : (z : ℤ) → SFits w16 z → of_z w16 z < 2 ^ 16
-half_fits z h = omega (arith, ints)
-
-word_fits : (z : ℤ) → SFits w32 z → of_z w32 z < 2 ^ 32
-word_fits z h = omega (arith, ints)
 
 one_back : (x : ℤ) → SFits w8 x → to_z w8 (from_be_bytes w8 (to_be_bytes w8 (of_z w8 x))) ≡ x
 one_back x h =
@@ -44,10 +35,6 @@ two_back x h = ap (to_z w16) (from_be_bytes-to_be_bytes_2 (of_z w16 x) (half_fit
 
 four_back : (x : ℤ) → SFits w32 x → to_z w32 (from_be_bytes w32 (to_be_bytes w32 (of_z w32 x))) ≡ x
 four_back x h = ap (to_z w32) (from_be_bytes-to_be_bytes_4 (of_z w32 x) (word_fits x h)) ∙ to_z-of_z h
-
--- the lowest byte of a multiple of 2^8 is 0
-lowest_byte : (x n : ℤ) → SFits w32 x → x ≡ n *ℤ pos (2 ^ 8) → of_z w32 x % 256 ≡ 0
-lowest_byte x n h e = omega (arith, ints)
 
 lowest_last : (x n : ℤ) → SFits w32 x → x ≡ n *ℤ pos (2 ^ 8) →
     take 3 (to_be_bytes w32 (of_z w32 x)) ++ 0 ∷ [] ≡ to_be_bytes w32 (of_z w32 x)
@@ -144,7 +131,7 @@ no_more : (w : ℕ) → 0 * w ≡ 0
 no_more w = omega arith
 
 module _ (write : ℤ → List ℕ) (w : ℕ) (wide : (z : ℤ) → length (write z) ≡ w) where
-  pub long : (xs : List ℤ) → length (flat_map write xs) ≡ length xs * w
+  long : (xs : List ℤ) → length (flat_map write xs) ≡ length xs * w
   long [] = sym (no_more w)
   long (x ∷ xs) =
       ap length (flat_map-cons write x xs)
@@ -153,7 +140,7 @@ module _ (write : ℤ → List ℕ) (w : ℕ) (wide : (z : ℤ) → length (writ
       ∙ sym (one_more (length xs) w)
 
   -- the bytes of a sample stand at its place
-  pub piece : (xs : List ℤ) (k : ℕ) → k < length xs → take w (drop (k * w) (flat_map write xs)) ≡ write (sample xs k)
+  piece : (xs : List ℤ) (k : ℕ) → k < length xs → take w (drop (k * w) (flat_map write xs)) ≡ write (sample xs k)
   piece [] k below = absurd (omega (arith, below))
   piece (x ∷ xs) zero below =
       ap (λ n. take w (drop n (flat_map write (x ∷ xs)))) (no_more w)
@@ -182,9 +169,6 @@ frames_by h channels n = values n (λ i. values channels (λ c. h (i * channels 
 place_within : (i c n channels : ℕ) → i < n → c < channels → i * channels + c < n * channels
 place_within i c n channels below inside = grind arith
 
-size_of : (n channels w : ℕ) → n * channels * w ≡ n * (channels * w)
-size_of n channels w = omega arith
-
 count_of : (n size k : ℕ) → 0 < k → size ≡ n * k → size / k ≡ n
 count_of n size k some is = grind arith
 
@@ -199,7 +183,7 @@ module _ (read : List ℕ → ℤ) (write : ℤ → List ℕ) (w channels n : �
       ap length coded_flat
       ∙ long write w wide (values (n * channels) h)
       ∙ ap (λ m. m * w) (length-map-range_with_len h 0 (n * channels))
-      ∙ size_of n channels w
+      ∙ frame_bytes n channels w
 
   pub signal_back : 0 < channels * w → ((k : ℕ) → k < n * channels → read (write (h k)) ≡ h k)
       → samples_by read w channels (coded_by write (frames_by h channels n)) ≡ frames_by h channels n

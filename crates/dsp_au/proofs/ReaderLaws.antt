@@ -1,5 +1,5 @@
 -- Reading the header of an AU file.
-use Rattle.std.proofs.Common.{◌≡◌, ◌⊎◌, ℕ, zero, suc, ◌+◌, ◌-◌, ◌<◌, ◌≤◌, ◌^◌, Bool, true, false, List, [], ◌∷◌, ◌++◌}
+use Rattle.std.proofs.Common.{◌≡◌, ◌⊎◌, ℕ, ◌+◌, ◌-◌, ◌<◌, ◌≤◌, ◌^◌, Bool, true, false, List, [], ◌∷◌, ◌++◌}
 use Rattle.std.proofs.Common.{length, take, codes, Result, Ok, Err, refl, sym, ap, ap₂, ◌∙◌, arith, length-append}
 use Rattle.std.proofs.Common.{append_assoc, append-nil, subst, inl, inr, ⊎_elim}
 use Rattle.std.proofs.lemmas.Grind.{common_steps}
@@ -21,40 +21,26 @@ use Rattle.dsp_defs.specs.declared.au.AuFault.TheVariants.{NotAu, Ended}
 use Rattle.dsp_au.specs.declared.fault.AuOr.{AuOr}
 use Rattle.dsp_au.specs.declared.fault.AuOr.TheVariants.{Fault, Read, Long}
 use Rattle.dsp_au.specs.Reading.{AuCame, AuHeaded, AuMissing, AuStopped, HasAuCause, IsAuMissed}
-
--- ---- pieces, one after another
+use Rattle.dsp_defs.proofs.WaveCuts.{short_is_other}
+use Rattle.dsp_defs.proofs.AuLaws.{au_is_whole}
+use Rattle.dsp_wave.proofs.ReaderLaws.{take-no_longer}
 
 -- ---- what the bytes say
 
-pub not_au : (bytes : List ℕ) → bytes_eq (take 4 bytes) (codes ".snd") ≡ false → au_header_of bytes ≡ Err (NotAu, 0)
+not_au : (bytes : List ℕ) → bytes_eq (take 4 bytes) (codes ".snd") ≡ false → au_header_of bytes ≡ Err (NotAu, 0)
 not_au bytes h = grind (arith, common_steps, h)
 
-pub fields_cut : (bytes : List ℕ) → bytes_eq (take 4 bytes) (codes ".snd") ≡ true → length bytes < 24 →
+fields_cut : (bytes : List ℕ) → bytes_eq (take 4 bytes) (codes ".snd") ≡ true → length bytes < 24 →
     au_header_of bytes ≡ Err (Ended, length bytes)
 fields_cut bytes h short = grind (arith, common_steps, h, short)
 
-pub fields_said : (bytes : List ℕ) → bytes_eq (take 4 bytes) (codes ".snd") ≡ true → 24 ≤ length bytes →
+fields_said : (bytes : List ℕ) → bytes_eq (take 4 bytes) (codes ".snd") ≡ true → 24 ≤ length bytes →
     au_header_of bytes ≡ au_whole (length bytes) (au_said (take 24 bytes))
 fields_said bytes h enough = grind (arith, common_steps, h, enough)
 
-pub whole_short : (total : ℕ) (header : OpenHeader) → total < header.start →
+whole_short : (total : ℕ) (header : OpenHeader) → total < header.start →
     au_whole total (Ok header) ≡ Err (Ended, total)
 whole_short total header h = grind (arith, common_steps, h)
-
-pub whole_good : (total : ℕ) (header : OpenHeader) → header.start ≤ total → au_whole total (Ok header) ≡ Ok header
-whole_good total header h = grind (arith, common_steps, h)
-
--- lists of another length
-take-no_longer : {A : Type 0} (n : ℕ) (xs : List A) → length (take n xs) ≤ length xs
-take-no_longer zero xs = omega arith
-take-no_longer (suc n) [] = omega arith
-take-no_longer (suc n) (x ∷ xs) = omega (arith, take-no_longer n xs)
-
-differs : (xs ys : List ℕ) → length xs < length ys → bytes_eq xs ys ≡ false
-differs [] [] h = absurd (omega (arith, h))
-differs [] (y ∷ ys) h = refl
-differs (x ∷ xs) [] h = absurd (omega (arith, h))
-differs (x ∷ xs) (y ∷ ys) h = let later = differs xs ys (omega (arith, h)) in grind (arith, common_steps, later)
 
 -- fewer than the fields head no file
 short_file : (bytes : List ℕ) → length bytes < 24 → IsErr (au_header_of bytes)
@@ -65,7 +51,7 @@ short_file bytes short = by_begin (bytes_eq (take 4 bytes) (codes ".snd")) refl
     by_begin true e = subst IsErr (sym (fields_cut bytes e short)) refl
 
 -- the source has failed within the fields
-pub fails_fields : (old now : SourceState) → Unfilled old now 24 MAX_INPUT Failed → AuStopped old now Read
+fails_fields : (old now : SourceState) → Unfilled old now 24 MAX_INPUT Failed → AuStopped old now Read
 fails_fields old now u =
     record {
       bytes = u.bytes;
@@ -116,7 +102,8 @@ module _ (old now : SourceState) (block : List ℕ) (count : ℕ) (size : length
 
   pub begin_cut : count < 4 → AuStopped old now (Fault NotAu 0)
   begin_cut less = stops_with NotAu 0 (λ more h. ap au_header_of (alone (omega (arith, less)) more h) ∙
-      not_au first (differs (take 4 first) (codes ".snd") (omega (arith, take-no_longer 4 first, first_long, less))))
+      not_au first (short_is_other (take 4 first) (codes ".snd")
+      (omega (arith, take-no_longer 4 first, first_long, less))))
 
   pub begin_other : 4 ≤ count → bytes_eq (take 4 block) (codes ".snd") ≡ false → AuStopped old now (Fault NotAu 0)
   begin_other enough other = stops_with NotAu 0 (λ more h. not_au (first ++ more)
@@ -131,14 +118,14 @@ module _ (old now : SourceState) (block : List ℕ) (count : ℕ) (size : length
       whole_first = take_all count block (omega (arith, all, size))
 
       -- what all that begins with the fields says
-      pub said_by : (more : List ℕ) → au_header_of (block ++ more) ≡ au_whole (24 + length more) (au_said block)
+      said_by : (more : List ℕ) → au_header_of (block ++ more) ≡ au_whole (24 + length more) (au_said block)
       said_by more =
           let total : length (block ++ more) ≡ 24 + length more = omega (arith, size, length-append block more) in
           fields_said (block ++ more) (ap (λ xs. bytes_eq (take 4 (xs ++ more)) (codes ".snd")) (sym whole_first) ∙
           is_au more) (omega (arith, total))
           ∙ ap₂ (λ n xs. au_whole n (au_said xs)) total (take_at block more 24 size)
 
-      pub fields_came : AuCame 0 24 old now block
+      fields_came : AuCame 0 24 old now block
       fields_came = record {
         long = size;
         gave = subst (λ xs. Gave old now xs) whole_first filled.gave;
@@ -159,7 +146,7 @@ module _ (old now : SourceState) (block : List ℕ) (count : ℕ) (size : length
 module _ (old mid now : SourceState) (block : List ℕ) (came : AuCame 0 24 old mid block) (header : OpenHeader)
     (good : IsOpenGood header) (start : 24 ≤ header.start) (few : header.start < 2 ^ 32)
     (said : (more : List ℕ) → au_header_of (block ++ more) ≡ au_whole (24 + length more) (Ok header)) where
-  pub headed : (rest : List ℕ) → AuCame 24 (header.start - 24) mid now rest → AuHeaded old now header
+  headed : (rest : List ℕ) → AuCame 24 (header.start - 24) mid now rest → AuHeaded old now header
   headed rest second =
       let total : length (block ++ rest) ≡ header.start =
       omega (arith, length-append block rest, came.long, second.long, start) in
@@ -169,7 +156,7 @@ module _ (old mid now : SourceState) (block : List ℕ) (came : AuCame 0 24 old 
         in_limit = omega (arith, total, few);
         said = λ more.
             ap au_header_of (append_assoc block rest more) ∙ said (rest ++ more)
-            ∙ whole_good (24 + length (rest ++ more)) header
+            ∙ au_is_whole (24 + length (rest ++ more)) header
             (omega (arith, length-append rest more, second.long, start));
         start = sym total;
         good = good;
@@ -197,7 +184,7 @@ module _ (old mid now : SourceState) (block : List ℕ) (came : AuCame 0 24 old 
   )
   missed Long rest short m = absurd m
 
-  pub stopped : (error : AuOr) → AuMissing 24 (header.start - 24) mid now error → AuStopped old now error
+  stopped : (error : AuOr) → AuMissing 24 (header.start - 24) mid now error → AuStopped old now error
   stopped error m =
       record {
         bytes = block ++ m.bytes;

@@ -18,7 +18,7 @@ use Rattle.dsp_au.specs.declared.fault.ConvertFault.TheVariants as fault
 use Rattle.dsp_au.specs.Convert.{BlockRead, IsShort, IsUnread, Unread, stored}
 
 -- the fault that a cause is
-abbrev pub named : Direction → SampleFault → ConvertFault
+abbrev named : Direction → SampleFault → ConvertFault
 named direction cause.Failed = fault.Read
 named direction cause.LimitReached = fault.Input MAX_INPUT MAX_INPUT
 named WaveToAu (cause.Short declared got offset) = fault.Wave (wave_fault.Short declared got) offset

@@ -19,7 +19,7 @@ pub group-inside : (sections row i section : ℕ) → i < row → section < sect
 group-inside sections row i section inside within = omega (arith, mul-add-lt i sections section row inside within)
 
 -- and its numbers are within the list
-pub four-inside : (sections row i section long : ℕ) → i < row → section < sections → long ≡ row * sections * 4
+four-inside : (sections row i section long : ℕ) → i < row → section < sections → long ≡ row * sections * 4
     → (i * sections + section) * 4 + 4 ≤ long
 four-inside sections row i section long inside within whole =
     let group = group-inside sections row i section inside within in

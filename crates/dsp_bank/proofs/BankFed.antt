@@ -8,7 +8,7 @@ use Rattle.dsp_defs.specs.Formats.{lanes}
 use Rattle.dsp_defs.specs.declared.format.Fmt.{Fmt}
 use Rattle.dsp_defs.specs.declared.format.Fmt.TheVariants.{Q7, Q15, Q31}
 use Rattle.dsp_unit.specs.Channels.{AreFed, numbers_in, samples_in}
-use Rattle.dsp_unit.specs.Filter.{FilterState, FilterFeeds, filter_at, no_filter, steady_filter}
+use Rattle.dsp_unit.specs.Filter.{FilterFeeds, filter_at, no_filter, steady_filter}
 use Rattle.dsp_unit.proofs.ChannelFrames.{length-samples_in}
 use Rattle.dsp_unit.proofs.ChannelKept.{length-numbers_in}
 use Rattle.dsp_unit.proofs.SteadyFilters.{steady-fed}
@@ -75,9 +75,6 @@ module _ (format : Fmt) (old : BankState) (kept' : List ℤ) (count : ℕ) (take
             ∙ sym (length-numbers_in (4 * sections_of format old) old.channels old.kept size c h))
             (goes c h) paid (λ n. omega arith),
       )
-
-  olds : List FilterState
-  olds = bank_filters format false old
 
   first : filter_at (bank_filters format false old) 0 ≡ steady_filter format (bank_block old) old.capacity
       (numbers_in (4 * sections_of format old) old.kept 0) false

@@ -14,6 +14,7 @@ use Rattle.dsp_defs.specs.declared.format.Fmt.TheVariants.{Q7, Q15, Q31}
 use Rattle.dsp_defs.specs.declared.script.Block.{Block}
 use Rattle.dsp_defs.specs.declared.script.Block.TheVariants.{Biquad}
 use Rattle.dsp_defs.proofs.FrameLemmas.{length-frames_in}
+use Rattle.dsp_defs.proofs.KeptLaws.{in_words-place}
 use Rattle.dsp_unit.specs.Channels.{AreFed, numbers_in, unit_of_filters}
 use Rattle.dsp_unit.specs.Filter.{FilterState, FilterCounts, IsByChannel, IsLike, AreFilters, filter_at, no_filter}
 use Rattle.dsp_unit.specs.Filter.{kept_of_all, tails_of}
@@ -21,7 +22,7 @@ use Rattle.dsp_defs.specs.Kept.{Each, IsOfKind, IsPlace, HasPlace, Fits, FitsAft
 use Rattle.dsp_defs.specs.Kept.{kept_numbers, kept_of_channel, sections_kept}
 use Rattle.dsp_unit.specs.Unit.{UnitState, StandsFor, CountsFrames, Feeds, IsOutput, frames_in}
 use Rattle.dsp_unit.proofs.ChannelFrames.{get_or-default, kept-places}
-use Rattle.dsp_unit.proofs.ChannelKept.{length-numbers_in, numbers-in_pieces, pieces-same, words-placed}
+use Rattle.dsp_unit.proofs.ChannelKept.{length-numbers_in, numbers-in_pieces, pieces-same}
 use Rattle.dsp_unit.proofs.ChannelLaws.{counts-took, length-unit_tail, live-by, whole-by}
 use Rattle.dsp_unit.proofs.ChannelOutput.{unit-fed}
 use Rattle.dsp_unit.proofs.SteadyFilters.{steady-size}
@@ -42,7 +43,7 @@ flat-replicate x k (suc n) a =
     ∙ ap (λ m. replicate m x) (let more : k + n * k ≡ suc n * k = omega arith in more)
 
 -- the kinds of what a bank keeps
-pub bank-kinds : (format : Fmt) (b : BankState) (n : ℕ) → kept_kinds format b.channels (bank_block b) n
+bank-kinds : (format : Fmt) (b : BankState) (n : ℕ) → kept_kinds format b.channels (bank_block b) n
     ≡ in_words (word format) (b.channels * (4 * sections_of format b))
 bank-kinds format b n = flat-replicate (InWord (word format)) (4 * sections_of format b) b.channels 0
 
@@ -65,7 +66,7 @@ quiet format p numbers =
 -- ---- what a bank stands for
 
 module _ (format : Fmt) (b : BankState) where
-  pub bank-stands : (x : List Frame) → b.kept ≡ kept_numbers format b.channels (bank_block b) x
+  bank-stands : (x : List Frame) → b.kept ≡ kept_numbers format b.channels (bank_block b) x
       → StandsFor (unit_of_bank format false b) x
   bank-stands x keeps = record {
     running = refl;
@@ -76,15 +77,15 @@ module _ (format : Fmt) (b : BankState) where
         ∙ sym (append-nil (live format b.channels (bank_block b) x));
   }
 
-  pub bank-counts : (n : ℕ) → HasPlace format b.channels (bank_block b) n b.kept
+  bank-counts : (n : ℕ) → HasPlace format b.channels (bank_block b) n b.kept
       → CountsFrames (unit_of_bank format false b) n
   bank-counts n place = record { running = refl; place = place; tail_frames = omega arith }
 
   -- as many numbers are at any place
-  pub bank-placed : (n : ℕ) (numbers : List ℤ) → length numbers ≡ b.channels * (4 * sections_of format b)
+  bank-placed : (n : ℕ) (numbers : List ℤ) → length numbers ≡ b.channels * (4 * sections_of format b)
       → HasPlace format b.channels (bank_block b) n numbers
   bank-placed n numbers size =
-      subst (λ ks. Each IsPlace ks numbers) (sym (bank-kinds format b n)) (words-placed (word format)
+      subst (λ ks. Each IsPlace ks numbers) (sym (bank-kinds format b n)) (in_words-place (word format)
       (b.channels * (4 * sections_of format b)) numbers size)
 
   -- numbers of the width fit
@@ -175,12 +176,12 @@ module _ (format : Fmt) (b : BankState) (is : IsWholeBank format b) where
       subst (λ f. FilterCounts f 0) (sym (filter-of format b c h))
       (record {
         running = refl;
-        place = words-placed (word format) (4 * sections_of format b) (numbers_in (4 * sections_of format b) b.kept c)
+        place = in_words-place (word format) (4 * sections_of format b) (numbers_in (4 * sections_of format b) b.kept c)
             (length-numbers_in (4 * sections_of format b) b.channels b.kept is.size c h);
         tail_values = omega arith;
       })
 
-  pub are-bank : AreFilters format b.capacity (bank_filters format false b)
+  are-bank : AreFilters format b.capacity (bank_filters format false b)
   are-bank = record {
     some = (let long = length-filters format b in let some = is.some in omega (arith, long, some));
     alike = λ c d h. rw (get_or-default (bank_filters format false b) c d no_filter h) (like c (inside c h));
@@ -234,7 +235,7 @@ module _ (format : Fmt) (b : BankState) (is : IsWholeBank format b) where
       none (f ∷ x) e = absurd (omega (arith, e))
 
   -- the unit of its filters is the bank, but for the turns
-  pub as-plain : unit_of_filters format b.capacity (bank_filters format false b)
+  as-plain : unit_of_filters format b.capacity (bank_filters format false b)
       ≡ record (unit_of_bank format false b) { banked = false }
   as-plain =
       let first = filter-of format b 0 first-inside in
@@ -282,7 +283,7 @@ module _ (format : Fmt) (old new : BankState) (taken given : List Frame) (before
         → CountsFrames (unit_of_bank format false new) n
     plain-counts n counts = record { running = counts.running; place = counts.place; tail_frames = counts.tail_frames }
 
-    pub banked-feeds : Feeds (unit_of_bank format false old) (unit_of_bank format false new) taken given before after
+    banked-feeds : Feeds (unit_of_bank format false old) (unit_of_bank format false new) taken given before after
     banked-feeds = record {
       made = record {
         block = fed.made.block;

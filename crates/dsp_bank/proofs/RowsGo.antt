@@ -25,7 +25,7 @@ module _ (format : Fmt) (p : ℕ) (c : Section) (a b : ℕ → ℤ) where
   values-one : (f : ℕ → ℤ) (n : ℕ) → values (n + 1) f ≡ values n f ++ f n ∷ []
   values-one f n = values-add n 1 f ∙ ap (λ m. values n f ++ f m ∷ []) (let none : n + 0 ≡ n = omega arith in none)
 
-  pub rows-go : (n : ℕ) → IsRecurrence n → GoesOn (section_acts format p c).gives (section_acts format p c).keeps
+  rows-go : (n : ℕ) → IsRecurrence n → GoesOn (section_acts format p c).gives (section_acts format p c).keeps
       (kept_after 0) (kept_after n) (values n (λ k. a (k + 2))) (values n (λ k. b (k + 2)))
   rows-go zero follows = goes-nothing (section_acts format p c).gives (section_acts format p c).keeps (kept_after 0)
   rows-go (suc n) follows =

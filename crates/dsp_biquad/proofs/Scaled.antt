@@ -3,7 +3,7 @@
 use Rattle.std.proofs.Common.{◌≡◌, ◌∙◌, ap, sym, refl, ℕ, zero, suc, ◌+◌, ◌-◌, ◌*◌, ◌<◌, ◌≤◌, ◌^◌, ℤ, pos, negsuc}
 use Rattle.std.proofs.Common.{◌+ℤ◌, ◌*ℤ◌, List, [], ◌∷◌, subst, ◌%◌, SFits, to_z, of_z, lit<, pow_mono, arith}
 use Rattle.std.specs.Prelude.{neg_ℤ, nat_abs}
-use Rattle.std.specs.Int.{Width, w8, w16, w32, w64, int_wrap}
+use Rattle.std.specs.Int.{Width, w16, w32, w64, int_wrap}
 use Rattle.std.proofs.Math.Nat.{mul_comm, mul-le-mul}
 use Rattle.std.proofs.lemmas.Nat.{pow-add}
 use Rattle.std.proofs.lemmas.Int.{ints, int_wrap_fits, SFits-int_wrap, int_wrap-mul_left, int_wrap-add_left}
@@ -15,6 +15,7 @@ use lib.Signed.{shr_z}
 use Rattle.dsp_sat.proofs.Words.{abs_within}
 use Rattle.dsp_sections.proofs.FloorShifts.{times_times, sum_times, floor_is, upper_word}
 use Rattle.dsp_sections.proofs.ScaledShifts.{shift_scaled}
+use Rattle.dsp_sections.proofs.FourSections.{abs_sum, byte}
 use Rattle.dsp_defs.specs.Biquad.{Section, section_close, section_output}
 use Rattle.dsp_defs.specs.Formats.{word}
 use Rattle.dsp_defs.specs.Kept.{latest}
@@ -128,7 +129,7 @@ five_scaled n p0 p1 p2 p3 p4 =
     ∙ sym (sum_times (p0 +ℤ p1 +ℤ p2) (p3 +ℤ p4) n)
 
 -- the coefficients of a section, each times 2^p
-abbrev pub scaled_by : ℕ → Section → Section
+abbrev scaled_by : ℕ → Section → Section
 scaled_by p c = record {
   b0 = c.b0 *ℤ pos (2 ^ p);
   b1 = c.b1 *ℤ pos (2 ^ p);
@@ -164,9 +165,6 @@ acts_scaled format p c few = ap acts same
         ∙ close_scaled format p (p0 +ℤ p1 +ℤ p2 +ℤ (p3 +ℤ p4)) few) i
 
 -- ---- sums that wrap
-abs_sum : (x y : ℤ) → nat_abs (x +ℤ y) ≤ nat_abs x + nat_abs y
-abs_sum x y = omega (arith, ints)
-
 within : (z : ℤ) → nat_abs z ≤ 2 ^ 62 → SFits w64 z
 within (pos n) small = record { sfits = omega (arith, small) }
 within (negsuc n) small = record { sfits = omega (arith, small) }
@@ -184,9 +182,6 @@ five_fit p0 p1 p2 p3 p4 h0 h1 h2 h3 h4 =
 small_16 : (a b : ℤ) → SFits w32 a → SFits w16 b → nat_abs (a *ℤ b) ≤ 2 ^ 46
 small_16 a b f g = rw unsigned_abs-mul (mul-le-mul (abs_within w32 a f) (abs_within w16 b g))
 
-byte_fits : (z : ℤ) → SFits w8 z → SFits w16 z
-byte_fits z f = record { sfits = omega (arith, f.sfits) }
-
 -- a sum of products that was wrapped is closed as the sum is
 pub close_wrapped : (format : Fmt) (b0 b1 b2 a1 a2 x x1 x2 y1 y2 : ℤ)
     → SFits (scaled_word format) b0 → SFits (scaled_word format) b1 → SFits (scaled_word format) b2 →
@@ -197,9 +192,9 @@ pub close_wrapped : (format : Fmt) (b0 b1 b2 a1 a2 x x1 x2 y1 y2 : ℤ)
     ≡ section_close format 0 (b0 *ℤ x +ℤ b1 *ℤ x1 +ℤ b2 *ℤ x2 +ℤ (a1 *ℤ y1 +ℤ a2 *ℤ y2))
 close_wrapped Q7 b0 b1 b2 a1 a2 x x1 x2 y1 y2 f0 f1 f2 f3 f4 g0 g1 g2 g3 g4 =
     ap (section_close Q7 0) (int_wrap_fits w64 (b0 *ℤ x +ℤ b1 *ℤ x1 +ℤ b2 *ℤ x2 +ℤ (a1 *ℤ y1 +ℤ a2 *ℤ y2))
-    (five_fit (b0 *ℤ x) (b1 *ℤ x1) (b2 *ℤ x2) (a1 *ℤ y1) (a2 *ℤ y2) (small_16 b0 x f0 (byte_fits x g0))
-    (small_16 b1 x1 f1 (byte_fits x1 g1)) (small_16 b2 x2 f2 (byte_fits x2 g2)) (small_16 a1 y1 f3 (byte_fits y1 g3))
-    (small_16 a2 y2 f4 (byte_fits y2 g4))))
+    (five_fit (b0 *ℤ x) (b1 *ℤ x1) (b2 *ℤ x2) (a1 *ℤ y1) (a2 *ℤ y2) (small_16 b0 x f0 (byte x g0))
+    (small_16 b1 x1 f1 (byte x1 g1)) (small_16 b2 x2 f2 (byte x2 g2)) (small_16 a1 y1 f3 (byte y1 g3))
+    (small_16 a2 y2 f4 (byte y2 g4))))
 close_wrapped Q15 b0 b1 b2 a1 a2 x x1 x2 y1 y2 f0 f1 f2 f3 f4 g0 g1 g2 g3 g4 =
     ap (section_close Q15 0) (int_wrap_fits w64 (b0 *ℤ x +ℤ b1 *ℤ x1 +ℤ b2 *ℤ x2 +ℤ (a1 *ℤ y1 +ℤ a2 *ℤ y2))
     (five_fit (b0 *ℤ x) (b1 *ℤ x1) (b2 *ℤ x2) (a1 *ℤ y1) (a2 *ℤ y2) (small_16 b0 x f0 g0) (small_16 b1 x1 f1 g1)

@@ -16,7 +16,7 @@ use Rattle.dsp_defs.specs.Formats.{word}
 use Rattle.dsp_defs.specs.Cost.{section_count}
 use Rattle.dsp_unit.specs.Filter.{IsSteady, IsStepwise}
 use Rattle.dsp_defs.specs.Kept.{Kind, InWord, Fixed, Below, Each, IsPlace, kinds_by, in_words}
-use Rattle.dsp_unit.proofs.ChannelKept.{words-placed}
+use Rattle.dsp_defs.proofs.KeptLaws.{in_words-place}
 use Rattle.dsp_defs.proofs.KeptLaws.{kept_of_channel-place}
 use Rattle.dsp_filter.proofs.Units.{scaled, less-scaled}
 use Rattle.dsp_defs.specs.declared.script.Block.{Block}
@@ -114,7 +114,7 @@ biquad-steady format p numbers = record {
   live_same = λ n. refl;
   whole_same = λ n. refl;
   kinds_same = λ n. refl;
-  placed = λ zs size. words-placed (word format) (4 * section_count format numbers) zs
+  placed = λ zs size. in_words-place (word format) (4 * section_count format numbers) zs
       (size ∙ length-replicate (4 * section_count format numbers) (InWord (word format)));
   live_cost = λ n. one n (5 * section_count format numbers);
 }

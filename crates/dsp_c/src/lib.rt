@@ -1,5 +1,5 @@
 //! The library for C and, through it, for Python. Each export answers a status; `include/tozbirem.h` declares
-//! them and says what a caller must uphold. No export keeps anything between two calls.
+//! them and says what a caller must uphold. Between two calls a handle keeps a signal, and nothing else is kept.
 #![tactic(auto)]
 
 mod answer;

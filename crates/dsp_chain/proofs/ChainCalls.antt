@@ -32,7 +32,7 @@ chain-live c line counts = record {
 }
 
 -- a chain whose tail is spent
-pub chain-spent : (c : ChainState) → InLine c.input c.units → AllTook c.units c.frames → AllSpent c.units → IsSpent c
+chain-spent : (c : ChainState) → InLine c.input c.units → AllTook c.units c.frames → AllSpent c.units → IsSpent c
 chain-spent c line took spent = record {
   given = spent-given c.units c.frames spent took;
   made = spent-made c.input c.units c.frames line spent took;

@@ -36,7 +36,7 @@ cut u us n count numbers is (here, later, split, fits, rest) =
       behind = subst (FitsUnits us (live_frames u.block n)) apart.1 rest;
     }
 
-pub join : (u : UnitState) (us : List UnitState) (n count : ℕ) (numbers : List ℤ) →
+join : (u : UnitState) (us : List UnitState) (n count : ℕ) (numbers : List ℤ) →
     FitsAfter u.format u.channels u.block n (take count numbers) →
     FitsUnits us (live_frames u.block n) (drop count numbers) → FitsUnits (u ∷ us) n numbers
 join u us n count numbers fits rest = (

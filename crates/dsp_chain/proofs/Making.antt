@@ -21,7 +21,7 @@ pub record Making (banked : Bool) (p here : Place) (blocks : List Block) (i : �
   pub fresh : AllNew banked us
   pub reached : place_behind p (take i blocks) ≡ here
   pub few_channels : here.channels ≤ MAX_CHANNELS
-  pub places : AllOpen here (drop i blocks)
+  places : AllOpen here (drop i blocks)
 
 -- no unit is made
 pub making-none : (banked : Bool) (p : Place) (blocks : List Block) → p.channels ≤ MAX_CHANNELS → AllOpen p blocks →

@@ -55,7 +55,7 @@ each-few p (u ∷ us) line few = each-of u us (few-measures u.format u.channels 
     (omega (arith, line.0.channels, few.0))) (each-few (place_after p u.block) us line.1 few.1)
 
 -- the number of the first unit does not change how many they are
-pub length-measured : (number other : ℕ) (us : List UnitState) →
+length-measured : (number other : ℕ) (us : List UnitState) →
     length (measured_by number us) ≡ length (measured_by other us)
 length-measured number other [] = refl
 length-measured number other (u ∷ us) =

@@ -1,16 +1,16 @@
 -- A new chain.
 use Rattle.std.proofs.Common.{◌≡◌, ◌∙◌, ap, refl, ℕ, ◌*◌, ◌/◌, ◌≤◌, Bool, false, List, [], ◌∷◌}
-use Rattle.std.proofs.Common.{length, Option, Some, None, arith}
+use Rattle.std.proofs.Common.{length, None, arith}
 use Rattle.dsp_defs.specs.Grammar.{IsChain, correlates}
 use Rattle.dsp_defs.specs.Cost.{chain_turns}
-use Rattle.dsp_defs.specs.Shape.{group_of, groups_after, whole_frames, gathered}
+use Rattle.dsp_defs.specs.Shape.{group_of, whole_frames, gathered}
 use Rattle.dsp_unit.specs.Unit.{UnitState}
 use Rattle.dsp_unit.specs.Line.{Place, blocks_of, InLine, AllNew, AllCount}
 use Rattle.dsp_defs.specs.declared.limits.TheConstants.{MAX_BLOCKS, MAX_CHANNELS, MAX_CORRELATES}
 use Rattle.dsp_defs.specs.declared.script.Block.{Block}
 use Rattle.dsp_defs.specs.declared.script.Block.TheVariants.{Interpolate, Conv, ConvPartial, Correlate}
 use Rattle.dsp_unit.proofs.ChainPlaces.{AllOpen, flow_at}
-use Rattle.dsp_unit.proofs.NewLine.{new-stand, new-count, new-turns}
+use Rattle.dsp_unit.proofs.NewLine.{new-stand, new-count, new-turns, groups-nothing}
 use Rattle.dsp_unit.proofs.TailLaws.{count-took}
 use Rattle.dsp_shape.proofs.FewFrames.{few_places, few-taken}
 use Rattle.dsp_chain.specs.Chain.{ChainState, IsWhole, IsNewChain}
@@ -18,10 +18,6 @@ use Rattle.dsp_chain.proofs.ChainCalls.{chain-live}
 use Rattle.dsp_chain.proofs.Measured.{few-places}
 
 -- ---- no frames
-
-groups-nothing : (group : Option (ℕ × ℕ)) → groups_after group 0 ≡ 0
-groups-nothing None = refl
-groups-nothing (Some g) = let none : 0 / g.0 ≡ 0 = omega arith in ap (λ q. q * g.1) none ∙ omega arith
 
 whole-nothing : (b : Block) → whole_frames b 0 ≡ 0
 whole-nothing (Interpolate factor taps) = omega arith

@@ -12,7 +12,7 @@ use Rattle.dsp_unit.proofs.LineLaws.{fed-none, fed-then, output-passes, accepts-
 use Rattle.dsp_chain.specs.Line.{MayTake}
 
 -- the samples that pass a place have room there
-pub passing-room : (p : Place) (samples : List ℤ) → Passes p samples → length samples ≤ place_room p
+passing-room : (p : Place) (samples : List ℤ) → Passes p samples → length samples ≤ place_room p
 passing-room p samples h =
     let bound : length (frames_in p.channels samples) * p.channels ≤ p.capacity * p.channels =
     grind (arith, h.at_most) in

@@ -13,6 +13,7 @@ use Rattle.dsp_unit.proofs.TailLaws.{nothing-passes, finishes-none, finishes-idl
 use Rattle.dsp_unit.proofs.TailLaws.{finishes-behind, tail-accepts, spent-took, given-whole}
 use Rattle.dsp_chain.specs.Line.{MayTake, MayFinish}
 use Rattle.dsp_chain.proofs.Room.{no-units}
+use Rattle.std.proofs.lemmas.List.{nil_from_length}
 
 -- samples that are some are frames that are some
 some-frames : (format : Fmt) (channels : ℕ) (samples : List ℤ) → IsSignal format channels samples →
@@ -38,15 +39,11 @@ none-finished p links counts none =
 pub none-spent : (links : List UnitState) → length links ≡ 0 → AllSpent links × FirstSpent links
 none-spent links none = rw (no-units links none) (tt, tt)
 
-no-length : (x : List Frame) → length x ≡ 0 → x ≡ []
-no-length [] e = refl
-no-length (f ∷ x) e = absurd (omega (arith, e))
-
 module _ (p : Place) (links : List UnitState) (link u v : UnitState) (behind : List UnitState)
     (is_first : links ≡ link ∷ behind) (same : u ≡ link)
     (piece : List ℤ) (before between : Counts) (one : Finishes u v
     (frames_in (channels_after u.channels u.block) piece) before between) where
-  pub links-is : links ≡ u ∷ behind
+  links-is : links ≡ u ∷ behind
   links-is = is_first ∙ ap (λ f. f ∷ behind) (sym same)
 
   -- the unit gave nothing
@@ -74,7 +71,7 @@ module _ (p : Place) (links : List UnitState) (link u v : UnitState) (behind : L
     filled = some-frames _ (channels_after u.channels u.block) piece output.signal some
 
     full : u.tail ≡ [] → ⊥
-    full none = filled (no-length (frames_in (channels_after u.channels u.block) piece)
+    full none = filled (nil_from_length (frames_in (channels_after u.channels u.block) piece)
         (omega (arith, longer, ap length none)))
 
     -- and the line behind it may be fed with that
@@ -117,7 +114,7 @@ module _ (p : Place) (links : List UnitState) (link u v : UnitState) (behind : L
       given-finished = subst (λ us. IsFinished p us (v ∷ after) given before later) (sym links-is)
           (record { passes = fed.passes; finishes = step })
 
-      pub line-after : InLine p (v ∷ after)
+      line-after : InLine p (v ∷ after)
       line-after = step.in_line
 
       pub shorter : length v.tail < first_tail links

@@ -1,13 +1,13 @@
 -- The weights of an adaptive filter, one sample after another.
 use Rattle.std.proofs.Common.{◌≡◌, ◌∙◌, ap, refl, sym, ℕ, ◌+◌, ◌<◌, ◌≤◌, ℤ, pos, List, [], ◌∷◌, ◌++◌, length, map}
 use Rattle.std.proofs.Common.{take, take_all, reverse, arith}
-use Rattle.std.proofs.lemmas.List.{map-append, reverse-append, take-map}
+use Rattle.std.proofs.lemmas.List.{reverse-append, take-map}
 use Rattle.std.proofs.lemmas.List.FromFn.{fill_by_all, get_or-map-range_with_len}
 use Rattle.dsp_defs.specs.Adaptive.{Adapted, adapted, lms, lms_output, reference_now, weights_before}
 use Rattle.dsp_defs.specs.Signal.{sample}
 use Rattle.dsp_defs.specs.declared.format.Fmt.{Fmt}
 use Rattle.dsp_defs.proofs.BlockLaws.{length-values}
-use Rattle.dsp_defs.proofs.FrameLemmas.{map-values}
+use Rattle.dsp_defs.proofs.Causal.{map-values, map-reverse}
 use Rattle.dsp_exact.proofs.Recurrences.{outputs-next}
 use Rattle.dsp_channelwise.proofs.KeptStates.{newest-taken}
 use Rattle.dsp_channelwise.specs.Adapting.{pairs_of}
@@ -15,7 +15,7 @@ use Rattle.dsp_channelwise.specs.Adapting.{pairs_of}
 -- ---- inputs and references
 
 -- as many as inputs
-pub length-pairs : (x reference : List ℤ) → length (pairs_of x reference) ≡ length x
+length-pairs : (x reference : List ℤ) → length (pairs_of x reference) ≡ length x
 length-pairs x reference = length-values (length x) (λ n. (sample x n, sample reference n))
 
 -- the inputs alone
@@ -24,20 +24,11 @@ inputs-of-pairs x reference =
     map-values (λ (s : ℤ × ℤ). s.0) 0 (length x) (λ n. (sample x n, sample reference n))
     ∙ sym (fill_by_all (sample x) x (length x) (pos 0) refl (λ k inside. refl))
 
--- the last first
-reverse-map : {A B : Type 0} (f : A → B) (xs : List A) → map f (reverse xs) ≡ reverse (map f xs)
-reverse-map f [] = refl
-reverse-map f (a ∷ xs) =
-    ap (map f) (reverse-append (a ∷ []) xs)
-    ∙ map-append f (reverse xs) (a ∷ [])
-    ∙ ap (λ l. l ++ f a ∷ []) (reverse-map f xs)
-    ∙ sym (reverse-append (f a ∷ []) (map f xs))
-
 -- the inputs up to one, and its reference
 inputs-so-far : (x reference : List ℤ) (n : ℕ)
     → map (λ (s : ℤ × ℤ). s.0) (reverse (take n (pairs_of x reference))) ≡ reverse (take n x)
 inputs-so-far x reference n =
-    reverse-map (λ (s : ℤ × ℤ). s.0) (take n (pairs_of x reference))
+    map-reverse (λ (s : ℤ × ℤ). s.0) (take n (pairs_of x reference))
     ∙ ap reverse (sym (take-map (λ (s : ℤ × ℤ). s.0) n (pairs_of x reference)))
     ∙ ap (λ l. reverse (take n l)) (inputs-of-pairs x reference)
 

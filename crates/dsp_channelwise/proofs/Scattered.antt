@@ -12,7 +12,7 @@ use Rattle.dsp_exact.proofs.Exact.{abs-add}
 
 -- a * b[i] was added at each place at - i
 pub record Scattered (old new : List ℤ) (at : ℕ) (a : ℤ) (b : List ℤ) : Type 0 where
-  pub long : length new ≡ length old
+  long : length new ≡ length old
   pub values : (n : ℕ) → n < length old → sample new n ≡ sample old n +ℤ a *ℤ delayed b at n
   pub small : (n : ℕ) → n < length old → nat_abs (sample new n) ≤ nat_abs (sample old n) + 2 ^ 62
 

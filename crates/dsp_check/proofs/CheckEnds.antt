@@ -18,7 +18,7 @@ use Rattle.dsp_input.specs.Taking.{AreAll, InDeclared, IsInputCause, IsTakenWhol
 use Rattle.dsp_input.specs.Taking.{PartTaken, Unopened, declared_bytes, frame_bytes, frames_in_bytes}
 use Rattle.dsp_input.proofs.CauseLaws.{none_behind, unopened_by, unopened_none, unread_by}
 use Rattle.dsp_input.proofs.InputLaws.{no_frames, quotient_is}
-use Rattle.dsp_input.proofs.SampleBytes.{floor_within, frame_some, frames_are, output_is}
+use Rattle.dsp_input.proofs.SampleBytes.{frame_some, frames_are, output_is}
 use Rattle.dsp_check.specs.Check.{CostsFew, CountsFault, Done, HasCompared, IsCause, IsLong, IsPastLimit, IsPlaceFull}
 use Rattle.dsp_check.specs.Check.{KeepsLimits, Stopped, TookFew, frames_past_limit, of_input, of_mismatch}
 use Rattle.dsp_check.specs.Comparing.{HasAll, Mismatches}
@@ -27,6 +27,7 @@ use Rattle.dsp_check.specs.declared.comparing.Mismatch.{Mismatch}
 use Rattle.dsp_check.specs.declared.comparing.Mismatch.TheVariants as mismatch
 use Rattle.dsp_check.specs.declared.fault.CheckFault.{CheckFault}
 use Rattle.dsp_check.specs.declared.fault.CheckFault.TheVariants as fault
+use Rattle.std.proofs.Math.Nat.{div-mul-le_self}
 
 -- ---- numbers
 
@@ -207,7 +208,7 @@ module _ {script : Script} (sound : IsSound script) {header : Header} {input mid
           Stopped script stop input now other other before counts
       stops_long (fault.Size size limit) (limit_is, inl (full, size_is)) =
           let all : length bytes ≡ frames_past_limit script * frame =
-          omega (arith, part.in_part, rw full at (floor_within (length bytes) frame)) in
+          omega (arith, part.in_part, rw full at (div-mul-le_self (length bytes) frame)) in
           let past : IsPastLimit script taken size = record {
             frames = counted rest ∙ full;
             alone = subst (λ (h : Header). length taken ≡ h.start + frames_past_limit script * frame_bytes script

@@ -15,9 +15,9 @@ use Rattle.dsp_defs.specs.Formats.{word}
 use Rattle.dsp_defs.specs.Signal.{sample, values}
 use Rattle.dsp_defs.specs.declared.format.Coding.{Coding}
 use Rattle.dsp_defs.specs.declared.format.Fmt.{Fmt}
-use Rattle.dsp_defs.proofs.FrameLemmas.{map-values}
 use Rattle.dsp_defs.proofs.Signal.{values_cong}
 use Rattle.dsp_defs.proofs.SumLemmas.{same_numbers}
+use Rattle.dsp_defs.proofs.Causal.{map-values}
 use Rattle.dsp_framewise.proofs.Given.{sample-fits}
 use Rattle.dsp_check.specs.Channels.{AreChannels, InFormat, frame_at, frame_count, no_frames, with_frame}
 
@@ -25,10 +25,10 @@ use Rattle.dsp_check.specs.Channels.{AreChannels, InFormat, frame_at, frame_coun
 
 -- one frame more
 module _ (channels : List (List ℤ)) (frame : Frame) where
-  pub length-with : length (with_frame channels frame) ≡ length channels
+  length-with : length (with_frame channels frame) ≡ length channels
   length-with = length-map-range_with_len (λ c. get_or channels c [] ++ sample frame c ∷ []) 0 (length channels)
 
-  pub channel-with : (c : ℕ) (d : List ℤ) → c < length channels →
+  channel-with : (c : ℕ) (d : List ℤ) → c < length channels →
       get_or (with_frame channels frame) c d ≡ get_or channels c [] ++ sample frame c ∷ []
   channel-with c d inside = get_or-map-range_with_len (λ c. get_or channels c [] ++ sample frame c ∷ []) 0
       (length channels) c c d inside (omega arith)

@@ -84,7 +84,7 @@ module _ (c : Call) (status : ℕ) (report told : SinkState) where
 
   -- ---- where they must come
 
-  abbrev pub Faulty : Type 0
+  abbrev Faulty : Type 0
   Faulty = IfSome c.source.left (λ text. IsSome (first_fault text) → EndsEarly 2 status)
 
   always_faulty : EndsEarly 2 status → Faulty
@@ -118,7 +118,7 @@ module _ (c : Call) (status : ℕ) (report told : SinkState) where
   faulty_by (Stopped (Conversion fault)) stop reported text = absurd (subst HasText stop.asked text)
   faulty_by (Stopped (Comparison fault)) (script, stop) reported text = sound stop.read
 
-  abbrev pub IllegalEnds : Script → Type 0
+  abbrev IllegalEnds : Script → Type 0
   IllegalEnds s = IsFalse (is_legal_for s (chosen_block c.words s)) → EndsEarly 3 status
 
   always_illegal : EndsEarly 3 status → IfScript c.source.left IllegalEnds

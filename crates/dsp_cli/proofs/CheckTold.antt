@@ -42,7 +42,7 @@ seam (x ∷ front) byte more (suc n) is = seam front byte more n (omega (arith, 
 
 -- the file agrees with the bytes that are wanted up to the byte that decides, and there it has another, or only one
 -- has ended
-pub decided : (offset : ℕ) (wanted seen more : List ℕ) (now : SourceState) → now.left ≡ Some more →
+decided : (offset : ℕ) (wanted seen more : List ℕ) (now : SourceState) → now.left ≡ Some more →
     offset ≤ length wanted → IsDecided offset wanted seen now
     → (take offset (seen ++ more) ≡ take offset wanted) × (slice_get (seen ++ more) offset ≢ slice_get wanted offset)
 decided offset wanted seen more now left within (inl (byte, is, other)) =
@@ -135,7 +135,7 @@ module _ (script : Script) (channels : 1 ≤ script.input.channels) (given more 
 -- where nothing stands in its way, a port has failed, memory was wanted, or the file is not the output
 module _ (script : Script) (block : ℕ) (ready : IsReady script block) (channels : 1 ≤ script.input.channels)
     (input now other seen : SourceState) (before counts : Counts) where
-  abbrev pub Ends : CheckFault → List ℕ → List ℕ → Type 0
+  abbrev Ends : CheckFault → List ℕ → List ℕ → Type 0
   Ends fault bytes file =
       Rose input.faults now.faults ⊎ Rose other.faults seen.faults ⊎ (status_of (Comparison fault) ≡ 10)
       ⊎ ((status_of (Comparison fault) ≡ 11) × (file ≡ output script bytes → ⊥))

@@ -31,13 +31,13 @@ use Rattle.dsp_cli.proofs.Told.{told_illegal}
 module _ (c : Call) (status : ℕ) (report told : SinkState) where
   -- ---- what must not come
 
-  abbrev pub Done0 : Type 0
+  abbrev Done0 : Type 0
   Done0 = (status ≡ 0) ⊎ (status ≡ 10)
 
-  abbrev pub Runs : Script → List ℕ → Type 0
+  abbrev Runs : Script → List ℕ → Type 0
   Runs s bytes = IsFree (command_of c.words) s (chosen_block c.words s) bytes → NoneFailed c report told → Done0
 
-  abbrev pub RunsOver : Script → Type 0
+  abbrev RunsOver : Script → Type 0
   RunsOver s = IfSome (read_from (command_of c.words) s.input c.port).left (Runs s)
 
   runs_always : ((s : Script) (bytes : List ℕ) → Runs s bytes) → IfScript c.source.left RunsOver
@@ -63,7 +63,7 @@ module _ (c : Call) (status : ℕ) (report told : SinkState) where
   runs_by ending happened reported (inl (named, banked, is)) = absurd (ends_in c ending happened is)
   runs_by ending happened reported (inr (seed, frames, is)) = absurd (ends_in c ending happened is)
 
-  abbrev pub Prints : Type 0
+  abbrev Prints : Type 0
   Prints = (Rose c.source.faults c.read.faults → ⊥) → (Rose report.faults told.faults → ⊥) → Done0
 
   prints_always : Prints → IfScript c.source.left (λ _. Prints)

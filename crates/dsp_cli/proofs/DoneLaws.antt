@@ -235,7 +235,7 @@ module _ (c : Call) (status : ℕ) (report told : SinkState) where
       subst (λ command. HasDone command c) (sym checked.asked) (check.same_by c status report told script size checked)
   done_by (Stopped fault) happened reported done = absurd (fault_not_done fault (subst IsDone reported.0 done))
 
-  abbrev pub GenCounted : ℕ → ℕ → Type 0
+  abbrev GenCounted : ℕ → ℕ → Type 0
   GenCounted seed frames = IfScript c.source.left (Counted seed frames)
 
   pub counted_by : (ending : Ending) → Happened ending c → Reported ending status report told → (seed frames : ℕ) →

@@ -41,7 +41,7 @@ module _ (c : Call) where
   IsInRest (InRest script stop) = Unit {0}
 
   -- the command is one of those that may end so
-  abbrev pub EndsIn : (ending : Ending) → Happened ending c → Option Command → Type 0
+  abbrev EndsIn : (ending : Ending) → Happened ending c → Option Command → Type 0
   EndsIn (Went script frames found) went (Some (Run named banked)) = Unit {0}
   EndsIn (Went script frames found) went (Some (Gen seed count)) = Unit {0}
   EndsIn (Printed script) printed (Some Print) = Unit {0}

@@ -1,11 +1,10 @@
 -- A generated input is whole, within the limit, and of as many frames as were asked for.
-use Rattle.std.proofs.Common.{◌≡◌, ℕ, ◌+◌, ◌-◌, ◌*◌, ◌/◌, ◌<◌, ◌≤◌, nat_lt, Bool, false, if◌then◌else◌, List, ◌++◌}
+use Rattle.std.proofs.Common.{◌≡◌, ℕ, ◌+◌, ◌-◌, ◌*◌, ◌/◌, ◌<◌, ◌≤◌, nat_lt, Bool, false, List, ◌++◌, if◌then◌else◌}
 use Rattle.std.proofs.Common.{length, take, drop, Some, None, Ok, Err, refl, sym, ap, ◌∙◌, subst, arith, append_assoc}
 use Rattle.std.proofs.Common.{length-append}
 use Rattle.std.proofs.lemmas.Bool.Decides.{nat_tests}
 use Rattle.std.proofs.lemmas.List.{take_all, length-take, length-drop}
 use Rattle.std.proofs.lemmas.Nat.{div-mul-add}
-use Rattle.std.proofs.Math.Nat.{mul-le-mul}
 use Rattle.std.specs.Result.{result_unwrap_or}
 use Rattle.dsp_defs.specs.Bytes.{coded, coding_of, width, word_bytes}
 use Rattle.dsp_defs.specs.Generator.{generated, generated_bytes}
@@ -30,18 +29,14 @@ use Rattle.dsp_session.specs.Stream.{declared_bytes, frames_in_bytes, in_whole_f
 use Rattle.dsp_session.specs.Stream.{wave_fault}
 use Rattle.dsp_input.specs.Taking.{InLimit}
 use Rattle.dsp_input.proofs.InputLaws.{frames_of_bytes, good_header}
-
-some_product : (a b : ℕ) → 1 ≤ a → 1 ≤ b → 1 ≤ a * b
-some_product a b h k = mul-le-mul h k
-
-floor_within : (n f : ℕ) → n / f * f ≤ n
-floor_within n f = grind (arith)
+use Rattle.dsp_unit.proofs.ChainPlaces.{product_some}
+use Rattle.std.proofs.Math.Nat.{div-mul-le_self}
 
 -- all declared bytes are there
 not_short : (script : Script) (coding : Coding) (rate declared count : ℕ) → 44 + declared ≤ count →
     short_fault script (record { rate = rate; start = 44; size = Some declared; coding = coding }) count ≡ None
 not_short script coding rate declared count all =
-    let floor = floor_within declared (frame_bytes script coding) in
+    let floor = div-mul-le_self declared (frame_bytes script coding) in
     let test : nat_lt count (44 + in_whole_frames script coding declared) ≡ false = grind (arith, nat_tests) in
     ap (λ (b : Bool). if b then Some (Short declared (count - 44), count) else None) test
 
@@ -190,7 +185,7 @@ module _ (script : Script) (seed frames : ℕ) (few : (1 ≤ script.input.channe
               omega (
                 arith,
                 small,
-                floor_within size (frame_bytes script
+                div-mul-le_self size (frame_bytes script
                     (coding_of container.Wave script.input.format)),
               ),
             ),
@@ -203,7 +198,7 @@ module _ (script : Script) (seed frames : ℕ) (few : (1 ≤ script.input.channe
 
   -- as many frames as were asked for
   some : 0 < script.input.channels * word_bytes script.input.format
-  some = some_product script.input.channels (word_bytes script.input.format) few.0 (word-some script.input.format)
+  some = product_some script.input.channels (word_bytes script.input.format) few.0 (word-some script.input.format)
     where
       word-some : (format : Fmt) → 0 < word_bytes format
       word-some Q7 = omega arith

@@ -27,6 +27,7 @@ use Rattle.dsp_defs.specs.declared.wave.HeaderFault.{HeaderFault}
 use Rattle.dsp_defs.specs.declared.wave.HeaderFault.TheVariants.{Short}
 use Rattle.dsp_defs.proofs.SampleLaws.{length-samples, samples-append}
 use Rattle.dsp_defs.proofs.WaveLemmas.{header_of-append}
+use Rattle.dsp_defs.proofs.OutputLaws.{input_header-append}
 use Rattle.dsp_unit.proofs.CostLaws.{quotient_more}
 use Rattle.dsp_input.specs.Taking.{frame_bytes, in_whole_frames}
 use Rattle.dsp_session.specs.Resuming.{FirstStopped, RestStopped, IsFirstCause, IsRestCause, IsOfInput, CountsPartFault}
@@ -44,7 +45,7 @@ use Rattle.dsp_input.proofs.FaultLaws.{ok_header}
 use Rattle.dsp_session.proofs.OpeningLaws.{some_frame}
 use Rattle.dsp_cli.specs.Run.{IsStoppable, IsResumable}
 use Rattle.dsp_cli.proofs.GatherLaws.{gathered_more}
-use Rattle.dsp_input.proofs.InputLaws.{header_stays, frame_in, frames_of_bytes, frames_stay, signal_stays}
+use Rattle.dsp_input.proofs.InputLaws.{frame_in, frames_of_bytes, frames_stay, signal_stays}
 use Rattle.dsp_input.proofs.InputLaws.{some_not_none, fault_told, quotient_is}
 use Rattle.dsp_cli.proofs.ReportLaws.{rose}
 use Rattle.dsp_cli.proofs.StopLaws.{fits_not_long, length_blocks}
@@ -70,7 +71,7 @@ has_stays script bytes more has = by script.input.kind has
 
 -- so many frames are there, where their bytes are and as many are declared
 module _ (script : Script) (bytes : List ℕ) (some : 0 < frame_in script bytes) (at : ℕ) where
-  pub enough : (input_header script bytes).start + at * frame_in script bytes ≤ length bytes
+  enough : (input_header script bytes).start + at * frame_in script bytes ≤ length bytes
       → IfSome (declared_frames script (input_header script bytes)) (λ n. at ≤ n) → at ≤ frames_in_bytes script bytes
   enough reached declared =
       let header = input_header script bytes in
@@ -91,7 +92,7 @@ module _ (script : Script) (bytes : List ℕ) (some : 0 < frame_in script bytes)
           omega (arith, long, floor, more, length-take n behind)
 
   -- and no more than are declared
-  pub no_more : (n : ℕ) → declared_frames script (input_header script bytes) ≡ Some n → frames_in_bytes script bytes ≤ n
+  no_more : (n : ℕ) → declared_frames script (input_header script bytes) ≡ Some n → frames_in_bytes script bytes ≤ n
   no_more n is = subst (λ k. k ≤ n) (sym (frames_of_bytes script bytes)) (by (input_header script bytes).size is)
     where
       by : (size : Option ℕ) → option_map (λ k. k / frame_in script bytes) size ≡ Some n
@@ -142,7 +143,7 @@ module _ (script : Script) (given more : List ℕ) (has : HasHeader script given
       )
 
   -- the first frames stay, where exactly these were given
-  pub first_signal : (frames : ℕ) → length given ≡ header.start + frames * frame → frames ≡ frames_in_bytes script given
+  first_signal : (frames : ℕ) → length given ≡ header.start + frames * frame → frames ≡ frames_in_bytes script given
       → take frames (input_signal script (given ++ more)) ≡ input_signal script given
   first_signal frames exact count =
       let long : length behind ≡ frames * frame = omega (arith, exact, length-drop header.start given) in
@@ -154,7 +155,7 @@ module _ (script : Script) (given more : List ℕ) (has : HasHeader script given
       let all : length signal ≡ frames = length-samples header.coding channels behind ∙
       quotient_is frames frame (length behind) some (omega (arith, long)) (omega (arith, long, some)) in
       ap (λ (h : Header). take frames (samples h.coding channels (sample_bytes h (given ++ more))))
-      (header_stays script given more has)
+      (input_header-append script given more has)
       ∙ ap (λ xs. take frames (samples header.coding channels (At header.size xs))) split
       ∙ ap (λ xs. take frames (samples header.coding channels xs)) later
       ∙ ap (take frames) (samples-append header.coding channels frames behind rest some long)
@@ -164,7 +165,7 @@ module _ (script : Script) (given more : List ℕ) (has : HasHeader script given
   pub first_stays : (frames : ℕ) → length given ≡ header.start + frames * frame → frames ≡ frames_in_bytes script given
       → first_output script frames (given ++ more) ≡ first_output script frames given
   first_stays frames exact count =
-      let same = header_stays script given more has in
+      let same = input_header-append script given more has in
       let own : take frames (input_signal script given) ≡ input_signal script given =
       take_all frames (input_signal script given) (omega (arith, count)) in
       (λ i. output_header script (same i) ++ live_bytes script ((first_signal frames exact count ∙ sym own) i))
@@ -180,7 +181,7 @@ pub rest_stays : (script : Script) (at : ℕ) (given more : List ℕ) → HasHea
     rest_output script at x (given ++ more) ≡ rest_output script at x given
 rest_stays script at given more has some now left whole x =
     let signal = signal_stays script given more has some now left whole in
-    let same = header_stays script given more has in
+    let same = input_header-append script given more has in
     (λ i. whole_bytes script (x ++ drop at (signal i)) ++ output_pad script (same i))
 
 -- ---- what stands in the way
@@ -289,11 +290,11 @@ module _ (script : Script) (block at : ℕ) (stop : PartFault) (ready : IsReady 
       start_is : HasHeader script given → (input_header script given).start + at * frame_in script given ≤ min
           (length (given ++ more)) MAX_INPUT
       start_is has = subst (λ (h : Header). h.start + at * frame_bytes script h.coding ≤ min (length (given ++ more))
-          MAX_INPUT) (header_stays script given more has) here.reached
+          MAX_INPUT) (input_header-append script given more has) here.reached
 
       declares : HasHeader script given → IfSome (declared_frames script (input_header script given)) (λ n. at ≤ n)
       declares has = subst (λ (h : Header). IfSome (declared_frames script h) (λ n. at ≤ n))
-          (header_stays script given more has) here.declared
+          (input_header-append script given more has) here.declared
 
       -- where no more bytes come, all frames are there
       ended : HasHeader script given → IsAtEnd now.left → at ≤ frames_in_bytes script given
@@ -370,7 +371,7 @@ module _ (script : Script) (block : ℕ) (start : SessionState) (at : ℕ) (stop
           omega (arith, fewer, count, all, here.reached)
       not_behind got has fewer (Some n) is same =
           let later : declared_frames script (input_header script (given ++ more)) ≡ Some n =
-          ap (declared_frames script) (header_stays script given more has) ∙ is in
+          ap (declared_frames script) (input_header-append script given more has) ∙ is in
           omega (arith, fewer, same, no_more script (given ++ more) (some (given ++ more)) at n later, here.reached)
 
       stopped_by : (length : LengthFault) → IsCause (fault.Lengths length) script block given now → ⊥

@@ -112,7 +112,7 @@ comparison_status (check_fault.Header fault offset) = inl refl
 comparison_status fault = grind arith
 
 -- those of a stream that stops, over a whole input or a part of it
-pub stream_statuses : (fault : StreamFault) → (stream_status fault ≡ 4) ⊎ (stream_status fault ≡ 5) ⊎
+stream_statuses : (fault : StreamFault) → (stream_status fault ≡ 4) ⊎ (stream_status fault ≡ 5) ⊎
     (stream_status fault ≡ 7) ⊎ (stream_status fault ≡ 8)
 stream_statuses (Header fault offset) = inl refl
 stream_statuses fault = grind arith

@@ -24,11 +24,12 @@ use Rattle.dsp_input.specs.Taking.{Fits, InLimit, IsTooLong}
 use Rattle.dsp_cli.specs.Script.{chosen_block, is_banked}
 use Rattle.dsp_cli.proofs.GatherLaws.{gathered_more}
 use Rattle.dsp_cli.proofs.GeneratedLaws.{generated_good, generated_in_limit}
-use Rattle.dsp_input.proofs.InputLaws.{header_stays, frames_stay, signal_stays, some_not_none, fault_told, past_limit}
+use Rattle.dsp_input.proofs.InputLaws.{frames_stay, signal_stays, some_not_none, fault_told, past_limit}
 use Rattle.dsp_input.proofs.InputLaws.{frame_in}
 use Rattle.dsp_cli.proofs.ReportLaws.{rose}
 use Rattle.dsp_cli.proofs.Told.{told_split}
 use Rattle.dsp_cli.proofs.WordLaws.{gen_makes_few}
+use Rattle.dsp_defs.proofs.OutputLaws.{input_header-append}
 
 -- a size that fits is not too long
 pub fits_not_long : (script : Script) (given more : List ℕ) (size : ℕ) → HasHeader script given →
@@ -36,7 +37,7 @@ pub fits_not_long : (script : Script) (given more : List ℕ) (size : ℕ) → H
     Fits script (input_header script (given ++ more)) → ⊥
 fits_not_long script given more size has long fits =
     let known : known_frames script (input_header script (given ++ more)) ≡ Some long.frames =
-    ap (known_frames script) (header_stays script given more has) ∙ long.known in
+    ap (known_frames script) (input_header-append script given more has) ∙ long.known in
     let within = subst (HeaderFits script.output (format_of script) (channels_of script)) known (fits long.headed) in
     omega (arith, within, long.size_is, long.over)
 

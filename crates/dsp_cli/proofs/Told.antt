@@ -56,7 +56,7 @@ told_split left None given all front is = absurd (cc)
 told_split left (Some more) given all front is = (more, refl, cc)
 
 -- no more was given than was told
-pub told_length : (left rest : Option (List ℕ)) (given all : List ℕ) → left ≡ prepend_known given rest →
+told_length : (left rest : Option (List ℕ)) (given all : List ℕ) → left ≡ prepend_known given rest →
     left ≡ Some all → length given ≤ length all
 told_length left None given all front is = absurd (cc)
 told_length left (Some rest) given all front is =

@@ -2,6 +2,7 @@
 #![tactic(auto)]
 
 mod command;
+mod conversion;
 mod fault;
 mod fault_line;
 mod line;

@@ -14,18 +14,17 @@ ghost use Rattle.dsp_cli.specs.Causes.{Causes, Completes};
 ghost use Rattle.dsp_cli.specs.Fault.{summary_text};
 ghost use Rattle.dsp_cli.specs.Script.{chosen, most_of_script, IfScript};
 ghost use Rattle.dsp_cli.specs.Perform.{Compared, FailsToCompare, ReadsAs, Ran, RanGenerated, Performed};
-ghost use Rattle.dsp_cli.specs.Perform.{FailsToLoad, FailsToRun, FailsToGenerate, LoadsState};
+ghost use Rattle.dsp_cli.specs.Perform.{FailsToLoad, FailsToRun, FailsToGenerate, HasStatus, LoadsState};
 ghost use Rattle.dsp_cli.specs.Perform.{FailsToLoadState, RanFirst, FailsToStop, RanRest, FailsToGoOn};
-ghost use Rattle.dsp_cli.specs.Perform.{HasStatus};
 ghost use Rattle.dsp_cli.specs.Run.{HasOutput, Wrote, Tells, ReportsText, IsDone, IsRefused};
 
 use crate::command::command;
+use crate::conversion::convert;
 use crate::fault::Fault;
 use crate::fault_line::{line_of, status_of};
 use crate::report::{Report, Summary, converted_report, find_measures, head_of, same_report};
 use crate::script::{ReadFault, read_whole};
 use crate::words::Words;
-use dsp_au::convert;
 use dsp_check::check;
 use dsp_command::Command;
 use dsp_defs::{Flow, MAX_SCRIPT, MAX_STATE, Measure, Script, StateKind, Steps};
@@ -449,8 +448,7 @@ pub fn run<U: AnyUnit + Drop, P: Source, S: Source, K: Sink, R: Sink, O: Source,
     other: &mut O,
     steps: &mut Steps<L>,
 ) -> u8
-    // How it ended: a script, the frames of its input and what its stream did, or the fault; and the report of
-    // just that.
+    // How it ended: a script, its frames and what its stream did, or the fault; and the report of just that.
     ensures ended { Ended (call words.now (P.state script.old) (P.state script.new)
         (S.state input.old) (S.state input.new) (K.state output.old) (K.state output.new)
         (O.state other.old) (O.state other.new) steps.old steps.new) result

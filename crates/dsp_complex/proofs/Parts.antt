@@ -2,21 +2,14 @@
 use Rattle.std.proofs.Common.{◌≡◌, ◌≢◌, ◌∙◌, ap, refl, sym, subst, to_z, of_z, ℕ, ◌-◌, ◌*◌, ◌^◌, ◌<◌, ◌≤◌, ℤ}
 use Rattle.std.proofs.Common.{pos, negsuc, ◌+ℤ◌, ◌-ℤ◌, ◌*ℤ◌, SFits, arith, lit<, FitsSigned, nat_abs, w32, w64}
 use Rattle.std.proofs.lemmas.Int.{to_z-of_z, ints}
-use Rattle.std.proofs.Math.Nat.{div-le_of_le-mul, div-lt_iff_lt-mul}
 use lib.Signed.{shr_z}
-use Rattle.dsp_sat.proofs.Words.{shift_down-is}
+use Rattle.dsp_sat.proofs.Words.{shift_down-is, shr-small}
 use Rattle.dsp_sat.proofs.WideProducts.{word-in-32}
 use Rattle.dsp_defs.specs.Numbers.{◌>>◌}
 use Rattle.dsp_defs.specs.Formats.{word, word_bits}
 use Rattle.dsp_defs.specs.Complex.{product_shift, cmplx_mag_squared}
 use Rattle.dsp_defs.specs.declared.format.Fmt.{Fmt}
 use Rattle.dsp_defs.specs.declared.format.Fmt.TheVariants.{Q7, Q15, Q31}
-
--- a floor shift divides the size
-shr-small : (z : ℤ) (k m : ℕ) → 0 < 2 ^ k → nat_abs z ≤ m * 2 ^ k → nat_abs (z >> k) ≤ m
-shr-small (pos n) k m some h = div-le_of_le-mul (2 ^ k) (omega (arith, h))
-shr-small (negsuc n) k m some h = let below : n < m * 2 ^ k = omega (arith, h) in let q =
-    (div-lt_iff_lt-mul some).1 below in omega (arith, q)
 
 pub shifted-small : (format : Fmt) (z : ℤ) → nat_abs z ≤ 2 ^ (2 * word_bits format - 2) →
     nat_abs (z >> product_shift format) ≤ 2 ^ (word_bits format - 3)
@@ -39,11 +32,11 @@ sum-small x y m h k = omega (arith, ints)
 difference-small : (x y : ℤ) (m : ℕ) → nat_abs x ≤ m → nat_abs y ≤ m → nat_abs (x -ℤ y) ≤ 2 * m
 difference-small x y m h k = omega (arith, ints)
 
-pub sum-fits : (format : Fmt) (x y : ℤ) → nat_abs x ≤ 2 ^ (word_bits format - 3) →
+sum-fits : (format : Fmt) (x y : ℤ) → nat_abs x ≤ 2 ^ (word_bits format - 3) →
     nat_abs y ≤ 2 ^ (word_bits format - 3) → FitsSigned (word format) (x +ℤ y)
 sum-fits format x y h k = small-fits format (x +ℤ y) (sum-small x y (2 ^ (word_bits format - 3)) h k)
 
-pub difference-fits : (format : Fmt) (x y : ℤ) → nat_abs x ≤ 2 ^ (word_bits format - 3) →
+difference-fits : (format : Fmt) (x y : ℤ) → nat_abs x ≤ 2 ^ (word_bits format - 3) →
     nat_abs y ≤ 2 ^ (word_bits format - 3) → FitsSigned (word format) (x -ℤ y)
 difference-fits format x y h k = small-fits format (x -ℤ y) (difference-small x y (2 ^ (word_bits format - 3)) h k)
 
@@ -101,13 +94,13 @@ magnitude-narrow Q7 a b e = refl
 magnitude-narrow Q15 a b e = refl
 magnitude-narrow Q31 a b e = absurd (e refl)
 
-pub sum-in-64 : (format : Fmt) (x y : ℤ) → word_bits format ≢ 32 → nat_abs x ≤ 2 ^ (2 * word_bits format - 2) →
+sum-in-64 : (format : Fmt) (x y : ℤ) → word_bits format ≢ 32 → nat_abs x ≤ 2 ^ (2 * word_bits format - 2) →
     nat_abs y ≤ 2 ^ (2 * word_bits format - 2) → SFits w64 (x +ℤ y)
 sum-in-64 Q7 x y e h k = within (x +ℤ y) 16384 (sum-small x y 16384 h k) (lit< tt)
 sum-in-64 Q15 x y e h k = within (x +ℤ y) 1073741824 (sum-small x y 1073741824 h k) (lit< tt)
 sum-in-64 Q31 x y e h k = absurd (e refl)
 
-pub shifted-sum-fits : (format : Fmt) (x y : ℤ) → nat_abs x ≤ 2 ^ (2 * word_bits format - 2) →
+shifted-sum-fits : (format : Fmt) (x y : ℤ) → nat_abs x ≤ 2 ^ (2 * word_bits format - 2) →
     nat_abs y ≤ 2 ^ (2 * word_bits format - 2) → FitsSigned (word format) (x +ℤ y >> product_shift format)
 shifted-sum-fits Q7 x y h k = small-fits Q7 (x +ℤ y >> 17)
     (shr-small (x +ℤ y) 17 64 (lit< tt) (omega (arith, sum-small x y 16384 h k)))

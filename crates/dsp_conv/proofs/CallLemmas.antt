@@ -7,6 +7,7 @@ use Rattle.std.proofs.lemmas.Int.{ints, to_z_pos}
 use Rattle.std.proofs.lemmas.List.{length-replicate, take_more, take-replicate, reverse-reverse}
 use Rattle.std.proofs.lemmas.List.{append-nil, take-map, drop-map, length-map, same_from_push}
 use Rattle.std.proofs.lemmas.Bool.{cases_lt}
+use Rattle.std.proofs.lemmas.List.{nil_from_length}
 use Rattle.std.proofs.Math.Nat.{mul_comm}
 use Rattle.std.proofs.Math.Seq.{drop-append_seam, drop-append-add}
 use Rattle.dsp_defs.proofs.Streaming.{last_of-append}
@@ -29,7 +30,6 @@ use Rattle.dsp_conv.specs.Extent.{zeros_behind}
 use Rattle.dsp_conv.specs.ConvState.{ConvState, StandsFor, CountsFor, TakesIn, Fits, kept, kept_of, new_conv}
 use Rattle.dsp_conv.specs.ConvState.{tail_behind}
 use Rattle.dsp_conv.proofs.ConvLemmas.{live-append, tail-is, tail-long, count-more, rows-long, rows-take, rows-skipped}
-use Rattle.dsp_conv.proofs.ConvLemmas.{empty}
 use Rattle.dsp_conv.proofs.ExtentLemmas.{no-place, place-more, kept-are}
 use Rattle.dsp_conv.proofs.Inside.{IsConvolution}
 
@@ -79,7 +79,7 @@ rows-cost L lent written {taps = taps} {count = count} {before = before} {after 
     rw (← is_lent, ← is_written, mul_comm written lent) rises
 
 -- what it is with this past and place, once it owes what is behind them
-abbrev pub owing : Fmt → Extent → List ℤ → ℕ → Bool → List ℤ → ℕ → ConvState
+abbrev owing : Fmt → Extent → List ℤ → ℕ → Bool → List ℤ → ℕ → ConvState
 owing format e taps size ended past place = record {
   extent = e;
   taps = taps;
@@ -245,7 +245,7 @@ new-stands format e taps block some = record {
   place_is = sym (no-place e);
   tail_is = tail-is format e taps [] 0 some (sym (no-place e)) ∙
       ap (λ l. of_channel format (block_of e taps) [] ++ l)
-      (empty (tail_behind format e taps (last_of (length taps - 1) []) 0) (nothing e));
+      (nil_from_length (tail_behind format e taps (last_of (length taps - 1) []) 0) (nothing e));
 }
   where
     none : (first count : ℕ) → given_in (Within first count) 0 0 ≡ 0
@@ -319,13 +319,6 @@ is-kept format c numbers last fits is =
       within = λ place read. let below : pos place ≤ℤ pos (greatest_place c.extent) =
           subst (λ z. z ≤ℤ pos (greatest_place c.extent)) (sym read) high in omega (arith, ints, below);
     }
-
--- what a window keeps that was restored
-pub restored-past : (old new : Rolling) (numbers : List ℤ) → new ≡ record old { samples = numbers } →
-    length numbers ≡ old.past → last_samples new.past new.samples ≡ numbers
-restored-past old new numbers is long =
-    let none : length numbers - old.past ≡ 0 = omega (arith, long) in
-    ap (λ (w : Rolling). last_samples w.past w.samples) is ∙ ap (λ k. drop k numbers) none
 
 -- ---- a block of which no value is given
 

@@ -3,7 +3,7 @@ use Rattle.std.proofs.Common.{◌≡◌, ◌∙◌, ap, ap₂, refl, sym, subst,
 use Rattle.std.proofs.Common.{[], ◌∷◌, ◌++◌, length, true, false, arith, length-append}
 use Rattle.std.specs.Prelude.{◌≤ℤ◌}
 use Rattle.std.proofs.lemmas.Int.{ints}
-use Rattle.std.proofs.lemmas.List.{length-replicate, same_from_push}
+use Rattle.std.proofs.lemmas.List.{length-replicate, same_from_push, nil_from_length}
 use Rattle.dsp_defs.specs.declared.format.Fmt.{Fmt}
 use Rattle.dsp_defs.specs.declared.script.Block.{Block}
 use Rattle.dsp_defs.specs.declared.script.Block.TheVariants as block
@@ -16,8 +16,7 @@ use Rattle.dsp_defs.specs.Cost as cost
 use Rattle.dsp_defs.specs.Kept.{Fixed, Each, IsPlace, IsOfKind, IsTaken, in_words, kinds_by, place_of, FitsChannel}
 use Rattle.dsp_unit.specs.Filter.{FilterStandsFor, FilterCounts, FilterTook, FilterMadeAs, FilterFeeds}
 use Rattle.dsp_unit.specs.Filter.{FilterFinishes, FilterRestores, IsNewFilter, filter_made, filter_room, of_channel}
-use Rattle.dsp_unit.proofs.ChannelKept.{words-placed}
-use Rattle.dsp_defs.proofs.KeptLaws.{Each-append}
+use Rattle.dsp_defs.proofs.KeptLaws.{Each-append, in_words-place}
 use Rattle.dsp_lanes.specs.Turns.{lane_turns}
 use Rattle.dsp_filter.specs.Making.{AreTaps}
 use Rattle.dsp_filter.proofs.LastPlace.{each-last, kinds-of, of-kinds, same-number}
@@ -29,7 +28,6 @@ use Rattle.dsp_conv.specs.ConvState.{new_conv}
 use Rattle.dsp_conv.specs.ByChannel.{IsConvIn, taps_of}
 use Rattle.dsp_conv.proofs.ExtentLemmas.{kinds-are, kept-are, most-same, live-cost, cost-so-far, place-itself}
 use Rattle.dsp_conv.proofs.ExtentLemmas.{placed-within, no-place}
-use Rattle.dsp_conv.proofs.ConvLemmas.{empty}
 use Rattle.dsp_conv.proofs.Stretches.{turns-within}
 use Rattle.dsp_conv.proofs.CallLemmas.{new-stands}
 use Rattle.dsp_conv.proofs.Inside.{IsConvolution}
@@ -109,7 +107,7 @@ module _ (format : Fmt) where
   place-each c n is at =
       subst (λ ks. Each IsPlace ks (kept c)) (sym (kinds-are c.extent format c.taps n))
       (Each-append IsPlace (in_words (word format) (length c.taps - 1)) (Fixed (place_in c.extent n) ∷ []) c.past
-      (pos c.place ∷ []) (words-placed (word format) _ c.past is.long) (ap pos at, tt))
+      (pos c.place ∷ []) (in_words-place (word format) _ c.past is.long) (ap pos at, tt))
 
   counted : (c : ConvState) (n : ℕ) → FilterCounts (conv_channel format c) n → CountsFor c n
   counted c n counts = record {
@@ -251,7 +249,7 @@ module _ (format : Fmt) where
       tail = tail;
       count = (let most = most-same old.extent old.taps old.block in is_given ∙ is_count ∙
           ap (λ k. min (length old.tail) k) (sym most));
-      spent = λ none. empty old.tail (let no : length given ≡ 0 = ap length none in
+      spent = λ none. nil_from_length old.tail (let no : length given ≡ 0 = ap length none in
           omega (arith, no, is_given, is_count, is.some));
       took = λ n took. record {
         place = place-each new n is-new (place ∙ placed old.extent old.taps old.past old.place n took.place ∙

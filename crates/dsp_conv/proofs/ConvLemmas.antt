@@ -3,7 +3,6 @@ use Rattle.std.proofs.Common.{◌≡◌, ◌∙◌, ap, ap₂, sym, refl, ℕ, z
 use Rattle.std.proofs.Common.{[], ◌∷◌, ◌++◌, length, map, take, drop, replicate, reverse, arith, take_all}
 use Rattle.std.proofs.Common.{length-append, ⊎_elim}
 use Rattle.std.proofs.lemmas.Bool.{cases_lt}
-use mathlib.Core.List.{reverse_aux}
 use Rattle.std.proofs.lemmas.List.{get_or-drop, get_or-take, get_or-reverse, get_or_past, get_or-replicate}
 use Rattle.std.proofs.lemmas.List.{get_or_append_left, get_or-append_right, length-reverse, length-replicate}
 use Rattle.std.proofs.lemmas.List.{append-nil}
@@ -27,7 +26,7 @@ use Rattle.dsp_conv.proofs.ExtentLemmas.{whole-frames}
 -- ---- samples
 
 -- a sample past the end
-pub sample-zeros : (xs : List ℤ) (count i : ℕ) → sample (xs ++ replicate count (pos 0)) i ≡ sample xs i
+sample-zeros : (xs : List ℤ) (count i : ℕ) → sample (xs ++ replicate count (pos 0)) i ≡ sample xs i
 sample-zeros xs count i =
     ⊎_elim
     (λ (inside : i < length xs). get_or_append_left xs (replicate count (pos 0)) (pos 0) i inside)
@@ -43,21 +42,9 @@ sample-zeros xs count i =
         (omega (arith, length-replicate count (pos 0))))
         (cases_lt i count)
 
--- numbers in the other order
-pub map-reverse : {X : Type 0} → (f : X → ℤ) (xs : List X) → map f (reverse xs) ≡ reverse (map f xs)
-map-reverse {X} f xs = onto xs []
-  where
-    onto : (xs ys : List X) → map f (reverse_aux xs ys) ≡ reverse_aux (map f xs) (map f ys)
-    onto [] ys = refl
-    onto (x ∷ xs) ys = onto xs (x ∷ ys)
-
 pub map-replicate : {X : Type 0} → (f : X → ℤ) (x : X) (n : ℕ) → map f (replicate n x) ≡ replicate n (f x)
 map-replicate f x zero = refl
 map-replicate f x (suc n) = ap (λ l. f x ∷ l) (map-replicate f x n)
-
-pub empty : {X : Type 0} (xs : List X) → length xs ≡ 0 → xs ≡ []
-empty [] none = refl
-empty (x ∷ xs) none = absurd (omega (arith, none))
 
 -- ---- rows
 
@@ -82,7 +69,7 @@ rows-take format taps window m n room =
 
 module _ (format : Fmt) (taps past : List ℤ) where
   -- zeros behind the past change nothing
-  pub rows-zeros : (count n : ℕ) → rows format taps (past ++ replicate count (pos 0)) n ≡ rows format taps past n
+  rows-zeros : (count n : ℕ) → rows format taps (past ++ replicate count (pos 0)) n ≡ rows format taps past n
   rows-zeros count n = rows_cong format taps (past ++ replicate count (pos 0)) past n
       (λ i j _ _. sample-zeros past count (i + j))
 
@@ -95,7 +82,7 @@ module _ (format : Fmt) (taps past : List ℤ) where
       sym (get_or-drop skip (past ++ replicate skip (pos 0)) (i + j) (pos 0)))
 
   -- the first values of a tail come of zeros that are pushed, and the others of the window behind them
-  pub tail-piece : (count left : ℕ) → rows format taps past (count + left) ≡ rows format taps
+  tail-piece : (count left : ℕ) → rows format taps past (count + left) ≡ rows format taps
       (past ++ replicate count (pos 0)) count ++ rows format taps (drop count (past ++ replicate count (pos 0))) left
   tail-piece count left =
       let window = past ++ replicate count (pos 0) in
@@ -183,7 +170,7 @@ from-zero : (format : Fmt) (b x : List ℤ) (n : ℕ) → values n (λ i. close 
 from-zero format b x n = values_cong n _ _ (λ i _. let place : i ≡ 0 + i = omega arith in
     ap (λ k. close format (convolution_at b x k)) place)
 
-pub live-wanted : (format : Fmt) (e : Extent) (b x : List ℤ) → 0 < length b →
+live-wanted : (format : Fmt) (e : Extent) (b x : List ℤ) → 0 < length b →
     of_channel format (block_of e b) x ≡ wanted format e b x (live_end e (length x) - first_of e)
 live-wanted format Full b x some =
     let same : length x ≡ length x - 0 = omega arith in
@@ -195,7 +182,7 @@ live-wanted format (Within first count) b x some =
     shorter (length x) first count (full_length (length x) (length b))
     (λ i. close format (convolution_at b x (first + i))) (omega (arith, full-is (length x) (length b) some))
 
-pub whole-wanted : (format : Fmt) (e : Extent) (b x : List ℤ) →
+whole-wanted : (format : Fmt) (e : Extent) (b x : List ℤ) →
     of_whole_channel format (block_of e b) x ≡ wanted format e b x (whole_end e (length x) (length b) - first_of e)
 whole-wanted format Full b x =
     let full = full_length (length x) (length b) in

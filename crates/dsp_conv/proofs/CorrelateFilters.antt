@@ -1,7 +1,7 @@
 -- A correlation as the filter of a channel.
 use Rattle.std.proofs.Common.{Bool, map, ◌≡◌, ◌∙◌, ap, refl, sym, subst, ℕ, ◌+◌, ◌-◌, ◌*◌, ◌≤◌, min, ℤ, List, []}
 use Rattle.std.proofs.Common.{◌++◌, length, drop, true, false, arith, length-append}
-use Rattle.std.proofs.lemmas.List.{length-map}
+use Rattle.std.proofs.lemmas.List.{length-map, nil_from_length}
 use Rattle.dsp_defs.specs.declared.format.Fmt.{Fmt}
 use Rattle.dsp_defs.specs.Formats.{word}
 use Rattle.dsp_defs.specs.Counts.{Counts}
@@ -14,16 +14,16 @@ use Rattle.dsp_defs.specs.declared.script.Block.TheVariants as Blocks
 use Rattle.dsp_defs.specs.Kept.{Each, IsPlace, IsOfKind, FitsChannel, in_words}
 use Rattle.dsp_unit.specs.Filter.{FilterStandsFor, FilterCounts, FilterTook, FilterFeeds, FilterFinishes}
 use Rattle.dsp_unit.specs.Filter.{FilterRestores, IsNewFilter, filter_made}
-use Rattle.dsp_unit.proofs.ChannelKept.{words-placed, length-words}
+use Rattle.dsp_unit.proofs.ChannelKept.{length-words}
 use Rattle.dsp_filter.specs.Making.{AreTaps}
 use Rattle.dsp_conv.specs.ByChannel.{IsCorrelateIn, taps_of}
 use Rattle.dsp_conv.specs.CorrelateState.{CorrelateState, IsGathered, correlate_channel, new_correlate, tail_of}
 use Rattle.dsp_conv.specs.CorrelateState.{made_of}
-use Rattle.dsp_conv.proofs.ConvLemmas.{empty}
 use Rattle.dsp_conv.proofs.Correlations.{length-dropped}
+use Rattle.dsp_defs.proofs.KeptLaws.{in_words-place}
 
 -- no correlation holds more samples than it can, gave more values than there are, or any before the end
-abbrev pub IsCorrelation : CorrelateState → Type 0
+abbrev IsCorrelation : CorrelateState → Type 0
 IsCorrelation c = IsGathered (length c.taps) (length c.samples) c.given c.block c.ended
 
 pub is-correlation :
@@ -63,7 +63,7 @@ module _ (format : Fmt) where
       FilterCounts (correlate_channel format c) n
   counts-for c n running none is = record {
     running = running;
-    place = words-placed (word format) n c.samples is;
+    place = in_words-place (word format) n c.samples is;
     tail_values =
         let long = tail-long format c (omega (arith, none)) in
         let whole : correlation_length (length c.samples) (length c.taps) ≡ correlation_length n (length c.taps) =
@@ -171,10 +171,10 @@ module _ (format : Fmt) where
         ended = ap (λ (c : CorrelateState). c.ended) same;
         tail = tail;
         count = long ∙ count;
-        spent = λ none. empty (tail_of format old) (let zero : length given ≡ 0 = ap length none in
+        spent = λ none. nil_from_length (tail_of format old) (let zero : length given ≡ 0 = ap length none in
             omega (arith, zero, long, count, is.room));
         took = λ n took. record {
-          place = words-placed (word format) n new.samples (ap length samples_same ∙ took-samples old n took);
+          place = in_words-place (word format) n new.samples (ap length samples_same ∙ took-samples old n took);
           tail_within =
               let split = ap length tail ∙ length-append given (tail_of format new) in
               let bound : length (tail_of format old) ≤ correlation_length n (length old.taps) = took.tail_within in

@@ -17,9 +17,9 @@ pub record IsConvolution (c : ConvState) : Type 0 where
 -- and its lists are as long as that
 pub record IsInside (c : ConvState) (reversed zeros held past : ℕ) : Type 0 where
   pub is : IsConvolution c
-  pub reversed_long : reversed ≡ length c.taps
+  reversed_long : reversed ≡ length c.taps
   pub zeros_long : zeros ≡ length c.past
-  pub held_long : held ≡ length c.past
+  held_long : held ≡ length c.past
   pub past_long : past ≡ length c.past
 
 pub inside :

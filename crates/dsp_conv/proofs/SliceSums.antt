@@ -10,7 +10,7 @@ use Rattle.std.proofs.lemmas.List.{drop-map, take_more_set, map-append}
 use Rattle.std.proofs.lemmas.List.FromFn.{map-range_with_len_more}
 use Rattle.dsp_defs.specs.Signal.{sample, delayed, values, sum_below}
 use Rattle.dsp_defs.specs.Sums.{convolution_at}
-use Rattle.dsp_defs.proofs.Signal.{sum_below_cong, delayed_before, delayed_after}
+use Rattle.dsp_defs.proofs.Signal.{sum_below_cong, delayed_before, delayed_after, sum_below-add}
 use Rattle.dsp_defs.specs.Cost.{correlation_products}
 use Rattle.dsp_conv.specs.Sums.{correlation_at, correlation_terms}
 
@@ -21,13 +21,6 @@ sum-zero zero f none = refl
 sum-zero (suc n) f none = ap₂ (λ s t. s +ℤ t) (sum-zero n f (λ k below. none k (omega (arith, below))))
     (none n (omega arith))
 
-sum-add : (m n : ℕ) (f : ℕ → ℤ) → sum_below (m + n) f ≡ sum_below m f +ℤ sum_below n (λ j. f (m + j))
-sum-add m zero f = (let same : m + 0 ≡ m = omega arith in ap (λ k. sum_below k f) same ∙ sym (+ℤ_idr (sum_below m f)))
-sum-add m (suc n) f =
-    let step : m + suc n ≡ suc (m + n) = omega arith in
-    ap (λ k. sum_below k f) step ∙ ap (λ s. s +ℤ f (m + n)) (sum-add m n f) ∙
-    +ℤ_assoc (sum_below m f) (sum_below n (λ j. f (m + j))) (f (m + n))
-
 -- terms that are 0 at both ends may be left out
 pub part-sum : (total start size : ℕ) (f : ℕ → ℤ) → start + size ≤ total → ((k : ℕ) → k < start → f k ≡ pos 0) →
     ((k : ℕ) → start + size ≤ k → k < total → f k ≡ pos 0) →
@@ -36,9 +29,9 @@ part-sum total start size f within front back =
     let rest = total - (start + size) in
     let whole : total ≡ start + (size + rest) = omega (arith, within) in
     ap (λ k. sum_below k f) whole
-    ∙ sum-add start (size + rest) f
+    ∙ sum_below-add start (size + rest) f
     ∙ ap₂ (λ s t. s +ℤ t) (sum-zero start f front)
-    (sum-add size rest (λ j. f (start + j))
+    (sum_below-add size rest (λ j. f (start + j))
     ∙ ap (λ s. sum_below size (λ j. f (start + j)) +ℤ s)
     (sum-zero rest (λ j. f (start + (size + j))) (λ j below. back (start + (size + j)) (omega arith)
     (omega (arith, below, within))))

@@ -117,7 +117,7 @@ channels_said : (fields : List ℕ) (coding : Coding) (channels : ℕ) → big_u
     })
 channels_said fields coding channels is some few = grind (arith, common_steps, is, some, few)
 
-au_is_whole : (total : ℕ) (header : OpenHeader) → header.start ≤ total → au_whole total (Ok header) ≡ Ok header
+pub au_is_whole : (total : ℕ) (header : OpenHeader) → header.start ≤ total → au_whole total (Ok header) ≡ Ok header
 au_is_whole total header within = grind (arith, common_steps, within)
 
 module _ (channels rate : ℕ) (frames : Option ℕ) (rest : List ℕ) (some : 1 ≤ channels) (few : channels ≤ 16)

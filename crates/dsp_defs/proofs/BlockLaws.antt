@@ -48,7 +48,7 @@ pub values_by_length : {A B : Type 0} (count : ℕ → ℕ) (f : List A → ℕ 
 values_by_length count f x x' e = length-values (count (length x)) (f x) ∙ ap count e ∙
     sym (length-values (count (length x')) (f x'))
 
-pub values_causal : {A B : Type 0} (count : ℕ → ℕ) (f : List A → ℕ → B) → ((n k : ℕ) → count n ≤ count (n + k)) →
+values_causal : {A B : Type 0} (count : ℕ → ℕ) (f : List A → ℕ → B) → ((n k : ℕ) → count n ≤ count (n + k)) →
     ((x more : List A) (i : ℕ) → i < count (length x) → f (x ++ more) i ≡ f x i) →
     IsCausal (λ x. values (count (length x)) (f x))
 values_causal count f grows same x more =
@@ -120,12 +120,12 @@ length-outputs next x = length-reverse (outputs_of_history next (reverse x)) ∙
 -- a section after another, each of which keeps the length
 module _ {A C : Type 0} (section : List A → C → List A) (section_causal : (c : C) → IsCausal (λ x. section x c))
     (section_length_same : (c : C) (x : List A) → length (section x c) ≡ length x) where
-  pub cascade_causal : (cs : List C) → IsCausal (λ x. fold section x cs)
+  cascade_causal : (cs : List C) → IsCausal (λ x. fold section x cs)
   cascade_causal [] x more = (more, refl)
   cascade_causal (c ∷ cs) x more = causal_chain (λ w. section w c) (λ w. fold section w cs) (section_causal c)
       (cascade_causal cs) x more
 
-  pub cascade_length : (cs : List C) (x : List A) → length (fold section x cs) ≡ length x
+  cascade_length : (cs : List C) (x : List A) → length (fold section x cs) ≡ length x
   cascade_length [] x = refl
   cascade_length (c ∷ cs) x = cascade_length cs (section x c) ∙ section_length_same c x
 

@@ -11,13 +11,13 @@ use Rattle.dsp_defs.specs.Bytes.{AreBytes, IsValue, width, bytes_of, sample_of}
 use Rattle.dsp_defs.specs.declared.format.Coding.{Coding}
 use Rattle.dsp_defs.specs.declared.format.Coding.TheVariants.{Raw7, Raw15, Raw31, Wave7, Wave15, Wave24, Wave31}
 
-byte_fits : (z : ℤ) → SFits w8 z → of_z w8 z < 256
+pub byte_fits : (z : ℤ) → SFits w8 z → of_z w8 z < 256
 byte_fits z h = omega (arith, ints)
 
-half_fits : (z : ℤ) → SFits w16 z → of_z w16 z < 2 ^ 16
+pub half_fits : (z : ℤ) → SFits w16 z → of_z w16 z < 2 ^ 16
 half_fits z h = omega (arith, ints)
 
-word_fits : (z : ℤ) → SFits w32 z → of_z w32 z < 2 ^ 32
+pub word_fits : (z : ℤ) → SFits w32 z → of_z w32 z < 2 ^ 32
 word_fits z h = omega (arith, ints)
 
 -- ---- a value is read back
@@ -32,7 +32,7 @@ read_four : (x : ℤ) → SFits w32 x → to_z w32 (from_le_bytes w32 (to_le_byt
 read_four x h = ap (to_z w32) (from_le_bytes-to_le_bytes_4 (of_z w32 x) (word_fits x h)) ∙ to_z-of_z h
 
 -- the lowest byte of a multiple of 2^8 is 0
-lowest_byte : (x n : ℤ) → SFits w32 x → x ≡ n *ℤ pos (2 ^ 8) → of_z w32 x % 256 ≡ 0
+pub lowest_byte : (x n : ℤ) → SFits w32 x → x ≡ n *ℤ pos (2 ^ 8) → of_z w32 x % 256 ≡ 0
 lowest_byte x n h e = omega (arith, ints)
 
 lowest_dropped : (x n : ℤ) → SFits w32 x → x ≡ n *ℤ pos (2 ^ 8) →
@@ -54,7 +54,7 @@ sample_of-bytes_of Wave31 x h = read_four x h
 two_fit : (bs : List ℕ) → ((i : ℕ) → get_or bs i 0 < 256) → from_le_bytes w16 bs < 2 ^ 16
 two_fit bs h = omega (arith, h 0, h 1)
 
-four_fit : (bs : List ℕ) → ((i : ℕ) → get_or bs i 0 < 256) → from_le_bytes w32 bs < 2 ^ 32
+pub four_fit : (bs : List ℕ) → ((i : ℕ) → get_or bs i 0 < 256) → from_le_bytes w32 bs < 2 ^ 32
 four_fit bs h = omega (arith, h 0, h 1, h 2, h 3)
 
 raw_two : (bs : List ℕ) → length bs ≡ 2 → ((i : ℕ) → get_or bs i 0 < 256) →

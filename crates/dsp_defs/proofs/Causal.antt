@@ -1,11 +1,13 @@
 -- What a block gave of a signal stays when the signal goes on.
 use Rattle.std.proofs.Common.{◌≡◌, ℕ, zero, suc, ◌+◌, ◌-◌, ◌<◌, ◌≤◌, ℤ, pos, List, [], ◌∷◌, ◌++◌, map, length, refl}
-use Rattle.std.proofs.Common.{sym, ap, ap₂, ◌∙◌, arith, length-append}
-use Rattle.std.proofs.lemmas.List.{map-append, length-map, get_or_append_left, get_or-append-add}
+use Rattle.std.proofs.Common.{sym, ap, ◌∙◌, arith, length-append}
+use Rattle.std.proofs.lemmas.List.{map-append, length-map, get_or_append_left}
+use Rattle.std.proofs.lemmas.List.{reverse-append}
+use Rattle.std.proofs.Common.{reverse}
 use Rattle.std.specs.List.{range_with_len}
 use Rattle.dsp_defs.specs.Signal.{sample, values}
-use Rattle.dsp_defs.specs.Streaming.{Begins, Continues, IsCausal}
-use Rattle.dsp_defs.specs.Block.{Frame, channel, frames_of, each_channel}
+use Rattle.dsp_defs.specs.Streaming.{Begins, IsCausal}
+use Rattle.dsp_defs.specs.Block.{Frame, channel, each_channel}
 use Rattle.dsp_defs.proofs.Signal.{values_cong, values-add}
 
 -- the length of what f gives comes from the length of what it takes
@@ -26,12 +28,12 @@ map_causal f x more = (map f more, map-append f x more)
 
 -- ---- channels
 
-map-values : {A B : Type 0} (h : A → B) (a n : ℕ) (f : ℕ → A) →
+pub map-values : {A B : Type 0} (h : A → B) (a n : ℕ) (f : ℕ → A) →
     map h (map f (range_with_len a n)) ≡ map (λ i. h (f i)) (range_with_len a n)
 map-values h a zero f = refl
 map-values h a (suc n) f = ap (λ r. h (f a) ∷ r) (map-values h (a + 1) n f)
 
-channel-append : (c : ℕ) (x more : List Frame) → channel c (x ++ more) ≡ channel c x ++ channel c more
+pub channel-append : (c : ℕ) (x more : List Frame) → channel c (x ++ more) ≡ channel c x ++ channel c more
 channel-append c x more = map-append (λ (f : Frame). sample f c) x more
 
 -- Blocks f and g that work on each channel: what g gives of more frames begins with what f gives, if this is so for
@@ -68,47 +70,9 @@ module _ (f g : List ℤ → List ℤ) (f_length : GivesByLength f)
       (λ c _. channel_at c n x more h)
       ∙ sym (map-values (λ s. sample s n) 0 (suc channels) (λ c. f (channel c x))))
 
--- What a filter on each channel gives of further frames: the frames of what it gives on each channel.
-module _ (f : List ℤ → List ℤ) (f_length : GivesByLength f) (x more : List Frame) (pieces : ℕ → List ℤ) where
-  same_length : (c : ℕ) → length (f (channel c x)) ≡ length (f (channel 0 x))
-  same_length c = f_length (channel c x) (channel 0 x)
-      (length-map x (λ (v : Frame). sample v c) ∙ sym (length-map x (λ (v : Frame). sample v 0)))
-
-  front_at : (c n : ℕ) → Continues f (channel c x) (channel c more) (pieces c) → n < length (f (channel 0 x)) →
-      sample (f (channel c (x ++ more))) n ≡ sample (f (channel c x)) n
-  front_at c n e h =
-      let inside : n < length (f (channel c x)) = rw (same_length c) h in
-      ap (λ s. sample (f s) n) (channel-append c x more) ∙ ap (λ (s : List ℤ). sample s n) e ∙
-      get_or_append_left (f (channel c x)) (pieces c) (pos 0) n inside
-
-  piece_at : (c n : ℕ) → Continues f (channel c x) (channel c more) (pieces c) →
-      sample (f (channel c (x ++ more))) (length (f (channel 0 x)) + n) ≡ sample (pieces c) n
-  piece_at c n e =
-      ap (λ s. sample (f s) (length (f (channel 0 x)) + n)) (channel-append c x more)
-      ∙ ap (λ (s : List ℤ). sample s (length (f (channel 0 x)) + n)) e
-      ∙ ap (λ m. sample (f (channel c x) ++ pieces c) (m + n)) (sym (same_length c))
-      ∙ get_or-append-add (f (channel c x)) (pieces c) n (pos 0)
-
-  pub each_channel_continues : (channels : ℕ) → ((c : ℕ) → c < channels →
-      Continues f (channel c x) (channel c more) (pieces c)) →
-      Continues (each_channel channels f) x more (frames_of (values channels pieces))
-  each_channel_continues zero each = refl
-  each_channel_continues (suc channels) each =
-      let whole : ℕ → Frame = λ n. map (λ s. sample s n) (values (suc channels) (λ c. f (channel c (x ++ more)))) in
-      let long : length (f (channel 0 (x ++ more))) ≡ length (f (channel 0 x)) + length (pieces 0) =
-      ap (λ s. length (f s)) (channel-append 0 x more) ∙ ap length (each 0 (omega arith)) ∙
-      length-append (f (channel 0 x)) (pieces 0) in
-      ap (λ m. values m whole) long
-      ∙ values-add (length (f (channel 0 x))) (length (pieces 0)) whole
-      ∙ ap₂ {C = List Frame} (λ a b. a ++ b)
-      (values_cong (length (f (channel 0 x))) whole (λ n. map (λ s. sample s n)
-      (values (suc channels) (λ c. f (channel c x))))
-      (λ n h. map-values (λ s. sample s n) 0 (suc channels) (λ c. f (channel c (x ++ more)))
-      ∙ values_cong (suc channels) _ _ (λ c inside. front_at c n (each c inside) h)
-      ∙ sym (map-values (λ s. sample s n) 0 (suc channels) (λ c. f (channel c x)))))
-      (values_cong (length (pieces 0)) (λ n. whole (length (f (channel 0 x)) + n))
-      (λ n. map (λ s. sample s n) (values (suc channels) pieces))
-      (λ n _. map-values (λ s. sample s (length (f (channel 0 x)) + n)) 0 (suc channels)
-      (λ c. f (channel c (x ++ more)))
-      ∙ values_cong (suc channels) _ _ (λ c inside. piece_at c n (each c inside))
-      ∙ sym (map-values (λ s. sample s n) 0 (suc channels) pieces)))
+-- the map of what is reversed
+pub map-reverse : {A B : Type 0} (f : A → B) (xs : List A) → map f (reverse xs) ≡ reverse (map f xs)
+map-reverse f [] = refl
+map-reverse f (a ∷ xs) =
+    ap (map f) (reverse-append (a ∷ []) xs) ∙ map-append f (reverse xs) (a ∷ []) ∙
+    ap (λ l. l ++ f a ∷ []) (map-reverse f xs) ∙ sym (reverse-append (f a ∷ []) (map f xs))

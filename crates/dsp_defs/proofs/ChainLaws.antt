@@ -27,7 +27,7 @@ use Rattle.dsp_defs.proofs.BlockLaws.{live_conv_partial_by_length}
 -- ---- blocks that work on each channel
 
 -- what is given of a channel is as long as the channel's length says, and stays when the channel goes on
-abbrev pub IsCausalChannel : Option (List ℤ → List ℤ) → Type 0
+abbrev IsCausalChannel : Option (List ℤ → List ℤ) → Type 0
 IsCausalChannel None = Unit {0}
 IsCausalChannel (Some f) = GivesByLength f × IsCausal f
 
@@ -38,7 +38,7 @@ group_causal : (taken given : ℕ) (result : List ℤ → ℕ → ℤ) → Gives
     IsCausal (each_group taken given result)
 group_causal taken given result = (values_by_length (λ n. n / taken * given) _, each_group_causal taken given result)
 
-pub live_channel_causal : (format : Fmt) (block : Block) → IsCausalChannel (live_channel format block)
+live_channel_causal : (format : Fmt) (block : Block) → IsCausalChannel (live_channel format block)
 live_channel_causal format (Conv taps) = (live_conv_by_length format taps, live_conv_causal format taps)
 live_channel_causal format (ConvPartial first count taps) =
     (live_conv_partial_by_length format first count taps, live_conv_partial_causal format first count taps)
@@ -100,14 +100,14 @@ by_frames_causal format block = map_causal (given_frame format block)
 
 -- ---- any block
 
-pub live_causal : (format : Fmt) (channels : ℕ) (block : Block) → IsCausal (live format channels block)
+live_causal : (format : Fmt) (channels : ℕ) (block : Block) → IsCausal (live format channels block)
 live_causal format channels block = by_channel (live_channel format block) (live_channel_causal format block)
   where
     by_channel : (f : Option (List ℤ → List ℤ)) → IsCausalChannel f → IsCausal (applied format channels block f)
     by_channel None h = by_frames_causal format block
     by_channel (Some f) h = each_channel_begins f f h.0 h.1 channels
 
-pub whole_begins : (format : Fmt) (channels : ℕ) (block : Block) (x more : List Frame) →
+whole_begins : (format : Fmt) (channels : ℕ) (block : Block) (x more : List Frame) →
     Begins (live format channels block x) (whole format channels block (x ++ more))
 whole_begins format channels (Conv taps) = each_channel_begins (live_conv format taps) (conv format taps)
     (live_conv_by_length format taps) (live_conv_begins format taps) channels

@@ -21,7 +21,7 @@ use Rattle.dsp_defs.proofs.BlockLaws.{length-values, length-outputs, length-biqu
 use Rattle.dsp_defs.proofs.BlockLaws.{length-lattice_fir, length-lattice_iir, length-live_conv}
 use Rattle.dsp_defs.proofs.BlockLaws.{length-live_conv_partial}
 
-pub length-each_channel : (channels : ℕ) (f : List ℤ → List ℤ) (count : ℕ → ℕ) →
+length-each_channel : (channels : ℕ) (f : List ℤ → List ℤ) (count : ℕ → ℕ) →
     ((x : List ℤ) → length (f x) ≡ count (length x)) → (x : List Frame) →
     length (each_channel (suc channels) f x) ≡ count (length x)
 length-each_channel channels f count f_length x =
@@ -70,7 +70,7 @@ live_channel_counted format (ConvPartial first count taps) = length-live_conv_pa
 live_channel_counted format (Correlate taps) = λ x. refl
 live_channel_counted format block = whole_channel_counted format block
 
-pub length-by_frames : (format : Fmt) (block : Block) (x : List Frame) → length (by_frames format block x) ≡ length x
+length-by_frames : (format : Fmt) (block : Block) (x : List Frame) → length (by_frames format block x) ≡ length x
 length-by_frames format (Lms p mu taps) x =
     length-map (lms format p mu taps (input_pairs x)) (λ (a : Adapted). a.output ∷ a.error ∷ [])
     ∙ length-outputs (lms_output format p mu _) (input_pairs x)

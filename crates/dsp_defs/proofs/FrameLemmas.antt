@@ -1,7 +1,6 @@
 -- Frames that stand one after another in a slice.
-use Rattle.std.proofs.Common.{◌≡◌, ◌∙◌, ap, refl, sym, ℕ, zero, suc, ◌+◌, ◌*◌, ◌/◌, ◌%◌, ◌<◌, ℤ, pos, List, [], ◌∷◌}
+use Rattle.std.proofs.Common.{◌≡◌, ◌∙◌, ap, sym, ℕ, ◌+◌, ◌*◌, ◌/◌, ◌%◌, ◌<◌, ℤ, pos, List, [], ◌∷◌}
 use Rattle.std.proofs.Common.{map, length, arith}
-use Rattle.std.specs.List.{range_with_len}
 use Rattle.std.proofs.lemmas.List.{length-map, get_or-map}
 use Rattle.std.proofs.lemmas.List.FromFn.{length-map-range_with_len, get_or-map-range_with_len}
 use Rattle.std.proofs.lemmas.Nat.{mul-add-lt}
@@ -9,17 +8,13 @@ use Rattle.dsp_defs.specs.Signal.{sample, values}
 use Rattle.dsp_defs.specs.Block.{Frame, one_sample}
 use Rattle.dsp_defs.specs.Block.{frames_in}
 use Rattle.dsp_defs.proofs.Signal.{values_cong}
+use Rattle.dsp_defs.proofs.Causal.{map-values}
 
 pub length-frames_in : (channels : ℕ) (samples : List ℤ) →
     length (frames_in channels samples) ≡ length samples / channels
 unfolding frames_in
 length-frames_in channels samples = length-map-range_with_len
     (λ n. values channels (λ c. sample samples (n * channels + c))) 0 (length samples / channels)
-
-pub map-values : {A B : Type 0} (h : A → B) (a n : ℕ) (f : ℕ → A) →
-    map h (map f (range_with_len a n)) ≡ map (λ i. h (f i)) (range_with_len a n)
-map-values h a zero f = refl
-map-values h a (suc n) f = ap (λ r. h (f a) ∷ r) (map-values h (a + 1) n f)
 
 -- a sample of a whole frame stands within the slice
 pub sample-within : (size channels n c : ℕ) → n < size / channels → c < channels → n * channels + c < size

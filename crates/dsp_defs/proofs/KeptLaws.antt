@@ -42,14 +42,14 @@ Each-append P (k ∷ ks) ls (x ∷ xs) ys h t = (h.0, Each-append P ks ls xs ys 
 Each-append P [] ls (x ∷ xs) ys h t = absurd h
 Each-append P (k ∷ ks) ls [] ys h t = absurd h
 
-pub Each-flat_map : (P : Kind → ℤ → Type 0) (kinds : List Kind) (f : ℕ → List ℤ) → ((c : ℕ) → Each P kinds (f c)) →
+Each-flat_map : (P : Kind → ℤ → Type 0) (kinds : List Kind) (f : ℕ → List ℤ) → ((c : ℕ) → Each P kinds (f c)) →
     (cs : List ℕ) → Each P (flat_map (λ (_ : ℕ). kinds) cs) (flat_map f cs)
 Each-flat_map P kinds f each [] = tt
 Each-flat_map P kinds f each (c ∷ cs) = Each-append P kinds (flat_map (λ (_ : ℕ). kinds) cs) (f c) (flat_map f cs)
     (each c) (Each-flat_map P kinds f each cs)
 
 -- numbers in words have no place but their count
-in_words-place : (width : Width) (n : ℕ) (xs : List ℤ) → length xs ≡ n → Each IsPlace (in_words width n) xs
+pub in_words-place : (width : Width) (n : ℕ) (xs : List ℤ) → length xs ≡ n → Each IsPlace (in_words width n) xs
 in_words-place width zero [] e = tt
 in_words-place width (suc n) (x ∷ xs) e = (tt, in_words-place width n xs (omega (arith, e)))
 in_words-place width zero (x ∷ xs) e = absurd (omega (arith, e))
@@ -65,11 +65,11 @@ placed width count n xs e = Each-append IsPlace (in_words width count) (Fixed n 
 
 -- ---- how many numbers are kept
 
-pub length-last_of : (count : ℕ) (x : List ℤ) → length (last_of count x) ≡ count
+length-last_of : (count : ℕ) (x : List ℤ) → length (last_of count x) ≡ count
 length-last_of count x = length-drop (length x) (replicate count (pos 0) ++ x) ∙
     omega (arith, length-append (replicate count (pos 0)) x, length-replicate count (pos 0))
 
-length-lattice_kept : (ks : List ℤ) (pairs : List (ℤ × ℤ)) → length (lattice_kept ks pairs) ≡ length ks
+pub length-lattice_kept : (ks : List ℤ) (pairs : List (ℤ × ℤ)) → length (lattice_kept ks pairs) ≡ length ks
 length-lattice_kept [] pairs = refl
 length-lattice_kept (k ∷ ks) pairs = ap suc (length-lattice_kept ks (lattice_stage pairs k))
 
@@ -207,7 +207,7 @@ kept_of_channel-place format Min [] _ = (refl, (refl, (refl, (refl, tt))))
 kept_of_channel-place format Min (a ∷ x) _ = (refl, (tt, (tt, (refl, tt))))
 kept_of_channel-place format block x _ = tt
 
-pub lms_kept-place : (format : Fmt) (p : ℕ) (mu : ℤ) (taps : List ℤ) (x : List (ℤ × ℤ)) (n : ℕ) →
+lms_kept-place : (format : Fmt) (p : ℕ) (mu : ℤ) (taps : List ℤ) (x : List (ℤ × ℤ)) (n : ℕ) →
     Each IsPlace (kinds_by format (Lms p mu taps) n) (lms_kept format p mu taps x)
 lms_kept-place format p mu taps x n =
     let inputs = last_of (length taps - 1) (map (λ (s : ℤ × ℤ). s.0) x) in

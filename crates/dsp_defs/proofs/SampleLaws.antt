@@ -31,7 +31,7 @@ sample_behind i n channels c w = grind arith
 rest_below : (n size k : ℕ) → 0 < k → n ≡ size / k → (n * k ≤ size) × (size - n * k < k)
 rest_below n size k some is = grind arith
 
-small_quotient : (size k : ℕ) → size < k → size / k ≡ 0
+pub small_quotient : (size k : ℕ) → size < k → size / k ≡ 0
 small_quotient size k h = grind arith
 
 module _ (read : List ℕ → ℤ) (w channels : ℕ) where
@@ -137,7 +137,7 @@ samples-whole coding channels n bytes some is = samples_by-whole (sample_of codi
 
 -- ---- samples of a slice
 
-frame_bytes : (n channels w : ℕ) → n * channels * w ≡ n * (channels * w)
+pub frame_bytes : (n channels w : ℕ) → n * channels * w ≡ n * (channels * w)
 frame_bytes n channels w = omega arith
 
 -- samples that were read one after another are the signal, frame by frame

@@ -115,3 +115,11 @@ reverse-values n f g same =
     ∙ get_or-map-range_with_len f 0 n (length (values n f) - 1 - k) (n - suc k) d mirrored (omega arith)
     ∙ sym (same k below)
     ∙ sym (get_or-map-range_with_len g 0 n k k d below (omega arith)))
+
+-- a sum of two parts
+pub sum_below-add : (m n : ℕ) (f : ℕ → ℤ) → sum_below (m + n) f ≡ sum_below m f +ℤ sum_below n (λ k. f (m + k))
+sum_below-add m zero f = ap (λ k. sum_below k f) (add-zero m) ∙ sym (+ℤ_idr (sum_below m f))
+sum_below-add m (suc n) f =
+    let step : m + suc n ≡ suc (m + n) = omega arith in
+    ap (λ k. sum_below k f) step ∙ ap (λ s. s +ℤ f (m + n)) (sum_below-add m n f) ∙
+    +ℤ_assoc (sum_below m f) (sum_below n (λ k. f (m + k))) (f (m + n))

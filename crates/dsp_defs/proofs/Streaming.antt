@@ -120,7 +120,7 @@ last_of-append count x more =
 -- ---- recurrences
 
 -- the outputs of a recurrence for further inputs, after a history of inputs and one of outputs, the newest first
-abbrev pub outputs_after : {A B : Type 0} → (List A → List B → B) → List A → List B → List A → List B
+abbrev outputs_after : {A B : Type 0} → (List A → List B → B) → List A → List B → List A → List B
 outputs_after next past earlier [] = []
 outputs_after next past earlier (x ∷ more) =
     let y = next (x ∷ past) earlier in

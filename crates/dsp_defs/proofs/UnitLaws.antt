@@ -31,7 +31,7 @@ dvd-times_euclid d m (suc steps) a zero h k = h
 dvd-times_euclid d m (suc steps) a (suc b) h k = dvd-times_euclid d m steps (suc b) (a % suc b) k
     (dvd-times_mod d m a (suc b) h k)
 
-gcd_positive : (f g : ℕ) → 0 < g → 0 < gcd f g
+pub gcd_positive : (f g : ℕ) → 0 < g → 0 < gcd f g
 gcd_positive f g h = by_value (gcd f g) (gcd-IsGcd f g)
   where
     by_value : (d : ℕ) → IsGcd f g d → 0 < d

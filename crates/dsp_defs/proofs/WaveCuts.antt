@@ -245,7 +245,7 @@ words_are_right true w said header e = no_header _ header e
 words_are_right false true said header e = no_header _ header e
 words_are_right false false said header e = (refl, refl, e)
 
-short_is_other : (xs ys : List ℕ) → length xs < length ys → bytes_eq xs ys ≡ false
+pub short_is_other : (xs ys : List ℕ) → length xs < length ys → bytes_eq xs ys ≡ false
 short_is_other xs [] h = absurd (omega (arith, h))
 short_is_other [] (y ∷ ys) h = refl
 short_is_other (x ∷ xs) (y ∷ ys) h = let e : bytes_eq xs ys ≡ false = short_is_other xs ys (omega (arith, h)) in

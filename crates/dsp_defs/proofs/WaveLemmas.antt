@@ -22,7 +22,7 @@ use Rattle.dsp_defs.specs.declared.wave.HeaderFault.TheVariants.{NotRiff, NotWav
 
 -- ---- chunk after chunk
 
-pub chunks_behind-skip : (skipped offset : ℕ) (bytes : List ℕ) →
+chunks_behind-skip : (skipped offset : ℕ) (bytes : List ℕ) →
     chunks_behind skipped offset bytes ≡ chunks_behind 0 (offset + skipped) (drop skipped bytes)
 chunks_behind-skip zero offset bytes = let e : offset ≡ offset + 0 = omega arith in ap (λ o. chunks_behind 0 o bytes) e
 chunks_behind-skip (suc skipped) offset [] = refl

@@ -1,8 +1,8 @@
 -- Sun AU files, and the file in the other form that has the signal of a WAVE or an AU file. All numbers of an AU file
 -- are
 -- big-endian. A coding stands for its number of bits: `Wave7`, `Wave15`, `Wave24` and `Wave31` for 8, 16, 24 and 32.
-use Rattle.std.specs.Prelude.{◌≡◌, ℕ, ◌+◌, ◌*◌, ◌/◌, ◌-◌, ◌^◌, ◌<◌, ◌≤◌, ℤ, not, ◌&&◌, nat_eq, nat_le, nat_lt}
-use Rattle.std.specs.Prelude.{if◌then◌else◌, List, [], ◌∷◌, ◌++◌, length, take, drop, get_or, codes, Option, Some}
+use Rattle.std.specs.Prelude.{◌≡◌, ℕ, ◌+◌, ◌*◌, ◌/◌, ◌-◌, ◌^◌, ◌<◌, ◌≤◌, ℤ, not, ◌&&◌, nat_eq, nat_le, nat_lt, if◌then◌else◌}
+use Rattle.std.specs.Prelude.{List, [], ◌∷◌, ◌++◌, length, take, drop, get_or, codes, Option, Some}
 use Rattle.std.specs.Prelude.{None, IfSome, Result, Ok, Err}
 use Rattle.std.specs.Int.{to_be_bytes, from_be_bytes, cast_unsigned, cast_signed}
 use Rattle.std.specs.Option.{option_map}
@@ -82,10 +82,6 @@ au_header_of bytes =
     if not (bytes_eq (take 4 bytes) (codes ".snd")) then Err (NotAu, 0) else
     (if nat_lt (length bytes) au_fields then Err (Ended, length bytes) else
     au_whole (length bytes) (au_said (take au_fields bytes)))
-
--- the bytes have this good header
-abbrev pub AuHeads : List ℕ → OpenHeader → Type 0
-AuHeads bytes header = au_header_of bytes ≡ Ok header
 
 -- the number that stands for samples of a coding: 2, 3, 4 and 5 for 8, 16, 24 and 32 bits
 abbrev pub encoding_of : Coding → ℕ

@@ -33,7 +33,7 @@ sum-fits a b left right = fits_signed_from_abs w128 (a +ℤ b) (omega (arith, ab
 pub exact-add : (a b : ℤ) → nat_abs a ≤ 2 ^ 125 → nat_abs b ≤ 2 ^ 125 → to_z w128 (of_z w128 (a +ℤ b)) ≡ a +ℤ b
 exact-add a b left right = to_z-of_z w128 (a +ℤ b) (sum-fits a b left right)
 
-pub difference-fits : (a b : ℤ) → nat_abs a ≤ 2 ^ 125 → nat_abs b ≤ 2 ^ 125 → SFits w128 (a -ℤ b)
+difference-fits : (a b : ℤ) → nat_abs a ≤ 2 ^ 125 → nat_abs b ≤ 2 ^ 125 → SFits w128 (a -ℤ b)
 difference-fits a b left right = fits_signed_from_abs w128 (a -ℤ b) (omega (arith, abs-sub a b))
 
 pub exact-sub : (a b : ℤ) → nat_abs a ≤ 2 ^ 125 → nat_abs b ≤ 2 ^ 125 → to_z w128 (of_z w128 (a -ℤ b)) ≡ a -ℤ b

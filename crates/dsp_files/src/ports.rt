@@ -195,7 +195,7 @@ struct Gathered {
 }
 
 /// A file that is opened and emptied, or made, at the first write or flush. A file that the run reads, by this name
-/// or by another, is not opened: the write fails and the file stays as it is. The first piece goes to the file at
+/// or by another, is not emptied: the write fails and the file stays as it is. The first piece goes to the file at
 /// once. What is accepted after it is gathered, and written where there is no more room, at a flush, and by `spill`.
 #[derive(Drop)]
 pub struct FileSink<'a, R: Files> {

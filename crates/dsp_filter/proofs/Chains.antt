@@ -14,7 +14,7 @@ module _ {X : Type 0} (olds news : List X) (at : ℕ) (rest : drop at news ≡ d
   there : (k : ℕ) (d : X) → get_or news (at + k) d ≡ get_or olds (at + k) d
   there k d = sym (get_or-drop at news k d) ∙ ap (λ l. get_or l k d) rest ∙ get_or-drop at olds k d
 
-  pub here : (d : X) → get_or news at d ≡ get_or olds at d
+  here : (d : X) → get_or news at d ≡ get_or olds at d
   here d = let none : at + 0 ≡ at = omega arith in ap (λ k. get_or news k d) (sym none) ∙ there 0 d ∙
       ap (λ k. get_or olds k d) none
 
@@ -22,7 +22,7 @@ module _ {X : Type 0} (olds news : List X) (at : ℕ) (rest : drop at news ≡ d
   behind k = sym (drop-drop k at news) ∙ ap (drop k) rest ∙ drop-drop k at olds
 
   -- what was read of two places, of one, and what is written there
-  pub two-read : (x y : X) → x ≡ get_or news at x → y ≡ get_or news (at + 1) y → at + 1 < length olds →
+  two-read : (x y : X) → x ≡ get_or news at x → y ≡ get_or news (at + 1) y → at + 1 < length olds →
       take (at + 2) olds ≡ take at olds ++ x ∷ y ∷ []
   two-read x y first second inside =
       let two : at + 2 ≡ at + 1 + 1 = omega arith in
@@ -31,10 +31,10 @@ module _ {X : Type 0} (olds news : List X) (at : ℕ) (rest : drop at news ≡ d
       ∙ append_assoc (take at olds) (get_or olds at x ∷ []) (get_or olds (at + 1) y ∷ [])
       ∙ ap₂ (λ v w. take at olds ++ v ∷ w ∷ []) (sym (first ∙ here x)) (sym (second ∙ there 1 y))
 
-  pub one-read : (x : X) → x ≡ get_or news at x → at < length olds → take (at + 1) olds ≡ take at olds ++ x ∷ []
+  one-read : (x : X) → x ≡ get_or news at x → at < length olds → take (at + 1) olds ≡ take at olds ++ x ∷ []
   one-read x first inside = take_more olds at x inside ∙ ap (λ v. take at olds ++ v ∷ []) (sym (first ∙ here x))
 
-  pub two-written : (p q : X) → at + 1 < length news →
+  two-written : (p q : X) → at + 1 < length news →
       take (at + 2) (set (set news at p) (at + 1) q) ≡ take at news ++ p ∷ q ∷ []
   two-written p q inside =
       let long = length-set news at p in
@@ -50,7 +50,7 @@ module _ {X : Type 0} (olds news : List X) (at : ℕ) (rest : drop at news ≡ d
       behind 2
 
   -- what was read of a place that was not written yet
-  pub there-yet : (k : ℕ) (p q x : X) → x ≡ get_or news (at + 2 + k) x →
+  there-yet : (k : ℕ) (p q x : X) → x ≡ get_or news (at + 2 + k) x →
       x ≡ get_or (set (set news at p) (at + 1) q) (at + 2 + k) x
   there-yet k p q x read =
       let written = set (set news at p) (at + 1) q in
@@ -69,10 +69,10 @@ pub record HaveRun {X S : Type 0} (does : X → Behaviour) (keeps : X → List �
 
 module _ {X : Type 0} (acts : X → Behaviour) (kept : X → List ℤ)
     (size : (m : X) (x : List ℤ) → length (kept m) ≡ length ((acts m).keeps x)) where
-  abbrev pub all_act : List X → Behaviour
+  abbrev all_act : List X → Behaviour
   all_act ms = chained (map acts ms)
 
-  abbrev pub all_kept : List X → List ℤ
+  abbrev all_kept : List X → List ℤ
   all_kept ms = flat_map kept ms
 
   all-size : (ms : List X) (x : List ℤ) → length (all_kept ms) ≡ length ((all_act ms).keeps x)
@@ -83,12 +83,12 @@ module _ {X : Type 0} (acts : X → Behaviour) (kept : X → List ℤ)
   act-append ms ns = ap chained (map-append acts ms ns) ∙ chained-append (map acts ms) (map acts ns)
 
   -- a piece of a chain that still acts as before
-  pub acts-more : (front front' piece piece' : List X) → all_act front' ≡ all_act front →
+  acts-more : (front front' piece piece' : List X) → all_act front' ≡ all_act front →
       all_act piece' ≡ all_act piece → all_act (front' ++ piece') ≡ all_act (front ++ piece)
   acts-more front front' piece piece' e e' = act-append front' piece' ∙ ap₂ then e e' ∙ sym (act-append front piece)
 
   -- a piece that takes what the front gives
-  pub chain-more : (front front' piece piece' : List X) (xs ys zs : List ℤ) →
+  chain-more : (front front' piece piece' : List X) (xs ys zs : List ℤ) →
       GoesOn (all_act front).gives (all_act front).keeps (all_kept front) (all_kept front') xs ys →
       GoesOn (all_act piece).gives (all_act piece).keeps (all_kept piece) (all_kept piece') ys zs →
       GoesOn (all_act (front ++ piece)).gives (all_act (front ++ piece)).keeps (all_kept (front ++ piece))
@@ -102,7 +102,7 @@ module _ {X : Type 0} (acts : X → Behaviour) (kept : X → List ℤ)
       (all_kept front' ++ all_kept piece') xs zs) (sym (act-append front piece)) both)
 
   -- a piece of two, and of one
-  pub two-go : (p q p' q' : X) (xs ys : List ℤ) → GoesOn (then (acts p) (acts q)).gives (then (acts p) (acts q)).keeps
+  two-go : (p q p' q' : X) (xs ys : List ℤ) → GoesOn (then (acts p) (acts q)).gives (then (acts p) (acts q)).keeps
       (kept p ++ kept q) (kept p' ++ kept q') xs ys →
       GoesOn (all_act (p ∷ q ∷ [])).gives (all_act (p ∷ q ∷ [])).keeps (all_kept (p ∷ q ∷ []))
       (all_kept (p' ∷ q' ∷ [])) xs ys
@@ -111,17 +111,17 @@ module _ {X : Type 0} (acts : X → Behaviour) (kept : X → List ℤ)
       (subst (λ (b : Behaviour). GoesOn b.gives b.keeps (kept p ++ kept q) (kept p' ++ kept q') xs ys)
       (sym (chained-two (acts p) (acts q))) goes)
 
-  pub two-act : (p q p' q' : X) → then (acts p') (acts q') ≡ then (acts p) (acts q) →
+  two-act : (p q p' q' : X) → then (acts p') (acts q') ≡ then (acts p) (acts q) →
       all_act (p' ∷ q' ∷ []) ≡ all_act (p ∷ q ∷ [])
   two-act p q p' q' same = chained-two (acts p') (acts q') ∙ same ∙ sym (chained-two (acts p) (acts q))
 
-  pub one-goes : (p p' : X) (xs ys : List ℤ) → GoesOn (acts p).gives (acts p).keeps (kept p) (kept p') xs ys →
+  one-goes : (p p' : X) (xs ys : List ℤ) → GoesOn (acts p).gives (acts p).keeps (kept p) (kept p') xs ys →
       GoesOn (all_act (p ∷ [])).gives (all_act (p ∷ [])).keeps (all_kept (p ∷ [])) (all_kept (p' ∷ [])) xs ys
   one-goes p p' xs ys goes =
       rw (append-nil (kept p), append-nil (kept p'))
       (subst (λ (b : Behaviour). GoesOn b.gives b.keeps (kept p) (kept p') xs ys) (sym (chained-one (acts p))) goes)
 
-  pub one-acts : (p p' : X) → acts p' ≡ acts p → all_act (p' ∷ []) ≡ all_act (p ∷ [])
+  one-acts : (p p' : X) → acts p' ≡ acts p → all_act (p' ∷ []) ≡ all_act (p ∷ [])
   one-acts p p' same = chained-one (acts p') ∙ same ∙ sym (chained-one (acts p))
 
   -- ---- a loop over the machines of a chain, of which those before `at` have worked
@@ -170,7 +170,7 @@ module _ {X : Type 0} (acts : X → Behaviour) (kept : X → List ℤ)
     abbrev half : List X
     half = set (set news at p) (at + 1) q
 
-    abbrev pub four_written : List X
+    abbrev four_written : List X
     four_written = set (set (set (set news at p) (at + 1) q) (at + 2) r) (at + 3) t
 
     long : length half ≡ length news

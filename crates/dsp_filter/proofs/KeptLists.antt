@@ -61,7 +61,7 @@ module _ (format : Fmt) (capacity : ℕ) (filters : List FilterState) (are : Are
       subst (λ b. FitsChannel format b n xs) like.block (subst (λ f. FitsChannel f (filter_at filters c).block n xs)
       (like.format ∙ are.format_is) fits)
 
-  pub fits-by_channel : (n : ℕ) → length numbers % length filters ≡ 0 →
+  fits-by_channel : (n : ℕ) → length numbers % length filters ≡ 0 →
       ((c : ℕ) → c < length filters → FitsChannel (filter_at filters c).format (filter_at filters c).block n
       (numbers_in (length numbers / length filters) numbers c)) →
       FitsAfter format (length filters) (filter_at filters 0).block n numbers

@@ -3,6 +3,10 @@ use Rattle.std.proofs.Common.{◌≡◌, ◌∙◌, ap, refl, sym, subst, ℕ, �
 use Rattle.std.proofs.Common.{arith, length-append, length-take-le}
 use Rattle.std.specs.Prelude.{All, FitsSigned}
 use Rattle.std.proofs.lemmas.List.{length-replicate, length_push, take-append-drop, get_or_push}
+use Rattle.std.proofs.lemmas.Int.{ints}
+use Rattle.std.proofs.Common.{◌≤ℤ◌}
+use Rattle.std.proofs.Common.{negsuc}
+use Rattle.std.proofs.Common.{nat_abs}
 use Rattle.dsp_defs.specs.declared.format.Fmt.{Fmt}
 use Rattle.dsp_defs.specs.Formats.{word}
 use Rattle.dsp_defs.specs.Signal.{sample}
@@ -21,7 +25,7 @@ each-last P (k' ∷ k'' ∷ ks) k [] z h = absurd h.1
 each-last P (k' ∷ ks) k (x ∷ xs) z h = each-last P ks k xs z h.1
 
 -- and those before it are of those before it
-pub each-front : (P : Kind → ℤ → Type 0) (ks : List Kind) (k : Kind) (xs : List ℤ) (z : ℤ) →
+each-front : (P : Kind → ℤ → Type 0) (ks : List Kind) (k : Kind) (xs : List ℤ) (z : ℤ) →
     Each P (ks ++ k ∷ []) (xs ++ z ∷ []) → Each P ks xs
 each-front P [] k [] z h = tt
 each-front P [] k (x ∷ []) z h = absurd h.1
@@ -86,3 +90,8 @@ of-kinds format count n numbers h =
 -- equal whole numbers
 pub same-number : (a b : ℕ) → pos a ≡ pos b → a ≡ b
 same-number a b same = cc
+
+-- a number that is not negative, read as a natural number
+pub number-read : (read z : ℤ) → read ≡ z → pos 0 ≤ℤ z → pos (nat_abs read) ≡ z
+number-read read (pos k) is low = ap (λ t. pos (nat_abs t)) is
+number-read read (negsuc k) is low = absurd (omega (arith, ints, low))

@@ -13,7 +13,8 @@ use Rattle.dsp_defs.specs.Block.{Frame, one_sample, frames_in, given_frame, form
 use Rattle.dsp_defs.specs.Counts.{Counts}
 use Rattle.dsp_unit.specs.Unit.{UnitState, IsSignal, IsOutput, Feeds}
 use Rattle.dsp_defs.proofs.Signal.{values_cong}
-use Rattle.dsp_defs.proofs.FrameLemmas.{length-frames_in, frames_in-map, frames_in-pairs, map-values}
+use Rattle.dsp_defs.proofs.FrameLemmas.{length-frames_in, frames_in-map, frames_in-pairs}
+use Rattle.dsp_defs.proofs.Causal.{map-values}
 use Rattle.dsp_unit.specs.Memoryless.{IsMemoryless}
 use Rattle.dsp_unit.proofs.MemorylessLaws.{IsIdle, memoryless-feeds}
 use Rattle.dsp_defs.specs.declared.format.Fmt.{Fmt}

@@ -17,19 +17,19 @@ use Rattle.dsp_defs.proofs.Signal.{values_cong}
 use Rattle.dsp_unit.proofs.ChannelFrames.{length-samples_in}
 use Rattle.dsp_defs.specs.declared.format.Fmt.{Fmt}
 
-pub set-here : (filters : List FilterState) (k : ℕ) (y : FilterState) → k < length filters →
+set-here : (filters : List FilterState) (k : ℕ) (y : FilterState) → k < length filters →
     filter_at (set filters k y) k ≡ y
 set-here filters k y h = get_or-set_same filters k y no_filter h
 
-pub set-apart : (filters : List FilterState) (k c : ℕ) (y : FilterState) → c ≢ k →
+set-apart : (filters : List FilterState) (k c : ℕ) (y : FilterState) → c ≢ k →
     filter_at (set filters k y) c ≡ filter_at filters c
 set-apart filters k c y apart = get_or-set_other filters k c y no_filter apart
 
 -- the filters from `channel` on are as they were
-abbrev pub AreLeft : List FilterState → List FilterState → ℕ → Type 0
+abbrev AreLeft : List FilterState → List FilterState → ℕ → Type 0
 AreLeft olds news channel = (c : ℕ) → channel ≤ c → filter_at news c ≡ filter_at olds c
 
-pub left-more : (olds news : List FilterState) (channel : ℕ) (y : FilterState) → AreLeft olds news channel →
+left-more : (olds news : List FilterState) (channel : ℕ) (y : FilterState) → AreLeft olds news channel →
     AreLeft olds (set news channel y) (channel + 1)
 left-more olds news channel y left c h =
     let apart : c ≢ channel = omega arith in
@@ -56,10 +56,10 @@ pub record FedSoFar (olds news : List FilterState) (channel count : ℕ) (taken 
   pub each : (c : ℕ) → c < channel → (start stop : Counts) ×
       FilterFeeds (filter_at olds c) (filter_at news c) (samples_in (length olds) count taken c)
       (samples_in (length olds) many given c) start stop
-  pub multiplies : (n : ℕ) → All (λ f. FilterCounts f n) olds →
+  multiplies : (n : ℕ) → All (λ f. FilterCounts f n) olds →
       channel * live_block_cost (filter_at olds 0).format 1 (filter_at olds 0).block (n + count) + before.multiplies ≡
       channel * live_block_cost (filter_at olds 0).format 1 (filter_at olds 0).block n + now.multiplies
-  pub turns : (n : ℕ) → All (λ f. FilterCounts f n) olds →
+  turns : (n : ℕ) → All (λ f. FilterCounts f n) olds →
       now.turns ≤ before.turns + channel * block_turns (filter_at olds 0).format 1 (filter_at olds 0).block n
       (n + count)
 
@@ -69,9 +69,9 @@ pub record FinishedSoFar (olds news : List FilterState) (channel many : ℕ) (gi
   pub left : AreLeft olds news channel
   pub each : (c : ℕ) → c < channel → (start stop : Counts) ×
       FilterFinishes (filter_at olds c) (filter_at news c) (samples_in (length olds) many given c) start stop
-  pub multiplies : (n : ℕ) → All (λ f. FilterTook f n) olds →
+  multiplies : (n : ℕ) → All (λ f. FilterTook f n) olds →
       channel * made_now olds many n + before.multiplies ≡ channel * made_now olds 0 n + now.multiplies
-  pub turns : (n : ℕ) → All (λ f. FilterTook f n) olds →
+  turns : (n : ℕ) → All (λ f. FilterTook f n) olds →
       now.turns + channel * made_now olds 0 n ≤ before.turns + channel * made_now olds many n
 
 pub record RestoredSoFar (olds news : List FilterState) (channel size_of_each : ℕ) (numbers : List ℤ) : Type 0 where

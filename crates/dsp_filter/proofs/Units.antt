@@ -20,7 +20,7 @@ written-whole size new old e =
     take-append-le size new (drop (length new) old) fits ∙ take_all size new full
 
 -- a filter that was made in the same way gives as many values in a call
-pub room-kept : (old new : FilterState) → FilterMadeAs old new → filter_room new ≡ filter_room old
+room-kept : (old new : FilterState) → FilterMadeAs old new → filter_room new ≡ filter_room old
 room-kept old new made = (λ i. most_frames (made.block i) (made.capacity i))
 
 -- new filters of a block, one for each channel

@@ -2,7 +2,7 @@
 use Rattle.std.proofs.Common.{◌≡◌, ◌∙◌, ap, sym, subst, refl, ℕ, zero, suc, ◌+◌, ◌-◌, ◌*◌, ◌<◌, ◌≤◌, ℤ, pos, ◌+ℤ◌}
 use Rattle.std.proofs.Common.{List, [], ◌∷◌, ◌++◌, length, map, get_or, slice_range, None, Some, true, false, drop}
 use Rattle.std.proofs.Common.{length-take-le, length-drop, arith, ⊎_elim}
-use Rattle.std.specs.Prelude.{◌≤ℤ◌, negsuc, All, fold, max, find, nat_abs, nat_lt, cond, Option}
+use Rattle.std.specs.Prelude.{◌≤ℤ◌, All, fold, max, find, nat_abs, nat_lt, cond, Option}
 use Rattle.std.specs.Option.{option_map}
 use Rattle.std.specs.Simd.Lanes.{zip2}
 use Rattle.std.proofs.lemmas.Bool.{cases_lt}
@@ -44,21 +44,16 @@ below_greatest a [] k e h = absurd (omega (arith, h))
 below_greatest a (d ∷ delays) zero e h = omega (arith, grows (max a d) delays, le-max_right a d)
 below_greatest a (d ∷ delays) (suc k) e h = below_greatest (max a d) delays k e (omega (arith, h))
 
-pub delays-within : (delays : List ℕ) → All (λ d. d ≤ greatest_delay delays) delays
+delays-within : (delays : List ℕ) → All (λ d. d ≤ greatest_delay delays) delays
 delays-within delays k e h = below_greatest 0 delays k e h
 
 -- delays as a block names them
-pub delays-named : (delays : List ℕ) → map nat_abs (map pos delays) ≡ delays
+delays-named : (delays : List ℕ) → map nat_abs (map pos delays) ≡ delays
 delays-named [] = refl
 delays-named (d ∷ delays) = ap (λ l. d ∷ l) (delays-named delays)
 
 pub greatest-named : (delays : List ℕ) → greatest (map pos delays) ≡ greatest_delay delays
 greatest-named delays = ap greatest_delay (delays-named delays)
-
--- a number that is no less than 0, as a delay
-pub number-read : (read z : ℤ) → read ≡ z → pos 0 ≤ℤ z → pos (nat_abs read) ≡ z
-number-read read (pos k) is low = ap (λ t. pos (nat_abs t)) is
-number-read read (negsuc k) is low = absurd (omega (arith, ints, low))
 
 -- delays without a fault are as they may be
 pub delays-some : (delays : List ℕ) → All (λ d. pos 0 ≤ℤ d) (map pos delays)
@@ -172,7 +167,7 @@ tap-counted a b c k m n t p q next same same' first second =
 -- ---- the signal
 
 -- the rows of the window go on where the filter's values for x end
-pub sparse-values :
+sparse-values :
     (format : Fmt) (taps : List ℤ) (delays : List ℕ) (past : ℕ) (x block window out : List ℤ) (count : ℕ) →
     ((k : ℕ) → k < length taps → get_or delays k 0 ≤ past) →
     window ≡ last_of past x ++ block → count ≡ length block → out ≡ sparse_rows format taps delays past window count →

@@ -15,12 +15,13 @@ use Rattle.dsp_script.specs.Answers.{parameters}
 use Rattle.dsp_script.proofs.Names.{IsRun, place_again_output}
 use Rattle.dsp_script.proofs.Steps.{Strips, written_name}
 use Rattle.dsp_script.proofs.BlockLaws.{NextIs, AtBlock, next_block_takes}
+use Rattle.dsp_script.proofs.PlainLaws.{as_items}
 use Rattle.dsp_first_fault.proofs.Readers.{Reader, TakesAs, Completion, Room, even, Hope, Goes, accepted, next_does}
 use Rattle.dsp_first_fault.proofs.Readers.{next_outcome}
 use Rattle.dsp_first_fault.proofs.Sequences.{takes_none, done_outcome, other_hope, and_then, takes_both, then_behind}
 use Rattle.dsp_first_fault.proofs.Sequences.{then_full, then, then_done}
 use Rattle.dsp_first_fault.specs.Fault.{IsFull}
-use Rattle.dsp_first_fault.proofs.Items.{rest_at, no_tokens, as_items, tokens_as}
+use Rattle.dsp_first_fault.proofs.Items.{rest_at, no_tokens, tokens_as}
 use Rattle.dsp_first_fault.proofs.Endings.{is_named, run_ending}
 use Rattle.dsp_first_fault.proofs.Judges.{choice_steady, next_block_steady}
 use Rattle.dsp_first_fault.proofs.Accepted.{IsWord, word_accepted, output_accepted}

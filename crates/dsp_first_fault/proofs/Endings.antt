@@ -10,7 +10,7 @@ use Rattle.dsp_script.proofs.Names.{IsRun}
 use Rattle.dsp_first_fault.proofs.Items.{IsQuiet, parted, no_tokens}
 
 -- the bytes of a token
-abbrev pub token_bytes : Token → List ℕ
+abbrev token_bytes : Token → List ℕ
 token_bytes Open = 123 ∷ []
 token_bytes Close = 125 ∷ []
 token_bytes (Run run) = run

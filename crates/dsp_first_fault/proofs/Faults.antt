@@ -31,32 +31,32 @@ use Rattle.dsp_first_fault.proofs.Scripts.{script_reader, script_outcome, whole,
 use Rattle.dsp_first_fault.proofs.Offsets.{AreRising, rising, stands_behind, one_place}
 
 -- wherever these tokens stand, and this one behind them, the script has its first fault there
-abbrev pub EndsAt : List Token → Token → ScriptKind → Type 0
+abbrev EndsAt : List Token → Token → ScriptKind → Type 0
 EndsAt ts token kind = (others ys : List Item) (other : Item) (end : ℕ) → tokens others ≡ ts → other.token ≡ token →
     script_at (rest_at (others ++ other ∷ ys) end) ≡ fault {A = Script} other.offset kind
 
 -- tokens that end these, so that they are a script
 pub record Ended (ts : List Token) : Type 0 where
-  pub more : List Token
-  pub script : Script
-  pub ending : IsEnding (block_most + 11) more
-  pub reads : (others : List Item) (end : ℕ) → tokens others ≡ ts ++ more →
+  more : List Token
+  script : Script
+  ending : IsEnding (block_most + 11) more
+  reads : (others : List Item) (end : ℕ) → tokens others ≡ ts ++ more →
       script_at (rest_at others end) ≡ Ok script
 
 -- no script begins with these tokens
-abbrev pub NoScript : List Token → Type 0
+abbrev NoScript : List Token → Type 0
 NoScript ts = (others ys : List Item) (end : ℕ) (s : Script) → tokens others ≡ ts →
     script_at (rest_at (others ++ ys) end) ≡ Ok s → ⊥
 
 -- the tokens can be ended; or they are full, and nothing ends them
-abbrev pub EndsOrFull : List Token → Type 0
+abbrev EndsOrFull : List Token → Type 0
 EndsOrFull ts = Ended ts ⊎ (IsFull ts × NoScript ts)
 
 -- what is known of the item at which the first fault is
 pub record AtFault (front : List Item) (item : Item) (f : ScriptFault) : Type 0 where
-  pub ends : EndsAt (tokens front) item.token f.kind
-  pub bad : IsBadByte f.kind item.token
-  pub brace : f.kind ≡ Missing → EndsOrFull (tokens front ++ Open ∷ [])
+  ends : EndsAt (tokens front) item.token f.kind
+  bad : IsBadByte f.kind item.token
+  brace : f.kind ≡ Missing → EndsOrFull (tokens front ++ Open ∷ [])
 
 -- where a fault of these items stands
 pub data Stands (items : List Item) (end : ℕ) (f : ScriptFault) : Type 0 where

@@ -27,9 +27,10 @@ use Rattle.dsp_defs.specs.Reading.{block_at}
 use Rattle.dsp_script.specs.Answers.{parameters}
 use Rattle.dsp_script.proofs.Steps.{number_takes}
 use Rattle.dsp_script.proofs.ListLaws.{list_takes}
+use Rattle.dsp_script.proofs.PlainLaws.{as_items}
 use Rattle.dsp_first_fault.proofs.Readers.{TakesAs, Goes, even}
 use Rattle.dsp_first_fault.proofs.Sequences.{then, then_full, then_done, done_outcome}
-use Rattle.dsp_first_fault.proofs.Items.{rest_at, as_items, tokens_as}
+use Rattle.dsp_first_fault.proofs.Items.{rest_at, tokens_as}
 use Rattle.dsp_first_fault.proofs.Accepted.{IsNumeral, numeral_0, numeral_1, numeral_7, numeral_15, numeral_30}
 use Rattle.dsp_first_fault.proofs.Accepted.{numeral_31, numeral_127, numeral_32767, numeral_2147483647}
 use Rattle.dsp_first_fault.proofs.Lists.{ListFull, IsEasy, IsPossible, easy_list, list_outcome, list_room}

@@ -1,9 +1,10 @@
 -- Items by their tokens, and what may stand behind a reader.
-use Rattle.std.proofs.Common.{◌≡◌, ℕ, false, List, [], ◌∷◌, ◌++◌, map, Option, Some, None, refl, ap, inl, inr}
+use Rattle.std.proofs.Common.{◌≡◌, ℕ, false, List, [], ◌∷◌, ◌++◌, Option, Some, None, refl, ap, inl, inr}
 use Rattle.std.specs.Prelude.{◌⊎◌, codes}
 use Rattle.dsp_defs.specs.Token.{Token, Open, Item, Rest}
 use Rattle.dsp_defs.specs.Places.{begins_with}
 use Rattle.dsp_script.specs.Plain.{tokens}
+use Rattle.dsp_script.proofs.PlainLaws.{as_items}
 
 -- what is left, by its parts
 abbrev pub rest_at : List Item → ℕ → Rest
@@ -64,10 +65,6 @@ tokens_append (x ∷ xs) ys = ap (λ (ts : List Token). x.token ∷ ts) (tokens_
 pub no_tokens : (others : List Item) → tokens others ≡ [] → others ≡ []
 no_tokens [] same = refl
 no_tokens (o ∷ others) same = absurd cc
-
--- the tokens, as items of some text
-abbrev pub as_items : List Token → List Item
-as_items ts = map (λ token. record { offset = 0; token = token }) ts
 
 pub tokens_as : (ts : List Token) → tokens (as_items ts) ≡ ts
 tokens_as [] = refl

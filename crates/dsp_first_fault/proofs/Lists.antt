@@ -15,13 +15,15 @@ use Rattle.dsp_defs.specs.Places.{◌>>=◌, or_fault, next_number, Judge, next_
 use Rattle.dsp_defs.specs.Places.{entries_at, list_at, list_end, judged}
 use Rattle.dsp_defs.specs.Tables.{numbers_of}
 use Rattle.dsp_script.specs.Plain.{tokens}
-use Rattle.dsp_script.proofs.Steps.{IsToken, bind_ok, refused, between_again, next_takes}
+use Rattle.dsp_script.proofs.Steps.{bind_ok, refused, between_again, next_takes}
 use Rattle.dsp_first_fault.proofs.Readers.{takes_brace, TakesBrace, Reader, TakesAs, Outcome, Took, Faulty, Wants}
 use Rattle.dsp_first_fault.proofs.Readers.{Completion, Hope, NoneRead, Goes, even, takes_more, takes_one, faults_here}
 use Rattle.dsp_first_fault.proofs.Readers.{faults_more, bad_or_token, other_kind, next_bad, next_there, next_outcome}
 use Rattle.dsp_first_fault.proofs.Sequences.{done_outcome, other_hope, then_full}
 use Rattle.dsp_script.proofs.ListLaws.{entries_take}
-use Rattle.dsp_first_fault.proofs.Items.{rest_at, as_items, tokens_as}
+use Rattle.dsp_script.proofs.Tokens.{IsToken}
+use Rattle.dsp_script.proofs.PlainLaws.{as_items}
+use Rattle.dsp_first_fault.proofs.Items.{rest_at, tokens_as}
 use Rattle.dsp_first_fault.proofs.Endings.{IsEnding, ending_none, ending_more, ending_wider}
 use Rattle.dsp_first_fault.proofs.Judges.{opening_steady, entry_steady}
 use Rattle.dsp_first_fault.proofs.Accepted.{opening_accepted}
@@ -29,7 +31,7 @@ use Rattle.dsp_first_fault.proofs.Accepted.{opening_accepted}
 -- ---- the numbers of a list, up to its end
 
 -- the rest of a list that has so many numbers
-abbrev pub entries_reader : ListRule → ℕ → Reader (List ℤ)
+abbrev entries_reader : ListRule → ℕ → Reader (List ℤ)
 entries_reader rule count rest = entries_at rule count rest.end rest.items
 
 entries_fault : (rule : ListRule) (count end : ℕ) (item : Item) (items : List Item) (f : ScriptFault) →
@@ -117,7 +119,7 @@ zeros_take (suc k) rule count between complete fits =
     (zeros_take k rule (count + 1) between (rw same at complete) (omega arith))
 
 -- no more numbers make the list complete
-abbrev pub IsStuck : ListRule → ℕ → Type 0
+abbrev IsStuck : ListRule → ℕ → Type 0
 IsStuck rule count = (n : ℕ) → count ≤ n → n ≤ rule.limit → is_complete rule.count n ≡ false
 
 -- so many more make it complete
@@ -318,7 +320,7 @@ pub record IsPossible (rule : ListRule) : Type 0 where
   pub complete : is_complete rule.count count ≡ true
 
 -- what follows the first token of a list
-abbrev pub opened_reader : ListRule → Option (List ℤ) → Reader (List ℤ)
+abbrev opened_reader : ListRule → Option (List ℤ) → Reader (List ℤ)
 opened_reader rule opened rest = elim opened [
   | None ↦ entries_at rule 0 rest.end rest.items
   | Some numbers ↦ Ok (numbers, rest)

@@ -16,7 +16,9 @@ use Rattle.dsp_defs.specs.Parameters.{IsBetween}
 use Rattle.dsp_defs.specs.Places.{◌>>=◌, fault, or_fault, first_of, next_at, meaning_of, named, number, natural_at}
 use Rattle.dsp_defs.specs.Places.{begins_with, table_word, new_name, list_at, table_at, tables_at, environment_at}
 use Rattle.dsp_defs.specs.Places.{conversion}
-use Rattle.dsp_script.proofs.Steps.{IsToken, natural_takes, Strips, written_number}
+use Rattle.dsp_script.proofs.Steps.{natural_takes, Strips, written_number}
+use Rattle.dsp_script.proofs.Tokens.{IsToken}
+use Rattle.dsp_script.proofs.PlainLaws.{as_items}
 use Rattle.dsp_defs.specs.Grammar.{Numeral}
 use Rattle.dsp_first_fault.proofs.Readers.{Reader, TakesAs, Faulty, Goes, Room, even, next_outcome, faults_here}
 use Rattle.dsp_first_fault.proofs.Readers.{next_there, word_token, Took}
@@ -24,7 +26,7 @@ use Rattle.dsp_first_fault.proofs.Sequences.{and_then, then, then_done, done_out
 use Rattle.dsp_first_fault.proofs.Options.{WantsMore, word_wants, there, complete_none, optional, optional_outcome}
 use Rattle.dsp_first_fault.proofs.Options.{optional_room, word_there, skipped}
 use Rattle.dsp_first_fault.specs.Fault.{IsFull}
-use Rattle.dsp_first_fault.proofs.Items.{rest_at, as_items, tokens_as}
+use Rattle.dsp_first_fault.proofs.Items.{rest_at, tokens_as}
 use Rattle.dsp_first_fault.proofs.Judges.{number_steady, table_word_steady, new_name_steady, conversion_steady}
 use Rattle.dsp_first_fault.proofs.Accepted.{IsNumeral, number_accepted, name_accepted, conversion_accepted}
 use Rattle.dsp_first_fault.proofs.Lists.{IsEasy, easy_list, list_room, shorter}
@@ -110,7 +112,7 @@ no_more_tables : (token : Token) → is_some (meaning_of (named (codes "table"))
 no_more_tables token is = rw (some_word (meaning_of (named (codes "table")) token) is) refl
 
 -- the room that a table may want
-abbrev pub table_most : ℕ
+abbrev table_most : ℕ
 table_most = 2 * MAX_TAPS + 12
 
 table_outcome : (left : ℕ) (tables : List Named) (items : List Item) (end : ℕ) → length tables ≤ 64 →

@@ -34,7 +34,7 @@ abbrev pub optional : {A : Type 0} → List ℕ → Reader A → A → Reader A
 optional name read y rest = cond (begins_with name rest.items) (read rest) (Ok (y, rest))
 
 -- the word is one that begins nothing quiet
-abbrev pub IsHeard : List ℕ → Type 0
+abbrev IsHeard : List ℕ → Type 0
 IsHeard name = (ys : List Item) → IsQuiet ys → begins_with name ys ≡ false
 
 pub there : {A : Type 0} (name : List ℕ) (read : Reader A) (y : A) (xs : List Item) (end : ℕ)

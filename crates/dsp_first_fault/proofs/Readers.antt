@@ -9,9 +9,9 @@ use Rattle.dsp_defs.specs.declared.script_fault.ScriptKind.TheVariants.{BadByte,
 use Rattle.dsp_defs.specs.Token.{Token, Open, Close, Run, Bad, Item, Rest}
 use Rattle.dsp_defs.specs.Places.{◌>>=◌, fault, first_of, Judge, next_at, meaning_of, named}
 use Rattle.dsp_script.specs.Plain.{tokens}
-use Rattle.dsp_script.proofs.Steps.{IsToken}
 use Rattle.dsp_first_fault.proofs.Items.{rest_at, first, Admits, no_tokens}
 use Rattle.dsp_first_fault.proofs.Endings.{IsEnding, ending_none, ending_wider}
+use Rattle.dsp_script.proofs.Tokens.{IsToken}
 
 -- ---- readers
 
@@ -150,7 +150,7 @@ pub takes_brace : {A : Type 0} (judge : Judge A) (offset : ℕ) (token : Token) 
 takes_brace judge offset token f steady e missing =
     (subst (IsSoundFault judge) e (steady.sound offset token)).1 missing
 
-pub judged_there : {A : Type 0} (judge : Judge A) (a b : ℕ) (s t : Token) (r : Result A ScriptFault) →
+judged_there : {A : Type 0} (judge : Judge A) (a b : ℕ) (s t : Token) (r : Result A ScriptFault) →
     IsSteady judge → s ≡ t → judge a t ≡ r → judge b s ≡ moved b r
 judged_there judge a b s t r steady same e = steady.same a b s ∙ ap (moved b) (ap (judge a) same ∙ e)
 
@@ -171,7 +171,7 @@ pub next_bad : {A : Type 0} (judge : Judge A) (item : Item) (items : List Item) 
 unfolding next_at first_of
 next_bad judge item items end is = rw is refl
 
-pub next_is : {A : Type 0} (judge : Judge A) (item : Item) (items : List Item) (end : ℕ) → IsToken item.token →
+next_is : {A : Type 0} (judge : Judge A) (item : Item) (items : List Item) (end : ℕ) → IsToken item.token →
     next_at judge (rest_at (item ∷ items) end) ≡ (judge item.offset item.token >>= λ x. Ok (x, rest_at items end))
 unfolding next_at first_of
 next_is judge item items end is =
@@ -209,7 +209,7 @@ accepted judge token x left offset steady is e = takes_one (next_at judge) token
     is same e)
 
 -- the token completes what is still empty
-pub complete_one : {A : Type 0} (judge : Judge A) (room : ℕ) → IsSteady judge → Accepts judge room →
+complete_one : {A : Type 0} (judge : Judge A) (room : ℕ) → IsSteady judge → Accepts judge room →
     Completion (next_at judge) room []
 complete_one judge room steady a = record {
   more = a.token ∷ [];

@@ -37,7 +37,7 @@ use Rattle.dsp_first_fault.proofs.Forms.{block_most}
 abbrev frames_reader : ⊤ → Reader (Option ℕ)
 frames_reader x rest = natural_at 1 MAX_BLOCK_LENGTH rest >>= λ n. Ok (Some n.0, n.1)
 
-pub length_outcome : (items : List Item) (end : ℕ) →
+length_outcome : (items : List Item) (end : ℕ) →
     Goes IsFull length_at (optional_room (even 12)) (rest_at items end)
 unfolding length_at natural_at next_at first_of
 length_outcome items end =
@@ -105,7 +105,7 @@ container_reader _ rest = next_at (choice (by_name container_name input_containe
 both_even : (a b : ℕ) → Rooms (even a) (even b) (even (a + b))
 both_even a b = record { empty = omega arith; most = omega arith; later = omega arith }
 
-pub input_outcome : (items : List Item) (end : ℕ) → Goes IsFull input_at (even 38) (rest_at items end)
+input_outcome : (items : List Item) (end : ℕ) → Goes IsFull input_at (even 38) (rest_at items end)
 unfolding input_at
 input_outcome items end =
     then IsFull full_behind (next_at (choice (named (codes "input")))) container_reader (even 6) (even 32) (even 38)

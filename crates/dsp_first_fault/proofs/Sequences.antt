@@ -107,7 +107,7 @@ completed_then read more x b front front2 back takes c = record {
 }
 
 -- what is full behind a reader is full with what it took
-abbrev pub PassesOn : {A : Type 0} → Reader A → (A → List Token → Type 0) → (List Token → Type 0) → Type 0
+abbrev PassesOn : {A : Type 0} → Reader A → (A → List Token → Type 0) → (List Token → Type 0) → Type 0
 PassesOn {A} read then full = (x : A) (ts ts2 : List Token) (left : List Item) → TakesAs read ts x left → then x ts2 →
     full (ts ++ ts2)
 
@@ -222,7 +222,7 @@ then_took {A} {B} read more then full b both items front left end x rooms passes
     (hope_then read more then full b both x front left [] rooms passes here hope))
 
 -- what the other reader does behind the first one
-abbrev pub GoesOn : {A B : Type 0} → Reader A → (A → Reader B) → (A → List Token → Type 0) → Room → Type 0
+abbrev GoesOn : {A B : Type 0} → Reader A → (A → Reader B) → (A → List Token → Type 0) → Room → Type 0
 GoesOn {A} read more then room = (x : A) (ts : List Token) (left : List Item) (end : ℕ) → TakesAs read ts x left →
     Goes (then x) (more x) room (rest_at left end)
 

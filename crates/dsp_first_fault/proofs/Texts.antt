@@ -2,13 +2,12 @@
 use Rattle.std.proofs.Common.{◌≡◌, ℕ, zero, suc, ◌+◌, ◌<◌, ◌≤◌, Bool, true, false, cond, eqb, List, [], ◌∷◌, ◌++◌}
 use Rattle.std.proofs.Common.{length, take, refl, sym, ap, subst, ◌∙◌, arith, inl, inr}
 use Rattle.std.specs.Prelude.{◌⊎◌}
-use Rattle.std.specs.List.{AllByRecursion, list_all}
+use Rattle.std.specs.List.{AllByRecursion}
 use Rattle.std.proofs.lemmas.Bool.Decides.{nat_tests}
-use Rattle.std.proofs.lemmas.List.Elements.{recursion_from_All}
-use Rattle.std.proofs.lemmas.List.Sums.{AllPass-from_list_all}
 use Rattle.dsp_defs.specs.Token.{Token, Open, Close, Run, Bad, Item, is_white, is_run_byte, join_run, items_from}
 use Rattle.dsp_script.specs.Plain.{tokens}
 use Rattle.dsp_script.proofs.Tokens.{run_begins}
+use Rattle.dsp_script.proofs.CanonLaws.{all_run}
 use Rattle.dsp_first_fault.proofs.Endings.{IsWritable, written}
 use Rattle.dsp_first_fault.proofs.Offsets.{AreRising, rising, rising_from, stands_behind}
 
@@ -242,9 +241,6 @@ cut_at (suc k) false at (byte ∷ bytes) front back item e here =
     (more false)) (single Bad))))) e
 
 -- ---- tokens that are written
-
-all_run : (run : List ℕ) → list_all is_run_byte run ≡ true → AllByRecursion (λ b. is_run_byte b ≡ true) run
-all_run run h = recursion_from_All (λ b. is_run_byte b ≡ true) run (AllPass-from_list_all is_run_byte run h)
 
 pub written_again : (ts : List Token) (at : ℕ) → AllByRecursion IsWritable ts →
     tokens (items_from false at (written ts)) ≡ ts

@@ -1,20 +1,14 @@
 -- How large products of the parts of complex numbers are, shifted too.
-use Rattle.std.proofs.Common.{◌≡◌, ◌≢◌, ap, refl, ℕ, ◌+◌, ◌-◌, ◌*◌, ◌^◌, ◌<◌, ◌≤◌, ℤ, pos, negsuc, ◌+ℤ◌, ◌*ℤ◌}
+use Rattle.std.proofs.Common.{◌≡◌, ◌≢◌, ap, refl, ℕ, ◌+◌, ◌-◌, ◌*◌, ◌^◌, ◌<◌, ◌≤◌, ℤ, ◌+ℤ◌, ◌*ℤ◌}
 use Rattle.std.proofs.Common.{arith, lit<, nat_abs, SFits, to_z, of_z}
 use Rattle.std.specs.Int.{w128}
 use Rattle.std.proofs.lemmas.Int.{to_z-of_z}
-use Rattle.std.proofs.Math.Nat.{div-le_of_le-mul, div-lt_iff_lt-mul}
 use Rattle.dsp_defs.specs.Numbers.{◌>>◌}
 use Rattle.dsp_defs.specs.Formats.{word_bits}
 use Rattle.dsp_defs.specs.Complex.{cmplx_mag_squared, product_shift}
 use Rattle.dsp_defs.specs.declared.format.Fmt.{Fmt}
 use Rattle.dsp_defs.specs.declared.format.Fmt.TheVariants.{Q7, Q15, Q31}
-
--- a floor shift divides the size
-shr-small : (z : ℤ) (k m : ℕ) → 0 < 2 ^ k → nat_abs z ≤ m * 2 ^ k → nat_abs (z >> k) ≤ m
-shr-small (pos n) k m some h = div-le_of_le-mul (2 ^ k) (omega (arith, h))
-shr-small (negsuc n) k m some h = let below : n < m * 2 ^ k = omega (arith, h) in let q =
-    (div-lt_iff_lt-mul some).1 below in omega (arith, q)
+use Rattle.dsp_sat.proofs.Words.{shr-small}
 
 -- so many products of two samples, shifted together
 pub products-small : (format : Fmt) (z : ℤ) (m : ℕ) → nat_abs z ≤ m * 2 ^ (2 * word_bits format - 2) →

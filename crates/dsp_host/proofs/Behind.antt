@@ -34,7 +34,7 @@ module _ (text : List ℕ) (block frames : ℕ) (numbers : List ℤ) (s : Sessio
 
   -- ---- what was said of the session is said of its script
 
-  pub refuses_as : (why : Refusal) (bytes : List ℕ) (room : ℕ) →
+  refuses_as : (why : Refusal) (bytes : List ℕ) (room : ℕ) →
       Refuses why s.script s.coding s.block s.chain.frames bytes room →
       Refuses why script (input_coding script) (asked block script) frames bytes room
   refuses_as why bytes room =
@@ -44,7 +44,7 @@ module _ (text : List ℕ) (block frames : ℕ) (numbers : List ℤ) (s : Sessio
       (subst (λ coding. Refuses why script coding s.block s.chain.frames bytes room) behind.coding_is
       (subst (λ (t : Script). Refuses why t s.coding s.block s.chain.frames bytes room) behind.script_is r)))
 
-  pub accepts_as : (bytes : List ℕ) (room : ℕ) → Accepts s.script s.coding s.block s.chain.frames bytes room →
+  accepts_as : (bytes : List ℕ) (room : ℕ) → Accepts s.script s.coding s.block s.chain.frames bytes room →
       Accepts script (input_coding script) (asked block script) frames bytes room
   accepts_as bytes room a =
       subst (λ n. Accepts script (input_coding script) (asked block script) n bytes room) behind.counted
@@ -57,7 +57,7 @@ module _ (text : List ℕ) (block frames : ℕ) (numbers : List ℤ) (s : Sessio
       ap (λ coding. frames_of script coding bytes) behind.coding_is
 
   -- the frames of all pieces with these
-  pub all_as : (bytes : List ℕ) → s.chain.frames + frames_of s.script s.coding bytes ≡ frames + frames_of script
+  all_as : (bytes : List ℕ) → s.chain.frames + frames_of s.script s.coding bytes ≡ frames + frames_of script
       (input_coding script) bytes
   all_as bytes = (λ i. behind.counted i + frames_as bytes i)
 
@@ -86,13 +86,13 @@ module _ (text : List ℕ) (block frames : ℕ) (numbers : List ℤ) (s : Sessio
 
   module _ (new : SessionState) (count : ℕ) (bytes out after : List ℕ) (before counts : Counts)
       (fed : Fed s new count bytes out after before counts) where
-    pub script_new : new.script ≡ script
+    script_new : new.script ≡ script
     script_new = fed.same.script ∙ behind.script_is
 
-    pub frames_new : new.chain.frames ≡ frames + frames_of script (input_coding script) bytes
+    frames_new : new.chain.frames ≡ frames + frames_of script (input_coding script) bytes
     frames_new = fed.fed.counted ∙ all_as bytes
 
-    pub kept_new : kept_count new.script new.chain.frames ≡ kept_count script
+    kept_new : kept_count new.script new.chain.frames ≡ kept_count script
         (frames + frames_of script (input_coding script) bytes)
     kept_new = (λ i. kept_count (script_new i) (frames_new i))
 

@@ -1,5 +1,5 @@
 -- The tail of a session, piece by piece, at the front of an output.
-use Rattle.std.proofs.Common.{◌≡◌, ◌∙◌, refl, sym, ap, subst, ℕ, ◌+◌, ◌-◌, ◌*◌, ◌≤◌, List, ◌++◌, length, take, drop}
+use Rattle.std.proofs.Common.{◌≡◌, ◌∙◌, sym, ap, subst, ℕ, ◌+◌, ◌-◌, ◌*◌, ◌≤◌, List, ◌++◌, length, take, drop}
 use Rattle.std.proofs.Common.{append-nil, None, arith}
 use Rattle.std.proofs.Math.Nat.{mul-le-mul_right, mul-sub, mul_comm}
 use Rattle.std.proofs.lemmas.List.{take-append-drop, drop-drop}
@@ -15,7 +15,7 @@ use Rattle.dsp_session.specs.Advancing.{Runs}
 use Rattle.dsp_session.specs.Session.{StandsFor, SameSession, Ends, given_bytes, measured, measures_of, tail_bytes}
 use Rattle.dsp_session.specs.Session.{whole_values}
 use Rattle.dsp_session.specs.SessionState.{SessionState}
-use Rattle.dsp_session.proofs.EndLaws.{Tailing, tail_starts, tail_goes_on, tail_ends, tail_measured}
+use Rattle.dsp_session.proofs.EndLaws.{Tailing, tail_goes_on, tail_ends, tail_measured}
 
 -- so many bytes of the tail were given, to the front of an output that was `first`
 pub record TailSoFar (old now : SessionState) (given : ℕ) (first out : List ℕ) (before counts : Counts) : Type 0 where
@@ -26,16 +26,6 @@ pub record TailSoFar (old now : SessionState) (given : ℕ) (first out : List �
   pub rest : drop given out ≡ drop given first
   pub tailing : (x : List Frame) → StandsFor old x → Tailing old.script x (length (whole_values old.script x)) 0 now
       (take given out) before counts
-
-pub starts : (s : SessionState) (out : List ℕ) (counts : Counts) → Runs s → TailSoFar s s 0 out out counts counts
-starts s out counts runs = record {
-  same = record { script = refl; banked = refl; block = refl; coding = refl };
-  counted = refl;
-  works = runs.works;
-  size = omega arith;
-  rest = refl;
-  tailing = λ x stands. tail_starts s.script x (length (whole_values s.script x)) s counts refl stands (omega arith);
-}
 
 -- bytes of frames more
 sum : (given answer before frames more after f : ℕ) → given + before * f ≡ frames * f → answer ≡ more * f →

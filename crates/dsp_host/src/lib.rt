@@ -1,6 +1,6 @@
 //! A script for a host program that has its samples in memory: each call judges all that it is given, and a
-//! signal goes on from call to call by the numbers that its blocks keep, which the host holds. Nothing has to
-//! be freed, and no two calls share anything.
+//! signal goes on from call to call by the numbers that its blocks keep, which the host holds. Such calls share
+//! nothing, and what they take they free. For small calls a host can hold a signal itself, as an `Ongoing`.
 #![tactic(auto)]
 
 mod ongoing;

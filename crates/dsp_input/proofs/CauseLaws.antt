@@ -69,7 +69,7 @@ none_behind script header first opens bytes within =
     by_size None within = tt
     by_size (Some size) within = omega (arith, within, opens.start, length-append first bytes)
 
-pub further : (start given taken : ℕ) → given ≡ start + taken → (declared : Option ℕ) →
+further : (start given taken : ℕ) → given ≡ start + taken → (declared : Option ℕ) →
     IfSome declared (λ size. taken < size) → IfSome declared (λ size. given < start + size)
 further start given taken is None less = tt
 further start given taken is (Some size) less = omega (arith, is, less)

@@ -40,7 +40,7 @@ no_samples wanted bytes = record {
 }
 
 -- what the header of a WAVE input says
-pub wave_header_is : (script : Script) (bytes : List ℕ) → script.input.kind ≡ kind.Wave → HasHeader script bytes →
+wave_header_is : (script : Script) (bytes : List ℕ) → script.input.kind ≡ kind.Wave → HasHeader script bytes →
     header_of bytes (wanted_of script) ≡ Ok (input_header script bytes)
 wave_header_is script bytes wave has =
     let (header, is) = ok_header (wanted_of script) bytes
@@ -51,7 +51,7 @@ wave_header_is script bytes wave has =
     is ∙ ap Ok (sym same)
 
 -- only a WAVE input declares its samples
-pub declares_wave : (script : Script) (bytes : List ℕ) (size : ℕ) → (input_header script bytes).size ≡ Some size →
+declares_wave : (script : Script) (bytes : List ℕ) (size : ℕ) → (input_header script bytes).size ≡ Some size →
     script.input.kind ≡ kind.Wave
 declares_wave script bytes size is = by script.input.kind is
   where
@@ -91,7 +91,7 @@ header_fault script fault offset given now wave (inl all) =
 header_fault script fault offset given now wave (inr (end, here)) =
     inr (end, fault_by_header script given fault offset wave here)
 
-pub fault_by_end : (script : Script) (bytes : List ℕ) (declared : ℕ) → HasHeader script bytes →
+fault_by_end : (script : Script) (bytes : List ℕ) (declared : ℕ) → HasHeader script bytes →
     (input_header script bytes).size ≡ Some declared
     → length bytes < (input_header script bytes).start + in_whole_frames script (input_header script bytes).coding
     declared

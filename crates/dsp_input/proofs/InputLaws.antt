@@ -4,7 +4,7 @@ use Rattle.std.proofs.Common.{Option, Some, None, IfSome, Result, Ok, Err, refl,
 use Rattle.std.proofs.Common.{append-nil, length-append, inl, inr}
 use Rattle.std.proofs.lemmas.List.{take_all, take_at, drop-append-le, length-take, length-drop}
 use Rattle.std.proofs.lemmas.Nat.{div-mul-add}
-use Rattle.std.proofs.Math.Nat.{div-eq_of_lt}
+use Rattle.std.proofs.lemmas.List.{nil_from_length}
 use Rattle.std.proofs.Math.Seq.{take-append-add}
 use Rattle.std.specs.Io.KnownBytes.{IsAtEnd, prepend_known}
 use Rattle.std.specs.Result.{IsOk, result_unwrap_or}
@@ -20,46 +20,23 @@ use Rattle.dsp_defs.specs.declared.limits.TheConstants.{MAX_INPUT}
 use Rattle.dsp_defs.specs.declared.script.Script.{Script}
 use Rattle.dsp_defs.specs.declared.wave.Header.{Header}
 use Rattle.dsp_defs.specs.declared.wave.HeaderFault.{HeaderFault}
-use Rattle.dsp_defs.specs.declared.wave.Wanted.{Wanted}
 use Rattle.dsp_defs.proofs.CodingLemmas.{width-some}
-use Rattle.dsp_defs.proofs.SampleLaws.{length-samples, samples-append}
-use Rattle.dsp_defs.proofs.WaveLemmas.{header_of-append}
+use Rattle.dsp_defs.proofs.SampleLaws.{length-samples, samples-append, small_quotient}
+use Rattle.dsp_defs.proofs.OutputLaws.{input_header-append}
 use Rattle.dsp_input.specs.Taking.{HasFault, InLimit, IsTakenWhole, declared_bytes, frame_bytes, frames_in_bytes}
 use Rattle.dsp_input.specs.Taking.{input_fault}
-use Rattle.dsp_input.proofs.FaultLaws.{fault_by_header, no_samples, ok_header}
+use Rattle.dsp_input.proofs.FaultLaws.{fault_by_header, no_samples}
+use Rattle.dsp_unit.proofs.CostLaws.{quotient_more}
 
 -- ---- numbers
 
 whole_below : (n f : ℕ) → 0 < f → (n / f * f ≤ n) × (n < n / f * f + f)
 whole_below n f some = grind (arith)
 
-no_whole : (n f : ℕ) → n < f → n / f ≡ 0
-no_whole n f few = div-eq_of_lt few
-
 product_some : (a b : ℕ) → 1 ≤ a → 0 < b → 0 < a * b
 product_some a b some more = grind (arith)
 
-none_of : (xs : List Frame) → length xs ≡ 0 → xs ≡ []
-none_of [] none = refl
-none_of (x ∷ xs) none = absurd (omega (arith, none))
-
-quotient_more : (n m k : ℕ) → n ≤ m → n / k ≤ m / k
-quotient_more n m k h = grind (arith)
-
 -- ---- headers
-
-there_stays : (k : InputKind) (wanted : Wanted) (bytes more : List ℕ) → HeaderIsThere k wanted bytes →
-    header_by k wanted (bytes ++ more) ≡ header_by k wanted bytes
-there_stays (kind.Raw rate) wanted bytes more there = refl
-there_stays kind.Wave wanted bytes more there =
-    let (header, is) = ok_header wanted bytes there in
-    let later : header_of (bytes ++ more) wanted ≡ Ok header = header_of-append bytes more wanted header is in
-    ap (λ r. result_unwrap_or r (no_samples wanted (bytes ++ more))) later ∙
-    sym (ap (λ r. result_unwrap_or r (no_samples wanted bytes)) is)
-
-pub header_stays : (script : Script) (bytes more : List ℕ) → HasHeader script bytes →
-    input_header script (bytes ++ more) ≡ input_header script bytes
-header_stays script bytes more has = there_stays script.input.kind (wanted_of script) bytes more has
 
 -- ---- whole frames that are followed by more bytes
 
@@ -112,7 +89,7 @@ module _ (script : Script) (given more : List ℕ) (has : HasHeader script given
         let d = drop header.start given in
         let tail = tail_of header.size (k * frame) more in
         ap (λ (h : Header). samples h.coding script.input.channels (sample_bytes h (given ++ more)))
-        (header_stays script given more has)
+        (input_header-append script given more has)
         ∙ ap samples_of (split_at given more header.start (k * frame) all header.size within)
         ∙ samples-append header.coding script.input.channels k d tail some
         (behind given more header.start (k * frame) all)
@@ -160,8 +137,8 @@ module _ (script : Script) (given more : List ℕ) (has : HasHeader script given
             subst (λ size. IsWithin size (n / frame * frame)) (sym is) below.0 in
             let tail = take (n - n / frame * frame) more in
             let few : length tail < frame = omega (arith, below.1, length-take (n - n / frame * frame) more) in
-            let nothing : samples_of tail ≡ [] = none_of (samples_of tail)
-            (length-samples header.coding script.input.channels tail ∙ no_whole (length tail) frame few) in
+            let nothing : samples_of tail ≡ [] = nil_from_length (samples_of tail)
+            (length-samples header.coding script.input.channels tail ∙ small_quotient (length tail) frame few) in
             goes_on (n / frame) count within
             ∙ ap (λ size. input_signal script given ++ samples_of (tail_of size (n / frame * frame) more)) is
             ∙ ap (λ l. input_signal script given ++ l) nothing
@@ -232,7 +209,7 @@ frames_stay script bytes more has =
     let frame = frame_bytes script header.coding in
     let later : frames_in_bytes script (bytes ++ more) ≡ length (sample_bytes header (bytes ++ more)) / frame =
     frames_of_bytes script (bytes ++ more) ∙ ap (λ (h : Header). length (sample_bytes h (bytes ++ more)) / frame_bytes
-    script h.coding) (header_stays script bytes more has) in
+    script h.coding) (input_header-append script bytes more has) in
     omega (
       arith,
       frames_of_bytes script bytes,
@@ -259,7 +236,7 @@ module _ (script : Script) (given more : List ℕ) (has : HasHeader script given
 
   pub output_stays : (now : SourceState) → now.left ≡ Some more → IsTakenWhole script given now →
       output script (given ++ more) ≡ output script given
-  output_stays now left whole = rw (signal_stays now left whole, header_stays script given more has) refl
+  output_stays now left whole = rw (signal_stays now left whole, input_header-append script given more has) refl
 
 -- ---- faults
 
@@ -305,7 +282,7 @@ module _ (script : Script) (given more : List ℕ) (all : length given ≡ MAX_I
   past_limit wanted limit =
       by (declared_bytes script (input_header script (given ++ more)))
       (λ has. subst (λ (h : Header). IfSome (declared_bytes script h) (λ size. length given < h.start + size))
-      (sym (header_stays script given more has)) (wanted has)) limit
+      (sym (input_header-append script given more has)) (wanted has)) limit
     where
       by : (declared : Option ℕ) → (HasHeader script given →
           IfSome declared (λ size. length given < (input_header script (given ++ more)).start + size)) →

@@ -1,4 +1,4 @@
-mod Places
+pub mod Places
 pub mod WholeRead
 mod UnreadLaws
 pub mod FaultLaws

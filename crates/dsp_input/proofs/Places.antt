@@ -1,7 +1,7 @@
 -- What stands in the header of an output.
-use Rattle.std.proofs.Common.{◌≡◌, ◌≢◌, ℕ, ◌≤◌, List, [], ◌∷◌, fold, refl, arith}
+use Rattle.std.proofs.Common.{◌≡◌, ◌≢◌, ℕ, ◌≤◌, List, [], ◌∷◌, fold, refl}
 use Rattle.dsp_defs.specs.Block.{channels_after}
-use Rattle.dsp_defs.specs.Grammar.{IsChain, IsSound, Suits}
+use Rattle.dsp_defs.specs.Grammar.{IsChain, IsSound}
 use Rattle.dsp_defs.specs.Output.{channels_of, format_of, known_frames, output_header, rate_of}
 use Rattle.dsp_defs.specs.Table.{flow_after}
 use Rattle.dsp_defs.specs.Wave.{wave_header}
@@ -10,21 +10,9 @@ use Rattle.dsp_defs.specs.declared.format.Container.{Container}
 use Rattle.dsp_defs.specs.declared.format.Container.TheVariants as container
 use Rattle.dsp_defs.specs.declared.limits.TheConstants.{MAX_CHANNELS}
 use Rattle.dsp_defs.specs.declared.script.Block.{Block}
-use Rattle.dsp_defs.specs.declared.script.Block.TheVariants.{Add, Sub, Mult, CmplxMult, CmplxMultReal, MagSquared}
-use Rattle.dsp_defs.specs.declared.script.Block.TheVariants.{Route}
 use Rattle.dsp_defs.specs.declared.script.Script.{Script}
 use Rattle.dsp_defs.specs.declared.wave.Header.{Header}
-
-few_channels_after : (flow : Flow) (b : Block) → Suits flow b → flow.channels ≤ MAX_CHANNELS →
-    channels_after flow.channels b ≤ MAX_CHANNELS
-few_channels_after flow Add s c = omega arith
-few_channels_after flow Sub s c = omega arith
-few_channels_after flow Mult s c = omega arith
-few_channels_after flow CmplxMult s c = omega arith
-few_channels_after flow CmplxMultReal s c = omega arith
-few_channels_after flow MagSquared s c = omega arith
-few_channels_after flow (Route channels) s c = s.parameters.0.limit
-few_channels_after flow b s c = c
+use Rattle.dsp_unit.proofs.ChainPlaces.{few_channels_after}
 
 channels_stay_few : (flow : Flow) (blocks : List Block) → IsChain flow blocks → flow.channels ≤ MAX_CHANNELS →
     fold channels_after flow.channels blocks ≤ MAX_CHANNELS
@@ -39,7 +27,7 @@ few_channels script sound =
     fit.chain fit.channels.1
 
 -- a choice of outputs with a header
-headed_choice : (c : Container) (none all : List ℕ) → c ≢ container.Raw →
+pub headed_choice : (c : Container) (none all : List ℕ) → c ≢ container.Raw →
     elim c [ container.Raw ↦ none | _ ↦ all ] ≡ all
 headed_choice container.Raw none all headed = absurd (headed refl)
 headed_choice container.Wave none all headed = refl

@@ -2,7 +2,6 @@
 use Rattle.std.proofs.Common.{◌≡◌, ℕ, ◌*◌, ◌/◌, ◌<◌, ◌≤◌, List, ◌++◌, length, take, drop, Option, Some, None, refl}
 use Rattle.std.proofs.Common.{sym, ap, ◌∙◌, arith}
 use Rattle.std.proofs.lemmas.List.{drop_at, take_all}
-use Rattle.std.proofs.Math.Nat.{mul-le-mul}
 use Rattle.dsp_defs.specs.Bytes.{samples, width}
 use Rattle.dsp_defs.specs.Grammar.{IsSound}
 use Rattle.dsp_defs.specs.Output.{input_signal, sample_bytes, output_header, output_pad, whole_bytes, output}
@@ -11,17 +10,13 @@ use Rattle.dsp_defs.specs.declared.script.Script.{Script}
 use Rattle.dsp_defs.specs.declared.wave.Header.{Header}
 use Rattle.dsp_defs.proofs.CodingLemmas.{width-some}
 use Rattle.dsp_input.specs.Taking.{InDeclared, Opens, declared_bytes, frame_bytes, frames_in_bytes, in_whole_frames}
-
-some_product : (a b : ℕ) → 1 ≤ a → 1 ≤ b → 1 ≤ a * b
-some_product a b h k = mul-le-mul h k
+use Rattle.dsp_unit.proofs.ChainPlaces.{product_some}
+use Rattle.std.proofs.Math.Nat.{div-mul-le_self}
 
 -- a frame has some bytes
 pub frame_some : (script : Script) (coding : Coding) → IsSound script → 0 < frame_bytes script coding
-frame_some script coding sound = some_product script.input.channels (width coding) sound.1.fit.channels.0
+frame_some script coding sound = product_some script.input.channels (width coding) sound.1.fit.channels.0
     (width-some coding)
-
-pub floor_within : (n f : ℕ) → n / f * f ≤ n
-floor_within n f = grind (arith)
 
 module _ (script : Script) (header : Header) (some : 0 < frame_bytes script header.coding) (first : List ℕ)
     (opens : Opens script header first) where
@@ -34,7 +29,7 @@ module _ (script : Script) (header : Header) (some : 0 < frame_bytes script head
       ≡ bytes
   by_size bytes None declared = dropped bytes
   by_size bytes (Some size) declared = ap (take size) (dropped bytes) ∙
-      take_all size bytes (omega (arith, declared, floor_within size (frame_bytes script header.coding)))
+      take_all size bytes (omega (arith, declared, div-mul-le_self size (frame_bytes script header.coding)))
 
   samples_are : (bytes : List ℕ) → InDeclared (declared_bytes script header) (length bytes) →
       sample_bytes header (first ++ bytes) ≡ bytes

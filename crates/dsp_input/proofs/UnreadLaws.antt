@@ -15,7 +15,7 @@ use Rattle.dsp_input.specs.declared.fault.InputFault.TheVariants as fault
 use Rattle.dsp_input.specs.Taking.{IsUnread, PartUnread, frame_bytes, stored}
 
 -- the fault of the input that a cause is
-abbrev pub named : SampleFault → InputFault
+abbrev named : SampleFault → InputFault
 named cause.Failed = fault.Failed
 named cause.LimitReached = fault.Limit MAX_INPUT MAX_INPUT
 named (cause.Short declared got offset) = fault.Header (Short declared got) offset

@@ -1,4 +1,4 @@
-ghost use Rattle.std.specs.Prelude.{◌≡◌, ◌+◌, ◌≤◌, length, IfOk, IfErr, IsTrue};
+ghost use Rattle.std.specs.Prelude.{◌≡◌, ◌+◌, ◌≤◌, ◌↔◌, length, IfOk, IfErr, IsTrue};
 ghost use Rattle.dsp_wave.specs.Samples.{HasBlock, InDeclared};
 ghost use Rattle.dsp_input.specs.Taking.{frame_bytes, declared_bytes, stored, PartRead, PartUnread};
 
@@ -25,7 +25,7 @@ pub fn has_block(script: &Script, header: Header, end: u64, taken: u64, size: us
     requires limit { header.start + taken ≤ MAX_INPUT }
     requires frame { 1 ≤ frame_bytes script.now header.coding }
     requires part { taken ≤ end }
-    ensures { IsTrue result → HasBlock (stored script.now header) end taken size }
+    ensures { IsTrue result ↔ HasBlock (stored script.now header) end taken size }
 {
     dsp_wave::has_block(stored(script, header), end, taken, size)
 }

@@ -84,6 +84,36 @@ put_chunk-append at old xs ys room =
     ∙ (λ i. sym front i ++ (ys ++ drop m (sym behind i)))
     ∙ sym (put_chunk_is (at + n) first ys (omega (arith, same, room)))
 
+-- two groups, one changed after the other
+pub zip2-double : (f : ℤ → ℤ → ℤ) (at n : ℕ) (old mid new b : List ℤ) → at + 2 * n ≤ length old →
+    at + 2 * n ≤ length b → mid ≡ put_chunk at old (zip2 f (chunk at n old) (chunk at n b)) →
+    new ≡ put_chunk (at + n) mid (zip2 f (chunk (at + n) n mid) (chunk (at + n) n b)) →
+    new ≡ put_chunk at old (zip2 f (chunk at (2 * n) old) (chunk at (2 * n) b))
+zip2-double f at n old mid new b room behind first second =
+    let long : (m : ℕ) → m + n ≤ length old → m + n ≤ length b →
+    length (zip2 f (chunk m n old) (chunk m n b)) ≡ n =
+    λ m p q. length-zip2 f (chunk m n old) (chunk m n b) (length-chunk m n old p ∙ sym (length-chunk m n b q)) ∙
+    length-chunk m n old p in
+    let ys = zip2 f (chunk at n old) (chunk at n b) in
+    let zs = zip2 f (chunk (at + n) n old) (chunk (at + n) n b) in
+    let long_y : length ys ≡ n = long at (omega (arith, room)) (omega (arith, behind)) in
+    let long_z : length zs ≡ n = long (at + n) (omega (arith, room)) (omega (arith, behind)) in
+    let chunk_o : length (chunk at n old) ≡ n = length-chunk at n old (omega (arith, room)) in
+    let chunk_b : length (chunk at n b) ≡ n = length-chunk at n b (omega (arith, behind)) in
+    let left : drop (at + n) mid ≡ drop (at + n) old = rest-group at n mid old old ys long_y (omega (arith, room)) refl
+    first in
+    let both : 2 * n ≡ n + n = omega arith in
+    let joined : zip2 f (chunk at (2 * n) old) (chunk at (2 * n) b) ≡ ys ++ zs =
+    ap (λ k. zip2 f (chunk at k old) (chunk at k b)) both
+    ∙ (λ i. zip2 f (chunk-append at n n old i) (chunk-append at n n b i))
+    ∙ zip2-append f (chunk at n old) (chunk (at + n) n old) (chunk at n b) (chunk (at + n) n b)
+    (chunk_o ∙ sym chunk_b) in
+    second
+    ∙ (λ i. put_chunk (at + n) (first i) (zip2 f (take n (left i)) (chunk (at + n) n b)))
+    ∙ ap (λ k. put_chunk (at + k) (put_chunk at old ys) zs) (sym long_y)
+    ∙ sym (put_chunk-append at old ys zs (omega (arith, room, long_y, long_z)))
+    ∙ ap (put_chunk at old) (sym joined)
+
 -- ---- the next element
 pub zip2-one : (f : ℤ → ℤ → ℤ) (at m : ℕ) (old a b : List ℤ) (v : ℤ) → m ≡ at + 1 → length a ≡ length old →
     length old ≤ length b → at < length old
@@ -146,6 +176,15 @@ pub counted_double : (a b c : Counts) (t n at : ℕ) → (k : ℕ) × (k * n ≡
 counted_double a b c t n at h more =
     let before = h.2 in (
       h.0 + 2,
+      omega (arith, h.1),
+      record { multiplies_rise = omega (arith, before, more); turns_within = omega (arith, before, more) },
+    )
+
+pub counted_quad : (a b c : Counts) (t n at : ℕ) → (k : ℕ) × (k * n ≡ at) × RisesWithin a b (t * at) (t * k) →
+    RisesWithin b c (t * (4 * n)) (4 * t) → (k : ℕ) × (k * n ≡ at + 4 * n) × RisesWithin a c (t * (at + 4 * n)) (t * k)
+counted_quad a b c t n at h more =
+    let before = h.2 in (
+      h.0 + 4,
       omega (arith, h.1),
       record { multiplies_rise = omega (arith, before, more); turns_within = omega (arith, before, more) },
     )

@@ -1,16 +1,17 @@
 -- Products of 64 bits of the even samples of a vector, and of the odd ones.
-use Rattle.std.proofs.Common.{◌≡◌, ◌+◌, ◌*◌, List, [], ◌∷◌, length, map, replicate, refl, sym, ap, ◌∙◌, arith, w32}
-use Rattle.std.proofs.Common.{w64}
-use Rattle.std.proofs.lemmas.Int.{ints, int_wrap-add_left, int_wrap-add_right}
+use Rattle.std.proofs.Common.{ℕ, ◌≡◌, ◌<◌, ◌≤◌, ◌+◌, ◌-◌, ◌*◌, zero, suc, List, [], ◌∷◌, length, map, replicate}
+use Rattle.std.proofs.Common.{take, drop, drop-drop, refl, sym, ap, ◌∙◌, arith, w32, w64}
+use Rattle.std.proofs.lemmas.Int.{ints, int_wrap-add_left, int_wrap-add_right, to_z-of_z}
+use Rattle.std.proofs.lemmas.List.{length-drop}
 use Rattle.std.proofs.lemmas.Simd.{length-zip2, Each1-replicate}
 use Rattle.std.specs.Prelude.{ℤ, ◌+ℤ◌, ◌*ℤ◌}
 use Rattle.std.specs.Int.{int_wrap}
-use lib.Lanes.{zip2, Each1}
+use lib.Lanes.{zip2, chunk, Each1}
 use mir.Val.{SFits, to_z, of_z}
 use Rattle.dsp_lanes.specs.Pairs.{in_turn}
 use Rattle.dsp_lanes.specs.Regrouped.{list_sum}
 use Rattle.dsp_defs.specs.Signal.{sample, values}
-use Rattle.dsp_lanes.proofs.LaneOps.{bits_of, cast_lanes, casts_are, splat_bits}
+use Rattle.dsp_lanes.proofs.LaneOps.{bits_of, cast_lanes, casts_are, each_widens, ints_of_bits, splat_bits}
 use Rattle.dsp_lanes.proofs.LaneSums.{plus_in, times_in, raised, raised_fit, summed_fit, lanes_read, products_raise}
 use Rattle.dsp_lanes.proofs.LaneSums.{multiples_raise}
 use Rattle.dsp_lanes.proofs.LaneRows.{list_sum-wraps}
@@ -39,32 +40,45 @@ word_sums_are sums half t long h f g =
     ∙ multiples_raise w32 w64 (omega arith) (omega arith) 4 sums t half long h f g)
     (summed_fit w64 (λ s x. s +ℤ (t *ℤ x)) sums half)).0
 
-module _ (even odd xs fs es os : List ℤ) (t : ℤ) (long_even : length even ≡ 4) (long_odd : length odd ≡ 4)
-    (long : length xs ≡ 8) (fit_even : Each1 (SFits w64) even) (fit_odd : Each1 (SFits w64) odd) (f : SFits w32 t)
-    (g : Each1 (SFits w32) xs)
-    (fs_is : fs ≡ values 4 (λ i. sample (map (to_z w32) (replicate 8 (of_z w32 t))) (2 * i)))
-    (es_is : es ≡ values 4 (λ i. sample (read_words xs) (2 * i)))
-    (os_is : os ≡ values 4 (λ i. sample (read_words xs) (2 * i + 1))) where
-  even_is : word_sums even fs es ≡ tapped t even (evens xs)
-  even_is =
-      (λ i. word_sums even (factors fs t f fs_is i) (evens_are xs es long g es_is i))
-      ∙ word_sums_are even (evens xs) t (length-evens 4 xs long) fit_even f (each_even (SFits w32) xs g)
+pub factor_words_are : (sums half fs : List ℤ) (t : ℤ) → length half ≡ 4 → Each1 (SFits w64) sums → SFits w32 t →
+    Each1 (SFits w32) half → fs ≡ values 4 (λ i. sample (map (to_z w32) (replicate 8 (of_z w32 t))) (2 * i)) →
+    word_sums sums fs half ≡ tapped t sums half
+factor_words_are sums half fs t long h f g is =
+    (λ i. word_sums sums (factors fs t f is i) half) ∙ word_sums_are sums half t long h f g
 
-  odd_is : word_sums odd fs os ≡ tapped t odd (odds xs)
-  odd_is =
-      (λ i. word_sums odd (factors fs t f fs_is i) (odds_are xs os long g os_is i))
-      ∙ word_sums_are odd (odds xs) t (length-odds 4 xs long) fit_odd f (each_odd (SFits w32) xs g)
+-- words in lanes of 64 bits that are passed on
+passed : (es : List ℤ) → Each1 (SFits w32) es → map (to_z w64) (bits_of w64 es) ≡ es
+passed es f = ints_of_bits w64 es (each_widens w32 w64 (omega arith) es f)
 
-  pub tap_words : in_turn (word_sums even fs es) (word_sums odd fs os) ≡ tapped t (in_turn even odd) xs
-  tap_words = (λ i. in_turn (even_is i) (odd_is i))
-      ∙ in_turn-zip2 (λ s x. int_wrap w64 (s +ℤ (t *ℤ x))) even odd xs (omega arith)
+-- both halves, in turn
+pub tapped_in_turn : (even odd xs es os new_even new_odd : List ℤ) (t : ℤ) → length even ≡ 4 → length odd ≡ 4 →
+    length xs ≡ 8 → SFits w32 t → Each1 (SFits w32) es → Each1 (SFits w32) os → es ≡ evens xs → os ≡ odds xs →
+    new_even ≡ tapped (to_z w32 (of_z w32 t)) even (map (to_z w64) (bits_of w64 es)) →
+    new_odd ≡ tapped (to_z w32 (of_z w32 t)) odd (map (to_z w64) (bits_of w64 os)) →
+    in_turn new_even new_odd ≡ tapped t (in_turn even odd) xs
+tapped_in_turn even odd xs es os new_even new_odd t long_even long_odd long f g h es_are os_are even_is odd_is =
+    (λ i. in_turn (even_is i) (odd_is i))
+    ∙ (λ i. in_turn (tapped (to_z-of_z w32 t f i) even ((passed es g ∙ es_are) i))
+    (tapped (to_z-of_z w32 t f i) odd ((passed os h ∙ os_are) i)))
+    ∙ in_turn-zip2 (λ s x. int_wrap w64 (s +ℤ (t *ℤ x))) even odd xs (omega arith)
 
-  pub tap_words_fit : Each1 (SFits w64) (word_sums even fs es) × Each1 (SFits w64) (word_sums odd fs os)
-      × (length (word_sums even fs es) ≡ 4) × (length (word_sums odd fs os) ≡ 4)
-  tap_words_fit =
-      let e = half_fits w64 4 (λ s x. s +ℤ (t *ℤ x)) _ even (evens xs) even_is long_even (length-evens 4 xs long) in
-      let o = half_fits w64 4 (λ s x. s +ℤ (t *ℤ x)) _ odd (odds xs) odd_is long_odd (length-odds 4 xs long) in
-      (e.0, o.0, e.1, o.1)
+-- ---- the odd ones are the even ones from the next place on
+abbrev doubled : ℕ → ℕ
+doubled zero = zero
+doubled (suc n) = suc (suc (doubled n))
+
+evens_behind : (n : ℕ) (ys : List ℤ) → doubled n < length ys → evens (take (doubled n) (drop 1 ys)) ≡ odds
+    (take (doubled n) ys)
+evens_behind zero ys h = refl
+evens_behind (suc n) [] h = absurd (omega (arith, h))
+evens_behind (suc n) (x ∷ []) h = absurd (omega (arith, h))
+evens_behind (suc n) (x ∷ y ∷ []) h = absurd (omega (arith, h))
+evens_behind (suc n) (x ∷ y ∷ z ∷ ys) h = ap (λ l. y ∷ l) (evens_behind n (z ∷ ys) (omega (arith, h)))
+
+pub next_evens : (at : ℕ) (xs : List ℤ) → at + 9 ≤ length xs → evens (chunk (at + 1) 8 xs) ≡ odds (chunk at 8 xs)
+next_evens at xs room =
+    let long : length (drop at xs) ≡ length xs - at = length-drop at xs in
+    ap (λ l. evens (take 8 l)) (sym (drop-drop 1 at xs)) ∙ evens_behind 4 (drop at xs) (omega (arith, long, room))
 
 -- ---- products
 products-evens : (xs ys : List ℤ) → length xs ≡ length ys → products (evens xs) (evens ys) ≡ evens (products xs ys)

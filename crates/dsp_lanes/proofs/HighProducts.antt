@@ -3,6 +3,7 @@ use Rattle.std.proofs.Common.{ℕ, zero, suc, ◌≡◌, ◌≤◌, ◌+◌, ◌
 use Rattle.std.proofs.Common.{ap, subst, ◌∙◌, arith, w32, w64, lit<}
 use Rattle.std.proofs.lemmas.Int.{ints, int_wrap_fits}
 use Rattle.std.proofs.lemmas.Simd.{length-chunk, length-zip2, zip2_splat, map-map, Each1-replicate, length-replicate}
+use Rattle.std.proofs.lemmas.List.{map-id}
 use Rattle.std.specs.Prelude.{ℤ, pos, negsuc, ◌+ℤ◌, ◌*ℤ◌}
 use Rattle.std.specs.Int.{int_wrap, saturate_to_bits}
 use Rattle.std.specs.List.{All}
@@ -14,7 +15,7 @@ use Rattle.dsp_lanes.proofs.LaneOps.{splat_bits, bits_of, ints_of_bits, cast_lan
 use Rattle.dsp_lanes.proofs.LaneOps.{each_widens, each_pair, group_fits, lesser, greater, saturates_to}
 use Rattle.dsp_lanes.proofs.LaneOps.{shifted, added, each_shift_fits, Each1-map}
 use Rattle.dsp_lanes.proofs.LaneOps.{map-same, map-zip2, length-map}
-use Rattle.dsp_lanes.proofs.LaneSums.{map-self, plus_in, times_in, products_in}
+use Rattle.dsp_lanes.proofs.LaneSums.{plus_in, times_in, products_in}
 use Rattle.dsp_lanes.proofs.LaneClosings.{Castable, down_in, low_lanes, low_lanes_are, words_fit}
 
 abbrev pub high_lanes : ℕ → List ℤ → List ℤ → List ℕ
@@ -93,11 +94,11 @@ each_saturated (x ∷ xs) = (fits_30 x, each_saturated xs)
     fits_30 (pos n) = grind (arith, ints)
     fits_30 (negsuc n) = grind (arith, ints)
 
-abbrev pub limited : ℕ → List ℕ → List ℕ
+abbrev limited : ℕ → List ℕ → List ℕ
 limited n lanes = greater w32 (lesser w32 lanes (replicate n (of_z w32 (pos (2 ^ 30 - 1)))))
     (replicate n (of_z w32 (negsuc (2 ^ 30 - 1))))
 
-abbrev pub doubled_lanes : ℕ → List ℕ → List ℕ
+abbrev doubled_lanes : ℕ → List ℕ → List ℕ
 doubled_lanes n lanes = zip2 (plus_in w32) (limited n lanes) (limited n lanes)
 
 doubles : (n : ℕ) (lanes : List ℕ) (xs : List ℤ) → lanes ≡ bits_of w32 xs → length xs ≡ n → Each1 (SFits w32) xs
@@ -134,8 +135,8 @@ mult_31 at n a b f g room_a room_b =
       ap (map (to_z w32)) (doubles n (cast_lanes w64 w32 (high_lanes n xs ys)) hs cast long made.1)
           ∙ ints_of_bits w32 twice (each_doubled hs)
           ∙ map-zip2 (λ h. pos 2 *ℤ saturate_to_bits 30 h) high xs ys
-          ∙ (λ i. zip2 (λ x y. pos 2 *ℤ saturate_to_bits 30 (high x y)) (chunk at n (sym (map-self a) i))
-          (chunk at n (sym (map-self b) i))),
+          ∙ (λ i. zip2 (λ x y. pos 2 *ℤ saturate_to_bits 30 (high x y)) (chunk at n (sym (map-id a) i))
+          (chunk at n (sym (map-id b) i))),
     )
 
 -- ---- `scale`
@@ -155,7 +156,7 @@ scaled_highs_are n xs t long f g =
     )
 
 -- ---- the sparse filter
-abbrev pub delay_lanes : ℕ → List ℤ → ℤ → List ℤ → List ℕ
+abbrev delay_lanes : ℕ → List ℤ → ℤ → List ℤ → List ℕ
 delay_lanes n ss t xs = zip2 (plus_in w64) (bits_of w64 ss)
     (zip2 (down_in w64) (zip2 (times_in w64) (cast_lanes w32 w64 (replicate n (of_z w32 t))) (widened w32 w64 xs))
     (replicate n 32))

@@ -50,11 +50,11 @@ each_wrapped : (xs : List ℤ) → Each1 (SFits w32) xs → map (int_wrap w32) x
 each_wrapped [] f = refl
 each_wrapped (x ∷ xs) f = (λ i. int_wrap_fits w32 x f.0 i ∷ each_wrapped xs f.1 i)
 
-abbrev pub tap_products : ℤ → List ℤ → List ℕ
+abbrev tap_products : ℤ → List ℤ → List ℕ
 tap_products t xs = zip2 (times_in w32) (cast_lanes w16 w32 (replicate 8 (of_z w16 t))) (widened w16 w32 xs)
 
 -- half of the products of a tap
-abbrev pub half_products : ℤ → List ℤ → List ℕ → List ℤ
+abbrev half_products : ℤ → List ℤ → List ℕ → List ℤ
 half_products t xs places = map (to_z w32) (picked (tap_products t xs) places)
 
 module _ (t : ℤ) (xs : List ℤ) (long : length xs ≡ 8) (f : SFits w16 t) (g : Each1 (SFits w16) xs) where

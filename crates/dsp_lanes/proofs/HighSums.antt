@@ -42,13 +42,13 @@ sum_small n (negsuc a) (pos b) f g = grind (arith, ints)
 sum_small n (negsuc a) (negsuc b) f g = omega (arith, ints, f, g)
 
 -- the next parts
-abbrev pub low_next : ℤ → ℤ → ℤ
+abbrev low_next : ℤ → ℤ → ℤ
 low_next low s = int_wrap w32 (low +ℤ int_wrap w32 s)
 
-abbrev pub half_next : ℤ → ℤ
+abbrev half_next : ℤ → ℤ
 half_next s = shr_z (int_wrap w32 (int_wrap w32 s +ℤ negsuc 0)) (2 ^ 16)
 
-abbrev pub high_next : ℤ → ℤ → ℤ
+abbrev high_next : ℤ → ℤ → ℤ
 high_next high s = int_wrap w32 (high +ℤ half_next s)
 
 module _ (n : ℕ) (low high s : ℤ) (few : n + 1 < 32768) (parts : AreParts n low high)
@@ -105,14 +105,14 @@ module _ (n : ℕ) (low high s : ℤ) (few : n + 1 < 32768) (parts : AreParts n 
       ((h +ℤ q) *ℤ pos 65536) +ℤ pos (r + (m + 1)) ≡ ((h *ℤ pos 65536) +ℤ pos r) +ℤ s
   summed h q s r m is = omega (arith, ints, is)
 
-  pub whole_next : whole_of (low_next low s) (high_next high s) ≡ whole_of low high +ℤ s
+  whole_next : whole_of (low_next low s) (high_next high s) ≡ whole_of low high +ℤ s
   unfolding more
   whole_next =
       ap₂ (λ h r. (h *ℤ pos 65536) +ℤ r) high_is rest_next
       ∙ summed high q s parts.rest left.0 left.1
       ∙ ap (λ r. ((high *ℤ pos 65536) +ℤ r) +ℤ s) (sym parts.rest_is)
 
-  pub parts_next : AreParts (n + 1) (low_next low s) (high_next high s)
+  parts_next : AreParts (n + 1) (low_next low s) (high_next high s)
   unfolding more
   parts_next =
       let small = sum_small n high q parts.high_small q_small in
@@ -135,10 +135,10 @@ parts_wide n m low high le parts =
 abbrev pub IsNear : ℤ → Type 0
 IsNear s = SFits w32 (s +ℤ negsuc 0)
 
-abbrev pub lows_next : List ℤ → List ℤ → List ℤ
+abbrev lows_next : List ℤ → List ℤ → List ℤ
 lows_next low ss = raised w32 low (map (int_wrap w32) ss)
 
-abbrev pub highs_next : List ℤ → List ℤ → List ℤ
+abbrev highs_next : List ℤ → List ℤ → List ℤ
 highs_next high ss = zip2 (λ h p. int_wrap w32 (h +ℤ shr_z (int_wrap w32 (p +ℤ negsuc 0)) (2 ^ 16))) high
     (map (int_wrap w32) ss)
 
@@ -156,7 +156,7 @@ whole_fits n h s r few small rest near =
     far (negsuc a) (pos b) r f g h = omega (arith, ints, f, g, h)
     far (negsuc a) (negsuc b) r f g h = omega (arith, ints, f, g, h)
 
-pub wholes_next : (n : ℕ) (low high ss : List ℤ) → n + 1 < 32768 → Each2 (AreParts n) low high → Each1 IsNear ss
+wholes_next : (n : ℕ) (low high ss : List ℤ) → n + 1 < 32768 → Each2 (AreParts n) low high → Each1 IsNear ss
     → wholes (lows_next low ss) (highs_next high ss) ≡ raised w64 (wholes low high) ss
 wholes_next n [] high ss few parts near = refl
 wholes_next n (l ∷ low) [] [] few parts near = refl
@@ -169,7 +169,7 @@ wholes_next n (l ∷ low) (h ∷ high) (s ∷ ss) few parts near =
     ap₂ (λ a l. a ∷ l) (whole_next n l h s few part near.0 ∙ sym (int_wrap_fits w64 (whole_of l h +ℤ s) fits))
     (wholes_next n low high ss few parts.1 near.1)
 
-pub all_parts_next : (n m : ℕ) (low high ss : List ℤ) → n + 1 ≤ m → n + 1 < 32768 → Each2 (AreParts n) low high →
+all_parts_next : (n m : ℕ) (low high ss : List ℤ) → n + 1 ≤ m → n + 1 < 32768 → Each2 (AreParts n) low high →
     Each1 IsNear ss → Each2 (AreParts m) (lows_next low ss) (highs_next high ss)
 all_parts_next n m [] high ss le few parts near = tt
 all_parts_next n m (l ∷ low) [] [] le few parts near = tt
@@ -256,7 +256,7 @@ shifted_fits : (n : ℕ) (h : ℤ) (r : ℕ) → n < 32768 → unsigned_abs h �
 shifted_fits n (pos a) r few small rest = omega (arith, ints, few, small, rest, div-add-mod' r 32768)
 shifted_fits n (negsuc a) r few small rest = omega (arith, ints, few, small, rest, div-add-mod' r 32768)
 
-abbrev pub shift_of : ℤ → ℤ → ℤ
+abbrev shift_of : ℤ → ℤ → ℤ
 shift_of low high = int_wrap w32 (int_wrap w32 (high +ℤ high) +ℤ shr_z
     (int_wrap w32 (low -ℤ int_wrap w32 (high *ℤ pos (2 ^ 16)))) (2 ^ 15))
 
@@ -276,7 +276,7 @@ shift_is n low high few parts =
     ∙ sym (down_more high parts.rest)
     ∙ ap (λ r. shr_z ((high *ℤ pos 65536) +ℤ r) (2 ^ 15)) (sym parts.rest_is)
 
-pub shifts_are : (n : ℕ) (low high : List ℤ) → n < 32768 → Each2 (AreParts n) low high →
+shifts_are : (n : ℕ) (low high : List ℤ) → n < 32768 → Each2 (AreParts n) low high →
     zip2 shift_of low high ≡ map (λ s. shr_z s (2 ^ 15)) (wholes low high)
 shifts_are n [] high few parts = refl
 shifts_are n (l ∷ low) [] few parts = refl
@@ -314,7 +314,7 @@ high_raised high ps f g long =
     ∙ zip2-right (λ h d. int_wrap w32 (h +ℤ d)) down high ds
     ∙ zip2-right (λ h z. int_wrap w32 (h +ℤ down z)) less high ps
 
-abbrev pub shifted_lanes : List ℤ → List ℤ → List ℕ
+abbrev shifted_lanes : List ℤ → List ℤ → List ℕ
 shifted_lanes low high =
     zip2 (plus_in w32) (zip2 (plus_in w32) (bits_of w32 high) (bits_of w32 high))
     (zip2 (down_in w32) (zip2 (act2 wrap_sub (s_int w32) (s_int w32) (s_int w32)) (bits_of w32 low)

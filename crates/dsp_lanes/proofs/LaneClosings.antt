@@ -3,6 +3,7 @@ use Rattle.std.proofs.Common.{ℕ, ◌≡◌, ◌<◌, ◌≤◌, ◌+◌, ◌-�
 use Rattle.std.proofs.Common.{replicate, refl, sym, ap, subst, ◌∙◌, arith, w32, w64}
 use Rattle.std.proofs.lemmas.Int.{ints, int_wrap_fits, SFits-int_wrap}
 use Rattle.std.proofs.lemmas.Simd.{length-chunk, length-zip2, zip2_splat, map-map, Each1-replicate, length-replicate}
+use Rattle.std.proofs.lemmas.List.{map-id}
 use Rattle.std.specs.Prelude.{ℤ, pos, negsuc, ◌+ℤ◌, ◌-ℤ◌, ◌*ℤ◌, neg_ℤ}
 use Rattle.std.specs.Int.{int_wrap, saturate_to_bits}
 use Rattle.std.specs.List.{All}
@@ -17,7 +18,7 @@ use Rattle.dsp_lanes.proofs.WordLemmas.{left, wrap_bits-is, wrap_bits-congruent}
 use Rattle.dsp_lanes.proofs.LaneOps.{splat_bits, bits_of, cast_lanes, widened, group_fits, narrowed, narrow_asked}
 use Rattle.dsp_lanes.proofs.LaneOps.{narrow_is, shifted, shifted_up, each_shift_fits, Each1-map, map-same, map-zip2}
 use Rattle.dsp_lanes.proofs.LaneOps.{length-map}
-use Rattle.dsp_lanes.proofs.LaneSums.{map-self, times_in, products_in}
+use Rattle.dsp_lanes.proofs.LaneSums.{times_in, products_in}
 
 abbrev pub down_in : Width → ℕ → ℕ → ℕ
 down_in v = act2 (shr signed) (s_int v) (s_int v) (s_int v)
@@ -31,7 +32,7 @@ Castable v w lanes = Each1 (Asks1 (cast signed signed w) (s_int v)) lanes
 -- a group that is stored, in numbers
 pub stored : (at : ℕ) (out vs ws : List ℤ) → vs ≡ ws →
     map (λ x. x) (put_chunk at out vs) ≡ put_chunk at (map (λ x. x) out) ws
-stored at out vs ws e = map-self (put_chunk at out vs) ∙ (λ i. put_chunk at (sym (map-self out) i) (e i))
+stored at out vs ws e = map-id (put_chunk at out vs) ∙ (λ i. put_chunk at (sym (map-id out) i) (e i))
 
 -- a shift down, a saturation and a cast
 pub shift_saturates : (v w : Width) → hbits w ≤ hbits v → (n s : ℕ) (lanes : List ℕ) (xs : List ℤ) →
@@ -56,7 +57,7 @@ module _ (w v : Width) (wide : hbits w ≤ hbits v) (room : 2 ^ hbits w * 2 ^ hb
       (replicate n s))
 
   -- the products of two groups, shifted and saturated
-  pub products_close : (n s : ℕ) (xs ys : List ℤ) → length xs ≡ n → length ys ≡ n → Each1 (SFits w) xs →
+  products_close : (n s : ℕ) (xs ys : List ℤ) → length xs ≡ n → length ys ≡ n → Each1 (SFits w) xs →
       Each1 (SFits w) ys
       → Castable v w (product_lanes n s xs ys)
       × (map (to_z w) (cast_lanes v w (product_lanes n s xs ys)) ≡ zip2
@@ -82,10 +83,10 @@ module _ (w v : Width) (wide : hbits w ≤ hbits v) (room : 2 ^ hbits w * 2 ^ hb
       (group_fits w at n a f room_a) (group_fits w at n b g room_b) in (
         closed.0,
         closed.1 ∙ (λ i. zip2 (λ x y. saturate_to_bits (hbits w) (shr_z (x *ℤ y) (2 ^ s)))
-            (chunk at n (sym (map-self a) i)) (chunk at n (sym (map-self b) i))),
+            (chunk at n (sym (map-id a) i)) (chunk at n (sym (map-id b) i))),
       )
 
-  abbrev pub scaled_lanes : ℕ → ℕ → List ℤ → ℤ → List ℕ
+  abbrev scaled_lanes : ℕ → ℕ → List ℤ → ℤ → List ℕ
   scaled_lanes n s xs t = narrowed v w n (zip2 (down_in v)
       (zip2 (times_in v) (widened w v xs) (cast_lanes w v (replicate n (of_z w t)))) (replicate n s))
 
@@ -110,7 +111,7 @@ module _ (w v : Width) (wide : hbits w ≤ hbits v) (room : 2 ^ hbits w * 2 ^ hb
             ∙ closed.1
             ∙ zip2_splat code xs n t long
             ∙ (λ i. map (λ x. saturate_to_bits (hbits w) (shr_z (x *ℤ t) (2 ^ same i)))
-            (chunk at n (sym (map-self a) i))),
+            (chunk at n (sym (map-id a) i))),
       )
 
 -- ---- the low 32 bits of 64

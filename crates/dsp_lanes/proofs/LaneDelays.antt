@@ -1,12 +1,13 @@
 -- A tap's terms of a sparse filter, added in lanes of 64 bits and wrapped to 32.
 use Rattle.std.proofs.Common.{ℕ, ◌≡◌, ◌≤◌, ◌+◌, List, [], ◌∷◌, length, map, refl, sym, ap, ◌∙◌, arith, w32, w64}
 use Rattle.std.proofs.lemmas.Simd.{length-chunk, length-zip2}
+use Rattle.std.proofs.lemmas.List.{map-id}
 use Rattle.std.specs.Prelude.{ℤ}
 use Rattle.std.specs.Int.{int_wrap}
 use lib.Lanes.{zip2, chunk, put_chunk}
 use mir.Val.{to_z}
 use Rattle.dsp_lanes.proofs.LaneOps.{bits_of, ints_of_bits, each_widens, map-zip2}
-use Rattle.dsp_lanes.proofs.LaneSums.{map-self, summed_fit}
+use Rattle.dsp_lanes.proofs.LaneSums.{summed_fit}
 use Rattle.dsp_lanes.proofs.LaneClosings.{stored, low_lanes, low_lanes_are, wrap-narrow, words_fit}
 
 -- sums that were taken in 64 bits, wrapped to 32 and stored
@@ -28,8 +29,8 @@ delays_stored f at n sums window lanes room_s room_w e =
     (words_fit raised))
     ∙ map-zip2 (int_wrap w32) (λ s x. int_wrap w64 (f s x)) ss xs
     ∙ narrowed ss xs
-    ∙ (λ i. zip2 (λ s x. int_wrap w32 (f s x)) (chunk at n (sym (map-self sums) i))
-    (chunk at n (sym (map-self window) i))))
+    ∙ (λ i. zip2 (λ s x. int_wrap w32 (f s x)) (chunk at n (sym (map-id sums) i))
+    (chunk at n (sym (map-id window) i))))
   where
     narrowed : (ss xs : List ℤ) → zip2 (λ s x. int_wrap w32 (int_wrap w64 (f s x))) ss xs ≡ zip2
         (λ s x. int_wrap w32 (f s x)) ss xs

@@ -15,6 +15,7 @@ use Rattle.dsp_defs.proofs.Signal.{values_cong, values-add, sum_below_cong, sum_
 use Rattle.dsp_defs.proofs.SumLemmas.{same_numbers}
 use Rattle.dsp_lanes.specs.Regrouped.{list_sum}
 use Rattle.dsp_lanes.specs.Rows.{row, IsRow}
+use Rattle.dsp_lanes.proofs.Groups.{put_chunk-append}
 
 pub chunk-values : (p n : ℕ) (xs : List ℤ) → p + n ≤ length xs → chunk p n xs ≡ values n (λ i. sample xs (p + i))
 chunk-values p n xs room =
@@ -102,6 +103,26 @@ rows-group f at n new old room done is =
     ∙ ap (λ l. l ++ ys) done
     ∙ sym (values-add at n f)
 
+-- two groups of outputs, one behind the other
+pub rows-double : (f : ℕ → ℤ) (at n m : ℕ) (old mid new : List ℤ) → m ≡ n + n → at + m ≤ length old →
+    mid ≡ put_chunk at old (values n (λ i. f (at + i))) →
+    new ≡ put_chunk (at + n) mid (values n (λ i. f (at + n + i))) →
+    new ≡ put_chunk at old (values m (λ i. f (at + i)))
+rows-double f at n m old mid new both room first second =
+    let xs = values n (λ i. f (at + i)) in
+    let ys = values n (λ i. f (at + n + i)) in
+    let long_x : length xs ≡ n = length-map-range_with_len (λ i. f (at + i)) 0 n in
+    let long_y : length ys ≡ n = length-map-range_with_len (λ i. f (at + n + i)) 0 n in
+    let behind : (i : ℕ) → at + (n + i) ≡ at + n + i = λ i. omega arith in
+    let joined : values m (λ i. f (at + i)) ≡ xs ++ ys =
+    ap (λ k. values k (λ i. f (at + i))) both
+    ∙ values-add n n (λ i. f (at + i))
+    ∙ (λ k. xs ++ values n (λ i. f (behind i k))) in
+    second
+    ∙ (λ i. put_chunk (at + sym long_x i) (first i) ys)
+    ∙ sym (put_chunk-append at old xs ys (omega (arith, room, both, long_x, long_y)))
+    ∙ ap (put_chunk at old) (sym joined)
+
 -- the next output
 pub rows-one : (f : ℕ → ℤ) (at m : ℕ) (old : List ℤ) (v : ℤ) → m ≡ at + 1 → at < length old →
     take at old ≡ values at f → v ≡ f at → take m (set old at v) ≡ values m f
@@ -126,10 +147,6 @@ list_sum-wraps w (s ∷ lanes) (p ∷ ps) e =
     ∙ ap (λ z. int_wrap w ((s +ℤ p) +ℤ z)) (list_sum-wraps w lanes ps (omega arith))
     ∙ int_wrap-add_right w (s +ℤ p) (list_sum lanes +ℤ list_sum ps)
     ∙ ap (int_wrap w) (omega (arith, ints))
-
-pub list_sum-zeros : (n : ℕ) → list_sum (replicate n (pos 0)) ≡ pos 0
-list_sum-zeros zero = refl
-list_sum-zeros (suc n) = +ℤ_idl (list_sum (replicate n (pos 0))) ∙ list_sum-zeros n
 
 -- the products of a group, in order
 pub products-chunk : (at n : ℕ) (xs ys : List ℤ) → at + n ≤ length xs → at + n ≤ length ys

@@ -3,6 +3,7 @@ use Rattle.std.proofs.Common.{ℕ, ◌≡◌, ◌<◌, ◌≤◌, ◌+◌, ◌*�
 use Rattle.std.proofs.Common.{sym, ap, subst, ◌∙◌, arith}
 use Rattle.std.proofs.lemmas.Int.{int_wrap_fits, SFits-int_wrap, int_wrap-add_left, to_z-of_z}
 use Rattle.std.proofs.lemmas.Simd.{length-chunk, Each1-replicate}
+use Rattle.std.proofs.lemmas.List.{map-id}
 use Rattle.std.specs.Prelude.{ℤ, pos, ◌+ℤ◌, ◌*ℤ◌}
 use Rattle.std.specs.Int.{int_wrap}
 use Rattle.std.specs.List.{All}
@@ -22,10 +23,6 @@ plus_in v = act2 wrap_add (s_int v) (s_int v) (s_int v)
 
 abbrev pub times_in : Width → ℕ → ℕ → ℕ
 times_in v = act2 wrap_mul (s_int v) (s_int v) (s_int v)
-
-pub map-self : (xs : List ℤ) → map (λ x. x) xs ≡ xs
-map-self [] = refl
-map-self (x ∷ xs) = ap (λ l. x ∷ l) (map-self xs)
 
 -- numbers that were computed in lanes, read back
 pub lanes_read : (v : Width) (lanes : List ℕ) (xs : List ℤ) → lanes ≡ bits_of v xs → Each1 (SFits v) xs →
@@ -70,7 +67,7 @@ module _ (w v : Width) (wide : hbits w ≤ hbits v) (room : 2 ^ hbits w * 2 ^ hb
       let made = products_in xs ys f g in
       ap (zip2 (plus_in v) (bits_of v lanes)) made.0 ∙ added v lanes (zip2 (λ x y. x *ℤ y) xs ys) h made.1
 
-  abbrev pub added_lanes : List ℤ → List ℤ → List ℤ → List ℕ
+  abbrev added_lanes : List ℤ → List ℤ → List ℤ → List ℕ
   added_lanes lanes xs ys = zip2 (plus_in v) (bits_of v lanes) (zip2 (times_in v) (widened w v xs) (widened w v ys))
 
   pub products_added : (at n : ℕ) (lanes taps window : List ℤ) → Each1 (SFits v) lanes → All (SFits w) taps →
@@ -85,8 +82,8 @@ module _ (w v : Width) (wide : hbits w ≤ hbits v) (room : 2 ^ hbits w * 2 ^ hb
       let made = lanes_read v (added_lanes lanes xs ys) (raised v lanes (zip2 (λ t x. t *ℤ x) xs ys))
       (products_raise lanes xs ys h (group_fits w at n taps f room_t) (group_fits w at n window g room_w))
       (raised_fit v lanes (zip2 (λ t x. t *ℤ x) xs ys)) in (
-        made.0 ∙ (λ i. raised v lanes (zip2 (λ t x. t *ℤ x) (chunk at n (sym (map-self taps) i))
-            (chunk at n (sym (map-self window) i)))),
+        made.0 ∙ (λ i. raised v lanes (zip2 (λ t x. t *ℤ x) (chunk at n (sym (map-id taps) i))
+            (chunk at n (sym (map-id window) i)))),
         made.1,
       )
 
@@ -100,7 +97,7 @@ module _ (w v : Width) (wide : hbits w ≤ hbits v) (room : 2 ^ hbits w * 2 ^ hb
   raised_multiples (suc n) t (s ∷ lanes) (y ∷ ys) e = ap (λ l. int_wrap v (s +ℤ (t *ℤ y)) ∷ l)
       (raised_multiples n t lanes ys (omega arith))
 
-  abbrev pub multiple_lanes : ℕ → List ℤ → ℤ → List ℤ → List ℕ
+  abbrev multiple_lanes : ℕ → List ℤ → ℤ → List ℤ → List ℕ
   multiple_lanes n lanes t ys = zip2 (plus_in v) (bits_of v lanes)
       (zip2 (times_in v) (cast_lanes w v (replicate n (of_z w t))) (widened w v ys))
 
@@ -124,7 +121,7 @@ module _ (w v : Width) (wide : hbits w ≤ hbits v) (room : 2 ^ hbits w * 2 ^ hb
       let made = lanes_read v (multiple_lanes n lanes t ys) (zip2 (λ s x. int_wrap v (s +ℤ (t *ℤ x))) lanes ys)
       (multiples_raise n lanes t ys (length-chunk at n window room_w) h f (group_fits w at n window g room_w))
       (summed_fit v (λ s x. s +ℤ (t *ℤ x)) lanes ys) in
-      (made.0 ∙ ap (λ l. zip2 (λ s x. int_wrap v (s +ℤ (t *ℤ x))) lanes (chunk at n l)) (sym (map-self window)), made.1)
+      (made.0 ∙ ap (λ l. zip2 (λ s x. int_wrap v (s +ℤ (t *ℤ x))) lanes (chunk at n l)) (sym (map-id window)), made.1)
 
 -- `reduce_sum`
 pub reduces : (v : Width) (a : ℤ) (xs : List ℤ) → SFits v a → Each1 (SFits v) xs →

@@ -5,7 +5,7 @@ pub mod LaneSums
 pub mod LaneClosings
 mod LaneDelays
 pub mod HighProducts
-mod WordViews
+pub mod WordViews
 mod Moves
 pub mod Groups
 pub mod LaneRows

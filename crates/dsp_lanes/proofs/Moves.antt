@@ -61,7 +61,7 @@ module _ (k m : ℕ) (some : 1 ≤ k) (room : suc m * 2 ^ k ≡ 2 ^ 31) where
       ∙ int_wrap_fits w32 p f
 
   -- the number by its sign
-  pub closes : (h : ℤ) → SFits w32 h → closed k m (kept m h) ≡ saturate_to_bits 31 (h *ℤ pos (2 ^ k))
+  closes : (h : ℤ) → SFits w32 h → closed k m (kept m h) ≡ saturate_to_bits 31 (h *ℤ pos (2 ^ k))
   closes (pos a) f = by (nat_lt a (suc m)) refl
     where
       by : (t : Bool) → nat_lt a (suc m) ≡ t → closed k m (kept m (pos a)) ≡ saturate_to_bits 31 (pos a *ℤ pos (2 ^ k))
@@ -117,18 +117,18 @@ power_bits k few = by (nat_lt k 31) refl
         ap (λ n. of_z w32 (int_wrap w32 (pos (2 ^ n)))) is ∙ top_bit ∙ ap (λ n. 2 ^ n) (sym is)
 
 -- ---- lanes
-abbrev minus_in : ℕ → ℕ → ℕ
+abbrev pub minus_in : ℕ → ℕ → ℕ
 minus_in = act2 wrap_sub (s_int w32) (s_int w32) (s_int w32)
 
-abbrev pub kept_lanes : ℕ → ℕ → List ℤ → List ℕ
+abbrev kept_lanes : ℕ → ℕ → List ℤ → List ℕ
 kept_lanes n m xs = greater w32 (lesser w32 (bits_of w32 xs) (replicate n (of_z w32 (to_z w32 m +ℤ pos 1))))
     (replicate n (2 ^ 32 - suc m))
 
-abbrev pub grown_lanes : ℕ → ℕ → ℕ → List ℤ → List ℕ
+abbrev grown_lanes : ℕ → ℕ → ℕ → List ℤ → List ℕ
 grown_lanes n k m xs = zip2 (plus_in w32) (zip2 (up_in w32) (kept_lanes n m xs) (replicate n k))
     (zip2 (down_in w32) (zip2 minus_in (replicate n m) (kept_lanes n m xs)) (replicate n 31))
 
-most_fits : (w c : ℤ) → SFits w32 w → SFits w32 c → SFits w32 (most w c)
+pub most_fits : (w c : ℤ) → SFits w32 w → SFits w32 c → SFits w32 (most w c)
 most_fits w c f g = by (lt_z w c)
   where
     by : (t : Bool) → SFits w32 (cond t c w)
@@ -232,7 +232,7 @@ lowered_are n (negsuc a) xs low high long f =
     ∙ ints_of_bits w32 (map (λ h. shr_z h (2 ^ suc a)) xs) (each_shift_fits w32 (suc a) xs f)
 
 -- ---- either way
-pub moved_fit : (s : ℤ) (xs : List ℤ) → Each1 (SFits w32) xs → Each1 (SFits w32) (map (λ h. shift_in 32 h s) xs)
+moved_fit : (s : ℤ) (xs : List ℤ) → Each1 (SFits w32) xs → Each1 (SFits w32) (map (λ h. shift_in 32 h s) xs)
 moved_fit s xs f = Each1-map (SFits w32) (SFits w32) (λ h. shift_in 32 h s) (one s) xs f
   where
     one : (s h : ℤ) → SFits w32 h → SFits w32 (shift_in 32 h s)

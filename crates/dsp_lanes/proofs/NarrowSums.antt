@@ -16,7 +16,7 @@ use Rattle.dsp_lanes.proofs.HalfSums.{each_odd, length-evens, length-odds, list_
 abbrev product_lanes : List ℤ → List ℤ → List ℕ
 product_lanes ts xs = zip2 (times_in w32) (widened w16 w32 ts) (widened w16 w32 xs)
 
-abbrev pub narrow_lanes : List ℤ → List ℤ → List ℤ → List ℕ
+abbrev narrow_lanes : List ℤ → List ℤ → List ℤ → List ℕ
 narrow_lanes sums ts xs = zip2 (plus_in w32) (bits_of w32 sums)
     (zip2 (plus_in w32) (picked (product_lanes ts xs) (0 ∷ 2 ∷ 4 ∷ 6 ∷ []))
     (picked (product_lanes ts xs) (1 ∷ 3 ∷ 5 ∷ 7 ∷ [])))

@@ -4,7 +4,7 @@ use Rattle.std.proofs.Common.{◌+ℤ◌, ◌*ℤ◌, refl, sym, ap, ◌∙◌, 
 use Rattle.std.proofs.lemmas.Int.{ints, SFits-int_wrap, int_wrap_fits, int_wrap-add_left, int_wrap-add_right}
 use Rattle.std.proofs.lemmas.Int.{unsigned_abs-mul, fits_signed_from_abs}
 use Rattle.std.proofs.lemmas.Bool.{cases_lt}
-use Rattle.std.proofs.lemmas.List.{get_or_past}
+use Rattle.std.proofs.lemmas.List.{get_or_past, map-id}
 use Rattle.std.proofs.lemmas.List.Sums.{sum_by-cons}
 use Rattle.std.proofs.lemmas.Simd.{length-zip2, Each1-replicate, length-replicate, length-chunk}
 use Rattle.std.proofs.Math.IntN.{*ℤ_comm, +ℤ_assoc}
@@ -22,7 +22,7 @@ use Rattle.dsp_lanes.specs.Pairs.{four, pair_sum, repeated, in_turn}
 use Rattle.dsp_lanes.specs.Rows.{row}
 use Rattle.dsp_lanes.proofs.LaneOps.{splat_bits, bits_of, widened, casts_are, casts_asked, ints_of_bits, group_fits}
 use Rattle.dsp_lanes.proofs.LaneOps.{added, multiplied, each_widens, each_pair, zip2-same}
-use Rattle.dsp_lanes.proofs.LaneSums.{map-self, plus_in, times_in, raised, raised_fit, summed_fit, lanes_read}
+use Rattle.dsp_lanes.proofs.LaneSums.{plus_in, times_in, raised, raised_fit, summed_fit, lanes_read}
 use Rattle.dsp_lanes.proofs.LaneClosings.{Castable}
 use Rattle.dsp_lanes.proofs.LaneRows.{chunk-values}
 use Rattle.dsp_lanes.proofs.HalfSums.{picked, evens, odds, products, evens_of_eight, odds_of_eight, each_even}
@@ -222,7 +222,7 @@ half_is taps window sums pairs j at f is =
     (ap (pair_lanes sums) is ∙ added w32 sums ps f (four_fits taps window j at)) (raised_fit w32 sums ps)).0
 
 -- values two apart, for even and odd places, are values one apart
-pub fours_in_turn : (w : Width) (g : ℕ → ℤ) (even odd : List ℤ) (at : ℕ) → length even ≡ 4 → length odd ≡ 4
+fours_in_turn : (w : Width) (g : ℕ → ℤ) (even odd : List ℤ) (at : ℕ) → length even ≡ 4 → length odd ≡ 4
     → in_turn (raised w even (four g at)) (raised w odd (four g (at + 1))) ≡ raised w (in_turn even odd)
     (values 8 (λ k. g (at + k)))
 fours_in_turn w g even odd at long_even long_odd =
@@ -282,7 +282,7 @@ eight_read w narrow at samples f room =
     let wide : Each1 (SFits w32) xs = each_widens w w32 small xs fit in
     let is = ap (map (to_z w32)) (casts_are w w32 xs fit) ∙ ints_of_bits w32 xs wide in (
       casts_asked w w32 xs fit wide,
-      is ∙ ap (chunk at 8) (sym (map-self samples)),
+      is ∙ ap (chunk at 8) (sym (map-id samples)),
       subst (λ (l : List ℤ). Each1 (SFits w16) l) (sym is) (each_widens w w16 narrow xs fit),
     )
 

@@ -20,7 +20,7 @@ use Rattle.dsp_lanes.specs.MatrixRows.{column_of, column_sum}
 use Rattle.dsp_lanes.specs.Rows.{row}
 use Rattle.dsp_lanes.proofs.LaneOps.{bits_of, cast_lanes, casts_are, casts_asked, ints_of_bits, group_fits, each_widens}
 use Rattle.dsp_lanes.proofs.LaneClosings.{Castable}
-use Rattle.dsp_lanes.proofs.LaneRows.{wrap-zero, chunk-values}
+use Rattle.dsp_lanes.proofs.LaneRows.{chunk-values}
 use Rattle.dsp_lanes.proofs.LaneSums.{raised}
 use Rattle.dsp_lanes.proofs.HalfSums.{in_turn_of_eight, turned_eight, each_in_turn}
 use Rattle.dsp_lanes.proofs.PairSums.{narrow_wraps}
@@ -98,10 +98,6 @@ module _ (rows matrix : List ℤ) (given start : ℕ) where
       ∙ ap₂ (λ l m. raised w32 l (four (pair_sum rows m (start + j)) 0)) summed
       (read ∙ ap₂ in_turn (chunk-values at 4 matrix room) (chunk-values next 4 matrix behind))
       ∙ (λ i. e0 i ∷ e1 i ∷ e2 i ∷ e3 i ∷ [])
-
-  pub four-none : (column : ℕ) → pos 0 ∷ pos 0 ∷ pos 0 ∷ pos 0 ∷ [] ≡ values 4
-      (λ i. int_wrap w32 (column_sum rows matrix 0 given start (column + i)))
-  four-none column = (let z = wrap-zero w32 in λ i. z i ∷ z i ∷ z i ∷ z i ∷ [])
 
   pub four-fit : (columns column : ℕ) → Each1 (SFits w32)
       (values 4 (λ i. int_wrap w32 (column_sum rows matrix columns given start (column + i))))

@@ -12,25 +12,18 @@ use Rattle.dsp_lanes.specs.Regrouped.{wrap_bits}
 use Rattle.dsp_lanes.specs.Regrouped.{list_sum, wrapped_sum, lane_sums, regrouped_sum}
 use Rattle.dsp_lanes.proofs.WordLemmas.{wrap_bits-add_left, wrap_bits-add_right}
 
-pub list_sum-append : (xs ys : List ℤ) → list_sum (xs ++ ys) ≡ list_sum xs +ℤ list_sum ys
+list_sum-append : (xs ys : List ℤ) → list_sum (xs ++ ys) ≡ list_sum xs +ℤ list_sum ys
 list_sum-append [] ys = sym (+ℤ_idl (list_sum ys))
 list_sum-append (x ∷ xs) ys = ap (λ s. x +ℤ s) (list_sum-append xs ys) ∙ sym (+ℤ_assoc x (list_sum xs) (list_sum ys))
 
--- a sum with a wrap after each addition, once it is wrapped
-pub wrapped_sum_is : (n : ℕ) (s : ℤ) (xs : List ℤ) → wrap_bits n (wrapped_sum n s xs) ≡ wrap_bits n (s +ℤ list_sum xs)
-wrapped_sum_is n s [] = ap (wrap_bits n) (sym (+ℤ_idr s))
-wrapped_sum_is n s (x ∷ xs) =
-    wrapped_sum_is n (wrap_bits n (s +ℤ x)) xs ∙ wrap_bits-add_left n (s +ℤ x) (list_sum xs) ∙
-    ap (wrap_bits n) (+ℤ_assoc s x (list_sum xs))
-
 -- ... and without the last wrap, since each addition had one
-pub wrapped_sum_more : (n : ℕ) (s x : ℤ) (xs : List ℤ) → wrapped_sum n s (x ∷ xs) ≡ wrap_bits n (s +ℤ list_sum (x ∷ xs))
+wrapped_sum_more : (n : ℕ) (s x : ℤ) (xs : List ℤ) → wrapped_sum n s (x ∷ xs) ≡ wrap_bits n (s +ℤ list_sum (x ∷ xs))
 wrapped_sum_more n s x [] = ap (λ y. wrap_bits n (s +ℤ y)) (sym (+ℤ_idr x))
 wrapped_sum_more n s x (y ∷ ys) = wrapped_sum_more n (wrap_bits n (s +ℤ x)) y ys ∙
     wrap_bits-add_left n (s +ℤ x) (list_sum (y ∷ ys)) ∙ ap (wrap_bits n) (+ℤ_assoc s x (list_sum (y ∷ ys)))
 
 -- a group is added to the lanes
-pub list_sum-lanes : (n : ℕ) (lanes xs : List ℤ) → length lanes ≡ length xs →
+list_sum-lanes : (n : ℕ) (lanes xs : List ℤ) → length lanes ≡ length xs →
     wrap_bits n (list_sum (zip2 (λ s x. wrap_bits n (s +ℤ x)) lanes xs)) ≡ wrap_bits n (list_sum lanes +ℤ list_sum xs)
 list_sum-lanes n [] [] e = refl
 list_sum-lanes n [] (x ∷ xs) e = absurd (omega (arith, e))
@@ -43,7 +36,7 @@ list_sum-lanes n (s ∷ lanes) (x ∷ xs) e =
     ∙ wrap_bits-add_right n (s +ℤ x) (list_sum lanes +ℤ list_sum xs)
     ∙ ap (wrap_bits n) (omega (arith, ints))
 
-pub wrapped_sum_from : (n : ℕ) (s : ℤ) (xs : List ℤ) → wrapped_sum n (wrap_bits n s) xs ≡ wrap_bits n (s +ℤ list_sum xs)
+wrapped_sum_from : (n : ℕ) (s : ℤ) (xs : List ℤ) → wrapped_sum n (wrap_bits n s) xs ≡ wrap_bits n (s +ℤ list_sum xs)
 wrapped_sum_from n s [] = ap (wrap_bits n) (sym (+ℤ_idr s))
 wrapped_sum_from n s (x ∷ xs) = wrapped_sum_more n (wrap_bits n s) x xs ∙ wrap_bits-add_left n s (list_sum (x ∷ xs))
 

@@ -1,17 +1,14 @@
 -- The next weights of an adaptive filter, in lanes.
 use Rattle.std.proofs.Common.{ℕ, ◌≡◌, ◌≤◌, ◌-◌, ◌*◌, ◌^◌, List, [], ◌∷◌, ◌++◌, length, map, replicate, refl, sym, ap}
-use Rattle.std.proofs.Common.{ap₂, subst, ◌∙◌, arith, w16, w32, w64, Bool, true, false, cond}
+use Rattle.std.proofs.Common.{ap₂, subst, ◌∙◌, arith, w16, w32, w64}
 use Rattle.std.proofs.lemmas.Int.{ints, int_wrap_fits, SFits-int_wrap, to_z-of_z, unsigned_abs-mul}
 use Rattle.std.proofs.lemmas.Simd.{length-zip2, Each1-replicate, length-replicate, map-map, zip2_splat_left}
 use Rattle.std.proofs.Math.Nat.{mul-le-mul}
 use Rattle.std.specs.Prelude.{ℤ, pos, negsuc, ◌+ℤ◌, ◌-ℤ◌, ◌*ℤ◌, unsigned_abs}
 use Rattle.std.specs.Int.{int_wrap, saturate_to_bits}
 use lib.Lanes.{zip2, pick_l, Each1}
-use lib.Signed.{shr_z, lt_z, mag, mag_shr}
-use mir.Syntax.{wrap_sub}
+use lib.Signed.{shr_z, mag, mag_shr}
 use mir.Val.{SFits, to_z, of_z}
-use borrow.Table.Row.{s_int}
-use borrow.Rule.Simd.Lanes.{act2}
 use Rattle.dsp_sat.proofs.Words.{abs_within}
 use Rattle.dsp_lanes.proofs.LaneOps.{bits_of, splat_bits, ints_of_bits, cast_lanes, widened, narrowed, narrow_asked}
 use Rattle.dsp_lanes.proofs.LaneOps.{narrow_is, lesser, greater, lesser_is, greater_is, least_are, most_are, least}
@@ -23,6 +20,7 @@ use Rattle.dsp_lanes.proofs.LaneClosings.{Castable, down_in}
 use Rattle.dsp_lanes.proofs.HighProducts.{high, high_fits, highs_are, casts_down, zip2-self}
 use Rattle.dsp_lanes.proofs.HalfSums.{picked, evens, odds, by_four, evens_of_four, odds_of_four, each_even, each_odd}
 use Rattle.dsp_lanes.proofs.HalfSums.{length-evens, length-odds}
+use Rattle.dsp_lanes.proofs.Moves.{most_fits, minus_in}
 
 -- ---- weights of 16 bits
 small_sum : (a z : ℤ) → SFits w16 a → mag z ≤ 2 ^ 30 → SFits w32 (a +ℤ z)
@@ -40,7 +38,7 @@ change_small t x f g =
     mag_near (pos k) h = omega arith
     mag_near (negsuc k) h = omega arith
 
-abbrev pub grown_15 : List ℤ → ℤ → List ℤ → List ℕ
+abbrev grown_15 : List ℤ → ℤ → List ℤ → List ℕ
 grown_15 ws t xs =
     narrowed w32 w16 8 (zip2 (plus_in w32) (widened w16 w32 ws)
     (zip2 (down_in w32) (zip2 (times_in w32) (cast_lanes w16 w32 (replicate 8 (of_z w16 t))) (widened w16 w32 xs))
@@ -138,22 +136,19 @@ high_words_are t xs long f g =
     ((casts_down _ _ even.0 even.1).0, (casts_down _ _ odd.0 odd.1).0, read.0, read.1)
 
 -- ---- saturated sums of 32 bits
-abbrev minus_in : ℕ → ℕ → ℕ
-minus_in = act2 wrap_sub (s_int w32) (s_int w32) (s_int w32)
-
 abbrev greatest : ℤ
 greatest = pos (2 ^ 31 - 1)
 
 abbrev smallest : ℤ
 smallest = negsuc (2 ^ 31 - 1)
 
-abbrev pub saturated_lanes : List ℤ → List ℤ → List ℕ
-saturated_lanes ws ds =
+abbrev saturated_lanes : ℕ → List ℤ → List ℤ → List ℕ
+saturated_lanes n ws ds =
     zip2 (plus_in w32) (bits_of w32 ws)
     (greater w32
-    (lesser w32 (bits_of w32 ds) (zip2 minus_in (replicate 4 (of_z w32 greatest))
-    (greater w32 (bits_of w32 ws) (replicate 4 (of_z w32 (pos 0))))))
-    (zip2 minus_in (replicate 4 (of_z w32 smallest)) (lesser w32 (bits_of w32 ws) (replicate 4 (of_z w32 (pos 0))))))
+    (lesser w32 (bits_of w32 ds) (zip2 minus_in (replicate n (of_z w32 greatest))
+    (greater w32 (bits_of w32 ws) (replicate n (of_z w32 (pos 0))))))
+    (zip2 minus_in (replicate n (of_z w32 smallest)) (lesser w32 (bits_of w32 ws) (replicate n (of_z w32 (pos 0))))))
 
 -- how far a number is from the ends
 abbrev above : ℤ → ℤ
@@ -194,25 +189,18 @@ lanes_saturate [] ds f g = refl
 lanes_saturate (w ∷ ws) [] f g = refl
 lanes_saturate (w ∷ ws) (d ∷ ds) f g = ap₂ (λ a l. a ∷ l) (saturates w d f.0 g.0) (lanes_saturate ws ds f.1 g.1)
 
-most_fits : (w c : ℤ) → SFits w32 w → SFits w32 c → SFits w32 (most w c)
-most_fits w c f g = by (lt_z w c)
-  where
-    by : (t : Bool) → SFits w32 (cond t c w)
-    by true = g
-    by false = f
-
 -- the ends less a number that is cut at 0
-room_lanes : (e : ℤ) (ms : List ℤ) (lanes : List ℕ) → lanes ≡ bits_of w32 ms → length ms ≡ 4 → SFits w32 e →
+room_lanes : (n : ℕ) (e : ℤ) (ms : List ℤ) (lanes : List ℕ) → lanes ≡ bits_of w32 ms → length ms ≡ n → SFits w32 e →
     Each1 (SFits w32) ms
-    → zip2 minus_in (replicate 4 (of_z w32 e)) lanes ≡ bits_of w32 (map (λ m. int_wrap w32 (e -ℤ m)) ms)
-room_lanes e ms lanes is long f g =
-    (λ i. zip2 minus_in (splat_bits w32 4 e i) (is i))
-    ∙ subtracted w32 (replicate 4 e) ms (Each1-replicate (SFits w32) 4 e f) g
-    ∙ ap (bits_of w32) (zip2_splat_left (λ a b. int_wrap w32 (a -ℤ b)) e 4 ms long)
+    → zip2 minus_in (replicate n (of_z w32 e)) lanes ≡ bits_of w32 (map (λ m. int_wrap w32 (e -ℤ m)) ms)
+room_lanes n e ms lanes is long f g =
+    (λ i. zip2 minus_in (splat_bits w32 n e i) (is i))
+    ∙ subtracted w32 (replicate n e) ms (Each1-replicate (SFits w32) n e f) g
+    ∙ ap (bits_of w32) (zip2_splat_left (λ a b. int_wrap w32 (a -ℤ b)) e n ms long)
 
-pub saturated_are : (ws ds : List ℤ) → length ws ≡ 4 → Each1 (SFits w32) ws → Each1 (SFits w32) ds →
-    map (to_z w32) (saturated_lanes ws ds) ≡ zip2 (λ w d. saturate_to_bits 31 (w +ℤ d)) ws ds
-saturated_are ws ds long f g =
+pub saturated_are : (n : ℕ) (ws ds : List ℤ) → length ws ≡ n → Each1 (SFits w32) ws → Each1 (SFits w32) ds →
+    map (to_z w32) (saturated_lanes n ws ds) ≡ zip2 (λ w d. saturate_to_bits 31 (w +ℤ d)) ws ds
+saturated_are n ws ds long f g =
     let zero_fits : SFits w32 (pos 0) = omega (arith, ints) in
     let ups = map (λ x. most x (pos 0)) ws in
     let downs = map (λ x. least x (pos 0)) ws in
@@ -220,10 +208,10 @@ saturated_are ws ds long f g =
     f in
     let downs_fit = Each1-map (SFits w32) (SFits w32) (λ x. least x (pos 0))
     (λ x q. least_fits w32 (pos 0) x zero_fits q) ws f in
-    let tops = room_lanes greatest ups _ (most_are w32 4 (pos 0) ws long f zero_fits)
+    let tops = room_lanes n greatest ups _ (most_are w32 n (pos 0) ws long f zero_fits)
     (length-map (λ x. most x (pos 0)) ws ∙ long) (omega (arith, ints)) ups_fit
     ∙ ap (bits_of w32) (map-map (λ m. int_wrap w32 (greatest -ℤ m)) (λ x. most x (pos 0)) ws) in
-    let bottoms = room_lanes smallest downs _ (least_are w32 4 (pos 0) ws long f zero_fits)
+    let bottoms = room_lanes n smallest downs _ (least_are w32 n (pos 0) ws long f zero_fits)
     (length-map (λ x. least x (pos 0)) ws ∙ long) (omega (arith, ints)) downs_fit
     ∙ ap (bits_of w32) (map-map (λ m. int_wrap w32 (smallest -ℤ m)) (λ x. least x (pos 0)) ws) in
     let above_fit = Each1-map (SFits w32) (SFits w32) above (λ x q. SFits-int_wrap w32 (greatest -ℤ most x (pos 0)))
@@ -235,13 +223,13 @@ saturated_are ws ds long f g =
     above_fit in
     let ends = zip2 most mids (map below ws) in
     let ends_fit = each_pair (SFits w32) (SFits w32) most most_fits mids (map below ws) mids_fit below_fit in
-    let lanes : saturated_lanes ws ds ≡ bits_of w32 (zip2 (λ a b. int_wrap w32 (a +ℤ b)) ws ends) =
+    let lanes : saturated_lanes n ws ds ≡ bits_of w32 (zip2 (λ a b. int_wrap w32 (a +ℤ b)) ws ends) =
     (λ i. zip2 (plus_in w32) (bits_of w32 ws) (greater w32 (lesser w32 (bits_of w32 ds) (tops i)) (bottoms i)))
     ∙ ap (λ l. zip2 (plus_in w32) (bits_of w32 ws) (greater w32 l (bits_of w32 (map below ws))))
     (lesser_is w32 ds (map above ws) g above_fit)
     ∙ ap (zip2 (plus_in w32) (bits_of w32 ws)) (greater_is w32 mids (map below ws) mids_fit below_fit)
     ∙ added w32 ws ends f ends_fit in
-    (lanes_read w32 (saturated_lanes ws ds) (zip2 (λ a b. int_wrap w32 (a +ℤ b)) ws ends) lanes
+    (lanes_read w32 (saturated_lanes n ws ds) (zip2 (λ a b. int_wrap w32 (a +ℤ b)) ws ends) lanes
     (summed_fit w32 (λ a b. a +ℤ b) ws ends)).0
     ∙ lanes_saturate ws ds f g
 
@@ -274,3 +262,9 @@ grown_31_is ws xs hs new t e f g h high_is is =
     is
     ∙ (λ i. zip2 cut (ints_of_bits w32 ws f i) (changes i))
     ∙ zip2-right cut (λ x. int_wrap w32 (pos 2 *ℤ high t x)) ws xs
+
+-- the sums of numbers with themselves, as they are passed on
+pub doubled_fit : (hs : List ℤ) → Each1 (SFits w32) hs →
+    Each1 (SFits w32) (map (to_z w32) (zip2 (plus_in w32) (bits_of w32 hs) (bits_of w32 hs)))
+doubled_fit hs h = (lanes_read w32 (zip2 (plus_in w32) (bits_of w32 hs) (bits_of w32 hs))
+    (zip2 (λ a b. int_wrap w32 (a +ℤ b)) hs hs) (added w32 hs hs h h) (summed_fit w32 (λ a b. a +ℤ b) hs hs)).1

@@ -58,7 +58,7 @@ digits_number_32 (x ∷ xs) f =
     (λ i. low i ∷ digits_l (2 ^ 32) (length xs) (high i)) ∙ ap (λ l. x ∷ l) (digits_number_32 xs f.1)
 
 -- ---- pairs of words
-abbrev pub pair : ℤ → ℤ → ℤ
+abbrev pair : ℤ → ℤ → ℤ
 pair x y = pos (of_z w32 x) +ℤ (y *ℤ pos (2 ^ 32))
 
 abbrev pub pairs : List ℤ → List ℤ
@@ -139,7 +139,7 @@ whole (negsuc n) f =
 low_fits : (z : ℤ) → SFits w32 (low z)
 low_fits z = let m = of_z w64 z % 2 ^ 32 in omega (arith, ints)
 
-high_fits : (z : ℤ) → SFits w64 z → SFits w32 (shr_z z (2 ^ 32))
+pub high_fits : (z : ℤ) → SFits w64 z → SFits w32 (shr_z z (2 ^ 32))
 high_fits (pos n) f = omega (arith, ints, f)
 high_fits (negsuc n) f = omega (arith, ints, f)
 
@@ -147,7 +147,7 @@ pairs_halves : (zs : List ℤ) → Each1 (SFits w64) zs → pairs (halves zs) �
 pairs_halves [] f = refl
 pairs_halves (z ∷ zs) f = (λ i. whole z f.0 i ∷ pairs_halves zs f.1 i)
 
-halves_fit : (zs : List ℤ) → Each1 (SFits w64) zs → Each1 (SFits w32) (halves zs)
+pub halves_fit : (zs : List ℤ) → Each1 (SFits w64) zs → Each1 (SFits w32) (halves zs)
 halves_fit [] f = tt
 halves_fit (z ∷ zs) f = (low_fits z, (high_fits z f.0, halves_fit zs f.1))
 
@@ -194,7 +194,7 @@ pair_high (negsuc a) (negsuc b) f =
     let part : (b * 2 ^ 32 + a) / 2 ^ 32 ≡ b = omega (arith, ints, f) in
     ap (λ z. shr_z z (2 ^ 32)) is ∙ ap negsuc part
 
-pairs_low : (xs : List ℤ) → Each1 (SFits w32) xs → map (int_wrap w32) (pairs xs) ≡ evens xs
+pub pairs_low : (xs : List ℤ) → Each1 (SFits w32) xs → map (int_wrap w32) (pairs xs) ≡ evens xs
 pairs_low [] f = refl
 pairs_low (x ∷ []) f = refl
 pairs_low (x ∷ y ∷ xs) f = (λ i. pair_low x y f.0 i ∷ pairs_low xs f.1.1 i)
@@ -260,7 +260,7 @@ read_fit w xs f = (lanes_read w (bits_of w xs) xs refl f).1
 pub read_long : (w : Width) (n : ℕ) (xs : List ℤ) → length xs ≡ n → length (map (to_z w) (bits_of w xs)) ≡ n
 read_long w n xs long = length-map (bits_of w xs) (to_z w) ∙ length-map xs (of_z w) ∙ long
 
-abbrev pub product_words : List ℤ → List ℤ → List ℤ
+abbrev product_words : List ℤ → List ℤ → List ℤ
 product_words xs ts = map (to_z w64) (zip2 (times_in w64) (bits_of w64 xs) (bits_of w64 ts))
 
 products_are : (xs : List ℤ) (t : ℤ) → length xs ≡ 4 → Each1 (SFits w32) xs → SFits w32 t →

@@ -1,6 +1,7 @@
 -- Sums of products at places that lie two apart.
-use Rattle.std.specs.Prelude.{ℕ, ◌+◌, ℤ, ◌+ℤ◌, ◌*ℤ◌, List, [], ◌∷◌}
-use Rattle.dsp_defs.specs.Numbers.{wrap, w32}
+use Rattle.std.specs.Prelude.{ℕ, ◌≡◌, ◌+◌, ℤ, ◌+ℤ◌, ◌*ℤ◌, List, [], ◌∷◌, FitsSigned, length}
+use Rattle.std.specs.Simd.Lanes.{Each1}
+use Rattle.dsp_defs.specs.Numbers.{Width, wrap, w32}
 use Rattle.dsp_defs.specs.Signal.{sample}
 
 -- what the taps j and j+1 give to the sum whose window begins at a place
@@ -21,3 +22,8 @@ abbrev pub in_turn : List ℤ → List ℤ → List ℤ
 in_turn [] odd = []
 in_turn (x ∷ even) [] = []
 in_turn (x ∷ even) (y ∷ odd) = x ∷ y ∷ in_turn even odd
+
+-- the even and the odd ones of eight numbers of a width
+abbrev pub AreHalves : Width → List ℤ → List ℤ → Type 0
+AreHalves w even odd = (Each1 (FitsSigned w) even) × (Each1 (FitsSigned w) odd)
+    × (length even ≡ 4) × (length odd ≡ 4)

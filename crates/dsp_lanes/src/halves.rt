@@ -1,5 +1,10 @@
 //! Samples of 32 bits, of which a vector's even ones are multiplied apart from its odd ones: a product of
 //! 64 bits takes each of them where it lies.
+ghost use Rattle.std.specs.Prelude.{◌≡◌, ◌+ℤ◌, ◌*ℤ◌};
+ghost use Rattle.std.specs.Simd.Lanes.{zip2};
+ghost use Rattle.dsp_defs.specs.Numbers.{wrap, w32, w64};
+ghost use Rattle.dsp_lanes.specs.Pairs.{AreHalves};
+
 use crate::dot_form::DotForm;
 use crate::fits::q31_fit;
 use crate::kernels::LaneKernels;
@@ -17,12 +22,25 @@ pub(crate) struct EightSums {
     odd: i64x4,
 }
 
+/// Adds the products of a factor with the even and with the odd ones of eight samples.
+#[inline(always)]
+fn add_words(sums: EightSums, factor: i32, even: i64x4, odd: i64x4) -> EightSums
+    requires fit_sums { AreHalves w64 sums.even sums.odd }
+    requires fit { AreHalves w32 even odd }
+    ensures evens { result.even ≡ zip2 (λ s x. wrap w64 (s +ℤ (factor *ℤ x))) sums.even even }
+    ensures odds { result.odd ≡ zip2 (λ s x. wrap w64 (s +ℤ (factor *ℤ x))) sums.odd odd }
+    ensures fit { AreHalves w64 result.even result.odd }
+{
+    let factors = even_words(i32x8::splat(factor));
+    EightSums {
+        even: sums.even + factors * even,
+        odd: sums.odd + factors * odd,
+    }
+}
+
 impl RowForm<i32> for EightHalves {
     type Sums = EightSums;
 
-    ghost use Rattle.std.specs.Prelude.{◌≡◌, FitsSigned, length};
-    ghost use Rattle.std.specs.Simd.Lanes.{Each1};
-    ghost use Rattle.dsp_defs.specs.Numbers.{w64};
     ghost use Rattle.dsp_defs.specs.Formats.{close};
     ghost use Rattle.dsp_defs.specs.declared.format.Fmt.TheVariants.{Q31};
     ghost use Rattle.dsp_lanes.specs.Pairs.{in_turn};
@@ -33,8 +51,7 @@ impl RowForm<i32> for EightHalves {
 
     ghost lanes = { λ s. in_turn s.even s.odd };
 
-    ghost AreSums = { λ s n. (Each1 (FitsSigned w64) s.even) × (Each1 (FitsSigned w64) s.odd)
-        × (length s.even ≡ 4) × (length s.odd ≡ 4) };
+    ghost AreSums = { λ s n. AreHalves w64 s.even s.odd };
 
     ghost Takes = { λ taps. Unit {0} };
 
@@ -57,18 +74,20 @@ impl RowForm<i32> for EightHalves {
     fn add_tap(sums: EightSums, taps: &[i32], j: usize, window: &[i32], at: usize) -> EightSums {
         q31_fit(taps);
         q31_fit(window);
-        let tap = even_words(i32x8::splat(taps[j]));
         let samples = i32x8::from_slice(&window[at..]);
-        EightSums {
-            even: sums.even + tap * even_words(samples),
-            odd: sums.odd + tap * odd_words(samples),
-        }
+        add_words(sums, taps[j], even_words(samples), odd_words(samples))
     }
 
     #[inline(always)]
     fn add_pair(sums: EightSums, taps: &[i32], j: usize, window: &[i32], at: usize) -> EightSums {
-        let sums = Self::add_tap(sums, taps, j, window, at);
-        Self::add_tap(sums, taps, j + 1, window, at + 1)
+        q31_fit(taps);
+        q31_fit(window);
+        let now = i32x8::from_slice(&window[at..]);
+        let next = i32x8::from_slice(&window[at + 1..]);
+        // The odd words from `at` on are the even ones from `at + 1` on.
+        let shared = even_words(next);
+        let sums = add_words(sums, taps[j], even_words(now), shared);
+        add_words(sums, taps[j + 1], shared, odd_words(next))
     }
 
     #[inline(always)]
@@ -84,9 +103,6 @@ impl RowForm<i32> for EightHalves {
 impl DotForm<i32> for EightHalves {
     type Sums = EightSums;
 
-    ghost use Rattle.std.specs.Prelude.{◌≡◌, ◌+ℤ◌, FitsSigned, length};
-    ghost use Rattle.std.specs.Simd.Lanes.{Each1};
-    ghost use Rattle.dsp_defs.specs.Numbers.{w64};
     ghost use Rattle.dsp_lanes.specs.Regrouped.{list_sum};
 
     ghost size = { 8 };
@@ -95,8 +111,7 @@ impl DotForm<i32> for EightHalves {
 
     ghost value = { λ s. list_sum s.even +ℤ list_sum s.odd };
 
-    ghost AreSums = { λ s. (Each1 (FitsSigned w64) s.even) × (Each1 (FitsSigned w64) s.odd)
-        × (length s.even ≡ 4) × (length s.odd ≡ 4) };
+    ghost AreSums = { λ s. AreHalves w64 s.even s.odd };
 
     #[inline(always)]
     fn size() -> usize {

@@ -95,8 +95,8 @@ pub trait LaneKernels<const L: usize>: Sample {
             (chunk at L (map Self.total sums.old)) (chunk at L (map Self.number row.now))) };
 }
 
-/// How a type of samples makes outputs of a filter, L and 2L at a time, scales 2L at a time, and makes
-/// sums of products.
+/// How a type of samples makes outputs of a filter, L, 2L and 4L at a time, scales 2L at a time, and
+/// makes sums of products.
 pub trait FilterKernels<const L: usize>: LaneKernels<L> {
     /// `scale` of two groups.
     fn scale_double(a: &[Self], factor: Self, places: i32, out: &mut [Self], at: usize)
@@ -153,6 +153,30 @@ pub trait FilterKernels<const L: usize>: LaneKernels<L> {
             sample (map Self.number taps.now) j *ℤ sample (map Self.number window.now)
             (at + i + j))))) }
         ensures steps { RisesWithin steps.old steps.new (length taps.now * (2 * L)) (2 * length taps.now) };
+
+    /// Writes the 4L outputs from `at` on, at most four turns for each tap.
+    fn quad_group<M: Ledger>(
+        taps: &[Self],
+        window: &[Self],
+        small: bool,
+        out: &mut [Self],
+        at: usize,
+        steps: &mut Steps<M>,
+    )
+        requires few { L ≤ 64 }
+        requires small { IsTrue small → AreSmall taps.now }
+        requires room { at + 4 * L ≤ length out.old }
+        requires window { at + 4 * L + length taps.now ≤ length window.now + 1 }
+        ensures out { map Self.number out.new ≡ put_chunk at (map Self.number out.old)
+            (values (4 * L) (λ i.
+            close Self.format (sum_below (length taps.now) (λ j.
+            sample (map Self.number taps.now) j *ℤ sample (map Self.number window.now)
+            (at + i + j))))) }
+        ensures steps { RisesWithin steps.old steps.new (length taps.now * (4 * L)) (4 * length taps.now) }
+    {
+        Self::double_group(taps, window, small, out, at, steps);
+        Self::double_group(taps, window, small, out, at + 2 * L, steps);
+    }
 
     /// The sums of the products of the taps and the windows at `first`, `first + step`,
     /// `first + 2 * step` and `first + 3 * step`, wrapped to the accumulator.

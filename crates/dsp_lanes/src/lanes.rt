@@ -163,6 +163,10 @@ impl<T: LaneSample<L>, const L: usize> Lanes<T, L> {
     {
         let small = T::are_small(taps);
         let mut at = 0;
+        'quads: while out.len() - at >= 4 * L {
+            T::quad_group(taps, window, small, out, at, steps);
+            at += 4 * L;
+        }
         'doubles: while out.len() - at >= 2 * L {
             T::double_group(taps, window, small, out, at, steps);
             at += 2 * L;

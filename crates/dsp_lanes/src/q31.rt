@@ -158,6 +158,23 @@ impl<const L: usize> FilterKernels<L> for i32 {
     }
 
     #[inline(always)]
+    fn quad_group<M: Ledger>(
+        taps: &[i32],
+        window: &[i32],
+        small: bool,
+        out: &mut [i32],
+        at: usize,
+        steps: &mut Steps<M>,
+    ) {
+        if L == 4 {
+            row_group::<i32, Doubled<EightHalves>, M>(taps, window, out, at, steps)
+        } else {
+            <i32 as FilterKernels<L>>::double_group(taps, window, small, out, at, steps);
+            <i32 as FilterKernels<L>>::double_group(taps, window, small, out, at + 2 * L, steps);
+        }
+    }
+
+    #[inline(always)]
     fn four_dots<M: Ledger>(
         taps: &[i32],
         window: &[i32],

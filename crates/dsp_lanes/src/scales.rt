@@ -104,7 +104,7 @@ fn high_words(even: i64x4, odd: i64x4) -> i32x8
 /// where it lies. The factor is a word of a lane too, so that the compiler sees its 32 bits at each
 /// product, and makes one multiplication of it.
 #[inline(always)]
-fn high_products(samples: i32x8, factor: i32) -> i32x8
+pub(crate) fn high_products(samples: i32x8, factor: i32) -> i32x8
     requires long { length samples ≡ 8 }
     requires fit { Each1 (FitsSigned w32) samples }
     ensures words { result ≡ map (λ x. floor_shift (x *ℤ factor) 32) samples }

@@ -1,5 +1,5 @@
 //! Loops in which the product of a factor with each sample changes the number that stands at its place.
-ghost use Rattle.std.specs.Prelude.{◌≡◌, ◌+◌, ◌<◌, ◌≤◌, ℕ, ℤ, length, map};
+ghost use Rattle.std.specs.Prelude.{◌≡◌, ◌+◌, ◌*◌, ◌<◌, ◌≤◌, ℕ, ℤ, length, map};
 ghost use Rattle.std.specs.Simd.Lanes.{zip2, chunk, put_chunk};
 ghost use Rattle.dsp_defs.specs.Counts.{Rises};
 ghost use Rattle.dsp_lanes.specs.Turns.{RisesWithin, lane_turns};
@@ -33,13 +33,30 @@ pub(crate) trait Update<T: Sample> {
             (zip2 (next factor) (chunk at size (map number slots.old))
             (chunk at size (map T.number window.now))) };
 
+    /// Updates the two groups from `at` on.
+    #[inline(always)]
+    fn double(factor: T, window: &[T], slots: &mut [Self::Slot], at: usize)
+        requires window { at + 2 * size ≤ length window.now }
+        requires room { at + 2 * size ≤ length slots.old }
+        ensures { map number slots.new ≡ put_chunk at (map number slots.old)
+            (zip2 (next factor) (chunk at (2 * size) (map number slots.old))
+            (chunk at (2 * size) (map T.number window.now))) }
+    {
+        Self::group(factor, window, slots, at);
+        Self::group(factor, window, slots, at + Self::size());
+    }
+
     /// The next number at one place.
     fn one<M: Ledger>(factor: T, slot: Self::Slot, x: T, steps: &mut Steps<M>) -> Self::Slot
         ensures value { number result ≡ next factor (number slot) (T.number x) }
         ensures steps { Rises steps.old steps.new 1 1 };
+
+    ghost some: { 0 < size };
+
+    ghost few: { size ≤ 64 };
 }
 
-/// Updates each place by its sample, a group a turn and then one after another.
+/// Updates each place by its sample, two groups at a time, then one, and then one place after another.
 #[inline(always)]
 pub(crate) fn update_each<T: Sample, U: Update<T>, M: Ledger>(
     factor: T,
@@ -47,7 +64,6 @@ pub(crate) fn update_each<T: Sample, U: Update<T>, M: Ledger>(
     slots: &mut [U::Slot],
     steps: &mut Steps<M>,
 )
-    requires some { 0 < U.size }
     requires same { length window.now ≡ length slots.old }
     ensures slots { map U.number slots.new ≡ zip2 (U.next factor) (map U.number slots.old)
         (map T.number window.now) }
@@ -56,6 +72,11 @@ pub(crate) fn update_each<T: Sample, U: Update<T>, M: Ledger>(
 {
     let size = U::size();
     let mut at = 0;
+    'doubles: while slots.len() - at >= 2 * size {
+        U::double(factor, window, slots, at);
+        steps.count(2 * size as u64, 2);
+        at += 2 * size;
+    }
     'groups: while slots.len() - at >= size {
         U::group(factor, window, slots, at);
         steps.count(size as u64, 1);
@@ -98,6 +119,10 @@ impl<T: LaneSample<L>, const L: usize> Update<T> for SparseTerms<L> {
         let term = T::sparse_term(tap, x, steps);
         T::sparse_add(sum, term)
     }
+
+    ghost some = { T.some };
+
+    ghost few = { T.few };
 }
 
 /// Adds the products of a tap to sums, in groups of L.
@@ -131,6 +156,10 @@ impl<T: LaneSample<L>, const L: usize> Update<T> for Products<L> {
         let product = T::product(tap, x, steps);
         T::accumulate(sum, product)
     }
+
+    ghost some = { T.some };
+
+    ghost few = { T.few };
 }
 
 /// Changes the weights of an adaptive filter by a step size.
@@ -158,8 +187,17 @@ impl<T: WeightSample> Update<T> for Weights {
     }
 
     #[inline(always)]
+    fn double(alpha: T, window: &[T], weights: &mut [T], at: usize) {
+        T::weight_double(alpha, window, weights, at)
+    }
+
+    #[inline(always)]
     fn one<M: Ledger>(alpha: T, weight: T, x: T, steps: &mut Steps<M>) -> T {
         let change = T::product(alpha, x, steps);
         T::weight_after(weight, change)
     }
+
+    ghost some = { T.some };
+
+    ghost few = { T.few };
 }

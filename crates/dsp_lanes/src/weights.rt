@@ -1,5 +1,5 @@
 //! The weights of adaptive filters.
-ghost use Rattle.std.specs.Prelude.{◌≡◌, ◌+◌, ◌<◌, ◌≤◌, ◌+ℤ◌, ◌*ℤ◌, ℕ, ℤ, pos, FitsSigned, length, map};
+ghost use Rattle.std.specs.Prelude.{◌≡◌, ◌+◌, ◌*◌, ◌<◌, ◌≤◌, ◌+ℤ◌, ◌*ℤ◌, ℕ, ℤ, pos, FitsSigned, length, map};
 ghost use Rattle.std.specs.Simd.Lanes.{Each1, zip2, chunk, put_chunk};
 ghost use Rattle.dsp_defs.specs.Adaptive.{weight_after};
 ghost use Rattle.dsp_defs.specs.Numbers.{floor_shift, saturate, wrap, w32};
@@ -8,6 +8,7 @@ ghost use Rattle.dsp_defs.specs.declared.format.Fmt.TheVariants.{Q15};
 ghost use Rattle.dsp_lanes.specs.Turns.{RisesWithin, lane_turns};
 
 use crate::fits::{q15_fit, q31_fit};
+use crate::scales::high_products;
 use crate::updates::{Weights, update_each};
 use dsp_defs::Steps;
 use dsp_sat::{Sample, low_word, sat16};
@@ -53,7 +54,23 @@ pub trait WeightSample: Sample {
             (chunk at group (map Self.number weights.old))
             (chunk at group (map Self.number window.now))) };
 
+    /// The next weights of the two groups from `at` on.
+    #[inline(always)]
+    fn weight_double(alpha: Self, window: &[Self], weights: &mut [Self], at: usize)
+        requires window { at + 2 * group ≤ length window.now }
+        requires room { at + 2 * group ≤ length weights.old }
+        ensures { map Self.number weights.new ≡ put_chunk at (map Self.number weights.old)
+            (zip2 (λ w x. weight_after Self.format (Self.number alpha) w x)
+            (chunk at (2 * group) (map Self.number weights.old))
+            (chunk at (2 * group) (map Self.number window.now))) }
+    {
+        Self::weight_group(alpha, window, weights, at);
+        Self::weight_group(alpha, window, weights, at + Self::group());
+    }
+
     ghost some: { 0 < group };
+
+    ghost few: { group ≤ 64 };
 }
 
 /// Updates each weight by the product of the step size and its sample: the inner step of `arm_lms_q15`
@@ -75,7 +92,21 @@ pub fn update_weights<T: WeightSample, M: Ledger>(
     update_each::<T, Weights, M>(alpha, window, weights, steps)
 }
 
-/// The saturated sums of four numbers and four changes. No step overflows, since each change is cut first.
+/// The saturated sums of numbers and changes. No step overflows, since each change is cut first.
+#[inline(always)]
+fn saturating_lanes<const N: usize>(values: Simd<i32, N>, changes: Simd<i32, N>) -> Simd<i32, N>
+    requires values { Each1 (FitsSigned w32) values }
+    requires changes { Each1 (FitsSigned w32) changes }
+    requires long { length values ≡ N }
+    ensures sums { result ≡ zip2 (λ v d. saturate 32 (v +ℤ d)) values.entry changes.entry }
+    ensures fit { Each1 (FitsSigned w32) result }
+{
+    let above = Simd::splat(i32::MAX) - values.simd_max(Simd::splat(0));
+    let below = Simd::splat(i32::MIN) - values.simd_min(Simd::splat(0));
+    values + changes.simd_min(above).simd_max(below)
+}
+
+/// The saturated sums of four numbers and four changes.
 #[inline(always)]
 pub fn saturating_sum(values: i32x4, changes: i32x4) -> i32x4
     requires values { Each1 (FitsSigned w32) values }
@@ -84,9 +115,7 @@ pub fn saturating_sum(values: i32x4, changes: i32x4) -> i32x4
     ensures sums { result ≡ zip2 (λ v d. saturate 32 (v +ℤ d)) values changes }
     ensures fit { Each1 (FitsSigned w32) result }
 {
-    let above = i32x4::splat(i32::MAX) - values.simd_max(i32x4::splat(0));
-    let below = i32x4::splat(i32::MIN) - values.simd_min(i32x4::splat(0));
-    values + changes.simd_min(above).simd_max(below)
+    saturating_lanes(values, changes)
 }
 
 /// The high words of the products of a number and four samples, the even and the odd ones apart.
@@ -133,6 +162,8 @@ impl WeightSample for i16 {
     }
 
     ghost some = { lit< tt };
+
+    ghost few = { lit< tt };
 }
 
 impl WeightSample for i32 {
@@ -159,5 +190,16 @@ impl WeightSample for i32 {
         saturating_sum(w, high + high).copy_to_slice(&mut weights[at..]);
     }
 
+    #[inline(always)]
+    fn weight_double(alpha: i32, window: &[i32], weights: &mut [i32], at: usize) {
+        q31_fit(window);
+        q31_fit(weights);
+        let high = high_products(i32x8::from_slice(&window[at..]), alpha);
+        let w = i32x8::from_slice(&weights[at..]);
+        saturating_lanes(w, high + high).copy_to_slice(&mut weights[at..]);
+    }
+
     ghost some = { lit< tt };
+
+    ghost few = { lit< tt };
 }

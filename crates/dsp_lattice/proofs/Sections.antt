@@ -1,5 +1,5 @@
 -- Sections of a lattice without feedback, on pairs (f, g).
-use Rattle.std.proofs.Common.{◌≡◌, ◌∙◌, ap, refl, sym, subst, ℕ, suc, ◌+◌, ◌<◌, ℤ, pos, ◌+ℤ◌, ◌*ℤ◌, List, [], ◌∷◌}
+use Rattle.std.proofs.Common.{◌≡◌, ◌∙◌, ap, refl, sym, subst, ℕ, ◌+◌, ◌<◌, ℤ, pos, ◌+ℤ◌, ◌*ℤ◌, List, [], ◌∷◌}
 use Rattle.std.proofs.Common.{◌++◌, map, reverse, length, take, drop, set, get_or, replicate, ◌≤◌, arith}
 use Rattle.std.proofs.Common.{length-append, length-drop}
 use Rattle.std.specs.List.{zip}
@@ -11,6 +11,7 @@ use lib.Lanes.{zip2}
 use borrow.Rule.Slice.PartMut.{put_mid}
 use Rattle.std.proofs.lemmas.List.Sums.{fold-append}
 use Rattle.std.proofs.lemmas.Slice.Zip.{firsts-zip}
+use Rattle.std.proofs.lemmas.List.{map-id}
 use Rattle.std.proofs.Math.ListN.{get_or-map}
 use Rattle.dsp_defs.specs.Numbers.{◌>>◌, saturate}
 use Rattle.dsp_defs.specs.Signal.{sample}
@@ -20,6 +21,7 @@ use Rattle.dsp_defs.specs.Streaming.{GoesOn}
 use Rattle.dsp_unit.proofs.GoingOn.{goes-nothing, goes-twice, goes-chain, outputs-next, latest-new}
 use Rattle.dsp_sections.specs.Reflected.{reflected}
 use Rattle.dsp_lattice.specs.LatticeState.{section_kept, sections_give, pairs_of, filter_kept}
+use Rattle.dsp_defs.proofs.KeptLaws.{length-lattice_kept}
 
 pub reverse-map : {A B : Type 0} (f : A → B) (xs : List A) → reverse (map f xs) ≡ map f (reverse xs)
 reverse-map f [] = refl
@@ -35,7 +37,7 @@ last-second x =
     ap (λ l. sample l 0) (reverse-map (λ (w : ℤ × ℤ). w.1) x)
     ∙ get_or-map (λ (w : ℤ × ℤ). w.1) (reverse x) 0 (pos 0, pos 0)
 
-pub section-step : (k b f g f' g' : ℤ) → f' ≡ saturate 16 ((k *ℤ b >> 15) +ℤ f) →
+section-step : (k b f g f' g' : ℤ) → f' ≡ saturate 16 ((k *ℤ b >> 15) +ℤ f) →
     g' ≡ saturate 16 ((k *ℤ f >> 15) +ℤ b) →
     GoesOn (λ x. lattice_stage x k) section_kept (b ∷ []) (g ∷ []) ((f, g) ∷ []) ((f', g') ∷ [])
 section-step k b f g f' g' forward backward = record {
@@ -55,7 +57,7 @@ section-step k b f g f' g' forward backward = record {
 
 -- ---- a section over all samples
 
-pub section-over :
+section-over :
     (k b : ℤ) (fs gs : List ℤ) → length gs ≡ length fs →
     GoesOn (λ x. lattice_stage x k) section_kept (b ∷ []) (sample (b ∷ gs) (length fs) ∷ []) (zip fs gs)
     (zip (zip2 (λ f g. reflected k g f) fs (b ∷ gs)) (zip2 (λ f g. reflected k f g) fs (b ∷ gs)))
@@ -69,11 +71,6 @@ section-over k b (f ∷ fs) (g ∷ gs) same =
     (section-step k b f g (reflected k b f) (reflected k f b) refl refl)
     (section-over k g fs gs (omega (arith, same)))
 
--- the numbers of samples in Q15 are themselves
-themselves : (xs : List ℤ) → map (λ x. x) xs ≡ xs
-themselves [] = refl
-themselves (x ∷ xs) = ap (λ l. x ∷ l) (themselves xs)
-
 -- the same of the samples before and after
 pub section-runs :
     (k b last : ℤ) (fs gs fs' gs' : List ℤ) → length gs ≡ length fs →
@@ -82,13 +79,13 @@ pub section-runs :
     GoesOn (λ x. lattice_stage x k) section_kept (b ∷ []) (last ∷ []) (zip (map (λ x. x) fs) (map (λ x. x) gs))
     (zip (map (λ x. x) fs') (map (λ x. x) gs'))
 section-runs k b last fs gs fs' gs' same forward backward is_last =
-    rw (themselves fs, themselves gs, themselves fs', themselves gs', forward, backward, is_last)
+    rw (map-id fs, map-id gs, map-id fs', map-id gs', forward, backward, is_last)
     (section-over k b fs gs same)
 
 -- ---- loops over sections
 
 -- what was not written yet is what it was
-pub there : {X : Type 0} (old new : List X) (i : ℕ) (d : X) → drop i new ≡ drop i old → get_or new i d ≡ get_or old i d
+there : {X : Type 0} (old new : List X) (i : ℕ) (d : X) → drop i new ≡ drop i old → get_or new i d ≡ get_or old i d
 there old new i d rest =
     let here : i + 0 ≡ i = omega arith in
     sym (ap (λ k. get_or new k d) here) ∙ sym (get_or-drop i new 0 d) ∙ ap (λ l. get_or l 0 d) rest ∙
@@ -107,10 +104,6 @@ module _ {X : Type 0} (number : X → ℤ) (i : ℕ) where
 
 -- ---- sections one after another
 
-length-kept : (ks : List ℤ) (x : List (ℤ × ℤ)) → length (lattice_kept ks x) ≡ length ks
-length-kept [] x = refl
-length-kept (k ∷ ks) x = ap suc (length-kept ks (lattice_stage x k))
-
 kept-more : (ks : List ℤ) (k : ℤ) (x : List (ℤ × ℤ)) →
     lattice_kept (ks ++ k ∷ []) x ≡ lattice_kept ks x ++ section_kept (sections_give ks x)
 kept-more [] k x = refl
@@ -127,7 +120,7 @@ one-section-more ks k old new b b' xs ys zs size first second =
     (subst (λ (kept : List (ℤ × ℤ) → List ℤ). GoesOn (λ x. lattice_stage (sections_give ks x) k) kept (old ++ b ∷ [])
     (new ++ b' ∷ []) xs zs) (λ i x. sym (kept-more ks k x) i)
     (goes-chain (sections_give ks) (λ x. lattice_stage x k) (lattice_kept ks) section_kept old new (b ∷ []) (b' ∷ [])
-    xs ys zs (λ x. size ∙ sym (length-kept ks x)) first second))
+    xs ys zs (λ x. size ∙ sym (length-lattice_kept ks x)) first second))
 
 -- ---- the whole lattice
 

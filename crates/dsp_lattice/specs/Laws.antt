@@ -7,7 +7,7 @@ use Rattle.dsp_defs.specs.Formats.{word}
 use Rattle.dsp_defs.specs.Kept.{InWord}
 use Rattle.dsp_unit.specs.Filter.{IsSteady, IsStepwise}
 use Rattle.dsp_defs.proofs.KeptLaws.{kept_of_channel-place}
-use Rattle.dsp_unit.proofs.ChannelKept.{words-placed}
+use Rattle.dsp_defs.proofs.KeptLaws.{in_words-place}
 use Rattle.dsp_filter.proofs.Units.{scaled, less-scaled}
 use Rattle.dsp_defs.specs.declared.format.Fmt.{Fmt}
 use Rattle.dsp_defs.specs.declared.script.Block.{Block}
@@ -42,7 +42,7 @@ fir-steady format k = record {
   live_same = λ n. refl;
   whole_same = λ n. refl;
   kinds_same = λ n. refl;
-  placed = λ numbers size. words-placed (word format) (length k) numbers
+  placed = λ numbers size. in_words-place (word format) (length k) numbers
       (size ∙ length-replicate (length k) (InWord (word format)));
   live_cost = λ n. one n (2 * length k);
 }
@@ -78,7 +78,7 @@ iir-steady format k v = record {
   live_same = λ n. refl;
   whole_same = λ n. refl;
   kinds_same = λ n. refl;
-  placed = λ numbers size. words-placed (word format) (length k) numbers
+  placed = λ numbers size. in_words-place (word format) (length k) numbers
       (size ∙ length-replicate (length k) (InWord (word format)));
   live_cost = λ n. one n (3 * length k + 1);
 }

@@ -34,7 +34,7 @@ use Rattle.dsp_laws.specs.Origins as origin
 use Rattle.dsp_laws.specs.Stands.{IsStopped}
 
 -- a fault of a stream has one of its statuses
-pub stream_status : (fault : StreamFault) → IsStopped (status_of (Stream fault))
+stream_status : (fault : StreamFault) → IsStopped (status_of (Stream fault))
 stream_status (Header fault offset) = inl (inl refl)
 stream_status (Lengths fault) = inl (inr (inl refl))
 stream_status Input = inl (inr (inr refl))

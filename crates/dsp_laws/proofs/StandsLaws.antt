@@ -24,7 +24,7 @@ use Rattle.dsp_cli.specs.declared.fault.Fault.TheVariants.{Stream, Conversion, S
 use Rattle.dsp_cli.proofs.StatusLaws.{stream_text, stream_output, reports_done, fault_not_done, stream_or_print}
 use Rattle.dsp_cli.proofs.StatusLaws.{no_stop}
 use Rattle.dsp_laws.specs.Stands.{IsBroken, IsStopped, Stands, Taken, Gather, Window, Riff, TellsLength, WroteFront}
-use Rattle.dsp_laws.specs.Stands.{WrotePart}
+use Rattle.dsp_laws.specs.Stands.{IsUnflushed, WrotePart}
 use Rattle.dsp_laws.proofs.TextLaws.{text_told, text_wrote}
 use Rattle.dsp_laws.proofs.TakenLaws.{reader, for_script, for_given, for_taken, within_most, took_frames}
 use Rattle.dsp_session.specs.declared.fault.LengthFault.TheVariants as length_fault
@@ -102,7 +102,7 @@ module _ (c : Call) (status : ℕ) (report told : SinkState) where
     abbrev LengthsTold : Type 0
     LengthsTold = status ≡ 5 → TellsLength c source_input stop.now report told
 
-    stopped_stands : Parts → (IsBroken status → c.after.faults ≡ c.sink.faults) → Fronts → LengthsTold → Standing
+    stopped_stands : Parts → (IsBroken status → IsUnflushed c.sink c.after) → Fronts → LengthsTold → Standing
     stopped_stands parts kept fronts lengths =
         record {
           input = source_input;
@@ -126,7 +126,8 @@ module _ (c : Call) (status : ℕ) (report told : SinkState) where
       → Tells (fault_line (Stream fault)) report told → Standing
   stop_stands script Input stop is tells =
       let s = stop.did in
-      stopped_stands stop is (λ _. part_written s.put s.wrote) (λ _. s.faults.1) (λ e. absurd (omega (arith, is, e)))
+      stopped_stands stop is (λ _. part_written s.put s.wrote) (λ _. (s.faults.1, (s.written, s.put, s.unflushed)))
+      (λ e. absurd (omega (arith, is, e)))
       (λ e. absurd (omega (arith, is, e)))
   stop_stands script Output stop is tells =
       let s = stop.did in
@@ -142,16 +143,19 @@ module _ (c : Call) (status : ℕ) (report told : SinkState) where
       )) (λ e. absurd (omega (arith, is, e)))
   stop_stands script (Header fault offset) stop is tells =
       let s = stop.did in
-      stopped_stands stop is (λ _. part_written s.put s.wrote) (λ _. s.faults.1) (λ e. absurd (omega (arith, is, e)))
+      stopped_stands stop is (λ _. part_written s.put s.wrote) (λ _. (s.faults.1, (s.written, s.put, s.unflushed)))
+      (λ e. absurd (omega (arith, is, e)))
       (λ e. absurd (omega (arith, is, e)))
   stop_stands script (Lengths (length_fault.Input taken limit)) stop is tells =
       let s = stop.did in
-      stopped_stands stop is (λ _. part_written s.put s.wrote) (λ _. s.faults.1) (λ e. absurd (omega (arith, is, e)))
+      stopped_stands stop is (λ _. part_written s.put s.wrote) (λ _. (s.faults.1, (s.written, s.put, s.unflushed)))
+      (λ e. absurd (omega (arith, is, e)))
       (λ _. Taken (omega (arith, s.gave.count, s.cause.0)) (for_taken stop _ s.gave s.cause.3)
       (subst (λ line. Tells line report told) (λ i. input_limit_line (s.cause.1 i) (s.cause.2 i)) tells))
   stop_stands script (Lengths (length_fault.Gather has more)) stop is tells =
       let s = stop.did in
-      stopped_stands stop is (λ _. part_written s.put s.wrote) (λ _. s.faults.1) (λ e. absurd (omega (arith, is, e)))
+      stopped_stands stop is (λ _. part_written s.put s.wrote) (λ _. (s.faults.1, (s.written, s.put, s.unflushed)))
+      (λ e. absurd (omega (arith, is, e)))
       (λ _. Gather has more (for_taken stop _ s.gave (s.cause.0, (kept s.wrote s.cause.0, s.cause.1))) tells)
     where
       kept : {given written : List ℕ} {worked : ℕ} → StreamWrote script (chosen_block c.words script) worked given
@@ -161,12 +165,13 @@ module _ (c : Call) (status : ℕ) (report told : SinkState) where
       kept (Part has is limits made) _ = limits.not_full
   stop_stands script (Lengths (length_fault.Window end full)) stop is tells =
       let s = stop.did in
-      stopped_stands stop is (λ _. part_written s.put s.wrote) (λ _. s.faults.1) (λ e. absurd (omega (arith, is, e)))
+      stopped_stands stop is (λ _. part_written s.put s.wrote) (λ _. (s.faults.1, (s.written, s.put, s.unflushed)))
+      (λ e. absurd (omega (arith, is, e)))
       (λ _. Window end full (for_taken stop _ s.gave s.cause) tells)
   stop_stands script (Lengths (length_fault.Riff size limit)) stop is tells =
       let s = stop.did in
       let (has, alone, long, at) = s.cause in
-      stopped_stands stop is (λ _. inr (inr (size, long), s.wrote)) (λ _. s.faults.1)
+      stopped_stands stop is (λ _. inr (inr (size, long), s.wrote)) (λ _. (s.faults.1, (s.written, s.put, s.unflushed)))
       (λ e. absurd (omega (arith, is, e)))
       (λ _. Riff size (for_taken stop _ s.gave (has, alone, long))
       s.wrote (subst (λ n. Tells (riff_line size n) report told) at tells))

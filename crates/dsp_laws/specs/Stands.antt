@@ -1,6 +1,6 @@
 -- What stands once a run or a gen has begun its stream, however it ended.
 use Rattle.std.specs.Prelude.{◌≡◌, ◌⊎◌, ◌+◌, ◌-◌, ◌/◌, ◌≤◌, ℕ, List, length, None, Some}
-use Rattle.dsp_ports.specs.Ports.{SourceState, SinkState}
+use Rattle.dsp_ports.specs.Ports.{SourceState, SinkState, settled_after}
 use Rattle.dsp_defs.specs.Output.{HasHeader, input_header, known_frames, output, part as part_of}
 use Rattle.dsp_command.specs.Report.{input_limit_line, gather_line, window_line, riff_line, report_text}
 use Rattle.dsp_defs.specs.Shape.{gathered, window_at}
@@ -33,6 +33,11 @@ IsStopped status = IsBroken status ⊎ (status ≡ 8)
 -- a front of these bytes was written
 abbrev pub WroteFront : List ℕ → SinkState → SinkState → Type 0
 WroteFront bytes old new = (written : List ℕ) × Wrote written old new × Begins written bytes
+
+-- the output has not failed, and was not flushed behind its last byte
+abbrev pub IsUnflushed : SinkState → SinkState → Type 0
+IsUnflushed old new = (new.faults ≡ old.faults) × ((written : List ℕ) × Wrote written old new
+    × (new.settled ≡ settled_after old.settled (length written)))
 
 -- nothing can be written: the header of the input isn't all there, or the output would be too long
 abbrev pub IsUnwritten : Script → List ℕ → Type 0
@@ -87,8 +92,8 @@ pub record Stands (c : Call) (status : ℕ) (report told : SinkState) : Type 0 w
   -- the input, or a length, has stopped the stream: exactly the output of the whole blocks that were taken was written
   pub part : IsBroken status → IfTaken c input now (λ s given.
       WrotePart s (chosen_block c.words s) given c.sink c.after)
-  -- and the output has not failed, so nobody flushed it
-  pub unflushed : IsBroken status → c.after.faults ≡ c.sink.faults
+  -- and the output has not failed, and nobody flushed it
+  pub unflushed : IsBroken status → IsUnflushed c.sink c.after
   -- the output has stopped it: a front of that was, or of the whole output where the input had ended
   pub front : status ≡ 8 → IfTaken c input now (λ s given. HasHeader s given
       × (WroteFront (part_of s (chosen_block c.words s) given) c.sink c.after

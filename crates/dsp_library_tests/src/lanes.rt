@@ -138,6 +138,18 @@ const GROWN_SUMS: [i64; 9] = [
     i64::MAX - 65536,
 ];
 
+/// 25 numbers from the least to the greatest.
+const RISING_WINDOW: [i16; 25] = [
+    -32768, -32767, -30000, -21845, -20000, -10923, -9999, -5000, -1025, -100, -3, -1, 0, 1, 2, 3,
+    77, 1024, 3641, 3642, 4096, 9999, 20001, 30000, 32767,
+];
+
+/// 25 weights of 30000, each grown by three quarters of its number of `RISING_WINDOW`, rounded down.
+const GROWN_WEIGHTS: [i16; 25] = [
+    5424, 5424, 7500, 13616, 15000, 21807, 22500, 26250, 29231, 29925, 29997, 29999, 30000, 30000,
+    30001, 30002, 30057, 30768, 32730, 32731, 32767, 32767, 32767, 32767, 32767,
+];
+
 /// Weights and sums that grow by products.
 fn grown<M: Ledger>(rt: &impl Abort, steps: &mut Steps<M>) {
     {
@@ -151,6 +163,19 @@ fn grown<M: Ledger>(rt: &impl Abort, steps: &mut Steps<M>) {
         let mut longer = [0, i32::MAX, i32::MIN, 7, 1];
         update_weights(1 << 30, &[8, i32::MAX, i32::MIN, -1, 4], &mut longer, steps);
         assert_same!(rt; longer, [4, i32::MAX, i32::MIN, 5, 3]);
+    }
+    {
+        // Three groups and one more.
+        let mut weights = [30000i16; 25];
+        update_weights(24576, &RISING_WINDOW, &mut weights, steps);
+        assert_same!(rt; weights, GROWN_WEIGHTS);
+    }
+    {
+        // Two groups. The product of two least numbers is a change that wraps to the least one.
+        let mut groups = [0, -1, i32::MAX, 7, i32::MAX, -7, 5, i32::MIN];
+        let window = [i32::MIN, i32::MIN, i32::MIN, -3, -2, i32::MAX, 1, 2];
+        update_weights(i32::MIN, &window, &mut groups, steps);
+        assert_same!(rt; groups, [i32::MIN, i32::MIN, -1, 9, i32::MAX, i32::MIN, 3, i32::MIN]);
     }
     // Nine sums grow by their products, which wrap.
     let mut sums = [i64::MAX; 9];

@@ -15,17 +15,18 @@ use Rattle.dsp_defs.specs.Kept.{kept_of_channel, kinds_by, in_words, Each, IsPla
 use Rattle.dsp_unit.specs.Unit.{most_frames}
 use Rattle.dsp_unit.specs.Filter.{FilterStandsFor, FilterCounts, FilterFeeds}
 use Rattle.dsp_unit.specs.Filter.{IsNewFilter, of_channel, steady_filter}
-use Rattle.dsp_unit.proofs.ChannelKept.{words-placed, length-words, fit-words}
+use Rattle.dsp_unit.proofs.ChannelKept.{length-words, fit-words}
 use Rattle.dsp_defs.specs.declared.format.Fmt.{Fmt}
 use Rattle.dsp_defs.specs.declared.script.Block.{Block}
 use Rattle.dsp_lanes.specs.Turns.{RisesWithin}
 use Rattle.dsp_matrix.specs.Groups.{Group, IsBegun, IsGrouped, OpenState, given_groups, left_open}
 use Rattle.dsp_filter.proofs.Groups.{groups-more, open-more, groups-within, ceil-more}
 use Rattle.dsp_matrix.proofs.GroupLaws.{gives-more, stays-open, length-open, length-given, short-open}
+use Rattle.dsp_defs.proofs.KeptLaws.{in_words-place}
 
 module _ (format : Fmt) (block : Block) (g : Group) (is : IsGrouped format block g) where
   -- the room of a unit is enough for each block
-  pub room-more : (n m : ℕ) → n ≤ m → most_frames block n ≤ most_frames block m
+  room-more : (n m : ℕ) → n ≤ m → most_frames block n ≤ most_frames block m
   room-more n m more =
       let here = is.most n in
       let there = is.most m in
@@ -76,7 +77,7 @@ module _ (format : Fmt) (block : Block) (g : Group) (is : IsGrouped format block
 
     group-place : (kept : List ℤ) (n : ℕ) → length kept ≡ n % g.taken → Each IsPlace (kinds_by format block n) kept
     group-place kept n size = subst (λ ks. Each IsPlace ks kept) (sym (is.kinds n))
-        (words-placed (word format) (n % g.taken) kept size)
+        (in_words-place (word format) (n % g.taken) kept size)
 
     place-group : (kept : List ℤ) (n : ℕ) → Each IsPlace (kinds_by format block n) kept → length kept ≡ n % g.taken
     place-group kept n place = length-words IsPlace (word format) (n % g.taken) kept
@@ -158,7 +159,7 @@ module _ (format : Fmt) (block : Block) (g : Group) (is : IsGrouped format block
           omega (arith, cost, turns, rises.turns_within))
 
       -- a call that makes whole groups of the open one and the samples, and keeps what is left of them
-      pub group-fed : FilterFeeds (steady_filter format block capacity old false)
+      group-fed : FilterFeeds (steady_filter format block capacity old false)
           (steady_filter format block capacity (left_open g (old ++ taken)) false) taken (given_groups g (old ++ taken))
           before after
       group-fed = record {
@@ -205,7 +206,7 @@ module _ (format : Fmt) (block : Block) (g : Group) (is : IsGrouped format block
             (subst (λ (k : ℕ). Each IsOfKind (in_words (word format) k) numbers) size each),
       )
 
-  pub fits-size : (n : ℕ) (numbers : List ℤ) → FitsChannel format block n numbers → length numbers ≡ n % g.taken
+  fits-size : (n : ℕ) (numbers : List ℤ) → FitsChannel format block n numbers → length numbers ≡ n % g.taken
   fits-size n numbers fits = length-words IsOfKind (word format) (n % g.taken) numbers
       (subst (λ ks. Each IsOfKind ks numbers) (is.kinds n) fits.1)
 

@@ -25,7 +25,7 @@ module _ (t g : ℕ) (result : List ℤ → ℕ → ℤ) (some : 0 < t) where
   no-groups x short = ap (λ k. k / t) (omega arith) ∙ div-mul-add 0 t (length x) short
 
   -- fewer samples than a group has give nothing, and all stay open
-  pub short-gives : (x : List ℤ) → length x < t → each_group t g result x ≡ []
+  short-gives : (x : List ℤ) → length x < t → each_group t g result x ≡ []
   short-gives x short =
       let none : length x / t * g ≡ 0 = (ap (λ q. q * g) (no-groups x short) ∙ omega arith) in
       ap (λ n. values n (λ i. result (take t (drop (i / g * t) x)) (i % g))) none
@@ -43,7 +43,7 @@ module _ (t g : ℕ) (result : List ℤ → ℕ → ℤ) (some : 0 < t) where
     first = ap (λ n. n / t) (whole ∙ omega arith) ∙ div-mul-add q t 0 some
 
     -- behind whole groups others begin
-    pub whole-open : open_group t (x ++ y) ≡ open_group t y
+    whole-open : open_group t (x ++ y) ≡ open_group t y
     whole-open =
         let place : length (x ++ y) / t * t ≡ length x + length y / t * t =
         (ap (λ n. n * t) long ∙ omega (arith, whole)) in
@@ -79,7 +79,7 @@ module _ (t g : ℕ) (result : List ℤ → ℕ → ℤ) (some : 0 < t) where
             let parts : q * g + i ≡ (q + i / g) * g + i % g = omega (arith, div-add-mod' i g) in
             ap (λ n. n % g) parts ∙ mod-mul-add (q + i / g) g (i % g) (mod_below i g size)
 
-    pub whole-gives : each_group t g result (x ++ y) ≡ each_group t g result x ++ each_group t g result y
+    whole-gives : each_group t g result (x ++ y) ≡ each_group t g result x ++ each_group t g result y
     whole-gives =
         let f = λ (i : ℕ). result (take t (drop (i / g * t) (x ++ y))) (i % g) in
         let count : length (x ++ y) / t * g ≡ q * g + length y / t * g = (ap (λ n. n * g) long ∙ omega arith) in
@@ -153,7 +153,7 @@ module _ (of : Group) (some : 0 < of.taken) (old more : List ℤ) where
     joined : old ++ more ≡ (old ++ first) ++ rest
     joined = ap (λ l. old ++ l) parts ∙ sym (append_assoc old first rest)
 
-    pub whole-group : given_groups of (old ++ first) ≡ given_group of (old ++ first)
+    whole-group : given_groups of (old ++ first) ≡ given_group of (old ++ first)
     whole-group =
         let one : length (old ++ first) / of.taken ≡ 1 = (ap (λ n. n / of.taken) (whole ∙ omega arith) ∙
         div-mul-add 1 of.taken 0 some) in

@@ -1,16 +1,14 @@
 -- Extremes of signals that go on.
-use Rattle.std.proofs.Common.{◌≡◌, ◌∙◌, ap, refl, sym, ℕ, zero, suc, ◌+◌, ◌<◌, ℤ, pos, negsuc, List, [], ◌∷◌, ◌++◌}
-use Rattle.std.proofs.Common.{length, arith, Bool, true, false, ◌||◌, int_lt, if◌then◌else◌, Option, Some, None, ◌≤ℤ◌}
+use Rattle.std.proofs.Common.{◌≡◌, ◌∙◌, ap, refl, sym, ℕ, zero, suc, ◌+◌, ◌<◌, ℤ, pos, negsuc, List, [], ◌∷◌, ◌++◌, if◌then◌else◌}
+use Rattle.std.proofs.Common.{length, arith, Bool, true, false, ◌||◌, int_lt, Option, Some, None, ◌≤ℤ◌}
 use Rattle.std.proofs.Common.{◌<ℤ◌, replicate, rules, subst, append_assoc}
 use Rattle.std.specs.Prelude.{FitsSigned}
 use Rattle.std.proofs.lemmas.Bool.Decides.{nat_tests}
 use Rattle.std.proofs.lemmas.List.{append-nil}
 use Rattle.dsp_defs.specs.Formats.{word}
 use Rattle.dsp_defs.specs.Measure.{better_of, maximum, minimum}
-use Rattle.dsp_defs.specs.Numbers.{w32}
 use Rattle.dsp_defs.specs.Signal.{sample}
 use Rattle.dsp_defs.specs.declared.format.Fmt.{Fmt}
-use Rattle.dsp_defs.specs.declared.format.Fmt.TheVariants.{Q7, Q15, Q31}
 use Rattle.dsp_defs.specs.Kept.{Each, IsOfKind, extreme_kept, extreme_kinds}
 use Rattle.dsp_measure.specs.Extremes.{wins, extreme, better_behind, ExtremeState, extreme_of, IsFew, IsFound}
 use Rattle.dsp_measure.specs.Extremes.{KeepsExtreme}
@@ -116,16 +114,6 @@ extreme-minimum [] = refl
 extreme-minimum (x ∷ xs) = ap (λ b. Some (better_of (wins true) x b)) (extreme-minimum xs)
 
 -- ---- numbers
-
--- a number of any format has 32 bits
-pub word-fits : (format : Fmt) (z : ℤ) → FitsSigned (word format) z → FitsSigned w32 z
-word-fits Q7 z h = record { sfits = omega (arith, h.sfits) }
-word-fits Q15 z h = record { sfits = omega (arith, h.sfits) }
-word-fits Q31 z h = h
-
-pub length-extreme_kinds : (format : Fmt) (n : ℕ) → length (extreme_kinds format n) ≡ 4
-length-extreme_kinds format zero = refl
-length-extreme_kinds format (suc n) = refl
 
 pub four-numbers : (xs : List ℤ) → length xs ≡ 4 → xs ≡ sample xs 0 ∷ sample xs 1 ∷ sample xs 2 ∷ sample xs 3 ∷ []
 four-numbers [] e = absurd (omega (arith, e))

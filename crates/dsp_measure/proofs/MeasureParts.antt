@@ -17,7 +17,7 @@ use Rattle.dsp_defs.specs.Kept
 use Rattle.dsp_defs.specs.Kept.{Each, IsOfKind, in_words, kinds_by, kept_kinds, kept_numbers, extreme_kept}
 use Rattle.dsp_defs.specs.Kept.{extreme_kinds}
 use Rattle.dsp_unit.specs.Unit.{frames_in}
-use Rattle.dsp_unit.proofs.ChannelFrames.{channel-frames_in, channel-more, length-samples_in}
+use Rattle.dsp_unit.proofs.ChannelFrames.{channel-frames_in, length-samples_in}
 use Rattle.dsp_unit.proofs.ChannelKept.{length-words, length-pieces, pieces-apart, pieces-same, pieces-each}
 use Rattle.dsp_unit.proofs.ChannelKept.{each-pieces, each-length, numbers-in_pieces, length-numbers_in}
 use Rattle.dsp_measure.specs.Extremes.{extreme}
@@ -27,6 +27,7 @@ use Rattle.dsp_measure.specs.declared.measure_block.MeasureBlock.{MeasureBlock}
 use Rattle.dsp_measure.specs.declared.measure_block.MeasureBlock.TheVariants as measure
 use Rattle.dsp_measure.proofs.SumLaws.{dot-more, complex-more}
 use Rattle.dsp_measure.proofs.ExtremeLaws.{extreme-maximum, extreme-minimum}
+use Rattle.dsp_defs.proofs.Causal.{channel-append}
 
 module _ (format : Fmt) (channels : ℕ) (frames : List ℤ) where
   abbrev many : ℕ
@@ -38,7 +39,7 @@ module _ (format : Fmt) (channels : ℕ) (frames : List ℤ) where
   -- a channel of a signal that goes on
   goes-on : (x : List Frame) (c : ℕ) → c < channels → channel c x ++ more c ≡ channel c (x ++ frames_in channels frames)
   goes-on x c inside = ap (λ l. channel c x ++ l) (sym (channel-frames_in channels frames c inside)) ∙
-      sym (channel-more c x (frames_in channels frames))
+      sym (channel-append c x (frames_in channels frames))
 
   same-length : (x : List Frame) (c d : ℕ) → length (channel c x) ≡ length (channel d x)
   same-length x c d = length-map x (λ (f : Frame). sample f c) ∙ sym (length-map x (λ (f : Frame). sample f d))
@@ -208,7 +209,7 @@ module _ (format : Fmt) (channels : ℕ) (m : MeasureBlock) where
       (pieces-each P (kinds_by format (block_of m) n) (numbers_in (size_of m) numbers) parts each))
 
   -- and are what it keeps of a signal
-  pub kept-each : (x : List Frame) (numbers : List ℤ) → length numbers ≡ parts * size_of m →
+  kept-each : (x : List Frame) (numbers : List ℤ) → length numbers ≡ parts * size_of m →
       numbers ≡ kept_numbers format channels (block_of m) x → (p : ℕ) → p < parts →
       numbers_in (size_of m) numbers p ≡ part_kept format m p x
   kept-each x numbers whole e p inside =
@@ -216,7 +217,7 @@ module _ (format : Fmt) (channels : ℕ) (m : MeasureBlock) where
       (length-numbers_in (size_of m) parts numbers whole) (λ q _. length-part format m q x)
       (sym (numbers-in_pieces (size_of m) parts numbers whole) ∙ e ∙ numbers-parts format channels m x) p inside
 
-  pub each-kept : (x : List Frame) (numbers : List ℤ) → length numbers ≡ parts * size_of m →
+  each-kept : (x : List Frame) (numbers : List ℤ) → length numbers ≡ parts * size_of m →
       ((p : ℕ) → p < parts → numbers_in (size_of m) numbers p ≡ part_kept format m p x) →
       numbers ≡ kept_numbers format channels (block_of m) x
   each-kept x numbers whole each =
@@ -241,13 +242,13 @@ module _ (size p start k : ℕ) (xs piece : List ℤ) (at : start ≡ p * size) 
   by-front : (q : ℕ) (l : List ℤ) → numbers_in size l q ≡ drop (q * size) (take (q * size + size) l)
   by-front q l = sym (drop-take (q * size) size l)
 
-  pub part-before : (q : ℕ) → q < p → numbers_in size written q ≡ numbers_in size xs q
+  part-before : (q : ℕ) → q < p → numbers_in size written q ≡ numbers_in size xs q
   part-before q less =
       let room : q * size + size ≤ p * size = grind (arith, less) in
       by-front q written ∙ ap (drop (q * size)) (take-put_mid_below start k xs piece (q * size + size)
       (omega (arith, room, at)) (omega (arith, at, within))) ∙ sym (by-front q xs)
 
-  pub part-here : numbers_in size written p ≡ piece
+  part-here : numbers_in size written p ≡ piece
   part-here =
       by-front p written
       ∙ ap (drop (p * size)) (take-put_mid start k xs piece (p * size + size) (omega (arith, at, long))
@@ -256,7 +257,7 @@ module _ (size p start k : ℕ) (xs piece : List ℤ) (at : start ≡ p * size) 
       omega (arith, length-take start xs, at, within) in e)
       ∙ drop-append_seam (take start xs) piece
 
-  pub part-behind : (q : ℕ) → p < q → numbers_in size written q ≡ numbers_in size xs q
+  part-behind : (q : ℕ) → p < q → numbers_in size written q ≡ numbers_in size xs q
   part-behind q less =
       let room : p * size + size ≤ q * size = grind (arith, less) in
       ap (take size) (drop-put_mid start k xs piece (q * size) (omega (arith, room, at, many))

@@ -15,10 +15,12 @@ use Rattle.dsp_measure.specs.Extremes.{KeepsExtreme}
 use Rattle.dsp_measure.specs.Measures.{block_of, parts_of}
 use Rattle.dsp_measure.specs.declared.measure_block.MeasureBlock.{MeasureBlock}
 use Rattle.dsp_measure.specs.declared.measure_block.MeasureBlock.TheVariants as measure
-use Rattle.dsp_measure.proofs.ExtremeLaws.{four-numbers, length-extreme_kinds, word-fits}
+use Rattle.dsp_measure.proofs.ExtremeLaws.{four-numbers}
 use Rattle.dsp_measure.proofs.MeasureParts.{length-kept, kinds-each}
+use Rattle.dsp_shape.proofs.KeptRules.{extreme-count}
+use Rattle.dsp_sat.proofs.WideProducts.{word-in-32}
 
-pub get-values : {A : Type 0} (f : ℕ → A) (a n i : ℕ) → i < n →
+get-values : {A : Type 0} (f : ℕ → A) (a n i : ℕ) → i < n →
     slice_get (map f (range_with_len a n)) i ≡ Some (f (a + i))
 get-values f a zero i h = absurd (omega (arith, h))
 get-values f a (suc n) zero h = let here : a + 0 ≡ a = omega arith in ap (λ k. Some (f k)) (sym here)
@@ -46,14 +48,14 @@ module _ (format : Fmt) (channels number : ℕ) (kept : List ℤ) where
 four-wide : (format : Fmt) (n : ℕ) (p q r s : ℤ) → Each IsOfKind (extreme_kinds format n) (p ∷ q ∷ r ∷ s ∷ []) →
     Each IsOfKind (extreme_kinds Q31 n) (p ∷ q ∷ r ∷ s ∷ [])
 four-wide format zero p q r s kinds = kinds
-four-wide format (suc n) p q r s kinds = (kinds.0, (word-fits format q kinds.1.0, kinds.1.1))
+four-wide format (suc n) p q r s kinds = (kinds.0, (word-in-32 format q kinds.1.0, kinds.1.1))
 
 -- its numbers are such in the widest format too
 wide : (format : Fmt) (n : ℕ) (xs : List ℤ) → Each IsOfKind (extreme_kinds format n) xs →
     Each IsOfKind (extreme_kinds Q31 n) xs
 wide format n xs kinds =
     let whole = four-numbers xs (each-length IsOfKind (extreme_kinds format n) xs kinds ∙
-    length-extreme_kinds format n) in
+    extreme-count format n) in
     subst (Each IsOfKind (extreme_kinds Q31 n)) (sym whole)
     (four-wide format n (sample xs 0) (sample xs 1) (sample xs 2) (sample xs 3)
     (subst (Each IsOfKind (extreme_kinds format n)) whole kinds))

@@ -27,20 +27,21 @@ use Rattle.dsp_measure.specs.Measures.{block_of, channels_of, parts_of, size_of,
 use Rattle.dsp_measure.specs.Measures.{PartsFeed}
 use Rattle.dsp_measure.specs.declared.measure_block.MeasureBlock.{MeasureBlock}
 use Rattle.dsp_measure.specs.declared.measure_block.MeasureBlock.TheVariants as measure
-use Rattle.dsp_measure.proofs.ExtremeLaws.{four-numbers, length-extreme_kinds}
+use Rattle.dsp_measure.proofs.ExtremeLaws.{four-numbers}
 use Rattle.dsp_measure.proofs.MeasureParts.{length-kept, kinds-each, each-kinds, kinds-parts, numbers-parts}
+use Rattle.dsp_shape.proofs.KeptRules.{extreme-count}
 
 -- ---- what the blocks have in common
 
 module _ (format : Fmt) (channels : ℕ) where
-  pub passes : (m : MeasureBlock) (x : List Frame) → live format channels (block_of m) x ≡ x
+  passes : (m : MeasureBlock) (x : List Frame) → live format channels (block_of m) x ≡ x
   passes measure.Power x = refl
   passes measure.Dot x = refl
   passes measure.CmplxDot x = refl
   passes measure.Max x = refl
   passes measure.Min x = refl
 
-  pub passes-whole : (m : MeasureBlock) (x : List Frame) → whole format channels (block_of m) x ≡ x
+  passes-whole : (m : MeasureBlock) (x : List Frame) → whole format channels (block_of m) x ≡ x
   passes-whole measure.Power x = refl
   passes-whole measure.Dot x = refl
   passes-whole measure.CmplxDot x = refl
@@ -54,14 +55,14 @@ module _ (format : Fmt) (channels : ℕ) where
   channels-stay measure.Max = refl
   channels-stay measure.Min = refl
 
-  pub format-stays : (m : MeasureBlock) → format_after format (block_of m) ≡ format
+  format-stays : (m : MeasureBlock) → format_after format (block_of m) ≡ format
   format-stays measure.Power = refl
   format-stays measure.Dot = refl
   format-stays measure.CmplxDot = refl
   format-stays measure.Max = refl
   format-stays measure.Min = refl
 
-  pub cost-of : (m : MeasureBlock) (n : ℕ) → live_block_cost format channels (block_of m) n ≡ parts_of m channels *
+  cost-of : (m : MeasureBlock) (n : ℕ) → live_block_cost format channels (block_of m) n ≡ parts_of m channels *
       (price_of m * n)
   cost-of measure.Power n = omega arith
   cost-of measure.Dot n = omega arith
@@ -69,7 +70,7 @@ module _ (format : Fmt) (channels : ℕ) where
   cost-of measure.Max n = omega arith
   cost-of measure.Min n = omega arith
 
-  pub turns-of : (m : MeasureBlock) (a b : ℕ) → block_turns format channels (block_of m) a b ≡ live_block_cost format
+  turns-of : (m : MeasureBlock) (a b : ℕ) → block_turns format channels (block_of m) a b ≡ live_block_cost format
       channels (block_of m) b - live_block_cost format channels (block_of m) a
   turns-of measure.Power a b = refl
   turns-of measure.Dot a b = refl
@@ -77,21 +78,21 @@ module _ (format : Fmt) (channels : ℕ) where
   turns-of measure.Max a b = refl
   turns-of measure.Min a b = refl
 
-pub frames-stay : (m : MeasureBlock) (n : ℕ) → live_frames (block_of m) n ≡ n
+frames-stay : (m : MeasureBlock) (n : ℕ) → live_frames (block_of m) n ≡ n
 frames-stay measure.Power n = refl
 frames-stay measure.Dot n = refl
 frames-stay measure.CmplxDot n = refl
 frames-stay measure.Max n = refl
 frames-stay measure.Min n = refl
 
-pub whole-stay : (m : MeasureBlock) (n : ℕ) → whole_frames (block_of m) n ≡ n
+whole-stay : (m : MeasureBlock) (n : ℕ) → whole_frames (block_of m) n ≡ n
 whole-stay measure.Power n = refl
 whole-stay measure.Dot n = refl
 whole-stay measure.CmplxDot n = refl
 whole-stay measure.Max n = refl
 whole-stay measure.Min n = refl
 
-pub most-stay : (m : MeasureBlock) (n : ℕ) → most_frames (block_of m) n ≡ n
+most-stay : (m : MeasureBlock) (n : ℕ) → most_frames (block_of m) n ≡ n
 most-stay measure.Power n = refl
 most-stay measure.Dot n = refl
 most-stay measure.CmplxDot n = refl
@@ -137,7 +138,7 @@ extreme-place : (format : Fmt) (a b : ℕ) (xs : List ℤ) → Each IsOfKind (ex
     Each IsPlace (extreme_kinds format b) xs → a ≡ b
 extreme-place format a b xs kinds place =
     let whole = four-numbers xs (each-length IsOfKind (extreme_kinds format a) xs kinds ∙
-    length-extreme_kinds format a) in
+    extreme-count format a) in
     four-kinds format a b (sample xs 0) (sample xs 1) (sample xs 2) (sample xs 3)
     (subst (Each IsOfKind (extreme_kinds format a)) whole kinds)
     (subst (Each IsPlace (extreme_kinds format b)) whole place)
@@ -154,7 +155,7 @@ part-kinds format measure.Max a b xs kinds place = subst (λ n. Each IsOfKind (e
 part-kinds format measure.Min a b xs kinds place = subst (λ n. Each IsOfKind (extreme_kinds format n) xs)
     (extreme-place format a b xs kinds place) kinds
 
-pub place-kinds : (format : Fmt) (channels : ℕ) (m : MeasureBlock) (a b : ℕ) (xs : List ℤ) →
+place-kinds : (format : Fmt) (channels : ℕ) (m : MeasureBlock) (a b : ℕ) (xs : List ℤ) →
     Each IsOfKind (kept_kinds format channels (block_of m) a) xs → HasPlace format channels (block_of m) b xs →
     Each IsOfKind (kept_kinds format channels (block_of m) b) xs
 place-kinds format channels m a b xs kinds place =
@@ -168,11 +169,11 @@ place-kinds format channels m a b xs kinds place =
 pub record IsMeasuring (m : MeasureBlock) (u : UnitState) : Type 0 where
   pub block : u.block ≡ block_of m
   pub running : u.ended ≡ false
-  pub tail : u.tail ≡ []
-  pub plain : u.banked ≡ false
+  tail : u.tail ≡ []
+  plain : u.banked ≡ false
 
 module _ (m : MeasureBlock) (u : UnitState) (is : IsMeasuring m u) where
-  pub measure-stands : (x : List Frame) → u.kept ≡ kept_numbers u.format u.channels (block_of m) x → StandsFor u x
+  measure-stands : (x : List Frame) → u.kept ≡ kept_numbers u.format u.channels (block_of m) x → StandsFor u x
   measure-stands x keeps = record {
     running = is.running;
     keeps = rw is.block keeps;
@@ -180,17 +181,17 @@ module _ (m : MeasureBlock) (u : UnitState) (is : IsMeasuring m u) where
         (sym (append-nil x));
   }
 
-  pub measure-keeps : (x : List Frame) → StandsFor u x → u.kept ≡ kept_numbers u.format u.channels (block_of m) x
+  measure-keeps : (x : List Frame) → StandsFor u x → u.kept ≡ kept_numbers u.format u.channels (block_of m) x
   measure-keeps x stands = rw is.block at stands.keeps
 
-  pub measure-counts : (n : ℕ) → HasPlace u.format u.channels (block_of m) n u.kept → CountsFrames u n
+  measure-counts : (n : ℕ) → HasPlace u.format u.channels (block_of m) n u.kept → CountsFrames u n
   measure-counts n place = record {
     running = is.running;
     place = rw is.block place;
     tail_frames = rw (is.block, is.tail, whole-stay m n, frames-stay m n) (omega arith);
   }
 
-  pub measure-place : (n : ℕ) → CountsFrames u n → HasPlace u.format u.channels (block_of m) n u.kept
+  measure-place : (n : ℕ) → CountsFrames u n → HasPlace u.format u.channels (block_of m) n u.kept
   measure-place n counts = rw is.block at counts.place
 
 -- what it may take
@@ -352,7 +353,7 @@ module _ (format : Fmt) (channels : ℕ) (m : MeasureBlock) where
   abbrev many : ℕ
   many = parts_of m channels
 
-  pub zeros-kept : replicate (many * size_of m) (pos 0) ≡ kept_numbers format channels (block_of m) []
+  zeros-kept : replicate (many * size_of m) (pos 0) ≡ kept_numbers format channels (block_of m) []
   zeros-kept =
       sym (zeros-parts (size_of m) 0 many)
       ∙ pieces-same (λ (_ : ℕ). replicate (size_of m) (pos 0)) (λ p. part_kept format m p []) many

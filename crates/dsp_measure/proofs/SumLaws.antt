@@ -1,6 +1,6 @@
 -- Sums of products that are wrapped on the way.
-use Rattle.std.proofs.Common.{◌≡◌, ◌∙◌, ap, ap₂, refl, sym, ℕ, zero, suc, ◌+◌, ◌<◌, ℤ, pos, ◌+ℤ◌, ◌-ℤ◌, neg_ℤ, List}
-use Rattle.std.proofs.Common.{◌++◌, ◌*◌, ◌/◌, ◌%◌, length, arith, length-append, add-zero}
+use Rattle.std.proofs.Common.{◌≡◌, ◌∙◌, ap, ap₂, refl, sym, ℕ, suc, ◌+◌, ◌<◌, ℤ, pos, ◌+ℤ◌, ◌-ℤ◌, neg_ℤ, List}
+use Rattle.std.proofs.Common.{◌++◌, ◌*◌, ◌/◌, ◌%◌, length, arith, length-append}
 use Rattle.std.specs.Prelude.{FitsSigned}
 use Rattle.std.proofs.lemmas.Int.{int_wrap_fits, int_wrap-add_left}
 use Rattle.std.proofs.lemmas.List.{get_or-append-add}
@@ -11,7 +11,7 @@ use Rattle.dsp_defs.specs.Measure.{measured_product, dot, cmplx_dot_sums}
 use Rattle.dsp_defs.specs.Numbers.{Width, wrap}
 use Rattle.dsp_defs.specs.Signal.{sample, sum_below, values}
 use Rattle.dsp_defs.specs.declared.format.Fmt.{Fmt}
-use Rattle.dsp_defs.proofs.Signal.{sum_below_cong, sample-append, values_cong, values-add}
+use Rattle.dsp_defs.proofs.Signal.{sum_below_cong, sample-append, values_cong, values-add, sum_below-add}
 use Rattle.dsp_defs.proofs.SumLemmas.{same_numbers}
 use Rattle.dsp_unit.specs.Channels.{samples_in}
 use Rattle.dsp_unit.proofs.ChannelFrames.{length-samples_in, sample-values}
@@ -51,7 +51,7 @@ pub sum-none : (w : Width) (start : ℤ) (f : ℕ → ℤ) → FitsSigned w star
 sum-none w start f fits = sym (ap (wrap w) (+ℤ_idr start) ∙ int_wrap_fits w start fits)
 
 -- one more
-pub sum-more : (w : Width) (start sum more : ℤ) (n m : ℕ) (f : ℕ → ℤ) → m ≡ n + 1 → sum ≡ sum_with w start n f →
+sum-more : (w : Width) (start sum more : ℤ) (n m : ℕ) (f : ℕ → ℤ) → m ≡ n + 1 → sum ≡ sum_with w start n f →
     more ≡ wrap w (sum +ℤ f n) → more ≡ sum_with w start m f
 sum-more w start sum more n m f next summed added =
     let step : m ≡ suc n = omega (arith, next) in
@@ -82,15 +82,8 @@ products-more format start sum more a b n m x y next is summed added =
 
 -- ---- sums of signals that go on
 
-sum_below-add : (m n : ℕ) (f : ℕ → ℤ) → sum_below (m + n) f ≡ sum_below m f +ℤ sum_below n (λ k. f (m + k))
-sum_below-add m zero f = ap (λ k. sum_below k f) (add-zero m) ∙ sym (+ℤ_idr (sum_below m f))
-sum_below-add m (suc n) f =
-    let step : m + suc n ≡ suc (m + n) = omega arith in
-    ap (λ k. sum_below k f) step ∙ ap (λ s. s +ℤ f (m + n)) (sum_below-add m n f) ∙
-    +ℤ_assoc (sum_below m f) (sum_below n (λ k. f (m + k))) (f (m + n))
-
 -- a sum over a list that goes on, of terms that follow from the numbers at a place
-pub sums-join : (w : Width) (m n : ℕ) (f g whole : ℕ → ℤ) → ((k : ℕ) → k < m → f k ≡ whole k) →
+sums-join : (w : Width) (m n : ℕ) (f g whole : ℕ → ℤ) → ((k : ℕ) → k < m → f k ≡ whole k) →
     ((k : ℕ) → k < n → g k ≡ whole (m + k)) →
     wrap w (wrap w (sum_below m f) +ℤ sum_below n g) ≡ wrap w (sum_below (m + n) whole)
 sums-join w m n f g whole front back =
@@ -99,7 +92,7 @@ sums-join w m n f g whole front back =
     ∙ ap (wrap w) (sym (sum_below-add m n whole))
 
 -- a sample behind the front of a list
-pub sample-behind : (x y : List ℤ) (m n : ℕ) → length x ≡ m → sample (x ++ y) (m + n) ≡ sample y n
+sample-behind : (x y : List ℤ) (m n : ℕ) → length x ≡ m → sample (x ++ y) (m + n) ≡ sample y n
 sample-behind x y m n size = ap (λ k. sample (x ++ y) (k + n)) (sym size) ∙ get_or-append-add x y n (pos 0)
 
 -- the dot product of signals that go on
@@ -236,7 +229,7 @@ sample-part x count part n a size inside is = is ∙ sym
     (sample-values (length x / 2) (λ k. sample x (k * 2 + part)) n (omega (arith, size, inside)))
 
 -- the parts of signals of one length are equally long
-pub length-parts : (x y : List ℤ) (p q : ℕ) → length x ≡ length y → length (parts_in x p) ≡ length (parts_in y q)
+length-parts : (x y : List ℤ) (p q : ℕ) → length x ≡ length y → length (parts_in x p) ≡ length (parts_in y q)
 length-parts x y p q same = length-samples_in 2 (length x / 2) x p ∙ ap (λ n. n / 2) same ∙
     sym (length-samples_in 2 (length y / 2) y q)
 

@@ -5,9 +5,7 @@ use Rattle.std.specs.Prelude.{◌≤ℤ◌, ◌<ℤ◌, negsuc, nat_abs}
 use Rattle.std.specs.Int.{div_ceil}
 use Rattle.std.proofs.lemmas.Int.{ints, to_z-of_z}
 use Rattle.dsp_defs.specs.Signal.{sample}
-use Rattle.std.proofs.lemmas.Bool.{cases_lt}
 use Rattle.std.proofs.lemmas.List.{append-nil, length-map, length-replicate}
-use Rattle.std.proofs.lemmas.Nat.{div-add-mod'}
 use Rattle.std.proofs.Math.Nat.{zero-mod, mod-eq_of_lt, mod-lt}
 use Rattle.dsp_defs.specs.declared.format.Fmt.{Fmt}
 use Rattle.dsp_defs.specs.declared.script.Block.TheVariants as Block
@@ -18,13 +16,12 @@ use Rattle.dsp_defs.specs.Sums.{decimate}
 use Rattle.dsp_defs.specs.Cost as cost
 use Rattle.dsp_defs.specs.Kept.{Fixed, Each, IsPlace, IsOfKind, in_words, FitsChannel}
 use Rattle.dsp_unit.specs.Filter.{FilterStandsFor, FilterCounts, FilterFeeds, IsNewFilter}
-use Rattle.dsp_unit.proofs.ChannelKept.{words-placed}
-use Rattle.dsp_defs.proofs.KeptLaws.{Each-append}
-use Rattle.dsp_unit.proofs.CostLaws.{quotient_more}
+use Rattle.dsp_defs.proofs.KeptLaws.{Each-append, in_words-place}
 use Rattle.dsp_lanes.specs.Turns.{lane_turns}
 use Rattle.dsp_window.specs.Rolling.{Rolling, last_samples}
 use Rattle.dsp_window.proofs.Rolls.{length-last_samples}
 use Rattle.dsp_filter.proofs.LastPlace.{each-last, kinds-of, of-kinds}
+use Rattle.dsp_filter.proofs.Groups.{ceil-more}
 use Rattle.dsp_rate.specs.DecimateState.{DecimateState, StandsFor, CountsFor, Fits, decimate_channel, kept}
 use Rattle.dsp_rate.specs.DecimateState.{new_decimate, past_length}
 use Rattle.dsp_rate.proofs.DecimateLemmas.{kept-stands}
@@ -58,17 +55,6 @@ is-decimator number taps count factor phase window ended counted past within few
 
 -- ---- room
 
--- more samples make no fewer groups
-pub ceil-more : (a b f : ℕ) → a ≤ b → div_ceil a f ≤ div_ceil b f
-ceil-more a b f more =
-    let quotients : a / f ≤ b / f = quotient_more a b f more in
-    ⊎_elim
-    (λ (fewer : a / f < b / f). omega arith)
-    (λ (no_fewer : b / f ≤ a / f). let same : a / f ≡ b / f = omega arith in
-    let rows : a / f * f ≡ b / f * f = ap (λ q. q * f) same in
-    omega (arith, div-add-mod' a f, div-add-mod' b f, rows))
-    (cases_lt (a / f) (b / f))
-
 -- so the room of a unit is enough for each block
 pub room-enough : (n block factor room : ℕ) → n ≤ block → div_ceil block factor * 1 ≤ room → div_ceil n factor ≤ room
 room-enough n block factor room within enough = let more : div_ceil n factor ≤ div_ceil block factor =
@@ -95,7 +81,7 @@ counted format d n counts =
     in
     cc
 
-no-tail : (n m : ℕ) → n ≡ m → n ≡ m + 0
+pub no-tail : (n m : ℕ) → n ≡ m → n ≡ m + 0
 no-tail n m same = omega (arith, same)
 
 pub counts-channel : (format : Fmt) (d : DecimateState) (n : ℕ) → d.ended ≡ false →
@@ -103,7 +89,7 @@ pub counts-channel : (format : Fmt) (d : DecimateState) (n : ℕ) → d.ended �
 counts-channel format d n running long counts = record {
   running = running;
   place = Each-append IsPlace (in_words (word format) (length d.taps + d.factor - 2)) (Fixed (n % d.factor) ∷ [])
-      d.past (pos d.phase ∷ []) (words-placed (word format) _ d.past long) (ap pos counts, tt);
+      d.past (pos d.phase ∷ []) (in_words-place (word format) _ d.past long) (ap pos counts, tt);
   tail_values = no-tail _ _ refl;
 }
 

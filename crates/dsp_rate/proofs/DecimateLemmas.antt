@@ -1,13 +1,11 @@
 -- The values of a decimator, over the window of its past and a block.
 use Rattle.std.proofs.Common.{◌≡◌, ◌∙◌, ap, ap₂, sym, ℕ, suc, ◌+◌, ◌-◌, ◌*◌, ◌/◌, ◌%◌, ◌<◌, ◌≤◌, ℤ, pos, ◌*ℤ◌, List}
-use Rattle.std.proofs.Common.{[], ◌∷◌, ◌++◌, length, take, drop, reverse, arith, length-append, take_all, ⊎_elim}
-use Rattle.std.specs.Prelude.{◌≤ℤ◌, negsuc, nat_abs}
-use Rattle.std.proofs.lemmas.Int.{ints}
+use Rattle.std.proofs.Common.{[], ◌∷◌, ◌++◌, length, take, reverse, arith, length-append, take_all, ⊎_elim}
+use Rattle.std.specs.Prelude.{◌≤ℤ◌}
 use Rattle.std.proofs.lemmas.Bool.{cases_lt}
 use Rattle.std.proofs.lemmas.List.{get_or-reverse, length-reverse, same_from_push, take_more}
-use Rattle.std.proofs.lemmas.Grind.{div_ceil_times}
 use Rattle.std.specs.Int.{div_ceil}
-use Rattle.std.proofs.lemmas.Nat.{div-mul-add, mod-mul-add, div-add-mod', div_below, mod_below, mul-le}
+use Rattle.std.proofs.lemmas.Nat.{div-add-mod', mod_below, mul-le}
 use Rattle.dsp_defs.specs.declared.format.Fmt.{Fmt}
 use Rattle.dsp_defs.specs.Counts.{Counts}
 use Rattle.dsp_defs.specs.Formats.{close}
@@ -18,38 +16,10 @@ use Rattle.dsp_defs.proofs.Signal.{values_cong, values-add, sum_below_cong, sum_
 use Rattle.dsp_defs.proofs.Signal.{delayed_before, delayed_after}
 use Rattle.dsp_defs.proofs.Streaming.{window_at}
 use Rattle.dsp_lanes.specs.Turns.{RisesWithin}
-use Rattle.dsp_window.specs.Rolling.{Rolling, last_samples}
-use Rattle.dsp_window.proofs.Rolls.{length-last_samples}
 use Rattle.dsp_rate.specs.DecimateState.{DecimateState, StandsFor, kept, kept_of, past_length, strided_rows}
+use Rattle.dsp_filter.proofs.Groups.{groups-more, groups-within}
 
 -- ---- groups
-
--- of n and m samples there are as many whole groups as of n, and those that the m samples and the open group make
-pub groups-more : (n m p f : ℕ) → 0 < f → p ≡ n % f → n / f + (p + m) / f ≡ (n + m) / f
-groups-more n m p f some phase =
-    let q = n / f in
-    let r = (p + m) / f in
-    let s = (p + m) % f in
-    let whole : n + m ≡ (q + r) * f + s = omega (arith, div-add-mod' n f, div-add-mod' (p + m) f) in
-    sym (ap (λ k. k / f) whole ∙ div-mul-add (q + r) f s (mod_below (p + m) f some))
-
--- and the open group is what is left of both
-pub phase-more : (n m p f : ℕ) → 0 < f → p ≡ n % f → (p + m) % f ≡ (n + m) % f
-phase-more n m p f some phase =
-    let q = n / f in
-    let r = (p + m) / f in
-    let s = (p + m) % f in
-    let whole : n + m ≡ (q + r) * f + s = omega (arith, div-add-mod' n f, div-add-mod' (p + m) f) in
-    sym (ap (λ k. k % f) whole ∙ mod-mul-add (q + r) f s (mod_below (p + m) f some))
-
--- an open group makes no more than a last group that is not whole
-pub groups-within : (m p f : ℕ) → p < f → (p + m) / f ≤ div_ceil m f
-groups-within m p f within =
-    let some : 0 < f = omega arith in
-    let covered : m ≤ div_ceil m f * f = (div_ceil_times m f some).0 in
-    let below : p + m < (div_ceil m f + 1) * f = omega (arith, covered) in
-    let groups : (p + m) / f < div_ceil m f + 1 = div_below (p + m) f (div_ceil m f + 1) some below in
-    omega (arith, groups)
 
 -- so the room of a block is enough
 pub groups-room : (m p f factor room : ℕ) → p < f → f ≡ factor → div_ceil m factor ≤ room → (p + m) / f ≤ room
@@ -116,7 +86,7 @@ module _ (format : Fmt) (factor : ℕ) (taps x more : List ℤ) (phase count : �
         ap₂ (λ a b. a *ℤ b) (sym tap) read))
 
     -- the values of the groups that a block makes whole come from the window
-    pub decimate-append : Continues (decimate format factor taps) x more
+    decimate-append : Continues (decimate format factor taps) x more
         (strided_rows format taps (last_of (past_length factor (length taps)) x ++ more) (factor - 1 - phase) factor
         count)
     decimate-append =
@@ -174,28 +144,7 @@ value-counted a b c i m p q next first second =
 
 -- ---- the window
 
--- it is filled as far as it was, and by the block
-pub pushed-filled : (old new : Rolling) (block : List ℤ) →
-    new ≡ record old { samples = last_samples old.past old.samples ++ block } → old.past ≤ length old.samples →
-    length new.samples ≡ old.past + length block
-pushed-filled old new block rolls filled =
-    ap (λ (w : Rolling). length w.samples) rolls
-    ∙ length-append (last_samples old.past old.samples) block
-    ∙ ap (λ k. k + length block) (length-last_samples old.past old.samples filled)
-
--- what it keeps once it was restored
-pub restored-past : (old new : Rolling) (numbers : List ℤ) → new ≡ record old { samples = numbers } →
-    length numbers ≡ old.past → last_samples new.past new.samples ≡ numbers
-restored-past old new numbers is long =
-    let none : length numbers - old.past ≡ 0 = omega (arith, long) in
-    ap (λ (w : Rolling). last_samples w.past w.samples) is ∙ ap (λ k. drop k numbers) none
-
 -- ---- the phase behind the kept samples
-
--- as it is read
-pub phase-read : (read z : ℤ) → read ≡ z → pos 0 ≤ℤ z → pos (nat_abs read) ≡ z
-phase-read read (pos k) is low = ap (λ t. pos (nat_abs t)) is
-phase-read read (negsuc k) is low = absurd (omega (arith, ints, low))
 
 -- and behind the others
 pub with-last : (numbers : List ℤ) (last : ℕ) → length numbers ≡ last + 1 →

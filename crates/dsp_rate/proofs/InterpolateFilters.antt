@@ -13,13 +13,15 @@ use Rattle.dsp_defs.specs.Sums.{interpolate}
 use Rattle.dsp_defs.specs.Cost as cost
 use Rattle.dsp_defs.specs.Kept.{FitsChannel}
 use Rattle.dsp_unit.specs.Filter.{FilterStandsFor, FilterCounts, FilterFeeds, IsNewFilter}
-use Rattle.dsp_unit.proofs.ChannelKept.{words-placed, words-fit, length-words, fit-words}
+use Rattle.dsp_unit.proofs.ChannelKept.{words-fit, length-words, fit-words}
 use Rattle.dsp_lanes.specs.Turns.{lane_turns}
 use Rattle.dsp_window.specs.Rolling.{Rolling, last_samples}
 use Rattle.dsp_window.proofs.Rolls.{length-last_samples}
 use Rattle.dsp_rate.specs.InterpolateState.{InterpolateState, IsPhased, StandsFor, interpolate_channel}
 use Rattle.dsp_rate.specs.InterpolateState.{new_interpolate, past_length, unsorted}
 use Rattle.dsp_rate.proofs.InterpolateLemmas.{unsorted-long}
+use Rattle.dsp_rate.proofs.ChannelLemmas.{no-tail}
+use Rattle.dsp_defs.proofs.KeptLaws.{in_words-place}
 
 -- ---- every interpolator
 
@@ -31,9 +33,6 @@ pub phased-keeps : (factor : ℕ) (phases : List ℤ) (window : Rolling) → IsP
     length (last_samples window.past window.samples) ≡ past_length factor (length (unsorted factor phases))
 phased-keeps factor phases window is = length-last_samples window.past window.samples is.shown ∙ is.past ∙
     ap (past_length factor) (sym (unsorted-long factor phases))
-
-no-tail : (n m : ℕ) → n ≡ m → n ≡ m + 0
-no-tail n m same = omega (arith, same)
 
 -- ---- what it stands for and counts
 
@@ -49,7 +48,7 @@ counts-channel : (format : Fmt) (f : InterpolateState) (n : ℕ) → f.ended ≡
     length f.past ≡ past_length f.factor (length f.taps) → FilterCounts (interpolate_channel format f) n
 counts-channel format f n running long = record {
   running = running;
-  place = words-placed (word format) _ f.past long;
+  place = in_words-place (word format) _ f.past long;
   tail_values = no-tail _ _ refl;
 }
 

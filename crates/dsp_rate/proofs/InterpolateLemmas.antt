@@ -32,7 +32,7 @@ place-within n factor i phase below small =
     omega (arith, turns)
 
 -- and no other place of the phase is the same
-pub place-apart : (factor i k phase : ℕ) → k < i → phase < factor → k * factor + phase ≢ i * factor + phase
+place-apart : (factor i k phase : ℕ) → k < i → phase < factor → k * factor + phase ≢ i * factor + phase
 place-apart factor i k phase below small =
     let before = place-within i factor k phase below small in
     omega (arith, before)
@@ -100,7 +100,7 @@ unsorted-place factor count i some below =
     ∙ omega (arith, div-add-mod' i factor)
 
 -- sorted taps, in the order in which they were given
-pub unsorted-sorted : (factor : ℕ) (taps : List ℤ) → 0 < factor → length taps % factor ≡ 0 →
+unsorted-sorted : (factor : ℕ) (taps : List ℤ) → 0 < factor → length taps % factor ≡ 0 →
     unsorted factor (sorted factor taps) ≡ taps
 unsorted-sorted factor taps some whole =
     let n = length taps in
@@ -186,7 +186,7 @@ module _ (format : Fmt) (factor : ℕ) (phases x more : List ℤ) (some : 0 < fa
       (window_at x more (past_length factor n) i j (count - suc j) (omega (arith, h))))
 
   -- the values of a block come from the window
-  pub interpolate-append : Continues (interpolate format factor (unsorted factor phases)) x more
+  interpolate-append : Continues (interpolate format factor (unsorted factor phases)) x more
       (phase_rows format factor phases (last_of (past_length factor (length phases)) x ++ more) (length more * factor))
   interpolate-append =
       let taps = unsorted factor phases in

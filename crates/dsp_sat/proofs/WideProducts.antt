@@ -1,8 +1,8 @@
 -- The product of two samples is small enough for 64 bits.
-use Rattle.std.proofs.Common.{◌-◌, ◌*◌, ◌^◌, ◌≤◌, ℤ, ◌*ℤ◌, SFits, arith}
+use Rattle.std.proofs.Common.{◌-◌, ◌*◌, ◌^◌, ◌≤◌, ℤ, ◌*ℤ◌, SFits, arith, to_z, of_z, sym, subst}
 use Rattle.std.specs.Prelude.{FitsSigned, nat_abs}
-use Rattle.std.specs.Int.{w8, w16, w32}
-use Rattle.std.proofs.lemmas.Int.{unsigned_abs-mul}
+use Rattle.std.specs.Int.{w8, w16, w32, w64}
+use Rattle.std.proofs.lemmas.Int.{unsigned_abs-mul, to_z-of_z}
 use Rattle.std.proofs.Math.Nat.{mul-le-mul}
 use Rattle.dsp_sat.proofs.Words.{abs_within}
 use Rattle.dsp_defs.specs.Formats.{word, word_bits}
@@ -20,3 +20,8 @@ pub word-in-32 : (format : Fmt) (z : ℤ) → FitsSigned (word format) z → SFi
 word-in-32 Q7 z f = record { sfits = omega (arith, f.sfits) }
 word-in-32 Q15 z f = record { sfits = omega (arith, f.sfits) }
 word-in-32 Q31 z f = f
+
+-- a word of 32 bits, as one of 64 reads it
+pub cast-fits : (z : ℤ) → SFits w32 z → SFits w32 (to_z w64 (of_z w64 z))
+cast-fits z fits = let wide : SFits w64 z = record { sfits = omega (arith, fits.sfits) } in
+    subst (λ y. SFits w32 y) (sym (to_z-of_z w64 z wide)) fits

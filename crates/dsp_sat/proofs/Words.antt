@@ -2,10 +2,11 @@
 use Rattle.std.proofs.Common.{◌≡◌, pow_mono, ◌∙◌, ap, refl, sym, subst, ℕ, ◌%◌, ◌≤ℤ◌, ◌+◌, ◌*◌, ◌≤◌, ◌<◌, ℤ, pos}
 use Rattle.std.proofs.Common.{negsuc, ◌^◌, ◌*ℤ◌, to_z, of_z, SFits, unsigned_abs, arith}
 use Rattle.std.specs.Int.{Width, int_wrap, int_rem_euclid, int_min, int_max}
+use Rattle.std.specs.Prelude.{nat_abs}
 use Rattle.std.proofs.lemmas.Int.{to_z-of_z, fits_signed_mul, unsigned_abs-mul, wrapping_mul_is, int_wrap_fits, ints}
 use Rattle.std.proofs.lemmas.Int.{clamps}
 use Rattle.std.proofs.Math.Pow.{shr_lt}
-use Rattle.std.proofs.Math.Nat.{mul-le-mul}
+use Rattle.std.proofs.Math.Nat.{mul-le-mul, div-le_of_le-mul, div-lt_iff_lt-mul}
 use mir.Val.{bits as bits_of, hbits}
 use lib.Signed.{shr_z, mag, mag_shr}
 use Rattle.dsp_defs.specs.Numbers.{wrap, saturate, ◌>>◌}
@@ -143,3 +144,9 @@ pub product_shift-is :
     to_z w (of_z w (shr_z (to_z w (of_z w p)) (2 ^ k))) ≡ (a *ℤ b >> k)
 product_shift-is w u a b p k fits_a fits_b fits_p is =
     shift_down-is w p (a *ℤ b) k k fits_p (is ∙ (λ i. to_z-of_z u a fits_a i *ℤ to_z-of_z u b fits_b i)) refl
+
+-- what a shift leaves of a small number
+pub shr-small : (z : ℤ) (k m : ℕ) → 0 < 2 ^ k → nat_abs z ≤ m * 2 ^ k → nat_abs (z >> k) ≤ m
+shr-small (pos n) k m some h = div-le_of_le-mul (2 ^ k) (omega (arith, h))
+shr-small (negsuc n) k m some h = let below : n < m * 2 ^ k = omega (arith, h) in let q =
+    (div-lt_iff_lt-mul some).1 below in omega (arith, q)

@@ -76,7 +76,7 @@ fits_conversion from next (Format f ∷ args) b h = (f, args, refl, h.0, h.1)
 
 -- ---- forms
 
-pub form_takes : (environment : Environment) (form : Form) (rest after : Rest) (b : Block) →
+form_takes : (environment : Environment) (form : Form) (rest after : Rest) (b : Block) →
     block_at environment form rest ≡ Ok (b, after) → (args : List Argument) ×
     Takes (tables_in environment) rest after (map argument_symbol args) × Fits form args b
 unfolding block_at
@@ -110,7 +110,7 @@ parts : (environment : Environment) (args more : List Argument) (a : Argument) (
 parts environment args more a items left e h = Strips-split (tables_in environment) items (argument_symbol a ∷ [])
     (map argument_symbol more) left (rw e at h)
 
-pub form_read : (environment : Environment) (form : Form) (args : List Argument) (b : Block) (items left : List Item)
+form_read : (environment : Environment) (form : Form) (args : List Argument) (b : Block) (items left : List Item)
     (end : ℕ) → Fits form args b → Strips (tables_in environment) items (map argument_symbol args) left →
     block_at environment form (record { items = items; end = end }) ≡ Ok (b, record { items = left; end = end })
 unfolding block_at
@@ -329,7 +329,7 @@ word_of_block_read tables left correlated flow w items after end a h =
 
 -- ---- blocks
 
-abbrev pub one_if : Bool → ℕ
+abbrev one_if : Bool → ℕ
 one_if b = cond b 1 0
 
 -- the blocks that were read, up to the output

@@ -34,8 +34,9 @@ use Rattle.dsp_defs.specs.Canon.{symbol_text, line_of, canon}
 use Rattle.dsp_script.specs.Plain.{front_symbols, chain_symbols}
 use Rattle.dsp_script.specs.Printed.{behind_spaces}
 use Rattle.dsp_script.proofs.Tokens.{EndsRun, run_begins}
-use Rattle.dsp_script.proofs.Names.{both_true, IsRun, word_run, format_run, container_run}
+use Rattle.dsp_script.proofs.Names.{IsRun, word_run, format_run, container_run}
 use Rattle.dsp_script.proofs.Numerals.{in_range}
+use Rattle.dsp_shape.proofs.Paces.{both_true}
 
 -- ---- numerals
 
@@ -155,7 +156,7 @@ after_close : (text : List ℕ) (symbols : List Symbol) → Lexes text symbols �
 unfolding items_from
 after_close text symbols h = record { ends = refl; lexes = λ at. (tt, h (at + 1)) }
 
-all_run : (run : List ℕ) → list_all is_run_byte run ≡ true → AllByRecursion (λ b. is_run_byte b ≡ true) run
+pub all_run : (run : List ℕ) → list_all is_run_byte run ≡ true → AllByRecursion (λ b. is_run_byte b ≡ true) run
 all_run [] h = tt
 all_run (b ∷ run) h = let t = both_true (is_run_byte b) (list_all is_run_byte run) h in (t.0, all_run run t.1)
 

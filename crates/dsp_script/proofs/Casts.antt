@@ -7,7 +7,7 @@ use Rattle.std.proofs.lemmas.Int.{ints, to_z-of_z}
 pub fits_64 : (n : ℤ) → FitsSigned w32 n → FitsSigned w64 n
 fits_64 n h = record { sfits = omega arith }
 
-pub fits_128 : (n : ℤ) → FitsSigned w32 n → FitsSigned w128 n
+fits_128 : (n : ℤ) → FitsSigned w32 n → FitsSigned w128 n
 fits_128 n h = record { sfits = omega arith }
 
 pub fits_between : (low high n : ℤ) → FitsSigned w32 low → FitsSigned w32 high → low ≤ℤ n → n ≤ℤ high → FitsSigned w32 n

@@ -13,8 +13,9 @@ use Rattle.dsp_defs.specs.Grammar.{Symbol, Numeral, OpenBrace, CloseBrace, Whole
 use Rattle.dsp_defs.specs.Places.{◌>>=◌, or_fault, next_number, list_end, judged, Environment, next_at, opening}
 use Rattle.dsp_defs.specs.Places.{entry, entries_at, list_at}
 use Rattle.dsp_script.proofs.Steps.{bind_ok, read_to, or_fault_ok, passed, refused, pair, pair_is, ok_is, is_between}
-use Rattle.dsp_script.proofs.Steps.{between_is, between_again, next_takes, next_again, IsToken, IsOne, numerals_one}
+use Rattle.dsp_script.proofs.Steps.{between_is, between_again, next_takes, next_again, IsOne, numerals_one}
 use Rattle.dsp_script.proofs.Steps.{written_number, written_close, written_open, Strips, Strips-any, Takes}
+use Rattle.dsp_script.proofs.Tokens.{IsToken}
 
 -- ---- one number, and the end
 
@@ -116,7 +117,7 @@ entered tables rule count offset (Run run) x e =
 pub record IsEntries (tables : List Named) (rule : ListRule) (count end : ℕ) (items : List Item) (numbers : List ℤ)
     (after : Rest) : Type 0 where
   pub strips : Strips tables items (map Numeral numbers ++ CloseBrace ∷ []) after.items
-  pub end_same : end ≡ after.end
+  end_same : end ≡ after.end
   pub rest : IsRest rule count numbers
 
 entries_end : (tables : List Named) (rule : ListRule) (count end : ℕ) (item : Item) (after : Rest) → end ≡ after.end →
@@ -184,7 +185,7 @@ close_next tables rule count offset token w complete =
     let close = written_close tables token w in
     (rw close tt, rw (close, complete) refl)
 
-pub entries_read : (tables : List Named) (rule : ListRule) (count end : ℕ) (items : List Item) (numbers : List ℤ)
+entries_read : (tables : List Named) (rule : ListRule) (count end : ℕ) (items : List Item) (numbers : List ℤ)
     (left : List Item) → Strips tables items (map Numeral numbers ++ CloseBrace ∷ []) left
     → AllByRecursion (IsBetween rule.low rule.high) numbers → is_complete rule.count (count + length numbers) ≡ true →
     count + length numbers ≤ rule.limit

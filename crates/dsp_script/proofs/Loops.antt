@@ -21,7 +21,7 @@ use Rattle.dsp_defs.specs.Table.{is_correlate, flow_after}
 
 -- ---- what was read before, and what is still read
 
-abbrev pub with_front : {A : Type 0} → List A → Result (List A × Rest) ScriptFault → Result (List A × Rest) ScriptFault
+abbrev with_front : {A : Type 0} → List A → Result (List A × Rest) ScriptFault → Result (List A × Rest) ScriptFault
 with_front front read = read >>= λ x. Ok (front ++ x.0, x.1)
 
 abbrev pub with_numbers : List ℤ → Result (List ℤ × Rest) ScriptFault → Result (List ℤ × Rest) ScriptFault
@@ -30,7 +30,7 @@ with_numbers front read = with_front front read
 abbrev pub with_blocks : List Block → Result (List Block × Rest) ScriptFault → Result (List Block × Rest) ScriptFault
 with_blocks front read = with_front front read
 
-pub regroup : {A : Type 0} (front : List A) (x : A) (read : Result (List A × Rest) ScriptFault) →
+regroup : {A : Type 0} (front : List A) (x : A) (read : Result (List A × Rest) ScriptFault) →
     with_front front (read >>= λ more. Ok (x ∷ more.0, more.1)) ≡ with_front (front ++ x ∷ []) read
 regroup front x (Ok more) = ap (λ (xs : List _). Ok (xs, more.1)) (simp append_assoc)
 regroup front x (Err f) = refl

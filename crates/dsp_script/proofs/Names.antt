@@ -18,6 +18,7 @@ use Rattle.dsp_defs.specs.Table.{input_containers, output_containers}
 use Rattle.dsp_defs.specs.Grammar.{container_of}
 use Rattle.dsp_defs.specs.Places.{named}
 use Rattle.dsp_defs.specs.Reading.{place_of}
+use Rattle.dsp_shape.proofs.Paces.{both_true}
 
 abbrev other_than : List ℕ → List ℕ → Bool
 other_than name run = if bytes_eq run name then false else true
@@ -70,10 +71,6 @@ well_named words.CmplxDot = (refl, refl)
 well_named words.Max = (refl, refl)
 well_named words.Min = (refl, refl)
 well_named words.Route = (refl, refl)
-
-pub both_true : (a b : Bool) → (a && b) ≡ true → (a ≡ true) × (b ≡ true)
-both_true true b e = (refl, e)
-both_true false b e = absurd cc
 
 other : (b : Bool) → (if b then false else true) ≡ true → b ≡ false
 other true e = absurd cc

@@ -18,7 +18,7 @@ tested : (b : Bool) (ds : List ℕ) (i : ℕ) → list_all is_ascii_digit ds ≡
 tested true ds i all lt e = e
 tested false ds i all lt e = let no = list_all_at is_ascii_digit ds i 0 lt e in absurd cc
 
-pub digit_at : (ds : List ℕ) (i : ℕ) → list_all is_ascii_digit ds ≡ true → i < length ds → (48 ≤ get_or ds i 0) ×
+digit_at : (ds : List ℕ) (i : ℕ) → list_all is_ascii_digit ds ≡ true → i < length ds → (48 ≤ get_or ds i 0) ×
     (get_or ds i 0 ≤ 57)
 digit_at ds i all lt = in_range (get_or ds i 0) (tested (is_ascii_digit (get_or ds i 0)) ds i all lt refl)
 

@@ -21,7 +21,7 @@ use Rattle.dsp_script.proofs.CanonLaws.{AreNumerals, table_numerals}
 -- ---- tokens alone
 
 -- the tokens, as items of some text
-abbrev as_items : List Token → List Item
+abbrev pub as_items : List Token → List Item
 as_items ts = map (λ token. record { offset = 0; token = token }) ts
 
 -- what is spelled depends on the tokens alone

@@ -18,7 +18,9 @@ use Rattle.dsp_defs.specs.Parameters.{IsBetween}
 use Rattle.dsp_defs.specs.Grammar.{Symbol, Name, Numeral, OpenBrace, CloseBrace, Whole, IsWritten, unwritten, Spells}
 use Rattle.dsp_defs.specs.Places.{◌>>=◌, or_fault, first_of, Judge, next_at, meaning_of, choice, named, begins_with}
 use Rattle.dsp_defs.specs.Places.{number, natural_at, conversion}
-use Rattle.dsp_script.proofs.Names.{both_true, format_again}
+use Rattle.dsp_script.proofs.Names.{format_again}
+use Rattle.dsp_script.proofs.Tokens.{IsToken}
+use Rattle.dsp_shape.proofs.Paces.{both_true}
 
 -- ---- results
 
@@ -168,10 +170,6 @@ Takes-then {tables = tables} {a = a} {b = b} {c = c} {xs = xs} {ys = ys} p q = r
 pub Takes-none : (tables : List Named) (a b : Rest) → a ≡ b → Takes tables a b []
 Takes-none tables a b same = record { strips = ap (λ (r : Rest). r.items) same; end = ap (λ (r : Rest). r.end) same }
 
-abbrev pub IsToken : Token → Type 0
-IsToken Bad = ⊥
-IsToken token = Unit {0}
-
 abbrev pub pair : {A B : Type 0} → A → B → Result (A × B) ScriptFault
 pair a b = Ok (a, b)
 
@@ -234,7 +232,7 @@ next_again judge item items end x is e = rw (first_again end item items is, e) r
 
 -- ---- words
 
-pub find_passes : {A : Type 0} (p : A → Bool) (xs : List A) (x : A) → find p xs ≡ Some x → p x ≡ true
+find_passes : {A : Type 0} (p : A → Bool) (xs : List A) (x : A) → find p xs ≡ Some x → p x ≡ true
 find_passes p [] x e = absurd cc
 find_passes p (y ∷ ys) x e = cases (p y) refl e (find_passes p ys x)
   where
@@ -258,7 +256,7 @@ unfolding by_name
 by_name_is name those run x e = (bytes_eq-Decides run (name x)).0 (find_passes (λ y. bytes_eq run (name y)) those x e)
 
 -- a word that has a meaning is a run
-pub meaning_run : {A : Type 0} (meaning : List ℕ → Option A) (token : Token) (x : A) →
+meaning_run : {A : Type 0} (meaning : List ℕ → Option A) (token : Token) (x : A) →
     meaning_of meaning token ≡ Some x → (run : List ℕ) × (token ≡ Run run) × (meaning run ≡ Some x)
 meaning_run meaning Open x e = absurd cc
 meaning_run meaning Close x e = absurd cc

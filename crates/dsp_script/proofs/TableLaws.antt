@@ -128,7 +128,7 @@ table_read tables left before t items after end some is h =
 pub record IsTables (tables : List Named) (left : ℕ) (before : List Named) (rest after : Rest) (whole : List Named) :
     Type 0 where
   pub more : List Named
-  pub joined : whole ≡ before ++ more
+  joined : whole ≡ before ++ more
   pub takes : Takes tables rest after (flat_map table_symbols more)
   pub are : AreTables before more
   pub few : length more ≤ left
@@ -157,7 +157,7 @@ one_more tables left before rest r1 after t whole first then = record {
   few = omega (arith, then.few);
 }
 
-pub tables_take : (tables : List Named) (left : ℕ) (before : List Named) (rest after : Rest) (whole : List Named) →
+tables_take : (tables : List Named) (left : ℕ) (before : List Named) (rest after : Rest) (whole : List Named) →
     tables_at left before rest ≡ Ok (whole, after) → IsTables tables left before rest after whole
 unfolding tables_at
 tables_take tables zero before rest after whole e = tested (begins_with (codes "table") rest.items) e
@@ -183,7 +183,7 @@ tables_take tables (suc left) before rest after whole e =
         (table_takes tables (suc left) before rest t.0.1 t.0.0 t.1)
         (later (before ++ t.0.0 ∷ []) t.0.1 after whole t.2)
 
-pub tables_read : (tables : List Named) (left : ℕ) (before more : List Named) (items after : List Item) (end : ℕ) →
+tables_read : (tables : List Named) (left : ℕ) (before more : List Named) (items after : List Item) (end : ℕ) →
     AreTables before more → length more ≤ left → Strips tables items (flat_map table_symbols more) after →
     begins_with (codes "table") after ≡ false
     → tables_at left before (record { items = items; end = end }) ≡ Ok

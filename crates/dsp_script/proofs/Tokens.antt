@@ -43,7 +43,7 @@ pub white_skipped : (text : List ℕ) (at : ℕ) → at < length text → get_or
 unfolding items_from
 white_skipped text at lt ne is = rw (cut text at lt, ne_eqb (get_or text at 0) 35 ne, is) refl
 
-pub nothing_left : (text : List ℕ) (at : ℕ) → length text ≤ at → items_from false at (drop at text) ≡ []
+nothing_left : (text : List ℕ) (at : ℕ) → length text ≤ at → items_from false at (drop at text) ≡ []
 unfolding items_from
 nothing_left text at le = rw (drop_all at text le) refl
 
@@ -226,7 +226,7 @@ run_from text at end some fits all ends =
     false k (drop end text)) place
 
 -- the item is a token
-abbrev IsToken : Token → Type 0
+abbrev pub IsToken : Token → Type 0
 IsToken Bad = ⊥
 IsToken token = Unit {0}
 

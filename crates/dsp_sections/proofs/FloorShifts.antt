@@ -9,6 +9,7 @@ use lib.IntN.{*ℤ_comm, *ℤ-zero, suc_ℤ-*ℤ, pos-*ℤ-pos, negsuc-*ℤ-pos}
 use lib.Signed.{shr_z}
 use mir.Val.{SFits, of_z}
 use Rattle.dsp_lanes.proofs.WordLemmas.{left, wrap_bits-is, wrap_bits-congruent}
+use Rattle.dsp_lanes.proofs.Fractions.{floored}
 
 -- ---- multiples
 times_more : (z : ℤ) (n : ℕ) → z *ℤ pos (suc n) ≡ z *ℤ pos n +ℤ z
@@ -66,31 +67,6 @@ floor_is (negsuc b) m (suc d) small =
     ∙ ap negsuc part
   where
     turned : (x d m : ℕ) → m ≤ d → neg_ℤ (pos (x + suc d)) +ℤ pos m ≡ negsuc (x + (d - m))
-    turned x d m less = omega (arith, ints, less)
-
--- the floor and what it leaves
-pub floored : (z : ℤ) (d : ℕ) → 0 < d → (m : ℕ) × (m < d) × (z ≡ shr_z z d *ℤ pos d +ℤ pos m)
-floored z zero some = absurd (omega (arith, some))
-floored (pos a) (suc d) some =
-    let n = a / suc d in (
-      a % suc d,
-      mod_below a (suc d) some,
-      ap pos (sym (div-add-mod' a (suc d)))
-          ∙ ap (λ x. x +ℤ pos (a % suc d)) (sym (pos-*ℤ-pos n (suc d))),
-    )
-floored (negsuc a) (suc d) some =
-    let n = a / suc d in
-    let m = a % suc d in
-    let small : m < suc d = mod_below a (suc d) some in
-    let less : m ≤ d = omega (arith, small) in
-    let whole : suc n * suc d ≡ n * suc d + suc d = omega arith in (
-      d - m,
-      omega arith,
-      ap negsuc (sym (div-add-mod' a (suc d))) ∙ turned (n * suc d) d m less
-          ∙ ap (λ x. x +ℤ pos (d - m)) (ap (λ x. neg_ℤ (pos x)) (sym whole) ∙ sym (negsuc-*ℤ-pos n (suc d))),
-    )
-  where
-    turned : (x d m : ℕ) → m ≤ d → negsuc (x + m) ≡ neg_ℤ (pos (x + suc d)) +ℤ pos (d - m)
     turned x d m less = omega (arith, ints, less)
 
 -- a multiple of e * d, and a number

@@ -9,6 +9,7 @@ use Rattle.std.proofs.lemmas.Int.{ints, int_wrap_fits, SFits-int_wrap, int_wrap-
 use Rattle.std.proofs.lemmas.Int.{fits_signed_mul, to_z-of_z, unsigned_abs-mul}
 use Rattle.std.proofs.lemmas.List.FromFn.{get_or-map-range_with_len}
 use Rattle.std.proofs.lemmas.Simd.{map-map}
+use Rattle.std.proofs.lemmas.Nat.{div-add-mod', mod_below}
 use Rattle.std.proofs.Math.ListN.{get_or-map}
 use Rattle.std.proofs.Math.Nat.{mul-le-mul}
 use lib.Lanes.{zip2, Each1}
@@ -23,11 +24,13 @@ use Rattle.dsp_defs.specs.declared.format.Fmt.TheVariants.{Q7, Q15, Q31}
 use Rattle.dsp_defs.specs.Formats.{word}
 use Rattle.dsp_sections.specs.SectionWaves.{low, AreWords, AreSections, IsSum}
 use Rattle.dsp_sections.specs.declared.wave_lanes.WaveLanes.{WaveLanes}
-use Rattle.dsp_lanes.proofs.LaneOps.{bits_of, ints_of_bits, cast_lanes, casts_asked, casts_are, greater, lesser}
-use Rattle.dsp_lanes.proofs.LaneOps.{saturates_to, saturated_fits}
+use Rattle.dsp_lanes.proofs.HalfSums.{by_four, evens}
+use Rattle.dsp_lanes.proofs.LaneOps.{bits_of, ints_of_bits, Each1-map, greater, lesser, saturates_to, saturated_fits}
 use Rattle.dsp_lanes.proofs.LaneSums.{plus_in, times_in}
-use Rattle.dsp_lanes.proofs.LaneClosings.{Castable, down_in, up_in, low_lanes, low_word}
-use Rattle.dsp_sections.proofs.LaneValues.{AreValues, of_list, same_values, sums, multiples, downs, ups, wides, all_fit}
+use Rattle.dsp_lanes.proofs.LaneClosings.{down_in, up_in, low_lanes, low_word}
+use Rattle.dsp_lanes.proofs.WordViews.{halves, halves_fit, narrow_are, narrow_lanes, pairs, pairs_low, wide_are}
+use Rattle.dsp_lanes.proofs.WordViews.{wide_lanes}
+use Rattle.dsp_sections.proofs.LaneValues.{AreValues, of_list, same_values, sums, multiples, downs, ups, all_fit}
 use Rattle.dsp_sections.proofs.LaneValues.{read_values, sample_fits}
 use Rattle.dsp_sections.proofs.SectionLanes.{masks, and_in}
 use Rattle.dsp_sections.proofs.FloorShifts.{upper_word, unsigned_word}
@@ -117,6 +120,79 @@ module _ (s : List ℤ) (long : length s ≡ 4) (f : Each1 (SFits w64) s) (p e :
       )
 
 -- ---- Q15
+-- the low word of a lane is that of the list of low words
+low_sample : (xs : List ℤ) (i : ℕ) → low xs i ≡ sample (map (int_wrap w32) xs) i
+low_sample xs i =
+    sym (ap (get_or (map (int_wrap w32) xs) i) (sym (int_wrap_fits w32 (pos 0) (record { sfits = omega arith }))) ∙
+    get_or-map (int_wrap w32) xs i (pos 0))
+
+-- the low word of a lane is its number, wrapped
+low_word_is : (z : ℤ) → SFits w64 z → to_z w32 (of_z w64 z % 2 ^ 32) ≡ int_wrap w32 z
+unfolding int_wrap
+low_word_is (pos a) f = refl
+low_word_is (negsuc a) f =
+    let h = f.sfits in
+    let rest = mod_below a (2 ^ 32) (omega arith) in
+    let whole = div-add-mod' a (2 ^ 32) in
+    let same : (2 ^ 64 - suc a) % 2 ^ 32 ≡ 2 ^ 32 - 1 - a % 2 ^ 32 = omega (arith, h, rest, whole) in
+    ap (to_z w32) same
+
+word_32 : (x : ℤ) → SFits w32 (saturate_to_bits 15 x)
+word_32 x = let h : SFits w16 (saturate_to_bits 15 x) = saturated_fits w16 x in
+    record { sfits = omega (arith, h.sfits) }
+
+-- lanes of which each word is clamped to 16 bits
+module _ (words : List ℤ) (long : length words ≡ 4) (f : Each1 (SFits w64) words) where
+  abbrev clamp_16 : List ℕ → List ℕ
+  clamp_16 lanes = greater w32 (lesser w32 lanes (replicate 8 (of_z w32 (pos 32767))))
+      (replicate 8 (of_z w32 (negsuc 32767)))
+
+  abbrev clamped_lanes : List ℕ
+  clamped_lanes = wide_lanes (clamp_16 (narrow_lanes (bits_of w64 words)))
+
+  abbrev clamped : List ℤ
+  clamped = map (saturate_to_bits 15) (halves words)
+
+  clamped_fit : Each1 (SFits w32) clamped
+  clamped_fit = Each1-map (SFits w32) (SFits w32) (saturate_to_bits 15) (λ x h. word_32 x) (halves words)
+      (halves_fit words f)
+
+  clamped_wide : (wide_lanes (bits_of w32 clamped) ≡ bits_of w64 (pairs clamped)) × (length (pairs clamped) ≡ 4)
+      × Each1 (SFits w64) (pairs clamped)
+  clamped_wide =
+      let still : length clamped ≡ 8 = by_four (λ ws. length (map (saturate_to_bits 15) (halves ws)) ≡ 8)
+      (λ a b c d. refl) words long in
+      wide_are clamped still clamped_fit
+
+  clamped_read : map (to_z w64) clamped_lanes ≡ pairs clamped
+  clamped_read =
+      let eight : length (halves words) ≡ 8 = by_four (λ ws. length (halves ws) ≡ 8) (λ a b c d. refl) words long in
+      ap (λ l. map (to_z w64) (wide_lanes l)) (ap clamp_16 (narrow_are words long f)
+      ∙ saturates_to w32 15 8 (halves words) eight (halves_fit words f) (omega (arith, ints)) (omega (arith, ints)))
+      ∙ ap (map (to_z w64)) clamped_wide.0 ∙ ints_of_bits w64 (pairs clamped) clamped_wide.2
+
+  pub clamped_lows : map (int_wrap w32) (map (to_z w64) clamped_lanes) ≡ values 4
+      (λ i. saturate_to_bits 15 (low words i))
+  clamped_lows =
+      ap (map (int_wrap w32)) clamped_read
+      ∙ pairs_low clamped clamped_fit
+      ∙ by_four (λ ws. evens (map (saturate_to_bits 15) (halves ws)) ≡ values 4
+      (λ i. saturate_to_bits 15 (to_z w32 (of_z w64 (sample ws i) % 2 ^ 32)))) (λ a b c d. refl) words long
+      ∙ (λ t. values 4 (λ i. saturate_to_bits 15 (low_word_is (sample words i)
+      (sample_fits w64 words f (omega (arith, ints)) i) t)))
+
+  pub clamped_words : AreWords Q15 (map (to_z w64) clamped_lanes)
+  clamped_words = record {
+    four = ap length clamped_read ∙ clamped_wide.1;
+    wide = subst (λ (l : List ℤ). Each1 (SFits w64) l) (sym clamped_read) clamped_wide.2;
+    words = λ i.
+        let xs = map (to_z w64) clamped_lanes in
+        let h : ℕ → ℤ = λ k. saturate_to_bits 15 (low words k) in
+        let fits = sample_fits w16 (values 4 h) (all_fit w16 4 h (λ k. saturated_fits w16 (low words k)))
+        (omega (arith, ints)) i in
+        subst (SFits w16) (sym (low_sample xs i ∙ ap (λ (l : List ℤ). sample l i) clamped_lows)) fits;
+  }
+
 magnitude : (z : ℤ) → nat_abs z < 2 ^ 33 → mag z < 2 ^ 33
 magnitude (pos n) h = omega (arith, h)
 magnitude (negsuc n) h = omega (arith, h)
@@ -152,67 +228,25 @@ module _ (s : List ℤ) (long : length s ≡ 4) (f : Each1 (SFits w64) s)
       let less = magnitude (sample s i) (small i) in
       shift_fits w32 (sample s i) (15 - p) (omega (arith, less, more))
 
-  pub cast_32 : Castable w64 w32 shifted_16
-  cast_32 = subst (λ (l : List ℕ). Castable w64 w32 l) (sym shifted_16_is.are)
-      (casts_asked w64 w32 (values 4 wanted) (all_fit w64 4 wanted shifted_16_is.fit) (all_fit w32 4 wanted narrow))
+  abbrev masked_16 : List ℕ
+  masked_16 = zip2 and_in shifted_16 (replicate 4 4294967295)
 
-  narrowed_16 : AreValues w32 4 (cast_lanes w64 w32 shifted_16) wanted
-  narrowed_16 = record {
-    are = ap (cast_lanes w64 w32) shifted_16_is.are ∙ casts_are w64 w32 (values 4 wanted)
-        (all_fit w64 4 wanted shifted_16_is.fit);
-    fit = narrow;
-  }
+  pub masked_16_read : (map (to_z w64) masked_16 ≡ values 4 (λ i. pos (of_z w64 (wanted i) % 2 ^ 32))) ×
+      Each1 (SFits w64) (map (to_z w64) masked_16)
+  masked_16_read = read_values w64 4 (masks 4 shifted_16_is)
 
-  abbrev clamped_16 : List ℕ
-  clamped_16 = greater w32 (lesser w32 (cast_lanes w64 w32 shifted_16) (replicate 4 (of_z w32 (pos 32767))))
-      (replicate 4 (of_z w32 (negsuc 32767)))
+  -- the low words are the numbers
+  masked_lows : values 4 (λ i. saturate_to_bits 15 (low (map (to_z w64) masked_16) i)) ≡ values 4
+      (λ i. section_close Q15 p (sample s i))
+  masked_lows =
+      ap (λ (xs : List ℤ). values 4 (λ i. saturate_to_bits 15 (low xs i))) masked_16_read.0
+      ∙ (λ t. values 4 (λ i. saturate_to_bits 15 ((unsigned_word (wanted i) (shifted_16_is.fit i)
+      ∙ int_wrap_fits w32 (wanted i) (narrow i)) t)))
 
-  word_32 : (x : ℤ) → SFits w32 (saturate_to_bits 15 x)
-  word_32 x = let h : SFits w16 (saturate_to_bits 15 x) = saturated_fits w16 x in
-      record { sfits = omega (arith, h.sfits) }
-
-  clamped_16_is : AreValues w32 4 clamped_16 (λ i. saturate_to_bits 15 (wanted i))
-  clamped_16_is = record {
-    are = ap (λ l. greater w32 (lesser w32 l (replicate 4 (of_z w32 (pos 32767))))
-        (replicate 4 (of_z w32 (negsuc 32767)))) narrowed_16.are
-        ∙ saturates_to w32 15 4 (values 4 wanted) refl (all_fit w32 4 wanted narrow) (omega (arith, ints))
-        (omega (arith, ints))
-        ∙ ap (bits_of w32) (map-map (saturate_to_bits 15) wanted (range_with_len 0 4));
-    fit = λ i. word_32 (wanted i);
-  }
-
-  abbrev closed_16 : List ℕ
-  closed_16 = cast_lanes w32 w64 clamped_16
-
-  pub cast_64 : Castable w32 w64 clamped_16
-  cast_64 = subst (λ (l : List ℕ). Castable w32 w64 l) (sym clamped_16_is.are)
-      (casts_asked w32 w64 (values 4 (λ i. saturate_to_bits 15 (wanted i)))
-      (all_fit w32 4 (λ i. saturate_to_bits 15 (wanted i)) clamped_16_is.fit)
-      (all_fit w64 4 (λ i. saturate_to_bits 15 (wanted i))
-      (λ i. let h = word_32 (wanted i) in record { sfits = omega (arith, h.sfits) })))
-
-  pub closed_16_read : (map (to_z w64) closed_16 ≡ values 4 (λ i. saturate_to_bits 15 (wanted i))) ×
-      Each1 (SFits w64) (map (to_z w64) closed_16)
-  closed_16_read = read_values w64 4 (wides w32 w64 4 (omega arith) clamped_16_is)
-
-  pub closed_16_value : map (int_wrap w32) (map (to_z w64) closed_16) ≡ values 4 (λ i. section_close Q15 p (sample s i))
-  closed_16_value =
-      ap (map (int_wrap w32)) closed_16_read.0 ∙ map-map (int_wrap w32) (λ i. saturate_to_bits 15 (wanted i))
-      (range_with_len 0 4)
-      ∙ (λ t. map (λ i. int_wrap_fits w32 (saturate_to_bits 15 (wanted i)) (word_32 (wanted i)) t) (range_with_len 0 4))
-
-  pub closed_16_words : AreWords Q15 (map (to_z w64) closed_16)
-  closed_16_words = record {
-    four = ap length closed_16_read.0;
-    wide = closed_16_read.1;
-    words = λ i.
-        let xs = map (to_z w64) closed_16 in
-        let all : Each1 (SFits w16) xs = subst (λ (l : List ℤ). Each1 (SFits w16) l) (sym closed_16_read.0)
-        (all_fit w16 4 (λ k. saturate_to_bits 15 (wanted k)) (λ k. saturated_fits w16 (wanted k))) in
-        let here = sample_fits w16 xs all (omega (arith, ints)) i in
-        let wide : SFits w32 (sample xs i) = record { sfits = omega (arith, here.sfits) } in
-        subst (SFits w16) (sym (int_wrap_fits w32 (sample xs i) wide)) here;
-  }
+  pub closed_16_value : (outputs : List ℤ) → map (int_wrap w32) outputs ≡ values 4
+      (λ i. saturate_to_bits 15 (low (map (to_z w64) masked_16) i))
+      → map (int_wrap w32) outputs ≡ values 4 (λ i. section_close Q15 p (sample s i))
+  closed_16_value outputs are = are ∙ masked_lows
 
 -- ---- a turn
 -- lanes moved up by one
@@ -228,7 +262,7 @@ up_read first (a ∷ b ∷ c ∷ []) f e g = absurd (omega (arith, e))
 up_read first (a ∷ b ∷ c ∷ d ∷ h ∷ xs) f e g = absurd (omega (arith, e))
 
 -- what holds of each value and of 0 holds of each lane
-pub each_of_four : (P : ℤ → Type 0) (g : ℕ → ℤ) → P (pos 0) → ((i : ℕ) → P (g i)) → (i : ℕ) → P (sample (values 4 g) i)
+each_of_four : (P : ℤ → Type 0) (g : ℕ → ℤ) → P (pos 0) → ((i : ℕ) → P (g i)) → (i : ℕ) → P (sample (values 4 g) i)
 each_of_four P g none all zero = all 0
 each_of_four P g none all (suc zero) = all 1
 each_of_four P g none all (suc (suc zero)) = all 2
@@ -247,14 +281,12 @@ pub back_four : (lanes : List ℤ) → Each1 (SFits w64) lanes → length lanes 
 back_four lanes wide four = ap length (back lanes wide) ∙ four
 
 -- the low word of a lane of which the low words are known
-pub low_of : (xs : List ℤ) (h : ℕ → ℤ) → map (int_wrap w32) xs ≡ values 4 h → (i : ℕ) → i < 4 → low xs i ≡ h i
-low_of xs h is i inside =
-    sym (ap (get_or (map (int_wrap w32) xs) i) (sym (int_wrap_fits w32 (pos 0) (record { sfits = omega arith }))) ∙
-    get_or-map (int_wrap w32) xs i (pos 0))
-    ∙ ap (λ l. sample l i) is ∙ get_or-map-range_with_len h 0 4 i i (pos 0) inside (omega arith)
+low_of : (xs : List ℤ) (h : ℕ → ℤ) → map (int_wrap w32) xs ≡ values 4 h → (i : ℕ) → i < 4 → low xs i ≡ h i
+low_of xs h is i inside = low_sample xs i ∙ ap (λ l. sample l i) is ∙ get_or-map-range_with_len h 0 4 i i (pos 0) inside
+    (omega arith)
 
 -- ---- sums
-abs_sum : (x y : ℤ) → nat_abs (x +ℤ y) ≤ nat_abs x + nat_abs y
+pub abs_sum : (x y : ℤ) → nat_abs (x +ℤ y) ≤ nat_abs x + nat_abs y
 abs_sum x y = omega (arith, ints)
 
 abbrev pub total : ℤ → ℤ → ℤ → ℤ → ℤ → ℤ → ℤ → ℤ → ℤ → ℤ → ℤ
@@ -283,11 +315,11 @@ total_16 b0 b1 b2 a1 a2 x x1 x2 y1 y2 f0 f1 f2 f3 f4 g0 g1 g2 g3 g4 =
     five_small (b0 *ℤ x) (b1 *ℤ x1) (b2 *ℤ x2) (a1 *ℤ y1) (a2 *ℤ y2) (product_16 b0 x f0 g0) (product_16 b1 x1 f1 g1)
     (product_16 b2 x2 f2 g2) (product_16 a1 y1 f3 g3) (product_16 a2 y2 f4 g4)
 
-byte : (z : ℤ) → SFits w8 z → SFits w16 z
+pub byte : (z : ℤ) → SFits w8 z → SFits w16 z
 byte z f = record { sfits = omega (arith, f.sfits) }
 
 -- the wrapped sum is one that is closed as the sum is
-pub sum_closes : (format : Fmt) (p : ℕ) (b0 b1 b2 a1 a2 x x1 x2 y1 y2 : ℤ) → SFits (word format) b0 →
+sum_closes : (format : Fmt) (p : ℕ) (b0 b1 b2 a1 a2 x x1 x2 y1 y2 : ℤ) → SFits (word format) b0 →
     SFits (word format) b1 → SFits (word format) b2 → SFits (word format) a1 → SFits (word format) a2
     → SFits (word format) x → SFits (word format) x1 → SFits (word format) x2 → SFits (word format) y1 →
     SFits (word format) y2
@@ -309,7 +341,7 @@ sum_closes Q31 p b0 b1 b2 a1 a2 x x1 x2 y1 y2 f0 f1 f2 f3 f4 g0 g1 g2 g3 g4 =
     let z = total b0 b1 b2 a1 a2 x x1 x2 y1 y2 in
     (tt, ap (λ v. int_wrap w32 (shr_z v (2 ^ (31 - p)))) (int_wrap_fits w64 (int_wrap w64 z) (SFits-int_wrap w64 z)))
 
-pub no_sum : (format : Fmt) → IsSum format (pos 0)
+no_sum : (format : Fmt) → IsSum format (pos 0)
 no_sum Q7 = omega arith
 no_sum Q15 = omega arith
 no_sum Q31 = tt
@@ -352,7 +384,7 @@ moved_words format first given xs f words is wide = record {
     each (suc (suc (suc (suc i)))) = zero_fits format
 
 -- the last lane, as it is read
-pub fourth_read : (xs : List ℤ) (v : ℤ) → length xs ≡ 4 → v ≡ get_or xs 3 v → v ≡ sample xs 3
+fourth_read : (xs : List ℤ) (v : ℤ) → length xs ≡ 4 → v ≡ get_or xs 3 v → v ≡ sample xs 3
 fourth_read (a ∷ b ∷ c ∷ d ∷ []) v e is = is
 fourth_read [] v e is = absurd (omega (arith, e))
 fourth_read (a ∷ []) v e is = absurd (omega (arith, e))

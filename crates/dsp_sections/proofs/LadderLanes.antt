@@ -21,6 +21,7 @@ use Rattle.dsp_lanes.proofs.LaneOps.{bits_of, subtracted, most, most_are, greate
 use Rattle.dsp_lanes.proofs.LaneSums.{plus_in, lanes_read}
 use Rattle.dsp_lanes.proofs.Fractions.{less_in}
 use Rattle.dsp_lanes.proofs.HalfSums.{by_four, by_eight}
+use Rattle.dsp_lanes.proofs.LaneOps.{length-map}
 
 -- ---- lanes that hold numbers of a width
 
@@ -30,10 +31,6 @@ AreIn w n xs = Each1 (SFits w) xs × (length xs ≡ n)
 pub lanes_fit : (w : Width) (n : ℕ) (lanes : List ℕ) (xs : List ℤ) → lanes ≡ bits_of w xs → AreIn w n xs →
     AreIn w n (map (to_z w) lanes)
 lanes_fit w n lanes xs e f = let read = lanes_read w lanes xs e f.0 in (read.1, ap length read.0 ∙ f.1)
-
-length-map : (f : ℤ → ℤ) (xs : List ℤ) → length (map f xs) ≡ length xs
-length-map f [] = refl
-length-map f (x ∷ xs) = ap suc (length-map f xs)
 
 -- ---- -1 less each number
 
@@ -57,7 +54,7 @@ complements_fit w n xs f = (
 
 -- ---- the numbers behind one
 
-pub group_next : (n : ℕ) (ys : List ℤ) → 0 < n → n < length ys →
+group_next : (n : ℕ) (ys : List ℤ) → 0 < n → n < length ys →
     drop 1 (take n ys) ++ (sample ys n ∷ []) ≡ take n (drop 1 ys)
 group_next zero ys some room = absurd (omega (arith, some))
 group_next (suc n) [] some room = absurd (omega (arith, room))
@@ -124,7 +121,7 @@ behind_fit w n fs xs f g = (
 
 -- ---- a difference, whatever it is of
 
-pub less_fits : (w : Width) (xs ys : List ℕ) → Each1 (SFits w) (map (to_z w) (zip2 (less_in w) xs ys))
+less_fits : (w : Width) (xs ys : List ℕ) → Each1 (SFits w) (map (to_z w) (zip2 (less_in w) xs ys))
 less_fits w [] ys = tt
 less_fits w (x ∷ xs) [] = tt
 less_fits w (x ∷ xs) (y ∷ ys) = (one w x y, less_fits w xs ys)
@@ -180,7 +177,7 @@ guess_of_eight w fs ps long =
 
 -- ---- a comparison
 
-abbrev pub differing : Width → List ℤ → List ℤ → List ℕ
+abbrev differing : Width → List ℤ → List ℤ → List ℕ
 differing w xs ys = zip2 (act2 (mask ne) (s_int w) (s_int w) (s_int w)) (bits_of w xs) (bits_of w ys)
 
 mask_none : (ms : List Bool) → mask_l ms ≡ 0 → (m : Bool) (rest : List Bool) → ms ≡ m ∷ rest → (m ≡ false) ×

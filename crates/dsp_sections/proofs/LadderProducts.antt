@@ -22,13 +22,13 @@ use Rattle.dsp_sections.proofs.LadderLanes.{AreIn, IsApart}
 
 -- ---- twice the coefficient is a factor of 16 bits and a multiple of 2^16
 
-abbrev pub twice : ℤ → ℤ
+abbrev twice : ℤ → ℤ
 twice k = int_wrap w16 (k +ℤ k)
 
-abbrev pub whole : ℤ → ℤ
+abbrev whole : ℤ → ℤ
 whole k = int_wrap w16 (shr_z k (2 ^ 15) -ℤ shr_z (twice k) (2 ^ 15))
 
-abbrev pub fraction15 : ℤ → ℤ → ℤ
+abbrev fraction15 : ℤ → ℤ → ℤ
 fraction15 k x = shr_z (k *ℤ x) (2 ^ 15)
 
 -- what is left of a number in 16 bits differs by a multiple of 2^16
@@ -79,18 +79,18 @@ lanes_are (k ∷ ks) (x ∷ xs) f a g =
       (fraction_fits k (twice k) (whole k) x (double_is k f.0) f.0 a.0 g.0, rest.1),
     )
 
-abbrev pub twice_lanes : List ℤ → List ℕ
+abbrev twice_lanes : List ℤ → List ℕ
 twice_lanes ks = zip2 (plus_in w16) (bits_of w16 ks) (bits_of w16 ks)
 
-abbrev pub whole_lanes : List ℤ → List ℕ
+abbrev whole_lanes : List ℤ → List ℕ
 whole_lanes ks = zip2 (less_in w16) (zip2 (down_in w16) (bits_of w16 ks) (replicate 8 15))
     (zip2 (down_in w16) (twice_lanes ks) (replicate 8 15))
 
-abbrev pub high_lanes : List ℤ → List ℤ → List ℕ
+abbrev high_lanes : List ℤ → List ℤ → List ℕ
 high_lanes ks xs = zip2 (down_in w32) (zip2 (times_in w32) (widened w16 w32 xs) (cast_lanes w16 w32 (twice_lanes ks)))
     (replicate 8 16)
 
-abbrev pub fraction_lanes : List ℤ → List ℤ → List ℕ
+abbrev fraction_lanes : List ℤ → List ℤ → List ℕ
 fraction_lanes ks xs = zip2 (plus_in w16) (cast_lanes w32 w16 (high_lanes ks xs))
     (zip2 (times_in w16) (bits_of w16 xs) (whole_lanes ks))
 

@@ -29,12 +29,12 @@ module _ (bits : ℕ) where
   abbrev pub lower : ℤ → ℤ → ℤ
   lower f p = saturate bits (f -ℤ p)
 
-  pub length-lowered : (f : ℤ) (ps : List ℤ) → length (lowered_values bits f ps) ≡ length ps
+  length-lowered : (f : ℤ) (ps : List ℤ) → length (lowered_values bits f ps) ≡ length ps
   length-lowered f [] = refl
   length-lowered f (p ∷ ps) = ap suc (length-lowered (lower f p) ps)
 
   -- where j values are right, what the sections make of them has one more
-  pub one-more : (j n : ℕ) (f : ℤ) (ps vs : List ℤ) → length ps ≡ suc n → take j vs ≡ take j (lowered_values bits f ps)
+  one-more : (j n : ℕ) (f : ℤ) (ps vs : List ℤ) → length ps ≡ suc n → take j vs ≡ take j (lowered_values bits f ps)
       → take (suc j) (zip2 lower (f ∷ take n vs) ps) ≡ take (suc j) (lowered_values bits f ps)
   one-more j n f [] vs long so_far = absurd (omega (arith, long))
   one-more zero n f (p ∷ ps) vs long so_far = refl
@@ -48,7 +48,7 @@ module _ (bits : ℕ) where
       ∙ one-more j n (lower f p) ps vs (omega (arith, long)) (ap (drop 1) so_far))
 
   -- values that the sections make of themselves are right
-  pub all-right : (n : ℕ) (f : ℤ) (ps vs : List ℤ) → length ps ≡ suc n → length vs ≡ length ps →
+  all-right : (n : ℕ) (f : ℤ) (ps vs : List ℤ) → length ps ≡ suc n → length vs ≡ length ps →
       zip2 lower (f ∷ take n vs) ps ≡ vs → vs ≡ lowered_values bits f ps
   all-right n f ps vs long same stays =
       sym (take_all (length ps) vs (omega (arith, same)))
@@ -86,11 +86,11 @@ module _ (bits : ℕ) where
     found-right vs same stays = all-right (size - 1) f ps vs one_less (same ∙ sym long) (sym stays)
 
   -- the last of them
-  abbrev pub last_of : ℤ → List ℤ → ℤ
+  abbrev last_of : ℤ → List ℤ → ℤ
   last_of f [] = f
   last_of f (v ∷ vs) = last_of v vs
 
-  pub last-is : (n : ℕ) (f : ℤ) (vs : List ℤ) → length vs ≡ suc n → last_of f vs ≡ sample vs n
+  last-is : (n : ℕ) (f : ℤ) (vs : List ℤ) → length vs ≡ suc n → last_of f vs ≡ sample vs n
   last-is n f [] long = absurd (omega (arith, long))
   last-is zero f (v ∷ []) long = refl
   last-is zero f (v ∷ u ∷ vs) long = absurd (omega (arith, long))
@@ -106,7 +106,7 @@ complement-saturates h f p = by (p +ℤ (negsuc 0 -ℤ f)) (f -ℤ p) (omega (ar
     by (negsuc a) (pos b) e = grind (arith, ints)
     by (negsuc a) (negsuc b) e = absurd (omega (arith, ints, e))
 
-pub complements-saturate : (h : ℕ) (fs ps : List ℤ) →
+complements-saturate : (h : ℕ) (fs ps : List ℤ) →
     map (λ x. negsuc 0 -ℤ x) (zip2 (λ x y. saturate h (x +ℤ y)) ps (map (λ x. negsuc 0 -ℤ x) fs)) ≡ zip2
     (λ f p. saturate h (f -ℤ p)) fs ps
 complements-saturate h [] [] = refl
@@ -116,7 +116,7 @@ complements-saturate h (f ∷ fs) (p ∷ ps) = ap₂ (λ v l. v ∷ l) (compleme
     (complements-saturate h fs ps)
 
 -- ... in lanes, where rs are the saturated sums
-abbrev pub turned_lanes : Width → ℕ → List ℤ → List ℤ
+abbrev turned_lanes : Width → ℕ → List ℤ → List ℤ
 turned_lanes w n xs = map (to_z w) (zip2 (less_in w) (bits_of w (replicate n (negsuc 0))) (bits_of w xs))
 
 pub turned_fit : (w : Width) (n : ℕ) (xs : List ℤ) → SFits w (negsuc 0) → AreIn w n xs → AreIn w n (turned_lanes w n xs)

@@ -26,6 +26,7 @@ use Rattle.dsp_lanes.proofs.LaneClosings.{Castable, down_in, up_in}
 use Rattle.dsp_lanes.proofs.HighProducts.{casts_down}
 use Rattle.dsp_lanes.proofs.HalfSums.{by_four}
 use Rattle.dsp_lanes.proofs.Fractions.{less_in}
+use Rattle.dsp_lanes.proofs.WordViews.{high_fits}
 use Rattle.dsp_sections.specs.Ladders.{lowered_values}
 use Rattle.dsp_sections.proofs.FloorShifts.{upper_word}
 use Rattle.dsp_sections.proofs.SectionHalves.{word_between}
@@ -36,13 +37,9 @@ use Rattle.dsp_sections.proofs.LadderLanes.{AreIn, are_same, moved_sums}
 abbrev fraction31 : ℤ → ℤ → ℤ
 fraction31 k x = int_wrap w32 (shr_z (k *ℤ x) (2 ^ 31))
 
-abbrev pub fraction_lanes : List ℤ → List ℤ → List ℕ
+abbrev fraction_lanes : List ℤ → List ℤ → List ℕ
 fraction_lanes ks xs = zip2 (down_in w64) (zip2 (up_in w64) (zip2 (times_in w64) (widened w32 w64 ks)
     (widened w32 w64 xs)) (replicate 4 1)) (replicate 4 32)
-
-high_fits : (z : ℤ) → SFits w64 z → SFits w32 (shr_z z (2 ^ 32))
-high_fits (pos n) f = omega (arith, ints, f)
-high_fits (negsuc n) f = omega (arith, ints, f)
 
 -- the upper word of twice a product
 upper_is : (p : ℤ) → shr_z (int_wrap w64 (p *ℤ pos (2 ^ 1))) (2 ^ 32) ≡ int_wrap w32 (shr_z p (2 ^ 31))
@@ -84,7 +81,7 @@ fractions_are ks xs f g =
 
 -- ---- the values of a group as if no step saturated
 
-abbrev pub wrapped_values : ℤ → List ℤ → List ℤ
+abbrev wrapped_values : ℤ → List ℤ → List ℤ
 wrapped_values f [] = []
 wrapped_values f (p ∷ ps) = let v = int_wrap w32 (f -ℤ p) in v ∷ wrapped_values v ps
 
@@ -197,7 +194,7 @@ abbrev flags : List Bool → List ℤ
 flags ts = map flag ts
 
 -- a comparison in lanes
-abbrev pub compared : ℕ → List ℤ → List ℤ → List ℕ
+abbrev compared : ℕ → List ℤ → List ℤ → List ℕ
 compared n xs ys = sel_l (map (top (hbits w32)) (zip2 (act2 (mask (lt signed)) (s_int w32) (s_int w32) (s_int w32))
     (bits_of w32 xs) (bits_of w32 ys))) (replicate n 4294967295) (replicate n 0)
 

@@ -12,10 +12,8 @@ use Rattle.std.proofs.lemmas.Simd.{map-map, zip2-map, splat_is_map, Each1-get_or
 use lib.Lanes.{zip2, Each1}
 use lib.Signed.{shr_z, mag_shr}
 use native.Mathlib.Nat.{lt_of_le_of_lt}
-use mir.Syntax.{Width, wrap_sub}
+use mir.Syntax.{Width}
 use mir.Val.{SFits, to_z, of_z, hbits}
-use borrow.Table.Row.{s_int}
-use borrow.Rule.Simd.Lanes.{act2}
 use Rattle.dsp_sat.proofs.Words.{product_fits}
 use Rattle.dsp_defs.specs.Signal.{sample, values}
 use Rattle.dsp_defs.proofs.SumLemmas.{same_numbers}
@@ -24,9 +22,7 @@ use Rattle.dsp_lanes.proofs.LaneOps.{subtracted, multiplied, shifted, shifted_up
 use Rattle.dsp_lanes.proofs.LaneOps.{saturated_fits, widens}
 use Rattle.dsp_lanes.proofs.LaneSums.{plus_in, times_in, lanes_read}
 use Rattle.dsp_lanes.proofs.LaneClosings.{Castable, down_in, up_in}
-
-abbrev pub minus_in : Width → ℕ → ℕ → ℕ
-minus_in v = act2 wrap_sub (s_int v) (s_int v) (s_int v)
+use Rattle.dsp_lanes.proofs.Fractions.{less_in}
 
 -- n lanes of width w hold f 0, f 1, ..
 pub record AreValues (w : Width) (n : ℕ) (lanes : List ℕ) (f : ℕ → ℤ) : Type 0 where
@@ -89,9 +85,9 @@ module _ (w : Width) (n : ℕ) where
   }
 
   pub differences : {A B : List ℕ} {f g : ℕ → ℤ} → AreValues w n A f → AreValues w n B g
-      → AreValues w n (zip2 (minus_in w) A B) (λ i. int_wrap w (f i -ℤ g i))
+      → AreValues w n (zip2 (less_in w) A B) (λ i. int_wrap w (f i -ℤ g i))
   differences {f = f} {g = g} x y = record {
-    are = (λ t. zip2 (minus_in w) (x.are t) (y.are t))
+    are = (λ t. zip2 (less_in w) (x.are t) (y.are t))
         ∙ subtracted w (values n f) (values n g) (all_fit w n f x.fit) (all_fit w n g y.fit)
         ∙ ap (bits_of w) (zip2-map (λ a b. int_wrap w (a -ℤ b)) f g (range_with_len 0 n));
     fit = λ i. SFits-int_wrap w (f i -ℤ g i);

@@ -16,7 +16,7 @@ use Rattle.dsp_lanes.proofs.Groups.{zip2-group, zip2-one, rest-group, rest-one, 
 -- ---- eight samples
 
 -- the value before eight and the first seven of them
-abbrev pub before_lanes : ℤ → List ℤ → List ℕ
+abbrev before_lanes : ℤ → List ℤ → List ℕ
 before_lanes before gs = pick_l 0 (replicate 8 (of_z w16 before) ++ bits_of w16 gs)
     (0 ∷ 8 ∷ 9 ∷ 10 ∷ 11 ∷ 12 ∷ 13 ∷ 14 ∷ [])
 
@@ -60,17 +60,6 @@ pub record Reached (k before : ℤ) (fs gs new_fs new_gs : List ℤ) (last : ℤ
   pub forward_rest : drop at new_fs ≡ drop at fs
   pub backward_rest : drop at new_gs ≡ drop at gs
   pub last_is : last ≡ sample (before ∷ gs) at
-
-pub none : (k before : ℤ) (fs gs : List ℤ) → Reached k before fs gs fs gs before 0
-none k before fs gs = record {
-  within = omega arith;
-  forward = refl;
-  backward = refl;
-  forward_rest =
-      refl;
-  backward_rest = refl;
-  last_is = refl;
-}
 
 -- a value behind the first is one of the others
 behind : (before : ℤ) (gs : List ℤ) (m n : ℕ) → m ≡ n + 1 → sample (before ∷ gs) m ≡ sample gs n

@@ -5,7 +5,8 @@ use Rattle.std.proofs.lemmas.Nat.{pow-add, mul-add-lt}
 use lib.IntN.{pos-*ℤ-pos}
 use lib.Pow.{pow_pos}
 use lib.Signed.{shr_z}
-use Rattle.dsp_sections.proofs.FloorShifts.{times_times, sum_times, floor_is, floored}
+use Rattle.dsp_sections.proofs.FloorShifts.{times_times, sum_times, floor_is}
+use Rattle.dsp_lanes.proofs.Fractions.{floored}
 
 -- shifted down by n places, it is the number shifted down by p places fewer
 pub shift_scaled : (s : ℤ) (p n : ℕ) → p ≤ n → shr_z (s *ℤ pos (2 ^ p)) (2 ^ n) ≡ shr_z s (2 ^ (n - p))

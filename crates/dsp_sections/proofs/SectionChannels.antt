@@ -19,11 +19,11 @@ module _ (row first N count frame : ℕ) (mid new ys : List ℤ) (long : length 
   room : (frame + 2) * row + first + N ≤ length mid
   room = grind (arith, long, inside, below)
 
-  pub new-size : length new ≡ length mid
+  new-size : length new ≡ length mid
   new-size = ap length is ∙ length-put_chunk ((frame + 2) * row + first) mid ys
 
   -- a frame that was there before
-  pub cell-earlier : (n i : ℕ) → n < frame + 2 → i < row → cell row new n i ≡ cell row mid n i
+  cell-earlier : (n i : ℕ) → n < frame + 2 → i < row → cell row new n i ≡ cell row mid n i
   cell-earlier n i h k =
       let near = mul-add-lt n row i (frame + 2) h k in
       let low : n * row + i < (frame + 2) * row + first = omega (arith, near) in
@@ -31,7 +31,7 @@ module _ (row first N count frame : ℕ) (mid new ys : List ℤ) (long : length 
       (pos 0) low
 
   -- a channel before those that are written
-  pub cell-before : (n i : ℕ) → i < first → cell row new n i ≡ cell row mid n i
+  cell-before : (n i : ℕ) → i < first → cell row new n i ≡ cell row mid n i
   cell-before n i k = ⊎_elim (λ h. cell-earlier n i h (omega (arith, k, inside)))
       (λ h. ⊎_elim (λ g. here (omega (arith, h, g))) later (cases_lt n (frame + 3))) (cases_lt n (frame + 2))
     where
@@ -51,7 +51,7 @@ module _ (row first N count frame : ℕ) (mid new ys : List ℤ) (long : length 
           (pos 0) high
 
   -- the frame that is written
-  pub cell-written : (j : ℕ) → j < N → cell row new (frame + 2) (first + j) ≡ sample ys j
+  cell-written : (j : ℕ) → j < N → cell row new (frame + 2) (first + j) ≡ sample ys j
   cell-written j h =
       let place : (frame + 2) * row + (first + j) ≡ (frame + 2) * row + first + j = omega arith in
       ap (sample new) place ∙ ap (λ l. sample l ((frame + 2) * row + first + j)) is
@@ -137,7 +137,7 @@ module _ (row first N count frame : ℕ) (mid new ys : List ℤ) (long : length 
             rw (sym j, e) here
 
 -- what follows in a channel that stays
-pub follows-stays : (format : Fmt) (p : ℕ) (c : Section) (row : ℕ) (xs mid new : List ℤ) (count i : ℕ)
+follows-stays : (format : Fmt) (p : ℕ) (c : Section) (row : ℕ) (xs mid new : List ℤ) (count i : ℕ)
     → Stays row mid new (count + 2) i → Follows format p c row xs mid count i → Follows format p c row xs new count i
 follows-stays format p c row xs mid new count i stays so_far = λ n h.
     stays (n + 2) (omega (arith, h)) ∙ so_far n h

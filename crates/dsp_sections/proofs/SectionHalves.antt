@@ -9,31 +9,32 @@ use native.Mathlib.Nat.{mul-le-mul_left}
 use lib.Pow.{pow_pos}
 use lib.Signed.{shr_z}
 use mir.Val.{SFits}
-use Rattle.dsp_sections.proofs.FloorShifts.{floored, floor_parts}
+use Rattle.dsp_sections.proofs.FloorShifts.{floor_parts}
 use Rattle.dsp_lanes.proofs.ProductPairs.{IsSmall, less_fits}
+use Rattle.dsp_lanes.proofs.Fractions.{floored}
 
 abbrev half : ℤ → ℤ
 half z = shr_z z (2 ^ 16)
 
 -- a number less 1, as a lane has it
-abbrev pub less_one : ℤ → ℤ
+abbrev less_one : ℤ → ℤ
 less_one z = int_wrap w32 (z +ℤ negsuc 0)
 
 -- the sums of a lane, as the code makes them
-abbrev pub pair_lane : ℤ → ℤ → ℤ
+abbrev pair_lane : ℤ → ℤ → ℤ
 pair_lane p q = int_wrap w32 (p +ℤ q)
 
-abbrev pub low_lane : ℤ → ℤ → ℤ → ℤ → ℤ → ℤ
+abbrev low_lane : ℤ → ℤ → ℤ → ℤ → ℤ → ℤ
 low_lane p0 p1 p2 p3 p4 = int_wrap w32 (int_wrap w32 (pair_lane p0 p1 +ℤ pair_lane p2 p4) +ℤ p3)
 
-abbrev pub high_lane : ℤ → ℤ → ℤ → ℤ → ℤ → ℤ
+abbrev high_lane : ℤ → ℤ → ℤ → ℤ → ℤ → ℤ
 high_lane p0 p1 p2 p3 p4 = int_wrap w32 (int_wrap w32
     (half (less_one (pair_lane p0 p1)) +ℤ half (less_one (pair_lane p2 p4))) +ℤ half p3)
 
-abbrev pub rest_lane : ℤ → ℤ → ℤ
+abbrev rest_lane : ℤ → ℤ → ℤ
 rest_lane low high = int_wrap w32 (low -ℤ int_wrap w32 (high *ℤ pos (2 ^ 16)))
 
-abbrev pub shifted_lane : ℕ → ℕ → ℤ → ℤ → ℤ
+abbrev shifted_lane : ℕ → ℕ → ℤ → ℤ → ℤ
 shifted_lane k e low high = int_wrap w32 (int_wrap w32 (high *ℤ pos (2 ^ e)) +ℤ shr_z (rest_lane low high) (2 ^ k))
 
 -- ---- the high halves

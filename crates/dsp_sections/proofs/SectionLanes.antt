@@ -22,7 +22,8 @@ use Rattle.dsp_lanes.proofs.LaneOps.{bits_of, cast_lanes, widened, narrowed}
 use Rattle.dsp_lanes.proofs.LaneSums.{plus_in, times_in}
 use Rattle.dsp_lanes.proofs.LaneClosings.{Castable, down_in, up_in, low_lanes, low_word}
 use Rattle.dsp_lanes.proofs.ProductPairs.{IsSmall, product_small}
-use Rattle.dsp_sections.proofs.LaneValues.{AreValues, minus_in, listed, of_list, of_splat, same_values, sums}
+use Rattle.dsp_lanes.proofs.Fractions.{less_in}
+use Rattle.dsp_sections.proofs.LaneValues.{AreValues, listed, of_list, of_splat, same_values, sums}
 use Rattle.dsp_sections.proofs.LaneValues.{differences, multiples, downs, ups, wides, products, narrows_asked, narrows}
 use Rattle.dsp_sections.proofs.LaneValues.{read_values, sample_fits}
 use Rattle.dsp_sections.proofs.FloorShifts.{upper_word, unsigned_word}
@@ -53,9 +54,9 @@ module _ (n : ℕ) where
 
   abbrev parts_16 : ℕ → ℕ → List ℕ → List ℕ → List ℕ
   parts_16 k e low high = sum_lanes (zip2 (up_in w32) high (replicate n e))
-      (down_lanes k (zip2 (minus_in w32) low (zip2 (up_in w32) high (replicate n 16))))
+      (down_lanes k (zip2 (less_in w32) low (zip2 (up_in w32) high (replicate n 16))))
 
-  abbrev pub lanes_16 : ℕ → ℕ → List ℕ → List ℕ → List ℕ → List ℕ → List ℕ → List ℕ
+  abbrev lanes_16 : ℕ → ℕ → List ℕ → List ℕ → List ℕ → List ℕ → List ℕ → List ℕ
   lanes_16 k e p0 p1 p2 p3 p4 = parts_16 k e (sum_lanes (sum_lanes (sum_lanes p0 p1) (sum_lanes p2 p4)) p3)
       (high_halves (sum_lanes p0 p1) (sum_lanes p2 p4) p3)
 
@@ -66,7 +67,7 @@ module _ (n : ℕ) where
       (fit3 : Each1 (SFits w16) y1) (fit4 : Each1 (SFits w16) y2)
       (g0 : SFits w16 b0) (g1 : SFits w16 b1) (g2 : SFits w16 b2) (g3 : SFits w16 a1) (g4 : SFits w16 a2)
       (k e : ℕ) (both : 2 ^ e * 2 ^ k ≡ 65536) (some : 4 ≤ 2 ^ k) (power : SFits w32 (pos (2 ^ e))) where
-    abbrev pub next_16 : List ℕ
+    abbrev next_16 : List ℕ
     next_16 = lanes_16 k e (product_16 b0 x) (product_16 b1 x1) (product_16 b2 x2) (product_16 a1 y1) (product_16 a2 y2)
 
     abbrev sum_16 : ℕ → ℤ
@@ -184,7 +185,7 @@ module _ (n : ℕ) where
         (zip2 (plus_in w64) (zip2 (plus_in w64) (product_32 b0 x) (product_32 b1 x1)) (product_32 b2 x2))
         (product_32 a2 y2)) (product_32 a1 y1)
 
-    abbrev pub next_32 : List ℕ
+    abbrev next_32 : List ℕ
     next_32 = zip2 and_in (zip2 (down_in w64) (zip2 (up_in w64) sum_lanes_32 (replicate n e)) (replicate n 32))
         (replicate n 4294967295)
 

@@ -1,5 +1,5 @@
 -- Four sections in lanes of 64 bits: the low word of a lane is a number of its section.
-use Rattle.std.specs.Prelude.{ℕ, ◌≤◌, ◌<◌, ◌*◌, ◌^◌, ◌≡◌, ⊤, ℤ, ◌+ℤ◌, ◌*ℤ◌, nat_abs, List, length, FitsSigned}
+use Rattle.std.specs.Prelude.{ℕ, ◌≤◌, ◌<◌, ◌^◌, ◌≡◌, ⊤, ℤ, nat_abs, List, length, FitsSigned}
 use Rattle.std.specs.Int.{w64}
 use Rattle.std.specs.Simd.Lanes.{Each1}
 use Rattle.dsp_defs.specs.Biquad.{Section}

@@ -4,9 +4,10 @@ ghost use Rattle.std.specs.Int.{w64};
 ghost use Rattle.std.specs.Simd.Lanes.{Each1};
 ghost use Rattle.dsp_defs.specs.Biquad.{section_close};
 ghost use Rattle.dsp_defs.specs.Counts.{Rises};
-ghost use Rattle.dsp_defs.specs.Numbers.{wrap, w32};
+ghost use Rattle.dsp_defs.specs.Numbers.{saturate, wrap, w32};
 ghost use Rattle.dsp_defs.specs.Parameters.{greatest_biquad_shift};
 ghost use Rattle.dsp_defs.specs.Signal.{sample, values};
+ghost use Rattle.dsp_defs.specs.declared.format.Fmt.TheVariants.{Q15};
 ghost use Rattle.dsp_sections.specs.SectionWaves.{AreSections, AreWords, IsSum, LanesTurn, low};
 
 use crate::WaveLanes;
@@ -66,6 +67,21 @@ fn moved_up(first: i64, lanes: Simd<i64, 4>) -> Simd<i64, 4>
     Simd::splat(first).shuffle(lanes, [0, 4, 5, 6])
 }
 
+/// The numbers of the low words, clamped to 16 bits. What stands in a high word is clamped too, so that a 0
+/// stays there.
+#[inline(always)]
+fn clamped_words(words: Simd<i64, 4>) -> Simd<i64, 4>
+    requires four { length words ≡ 4 }
+    requires fit { Each1 (FitsSigned w64) words }
+    ensures value { map (wrap w32) result ≡ values 4 (λ i. saturate 16 (low words i)) }
+    ensures fit { AreWords Q15 result }
+{
+    let numbers = i32x8::from_le_bytes(words.to_le_bytes())
+        .simd_min(Simd::splat(0x7fff))
+        .simd_max(Simd::splat(-0x8000));
+    i64x4::from_le_bytes(numbers.to_le_bytes())
+}
+
 /// The samples of four sections in lanes.
 pub trait WaveSample: Sample {
     /// The outputs of the sections from their sums.
@@ -91,11 +107,11 @@ impl WaveSample for i32 {
 impl WaveSample for i16 {
     #[inline(always)]
     fn close_four(sums: Simd<i64, 4>, post_shift: u8) -> Simd<i64, 4> {
-        ((sums << Simd::splat(i64::from(post_shift) + 17)) >> Simd::splat(32))
-            .cast::<i32>()
-            .simd_min(Simd::splat(0x7fff))
-            .simd_max(Simd::splat(-0x8000))
-            .cast::<i64>()
+        // The compiler is not to keep the sign above the low word.
+        clamped_words(
+            ((sums << Simd::splat(i64::from(post_shift) + 17)) >> Simd::splat(32))
+                & Simd::splat(0xffff_ffff),
+        )
     }
 }
 

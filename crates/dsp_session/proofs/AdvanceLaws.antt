@@ -60,7 +60,7 @@ pub made_runs : (s : SessionState) → Runs s → made_of s.chain ≡ live_cost_
 made_runs s runs = made_counted s runs.holds runs.live
 
 -- no block is none
-pub advances_none : (start : SessionState) (sink : SinkState) (before : Counts) → Runs start →
+advances_none : (start : SessionState) (sink : SinkState) (before : Counts) → Runs start →
     Advances start start 0 [] sink sink before before
 advances_none start sink before runs =
     let none = signal-nil start.script start.coding (some_frame start.script start.coding start.block
@@ -98,10 +98,10 @@ module _ (start session : SessionState) (blocks : ℕ) (heard : List ℕ) (sink 
   together = signal-append start.script start.coding some heard piece (blocks * start.block)
       (frames_of_blocks start.script start.coding start.block blocks (length heard) advances.long)
 
-  pub piece_frames : length more ≡ start.block
+  piece_frames : length more ≡ start.block
   piece_frames = frames-whole start.script start.coding some piece start.block long
 
-  pub same_signal : signal session.script session.coding piece ≡ more
+  same_signal : signal session.script session.coding piece ≡ more
   same_signal = λ i. signal (advances.same.script i) (advances.same.coding i) piece
 
   -- one block more
@@ -138,7 +138,7 @@ module _ (start session : SessionState) (blocks : ℕ) (heard : List ℕ) (sink 
     next : suc blocks ≡ blocks + 1
     next = omega arith
 
-    pub advances_more : Advances start fed (blocks + 1) (heard ++ piece) sink last before passed
+    advances_more : Advances start fed (blocks + 1) (heard ++ piece) sink last before passed
     advances_more = record {
       same = record {
         script = script_is;
@@ -249,7 +249,7 @@ module _ (start session : SessionState) (header : Header) (span : Span) (taken :
   all_read = omega (arith, full, read.within)
 
   -- what the next call asks for
-  pub piece_is : signal session.script session.coding piece ≡ signal start.script start.coding piece
+  piece_is : signal session.script session.coding piece ≡ signal start.script start.coding piece
   piece_is = same_signal start session going.blocks going.heard sink then before counts ready advances piece long
 
   pub piece_whole : length piece ≡ length (signal session.script session.coding piece) * frame_bytes session.script

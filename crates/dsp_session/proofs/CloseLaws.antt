@@ -33,11 +33,12 @@ use Rattle.dsp_session.specs.declared.fault.LengthFault.TheVariants as length_fa
 use Rattle.dsp_session.specs.declared.fault.StreamFault.{StreamFault}
 use Rattle.dsp_session.specs.declared.fault.StreamFault.TheVariants as fault
 use Rattle.dsp_session.specs.declared.streaming.Last.{Last}
-use Rattle.dsp_session.proofs.OpeningLaws.{some_frame, floor_within, front_signal, frames_of_blocks, length-signal}
+use Rattle.dsp_session.proofs.OpeningLaws.{some_frame, front_signal, frames_of_blocks, length-signal}
 use Rattle.dsp_session.proofs.OpeningLaws.{signal-append, frames-whole, signal_is, frames_are, output_is, part_blocks}
 use Rattle.dsp_session.proofs.BlockLaws.{Standing, between, block_some, blocks_keep, in_blocks, in_declared, lag}
 use Rattle.dsp_session.proofs.BlockLaws.{stops_between, stops_within, whole_blocks_are}
 use Rattle.dsp_session.proofs.TurnLaws.{turns_behind, turns_end}
+use Rattle.std.proofs.Math.Nat.{div-mul-le_self}
 
 quotient_within : (n f : ℕ) → n / f ≤ n
 quotient_within n f = grind arith
@@ -89,9 +90,9 @@ module _ (script : Script) (block : ℕ) (ready : IsReady script block) (session
   rest_length = length-take-le last.count piece (omega (arith, passed.short))
 
   some_left : count * frame_bytes script header.coding ≤ last.count
-  some_left = floor_within last.count (frame_bytes script header.coding)
+  some_left = div-mul-le_self last.count (frame_bytes script header.coding)
 
-  pub fed_length : length fed_bytes ≡ count * frame_bytes script header.coding
+  fed_length : length fed_bytes ≡ count * frame_bytes script header.coding
   fed_length = length-take-le (count * frame_bytes script header.coding) piece (omega (arith, some_left, passed.short))
 
   pub fed_frames : length (signal script header.coding fed_bytes) ≡ count
@@ -133,7 +134,7 @@ module _ (script : Script) (block : ℕ) (ready : IsReady script block) (session
   signal_all : input_signal script given ≡ x ++ signal script header.coding fed_bytes
   signal_all = signal_is script header frame passed.first passed.opens (heard ++ rest) declared ∙ all_signal
 
-  pub frames_taken : length (x ++ signal script header.coding fed_bytes) ≡ (last.before + last.count) / frame_bytes
+  frames_taken : length (x ++ signal script header.coding fed_bytes) ≡ (last.before + last.count) / frame_bytes
       script header.coding
   frames_taken = ap length (sym all_signal) ∙ length-signal script header.coding frame (heard ++ rest) ∙
       ap (λ n. n / frame_bytes script header.coding) given_length

@@ -16,11 +16,9 @@ use Rattle.dsp_session.specs.Session.{whole_values}
 use Rattle.dsp_session.specs.Advancing.{MayClose, Runs, count_of, whole_front}
 use Rattle.dsp_session.proofs.AdvanceLaws.{made_runs}
 use Rattle.dsp_session.specs.declared.streaming.Last.{Last}
-use Rattle.dsp_session.proofs.OpeningLaws.{some_frame, floor_within, frames-whole}
+use Rattle.dsp_session.proofs.OpeningLaws.{some_frame, frames-whole, less}
 use Rattle.dsp_session.proofs.CloseLaws.{whole_length}
-
-less : (n b f : ℕ) → 0 < f → n < b * f → n / f < b
-less n b f some h = grind arith
+use Rattle.std.proofs.Math.Nat.{div-mul-le_self}
 
 quotient : (a n f : ℕ) → 0 < f → (a * f + n) / f ≡ a + n / f
 quotient a n f some =
@@ -52,8 +50,8 @@ module _ (session : SessionState) (header : Header) (block : List ℕ) (last : L
   abbrev bytes : List ℕ
   bytes = whole_front session.script header last.count block
 
-  pub bytes_long : length bytes ≡ count * frame
-  bytes_long = length-take-le (count * frame) block (let within = floor_within last.count frame in
+  bytes_long : length bytes ≡ count * frame
+  bytes_long = length-take-le (count * frame) block (let within = div-mul-le_self last.count frame in
       omega (arith, within, may.short))
 
   fed_frames : length (signal session.script header.coding bytes) ≡ count

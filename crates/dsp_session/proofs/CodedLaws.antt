@@ -12,13 +12,13 @@ use Rattle.dsp_session.specs.Resuming.{LaterLagsByOne, RestDone, RestStopped}
 use Rattle.dsp_session.specs.declared.fault.PartFault.{PartFault}
 
 module _ (s : SessionState) (coding : Coding) where
-  abbrev pub coded : SessionState
+  abbrev coded : SessionState
   coded = record s { coding = coding }
 
   holds_coded : Holds s → Holds coded
   holds_coded holds = record { ready = holds.ready; input = holds.input; blocks = holds.blocks; turns = holds.turns }
 
-  pub stands_coded : (x : List Frame) → StandsFor s x → StandsFor coded x
+  stands_coded : (x : List Frame) → StandsFor s x → StandsFor coded x
   stands_coded x stands = record { holds = holds_coded stands.holds; chain = stands.chain; live = stands.live }
 
   lag_coded : (script : Script) (block from : ℕ) (given written : List ℕ) →

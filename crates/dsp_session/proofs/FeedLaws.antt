@@ -1,17 +1,13 @@
 -- What one call of a session gives, and where it is refused.
-use Rattle.std.proofs.Common.{◌≡◌, ℕ, zero, suc, ◌+◌, ◌<◌, ◌≤◌, true, false, List, [], ◌∷◌, ◌++◌, length, None, refl}
-use Rattle.std.proofs.Common.{sym, ap, ◌∙◌, subst, arith, inl, inr}
-use Rattle.std.specs.Prelude.{is_some}
-use Rattle.std.proofs.lemmas.Bool.{cases_lt}
-use Rattle.dsp_ports.specs.Ports.{SinkState}
+use Rattle.std.proofs.Common.{◌≡◌, ℕ, zero, suc, ◌+◌, ◌<◌, ◌≤◌, List, [], ◌∷◌, ◌++◌, length}
+use Rattle.std.proofs.Common.{sym, ap, ◌∙◌, subst, arith}
+use Rattle.std.proofs.lemmas.List.{nil_from_length}
 use Rattle.dsp_defs.specs.Block.{Frame, live, live_chain, format_after, channels_after}
 use Rattle.dsp_defs.specs.Counts.{Counts}
 use Rattle.dsp_defs.specs.Cost.{live_cost}
 use Rattle.dsp_defs.specs.Output.{output_coding, live_bytes}
-use Rattle.dsp_defs.specs.Shape.{gathered, held, whole_frames, HasChannels}
-use Rattle.dsp_defs.specs.declared.fault.GatherFull.{GatherFull}
+use Rattle.dsp_defs.specs.Shape.{gathered, whole_frames, HasChannels}
 use Rattle.dsp_defs.specs.declared.format.Fmt.{Fmt}
-use Rattle.dsp_defs.specs.declared.limits.TheConstants.{MAX_GATHERED}
 use Rattle.dsp_defs.specs.declared.script.Block.{Block}
 use Rattle.dsp_defs.specs.declared.script.Block.TheVariants.{Correlate}
 use Rattle.dsp_defs.specs.declared.script.Script.{Script}
@@ -20,17 +16,11 @@ use Rattle.dsp_defs.proofs.FrameLaws.{length-live}
 use Rattle.dsp_defs.proofs.SampleLaws.{coded-append}
 use Rattle.dsp_chain.specs.Chain.{made_of}
 use Rattle.dsp_session.specs.SessionState.{SessionState}
-use Rattle.dsp_session.specs.Session.{IsReady, StandsFor, SameSession, Feeds, Fails, IsTooMuch, signal, output_bytes}
+use Rattle.dsp_session.specs.Session.{IsReady, StandsFor, SameSession, Feeds, signal, output_bytes}
 use Rattle.dsp_session.specs.Session.{live_values, live_cost_of, turns_of}
 use Rattle.dsp_session.specs.Passing.{PassCosts}
-use Rattle.dsp_session.specs.Advancing.{FailsToPassOn}
 use Rattle.dsp_session.specs.declared.fault.LengthFault.TheVariants as length_fault
 use Rattle.dsp_session.specs.declared.fault.StreamFault.TheVariants as fault
-
--- a script that gathers gives nothing of a signal that goes on
-no_frames : (y : List Frame) → length y ≡ 0 → y ≡ []
-no_frames [] none = refl
-no_frames (f ∷ y) none = absurd (omega (arith, none))
 
 quiet_chain : (format : Fmt) (channels : ℕ) (blocks : List Block) (n : ℕ) → HasChannels channels blocks →
     0 < gathered blocks n → (x : List Frame) → live_chain format channels blocks x ≡ []
@@ -38,7 +28,7 @@ quiet_chain format channels [] n has some x = absurd (omega (arith, some))
 quiet_chain format zero (block ∷ blocks) n has some x = absurd (omega (arith, has.0))
 quiet_chain format (suc channels) (Correlate taps ∷ blocks) n has some x =
     ap (live_chain (format_after format (Correlate taps)) (channels_after (suc channels) (Correlate taps)) blocks)
-    (no_frames _ (length-live format channels (Correlate taps) x))
+    (nil_from_length _ (length-live format channels (Correlate taps) x))
     ∙ live_chain-nil (format_after format (Correlate taps)) (channels_after (suc channels) (Correlate taps)) blocks
 quiet_chain format (suc channels) (block ∷ blocks) n has some x =
     quiet_chain (format_after format block) (channels_after (suc channels) block) blocks (whole_frames block n) has.1
@@ -81,29 +71,3 @@ module _ (s next : SessionState) (bytes : List ℕ) (before after : Counts) (sam
       }
 
 -- ---- from any state
-
--- a call that was not refused has gathered no more than it may
-pub fits_on : (s next : SessionState) (bytes : List ℕ) (before after : Counts) → Feeds s next bytes before after →
-    (IsTooMuch s (length (signal s.script s.coding bytes)) → ⊥) →
-    gathered s.script.blocks next.chain.frames ≤ MAX_GATHERED
-fits_on s next bytes before after fed taken =
-    elim (cases_lt MAX_GATHERED (gathered s.script.blocks (s.chain.frames + length (signal s.script s.coding bytes)))) [
-      | inl over ↦ absurd (taken (inl over))
-      | inr within ↦ subst (λ n. gathered s.script.blocks n ≤ MAX_GATHERED) (sym fed.counted) within
-    ]
-
--- one that was, of a session whose calls were not refused before
-pub refused_now : (s next : SessionState) (bytes : List ℕ) (full : GatherFull) (sink last : SinkState)
-    (before after : Counts) → s.chain.failed ≡ None → Fails s next full before after →
-    IsTooMuch s (length (signal s.script s.coding bytes))
-    → (full.held ≡ held s.script.blocks s.chain.frames) ×
-    (full.held + full.more ≡ gathered s.script.blocks (s.chain.frames + length (signal s.script s.coding bytes))) →
-    last ≡ sink
-    → FailsToPassOn (fault.Lengths (length_fault.Gather full.held full.more)) s next bytes sink last before after
-refused_now s next bytes full sink last before after works fails too_much (held_is, sum_is) same =
-    (fails, over too_much, held_is, sum_is, same)
-  where
-    over : IsTooMuch s (length (signal s.script s.coding bytes)) →
-        MAX_GATHERED < gathered s.script.blocks (s.chain.frames + length (signal s.script s.coding bytes))
-    over (inl many) = many
-    over (inr failed) = absurd (let e : true ≡ false = sym failed ∙ ap is_some works in cc)

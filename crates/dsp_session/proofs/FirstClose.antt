@@ -35,14 +35,12 @@ use Rattle.dsp_session.proofs.OpeningLaws.{signal-append, signal_is}
 use Rattle.dsp_session.proofs.PartLaws.{first_is}
 use Rattle.dsp_session.proofs.BlockLaws.{block_some, in_blocks, in_declared}
 use Rattle.dsp_session.proofs.FirstLaws as laws
+use Rattle.dsp_session.proofs.OpeningLaws.{less}
 
-at_most : (k n f : ℕ) → 0 < f → n ≤ k * f → n / f ≤ k
+pub at_most : (k n f : ℕ) → 0 < f → n ≤ k * f → n / f ≤ k
 at_most k n f some h = grind arith
 
-less : (n b f : ℕ) → 0 < f → n < b * f → n / f < b
-less n b f some h = grind arith
-
-fewer_bytes : (k q f : ℕ) → k ≤ q → k * f ≤ q * f
+pub fewer_bytes : (k q f : ℕ) → k ≤ q → k * f ≤ q * f
 fewer_bytes k q f h = grind arith
 
 fewer_frames : (k q f : ℕ) → k * f < q * f → k < q

@@ -21,12 +21,10 @@ use Rattle.dsp_session.specs.declared.fault.StreamFault.TheVariants as fault
 use Rattle.dsp_session.specs.declared.fault.PartFault.TheVariants as part_fault
 use Rattle.dsp_session.specs.declared.streaming.Span.{Span}
 use Rattle.dsp_session.proofs.OpeningLaws.{some_frame, frames_of_blocks, frames-whole, length-signal, signal-append}
-use Rattle.dsp_session.proofs.OpeningLaws.{div_less}
 use Rattle.dsp_session.proofs.BlockLaws.{block_some, in_blocks}
 use Rattle.dsp_session.proofs.FirstLaws as laws
-
-at_most : (k n f : ℕ) → 0 < f → n ≤ k * f → n / f ≤ k
-at_most k n f some h = grind arith
+use Rattle.dsp_session.proofs.FirstClose.{at_most}
+use Rattle.dsp_session.proofs.OpeningLaws.{less}
 
 module _ (start : SessionState) (header : Header) (span : Span) (input mid : SourceState) (sink first : SinkState)
     (before : Counts)
@@ -49,7 +47,7 @@ module _ (start : SessionState) (header : Header) (span : Span) (input mid : Sou
 
   module _ (session : SessionState) (taken : ℕ) (between : SourceState) (then : SinkState) (made : Counts)
       (going : Going start session header span taken mid between first then before made) where
-    pub few_heard : (bytes : List ℕ) → taken + length bytes ≤ span.end →
+    few_heard : (bytes : List ℕ) → taken + length bytes ≤ span.end →
         length (signal script header.coding (going.heard ++ bytes)) ≤ frames
     few_heard bytes within = few_frames (going.heard ++ bytes)
         (omega (arith, within, going.taken_is, from, length-append going.heard bytes))
@@ -60,13 +58,13 @@ module _ (start : SessionState) (header : Header) (span : Span) (input mid : Sou
     fewer_heard bytes cut =
         let all = going.heard ++ bytes in
         rw (length-signal script header.coding some all)
-        (div_less (length all) frames (frame_bytes script header.coding) some
+        (less (length all) frames (frame_bytes script header.coding) some
         (omega (arith, cut, end, going.taken_is, from, length-append going.heard bytes)))
 
     size_is : block_bytes script session.coding session.block ≡ block_bytes script header.coding start.block
     size_is = λ i. block_bytes script ((going.advances.same.coding ∙ coding) i) (going.advances.same.block i)
 
-    pub unread_first : (error : InputFault) (now : SourceState) →
+    unread_first : (error : InputFault) (now : SourceState) →
         PartUnread script header span.end taken (block_bytes script session.coding session.block) error between now
         → FirstStopped script start.block frames (part_fault.Stream (of_input error)) input now sink then before made
     unread_first error now u =
@@ -114,7 +112,7 @@ module _ (start : SessionState) (header : Header) (span : Span) (input mid : Sou
           in_blocks going.blocks start.block (length (signal script header.coding (going.heard ++ piece)) - 1) one
           (omega (arith, all_frames, one)) (omega (arith, all_frames, one)) ∙ sym heard_frames
 
-      pub unpassed_first : (stop : StreamFault) (last : SessionState) (after : SinkState) (counts : Counts) →
+      unpassed_first : (stop : StreamFault) (last : SessionState) (after : SinkState) (counts : Counts) →
           FailsToPassOn stop session last piece then after made counts
           → FirstStopped script start.block frames (part_fault.Stream stop) input now sink after before counts
       unpassed_first fault.Output last after counts (count, less, same, fed, fewer, took, risen) =

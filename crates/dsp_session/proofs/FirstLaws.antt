@@ -49,7 +49,7 @@ module _ (script : Script) (block : ℕ) (ready : IsReady script block) (frames 
   some : 0 < frame_bytes script header.coding
   some = some_frame script header.coding block ready
 
-  pub first_stops : (stop : PartFault) (bytes written : List ℕ) (now : SourceState) (after : SinkState)
+  first_stops : (stop : PartFault) (bytes written : List ℕ) (now : SourceState) (after : SinkState)
       (before counts : Counts)
       → InDeclared (declared_bytes script header) (length bytes) → header.start + length bytes ≤ MAX_INPUT →
       LagsByOne script block (opened.first ++ bytes) written
@@ -294,7 +294,7 @@ module _ (start session : SessionState) (header : Header) (span : Span) (taken :
         (going.advances.long ∙ ap (λ c. going.blocks * block_bytes script c start.block) coding) short)
 
     -- all that came was worked on or not, and this front of its values was written
-    pub stops_at : (stop : PartFault) (written : List ℕ) (after : SinkState) (made : Counts) →
+    stops_at : (stop : PartFault) (written : List ℕ) (after : SinkState) (made : Counts) →
         after.put ≡ append_put then.put written
         → Begins (wrote ++ written) (live_bytes script (x ++ signal script header.coding bytes))
         → ((given : List ℕ) → Begins ((head ++ wrote) ++ written)

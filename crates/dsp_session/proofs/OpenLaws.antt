@@ -11,7 +11,6 @@ use Rattle.dsp_defs.specs.Output.{HasHeader, input_header, output_header, output
 use Rattle.dsp_defs.specs.Output.{known_frames, format_of, channels_of, part}
 use Rattle.dsp_defs.specs.Wave.{pad}
 use Rattle.dsp_defs.specs.declared.format.Coding.{Coding}
-use Rattle.dsp_defs.specs.declared.format.Container.{Container}
 use Rattle.dsp_defs.specs.declared.format.Container.TheVariants as container
 use Rattle.dsp_defs.specs.declared.script.Script.{Script}
 use Rattle.dsp_defs.specs.declared.wave.Header.{Header}
@@ -35,6 +34,7 @@ use Rattle.dsp_session.specs.Stream.{KeepsLimits, LagsByOne, IsInDeclared, in_wh
 use Rattle.dsp_input.proofs.FaultLaws.{fault_by_header, header_fault, no_header}
 pub use Rattle.dsp_input.proofs.CauseLaws.{fits_known, known_fits, none_behind, unopened_none}
 use Rattle.dsp_input.proofs.CauseLaws.{unopened_by}
+use Rattle.dsp_input.proofs.Places.{headed_choice}
 use Rattle.dsp_session.proofs.OpeningLaws.{some_frame, part_blocks, frames_are, signal-nil}
 use Rattle.std.proofs.Math.Nat.{mul-le-mul}
 
@@ -42,13 +42,6 @@ pub some_block : (script : Script) (coding : Coding) (block : ℕ) → IsReady s
     0 < block_bytes script coding block
 some_block script coding block ready = mul-le-mul (legal_parts script.input.channels script.blocks block
     ready.legal).some (some_frame script coding block ready)
-
--- a choice of outputs with a header
-headed_choice : (c : Container) (none all : List ℕ) → c ≢ container.Raw →
-    elim c [ container.Raw ↦ none | _ ↦ all ] ≡ all
-headed_choice container.Raw none all headed = absurd (headed refl)
-headed_choice container.Wave none all headed = refl
-headed_choice container.Wavex none all headed = refl
 
 -- what stands behind the samples of an output with a header
 pub pad_bytes : (script : Script) (header : Header) → script.output ≢ container.Raw →
@@ -109,7 +102,7 @@ module _ (banked : Bool) (script : Script) (block : ℕ) (counts : Counts) (inpu
         unwritten (fault.Lengths (length_fault.Input taken limit)) given gave within unheaded.none
         (cause.0, cause.1, cause.2, more) (Nothing unheaded.none refl) (cause.4, refl)
 
-    pub stops_unopened : (error : InputFault) → Unopened script error input now →
+    stops_unopened : (error : InputFault) → Unopened script error input now →
         Stopped banked script block (of_input error) input now sink sink counts counts
     stops_unopened error u = by_cause error u.given u.gave u.in_limit u.cause
 
@@ -149,7 +142,7 @@ module _ (script : Script) (block : ℕ) (counts : Counts) (ready : IsReady scri
   abbrev first : List ℕ
   first = opened.first
 
-  pub header_is : input_header script first ≡ header
+  header_is : input_header script first ≡ header
   header_is = ap (input_header script) (sym (append-nil first)) ∙ opened.opens.said []
 
   pub has : HasHeader script first
@@ -201,7 +194,7 @@ module _ (script : Script) (block : ℕ) (counts : Counts) (ready : IsReady scri
     refl,
   )
 
-  pub stops_too_long : (banked : Bool) (size : ℕ) → IsTooLong script (known_frames script header) size →
+  stops_too_long : (banked : Bool) (size : ℕ) → IsTooLong script (known_frames script header) size →
       Stopped banked script block (fault.Lengths (length_fault.Riff size MAX_RIFF_SIZE)) input now sink sink counts
       counts
   stops_too_long banked size long =

@@ -3,7 +3,7 @@ use Rattle.std.proofs.Common.{◌≡◌, ℕ, ◌+◌, ◌*◌, ◌/◌, ◌<◌
 use Rattle.std.proofs.Common.{refl, sym, ap, ◌∙◌, arith, length-append}
 use Rattle.std.proofs.lemmas.List.{length-take-le, take_at, take-take}
 use Rattle.std.proofs.lemmas.Nat.{div-mul-add}
-use Rattle.std.proofs.Math.Nat.{mul_assoc}
+use Rattle.std.proofs.Math.Nat.{mul_assoc, div-mul-le_self}
 use Rattle.dsp_defs.specs.Block.{Frame}
 use Rattle.dsp_defs.specs.Output.{output_header, live_bytes}
 use Rattle.dsp_defs.specs.Output.{whole_blocks, part}
@@ -13,8 +13,12 @@ use Rattle.dsp_defs.specs.declared.wave.Header.{Header}
 use Rattle.dsp_defs.proofs.SampleLaws.{length-samples, samples-nil, samples-append, samples-whole, count-whole}
 use Rattle.dsp_input.specs.Taking.{InDeclared, Opens, declared_bytes, frame_bytes}
 use Rattle.dsp_input.proofs.SampleBytes.{frame_some}
-pub use Rattle.dsp_input.proofs.SampleBytes.{floor_within, signal_is, frames_are, output_is}
+pub use Rattle.dsp_input.proofs.SampleBytes.{signal_is, frames_are, output_is}
 use Rattle.dsp_session.specs.Session.{IsReady, block_bytes, signal}
+
+-- less bytes than those of whole blocks
+pub less : (n b f : ℕ) → 0 < f → n < b * f → n / f < b
+less n b f some h = grind arith
 
 -- ---- frames and blocks
 
@@ -34,9 +38,6 @@ whole_blocks-append block blocks x y long short =
     let count : length (x ++ y) / block ≡ blocks = ap (λ n. n / block) all ∙
     div-mul-add blocks block (length y) short in
     ap (λ n. take (n * block) (x ++ y)) count ∙ take_at x y (blocks * block) long
-
-pub div_less : (n b f : ℕ) → 0 < f → n < b * f → n / f < b
-div_less n b f some less = grind (arith)
 
 module _ (script : Script) (coding : Coding) (some : 0 < frame_bytes script coding) where
   pub signal-nil : signal script coding [] ≡ []
@@ -61,7 +62,7 @@ module _ (script : Script) (coding : Coding) (some : 0 < frame_bytes script codi
       let front : take (count / frame_bytes script coding * frame_bytes script coding) (take count block) ≡ take
       (count / frame_bytes script coding * frame_bytes script coding) block =
       take-take (count / frame_bytes script coding * frame_bytes script coding) count block
-      (floor_within count (frame_bytes script coding)) in
+      (div-mul-le_self count (frame_bytes script coding)) in
       ap (signal script coding) (sym front)
       ∙ samples-whole coding script.input.channels (count / frame_bytes script coding) (take count block) some
       (ap (λ n. n / frame_bytes script coding) (sym (length-take-le count block within)))
@@ -86,7 +87,7 @@ module _ (script : Script) (header : Header) (some : 0 < frame_bytes script head
       let whole = frames_of_blocks script header.coding block blocks (length heard) long in
       let rest : length (signal script header.coding bytes) < block =
       rw (length-signal script header.coding some bytes)
-      (div_less (length bytes) block (frame_bytes script header.coding) some short) in
+      (less (length bytes) block (frame_bytes script header.coding) some short) in
       part_is block (heard ++ bytes) declared
       ∙ ap (λ x. output_header script header ++ live_bytes script (whole_blocks block x))
       (signal-append script header.coding some heard bytes (blocks * block) whole)

@@ -3,9 +3,7 @@ use Rattle.std.proofs.Common.{◌≡◌, ℕ, ◌+◌, ◌-◌, ◌*◌, ◌/◌
 use Rattle.std.proofs.lemmas.List.{drop-take, take-take, take_at}
 use Rattle.dsp_defs.specs.Signal.{values}
 use Rattle.dsp_defs.proofs.Signal.{values_cong}
-
-inside : (i k w : ℕ) → i < k → i * w + w ≤ k * w
-inside i k w h = grind arith
+use Rattle.dsp_wave.proofs.SampleBytes.{within-bytes}
 
 -- the samples of whole ones among some bytes
 pub whole_pieces : (f : List ℕ → ℤ) (w k : ℕ) (bytes : List ℕ) →
@@ -14,10 +12,10 @@ whole_pieces f w k bytes =
     values_cong k _ _
     (λ i h.
     let rest = k * w - i * w in
-    let split : k * w ≡ i * w + rest = omega (arith, inside i k w h) in
+    let split : k * w ≡ i * w + rest = omega (arith, within-bytes i k w h) in
     ap (λ n. f (take w (drop (i * w) (take n bytes)))) split
     ∙ ap (λ xs. f (take w xs)) (drop-take (i * w) rest bytes)
-    ∙ ap f (take-take w rest (drop (i * w) bytes) (omega (arith, inside i k w h))))
+    ∙ ap f (take-take w rest (drop (i * w) bytes) (omega (arith, within-bytes i k w h))))
 
 -- what was written to the front of a row
 pub at_front : {A : Type 0} (count : ℕ) (front row : List A) → length front ≡ count →

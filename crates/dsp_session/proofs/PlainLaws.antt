@@ -81,7 +81,7 @@ fails_plain stop old new bytes sink after before counts none x stands = absurd n
 
 -- ---- blocks
 
-pub turns_plain : (banked : Bool) (script : Script) (size calls : ℕ)
+turns_plain : (banked : Bool) (script : Script) (size calls : ℕ)
     → turns_from banked script size 0 calls ≡ calls_turns banked script size (calls * size) calls
 turns_plain banked script size zero = refl
 turns_plain banked script size (suc k) =
@@ -115,7 +115,7 @@ module _ (start session : SessionState) (header : Header) (span : Span) (taken :
   pub none : start.chain.frames ≡ 0
   none = new.chain.counted
 
-  pub written_is : going.advances.written ≡ live_bytes script (heard_signal header.coding)
+  written_is : going.advances.written ≡ live_bytes script (heard_signal header.coding)
   written_is =
       sym (going.advances.values [] new ∙ ap (λ xs. xs ++ going.advances.written) (live_bytes-nil script)) ∙
       ap (λ c. live_bytes script (heard_signal c)) coding
@@ -123,7 +123,7 @@ module _ (start session : SessionState) (header : Header) (span : Span) (taken :
   pub frames_are : session.chain.frames ≡ going.blocks * start.block
   frames_are = omega (arith, going.advances.counted, none)
 
-  abbrev pub going_plain : Going script start.block header taken session input now sink then before counts
+  abbrev going_plain : Going script start.block header taken session input now sink then before counts
   going_plain = record {
     heard = going.heard;
     blocks = going.blocks;
@@ -202,7 +202,7 @@ module _ (start session : SessionState) (header : Header) (span : Span) (taken :
         before counts going_plain origin empty begun later
         (length piece) piece sized (omega arith) whole after made stop coded)
 
-    pub passed_plain : (later : SourceState) (block : List ℕ) (count : ℕ) →
+    passed_plain : (later : SourceState) (block : List ℕ) (count : ℕ) →
         length block ≡ block_bytes script start.coding start.block → count < length block
         → PartRead script header (2 ^ 64 - 1) taken block count now later
         → Passed script start.block session header block (record { before = taken; count = count }) origin later empty

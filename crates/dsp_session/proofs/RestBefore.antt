@@ -26,15 +26,10 @@ use Rattle.dsp_session.specs.declared.fault.StreamFault.{StreamFault}
 use Rattle.dsp_session.specs.declared.fault.StreamFault.TheVariants as fault
 use Rattle.dsp_session.specs.declared.fault.PartFault.{PartFault}
 use Rattle.dsp_session.specs.declared.fault.PartFault.TheVariants as part_fault
-use Rattle.dsp_session.proofs.OpeningLaws.{some_frame, frames_are, length-signal}
+use Rattle.dsp_session.proofs.OpeningLaws.{some_frame, frames_are, length-signal, less}
 use Rattle.dsp_session.proofs.OpenLaws.{unopened_cause, unopened_none, unopened_faults, long_cause}
 use Rattle.dsp_session.proofs.PartLaws.{input_rest, live_goes_on, unread_cause, unread_faults}
-
-less : (n b f : ℕ) → 0 < f → n < b * f → n / f < b
-less n b f some h = grind arith
-
-fewer_bytes : (k q f : ℕ) → k ≤ q → k * f ≤ q * f
-fewer_bytes k q f h = grind arith
+use Rattle.dsp_session.proofs.FirstClose.{fewer_bytes}
 
 module _ (script : Script) (block : ℕ) (ready : IsReady script block) (start : SessionState) (from : ℕ)
     (input : SourceState) (sink : SinkState) (before : Counts) where
@@ -44,7 +39,7 @@ module _ (script : Script) (block : ℕ) (ready : IsReady script block) (start :
       inl (subst (λ xs. Begins xs (live_bytes script (x ++ later_frames script from given)))
       (sym (append-nil (live_bytes script x))) (live_goes_on script x (later_frames script from given)))
 
-  pub nothing_done : (stop : PartFault) (given : List ℕ) (now : SourceState) → Gave input now given →
+  nothing_done : (stop : PartFault) (given : List ℕ) (now : SourceState) → Gave input now given →
       length given ≤ MAX_INPUT
       → (HasHeader script given → length given ≤ later_blocks_end script block from (input_header script given) 1) →
       IsRestCause stop script block from given now → CountsPartFault stop input now sink sink

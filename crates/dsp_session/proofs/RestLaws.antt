@@ -173,7 +173,7 @@ module _ (start session : SessionState) (header : Header) (span : Span) (taken :
         signal_is script header some opened.first opened.opens (skip ++ (heard ++ bytes)) in_all
         ∙ signal-append script header.coding some skip (heard ++ bytes) frames (skip_long ∙ from)
 
-    pub later_is : later_frames script frames (given bytes) ≡ later bytes
+    later_is : later_frames script frames (given bytes) ≡ later bytes
     later_is = ap (drop frames) signal_all ∙ drop_at (signal script header.coding skip) (later bytes) frames skip_frames
 
     pub count_is : frames_in_bytes script (given bytes) ≡ reached
@@ -192,7 +192,7 @@ module _ (start session : SessionState) (header : Header) (span : Span) (taken :
     all_in_limit = omega (arith, below_limit, given_long)
 
     -- a front of what the frames add was written, or of all
-    pub rest_stops : (stop : PartFault) (written : List ℕ) (after : SinkState) (made : Counts) →
+    rest_stops : (stop : PartFault) (written : List ℕ) (after : SinkState) (made : Counts) →
         after.put ≡ append_put sink.put (wrote ++ written)
         → ((x : List Frame) → StandsFor start x → RestWritten script x frames (given bytes) (wrote ++ written) end)
         → IsRestCause stop script start.block frames (given bytes) end → CountsPartFault stop input end sink after

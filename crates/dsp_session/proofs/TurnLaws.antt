@@ -78,7 +78,7 @@ module _ (banked : Bool) (script : Script) (size : ℕ) where
           lt-of-mul a b h = grind arith
 
   -- all calls of a run whose whole blocks are these, and perhaps a shorter one behind them
-  pub run_is : (k n : ℕ) → 0 < size → k * size ≤ n → n ≤ suc k * size →
+  run_is : (k n : ℕ) → 0 < size → k * size ≤ n → n ≤ suc k * size →
       calls_turns banked script size (k * size) k + turns_of banked script (k * size) n ≤ calls_turns banked script size
       n (div_ceil n size)
   run_is k n some low high = by (n - k * size) (omega (arith, low)) (omega (arith, high))

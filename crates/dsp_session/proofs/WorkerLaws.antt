@@ -13,7 +13,6 @@ use Rattle.dsp_defs.specs.Signal.{values}
 use Rattle.dsp_unit.specs.Unit.{frames_in}
 use Rattle.dsp_defs.specs.declared.limits.TheConstants.{MAX_SAMPLES, MAX_GATHERED, MAX_INPUT}
 use Rattle.dsp_defs.specs.declared.format.Coding.{Coding}
-use Rattle.dsp_defs.specs.declared.format.Coding.TheVariants.{Raw7, Raw15, Raw31, Wave7, Wave15, Wave24, Wave31}
 use Rattle.std.proofs.lemmas.Nat.{mul-le}
 use Rattle.dsp_defs.specs.declared.script.Block.{Block}
 use Rattle.dsp_defs.specs.declared.script.Script.{Script}
@@ -21,6 +20,7 @@ use Rattle.dsp_defs.proofs.BlockLaws.{length-values}
 use Rattle.dsp_unit.proofs.ChainPlaces.{legal_is_open, open_behind}
 use Rattle.dsp_defs.proofs.CodingLemmas.{width-some, IsValue-coding_of, IsValue-fits}
 use Rattle.dsp_defs.proofs.SampleLaws.{decoded, encoded}
+use Rattle.dsp_defs.proofs.AuLaws.{width-few}
 use Rattle.std.proofs.lemmas.List.{length-take-le}
 use Rattle.std.proofs.lemmas.List.Elements.{All-weaker}
 use Rattle.dsp_defs.specs.Shape.{frames_behind, gathered, held, whole_frames}
@@ -73,17 +73,8 @@ bytes_room coding count values bytes room xs long within values_are bytes_are =
     let less = mul-le count (width coding) room (width coding) (omega (arith, within, values_are)) (omega arith) in
     omega (arith, size, less, bytes_are)
 
-few_width : (coding : Coding) → width coding ≤ 4
-few_width Raw7 = omega arith
-few_width Raw15 = omega arith
-few_width Raw31 = omega arith
-few_width Wave7 = omega arith
-few_width Wave15 = omega arith
-few_width Wave24 = omega arith
-few_width Wave31 = omega arith
-
 -- samples without bytes are none
-pub none_written : (ys : List ℤ) (w answer : ℕ) → 0 < w → answer ≡ length ys * w → answer ≡ 0 → ys ≡ []
+none_written : (ys : List ℤ) (w answer : ℕ) → 0 < w → answer ≡ length ys * w → answer ≡ 0 → ys ≡ []
 none_written [] w answer some is zero = refl
 none_written (y ∷ ys) w answer some is zero = absurd (some_product (length (y ∷ ys)) w (omega arith) some
     (sym is ∙ zero))
@@ -98,7 +89,7 @@ with_chain script block banked coding chain out =
 
 module _ (script : Script) (block : ℕ) (ready : IsReady script block) where
   -- the samples of the output of a call
-  pub few_samples : place_room (place_behind (input_place script block) script.blocks) ≤ MAX_SAMPLES
+  few_samples : place_room (place_behind (input_place script block) script.blocks) ≤ MAX_SAMPLES
   few_samples =
       let fit = ready.sound.1.fit in
       (open_behind (input_place script block) script.blocks
@@ -112,7 +103,7 @@ module _ (script : Script) (block : ℕ) (ready : IsReady script block) where
       let same : place_room (output_of chain) ≡ place_room (place_behind (input_place script block) script.blocks) =
       (λ i. place_room (place_behind (new.input i) (new.blocks_are i))) in
       let bytes = mul-le room w MAX_SAMPLES 4 (omega (arith, room_is, same, few_samples))
-      (omega (arith, w_is, few_width coding)) in
+      (omega (arith, w_is, width-few coding)) in
       omega (arith, bytes)
 
   -- ---- the samples of bytes

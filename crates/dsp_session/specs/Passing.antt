@@ -87,13 +87,6 @@ pub record Passed (script : Script) (frames : ℕ) (session : SessionState) (hea
   pub cost : counts.multiplies ≡ before.multiplies + live_cost_of script (length (signal script header.coding heard))
   pub turned : counts.turns ≤ before.turns + calls_turns session.banked script frames (blocks * frames) blocks
 
--- some input has led the session to this
-abbrev pub HasPassed : SessionState → Header → List ℕ → Last → Type 0
-HasPassed session header block last =
-    (before : SourceState) × (now : SourceState) × (empty : SinkState) × (after : SinkState) × (start : Counts) ×
-    (counts : Counts) × Passed session.script session.block session header block last before now empty after start
-    counts
-
 -- ---- the end
 
 -- after a front of the bytes a part of the rest was written, and all of it where the sink has not failed

@@ -1,19 +1,17 @@
 -- The rule of a block counts the frames that the block counts.
 use Rattle.std.proofs.Common.{◌≡◌, ◌∙◌, ap, refl, ℕ, ◌*◌, ◌/◌, ◌%◌, ◌≤◌, Option, Some, None, arith}
 use Rattle.std.specs.Int.{div_ceil}
-use Rattle.std.proofs.lemmas.Grind.{common_steps}
 use Rattle.std.proofs.lemmas.Nat.{mul-le}
-use Rattle.std.proofs.Math.Nat.{mul-le-mul, mul-le-mul_right}
+use Rattle.std.proofs.Math.Nat.{mul-le-mul}
 use Rattle.dsp_defs.specs.declared.limits.TheConstants.{MAX_MATRIX_SIDE}
 use Rattle.dsp_defs.specs.declared.flow.Flow.{Flow}
 use Rattle.dsp_defs.specs.declared.script.Block.{Block}
 use Rattle.dsp_defs.specs.declared.script.Block.TheVariants.{Decimate, Interpolate, Conv, ConvPartial, Correlate}
 use Rattle.dsp_defs.specs.declared.script.Block.TheVariants.{MatAdd, MatSub, MatScale, MatTrans, MatMult}
 use Rattle.dsp_defs.specs.Grammar.{Suits}
-use Rattle.dsp_defs.specs.Shape.{group_of, groups_after, correlation_length, steady_frames, given_frames}
+use Rattle.dsp_defs.specs.Shape.{group_of, groups_after, steady_frames, given_frames}
 use Rattle.dsp_defs.specs.Shape.{whole_frames, live_frames, window_end, Pace, euclid, gcd, grouped_pace, pace_after}
 use Rattle.dsp_unit.specs.Unit.{most_groups, most_frames}
-use Rattle.dsp_unit.proofs.CostLaws.{quotient_more, full_more}
 use Rattle.dsp_shape.specs.FrameRule.{group_rule, matrix_rule, rule_of, groups_by, steady_by, most_by, given_by}
 use Rattle.dsp_shape.specs.FrameRule.{whole_by, live_by, window_of, IsRule}
 use Rattle.dsp_shape.specs.declared.frame_rule.FrameRule.{FrameRule}
@@ -160,18 +158,3 @@ rule-groups (rule.Groups taken given) is = is
 rule-groups r is = (omega arith, omega arith, omega arith, omega arith)
 
 -- ---- fewer frames
-
-correlation-fewer : (n m t : ℕ) → n ≤ m → correlation_length n t ≤ correlation_length m t
-correlation-fewer n m t h = grind (arith, common_steps)
-
-pub whole-fewer : (r : FrameRule) (n m : ℕ) → n ≤ m → whole_by r n ≤ whole_by r m
-whole-fewer (rule.Groups taken given) n m h = mul-le-mul_right given (quotient_more n m taken h)
-whole-fewer (rule.Conv taps) n m h = full_more n m taps h
-whole-fewer (rule.ConvPartial first count taps) n m h = (let more = full_more n m taps h in omega (arith, more))
-whole-fewer (rule.Correlate taps) n m h = correlation-fewer n m taps h
-
-pub live-fewer : (r : FrameRule) (n : ℕ) → live_by r n ≤ whole_by r n
-live-fewer (rule.Groups taken given) n = omega arith
-live-fewer (rule.Conv taps) n = omega arith
-live-fewer (rule.ConvPartial first count taps) n = omega arith
-live-fewer (rule.Correlate taps) n = omega arith

@@ -101,7 +101,7 @@ grouped format channels size n =
     channels-count channels (in_words (word format) (n % size)) ∙
     ap (λ k. channels * k) (length-replicate (n % size) (InWord (word format))) ∙ omega (arith, first)
 
-extreme-count : (format : Fmt) (n : ℕ) → length (extreme_kinds format n) ≡ 4
+pub extreme-count : (format : Fmt) (n : ℕ) → length (extreme_kinds format n) ≡ 4
 extreme-count format zero = refl
 extreme-count format (suc n) = refl
 

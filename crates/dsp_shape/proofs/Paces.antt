@@ -4,7 +4,7 @@ use Rattle.std.proofs.Common.{◌∷◌, Some, refl, sym, ap, ◌∙◌, arith, 
 use Rattle.std.specs.Prelude.{fold, nat_le, nat_eq, if◌then◌else◌}
 use Rattle.std.proofs.lemmas.Bool.Decides.{nat_tests}
 use Rattle.std.proofs.lemmas.Nat.{div-add-mod', mul-le}
-use Rattle.std.proofs.Math.Nat.{pos_of_dvd_of_pos, div-mul_cancel, mul-div_cancel, mul_assoc, mul_comm}
+use Rattle.std.proofs.Math.Nat.{div-mul_cancel, mul-div_cancel, mul_assoc, mul_comm}
 use Rattle.std.proofs.Math.Nat.{le-mul_of_pos_right, mul-le-mul_right, div-le_self}
 use Rattle.dsp_defs.specs.declared.limits.TheConstants.{MAX_BLOCK_LENGTH, MAX_SAMPLES}
 use Rattle.dsp_defs.specs.declared.flow.Flow.{Flow}
@@ -30,9 +30,6 @@ both_true true b e = (refl, e)
 both_true false b e = absurd cc
 
 -- ---- one group
-
-pub gcd_some : (a b : ℕ) → 0 < b → 0 < gcd a b
-gcd_some a b some = pos_of_dvd_of_pos (gcd-IsGcd a b).1 some
 
 -- f frames, k times, make whole groups of g
 record IsTimes (f g k : ℕ) : Type 0 where

@@ -1,5 +1,5 @@
 -- What holds of the blocks of a sound script, each at its place.
-use Rattle.std.proofs.Common.{◌≡◌, ℕ, ◌+◌, ◌<◌, ◌≤◌, ◌^◌, List, ◌∷◌, length, Option, Some, None, IfSome}
+use Rattle.std.proofs.Common.{◌≡◌, ℕ, ◌+◌, ◌<◌, ◌≤◌, ◌^◌, List, ◌∷◌, length, Option, Some, None}
 use Rattle.std.proofs.Common.{get_or, drop, add-one, drop-cons, refl, subst, arith}
 use Rattle.dsp_defs.specs.declared.limits.TheConstants.{MAX_CHANNELS}
 use Rattle.dsp_defs.specs.declared.flow.Flow.{Flow}
@@ -35,12 +35,8 @@ is_group : (group : Option (ℕ × ℕ)) → TakesAndGives group → IsGroup gro
 is_group None both = tt
 is_group (Some g) both = both
 
-pub group_here : (flow : Flow) (b : Block) → Suits flow b → IsGroup (group_of b)
+group_here : (flow : Flow) (b : Block) → Suits flow b → IsGroup (group_of b)
 group_here flow b s = is_group (group_of b) (takes_and_gives flow b s)
-
-pub group_some : (group : Option (ℕ × ℕ)) → IsGroup group → IfSome group (λ g. 0 < g.0)
-group_some None is = tt
-group_some (Some g) is = is.0
 
 pub placed_after : (flow : Flow) (b : Block) (blocks : List Block) → IsPlaced flow (b ∷ blocks) →
     IsPlaced (flow_after b flow) blocks

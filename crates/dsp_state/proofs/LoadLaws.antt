@@ -24,13 +24,13 @@ module _ (script : Script) (block : ℕ) (c : ChainState)
   pub gathers_as : (n r : ℕ) → r ≡ gathered (blocks_of c.units) n → r ≡ gathered script.blocks n
   gathers_as n r is = is ∙ ap (λ (blocks : List Block). gathered blocks n) new.blocks_are
 
-  pub counts_as : (n r : ℕ) → r ≡ kept_count_of_chain c.input.format c.input.channels (blocks_of c.units) n →
+  counts_as : (n r : ℕ) → r ≡ kept_count_of_chain c.input.format c.input.channels (blocks_of c.units) n →
       r ≡ kept_count script n
   counts_as n r is =
       is ∙ ap (λ (blocks : List Block). kept_count_of_chain c.input.format c.input.channels blocks n) new.blocks_are
       ∙ ap (λ (p : Place). kept_count_of_chain p.format p.channels script.blocks n) new.input
 
-  pub fits_as : (n : ℕ) (numbers : List ℤ) → FitsChain c n numbers → Fits script n numbers
+  fits_as : (n : ℕ) (numbers : List ℤ) → FitsChain c n numbers → Fits script n numbers
   fits_as n numbers f = record {
     gathers = subst (λ (blocks : List Block). gathered blocks n ≤ MAX_GATHERED) new.blocks_are f.gathers;
     fits = subst (λ (p : Place). FitsBlocks p.format p.channels script.blocks n numbers) new.input
@@ -38,7 +38,7 @@ module _ (script : Script) (block : ℕ) (c : ChainState)
         f.fits);
   }
 
-  pub as_fits : (n : ℕ) (numbers : List ℤ) → n ≤ MAX_INPUT → Fits script n numbers → FitsChain c n numbers
+  as_fits : (n : ℕ) (numbers : List ℤ) → n ≤ MAX_INPUT → Fits script n numbers → FitsChain c n numbers
   as_fits n numbers limit f = record {
     limit = limit;
     gathers = subst (λ (blocks : List Block). gathered blocks n ≤ MAX_GATHERED) (sym new.blocks_are) f.gathers;

@@ -93,8 +93,8 @@ number_at bytes rest place n few is =
 
 -- what the fields of a state say
 pub record Told (bytes : List ℕ) (script : Script) (at : ℕ) (numbers : List ℤ) : Type 0 where
-  pub good : HasNumbers bytes script
-  pub ends : length bytes ≡ state_end bytes script
+  good : HasNumbers bytes script
+  ends : length bytes ≡ state_end bytes script
   pub frames : frames_in_state bytes ≡ at
 
 pub told : (bytes : List ℕ) (script : Script) (at : ℕ) (numbers : List ℤ) → IsState bytes script at numbers →

@@ -13,7 +13,7 @@ use Rattle.dsp_defs.specs.StateBytes.{number_bytes, state_of}
 
 -- ---- pieces of equal lengths
 
-pub apart : {A : Type 0} (xs ys zs ws : List A) → length xs ≡ length ys → xs ++ zs ≡ ys ++ ws → (xs ≡ ys) × (zs ≡ ws)
+apart : {A : Type 0} (xs ys zs ws : List A) → length xs ≡ length ys → xs ++ zs ≡ ys ++ ws → (xs ≡ ys) × (zs ≡ ws)
 apart [] [] zs ws size e = (refl, e)
 apart [] (y ∷ ys) zs ws size e = absurd (omega (arith, size))
 apart (x ∷ xs) [] zs ws size e = absurd (omega (arith, size))
@@ -39,7 +39,7 @@ number_apart x y fx fy e =
 eight : (z : ℤ) → length (number_bytes z) ≡ 8
 eight z = refl
 
-pub numbers_apart : (xs ys : List ℤ) → All (SFits w64) xs → All (SFits w64) ys →
+numbers_apart : (xs ys : List ℤ) → All (SFits w64) xs → All (SFits w64) ys →
     flat_map number_bytes xs ≡ flat_map number_bytes ys → xs ≡ ys
 numbers_apart [] [] fx fy e = refl
 numbers_apart [] (y ∷ ys) fx fy e = absurd (let long = ap length e in

@@ -1,7 +1,7 @@
 -- Bytes whose fields are good are a state.
 use Rattle.std.proofs.Common.{◌≡◌, ◌∙◌, ap, refl, sym, ℕ, ◌+◌, ◌*◌, ◌<◌, ◌≤◌, ◌^◌, List, ◌++◌, length, take, drop}
-use Rattle.std.proofs.Common.{get_or, codes, arith, length-take, length-drop}
-use Rattle.std.specs.Int.{w32, to_le_bytes, from_le_bytes}
+use Rattle.std.proofs.Common.{codes, arith, length-take, length-drop}
+use Rattle.std.specs.Int.{w32, to_le_bytes}
 use Rattle.std.specs.List.{flat_map}
 use Rattle.std.proofs.lemmas.List.{drop-drop, take-append-drop, take_all}
 use Rattle.std.proofs.lemmas.List.Elements.{All-take, All-drop}
@@ -15,17 +15,15 @@ use Rattle.dsp_defs.specs.declared.limits.TheConstants.{MAX_STATE}
 use Rattle.dsp_defs.specs.declared.script.Script.{Script}
 use Rattle.dsp_state.proofs.NumberLaws.{AreBytes, byte_at, numbers_back, numbers_fit}
 use Rattle.dsp_state.proofs.StateLaws.{fields}
+use Rattle.dsp_defs.proofs.BytesLaws.{four_fit}
 
 -- ---- numbers of 4 bytes
 
 four_at : (bytes : List ℕ) (place : ℕ) → AreBytes bytes → AreBytes (take 4 (drop place bytes))
 four_at bytes place are = All-take (λ b. b < 256) 4 (drop place bytes) (All-drop (λ b. b < 256) place bytes are)
 
-below_32 : (bytes : List ℕ) → ((i : ℕ) → get_or bytes i 0 < 256) → from_le_bytes w32 bytes < 2 ^ 32
-below_32 bytes at = omega (arith, at 0, at 1, at 2, at 3)
-
-pub u32_below : (bytes : List ℕ) (place : ℕ) → AreBytes bytes → u32_at bytes place < 2 ^ 32
-u32_below bytes place are = below_32 (take 4 (drop place bytes))
+u32_below : (bytes : List ℕ) (place : ℕ) → AreBytes bytes → u32_at bytes place < 2 ^ 32
+u32_below bytes place are = four_fit (take 4 (drop place bytes))
     (byte_at (take 4 (drop place bytes)) (four_at bytes place are))
 
 -- ---- fields

@@ -32,7 +32,7 @@ live_chain-nil format channels (block ∷ blocks) =
 
 -- ---- one block
 
-product_some : (a b : ℕ) → 1 ≤ a → 1 ≤ b → 1 ≤ a * b
+pub product_some : (a b : ℕ) → 1 ≤ a → 1 ≤ b → 1 ≤ a * b
 product_some a b h k = mul-le-mul h k
 
 complete_some : (n : ℕ) → IsTrue (nat_le 1 n && n % 1 == 0) → 1 ≤ n
@@ -82,7 +82,7 @@ takes_and_gives flow (MatMult rows columns given matrix) s = (
 )
 takes_and_gives flow b s = tt
 
-pub takes_some : (group : Option (ℕ × ℕ)) → TakesAndGives group → IfSome group (λ g. 0 < g.0)
+takes_some : (group : Option (ℕ × ℕ)) → TakesAndGives group → IfSome group (λ g. 0 < g.0)
 takes_some None h = tt
 takes_some (Some g) h = h.0
 
@@ -183,7 +183,7 @@ pub record IsBlockLength (channels : ℕ) (blocks : List Block) (length : ℕ) :
   pub multiple : length % whole_unit blocks ≡ 0
   pub fits : IsTrue (fits_everywhere channels blocks length)
 
-pub is_block_length : (channels : ℕ) (blocks : List Block) (length : ℕ) → IsTrue (is_legal channels blocks length) →
+is_block_length : (channels : ℕ) (blocks : List Block) (length : ℕ) → IsTrue (is_legal channels blocks length) →
     IsBlockLength channels blocks length
 is_block_length channels blocks length legal =
     let low = nat_le 1 length in

@@ -14,8 +14,9 @@ use Rattle.dsp_unit.specs.Filter.{of_channel, IsByChannel, FilterState, FilterSt
 use Rattle.dsp_unit.specs.Filter.{filter_at, no_filter, IsLike, AreFilters}
 use Rattle.dsp_unit.specs.Channels.{unit_of_filters, samples_in, AreFed}
 use Rattle.dsp_defs.proofs.FrameLemmas.{length-frames_in}
+use Rattle.dsp_defs.proofs.Causal.{channel-append}
 use Rattle.dsp_unit.proofs.ChannelFrames.{frames-append, frames-cong, channel-frames_in, length-samples_in}
-use Rattle.dsp_unit.proofs.ChannelFrames.{frames-of_channels, channel-more, get_or-default}
+use Rattle.dsp_unit.proofs.ChannelFrames.{frames-of_channels, get_or-default}
 use Rattle.dsp_unit.proofs.ChannelLaws.{counts-by, counts-took, live-by, live-alike, stands-filters, count-filters}
 use Rattle.dsp_unit.proofs.ChannelLaws.{filters-stand, filters-count}
 use Rattle.dsp_defs.specs.declared.format.Fmt.{Fmt}
@@ -174,7 +175,7 @@ module _ (format : Fmt) (capacity : ℕ) (olds news : List FilterState) (are : A
       channel-next : (x : List Frame) (c : ℕ) → c < length olds →
           channel c (x ++ frames_in (length olds) taken) ≡ channel c x ++ samples_in (length olds) count taken c
       channel-next x c inside =
-          channel-more c x (frames_in (length olds) taken)
+          channel-append c x (frames_in (length olds) taken)
           ∙ ap (λ t. channel c x ++ t) (channel-frames_in (length olds) taken c inside ∙
           ap (λ k. samples_in (length olds) k taken c) size)
 

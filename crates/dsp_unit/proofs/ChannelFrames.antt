@@ -2,7 +2,7 @@
 use Rattle.std.proofs.Common.{◌≡◌, ◌∙◌, ap, ap₂, refl, sym, ℕ, zero, suc, ◌+◌, ◌*◌, ◌/◌, ◌<◌, ℤ, pos, List, [], ◌∷◌}
 use Rattle.std.proofs.Common.{◌++◌, length, get_or, flat_map, arith, length-append, get_or-append-add}
 use Rattle.std.specs.List.{range_with_len}
-use Rattle.std.proofs.lemmas.List.{length-map, get_or-map, map-append, get_or_append_left}
+use Rattle.std.proofs.lemmas.List.{length-map, get_or-map, get_or_append_left}
 use Rattle.std.proofs.lemmas.List.Folds.{flat_map-map}
 use Rattle.std.proofs.lemmas.List.FromFn.{length-map-range_with_len, get_or-map-range_with_len, fill_by_all}
 use Rattle.std.proofs.Math.Nat.{mul-div_cancel_left}
@@ -12,7 +12,7 @@ use Rattle.dsp_unit.specs.Unit.{frames_in}
 use Rattle.dsp_unit.specs.Filter.{FilterState, filter_at, no_filter, kept_of_all, tails_of}
 use Rattle.dsp_unit.specs.Channels.{samples_in}
 use Rattle.dsp_defs.proofs.Signal.{values_cong, values-add}
-use Rattle.dsp_defs.proofs.FrameLemmas.{map-values}
+use Rattle.dsp_defs.proofs.Causal.{map-values}
 
 pub factor-same : (c a b : ℕ) → 0 < c → c * a ≡ c * b → a ≡ b
 factor-same c a b some e = sym (mul-div_cancel_left a some) ∙ ap (λ n. n / c) e ∙ mul-div_cancel_left b some
@@ -25,7 +25,7 @@ values-of xs n size = sym (fill_by_all (sample xs) xs n (pos 0) size (λ k _. re
 
 -- ---- frames of channels
 
-pub frames-of_values : (channels : ℕ) (p : ℕ → List ℤ) → 0 < channels →
+frames-of_values : (channels : ℕ) (p : ℕ → List ℤ) → 0 < channels →
     frames_of (values channels p) ≡ values (length (p 0)) (λ n. values channels (λ c. sample (p c) n))
 frames-of_values zero p some = absurd (omega (arith, some))
 frames-of_values (suc k) p some = values_cong (length (p 0)) _ _ (λ n _. map-values (λ s. sample s n) 0 (suc k) p)
@@ -97,9 +97,6 @@ frames-of_channels channels count samples some size =
     (λ c. sample samples (n * channels + c))
     (λ c _. sample-values count (λ n. sample samples (n * channels + c)) n h))
     ∙ ap (λ m. values m (λ n. values channels (λ c. sample samples (n * channels + c)))) (sym size)
-
-pub channel-more : (c : ℕ) (x more : List Frame) → channel c (x ++ more) ≡ channel c x ++ channel c more
-channel-more c x more = map-append (λ (f : Frame). sample f c) x more
 
 -- ---- lists of filters, by their places
 

@@ -9,6 +9,7 @@ use Rattle.std.proofs.Math.Nat.{mul-div_cancel_left}
 use Rattle.dsp_defs.specs.Kept.{Kind, InWord, Fixed, Below, Each, IsPlace, IsOfKind, in_words}
 use Rattle.dsp_defs.specs.Numbers.{Width}
 use Rattle.dsp_unit.specs.Channels.{numbers_in}
+use Rattle.dsp_defs.proofs.KeptLaws.{Each-append}
 
 -- two pieces of a list, the first of one length
 pub append-apart : (xs ys zs ws : List ℤ) → length xs ≡ length ys → xs ++ zs ≡ ys ++ ws → (xs ≡ ys) × (zs ≡ ws)
@@ -22,7 +23,7 @@ append-apart (x ∷ xs) (y ∷ ys) zs ws size e =
     (cc, rest.1)
 
 module _ (f g : ℕ → List ℤ) where
-  pub flat-same : (a n : ℕ) → ((c : ℕ) → c < a + n → f c ≡ g c) →
+  flat-same : (a n : ℕ) → ((c : ℕ) → c < a + n → f c ≡ g c) →
       flat_map f (range_with_len a n) ≡ flat_map g (range_with_len a n)
   flat-same a zero same = refl
   flat-same a (suc n) same =
@@ -99,19 +100,12 @@ each-split P (k ∷ ks) ls (x ∷ xs) ys size h =
     let (front, back) = each-split P ks ls xs ys (omega (arith, size)) h.1 in
     ((h.0, front), back)
 
-each-join : (P : Kind → ℤ → Type 0) (ks ls : List Kind) (xs ys : List ℤ) → Each P ks xs → Each P ls ys →
-    Each P (ks ++ ls) (xs ++ ys)
-each-join P [] ls [] ys h t = t
-each-join P [] ls (x ∷ xs) ys h t = absurd h
-each-join P (k ∷ ks) ls [] ys h t = absurd h
-each-join P (k ∷ ks) ls (x ∷ xs) ys h t = (h.0, each-join P ks ls xs ys h.1 t)
-
 module _ (P : Kind → ℤ → Type 0) (ks : List Kind) (f : ℕ → List ℤ) where
   flat-each : (a n : ℕ) → ((c : ℕ) → c < a + n → Each P ks (f c)) →
       Each P (flat_map (λ (_ : ℕ). ks) (range_with_len a n)) (flat_map f (range_with_len a n))
   flat-each a zero each = tt
   flat-each a (suc n) each =
-      each-join P ks (flat_map (λ (_ : ℕ). ks) (range_with_len (a + 1) n)) (f a)
+      Each-append P ks (flat_map (λ (_ : ℕ). ks) (range_with_len (a + 1) n)) (f a)
       (flat_map f (range_with_len (a + 1) n)) (each a (omega arith))
       (flat-each (a + 1) n (λ c h. each c (omega (arith, h))))
 
@@ -189,14 +183,6 @@ pub cut-size : (size n : ℕ) (numbers : List ℤ) → 0 < n → length numbers 
 cut-size size n numbers some whole = ap (λ k. k / n) whole ∙ mul-div_cancel_left size some
 
 -- ---- numbers of a width
-
--- as many numbers are at any place
-pub words-placed : (width : Width) (count : ℕ) (numbers : List ℤ) → length numbers ≡ count →
-    Each IsPlace (in_words width count) numbers
-words-placed width zero [] e = tt
-words-placed width zero (x ∷ xs) e = absurd (omega (arith, e))
-words-placed width (suc count) [] e = absurd (omega (arith, e))
-words-placed width (suc count) (x ∷ xs) e = (tt, words-placed width count xs (omega (arith, e)))
 
 pub length-words : (P : Kind → ℤ → Type 0) (width : Width) (count : ℕ) (numbers : List ℤ) →
     Each P (in_words width count) numbers → length numbers ≡ count

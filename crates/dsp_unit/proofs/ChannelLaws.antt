@@ -13,8 +13,9 @@ use Rattle.dsp_unit.specs.Filter.{of_channel, of_whole_channel, IsByChannel, Fil
 use Rattle.dsp_unit.specs.Filter.{FilterCounts, FilterTook, filter_at, no_filter, kept_of_all, tails_of, AreFilters}
 use Rattle.dsp_unit.specs.Channels.{unit_of_filters}
 use Rattle.dsp_defs.proofs.FrameLaws.{IsCounted, whole_channel_counted, live_channel_counted}
+use Rattle.dsp_defs.proofs.Causal.{channel-append}
 use Rattle.dsp_unit.proofs.ChannelFrames.{factor-same, length-frames_of, frames-append, channel-frames_of}
-use Rattle.dsp_unit.proofs.ChannelFrames.{frames-cong, channel-more, kept-places, tail-places, get_or-default}
+use Rattle.dsp_unit.proofs.ChannelFrames.{frames-cong, kept-places, tail-places, get_or-default}
 use Rattle.dsp_unit.proofs.ChannelKept.{length-pieces, pieces-apart, pieces-same, each-length, pieces-each, each-pieces}
 use Rattle.dsp_defs.specs.declared.format.Fmt.{Fmt}
 use Rattle.dsp_defs.specs.declared.script.Block.{Block}
@@ -23,7 +24,7 @@ use Rattle.dsp_defs.specs.declared.script.Block.{Block}
 
 module _ (f : FilterState) (format : Fmt) (block : Block) (is_block : f.block ≡ block) (is_format : f.format ≡ format)
   where
-    pub stands-by : (x : List ℤ) → FilterStandsFor f x → (f.kept ≡ kept_of_channel format block x) ×
+    stands-by : (x : List ℤ) → FilterStandsFor f x → (f.kept ≡ kept_of_channel format block x) ×
         (of_whole_channel format block x ≡ of_channel format block x ++ f.tail)
     stands-by x stands = (
       stands.keeps ∙ (λ i. kept_of_channel (is_format i) (is_block i) x),
@@ -31,7 +32,7 @@ module _ (f : FilterState) (format : Fmt) (block : Block) (is_block : f.block �
           (λ i. of_channel (is_format i) (is_block i) x ++ f.tail),
     )
 
-    pub by-stands : (x : List ℤ) → f.ended ≡ false → f.kept ≡ kept_of_channel format block x →
+    by-stands : (x : List ℤ) → f.ended ≡ false → f.kept ≡ kept_of_channel format block x →
         of_whole_channel format block x ≡ of_channel format block x ++ f.tail → FilterStandsFor f x
     by-stands x running keeps follows = record {
       running = running;
@@ -47,7 +48,7 @@ module _ (f : FilterState) (format : Fmt) (block : Block) (is_block : f.block �
       sym (λ i. whole_frames (is_block i) n) ∙ counts.tail_values ∙ (λ i. live_frames (is_block i) n + length f.tail),
     )
 
-    pub by-counts : (n : ℕ) → f.ended ≡ false → Each IsPlace (kinds_by format block n) f.kept →
+    by-counts : (n : ℕ) → f.ended ≡ false → Each IsPlace (kinds_by format block n) f.kept →
         whole_frames block n ≡ live_frames block n + length f.tail → FilterCounts f n
     by-counts n running place tail = record {
       running = running;
@@ -55,14 +56,14 @@ module _ (f : FilterState) (format : Fmt) (block : Block) (is_block : f.block �
       tail_values = (λ i. whole_frames (is_block i) n) ∙ tail ∙ sym (λ i. live_frames (is_block i) n + length f.tail);
     }
 
-    pub took-by : (n : ℕ) → FilterTook f n → Each IsPlace (kinds_by format block n) f.kept ×
+    took-by : (n : ℕ) → FilterTook f n → Each IsPlace (kinds_by format block n) f.kept ×
         (length f.tail ≤ whole_frames block n)
     took-by n took = (
       subst (λ ks. Each IsPlace ks f.kept) (λ i. kinds_by (is_format i) (is_block i) n) took.place,
       subst (λ b. length f.tail ≤ whole_frames b n) is_block took.tail_within,
     )
 
-    pub by-took : (n : ℕ) → Each IsPlace (kinds_by format block n) f.kept → length f.tail ≤ whole_frames block n →
+    by-took : (n : ℕ) → Each IsPlace (kinds_by format block n) f.kept → length f.tail ≤ whole_frames block n →
         FilterTook f n
     by-took n place within = record {
       place = subst (λ ks. Each IsPlace ks f.kept) (sym (λ i. kinds_by (is_format i) (is_block i) n)) place;
@@ -80,11 +81,11 @@ counts-took f n counts = record {
 -- ---- the block on all channels
 
 module _ (format : Fmt) (block : Block) (by : IsByChannel format block) where
-  pub length-of_whole : (x : List ℤ) → length (of_whole_channel format block x) ≡ whole_frames block (length x)
+  length-of_whole : (x : List ℤ) → length (of_whole_channel format block x) ≡ whole_frames block (length x)
   length-of_whole = subst (λ (o : Option (List ℤ → List ℤ)). IsCounted o (whole_frames block)) by.whole_is
       (whole_channel_counted format block)
 
-  pub length-of_live : (x : List ℤ) → length (of_channel format block x) ≡ live_frames block (length x)
+  length-of_live : (x : List ℤ) → length (of_channel format block x) ≡ live_frames block (length x)
   length-of_live = subst (λ (o : Option (List ℤ → List ℤ)). IsCounted o (live_frames block)) by.live_is
       (live_channel_counted format block)
 
@@ -101,11 +102,11 @@ length-channel c x = length-map x (λ (f : Frame). sample f c)
 
 pub record Alike (format : Fmt) (block : Block) (filters : List FilterState) : Type 0 where
   pub some : 0 < length filters
-  pub blocks : (c : ℕ) → c < length filters → (filter_at filters c).block ≡ block
-  pub formats : (c : ℕ) → c < length filters → (filter_at filters c).format ≡ format
+  blocks : (c : ℕ) → c < length filters → (filter_at filters c).block ≡ block
+  formats : (c : ℕ) → c < length filters → (filter_at filters c).format ≡ format
   pub by_channel : IsByChannel format block
 
-pub are-alike : (format : Fmt) (capacity : ℕ) (filters : List FilterState) → AreFilters format capacity filters →
+are-alike : (format : Fmt) (capacity : ℕ) (filters : List FilterState) → AreFilters format capacity filters →
     Alike format (filter_at filters 0).block filters
 are-alike format capacity filters are = record {
   some = (let some = are.some in omega (arith, some));
@@ -136,7 +137,7 @@ module _ (format : Fmt) (capacity : ℕ) (filters : List FilterState) (are : Are
       ∙ ap (whole_frames (filter_at filters 0).block) (length-channel c x ∙ sym (length-channel 0 x))
       ∙ sym (length-of_whole format (filter_at filters 0).block are.by_channel (channel 0 x))
 
-  pub tail-alike : (c : ℕ) → c < length filters → length (filter_at filters c).tail ≡ length (filter_at filters 0).tail
+  tail-alike : (c : ℕ) → c < length filters → length (filter_at filters c).tail ≡ length (filter_at filters 0).tail
   tail-alike c h = (are.alike c no_filter h).tail
 
   -- as many frames are left as the first filter has values left
@@ -244,7 +245,7 @@ module _ (format : Fmt) (capacity : ℕ) (filters : List FilterState) (are : Are
         (sym (channel-frames_of (length filters) (λ d. of_whole_channel format (filter_at filters 0).block
         (channel d x)) c h (whole-alike x c))
         ∙ ap (channel c) follows
-        ∙ channel-more c (frames_of (values (length filters)
+        ∙ channel-append c (frames_of (values (length filters)
         (λ d. of_channel format (filter_at filters 0).block (channel d x))))
         (frames_of (values (length filters) (λ d. (filter_at filters d).tail)))
         ∙ ap (λ l. l ++ channel c (frames_of (values (length filters) (λ d. (filter_at filters d).tail))))

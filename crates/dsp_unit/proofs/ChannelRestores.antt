@@ -22,14 +22,14 @@ use Rattle.dsp_defs.specs.declared.script.Block.{Block}
 module _ (format : Fmt) (block : Block) (by : IsByChannel format block) (channels : ℕ) (some : 0 < channels)
     (numbers : List ℤ) where
   -- numbers for the kinds of each channel are as many for each
-  pub cut-kinds : (P : Kind → ℤ → Type 0) (n : ℕ) → Each P (kept_kinds format channels block n) numbers →
+  cut-kinds : (P : Kind → ℤ → Type 0) (n : ℕ) → Each P (kept_kinds format channels block n) numbers →
       length numbers ≡ channels * length (kinds_by format block n)
   cut-kinds P n each =
       each-length P (kept_kinds format channels block n) numbers each
       ∙ ap length (by.kinds_are channels n)
       ∙ length-pieces (λ (_ : ℕ). kinds_by format block n) (length (kinds_by format block n)) channels (λ _ _. refl)
 
-  pub each-cut : (P : Kind → ℤ → Type 0) (n : ℕ) → Each P (kept_kinds format channels block n) numbers → (c : ℕ) →
+  each-cut : (P : Kind → ℤ → Type 0) (n : ℕ) → Each P (kept_kinds format channels block n) numbers → (c : ℕ) →
       c < channels → Each P (kinds_by format block n) (numbers_in (length numbers / channels) numbers c)
   each-cut P n each =
       let whole = cut-kinds P n each in

@@ -2,6 +2,7 @@
 use Rattle.std.proofs.Common.{◌≡◌, ◌∙◌, ap, ap₂, refl, sym, subst, ℕ, ◌+◌, ◌-◌, ◌*◌, ◌/◌, ◌<◌, ℤ, List, [], ◌∷◌, ◌++◌}
 use Rattle.std.proofs.Common.{length, arith, true, length-append}
 use Rattle.std.proofs.lemmas.Bool.{false≢true}
+use Rattle.std.proofs.lemmas.List.{nil_from_length}
 use Rattle.dsp_defs.specs.Signal.{values}
 use Rattle.dsp_defs.specs.Block.{Frame, frames_of}
 use Rattle.std.specs.Prelude.{All}
@@ -18,17 +19,10 @@ use Rattle.dsp_unit.proofs.ChannelFrames.{tail-places, get_or-default}
 use Rattle.dsp_unit.proofs.ChannelLaws.{length-unit_tail, took-filters, filters-took}
 use Rattle.dsp_defs.specs.declared.format.Fmt.{Fmt}
 
-no-length : {A : Type 0} (xs : List A) → length xs ≡ 0 → xs ≡ []
-no-length [] e = refl
-no-length (x ∷ xs) e = absurd (omega (arith, e))
-
 module _ (format : Fmt) (capacity : ℕ) (olds news : List FilterState) (are : AreFilters format capacity olds)
     (many : ℕ) (given : List ℤ) (before after : Counts) (finished : AreFinished olds news many given before after) where
   old-first : 0 < length olds
   old-first = (let some = are.some in omega (arith, some))
-
-  new-first : 0 < length news
-  new-first = (let some = are.some in let size = finished.size in omega (arith, some, size))
 
   within : (c : ℕ) → c < length news → c < length olds
   within c h = (let size = finished.size in omega (arith, h, size))
@@ -104,8 +98,8 @@ module _ (format : Fmt) (capacity : ℕ) (olds news : List FilterState) (are : A
         let (start, stop, finishes) = finished.each 0 old-first in
         let gone : many ≡ 0 = sym size ∙ sym (length-frames_in (length olds) given) ∙ ap length none in
         let nothing : samples_in (length olds) many given 0 ≡ [] =
-        no-length (samples_in (length olds) many given 0) (length-samples_in (length olds) many given 0 ∙ gone) in
-        no-length (frames_of (tails_of olds)) (length-unit_tail format capacity olds are ∙
+        nil_from_length (samples_in (length olds) many given 0) (length-samples_in (length olds) many given 0 ∙ gone) in
+        nil_from_length (frames_of (tails_of olds)) (length-unit_tail format capacity olds are ∙
         ap length (finishes.spent nothing));
     took = λ n took. filters-took format capacity news are-finished n
         (took-now n (took-filters format capacity olds are n took));

@@ -32,14 +32,14 @@ pub groups_more : (group : Option (ℕ × ℕ)) (n m : ℕ) → n ≤ m → grou
 groups_more None n m h = h
 groups_more (Some g) n m h = mul-le-mul_right g.1 (quotient_more n m g.0 h)
 
-pub live_conv_given : (n m t : ℕ) → n ≤ m → min n (full_length n t) ≤ full_length m t
+live_conv_given : (n m t : ℕ) → n ≤ m → min n (full_length n t) ≤ full_length m t
 live_conv_given n m t h = grind (arith, common_steps)
 
 window_given : (live count rest : ℕ) → min live (min count rest) ≤ count
 window_given live count rest = omega arith
 
 -- what is given so far of n frames is at most what is given of n or more
-pub live_within_given : (block : Block) (n m : ℕ) → n ≤ m → live_frames block n ≤ given_frames block m
+live_within_given : (block : Block) (n m : ℕ) → n ≤ m → live_frames block n ≤ given_frames block m
 live_within_given (Interpolate factor taps) n m h = mul-le-mul_right factor h
 live_within_given (Conv taps) n m h = live_conv_given n m (length taps) h
 live_within_given (ConvPartial first count taps) n m h =
@@ -49,7 +49,7 @@ live_within_given block n m h = groups_more (group_of block) n m h
 
 -- ---- the cost of a block
 
-pub times_more : (c n m k : ℕ) → n ≤ m → c * n * k ≤ c * m * k
+times_more : (c n m k : ℕ) → n ≤ m → c * n * k ≤ c * m * k
 times_more c n m k h = mul-le-mul_right k (mul-le-mul_left c h)
 
 pub block_cost_grows : (format : Fmt) (c : ℕ) (block : Block) (n m n' m' : ℕ) → n ≤ m → n' ≤ m' →
@@ -145,7 +145,7 @@ correlation_whole (suc n) t = ap (correlation_products (suc n) t) (some_values n
     products_are_at (suc n) t (2 * max (suc n) t - 1) ∙ all_numbers (max (suc n) t) (suc n) t (omega arith)
     (omega arith)
 
-pub correlation_grows : (n t given more : ℕ) → given ≤ more →
+correlation_grows : (n t given more : ℕ) → given ≤ more →
     correlation_products n t given ≤ correlation_products n t more
 correlation_grows n t given zero h = subst (λ (k : ℕ). correlation_products n t k ≤ 0)
     (let none : 0 ≡ given = omega (arith, h) in none) (omega arith)
@@ -198,7 +198,7 @@ products_are_cost format channels (block ∷ blocks) n none =
 pub full_more : (n m t : ℕ) → n ≤ m → full_length n t ≤ full_length m t
 full_more n m t h = grind (arith, common_steps)
 
-pub window_whole : (live count rest more : ℕ) → rest ≤ more → min live (min count rest) ≤ min count more
+window_whole : (live count rest more : ℕ) → rest ≤ more → min live (min count rest) ≤ min count more
 window_whole live count rest more h = omega (arith, h)
 
 pub live_within_whole : (block : Block) (n m : ℕ) → n ≤ m → live_frames block n ≤ whole_frames block m
@@ -231,7 +231,7 @@ no_groups : (group : Option (ℕ × ℕ)) → groups_after group 0 ≡ 0
 no_groups None = refl
 no_groups (Some g) = ap (λ (n : ℕ). n * g.1) (zero-div g.0) ∙ omega arith
 
-live_frames-zero : (block : Block) → live_frames block 0 ≡ 0
+pub live_frames-zero : (block : Block) → live_frames block 0 ≡ 0
 live_frames-zero (Interpolate factor taps) = omega arith
 live_frames-zero (Conv taps) = omega arith
 live_frames-zero (ConvPartial first count taps) = omega arith

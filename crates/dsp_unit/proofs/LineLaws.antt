@@ -11,10 +11,10 @@ use Rattle.dsp_unit.specs.Unit.{UnitState, StandsFor, CountsFrames, Accepts, Fee
 use Rattle.dsp_unit.specs.Line.{Place, place_after, Passes, MadeFor, blocks_of, AllStand, AllTaken, AllAccept}
 use Rattle.dsp_unit.specs.Line.{FeedsLine, IsFed}
 use Rattle.dsp_defs.proofs.Streaming.{continues_chain}
-use Rattle.dsp_unit.proofs.TurnLaws.{all_taken_fewer, taken_live}
+use Rattle.dsp_unit.proofs.TurnLaws.{taken_live}
 
 -- no units give the frames on
-pub feeds-none : (p : Place) (taken : List Frame) (counts : Counts) → FeedsLine p [] [] taken taken counts counts
+feeds-none : (p : Place) (taken : List Frame) (counts : Counts) → FeedsLine p [] [] taken taken counts counts
 feeds-none p taken counts = record {
   blocks = refl;
   in_line = tt;
@@ -29,7 +29,7 @@ feeds-none p taken counts = record {
 }
 
 -- a unit, and the line behind it
-pub feeds-then :
+feeds-then :
     (p : Place) (u v : UnitState) (us vs : List UnitState) (taken piece given : List Frame)
     (before between after : Counts) →
     MadeFor p u → v.ended ≡ false → Feeds u v taken piece before between →
@@ -132,11 +132,3 @@ accepts-behind u v us taken given before after one accepts =
       subst (AllTaken (blocks_of us)) (one.frames n accepts.1.0)
           (taken_live u.block (blocks_of us) (n + length taken) accepts.2),
     )
-
--- and fewer
-pub accepts-fewer : (us : List UnitState) (more fewer : ℕ) → fewer ≤ more → AllAccept us more → AllAccept us fewer
-accepts-fewer us more fewer h accepts = (
-  accepts.0,
-  accepts.1,
-  all_taken_fewer (blocks_of us) (accepts.0 + fewer) (accepts.0 + more) (omega (arith, h)) accepts.2,
-)

@@ -22,7 +22,7 @@ flat-singles : {A : Type 0} (f : ℕ → A) (a n : ℕ) → flat_map (λ c. f c 
 flat-singles f a zero = refl
 flat-singles f a (suc n) = ap (λ l. f a ∷ l) (flat-singles f (a + 1) n)
 
-pub sample-singles : (f : ℕ → ℤ) (n c : ℕ) → c < n → sample (flat_map (λ c. f c ∷ []) (range_with_len 0 n)) c ≡ f c
+sample-singles : (f : ℕ → ℤ) (n c : ℕ) → c < n → sample (flat_map (λ c. f c ∷ []) (range_with_len 0 n)) c ≡ f c
 sample-singles f n c h = ap (λ l. sample l c) (flat-singles f 0 n) ∙
     get_or-map-range_with_len f 0 n c c (pos 0) h (omega arith)
 

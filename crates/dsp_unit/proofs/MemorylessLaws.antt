@@ -43,7 +43,7 @@ no-kinds (k ∷ ks) numbers e h = cc
 
 module _ (format : Fmt) (channels : ℕ) (block : Block) (price : ℕ) (f : Frame → Frame)
     (m : IsMemoryless format channels block price f) where
-  pub no-kept-kinds : (n : ℕ) → kept_kinds format channels block n ≡ []
+  no-kept-kinds : (n : ℕ) → kept_kinds format channels block n ≡ []
   no-kept-kinds n = m.kinds_are n ∙ nothing-flat (λ (_ : ℕ). kinds_by format block n) 0 channels (λ _. m.kinds n)
 
   -- no numbers, and no others, can be those that it keeps
@@ -59,7 +59,7 @@ module _ (format : Fmt) (channels : ℕ) (block : Block) (price : ℕ) (f : Fram
 
 module _ (u : UnitState) (price : ℕ) (f : Frame → Frame) (idle : IsIdle u)
     (m : IsMemoryless u.format u.channels u.block price f) where
-  pub memoryless-stands : (x : List Frame) → StandsFor u x
+  memoryless-stands : (x : List Frame) → StandsFor u x
   memoryless-stands x = record {
     running = idle.running;
     keeps = idle.kept ∙ sym (nothing-flat (λ c. kept_of_channel u.format u.block (channel c x)) 0 u.channels
@@ -68,7 +68,7 @@ module _ (u : UnitState) (price : ℕ) (f : Frame → Frame) (idle : IsIdle u)
         ap (λ t. live u.format u.channels u.block x ++ t) (sym idle.tail);
   }
 
-  pub memoryless-counts : (n : ℕ) → CountsFrames u n
+  memoryless-counts : (n : ℕ) → CountsFrames u n
   memoryless-counts n = record {
     running = idle.running;
     place = rw (

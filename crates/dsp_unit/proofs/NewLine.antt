@@ -9,10 +9,10 @@ use Rattle.dsp_defs.specs.Biquad.{biquad, biquad64}
 use Rattle.dsp_defs.specs.Adaptive.{pid}
 use Rattle.dsp_defs.specs.Matrix.{each_group, added, subtracted, scaled, transposed, multiplied, mat_add, mat_sub}
 use Rattle.dsp_defs.specs.Matrix.{mat_scale, mat_trans, mat_mult}
-use Rattle.dsp_defs.specs.Shape.{live_frames, groups_after, group_of}
+use Rattle.dsp_defs.specs.Shape.{live_frames, groups_after}
 use Rattle.dsp_defs.specs.Cost.{unit_turns, chain_turns}
 use Rattle.dsp_unit.specs.Unit.{UnitState, IsNew, IsMade}
-use Rattle.dsp_unit.specs.Line.{Place, place_after, place_behind, MadeFor, blocks_of, InLine, AllRun, AllStand}
+use Rattle.dsp_unit.specs.Line.{Place, place_after, place_behind, MadeFor, blocks_of, InLine, AllStand}
 use Rattle.dsp_unit.specs.Line.{AllCount, AllNew, line_turns}
 use Rattle.dsp_defs.proofs.BlockLaws.{length-values, length-lattice_fir, length-biquad, length-biquad64}
 use Rattle.dsp_defs.specs.declared.format.Fmt.{Fmt}
@@ -23,16 +23,14 @@ use Rattle.dsp_defs.specs.declared.script.Block.TheVariants.{Sparse, Decimate, I
 use Rattle.dsp_defs.specs.declared.script.Block.TheVariants.{Biquad, Biquad64, Conv, ConvPartial, Correlate, Lms, Pid}
 use Rattle.dsp_defs.specs.declared.script.Block.TheVariants.{MatAdd, MatSub, MatScale, MatTrans, MatMult, Power, Dot}
 use Rattle.dsp_defs.specs.declared.script.Block.TheVariants.{CmplxDot, Max, Min, Route}
-
-no-list : {A : Type 0} (xs : List A) → length xs ≡ 0 → xs ≡ []
-no-list [] e = refl
-no-list (x ∷ xs) e = absurd (omega (arith, e))
+use Rattle.std.proofs.lemmas.List.{nil_from_length}
+use Rattle.dsp_unit.proofs.CostLaws.{live_frames-zero}
 
 no-values : {A : Type 0} (n : ℕ) (f : ℕ → A) → n ≡ 0 → values n f ≡ []
 no-values n f e = ap (λ m. values m f) e
 
 no-groups : (taken given : ℕ) (result : List ℤ → ℕ → ℤ) → each_group taken given result [] ≡ []
-no-groups taken given result = no-list (each_group taken given result [])
+no-groups taken given result = nil_from_length (each_group taken given result [])
     (length-values (0 / taken * given) _ ∙ (let none : 0 / taken ≡ 0 = omega arith in ap (λ q. q * given) none ∙
     omega arith))
 
@@ -41,7 +39,7 @@ none-before first = omega arith
 
 each-nothing : (channels : ℕ) (f : List ℤ → List ℤ) → f [] ≡ [] → each_channel channels f [] ≡ []
 each-nothing zero f none = refl
-each-nothing (suc channels) f none = no-list (each_channel (suc channels) f [])
+each-nothing (suc channels) f none = nil_from_length (each_channel (suc channels) f [])
     (length-values (length (f [])) _ ∙ ap length none)
 
 -- a block has given nothing of no frames
@@ -67,13 +65,13 @@ live-nothing format channels (Decimate factor taps) =
 live-nothing format channels (Interpolate factor taps) =
     each-nothing channels (interpolate format factor taps) (no-values (0 * factor) _ (omega arith))
 live-nothing format channels (LatticeFir k) = each-nothing channels (lattice_fir k)
-    (no-list (lattice_fir k []) (length-lattice_fir k []))
+    (nil_from_length (lattice_fir k []) (length-lattice_fir k []))
 live-nothing format channels (LatticeIir k v) = each-nothing channels (lattice_iir format k v) refl
 live-nothing format channels (Biquad p coefficients) =
     each-nothing channels (biquad format p coefficients)
-    (no-list (biquad format p coefficients []) (length-biquad format p coefficients []))
+    (nil_from_length (biquad format p coefficients []) (length-biquad format p coefficients []))
 live-nothing format channels (Biquad64 p coefficients) =
-    each-nothing channels (biquad64 p coefficients) (no-list (biquad64 p coefficients [])
+    each-nothing channels (biquad64 p coefficients) (nil_from_length (biquad64 p coefficients [])
     (length-biquad64 p coefficients []))
 live-nothing format channels (Conv taps) = each-nothing channels (live_conv format taps) refl
 live-nothing format channels (ConvPartial first count taps) =
@@ -104,16 +102,9 @@ live-nothing format channels Max = refl
 live-nothing format channels Min = refl
 live-nothing format channels (Route list) = refl
 
-groups-nothing : (group : Option (ℕ × ℕ)) → groups_after group 0 ≡ 0
+pub groups-nothing : (group : Option (ℕ × ℕ)) → groups_after group 0 ≡ 0
 groups-nothing None = refl
 groups-nothing (Some g) = let none : 0 / g.0 ≡ 0 = omega arith in ap (λ q. q * g.1) none ∙ omega arith
-
-pub frames-nothing : (block : Block) → live_frames block 0 ≡ 0
-frames-nothing (Interpolate factor taps) = omega arith
-frames-nothing (Conv taps) = omega arith
-frames-nothing (ConvPartial first count taps) = omega arith
-frames-nothing (Correlate taps) = refl
-frames-nothing block = groups-nothing (group_of block)
 
 -- ---- a line
 
@@ -128,11 +119,7 @@ new-stand banked format channels (u ∷ us) h = (
 
 pub new-count : (banked : Bool) (us : List UnitState) → AllNew banked us → AllCount us 0
 new-count banked [] h = tt
-new-count banked (u ∷ us) h = (h.0.1, rw (frames-nothing u.block) (new-count banked us h.1))
-
-pub new-run : (banked : Bool) (us : List UnitState) → AllNew banked us → AllRun us
-new-run banked [] h = tt
-new-run banked (u ∷ us) h = (h.0.0.running, new-run banked us h.1)
+new-count banked (u ∷ us) h = (h.0.1, rw (live_frames-zero u.block) (new-count banked us h.1))
 
 -- the turn bound is that of the blocks
 pub new-turns : (banked : Bool) (p : Place) (us : List UnitState) (m n : ℕ) → InLine p us → AllNew banked us
@@ -150,7 +137,7 @@ abbrev pub IsPlain : Block → Type 0
 IsPlain (Biquad p coefficients) = ⊥
 IsPlain block = Unit {0}
 
-pub plain-turns : (banked : Bool) (format : Fmt) (c : ℕ) (block : Block) (m n : ℕ) → IsPlain block
+plain-turns : (banked : Bool) (format : Fmt) (c : ℕ) (block : Block) (m n : ℕ) → IsPlain block
     → unit_turns false format c block m n ≡ unit_turns banked format c block m n
 plain-turns true format c (Biquad p coefficients) m n plain = absurd plain
 plain-turns banked format c block m n plain = refl

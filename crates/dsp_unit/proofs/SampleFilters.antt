@@ -1,24 +1,23 @@
 -- A filter that gives one value for each sample, has no tail, and keeps numbers of the format's width.
-use Rattle.std.proofs.Common.{◌≡◌, ◌∙◌, ap, sym, subst, ℕ, ◌+◌, ◌*◌, ◌≤◌, ℤ, List, [], ◌++◌, length, Bool, true, false}
+use Rattle.std.proofs.Common.{◌≡◌, ◌∙◌, ap, sym, subst, ℕ, ◌+◌, ◌*◌, ◌≤◌, ℤ, List, [], ◌++◌, length, Bool, false}
 use Rattle.std.specs.Prelude.{All, FitsSigned}
 use Rattle.std.proofs.lemmas.List.{length-replicate}
 use Rattle.dsp_defs.specs.Formats.{word}
 use Rattle.dsp_defs.specs.Streaming.{Continues}
-use Rattle.dsp_defs.specs.Shape.{whole_frames, live_frames}
-use Rattle.dsp_defs.specs.Cost.{live_block_cost, block_turns}
+use Rattle.dsp_defs.specs.Cost.{block_turns}
 use Rattle.dsp_defs.specs.Counts.{Counts}
-use Rattle.dsp_defs.specs.Kept.{kept_of_channel, kinds_by, in_words, InWord, Each, IsPlace, IsOfKind, IsTaken}
+use Rattle.dsp_defs.specs.Kept.{kept_of_channel, in_words, InWord, Each, IsPlace, IsOfKind}
 use Rattle.dsp_defs.specs.Kept.{FitsChannel}
-use Rattle.dsp_unit.specs.Unit.{most_frames}
-use Rattle.dsp_unit.specs.Filter.{FilterState, FilterFeeds, FilterFinishes, FilterRestores, IsByChannel, IsNewFilter}
-use Rattle.dsp_unit.specs.Filter.{IsSampleBlock, IsSteady, of_channel, of_whole_channel, steady_filter}
-use Rattle.dsp_unit.proofs.ChannelKept.{words-placed, length-words, words-fit, fit-words}
-use Rattle.dsp_unit.proofs.SteadyFilters.{steady-new, steady-fed, steady-finished, steady-restored, steady-fits}
+use Rattle.dsp_unit.specs.Filter.{FilterState, FilterFeeds, FilterRestores, IsNewFilter}
+use Rattle.dsp_unit.specs.Filter.{IsSampleBlock, IsSteady, of_channel, steady_filter}
+use Rattle.dsp_unit.proofs.ChannelKept.{length-words, words-fit, fit-words}
+use Rattle.dsp_unit.proofs.SteadyFilters.{steady-new, steady-fed, steady-restored, steady-fits}
 use Rattle.dsp_unit.proofs.SteadyFilters.{fits-steady}
 use Rattle.dsp_defs.specs.declared.format.Fmt.{Fmt}
 use Rattle.dsp_defs.specs.declared.script.Block.{Block}
+use Rattle.dsp_defs.proofs.KeptLaws.{in_words-place}
 
-abbrev pub sample_filter : Fmt → Block → ℕ → List ℤ → Bool → FilterState
+abbrev sample_filter : Fmt → Block → ℕ → List ℤ → Bool → FilterState
 sample_filter = steady_filter
 
 module _ (format : Fmt) (block : Block) (count price capacity : ℕ) (is : IsSampleBlock format block count price) where
@@ -34,7 +33,7 @@ module _ (format : Fmt) (block : Block) (count price capacity : ℕ) (is : IsSam
     placed = λ numbers size.
         let long : length numbers ≡ count = size ∙ ap length (is.kinds_are 0) ∙
         length-replicate count (InWord (word format)) in
-        subst (λ ks. Each IsPlace ks numbers) (sym (is.kinds_are 0)) (words-placed (word format) count numbers long);
+        subst (λ ks. Each IsPlace ks numbers) (sym (is.kinds_are 0)) (in_words-place (word format) count numbers long);
     live_cost = is.live_cost;
   }
 
@@ -53,11 +52,6 @@ module _ (format : Fmt) (block : Block) (count price capacity : ℕ) (is : IsSam
   sample-fed old new taken given before after size kept values stands paid turns =
       steady-fed format block price capacity steady old new taken given before after size kept
       (record { values = values; stands = stands }) paid turns
-
-  pub sample-finished : (kept : List ℤ) (ended : Bool) (counts : Counts) →
-      FilterFinishes (sample_filter format block capacity kept ended) (sample_filter format block capacity kept true) []
-      counts counts
-  sample-finished kept ended counts = steady-finished format block price capacity steady kept ended counts
 
   pub sample-restored : (kept numbers : List ℤ) (ended : Bool) →
       FilterRestores (sample_filter format block capacity kept ended)

@@ -29,10 +29,10 @@ count-runs [] n counts = tt
 count-runs (u ∷ us) n counts = (counts.0.running, count-runs us (live_frames u.block n) counts.1)
 
 -- a unit that runs has given its live frames
-pub given-live : (u : UnitState) (n : ℕ) → CountsFrames u n → given_so_far u n ≡ live_frames u.block n
+given-live : (u : UnitState) (n : ℕ) → CountsFrames u n → given_so_far u n ≡ live_frames u.block n
 given-live u n counts = (let whole = counts.tail_frames in omega (arith, whole))
 
-pub counts-took : (u : UnitState) (n : ℕ) → CountsFrames u n → TookFrames u n
+counts-took : (u : UnitState) (n : ℕ) → CountsFrames u n → TookFrames u n
 counts-took u n counts = record {
   place = counts.place;
   tail_within =
@@ -73,7 +73,7 @@ measured-here u number x stands = ap (kept_measures u.format u.channels number u
     kept-measures u.format u.channels number u.block x
 
 -- a unit that stands for x has given what is live of it
-pub stand-given : (u : UnitState) (x : List Frame) → StandsFor u x → Gave u x (live u.format u.channels u.block x)
+stand-given : (u : UnitState) (x : List Frame) → StandsFor u x → Gave u x (live u.format u.channels u.block x)
 stand-given u x stands = record { given = stands.tail_follows; measured = λ number. measured-here u number x stands }
 
 -- and so has a line
@@ -111,7 +111,7 @@ gave-front p (u ∷ us) x ys line (piece, gave, later) =
 -- ---- a line that is spent
 
 -- a unit at the front that is spent, and the line behind it
-pub spent-behind : (p : Place) (u : UnitState) (us : List UnitState) (piece ys : List Frame) → InLine p (u ∷ us) →
+spent-behind : (p : Place) (u : UnitState) (us : List UnitState) (piece ys : List Frame) → InLine p (u ∷ us) →
     (GaveLive (place_after p u.block) us piece ys ⊎ ((u.tail ≡ []) × AllGave (place_after p u.block) us piece ys)) →
     AllGave (place_after p u.block) us piece ys
 spent-behind p u us piece ys line (inl live) = subst (AllGave (place_after p u.block) us piece) (sym live.live)
@@ -209,7 +209,7 @@ made-within p (u ∷ us) n line took =
 
 -- ---- steps
 
-pub made-again : (p : Place) (u v : UnitState) → MadeAs u v → MadeFor p u → MadeFor p v
+made-again : (p : Place) (u v : UnitState) → MadeAs u v → MadeFor p u → MadeFor p v
 made-again p u v same made = record {
   format = same.format ∙ made.format;
   channels = same.channels ∙ made.channels;
@@ -281,7 +281,7 @@ module _ (p : Place) (u v : UnitState) (us : List UnitState) (line : InLine p (u
   front-nil [] ys e = refl
   front-nil (x ∷ xs) ys e = cc
 
-  pub not-spent : (piece ≡ [] → ⊥) → u.tail ≡ [] → ⊥
+  not-spent : (piece ≡ [] → ⊥) → u.tail ≡ [] → ⊥
   not-spent some none = some (front-nil piece v.tail (sym one.tail ∙ none))
 
   turn-products : (n : ℕ) → TookFrames u n → between.turns + before.multiplies ≤ before.turns + between.multiplies

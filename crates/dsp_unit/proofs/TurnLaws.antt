@@ -50,7 +50,7 @@ live_frames_more block n m h = groups_more (group_of block) n m h
 
 -- ---- the limits of what is taken
 
-pub taken_fewer : (block : Block) (n m : ℕ) → n ≤ m → IsTaken block m → IsTaken block n
+taken_fewer : (block : Block) (n m : ℕ) → n ≤ m → IsTaken block m → IsTaken block n
 taken_fewer (Correlate taps) n m h taken = omega (arith, h, taken)
 taken_fewer Max n m h taken = omega (arith, h, taken)
 taken_fewer Min n m h taken = omega (arith, h, taken)
@@ -77,7 +77,7 @@ lane_turns_within Q7 n = omega arith
 lane_turns_within Q15 n = omega arith
 lane_turns_within Q31 n = omega arith
 
-pub live_block_cost_more : (format : Fmt) (c : ℕ) (block : Block) (n m : ℕ) → n ≤ m →
+live_block_cost_more : (format : Fmt) (c : ℕ) (block : Block) (n m : ℕ) → n ≤ m →
     live_block_cost format c block n ≤ live_block_cost format c block m
 live_block_cost_more format c (Correlate taps) n m h = omega arith
 live_block_cost_more format c block n m h = block_cost_grows format c block n m (live_frames block n)
@@ -105,7 +105,7 @@ of_taps c t m n turns h few =
     parts : (c t m k : ℕ) → c * ((m + k) * 1) * t ≡ c * k * t + c * (m * 1) * t
     parts c t m k = omega arith
 
-pub block_turns_within : (format : Fmt) (c : ℕ) (block : Block) (m n : ℕ) → m ≤ n →
+block_turns_within : (format : Fmt) (c : ℕ) (block : Block) (m n : ℕ) → m ≤ n →
     block_turns format c block m n + live_block_cost format c block m ≤ live_block_cost format c block n
 block_turns_within format c (Fir taps) m n h = of_values c (length taps) m n (lane_turns format (n - m)) h
     (lane_turns_within format (n - m))

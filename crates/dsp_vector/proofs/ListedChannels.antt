@@ -35,7 +35,7 @@ pub route-inside : (format : Fmt) (channels : ℕ) (list : List ℤ) → 1 ≤ c
     All (λ c. nat_abs c < channels) list
 route-inside format channels list some suits = named channels some list suits.parameters.0.each
 
-pub route-some : (format : Fmt) (channels : ℕ) (list : List ℤ) → IsRoute format channels list → 0 < length list
+route-some : (format : Fmt) (channels : ℕ) (list : List ℤ) → IsRoute format channels list → 0 < length list
 route-some format channels list suits = let complete = suits.parameters.0.count in grind (arith, common_steps)
 
 -- the channels that a list names, place by place

@@ -25,7 +25,7 @@ use Rattle.dsp_wave.proofs.ReaderLaws.{take-no_longer}
 
 -- ---- the end of the chunks
 
-pub no_chunks : (wanted : Wanted) (total : ℕ) (known : Option Sampling) →
+no_chunks : (wanted : Wanted) (total : ℕ) (known : Option Sampling) →
     header_in wanted total known [] ≡ Err (NoSamples, total)
 no_chunks wanted total None = refl
 no_chunks wanted total (Some known) = refl

@@ -24,7 +24,7 @@ use Rattle.dsp_wave.proofs.StartLaws as start_laws
 -- ---- what a chunk wants
 
 -- what the first 16 bytes want stays
-pub same_wanted : (body rest : List ℕ) → 16 ≤ length body → own_wanted (body ++ rest) ≡ own_wanted body
+same_wanted : (body rest : List ℕ) → 16 ≤ length body → own_wanted (body ++ rest) ≡ own_wanted body
 same_wanted body rest long =
     ap₂ {C = Wanted} (λ (bits channels : ℕ). record {
       format = format_of_bits bits;
@@ -57,7 +57,7 @@ module _ (place : ℕ) (head : List ℕ) (long : length head ≡ 8) where
       ∙ same_wanted body rest enough.plain
 
   -- of another one
-  pub wants_other : bytes_eq (take 4 head) (codes "fmt ") ≡ false → (body more : List ℕ) → length body ≡ padded size
+  wants_other : bytes_eq (take 4 head) (codes "fmt ") ≡ false → (body more : List ℕ) → length body ≡ padded size
       → wanted_in (chunks_behind 0 place (head ++ (body ++ more))) ≡ wanted_in
       (chunks_behind 0 (place + 8 + padded size) more)
   wants_other is body more whole =

@@ -30,7 +30,7 @@ use Rattle.dsp_defs.proofs.Signal.{values-add}
 use Rattle.dsp_wave.specs.Generated.{next_state, made, to_come}
 
 -- the states from a later one on
-pub state-add : (s m n : ℕ) → generator_state s (m + n) ≡ generator_state (generator_state s m) n
+state-add : (s m n : ℕ) → generator_state s (m + n) ≡ generator_state (generator_state s m) n
 state-add s m zero = ap (generator_state s) (add-zero m)
 state-add s m (suc n) = let e : m + suc n ≡ suc (m + n) = omega arith in ap (generator_state s) e ∙
     ap next_state (state-add s m n)
@@ -39,7 +39,7 @@ state-next : (s n : ℕ) → generator_state (next_state s) n ≡ next_state (ge
 state-next s n = sym (state-add s 1 n) ∙ (let e : 1 + n ≡ suc n = omega arith in ap (generator_state s) e)
 
 module _ (container : Container) (format : Fmt) where
-  pub made-add : (s m n : ℕ) → made container format s (m + n) ≡ made container format s m ++ made container format
+  made-add : (s m n : ℕ) → made container format s (m + n) ≡ made container format s m ++ made container format
       (generator_state s m) n
   made-add s zero n = (let e : 0 + n ≡ n = omega arith in ap (made container format s) e)
   made-add s (suc m) n =
@@ -56,7 +56,7 @@ module _ (container : Container) (format : Fmt) where
   made-more s n = made-add s n 1 ∙ ap (λ l. made container format s n ++ l) (append-nil _)
 
   -- a frame's bytes
-  pub frame-made : (seed k n : ℕ) → flat_map (bytes_of (coding_of container format))
+  frame-made : (seed k n : ℕ) → flat_map (bytes_of (coding_of container format))
       (values n (λ c. state_sample format (generator_state seed (suc (k + c))))) ≡ made container format
       (generator_state seed k) n
   frame-made seed k zero = refl

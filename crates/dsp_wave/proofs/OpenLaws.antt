@@ -25,7 +25,7 @@ use Rattle.dsp_wave.specs.declared.reader.HeaderOr.{HeaderOr}
 -- ---- the whole header
 
 -- behind the first twelve bytes
-pub own_said : (bytes more : List ℕ) → length bytes ≡ 12 →
+own_said : (bytes more : List ℕ) → length bytes ≡ 12 →
     ((wanted : Wanted) → header_of (bytes ++ more) wanted ≡ said_from wanted 12 None more) →
     own_header_of (bytes ++ more) ≡ own_said_from 12 more
 own_said bytes more twelve said =

@@ -18,13 +18,13 @@ use Rattle.dsp_defs.specs.declared.format.Coding.{Coding}
 use Rattle.dsp_defs.specs.declared.format.Coding.TheVariants.{Raw7, Wave7}
 use Rattle.dsp_wave.specs.Packed.{IsLastByte}
 
-abbrev pub plus : ℕ → ℕ → ℕ
+abbrev plus : ℕ → ℕ → ℕ
 plus = act2 wrap_add (s_int w32) (s_int w32) (s_int w32)
 
-abbrev pub both : ℕ → ℕ → ℕ
+abbrev both : ℕ → ℕ → ℕ
 both = act2 bit_and (s_int w32) (s_int w32) (s_int w32)
 
-abbrev pub to_byte : ℕ → ℕ
+abbrev to_byte : ℕ → ℕ
 to_byte = act1 (cast signed unsigned w8) (s_int w32) (s_int w8)
 
 byte_lane : (a b : ℕ) → both (plus a b) 255 ≡ (a + b) % 2 ^ 32 % 2 ^ 8
@@ -41,7 +41,7 @@ byte_fits a b = subst (Asks1 (cast signed unsigned w8) (s_int w32)) (sym (byte_l
     (fits_byte ((a + b) % 2 ^ 32 % 2 ^ 8) (mod_below ((a + b) % 2 ^ 32) (2 ^ 8) (omega arith)))
 
 -- the last bytes of n lanes, each with so much more
-abbrev pub lanes : ℕ → ℕ → List ℤ → List ℕ
+abbrev lanes : ℕ → ℕ → List ℤ → List ℕ
 lanes n above xs = zip2 both (zip2 plus (map (of_z w32) xs) (replicate n above)) (replicate n 255)
 
 pub lanes_fit : (n above : ℕ) (xs : List ℤ) → length xs ≡ n

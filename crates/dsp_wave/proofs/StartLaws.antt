@@ -24,15 +24,16 @@ use Rattle.dsp_wave.specs.declared.reader.HeaderOr.TheVariants.{Fault, Read, Lon
 use Rattle.dsp_wave.specs.Reading.{Says, IsHeaderOf, HasCause, Stopped, Headed, IsCut}
 use Rattle.dsp_wave.specs.Taking.{Came}
 use Rattle.dsp_wave.proofs.ReaderLaws.{take-no_longer}
+use Rattle.dsp_defs.proofs.WaveCuts.{short_is_other}
 
 -- ---- the first twelve bytes
 
 module _ (wanted : Wanted) where
-  pub not_riff : (bytes : List ℕ) → bytes_eq (take 4 bytes) (codes "RIFF") ≡ false →
+  not_riff : (bytes : List ℕ) → bytes_eq (take 4 bytes) (codes "RIFF") ≡ false →
       header_of bytes wanted ≡ Err (NotRiff, 0)
   not_riff bytes h = grind (arith, common_steps, h)
 
-  pub not_wave : (bytes : List ℕ) → bytes_eq (take 4 bytes) (codes "RIFF") ≡ true →
+  not_wave : (bytes : List ℕ) → bytes_eq (take 4 bytes) (codes "RIFF") ≡ true →
       bytes_eq (take 4 (drop 8 bytes)) (codes "WAVE") ≡ false → header_of bytes wanted ≡ Err (NotWave, 8)
   not_wave bytes h k = grind (arith, common_steps, h, k)
 
@@ -45,13 +46,6 @@ not_same differ xs ys zs same is so = ap (bytes_eq xs) (sym same) ∙ flipped (b
     flipped false e = refl
     flipped true e = absurd cc
 
--- lists of another length
-differs : (xs ys : List ℕ) → length xs < length ys → bytes_eq xs ys ≡ false
-differs [] [] h = absurd (omega (arith, h))
-differs [] (y ∷ ys) h = refl
-differs (x ∷ xs) [] h = absurd (omega (arith, h))
-differs (x ∷ xs) (y ∷ ys) h = let later = differs xs ys (omega (arith, h)) in grind (arith, common_steps, later)
-
 -- fewer than twelve bytes head no file
 short_file : (wanted : Wanted) (bytes : List ℕ) → length bytes < 12 → IsErr (header_of bytes wanted)
 short_file wanted bytes short = by_riff (bytes_eq (take 4 bytes) (codes "RIFF")) refl
@@ -62,10 +56,10 @@ short_file wanted bytes short = by_riff (bytes_eq (take 4 bytes) (codes "RIFF"))
     by_riff : (riff : Bool) → bytes_eq (take 4 bytes) (codes "RIFF") ≡ riff → IsErr (header_of bytes wanted)
     by_riff false is = subst IsErr (sym (not_riff wanted bytes is)) refl
     by_riff true is = subst IsErr (sym (not_wave wanted bytes is
-        (differs (take 4 (drop 8 bytes)) (codes "WAVE") few))) refl
+        (short_is_other (take 4 (drop 8 bytes)) (codes "WAVE") few))) refl
 
 -- the source has failed within them
-pub fails_riff : (says : Says) → IsHeaderOf says → (old now : SourceState) → Unfilled old now 12 MAX_INPUT Failed →
+fails_riff : (says : Says) → IsHeaderOf says → (old now : SourceState) → Unfilled old now 12 MAX_INPUT Failed →
     Stopped says 0 old now Read
 fails_riff says by_header old now u =
     record {
@@ -126,7 +120,7 @@ module _ (says : Says) (by_header : IsHeaderOf says) (old now : SourceState) (bl
   pub short_riff : count < 4 → Stopped says 0 old now (Fault NotRiff 0)
   short_riff less = stops_with NotRiff 0 (λ more h. let (wanted, is) = by_header first in
       ap says (alone (omega (arith, less)) more h) ∙ is ∙
-      not_riff wanted first (differs (take 4 first) (codes "RIFF")
+      not_riff wanted first (short_is_other (take 4 first) (codes "RIFF")
       (omega (arith, take-no_longer 4 first, first_long, less))))
 
   pub other_riff : 4 ≤ count → bytes_eq (take 4 block) (codes "RIFF") ≡ false → Stopped says 0 old now (Fault NotRiff 0)
@@ -143,7 +137,7 @@ module _ (says : Says) (by_header : IsHeaderOf says) (old now : SourceState) (bl
         (arith, take-no_longer 4 (drop 8 first), length-drop 8 first, first_long, less, enough) in
         stops_with NotWave 8 (λ more h. let (wanted, is) = by_header first in ap says (alone less more h) ∙ is ∙
         not_wave wanted first (ap (λ xs. bytes_eq (take 4 xs) (codes "RIFF")) (sym (append-nil first)) ∙ is_riff [])
-        (differs (take 4 (drop 8 first)) (codes "WAVE") few))
+        (short_is_other (take 4 (drop 8 first)) (codes "WAVE") few))
 
     module _ (all : 12 ≤ count) where
       whole_first : first ≡ block

@@ -1,6 +1,6 @@
 //! The samples of a file, block by block, whatever its header was.
 
-ghost use Rattle.std.specs.Prelude.{◌≡◌, ◌+◌, ◌≤◌, length, IfOk, IfErr, IsTrue};
+ghost use Rattle.std.specs.Prelude.{◌≡◌, ◌+◌, ◌≤◌, ◌↔◌, length, IfOk, IfErr, IsTrue};
 ghost use Rattle.dsp_wave.specs.Samples.{HasBlock, InDeclared, IsUnread, PartRead, PartUnread, declared_bytes};
 ghost use Rattle.dsp_wave.specs.Samples.{in_whole_frames};
 
@@ -47,7 +47,7 @@ pub fn has_block(stored: Stored, end: u64, taken: u64, size: usize) -> bool
     requires limit { stored.start + taken ≤ MAX_INPUT }
     requires frame { 1 ≤ stored.frame }
     requires part { taken ≤ end }
-    ensures { IsTrue result → HasBlock stored end taken size }
+    ensures { IsTrue result ↔ HasBlock stored end taken size }
 {
     let size = size as u64;
     if size > MAX_INPUT - stored.start - taken || size > end - taken {

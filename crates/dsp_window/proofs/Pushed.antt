@@ -50,3 +50,18 @@ past-after old new block rolls within =
     ) in
     ap (λ (w : Rolling). last_samples w.past w.samples) rolls ∙
     ap (λ n. drop n (last_samples old.past old.samples ++ block)) long
+
+-- the length of a window that took a block
+pub pushed-long : (old new : Rolling) (block : List ℤ) →
+    new ≡ record old { samples = last_samples old.past old.samples ++ block } → old.past ≤ length old.samples →
+    length new.samples ≡ old.past + length block
+pushed-long old new block rolls within =
+    ap (λ (w : Rolling). length w.samples) rolls ∙ length-append (last_samples old.past old.samples) block ∙
+    ap (λ n. n + length block) (length-last_samples old.past old.samples within)
+
+-- what a window keeps that was given its numbers
+pub restored-past : (old new : Rolling) (numbers : List ℤ) → new ≡ record old { samples = numbers } →
+    length numbers ≡ old.past → last_samples new.past new.samples ≡ numbers
+restored-past old new numbers is long =
+    let none : length numbers - old.past ≡ 0 = omega (arith, long) in
+    ap (λ (w : Rolling). last_samples w.past w.samples) is ∙ ap (λ k. drop k numbers) none

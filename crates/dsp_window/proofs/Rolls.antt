@@ -12,7 +12,7 @@ pub length-last_of : (count : ℕ) (x : List ℤ) → length (last_of count x) �
 length-last_of count x = simp (length-drop, length-append, length-replicate) (omega arith)
 
 -- the samples that `roll` moves to the front are the last of the window
-pub last_is :
+last_is :
     {X : Type 0} → (number : X → ℤ) (past filled : ℕ) (samples : List X) → past ≤ filled → filled ≤ length samples →
     map number (take past (drop (filled - past) samples)) ≡ last_samples past (map number (take filled samples))
 last_is number past filled samples within fits =

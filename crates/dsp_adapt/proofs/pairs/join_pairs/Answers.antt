@@ -7,8 +7,9 @@ use Rattle.dsp_defs.specs.Block.{pair_frame}
 use Rattle.dsp_defs.specs.Formats.{word}
 use Rattle.dsp_defs.specs.Signal.{sample}
 use Rattle.dsp_defs.proofs.SumLemmas.{sample-map}
-use Rattle.dsp_adapt.proofs.LmsUnits.{both-fit, fits-32, frames-two, left-more, right-more}
+use Rattle.dsp_adapt.proofs.LmsUnits.{both-fit, frames-two, left-more, right-more}
 use Rattle.dsp_adapt.proofs.pairs.join_pairs.Goals as goal
+use Rattle.dsp_sat.proofs.WideProducts.{word-in-32}
 
 pub loop-n-preserved : goal.loop-n-preserved
 loop-n-preserved g c =
@@ -21,8 +22,8 @@ loop-n-preserved g c =
     let second = c.index-second-n in
     let so_far = c.loop-n.invariant in
     let Fits : ℤ → Type 0 = FitsSigned (word T.format) in
-    let left_is = to_z-of_z w32 left.result (fits-32 T.format left.result left.ensures.fits) in
-    let right_is = to_z-of_z w32 right.result (fits-32 T.format right.result right.ensures.fits) in
+    let left_is = to_z-of_z w32 left.result (word-in-32 T.format left.result left.ensures.fits) in
+    let right_is = to_z-of_z w32 right.result (word-in-32 T.format right.result right.ensures.fits) in
     let room : n * 2 + 1 < length out = omega arith in
     record {
       left = left-more out n _ _ room (sample (map T.number c.args.first.now)) so_far.left

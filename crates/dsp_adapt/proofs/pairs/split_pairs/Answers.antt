@@ -9,8 +9,8 @@ use Rattle.dsp_defs.specs.Formats.{word}
 use Rattle.dsp_defs.specs.declared.format.Fmt.{Fmt}
 use Rattle.dsp_defs.specs.Signal.{sample, values}
 use Rattle.dsp_lanes.proofs.LaneRows.{rows-one}
-use Rattle.dsp_adapt.proofs.LmsUnits.{fits-32}
 use Rattle.dsp_adapt.proofs.pairs.split_pairs.Goals as goal
+use Rattle.dsp_sat.proofs.WideProducts.{word-in-32}
 
 -- a number of the frames is in the range of the format
 fit : (format : Fmt) (frames : List ℤ) (k : ℕ) → All (FitsSigned (word format)) frames → k < length frames →
@@ -24,7 +24,7 @@ of_number-requires g c =
     let k = c.loop-n.n * 2 in
     let fits = fit T.format frames k c.requires.in_format (omega (arith, c.requires.whole, c.loop-n-test.true)) in
     subst (λ z. FitsSigned (word T.format) z) (sym (to_z-of_z w32 (sample frames k)
-    (fits-32 T.format (sample frames k) fits))) fits
+    (word-in-32 T.format (sample frames k) fits))) fits
 
 pub of_number-requires-in-loop-n : goal.of_number-requires-in-loop-n
 of_number-requires-in-loop-n g c =
@@ -33,7 +33,7 @@ of_number-requires-in-loop-n g c =
     let k = c.loop-n.n * 2 + 1 in
     let fits = fit T.format frames k c.requires.in_format (omega (arith, c.requires.whole, c.loop-n-test.true)) in
     subst (λ z. FitsSigned (word T.format) z) (sym (to_z-of_z w32 (sample frames k)
-    (fits-32 T.format (sample frames k) fits))) fits
+    (word-in-32 T.format (sample frames k) fits))) fits
 
 pub loop-n-preserved : goal.loop-n-preserved
 loop-n-preserved g c =
@@ -47,14 +47,14 @@ loop-n-preserved g c =
           ∙ rows-one (λ k. sample frames (k * 2)) n _ (map T.number first) (T.number c.of_number.result) refl
           (omega (arith, length-map first T.number)) c.loop-n.invariant.left
           (c.of_number.ensures ∙ to_z-of_z w32 (sample frames (n * 2))
-          (fits-32 T.format (sample frames (n * 2)) (fit T.format frames (n * 2) c.requires.in_format
+          (word-in-32 T.format (sample frames (n * 2)) (fit T.format frames (n * 2) c.requires.in_format
           (omega arith))));
       right = ap (take _) (map-set T.number second n c.of_number-in-loop-n.result)
           ∙ rows-one (λ k. sample frames (k * 2 + 1)) n _ (map T.number second)
           (T.number c.of_number-in-loop-n.result) refl (omega (arith, length-map second T.number))
           c.loop-n.invariant.right
           (c.of_number-in-loop-n.ensures ∙ to_z-of_z w32 (sample frames (n * 2 + 1))
-          (fits-32 T.format (sample frames (n * 2 + 1)) (fit T.format frames (n * 2 + 1) c.requires.in_format
+          (word-in-32 T.format (sample frames (n * 2 + 1)) (fit T.format frames (n * 2 + 1) c.requires.in_format
           (omega arith))));
     }
 

@@ -4,8 +4,9 @@ use Rattle.dsp_defs.specs.Au.{open_frame_bytes}
 use Rattle.dsp_defs.proofs.CodingLemmas.{width-some}
 use Rattle.dsp_au.specs.Convert.{block_bytes}
 use Rattle.dsp_au.proofs.ConvertLaws as laws
-use Rattle.dsp_au.proofs.FrameLaws.{floor_within, whole_samples}
+use Rattle.dsp_au.proofs.FrameLaws.{whole_samples}
 use Rattle.dsp_au.proofs.conversion.pass_samples.Goals as goal
+use Rattle.std.proofs.Math.Nat.{div-mul-le_self}
 
 pub passing-init : goal.passing-init
 passing-init g c =
@@ -22,7 +23,7 @@ returns-in_err-count-clause-err g c before empty begun =
 
 pub exchange-requires-clause-whole : goal.exchange-requires-clause-whole
 exchange-requires-clause-whole g c =
-    let bound = floor_within c.in_ok-count.count c.frame_bytes-frame.result in
+    let bound = div-mul-le_self c.in_ok-count.count c.frame_bytes-frame.result in
     whole_samples (c.in_ok-count.count / c.frame_bytes-frame.result) c.args.header.channels _
     c.frame_bytes-frame.result c.width.result c.read_block.new.block c.frame_bytes-frame.ensures c.width.ensures
     (width-some c.args.header.coding) (omega (arith, bound, c.in_ok-count.ensures.ok.within))

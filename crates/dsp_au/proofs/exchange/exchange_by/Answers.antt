@@ -4,6 +4,7 @@ use Rattle.std.proofs.lemmas.List.{take_all}
 use Rattle.dsp_au.specs.Exchange.{exchanged_first, exchanged_sample}
 use Rattle.dsp_au.proofs.ExchangeLaws as laws
 use Rattle.dsp_au.proofs.exchange.exchange_by.Goals as goal
+use Rattle.dsp_wave.proofs.SampleBytes.{within-bytes}
 
 pub loop-i-preserved : goal.loop-i-preserved
 loop-i-preserved c =
@@ -16,7 +17,7 @@ loop-i-preserved c =
     let same : length now ≡ length old = c.loop-i.auto.bytes in
     let room : length old / w * w ≤ length old = omega (arith, c.requires.whole) in
     let below : i < length old / w = omega arith in
-    let bound = laws.sample_within i (length old / w) w below in
+    let bound = within-bytes i (length old / w) w below in
     let long : length out ≡ w = omega (
       arith,
       c.exchange_sample.auto.bytes,

@@ -4,6 +4,7 @@ use Rattle.std.proofs.lemmas.List.{take_all}
 use Rattle.dsp_au.specs.Exchange.{exchanged, exchanged_first}
 use Rattle.dsp_au.proofs.ExchangeLaws as laws
 use Rattle.dsp_au.proofs.exchange.exchange_groups.Goals as goal
+use Rattle.dsp_wave.proofs.SampleBytes.{within-bytes}
 
 -- what is left behind the groups is whole samples
 left_whole : (w k : ℕ) → 48 / w * w ≡ 48 → 1 ≤ w → k / w * w ≡ k → (k / w - k / 48 * (48 / w)) * w ≡ k - k / 48 * 48
@@ -42,7 +43,7 @@ loop-i-preserved c =
       arith,
       length-take 48 (drop (i * 48) now),
       length-drop (i * 48) now,
-      laws.sample_within i (length old / 48) 48 below,
+      within-bytes i (length old / 48) 48 below,
       room,
       same,
     ) in

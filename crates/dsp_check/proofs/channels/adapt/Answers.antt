@@ -11,8 +11,8 @@ use Rattle.dsp_defs.specs.Block.{Frame, frames_of, input_pairs}
 use Rattle.dsp_defs.specs.Formats.{word}
 use Rattle.dsp_defs.specs.Signal.{sample, values}
 use Rattle.dsp_defs.specs.declared.script.Block.TheVariants as Blocks
-use Rattle.dsp_defs.proofs.FrameLemmas.{map-values}
 use Rattle.dsp_defs.proofs.Signal.{values_cong}
+use Rattle.dsp_defs.proofs.Causal.{map-values}
 use Rattle.dsp_channelwise.specs.Adapting.{pairs_of}
 use Rattle.dsp_check.specs.Channels.{frame_at, frame_count}
 use Rattle.dsp_check.specs.Evaluating.{Gives}

@@ -7,11 +7,11 @@ use Rattle.dsp_defs.specs.Signal.{sample, values}
 use Rattle.dsp_defs.specs.declared.format.Fmt.{Fmt}
 use Rattle.dsp_defs.specs.declared.script.Block.{Block}
 use Rattle.dsp_defs.specs.declared.script.Block.TheVariants.{Add, Power}
-use Rattle.dsp_defs.proofs.FrameLemmas.{map-values}
 use Rattle.dsp_framewise.specs.Framewise.{IsFramewise}
 use Rattle.dsp_check.specs.Channels.{frame_at, frame_count}
 use Rattle.dsp_check.proofs.Signals.{first-frames, first-more, first-none, format-at}
 use Rattle.dsp_check.proofs.frames.each_frame.Goals as goal
+use Rattle.dsp_defs.proofs.Causal.{map-values}
 
 -- what a block gives of each frame
 values-by-frame : (format : Fmt) (c : ℕ) (block : Block) (x : List Frame) → IsFramewise block →

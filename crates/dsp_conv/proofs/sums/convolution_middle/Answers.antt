@@ -1,12 +1,12 @@
 use Rattle.std.proofs.Common.{◌≡◌, ◌∙◌, ap, ◌+◌, ◌-◌, ◌*◌, ◌≤◌, ℕ, length, map, reverse, slice_range, refl, rules}
 use Rattle.std.proofs.Common.{arith}
-use Rattle.std.proofs.lemmas.List.{length-map, length-reverse}
+use Rattle.std.proofs.lemmas.List.{length-map, length-reverse, nil_from_length}
 use Rattle.dsp_defs.specs.Formats.{lanes}
 use Rattle.dsp_defs.specs.Streaming.{rows}
 use Rattle.dsp_lanes.specs.Turns.{lane_turns}
-use Rattle.dsp_conv.proofs.ConvLemmas.{empty, map-reverse}
 use Rattle.dsp_conv.proofs.Stretches.{convolution-middle, turns-within}
 use Rattle.dsp_conv.proofs.sums.convolution_middle.Goals as goal
+use Rattle.dsp_defs.proofs.Causal.{map-reverse}
 
 pub returns-clause-values : goal.returns-clause-values
 returns-clause-values g c =
@@ -48,4 +48,4 @@ returns-clause-steps g c =
 pub returns-then-is_empty-clause-values : goal.returns-then-is_empty-clause-values
 returns-then-is_empty-clause-values g c =
     let none : length c.args.out.now ≡ 0 = search rules in
-    rw (empty c.args.out.now none) refl
+    rw (nil_from_length c.args.out.now none) refl

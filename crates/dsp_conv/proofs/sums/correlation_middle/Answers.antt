@@ -1,7 +1,6 @@
 use Rattle.std.proofs.Common.{◌≡◌, ◌∙◌, ◌≤◌, length, map, refl, rules, arith}
-use Rattle.std.proofs.lemmas.List.{length-map}
+use Rattle.std.proofs.lemmas.List.{length-map, nil_from_length}
 use Rattle.dsp_defs.specs.Formats.{lanes}
-use Rattle.dsp_conv.proofs.ConvLemmas.{empty}
 use Rattle.dsp_conv.proofs.Stretches.{middle-stretch, middle-products, turns-within}
 use Rattle.dsp_conv.proofs.sums.correlation_middle.Goals as goal
 
@@ -37,4 +36,4 @@ returns-clause-steps g c =
 pub returns-then-is_empty-clause-values : goal.returns-then-is_empty-clause-values
 returns-then-is_empty-clause-values g c =
     let none : length c.args.out.now ≡ 0 = search rules in
-    rw (empty c.args.out.now none) refl
+    rw (nil_from_length c.args.out.now none) refl

@@ -2,8 +2,8 @@ use Rattle.std.proofs.Common.{◌≡◌, ◌∙◌, ap, ap₂, sym, ◌++◌, []
 use Rattle.std.specs.Prelude.{◌≤ℤ◌, nat_abs}
 use Rattle.std.proofs.lemmas.Int.{ints}
 use Rattle.std.proofs.lemmas.List.{map-append, take_more}
-use Rattle.dsp_fir.proofs.DelayLemmas.{number-read}
 use Rattle.dsp_fir.proofs.making.delays_of.Goals as goal
+use Rattle.dsp_filter.proofs.LastPlace.{number-read}
 
 pub loop-number-preserved : goal.loop-number-preserved
 loop-number-preserved c =

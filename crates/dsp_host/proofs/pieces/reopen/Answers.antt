@@ -1,12 +1,8 @@
-use Rattle.std.proofs.Common.{◌≡◌, ◌∙◌, [], ◌∷◌, refl, List, length, sym, subst, inl, arith}
-use Rattle.dsp_defs.specs.Block.{Frame}
+use Rattle.std.proofs.Common.{◌≡◌, ◌∙◌, [], ◌∷◌, sym, subst, inl, arith}
 use Rattle.dsp_session.specs.Session.{StandsFor}
 use Rattle.dsp_session.proofs.AdvanceLaws.{new_runs}
 use Rattle.dsp_host.proofs.pieces.reopen.Goals as goal
-
-none : (x : List Frame) → length x ≡ 0 → x ≡ []
-none [] long = refl
-none (frame ∷ x) long = absurd (omega (arith, long))
+use Rattle.std.proofs.lemmas.List.{nil_from_length}
 
 pub returns-then-is_first-clause-ok : goal.returns-then-is_first-clause-ok
 returns-then-is_first-clause-ok g c =
@@ -22,6 +18,7 @@ returns-then-is_first-clause-ok g c =
         counted = opened.new.stands.chain.counted ∙ sym first.0;
         few = omega (arith, first.0);
         runs = new_runs _ opened.new.stands;
-        stands = λ x long left. subst (StandsFor c.in-Ok.session) (sym (none x (long ∙ first.0))) opened.new.stands;
+        stands = λ x long left.
+            subst (StandsFor c.in-Ok.session) (sym (nil_from_length x (long ∙ first.0))) opened.new.stands;
       };
     }

@@ -3,18 +3,12 @@ use Rattle.std.specs.Int.{w32, w64}
 use Rattle.std.proofs.lemmas.Int.{to_z-of_z}
 use Rattle.std.proofs.lemmas.List.{length-map}
 use Rattle.std.proofs.lemmas.List.Elements.{All-get_or}
-use Rattle.dsp_defs.specs.declared.format.Fmt.{Fmt}
-use Rattle.dsp_defs.specs.declared.format.Fmt.TheVariants.{Q7, Q15, Q31}
 use Rattle.dsp_defs.specs.Formats.{word}
 use Rattle.dsp_defs.specs.Signal.{sample}
 use Rattle.dsp_defs.proofs.SumLemmas.{sample-map-set_other, sample-map-set_same}
 use Rattle.dsp_defs.proofs.SumLemmas.{same_numbers}
 use Rattle.dsp_lattice.proofs.numbers.read_numbers.Goals as goal
-
-sample_fits : (format : Fmt) (z : ℤ) → SFits (word format) z → SFits w32 z
-sample_fits Q7 z fits = record { sfits = omega (arith, fits.sfits) }
-sample_fits Q15 z fits = record { sfits = omega (arith, fits.sfits) }
-sample_fits Q31 z fits = fits
+use Rattle.dsp_sat.proofs.WideProducts.{word-in-32}
 
 pub loop-k-preserved : goal.loop-k-preserved
 loop-k-preserved g c =
@@ -26,7 +20,7 @@ loop-k-preserved g c =
     let below : k < length numbers = omega arith in
     let within : k < length window = omega arith in
     let fits : SFits w32 (sample numbers k) =
-    sample_fits T.format (sample numbers k) (All-get_or (FitsSigned (word T.format)) numbers k (pos 0) below
+    word-in-32 T.format (sample numbers k) (All-get_or (FitsSigned (word T.format)) numbers k (pos 0) below
     c.requires.samples) in
     let wide : SFits w64 (sample numbers k) = record { sfits = omega (arith, fits.sfits) } in
     below_more _ k

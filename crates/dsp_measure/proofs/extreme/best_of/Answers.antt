@@ -4,8 +4,9 @@ use Rattle.std.proofs.lemmas.List.{take_more, take_all}
 use mir.Syntax.{w32}
 use Rattle.dsp_defs.specs.Signal.{sample}
 use Rattle.dsp_measure.specs.Extremes.{better_behind, extreme, wins, IsFound}
-use Rattle.dsp_measure.proofs.ExtremeLaws.{extreme-kept, extreme-more, found-more, word-fits}
+use Rattle.dsp_measure.proofs.ExtremeLaws.{extreme-kept, extreme-more, found-more}
 use Rattle.dsp_measure.proofs.extreme.best_of.Goals as goal
+use Rattle.dsp_sat.proofs.WideProducts.{word-in-32}
 
 pub loop-n-preserved : goal.loop-n-preserved
 loop-n-preserved g c =
@@ -44,7 +45,7 @@ returns-clause-stands g c = λ x y found counted size is.
     let there : Some best ≡ extreme least x = sym c.in-Some.is ∙ found in
     let held : IsFound format (Some best) c.args.count =
     subst (λ o. IsFound format o c.args.count) c.in-Some.is c.requires.found in
-    let word = word-fits format best.0 held.0 in
+    let word = word-in-32 format best.0 held.0 in
     sym (extreme-kept least x y best (sym there) (λ n below. ap (wins least (sample y n)) (sym (to_z-of_z word)) ∙
     c.any_wins.ensures y size is none n (omega (arith, below, size))))
 

@@ -4,8 +4,9 @@ use mir.Syntax.{w32, w64}
 use Rattle.std.proofs.lemmas.Int.{to_z_pos}
 use Rattle.dsp_defs.specs.Kept.{extreme_kept}
 use Rattle.dsp_measure.specs.Extremes.{IsFound, KeepsExtreme}
-use Rattle.dsp_measure.proofs.ExtremeLaws.{word-fits, keeps-found}
+use Rattle.dsp_measure.proofs.ExtremeLaws.{keeps-found}
 use Rattle.dsp_measure.proofs.extreme_numbers.write_extreme.Goals as goal
+use Rattle.dsp_sat.proofs.WideProducts.{word-in-32}
 
 four : (xs : List ℤ) (p q r s : ℤ) → length xs ≡ 4 → set (set (set (set xs 0 p) 1 q) 2 r) 3 s ≡ p ∷ q ∷ r ∷ s ∷ []
 four [] p q r s e = absurd (omega (arith, e))
@@ -21,7 +22,7 @@ returns-in-Some-clause-numbers g c =
     let index = c.in-Some.index in
     let found : IsFound g.T.Sample.format (Some (value, index)) c.args.count =
     subst (λ f. IsFound g.T.Sample.format f c.args.count) c.in-Some.is c.requires.found in
-    let word : SFits w32 value = word-fits g.T.Sample.format value found.0 in
+    let word : SFits w32 value = word-in-32 g.T.Sample.format value found.0 in
     let read : c.from.result ≡ value = c.from.ensures ∙ to_z-of_z word in
     let fits : SFits w64 c.from.result = search rules in
     let first : to_z w64 index ≡ pos index = to_z_pos w64 index (omega (arith, found.1, c.requires.few)) in

@@ -2,6 +2,7 @@ use Rattle.std.proofs.Common.{◌≡◌}
 use Rattle.dsp_defs.specs.Output.{input_header, input_signal}
 use Rattle.dsp_resume.proofs.ToldLaws as laws
 use Rattle.dsp_resume.proofs.laws.rest_is_told.Goals as goal
+use Rattle.dsp_defs.proofs.OutputLaws.{input_header-append}
 
 pub returns : goal.returns
 returns c script start from frames input now sink after before counts found done channels =
@@ -10,5 +11,5 @@ returns c script start from frames input now sink after before counts found done
     (input_header script bytes ≡ input_header script done.given)) done.gave
     (λ more left. (
       laws.whole_stays script done.given more done.has channels now left done.whole,
-      laws.header_stays script done.given more done.has,
+      input_header-append script done.given more done.has,
     ))

@@ -2,9 +2,9 @@ use Rattle.std.proofs.Common.{◌≡◌, ◌*◌, ◌/◌, ◌≤◌, ◌∙◌,
 use Rattle.dsp_defs.specs.Bytes.{IsValue, sample_of, width}
 use Rattle.std.proofs.lemmas.List.{length-take-le}
 use Rattle.dsp_defs.proofs.CodingLemmas.{width-some}
-use Rattle.dsp_session.proofs.OpeningLaws.{floor_within}
 use Rattle.dsp_session.proofs.Pieces.{whole_pieces, at_front, div_within}
 use Rattle.dsp_session.proofs.samples.decode_front.Goals as goal
+use Rattle.std.proofs.Math.Nat.{div-mul-le_self}
 
 pub returns-clause-values : goal.returns-clause-values
 returns-clause-values c =
@@ -30,7 +30,7 @@ decode-requires c =
     let cut : length (take count c.args.samples.now) ≡ count =
     length-take-le count c.args.samples.now (returns-within c) in
     length-take-le (count * c.width.result) c.args.bytes.now
-    (rw (c.width.ensures, c.whole_samples-count.ensures) (floor_within (length c.args.bytes.now) w)) ∙
+    (rw (c.width.ensures, c.whole_samples-count.ensures) (div-mul-le_self (length c.args.bytes.now) w)) ∙
     (λ i. sym cut i * c.width.ensures i)
   where
     returns-within : (c : goal.After-decode-arg-1) → c.whole_samples-count.result ≤ length c.args.samples.now

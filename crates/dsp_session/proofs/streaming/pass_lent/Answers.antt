@@ -12,7 +12,7 @@ use Rattle.dsp_session.proofs.streaming.pass_lent.Goals as goal
 pub feed_from-requires : goal.feed_from-requires
 feed_from-requires g c =
     let s = c.args.worker.now in
-    let has = rw c.script.ensures.script at c.if-not-has_block.ensures refl in
+    let has = rw c.script.ensures.script at c.if-not-has_block.ensures.0 refl in
     let some = some_frame s.script s.coding s.block c.requires.runs.holds.ready in
     record {
       running = c.requires.runs.running;
@@ -30,7 +30,7 @@ returns-in_err-pass_on-clause-err g c =
     let next = c.args.next in
     let some = some_block s.script s.coding s.block c.requires.runs.holds.ready in
     let gave = Gave-asked _ _ _ _ (omega (arith, some, c.requires.size)) from.gave in
-    let has = rw c.script.ensures.script at c.if-not-has_block.ensures refl in
+    let has = rw c.script.ensures.script at c.if-not-has_block.ensures.0 refl in
     let read = block_came (stored s.script next.header) next.end next.taken from.bytes _ _ (rw from.long has) gave
     from.no_fault from.going in
     let (error, is, same) = err_from_is_err_and c.from_residual.result c.from_residual.ensures.1 in
@@ -44,7 +44,7 @@ returns-clause-ok g c =
     let next = c.args.next in
     let some = some_block s.script s.coding s.block c.requires.runs.holds.ready in
     let gave = Gave-asked _ _ _ _ (omega (arith, some, c.requires.size)) from.gave in
-    let has = rw c.script.ensures.script at c.if-not-has_block.ensures refl in
+    let has = rw c.script.ensures.script at c.if-not-has_block.ensures.0 refl in
     let read = block_came (stored s.script next.header) next.end next.taken from.bytes _ _ (rw from.long has) gave
     from.no_fault from.going in (
       from.bytes,

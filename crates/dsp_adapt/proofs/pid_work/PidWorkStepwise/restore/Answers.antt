@@ -1,7 +1,6 @@
 use Rattle.std.proofs.Common.{◌≡◌, ◌∙◌, subst, sym, refl, ap, ℕ, ◌<◌, ℤ, pos, List, [], ◌∷◌, length, SFits}
 use Rattle.std.proofs.Common.{FitsSigned, to_z, of_z, arith}
 use Rattle.std.specs.Int.{w32, w64}
-use Rattle.std.proofs.lemmas.Int.{to_z-of_z}
 use Rattle.std.proofs.lemmas.List.Elements.{All-get_or}
 use Rattle.dsp_defs.specs.Formats.{word}
 use Rattle.dsp_defs.specs.Signal.{sample}
@@ -10,8 +9,8 @@ use Rattle.dsp_defs.specs.Kept.{Each, IsOfKind, in_words}
 use Rattle.dsp_unit.proofs.ChannelKept.{length-words, fit-words}
 use Rattle.dsp_filter.proofs.Slices.{narrow-word}
 use Rattle.dsp_adapt.specs.PidState.{block_of}
-use Rattle.dsp_adapt.proofs.LmsUnits.{fits-32}
 use Rattle.dsp_adapt.proofs.pid_work.PidWorkStepwise.restore.Goals as goal
+use Rattle.dsp_sat.proofs.WideProducts.{word-in-32, cast-fits}
 
 long : (format : Fmt) (numbers : List ℤ) → Each IsOfKind (in_words (word format) 3) numbers → length numbers ≡ 3
 long format numbers each = length-words IsOfKind (word format) 3 numbers each
@@ -21,15 +20,11 @@ fit : (format : Fmt) (numbers : List ℤ) (place : ℕ) → Each IsOfKind (in_wo
 fit format numbers place each inside = All-get_or (FitsSigned (word format)) numbers place (pos 0)
     (omega (arith, long format numbers each)) (fit-words (word format) 3 numbers each)
 
-cast-fits : (z : ℤ) → SFits w32 z → SFits w32 (to_z w64 (of_z w64 z))
-cast-fits z fits = let wide : SFits w64 z = record { sfits = omega (arith, fits.sfits) } in
-    subst (λ y. SFits w32 y) (sym (to_z-of_z w64 z wide)) fits
-
 -- a number that is cast, and read as a sample
 cast : (format : Fmt) (numbers : List ℤ) (place : ℕ) → Each IsOfKind (in_words (word format) 3) numbers → place < 3 →
     SFits w32 (to_z w64 (of_z w64 (sample numbers place)))
 cast format numbers place each inside = cast-fits (sample numbers place)
-    (fits-32 format (sample numbers place) (fit format numbers place each inside))
+    (word-in-32 format (sample numbers place) (fit format numbers place each inside))
 
 read : (format : Fmt) (numbers : List ℤ) (place : ℕ) → Each IsOfKind (in_words (word format) 3) numbers → place < 3 →
     SFits (word format) (to_z w32 (of_z w32 (to_z w64 (of_z w64 (sample numbers place)))))

@@ -1,11 +1,11 @@
 use Rattle.std.proofs.Common.{◌≡◌, ◌∙◌, ap, sym, refl, ◌-◌, ◌≤◌, min, length, map, take, drop, true, arith}
 use Rattle.std.proofs.Common.{length-take, length-take-le}
-use Rattle.std.proofs.lemmas.List.{drop_at}
+use Rattle.std.proofs.lemmas.List.{drop_at, nil_from_length}
 use Rattle.dsp_defs.specs.Streaming.{rows}
 use Rattle.dsp_filter.proofs.Slices.{front-written}
 use Rattle.dsp_window.specs.Rolling.{last_samples}
 use Rattle.dsp_conv.specs.ConvState.{ConvState}
-use Rattle.dsp_conv.proofs.ConvLemmas.{rows-long, finish-tail, empty}
+use Rattle.dsp_conv.proofs.ConvLemmas.{rows-long, finish-tail}
 use Rattle.dsp_conv.proofs.Inside.{inside, pushed, lent-long, moved-sound}
 use Rattle.dsp_conv.proofs.CallLemmas.{rows-cost, zeros-front, passed-over}
 use Rattle.dsp_conv.proofs.convolution.Convolution.finish.Goals as goal
@@ -122,7 +122,7 @@ returns g c =
         ended = true;
       }) c.self.view_is;
       spent = λ room. (
-        λ none. empty c.args.self.now.tail (omega (arith, given, none, room)),
+        λ none. nil_from_length c.args.self.now.tail (omega (arith, given, none, room)),
         λ spent. let none : length c.args.self.now.tail ≡ 0 = ap length spent in omega (arith, given, none),
       );
       rest = drop_at out (drop count output) count whole;

@@ -4,9 +4,9 @@ use Rattle.std.proofs.lemmas.List.{reverse-reverse, length-map, length-reverse, 
 use Rattle.dsp_window.specs.Rolling.{Rolling}
 use Rattle.dsp_window.proofs.Pushed.{new-past}
 use Rattle.dsp_conv.specs.ConvState.{ConvState, StandsFor}
-use Rattle.dsp_conv.proofs.ConvLemmas.{map-reverse}
 use Rattle.dsp_conv.proofs.CallLemmas.{new-stands}
 use Rattle.dsp_conv.proofs.convolution.Convolution.of_taps.Goals as goal
+use Rattle.dsp_defs.proofs.Causal.{map-reverse}
 
 pub invariant_of-result : goal.invariant_of-result
 invariant_of-result g c =

@@ -5,8 +5,9 @@ use Rattle.dsp_defs.specs.Signal.{sample}
 use Rattle.dsp_conv.specs.Extent.{greatest_place}
 use Rattle.dsp_conv.specs.ConvState.{ConvState}
 use Rattle.dsp_conv.proofs.Inside.{inside, moved-sound}
-use Rattle.dsp_conv.proofs.CallLemmas.{is-kept, restored, restored-past}
+use Rattle.dsp_conv.proofs.CallLemmas.{is-kept, restored}
 use Rattle.dsp_conv.proofs.convolution.Convolution.restore.Goals as goal
+use Rattle.dsp_window.proofs.Pushed.{restored-past}
 
 pub overflow_sub-last : goal.overflow_sub-last
 overflow_sub-last g c = omega (arith, c.requires.fits.count)

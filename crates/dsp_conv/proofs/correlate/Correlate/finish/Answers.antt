@@ -1,12 +1,11 @@
 use Rattle.std.proofs.Common.{◌≡◌, ◌∙◌, ap, ap₂, sym, ◌+◌, ◌-◌, ◌*◌, ◌≤◌, ◌++◌, ℕ, min, max, length, map, take, drop}
 use Rattle.std.proofs.Common.{vec_len, rules, true, arith, length-take-le, subst}
-use Rattle.std.proofs.lemmas.List.{drop_at, length-map}
+use Rattle.std.proofs.lemmas.List.{drop_at, length-map, nil_from_length}
 use Rattle.dsp_defs.specs.Formats.{close}
 use Rattle.dsp_defs.specs.Signal.{values}
 use Rattle.dsp_filter.proofs.Slices.{front-written}
 use Rattle.dsp_conv.specs.Sums.{CorrelationRises, correlation_at}
 use Rattle.dsp_conv.specs.CorrelateState.{CorrelateState, tail_of}
-use Rattle.dsp_conv.proofs.ConvLemmas.{empty}
 use Rattle.dsp_conv.proofs.Correlations.{correlate-values, correlation-some, piece-given, length-dropped}
 use Rattle.dsp_conv.proofs.correlate.Correlate.finish.Goals as goal
 
@@ -36,7 +35,7 @@ pub returns-clause-spent : goal.returns-clause-spent
 returns-clause-spent g c = λ room.
     let tail = tail_of g.T.Sample.format c.args.self.now in
     let given : c.min-count.result ≡ min (length tail) (length c.args.output.now) = returns-clause-given g c in (
-      λ none. empty tail (omega (arith, given, none, room)),
+      λ none. nil_from_length tail (omega (arith, given, none, room)),
       λ spent. let none : length tail ≡ 0 = ap length spent in
           omega (arith, given, none),
     )

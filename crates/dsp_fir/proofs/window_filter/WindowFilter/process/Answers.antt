@@ -1,27 +1,19 @@
 use Rattle.std.proofs.Common.{◌≡◌, ◌≤◌, ◌∙◌, ◌+◌, ◌*◌, ◌++◌, ap, ap₂, sym, subst, refl, ℕ, ℤ, List, Option, None, Some}
-use Rattle.std.proofs.Common.{length, map, take, drop, drop_at, arith, length-append, length-take-le}
+use Rattle.std.proofs.Common.{length, map, take, drop, drop_at, arith, length-take-le}
 use Rattle.std.specs.Prelude.{IfSome}
 use Rattle.std.proofs.lemmas.List.{length-map}
 use Rattle.dsp_defs.specs.Kept.{kept_of_channel}
 use Rattle.dsp_defs.specs.Streaming.{Continues}
 use Rattle.dsp_unit.specs.Filter.{of_channel}
 use Rattle.dsp_filter.proofs.Slices.{front-written}
-use Rattle.dsp_window.specs.Rolling.{Rolling, last_samples}
+use Rattle.dsp_window.specs.Rolling.{Rolling}
 use Rattle.dsp_lanes.specs.Turns.{lane_turns}
-use Rattle.dsp_window.proofs.Pushed.{keeps-after, window-long}
+use Rattle.dsp_window.proofs.Pushed.{keeps-after, window-long, pushed-long}
 use Rattle.dsp_window.proofs.Rolls.{length-last_samples}
 use Rattle.dsp_fir.specs.ByChannel.{IsWindowIn}
 use Rattle.dsp_fir.specs.Laws.{windowed}
 use Rattle.dsp_fir.specs.WindowState.{DelayState, WindowState, block_of, past_count, tap_count}
 use Rattle.dsp_fir.proofs.window_filter.WindowFilter.process.Goals as goal
-
--- a window that was pushed
-pushed : (old new : Rolling) (block : List ℤ) →
-    new ≡ record old { samples = last_samples old.past old.samples ++ block } → old.past ≤ length old.samples →
-    length new.samples ≡ old.past + length block
-pushed old new block rolls within =
-    ap (λ (w : Rolling). length w.samples) rolls ∙ length-append (last_samples old.past old.samples) block ∙
-    ap (λ (n : ℕ). n + length block) (length-last_samples old.past old.samples within)
 
 room-for : (delays : Option DelayState) (n room : ℕ) → n ≤ room →
     IfSome delays (λ (d : DelayState). d.room ≡ room) → IfSome delays (λ (d : DelayState). n ≤ d.room)
@@ -57,7 +49,8 @@ returns-clause-kept g c =
     let old = c.self.inside.window in
     let new = c.push_block.new.self in
     let past : new.past ≡ old.past = ap (λ (w : Rolling). w.past) c.push_block.ensures.rolls in
-    let long = pushed old new (map g.T.Sample.number c.args.input.now) c.push_block.ensures.rolls c.self.invariant.3 in
+    let long = pushed-long old new (map g.T.Sample.number c.args.input.now) c.push_block.ensures.rolls
+    c.self.invariant.3 in
     length-last_samples new.past new.samples (omega (arith, past, long))
     ∙ past
     ∙ sym (length-last_samples old.past old.samples c.self.invariant.3)
@@ -119,7 +112,7 @@ invariant_of-self g c =
     let same = sym c.window_rows.ensures.delays in
     let rolls = c.push_block.ensures.rolls in
     let past : new.past ≡ old.past = ap (λ (w : Rolling). w.past) rolls in
-    let long = pushed old new input rolls inv.3 in
+    let long = pushed-long old new input rolls inv.3 in
     let room = subst (λ (n : ℕ). IfSome c.self.inside.delays (λ (d : DelayState). d.room ≡ n))
     (sym (ap (λ (w : Rolling). w.room) rolls)) inv.4 in (
       subst (λ (ds : Option DelayState). IsWindowIn T.format (block_of taps ds)) same inv.0,

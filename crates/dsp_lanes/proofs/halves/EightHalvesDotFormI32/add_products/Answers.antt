@@ -1,12 +1,12 @@
 use Rattle.std.proofs.Common.{◌≡◌, ◌∙◌, ◌+ℤ◌, ◌*ℤ◌, ◌+◌, ap, length, sym, w32, w64}
 use Rattle.std.proofs.lemmas.Simd.{length-chunk}
+use Rattle.std.proofs.lemmas.List.{map-id}
 use Rattle.std.specs.Int.{int_wrap}
 use lib.Lanes.{chunk}
 use Rattle.dsp_defs.specs.Signal.{sample, sum_below}
 use Rattle.dsp_lanes.specs.Regrouped.{list_sum}
 use Rattle.dsp_lanes.proofs.LaneOps.{group_fits}
 use Rattle.dsp_lanes.proofs.LaneRows.{products-chunk}
-use Rattle.dsp_lanes.proofs.LaneSums.{map-self}
 use Rattle.dsp_lanes.proofs.HalfProducts.{product_words_are, product_words_fit}
 use Rattle.dsp_lanes.proofs.WordViews.{read_fit, read_long}
 use Rattle.dsp_lanes.proofs.halves.EightHalvesDotFormI32.add_products.Goals as goal
@@ -59,7 +59,7 @@ returns-clause-sums c =
     ∙ ap (λ z. int_wrap w64 ((list_sum even +ℤ list_sum odd) +ℤ z))
     (products-chunk at 8 taps window c.requires.taps c.requires.window)
     ∙ (λ i. int_wrap w64 ((list_sum even +ℤ list_sum odd) +ℤ sum_below 8
-    (λ k. sample (sym (map-self taps) i) (at + k) *ℤ sample (sym (map-self window) i) (at + k))))
+    (λ k. sample (sym (map-id taps) i) (at + k) *ℤ sample (sym (map-id window) i) (at + k))))
 
 pub returns-clause-fit : goal.returns-clause-fit
 returns-clause-fit c =

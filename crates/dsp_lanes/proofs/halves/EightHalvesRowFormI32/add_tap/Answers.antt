@@ -1,13 +1,13 @@
 use Rattle.std.proofs.Common.{◌≡◌, ◌∙◌, ◌+ℤ◌, ◌*ℤ◌, get_or, length, pos, sym, w32, w64}
 use Rattle.std.proofs.lemmas.Simd.{length-chunk}
+use Rattle.std.proofs.lemmas.List.{map-id}
 use Rattle.std.specs.Int.{int_wrap}
 use lib.Lanes.{zip2, chunk}
 use Rattle.dsp_defs.specs.Signal.{sample}
 use Rattle.dsp_lanes.specs.Pairs.{in_turn}
 use Rattle.dsp_lanes.proofs.LaneOps.{group_fits}
-use Rattle.dsp_lanes.proofs.LaneSums.{map-self}
-use Rattle.dsp_lanes.proofs.HalfProducts.{tap_words, tap_words_fit}
-use Rattle.dsp_lanes.proofs.WordViews.{read_fit, read_long}
+use Rattle.dsp_lanes.proofs.HalfProducts.{tapped_in_turn}
+use Rattle.dsp_lanes.proofs.WordViews.{evens_are, odds_are, read_fit, read_long}
 use Rattle.dsp_lanes.proofs.halves.EightHalvesRowFormI32.add_tap.Goals as goal
 
 pub even_words-requires-clause-long : goal.even_words-requires-clause-long
@@ -32,25 +32,13 @@ returns-clause-sums c =
     let window = c.args.window.now in
     let even = c.args.sums.even in
     let odd = c.args.sums.odd in
-    let fit = c.requires.fit in
+    let sums = c.requires.fit in
     let long : length (chunk at 8 window) ≡ 8 = length-chunk at 8 window c.requires.window in
-    tap_words even odd (chunk at 8 window) c.even_words-tap.result c.even_words.result c.odd_words.result
-    (get_or taps j (pos 0)) fit.2 fit.3 long fit.0 fit.1 (c.q31_fit.ensures j (pos 0) c.requires.tap)
-    (group_fits w32 at 8 window c.q31_fit-2.ensures c.requires.window) c.even_words-tap.ensures.words
-    c.even_words.ensures.words c.odd_words.ensures.words
-    ∙ (λ i. zip2 (λ s x. int_wrap w64 (s +ℤ (sample (sym (map-self taps) i) j *ℤ x))) (in_turn even odd)
-    (chunk at 8 (sym (map-self window) i)))
-
-pub returns-clause-fit : goal.returns-clause-fit
-returns-clause-fit c =
-    let at = c.args.at in
-    let j = c.args.j in
-    let taps = c.args.taps.now in
-    let window = c.args.window.now in
-    let fit = c.requires.fit in
-    let long : length (chunk at 8 window) ≡ 8 = length-chunk at 8 window c.requires.window in
-    tap_words_fit c.args.sums.even c.args.sums.odd (chunk at 8 window) c.even_words-tap.result c.even_words.result
-    c.odd_words.result (get_or taps j (pos 0)) fit.2 fit.3 long fit.0 fit.1
-    (c.q31_fit.ensures j (pos 0) c.requires.tap)
-    (group_fits w32 at 8 window c.q31_fit-2.ensures c.requires.window) c.even_words-tap.ensures.words
-    c.even_words.ensures.words c.odd_words.ensures.words
+    let fit = group_fits w32 at 8 window c.q31_fit-2.ensures c.requires.window in
+    tapped_in_turn even odd (chunk at 8 window) c.even_words.result c.odd_words.result _ _ (get_or taps j (pos 0))
+    sums.2 sums.3 long (c.q31_fit.ensures j (pos 0) c.requires.tap) c.even_words.ensures.fit c.odd_words.ensures.fit
+    (evens_are (chunk at 8 window) _ long fit c.even_words.ensures.words)
+    (odds_are (chunk at 8 window) _ long fit c.odd_words.ensures.words)
+    c.add_words.ensures.evens c.add_words.ensures.odds
+    ∙ (λ i. zip2 (λ s x. int_wrap w64 (s +ℤ (sample (sym (map-id taps) i) j *ℤ x))) (in_turn even odd)
+    (chunk at 8 (sym (map-id window) i)))

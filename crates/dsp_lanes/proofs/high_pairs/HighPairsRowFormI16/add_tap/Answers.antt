@@ -1,12 +1,12 @@
 use Rattle.std.proofs.Common.{◌≡◌, ◌+◌, ◌∙◌, ◌+ℤ◌, ◌*ℤ◌, sym, arith, length, pos, w16, w32, w64}
 use Rattle.std.proofs.lemmas.Simd.{length-chunk, length-zip2}
+use Rattle.std.proofs.lemmas.List.{map-id}
 use Rattle.std.specs.Int.{int_wrap}
 use lib.Lanes.{zip2, chunk}
 use Rattle.dsp_defs.specs.Signal.{sample}
 use Rattle.dsp_lanes.specs.HighSums.{whole_of, wholes}
 use Rattle.dsp_lanes.specs.Pairs.{in_turn}
 use Rattle.dsp_lanes.proofs.LaneOps.{group_fits, casts_asked, each_widens}
-use Rattle.dsp_lanes.proofs.LaneSums.{map-self}
 use Rattle.dsp_lanes.proofs.HighSums.{high_sums_next}
 use Rattle.dsp_lanes.proofs.HighRows.{even_products, odd_products, even_read, odd_read, even_near, odd_near, tap_raises}
 use Rattle.dsp_lanes.proofs.high_pairs.HighPairsRowFormI16.add_tap.Goals as goal
@@ -79,9 +79,9 @@ returns-clause-sums c =
     (wholes sums.odd.low sums.odd.high)
     (length-zip2 whole_of sums.even.low sums.even.high (fit.0.low_long ∙ sym fit.0.high_long) ∙ fit.0.low_long)
     (length-zip2 whole_of sums.odd.low sums.odd.high (fit.1.low_long ∙ sym fit.1.high_long) ∙ fit.1.low_long)
-    ∙ (λ i. zip2 (λ s x. int_wrap w64 (s +ℤ (sample (sym (map-self taps) i) j *ℤ x)))
+    ∙ (λ i. zip2 (λ s x. int_wrap w64 (s +ℤ (sample (sym (map-id taps) i) j *ℤ x)))
     (in_turn (wholes sums.even.low sums.even.high) (wholes sums.odd.low sums.odd.high))
-    (chunk at 8 (sym (map-self window) i)))
+    (chunk at 8 (sym (map-id window) i)))
 
 pub returns-clause-fit : goal.returns-clause-fit
 returns-clause-fit c =

@@ -5,8 +5,24 @@ use Rattle.dsp_defs.specs.Signal.{values}
 use Rattle.dsp_defs.proofs.FormatLemmas.{close-wrap}
 use Rattle.dsp_lanes.specs.Rows.{row}
 use Rattle.dsp_lanes.proofs.LaneRows.{rows-group, rows-one}
-use Rattle.dsp_lanes.proofs.Groups.{counted_double, counted_group, counted_one, counted_all}
+use Rattle.dsp_lanes.proofs.Groups.{counted_quad, counted_double, counted_group, counted_one, counted_all}
 use Rattle.dsp_lanes.proofs.lanes.Lanes.rows.Goals as goal
+
+pub quads-preserved : goal.quads-preserved
+quads-preserved g c =
+    let T = g.T.Sample in
+    let taps = map T.number c.args.taps.now in
+    let window = map T.number c.args.window.now in
+    let at = c.quads.at in
+    let n = g.row.L in
+    let long = length-map c.quads.out T.number in
+    record {
+      within = omega arith;
+      done = rows-group (λ i. close T.format (row taps window (length c.args.taps.now) i)) at (4 * n) _
+          (map T.number c.quads.out) (omega arith) c.quads.invariant.done c.quad_group.ensures.out;
+      counted = counted_quad _ _ _ (length c.args.taps.now) n at c.quads.invariant.counted
+          c.quad_group.ensures.steps;
+    }
 
 pub doubles-preserved : goal.doubles-preserved
 doubles-preserved g c =

@@ -5,6 +5,18 @@ use Rattle.dsp_defs.specs.Counts.{Rises}
 use Rattle.dsp_lanes.specs.Turns.{RisesWithin}
 use Rattle.dsp_lanes.proofs.lanes.Lanes.rows.Given as goal
 
+abbrev pub invariant-quads : goal.invariant-quads
+invariant-quads g l = record {
+  within : l.at ≤ length l.out;
+  done : take l.at (map g.T.Sample.number l.out) ≡ values l.at
+      (λ i. close g.T.Sample.format (sum_below (length l.taps)
+      (λ j. sample (map g.T.Sample.number l.taps) j *ℤ sample (map g.T.Sample.number l.window) (i + j))));
+  counted : (k : ℕ) × (k * g.row.L ≡ l.at) × RisesWithin l.fn.steps l.steps (length l.taps * l.at) (length l.taps * k);
+}
+
+abbrev pub decreases-quads : goal.decreases-quads
+decreases-quads g l = length l.out - l.at
+
 abbrev pub invariant-doubles : goal.invariant-doubles
 invariant-doubles g l = record {
   within : l.at ≤ length l.out;

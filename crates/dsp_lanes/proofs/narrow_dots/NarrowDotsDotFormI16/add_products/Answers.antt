@@ -1,12 +1,12 @@
 use Rattle.std.proofs.Common.{◌∙◌, ◌+ℤ◌, ◌*ℤ◌, ◌+◌, ap, arith, sym, w16, w32}
 use Rattle.std.proofs.lemmas.Simd.{length-chunk}
+use Rattle.std.proofs.lemmas.List.{map-id}
 use Rattle.std.specs.Int.{int_wrap}
 use lib.Lanes.{chunk}
 use Rattle.dsp_defs.specs.Signal.{sample, sum_below}
 use Rattle.dsp_lanes.specs.Regrouped.{list_sum}
 use Rattle.dsp_lanes.proofs.LaneOps.{casts_asked, each_widens, group_fits}
 use Rattle.dsp_lanes.proofs.LaneRows.{products-chunk}
-use Rattle.dsp_lanes.proofs.LaneSums.{map-self}
 use Rattle.dsp_lanes.proofs.NarrowSums.{narrow_sum, narrow_fit}
 use Rattle.dsp_lanes.proofs.narrow_dots.NarrowDotsDotFormI16.add_products.Goals as goal
 
@@ -34,8 +34,8 @@ returns-clause-sums c =
     (group_fits w16 at 8 taps c.q15_fit.ensures c.requires.taps)
     (group_fits w16 at 8 window c.q15_fit-2.ensures c.requires.window) fit.0 fit.1
     ∙ ap (λ z. int_wrap w32 (list_sum sums +ℤ z)) (products-chunk at 8 taps window c.requires.taps c.requires.window)
-    ∙ (λ i. int_wrap w32 (list_sum sums +ℤ sum_below 8 (λ k. sample (sym (map-self taps) i) (at + k) *ℤ sample
-    (sym (map-self window) i) (at + k))))
+    ∙ (λ i. int_wrap w32 (list_sum sums +ℤ sum_below 8 (λ k. sample (sym (map-id taps) i) (at + k) *ℤ sample
+    (sym (map-id window) i) (at + k))))
 
 pub returns-clause-fit : goal.returns-clause-fit
 returns-clause-fit c =

@@ -1,6 +1,7 @@
 use Rattle.std.proofs.Common.{◌≡◌, ◌∙◌, ◌+ℤ◌, ◌*ℤ◌, ◌+◌, ap, arith, length, map, pos, subst, sym, ℤ, w16, w32, w64}
 use Rattle.std.proofs.lemmas.Int.{ints, SFits-int_wrap, wrapping_add_is}
 use Rattle.std.proofs.lemmas.Simd.{length-chunk}
+use Rattle.std.proofs.lemmas.List.{map-id}
 use Rattle.std.specs.Int.{int_wrap}
 use lib.Lanes.{chunk}
 use mir.Val.{SFits, to_z}
@@ -8,7 +9,6 @@ use Rattle.dsp_defs.specs.Signal.{sample, sum_below}
 use Rattle.dsp_lanes.specs.Regrouped.{list_sum}
 use Rattle.dsp_lanes.proofs.LaneOps.{casts_asked, each_widens, group_fits}
 use Rattle.dsp_lanes.proofs.LaneRows.{products-chunk}
-use Rattle.dsp_lanes.proofs.LaneSums.{map-self}
 use Rattle.dsp_lanes.proofs.ProductPairs.{less_lanes, less_sum, less_lanes_fit}
 use Rattle.dsp_lanes.proofs.pair_dots.PairDotsDotFormI16.add_products.Goals as goal
 
@@ -43,7 +43,7 @@ returns-clause-sums c =
     ∙ ap (λ z. int_wrap w64 ((list_sum less +ℤ count) +ℤ z))
     (products-chunk at 8 taps window c.requires.taps c.requires.window)
     ∙ (λ i. int_wrap w64 ((list_sum less +ℤ count) +ℤ sum_below 8
-    (λ k. sample (sym (map-self taps) i) (at + k) *ℤ sample (sym (map-self window) i) (at + k))))
+    (λ k. sample (sym (map-id taps) i) (at + k) *ℤ sample (sym (map-id window) i) (at + k))))
 
 pub returns-clause-fit : goal.returns-clause-fit
 returns-clause-fit c =

@@ -1,11 +1,11 @@
 use Rattle.std.proofs.Common.{◌+◌, ◌*◌, ◌∙◌, sym, rules, SFits, w32, w64}
 use Rattle.std.specs.Int.{int_wrap}
 use Rattle.std.proofs.lemmas.Int.{int_wrap_fits}
+use Rattle.std.proofs.lemmas.List.{map-id}
 use Rattle.dsp_lanes.specs.Rows.{row_at}
 use Rattle.dsp_defs.proofs.FormatLemmas.{wrap-wrap}
 use Rattle.dsp_lanes.proofs.DotSums.{low_read}
 use Rattle.dsp_lanes.proofs.LaneClosings.{wrap-narrow}
-use Rattle.dsp_lanes.proofs.LaneSums.{map-self}
 use Rattle.dsp_lanes.proofs.PairSums.{narrow_wraps}
 use Rattle.dsp_lanes.proofs.q15.I16FilterKernels.four_dots.Goals as goal
 
@@ -28,9 +28,9 @@ returns-then-small-clause-first g c =
     let fits : SFits w64 c.four_sums-sums.result.first = search rules in
     low_read c.four_sums-sums.result.first low.result wide.result row fits low.ensures wide.ensures wide.type_inv
     low.type_inv
-    (c.four_sums-sums.ensures.first ∙ (λ i. int_wrap w32 (row_at (map-self taps i) (map-self window i) c.args.first)))
+    (c.four_sums-sums.ensures.first ∙ (λ i. int_wrap w32 (row_at (map-id taps i) (map-id window i) c.args.first)))
     (narrow_wraps taps window c.args.first (c.requires.small c.if-small.true) c.q15_fit.ensures)
-    ∙ (λ i. int_wrap w64 (row_at (sym (map-self taps) i) (sym (map-self window) i) c.args.first))
+    ∙ (λ i. int_wrap w64 (row_at (sym (map-id taps) i) (sym (map-id window) i) c.args.first))
 
 pub returns-then-small-clause-second : goal.returns-then-small-clause-second
 returns-then-small-clause-second g c =
@@ -43,9 +43,9 @@ returns-then-small-clause-second g c =
     low_read c.four_sums-sums.result.second low.result wide.result row fits low.ensures wide.ensures wide.type_inv
     low.type_inv
     (c.four_sums-sums.ensures.second ∙ (λ i. int_wrap w32
-    (row_at (map-self taps i) (map-self window i) (c.args.first + c.args.step))))
+    (row_at (map-id taps i) (map-id window i) (c.args.first + c.args.step))))
     (narrow_wraps taps window (c.args.first + c.args.step) (c.requires.small c.if-small.true) c.q15_fit.ensures)
-    ∙ (λ i. int_wrap w64 (row_at (sym (map-self taps) i) (sym (map-self window) i) (c.args.first + c.args.step)))
+    ∙ (λ i. int_wrap w64 (row_at (sym (map-id taps) i) (sym (map-id window) i) (c.args.first + c.args.step)))
 
 pub returns-then-small-clause-third : goal.returns-then-small-clause-third
 returns-then-small-clause-third g c =
@@ -58,9 +58,9 @@ returns-then-small-clause-third g c =
     low_read c.four_sums-sums.result.third low.result wide.result row fits low.ensures wide.ensures wide.type_inv
     low.type_inv
     (c.four_sums-sums.ensures.third ∙ (λ i. int_wrap w32
-    (row_at (map-self taps i) (map-self window i) (c.args.first + 2 * c.args.step))))
+    (row_at (map-id taps i) (map-id window i) (c.args.first + 2 * c.args.step))))
     (narrow_wraps taps window (c.args.first + 2 * c.args.step) (c.requires.small c.if-small.true) c.q15_fit.ensures)
-    ∙ (λ i. int_wrap w64 (row_at (sym (map-self taps) i) (sym (map-self window) i) (c.args.first + 2 * c.args.step)))
+    ∙ (λ i. int_wrap w64 (row_at (sym (map-id taps) i) (sym (map-id window) i) (c.args.first + 2 * c.args.step)))
 
 pub returns-then-small-clause-fourth : goal.returns-then-small-clause-fourth
 returns-then-small-clause-fourth g c =
@@ -73,9 +73,9 @@ returns-then-small-clause-fourth g c =
     low_read c.four_sums-sums.result.fourth low.result wide.result row fits low.ensures wide.ensures wide.type_inv
     low.type_inv
     (c.four_sums-sums.ensures.fourth ∙ (λ i. int_wrap w32
-    (row_at (map-self taps i) (map-self window i) (c.args.first + 3 * c.args.step))))
+    (row_at (map-id taps i) (map-id window i) (c.args.first + 3 * c.args.step))))
     (narrow_wraps taps window (c.args.first + 3 * c.args.step) (c.requires.small c.if-small.true) c.q15_fit.ensures)
-    ∙ (λ i. int_wrap w64 (row_at (sym (map-self taps) i) (sym (map-self window) i) (c.args.first + 3 * c.args.step)))
+    ∙ (λ i. int_wrap w64 (row_at (sym (map-id taps) i) (sym (map-id window) i) (c.args.first + 3 * c.args.step)))
 
 pub returns-then-this-ne8-clause-first : goal.returns-then-this-ne8-clause-first
 returns-then-this-ne8-clause-first g c =

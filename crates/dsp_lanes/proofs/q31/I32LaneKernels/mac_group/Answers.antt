@@ -2,9 +2,10 @@ use Rattle.std.proofs.Common.{arith, ap, sym, ◌∙◌, map, w32, w64, ◌*ℤ�
 use Rattle.std.specs.Int.{int_wrap}
 use lib.Lanes.{zip2, chunk}
 use Rattle.dsp_lanes.proofs.LaneOps.{group_fits}
-use Rattle.dsp_lanes.proofs.LaneSums.{map-self, multiples_added}
+use Rattle.dsp_lanes.proofs.LaneSums.{multiples_added}
 use Rattle.dsp_lanes.proofs.LaneClosings.{stored}
 use Rattle.dsp_lanes.proofs.q31.I32LaneKernels.mac_group.Goals as goal
+use Rattle.std.proofs.lemmas.List.{map-id}
 
 pub returns : goal.returns
 returns g c =
@@ -17,4 +18,4 @@ returns g c =
     (group_fits w64 at n sums c.sums_64_fit.ensures c.requires.room) c.ranges.tap c.q31_fit.ensures
     c.requires.row).0
     ∙ ap (λ l. zip2 (λ s x. int_wrap w64 (s +ℤ (c.args.tap *ℤ x))) (chunk at n l) (chunk at n (map (λ x. x) row)))
-    (sym (map-self sums)))
+    (sym (map-id sums)))

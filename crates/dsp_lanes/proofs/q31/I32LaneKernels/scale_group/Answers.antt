@@ -1,6 +1,6 @@
 use Rattle.std.proofs.Common.{◌≡◌, ◌^◌, ◌∙◌, ℤ, List, ap, sym, subst, length, map, arith, rules, w32, w64}
 use Rattle.std.proofs.lemmas.Int.{ints}
-use Rattle.std.proofs.lemmas.List.{length-map}
+use Rattle.std.proofs.lemmas.List.{length-map, map-id}
 use Rattle.std.proofs.lemmas.Simd.{shifts_fit_splat, length-chunk}
 use Rattle.std.specs.Prelude.{pos, ◌+ℤ◌, ◌*ℤ◌}
 use lib.Lanes.{Each1, chunk}
@@ -8,7 +8,6 @@ use lib.Signed.{shr_z}
 use mir.Val.{SFits, to_z}
 use Rattle.dsp_defs.specs.Elementwise.{shift_in}
 use Rattle.dsp_lanes.proofs.LaneOps.{cast_lanes, group_fits}
-use Rattle.dsp_lanes.proofs.LaneSums.{map-self}
 use Rattle.dsp_lanes.proofs.LaneClosings.{stored}
 use Rattle.dsp_lanes.proofs.HighProducts.{scaled_highs, scaled_highs_are, casts_down}
 use Rattle.dsp_lanes.proofs.Moves.{scaled_are, next_is}
@@ -61,4 +60,4 @@ returns g c =
     stored at c.args.out.now _ _
     (scaled_are (s +ℤ pos 1) t xs high c.moved.result fit c.ranges.factor (casts_down _ _ made.0 made.1).1
     (c.moved.ensures ∙ (λ i. map (λ h. shift_in 32 h (next i)) high))
-    ∙ ap (λ l. map (λ x. shift_in 32 (shr_z (x *ℤ t) (2 ^ 32)) (s +ℤ pos 1)) (chunk at n l)) (sym (map-self a)))
+    ∙ ap (λ l. map (λ x. shift_in 32 (shr_z (x *ℤ t) (2 ^ 32)) (s +ℤ pos 1)) (chunk at n l)) (sym (map-id a)))

@@ -2,9 +2,10 @@ use Rattle.std.proofs.Common.{arith, ap, sym, ◌∙◌, map, w8, w32, ◌*ℤ�
 use Rattle.std.specs.Int.{int_wrap}
 use lib.Lanes.{zip2, chunk}
 use Rattle.dsp_lanes.proofs.LaneOps.{group_fits}
-use Rattle.dsp_lanes.proofs.LaneSums.{map-self, multiples_added}
+use Rattle.dsp_lanes.proofs.LaneSums.{multiples_added}
 use Rattle.dsp_lanes.proofs.LaneClosings.{stored}
 use Rattle.dsp_lanes.proofs.q7.I8LaneKernels.mac_group.Goals as goal
+use Rattle.std.proofs.lemmas.List.{map-id}
 
 pub returns : goal.returns
 returns g c =
@@ -16,4 +17,4 @@ returns g c =
     ((multiples_added w8 w32 (omega arith) (omega arith) at n (chunk at n sums) c.args.tap row
     (group_fits w32 at n sums c.q31_fit.ensures c.requires.room) c.ranges.tap c.q7_fit.ensures c.requires.row).0
     ∙ ap (λ l. zip2 (λ s x. int_wrap w32 (s +ℤ (c.args.tap *ℤ x))) (chunk at n l) (chunk at n (map (λ x. x) row)))
-    (sym (map-self sums)))
+    (sym (map-id sums)))

@@ -1,11 +1,11 @@
 use Rattle.std.proofs.Common.{◌∙◌, sym, arith, w16, w32}
 use Rattle.std.proofs.lemmas.Simd.{length-chunk}
+use Rattle.std.proofs.lemmas.List.{map-id}
 use lib.Lanes.{chunk, zip2}
 use Rattle.dsp_defs.specs.Adaptive.{weight_after}
 use Rattle.dsp_defs.specs.declared.format.Fmt.TheVariants.{Q15}
 use Rattle.dsp_lanes.proofs.LaneClosings.{stored}
 use Rattle.dsp_lanes.proofs.LaneOps.{casts_asked, each_widens, group_fits}
-use Rattle.dsp_lanes.proofs.LaneSums.{map-self}
 use Rattle.dsp_lanes.proofs.WeightLanes.{grown_15_is}
 use Rattle.dsp_lanes.proofs.weights.I16WeightSample.weight_group.Goals as goal
 
@@ -41,5 +41,5 @@ returns c =
     (group_fits w16 at 8 weights c.q15_fit-2.ensures c.requires.room)
     (group_fits w16 at 8 window c.q15_fit.ensures c.requires.window) in
     stored at weights _ _
-    (grown.1 ∙ (λ i. zip2 (weight_after Q15 c.args.alpha) (chunk at 8 (sym (map-self weights) i))
-    (chunk at 8 (sym (map-self window) i))))
+    (grown.1 ∙ (λ i. zip2 (weight_after Q15 c.args.alpha) (chunk at 8 (sym (map-id weights) i))
+    (chunk at 8 (sym (map-id window) i))))

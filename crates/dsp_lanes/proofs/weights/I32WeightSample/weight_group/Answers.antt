@@ -1,11 +1,11 @@
 use Rattle.std.proofs.Common.{◌∙◌, ap, sym, subst, ℤ, List, length, SFits, w32}
 use Rattle.std.proofs.lemmas.Simd.{length-chunk}
+use Rattle.std.proofs.lemmas.List.{map-id}
 use lib.Lanes.{Each1, chunk, zip2}
 use Rattle.dsp_defs.specs.Adaptive.{weight_after}
 use Rattle.dsp_defs.specs.declared.format.Fmt.TheVariants.{Q31}
 use Rattle.dsp_lanes.proofs.LaneClosings.{stored}
 use Rattle.dsp_lanes.proofs.LaneOps.{group_fits, ints_of_bits}
-use Rattle.dsp_lanes.proofs.LaneSums.{map-self}
 use Rattle.dsp_lanes.proofs.WeightLanes.{grown_31_is}
 use Rattle.dsp_lanes.proofs.weights.I32WeightSample.weight_group.Goals as goal
 
@@ -22,8 +22,8 @@ returns c =
     (group_fits w32 at 4 weights c.q31_fit-2.ensures c.requires.room)
     (group_fits w32 at 4 window c.q31_fit.ensures c.requires.window)
     high.ensures.fit high.ensures.words sums.ensures.sums
-    ∙ (λ i. zip2 (weight_after Q31 c.args.alpha) (chunk at 4 (sym (map-self weights) i))
-    (chunk at 4 (sym (map-self window) i))))
+    ∙ (λ i. zip2 (weight_after Q31 c.args.alpha) (chunk at 4 (sym (map-id weights) i))
+    (chunk at 4 (sym (map-id window) i))))
 
 pub high_words-high-requires-clause-fit : goal.high_words-high-requires-clause-fit
 high_words-high-requires-clause-fit c =

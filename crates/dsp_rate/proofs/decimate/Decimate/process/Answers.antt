@@ -5,11 +5,12 @@ use Rattle.dsp_defs.specs.Streaming.{last_of}
 use Rattle.dsp_lanes.specs.Turns.{lane_turns}
 use Rattle.dsp_rate.specs.DecimateState.{DecimateState, past_length, strided_rows}
 use Rattle.dsp_filter.proofs.Slices.{front-written}
+use Rattle.dsp_filter.proofs.Groups.{groups-more, open-more, groups-within}
 use Rattle.dsp_window.specs.Rolling.{Rolling, last_samples}
-use Rattle.dsp_window.proofs.Pushed.{window-long, shows-after, keeps-after}
+use Rattle.dsp_window.proofs.Pushed.{window-long, shows-after, keeps-after, pushed-long}
 use Rattle.dsp_window.proofs.Rolls.{length-last_samples}
-use Rattle.dsp_rate.proofs.DecimateLemmas.{groups-more, phase-more, groups-within, groups-room, group-fits}
-use Rattle.dsp_rate.proofs.DecimateLemmas.{decimate-values, pushed-filled}
+use Rattle.dsp_rate.proofs.DecimateLemmas.{groups-room, group-fits}
+use Rattle.dsp_rate.proofs.DecimateLemmas.{decimate-values}
 use Rattle.dsp_rate.proofs.decimate.Decimate.process.Goals as goal
 
 pub slice_bounds-output-end : goal.slice_bounds-output-end
@@ -90,7 +91,7 @@ returns-clause-stands g c = λ x stands.
       past_is = keeps-after d.window c.push_block.new.self (past_length d.factor (length (map number taps))) x
           (map number input) c.push_block.ensures.rolls stood.past_is past;
       phase_is =
-          phase-more (length x) (length input) d.phase d.factor (omega arith) stood.phase_is
+          open-more (length x) (length input) d.phase d.factor (omega arith) stood.phase_is
           ∙ ap (λ n. n % d.factor) (ap (λ n. length x + n) (sym (length-map input number)) ∙
           sym (length-append x (map number input)));
     }
@@ -102,7 +103,7 @@ returns-clause-count g c = λ n counts.
 
 pub returns-clause-counts : goal.returns-clause-counts
 returns-clause-counts g c = λ n counts.
-    phase-more n (length c.args.input.now) c.self.inside.phase c.self.inside.factor (omega arith)
+    open-more n (length c.args.input.now) c.self.inside.phase c.self.inside.factor (omega arith)
     (rw (← c.self.view_is) at counts)
 
 pub returns-clause-multiplies : goal.returns-clause-multiplies
@@ -138,7 +139,7 @@ invariant_of-self g c =
     let new = c.push_block.new.self in
     let past_same : new.past ≡ d.window.past = ap (λ (w : Rolling). w.past) c.push_block.ensures.rolls in
     let room_same : new.room ≡ d.window.room = ap (λ (w : Rolling). w.room) c.push_block.ensures.rolls in
-    let long = pushed-filled d.window new (map g.T.Sample.number c.args.input.now) c.push_block.ensures.rolls inv.6 in (
+    let long = pushed-long d.window new (map g.T.Sample.number c.args.input.now) c.push_block.ensures.rolls inv.6 in (
       ap (λ p. p + 2) past_same ∙ inv.0,
       inv.1,
       inv.2,
@@ -172,7 +173,7 @@ returns-clause-kept g c =
     let inv = c.self.invariant in
     let new = c.push_block.new.self in
     let past_same : new.past ≡ d.window.past = ap (λ (w : Rolling). w.past) c.push_block.ensures.rolls in
-    let long = pushed-filled d.window new (map g.T.Sample.number c.args.input.now) c.push_block.ensures.rolls inv.6 in
+    let long = pushed-long d.window new (map g.T.Sample.number c.args.input.now) c.push_block.ensures.rolls inv.6 in
     length-last_samples new.past new.samples (omega (arith, long, past_same))
     ∙ past_same
     ∙ sym (length-last_samples d.window.past d.window.samples inv.6)

@@ -6,9 +6,11 @@ use Rattle.dsp_defs.specs.Formats.{word}
 use Rattle.dsp_defs.specs.Signal.{sample}
 use Rattle.dsp_window.specs.Rolling.{Rolling, last_samples}
 use Rattle.dsp_window.proofs.Rolls.{length-last_samples}
+use Rattle.dsp_window.proofs.Pushed.{restored-past}
 use Rattle.dsp_rate.specs.DecimateState.{DecimateState}
-use Rattle.dsp_rate.proofs.DecimateLemmas.{kept-stands, phase-read, restored-past, with-last}
+use Rattle.dsp_rate.proofs.DecimateLemmas.{kept-stands, with-last}
 use Rattle.dsp_rate.proofs.decimate.Decimate.restore.Goals as goal
+use Rattle.dsp_filter.proofs.LastPlace.{number-read}
 
 pub invariant_of-self : goal.invariant_of-self
 invariant_of-self g c =
@@ -27,7 +29,7 @@ invariant_of-self g c =
     length-take-le last numbers (omega arith) in
     let low : pos 0 ≤ℤ sample numbers last = subst (λ k. pos 0 ≤ℤ sample numbers k) at c.requires.fits.low in
     let read : to_z w64 (of_z w64 (sample numbers last)) ≡ sample numbers last = omega (arith, ints) in
-    let phase = phase-read (to_z w64 (of_z w64 (sample numbers last))) (sample numbers last) read low in
+    let phase = number-read (to_z w64 (of_z w64 (sample numbers last))) (sample numbers last) read low in
     let high = subst (λ k. sample numbers k <ℤ pos c.args.self.now.factor) at c.requires.fits.high in
     let factor : c.args.self.now.factor ≡ d.factor = ap (λ (s : DecimateState). s.factor) (sym c.self.view_is) in
     let below = subst (λ z. z <ℤ pos c.args.self.now.factor) (sym phase) high in (
@@ -87,7 +89,7 @@ returns-clause-kept g c =
     let low : pos 0 ≤ℤ sample numbers last = subst (λ k. pos 0 ≤ℤ sample numbers k) at c.requires.fits.low in
     let read : to_z w64 (of_z w64 (sample numbers last)) ≡ sample numbers last = omega (arith, ints) in
     ap₂ (λ (p : List ℤ) z. p ++ z ∷ []) (restored-past d.window c.restore.new.self (take last numbers)
-    c.restore.ensures long) (phase-read (to_z w64 (of_z w64 (sample numbers last))) (sample numbers last) read low)
+    c.restore.ensures long) (number-read (to_z w64 (of_z w64 (sample numbers last))) (sample numbers last) read low)
     ∙ with-last numbers last whole
 
 pub returns-clause-stands : goal.returns-clause-stands

@@ -1,8 +1,8 @@
 use Rattle.std.proofs.Common.{◌∙◌, ap, sym, subst, length, map, arith}
 use Rattle.dsp_window.specs.Rolling.{Rolling}
 use Rattle.dsp_window.proofs.Rolls.{length-last_samples}
+use Rattle.dsp_window.proofs.Pushed.{restored-past}
 use Rattle.dsp_rate.specs.InterpolateState.{InterpolateState, IsPhased, unsorted}
-use Rattle.dsp_rate.proofs.DecimateLemmas.{restored-past}
 use Rattle.dsp_rate.proofs.interpolate.Interpolate.restore.Goals as goal
 
 pub restore-requires-clause-length : goal.restore-requires-clause-length

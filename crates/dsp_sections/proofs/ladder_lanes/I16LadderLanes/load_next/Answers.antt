@@ -1,8 +1,9 @@
 use Rattle.std.proofs.Common.{◌+◌, ◌∙◌, ap, sym, get_or, pos, arith, w16}
 use Rattle.std.proofs.lemmas.Simd.{length-chunk}
+use Rattle.std.proofs.lemmas.List.{map-id}
 use lib.Lanes.{chunk}
 use Rattle.dsp_lanes.proofs.LaneOps.{bits_of, group_fits}
-use Rattle.dsp_lanes.proofs.LaneSums.{lanes_read, map-self}
+use Rattle.dsp_lanes.proofs.LaneSums.{lanes_read}
 use Rattle.dsp_sections.proofs.LadderLanes.{next_of_eight, next_group}
 use Rattle.dsp_sections.proofs.ladder_lanes.I16LadderLanes.load_next.Goals as goal
 
@@ -15,4 +16,4 @@ returns-clause-value c =
     (lanes_read w16 _ (chunk (at + 1) 8 numbers)
     (next_of_eight w16 last (chunk at 8 numbers) (length-chunk at 8 numbers (omega (arith, c.requires.inside)))
     ∙ ap (bits_of w16) (next_group at 8 numbers (omega arith) c.requires.inside)) fit).0
-    ∙ ap (chunk (at + 1) 8) (sym (map-self numbers))
+    ∙ ap (chunk (at + 1) 8) (sym (map-id numbers))

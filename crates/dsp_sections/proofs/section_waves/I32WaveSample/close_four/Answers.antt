@@ -2,7 +2,6 @@ use Rattle.std.proofs.Common.{◌≡◌, ◌≤◌, ◌+◌, ◌-◌, ◌*◌, �
 use Rattle.std.proofs.Common.{to_z, of_z, pow_mono}
 use Rattle.std.proofs.lemmas.Int.{SFits-int_wrap, to_z-of_z}
 use Rattle.std.proofs.lemmas.Nat.{pow-add}
-use Rattle.std.proofs.lemmas.Simd.{shifts_fit_splat}
 use Rattle.std.specs.Int.{w32}
 use Rattle.dsp_sections.proofs.FourSections.{closed_32_read}
 use Rattle.dsp_sections.proofs.section_waves.I32WaveSample.close_four.Goals as goal

@@ -3,13 +3,13 @@ use Rattle.std.proofs.Common.{w16, w32, SFits, to_z, of_z, pow_mono}
 use Rattle.std.proofs.lemmas.Int.{ints, to_z-of_z}
 use Rattle.std.proofs.lemmas.Nat.{pow-add}
 use Rattle.std.proofs.lemmas.Simd.{shifts_fit_splat}
+use Rattle.std.proofs.lemmas.List.{map-id}
 use Rattle.std.specs.Int.{saturate_to_bits}
 use lib.Signed.{shr_z}
 use Rattle.dsp_defs.specs.Signal.{sample, values}
 use Rattle.dsp_defs.specs.declared.format.Fmt.TheVariants.{Q15}
 use Rattle.dsp_sections.specs.Sections.{five_of, next_output}
 use Rattle.dsp_lanes.proofs.LaneOps.{casts_asked, each_widens}
-use Rattle.dsp_lanes.proofs.LaneSums.{map-self}
 use Rattle.dsp_sections.proofs.SectionLanes.{next_16_cast, next_16_read}
 use Rattle.dsp_sections.proofs.sections.I16SectionKernels.next.Goals as goal
 
@@ -103,7 +103,7 @@ returns-clause-value g c =
     (fit 3 (pos 0) (omega arith)) (fit 4 (pos 0) (omega arith))
     k e both.0 both.1 both.2).0
     ∙ (λ t. values g.row.L (λ i. saturate_to_bits 15 (shr_z (total five x x1 x2 y1 y2 i) (2 ^ down t))))
-    ∙ (λ t. values g.row.L (λ i. next_output Q15 p (five_of (sym (map-self five) t)) (sample x i) (sample x1 i)
+    ∙ (λ t. values g.row.L (λ i. next_output Q15 p (five_of (sym (map-id five) t)) (sample x i) (sample x1 i)
     (sample x2 i) (sample y1 i) (sample y2 i)))
 
 pub returns-clause-fit : goal.returns-clause-fit

@@ -1,8 +1,8 @@
 use Rattle.std.proofs.Common.{◌∙◌, ap, sym, w32}
 use lib.Lanes.{chunk}
 use Rattle.std.proofs.lemmas.Simd.{length-chunk}
+use Rattle.std.proofs.lemmas.List.{map-id}
 use Rattle.dsp_lanes.proofs.LaneOps.{group_fits}
-use Rattle.dsp_lanes.proofs.LaneSums.{map-self}
 use Rattle.dsp_sections.proofs.SectionLanes.{masked_read}
 use Rattle.dsp_sections.proofs.sections.I32SectionKernels.load.Goals as goal
 
@@ -12,7 +12,7 @@ returns-clause-value g c =
     let xs = chunk c.args.at l c.args.samples.now in
     let f = group_fits w32 c.args.at l c.args.samples.now c.q31_fit.ensures c.requires.inside in
     (masked_read l xs (length-chunk c.args.at l c.args.samples.now c.requires.inside) f).0
-    ∙ ap (λ s. chunk c.args.at l s) (sym (map-self c.args.samples.now))
+    ∙ ap (λ s. chunk c.args.at l s) (sym (map-id c.args.samples.now))
 
 pub returns-clause-fit : goal.returns-clause-fit
 returns-clause-fit g c =

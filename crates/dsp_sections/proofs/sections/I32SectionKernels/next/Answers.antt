@@ -4,11 +4,11 @@ use Rattle.std.specs.Int.{int_wrap}
 use Rattle.std.proofs.lemmas.Int.{int_wrap_fits, to_z-of_z}
 use Rattle.std.proofs.lemmas.Nat.{pow-add}
 use Rattle.std.proofs.lemmas.Simd.{shifts_fit_splat}
+use Rattle.std.proofs.lemmas.List.{map-id}
 use Rattle.std.proofs.Math.ListN.{get_or, get_or-map}
 use Rattle.dsp_defs.specs.Signal.{sample, values}
 use Rattle.dsp_defs.specs.declared.format.Fmt.TheVariants.{Q31}
 use Rattle.dsp_sections.specs.Sections.{five_of, next_output}
-use Rattle.dsp_lanes.proofs.LaneSums.{map-self}
 use Rattle.dsp_sections.proofs.LaneValues.{splat_casts}
 use Rattle.dsp_sections.proofs.SectionLanes.{next_32_read}
 use Rattle.dsp_sections.proofs.sections.I32SectionKernels.next.Goals as goal
@@ -99,7 +99,7 @@ returns-clause-value g c =
     (fit 0 (pos 0) (omega arith)) (fit 1 (pos 0) (omega arith)) (fit 2 (pos 0) (omega arith))
     (fit 3 (pos 0) (omega arith)) (fit 4 (pos 0) (omega arith))
     (31 - p) e both.0 both.1).0
-    ∙ (λ t. values g.row.L (λ i. next_output Q31 p (five_of (sym (map-self five) t)) (low_sample x i t)
+    ∙ (λ t. values g.row.L (λ i. next_output Q31 p (five_of (sym (map-id five) t)) (low_sample x i t)
     (low_sample x1 i t) (low_sample x2 i t) (low_sample y1 i t) (low_sample y2 i t)))
 
 pub returns-clause-fit : goal.returns-clause-fit

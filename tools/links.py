@@ -23,6 +23,9 @@ def declared_at(path, name):
 
 def main(words):
     mend = words[:1] == ['--mend']
+    if not words[mend:]:
+        print('usage: links.py [--mend] FILE..', file=sys.stderr)
+        return 2
     faults = 0
     for page in words[mend:]:
         with open(page, encoding='utf-8') as file:

@@ -24,7 +24,7 @@ use Rattle.dsp_cli.specs.declared.fault.Fault.TheVariants.{Stream, Conversion, S
 use Rattle.dsp_cli.proofs.StatusLaws.{stream_text, stream_output, reports_done, fault_not_done, stream_or_print}
 use Rattle.dsp_cli.proofs.StatusLaws.{no_stop}
 use Rattle.dsp_laws.specs.Stands.{IsBroken, IsStopped, Stands, Taken, Gather, Window, Riff, TellsLength, WroteFront}
-use Rattle.dsp_laws.specs.Stands.{IsUnflushed, WrotePart}
+use Rattle.dsp_laws.specs.Stands.{WasLeft, WrotePart}
 use Rattle.dsp_laws.proofs.TextLaws.{text_told, text_wrote}
 use Rattle.dsp_laws.proofs.TakenLaws.{reader, for_script, for_given, for_taken, within_most, took_frames}
 use Rattle.dsp_session.specs.declared.fault.LengthFault.TheVariants as length_fault
@@ -102,7 +102,7 @@ module _ (c : Call) (status : ℕ) (report told : SinkState) where
     abbrev LengthsTold : Type 0
     LengthsTold = status ≡ 5 → TellsLength c source_input stop.now report told
 
-    stopped_stands : Parts → (IsBroken status → IsUnflushed c.sink c.after) → Fronts → LengthsTold → Standing
+    stopped_stands : Parts → (IsBroken status → WasLeft c.sink c.after) → Fronts → LengthsTold → Standing
     stopped_stands parts kept fronts lengths =
         record {
           input = source_input;

@@ -35,8 +35,8 @@ abbrev pub WroteFront : List ℕ → SinkState → SinkState → Type 0
 WroteFront bytes old new = (written : List ℕ) × Wrote written old new × Begins written bytes
 
 -- the output has not failed, and was not flushed behind its last byte
-abbrev pub IsUnflushed : SinkState → SinkState → Type 0
-IsUnflushed old new = (new.faults ≡ old.faults) × ((written : List ℕ) × Wrote written old new
+abbrev pub WasLeft : SinkState → SinkState → Type 0
+WasLeft old new = (new.faults ≡ old.faults) × ((written : List ℕ) × Wrote written old new
     × (new.settled ≡ settled_after old.settled (length written)))
 
 -- nothing can be written: the header of the input isn't all there, or the output would be too long
@@ -93,7 +93,7 @@ pub record Stands (c : Call) (status : ℕ) (report told : SinkState) : Type 0 w
   pub part : IsBroken status → IfTaken c input now (λ s given.
       WrotePart s (chosen_block c.words s) given c.sink c.after)
   -- and the output has not failed, and nobody flushed it
-  pub unflushed : IsBroken status → IsUnflushed c.sink c.after
+  pub unflushed : IsBroken status → WasLeft c.sink c.after
   -- the output has stopped it: a front of that was, or of the whole output where the input had ended
   pub front : status ≡ 8 → IfTaken c input now (λ s given. HasHeader s given
       × (WroteFront (part_of s (chosen_block c.words s) given) c.sink c.after

@@ -28,7 +28,8 @@ pub fn what_is_reported()
 /// Where the status is 1, the words are no command, and only there; where it is 2, the script has a fault; with 3, the
 /// chosen block length isn't legal; with 4, the header of the input or its end is at fault; with 6 to 9 and 14, a port
 /// has failed, once; with 11, the file of a check is not the output, and the line says the first place where it
-/// differs; and with 13, the state to go on from is at fault. Where as many bytes were taken as may be, the status is 5, but for a few ends just there.
+/// differs; and with 13, the state to go on from is at fault. Where as many bytes were taken as may be, the status is 5,
+/// but for a few ends just there.
 pub fn where_statuses_come_from()
     ensures { (c : Call) (status : ℕ) (report told : SinkState) → Ended c status report told
         → Origins c status report told }

@@ -136,22 +136,11 @@ read format m n z fits is is_z =
     let same : m ≡ n = is ∙ to_z-of_z (word-in-32 format n fits) in
     to_z-of_z (subst (SFits w64) (sym same) (wide-number format n fits)) ∙ same ∙ is_z
 
--- what three sections give to the next
-pub given : (format : Fmt) (lanes : List ℤ) (m0 m1 m2 n0 n1 n2 z0 z1 z2 : ℤ)
-    → SFits (word format) n0 → SFits (word format) n1 → SFits (word format) n2 → m0 ≡ to_z w32 (of_z w32 n0) →
-    m1 ≡ to_z w32 (of_z w32 n1) → m2 ≡ to_z w32 (of_z w32 n2)
-    → n0 ≡ z0 → n1 ≡ z1 → n2 ≡ z2 → Each1 (SFits w64) lanes
-    → lanes ≡ to_z w64 (of_z w64 m0) ∷ to_z w64 (of_z w64 m1) ∷ to_z w64 (of_z w64 m2) ∷ pos 0 ∷ [] →
-    AreFour format lanes z0 z1 z2 (pos 0)
-given format lanes m0 m1 m2 n0 n1 n2 z0 z1 z2 f0 f1 f2 e0 e1 e2 i0 i1 i2 wide is = record {
-  wide = wide;
-  is = is ∙ (λ i. read format m0 n0 z0 f0 e0 i0 i ∷ read format m1 n1 z1 f1 e1 i1 i ∷
-      read format m2 n2 z2 f2 e2 i2 i ∷ pos 0 ∷ []);
-  first = subst (SFits (word format)) i0 f0;
-  second = subst (SFits (word format)) i1 f1;
-  third = subst (SFits (word format)) i2 f2;
-  fourth = nothing-fits format;
-}
+-- a number with the bits of a sample
+pub same-bits : (format : Fmt) (y m n z : ℤ) → SFits (word format) y → of_z w64 y ≡ of_z w64 m → SFits (word format) n →
+    m ≡ to_z w32 (of_z w32 n) → n ≡ z → y ≡ z
+same-bits format y m n z fits same fits_n is is_z =
+    sym (to_z-of_z (wide-number format y fits)) ∙ ap (to_z w64) same ∙ read format m n z fits_n is is_z
 
 -- four lanes that were passed on
 pub passed : (format : Fmt) (lanes : List ℤ) → AreWords format lanes →

@@ -1,5 +1,5 @@
 -- Four sections in lanes work as four machines.
-use Rattle.std.proofs.Common.{◌≡◌, ap, sym, subst, ℕ, ◌<◌, ℤ, List, [], ◌∷◌, lit<}
+use Rattle.std.proofs.Common.{◌≡◌, ap, refl, sym, subst, ℕ, ◌<◌, ℤ, List, [], ◌∷◌, lit<}
 use Rattle.dsp_defs.specs.Streaming.{GoesOn}
 use Rattle.dsp_defs.specs.declared.format.Fmt.{Fmt}
 use Rattle.dsp_sections.specs.SectionWaves.{low, lane_section, LanesTurn}
@@ -32,9 +32,8 @@ module _ (format : Fmt) (old new : WaveLanes) (x z : ℤ) (e : LanesTurn format 
 
   pub turns : Turns (wave_in format old) (wave_in format new) x z
   turns = record {
-    first = works 0 (lit< tt) x (low new.given 0) e.first (sym (ap (λ (l : List ℤ). low l 0) e.given));
-    second = works 1 (lit< tt) (low old.given 0) (low new.given 1) e.second
-        (sym (ap (λ (l : List ℤ). low l 1) e.given));
-    third = works 2 (lit< tt) (low old.given 1) (low new.given 2) e.third (sym (ap (λ (l : List ℤ). low l 2) e.given));
-    fourth = works 3 (lit< tt) (low old.given 2) z e.fourth (sym e.last);
+    first = works 0 (lit< tt) x (low new.y1 0) e.first refl;
+    second = works 1 (lit< tt) (low old.y1 0) (low new.y1 1) e.second refl;
+    third = works 2 (lit< tt) (low old.y1 1) (low new.y1 2) e.third refl;
+    fourth = works 3 (lit< tt) (low old.y1 2) z e.fourth (sym e.last);
   }

@@ -23,7 +23,7 @@ wave_in format l = record {
     fourth =
         lane_part format l 3;
   };
-  to_second = low l.given 0;
-  to_third = low l.given 1;
-  to_fourth = low l.given 2;
+  to_second = low l.y1 0;
+  to_third = low l.y1 1;
+  to_fourth = low l.y1 2;
 }

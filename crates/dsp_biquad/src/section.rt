@@ -140,6 +140,13 @@ impl<T: BiquadSample> WaveMachine<T> for Section<T> {
         if b.post_shift != p || c.post_shift != p || d.post_shift != p {
             return None;
         }
+        // In lanes a section's last output is what it gives to the next.
+        if a.y1 != i64::from(to_second.number())
+            || b.y1 != i64::from(to_third.number())
+            || c.y1 != i64::from(to_fourth.number())
+        {
+            return None;
+        }
         Some(FourSections {
             lanes: WaveLanes {
                 b0: plain_in_lanes(a.b0, b.b0, c.b0, d.b0, p),
@@ -151,12 +158,6 @@ impl<T: BiquadSample> WaveMachine<T> for Section<T> {
                 x2: in_lanes(a.x2, b.x2, c.x2, d.x2),
                 y1: in_lanes(a.y1, b.y1, c.y1, d.y1),
                 y2: in_lanes(a.y2, b.y2, c.y2, d.y2),
-                given: in_lanes(
-                    i64::from(to_second.number()),
-                    i64::from(to_third.number()),
-                    i64::from(to_fourth.number()),
-                    0,
-                ),
                 post_shift: p,
             },
             sample: PhantomData,
@@ -164,7 +165,7 @@ impl<T: BiquadSample> WaveMachine<T> for Section<T> {
     }
 
     fn unpack(lanes: &FourSections<T>) -> InFlight<T, Self> {
-        let given = lanes.lanes.given;
+        let given = lanes.lanes.y1;
         InFlight {
             first: section_in(&lanes.lanes, 0),
             second: section_in(&lanes.lanes, 1),

@@ -3,17 +3,14 @@ use Rattle.std.proofs.Common.{◌≡◌, ◌∙◌, ap, refl, sym, subst, ℕ, z
 use Rattle.std.proofs.Common.{ℤ, pos, ◌+ℤ◌, ◌*ℤ◌, List, [], ◌∷◌, length, map, replicate, arith, SFits, to_z, of_z}
 use Rattle.std.proofs.Common.{lit<, pow_mono, negsuc, w8, w16, w32, w64}
 use Rattle.std.specs.Prelude.{nat_abs}
-use Rattle.std.specs.List.{range_with_len}
 use Rattle.std.specs.Int.{int_wrap, saturate_to_bits}
 use Rattle.std.proofs.lemmas.Int.{ints, int_wrap_fits, SFits-int_wrap, int_wrap-add_left, int_wrap-add_right}
-use Rattle.std.proofs.lemmas.Int.{fits_signed_mul, to_z-of_z, unsigned_abs-mul}
+use Rattle.std.proofs.lemmas.Int.{to_z-of_z, unsigned_abs-mul}
 use Rattle.std.proofs.lemmas.List.FromFn.{get_or-map-range_with_len}
-use Rattle.std.proofs.lemmas.Simd.{map-map}
-use Rattle.std.proofs.lemmas.Nat.{div-add-mod', mod_below}
+use Rattle.std.proofs.Math.Facts.{Fits-of_z}
 use Rattle.std.proofs.Math.ListN.{get_or-map}
 use Rattle.std.proofs.Math.Nat.{mul-le-mul}
 use lib.Lanes.{zip2, Each1}
-use lib.Pow.{pow_pos}
 use lib.Signed.{shr_z, mag}
 use Rattle.dsp_sat.proofs.WideProducts.{word-in-32}
 use Rattle.dsp_sat.proofs.Words.{abs_within, product_fits, shift_fits}
@@ -27,14 +24,12 @@ use Rattle.dsp_sections.specs.declared.wave_lanes.WaveLanes.{WaveLanes}
 use Rattle.dsp_lanes.proofs.HalfSums.{by_four, evens}
 use Rattle.dsp_lanes.proofs.LaneOps.{bits_of, ints_of_bits, Each1-map, greater, lesser, saturates_to, saturated_fits}
 use Rattle.dsp_lanes.proofs.LaneSums.{plus_in, times_in}
-use Rattle.dsp_lanes.proofs.LaneClosings.{down_in, up_in, low_lanes, low_word}
+use Rattle.dsp_lanes.proofs.LaneClosings.{low_lanes, low_word}
 use Rattle.dsp_lanes.proofs.WordViews.{halves, halves_fit, narrow_are, narrow_lanes, pairs, pairs_low, wide_are}
 use Rattle.dsp_lanes.proofs.WordViews.{wide_lanes}
 use Rattle.dsp_sections.proofs.LaneValues.{AreValues, of_list, same_values, sums, multiples, downs, ups, all_fit}
 use Rattle.dsp_sections.proofs.LaneValues.{read_values, sample_fits}
-use Rattle.dsp_sections.proofs.SectionLanes.{masks, and_in}
-use Rattle.dsp_sections.proofs.FloorShifts.{upper_word, unsigned_word}
-use Rattle.dsp_sections.proofs.ScaledShifts.{shift_scaled}
+use Rattle.dsp_sections.proofs.UnsignedLanes.{low_word_is}
 
 listed : (xs : List ℤ) → length xs ≡ 4 → Each1 (SFits w64) xs → AreValues w64 4 (bits_of w64 xs) (sample xs)
 listed xs long f = of_list w64 4 xs long f (omega (arith, ints))
@@ -90,34 +85,12 @@ module _ (a b c d e : List ℤ) (la : length a ≡ 4) (lb : length b ≡ 4) (lc 
       (λ i. in_order (sample a i) (sample b i) (sample c i) (sample d i) (sample e i)))
 
 -- ---- Q31
-module _ (s : List ℤ) (long : length s ≡ 4) (f : Each1 (SFits w64) s) (p e : ℕ) (both : 2 ^ (31 - p) * 2 ^ e ≡ 2 ^ 32)
-    (power : SFits w64 (pos (2 ^ e))) where
-  abbrev closed_32 : List ℕ
-  closed_32 = zip2 and_in (zip2 (down_in w64) (zip2 (up_in w64) (bits_of w64 s) (replicate 4 e)) (replicate 4 32))
-      (replicate 4 4294967295)
-
-  abbrev upper : ℕ → ℤ
-  upper i = shr_z (int_wrap w64 (sample s i *ℤ pos (2 ^ e))) (2 ^ 32)
-
-  shifted_32 : AreValues w64 4 (zip2 (down_in w64) (zip2 (up_in w64) (bits_of w64 s) (replicate 4 e))
-      (replicate 4 32)) upper
-  shifted_32 = downs w64 4 32 (ups w64 4 e power (listed s long f))
-
-  pub closed_32_read : (map (int_wrap w32) (map (to_z w64) closed_32) ≡ values 4
-      (λ i. section_close Q31 p (sample s i))) × (map (to_z w64) closed_32 ≡ values 4
-      (λ i. pos (of_z w64 (upper i) % 2 ^ 32))) × Each1 (SFits w64) (map (to_z w64) closed_32)
-  closed_32_read =
-      let read = read_values w64 4 (masks 4 shifted_32) in
-      let fits = λ (i : ℕ). (listed s long f).fit i in (
-        ap (map (int_wrap w32)) read.0
-            ∙ map-map (int_wrap w32) (λ i. pos (of_z w64 (upper i) % 2 ^ 32)) (range_with_len 0 4)
-            ∙ (λ t. map (λ i. (unsigned_word (upper i) (shifted_32.fit i)
-            ∙ upper_word (sample s i) (2 ^ e) (2 ^ (31 - p)) (pow_pos e) (pow_pos (31 - p)) both
-            ∙ ap (λ v. int_wrap w32 (shr_z v (2 ^ (31 - p)))) (sym (int_wrap_fits w64 (sample s i) (fits i)))) t)
-            (range_with_len 0 4)),
-        read.0,
-        read.1,
-      )
+pub closed_32_value : (s y : List ℤ) → Each1 (SFits w64) s → (p : ℕ)
+    → map (int_wrap w32) y ≡ values 4 (λ i. int_wrap w32 (shr_z (sample s i) (2 ^ (31 - p))))
+    → map (int_wrap w32) y ≡ values 4 (λ i. section_close Q31 p (sample s i))
+closed_32_value s y f p are =
+    are ∙ (λ t. values 4 (λ i. int_wrap w32 (shr_z (sym (int_wrap_fits w64 (sample s i)
+    (sample_fits w64 s f (omega (arith, ints)) i)) t) (2 ^ (31 - p)))))
 
 -- ---- Q15
 -- the low word of a lane is that of the list of low words
@@ -125,17 +98,6 @@ low_sample : (xs : List ℤ) (i : ℕ) → low xs i ≡ sample (map (int_wrap w3
 low_sample xs i =
     sym (ap (get_or (map (int_wrap w32) xs) i) (sym (int_wrap_fits w32 (pos 0) (record { sfits = omega arith }))) ∙
     get_or-map (int_wrap w32) xs i (pos 0))
-
--- the low word of a lane is its number, wrapped
-low_word_is : (z : ℤ) → SFits w64 z → to_z w32 (of_z w64 z % 2 ^ 32) ≡ int_wrap w32 z
-unfolding int_wrap
-low_word_is (pos a) f = refl
-low_word_is (negsuc a) f =
-    let h = f.sfits in
-    let rest = mod_below a (2 ^ 32) (omega arith) in
-    let whole = div-add-mod' a (2 ^ 32) in
-    let same : (2 ^ 64 - suc a) % 2 ^ 32 ≡ 2 ^ 32 - 1 - a % 2 ^ 32 = omega (arith, h, rest, whole) in
-    ap (to_z w32) same
 
 word_32 : (x : ℤ) → SFits w32 (saturate_to_bits 15 x)
 word_32 x = let h : SFits w16 (saturate_to_bits 15 x) = saturated_fits w16 x in
@@ -197,30 +159,9 @@ magnitude : (z : ℤ) → nat_abs z < 2 ^ 33 → mag z < 2 ^ 33
 magnitude (pos n) h = omega (arith, h)
 magnitude (negsuc n) h = omega (arith, h)
 
-module _ (s : List ℤ) (long : length s ≡ 4) (f : Each1 (SFits w64) s)
-    (small : (i : ℕ) → nat_abs (sample s i) < 2 ^ 33) (p e : ℕ) (few : p ≤ 13) (is : e ≡ p + 17) where
-  few_e : 2 ^ e ≤ 2 ^ 30
-  few_e = pow_mono {j = 30} (omega (arith, few, is))
-
-  power : SFits w64 (pos (2 ^ e))
-  power = record { sfits = omega (arith, few_e) }
-
-  raised : (i : ℕ) → SFits w64 (sample s i *ℤ pos (2 ^ e))
-  raised i = fits_signed_mul w64 (sample s i) (pos (2 ^ e)) (2 ^ 33 - 1) (2 ^ 30) (omega (arith, small i)) few_e
-      (lit< tt)
-
-  abbrev shifted_16 : List ℕ
-  shifted_16 = zip2 (down_in w64) (zip2 (up_in w64) (bits_of w64 s) (replicate 4 e)) (replicate 4 32)
-
+module _ (s : List ℤ) (small : (i : ℕ) → nat_abs (sample s i) < 2 ^ 33) (p : ℕ) (few : p ≤ 13) where
   abbrev wanted : ℕ → ℤ
   wanted i = shr_z (sample s i) (2 ^ (15 - p))
-
-  shifted_16_is : AreValues w64 4 shifted_16 wanted
-  shifted_16_is =
-      let places : 32 - e ≡ 15 - p = omega (arith, few, is) in
-      same_values w64 4 wanted (downs w64 4 32 (ups w64 4 e power (listed s long f)))
-      (λ i. ap (λ v. shr_z v (2 ^ 32)) (int_wrap_fits w64 (sample s i *ℤ pos (2 ^ e)) (raised i))
-      ∙ shift_scaled (sample s i) e 32 (omega (arith, few, is)) ∙ ap (λ k. shr_z (sample s i) (2 ^ k)) places)
 
   narrow : (i : ℕ) → SFits w32 (wanted i)
   narrow i =
@@ -228,25 +169,14 @@ module _ (s : List ℤ) (long : length s ≡ 4) (f : Each1 (SFits w64) s)
       let less = magnitude (sample s i) (small i) in
       shift_fits w32 (sample s i) (15 - p) (omega (arith, less, more))
 
-  abbrev masked_16 : List ℕ
-  masked_16 = zip2 and_in shifted_16 (replicate 4 4294967295)
-
-  pub masked_16_read : (map (to_z w64) masked_16 ≡ values 4 (λ i. pos (of_z w64 (wanted i) % 2 ^ 32))) ×
-      Each1 (SFits w64) (map (to_z w64) masked_16)
-  masked_16_read = read_values w64 4 (masks 4 shifted_16_is)
-
-  -- the low words are the numbers
-  masked_lows : values 4 (λ i. saturate_to_bits 15 (low (map (to_z w64) masked_16) i)) ≡ values 4
-      (λ i. section_close Q15 p (sample s i))
-  masked_lows =
-      ap (λ (xs : List ℤ). values 4 (λ i. saturate_to_bits 15 (low xs i))) masked_16_read.0
-      ∙ (λ t. values 4 (λ i. saturate_to_bits 15 ((unsigned_word (wanted i) (shifted_16_is.fit i)
-      ∙ int_wrap_fits w32 (wanted i) (narrow i)) t)))
-
-  pub closed_16_value : (outputs : List ℤ) → map (int_wrap w32) outputs ≡ values 4
-      (λ i. saturate_to_bits 15 (low (map (to_z w64) masked_16) i))
+  pub closed_16_value : (words outputs : List ℤ) → map (int_wrap w32) words ≡ values 4 (λ i. int_wrap w32 (wanted i))
+      → map (int_wrap w32) outputs ≡ values 4 (λ i. saturate_to_bits 15 (low words i))
       → map (int_wrap w32) outputs ≡ values 4 (λ i. section_close Q15 p (sample s i))
-  closed_16_value outputs are = are ∙ masked_lows
+  closed_16_value words outputs are clamped =
+      clamped
+      ∙ (λ t. values 4 (λ i. saturate_to_bits 15 (low_sample words i t)))
+      ∙ (λ t. values 4 (λ i. saturate_to_bits 15 (sample (are t) i)))
+      ∙ (λ t. values 4 (λ i. saturate_to_bits 15 (int_wrap_fits w32 (wanted i) (narrow i) t)))
 
 -- ---- a turn
 -- lanes moved up by one
@@ -368,20 +298,37 @@ zero_fits Q15 = subst (SFits w16) (sym (int_wrap_fits w32 (pos 0) (record { sfit
 zero_fits Q31 = SFits-int_wrap w32 (pos 0)
 
 -- lanes moved up are words
-pub moved_words : (format : Fmt) (first : ℤ) (given xs : List ℤ) → SFits (word format) first → AreWords format given →
-    xs ≡ first ∷ sample given 0 ∷ sample given 1 ∷ sample given 2 ∷ [] → Each1 (SFits w64) xs → AreWords format xs
-moved_words format first given xs f words is wide = record {
+pub moved_words : (format : Fmt) (first : ℤ) (before xs : List ℤ) → SFits (word format) (int_wrap w32 first) →
+    AreWords format before → xs ≡ first ∷ sample before 0 ∷ sample before 1 ∷ sample before 2 ∷ [] →
+    Each1 (SFits w64) xs → AreWords format xs
+moved_words format first before xs f words is wide = record {
   four = ap length is;
   wide = wide;
   words = subst (λ (l : List ℤ). (i : ℕ) → SFits (word format) (low l i)) (sym is) each;
 }
   where
-    each : (i : ℕ) → SFits (word format) (low (first ∷ sample given 0 ∷ sample given 1 ∷ sample given 2 ∷ []) i)
-    each zero = subst (SFits (word format)) (sym (int_wrap_fits w32 first (word-in-32 format first f))) f
+    each : (i : ℕ) → SFits (word format) (low (first ∷ sample before 0 ∷ sample before 1 ∷ sample before 2 ∷ []) i)
+    each zero = f
     each (suc zero) = words.words 0
     each (suc (suc zero)) = words.words 1
     each (suc (suc (suc zero))) = words.words 2
     each (suc (suc (suc (suc i)))) = zero_fits format
+
+-- a sample's word alone, in 64 bits, is read as the sample
+pub word_read : (format : Fmt) (first n z : ℤ) → SFits (word format) n → n ≡ z →
+    first ≡ pos (of_z w32 (to_z w32 (of_z w32 n))) →
+    int_wrap w32 (to_z w64 (of_z w64 first)) ≡ z
+word_read format first n z fits same is =
+    let narrow = word-in-32 format n fits in
+    let below = (Fits-of_z narrow).fits in
+    let wide : SFits w64 (pos (of_z w32 n)) = record { sfits = omega (arith, below) } in
+    let whole : of_z w32 n % 2 ^ 32 ≡ of_z w32 n = omega (arith, below) in
+    ap (λ v. int_wrap w32 (to_z w64 (of_z w64 v))) (is ∙ ap (λ v. pos (of_z w32 v)) (to_z-of_z w32 n narrow))
+    ∙ ap (int_wrap w32) (to_z-of_z w64 (pos (of_z w32 n)) wide)
+    ∙ sym (low_word_is (pos (of_z w32 n)) wide)
+    ∙ ap (to_z w32) whole
+    ∙ to_z-of_z w32 n narrow
+    ∙ same
 
 -- the last lane, as it is read
 fourth_read : (xs : List ℤ) (v : ℤ) → length xs ≡ 4 → v ≡ get_or xs 3 v → v ≡ sample xs 3

@@ -1,7 +1,7 @@
 -- The sections of a lattice with feedback, a group at a time.
 use Rattle.std.proofs.Common.{ℕ, zero, suc, ◌≡◌, ◌<◌, ◌≤◌, ◌+◌, ◌-◌, List, [], ◌∷◌, ◌++◌, length, map, take, drop}
 use Rattle.std.proofs.Common.{replicate}
-use Rattle.std.proofs.Common.{refl, sym, ap, ap₂, ◌∙◌, arith, append_assoc, drop-drop, take-append-drop}
+use Rattle.std.proofs.Common.{refl, sym, subst, ap, ap₂, ◌∙◌, arith, append_assoc, drop-drop, take-append-drop}
 use Rattle.std.proofs.lemmas.Int.{ints}
 use Rattle.std.proofs.lemmas.List.{take_all}
 use Rattle.std.proofs.lemmas.Simd.{length-chunk, length-zip2, take_more_put_chunk, get_or-put_chunk_below}
@@ -10,13 +10,14 @@ use lib.Lanes.{zip2, chunk, put_chunk, Each1}
 use lib.IntN.{+ℤ_comm}
 use mir.Syntax.{Width}
 use mir.Val.{SFits, to_z}
-use Rattle.dsp_defs.specs.Formats.{word_bits}
+use Rattle.dsp_defs.specs.Formats.{accumulator, word_bits}
 use Rattle.dsp_defs.specs.Lattice.{reflected, backward_values}
-use Rattle.dsp_defs.specs.Numbers.{saturate}
+use Rattle.dsp_defs.specs.Numbers.{saturate, wrap}
 use Rattle.dsp_defs.specs.Signal.{sample, sum_below}
 use Rattle.dsp_defs.proofs.Signal.{sum_below_cong}
 use Rattle.dsp_defs.specs.declared.format.Fmt.{Fmt}
-use Rattle.dsp_sections.specs.Ladders.{lowered_values, raised_values}
+use Rattle.dsp_sections.specs.Ladders.{lowered_values, raised_values, SectionsDone}
+use Rattle.dsp_lanes.proofs.DotSums.{group-more}
 use Rattle.dsp_lanes.proofs.Groups.{rest-group}
 use Rattle.dsp_lanes.proofs.LaneOps.{bits_of, ints_of_bits}
 use Rattle.dsp_lanes.proofs.LaneSums.{lanes_read}
@@ -234,3 +235,33 @@ sum-stays at vs news new ys is =
     sum_below_cong at (λ j. sample vs j *ℤ sample news j) (λ j. sample vs j *ℤ sample new j)
     (λ j below. ap (λ z. sample vs j *ℤ z) (sym (get_or-put_chunk_below at news ys j (pos 0) below) ∙
     ap (λ l. sample l j) (sym is)))
+
+-- a group more is done, with its products in the sum
+pub next-done : (format : Fmt) (x f : ℤ) (ks vs olds news new fs : List ℤ) (at n m : ℕ) (sum total : ℤ) → m ≡ at + n →
+    at + n ≤ length ks → length ks < length olds → length news ≡ length olds → 0 < n
+    → SectionsDone format x ks vs olds news at f (wrap (accumulator format) sum)
+    → fs ≡ passed format f (chunk at n ks) (chunk (at + 1) n news)
+    → new ≡ put_chunk at news (raised_values format (chunk at n ks) fs (chunk (at + 1) n news))
+    → wrap (accumulator format) total ≡ wrap (accumulator format)
+    (sum +ℤ sum_below n (λ j. sample vs (at + j) *ℤ sample new (at + j)))
+    → SectionsDone format x ks vs olds new m (sample fs (n - 1)) (wrap (accumulator format) total)
+next-done format x f ks vs olds news new fs at n m sum total next inside more same some so_far fs_is new_is total_is =
+    let done = group-done format x f ks olds news new fs at n inside more same some so_far.values so_far.rest fs_is
+    new_is in
+    let stays = ap (wrap (accumulator format)) (sum-stays at vs news new _ new_is) in
+    record {
+      values = subst (λ (j : ℕ). take j new ++ backward_values format (sample fs (n - 1)) (drop j ks)
+          (drop (j + 1) olds) ≡ backward_values format x ks (drop 1 olds)) (sym next) done.0;
+      rest = subst (λ (j : ℕ). drop (j + 1) new ≡ drop (j + 1) olds) (sym next) done.1;
+      sum_is = group-more (accumulator format) at n m vs new total sum next total_is (so_far.sum_is ∙ stays);
+    }
+
+-- what no group has reached is the same before and behind one
+pub same-behind : (format : Fmt) (x f g sum total : ℤ) (ks vs olds news new : List ℤ) (at n size : ℕ) →
+    SectionsDone format x ks vs olds news at f sum → SectionsDone format x ks vs olds new (at + n) g total
+    → chunk (at + n + 1) size news ≡ chunk (at + n + 1) size new
+same-behind format x f g sum total ks vs olds news new at n size so_far next =
+    let later : at + 1 + n ≡ at + n + 1 = omega arith in
+    let behind : (xs : List ℤ) → drop (at + n + 1) xs ≡ drop n (drop (at + 1) xs) =
+    λ xs. ap (λ m. drop m xs) (sym later) ∙ sym (drop-drop n (at + 1) xs) in
+    ap (take size) (behind news ∙ ap (drop n) so_far.rest ∙ sym (behind olds) ∙ sym next.rest)

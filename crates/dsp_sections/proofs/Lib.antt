@@ -9,4 +9,5 @@ mod LadderProducts
 mod LadderSections
 mod LadderWords
 pub mod ScaledShifts
+mod UnsignedLanes
 pub mod FourSections

@@ -38,23 +38,21 @@ pub record AreSections (format : Fmt) (l : WaveLanes) : Type 0 where
   pub x2 : AreWords format l.x2
   pub y1 : AreWords format l.y1
   pub y2 : AreWords format l.y2
-  pub given : AreWords format l.given
 
 -- the section of a lane
 abbrev pub lane_section : WaveLanes → ℕ → Section
 lane_section l i = record { b0 = low l.b0 i; b1 = low l.b1 i; b2 = low l.b2 i; a1 = low l.a1 i; a2 = low l.a2 i }
 
--- the first section took x, each other what was given to it, and the last gave z
+-- the first section took x, each other the last output of the one before it, and the last gave z
 pub record LanesTurn (format : Fmt) (old new : WaveLanes) (x z : ℤ) : Type 0 where
   pub post_shift : new.post_shift ≡ old.post_shift
   pub sections : (i : ℕ) → lane_section new i ≡ lane_section old i
   pub first : low new.x1 0 ≡ x
-  pub second : low new.x1 1 ≡ low old.given 0
-  pub third : low new.x1 2 ≡ low old.given 1
-  pub fourth : low new.x1 3 ≡ low old.given 2
+  pub second : low new.x1 1 ≡ low old.y1 0
+  pub third : low new.x1 2 ≡ low old.y1 1
+  pub fourth : low new.x1 3 ≡ low old.y1 2
   pub before : new.x2 ≡ old.x1
   pub outputs : (i : ℕ) → i < 4 → low new.y1 i ≡ next_output format old.post_shift (lane_section old i) (low new.x1 i)
       (low old.x1 i) (low old.x2 i) (low old.y1 i) (low old.y2 i)
   pub past : new.y2 ≡ old.y1
-  pub given : new.given ≡ new.y1
   pub last : z ≡ low new.y1 3

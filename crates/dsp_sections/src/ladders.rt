@@ -1,13 +1,13 @@
 //! The sections of a lattice with feedback, a group at a time. What a section passes on is what it was
 //! given less a product that is known before, saturated: the values of a group are guessed as if no step
 //! saturates, and the guess is tested.
-ghost use Rattle.std.specs.Prelude.{◌≡◌, ◌+◌, ◌-◌, ◌*◌, ◌<◌, ◌≤◌, ◌+ℤ◌, ◌-ℤ◌, length, map, All, FitsSigned};
+ghost use Rattle.std.specs.Prelude.{◌≡◌, ◌+◌, ◌-◌, ◌*◌, ◌<◌, ◌≤◌, ◌+ℤ◌, ◌-ℤ◌, ◌*ℤ◌, length, map, All, FitsSigned};
 ghost use Rattle.std.specs.Simd.Lanes.{Each1, zip2, chunk, put_chunk};
 ghost use Rattle.dsp_defs.specs.Counts.{Rises};
 ghost use Rattle.dsp_defs.specs.Formats.{accumulator, word_bits};
 ghost use Rattle.dsp_defs.specs.Lattice.{reflected};
-ghost use Rattle.dsp_defs.specs.Numbers.{saturate};
-ghost use Rattle.dsp_defs.specs.Signal.{sample};
+ghost use Rattle.dsp_defs.specs.Numbers.{saturate, wrap};
+ghost use Rattle.dsp_defs.specs.Signal.{sample, sum_below};
 ghost use Rattle.dsp_sections.specs.Ladders.{lowered_values, raised_values, SectionsDone};
 
 use crate::ladder_lanes::LadderLanes;
@@ -35,36 +35,41 @@ fn passed_on<T: LadderLanes>(front: T::Lanes, products: T::Lanes) -> T::Lanes
     values
 }
 
-/// Writes over the values g from `at` on those that a group of sections gives, and answers what its
-/// sections pass on. `front` has last what the section before them passed on. It counts two products for
-/// each section, and as many turns.
+/// Writes over the values g from `at` on those that a group of sections gives which passes on `values`, and
+/// adds their products with the ladder to the sums. `before` are the values g of the sections before them.
+/// It counts two products for each section, and as many turns.
 #[inline(always)]
-fn section_group<T: LadderLanes, L: Ledger>(
+fn raise_group<T: LadderLanes, D: DotForm<T>, L: Ledger>(
     k: T::Lanes,
+    before: T::Lanes,
+    values: T::Lanes,
+    ladder: &[T],
     backward: &mut [T],
     at: usize,
-    front: T::Lanes,
+    sums: D::Sums,
     steps: &mut Steps<L>,
-) -> T::Lanes
+) -> D::Sums
+    requires size { D.size ≡ T.size }
     requires exact { Each1 T.IsExact (T.lanes k) }
     requires fit_k { T.AreLanes k }
-    requires fit_front { T.AreLanes front }
+    requires fit_before { T.AreLanes before }
+    requires fit_values { T.AreLanes values }
+    requires fit_sums { D.AreSums sums }
     requires inside { at + T.size < length backward.old }
-    ensures passed { T.lanes result ≡ lowered_values (word_bits T.format)
-        (sample (T.lanes front) (T.size - 1)) (zip2 (reflected T.format) (T.lanes k)
-        (chunk (at + 1) T.size (map T.number backward.old))) }
+    requires ladder { length ladder.now ≡ length backward.old }
     ensures backward { map T.number backward.new ≡ put_chunk at (map T.number backward.old)
-        (raised_values T.format (T.lanes k) (T.lanes result)
-        (chunk (at + 1) T.size (map T.number backward.old))) }
-    ensures fit { T.AreLanes result }
+        (raised_values T.format (T.lanes k) (T.lanes values) (T.lanes before)) }
+    ensures sums { wrap D.width (D.value result) ≡ wrap D.width (D.value sums +ℤ sum_below T.size
+        (λ j. sample (map T.number ladder.now) (at + j)
+        *ℤ sample (map T.number backward.new) (at + j))) }
+    ensures fit_sums { D.AreSums result }
     ensures steps { Rises steps.old steps.new (2 * T.size) (2 * T.size) }
 {
-    let before = T::load_next(backward, at);
-    let products = T::reflected(k, before, steps);
-    let values = passed_on::<T>(front, products);
     let reflected = T::reflected(k, values, steps);
     T::store(T::sums(reflected, before), backward, at);
-    values
+    let size = T::size() as u64;
+    steps.count(size, size);
+    D::add_products(sums, ladder, backward, at)
 }
 
 /// Where the groups of the sections end: the place of the next section, what it is given and the sum of
@@ -76,8 +81,8 @@ pub struct LadderGroups<T: Sample> {
     pub sum: T::Acc,
 }
 
-/// Takes the next sample through groups of sections, as long as they are whole and
-/// their coefficients are taken in lanes.
+/// Takes the next sample through groups of sections, two a turn, as long as they are whole and their
+/// coefficients are taken in lanes.
 #[inline(always)]
 fn section_groups<T: LadderLanes, D: DotForm<T>, L: Ledger>(
     reflections: &[T],
@@ -100,14 +105,32 @@ fn section_groups<T: LadderLanes, D: DotForm<T>, L: Ledger>(
     let mut front = T::splat(x);
     let mut sums = D::no_sums();
     let mut at = 0;
+    'pairs: while (reflections.len() - at) / 2 >= size {
+        let k = T::load(reflections, at);
+        let next = T::load(reflections, at + size);
+        if !T::are_exact(k) || !T::are_exact(next) {
+            break 'pairs;
+        }
+        // The products of both groups are known before what the first passes on.
+        let before = T::load_next(backward, at);
+        let behind = T::load_next(backward, at + size);
+        let products = T::reflected(k, before, steps);
+        let further = T::reflected(next, behind, steps);
+        let values = passed_on::<T>(front, products);
+        front = passed_on::<T>(values, further);
+        let sum = raise_group::<T, D, L>(k, before, values, ladder, backward, at, sums, steps);
+        sums = raise_group::<T, D, L>(next, behind, front, ladder, backward, at + size, sum, steps);
+        at += 2 * size;
+    }
     'groups: while reflections.len() - at >= size {
         let k = T::load(reflections, at);
         if !T::are_exact(k) {
             break 'groups;
         }
-        front = section_group(k, backward, at, front, steps);
-        sums = D::add_products(sums, ladder, backward, at);
-        steps.count(size as u64, size as u64);
+        let before = T::load_next(backward, at);
+        let products = T::reflected(k, before, steps);
+        front = passed_on::<T>(front, products);
+        sums = raise_group::<T, D, L>(k, before, front, ladder, backward, at, sums, steps);
         at += size;
     }
     LadderGroups {

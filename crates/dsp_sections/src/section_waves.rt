@@ -4,7 +4,7 @@ ghost use Rattle.std.specs.Int.{w64};
 ghost use Rattle.std.specs.Simd.Lanes.{Each1};
 ghost use Rattle.dsp_defs.specs.Biquad.{section_close};
 ghost use Rattle.dsp_defs.specs.Counts.{Rises};
-ghost use Rattle.dsp_defs.specs.Numbers.{saturate, wrap, w32};
+ghost use Rattle.dsp_defs.specs.Numbers.{floor_shift, saturate, wrap, w32};
 ghost use Rattle.dsp_defs.specs.Parameters.{greatest_biquad_shift};
 ghost use Rattle.dsp_defs.specs.Signal.{sample, values};
 ghost use Rattle.dsp_defs.specs.declared.format.Fmt.TheVariants.{Q15};
@@ -67,8 +67,23 @@ fn moved_up(first: i64, lanes: Simd<i64, 4>) -> Simd<i64, 4>
     Simd::splat(first).shuffle(lanes, [0, 4, 5, 6])
 }
 
-/// The numbers of the low words, clamped to 16 bits. What stands in a high word is clamped too, so that a 0
-/// stays there.
+/// Lanes that are moved down without their signs, of which the low words count.
+#[inline(always)]
+fn shifted_words(lanes: Simd<i64, 4>, places: u8) -> Simd<i64, 4>
+    requires few { places ≤ 32 }
+    requires four { length lanes ≡ 4 }
+    requires fit { Each1 (FitsSigned w64) lanes }
+    ensures value { map (wrap w32) result
+        ≡ values 4 (λ i. wrap w32 (floor_shift (sample lanes i) places)) }
+    ensures four { length result ≡ 4 }
+    ensures fit { Each1 (FitsSigned w64) result }
+{
+    let unsigned = u64x4::from_le_bytes(lanes.to_le_bytes());
+    let moved = unsigned >> Simd::splat(u64::from(places));
+    i64x4::from_le_bytes(moved.to_le_bytes())
+}
+
+/// The numbers of the low words, clamped to 16 bits. What stands in a high word is clamped too.
 #[inline(always)]
 fn clamped_words(words: Simd<i64, 4>) -> Simd<i64, 4>
     requires four { length words ≡ 4 }
@@ -98,20 +113,14 @@ pub trait WaveSample: Sample {
 impl WaveSample for i32 {
     #[inline(always)]
     fn close_four(sums: Simd<i64, 4>, post_shift: u8) -> Simd<i64, 4> {
-        // The compiler is not to keep the sign above the low word.
-        ((sums << Simd::splat(i64::from(post_shift) + 1)) >> Simd::splat(32))
-            & Simd::splat(0xffff_ffff)
+        shifted_words(sums, 31 - post_shift)
     }
 }
 
 impl WaveSample for i16 {
     #[inline(always)]
     fn close_four(sums: Simd<i64, 4>, post_shift: u8) -> Simd<i64, 4> {
-        // The compiler is not to keep the sign above the low word.
-        clamped_words(
-            ((sums << Simd::splat(i64::from(post_shift) + 17)) >> Simd::splat(32))
-                & Simd::splat(0xffff_ffff),
-        )
+        clamped_words(shifted_words(sums, 15 - post_shift))
     }
 }
 
@@ -129,7 +138,8 @@ pub fn turn_sections<T: WaveSample, L: Ledger>(
     ensures steps { Rises steps.old steps.new 20 20 }
 {
     steps.count(20, 20);
-    let x0 = moved_up(i64::from(x.number()), lanes.given);
+    // A sign above the sample's word would cost an instruction.
+    let x0 = moved_up(i64::from(x.number().cast_unsigned()), lanes.y1);
     let sums = sums_of_five(
         low_products(lanes.b0, x0),
         low_products(lanes.b1, lanes.x1),
@@ -142,6 +152,5 @@ pub fn turn_sections<T: WaveSample, L: Ledger>(
     lanes.x1 = x0;
     lanes.y2 = lanes.y1;
     lanes.y1 = y;
-    lanes.given = y;
     T::of_number(low_word(y[3]))
 }

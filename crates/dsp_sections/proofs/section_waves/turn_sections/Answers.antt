@@ -1,17 +1,15 @@
-use Rattle.std.proofs.Common.{◌≡◌, ◌∙◌, ap, sym, subst, refl, ◌*ℤ◌, ℤ, List, [], ◌∷◌, length, map, SFits, to_z, of_z, w32, w64}
-use Rattle.std.proofs.lemmas.Int.{int_wrap_fits}
-use Rattle.dsp_sat.proofs.WideProducts.{word-in-32}
-use Rattle.dsp_sat.proofs.Words.{widened}
+use Rattle.std.proofs.Common.{◌≡◌, ◌∙◌, ap, sym, subst, refl, ◌*ℤ◌, ℤ, pos, List, [], ◌∷◌, length, map, SFits, to_z}
+use Rattle.std.proofs.Common.{of_z, w64}
 use Rattle.dsp_defs.specs.Biquad.{section_close}
 use Rattle.dsp_defs.specs.Formats.{word}
 use Rattle.dsp_defs.specs.Signal.{sample}
 use Rattle.dsp_sections.specs.SectionWaves.{low}
-use Rattle.dsp_sections.proofs.FourSections.{total, back, back_fits, back_four, product_known, sum_known, moved_words, last_known}
-use Rattle.dsp_sections.proofs.FourSections.{words_back, are_sums, outputs_at}
+use Rattle.dsp_sections.proofs.FourSections.{total, back, back_fits, back_four, product_known, sum_known, moved_words}
+use Rattle.dsp_sections.proofs.FourSections.{last_known, word_read, words_back, are_sums, outputs_at}
 use Rattle.dsp_sections.proofs.section_waves.turn_sections.Goals as goal
 
 pub moved_up-x0-requires-clause-fit : goal.moved_up-x0-requires-clause-fit
-moved_up-x0-requires-clause-fit g c = back_fits c.args.lanes.now.given c.requires.given.wide
+moved_up-x0-requires-clause-fit g c = back_fits c.args.lanes.now.y1 c.requires.y1.wide
 
 pub low_products-requires-clause-fit_a : goal.low_products-requires-clause-fit_a
 low_products-requires-clause-fit_a g c = back_fits c.args.lanes.now.b0 c.requires.b0.wide
@@ -65,14 +63,15 @@ close_four-y-requires-clause-sums g c =
     let r = c.requires in
     let x = g.T.Sample.number c.args.x in
     let x_fits = subst (SFits (word format)) c.number.ensures.value c.number.ensures.fits in
-    let x_is : to_z w64 (of_z w64 c.from.result) ≡ x = widened w64 w32 c.from.result c.number.result
-    (word-in-32 format c.number.result c.number.ensures.fits) (record { sfits = c.from.type_inv }) c.from.ensures ∙
-    c.number.ensures.value in
+    let x_is = word_read format c.from.result c.number.result x c.number.ensures.fits c.number.ensures.value
+    (c.from.ensures ∙ ap pos c.cast_unsigned.ensures) in
+    let first = to_z w64 (of_z w64 c.from.result) in
     let x0 = c.moved_up-x0.result in
-    let x0_is : x0 ≡ x ∷ sample l.given 0 ∷ sample l.given 1 ∷ sample l.given 2 ∷ [] =
-    c.moved_up-x0.ensures.value ∙ (λ t. x_is t ∷ sample (back l.given r.given.wide t) 0 ∷ sample
-    (back l.given r.given.wide t) 1 ∷ sample (back l.given r.given.wide t) 2 ∷ []) in
-    let x0_words = moved_words format x l.given x0 x_fits r.given x0_is c.moved_up-x0.ensures.fit in
+    let x0_is : x0 ≡ first ∷ sample l.y1 0 ∷ sample l.y1 1 ∷ sample l.y1 2 ∷ [] =
+    c.moved_up-x0.ensures.value ∙ (λ t. first ∷ sample (back l.y1 r.y1.wide t) 0 ∷ sample
+    (back l.y1 r.y1.wide t) 1 ∷ sample (back l.y1 r.y1.wide t) 2 ∷ []) in
+    let x0_words = moved_words format first l.y1 x0 (subst (SFits (word format)) (sym x_is) x_fits) r.y1 x0_is
+    c.moved_up-x0.ensures.fit in
     let q0 = product_known l.b0 x0 _ _ c.low_products.result (back l.b0 r.b0.wide) (back x0 c.moved_up-x0.ensures.fit)
     c.low_products.ensures.value c.low_products.ensures.fit in
     let q1 = product_known l.b1 l.x1 _ _ c.low_products-2.result (back l.b1 r.b1.wide) (back l.x1 r.x1.wide)
@@ -103,14 +102,15 @@ returns-clause-whole g c =
     let r = c.requires in
     let x = g.T.Sample.number c.args.x in
     let x_fits = subst (SFits (word format)) c.number.ensures.value c.number.ensures.fits in
-    let x_is : to_z w64 (of_z w64 c.from.result) ≡ x = widened w64 w32 c.from.result c.number.result
-    (word-in-32 format c.number.result c.number.ensures.fits) (record { sfits = c.from.type_inv }) c.from.ensures ∙
-    c.number.ensures.value in
+    let x_is = word_read format c.from.result c.number.result x c.number.ensures.fits c.number.ensures.value
+    (c.from.ensures ∙ ap pos c.cast_unsigned.ensures) in
+    let first = to_z w64 (of_z w64 c.from.result) in
     let x0 = c.moved_up-x0.result in
-    let x0_is : x0 ≡ x ∷ sample l.given 0 ∷ sample l.given 1 ∷ sample l.given 2 ∷ [] =
-    c.moved_up-x0.ensures.value ∙ (λ t. x_is t ∷ sample (back l.given r.given.wide t) 0 ∷ sample
-    (back l.given r.given.wide t) 1 ∷ sample (back l.given r.given.wide t) 2 ∷ []) in
-    let x0_words = moved_words format x l.given x0 x_fits r.given x0_is c.moved_up-x0.ensures.fit in
+    let x0_is : x0 ≡ first ∷ sample l.y1 0 ∷ sample l.y1 1 ∷ sample l.y1 2 ∷ [] =
+    c.moved_up-x0.ensures.value ∙ (λ t. first ∷ sample (back l.y1 r.y1.wide t) 0 ∷ sample
+    (back l.y1 r.y1.wide t) 1 ∷ sample (back l.y1 r.y1.wide t) 2 ∷ []) in
+    let x0_words = moved_words format first l.y1 x0 (subst (SFits (word format)) (sym x_is) x_fits) r.y1 x0_is
+    c.moved_up-x0.ensures.fit in
     let y = words_back format c.close_four-y.result c.close_four-y.ensures.fit in
     record {
       shift = r.shift;
@@ -125,7 +125,6 @@ returns-clause-whole g c =
       y1 = y;
       y2 =
           words_back format l.y1 r.y1;
-      given = y;
     }
 
 pub returns-clause-turn : goal.returns-clause-turn
@@ -135,14 +134,15 @@ returns-clause-turn g c =
     let r = c.requires in
     let x = g.T.Sample.number c.args.x in
     let x_fits = subst (SFits (word format)) c.number.ensures.value c.number.ensures.fits in
-    let x_is : to_z w64 (of_z w64 c.from.result) ≡ x = widened w64 w32 c.from.result c.number.result
-    (word-in-32 format c.number.result c.number.ensures.fits) (record { sfits = c.from.type_inv }) c.from.ensures ∙
-    c.number.ensures.value in
+    let x_is = word_read format c.from.result c.number.result x c.number.ensures.fits c.number.ensures.value
+    (c.from.ensures ∙ ap pos c.cast_unsigned.ensures) in
+    let first = to_z w64 (of_z w64 c.from.result) in
     let x0 = c.moved_up-x0.result in
-    let x0_is : x0 ≡ x ∷ sample l.given 0 ∷ sample l.given 1 ∷ sample l.given 2 ∷ [] =
-    c.moved_up-x0.ensures.value ∙ (λ t. x_is t ∷ sample (back l.given r.given.wide t) 0 ∷ sample
-    (back l.given r.given.wide t) 1 ∷ sample (back l.given r.given.wide t) 2 ∷ []) in
-    let x0_words = moved_words format x l.given x0 x_fits r.given x0_is c.moved_up-x0.ensures.fit in
+    let x0_is : x0 ≡ first ∷ sample l.y1 0 ∷ sample l.y1 1 ∷ sample l.y1 2 ∷ [] =
+    c.moved_up-x0.ensures.value ∙ (λ t. first ∷ sample (back l.y1 r.y1.wide t) 0 ∷ sample
+    (back l.y1 r.y1.wide t) 1 ∷ sample (back l.y1 r.y1.wide t) 2 ∷ []) in
+    let x0_words = moved_words format first l.y1 x0 (subst (SFits (word format)) (sym x_is) x_fits) r.y1 x0_is
+    c.moved_up-x0.ensures.fit in
     let q0 = product_known l.b0 x0 _ _ c.low_products.result (back l.b0 r.b0.wide) (back x0 c.moved_up-x0.ensures.fit)
     c.low_products.ensures.value c.low_products.ensures.fit in
     let q1 = product_known l.b1 l.x1 _ _ c.low_products-2.result (back l.b1 r.b1.wide) (back l.x1 r.x1.wide)
@@ -164,7 +164,7 @@ returns-clause-turn g c =
     record {
       post_shift = refl;
       sections = λ i. refl;
-      first = ap (λ (k : List ℤ). low k 0) moved ∙ int_wrap_fits w32 x (word-in-32 format x x_fits);
+      first = ap (λ (k : List ℤ). low k 0) moved ∙ x_is;
       second = ap (λ (k : List ℤ). low k 1) moved;
       third = ap (λ (k : List ℤ). low k 2) moved;
       fourth = ap (λ (k : List ℤ). low k 3) moved;
@@ -176,7 +176,6 @@ returns-clause-turn g c =
           ∙ (λ t. section_close format l.post_shift (total (low l.b0 i) (low l.b1 i) (low l.b2 i) (low l.a1 i)
           (low l.a2 i) (low (sym x0_back t) i) (low l.x1 i) (low l.x2 i) (low l.y1 i) (low l.y2 i)));
       past = back l.y1 r.y1.wide;
-      given = refl;
       last = c.of_number.ensures
           ∙ last_known y.result c.index.result.now c.low_word.result y.ensures.fit.four y.ensures.fit.wide
           c.index.ensures (record { sfits = c.low_word.type_inv }) c.low_word.ensures
@@ -184,7 +183,7 @@ returns-clause-turn g c =
     }
 
 pub moved_up-x0-requires-clause-four : goal.moved_up-x0-requires-clause-four
-moved_up-x0-requires-clause-four g c = back_four c.args.lanes.now.given c.requires.given.wide c.requires.given.four
+moved_up-x0-requires-clause-four g c = back_four c.args.lanes.now.y1 c.requires.y1.wide c.requires.y1.four
 
 pub low_products-requires-clause-four_a : goal.low_products-requires-clause-four_a
 low_products-requires-clause-four_a g c = back_four c.args.lanes.now.b0 c.requires.b0.wide c.requires.b0.four

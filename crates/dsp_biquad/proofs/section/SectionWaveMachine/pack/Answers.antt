@@ -2,7 +2,7 @@ use Rattle.std.proofs.Common.{◌∙◌, [], ◌∷◌}
 use Rattle.dsp_defs.specs.Numbers.{◌>>◌}
 use Rattle.dsp_biquad.specs.Sections.{section_acts}
 use Rattle.dsp_biquad.proofs.Packed.{four-words, low-first, low-second, low-third, low-fourth, plain-acts, moved}
-use Rattle.dsp_biquad.proofs.Packed.{coefficients, numbers, given}
+use Rattle.dsp_biquad.proofs.Packed.{coefficients, numbers, same-bits}
 use Rattle.dsp_biquad.proofs.Scaled.{shift-few}
 use Rattle.dsp_biquad.proofs.section.SectionWaveMachine.pack.Goals as goal
 
@@ -68,12 +68,12 @@ returns g c =
     let y2 = numbers format c.in_lanes-4.result m.first.y2 m.second.y2 m.third.y2 m.fourth.y2
     m.first.y2_fits m.second.y2_fits m.third.y2_fits m.fourth.y2_fits c.in_lanes-4.ensures.fit
     c.in_lanes-4.ensures.value in
-    let values = given format c.in_lanes-5.result c.from.result c.from-2.result c.from-3.result c.number.result
-    c.number-2.result c.number-3.result _ _ _
-    c.number.ensures.fits c.number-2.ensures.fits c.number-3.ensures.fits
-    c.from.ensures c.from-2.ensures c.from-3.ensures
-    c.number.ensures.value c.number-2.ensures.value c.number-3.ensures.value c.in_lanes-5.ensures.fit
-    c.in_lanes-5.ensures.value in
+    let second = same-bits format m.first.y1 c.from.result c.number.result _ m.first.y1_fits c.if-a-from.false
+    c.number.ensures.fits c.from.ensures c.number.ensures.value in
+    let third = same-bits format m.second.y1 c.from-else-a-from.result c.number-else-a-from.result _ m.second.y1_fits
+    c.if-b-from.false c.number-else-a-from.ensures.fits c.from-else-a-from.ensures c.number-else-a-from.ensures.value in
+    let fourth = same-bits format m.third.y1 c.from-else-b-from.result c.number-else-b-from.result _ m.third.y1_fits
+    c.if-c-from.false c.number-else-b-from.ensures.fits c.from-else-b-from.ensures c.number-else-b-from.ensures.value in
     let first_acts = (λ k. section_acts format p (record {
       b0 = low-first format _ _ _ _ _ b0 k;
       b1 = low-first format _ _ _ _ _ b1 k;
@@ -155,9 +155,9 @@ returns g c =
                     x2 k ∷ low-fourth format _ _ _ _ _ y1 k ∷ low-fourth format _ _ _ _ _ y2 k ∷ [];
               };
             };
-            to_second = low-first format _ _ _ _ _ values k;
-            to_third = low-second format _ _ _ _ _ values k;
-            to_fourth = low-third format _ _ _ _ _ values k;
+            to_second = (low-first format _ _ _ _ _ y1 ∙ second) k;
+            to_third = (low-second format _ _ _ _ _ y1 ∙ third) k;
+            to_fourth = (low-third format _ _ _ _ _ y1 ∙ fourth) k;
           };
       whole =
           record {
@@ -171,6 +171,5 @@ returns g c =
             x2 = four-words format _ _ _ _ _ x2;
             y1 = four-words format _ _ _ _ _ y1;
             y2 = four-words format _ _ _ _ _ y2;
-            given = four-words format _ _ _ _ _ values;
           };
     }

@@ -4,37 +4,37 @@ use Rattle.dsp_biquad.proofs.Packed.{plain-acts, narrow, cast-is, cast-fits, pas
 use Rattle.dsp_biquad.proofs.section.SectionWaveMachine.unpack.Goals as goal
 
 pub number_in-requires-clause-lanes : goal.number_in-requires-clause-lanes
-number_in-requires-clause-lanes g c = passed g.T.Sample.format c.args.lanes.now.lanes.given c.requires.given
+number_in-requires-clause-lanes g c = passed g.T.Sample.format c.args.lanes.now.lanes.y1 c.requires.y1
 
 pub overflow_cast-number_in : goal.overflow_cast-number_in
-overflow_cast-number_in g c = narrow g.T.Sample.format c.args.lanes.now.lanes.given 0 c.number_in.result
-    c.requires.given c.number_in.ensures
+overflow_cast-number_in g c = narrow g.T.Sample.format c.args.lanes.now.lanes.y1 0 c.number_in.result
+    c.requires.y1 c.number_in.ensures
 
 pub of_number-requires : goal.of_number-requires
-of_number-requires g c = cast-fits g.T.Sample.format c.args.lanes.now.lanes.given 0 c.number_in.result
-    c.requires.given c.number_in.ensures
+of_number-requires g c = cast-fits g.T.Sample.format c.args.lanes.now.lanes.y1 0 c.number_in.result
+    c.requires.y1 c.number_in.ensures
 
 pub number_in-requires-2-clause-lanes : goal.number_in-requires-2-clause-lanes
-number_in-requires-2-clause-lanes g c = passed g.T.Sample.format c.args.lanes.now.lanes.given c.requires.given
+number_in-requires-2-clause-lanes g c = passed g.T.Sample.format c.args.lanes.now.lanes.y1 c.requires.y1
 
 pub overflow_cast-number_in-2 : goal.overflow_cast-number_in-2
-overflow_cast-number_in-2 g c = narrow g.T.Sample.format c.args.lanes.now.lanes.given 1 c.number_in-2.result
-    c.requires.given c.number_in-2.ensures
+overflow_cast-number_in-2 g c = narrow g.T.Sample.format c.args.lanes.now.lanes.y1 1 c.number_in-2.result
+    c.requires.y1 c.number_in-2.ensures
 
 pub of_number-requires-2 : goal.of_number-requires-2
-of_number-requires-2 g c = cast-fits g.T.Sample.format c.args.lanes.now.lanes.given 1 c.number_in-2.result
-    c.requires.given c.number_in-2.ensures
+of_number-requires-2 g c = cast-fits g.T.Sample.format c.args.lanes.now.lanes.y1 1 c.number_in-2.result
+    c.requires.y1 c.number_in-2.ensures
 
 pub number_in-requires-3-clause-lanes : goal.number_in-requires-3-clause-lanes
-number_in-requires-3-clause-lanes g c = passed g.T.Sample.format c.args.lanes.now.lanes.given c.requires.given
+number_in-requires-3-clause-lanes g c = passed g.T.Sample.format c.args.lanes.now.lanes.y1 c.requires.y1
 
 pub overflow_cast-number_in-3 : goal.overflow_cast-number_in-3
-overflow_cast-number_in-3 g c = narrow g.T.Sample.format c.args.lanes.now.lanes.given 2 c.number_in-3.result
-    c.requires.given c.number_in-3.ensures
+overflow_cast-number_in-3 g c = narrow g.T.Sample.format c.args.lanes.now.lanes.y1 2 c.number_in-3.result
+    c.requires.y1 c.number_in-3.ensures
 
 pub of_number-requires-3 : goal.of_number-requires-3
-of_number-requires-3 g c = cast-fits g.T.Sample.format c.args.lanes.now.lanes.given 2 c.number_in-3.result
-    c.requires.given c.number_in-3.ensures
+of_number-requires-3 g c = cast-fits g.T.Sample.format c.args.lanes.now.lanes.y1 2 c.number_in-3.result
+    c.requires.y1 c.number_in-3.ensures
 
 pub returns : goal.returns
 returns g c =
@@ -84,10 +84,10 @@ returns g c =
               c.section_in-4.ensures.y1 k ∷ c.section_in-4.ensures.y2 k ∷ [];
         };
       };
-      to_second = (c.of_number.ensures ∙ cast-is format l.given 0 c.number_in.result c.requires.given
+      to_second = (c.of_number.ensures ∙ cast-is format l.y1 0 c.number_in.result c.requires.y1
           c.number_in.ensures) k;
-      to_third = (c.of_number-2.ensures ∙ cast-is format l.given 1 c.number_in-2.result c.requires.given
+      to_third = (c.of_number-2.ensures ∙ cast-is format l.y1 1 c.number_in-2.result c.requires.y1
           c.number_in-2.ensures) k;
-      to_fourth = (c.of_number-3.ensures ∙ cast-is format l.given 2 c.number_in-3.result c.requires.given
+      to_fourth = (c.of_number-3.ensures ∙ cast-is format l.y1 2 c.number_in-3.result c.requires.y1
           c.number_in-3.ensures) k;
     }

@@ -1,36 +1,26 @@
-use Rattle.std.proofs.Common.{◌≡◌, ◌≤◌, ◌+◌, ◌-◌, ◌*◌, ◌^◌, ◌∙◌, ap, sym, ℕ, ℤ, pos, ◌+ℤ◌, length, arith, w64, SFits}
-use Rattle.std.proofs.Common.{to_z, of_z, pow_mono}
-use Rattle.std.proofs.lemmas.Int.{SFits-int_wrap, to_z-of_z}
-use Rattle.std.proofs.lemmas.Nat.{pow-add}
-use Rattle.std.specs.Int.{w32}
-use Rattle.dsp_sections.proofs.FourSections.{closed_32_read}
+use Rattle.std.proofs.Common.{◌∙◌, ◌^◌, ◌-◌, ap, map}
+use Rattle.std.proofs.lemmas.Int.{SFits-int_wrap}
+use Rattle.std.specs.Int.{int_wrap, w32}
+use lib.Signed.{shr_z}
+use Rattle.dsp_defs.specs.Signal.{sample, values}
+use Rattle.dsp_sections.proofs.FourSections.{back, back_fits, back_four, closed_32_value}
 use Rattle.dsp_sections.proofs.section_waves.I32WaveSample.close_four.Goals as goal
 
--- the places of the shift
-abbrev up_by : ℤ → ℕ
-up_by r = of_z w64 (to_z w64 (of_z w64 r) +ℤ pos 1)
-
-up_is : (r : ℤ) (p : ℕ) → r ≡ pos p → p ≤ 30 → up_by r ≡ p + 1
-up_is r p is few = ap up_by is ∙ ap (λ z. of_z w64 (z +ℤ pos 1))
-    (to_z-of_z w64 (pos p) (record { sfits = omega (arith, few) }))
-
-powers : (p e : ℕ) → p ≤ 30 → e ≡ p + 1 → (2 ^ (31 - p) * 2 ^ e ≡ 2 ^ 32) × SFits w64 (pos (2 ^ e))
-powers p e few is =
-    let all : 31 - p + e ≡ 32 = omega (arith, few, is) in
-    let small : 2 ^ e ≤ 2 ^ 31 = pow_mono {j = 31} (omega (arith, few, is)) in
-    (sym (pow-add 2 (31 - p) e) ∙ ap (λ n. 2 ^ n) all, record { sfits = omega (arith, small) })
+pub shifted_words-requires-clause-fit : goal.shifted_words-requires-clause-fit
+shifted_words-requires-clause-fit c = back_fits c.args.sums c.requires.fit
 
 pub returns-clause-value : goal.returns-clause-value
 returns-clause-value c =
-    let p = c.args.post_shift in
-    let e = up_by c.from.result in
-    let both = powers p e c.requires.shift (up_is c.from.result p c.from.ensures c.requires.shift) in
-    (closed_32_read c.args.sums c.requires.four c.requires.fit p e both.0 both.1).0
+    ap (map (int_wrap w32)) (back c.shifted_words.result c.shifted_words.ensures.fit)
+    ∙ closed_32_value c.args.sums _ c.requires.fit c.args.post_shift (c.shifted_words.ensures.value
+    ∙ (λ t. values 4 (λ i. int_wrap w32 (shr_z (sample (back c.args.sums c.requires.fit t) i)
+    (2 ^ (31 - c.args.post_shift))))))
 
 pub returns-clause-fit : goal.returns-clause-fit
 returns-clause-fit c =
-    let p = c.args.post_shift in
-    let e = up_by c.from.result in
-    let both = powers p e c.requires.shift (up_is c.from.result p c.from.ensures c.requires.shift) in
-    let read = closed_32_read c.args.sums c.requires.four c.requires.fit p e both.0 both.1 in
-    record { four = ap length read.1; wide = read.2; words = λ i. SFits-int_wrap w32 _ }
+    let words = c.shifted_words in
+    record {
+      four = back_four words.result words.ensures.fit words.ensures.four;
+      wide = back_fits words.result words.ensures.fit;
+      words = λ i. SFits-int_wrap w32 _;
+    }

@@ -360,6 +360,18 @@ group_fits w i n xs f room = Each1-from_get_or (SFits w) (chunk i n xs) (pos 0) 
     let long = length-chunk i n xs room in
     rw (get_or-chunk i n xs k (pos 0) (omega arith)) (f (i + k) (pos 0) (omega arith)))
 
+-- a `cast` to wider lanes, of a group and of one number in each lane
+pub group_asked : (w w' : Width) → hbits w ≤ hbits w' → (i n : ℕ) (xs : List ℤ) → All (SFits w) xs → i + n ≤ length xs →
+    Each1 (Asks1 (cast signed signed w') (s_int w)) (bits_of w (chunk i n xs))
+group_asked w w' h i n xs f room =
+    let fit = group_fits w i n xs f room in
+    casts_asked w w' (chunk i n xs) fit (each_widens w w' h (chunk i n xs) fit)
+
+pub splat_asked : (w w' : Width) → hbits w ≤ hbits w' → (n : ℕ) (t : ℤ) → SFits w t →
+    Each1 (Asks1 (cast signed signed w') (s_int w)) (replicate n (of_z w t))
+splat_asked w w' h n t f =
+    Each1-replicate (Asks1 (cast signed signed w') (s_int w)) n (of_z w t) (rw (to_z-of_z w t f) (widens w w' h t f))
+
 pub shift_fits : (w : Width) (s : ℕ) (x : ℤ) → SFits w x → SFits w (shr_z x (2 ^ s))
 shift_fits w s x f = let less = mag_shr x (2 ^ s) in record { sfits = lt_of_le_of_lt less f.sfits }
 

@@ -7,7 +7,7 @@ use Rattle.std.proofs.lemmas.List.FromFn.{length-map-range_with_len, get_or-map-
 use Rattle.std.proofs.lemmas.Simd.{length-chunk, get_or-chunk, zip2-map, take_more_put_chunk, length-replicate}
 use Rattle.std.specs.List.{range_with_len}
 use Rattle.std.specs.Int.{int_wrap}
-use lib.IntN.{+ℤ_idr, +ℤ_idl, +ℤ_assoc}
+use lib.IntN.{+ℤ_idr, +ℤ_assoc}
 use lib.Lanes.{zip2, chunk, put_chunk}
 use mir.Syntax.{Width, w8, w16, w32, w64, w128}
 use Rattle.dsp_defs.specs.Signal.{sample, sum_below, values}

@@ -55,9 +55,9 @@ pairs-preserved g c =
     let read = c.interleaved-elements.ensures in
     let back = ints_of_bits w32 es (each_widens w16 w32 (omega arith) es read.fit) in
     let two : j + 2 ≤ columns = omega (arith, c.pairs-test.true, h.even, c.requires.even) in
-    let places : (j + 2) * given ≤ columns * given = mul-le (j + 2) given columns given two (omega arith) in
-    let room : at + 4 ≤ length matrix = omega (arith, places, c.requires.matrix, c.requires.room) in
-    let behind : at + given + 4 ≤ length matrix = omega (arith, places, c.requires.matrix, c.requires.room) in
+    let below = inside j columns given c.pairs-test.true h.even c.requires.even in
+    let room : at + 4 ≤ length matrix = omega (arith, below, c.requires.matrix, c.requires.room) in
+    let behind : at + given + 4 ≤ length matrix = omega (arith, below, c.requires.matrix, c.requires.room) in
     let zero : j ≡ 0 + j = omega arith in
     let fit_upper : Each1 (SFits w32) sums.upper = subst (λ (l : List ℤ). Each1 (SFits w32) l) (sym h.upper)
     (four-fit rows matrix given 0 j column) in

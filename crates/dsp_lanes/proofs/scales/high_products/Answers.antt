@@ -1,10 +1,16 @@
 use Rattle.std.proofs.Common.{◌∙◌, w32}
 use Rattle.dsp_lanes.proofs.LaneOps.{ints_of_bits}
-use Rattle.dsp_lanes.proofs.WordViews.{read_fit, high_products_are, even_products_fit, odd_products_fit}
+use Rattle.dsp_lanes.proofs.WordViews.{read_fit, read_long, high_products_are, even_products_fit, odd_products_fit}
 use Rattle.dsp_lanes.proofs.scales.high_products.Goals as goal
+
+pub even_words-requires-clause-long : goal.even_words-requires-clause-long
+even_words-requires-clause-long c = read_long w32 8 c.args.samples c.requires.long
 
 pub even_words-requires-clause-fit : goal.even_words-requires-clause-fit
 even_words-requires-clause-fit c = read_fit w32 c.args.samples c.requires.fit
+
+pub odd_words-requires-clause-long : goal.odd_words-requires-clause-long
+odd_words-requires-clause-long c = read_long w32 8 c.args.samples c.requires.long
 
 pub odd_words-requires-clause-fit : goal.odd_words-requires-clause-fit
 odd_words-requires-clause-fit c = read_fit w32 c.args.samples c.requires.fit

@@ -6,16 +6,14 @@ use lib.Lanes.{zip2, chunk}
 use Rattle.dsp_defs.specs.Signal.{sample}
 use Rattle.dsp_lanes.specs.HighSums.{whole_of, wholes}
 use Rattle.dsp_lanes.specs.Pairs.{in_turn}
-use Rattle.dsp_lanes.proofs.LaneOps.{group_fits, casts_asked, each_widens}
+use Rattle.dsp_lanes.proofs.LaneOps.{group_asked, group_fits}
 use Rattle.dsp_lanes.proofs.HighSums.{high_sums_next}
 use Rattle.dsp_lanes.proofs.HighRows.{even_products, odd_products, even_read, odd_read, even_near, odd_near, tap_raises}
 use Rattle.dsp_lanes.proofs.high_pairs.HighPairsRowFormI16.add_tap.Goals as goal
 
 pub overflow_cast-products : goal.overflow_cast-products
 overflow_cast-products c =
-    let xs = chunk c.args.at 8 c.args.window.now in
-    let fit = group_fits w16 c.args.at 8 c.args.window.now c.q15_fit-2.ensures c.requires.window in
-    casts_asked w16 w32 xs fit (each_widens w16 w32 (omega arith) xs fit)
+    group_asked w16 w32 (omega arith) c.args.at 8 c.args.window.now c.q15_fit-2.ensures c.requires.window
 
 pub raise-requires-clause-more : goal.raise-requires-clause-more
 raise-requires-clause-more c =

@@ -5,22 +5,17 @@ use Rattle.std.specs.Int.{int_wrap}
 use lib.Lanes.{chunk}
 use Rattle.dsp_defs.specs.Signal.{sample, sum_below}
 use Rattle.dsp_lanes.specs.Regrouped.{list_sum}
-use Rattle.dsp_lanes.proofs.LaneOps.{casts_asked, each_widens, group_fits}
+use Rattle.dsp_lanes.proofs.LaneOps.{group_asked, group_fits}
 use Rattle.dsp_lanes.proofs.LaneRows.{products-chunk}
 use Rattle.dsp_lanes.proofs.NarrowSums.{narrow_sum, narrow_fit}
 use Rattle.dsp_lanes.proofs.narrow_dots.NarrowDotsDotFormI16.add_products.Goals as goal
 
 pub overflow_cast-t : goal.overflow_cast-t
-overflow_cast-t c =
-    let fit = group_fits w16 c.args.at 8 c.args.taps.now c.q15_fit.ensures c.requires.taps in
-    casts_asked w16 w32 (chunk c.args.at 8 c.args.taps.now) fit
-    (each_widens w16 w32 (omega arith) (chunk c.args.at 8 c.args.taps.now) fit)
+overflow_cast-t c = group_asked w16 w32 (omega arith) c.args.at 8 c.args.taps.now c.q15_fit.ensures c.requires.taps
 
 pub overflow_cast-x : goal.overflow_cast-x
 overflow_cast-x c =
-    let fit = group_fits w16 c.args.at 8 c.args.window.now c.q15_fit-2.ensures c.requires.window in
-    casts_asked w16 w32 (chunk c.args.at 8 c.args.window.now) fit
-    (each_widens w16 w32 (omega arith) (chunk c.args.at 8 c.args.window.now) fit)
+    group_asked w16 w32 (omega arith) c.args.at 8 c.args.window.now c.q15_fit-2.ensures c.requires.window
 
 pub returns-clause-sums : goal.returns-clause-sums
 returns-clause-sums c =

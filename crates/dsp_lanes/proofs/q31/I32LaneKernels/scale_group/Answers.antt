@@ -7,11 +7,18 @@ use lib.Lanes.{Each1, chunk}
 use lib.Signed.{shr_z}
 use mir.Val.{SFits, to_z}
 use Rattle.dsp_defs.specs.Elementwise.{shift_in}
-use Rattle.dsp_lanes.proofs.LaneOps.{cast_lanes, group_fits}
+use Rattle.dsp_lanes.proofs.LaneOps.{cast_lanes, group_fits, group_asked, splat_asked}
 use Rattle.dsp_lanes.proofs.LaneClosings.{stored}
 use Rattle.dsp_lanes.proofs.HighProducts.{scaled_highs, scaled_highs_are, casts_down}
 use Rattle.dsp_lanes.proofs.Moves.{scaled_are, next_is}
 use Rattle.dsp_lanes.proofs.q31.I32LaneKernels.scale_group.Goals as goal
+
+pub overflow_cast-x : goal.overflow_cast-x
+overflow_cast-x g c =
+    group_asked w32 w64 (omega arith) c.args.at g.row.L c.args.a.now c.q31_fit.ensures c.requires.input
+
+pub overflow_cast-f : goal.overflow_cast-f
+overflow_cast-f g c = splat_asked w32 w64 (omega arith) g.row.L c.args.factor c.ranges.factor
 
 pub overflow_shr-high : goal.overflow_shr-high
 overflow_shr-high g c = shifts_fit_splat 64 _ g.row.L 32 (omega arith)

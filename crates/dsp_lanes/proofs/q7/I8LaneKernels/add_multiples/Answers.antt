@@ -1,6 +1,14 @@
 use Rattle.std.proofs.Common.{arith, w8, w32}
+use Rattle.dsp_lanes.proofs.LaneOps.{group_asked, splat_asked}
 use Rattle.dsp_lanes.proofs.LaneSums.{multiples_added}
 use Rattle.dsp_lanes.proofs.q7.I8LaneKernels.add_multiples.Goals as goal
+
+pub overflow_cast-t : goal.overflow_cast-t
+overflow_cast-t g c = splat_asked w8 w32 (omega arith) g.row.L c.args.tap c.ranges.tap
+
+pub overflow_cast-x : goal.overflow_cast-x
+overflow_cast-x g c =
+    group_asked w8 w32 (omega arith) c.args.at g.row.L c.args.window.now c.q7_fit.ensures c.requires.window
 
 pub returns-clause-sums : goal.returns-clause-sums
 returns-clause-sums g c = (multiples_added w8 w32 (omega arith) (omega arith) c.args.at g.row.L c.args.sums c.args.tap

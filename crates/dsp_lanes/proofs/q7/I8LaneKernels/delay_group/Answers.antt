@@ -1,11 +1,18 @@
 use Rattle.std.proofs.Common.{arith, ap, sym, ◌∙◌, map, w8, w32, ◌*ℤ◌, ◌+ℤ◌}
 use Rattle.std.specs.Int.{int_wrap}
 use lib.Lanes.{zip2, chunk}
-use Rattle.dsp_lanes.proofs.LaneOps.{group_fits}
+use Rattle.dsp_lanes.proofs.LaneOps.{group_fits, group_asked, splat_asked}
 use Rattle.dsp_lanes.proofs.LaneSums.{multiples_added}
 use Rattle.dsp_lanes.proofs.LaneClosings.{stored}
 use Rattle.dsp_lanes.proofs.q7.I8LaneKernels.delay_group.Goals as goal
 use Rattle.std.proofs.lemmas.List.{map-id}
+
+pub overflow_cast-t : goal.overflow_cast-t
+overflow_cast-t g c = splat_asked w8 w32 (omega arith) g.row.L c.args.tap c.ranges.tap
+
+pub overflow_cast-x : goal.overflow_cast-x
+overflow_cast-x g c =
+    group_asked w8 w32 (omega arith) c.args.at g.row.L c.args.window.now c.q7_fit.ensures c.requires.window
 
 pub returns : goal.returns
 returns g c =

@@ -5,8 +5,15 @@ use Rattle.std.specs.Prelude.{nat_abs, ℤ}
 use mir.Val.{SFits, to_z, of_z}
 use Rattle.dsp_defs.specs.Elementwise.{IsScaleShift}
 use Rattle.dsp_defs.specs.declared.format.Fmt.TheVariants.{Q7}
+use Rattle.dsp_lanes.proofs.LaneOps.{group_asked, splat_asked}
 use Rattle.dsp_lanes.proofs.LaneClosings.{scale_closes, stored}
 use Rattle.dsp_lanes.proofs.q7.I8LaneKernels.scale_group.Goals as goal
+
+pub overflow_cast-x : goal.overflow_cast-x
+overflow_cast-x g c = group_asked w8 w16 (omega arith) c.args.at g.row.L c.args.a.now c.q7_fit.ensures c.requires.input
+
+pub overflow_cast-f : goal.overflow_cast-f
+overflow_cast-f g c = splat_asked w8 w16 (omega arith) g.row.L c.args.factor c.ranges.factor
 
 amount_is : (s : ℤ) → SFits w32 s → IsScaleShift Q7 s →
     of_z w16 (to_z w32 (of_z w32 (pos 7 -ℤ to_z w32 (of_z w32 s)))) ≡ nat_abs (pos 7 -ℤ s)

@@ -5,21 +5,15 @@ use lib.Lanes.{chunk, zip2}
 use Rattle.dsp_defs.specs.Adaptive.{weight_after}
 use Rattle.dsp_defs.specs.declared.format.Fmt.TheVariants.{Q15}
 use Rattle.dsp_lanes.proofs.LaneClosings.{stored}
-use Rattle.dsp_lanes.proofs.LaneOps.{casts_asked, each_widens, group_fits}
+use Rattle.dsp_lanes.proofs.LaneOps.{group_asked, group_fits}
 use Rattle.dsp_lanes.proofs.WeightLanes.{grown_15_is}
 use Rattle.dsp_lanes.proofs.weights.I16WeightSample.weight_group.Goals as goal
 
 pub overflow_cast-x : goal.overflow_cast-x
-overflow_cast-x c =
-    let fit = group_fits w16 c.args.at 8 c.args.window.now c.q15_fit.ensures c.requires.window in
-    casts_asked w16 w32 (chunk c.args.at 8 c.args.window.now) fit
-    (each_widens w16 w32 (omega arith) (chunk c.args.at 8 c.args.window.now) fit)
+overflow_cast-x c = group_asked w16 w32 (omega arith) c.args.at 8 c.args.window.now c.q15_fit.ensures c.requires.window
 
 pub overflow_cast-w : goal.overflow_cast-w
-overflow_cast-w c =
-    let fit = group_fits w16 c.args.at 8 c.args.weights.now c.q15_fit-2.ensures c.requires.room in
-    casts_asked w16 w32 (chunk c.args.at 8 c.args.weights.now) fit
-    (each_widens w16 w32 (omega arith) (chunk c.args.at 8 c.args.weights.now) fit)
+overflow_cast-w c = group_asked w16 w32 (omega arith) c.args.at 8 c.args.weights.now c.q15_fit-2.ensures c.requires.room
 
 pub overflow_cast-weights : goal.overflow_cast-weights
 overflow_cast-weights c =

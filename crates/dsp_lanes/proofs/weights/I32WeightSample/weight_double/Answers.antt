@@ -16,6 +16,10 @@ pub high_products-high-requires-clause-fit : goal.high_products-high-requires-cl
 high_products-high-requires-clause-fit c = read_fit w32 (chunk c.args.at 8 c.args.window.now)
     (group_fits w32 c.args.at 8 c.args.window.now c.q31_fit.ensures c.requires.window)
 
+pub high_products-high-requires-clause-long : goal.high_products-high-requires-clause-long
+high_products-high-requires-clause-long c = read_long w32 8 (chunk c.args.at 8 c.args.window.now)
+    (length-chunk c.args.at 8 c.args.window.now c.requires.window)
+
 pub saturating_lanes-requires : goal.saturating_lanes-requires
 saturating_lanes-requires c =
     let weights = c.args.weights.now in

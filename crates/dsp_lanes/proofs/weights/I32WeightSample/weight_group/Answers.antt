@@ -1,12 +1,13 @@
-use Rattle.std.proofs.Common.{◌∙◌, ap, sym, subst, ℤ, List, length, SFits, w32}
+use Rattle.std.proofs.Common.{◌∙◌, sym, w32}
 use Rattle.std.proofs.lemmas.Simd.{length-chunk}
 use Rattle.std.proofs.lemmas.List.{map-id}
-use lib.Lanes.{Each1, chunk, zip2}
+use lib.Lanes.{chunk, zip2}
 use Rattle.dsp_defs.specs.Adaptive.{weight_after}
 use Rattle.dsp_defs.specs.declared.format.Fmt.TheVariants.{Q31}
 use Rattle.dsp_lanes.proofs.LaneClosings.{stored}
 use Rattle.dsp_lanes.proofs.LaneOps.{group_fits, ints_of_bits}
-use Rattle.dsp_lanes.proofs.WeightLanes.{grown_31_is}
+use Rattle.dsp_lanes.proofs.WeightLanes.{doubled_fit, grown_31_is}
+use Rattle.dsp_lanes.proofs.WordViews.{read_fit, read_long}
 use Rattle.dsp_lanes.proofs.weights.I32WeightSample.weight_group.Goals as goal
 
 pub returns : goal.returns
@@ -26,23 +27,20 @@ returns c =
     (chunk at 4 (sym (map-id window) i))))
 
 pub high_words-high-requires-clause-fit : goal.high_words-high-requires-clause-fit
-high_words-high-requires-clause-fit c =
-    let fit = group_fits w32 c.args.at 4 c.args.window.now c.q31_fit.ensures c.requires.window in
-    subst (λ (l : List ℤ). Each1 (SFits w32) l) (sym (ints_of_bits w32 (chunk c.args.at 4 c.args.window.now) fit)) fit
+high_words-high-requires-clause-fit c = read_fit w32 (chunk c.args.at 4 c.args.window.now)
+    (group_fits w32 c.args.at 4 c.args.window.now c.q31_fit.ensures c.requires.window)
 
 pub high_words-high-requires-clause-long : goal.high_words-high-requires-clause-long
-high_words-high-requires-clause-long c =
-    let fit = group_fits w32 c.args.at 4 c.args.window.now c.q31_fit.ensures c.requires.window in
-    ap length (ints_of_bits w32 (chunk c.args.at 4 c.args.window.now) fit) ∙
-    length-chunk c.args.at 4 c.args.window.now c.requires.window
+high_words-high-requires-clause-long c = read_long w32 4 (chunk c.args.at 4 c.args.window.now)
+    (length-chunk c.args.at 4 c.args.window.now c.requires.window)
 
 pub saturating_sum-requires-clause-values : goal.saturating_sum-requires-clause-values
-saturating_sum-requires-clause-values c =
-    let fit = group_fits w32 c.args.at 4 c.args.weights.now c.q31_fit-2.ensures c.requires.room in
-    subst (λ (l : List ℤ). Each1 (SFits w32) l) (sym (ints_of_bits w32 (chunk c.args.at 4 c.args.weights.now) fit)) fit
+saturating_sum-requires-clause-values c = read_fit w32 (chunk c.args.at 4 c.args.weights.now)
+    (group_fits w32 c.args.at 4 c.args.weights.now c.q31_fit-2.ensures c.requires.room)
+
+pub saturating_sum-requires-clause-changes : goal.saturating_sum-requires-clause-changes
+saturating_sum-requires-clause-changes c = doubled_fit c.high_words-high.result c.high_words-high.ensures.fit
 
 pub saturating_sum-requires-clause-long : goal.saturating_sum-requires-clause-long
-saturating_sum-requires-clause-long c =
-    let fit = group_fits w32 c.args.at 4 c.args.weights.now c.q31_fit-2.ensures c.requires.room in
-    ap length (ints_of_bits w32 (chunk c.args.at 4 c.args.weights.now) fit) ∙
-    length-chunk c.args.at 4 c.args.weights.now c.requires.room
+saturating_sum-requires-clause-long c = read_long w32 4 (chunk c.args.at 4 c.args.weights.now)
+    (length-chunk c.args.at 4 c.args.weights.now c.requires.room)

@@ -1,4 +1,4 @@
-use Rattle.std.proofs.Common.{◌≡◌, ◌∙◌, ap, ◌*ℤ◌, ◌-ℤ◌, length, reverse, to_z, of_z, arith}
+use Rattle.std.proofs.Common.{◌≡◌, ◌∙◌, ap, ◌*ℤ◌, ◌-ℤ◌, length, reverse, to_z, of_z, arith, rules}
 use Rattle.std.specs.Int.{w32}
 use Rattle.dsp_defs.specs.Adaptive.{lms_close, step_size, weight_after}
 use Rattle.dsp_defs.specs.Formats.{word}
@@ -21,3 +21,27 @@ returns-clause-value g c =
     let weights = c.in_ok-weights.ensures.values
     ∙ ap (λ a. values (length w) (λ k. weight_after f a (sample w k) (sample xs k))) alpha in
     λ j. record { output = output j; error = error j; weights = weights j }
+
+pub overflow_sub-from : goal.overflow_sub-from
+overflow_sub-from g c = search rules
+
+pub returns-in_err-weights-clause-value : goal.returns-in_err-weights-clause-value
+returns-in_err-weights-clause-value g c = search rules
+
+pub returns-in_err-weights-clause-length : goal.returns-in_err-weights-clause-length
+returns-in_err-weights-clause-length g c = search rules
+
+pub returns-in_err-weights-clause-fits : goal.returns-in_err-weights-clause-fits
+returns-in_err-weights-clause-fits g c = search rules
+
+pub returns-in_err-weights-clause-products : goal.returns-in_err-weights-clause-products
+returns-in_err-weights-clause-products g c = search rules
+
+pub returns-clause-length : goal.returns-clause-length
+returns-clause-length g c = search rules
+
+pub returns-clause-fits : goal.returns-clause-fits
+returns-clause-fits g c = search rules
+
+pub returns-clause-products : goal.returns-clause-products
+returns-clause-products g c = search rules

@@ -76,3 +76,84 @@ returns-clause-errors g c =
     c.loop-n.invariant.errors
     ∙ ap (map errors_of) (lms-all c.args.format c.args.post_shift _ c.args.mu c.args.taps.now c.args.x.now
     c.args.reference.now c.loop-n.n (to_z-of_z w32 c.args.mu c.ranges.mu) c.loop-n-test.false)
+
+pub returns-in_err-outputs-clause-outputs : goal.returns-in_err-outputs-clause-outputs
+returns-in_err-outputs-clause-outputs g c = search rules
+
+pub returns-in_err-outputs-clause-errors : goal.returns-in_err-outputs-clause-errors
+returns-in_err-outputs-clause-errors g c = search rules
+
+pub returns-in_err-outputs-clause-fits : goal.returns-in_err-outputs-clause-fits
+returns-in_err-outputs-clause-fits g c = search rules
+
+pub returns-in_err-outputs-clause-products : goal.returns-in_err-outputs-clause-products
+returns-in_err-outputs-clause-products g c = search rules
+
+pub returns-in_err-errors-clause-outputs : goal.returns-in_err-errors-clause-outputs
+returns-in_err-errors-clause-outputs g c = search rules
+
+pub returns-in_err-errors-clause-errors : goal.returns-in_err-errors-clause-errors
+returns-in_err-errors-clause-errors g c = search rules
+
+pub returns-in_err-errors-clause-fits : goal.returns-in_err-errors-clause-fits
+returns-in_err-errors-clause-fits g c = search rules
+
+pub returns-in_err-errors-clause-products : goal.returns-in_err-errors-clause-products
+returns-in_err-errors-clause-products g c = search rules
+
+pub returns-in_err-w-clause-outputs : goal.returns-in_err-w-clause-outputs
+returns-in_err-w-clause-outputs g c = search rules
+
+pub returns-in_err-w-clause-errors : goal.returns-in_err-w-clause-errors
+returns-in_err-w-clause-errors g c = search rules
+
+pub returns-in_err-w-clause-fits : goal.returns-in_err-w-clause-fits
+returns-in_err-w-clause-fits g c = search rules
+
+pub returns-in_err-w-clause-products : goal.returns-in_err-w-clause-products
+returns-in_err-w-clause-products g c = search rules
+
+pub overflow_add-past : goal.overflow_add-past
+overflow_add-past g c = search rules
+
+pub slice_bounds-past-end : goal.slice_bounds-past-end
+slice_bounds-past-end g c = search rules
+
+pub offset_bounds-reference-n : goal.offset_bounds-reference-n
+offset_bounds-reference-n g c = search rules
+
+pub bounds-reference-n : goal.bounds-reference-n
+bounds-reference-n g c = search rules
+
+pub returns-in_err-next-clause-outputs : goal.returns-in_err-next-clause-outputs
+returns-in_err-next-clause-outputs g c = search rules
+
+pub returns-in_err-next-clause-errors : goal.returns-in_err-next-clause-errors
+returns-in_err-next-clause-errors g c = search rules
+
+pub returns-in_err-next-clause-fits : goal.returns-in_err-next-clause-fits
+returns-in_err-next-clause-fits g c = search rules
+
+pub returns-in_err-push-clause-outputs : goal.returns-in_err-push-clause-outputs
+returns-in_err-push-clause-outputs g c = search rules
+
+pub returns-in_err-push-clause-errors : goal.returns-in_err-push-clause-errors
+returns-in_err-push-clause-errors g c = search rules
+
+pub returns-in_err-push-clause-fits : goal.returns-in_err-push-clause-fits
+returns-in_err-push-clause-fits g c = search rules
+
+pub returns-in_err-push-2-clause-outputs : goal.returns-in_err-push-2-clause-outputs
+returns-in_err-push-2-clause-outputs g c = search rules
+
+pub returns-in_err-push-2-clause-errors : goal.returns-in_err-push-2-clause-errors
+returns-in_err-push-2-clause-errors g c = search rules
+
+pub returns-in_err-push-2-clause-fits : goal.returns-in_err-push-2-clause-fits
+returns-in_err-push-2-clause-fits g c = search rules
+
+pub returns-clause-fits : goal.returns-clause-fits
+returns-clause-fits g c = search rules
+
+pub returns-clause-products : goal.returns-clause-products
+returns-clause-products g c = search rules

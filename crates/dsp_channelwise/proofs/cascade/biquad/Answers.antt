@@ -1,4 +1,4 @@
-use Rattle.std.proofs.Common.{◌∙◌, ap, sym, length}
+use Rattle.std.proofs.Common.{◌∙◌, ap, sym, length, rules}
 use Rattle.std.specs.Prelude.{fold}
 use Rattle.dsp_defs.specs.Biquad.{biquad_section, section_output, sections}
 use Rattle.dsp_defs.specs.Signal.{outputs}
@@ -23,3 +23,39 @@ loop-section-preserved g c =
       products = section-cost _ c.loop-section.steps.multiplies _ (length c.args.x.now) _ _ _ here.1
           (ap length x ∙ so_far.long) given.products so_far.products;
     }
+
+pub returns-in_err-y-clause-values : goal.returns-in_err-y-clause-values
+returns-in_err-y-clause-values g c = search rules
+
+pub returns-in_err-y-clause-fits : goal.returns-in_err-y-clause-fits
+returns-in_err-y-clause-fits g c = search rules
+
+pub returns-in_err-y-clause-products : goal.returns-in_err-y-clause-products
+returns-in_err-y-clause-products g c = search rules
+
+pub loop-section-init : goal.loop-section-init
+loop-section-init g c = search rules
+
+pub invariant_of-recurrence : goal.invariant_of-recurrence
+invariant_of-recurrence g c = search rules
+
+pub returns-in_err-y-2-clause-values : goal.returns-in_err-y-2-clause-values
+returns-in_err-y-2-clause-values g c = search rules
+
+pub returns-in_err-y-2-clause-fits : goal.returns-in_err-y-2-clause-fits
+returns-in_err-y-2-clause-fits g c = search rules
+
+pub returns-in_err-y-2-clause-products : goal.returns-in_err-y-2-clause-products
+returns-in_err-y-2-clause-products g c = search rules
+
+pub loop-section-smaller : goal.loop-section-smaller
+loop-section-smaller g c = search rules
+
+pub returns-clause-values : goal.returns-clause-values
+returns-clause-values g c = search rules
+
+pub returns-clause-fits : goal.returns-clause-fits
+returns-clause-fits g c = search rules
+
+pub returns-clause-products : goal.returns-clause-products
+returns-clause-products g c = search rules

@@ -1,4 +1,4 @@
-use Rattle.std.proofs.Common.{◌∙◌, ap, sym, length, map, ◌-◌}
+use Rattle.std.proofs.Common.{◌∙◌, ap, sym, length, map, ◌-◌, rules}
 use Rattle.std.specs.Prelude.{fold}
 use Rattle.std.proofs.lemmas.List.{length-map}
 use Rattle.dsp_defs.specs.Biquad.{biquad64_section, sections, wide_output}
@@ -28,3 +28,48 @@ loop-section-preserved g c =
       products = section-cost _ c.loop-section.steps.multiplies _ (length c.args.x.now) _ _ _ here.1
           (ap length x ∙ so_far.long) c.in_ok-accs.ensures.products so_far.products;
     }
+
+pub returns-in_err-y-clause-values : goal.returns-in_err-y-clause-values
+returns-in_err-y-clause-values g c = search rules
+
+pub returns-in_err-y-clause-fits : goal.returns-in_err-y-clause-fits
+returns-in_err-y-clause-fits g c = search rules
+
+pub returns-in_err-y-clause-products : goal.returns-in_err-y-clause-products
+returns-in_err-y-clause-products g c = search rules
+
+pub loop-section-init : goal.loop-section-init
+loop-section-init g c = search rules
+
+pub invariant_of-recurrence : goal.invariant_of-recurrence
+invariant_of-recurrence g c = search rules
+
+pub returns-in_err-accs-clause-values : goal.returns-in_err-accs-clause-values
+returns-in_err-accs-clause-values g c = search rules
+
+pub returns-in_err-accs-clause-fits : goal.returns-in_err-accs-clause-fits
+returns-in_err-accs-clause-fits g c = search rules
+
+pub returns-in_err-accs-clause-products : goal.returns-in_err-accs-clause-products
+returns-in_err-accs-clause-products g c = search rules
+
+pub returns-in_err-y-2-clause-values : goal.returns-in_err-y-2-clause-values
+returns-in_err-y-2-clause-values g c = search rules
+
+pub returns-in_err-y-2-clause-fits : goal.returns-in_err-y-2-clause-fits
+returns-in_err-y-2-clause-fits g c = search rules
+
+pub returns-in_err-y-2-clause-products : goal.returns-in_err-y-2-clause-products
+returns-in_err-y-2-clause-products g c = search rules
+
+pub loop-section-smaller : goal.loop-section-smaller
+loop-section-smaller g c = search rules
+
+pub returns-clause-values : goal.returns-clause-values
+returns-clause-values g c = search rules
+
+pub returns-clause-fits : goal.returns-clause-fits
+returns-clause-fits g c = search rules
+
+pub returns-clause-products : goal.returns-clause-products
+returns-clause-products g c = search rules

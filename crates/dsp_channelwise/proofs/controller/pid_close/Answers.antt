@@ -15,3 +15,6 @@ returns-in-Q31-clause-value c = search rules
 
 pub returns-in_default : goal.returns-in_default
 returns-in_default c = search rules
+
+pub returns-in-Q31-clause-fits : goal.returns-in-Q31-clause-fits
+returns-in-Q31-clause-fits c = search rules

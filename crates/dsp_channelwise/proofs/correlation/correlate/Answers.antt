@@ -53,3 +53,54 @@ returns-clause-values g c =
     c.max-m.ensures all.long value in
     IfOk-weaker c.all_closed.result _ _
     (λ y given. given ∙ ap (map (close c.args.format)) c.as_slice.ensures.value ∙ is) c.all_closed.ensures.values
+
+pub returns-then-is_empty-clause-values : goal.returns-then-is_empty-clause-values
+returns-then-is_empty-clause-values g c = search rules
+
+pub returns-then-is_empty-clause-fits : goal.returns-then-is_empty-clause-fits
+returns-then-is_empty-clause-fits g c = search rules
+
+pub returns-then-is_empty-clause-products : goal.returns-then-is_empty-clause-products
+returns-then-is_empty-clause-products g c = search rules
+
+pub overflow_mul-m : goal.overflow_mul-m
+overflow_mul-m g c = search rules
+
+pub overflow_sub-m : goal.overflow_sub-m
+overflow_sub-m g c = search rules
+
+pub returns-in_err-sums-clause-values : goal.returns-in_err-sums-clause-values
+returns-in_err-sums-clause-values g c = search rules
+
+pub returns-in_err-sums-clause-fits : goal.returns-in_err-sums-clause-fits
+returns-in_err-sums-clause-fits g c = search rules
+
+pub returns-in_err-sums-clause-products : goal.returns-in_err-sums-clause-products
+returns-in_err-sums-clause-products g c = search rules
+
+pub overflow_add-k : goal.overflow_add-k
+overflow_add-k g c = search rules
+
+pub overflow_sub-k : goal.overflow_sub-k
+overflow_sub-k g c = search rules
+
+pub offset_bounds-x-k : goal.offset_bounds-x-k
+offset_bounds-x-k g c = search rules
+
+pub bounds-x-k : goal.bounds-x-k
+bounds-x-k g c = search rules
+
+pub scatter-requires-clause-inside : goal.scatter-requires-clause-inside
+scatter-requires-clause-inside g c = search rules
+
+pub scatter-requires-clause-room : goal.scatter-requires-clause-room
+scatter-requires-clause-room g c = search rules
+
+pub scatter-requires-clause-small : goal.scatter-requires-clause-small
+scatter-requires-clause-small g c = search rules
+
+pub returns-clause-fits : goal.returns-clause-fits
+returns-clause-fits g c = search rules
+
+pub returns-clause-products : goal.returns-clause-products
+returns-clause-products g c = search rules

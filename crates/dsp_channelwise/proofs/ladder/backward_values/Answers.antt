@@ -1,4 +1,4 @@
-use Rattle.std.proofs.Common.{◌∙◌, ap, drop, arith}
+use Rattle.std.proofs.Common.{◌∙◌, ap, drop, arith, rules}
 use Rattle.std.specs.Int.{w32}
 use Rattle.std.proofs.lemmas.Int.{to_z-of_z}
 use Rattle.dsp_defs.specs.Lattice.{backward_values}
@@ -18,3 +18,30 @@ returns-clause-values g c =
     c.in_ok-push-2.ensures.items c.loop-m.invariant.rest
     ∙ ap (λ f. backward_values c.args.format f c.args.k.now (drop 1 c.args.before.now))
     (to_z-of_z w32 c.args.f c.ranges.f)
+
+pub loop-m-init : goal.loop-m-init
+loop-m-init g c = search rules
+
+pub offset_bounds-k-m : goal.offset_bounds-k-m
+offset_bounds-k-m g c = search rules
+
+pub bounds-k-m : goal.bounds-k-m
+bounds-k-m g c = search rules
+
+pub overflow_add-m : goal.overflow_add-m
+overflow_add-m g c = search rules
+
+pub returns-in_err-push-clause-values : goal.returns-in_err-push-clause-values
+returns-in_err-push-clause-values g c = search rules
+
+pub returns-in_err-push-clause-products : goal.returns-in_err-push-clause-products
+returns-in_err-push-clause-products g c = search rules
+
+pub returns-in_err-push-2-clause-values : goal.returns-in_err-push-2-clause-values
+returns-in_err-push-2-clause-values g c = search rules
+
+pub returns-in_err-push-2-clause-products : goal.returns-in_err-push-2-clause-products
+returns-in_err-push-2-clause-products g c = search rules
+
+pub returns-clause-products : goal.returns-clause-products
+returns-clause-products g c = search rules

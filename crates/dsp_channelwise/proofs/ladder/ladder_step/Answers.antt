@@ -9,3 +9,15 @@ returns-clause-upper g c = search rules
 
 pub returns-clause-products : goal.returns-clause-products
 returns-clause-products g c = search rules
+
+pub difference-requires-clause-left : goal.difference-requires-clause-left
+difference-requires-clause-left g c = search rules
+
+pub difference-requires-clause-right : goal.difference-requires-clause-right
+difference-requires-clause-right g c = search rules
+
+pub sum-requires-clause-left : goal.sum-requires-clause-left
+sum-requires-clause-left g c = search rules
+
+pub sum-requires-clause-right : goal.sum-requires-clause-right
+sum-requires-clause-right g c = search rules

@@ -49,3 +49,39 @@ returns-clause-values g c =
     c.loop-n.invariant.values
     ∙ ap (λ x. map close (outputs (ladder_output f c.args.k.now) x))
     (take_all c.loop-n.n c.args.x.now c.loop-n-test.false)
+
+pub returns-in_err-y-clause-values : goal.returns-in_err-y-clause-values
+returns-in_err-y-clause-values g c = search rules
+
+pub returns-in_err-y-clause-fits : goal.returns-in_err-y-clause-fits
+returns-in_err-y-clause-fits g c = search rules
+
+pub returns-in_err-y-clause-products : goal.returns-in_err-y-clause-products
+returns-in_err-y-clause-products g c = search rules
+
+pub loop-n-init : goal.loop-n-init
+loop-n-init g c = search rules
+
+pub offset_bounds-x-n : goal.offset_bounds-x-n
+offset_bounds-x-n g c = search rules
+
+pub bounds-x-n : goal.bounds-x-n
+bounds-x-n g c = search rules
+
+pub returns-in_err-g-clause-values : goal.returns-in_err-g-clause-values
+returns-in_err-g-clause-values g c = search rules
+
+pub returns-in_err-g-clause-fits : goal.returns-in_err-g-clause-fits
+returns-in_err-g-clause-fits g c = search rules
+
+pub returns-in_err-push-clause-values : goal.returns-in_err-push-clause-values
+returns-in_err-push-clause-values g c = search rules
+
+pub returns-in_err-push-clause-fits : goal.returns-in_err-push-clause-fits
+returns-in_err-push-clause-fits g c = search rules
+
+pub returns-clause-fits : goal.returns-clause-fits
+returns-clause-fits g c = search rules
+
+pub returns-clause-products : goal.returns-clause-products
+returns-clause-products g c = search rules

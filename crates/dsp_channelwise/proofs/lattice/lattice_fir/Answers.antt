@@ -31,3 +31,33 @@ returns-clause-values g c =
     let all = c.as_slice-2.ensures.value ∙ c.loop-section.invariant.values
     ∙ ap (fold lattice_stage start) (take_all c.loop-section.section-index c.args.k.now c.loop-section-test.false) in
     IfOk-weaker c.firsts.result _ _ (λ y given. given ∙ ap (map (λ (w : ℤ × ℤ). w.0)) all) c.firsts.ensures.values
+
+pub returns-in_err-pairs-clause-values : goal.returns-in_err-pairs-clause-values
+returns-in_err-pairs-clause-values g c = search rules
+
+pub returns-in_err-pairs-clause-fits : goal.returns-in_err-pairs-clause-fits
+returns-in_err-pairs-clause-fits g c = search rules
+
+pub returns-in_err-pairs-clause-products : goal.returns-in_err-pairs-clause-products
+returns-in_err-pairs-clause-products g c = search rules
+
+pub loop-section-init : goal.loop-section-init
+loop-section-init g c = search rules
+
+pub offset_bounds-k-section-index : goal.offset_bounds-k-section-index
+offset_bounds-k-section-index g c = search rules
+
+pub returns-in_err-pairs-2-clause-values : goal.returns-in_err-pairs-2-clause-values
+returns-in_err-pairs-2-clause-values g c = search rules
+
+pub returns-in_err-pairs-2-clause-fits : goal.returns-in_err-pairs-2-clause-fits
+returns-in_err-pairs-2-clause-fits g c = search rules
+
+pub returns-in_err-pairs-2-clause-products : goal.returns-in_err-pairs-2-clause-products
+returns-in_err-pairs-2-clause-products g c = search rules
+
+pub returns-clause-fits : goal.returns-clause-fits
+returns-clause-fits g c = search rules
+
+pub returns-clause-products : goal.returns-clause-products
+returns-clause-products g c = search rules

@@ -19,3 +19,30 @@ returns-in-MatSub g c = search rules
 
 pub returns-in-MatScale : goal.returns-in-MatScale
 returns-in-MatScale g c = search rules
+
+pub nonzero_rem-i : goal.nonzero_rem-i
+nonzero_rem-i g c = search rules
+
+pub overflow_mul-i : goal.overflow_mul-i
+overflow_mul-i g c = search rules
+
+pub nonzero_div-i : goal.nonzero_div-i
+nonzero_div-i g c = search rules
+
+pub overflow_add-i : goal.overflow_add-i
+overflow_add-i g c = search rules
+
+pub returns-in-MatTrans-clause-value : goal.returns-in-MatTrans-clause-value
+returns-in-MatTrans-clause-value g c = search rules
+
+pub returns-in-MatTrans-clause-products : goal.returns-in-MatTrans-clause-products
+returns-in-MatTrans-clause-products g c = search rules
+
+pub returns-in-MatMult-clause-fits : goal.returns-in-MatMult-clause-fits
+returns-in-MatMult-clause-fits g c = search rules
+
+pub returns-in-MatMult-clause-products : goal.returns-in-MatMult-clause-products
+returns-in-MatMult-clause-products g c = search rules
+
+pub returns-in_default : goal.returns-in_default
+returns-in_default g c = search rules

@@ -1,4 +1,4 @@
-use Rattle.std.proofs.Common.{◌≡◌, ◌∙◌, ◌*◌, ap, refl, sym, subst, pos, length, arith}
+use Rattle.std.proofs.Common.{◌≡◌, ◌∙◌, ◌*◌, ap, refl, sym, subst, pos, length, arith, rules}
 use Rattle.std.specs.Prelude.{FitsSigned}
 use Rattle.std.proofs.lemmas.List.{get_or_default}
 use Rattle.dsp_defs.specs.Block.{format_after, given_frame}
@@ -31,3 +31,27 @@ returns g c =
         prices-within c.args.format block (length frame) c.requires.framewise,
       );
     }
+
+pub loop-j-init : goal.loop-j-init
+loop-j-init g c = search rules
+
+pub offset_bounds-given-j : goal.offset_bounds-given-j
+offset_bounds-given-j g c = search rules
+
+pub bounds-given-j : goal.bounds-given-j
+bounds-given-j g c = search rules
+
+pub given_sample-requires-clause-framewise : goal.given_sample-requires-clause-framewise
+given_sample-requires-clause-framewise g c = search rules
+
+pub given_sample-requires-clause-suits : goal.given_sample-requires-clause-suits
+given_sample-requires-clause-suits g c = search rules
+
+pub given_sample-requires-clause-format : goal.given_sample-requires-clause-format
+given_sample-requires-clause-format g c = search rules
+
+pub given_sample-requires-clause-channel : goal.given_sample-requires-clause-channel
+given_sample-requires-clause-channel g c = search rules
+
+pub loop-j-preserved : goal.loop-j-preserved
+loop-j-preserved g c = search rules

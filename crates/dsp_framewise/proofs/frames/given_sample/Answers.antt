@@ -150,3 +150,66 @@ returns-in-Power-4 g c = search rules
 
 pub returns-in-Power-5 : goal.returns-in-Power-5
 returns-in-Power-5 g c = search rules
+
+pub shift_in-requires-clause-low : goal.shift_in-requires-clause-low
+shift_in-requires-clause-low g c = search rules
+
+pub shift_in-requires-clause-high : goal.shift_in-requires-clause-high
+shift_in-requires-clause-high g c = search rules
+
+pub shift_in-requires-clause-fits : goal.shift_in-requires-clause-fits
+shift_in-requires-clause-fits g c = search rules
+
+pub offset_bounds-as_slice-j : goal.offset_bounds-as_slice-j
+offset_bounds-as_slice-j g c = search rules
+
+pub bounds-as_slice-j : goal.bounds-as_slice-j
+bounds-as_slice-j g c = search rules
+
+pub overflow_cast-unsigned_abs : goal.overflow_cast-unsigned_abs
+overflow_cast-unsigned_abs g c = search rules
+
+pub unreachable-unreachable : goal.unreachable-unreachable
+unreachable-unreachable g c = search rules
+
+pub returns-in-Offset-clause-fits : goal.returns-in-Offset-clause-fits
+returns-in-Offset-clause-fits g c = search rules
+
+pub returns-in-Offset-clause-products : goal.returns-in-Offset-clause-products
+returns-in-Offset-clause-products g c = search rules
+
+pub returns-in-Negate-clause-fits : goal.returns-in-Negate-clause-fits
+returns-in-Negate-clause-fits g c = search rules
+
+pub returns-in-Negate-clause-products : goal.returns-in-Negate-clause-products
+returns-in-Negate-clause-products g c = search rules
+
+pub returns-in-Abs-clause-fits : goal.returns-in-Abs-clause-fits
+returns-in-Abs-clause-fits g c = search rules
+
+pub returns-in-Abs-clause-products : goal.returns-in-Abs-clause-products
+returns-in-Abs-clause-products g c = search rules
+
+pub returns-in-Scale-clause-fits : goal.returns-in-Scale-clause-fits
+returns-in-Scale-clause-fits g c = search rules
+
+pub returns-in-Scale-clause-products : goal.returns-in-Scale-clause-products
+returns-in-Scale-clause-products g c = search rules
+
+pub returns-in-Shift-clause-fits : goal.returns-in-Shift-clause-fits
+returns-in-Shift-clause-fits g c = search rules
+
+pub returns-in-Shift-clause-products : goal.returns-in-Shift-clause-products
+returns-in-Shift-clause-products g c = search rules
+
+pub returns-in-Clip-clause-products : goal.returns-in-Clip-clause-products
+returns-in-Clip-clause-products g c = search rules
+
+pub returns-in-To-clause-fits : goal.returns-in-To-clause-fits
+returns-in-To-clause-fits g c = search rules
+
+pub returns-in-To-clause-products : goal.returns-in-To-clause-products
+returns-in-To-clause-products g c = search rules
+
+pub returns-in-Route-clause-products : goal.returns-in-Route-clause-products
+returns-in-Route-clause-products g c = search rules

@@ -15,3 +15,6 @@ returns-in-Q31-clause-fits g c = search rules
 
 pub returns-in_default : goal.returns-in_default
 returns-in_default g c = search rules
+
+pub returns-in-Q31-clause-products : goal.returns-in-Q31-clause-products
+returns-in-Q31-clause-products g c = search rules

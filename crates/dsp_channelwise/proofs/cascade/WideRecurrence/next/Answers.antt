@@ -46,3 +46,15 @@ sum-requires-2-clause-left g c = search rules
 
 pub sum-requires-2-clause-right : goal.sum-requires-2-clause-right
 sum-requires-2-clause-right g c = search rules
+
+pub bounds-a-0 : goal.bounds-a-0
+bounds-a-0 g c = search rules
+
+pub bounds-a-1 : goal.bounds-a-1
+bounds-a-1 g c = search rules
+
+pub returns-clause-fits : goal.returns-clause-fits
+returns-clause-fits g c = search rules
+
+pub returns-clause-products : goal.returns-clause-products
+returns-clause-products g c = search rules

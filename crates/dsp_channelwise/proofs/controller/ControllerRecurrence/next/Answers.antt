@@ -26,3 +26,6 @@ returns-clause-fits g c = search rules
 
 pub returns-clause-products : goal.returns-clause-products
 returns-clause-products g c = search rules
+
+pub pid_close-requires-clause-wide : goal.pid_close-requires-clause-wide
+pid_close-requires-clause-wide g c = search rules

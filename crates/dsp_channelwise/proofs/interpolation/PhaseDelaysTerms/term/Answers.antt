@@ -1,4 +1,4 @@
-use Rattle.std.proofs.Common.{◌∙◌, sym, ◌*ℤ◌, ◌%◌}
+use Rattle.std.proofs.Common.{◌∙◌, sym, ◌*ℤ◌, ◌%◌, rules}
 use Rattle.std.specs.Int.{w32, w128}
 use Rattle.std.proofs.lemmas.Int.{to_z-of_z}
 use Rattle.dsp_channelwise.proofs.Phases.{tap-of-phase}
@@ -13,3 +13,21 @@ returns-clause-value g c =
     to_z-of_z w128 c.product.result (record { sfits = c.product.type_inv })
     ∙ c.product.ensures.value
     ∙ (λ i. tap i *ℤ x i)
+
+pub overflow_mul-factor : goal.overflow_mul-factor
+overflow_mul-factor g c = search rules
+
+pub nonzero_rem-self : goal.nonzero_rem-self
+nonzero_rem-self g c = search rules
+
+pub overflow_add-factor : goal.overflow_add-factor
+overflow_add-factor g c = search rules
+
+pub nonzero_div-self : goal.nonzero_div-self
+nonzero_div-self g c = search rules
+
+pub returns-clause-small : goal.returns-clause-small
+returns-clause-small g c = search rules
+
+pub returns-clause-products : goal.returns-clause-products
+returns-clause-products g c = search rules

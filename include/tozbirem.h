@@ -467,8 +467,11 @@ static inline uint32_t tozbirem_end(struct tozbirem *chain, void *output, size_t
  */
 static inline const char *tozbirem_text(const struct tozbirem *chain, uint32_t status, char *text, size_t size)
 {
+    static const char closed[] = "the chain is not open";
     if (!chain || !text || !size) return "";
-    uint64_t length = tozbirem_explain(status, &chain->answer, text, size - 1);
+    uint64_t length = sizeof closed - 1;
+    if (status != TOZBIREM_EMPTY) length = tozbirem_explain(status, &chain->answer, text, size - 1);
+    else if (length < size) memcpy(text, closed, length);
     text[length < size ? length : 0] = 0;
     return text;
 }

@@ -149,7 +149,9 @@ static void test_not_open(void)
         CHECK(tozbirem_process(&chain, NULL, 0, output, sizeof output, &given) == TOZBIREM_EMPTY);
         CHECK(tozbirem_end(&chain, output, sizeof output, &given, measures, 2) == TOZBIREM_EMPTY);
         CHECK(tozbirem_resume(&chain, 1, kept, 1) == TOZBIREM_EMPTY && tozbirem_state(&chain) == NULL && given == 77);
-        CHECK(!strcmp(tozbirem_text(&chain, TOZBIREM_EMPTY, line, sizeof line), "the handle holds no signal"));
+        CHECK(!strcmp(tozbirem_text(&chain, TOZBIREM_EMPTY, line, sizeof line), "the chain is not open"));
+        CHECK(!strcmp(tozbirem_text(&chain, TOZBIREM_EMPTY, line, 22), "the chain is not open"));
+        CHECK(!*tozbirem_text(&chain, TOZBIREM_EMPTY, line, 21));
     }
 }
 

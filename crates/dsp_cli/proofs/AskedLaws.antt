@@ -67,7 +67,7 @@ module _ (c : Call) (report told : SinkState) (reported : told.put.strayed ≡ r
     of_report = reported;
   }
   happened_order (Printed script) printed = untouched_order printed.2
-  happened_order (Saved script at x) saved = let (session, done, is) = saved.did in record {
+  happened_order (Saved script at x) saved = let (session, _, _, done, is) = saved.did in record {
     of_input = done.gave.in_order;
     of_other = same_order c.other c.seen saved.other_same;
     of_output = more_put c.sink c.after _ done.put;

@@ -97,7 +97,7 @@ module _ (c : Call) (status : ℕ) (report told : SinkState) where
       HasOutput (command_of c.words) → IsDone status → IsSettled c.after
   settled_by (Went script frames found) went reported output done = went.did.settled
   settled_by (Printed script) printed reported output done = absurd (subst HasOutput printed.0 output)
-  settled_by (Saved script at x) saved reported output done = saved.did.1.settled
+  settled_by (Saved script at x) saved reported output done = saved.did.3.settled
   settled_by (Resumed script frames found) resumed reported output done = resumed.did.settled
   settled_by (Turned totals) turned reported output done = turned.did.settled
   settled_by (Checked script size) checked reported output done = absurd (subst HasOutput checked.asked output)
@@ -198,7 +198,7 @@ module _ (c : Call) (status : ℕ) (report told : SinkState) where
       (λ seed count is. subst Writes is (went_writes script frames found went))
   done_by (Printed script) printed reported done = subst (λ command. HasDone command c) (sym printed.0) tt
   done_by (Saved script at x) saved reported done =
-      let (session, did, first) = saved.did in
+      let (session, _, _, did, first) = saved.did in
       let ready : IsReady script (chosen None script) = record
       { sound = (saved.read.text, saved.read.holds); legal = saved.legal } in
       subst (λ command. HasDone command c) (sym saved.asked)

@@ -265,7 +265,7 @@ Counted script given now got declared = elim declared
 -- of the first frames, where no port has failed
 module _ (script : Script) (block at : ℕ) (stop : PartFault) (ready : IsReady script block) (input now : SourceState)
     (sink after : SinkState) (before counts : Counts) where
-  pub first_hinders : FirstStopped script block at stop input now sink after before counts → (bytes : List ℕ) →
+  pub first_hinders : FirstStopped false script block at stop input now sink after before counts → (bytes : List ℕ) →
       input.left ≡ Some bytes → IsStoppable script at bytes → (Rose input.faults now.faults → ⊥) →
       (Rose sink.faults after.faults → ⊥) → ⊥
   first_hinders stopped bytes is_told free input_kept output_kept =

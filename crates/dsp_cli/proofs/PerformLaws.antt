@@ -17,8 +17,9 @@ use Rattle.dsp_defs.specs.Canon.{canon}
 use Rattle.dsp_defs.specs.KeptOfScript.{kept}
 use Rattle.dsp_defs.specs.StateBytes.{state_of}
 use Rattle.dsp_defs.specs.declared.limits.TheConstants.{MAX_SCRIPT}
-use Rattle.dsp_resume.specs.ResumeState.{ResumeState, Saves}
-use Rattle.dsp_session.specs.Resuming.{FirstDone, RestDone}
+use Rattle.dsp_resume.specs.ResumeState.{IsNewResume, IsResumed, ResumeState, Saves}
+use Rattle.dsp_session.specs.Resuming.{FirstDone, RestDone, RestStopped}
+use Rattle.dsp_session.specs.declared.fault.PartFault.{PartFault}
 use Rattle.dsp_session.specs.SessionState.{SessionState}
 use Rattle.dsp_state.specs.SavedState.{SavedState}
 use Rattle.dsp_session.specs.Session.{cost_of}
@@ -28,7 +29,7 @@ use Rattle.dsp_cli.specs.Call.{Call, call, Untouched, Streams, Went, Saved, Resu
 use Rattle.dsp_cli.specs.Call.{GoesOn, OfScript, InFirst, InRest, Happened, RefusesLength}
 use Rattle.dsp_cli.specs.Perform.{NotBegun, Compared, FailsToCompare, ReadsAs, Ran, RanGenerated, Made, FailsToRun}
 use Rattle.dsp_cli.specs.Perform.{FailsToGenerate, LoadsState, RanFirst, FailsToStop, RanRest, FailsToGoOn}
-use Rattle.dsp_cli.specs.Perform.{Continues, StopsAtLength}
+use Rattle.dsp_cli.specs.Perform.{Continues, StopsAtLength, StopsInRest}
 use Rattle.dsp_cli.specs.Run.{HasSource, HasBlocks, IsStream, IsReading, read_from}
 use Rattle.dsp_cli.specs.Script.{named_by, banked_by, chosen, is_banked, is_legal_for}
 use Rattle.dsp_cli.specs.declared.fault.Fault.{Fault}
@@ -161,19 +162,23 @@ module _ (words : List (List ℕ)) (source read port : SourceState) (sink after 
 -- a run that was stopped has done this, and its state is that of the first frames
 pub first_by : (script : Script) (at : ℕ) (state : List ℕ) (old new : ResumeState) (input now : SourceState)
     (sink after : SinkState) (before counts : Counts)
-    → old.session.script ≡ script → old.frames ≡ at → state ≡ new.state →
-    IsTrue (is_legal_for script (chosen None script)) → length (canon script) ≤ MAX_SCRIPT
-    → FirstDone old.session.script old.frames new.session input now sink after before counts → Saves old new
+    → IsNewResume script (chosen None script) at old → state ≡ new.state →
+    IsTrue (is_legal_for script (chosen None script)) → FirstDone old.session.script old.frames new.session input now
+    sink after before counts → Saves old new
     → RanFirst at script state input now sink after before counts
-first_by script at state old new input now sink after before counts script_is at_is state_is legal short done saves =
+first_by script at state old new input now sink after before counts made state_is legal done saves =
+    let script_is = made.script_is in
+    let at_is = made.frames_is in
     let own : FirstDone script at new.session input now sink after before counts =
     subst (λ n. FirstDone script n new.session input now sink after before counts) at_is
     (subst (λ (s : Script). FirstDone s old.frames new.session input now sink after before counts) script_is done) in
     let x = input_signal script own.given in
     record {
       legal = legal;
-      short = short;
+      short = made.short;
       session = new.session;
+      block_is = saves.script.block ∙ made.block_is;
+      plain = saves.script.banked ∙ made.plain;
       done = own;
       state_is =
           state_is ∙ saves.state x own.stands (sym own.frame_count ∙ sym at_is) ∙
@@ -189,6 +194,34 @@ rest_by script same start at same_at frames input now sink after before counts f
     subst (λ (t : Script). RestDone t start at frames input now sink after before counts found) s
     (subst (λ n. RestDone same start n frames input now sink after before counts found) a
     (subst (λ m. RestDone same start same_at frames input now sink after before counts m) (sym f) done))
+
+-- the session of a loaded state, in blocks of the length that its script has
+pub continues_by : (saved : SavedState) (block : ℕ) (r : ResumeState) → IsResumed saved block r →
+    block ≡ chosen None saved.script → IsTrue (is_legal_for saved.script (chosen None saved.script)) →
+    Continues saved r.session
+continues_by saved block r resumed is legal = record {
+  legal = legal;
+  script_is = resumed.script_is;
+  block_is = resumed.block_is ∙ is;
+  plain = resumed.plain;
+  stands = resumed.stands;
+}
+
+-- and a stream of it that stopped
+pub stopped_by : (saved : SavedState) (r : ResumeState) (fault : PartFault) (input now : SourceState)
+    (sink after : SinkState) (before counts : Counts) → Continues saved r.session → r.frames ≡ saved.frames
+    → RestStopped r.session.script r.session.block r.session r.frames fault input now sink after before counts
+    → StopsInRest fault saved input now sink after before counts
+stopped_by saved r fault input now sink after before counts continues frames stopped = record {
+  start = r.session;
+  continues = continues;
+  stopped = subst (λ (s : Script). RestStopped s (chosen None saved.script) r.session saved.frames fault input now sink
+      after before counts) continues.script_is
+      (subst (λ n. RestStopped r.session.script n r.session saved.frames fault input now sink after before counts)
+      continues.block_is
+      (subst (λ n. RestStopped r.session.script r.session.block r.session n fault input now sink after before counts)
+      frames stopped));
+}
 
 module _ (words : List (List ℕ)) (source read port later : SourceState) (sink after : SinkState) (other : SourceState)
     (before counts : Counts) where
@@ -215,7 +248,7 @@ module _ (words : List (List ℕ)) (source read port later : SourceState) (sink 
           read = loaded;
           legal = ran.legal;
           short = ran.short;
-          did = (ran.session, ran.done, refl);
+          did = (ran.session, ran.block_is, ran.plain, ran.done, refl);
           other_same = refl;
         };
         whole = tt;
@@ -260,6 +293,8 @@ module _ (words : List (List ℕ)) (source read port later : SourceState) (sink 
       legal = continues.legal;
       start = start;
       script_is = continues.script_is;
+      block_is = continues.block_is;
+      plain = continues.plain;
       stands = continues.stands;
       did = did;
       other_same = refl;

@@ -1,6 +1,7 @@
 -- What the top call was given and what it left, and how it ended: one fact, from which all other clauses of `run`
 -- follow.
 use Rattle.std.specs.Prelude.{◌≡◌, ◌≤◌, ◌<◌, ◌++◌, ℕ, ℤ, List, length, Option, Some, None, IfSome, IsTrue, IsFalse}
+use Rattle.std.specs.Prelude.{false}
 use Rattle.dsp_ports.specs.Ports.{SourceState, SinkState, one_more}
 use Rattle.dsp_defs.specs.Canon.{canon}
 use Rattle.dsp_defs.specs.Counts.{Counts}
@@ -169,6 +170,8 @@ pub record GoesOn (script : Script) (Did : ℕ → SessionState → ℕ → Type
   pub legal : IsTrue (is_legal_for script (chosen None script))
   pub start : SessionState
   pub script_is : start.script ≡ script
+  pub block_is : start.block ≡ chosen None script
+  pub plain : start.banked ≡ false
   pub stands : (x : List Frame) → length x ≡ at → numbers ≡ kept script x → StandsFor start x
   pub did : Did (chosen None script) start at
   pub other_same : c.seen ≡ c.other
@@ -224,7 +227,7 @@ Refuses fault c = ⊥
 -- the stream over the first frames stopped before their end, or that over the rest
 pub data StopsInPart (fault : PartFault) (c : Call) : Type 0 where
   InFirst : (script : Script) (at : ℕ)
-      → StopsAt script at (λ block. FirstStopped script block at fault c.port c.later c.sink c.after c.before
+      → StopsAt script at (λ block. FirstStopped false script block at fault c.port c.later c.sink c.after c.before
       c.counts) c → StopsInPart fault c
   InRest : (script : Script)
       → GoesOn script (λ block start at. RestStopped script block start at fault c.port c.later c.sink c.after
@@ -238,7 +241,8 @@ Happened (Went script frames found) c =
 Happened (Printed script) c =
     IsPrint c.words × ReadsText c.source c.read (λ text. Reads text script) × Untouched c
 Happened (Saved script at x) c = StopsAt script at (λ block.
-    (session : SessionState) × (done : FirstDone script at session c.port c.later c.sink c.after c.before c.counts) ×
+    (session : SessionState) × (session.block ≡ block) × (session.banked ≡ false) ×
+    (done : FirstDone script at session c.port c.later c.sink c.after c.before c.counts) ×
     (x ≡ input_signal script done.given)) c
 Happened (Resumed script frames found) c =
     GoesOn script (λ block start at. RestDone script start at frames c.port c.later c.sink c.after c.before c.counts

@@ -123,6 +123,8 @@ pub record RanFirst (at : ℕ) (script : Script) (state : List ℕ) (input now :
   pub legal : IsTrue (is_legal_for script (chosen None script))
   pub short : length (canon script) ≤ MAX_SCRIPT
   pub session : SessionState
+  pub block_is : session.block ≡ chosen None script
+  pub plain : session.banked ≡ false
   pub done : FirstDone script at session input now output after before counts
   pub state_is : state ≡ state_of script at (kept script (input_signal script done.given))
 
@@ -138,7 +140,7 @@ pub record StopsInFirst (fault : PartFault) (at : ℕ) (script : Script) (input 
     (output after : SinkState) (before counts : Counts) : Type 0 where
   pub legal : IsTrue (is_legal_for script (chosen None script))
   pub short : length (canon script) ≤ MAX_SCRIPT
-  pub stopped : FirstStopped script (chosen None script) at fault input now output after before counts
+  pub stopped : FirstStopped false script (chosen None script) at fault input now output after before counts
 
 -- why a script is not stopped behind so many frames, and what was called by then
 abbrev pub FailsToStop : Fault → ℕ → Script → SourceState → SourceState → SinkState → SinkState → Counts → Counts →
@@ -156,6 +158,8 @@ FailsToStop fault at script input now output after before counts = ⊥
 pub record Continues (saved : SavedState) (start : SessionState) : Type 0 where
   pub legal : IsTrue (is_legal_for saved.script (chosen None saved.script))
   pub script_is : start.script ≡ saved.script
+  pub block_is : start.block ≡ chosen None saved.script
+  pub plain : start.banked ≡ false
   pub stands : (x : List Frame) → length x ≡ saved.frames → saved.numbers ≡ kept saved.script x → StandsFor start x
 
 -- the run went on to the end of the input, and its summary is the report of just that

@@ -153,6 +153,5 @@ module _ (old now next : SessionState) (runs : Runs old) (given : ℕ) (first ou
               few = tailing.few;
               so_far = tailing.so_far ∙ ap (λ bytes. live_bytes script x ++ bytes) (sym written);
               made = tailing.made;
-              turned = tailing.turned;
             };
       }

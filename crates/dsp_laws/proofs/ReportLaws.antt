@@ -61,8 +61,8 @@ module _ (c : Call) (status : ℕ) (report told : SinkState) where
   }
   clean (Saved script at x) saved reported zero = record {
     script_kept = saved.read.read.no_fault;
-    input_kept = saved.did.1.no_input_fault;
-    output_kept = saved.did.1.no_output_fault;
+    input_kept = saved.did.3.no_input_fault;
+    output_kept = saved.did.3.no_output_fault;
     other_kept = ap (λ (s : SourceState). s.faults) saved.other_same;
     report_kept = text_kept reported zero;
   }

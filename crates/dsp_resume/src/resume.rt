@@ -128,8 +128,9 @@ impl<U: AnyUnit + Drop> Resume<U> {
             self.new.session (S.state input.old) (S.state input.new) (K.state output.old)
             (K.state output.new) steps.old steps.new) }
         ensures saved { IfOk result (λ _. Saves self.old self.new) }
-        ensures err { IfErr result (λ fault. FirstStopped self.old.session.script
-            self.old.session.block self.old.frames fault (S.state input.old) (S.state input.new)
+        ensures err { IfErr result (λ fault. FirstStopped self.old.session.banked
+            self.old.session.script self.old.session.block self.old.frames fault
+            (S.state input.old) (S.state input.new)
             (K.state output.old) (K.state output.new) steps.old steps.new) }
         ensures unsaved { IfErr result (λ _. SavesNothing self.old self.new) }
     {

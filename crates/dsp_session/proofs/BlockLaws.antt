@@ -103,7 +103,7 @@ module _ (script : Script) (block : ℕ) (ready : IsReady script block) (header 
       div_grows n m f h = grind arith
 
   -- the frames are those of the blocks that passed, and at most a block more
-  frames_between : (blocks : ℕ) (heard bytes : List ℕ) →
+  pub frames_between : (blocks : ℕ) (heard bytes : List ℕ) →
       InDeclared (declared_bytes script header) (length (heard ++ bytes)) →
       length heard ≡ blocks * block_bytes script header.coding block →
       length bytes ≤ block_bytes script header.coding block

@@ -26,7 +26,7 @@ use Rattle.dsp_defs.proofs.OutputLaws.{coded_begins}
 use Rattle.dsp_input.specs.Taking.{AreAll, Fits, InDeclared, IsTakenWhole, declared_bytes, frame_bytes, frames_in_bytes}
 use Rattle.dsp_session.specs.SessionState.{SessionState}
 use Rattle.dsp_session.specs.Session.{IsReady, SameSession, signal, whole_values, cost_of, live_cost_of, products_of}
-use Rattle.dsp_session.specs.Session.{turns_of, run_turns, measures_of}
+use Rattle.dsp_session.specs.Session.{TurnsByProducts, turns_of, run_turns, measures_of}
 use Rattle.dsp_session.specs.Stream.{Stopped, Done, Part, KeepsLimits, LagsByOne, in_whole_blocks}
 use Rattle.dsp_session.specs.Passing.{PassCosts, Passes, FailsToPass, Passed, WritesRest, TailCosts}
 use Rattle.dsp_session.specs.declared.fault.LengthFault.TheVariants as length_fault
@@ -326,7 +326,7 @@ module _ (script : Script) (block : ℕ) (ready : IsReady script block) (session
           ap (λ xs. xs ++ written) (sym passes.out))
 
       late_turns : (spent : Counts) → spent.multiplies + live_cost_of script (length y) ≤ fed_counts.multiplies +
-          products_of script (length y) → spent.turns + fed_counts.multiplies ≤ fed_counts.turns + spent.multiplies →
+          products_of script (length y) → TurnsByProducts fed_counts spent →
           spent.turns ≤ before.turns + run_turns session.banked script block (frames_in_bytes script given)
       late_turns spent limit turned =
           let all : spent.multiplies + live_cost_of script (length y) ≤ fed_counts.multiplies + cost_of script
@@ -357,10 +357,11 @@ module _ (script : Script) (block : ℕ) (ready : IsReady script block) (session
           WritesRest {T = Unit {0}} {E = E} (Ok tt) (live_bytes fed.script y)
           (whole_bytes fed.script y ++ output_pad fed.script header) mid final →
           TailCosts {T = Unit {0}} {E = E} (Ok tt) fed.script (length y) fed_counts spent
-          → IsSettled final → final.faults ≡ mid.faults → frames ≡ (last.before + last.count) / frame_bytes script
+          → TurnsByProducts fed_counts spent → IsSettled final → final.faults ≡ mid.faults → frames ≡
+          (last.before + last.count) / frame_bytes script
           header.coding → (found : List Measure) → found ≡ measures_of fed.script y →
           Done session.banked script block frames input now sink final before spent found
-      stream_done {E} final spent frames writes costs settled faults is found measured =
+      stream_done {E} final spent frames writes costs turned settled faults is found measured =
           let tail = tail_writes {E = E} (Ok tt) final spent writes costs in
           let all : head ++ live_bytes script x ++ (fed.out ++ tail.written) ≡ output script given =
           written_is tail.written ∙ ap (λ xs. head ++ xs) tail.whole ∙ sym output_all in
@@ -398,8 +399,7 @@ module _ (script : Script) (block : ℕ) (ready : IsReady script block) (session
                 omega (arith, exact, products_are, passes.costs.rise, passed.cost) in sum ∙
                 ap (λ n. before.multiplies + cost_of script n) (frames_taken ∙ sym is));
             turns = subst (λ n. spent.turns ≤ before.turns + run_turns session.banked script block n)
-                (frames_is ∙ frames_taken ∙ sym is) (late_turns spent (omega (arith, exact))
-                (tail_costs {E = E} (Ok tt) final spent writes costs).turned);
+                (frames_is ∙ frames_taken ∙ sym is) (late_turns spent (omega (arith, exact)) turned);
             measures = measured ∙ ap (λ (s : Script). measures_of s y) fed_script ∙
                 ap (measures_of script) (sym signal_all);
           }
@@ -408,9 +408,10 @@ module _ (script : Script) (block : ℕ) (ready : IsReady script block) (session
           WritesRest {T = Unit {0}} (Err error) (live_bytes fed.script y)
           (whole_bytes fed.script y ++ output_pad fed.script header) mid final →
           TailCosts {T = Unit {0}} (Err error) fed.script (length y) fed_counts spent
-          → final.faults ≡ one_more mid.faults → Stopped session.banked script block fault.Output input now sink final
+          → TurnsByProducts fed_counts spent → final.faults ≡ one_more mid.faults → Stopped session.banked script
+          block fault.Output input now sink final
           before spent
-      stream_unfinished error final spent writes costs failed =
+      stream_unfinished error final spent writes costs turned failed =
           let tail = tail_writes (Err error) final spent writes costs in
           let (back, split) = tail.begins in
           let limit = (tail_costs (Err error) final spent writes costs).limit in
@@ -430,7 +431,7 @@ module _ (script : Script) (block : ℕ) (ready : IsReady script block) (session
           )
           (passed.no_input_fault, failed ∙ ap one_more (passes.no_fault ∙ passed.no_output_fault))
           (rw frames_is (cost_all spent.multiplies limit))
-          (late_turns spent limit (tail_costs (Err error) final spent writes costs).turned)
+          (late_turns spent limit turned)
 
 -- the same of equal scripts and block lengths
 pub passed_as : (script same_script : Script) (block same_block : ℕ) (session : SessionState) (header : Header)

@@ -57,6 +57,7 @@ module _ (s : SessionState) (coding : Coding) where
         no_input_fault = done.no_input_fault;
         no_output_fault = done.no_output_fault;
         cost = done.cost;
+        turns = done.turns;
         exact = λ x stands. done.exact x (stands_coded x stands);
         measures = λ x stands. done.measures x (stands_coded x stands);
       }
@@ -70,10 +71,12 @@ module _ (s : SessionState) (coding : Coding) where
         gave = stopped.gave;
         in_limit = stopped.in_limit;
         put = stopped.put;
+        unflushed = stopped.unflushed;
         cause = stopped.cause;
         idle = stopped.idle;
         wrote = λ x stands. stopped.wrote x (stands_coded x stands);
         lag = λ has. lag_coded script block from stopped.given stopped.written (stopped.lag has);
         faults = stopped.faults;
         cost = stopped.cost;
+        turns = stopped.turns;
       }

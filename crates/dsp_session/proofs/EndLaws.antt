@@ -17,7 +17,8 @@ use Rattle.dsp_defs.proofs.SampleLaws.{coded-append}
 use Rattle.dsp_chain.specs.Chain.{IsSpent, live_of, whole_of, made_of}
 use Rattle.dsp_session.specs.SessionState.{SessionState}
 use Rattle.dsp_session.specs.Session.{Holds, StandsFor, HasGiven, SameSession, Ends, measured, measures_of}
-use Rattle.dsp_session.specs.Session.{output_bytes, live_values, whole_values, live_cost_of, products_of}
+use Rattle.dsp_session.specs.Session.{TurnsByProducts, output_bytes, live_values, whole_values, live_cost_of}
+use Rattle.dsp_session.specs.Session.{products_of}
 use Rattle.dsp_session.specs.Passing.{WritesRest, WritesTail, WroteTail, TailCosts}
 use Rattle.dsp_session.proofs.FeedLaws.{made_live}
 
@@ -31,7 +32,6 @@ pub record Tailing (script : Script) (x : List Frame) (frames pieces : ℕ) (ses
   pub few : length (whole_values script x) ≤ frames
   pub so_far : output_bytes script ys ≡ live_bytes script x ++ written
   pub made : counts.multiplies + live_cost_of script (length x) ≡ before.multiplies + made_of session.chain
-  pub turned : counts.turns + before.multiplies ≤ before.turns + counts.multiplies
 
 -- what the chain of a session gives of a whole signal, and of one that may go on
 whole_is : (s : SessionState) (x : List Frame) → Holds s → whole_of s.chain x ≡ whole_values s.script x
@@ -56,7 +56,6 @@ tail_starts script x frames session before script_is stands few =
       few = few;
       so_far = ap (output_bytes script) live ∙ sym (append-nil (live_bytes script x));
       made = omega (arith, made);
-      turned = omega arith;
     }
 
 module _ (script : Script) (x : List Frame) (frames pieces : ℕ) (session : SessionState) (written : List ℕ)
@@ -87,9 +86,6 @@ module _ (script : Script) (x : List Frame) (frames pieces : ℕ) (session : Ses
 
     made_next : counted.multiplies + live_cost_of script (length x) ≡ before.multiplies + made_of next.chain
     made_next = omega (arith, ends.multiplies, tailing.made)
-
-    turned_next : counted.turns + before.multiplies ≤ before.turns + counted.multiplies
-    turned_next = omega (arith, ends.turns, tailing.turned)
 
     limit_next : counted.multiplies + live_cost_of script (length x) ≤ before.multiplies + products_of script (length x)
     limit_next =
@@ -122,7 +118,6 @@ module _ (script : Script) (x : List Frame) (frames pieces : ℕ) (session : Ses
           few = tailing.few;
           so_far = so_far_next;
           made = made_next;
-          turned = turned_next;
         }
 
     -- the sink failed within it
@@ -143,7 +138,7 @@ module _ (script : Script) (x : List Frame) (frames pieces : ℕ) (session : Ses
 
     tail_fails_costs : {E : Type 0} (error : E) → TailCosts {T = Unit {0}} (Err error) script (length x) before
         counted
-    tail_fails_costs error = record { limit = limit_next; exact = tt; turned = turned_next }
+    tail_fails_costs error = record { limit = limit_next; exact = tt }
 
     -- nothing is left
     spent : answer ≡ 0 → IsSpent next.chain
@@ -185,7 +180,7 @@ module _ (script : Script) (x : List Frame) (frames pieces : ℕ) (session : Ses
         let all : made_of next.chain ≡ products_of script (length x) =
         (spent zero).made ∙ (λ i. chain_products (gave.holds.input i).format (gave.holds.input i).channels
         (gave.holds.blocks i) (gave.chain.counted i)) ∙ ap (λ (s : Script). products_of s (length x)) script_next in
-        record { limit = limit_next; exact = omega (arith, made_next, all); turned = turned_next }
+        record { limit = limit_next; exact = omega (arith, made_next, all) }
 
     -- the measures are those of the whole signal
     pub tail_measured : answer ≡ 0 → measured next ≡ measures_of script x
@@ -217,6 +212,7 @@ pub record TailSoFar (old session : SessionState) (frames pieces : ℕ) (sink af
   pub no_fault : after.faults ≡ sink.faults
   pub counted : session.chain.frames ≡ old.chain.frames
   pub made : counts.multiplies + made_of old.chain ≡ before.multiplies + made_of session.chain
+  pub turned : TurnsByProducts before counts
   pub written : List ℕ
   pub put : after.put ≡ append_put sink.put written
   pub tailing : (x : List Frame) → StandsFor old x →
@@ -237,6 +233,9 @@ module _ (old session next : SessionState) (frames pieces : ℕ) (sink mid : Sin
   within = tail_within old session next answer ends still.script so_far.counted (made_of old.chain) before.multiplies
       so_far.made
 
+  turned : TurnsByProducts before counted
+  turned = omega (arith, ends.turns, so_far.turned)
+
   -- nothing is left of it
   pub tail_all : {E : Type 0} → ((x : List Frame) → StandsFor old x → answer ≡ 0) → answer ≡ length next.out →
       WroteTail {T = Unit {0}} {E = E} (Ok tt) old next sink mid before counted
@@ -253,6 +252,7 @@ module _ (old session next : SessionState) (frames pieces : ℕ) (sink mid : Sin
         };
         costs = λ x stands. tail_ends_costs _ x _ _ _ _ _ _ (so_far.tailing x stands) _ _ _ ends same (zero x stands);
         limit = within;
+        turned = turned;
         measures = λ x stands. tail_measured _ x _ _ _ _ _ _ (so_far.tailing x stands) _ _ _ ends same (zero x stands);
         faults = so_far.no_fault;
       }
@@ -271,6 +271,7 @@ module _ (old session next : SessionState) (frames pieces : ℕ) (sink mid : Sin
     };
     costs = λ x stands. tail_fails_costs _ x _ _ _ _ _ _ (so_far.tailing x stands) _ _ _ ends same error;
     limit = within;
+    turned = turned;
     measures = λ x stands. tt;
     faults = risen ∙ ap one_more so_far.no_fault;
   }
@@ -284,6 +285,7 @@ module _ (old session next : SessionState) (frames pieces : ℕ) (sink mid : Sin
     no_fault = clean ∙ so_far.no_fault;
     counted = ends.counted ∙ so_far.counted;
     made = omega (arith, ends.multiplies, so_far.made);
+    turned = turned;
     written = so_far.written ++ next.out;
     put = put_more sink mid after so_far.written next.out so_far.put put;
     tailing = λ x stands. tail_goes_on _ x _ _ _ _ _ _ (so_far.tailing x stands) _ _ _ ends same some is;

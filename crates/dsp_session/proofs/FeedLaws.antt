@@ -19,8 +19,6 @@ use Rattle.dsp_session.specs.SessionState.{SessionState}
 use Rattle.dsp_session.specs.Session.{IsReady, StandsFor, SameSession, Feeds, signal, output_bytes}
 use Rattle.dsp_session.specs.Session.{live_values, live_cost_of, turns_of}
 use Rattle.dsp_session.specs.Passing.{PassCosts}
-use Rattle.dsp_session.specs.declared.fault.LengthFault.TheVariants as length_fault
-use Rattle.dsp_session.specs.declared.fault.StreamFault.TheVariants as fault
 
 quiet_chain : (format : Fmt) (channels : ℕ) (blocks : List Block) (n : ℕ) → HasChannels channels blocks →
     0 < gathered blocks n → (x : List Frame) → live_chain format channels blocks x ≡ []

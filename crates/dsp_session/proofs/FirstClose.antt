@@ -1,6 +1,6 @@
 -- The last of the first frames of an input, and the ends of the stream over them.
 use Rattle.std.proofs.Common.{◌≡◌, ℕ, ◌+◌, ◌-◌, ◌*◌, ◌/◌, ◌<◌, ◌≤◌, List, [], ◌++◌, length, take, Option, Some}
-use Rattle.std.proofs.Common.{None, IfSome, sym, ap, ◌∙◌, subst, arith, append_assoc, length-append, inl, inr}
+use Rattle.std.proofs.Common.{None, IfSome, refl, sym, ap, ◌∙◌, subst, arith, append_assoc, length-append, inl, inr}
 use Rattle.std.proofs.lemmas.Bool.{cases_lt}
 use Rattle.std.proofs.lemmas.List.{length-take-le, take_all}
 use Rattle.std.specs.Io.KnownBytes.{IsAtEnd}
@@ -22,7 +22,7 @@ use Rattle.dsp_session.specs.Session.{IsReady, StandsFor, block_bytes, signal, l
 use Rattle.dsp_session.specs.Opening.{Begun}
 use Rattle.dsp_session.specs.Stream.{LagsByOne, in_whole_blocks}
 use Rattle.dsp_session.specs.Advancing.{FailsToPassOn, PassesOn, Going, Reached, count_of}
-use Rattle.dsp_session.specs.Resuming.{FirstDone, FirstStopped, first_output}
+use Rattle.dsp_session.specs.Resuming.{FirstDone, FirstStopped, first_output, part_turns}
 use Rattle.dsp_session.specs.declared.fault.LengthFault.TheVariants as length_fault
 use Rattle.dsp_session.specs.declared.fault.StreamFault.{StreamFault}
 use Rattle.dsp_session.specs.declared.fault.StreamFault.TheVariants as fault
@@ -110,8 +110,11 @@ module _ (start session : SessionState) (header : Header) (span : Span) (block :
   in_limit : header.start + (last.before + length bytes) ≤ MAX_INPUT
   in_limit = omega (arith, long, reached.read.in_limit)
 
+  shorter : length bytes < block_bytes script header.coding start.block
+  shorter = omega (arith, long, reached.short, reached.size, ap (λ c. block_bytes script c start.block) coding)
+
   in_block : length bytes ≤ block_bytes script header.coding start.block
-  in_block = omega (arith, long, reached.short, reached.size, ap (λ c. block_bytes script c start.block) coding)
+  in_block = omega (arith, shorter)
 
   abbrev whole : Option ℕ → Option ℕ
   whole size = elim size [ Some s ↦ Some (in_whole_frames script header.coding s) | None ↦ None ]
@@ -218,18 +221,29 @@ module _ (start session : SessionState) (header : Header) (span : Span) (block :
 
     -- the input ends before the part does
     pub behind : came < span.end → IfSome (declared_frames script header) (λ got. frames ≤ got) →
-        FirstStopped script start.block frames (part_fault.Behind frames (came / frame)) input now sink then
+        FirstStopped start.banked script start.block frames (part_fault.Behind frames (came / frame)) input now sink
+        then
         before counts
     behind cut enough =
         laws.stops_behind start session header span last.before input mid between sink first then
         before counts new coding from begun going frames now bytes reached.read.gave declared few in_limit in_block
-        (came / frame) (less came frames frame some (omega (arith, cut, end)))
+        shorter (undeclared header.size enough ended) (came / frame) (less came frames frame some (omega (
+          arith,
+          cut,
+          end,
+        )))
         (subst (λ (h : Header). Counted (declared_frames script h)) (sym (begun.opened.opens.said all))
         (by_size header.size enough ended))
         reached.read.no_fault
       where
         ended : AreAll (declared_bytes script header) came now
         ended = elim (reached.read.ended reached.short) [ inl is ↦ absurd (omega (arith, is, cut)) | inr rest ↦ rest ]
+
+        undeclared : (size : Option ℕ) → IfSome (option_map (λ s. s / frame) size) (λ got. frames ≤ got) →
+            AreAll (whole size) came now → option_map (λ s. s / frame) size ≡ None
+        undeclared None enough end = refl
+        undeclared (Some size) enough is = absurd (let more = fewer_bytes frames (size / frame) frame enough in
+            omega (arith, more, is, cut, end))
 
         by_size : (size : Option ℕ) → IfSome (option_map (λ s. s / frame) size) (λ got. frames ≤ got) →
             AreAll (whole size) came now → Counted (option_map (λ s. s / frame) size)
@@ -240,7 +254,8 @@ module _ (start session : SessionState) (header : Header) (span : Span) (block :
     module _ (full : span.end ≤ came) where
       pub unpassed : (stop : StreamFault) (fed : SessionState) (after : SinkState) (made : Counts) →
           FailsToPassOn stop session fed bytes then after counts made
-          → FirstStopped script start.block frames (part_fault.Stream stop) input now sink after before made
+          → FirstStopped start.banked script start.block frames (part_fault.Stream stop) input now sink after before
+          made
       unpassed fault.Output fed after made (count, less, same, feeds, fewer, took, risen) =
           laws.stops_unwritten start session header span last.before input mid between sink first then
           before counts new coding from begun going frames now bytes reached.read.gave declared few in_limit
@@ -257,7 +272,8 @@ module _ (start session : SessionState) (header : Header) (span : Span) (block :
       module _ (fed : SessionState) (after : SinkState) (made : Counts)
           (passes : PassesOn session fed bytes then after counts made) where
         pub unflushed : (final : SinkState) → final.put ≡ after.put → final.faults ≡ one_more after.faults →
-            FirstStopped script start.block frames (part_fault.Stream fault.Output) input now sink final before made
+            FirstStopped start.banked script start.block frames (part_fault.Stream fault.Output) input now sink final
+            before made
         unflushed final put failed =
             laws.stops_unwritten start session header span last.before input mid between sink first then
             before counts new coding from begun going frames now bytes reached.read.gave declared few in_limit
@@ -345,4 +361,10 @@ module _ (start session : SessionState) (header : Header) (span : Span) (block :
               before counts new coding from begun going frames now bytes reached.read.gave declared few in_limit
               in_block fed made passes.same passes.fed
               ∙ ap (λ n. before.multiplies + live_cost_of script n) (all_frames full);
+          turns = subst (λ n. made.turns ≤ before.turns + n) (λ i. part_turns
+              (sym (passes.same.banked ∙ going.advances.same.banked) i) script
+              (sym (passes.same.block ∙ going.advances.same.block) i) 0 (all_frames full i))
+              (laws.turns_fed start session header span last.before input mid between sink first then
+              before counts new coding from begun going frames now bytes reached.read.gave declared few in_limit
+              in_block fed made passes.same passes.fed);
         }

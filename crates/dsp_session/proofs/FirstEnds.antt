@@ -1,5 +1,5 @@
 -- What the loop over the first frames of an input answers makes the ends of that stream.
-use Rattle.std.proofs.Common.{◌≡◌, ℕ, ◌+◌, ◌-◌, ◌*◌, ◌/◌, ◌<◌, ◌≤◌, List, [], ◌++◌, length, sym, ap, ◌∙◌, subst}
+use Rattle.std.proofs.Common.{◌≡◌, ℕ, ◌+◌, ◌-◌, ◌*◌, ◌<◌, ◌≤◌, List, [], ◌++◌, length, sym, ap, ◌∙◌, subst}
 use Rattle.std.proofs.Common.{arith, length-append}
 use Rattle.std.proofs.lemmas.List.{take_all}
 use Rattle.dsp_ports.specs.Ports.{SourceState, SinkState, Gave}
@@ -66,12 +66,14 @@ module _ (start : SessionState) (header : Header) (span : Span) (input mid : Sou
 
     unread_first : (error : InputFault) (now : SourceState) →
         PartUnread script header span.end taken (block_bytes script session.coding session.block) error between now
-        → FirstStopped script start.block frames (part_fault.Stream (of_input error)) input now sink then before made
+        → FirstStopped start.banked script start.block frames (part_fault.Stream (of_input error)) input now sink then
+        before made
     unread_first error now u =
         laws.stops_unread start session header span taken input mid between sink first then
         before made new coding from begun going frames now u.unread.bytes u.unread.gave u.unread.declared
         (few_heard u.unread.bytes (omega (arith, u.in_part))) (omega (arith, u.unread.in_limit))
-        (omega (arith, u.unread.short, size_is)) (fewer_heard u.unread.bytes u.in_part) error u.unread.cause
+        (omega (arith, u.unread.short, size_is)) (omega (arith, u.unread.short, size_is))
+        (fewer_heard u.unread.bytes u.in_part) error u.unread.cause
 
     module _ (now : SourceState) (piece : List ℕ) (long : length piece ≡ block_bytes script start.coding start.block)
         (read : PartRead script header span.end taken piece (length piece) between now) where
@@ -114,7 +116,8 @@ module _ (start : SessionState) (header : Header) (span : Span) (input mid : Sou
 
       unpassed_first : (stop : StreamFault) (last : SessionState) (after : SinkState) (counts : Counts) →
           FailsToPassOn stop session last piece then after made counts
-          → FirstStopped script start.block frames (part_fault.Stream stop) input now sink after before counts
+          → FirstStopped start.banked script start.block frames (part_fault.Stream stop) input now sink after before
+          counts
       unpassed_first fault.Output last after counts (count, less, same, fed, fewer, took, risen) =
           laws.stops_unwritten start session header span taken input mid between sink first then
           before made new coding from begun going frames now piece gave read.declared few in_limit in_block last
@@ -127,21 +130,25 @@ module _ (start : SessionState) (header : Header) (span : Span) (input mid : Sou
 
   pub broke_first : (last : SessionState) (stop : StreamFault) (now : SourceState) (after : SinkState)
       (counts : Counts) → Broke start last header span stop mid now first after before counts
-      → FirstStopped script start.block frames (part_fault.Stream stop) input now sink after before counts
+      → FirstStopped start.banked script start.block frames (part_fault.Stream stop) input now sink after before counts
   broke_first last stop now after counts broke = by broke.breaks
     where
       by : Breaks broke.session last header span.end broke.taken stop broke.between now broke.then
-          after broke.made counts → FirstStopped script start.block frames (part_fault.Stream stop) input now sink after
+          after broke.made counts → FirstStopped start.banked script start.block frames (part_fault.Stream stop) input
+          now sink after
           before counts
       by (NotRead error is unread same still made) =
           let u = subst (λ (s : Script). PartUnread s header span.end broke.taken
           (block_bytes s broke.session.coding broke.session.block) error broke.between now)
           broke.going.advances.same.script unread in
-          subst (λ c. FirstStopped script start.block frames (part_fault.Stream stop) input now sink after before c)
+          subst (λ c. FirstStopped start.banked script start.block frames (part_fault.Stream stop) input now sink
+          after before c)
           (sym made)
-          (subst (λ s. FirstStopped script start.block frames (part_fault.Stream stop) input now sink s before
+          (subst (λ s. FirstStopped start.banked script start.block frames (part_fault.Stream stop) input now sink s
+          before
           broke.made) (sym still)
-          (subst (λ f. FirstStopped script start.block frames (part_fault.Stream f) input now sink broke.then
+          (subst (λ f. FirstStopped start.banked script start.block frames (part_fault.Stream f) input now sink
+          broke.then
           before broke.made) (sym is)
           (unread_first broke.session broke.taken broke.between broke.then broke.made broke.going error now u)))
       by (NotPassed piece long read fails) =

@@ -1,189 +1,46 @@
 -- The ends of a stream over the first frames of an input.
-use Rattle.std.proofs.Common.{◌≡◌, ℕ, ◌+◌, ◌-◌, ◌*◌, ◌<◌, ◌≤◌, List, [], ◌++◌, length, take, drop, Option, Some}
-use Rattle.std.proofs.Common.{None, refl, sym, ap, ◌∙◌, subst, arith, append_assoc, append-nil, length-append, inl}
+use Rattle.std.proofs.Common.{◌≡◌, ℕ, suc, ◌+◌, ◌-◌, ◌*◌, ◌<◌, ◌≤◌, List, [], ◌++◌, length, take, drop, Option, Some}
+use Rattle.std.proofs.Common.{None, refl, sym, ap, ◌∙◌, subst, arith, append_assoc, append-nil, length-append}
 use Rattle.std.proofs.Common.{inr}
 use Rattle.std.proofs.lemmas.List.{take-append-drop}
-use Rattle.std.specs.Io.KnownBytes.{IsAtEnd}
 use Rattle.dsp_ports.specs.Ports.{append_put}
-use Rattle.dsp_ports.specs.Ports.{SourceState, SinkState, one_more, Gave, Took}
-use Rattle.dsp_ports.proofs.Moved.{Took-nil, Took-append, Gave-nil, Gave-append, append_put-append}
+use Rattle.dsp_ports.specs.Ports.{SourceState, SinkState, one_more, Gave, Took, settled_after}
+use Rattle.dsp_ports.proofs.Moved.{Took-nil, Took-append, Gave-append, append_put-append}
 use Rattle.dsp_defs.specs.Block.{Frame}
 use Rattle.dsp_defs.specs.Counts.{Counts}
-use Rattle.dsp_defs.specs.Output.{HasHeader, declared_frames, output_header, live_bytes}
+use Rattle.dsp_defs.specs.Output.{declared_frames, output_header, live_bytes, part}
+use Rattle.dsp_defs.specs.Output.{whole_blocks, input_signal}
 use Rattle.dsp_defs.specs.Streaming.{Begins}
 use Rattle.dsp_defs.specs.declared.script.Script.{Script}
 use Rattle.dsp_defs.specs.declared.wave.Header.{Header}
 use Rattle.dsp_input.specs.declared.fault.InputFault.{InputFault}
-use Rattle.dsp_input.specs.declared.fault.InputFault.TheVariants as input_fault
-use Rattle.dsp_input.specs.Taking.{InDeclared, IsUnread, Opened, declared_bytes, frame_bytes, frames_in_bytes}
-use Rattle.dsp_input.specs.Taking.{in_whole_frames}
+use Rattle.dsp_input.specs.Taking.{InDeclared, IsUnread, declared_bytes, frame_bytes, frames_in_bytes}
 use Rattle.dsp_session.specs.SessionState.{SessionState}
 use Rattle.dsp_session.specs.Session.{IsReady, StandsFor, SameSession, Feeds, block_bytes, signal, live_cost_of}
+use Rattle.dsp_session.specs.Session.{turns_of}
 use Rattle.dsp_chain.specs.Chain.{made_of}
 use Rattle.dsp_defs.specs.Shape.{gathered, held}
 use Rattle.dsp_defs.specs.declared.limits.TheConstants.{MAX_GATHERED, MAX_INPUT}
-use Rattle.dsp_session.specs.Advancing.{Going, FailsToPassOn}
-use Rattle.dsp_session.proofs.FeedLaws.{feed_out, made_live}
+use Rattle.dsp_session.specs.Advancing.{Going, FailsToPassOn, turns_from}
+use Rattle.dsp_session.proofs.FeedLaws.{feed_out, made_live, quiet_script}
 use Rattle.dsp_session.specs.declared.streaming.Span.{Span}
 use Rattle.dsp_unit.proofs.CostLaws.{live_cost-zero}
-use Rattle.dsp_session.proofs.BlockLaws.{in_declared, lags}
+use Rattle.dsp_session.proofs.BlockLaws.{block_some, frames_between, in_declared, lags}
+use Rattle.dsp_session.proofs.TurnLaws.{part_before, part_behind}
 use Rattle.dsp_session.proofs.PlainLaws.{live_bytes-nil}
-use Rattle.dsp_session.specs.Opening.{Begun, Untaken, NoHeader, LongOutput, of_input}
+use Rattle.dsp_session.specs.Opening.{Begun, of_input}
 use Rattle.dsp_session.specs.Stream.{LagsByOne, in_whole_blocks}
-use Rattle.dsp_session.specs.Resuming.{IsFirstCause, IsOfInput, CountsPartFault, FirstStopped, FirstWritten}
-use Rattle.dsp_session.specs.Resuming.{HasFrames, first_output}
+use Rattle.dsp_session.specs.Resuming.{IsFirstCause, IsOfInput, IsPartUnflushed, CountsPartFault, FirstStopped}
+use Rattle.dsp_session.specs.Resuming.{FirstWritten, HasFrames, part_turns}
 use Rattle.dsp_session.specs.declared.fault.LengthFault.TheVariants as length_fault
-use Rattle.dsp_session.specs.declared.fault.StreamFault.{StreamFault}
 use Rattle.dsp_session.specs.declared.fault.StreamFault.TheVariants as fault
 use Rattle.dsp_session.specs.declared.fault.PartFault.{PartFault}
 use Rattle.dsp_session.specs.declared.fault.PartFault.TheVariants as part_fault
-use Rattle.dsp_session.proofs.OpeningLaws.{some_frame, frames_of_blocks, frames_are, signal-nil, signal-append}
-use Rattle.dsp_session.proofs.OpenLaws.{unopened_cause, unopened_none, unopened_faults, long_cause}
-use Rattle.dsp_session.proofs.OpenLaws as opening
-use Rattle.dsp_session.proofs.PartLaws.{first_is, live_goes_on, live_cost_more, begins_behind, unread_cause}
-use Rattle.dsp_session.proofs.PartLaws.{input_first, unread_faults}
-
--- behind the header, where these bytes of samples were taken and a front of their first output was written
-module _ (script : Script) (block : ℕ) (ready : IsReady script block) (frames : ℕ) (header : Header)
-    (input mid : SourceState) (sink : SinkState) (opened : Opened script header input mid) where
-  some : 0 < frame_bytes script header.coding
-  some = some_frame script header.coding block ready
-
-  first_stops : (stop : PartFault) (bytes written : List ℕ) (now : SourceState) (after : SinkState)
-      (before counts : Counts)
-      → InDeclared (declared_bytes script header) (length bytes) → header.start + length bytes ≤ MAX_INPUT →
-      LagsByOne script block (opened.first ++ bytes) written
-      → Gave mid now bytes → after.put ≡ append_put sink.put written
-      → Begins written (output_header script header ++ live_bytes script (signal script header.coding bytes))
-      → ((given : List ℕ) → Begins written (first_output script (frames_in_bytes script given) given) →
-      FirstWritten stop script given written sink after)
-      → IsFirstCause stop script block frames (opened.first ++ bytes) now → CountsPartFault stop input now sink after
-      → length (signal script header.coding bytes) ≤ frames
-      → (IsOfInput stop → length (signal script header.coding bytes) < frames)
-      → counts.multiplies ≤ before.multiplies + live_cost_of script (length (signal script header.coding bytes))
-      → FirstStopped script block frames stop input now sink after before counts
-  first_stops stop bytes written now after before counts declared limit lag gave put begins wrote cause faults few
-      fewer cost =
-      let count = frames_are script header some opened.first opened.opens bytes declared in
-      record {
-        given = opened.first ++ bytes;
-        written = written;
-        gave = Gave-append input mid now opened.first bytes opened.going opened.gave gave;
-        in_limit = omega (arith, limit, opened.opens.start, length-append opened.first bytes);
-        put = put;
-        cause = cause;
-        wrote = wrote (opened.first ++ bytes) (subst (Begins written)
-            (sym (first_is script header some opened.first opened.opens bytes declared)) begins);
-        faults = faults;
-        lag = λ _. lag;
-        in_part = λ _. omega (arith, count, few);
-        missing = λ of _. omega (arith, count, fewer of);
-        cost = rw count cost;
-      }
-
-  none_declared : InDeclared (declared_bytes script header) 0
-  none_declared = by_size header.size
-    where
-      by_size : (size : Option ℕ) → InDeclared (elim size
-          [ Some s ↦ Some (in_whole_frames script header.coding s) | None ↦ None ]) 0
-      by_size None = tt
-      by_size (Some size) = omega arith
-
-  none_taken : header.start + 0 ≤ MAX_INPUT
-  none_taken = omega (arith, opened.opens.start, opened.opens.in_limit)
-
-  lags_none : (before : Counts) (written : List ℕ) → LagsByOne script block (opened.first ++ []) written
-  lags_none before written = subst (λ given. LagsByOne script block given written) (sym (append-nil opened.first))
-      (opening.lags_none script block before ready header input mid sink opened written)
-
-  no_frames : length (signal script header.coding []) ≡ 0
-  no_frames = ap length (signal-nil script header.coding some)
-
-  -- so many frames are declared, or came with the header
-  abbrev Counted : ℕ → Option ℕ → Type 0
-  Counted got size = elim size [
-    | Some declared ↦ got ≡ declared
-    | None ↦
-        (got ≡ frames_in_bytes script (opened.first ++ [])) × IsAtEnd mid.left
-  ]
-
-  -- the header declares fewer frames than are wanted
-  pub declares_fewer : (got : ℕ) → got < frames → declared_frames script header ≡ Some got → (before : Counts) →
-      FirstStopped script block frames (part_fault.Behind frames got) input mid sink sink before before
-  declares_fewer got fewer declared before =
-      first_stops (part_fault.Behind frames got) [] [] mid sink before before none_declared none_taken
-      (lags_none before []) (Gave-nil mid) (Took-nil sink).put
-      (output_header script header ++ live_bytes script (signal script header.coding []), refl)
-      (λ given front. inr front) (
-        opened.opens.has [],
-        refl,
-        fewer,
-        subst (λ (h : Header). Counted got (declared_frames script h))
-            (sym (opened.opens.said [])) (subst (Counted got) (sym declared) refl),
-      )
-      (opened.no_fault, refl) (omega (arith, no_frames)) (λ none. absurd none) (omega arith)
-
-  -- the output failed within its header
-  pub headless : (after : SinkState) (count : ℕ) → Took sink after (take count (output_header script header)) →
-      after.faults ≡ one_more sink.faults → (before : Counts)
-      → FirstStopped script block frames (part_fault.Stream fault.Output) input mid sink after before before
-  headless after count took risen before =
-      let all = output_header script header in
-      let live = live_bytes script (signal script header.coding []) in
-      first_stops (part_fault.Stream fault.Output) [] (take count all) mid after before before none_declared
-      none_taken (lags_none before (take count all)) (Gave-nil mid) took.put (
-        drop count all ++ live,
-        ap (λ xs. xs ++ live) (sym (take-append-drop count all)) ∙
-            append_assoc (take count all) (drop count all) live,
-      ) (λ given front. inr front)
-      (opened.opens.has []) (opened.no_fault, risen) (omega (arith, no_frames)) (λ none. absurd none) (omega arith)
-
--- ---- before the first sample
-
-unopened_wrote : (error : InputFault) (script : Script) (given : List ℕ) (sink : SinkState) →
-    (HasHeader script given → ⊥) → FirstWritten (part_fault.Stream (of_input error)) script given [] sink sink
-unopened_wrote input_fault.Failed script given sink none = inl (none, refl)
-unopened_wrote (input_fault.Header f offset) script given sink none = inl (none, refl)
-unopened_wrote (input_fault.Limit taken limit) script given sink none = inl (none, refl)
-
-module _ (script : Script) (block : ℕ) (ready : IsReady script block) (frames : ℕ) (stop : StreamFault)
-    (input now : SourceState) (sink : SinkState) (before : Counts) where
-  pub first_untaken : Untaken script stop input now → FirstStopped script block frames (part_fault.Stream stop) input
-      now sink sink before before
-  first_untaken (NoHeader error is u) = subst (λ f. FirstStopped script block frames (part_fault.Stream f) input now
-      sink sink before before) (sym is) (record {
-        given = u.given;
-        written = [];
-        gave = u.gave;
-        in_limit = u.in_limit;
-        put = (Took-nil sink).put;
-        cause = input_first error script block frames u.given now
-            (unopened_cause error script block u.given input now u.cause);
-        wrote = unopened_wrote error script u.given sink (unopened_none error script u.given input now u.cause);
-        faults = unopened_faults error script u.given input now sink u.cause;
-        lag = λ has. absurd (unopened_none error script u.given input now u.cause has);
-        in_part = λ has. absurd (unopened_none error script u.given input now u.cause has);
-        missing = λ _ has. absurd (unopened_none error script u.given input now u.cause has);
-        cost = omega arith;
-      })
-  first_untaken (LongOutput header size opened is long) =
-      subst (λ f. FirstStopped script block frames (part_fault.Stream f) input now sink sink before before) (sym is)
-      (record {
-        given = opened.first;
-        written = [];
-        gave = opened.gave;
-        in_limit = opened.opens.in_limit;
-        put = (Took-nil sink).put;
-        cause = long_cause script block before ready header input now sink opened size long;
-        wrote = refl;
-        faults = (opened.no_fault, refl);
-        lag = λ _. opening.lags_none script block before ready header input now sink opened [];
-        in_part = λ has. omega (arith, opening.no_frames script block before ready header input now sink opened);
-        missing = λ none _. absurd none;
-        cost = omega arith;
-      })
-
--- ---- the samples
+use Rattle.dsp_session.proofs.OpeningLaws.{some_frame, frames_of_blocks, frames_are, part_blocks}
+use Rattle.dsp_session.proofs.OpeningLaws.{signal-append}
+use Rattle.dsp_session.proofs.PartLaws.{live_cost_more, begins_behind, unread_cause}
+use Rattle.dsp_session.proofs.PartLaws.{input_first, part_unflushed, unread_faults}
+use Rattle.dsp_session.proofs.FirstBefore.{first_stops, front_of, input_wrote}
 
 -- the header of the output was written, and the session has taken whole blocks since it was new
 module _ (start session : SessionState) (header : Header) (span : Span) (taken : ℕ) (input mid now : SourceState)
@@ -227,8 +84,17 @@ module _ (start session : SessionState) (header : Header) (span : Span) (taken :
   together : (bytes : List ℕ) → signal script header.coding (heard ++ bytes) ≡ x ++ signal script header.coding bytes
   together bytes = signal-append script header.coding some_bytes heard bytes (going.blocks * start.block) whole
 
+  took_so_far : Took sink then (head ++ wrote)
+  took_so_far = Took-append sink first then head wrote begun.took going.advances.took
+
   put_so_far : then.put ≡ append_put sink.put (head ++ wrote)
-  put_so_far = (Took-append sink first then head wrote begun.took going.advances.took).put
+  put_so_far = took_so_far.put
+
+  -- nothing more was written, and the output was not flushed
+  unflushed_so_far : (stop : PartFault) → IsPartUnflushed stop sink then ((head ++ wrote) ++ [])
+  unflushed_so_far stop = part_unflushed stop sink then ((head ++ wrote) ++ [])
+      (took_so_far.settled ∙ ap (λ (ys : List ℕ). settled_after sink.settled (length ys))
+      (sym (append-nil (head ++ wrote))))
 
   clean : then.faults ≡ sink.faults
   clean = going.advances.no_fault ∙ begun.no_fault
@@ -250,11 +116,6 @@ module _ (start session : SessionState) (header : Header) (span : Span) (taken :
       (begins_behind head (wrote ++ written) (live_bytes script (signal script header.coding (heard ++ bytes)))
       (subst (λ y. Begins (wrote ++ written) (live_bytes script y)) (sym (together bytes)) front))
 
-  front_alone : (bytes : List ℕ) → Begins (wrote ++ []) (live_bytes script (x ++ signal script header.coding bytes))
-  front_alone bytes =
-      subst (λ xs. Begins xs (live_bytes script (x ++ signal script header.coding bytes)))
-      (wrote_is ∙ sym (append-nil wrote)) (live_goes_on script x (signal script header.coding bytes))
-
   -- so many frames
   abbrev frames_heard : List ℕ → ℕ
   frames_heard bytes = length (signal script header.coding (heard ++ bytes))
@@ -274,6 +135,9 @@ module _ (start session : SessionState) (header : Header) (span : Span) (taken :
       (declared : InDeclared (declared_bytes script header) (taken + length bytes)) (few : frames_heard bytes ≤ frames)
       (limit : header.start + (taken + length bytes) ≤ MAX_INPUT)
       (short : length bytes ≤ block_bytes script header.coding start.block) where
+    abbrev given : List ℕ
+    given = begun.opened.first ++ (heard ++ bytes)
+
     all_taken : length (heard ++ bytes) ≡ taken + length bytes
     all_taken = omega (arith, going.taken_is, from, length-append heard bytes)
 
@@ -293,24 +157,23 @@ module _ (start session : SessionState) (header : Header) (span : Span) (taken :
         heard_declared
         (going.advances.long ∙ ap (λ c. going.blocks * block_bytes script c start.block) coding) short)
 
-    -- all that came was worked on or not, and this front of its values was written
+    -- all that came was worked on or not, and this was written of it
     stops_at : (stop : PartFault) (written : List ℕ) (after : SinkState) (made : Counts) →
-        after.put ≡ append_put then.put written
-        → Begins (wrote ++ written) (live_bytes script (x ++ signal script header.coding bytes))
-        → ((given : List ℕ) → Begins ((head ++ wrote) ++ written)
-        (first_output script (frames_in_bytes script given) given) →
-        FirstWritten stop script given ((head ++ wrote) ++ written) sink after)
+        after.put ≡ append_put then.put written → IsPartUnflushed stop sink after ((head ++ wrote) ++ written)
+        → FirstWritten stop script start.block given ((head ++ wrote) ++ written) sink after
         → IsFirstCause stop script start.block frames (begun.opened.first ++ (heard ++ bytes)) later →
         CountsPartFault stop input later sink after
         → (IsOfInput stop → frames_heard bytes < frames)
         → made.multiplies ≤ before.multiplies + live_cost_of script (frames_heard bytes)
-        → FirstStopped script start.block frames stop input later sink after before made
-    stops_at stop written after made put front shape cause faults fewer cost =
-        first_stops script start.block ready frames header input mid sink begun.opened stop (heard ++ bytes)
+        → made.turns ≤ before.turns + part_turns start.banked script start.block 0 (frames_heard bytes)
+        → FirstStopped start.banked script start.block frames stop input later sink after before made
+    stops_at stop written after made put unflushed shape cause faults fewer cost turned =
+        first_stops start.banked script start.block ready frames header input mid sink begun.opened stop
+        (heard ++ bytes)
         ((head ++ wrote) ++ written) later after before made
         in_all (omega (arith, limit, all_taken)) (lag_at written)
-        (Gave-append mid now later heard bytes going.going going.gave gave) (put_more written after put)
-        (begins bytes written front) shape cause faults few fewer cost
+        (Gave-append mid now later heard bytes going.going going.gave gave) (put_more written after put) unflushed
+        shape cause faults few fewer cost turned
 
     -- ---- each end
 
@@ -323,34 +186,68 @@ module _ (start session : SessionState) (header : Header) (span : Span) (taken :
     count_is : frames_in_bytes script (begun.opened.first ++ (heard ++ bytes)) ≡ frames_heard bytes
     count_is = frames_are script header some_bytes begun.opened.first begun.opened.opens (heard ++ bytes) in_all
 
-    pub stops_unread : frames_heard bytes < frames → (error : InputFault) →
-        IsUnread error script header (taken + length bytes) now later →
-        FirstStopped script start.block frames (part_fault.Stream (of_input error)) input later sink then before counts
-    stops_unread fewer error unread =
+    -- the frames are those of whole blocks, and of at most one more
+    bounds : (going.blocks * start.block ≤ frames_heard bytes) × (frames_heard bytes ≤ suc going.blocks * start.block)
+    bounds =
+        let (low, high) = frames_between script start.block ready header begun.opened.first begun.opened.opens
+        going.blocks heard bytes in_all
+        (going.advances.long ∙ ap (λ c. going.blocks * block_bytes script c start.block) coding) short in
+        (omega (arith, low, count_is), omega (arith, high, count_is))
+
+    start_none : start.chain.frames ≡ 0
+    start_none = new.chain.counted
+
+    turned_from : counts.turns ≤ before.turns + turns_from start.banked script start.block 0 going.blocks
+    turned_from = subst (λ m. counts.turns ≤ before.turns + turns_from start.banked script start.block m going.blocks)
+        start_none going.advances.turned
+
+    turns_so_far : counts.turns ≤ before.turns + part_turns start.banked script start.block 0 (frames_heard bytes)
+    turns_so_far = part_before start.banked script start.block 0 going.blocks (frames_heard bytes) before.turns
+        counts.turns (block_some script start.block ready) (omega (arith, bounds.0)) (omega (arith, bounds.1))
+        turned_from
+
+    -- the output of the whole blocks, where less than a block more came
+    whole_written : length bytes < block_bytes script header.coding start.block →
+        (head ++ wrote) ++ [] ≡ part script start.block given
+    whole_written shorter = append-nil (head ++ wrote) ∙ ap (λ ys. head ++ ys) (sym wrote_is) ∙
+        sym (part_blocks script header some_bytes begun.opened.first begun.opened.opens start.block going.blocks heard
+        bytes (going.advances.long ∙ ap (λ c. going.blocks * block_bytes script c start.block) coding) shorter in_all)
+
+    pub stops_unread : length bytes < block_bytes script header.coding start.block → frames_heard bytes < frames →
+        (error : InputFault) → IsUnread error script header (taken + length bytes) now later →
+        FirstStopped start.banked script start.block frames (part_fault.Stream (of_input error)) input later sink then
+        before counts
+    stops_unread shorter fewer error unread =
         stops_at (part_fault.Stream (of_input error)) [] then
-        counts nothing_more (front_alone bytes) (unread_shape error)
+        counts nothing_more (unflushed_so_far (part_fault.Stream (of_input error)))
+        (input_wrote error script start.block given ((head ++ wrote) ++ []) sink then (inr (whole_written shorter)))
         (input_first error script start.block frames (begun.opened.first ++ (heard ++ bytes)) later
         (unread_cause script start.block header begun.opened.first begun.opened.opens (heard ++ bytes)
         (taken + length bytes) all_taken now later error unread))
         (unread_faults error script header (taken + length bytes) input now later sink then unread read_so_far clean)
-        (λ _. fewer) (cost_within bytes)
-      where
-        unread_shape : (f : InputFault) → (given : List ℕ) →
-            Begins ((head ++ wrote) ++ []) (first_output script (frames_in_bytes script given) given)
-            → FirstWritten (part_fault.Stream (of_input f)) script given ((head ++ wrote) ++ []) sink then
-        unread_shape input_fault.Failed given front = inr front
-        unread_shape (input_fault.Limit told most) given front = inr front
-        unread_shape (input_fault.Header f offset) given front = inr front
+        (λ _. fewer) (cost_within bytes) turns_so_far
+
+    -- nothing, or the output of the whole blocks
+    abbrev BlocksWritten : Option ℕ → Type 0
+    BlocksWritten size = elim size [
+      | Some declared ↦ then ≡ sink
+      | None ↦ (head ++ wrote) ++ [] ≡ part script start.block given
+    ]
 
     -- the input ends before the part does
-    pub stops_behind : (got : ℕ) → got < frames → HasFrames script (begun.opened.first ++ (heard ++ bytes)) later got
-        → later.faults ≡ now.faults → FirstStopped script start.block frames (part_fault.Behind frames got) input later
+    pub stops_behind : length bytes < block_bytes script header.coding start.block →
+        declared_frames script header ≡ None →
+        (got : ℕ) → got < frames → HasFrames script given later got → later.faults ≡ now.faults → FirstStopped
+        start.banked script start.block frames (part_fault.Behind frames got) input later
         sink then before counts
-    stops_behind got fewer has same =
-        stops_at (part_fault.Behind frames got) [] then counts nothing_more (front_alone bytes)
-        (λ given front. inr front)
+    stops_behind shorter undeclared got fewer has same =
+        stops_at (part_fault.Behind frames got) [] then counts nothing_more
+        (unflushed_so_far (part_fault.Behind frames got))
+        (subst (λ (h : Header). BlocksWritten (declared_frames script h))
+        (sym (begun.opened.opens.said (heard ++ bytes)))
+        (subst BlocksWritten (sym undeclared) (whole_written shorter)))
         (begun.opened.opens.has (heard ++ bytes), refl, fewer, has) (same ∙ read_so_far, clean) (λ none. absurd none)
-        (cost_within bytes)
+        (cost_within bytes) turns_so_far
 
     -- the frames of these bytes were fed to it, and the sink has failed within what they add, or behind it
     module _ (fed : SessionState) (made : Counts) (same : SameSession session fed)
@@ -383,24 +280,50 @@ module _ (start session : SessionState) (header : Header) (span : Span) (taken :
           ap (λ (s : Script). live_cost_of s (length x)) going.advances.same.script in
           omega (arith, feeds.multiplies, after, prior, cost_so_far)
 
+      pub turns_fed : made.turns ≤ before.turns + part_turns start.banked script start.block 0 (frames_heard bytes)
+      turns_fed =
+          let from_blocks : session.chain.frames ≡ 0 + going.blocks * start.block =
+          omega (arith, going.advances.counted, start_none) in
+          let to_all : fed.chain.frames ≡ frames_heard bytes = fed_stands.chain.counted in
+          let call : made.turns ≤ counts.turns + turns_of start.banked script (0 + going.blocks * start.block)
+          (frames_heard bytes) =
+          subst (λ n. made.turns ≤ counts.turns + n) (λ i. turns_of (going.advances.same.banked i)
+          (going.advances.same.script i) (from_blocks i) (to_all i)) feeds.turns in
+          part_behind start.banked script start.block 0 going.blocks (frames_heard bytes) before.turns counts.turns
+          made.turns (block_some script start.block ready) (omega (arith, bounds.0)) (omega (arith, bounds.1))
+          turned_from call
+
       pub stops_unwritten : (after : SinkState) (count : ℕ) → after.put ≡ append_put then.put (take count fed.out) →
           after.faults ≡ one_more then.faults → later.faults ≡ now.faults
-          → FirstStopped script start.block frames (part_fault.Stream fault.Output) input later sink after before made
+          → FirstStopped start.banked script start.block frames (part_fault.Stream fault.Output) input later sink
+          after before made
       stops_unwritten after count put risen still =
-          stops_at (part_fault.Stream fault.Output) (take count fed.out) after made put (
+          stops_at (part_fault.Stream fault.Output) (take count fed.out) after made put tt
+          (front_of start.banked script start.block ready frames header input mid sink begun.opened (heard ++ bytes)
+          ((head ++ wrote) ++ take count fed.out) in_all (begins bytes (take count fed.out) (
             drop count fed.out,
             adds ∙ ap (λ ys. wrote ++ ys) (sym (take-append-drop count fed.out)) ∙
                 sym (append_assoc wrote (take count fed.out) (drop count fed.out)),
-          )
-          (λ given front. inr front) (begun.opened.opens.has (heard ++ bytes))
+          )))
+          (begun.opened.opens.has (heard ++ bytes))
           (still ∙ read_so_far, risen ∙ ap one_more clean) (λ none. absurd none) (omega (arith, made_is))
+          turns_fed
+
+    -- a script with a correlation gives nothing but the header before its end
+    none_written : ((y : List Frame) → live_bytes script y ≡ []) → (head ++ wrote) ++ [] ≡ part script start.block given
+    none_written quiet =
+        append-nil (head ++ wrote) ∙ ap (λ ys. head ++ ys) (sym wrote_is ∙ quiet x ∙
+        sym (quiet (whole_blocks start.block (input_signal script given))))
+        ∙ ap (λ (h : Header). output_header script h ++ live_bytes script
+        (whole_blocks start.block (input_signal script given))) (sym (begun.opened.opens.said (heard ++ bytes)))
 
     -- they would be too many for a correlation
     pub stops_full : (last : SessionState) (told more : ℕ) (after : SinkState) (made : Counts) →
         FailsToPassOn (fault.Lengths (length_fault.Gather told more)) session last bytes then after counts made →
         later.faults ≡ now.faults
         → in_whole_blocks start.block (frames_heard bytes - 1) ≡ length x →
-        FirstStopped script start.block frames (part_fault.Stream (fault.Lengths (length_fault.Gather told more)))
+        FirstStopped start.banked script start.block frames (part_fault.Stream (fault.Lengths (length_fault.Gather
+        told more)))
         input later sink after before made
     stops_full last told more after made (fails, over, told_is, sum, still) same before_is =
         let script_is = going.advances.same.script in
@@ -415,14 +338,17 @@ module _ (start session : SessionState) (header : Header) (span : Span) (taken :
         let prior : session.chain.frames ≡ in_whole_blocks start.block
         (frames_in_bytes script (begun.opened.first ++ (heard ++ bytes)) - 1) =
         stands.chain.counted ∙ sym before_is ∙ ap (λ n. in_whole_blocks start.block (n - 1)) (sym count_is) in
-        subst (λ c. FirstStopped script start.block frames
+        subst (λ c. FirstStopped start.banked script start.block frames
         (part_fault.Stream (fault.Lengths (length_fault.Gather told more))) input later sink after before c)
         (sym fails.no_steps)
-        (subst (λ s. FirstStopped script start.block frames
+        (subst (λ s. FirstStopped start.banked script start.block frames
         (part_fault.Stream (fault.Lengths (length_fault.Gather told more))) input later sink s before counts)
         (sym still)
         (stops_at (part_fault.Stream (fault.Lengths (length_fault.Gather told more))) [] then
-        counts nothing_more (front_alone bytes) (λ given front. inr front) (
+        counts nothing_more
+        (unflushed_so_far (part_fault.Stream (fault.Lengths (length_fault.Gather told more))))
+        (inr (none_written (quiet_script script start.block ready (frames_in_bytes script given)
+        (omega (arith, subst (λ n. MAX_GATHERED < n) total over))))) (
           begun.opened.opens.has (heard ++ bytes),
           record {
             over = subst (λ n. MAX_GATHERED < n) total over;
@@ -430,4 +356,4 @@ module _ (start session : SessionState) (header : Header) (span : Span) (taken :
             more_is = omega (arith, sum, total);
           },
         )
-        (same ∙ read_so_far, clean) (λ none. absurd none) (cost_within bytes)))
+        (same ∙ read_so_far, clean) (λ none. absurd none) (cost_within bytes) turns_so_far))

@@ -12,8 +12,10 @@ pub mod AdvanceLaws
 pub mod PlainLaws
 pub mod PlainEnds
 pub mod PartLaws
+pub mod FirstBefore
 pub mod FirstLaws
 pub mod ClosingLaws
+pub mod RestHeard
 pub mod RestLaws
 pub mod SkipLaws
 pub mod FirstEnds

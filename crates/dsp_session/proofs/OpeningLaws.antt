@@ -31,7 +31,7 @@ pub frames_of_blocks : (script : Script) (coding : Coding) (block blocks count :
 frames_of_blocks script coding block blocks count is = is ∙ sym (mul_assoc blocks block (frame_bytes script coding))
 
 -- whole blocks of frames, and less than one more
-whole_blocks-append : (block blocks : ℕ) (x y : List Frame) → length x ≡ blocks * block → length y < block →
+pub whole_blocks-append : (block blocks : ℕ) (x y : List Frame) → length x ≡ blocks * block → length y < block →
     whole_blocks block (x ++ y) ≡ x
 whole_blocks-append block blocks x y long short =
     let all : length (x ++ y) ≡ blocks * block + length y = omega (arith, long, length-append x y) in

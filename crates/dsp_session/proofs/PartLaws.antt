@@ -1,9 +1,11 @@
 -- What streams over a part of an input have in common: what is written of more frames, and what more frames cost.
-use Rattle.std.proofs.Common.{◌≡◌, ℕ, ◌<◌, ◌≤◌, false, List, ◌++◌, length, take, sym, ap, ◌∙◌, arith, append_assoc}
-use Rattle.dsp_ports.specs.Ports.{SourceState, SinkState, one_more}
+use Rattle.std.proofs.Common.{◌≡◌, ◌⊎◌, ℕ, ◌<◌, ◌≤◌, false, List, ◌++◌, length, take, sym, ap, ◌∙◌, arith}
+use Rattle.std.proofs.Common.{append_assoc}
+use Rattle.dsp_ports.specs.Ports.{SourceState, SinkState, one_more, settled_after}
 use Rattle.std.proofs.lemmas.List.{take_all}
 use Rattle.dsp_defs.specs.Block.{Frame}
-use Rattle.dsp_defs.specs.Output.{input_header, output_coding, output_header, input_signal, live_bytes}
+use Rattle.dsp_defs.specs.Output.{HasHeader, input_header, output_coding, output_header, input_signal, live_bytes}
+use Rattle.dsp_defs.specs.Output.{whole_blocks}
 use Rattle.dsp_defs.specs.Streaming.{Begins}
 use Rattle.dsp_defs.specs.declared.script.Script.{Script}
 use Rattle.dsp_defs.specs.declared.wave.Header.{Header}
@@ -15,10 +17,12 @@ use Rattle.dsp_input.specs.Taking.{InDeclared, IsUnread, Opens, declared_bytes, 
 use Rattle.dsp_session.specs.Opening.{of_input}
 use Rattle.dsp_session.specs.Session.{signal, live_values, live_cost_of}
 use Rattle.dsp_session.specs.Stream.{IsCause, CountsFault}
-use Rattle.dsp_session.specs.Resuming.{IsFirstCause, IsRestCause, first_output}
+use Rattle.dsp_session.specs.Resuming.{IsFirstCause, IsPartUnflushed, IsRestCause, RestWritten, first_output}
+use Rattle.dsp_session.specs.Resuming.{later_frames}
+use Rattle.dsp_session.specs.declared.fault.PartFault.{PartFault}
 use Rattle.dsp_session.specs.declared.fault.PartFault.TheVariants as part_fault
 use Rattle.dsp_input.proofs.CauseLaws.{unread_by}
-use Rattle.dsp_session.proofs.OpenLaws.{input_cause}
+use Rattle.dsp_session.proofs.OpenLaws.{input_cause, unflushed_by}
 use Rattle.dsp_session.proofs.OpeningLaws.{signal_is}
 use Rattle.dsp_session.proofs.TurnLaws.{chain_turns_within}
 
@@ -39,6 +43,25 @@ live_goes_on script x more =
 pub live_cost_more : (script : Script) (m n : ℕ) → m ≤ n → live_cost_of script m ≤ live_cost_of script n
 live_cost_more script m n more = (let within = chain_turns_within false script.input.format script.input.channels
     script.blocks m n more in omega (arith, within))
+
+-- ---- what was written of the rest
+
+-- a fault of the input leaves what was written so far
+pub input_wrote_rest : (f : InputFault) (script : Script) (block : ℕ) (x : List Frame) (from : ℕ)
+    (given written : List ℕ) (now : SourceState) (sink after : SinkState) →
+    ((HasHeader script given → ⊥) × (after ≡ sink)) ⊎ (live_bytes script x ++ written ≡ live_bytes script
+    (x ++ whole_blocks block (later_frames script from given)))
+    → RestWritten (part_fault.Stream (of_input f)) script block x from given written now sink after
+input_wrote_rest input_fault.Failed script block x from given written now sink after wrote = wrote
+input_wrote_rest (input_fault.Limit told most) script block x from given written now sink after wrote = wrote
+input_wrote_rest (input_fault.Header f offset) script block x from given written now sink after wrote = wrote
+
+-- ---- an output that was not flushed
+
+pub part_unflushed : (stop : PartFault) (sink after : SinkState) (written : List ℕ) →
+    after.settled ≡ settled_after sink.settled (length written) → IsPartUnflushed stop sink after written
+part_unflushed (part_fault.Behind at got) sink after written same = same
+part_unflushed (part_fault.Stream stop) sink after written same = unflushed_by stop sink after written same
 
 -- ---- the output of the first frames
 

@@ -64,7 +64,8 @@ module _ (session : SessionState) (ready : IsReady session.script session.block)
       closed.fed closed.then closed.made closed.passes.same passes {E = Failed} final spent
       ((last.before + last.count) / frame_bytes session.script header.coding)
       (writes_rest {T = Unit {0}} {E = Failed} (Ok tt) closed.fed (output_pad closed.fed.script header) closed.then
-      final closed.writes _ passes.stands) (closed.costs _ passes.stands) closed.settled closed.no_fault refl
+      final closed.writes _ passes.stands) (closed.costs _ passes.stands) closed.turned closed.settled
+      closed.no_fault refl
       (measured new) (closed.measures _ passes.stands)
 
   pub unclosed_plain : (new : SessionState) (stop : StreamFault) (final : SinkState) (spent : Counts) →
@@ -82,14 +83,15 @@ module _ (session : SessionState) (ready : IsReady session.script session.block)
       before counts passed (sym (window None none)) stop final spent
       (subst (λ c. FailsToPass stop session.banked session.script c x bytes then final counts spent) coding
       (fails_plain stop session new bytes then final counts spent fails x passed.stands))
-  unclosed_plain new stop final spent (Unfinished fed mid made error is none passes writes costs limit failed) =
+  unclosed_plain new stop final spent
+      (Unfinished fed mid made error is none passes writes costs limit turned failed) =
       let coded_passes = coded fed mid made passes in
       subst (λ f. Stopped session.banked session.script session.block f input now sink final before spent) (sym is)
       (laws.stream_unfinished session.script session.block ready session header piece last input now sink then
       before counts passed (sym (window None none))
       fed mid made passes.same coded_passes error final spent
       (writes_rest {T = Unit {0}} (Err error) fed (output_pad fed.script header) mid final writes _
-      coded_passes.stands) (costs _ coded_passes.stands) failed)
+      coded_passes.stands) (costs _ coded_passes.stands) turned failed)
 
 pub unclosed_stays : (session new : SessionState) (header : Header) (bytes : List ℕ) (stop : StreamFault)
     (sink after : SinkState) (before counts : Counts)
@@ -99,7 +101,7 @@ unclosed_stays session new header bytes stop sink after before counts (Windowed 
 unclosed_stays session new header bytes stop sink after before counts (Unpassed none fails) =
     refused_on stop session new bytes sink after before counts fails
 unclosed_stays session new header bytes stop sink after before counts
-    (Unfinished fed mid made error is none passes writes costs limit failed) =
+    (Unfinished fed mid made error is none passes writes costs limit turned failed) =
     subst (λ f. StaysRefused f new) (sym is) tt
 
 -- the same of equal scripts and block lengths

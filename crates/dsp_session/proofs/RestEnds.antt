@@ -64,7 +64,7 @@ module _ (start : SessionState) (header : Header) (span : Span) (input opened_at
         laws.rest_unread start session header span taken input opened_at mid between sink then
         before made runs coding from opened skip skipped skip_long still going
         now u.unread.bytes u.unread.gave u.unread.declared (omega (arith, u.unread.in_limit))
-        (omega (arith, u.unread.short, size_is)) error u.unread.cause
+        (omega (arith, u.unread.short, size_is)) (omega (arith, u.unread.short, size_is)) error u.unread.cause
 
     module _ (piece : List ℕ) (long : length piece ≡ block_bytes script start.coding start.block)
         (read : PartRead script header span.end taken piece (length piece) between now) where
@@ -149,14 +149,17 @@ module _ (start : SessionState) (header : Header) (span : Span) (input opened_at
     all_in_limit : header.start + (last.before + length bytes) ≤ MAX_INPUT
     all_in_limit = omega (arith, bytes_long, reached.read.in_limit)
 
-    all_in_block : length bytes ≤ block_bytes script header.coding start.block
-    all_in_block = omega (
+    shorter : length bytes < block_bytes script header.coding start.block
+    shorter = omega (
       arith,
       bytes_long,
       reached.short,
       reached.size,
       ap (λ c. block_bytes script c start.block) coding,
     )
+
+    all_in_block : length bytes ≤ block_bytes script header.coding start.block
+    all_in_block = omega (arith, shorter)
 
     same_more : signal script header.coding piece ≡ signal script header.coding bytes
     same_more = (λ i. signal script header.coding (whole_front (going.advances.same.script i) header last.count
@@ -233,7 +236,7 @@ module _ (start : SessionState) (header : Header) (span : Span) (input opened_at
         (laws.rest_windowed start session header span last.before input opened_at mid reached.between sink then
         before made runs coding from opened skip skipped skip_long still going now bytes reached.read.gave declared
         all_in_limit all_in_block
-        end full is_whole (window (Some (end, full)) found) reached.read.no_fault)))
+        shorter end full is_whole (window (Some (end, full)) found) reached.read.no_fault)))
     unclosed_rest new stop after counts (Unpassed none fails) = by stop fails
       where
         by : (stop : StreamFault) → FailsToPassOn stop session new piece then after made counts →
@@ -251,14 +254,15 @@ module _ (start : SessionState) (header : Header) (span : Span) (input opened_at
             piece same_more new told more after counts fails reached.read.no_fault few_more
             (λ less. (is_whole, window None none))
         by stop none = absurd none
-    unclosed_rest new stop after counts (Unfinished fed middle spent error is none passes writes costs limit failed) =
+    unclosed_rest new stop after counts (Unfinished fed middle spent error is none passes writes costs limit turned
+        failed) =
         subst (λ f. RestStopped script start.block start start.chain.frames (part_fault.Stream f) input now sink after
         before counts) (sym is)
         (laws.rest_unfinished start session header span last.before input opened_at mid reached.between sink then
         before made runs coding from opened skip skipped skip_long still going now bytes reached.read.gave declared
         all_in_limit all_in_block
         piece same_more fed spent passes.same passes.fed (Err error) middle after counts passes.took passes.no_fault
-        writes (window None none) limit is_whole reached.read.no_fault failed)
+        writes (window None none) limit turned is_whole reached.read.no_fault failed)
 
     pub closed_rest : Fits script header → (new : SessionState) (after : SinkState) (counts : Counts) →
         Closed session new header piece then after made counts
@@ -270,7 +274,8 @@ module _ (start : SessionState) (header : Header) (span : Span) (input opened_at
         all_in_limit all_in_block
         piece same_more closed.fed closed.made closed.passes.same closed.passes.fed {E = Failed} (Ok tt) closed.then
         after counts closed.passes.took closed.passes.no_fault closed.writes (window None closed.no_window)
-        closed.limit is_whole reached.read.no_fault closed.writes.whole closed.no_fault closed.settled fits
+        closed.limit closed.turned is_whole reached.read.no_fault closed.writes.whole closed.no_fault closed.settled
+        fits
         closed.passes.not_full (λ x is. (closed.costs x is).exact) (measured new) closed.measures
         ((last.before + last.count) / frame_bytes script header.coding) total_is
         (λ none. omega (

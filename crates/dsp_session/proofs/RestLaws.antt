@@ -1,15 +1,17 @@
 -- The ends of a stream over the rest of an input.
-use Rattle.std.proofs.Common.{◌≡◌, ℕ, ◌+◌, ◌-◌, ◌*◌, ◌<◌, ◌≤◌, List, [], ◌++◌, length, take, drop, Some, None, Result}
+use Rattle.std.proofs.Common.{◌≡◌, ℕ, suc, ◌+◌, ◌-◌, ◌*◌, ◌<◌, ◌≤◌, List, [], ◌++◌, length, take, drop, Some, None}
+use Rattle.std.proofs.Common.{Result}
 use Rattle.std.proofs.Common.{sym, ap, ◌∙◌, subst, arith, append_assoc, append-nil, length-append, inl, inr}
 use Rattle.std.proofs.lemmas.Bool.{cases_lt}
-use Rattle.std.proofs.lemmas.List.{take-append-drop, take_at, drop_at}
+use Rattle.std.proofs.lemmas.List.{take-append-drop, drop_at}
 use Rattle.dsp_ports.specs.Ports.{append_put}
-use Rattle.dsp_ports.specs.Ports.{SourceState, SinkState, one_more, Gave, Took, IsSettled}
+use Rattle.dsp_ports.specs.Ports.{SourceState, SinkState, one_more, Gave, Took, IsSettled, settled_after}
 use Rattle.dsp_ports.proofs.Moved.{Took-nil, Gave-append, append_put-append}
 use Rattle.dsp_chain.specs.Chain.{made_of}
 use Rattle.dsp_defs.specs.Block.{Frame}
 use Rattle.dsp_defs.specs.Counts.{Counts}
-use Rattle.dsp_defs.specs.Output.{HasHeader, input_header, input_signal, live_bytes, output_pad, whole_bytes}
+use Rattle.dsp_defs.specs.Output.{HasHeader, input_header, input_signal, live_bytes, output_pad, whole_blocks}
+use Rattle.dsp_defs.specs.Output.{whole_bytes}
 use Rattle.dsp_defs.specs.Shape.{gathered, held, window_at}
 use Rattle.dsp_defs.specs.Streaming.{Begins}
 use Rattle.dsp_defs.specs.declared.limits.TheConstants.{MAX_GATHERED, MAX_INPUT}
@@ -23,22 +25,26 @@ use Rattle.dsp_input.specs.Taking.{frames_in_bytes}
 use Rattle.dsp_session.specs.Opening.{of_input}
 use Rattle.dsp_session.specs.SessionState.{SessionState}
 use Rattle.dsp_session.specs.Session.{IsReady, StandsFor, SameSession, Feeds, block_bytes, signal, cost_of}
-use Rattle.dsp_session.specs.Session.{live_cost_of, products_of, measures_of}
+use Rattle.dsp_session.specs.Session.{TurnsByProducts, live_cost_of, products_of, measures_of, turns_of}
 use Rattle.dsp_session.specs.Stream.{in_whole_blocks}
 use Rattle.dsp_session.specs.Passing.{WritesTail}
 use Rattle.dsp_session.specs.Advancing.{Runs, Going, FailsToPassOn, count_of}
-use Rattle.dsp_session.specs.Resuming.{IsRestCause, CountsPartFault, LaterLagsByOne, RestDone, RestStopped, RestWritten}
-use Rattle.dsp_session.specs.Resuming.{later_blocks_end, later_frames}
+use Rattle.dsp_session.specs.Resuming.{IsRestCause, IsPartUnflushed, CountsPartFault, RestDone}
+use Rattle.dsp_session.specs.Resuming.{RestStopped, RestWritten, later_frames, part_turns}
+use Rattle.dsp_session.specs.Resuming.{rest_turns}
 use Rattle.dsp_session.specs.declared.fault.LengthFault.TheVariants as length_fault
 use Rattle.dsp_session.specs.declared.fault.StreamFault.TheVariants as fault
 use Rattle.dsp_session.specs.declared.fault.PartFault.{PartFault}
 use Rattle.dsp_session.specs.declared.fault.PartFault.TheVariants as part_fault
 use Rattle.dsp_session.specs.declared.streaming.Span.{Span}
 use Rattle.dsp_session.proofs.AdvanceLaws.{made_counted, made_runs}
-use Rattle.dsp_session.proofs.FeedLaws.{feed_out}
-use Rattle.dsp_session.proofs.OpeningLaws.{some_frame, frames_of_blocks, signal_is, signal-append, frames-whole}
+use Rattle.dsp_session.proofs.FeedLaws.{feed_out, quiet_script}
+use Rattle.dsp_session.proofs.OpeningLaws.{signal_is, signal-append, less}
+use Rattle.dsp_session.proofs.OpeningLaws.{length-signal, whole_blocks-append}
 use Rattle.dsp_session.proofs.BlockLaws.{block_some, in_blocks, in_declared}
-use Rattle.dsp_session.proofs.PartLaws.{live_goes_on, unread_cause, input_rest, unread_faults}
+use Rattle.dsp_session.proofs.TurnLaws.{part_before, part_behind, rest_behind}
+use Rattle.dsp_session.proofs.PartLaws.{unread_cause, input_rest, input_wrote_rest, part_unflushed, unread_faults}
+use Rattle.dsp_session.proofs.RestHeard.{HeardRest, heard_rest}
 
 -- the frames before the rest were passed over, and whole blocks of it have passed
 module _ (start session : SessionState) (header : Header) (span : Span) (taken : ℕ)
@@ -65,84 +71,21 @@ module _ (start session : SessionState) (header : Header) (span : Span) (taken :
   abbrev wrote : List ℕ
   wrote = going.advances.written
 
-  some : 0 < frame_bytes script header.coding
-  some = some_frame script header.coding start.block ready
-
-  whole : length heard ≡ going.blocks * start.block * frame_bytes script header.coding
-  whole = frames_of_blocks script start.coding start.block going.blocks (length heard) going.advances.long ∙
-      ap (λ c. going.blocks * start.block * frame_bytes script c) coding
-
   abbrev fed : List Frame
   fed = signal script header.coding heard
-
-  heard_frames : length fed ≡ going.blocks * start.block
-  heard_frames = frames-whole script header.coding some heard (going.blocks * start.block) whole
 
   -- the frames behind those that were passed over
   abbrev later : List ℕ → List Frame
   later bytes = signal script header.coding (heard ++ bytes)
 
-  together : (bytes : List ℕ) → later bytes ≡ fed ++ signal script header.coding bytes
-  together bytes = signal-append script header.coding some heard bytes (going.blocks * start.block) whole
-
   abbrev given : List ℕ → List ℕ
   given bytes = opened.first ++ (skip ++ (heard ++ bytes))
 
-  stands : (x : List Frame) → StandsFor start x → StandsFor session (x ++ fed)
-  stands x is = subst (λ c. StandsFor session (x ++ signal script c heard)) coding (going.advances.stands x is)
+  heard_part : HeardRest start session header going.blocks opened.first skip heard wrote
+  heard_part = heard_rest start session header span taken input opened_at mid now sink then before counts runs coding
+      from opened skip skipped skip_long still going
 
-  wrote_is : (x : List Frame) → StandsFor start x → live_bytes script (x ++ fed) ≡ live_bytes script x ++ wrote
-  wrote_is x is = ap (λ c. live_bytes script (x ++ signal script c heard)) (sym coding) ∙ going.advances.values x is
-
-  skip_frames : length (signal script header.coding skip) ≡ frames
-  skip_frames = frames-whole script header.coding some skip frames (skip_long ∙ from)
-
-  -- the later frames of the blocks that have passed
-  heard_later : later_frames script frames (opened.first ++ (skip ++ heard)) ≡ fed
-  heard_later =
-      let in_heard = in_declared (declared_bytes script header) taken (length (skip ++ heard))
-      (omega (arith, going.taken_is, skip_long, length-append skip heard)) going.declared in
-      ap (drop frames) (
-      signal_is script header some opened.first opened.opens (skip ++ heard) in_heard
-      ∙ signal-append script header.coding some skip heard frames (skip_long ∙ from)
-      ) ∙ drop_at (signal script header.coding skip) fed frames skip_frames
-
-  -- at most a block is ahead of what was written
-  lags : (bytes written : List ℕ) → length bytes ≤ block_bytes script header.coding start.block →
-      LaterLagsByOne script start.block start frames (given bytes) (wrote ++ written)
-  lags bytes written short =
-      let long : length heard ≡ going.blocks * block_bytes script header.coding start.block = going.advances.long ∙
-      ap (λ c. going.blocks * block_bytes script c start.block) coding in
-      let ends : (blocks : ℕ) → later_blocks_end script start.block frames (input_header script (given bytes)) blocks
-      ≡ header.start + blocks * block_bytes script header.coding start.block + frames * frame_bytes script
-      header.coding =
-      λ blocks. ap (λ (h : Header). later_blocks_end script start.block frames h blocks)
-      (opened.opens.said (skip ++ (heard ++ bytes))) in
-      let front : given bytes ≡ (opened.first ++ (skip ++ heard)) ++ bytes =
-      ap (λ ys. opened.first ++ ys) (sym (append_assoc skip heard bytes)) ∙
-      sym (append_assoc opened.first (skip ++ heard) bytes) in
-      let count : length (opened.first ++ (skip ++ heard)) ≡ later_blocks_end script start.block frames
-      (input_header script (given bytes)) going.blocks =
-      omega (arith, ends going.blocks, length-append opened.first (skip ++ heard), length-append skip heard) in
-      let taken_front : take (later_blocks_end script start.block frames (input_header script (given bytes))
-      going.blocks) (given bytes) ≡ opened.first ++ (skip ++ heard) =
-      ap (take (later_blocks_end script start.block frames (input_header script (given bytes)) going.blocks)) front ∙
-      take_at (opened.first ++ (skip ++ heard)) bytes _ count in
-      let all : length (given bytes) ≡ length (opened.first ++ (skip ++ heard)) + length bytes = ap length front ∙
-      length-append (opened.first ++ (skip ++ heard)) bytes in
-      record {
-        blocks = going.blocks;
-        wrote = inr (
-          omega (arith, all, count),
-          λ x is. (
-            written,
-            sym (append_assoc (live_bytes script x) wrote written)
-                ∙ ap (λ ys. ys ++ written) (sym (ap (λ (y : List Frame). live_bytes script (x ++ y))
-                (ap (later_frames script frames) taken_front ∙ heard_later) ∙ wrote_is x is)),
-          ),
-        );
-        one = (let next = ends (going.blocks + 1) in omega (arith, next, all, count, ends going.blocks, short));
-      }
+  open heard_part use {some, skip_frames, heard_frames, together, reaches, stands, wrote_is, lags}
 
   module _ (end : SourceState) (bytes : List ℕ) (gave : Gave now end bytes)
       (declared : InDeclared (declared_bytes script header) (taken + length bytes))
@@ -193,23 +136,27 @@ module _ (start session : SessionState) (header : Header) (span : Span) (taken :
 
     -- a front of what the frames add was written, or of all
     rest_stops : (stop : PartFault) (written : List ℕ) (after : SinkState) (made : Counts) →
-        after.put ≡ append_put sink.put (wrote ++ written)
-        → ((x : List Frame) → StandsFor start x → RestWritten script x frames (given bytes) (wrote ++ written) end)
+        after.put ≡ append_put sink.put (wrote ++ written) → IsPartUnflushed stop sink after (wrote ++ written)
+        → ((x : List Frame) → StandsFor start x → RestWritten stop script start.block x frames (given bytes)
+        (wrote ++ written) end sink after)
         → IsRestCause stop script start.block frames (given bytes) end → CountsPartFault stop input end sink after
         → made.multiplies + live_cost_of script frames ≤ before.multiplies + cost_of script reached
+        → made.turns ≤ before.turns + rest_turns start.banked script start.block frames reached
         → RestStopped script start.block start frames stop input end sink after before made
-    rest_stops stop written after made put wrote cause faults cost = record {
+    rest_stops stop written after made put unflushed wrote cause faults cost turned = record {
       given = given bytes;
       written = going.advances.written ++ written;
       gave = gave_all;
       in_limit = all_in_limit;
       put = put;
+      unflushed = unflushed;
       cause = cause;
       idle = λ fewer. absurd (omega (arith, fewer, count_is));
       wrote = wrote;
       lag = λ _. lags bytes written short;
       faults = faults;
       cost = λ enough. rw count_is cost;
+      turns = λ enough. rw count_is turned;
     }
 
     put_more : (written : List ℕ) (after : SinkState) → after.put ≡ append_put then.put written →
@@ -226,6 +173,17 @@ module _ (start session : SessionState) (header : Header) (span : Span) (taken :
         reached fewer in
         omega (arith, going.advances.multiplies, within)
 
+    bounds : (frames + going.blocks * start.block ≤ reached) × (reached ≤ frames + suc going.blocks * start.block)
+    bounds = reaches bytes short
+
+    turns_so_far : counts.turns ≤ before.turns + part_turns start.banked script start.block frames reached
+    turns_so_far = part_before start.banked script start.block frames going.blocks reached before.turns counts.turns
+        (block_some script start.block ready) bounds.0 bounds.1 going.advances.turned
+
+    live_within : live_cost_of script reached ≤ cost_of script reached
+    live_within = live_cost_within script.input.format script.input.channels script.blocks reached reached
+        (omega arith)
+
     read_so_far : now.faults ≡ input.faults
     read_so_far = going.no_fault ∙ still.0 ∙ opened.no_fault
 
@@ -233,41 +191,67 @@ module _ (start session : SessionState) (header : Header) (span : Span) (taken :
     later_behind x = append_assoc x fed (signal script header.coding bytes) ∙
         ap (λ y. x ++ y) (sym (together bytes) ∙ sym later_is)
 
-    front_alone : (x : List Frame) → StandsFor start x → RestWritten script x frames (given bytes) (wrote ++ []) end
-    front_alone x is =
-        let front : Begins (live_bytes script (x ++ fed))
-        (live_bytes script ((x ++ fed) ++ signal script header.coding bytes)) =
-        live_goes_on script (x ++ fed) (signal script header.coding bytes) in
-        inl (subst (λ xs. Begins xs (live_bytes script (with_later x)))
-        (wrote_is x is ∙ ap (λ ys. live_bytes script x ++ ys) (sym (append-nil wrote)))
-        (subst (λ y. Begins (live_bytes script (x ++ fed)) (live_bytes script y)) (later_behind x) front))
+    -- what the whole blocks of the later frames add was written
+    abbrev BlocksWritten : List Frame → Type 0
+    BlocksWritten x = live_bytes script x ++ (wrote ++ []) ≡ live_bytes script
+        (x ++ whole_blocks start.block (later_frames script frames (given bytes)))
+
+    -- where less than a block more came
+    blocks_written : length bytes < block_bytes script header.coding start.block → (x : List Frame) →
+        StandsFor start x → BlocksWritten x
+    blocks_written shorter x is =
+        let rest : length (signal script header.coding bytes) < start.block =
+        rw (length-signal script header.coding some bytes)
+        (less (length bytes) start.block (frame_bytes script header.coding) some shorter) in
+        let front : whole_blocks start.block (later_frames script frames (given bytes)) ≡ fed =
+        ap (whole_blocks start.block) (later_is ∙ together bytes) ∙
+        whole_blocks-append start.block going.blocks fed (signal script header.coding bytes) heard_frames rest in
+        ap (λ ys. live_bytes script x ++ ys) (append-nil wrote) ∙ sym (wrote_is x is)
+        ∙ ap (λ (y : List Frame). live_bytes script (x ++ y)) (sym front)
+
+    -- where nothing comes before the end
+    none_written : ((y : List Frame) → live_bytes script y ≡ []) → (x : List Frame) → StandsFor start x →
+        BlocksWritten x
+    none_written quiet x is =
+        ap (λ ys. live_bytes script x ++ ys) (append-nil wrote) ∙ sym (wrote_is x is)
+        ∙ quiet (x ++ fed) ∙ sym (quiet (x ++ whole_blocks start.block (later_frames script frames (given bytes))))
 
     -- just the live output of the blocks was written
-    stops_there : (stop : PartFault) → IsRestCause stop script start.block frames (given bytes) end →
-        CountsPartFault stop input end sink then
+    stops_there : (stop : PartFault) →
+        ((x : List Frame) → StandsFor start x → RestWritten stop script start.block x frames (given bytes)
+        (wrote ++ []) end sink then)
+        → IsRestCause stop script start.block frames (given bytes) end → CountsPartFault stop input end sink then
         → RestStopped script start.block start frames stop input end sink then before counts
-    stops_there stop cause faults = rest_stops stop [] then counts (put_more [] then (Took-nil then).put) front_alone
-        cause faults cost_within
+    stops_there stop shape cause faults = rest_stops stop [] then counts (put_more [] then (Took-nil then).put)
+        (part_unflushed stop sink then (wrote ++ []) (going.advances.took.settled ∙
+        ap (λ (ys : List ℕ). settled_after sink.settled (length ys)) (sym (append-nil wrote))))
+        shape cause faults cost_within (rest_behind start.banked script start.block frames reached before.turns
+        counts counts turns_so_far (omega arith) (omega (arith, live_within)))
 
     -- ---- ends
 
-    pub rest_unread : (error : InputFault) → IsUnread error script header (taken + length bytes) now end →
+    pub rest_unread : length bytes < block_bytes script header.coding start.block → (error : InputFault) → IsUnread
+        error script header (taken + length bytes) now end →
         RestStopped script start.block start frames (part_fault.Stream (of_input error)) input end sink then
         before counts
-    rest_unread error unread =
+    rest_unread shorter error unread =
         stops_there (part_fault.Stream (of_input error))
+        (λ x is. input_wrote_rest error script start.block x frames (given bytes) (wrote ++ []) end sink then
+        (inr (blocks_written shorter x is)))
         (input_rest error script start.block frames (given bytes) end
         (unread_cause script start.block header opened.first opened.opens (skip ++ (heard ++ bytes))
         (taken + length bytes) all_long now end error unread))
         (unread_faults error script header (taken + length bytes) input now end sink then
         unread read_so_far going.advances.no_fault)
 
-    pub rest_windowed : (stop_end full : ℕ) → IsTakenWhole script (given bytes) end →
+    pub rest_windowed : length bytes < block_bytes script header.coding start.block → (stop_end full : ℕ) →
+        IsTakenWhole script (given bytes) end →
         window_at script.blocks reached ≡ Some (stop_end, full) → end.faults ≡ now.faults
         → RestStopped script start.block start frames (part_fault.Stream
         (fault.Lengths (length_fault.Window stop_end full))) input end sink then before counts
-    rest_windowed stop_end full ended found clean =
+    rest_windowed shorter stop_end full ended found clean =
         stops_there (part_fault.Stream (fault.Lengths (length_fault.Window stop_end full)))
+        (λ x is. inr (blocks_written shorter x is))
         (has, ended, ap (window_at script.blocks) count_is ∙ found)
         (clean ∙ read_so_far, going.advances.no_fault)
 
@@ -312,7 +296,8 @@ module _ (start session : SessionState) (header : Header) (span : Span) (taken :
           subst (λ c. RestStopped script start.block start frames stop input end sink after before c)
           (sym fails.no_steps)
           (subst (λ s. RestStopped script start.block start frames stop input end sink s before counts) (sym still)
-          (stops_there stop (
+          (stops_there stop (λ x is. inr (none_written (quiet_script script start.block ready
+          (frames_in_bytes script (given bytes)) (omega (arith, subst (λ n. MAX_GATHERED < n) total past))) x is)) (
             has,
             omega (arith, count_is, all_frames, one),
             record {
@@ -368,9 +353,14 @@ module _ (start session : SessionState) (header : Header) (span : Span) (taken :
             going.advances.same.script in
             omega (arith, feeds.multiplies, after, prior, going.advances.multiplies)
 
-        within_cost : live_cost_of script reached ≤ cost_of script reached
-        within_cost = live_cost_within script.input.format script.input.channels script.blocks reached reached
-            (omega arith)
+        turns_fed : made.turns ≤ before.turns + part_turns start.banked script start.block frames reached
+        turns_fed =
+            let call : made.turns ≤ counts.turns + turns_of start.banked script (frames + going.blocks * start.block)
+            reached =
+            subst (λ n. made.turns ≤ counts.turns + n) (λ i. turns_of (going.advances.same.banked i)
+            (going.advances.same.script i) (going.advances.counted i) (last_counted i)) feeds.turns in
+            part_behind start.banked script start.block frames going.blocks reached before.turns counts.turns
+            made.turns (block_some script start.block ready) bounds.0 bounds.1 going.advances.turned call
 
         pub rest_unwritten : (after : SinkState) (count : ℕ) →
             after.put ≡ append_put then.put (take count last.out) → after.faults ≡ one_more then.faults →
@@ -379,7 +369,7 @@ module _ (start session : SessionState) (header : Header) (span : Span) (taken :
             made
         rest_unwritten after count put risen clean =
             rest_stops (part_fault.Stream fault.Output) (take count last.out) after made
-            (put_more (take count last.out) after put)
+            (put_more (take count last.out) after put) tt
             (λ x is. inl (
               drop count last.out,
               adds x is ∙ ap (λ ys. live_bytes script x ++ (wrote ++ ys)) (sym (take-append-drop count last.out))
@@ -388,7 +378,9 @@ module _ (start session : SessionState) (header : Header) (span : Span) (taken :
                   ∙ sym (append_assoc (live_bytes script x) (wrote ++ take count last.out) (drop count last.out)),
             ))
             has (clean ∙ read_so_far, risen ∙ ap one_more going.advances.no_fault)
-            (omega (arith, made_is, within_cost))
+            (omega (arith, made_is, live_within))
+            (rest_behind start.banked script start.block frames reached before.turns made made turns_fed
+            (omega arith) (omega (arith, live_within)))
 
         -- and the tail of all was written, or a part of it
         module _ {E : Type 0} (result : Result (Unit {0}) E) (middle after : SinkState) (spent : Counts)
@@ -396,7 +388,7 @@ module _ (start session : SessionState) (header : Header) (span : Span) (taken :
             (writes : WritesTail result last (output_pad last.script header) middle after)
             (none : window_at script.blocks reached ≡ None)
             (limit : spent.multiplies + live_cost_of session.script last.chain.frames ≤ made.multiplies +
-            products_of session.script last.chain.frames)
+            products_of session.script last.chain.frames) (turned : TurnsByProducts made spent)
             (ended : IsTakenWhole script (given bytes) end) (clean : end.faults ≡ now.faults) where
           abbrev added : List ℕ
           added = last.out ++ writes.written
@@ -420,9 +412,9 @@ module _ (start session : SessionState) (header : Header) (span : Span) (taken :
               (λ i. whole_bytes (last_script i) (with_later x) ++ output_pad (last_script i) header)
               ∙ ap (λ (h : Header). whole_bytes script (with_later x) ++ output_pad script h) (sym said)
 
-          cost_all : spent.multiplies + live_cost_of script frames ≤ before.multiplies + cost_of script reached
-          cost_all =
-              let costs : spent.multiplies + live_cost_of script reached ≤ made.multiplies + products_of script
+          costs : spent.multiplies + live_cost_of script reached ≤ made.multiplies + cost_of script reached
+          costs =
+              let tail : spent.multiplies + live_cost_of script reached ≤ made.multiplies + products_of script
               reached =
               subst {A = ℕ × ℕ} (λ n. spent.multiplies + n.0 ≤ made.multiplies + n.1)
               (λ i. (
@@ -430,20 +422,27 @@ module _ (start session : SessionState) (header : Header) (span : Span) (taken :
                 products_of (going.advances.same.script i) (last_counted i),
               )) limit in
               let products = products_are_cost script.input.format script.input.channels script.blocks reached none in
-              omega (arith, costs, products, made_is)
+              omega (arith, tail, products)
+
+          cost_all : spent.multiplies + live_cost_of script frames ≤ before.multiplies + cost_of script reached
+          cost_all = omega (arith, costs, made_is)
+
+          turns_all : spent.turns ≤ before.turns + rest_turns start.banked script start.block frames reached
+          turns_all = rest_behind start.banked script start.block frames reached before.turns made spent turns_fed
+              turned costs
 
           pub rest_unfinished : after.faults ≡ one_more middle.faults →
               RestStopped script start.block start frames (part_fault.Stream fault.Output) input end sink after before
               spent
           rest_unfinished failed =
-              rest_stops (part_fault.Stream fault.Output) added after spent put_all
+              rest_stops (part_fault.Stream fault.Output) added after spent put_all tt
               (λ x is. inr (
                 ended,
                 subst (λ ys. Begins (live_bytes script x ++ (wrote ++ added)) ys) (all_of x)
                     (subst (λ ys. Begins ys (whole_bytes last.script (with_later x) ++ output_pad last.script header))
                     (behind_live x is) (writes.begins (with_later x) (last_stands x is))),
               ))
-              has (clean ∙ read_so_far, failed ∙ ap one_more (unfailed ∙ going.advances.no_fault)) cost_all
+              has (clean ∙ read_so_far, failed ∙ ap one_more (unfailed ∙ going.advances.no_fault)) cost_all turns_all
 
           pub rest_done : ((x : List Frame) → StandsFor last x → live_bytes last.script x ++ writes.written ≡
               whole_bytes last.script x ++ output_pad last.script header)
@@ -479,6 +478,8 @@ module _ (start session : SessionState) (header : Header) (span : Span) (taken :
             no_output_fault = still ∙ unfailed ∙ going.advances.no_fault;
             cost = subst (λ n. spent.multiplies + live_cost_of script frames ≤ before.multiplies + cost_of script n)
                 (sym total_is) cost_all;
+            turns = subst (λ n. spent.turns ≤ before.turns + rest_turns start.banked script start.block frames n)
+                (sym total_is) turns_all;
             exact = λ x is. (let stands = last_stands x is in
                 let long : length (with_later x) ≡ reached = sym stands.chain.counted ∙ last_counted in
                 let costs : spent.multiplies + live_cost_of script reached ≡ made.multiplies + products_of script

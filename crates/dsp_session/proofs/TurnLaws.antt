@@ -1,6 +1,8 @@
 -- The turns of the calls of a run, in blocks of one size.
-use Rattle.std.proofs.Common.{◌≡◌, ℕ, zero, suc, ◌+◌, ◌-◌, ◌*◌, ◌<◌, ◌≤◌, Bool, min, List, [], ◌∷◌, sym, ◌∙◌, refl}
-use Rattle.std.proofs.Common.{subst, arith}
+use Rattle.std.proofs.Common.{◌≡◌, ℕ, zero, suc, ◌+◌, ◌-◌, ◌*◌, ◌/◌, ◌<◌, ◌≤◌, Bool, min, List, [], ◌∷◌, sym}
+use Rattle.std.proofs.Common.{◌∙◌, refl, ap, subst, arith, inl, inr}
+use Rattle.std.proofs.lemmas.Bool.{cases_lt}
+use Rattle.dsp_defs.specs.Counts.{Counts}
 use Rattle.std.proofs.lemmas.Grind.{div_ceil_times}
 use Rattle.std.specs.Int.{div_ceil}
 use Rattle.dsp_defs.specs.Block.{format_after, channels_after}
@@ -10,7 +12,9 @@ use Rattle.dsp_defs.specs.declared.format.Fmt.{Fmt}
 use Rattle.dsp_defs.specs.declared.script.Block.{Block}
 use Rattle.dsp_defs.specs.declared.script.Script.{Script}
 use Rattle.dsp_unit.proofs.TurnLaws.{unit_turns_within, live_frames_more}
-use Rattle.dsp_session.specs.Session.{cost_of, live_cost_of, turns_of, calls_turns, run_turns}
+use Rattle.dsp_session.specs.Session.{TurnsByProducts, cost_of, live_cost_of, turns_of, calls_turns, run_turns}
+use Rattle.dsp_session.specs.Advancing.{turns_from}
+use Rattle.dsp_session.specs.Resuming.{part_turns, rest_turns}
 
 -- the turns of a chain are no more than its products
 pub chain_turns_within : (banked : Bool) (format : Fmt) (channels : ℕ) (blocks : List Block) (m n : ℕ) → m ≤ n →
@@ -121,3 +125,43 @@ module _ (banked : Bool) (script : Script) (size : ℕ) where
       after ≤ before + run_turns banked script size n
   turns_end k n before between fed after made all some low high h g tail cost =
       omega (arith, h, g, tail, cost, run_is k n some low high, run_split n)
+
+  -- ---- a part of a run, from m frames on
+
+  -- whole blocks have passed, and at most one more, which may be shorter
+  abbrev Within : ℕ → ℕ → ℕ → ℕ → Type 0
+  Within m k n calls = turns_from banked script size m k + turns_of banked script (m + k * size) n ≤ turns_from banked
+      script size m calls + turns_of banked script (m + calls * size) n
+
+  quotient : (q z : ℕ) → 0 < size → q * size ≤ z → z < suc q * size → z / size ≡ q
+  quotient q z some low high = grind arith
+
+  part_is : (m k n : ℕ) → 0 < size → m + k * size ≤ n → n ≤ m + suc k * size → Within m k n ((n - m) / size)
+  part_is m k n some low high = elim (cases_lt n (m + suc k * size)) [
+    | inl shorter ↦ subst (Within m k n)
+        (sym (quotient k (n - m) some (omega (arith, low)) (omega (arith, shorter)))) (omega arith)
+    | inr whole ↦
+        let is : n ≡ m + suc k * size = omega (arith, whole, high) in
+        let same : turns_of banked script (m + k * size) n ≡ turns_of banked script (m + k * size)
+        (m + suc k * size) = ap (turns_of banked script (m + k * size)) is in
+        subst (Within m k n) (sym (quotient (suc k) (n - m) some (omega (arith, is)) (omega (arith, is, some))))
+        (omega (arith, same))
+  ]
+
+  -- before a call, and behind it
+  pub part_before : (m k n before after : ℕ) → 0 < size → m + k * size ≤ n → n ≤ m + suc k * size →
+      after ≤ before + turns_from banked script size m k → after ≤ before + part_turns banked script size m n
+  part_before m k n before after some low high h = (let all = part_is m k n some low high in omega (arith, h, all))
+
+  pub part_behind : (m k n before between after : ℕ) → 0 < size → m + k * size ≤ n → n ≤ m + suc k * size →
+      between ≤ before + turns_from banked script size m k →
+      after ≤ between + turns_of banked script (m + k * size) n → after ≤ before + part_turns banked script size m n
+  part_behind m k n before between after some low high h g =
+      (let all = part_is m k n some low high in omega (arith, h, g, all))
+
+-- behind the tail
+pub rest_behind : (banked : Bool) (script : Script) (size m n before : ℕ) (fed after : Counts) →
+    fed.turns ≤ before + part_turns banked script size m n → TurnsByProducts fed after →
+    after.multiplies + live_cost_of script n ≤ fed.multiplies + cost_of script n →
+    after.turns ≤ before + rest_turns banked script size m n
+rest_behind banked script size m n before fed after h tail cost = omega (arith, h, tail, cost)

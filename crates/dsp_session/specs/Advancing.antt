@@ -17,7 +17,7 @@ use Rattle.dsp_input.specs.Taking.{InDeclared, PartRead, PartUnread, declared_by
 use Rattle.dsp_session.specs.Opening.{of_input}
 use Rattle.dsp_session.specs.SessionState.{SessionState}
 use Rattle.dsp_session.specs.Session.{Holds, StandsFor, SameSession, Feeds, Fails, signal, block_bytes, live_cost_of}
-use Rattle.dsp_session.specs.Session.{products_of, turns_of, measured, measures_of}
+use Rattle.dsp_session.specs.Session.{TurnsByProducts, products_of, turns_of, measured, measures_of}
 use Rattle.dsp_session.specs.Passing.{WritesTail, TailCosts}
 use Rattle.dsp_session.specs.declared.fault.LengthFault.TheVariants as length_fault
 use Rattle.dsp_session.specs.declared.fault.StreamFault.{StreamFault}
@@ -180,6 +180,7 @@ pub record Closed (old new : SessionState) (header : Header) (bytes : List ℕ) 
   pub measures : (x : List Frame) → StandsFor fed x → measured new ≡ measures_of fed.script x
   pub limit : counts.multiplies + live_cost_of old.script fed.chain.frames ≤ made.multiplies + products_of old.script
       fed.chain.frames
+  pub turned : TurnsByProducts made counts
   pub settled : IsSettled after
   pub no_fault : after.faults ≡ then.faults
 
@@ -199,4 +200,5 @@ pub data FailsToClose (old new : SessionState) (header : Header) (bytes : List �
       → ((x : List Frame) → StandsFor fed x → TailCosts {T = Unit {0}} (Err error) fed.script (length x) made counts)
       → counts.multiplies + live_cost_of old.script fed.chain.frames ≤ made.multiplies + products_of old.script
       fed.chain.frames
-      → after.faults ≡ one_more then.faults → FailsToClose old new header bytes stop sink after before counts
+      → TurnsByProducts made counts → after.faults ≡ one_more then.faults
+      → FailsToClose old new header bytes stop sink after before counts

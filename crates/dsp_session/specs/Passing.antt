@@ -14,7 +14,7 @@ use Rattle.dsp_defs.specs.declared.wave.Header.{Header}
 use Rattle.dsp_input.specs.Taking.{AreAll, Fits, InDeclared, Opens, declared_bytes}
 use Rattle.dsp_session.specs.SessionState.{SessionState}
 use Rattle.dsp_session.specs.Session.{StandsFor, SameSession, signal, block_bytes, live_cost_of, products_of, turns_of}
-use Rattle.dsp_session.specs.Session.{calls_turns, measured, measures_of}
+use Rattle.dsp_session.specs.Session.{TurnsByProducts, calls_turns, measured, measures_of}
 use Rattle.dsp_chain.specs.Chain.{made_of}
 use Rattle.dsp_session.specs.declared.fault.LengthFault.TheVariants as length_fault
 use Rattle.dsp_session.specs.declared.fault.StreamFault.{StreamFault}
@@ -107,13 +107,11 @@ pub record WritesTail {T E : Type 0} (result : Result T E) (session : SessionSta
   pub whole : (x : List Frame) → StandsFor session x →
       OnOk result (live_bytes session.script x ++ written ≡ whole_bytes session.script x ++ behind)
 
--- the multiplies are at most those of a whole signal of n frames, and exactly those where all was written; a turn of
--- a loop makes one at least
+-- the multiplies are at most those of a whole signal of n frames, and exactly those where all was written
 pub record TailCosts {T E : Type 0} (result : Result T E) (script : Script) (n : ℕ) (before counts : Counts) : Type 0
   where
     pub limit : counts.multiplies + live_cost_of script n ≤ before.multiplies + products_of script n
     pub exact : OnOk result (counts.multiplies + live_cost_of script n ≡ before.multiplies + products_of script n)
-    pub turned : counts.turns + before.multiplies ≤ before.turns + counts.multiplies
 
 -- the tail was written, or a part of it, by a session that began so
 pub record WroteTail {T E : Type 0} (result : Result T E) (old new : SessionState) (sink after : SinkState)
@@ -122,5 +120,6 @@ pub record WroteTail {T E : Type 0} (result : Result T E) (old new : SessionStat
   pub written : WritesTail result old [] sink after
   pub costs : (x : List Frame) → StandsFor old x → TailCosts result old.script (length x) before counts
   pub limit : counts.multiplies + made_of old.chain ≤ before.multiplies + products_of old.script old.chain.frames
+  pub turned : TurnsByProducts before counts
   pub measures : (x : List Frame) → StandsFor old x → OnOk result (measured new ≡ measures_of old.script x)
   pub faults : CountsFaults result sink.faults after.faults

@@ -1,13 +1,14 @@
 -- How the bytes that a stream over a part of an input took, and those that it wrote, stand to each other at each of
 -- its ends. A part is the first frames, up to a place, or all frames behind them.
-use Rattle.std.specs.Prelude.{◌≡◌, ◌⊎◌, ℕ, ◌+◌, ◌-◌, ◌*◌, ◌<◌, ◌≤◌, List, ◌++◌, length, take, drop, Some, None}
+use Rattle.std.specs.Prelude.{◌≡◌, ◌⊎◌, ℕ, ◌+◌, ◌-◌, ◌*◌, ◌/◌, ◌<◌, ◌≤◌, Bool, List, ◌++◌, length, take, drop}
+use Rattle.std.specs.Prelude.{Some, None}
 use Rattle.std.specs.Io.KnownBytes.{IsAtEnd}
 use Rattle.dsp_ports.specs.Ports.{append_put}
-use Rattle.dsp_ports.specs.Ports.{SourceState, SinkState, Gave, IsSettled}
+use Rattle.dsp_ports.specs.Ports.{SourceState, SinkState, Gave, IsSettled, settled_after}
 use Rattle.dsp_defs.specs.Block.{Frame}
 use Rattle.dsp_defs.specs.Counts.{Counts}
 use Rattle.dsp_defs.specs.Output.{HasHeader, declared_frames, input_header, input_signal, live_bytes, output_header}
-use Rattle.dsp_defs.specs.Output.{output_pad, whole_bytes}
+use Rattle.dsp_defs.specs.Output.{output_pad, part, whole_blocks, whole_bytes}
 use Rattle.dsp_defs.specs.Shape.{gathered, held, window_at}
 use Rattle.dsp_defs.specs.declared.limits.TheConstants.{MAX_GATHERED, MAX_INPUT}
 use Rattle.dsp_defs.specs.Streaming.{Begins}
@@ -16,11 +17,11 @@ use Rattle.dsp_defs.specs.declared.script.Script.{Script}
 use Rattle.dsp_defs.specs.declared.wave.Header.{Header}
 use Rattle.dsp_input.specs.Taking.{AreAll, InDeclared, IsTakenWhole, declared_bytes, frame_bytes}
 use Rattle.dsp_input.specs.Taking.{frames_in_bytes}
-use Rattle.dsp_session.specs.Session.{StandsFor, cost_of, live_cost_of, measures_of}
+use Rattle.dsp_session.specs.Session.{StandsFor, cost_of, live_cost_of, measures_of, turns_of}
 use Rattle.dsp_session.specs.SessionState.{SessionState}
-use Rattle.dsp_session.specs.Stream.{KeepsLimits, IsOverfull, IsCause, CountsFault, LagsByOne, blocks_end}
-use Rattle.dsp_session.specs.Stream.{in_whole_blocks}
-use Rattle.dsp_session.specs.Advancing.{Runs}
+use Rattle.dsp_session.specs.Stream.{KeepsLimits, IsOverfull, IsCause, CountsFault, IsUnflushed, LagsByOne}
+use Rattle.dsp_session.specs.Stream.{blocks_end, in_whole_blocks}
+use Rattle.dsp_session.specs.Advancing.{Runs, turns_from}
 use Rattle.dsp_session.specs.declared.fault.LengthFault.TheVariants as length_fault
 use Rattle.dsp_session.specs.declared.fault.StreamFault.{StreamFault}
 use Rattle.dsp_session.specs.declared.fault.StreamFault.TheVariants as fault
@@ -53,6 +54,16 @@ pub record LaterLagsByOne (script : Script) (block : ℕ) (start : SessionState)
       (later_blocks_end script block from (input_header script given) blocks) given)))
       (live_bytes script x ++ written)))
   pub one : length given ≤ later_blocks_end script block from (input_header script given) (blocks + 1)
+
+-- the turn bound of the calls that go from m frames to n, each of a block but for a shorter last one
+abbrev pub part_turns : Bool → Script → ℕ → ℕ → ℕ → ℕ
+part_turns banked script block m n =
+    let calls = (n - m) / block in
+    turns_from banked script block m calls + turns_of banked script (m + calls * block) n
+
+-- and of the tail behind them
+abbrev pub rest_turns : Bool → Script → ℕ → ℕ → ℕ → ℕ
+rest_turns banked script block m n = part_turns banked script block m n + (cost_of script n - live_cost_of script n)
 
 -- ---- causes
 
@@ -101,6 +112,12 @@ CountsPartFault (part_fault.Behind at got) input now sink after = (now.faults �
     (after.faults ≡ sink.faults)
 CountsPartFault (part_fault.Stream stop) input now sink after = CountsFault stop input now sink after
 
+-- nobody has flushed the output behind its last byte, unless it is what failed
+abbrev pub IsPartUnflushed : PartFault → SinkState → SinkState → List ℕ → Type 0
+IsPartUnflushed (part_fault.Behind at got) sink after written =
+    after.settled ≡ settled_after sink.settled (length written)
+IsPartUnflushed (part_fault.Stream stop) sink after written = IsUnflushed stop sink after written
+
 -- the input stopped it, and the output did not
 abbrev pub IsOfInput : PartFault → Type 0
 IsOfInput (part_fault.Stream (fault.Header said offset)) = Unit {0}
@@ -130,32 +147,40 @@ pub record FirstDone (script : Script) (frames : ℕ) (session : SessionState) (
   pub no_input_fault : now.faults ≡ input.faults
   pub no_output_fault : after.faults ≡ sink.faults
   pub cost : counts.multiplies ≡ before.multiplies + live_cost_of script frames
+  pub turns : counts.turns ≤ before.turns + part_turns session.banked script session.block 0 frames
 
--- nothing was written since the header is not there or the output would be too long; or a front of the first output
--- of the frames that came
-abbrev pub FirstWritten : PartFault → Script → List ℕ → List ℕ → SinkState → SinkState → Type 0
-FirstWritten (part_fault.Stream (fault.Lengths (length_fault.Riff size limit))) script given written sink after =
+-- what was written: a front of the first output of the frames that came, where the output has failed; nothing, where
+-- the header is not there or declares too few frames, or the output would be too long; and else exactly the output of
+-- the whole blocks
+abbrev pub FirstWritten : PartFault → Script → ℕ → List ℕ → List ℕ → SinkState → SinkState → Type 0
+FirstWritten (part_fault.Behind at got) script block given written sink after =
+    elim (declared_frames script (input_header script given))
+    [ Some declared ↦ after ≡ sink | None ↦ written ≡ part script block given ]
+FirstWritten (part_fault.Stream fault.Output) script block given written sink after =
+    Begins written (first_output script (frames_in_bytes script given) given)
+FirstWritten (part_fault.Stream (fault.Lengths (length_fault.Riff size limit))) script block given written sink after =
     after ≡ sink
-FirstWritten stop script given written sink after =
-    ((HasHeader script given → ⊥) × (after ≡ sink)) ⊎ Begins written
-    (first_output script (frames_in_bytes script given) given)
+FirstWritten stop script block given written sink after =
+    ((HasHeader script given → ⊥) × (after ≡ sink)) ⊎ (written ≡ part script block given)
 
 -- the stream over the first frames stopped before their end
-pub record FirstStopped (script : Script) (block frames : ℕ) (stop : PartFault) (input now : SourceState)
-    (sink after : SinkState) (before counts : Counts) : Type 0 where
+pub record FirstStopped (banked : Bool) (script : Script) (block frames : ℕ) (stop : PartFault)
+    (input now : SourceState) (sink after : SinkState) (before counts : Counts) : Type 0 where
   pub given : List ℕ
   pub written : List ℕ
   pub gave : Gave input now given
   pub in_limit : length given ≤ MAX_INPUT
   pub put : after.put ≡ append_put sink.put written
+  pub unflushed : IsPartUnflushed stop sink after written
   pub cause : IsFirstCause stop script block frames given now
-  pub wrote : FirstWritten stop script given written sink after
+  pub wrote : FirstWritten stop script block given written sink after
   pub faults : CountsPartFault stop input now sink after
   pub lag : HasHeader script given → LagsByOne script block given written
   pub in_part : HasHeader script given → frames_in_bytes script given ≤ frames
   -- the input is at fault only where frames are missing
   pub missing : IsOfInput stop → HasHeader script given → frames_in_bytes script given < frames
   pub cost : counts.multiplies ≤ before.multiplies + live_cost_of script (frames_in_bytes script given)
+  pub turns : counts.turns ≤ before.turns + part_turns banked script block 0 (frames_in_bytes script given)
 
 -- ---- the rest
 
@@ -184,18 +209,24 @@ pub record RestDone (script : Script) (start : SessionState) (from frames : ℕ)
   pub no_input_fault : now.faults ≡ input.faults
   pub no_output_fault : after.faults ≡ sink.faults
   pub cost : counts.multiplies + live_cost_of script from ≤ before.multiplies + cost_of script frames
+  pub turns : counts.turns ≤ before.turns + rest_turns start.banked script start.block from frames
   pub exact : (x : List Frame) → StandsFor start x → counts.multiplies + live_cost_of script from ≡ before.multiplies
       + cost_of script frames
   pub measures : (x : List Frame) → StandsFor start x → found ≡ measures_of script (x ++ later_frames script from given)
 
--- a front was written of what the later frames that came add to the live values, or, once the input has ended, of all
--- that was to come
-abbrev pub RestWritten : Script → List Frame → ℕ → List ℕ → List ℕ → SourceState → Type 0
-RestWritten script x from given written now =
+-- where the output has failed, a front was written of what the later frames that came add to the live values, or, once
+-- the input has ended, of all that was to come; else nothing, where the header is not there, or exactly what the whole
+-- blocks of the later frames add
+abbrev pub RestWritten : PartFault → Script → ℕ → List Frame → ℕ → List ℕ → List ℕ → SourceState → SinkState →
+    SinkState → Type 0
+RestWritten (part_fault.Stream fault.Output) script block x from given written now sink after =
     let all = x ++ later_frames script from given in
     Begins (live_bytes script x ++ written) (live_bytes script all)
     ⊎ (IsTakenWhole script given now × Begins (live_bytes script x ++ written)
     (whole_bytes script all ++ output_pad script (input_header script given)))
+RestWritten stop script block x from given written now sink after =
+    ((HasHeader script given → ⊥) × (after ≡ sink))
+    ⊎ (live_bytes script x ++ written ≡ live_bytes script (x ++ whole_blocks block (later_frames script from given)))
 
 -- the stream over the rest stopped before its end; where the input ends before the rest begins nothing was worked on
 pub record RestStopped (script : Script) (block : ℕ) (start : SessionState) (from : ℕ) (stop : PartFault)
@@ -205,13 +236,16 @@ pub record RestStopped (script : Script) (block : ℕ) (start : SessionState) (f
   pub gave : Gave input now given
   pub in_limit : length given ≤ MAX_INPUT
   pub put : after.put ≡ append_put sink.put written
+  pub unflushed : IsPartUnflushed stop sink after written
   pub cause : IsRestCause stop script block from given now
   pub idle : frames_in_bytes script given < from → (after ≡ sink) × (counts ≡ before)
-  pub wrote : (x : List Frame) → StandsFor start x → RestWritten script x from given written now
+  pub wrote : (x : List Frame) → StandsFor start x → RestWritten stop script block x from given written now sink after
   pub lag : HasHeader script given → LaterLagsByOne script block start from given written
   pub faults : CountsPartFault stop input now sink after
   pub cost : from ≤ frames_in_bytes script given → counts.multiplies + live_cost_of script from ≤ before.multiplies +
       cost_of script (frames_in_bytes script given)
+  pub turns : from ≤ frames_in_bytes script given → counts.turns ≤ before.turns + rest_turns start.banked script block
+      from (frames_in_bytes script given)
 
 -- ---- passing over samples
 

@@ -172,6 +172,10 @@ pub record Fails (old new : SessionState) (fault : GatherFull) (before after : C
 abbrev pub IsTooMuch : SessionState → ℕ → Type 0
 IsTooMuch s more = (MAX_GATHERED < gathered s.script.blocks (s.chain.frames + more)) ⊎ IsTrue (is_some s.chain.failed)
 
+-- each turn of a loop has made a product at least
+abbrev pub TurnsByProducts : Counts → Counts → Type 0
+TurnsByProducts before after = after.turns + before.multiplies ≤ before.turns + after.multiplies
+
 -- it gave the next frames of the tail, for the multiplies that these have, and none only where the tail is spent or
 -- the session has failed
 pub record Ends (old new : SessionState) (answer : ℕ) (before after : Counts) : Type 0 where
@@ -183,7 +187,7 @@ pub record Ends (old new : SessionState) (answer : ℕ) (before after : Counts) 
   pub frames : GivesFrames old new given
   pub gave : (x ys : List Frame) → HasGiven old x ys → HasGiven new x (ys ++ given)
   pub multiplies : made_of new.chain + before.multiplies ≡ made_of old.chain + after.multiplies
-  pub turns : after.turns + before.multiplies ≤ before.turns + after.multiplies
+  pub turns : TurnsByProducts before after
   pub few : given_of new.chain ≤ frames_behind whole_frames new.script.blocks new.chain.frames
   pub within : made_of new.chain ≤ products_of new.script new.chain.frames
   pub spent : answer ≡ 0 → old.chain.failed ≡ None → IsSpent new.chain

@@ -4,7 +4,7 @@ ghost use Rattle.dsp_ports.specs.Ports.{CountsFaults, IsSettled, Took};
 ghost use Rattle.dsp_defs.specs.Block.{Frame};
 ghost use Rattle.dsp_defs.specs.Output.{output_pad};
 ghost use Rattle.dsp_session.specs.Session.{IsReady, StandsFor, SameSession, measured};
-ghost use Rattle.dsp_session.specs.Session.{measures_of, products_of, whole_values};
+ghost use Rattle.dsp_session.specs.Session.{TurnsByProducts, measures_of, products_of, whole_values};
 ghost use Rattle.dsp_chain.specs.Chain.{made_of};
 ghost use Rattle.dsp_session.specs.Passing.{WritesTail, WroteTail, TailCosts};
 ghost use Rattle.dsp_session.specs.Advancing.{Closed, FailsToClose, MayClose, whole_front};
@@ -78,6 +78,7 @@ fn write_end<U: AnyUnit + Drop, K: Sink, L: Ledger>(
         → TailCosts result worker.old.script (length x) steps.old steps.new }
     ensures limit { steps.new.multiplies + made_of worker.old.chain
         ≤ steps.old.multiplies + products_of worker.old.script worker.old.chain.frames }
+    ensures turned { TurnsByProducts steps.old steps.new }
     ensures measures { (x : List Frame) → StandsFor worker.old x
         → OnOk result (measured worker.new ≡ measures_of worker.old.script x) }
     ensures settled { OnOk result (IsSettled (K.state output.new)) }

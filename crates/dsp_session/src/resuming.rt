@@ -90,7 +90,8 @@ fn pass_first<U: AnyUnit + Drop, S: Source, K: Sink, L: Ledger>(
         empty (K.state output.new) steps.old steps.new) }
     ensures err { (before : SourceState) (empty : SinkState)
         → Begun worker.old.script header before (S.state input.old) empty (K.state output.old)
-        → IfErr result (λ fault. FirstStopped worker.old.script worker.old.block frames fault before
+        → IfErr result (λ fault. FirstStopped worker.old.banked worker.old.script worker.old.block frames
+        fault before
         (S.state input.new) empty (K.state output.new) steps.old steps.new) }
 {
     let frame = frame_bytes(worker.script(), header.coding);
@@ -178,8 +179,8 @@ pub fn stream_first<U: AnyUnit + Drop, S: Source, K: Sink, L: Ledger>(
     ensures ok { IfOk result (λ _. FirstDone session.old.script frames session.new
         (S.state input.old) (S.state input.new) (K.state output.old) (K.state output.new) steps.old
         steps.new) }
-    ensures err { IfErr result (λ fault. FirstStopped session.old.script session.old.block frames
-        fault (S.state input.old) (S.state input.new) (K.state output.old) (K.state output.new)
+    ensures err { IfErr result (λ fault. FirstStopped session.old.banked session.old.script
+        session.old.block frames fault (S.state input.old) (S.state input.new) (K.state output.old) (K.state output.new)
         steps.old steps.new) }
     ensures same { SameScript session.old session.new }
 {

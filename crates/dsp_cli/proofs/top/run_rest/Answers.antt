@@ -8,7 +8,7 @@ use Rattle.dsp_session.specs.Session.{cost_of, measured}
 use Rattle.dsp_session.specs.SessionState.{SessionState}
 use Rattle.dsp_cli.specs.Script.{chosen, is_legal_for}
 use Rattle.dsp_cli.specs.declared.report.Summary.{Summary}
-use Rattle.dsp_cli.proofs.PerformLaws.{rest_by, text_by}
+use Rattle.dsp_cli.proofs.PerformLaws.{continues_by, rest_by, stopped_by, text_by}
 use Rattle.dsp_cli.proofs.top.run_rest.Goals as goal
 
 -- the flow of the input, and of the output
@@ -41,16 +41,11 @@ returns-clause-ok g c =
       measures = c.find_measures.new.measures;
     } in
     let passed : IsTrue c.legal.result = search in
-    let legal : IsTrue (is_legal_for c.script-2.result.now c.chosen-block.result) =
-    subst IsTrue c.legal.ensures passed in
+    let block = c.chosen-block.ensures ∙ ap (chosen None) c.script.ensures in
     record {
       start = c.in-Ok.resume.session;
-      continues = record {
-        legal = subst IsTrue (λ i. is_legal_for (c.script-2.ensures i)
-            ((c.chosen-block.ensures ∙ ap (chosen None) c.script.ensures) i)) legal;
-        script_is = resumed.script_is;
-        stands = resumed.stands;
-      };
+      continues = continues_by c.args.saved _ c.in-Ok.resume resumed block
+          (subst IsTrue (c.legal.ensures ∙ (λ i. is_legal_for (c.script-2.ensures i) (block i))) passed);
       done = rest_by _ _ _ _ _ _ _ _ _ _ _ _ _ _ resumed.script_is resumed.frames_is
           (c.find_measures.ensures ∙ ap measured c.session.ensures) c.in-Ok-go.ensures.ok;
       text = text_by script summary (ap flow_in stays) (c.output_flow.ensures ∙ ap flow_out stays)
@@ -95,7 +90,12 @@ pub go-requires-clause-frames : goal.go-requires-clause-frames
 go-requires-clause-frames g c = search rules
 
 pub returns-in-Err-clause-err : goal.returns-in-Err-clause-err
-returns-in-Err-clause-err g c = search rules
+returns-in-Err-clause-err g c =
+    let passed : IsTrue c.legal.result = search in
+    let block = c.chosen-block.ensures ∙ ap (chosen None) c.script.ensures in
+    stopped_by c.args.saved c.in-Ok.resume _ _ _ _ _ _ _ (continues_by c.args.saved _ c.in-Ok.resume c.in-Ok.ensures
+    block (subst IsTrue (c.legal.ensures ∙ (λ i. is_legal_for (c.script-2.ensures i) (block i))) passed))
+    c.in-Ok.ensures.frames_is c.in-Err.ensures.err
 
 pub find_measures-requires-clause-empty : goal.find_measures-requires-clause-empty
 find_measures-requires-clause-empty g c = search rules

@@ -59,6 +59,7 @@ returns-in-Ok-clause-ok g c =
       measures = c.in-Ok.ensures.measures;
       limit = laws.limit_is _ _ c.in_ok-pass_block.ensures.same (passed_runs _ _ _ _ _ _ _ passes) _ _
           c.in-Ok.ensures.limit;
+      turned = c.in-Ok.ensures.turned;
       settled = c.in-Ok.ensures.settled;
       no_fault = c.in-Ok.ensures.faults;
     }
@@ -69,4 +70,4 @@ returns-in-Err-clause-err g c =
     let passes = rw (c.frame_bytes-frame.ensures, c.script.ensures.script) at c.in_ok-pass_block.ensures.ok in
     Unfinished _ _ _ _ refl (laws.window _ _ _ _ c.requires None (sym found)) passes c.in-Err.ensures.written
     c.in-Err.ensures.costs (laws.limit_is _ _ c.in_ok-pass_block.ensures.same (passed_runs _ _ _ _ _ _ _ passes) _ _
-    c.in-Err.ensures.limit) c.in-Err.ensures.faults
+    c.in-Err.ensures.limit) c.in-Err.ensures.turned c.in-Err.ensures.faults

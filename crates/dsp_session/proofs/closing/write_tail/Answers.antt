@@ -1,4 +1,4 @@
-use Rattle.std.proofs.Common.{[], refl}
+use Rattle.std.proofs.Common.{[], refl, arith}
 use Rattle.std.proofs.lemmas.Result.{err_from_is_err_and}
 use Rattle.dsp_ports.proofs.Moved.{Took-nil}
 use Rattle.dsp_session.proofs.EndLaws as laws
@@ -11,6 +11,7 @@ loop-init g c =
       no_fault = refl;
       counted = refl;
       made = refl;
+      turned = omega arith;
       written = [];
       put = (Took-nil (g.K.Sink.state c.args.output.now)).put;
       tailing = λ x stands. laws.tail_starts _ x c.args.frames _ _ refl stands (c.requires x stands);

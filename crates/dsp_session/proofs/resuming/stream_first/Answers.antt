@@ -7,7 +7,7 @@ use Rattle.dsp_session.specs.Opening.{Begun}
 use Rattle.dsp_session.specs.SessionState.{SessionState}
 use Rattle.dsp_session.proofs.OpeningLaws.{some_frame}
 use Rattle.dsp_session.proofs.CodedRoom.{opened_limit, room_for, room_stays, same_script}
-use Rattle.dsp_session.proofs.FirstLaws as laws
+use Rattle.dsp_session.proofs.FirstBefore as laws
 use Rattle.dsp_session.proofs.resuming.stream_first.Goals as goal
 
 pub declared_behind-requires : goal.declared_behind-requires
@@ -43,13 +43,13 @@ pub returns-in_err-header-clause-err : goal.returns-in_err-header-clause-err
 returns-in_err-header-clause-err g c =
     let (error, is, gives) = err_from_is_err_and c.from_residual.result c.from_residual.ensures.1 in
     let untaken = rw c.script-script.ensures.script at c.in_err-header.ensures.err in
-    rw (is, gives, ← c.session.view_is) (laws.first_untaken _ _ c.script-script.ensures.ready _ _ _ _ _ _ untaken)
+    rw (is, gives, ← c.session.view_is) (laws.first_untaken _ _ _ c.script-script.ensures.ready _ _ _ _ _ _ untaken)
 
 pub returns-in-Some-clause-err : goal.returns-in-Some-clause-err
 returns-in-Some-clause-err g c =
     let (got, is, fewer, declared) = rw c.script-script.ensures.script at c.in-Some.ensures.some in
     let opened = rw c.script-script.ensures.script at c.in_ok-header.ensures.ok in
-    rw (is, ← c.session.view_is) (laws.declares_fewer _ _ c.script-script.ensures.ready _ _ _ _ _ opened got fewer
+    rw (is, ← c.session.view_is) (laws.declares_fewer _ _ _ c.script-script.ensures.ready _ _ _ _ _ opened got fewer
     declared _)
 
 pub returns-in_err-write_output_header-clause-err : goal.returns-in_err-write_output_header-clause-err
@@ -61,7 +61,7 @@ returns-in_err-write_output_header-clause-err g c =
     (g.K.Sink.state c.write_output_header.new.output) (take count (output_header s c.in_ok-header.header)))
     c.script-script.ensures.script first in
     let opened = rw c.script-script.ensures.script at c.in_ok-header.ensures.ok in
-    rw (is, gives, output, ← c.session.view_is) (laws.headless _ _ c.script-script.ensures.ready _ _ _ _ _ opened _
+    rw (is, gives, output, ← c.session.view_is) (laws.headless _ _ _ c.script-script.ensures.ready _ _ _ _ _ opened _
     count took c.in_err-write_output_header.ensures.faults _)
 
 pub returns-clause-ok : goal.returns-clause-ok
@@ -89,6 +89,10 @@ returns-clause-err g c =
       no_fault = c.in_ok-write_output_header.ensures.faults;
       fits = c.in_ok-header.ensures.fits;
     }) in
-    let went = rw (c.set_coding.ensures.same.script, c.set_coding.ensures.same.block) at
+    let went = rw (
+      c.set_coding.ensures.same.script,
+      c.set_coding.ensures.same.banked,
+      c.set_coding.ensures.same.block,
+    ) at
     (c.pass_first.ensures.err _ _ begun) in
     rw (← c.session.view_is) went

@@ -695,8 +695,9 @@ class Wrapper(Case):
             self.write(name, "")
         os.mkdir(self.path("temporary"))
         environment = dict(os.environ, DSPFX_PROGRAM="./program", TMPDIR=self.path("temporary"))
-        running = subprocess.Popen([DSPFX, "check", "s", "in", "out"], cwd=self.folder, env=environment,
-                                   stderr=subprocess.PIPE, start_new_session=True)  # fmt: skip
+        # A shell has its background commands ignore Ctrl-C, and so would all that they start.
+        words = ["env", "--default-signal=INT", DSPFX, "check", "s", "in", "out"]
+        running = subprocess.Popen(words, cwd=self.folder, env=environment, stderr=subprocess.PIPE, start_new_session=True)
         while not os.path.exists(self.path("begun")) and running.poll() is None:
             time.sleep(0.1)
         os.killpg(running.pid, signal.SIGINT)

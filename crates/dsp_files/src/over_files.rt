@@ -15,7 +15,11 @@ use std::os::fd::AsRawFd;
 use std::sync::ledger::{Blank, Ledger};
 
 /// How many bytes of an input are read ahead. A script is read whole, by large reads.
-const AHEAD: usize = 16_384;
+const AHEAD: usize = 65_536;
+
+/// How many bytes a conversion reads ahead, which has no script: it takes so many more at a time that each read goes
+/// to the file itself.
+const CONVERSION_AHEAD: usize = 16_384;
 
 /// The status of what was done and could not be reported.
 const NOT_REPORTED: u8 = 9;
@@ -78,12 +82,17 @@ impl<'a, R: Files + Print> FilePorts<'a, R> {
         });
         let script = named(words, script);
         let input = named(words, input);
+        let ahead = if script.is_empty() {
+            CONVERSION_AHEAD
+        } else {
+            AHEAD
+        };
         let output = FileSink::new(alloc, rt, named(words, output), script, input)?;
         Ok(FilePorts {
             script: FileSource::new(alloc, rt, script, 0)?,
-            input: FileSource::new(alloc, rt, input, AHEAD)?,
+            input: FileSource::new(alloc, rt, input, ahead)?,
             output,
-            other: FileSource::new(alloc, rt, named(words, other), AHEAD)?,
+            other: FileSource::new(alloc, rt, named(words, other), ahead)?,
             report: OutSink::new(rt),
         })
     }

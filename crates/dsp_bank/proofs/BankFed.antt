@@ -48,9 +48,6 @@ module _ (format : Fmt) (old : BankState) (kept' : List ℤ) (count : ℕ) (take
     kept' taken given)
     (rises : RisesWithin before after (sections_of format old * (count * (5 * old.channels)))
     (sections_of format old * (count * (5 * lane_turns (lanes format) old.channels)))) where
-  price : ℕ
-  price = 5 * sections_of format old
-
   channel-fed : (c : ℕ) → c < old.channels → (start stop : Counts)
       × FilterFeeds (steady_filter format (bank_block old) old.capacity (numbers_in (4 * sections_of format old)
       old.kept c) false)

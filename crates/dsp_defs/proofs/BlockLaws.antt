@@ -10,7 +10,7 @@ use Rattle.dsp_defs.specs.Formats.{close}
 use Rattle.dsp_defs.specs.Signal.{sample, delayed, values, sum_below, outputs_of_history, outputs}
 use Rattle.dsp_defs.specs.Sums.{convolution_at, phase_taps, sparse_term, sparse_close, full_length, fir, sparse}
 use Rattle.dsp_defs.specs.Sums.{decimate, interpolate, conv, conv_partial}
-use Rattle.dsp_defs.specs.Lattice.{lattice_output, lattice_stage, lattice_fir, ladder_output, lattice_iir}
+use Rattle.dsp_defs.specs.Lattice.{lattice_output, lattice_section, lattice_fir, ladder_output, lattice_iir}
 use Rattle.dsp_defs.specs.Biquad.{Section, sections, section_output, biquad_section, biquad, wide_output}
 use Rattle.dsp_defs.specs.Biquad.{biquad64_section, biquad64}
 use Rattle.dsp_defs.specs.Adaptive.{pid, pid_gains, pid_output, lms, lms_output}
@@ -163,9 +163,9 @@ pid_causal format kp ki kd = outputs_causal (pid_output format (pid_gains format
 
 pub lattice_fir_causal : (ks : List ℤ) → IsCausal (lattice_fir ks)
 lattice_fir_causal ks =
-    causal_chain (λ x. fold lattice_stage (map (λ a. (a, a)) x) ks) (map (λ (w : ℤ × ℤ). w.0))
-    (causal_chain (map (λ (a : ℤ). (a, a))) (λ w. fold lattice_stage w ks) (map_causal _)
-    (cascade_causal lattice_stage (λ k. outputs_causal (lattice_output k))
+    causal_chain (λ x. fold lattice_section (map (λ a. (a, a)) x) ks) (map (λ (w : ℤ × ℤ). w.0))
+    (causal_chain (map (λ (a : ℤ). (a, a))) (λ w. fold lattice_section w ks) (map_causal _)
+    (cascade_causal lattice_section (λ k. outputs_causal (lattice_output k))
     (λ k w. length-outputs (lattice_output k) w) ks))
     (map_causal _)
 
@@ -178,8 +178,8 @@ lms_causal format p mu taps = outputs_causal (lms_output format p mu (reverse ta
 
 pub length-lattice_fir : (ks x : List ℤ) → length (lattice_fir ks x) ≡ length x
 length-lattice_fir ks x =
-    length-map (fold lattice_stage (map (λ a. (a, a)) x) ks) (λ (w : ℤ × ℤ). w.0)
-    ∙ cascade_length lattice_stage (λ k. outputs_causal (lattice_output k))
+    length-map (fold lattice_section (map (λ a. (a, a)) x) ks) (λ (w : ℤ × ℤ). w.0)
+    ∙ cascade_length lattice_section (λ k. outputs_causal (lattice_output k))
     (λ k w. length-outputs (lattice_output k) w) ks (map (λ a. (a, a)) x)
     ∙ length-map x (λ (a : ℤ). (a, a))
 

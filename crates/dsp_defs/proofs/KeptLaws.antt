@@ -8,7 +8,7 @@ use Rattle.dsp_defs.specs.Numbers.{Width, w32, w64}
 use Rattle.dsp_defs.specs.Formats.{word}
 use Rattle.dsp_defs.specs.Signal.{sample, outputs_of_history, outputs}
 use Rattle.dsp_defs.specs.Streaming.{last_of}
-use Rattle.dsp_defs.specs.Lattice.{lattice_stage, backward_values, ladder_output}
+use Rattle.dsp_defs.specs.Lattice.{lattice_section, backward_values, ladder_output}
 use Rattle.dsp_defs.specs.Biquad.{Section, sections, biquad_section, biquad64_section}
 use Rattle.dsp_defs.specs.Adaptive.{weights_before, lms, lms_output}
 use Rattle.dsp_defs.specs.Block.{Frame, channel, input_pairs}
@@ -71,7 +71,7 @@ length-last_of count x = length-drop (length x) (replicate count (pos 0) ++ x) �
 
 pub length-lattice_kept : (ks : List ℤ) (pairs : List (ℤ × ℤ)) → length (lattice_kept ks pairs) ≡ length ks
 length-lattice_kept [] pairs = refl
-length-lattice_kept (k ∷ ks) pairs = ap suc (length-lattice_kept ks (lattice_stage pairs k))
+length-lattice_kept (k ∷ ks) pairs = ap suc (length-lattice_kept ks (lattice_section pairs k))
 
 length-backward_values : (format : Fmt) (ks before : List ℤ) (f : ℤ) →
     length (backward_values format f ks before) ≡ suc (length ks)

@@ -7,7 +7,7 @@ use Rattle.dsp_defs.specs.Numbers.{Width, w32, w64}
 use Rattle.dsp_defs.specs.Formats.{word, accumulator}
 use Rattle.dsp_defs.specs.Signal.{sample, values, outputs}
 use Rattle.dsp_defs.specs.Streaming.{last_of}
-use Rattle.dsp_defs.specs.Lattice.{lattice_stage, ladder_output}
+use Rattle.dsp_defs.specs.Lattice.{lattice_section, ladder_output}
 use Rattle.dsp_defs.specs.Biquad.{Section, sections, biquad_section, biquad64_section, wide_output, fed_back}
 use Rattle.dsp_defs.specs.Adaptive.{lms, weights_before, pid}
 use Rattle.dsp_defs.specs.Measure.{power, dot, cmplx_dot_sums, cmplx_dot_close, maximum, minimum}
@@ -47,7 +47,7 @@ greatest delays = fold max 0 (map nat_abs delays)
 -- g_0, .., g_{S-1} at the last place of pairs (f, g)
 abbrev pub lattice_kept : List ℤ → List (ℤ × ℤ) → List ℤ
 lattice_kept [] pairs = []
-lattice_kept (k ∷ ks) pairs = latest (map (λ (w : ℤ × ℤ). w.1) pairs) 0 ∷ lattice_kept ks (lattice_stage pairs k)
+lattice_kept (k ∷ ks) pairs = latest (map (λ (w : ℤ × ℤ). w.1) pairs) 0 ∷ lattice_kept ks (lattice_section pairs k)
 
 -- g_0, .., g_{S-1} at the last place of x
 abbrev pub ladder_kept : Fmt → List ℤ → List ℤ → List ℤ

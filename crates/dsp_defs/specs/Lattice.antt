@@ -15,12 +15,12 @@ lattice_output k before earlier =
     (saturate 16 ((k *ℤ g >> 15) +ℤ f), saturate 16 ((k *ℤ f >> 15) +ℤ g))
 
 -- one section of a whole signal of pairs
-abbrev pub lattice_stage : List (ℤ × ℤ) → ℤ → List (ℤ × ℤ)
-lattice_stage before k = outputs (lattice_output k) before
+abbrev pub lattice_section : List (ℤ × ℤ) → ℤ → List (ℤ × ℤ)
+lattice_section before k = outputs (lattice_output k) before
 
 -- y = f_S: the sections k_1 to k_S one after another, from f_0(n) = g_0(n) = x(n)
 abbrev pub lattice_fir : List ℤ → List ℤ → List ℤ
-lattice_fir ks x = map (λ (w : ℤ × ℤ). w.0) (fold lattice_stage (map (λ a. (a, a)) x) ks)
+lattice_fir ks x = map (λ (w : ℤ × ℤ). w.0) (fold lattice_section (map (λ a. (a, a)) x) ks)
 
 -- k*g >> 15, and wrap_32(k*g >> 31) in Q31
 abbrev pub reflected : Fmt → ℤ → ℤ → ℤ

@@ -15,7 +15,7 @@ use Rattle.std.proofs.lemmas.List.{map-id}
 use Rattle.std.proofs.Math.ListN.{get_or-map}
 use Rattle.dsp_defs.specs.Numbers.{◌>>◌, saturate}
 use Rattle.dsp_defs.specs.Signal.{sample}
-use Rattle.dsp_defs.specs.Lattice.{lattice_output, lattice_stage, lattice_fir}
+use Rattle.dsp_defs.specs.Lattice.{lattice_output, lattice_section, lattice_fir}
 use Rattle.dsp_defs.specs.Kept.{latest, lattice_kept}
 use Rattle.dsp_defs.specs.Streaming.{GoesOn}
 use Rattle.dsp_unit.proofs.GoingOn.{goes-nothing, goes-twice, goes-chain, outputs-next, latest-new}
@@ -39,7 +39,7 @@ last-second x =
 
 section-step : (k b f g f' g' : ℤ) → f' ≡ saturate 16 ((k *ℤ b >> 15) +ℤ f) →
     g' ≡ saturate 16 ((k *ℤ f >> 15) +ℤ b) →
-    GoesOn (λ x. lattice_stage x k) section_kept (b ∷ []) (g ∷ []) ((f, g) ∷ []) ((f', g') ∷ [])
+    GoesOn (λ x. lattice_section x k) section_kept (b ∷ []) (g ∷ []) ((f, g) ∷ []) ((f', g') ∷ [])
 section-step k b f g f' g' forward backward = record {
   values = λ x e.
       let before : b ≡ (get_or (reverse x) 0 (pos 0, pos 0)).1 = (cc e) ∙ last-second x in
@@ -59,13 +59,13 @@ section-step k b f g f' g' forward backward = record {
 
 section-over :
     (k b : ℤ) (fs gs : List ℤ) → length gs ≡ length fs →
-    GoesOn (λ x. lattice_stage x k) section_kept (b ∷ []) (sample (b ∷ gs) (length fs) ∷ []) (zip fs gs)
+    GoesOn (λ x. lattice_section x k) section_kept (b ∷ []) (sample (b ∷ gs) (length fs) ∷ []) (zip fs gs)
     (zip (zip2 (λ f g. reflected k g f) fs (b ∷ gs)) (zip2 (λ f g. reflected k f g) fs (b ∷ gs)))
-section-over k b [] [] same = goes-nothing (λ x. lattice_stage x k) section_kept (b ∷ [])
+section-over k b [] [] same = goes-nothing (λ x. lattice_section x k) section_kept (b ∷ [])
 section-over k b [] (g ∷ gs) same = absurd (omega (arith, same))
 section-over k b (f ∷ fs) [] same = absurd (omega (arith, same))
 section-over k b (f ∷ fs) (g ∷ gs) same =
-    goes-twice (λ x. lattice_stage x k) section_kept (b ∷ []) (g ∷ []) (sample (g ∷ gs) (length fs) ∷ [])
+    goes-twice (λ x. lattice_section x k) section_kept (b ∷ []) (g ∷ []) (sample (g ∷ gs) (length fs) ∷ [])
     ((f, g) ∷ []) (zip fs gs) ((reflected k b f, reflected k f b) ∷ [])
     (zip (zip2 (λ f g. reflected k g f) fs (g ∷ gs)) (zip2 (λ f g. reflected k f g) fs (g ∷ gs)))
     (section-step k b f g (reflected k b f) (reflected k f b) refl refl)
@@ -76,7 +76,7 @@ pub section-runs :
     (k b last : ℤ) (fs gs fs' gs' : List ℤ) → length gs ≡ length fs →
     fs' ≡ zip2 (λ f g. reflected k g f) fs (b ∷ gs) → gs' ≡ zip2 (λ f g. reflected k f g) fs (b ∷ gs) →
     last ≡ sample (b ∷ gs) (length fs) →
-    GoesOn (λ x. lattice_stage x k) section_kept (b ∷ []) (last ∷ []) (zip (map (λ x. x) fs) (map (λ x. x) gs))
+    GoesOn (λ x. lattice_section x k) section_kept (b ∷ []) (last ∷ []) (zip (map (λ x. x) fs) (map (λ x. x) gs))
     (zip (map (λ x. x) fs') (map (λ x. x) gs'))
 section-runs k b last fs gs fs' gs' same forward backward is_last =
     rw (map-id fs, map-id gs, map-id fs', map-id gs', forward, backward, is_last)
@@ -107,19 +107,19 @@ module _ {X : Type 0} (number : X → ℤ) (i : ℕ) where
 kept-more : (ks : List ℤ) (k : ℤ) (x : List (ℤ × ℤ)) →
     lattice_kept (ks ++ k ∷ []) x ≡ lattice_kept ks x ++ section_kept (sections_give ks x)
 kept-more [] k x = refl
-kept-more (a ∷ ks) k x = ap (λ l. latest (map (λ (w : ℤ × ℤ). w.1) x) 0 ∷ l) (kept-more ks k (lattice_stage x a))
+kept-more (a ∷ ks) k x = ap (λ l. latest (map (λ (w : ℤ × ℤ). w.1) x) 0 ∷ l) (kept-more ks k (lattice_section x a))
 
 pub one-section-more :
     (ks : List ℤ) (k : ℤ) (old new : List ℤ) (b b' : ℤ) (xs ys zs : List (ℤ × ℤ)) → length old ≡ length ks →
     GoesOn (sections_give ks) (lattice_kept ks) old new xs ys →
-    GoesOn (λ x. lattice_stage x k) section_kept (b ∷ []) (b' ∷ []) ys zs →
+    GoesOn (λ x. lattice_section x k) section_kept (b ∷ []) (b' ∷ []) ys zs →
     GoesOn (sections_give (ks ++ k ∷ [])) (lattice_kept (ks ++ k ∷ [])) (old ++ b ∷ []) (new ++ b' ∷ []) xs zs
 one-section-more ks k old new b b' xs ys zs size first second =
     subst (λ (give : List (ℤ × ℤ) → List (ℤ × ℤ)). GoesOn give (lattice_kept (ks ++ k ∷ [])) (old ++ b ∷ [])
-    (new ++ b' ∷ []) xs zs) (λ i x. sym (fold-append lattice_stage x ks (k ∷ [])) i)
-    (subst (λ (kept : List (ℤ × ℤ) → List ℤ). GoesOn (λ x. lattice_stage (sections_give ks x) k) kept (old ++ b ∷ [])
+    (new ++ b' ∷ []) xs zs) (λ i x. sym (fold-append lattice_section x ks (k ∷ [])) i)
+    (subst (λ (kept : List (ℤ × ℤ) → List ℤ). GoesOn (λ x. lattice_section (sections_give ks x) k) kept (old ++ b ∷ [])
     (new ++ b' ∷ []) xs zs) (λ i x. sym (kept-more ks k x) i)
-    (goes-chain (sections_give ks) (λ x. lattice_stage x k) (lattice_kept ks) section_kept old new (b ∷ []) (b' ∷ [])
+    (goes-chain (sections_give ks) (λ x. lattice_section x k) (lattice_kept ks) section_kept old new (b ∷ []) (b' ∷ [])
     xs ys zs (λ x. size ∙ sym (length-lattice_kept ks x)) first second))
 
 -- ---- the whole lattice

@@ -2,7 +2,7 @@
 use Rattle.std.specs.Prelude.{⊤, ◌≡◌, ◌+◌, ◌≤◌, ℤ, List, [], ◌∷◌, map, fold, length, All, FitsSigned}
 use Rattle.dsp_defs.specs.Numbers.{◌>>◌, wrap, w32}
 use Rattle.dsp_defs.specs.Formats.{word}
-use Rattle.dsp_defs.specs.Lattice.{lattice_stage}
+use Rattle.dsp_defs.specs.Lattice.{lattice_section}
 use Rattle.dsp_defs.specs.Kept.{latest, lattice_kept, ladder_kept}
 use Rattle.dsp_defs.specs.declared.limits.TheConstants.{MAX_LATTICE_SECTIONS}
 use Rattle.dsp_defs.specs.declared.format.Fmt.{Fmt}
@@ -28,7 +28,7 @@ section_kept pairs = latest (map (λ (w : ℤ × ℤ). w.1) pairs) 0 ∷ []
 
 -- the sections k_1 to k_S one after another, on pairs (f, g)
 abbrev pub sections_give : List ℤ → List (ℤ × ℤ) → List (ℤ × ℤ)
-sections_give ks pairs = fold lattice_stage pairs ks
+sections_give ks pairs = fold lattice_section pairs ks
 
 -- f_0(n) = g_0(n) = x(n)
 abbrev pub pairs_of : List ℤ → List (ℤ × ℤ)

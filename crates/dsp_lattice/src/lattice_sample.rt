@@ -1,7 +1,7 @@
 ghost use Rattle.std.specs.Prelude.{◌≡◌, ◌*◌, ◌+ℤ◌, ◌-ℤ◌, ◌∷◌, [], length, map, refl};
 ghost use Rattle.std.specs.List.{zip};
 ghost use Rattle.dsp_defs.specs.Counts.{Rises};
-ghost use Rattle.dsp_defs.specs.Lattice.{lattice_stage};
+ghost use Rattle.dsp_defs.specs.Lattice.{lattice_section};
 ghost use Rattle.dsp_defs.specs.Numbers.{saturate};
 ghost use Rattle.dsp_defs.specs.Streaming.{GoesOn};
 ghost use Rattle.dsp_defs.specs.Formats.{word_bits};
@@ -40,7 +40,7 @@ pub trait NarrowSample: LatticeSample {
         steps: &mut Steps<L>,
     ) -> Self
         requires { length backward.old ≡ length forward.old }
-        ensures goes { GoesOn (λ x. lattice_stage x (Self.number k)) section_kept
+        ensures goes { GoesOn (λ x. lattice_section x (Self.number k)) section_kept
             (Self.number before ∷ []) (Self.number result ∷ [])
             (zip (map Self.number forward.old) (map Self.number backward.old))
             (zip (map Self.number forward.new) (map Self.number backward.new)) }

@@ -6,7 +6,7 @@ use Rattle.dsp_defs.specs.Streaming.{GoesOn}
 use Rattle.dsp_defs.specs.Cost.{block_turns}
 use Rattle.dsp_defs.specs.Counts.{Counts, Rises}
 use Rattle.dsp_defs.specs.Kept.{kept_of_channel, kinds_by, Each, IsPlace, IsOfKind, FitsChannel}
-use Rattle.dsp_unit.specs.Filter.{FilterStandsFor, FilterCounts, FilterFeeds, FilterFinishes, FilterRestores}
+use Rattle.dsp_unit.specs.Filter.{FilterStandsFor, FilterCounts, FilterFeeds, FilterRestores}
 use Rattle.dsp_unit.specs.Filter.{IsNewFilter, IsSteady, IsStepwise, of_channel, steady_filter}
 use Rattle.dsp_unit.proofs.ChannelKept.{each-length}
 use Rattle.dsp_defs.specs.declared.format.Fmt.{Fmt}
@@ -72,20 +72,6 @@ module _ (format : Fmt) (block : Block) (price capacity : ℕ) (is : IsSteady fo
     multiplies = λ n _. (let one = is.live_cost (n + length taken) in let other = is.live_cost n in
         omega (arith, one, other, paid));
     turns = λ n _. turns n;
-  }
-
-  pub steady-finished : (kept : List ℤ) (ended : Bool) (counts : Counts) →
-      FilterFinishes (steady_filter format block capacity kept ended) (steady_filter format block capacity kept true) []
-      counts counts
-  steady-finished kept ended counts = record {
-    made = record { block = refl; format = refl; capacity = refl };
-    ended = refl;
-    tail = refl;
-    count = omega arith;
-    spent = λ _. refl;
-    took = λ n took. record { place = took.place; tail_within = took.tail_within };
-    multiplies = λ n _. refl;
-    turns = λ n _. omega arith;
   }
 
   pub steady-restored : (kept numbers : List ℤ) (ended : Bool) →

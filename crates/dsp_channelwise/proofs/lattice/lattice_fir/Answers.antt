@@ -4,7 +4,7 @@ use Rattle.std.specs.Int.{w32}
 use Rattle.std.proofs.lemmas.Int.{to_z-of_z}
 use Rattle.std.proofs.lemmas.List.Sums.{fold_more}
 use Rattle.std.proofs.lemmas.Result.{IfOk-weaker}
-use Rattle.dsp_defs.specs.Lattice.{lattice_stage}
+use Rattle.dsp_defs.specs.Lattice.{lattice_section}
 use Rattle.dsp_exact.proofs.Pushed.{cost-more}
 use Rattle.dsp_channelwise.proofs.lattice.lattice_fir.Goals as goal
 
@@ -18,8 +18,8 @@ loop-section-preserved g c =
     search (rules, to_z-of_z) in
     let start = map (λ (a : ℤ). (a, a)) c.args.x.now in
     record {
-      values = given.values ∙ (λ i. lattice_stage ((before ∙ so_far.values) i) (k i))
-          ∙ sym (fold_more lattice_stage start c.args.k.now m (pos 0) c.loop-section-test.true);
+      values = given.values ∙ (λ i. lattice_section ((before ∙ so_far.values) i) (k i))
+          ∙ sym (fold_more lattice_section start c.args.k.now m (pos 0) c.loop-section-test.true);
       long = given.length ∙ ap length before ∙ so_far.long;
       fits = given.fits;
       products = cost-more _ _ _ m _ so_far.products (omega (arith, given.products, ap length before, so_far.long));
@@ -29,7 +29,7 @@ pub returns-clause-values : goal.returns-clause-values
 returns-clause-values g c =
     let start = map (λ (a : ℤ). (a, a)) c.args.x.now in
     let all = c.as_slice-2.ensures.value ∙ c.loop-section.invariant.values
-    ∙ ap (fold lattice_stage start) (take_all c.loop-section.section-index c.args.k.now c.loop-section-test.false) in
+    ∙ ap (fold lattice_section start) (take_all c.loop-section.section-index c.args.k.now c.loop-section-test.false) in
     IfOk-weaker c.firsts.result _ _ (λ y given. given ∙ ap (map (λ (w : ℤ × ℤ). w.0)) all) c.firsts.ensures.values
 
 pub returns-in_err-pairs-clause-values : goal.returns-in_err-pairs-clause-values

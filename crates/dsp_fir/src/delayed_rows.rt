@@ -6,18 +6,9 @@ ghost use Rattle.dsp_lanes.specs.Turns.{RisesWithin, lane_turns};
 ghost use Rattle.dsp_fir.specs.Delays.{delayed_sum, sparse_rows};
 
 use dsp_defs::Steps;
-use dsp_lanes::{LaneSample, Lanes};
+use dsp_lanes::{LaneSample, Lanes, q31_fit};
 use dsp_sat::Sample;
 use std::sync::ledger::Ledger;
-
-/// Empties the sums.
-fn clear_sums<T: Sample>(sums: &mut [T::Acc])
-    ensures { map T.total sums.new ≡ values (length sums.old) (λ _. pos 0) }
-{
-    for sum in sums.iter_mut() {
-        *sum = T::empty();
-    }
-}
 
 /// Adds the terms of tap after tap to empty sums, each from the place in the window that its delay names.
 fn add_taps<T: LaneSample<L>, const L: usize, M: Ledger>(
@@ -25,14 +16,14 @@ fn add_taps<T: LaneSample<L>, const L: usize, M: Ledger>(
     delays: &[u32],
     past: usize,
     window: &[T],
-    sums: &mut [T::Acc],
+    sums: &mut [i32],
     steps: &mut Steps<M>,
 )
     requires same { length delays.now ≡ length taps.now }
     requires within { All (λ d. d ≤ past) delays.now }
     requires window { length window.now ≡ past + length sums.old }
-    requires empty { map T.total sums.old ≡ values (length sums.old) (λ _. pos 0) }
-    ensures sums { map T.total sums.new ≡ values (length sums.old) (λ i.
+    requires empty { sums.old ≡ values (length sums.old) (λ _. pos 0) }
+    ensures sums { sums.new ≡ values (length sums.old) (λ i.
         wrap w32 (delayed_sum T.format (map T.number taps.now) delays.now past
         (map T.number window.now) (length taps.now) i)) }
     ensures steps { RisesWithin steps.old steps.new (length taps.now * length sums.old)
@@ -46,11 +37,12 @@ fn add_taps<T: LaneSample<L>, const L: usize, M: Ledger>(
 }
 
 /// Writes each sum as a sample.
-fn close_sums<T: Sample>(sums: &[T::Acc], out: &mut [T])
+fn close_sums<T: Sample>(sums: &[i32], out: &mut [T])
     requires { length out.old ≡ length sums.now }
     ensures { map T.number out.new ≡ values (length out.old) (λ i.
-        sparse_close T.format (sample (map T.total sums.now) i)) }
+        sparse_close T.format (sample sums.now i)) }
 {
+    q31_fit(sums);
     for (i, value) in out.iter_mut().enumerate() {
         *value = T::sparse_close(sums[i]);
     }
@@ -63,7 +55,7 @@ pub fn delayed_rows<T: LaneSample<L>, const L: usize, M: Ledger>(
     delays: &[u32],
     past: usize,
     window: &[T],
-    sums: &mut [T::Acc],
+    sums: &mut [i32],
     out: &mut [T],
     steps: &mut Steps<M>,
 )
@@ -77,7 +69,7 @@ pub fn delayed_rows<T: LaneSample<L>, const L: usize, M: Ledger>(
         (length taps.now * lane_turns L (length out.old)) }
 {
     let sums = &mut sums[..out.len()];
-    clear_sums::<T>(sums);
+    sums.fill(0);
     add_taps::<T, L, M>(taps, delays, past, window, sums, steps);
     close_sums::<T>(sums, out);
 }

@@ -14,7 +14,7 @@ use std::sync::ledger::Ledger;
 #[derive(Drop)]
 pub struct WindowFilter<T: LaneSample<L>, const L: usize, K: Copy> {
     taps: Vec<T>,
-    delays: Option<Delays<T>>,
+    delays: Option<Delays>,
     past: usize,
     window: Window<T>,
     ended: bool,
@@ -59,7 +59,7 @@ impl<T: LaneSample<L>, const L: usize, K: Copy> WindowFilter<T, L, K> {
     pub(crate) fn of_taps(
         alloc: Global,
         taps: Vec<T>,
-        delays: Option<Delays<T>>,
+        delays: Option<Delays>,
         capacity: usize,
     ) -> Result<Self, AllocError>
         requires block { IsWindowIn T.format (block_of (map T.number taps.items) delays) }

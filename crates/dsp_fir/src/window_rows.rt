@@ -17,12 +17,12 @@ use std::sync::ledger::Ledger;
 
 /// The delays of a sparse filter's taps, in samples, and room for its sums.
 #[derive(Drop)]
-pub struct Delays<T: Sample> {
+pub struct Delays {
     delays: Vec<u32>,
-    sums: Vec<T::Acc>,
+    sums: Vec<i32>,
 }
 
-impl<T: Sample> Model for Delays<T> {
+impl Model for Delays {
     ghost use Rattle.std.specs.Prelude.{vec_len};
     ghost use Rattle.dsp_fir.specs.WindowState.{DelayState};
 
@@ -31,20 +31,20 @@ impl<T: Sample> Model for Delays<T> {
     ghost view = { λ d. record { delays = d.delays.items; room = vec_len d.sums } };
 }
 
-impl<T: Sample> Delays<T> {
+impl Delays {
     ghost use Rattle.std.specs.Prelude.{◌≡◌, IfOk};
 
     /// For blocks of at most `room` samples.
     pub fn new(alloc: Global, delays: Vec<u32>, room: usize) -> Result<Self, AllocError>
         ensures { IfOk result (λ d. d ≡ record { delays = delays.items; room = room }) }
     {
-        let sums = vec![in alloc; T::empty(); room]?;
+        let sums = vec![in alloc; 0; room]?;
         Ok(Delays { delays, sums })
     }
 }
 
 /// How many samples of the past a filter reads: one less than it has taps, or its greatest delay.
-pub fn past_of<T: Sample>(taps: &[T], delays: &Option<Delays<T>>) -> usize
+pub fn past_of<T: Sample>(taps: &[T], delays: &Option<Delays>) -> usize
     requires { IsWindowIn T.format (block_of (map T.number taps.now) delays.now) }
     ensures { result ≡ past_count (block_of (map T.number taps.now) delays.now) }
 {
@@ -58,7 +58,7 @@ pub fn past_of<T: Sample>(taps: &[T], delays: &Option<Delays<T>>) -> usize
 /// there are delays, else of a FIR filter.
 pub fn window_rows<T: LaneSample<L>, const L: usize, M: Ledger>(
     taps: &[T],
-    delays: &mut Option<Delays<T>>,
+    delays: &mut Option<Delays>,
     window: &[T],
     out: &mut [T],
     steps: &mut Steps<M>,

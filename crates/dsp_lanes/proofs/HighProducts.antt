@@ -15,7 +15,7 @@ use Rattle.dsp_lanes.proofs.LaneOps.{splat_bits, bits_of, ints_of_bits, cast_lan
 use Rattle.dsp_lanes.proofs.LaneOps.{each_widens, each_pair, group_fits, lesser, greater, saturates_to}
 use Rattle.dsp_lanes.proofs.LaneOps.{shifted, added, each_shift_fits, Each1-map}
 use Rattle.dsp_lanes.proofs.LaneOps.{map-same, map-zip2, length-map}
-use Rattle.dsp_lanes.proofs.LaneSums.{plus_in, times_in, products_in}
+use Rattle.dsp_lanes.proofs.LaneSums.{plus_in, times_in, products_in, raised_fit}
 use Rattle.dsp_lanes.proofs.LaneClosings.{Castable, down_in, low_lanes, low_lanes_are, words_fit}
 
 abbrev pub high_lanes : ℕ → List ℤ → List ℤ → List ℕ
@@ -156,29 +156,43 @@ scaled_highs_are n xs t long f g =
     )
 
 -- ---- the sparse filter
-abbrev delay_lanes : ℕ → List ℤ → ℤ → List ℤ → List ℕ
-delay_lanes n ss t xs = zip2 (plus_in w64) (bits_of w64 ss)
-    (zip2 (down_in w64) (zip2 (times_in w64) (cast_lanes w32 w64 (replicate n (of_z w32 t))) (widened w32 w64 xs))
-    (replicate n 32))
+abbrev delay_highs : ℕ → ℤ → List ℤ → List ℕ
+delay_highs n t xs = zip2 (down_in w64)
+    (zip2 (times_in w64) (cast_lanes w32 w64 (replicate n (of_z w32 t))) (widened w32 w64 xs)) (replicate n 32)
 
 raised_highs : (n : ℕ) (t : ℤ) (ss xs : List ℤ) → length xs ≡ n →
-    zip2 (λ s p. int_wrap w64 (s +ℤ p)) ss (zip2 high (replicate n t) xs) ≡ zip2 (λ s x. int_wrap w64 (s +ℤ high t x))
+    zip2 (λ s p. int_wrap w32 (s +ℤ p)) ss (zip2 high (replicate n t) xs) ≡ zip2 (λ s x. int_wrap w32 (s +ℤ high t x))
     ss xs
 raised_highs n t [] xs e = refl
 raised_highs zero t (s ∷ ss) [] e = refl
 raised_highs zero t (s ∷ ss) (x ∷ xs) e = absurd (omega (arith, e))
 raised_highs (suc n) t (s ∷ ss) [] e = absurd (omega (arith, e))
-raised_highs (suc n) t (s ∷ ss) (x ∷ xs) e = ap (λ l. int_wrap w64 (s +ℤ high t x) ∷ l)
+raised_highs (suc n) t (s ∷ ss) (x ∷ xs) e = ap (λ l. int_wrap w32 (s +ℤ high t x) ∷ l)
     (raised_highs n t ss xs (omega arith))
 
-pub delay_31 : (n : ℕ) (ss : List ℤ) (t : ℤ) (xs : List ℤ) → length xs ≡ n → Each1 (SFits w64) ss → SFits w32 t →
-    Each1 (SFits w32) xs
-    → delay_lanes n ss t xs ≡ bits_of w64 (zip2 (λ s x. int_wrap w64 (s +ℤ shr_z (t *ℤ x) (2 ^ 32))) ss xs)
-delay_31 n ss t xs long h f g =
-    let ts = replicate n t in
-    let made = highs_are n ts xs (length-replicate n t) long (Each1-replicate (SFits w32) n t f) g in
-    ap (λ l. zip2 (plus_in w64) (bits_of w64 ss) (zip2 (down_in w64)
-    (zip2 (times_in w64) (cast_lanes w32 w64 l) (widened w32 w64 xs)) (replicate n 32))) (splat_bits w32 n t)
-    ∙ ap (zip2 (plus_in w64) (bits_of w64 ss)) made.0
-    ∙ added w64 ss (zip2 high ts xs) h (each_widens w32 w64 (omega arith) (zip2 high ts xs) made.1)
-    ∙ ap (bits_of w64) (raised_highs n t ss xs long)
+module _ (n : ℕ) (t : ℤ) (xs : List ℤ) (long : length xs ≡ n) (f : SFits w32 t) (g : Each1 (SFits w32) xs) where
+  abbrev terms : List ℤ
+  terms = zip2 high (replicate n t) xs
+
+  terms-are : (delay_highs n t xs ≡ bits_of w64 terms) × Each1 (SFits w32) terms
+  terms-are =
+      let made = highs_are n (replicate n t) xs (length-replicate n t) long (Each1-replicate (SFits w32) n t f) g in (
+        ap (λ l. zip2 (down_in w64) (zip2 (times_in w64) (cast_lanes w32 w64 l) (widened w32 w64 xs)) (replicate n 32))
+            (splat_bits w32 n t) ∙ made.0,
+        made.1,
+      )
+
+  pub delay_asked : Castable w64 w32 (delay_highs n t xs)
+  delay_asked = (casts_down (delay_highs n t xs) terms terms-are.0 terms-are.1).0
+
+  pub delay_31 : (ss : List ℤ) → Each1 (SFits w32) ss
+      → map (to_z w32) (zip2 (plus_in w32) (bits_of w32 ss) (cast_lanes w64 w32 (delay_highs n t xs)))
+      ≡ zip2 (λ s x. int_wrap w32 (s +ℤ high t x)) ss xs
+  delay_31 ss h =
+      let wide = each_widens w32 w64 (omega arith) terms terms-are.1 in
+      let cast : cast_lanes w64 w32 (delay_highs n t xs) ≡ bits_of w32 terms =
+      ap (cast_lanes w64 w32) terms-are.0 ∙ casts_are w64 w32 terms wide in
+      ap (λ l. map (to_z w32) (zip2 (plus_in w32) (bits_of w32 ss) l)) cast
+      ∙ ap (map (to_z w32)) (added w32 ss terms h terms-are.1)
+      ∙ ints_of_bits w32 _ (raised_fit w32 ss terms)
+      ∙ raised_highs n t ss xs long

@@ -3,7 +3,6 @@ mod SumLemmas
 pub mod LaneOps
 pub mod LaneSums
 pub mod LaneClosings
-mod LaneDelays
 pub mod HighProducts
 pub mod WordViews
 mod Moves

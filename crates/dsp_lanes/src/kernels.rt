@@ -79,12 +79,12 @@ pub trait LaneKernels<const L: usize>: Sample {
             (chunk at L (map Self.number a.now))) };
 
     /// Adds one tap's terms of a sparse filter to a group of sums.
-    fn delay_group(tap: Self, window: &[Self], sums: &mut [Self::Acc], at: usize)
+    fn delay_group(tap: Self, window: &[Self], sums: &mut [i32], at: usize)
         requires window { at + L ≤ length window.now }
         requires room { at + L ≤ length sums.old }
-        ensures { map Self.total sums.new ≡ put_chunk at (map Self.total sums.old)
+        ensures { sums.new ≡ put_chunk at sums.old
             (zip2 (λ s x. wrap w32 (s +ℤ sparse_term Self.format (Self.number tap) x))
-            (chunk at L (map Self.total sums.old)) (chunk at L (map Self.number window.now))) };
+            (chunk at L sums.old) (chunk at L (map Self.number window.now))) };
 
     /// Adds the products of one tap with a group of a row to a group of sums.
     fn mac_group(tap: Self, row: &[Self], sums: &mut [Self::Acc], at: usize)

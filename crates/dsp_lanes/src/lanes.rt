@@ -217,10 +217,10 @@ impl<T: LaneSample<L>, const L: usize> Lanes<T, L> {
 
     /// Adds one tap's term to each sum, wrapped to 32 bits: the inner step of `arm_fir_sparse_q7`,
     /// `arm_fir_sparse_q15`, `arm_fir_sparse_q31`. Lengths are equal.
-    pub fn delayed<M: Ledger>(tap: T, window: &[T], sums: &mut [T::Acc], steps: &mut Steps<M>)
+    pub fn delayed<M: Ledger>(tap: T, window: &[T], sums: &mut [i32], steps: &mut Steps<M>)
         requires { length window.now ≡ length sums.old }
-        ensures sums { map T.total sums.new ≡ zip2 (λ s x.
-            wrap w32 (s +ℤ sparse_term T.format (T.number tap) x)) (map T.total sums.old)
+        ensures sums { sums.new ≡ zip2 (λ s x.
+            wrap w32 (s +ℤ sparse_term T.format (T.number tap) x)) sums.old
             (map T.number window.now) }
         ensures steps { RisesWithin steps.old steps.new (length sums.old) (lane_turns L (length sums.old)) }
     {

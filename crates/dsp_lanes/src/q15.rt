@@ -1,7 +1,7 @@
 use crate::dots::dot_groups;
 use crate::doubled::Doubled;
 use crate::eights::{double_group_of_eights, group_of_eights};
-use crate::fits::{q15_fit, sums_64_fit};
+use crate::fits::{q15_fit, q31_fit, sums_64_fit};
 use crate::four_dots::{Four, four_sums};
 use crate::high_pairs::HighPairs;
 use crate::kernels::{FilterKernels, LaneKernels};
@@ -93,13 +93,13 @@ impl<const L: usize> LaneKernels<L> for i16 {
     }
 
     #[inline(always)]
-    fn delay_group(tap: i16, window: &[i16], sums: &mut [i64], at: usize) {
+    fn delay_group(tap: i16, window: &[i16], sums: &mut [i32], at: usize) {
         q15_fit(window);
-        sums_64_fit(sums);
-        let t = Simd::<i16, L>::splat(tap).cast::<i64>();
-        let x = Simd::<i16, L>::from_slice(&window[at..]).cast::<i64>();
-        let s = Simd::<i64, L>::from_slice(&sums[at..]) + t * x;
-        ((s << Simd::splat(32)) >> Simd::splat(32)).copy_to_slice(&mut sums[at..]);
+        q31_fit(sums);
+        let t = Simd::<i16, L>::splat(tap).cast::<i32>();
+        let x = Simd::<i16, L>::from_slice(&window[at..]).cast::<i32>();
+        let s = Simd::<i32, L>::from_slice(&sums[at..]);
+        (s + t * x).copy_to_slice(&mut sums[at..]);
     }
 
     #[inline(always)]

@@ -92,13 +92,14 @@ impl<const L: usize> LaneKernels<L> for i32 {
     }
 
     #[inline(always)]
-    fn delay_group(tap: i32, window: &[i32], sums: &mut [i64], at: usize) {
+    fn delay_group(tap: i32, window: &[i32], sums: &mut [i32], at: usize) {
         q31_fit(window);
-        sums_64_fit(sums);
+        q31_fit(sums);
         let t = Simd::<i32, L>::splat(tap).cast::<i64>();
         let x = Simd::<i32, L>::from_slice(&window[at..]).cast::<i64>();
-        let s = Simd::<i64, L>::from_slice(&sums[at..]) + ((t * x) >> Simd::splat(32));
-        ((s << Simd::splat(32)) >> Simd::splat(32)).copy_to_slice(&mut sums[at..]);
+        let terms = ((t * x) >> Simd::splat(32)).cast::<i32>();
+        let s = Simd::<i32, L>::from_slice(&sums[at..]);
+        (s + terms).copy_to_slice(&mut sums[at..]);
     }
 
     #[inline(always)]

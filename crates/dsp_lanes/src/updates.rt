@@ -92,7 +92,7 @@ pub(crate) fn update_each<T: Sample, U: Update<T>, M: Ledger>(
 pub(crate) struct SparseTerms<const L: usize>;
 
 impl<T: LaneSample<L>, const L: usize> Update<T> for SparseTerms<L> {
-    type Slot = T::Acc;
+    type Slot = i32;
 
     ghost use Rattle.std.specs.Prelude.{◌+ℤ◌};
     ghost use Rattle.dsp_defs.specs.Numbers.{wrap, w32};
@@ -100,7 +100,7 @@ impl<T: LaneSample<L>, const L: usize> Update<T> for SparseTerms<L> {
 
     ghost size = { L };
 
-    ghost number = { T.total };
+    ghost number = { λ s. s };
 
     ghost next = { λ tap s x. wrap w32 (s +ℤ sparse_term T.format (T.number tap) x) };
 
@@ -110,14 +110,13 @@ impl<T: LaneSample<L>, const L: usize> Update<T> for SparseTerms<L> {
     }
 
     #[inline(always)]
-    fn group(tap: T, window: &[T], sums: &mut [T::Acc], at: usize) {
+    fn group(tap: T, window: &[T], sums: &mut [i32], at: usize) {
         T::delay_group(tap, window, sums, at)
     }
 
     #[inline(always)]
-    fn one<M: Ledger>(tap: T, sum: T::Acc, x: T, steps: &mut Steps<M>) -> T::Acc {
-        let term = T::sparse_term(tap, x, steps);
-        T::sparse_add(sum, term)
+    fn one<M: Ledger>(tap: T, sum: i32, x: T, steps: &mut Steps<M>) -> i32 {
+        sum.wrapping_add(T::sparse_term(tap, x, steps))
     }
 
     ghost some = { T.some };

@@ -98,7 +98,7 @@ fn q15_outputs<M: Ledger>(rt: &impl Abort, steps: &mut Steps<M>) {
     }
     {
         // Worked terms of a sparse filter.
-        let mut sums = [2147418113i64, 0];
+        let mut sums = [2147418113, 0];
         Lanes::<i16, 8>::delayed(32767, &[32767, 1], &mut sums, steps);
         assert_same!(rt; sums, [-1073872894, 32767]);
     }

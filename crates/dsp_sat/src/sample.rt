@@ -1,5 +1,5 @@
 ghost use Rattle.std.specs.Prelude.{◌≡◌, refl, ℕ, ℤ, pos, ◌+ℤ◌, ◌*ℤ◌, ◌≤ℤ◌, FitsSigned};
-ghost use Rattle.dsp_defs.specs.Numbers.{wrap, w8, w16, w32};
+ghost use Rattle.dsp_defs.specs.Numbers.{wrap};
 ghost use Rattle.dsp_defs.specs.Formats.{word, word_bits, accumulator, close};
 ghost use Rattle.dsp_defs.specs.Elementwise.{add, sub, clip, mult, scale, IsScaleShift, shift, IsShift};
 ghost use Rattle.dsp_defs.specs.Elementwise.{negate, abs};
@@ -105,17 +105,13 @@ pub trait Sample: Copy {
         ensures { number result ≡ clip (number low) (number high) (number x) };
 
     /// A product as a term of a sparse filter, counted: in Q31 its high word.
-    fn sparse_term<L: Ledger>(b: Self, x: Self, steps: &mut Steps<L>) -> Self::Acc
-        ensures value { total result ≡ sparse_term format (number b) (number x) }
+    fn sparse_term<L: Ledger>(b: Self, x: Self, steps: &mut Steps<L>) -> i32
+        ensures value { result ≡ sparse_term format (number b) (number x) }
         ensures steps { Rises steps.old steps.new 1 1 };
 
-    /// Adds a term of a sparse filter, wrapped to 32 bits.
-    fn sparse_add(sum: Self::Acc, term: Self::Acc) -> Self::Acc
-        ensures { total result ≡ wrap w32 (total sum +ℤ total term) };
-
-    /// A sum of such terms as a sample (`arm_fir_sparse_q7`, `_q15`, `_q31`).
-    fn sparse_close(sum: Self::Acc) -> Self
-        ensures { number result ≡ sparse_close format (total sum) };
+    /// A sum of such terms, wrapped to 32 bits, as a sample (`arm_fir_sparse_q7`, `_q15`, `_q31`).
+    fn sparse_close(sum: i32) -> Self
+        ensures { number result ≡ sparse_close format sum };
 
     ghost has_word_bits: { WORD_BITS ≡ word_bits format };
 }

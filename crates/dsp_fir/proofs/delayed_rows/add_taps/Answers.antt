@@ -17,7 +17,7 @@ loop-k-preserved g c =
     let size : length c.loop-k.sums ≡ n = omega arith in
     record {
       summed = taps-more T.number T.format (map T.number c.args.taps.now) delays c.args.past c.args.window.now
-          (map T.total c.loop-k.sums) (map T.total c.delayed.new.sums) n k _ (get_or delays k 0)
+          c.loop-k.sums c.delayed.new.sums n k _ (get_or delays k 0)
           (T.number c.index-taps-k.result)
           refl tap_is refl near c.requires.window c.loop-k.invariant.summed c.delayed.ensures.sums;
       counted = tap-counted _ _ _ k _ n (lane_turns g.row.L n) _ _ refl size (ap (lane_turns g.row.L) size)

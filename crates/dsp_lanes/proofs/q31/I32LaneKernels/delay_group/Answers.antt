@@ -1,10 +1,10 @@
-use Rattle.std.proofs.Common.{arith, w32, w64, ◌*ℤ◌, ◌+ℤ◌, ◌^◌}
+use Rattle.std.proofs.Common.{arith, ap, sym, ◌∙◌, ◌+ℤ◌, w32, w64}
 use Rattle.std.proofs.lemmas.Simd.{shifts_fit_splat, length-chunk}
-use lib.Lanes.{chunk}
-use lib.Signed.{shr_z}
+use Rattle.std.proofs.lemmas.List.{map-id}
+use Rattle.std.specs.Int.{int_wrap}
+use lib.Lanes.{zip2, chunk, put_chunk}
 use Rattle.dsp_lanes.proofs.LaneOps.{group_fits, group_asked, splat_asked}
-use Rattle.dsp_lanes.proofs.LaneDelays.{delays_stored}
-use Rattle.dsp_lanes.proofs.HighProducts.{delay_31}
+use Rattle.dsp_lanes.proofs.HighProducts.{high, delay_31, delay_asked}
 use Rattle.dsp_lanes.proofs.q31.I32LaneKernels.delay_group.Goals as goal
 
 pub overflow_cast-t : goal.overflow_cast-t
@@ -14,14 +14,16 @@ pub overflow_cast-x : goal.overflow_cast-x
 overflow_cast-x g c =
     group_asked w32 w64 (omega arith) c.args.at g.row.L c.args.window.now c.q31_fit.ensures c.requires.window
 
-pub overflow_shr-s : goal.overflow_shr-s
-overflow_shr-s g c = shifts_fit_splat 64 _ g.row.L 32 (omega arith)
+pub overflow_shr-terms : goal.overflow_shr-terms
+overflow_shr-terms g c = shifts_fit_splat 64 _ g.row.L 32 (omega arith)
 
-pub overflow_shl-sums : goal.overflow_shl-sums
-overflow_shl-sums g c = shifts_fit_splat 64 _ g.row.L 32 (omega arith)
-
-pub overflow_shr-sums : goal.overflow_shr-sums
-overflow_shr-sums g c = shifts_fit_splat 64 _ g.row.L 32 (omega arith)
+pub overflow_cast-terms : goal.overflow_cast-terms
+overflow_cast-terms g c =
+    let at = c.args.at in
+    let n = g.row.L in
+    let window = c.args.window.now in
+    delay_asked n c.args.tap (chunk at n window) (length-chunk at n window c.requires.window) c.ranges.tap
+    (group_fits w32 at n window c.q31_fit.ensures c.requires.window)
 
 pub returns : goal.returns
 returns g c =
@@ -29,7 +31,9 @@ returns g c =
     let n = g.row.L in
     let sums = c.args.sums.now in
     let window = c.args.window.now in
-    delays_stored (λ s x. s +ℤ shr_z (c.args.tap *ℤ x) (2 ^ 32)) at n sums window _ c.requires.room c.requires.window
-    (delay_31 n (chunk at n sums) c.args.tap (chunk at n window) (length-chunk at n window c.requires.window)
-    (group_fits w64 at n sums c.sums_64_fit.ensures c.requires.room) c.ranges.tap
-    (group_fits w32 at n window c.q31_fit.ensures c.requires.window))
+    ap (put_chunk at sums)
+    (delay_31 n c.args.tap (chunk at n window) (length-chunk at n window c.requires.window) c.ranges.tap
+    (group_fits w32 at n window c.q31_fit.ensures c.requires.window) (chunk at n sums)
+    (group_fits w32 at n sums c.q31_fit-2.ensures c.requires.room)
+    ∙ ap (λ l. zip2 (λ s x. int_wrap w32 (s +ℤ high c.args.tap x)) (chunk at n sums) (chunk at n l))
+    (sym (map-id window)))

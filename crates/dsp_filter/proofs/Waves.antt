@@ -19,7 +19,7 @@ twice a b c xs ys us vs first second = record {
 
 -- ---- four machines
 -- a turn more
-pub flows-more : (from : Four) (now new : Wave) (xs zs : List ℤ) (x z : ℤ)
+flows-more : (from : Four) (now new : Wave) (xs zs : List ℤ) (x z : ℤ)
     → Flows from now xs zs → Turns now new x z → Flows from new (xs ++ x ∷ []) (zs ++ z ∷ [])
 flows-more from now new xs zs x z f t = record {
   one = f.one ++ now.to_second ∷ [];
@@ -56,25 +56,48 @@ module _ {X : Type 0} (number : X → ℤ) (inputs samples : List X) (at : ℕ) 
   next : at + 1 - 3 ≡ at - 3 + 1
   next = omega (arith, three)
 
-  pub ahead : (x : X) → x ≡ get_or samples at x → map number (take (at + 1) inputs) ≡ map number (take at inputs) ++
+  ahead : (x : X) → x ≡ get_or samples at x → map number (take (at + 1) inputs) ≡ map number (take at inputs) ++
       number x ∷ []
   ahead x is =
       let there = ap (λ k. get_or samples k x) (sym back) ∙ sym (get_or-drop (at - 3) samples 3 x)
       ∙ ap (λ l. get_or l 3 x) rest ∙ get_or-drop (at - 3) inputs 3 x ∙ ap (λ k. get_or inputs k x) back in
       map_more number inputs at x inside ∙ ap (λ v. map number (take at inputs) ++ number v ∷ []) (sym (is ∙ there))
 
-  pub behind : (z : X) → map number (take (at + 1 - 3) (set samples (at - 3) z)) ≡ map number (take (at - 3) samples)
+  behind : (z : X) → map number (take (at + 1 - 3) (set samples (at - 3) z)) ≡ map number (take (at - 3) samples)
       ++ number z ∷ []
   behind z =
       ap (λ k. map number (take k (set samples (at - 3) z))) next
       ∙ ap (map number) (take_more_set samples (at - 3) z (omega (arith, three, inside, size)))
       ∙ map-append number (take (at - 3) samples) (z ∷ [])
 
-  pub left : (z : X) → drop (at + 1 - 3) (set samples (at - 3) z) ≡ drop (at + 1 - 3) inputs
+  left : (z : X) → drop (at + 1 - 3) (set samples (at - 3) z) ≡ drop (at + 1 - 3) inputs
   left z =
       ap (λ k. drop k (set samples (at - 3) z)) next
       ∙ rest-stays inputs samples (at - 3) z (omega (arith, three, inside)) (omega (arith, three, inside, size)) rest z
       ∙ ap (λ k. drop k inputs) (sym next)
+
+-- so many samples of a list were taken since machines stood so, and what the fourth gave is written
+pub record Turned {X : Type 0} (number : X → ℤ) (inputs samples : List X) (at : ℕ) (start now : Wave) : Type 0 where
+  pub size : length samples ≡ length inputs
+  pub rest : drop (at - 3) samples ≡ drop (at - 3) inputs
+  pub flows : (from : Four) → Flows from start (map number (take 3 inputs)) [] →
+      Flows from now (map number (take at inputs)) (map number (take (at - 3) samples))
+
+-- and one more
+pub turned-more : {X : Type 0} (number : X → ℤ) (inputs samples : List X) (at : ℕ) (start now new : Wave) (x z : X)
+    → 3 ≤ at → at < length samples → Turned number inputs samples at start now → x ≡ get_or samples at x →
+    Turns now new (number x) (number z) → Turned number inputs (set samples (at - 3) z) (at + 1) start new
+turned-more number inputs samples at start now new x z three inside so_far is turns =
+    let within : at < length inputs = omega (arith, inside, so_far.size) in
+    let taken = ahead number inputs samples at three within so_far.size so_far.rest x is in
+    let given = behind number inputs samples at three within so_far.size so_far.rest z in
+    record {
+      size = length-set samples (at - 3) z ∙ so_far.size;
+      rest = left number inputs samples at three within so_far.size so_far.rest z;
+      flows = λ from begun. rw (taken, given)
+          (flows-more from now new (map number (take at inputs)) (map number (take (at - 3) samples)) (number x)
+          (number z) (so_far.flows from begun) turns);
+    }
 
 -- the first three of a list
 pub three-read : {X : Type 0} (number : X → ℤ) (xs : List X) (a b c : X) → 3 ≤ length xs → a ≡ get_or xs 0 a →

@@ -64,7 +64,15 @@ pub(crate) fn run_turns<T: Sample, W: Turning<T>, L: Ledger>(
     ensures steps { Rises steps.old steps.new ((length samples.old - 3) * (4 * W.price))
         ((length samples.old - 3) * (4 * W.price)) }
 {
-    for at in 3..samples.len() {
+    let mut at = 3;
+    // What a turn leaves stands in other registers: after two the compiler moves none of them back.
+    'pairs: while samples.len() - at >= 2 {
+        samples[at - 3] = machines.turn(samples[at], steps);
+        at += 1;
+        samples[at - 3] = machines.turn(samples[at], steps);
+        at += 1;
+    }
+    if at < samples.len() {
         samples[at - 3] = machines.turn(samples[at], steps);
     }
 }

@@ -1,6 +1,6 @@
 #!/usr/bin/env python3
-"""Checks what the style of the repository asks of its text: the width of lines, what definitions import, one word
-for one thing, and edits that apply. It prints each fault.
+"""Checks what the style of the repository asks of its text: the width of lines, the length of files, what definitions
+import, crates that are named and not used, one word for one thing, and edits that apply. It prints each fault.
 
 usage: style.py"""
 import glob
@@ -11,6 +11,7 @@ import sys
 TOP = os.path.dirname(os.path.dirname(os.path.abspath(__file__)))
 WIDTH = 120  # columns
 FRONT_PAGE = 130  # lines
+LONGEST = 500  # lines of a file
 PROOFS = re.compile(r'^(?:pub )?use Rattle\.dsp_\w+\.proofs\.')
 # A word that has another meaning, the files that are looked at, and what to write.
 WORDS = (
@@ -35,6 +36,24 @@ def wide():
                 # (a text, and the name of one goal, may be as long as that)
                 if len(line) > WIDTH and not line.startswith('use ') and '"' not in line:
                     yield f'{path}:{number}: {len(line)} columns'
+
+
+def long_files():
+    sources = [path for path, _ in files('crates/*/s*/**/*')] + [path for path, _ in files('crates/*/proofs/**/*')]
+    tools = [os.path.relpath(path, TOP) for path in glob.glob(f'{TOP}/tools/**/*.[ps][yh]', recursive=True)]
+    for path in sources + tools:
+        with open(os.path.join(TOP, path), encoding='utf-8') as file:
+            lines = len(file.readlines())
+        if lines > LONGEST:
+            yield f'{path}: {lines} lines'
+
+
+def unused_crates():
+    with open(f'{TOP}/crates.txt', encoding='utf-8') as file:
+        rows = [line.split(':') for line in file if ':' in line]
+    for crate, used in ((row[0].split()[0], row[1].split()) for row in rows):
+        text = '\n'.join('\n'.join(lines) for _, lines in files(f'crates/{crate}/**/*'))
+        yield from (f'crates.txt: {crate} does not use {name}' for name in used if not re.search(rf'\b{name}\b', text))
 
 
 def proofs_in_definitions():
@@ -75,7 +94,7 @@ def front_page():
 
 
 def main():
-    faults = [fault for look in (wide, proofs_in_definitions, words, edits, front_page) for fault in look()]
+    faults = [fault for look in (wide, long_files, unused_crates, proofs_in_definitions, words, edits, front_page) for fault in look()]
     print(*faults, sep='\n', end='\n' if faults else '')
     return 1 if faults else 0
 

@@ -1,7 +1,8 @@
 ghost use Rattle.dsp_blocks.specs.BlockUnit.{state_of};
 
 use crate::{
-    Cascades, Drive, Feed, Finish, Held, Keep, KeptCount, Look, MeasureAt, Measures, Place, Restore,
+    Cascades, Drive, Feed, Finish, Held, Keep, KeptCount, Look, MeasureAt, Measures, Pass, Place,
+    Restore,
 };
 use dsp_adapt::{LmsUnit, PidWork};
 use dsp_bank::BankUnit;
@@ -135,6 +136,10 @@ impl Unit for BlockUnit {
 
     fn feed<L: Ledger>(&mut self, frames: &[i32], out: &mut [i32], steps: &mut Steps<L>) -> usize {
         self.drive::<Feed<L>>(frames, out, steps)
+    }
+
+    fn pass<L: Ledger>(&mut self, frames: &[i32], steps: &mut Steps<L>) -> bool {
+        self.drive::<Pass<L>>(frames, &mut [], steps) > 0
     }
 
     fn finish<L: Ledger>(&mut self, out: &mut [i32], steps: &mut Steps<L>) -> usize {

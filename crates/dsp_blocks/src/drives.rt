@@ -1,4 +1,4 @@
-ghost use Rattle.std.specs.Prelude.{◌≡◌, ◌≤◌, length, take, IsFalse};
+ghost use Rattle.std.specs.Prelude.{◌≡◌, ◌<◌, ◌≤◌, length, take, IsFalse};
 ghost use Rattle.dsp_defs.specs.Block.{channels_after};
 ghost use Rattle.dsp_defs.specs.Kept.{Fits};
 ghost use Rattle.dsp_unit.specs.Unit.{frames_in, room_of, most_frames, IsSignal, IsOutput};
@@ -36,6 +36,36 @@ impl<L: Ledger> Drive for Feed<L> {
         counter: &mut Steps<L>,
     ) -> usize {
         unit.feed(given, out, counter)
+    }
+}
+
+/// The next live frames where they are those that it takes: it answers 1, and else 0.
+pub struct Pass<L: Ledger> {
+    marker: PhantomData<L>,
+}
+
+impl<L: Ledger> Drive for Pass<L> {
+    type Given = i32;
+
+    type Counter = Steps<L>;
+
+    ghost Asks = { λ u frames room. (IsFalse u.ended) × (IsSignal u.format u.channels frames)
+        × (length (frames_in u.channels frames) ≤ u.capacity)
+        × (Accepts u (length (frames_in u.channels frames))) };
+
+    ghost Does = { λ u v frames room out passed before after. (IsFalse v.ended)
+        × (passed ≡ 0 → (v ≡ u) × (after ≡ before))
+        × (0 < passed → (IsOutput u (most_frames u.block u.capacity) frames)
+        × (Feeds u v (frames_in u.channels frames)
+        (frames_in (channels_after u.channels u.block) frames) before after)) };
+
+    fn drive<U: Unit>(
+        unit: &mut U,
+        given: &[i32],
+        _out: &mut [i32],
+        counter: &mut Steps<L>,
+    ) -> usize {
+        usize::from(unit.pass(given, counter))
     }
 }
 

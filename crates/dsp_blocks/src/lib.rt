@@ -14,7 +14,7 @@ mod of_block;
 pub use block_unit::BlockUnit;
 use cascades::Cascades;
 use drive::Drive;
-use drives::{Feed, Finish, Restore};
+use drives::{Feed, Finish, Pass, Restore};
 use held::Held;
 use look::Look;
 use looks::{Keep, KeptCount, MeasureAt, Measures, Place};

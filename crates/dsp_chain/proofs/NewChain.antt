@@ -1,5 +1,5 @@
 -- A new chain.
-use Rattle.std.proofs.Common.{◌≡◌, ◌∙◌, ap, refl, ℕ, ◌*◌, ◌/◌, ◌≤◌, Bool, false, List, [], ◌∷◌}
+use Rattle.std.proofs.Common.{◌≡◌, ◌∙◌, ap, refl, ◌≤◌, Bool, false, List, [], ◌∷◌}
 use Rattle.std.proofs.Common.{length, None, arith}
 use Rattle.dsp_defs.specs.Grammar.{IsChain, correlates}
 use Rattle.dsp_defs.specs.Cost.{chain_turns}

@@ -3,16 +3,16 @@ use Rattle.std.proofs.Common.{◌≡◌, ◌∙◌, ap, refl, sym, subst, false,
 use Rattle.std.proofs.Common.{take, drop, arith}
 use Rattle.std.proofs.lemmas.List.{length-map, take-append-le, take_all}
 use Rattle.dsp_defs.specs.declared.limits.TheConstants.{MAX_BLOCKS}
-use Rattle.dsp_unit.specs.Unit.{UnitState, frames_in, most_frames, room_of, Accepts, IsOutput, Feeds}
+use Rattle.dsp_unit.specs.Unit.{UnitState, frames_in, most_frames, IsOutput, Feeds}
 use Rattle.dsp_defs.specs.Block.{channels_after}
 use Rattle.dsp_unit.specs.Line.{Place, place_after, place_behind, place_room, Passes, blocks_of, InLine, AllRun}
 use Rattle.dsp_unit.specs.Line.{AllAccept, IsFed}
 use Rattle.dsp_defs.specs.Counts.{Counts}
-use Rattle.dsp_unit.proofs.LineLaws.{fed-none, fed-then, output-passes, accepts-first, accepts-behind}
+use Rattle.dsp_unit.proofs.LineLaws.{fed-none, fed-then, output-passes, accepts-behind}
 use Rattle.dsp_chain.specs.Line.{MayTake}
 
 -- the samples that pass a place have room there
-passing-room : (p : Place) (samples : List ℤ) → Passes p samples → length samples ≤ place_room p
+pub passing-room : (p : Place) (samples : List ℤ) → Passes p samples → length samples ≤ place_room p
 passing-room p samples h =
     let bound : length (frames_in p.channels samples) * p.channels ≤ p.capacity * p.channels =
     grind (arith, h.at_most) in
@@ -22,11 +22,13 @@ pub no-units : (us : List UnitState) → length us ≡ 0 → us ≡ []
 no-units [] e = refl
 no-units (u ∷ us) e = absurd (omega (arith, e))
 
-pub last-room : (us : List UnitState) (p : Place) (frames : List ℤ) (size : ℕ) → length us ≡ 0 → Passes p frames →
-    place_room (place_behind p (blocks_of us)) ≤ size → length frames ≤ size
-last-room us p frames size none passes room =
-    let here : place_room p ≤ size = rw (no-units us none) at room in
-    omega (arith, passing-room p frames passes, here)
+-- what a line gave of samples that it may be fed with has room
+pub fed-room : (us news : List UnitState) (frames given : List ℤ) (size : ℕ) (before after : Counts)
+    (may : MayTake us frames size) →
+    ((p : Place) → InLine p us → Passes p frames → IsFed p us news frames given before after) → length given ≤ size
+fed-room us news frames given size before after may fed =
+    let last = place_behind may.place (blocks_of us) in
+    omega (arith, passing-room last given (fed may.place may.line may.passes).passes, may.room)
 
 pub last-fed : (us : List UnitState) (p : Place) (frames : List ℤ) (counts : Counts) → length us ≡ 0 →
     Passes p frames → IsFed p us us frames frames counts counts
@@ -48,48 +50,7 @@ first-fed p links link u v behind after frames piece given before between later 
     (fed-then p u v behind after frames piece given before between later here.0 runs one
     (rest (place_after p u.block) here.1 (output-passes p u piece here.0 output)))
 
--- the first unit can take what the line may be fed with
-pub first-accepts :
-    (links : List UnitState) (link u : UnitState) (behind : List UnitState) (frames : List ℤ) (size : ℕ) →
-    links ≡ link ∷ behind → u ≡ link → MayTake links frames size → Accepts u (length (frames_in u.channels frames))
-first-accepts links link u behind frames size is_first same may =
-    let e : links ≡ u ∷ behind = is_first ∙ ap (λ f. f ∷ behind) (sym same) in
-    let here : InLine may.place (u ∷ behind) = subst (InLine may.place) e may.line in
-    subst (λ c. Accepts u (length (frames_in c frames))) (sym here.0.channels)
-    (accepts-first u behind (length (frames_in may.place.channels frames))
-    (subst (λ us. AllAccept us (length (frames_in may.place.channels frames))) e may.accepts))
-
--- they pass its place
-pub first-passes :
-    (links : List UnitState) (link u : UnitState) (behind : List UnitState) (frames : List ℤ) (size : ℕ) →
-    links ≡ link ∷ behind → u ≡ link → MayTake links frames size →
-    Passes (record { format = u.format; channels = u.channels; capacity = u.capacity }) frames
-first-passes links link u behind frames size is_first same may =
-    let e : links ≡ u ∷ behind = is_first ∙ ap (λ f. f ∷ behind) (sym same) in
-    let here : InLine may.place (u ∷ behind) = subst (InLine may.place) e may.line in
-    subst (λ (p : Place). Passes p frames) (λ i. record {
-      format = sym here.0.format i;
-      channels = sym here.0.channels i;
-      capacity = sym here.0.capacity i;
-    }) may.passes
-
--- and it runs
-pub first-runs : (links : List UnitState) (link u : UnitState) (behind : List UnitState) → links ≡ link ∷ behind →
-    u ≡ link → AllRun links → u.ended ≡ false
-first-runs links link u behind is_first same runs =
-    ap (λ (v : UnitState). v.ended) same ∙ (subst AllRun is_first runs).0
-
--- what the last unit writes has room
-pub last-writes :
-    (links : List UnitState) (link u : UnitState) (behind : List UnitState) (frames : List ℤ) (size : ℕ) →
-    links ≡ link ∷ behind → u ≡ link → length behind ≡ 0 → MayTake links frames size → room_of u ≤ size
-last-writes links link u behind frames size is_first same none may =
-    let e : links ≡ u ∷ [] = is_first ∙ (λ i. sym same i ∷ no-units behind none i) in
-    let here : InLine may.place (u ∷ []) = subst (InLine may.place) e may.line in
-    let room = subst (λ us. place_room (place_behind may.place (blocks_of us)) ≤ size) e may.room in
-    rw (here.0.capacity, here.0.channels) room
-
--- and the line behind it may be fed with what it gives
+-- the line behind the first unit may be fed with what that gives
 pub behind-takes :
     (links : List UnitState) (link u v : UnitState) (behind : List UnitState) (frames piece : List ℤ) (size : ℕ)
     (before between : Counts) → links ≡ link ∷ behind → u ≡ link →
@@ -123,6 +84,11 @@ written-line size new old e =
     let fits : size ≤ length new = omega arith in
     let full : length new ≤ size = omega arith in
     take-append-le size new (drop (length new) old) fits ∙ take_all size new full
+
+-- and its front
+pub written-front : {X : Type 0} → (count size : ℕ) (new old read : List X) →
+    read ≡ take size (new ++ drop (length new) old) → length new ≡ size → take count read ≡ take count new
+written-front count size new old read is e = ap (take count) (is ∙ written-line size new old e)
 
 -- a line has few units
 pub few-units : (us : List UnitState) → length (blocks_of us) ≤ MAX_BLOCKS → length us ≤ MAX_BLOCKS

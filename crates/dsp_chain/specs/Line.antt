@@ -1,5 +1,5 @@
 -- What a line of units may be fed with, and the measures that it has.
-use Rattle.std.specs.Prelude.{ℕ, ◌+◌, ◌≤◌, ℤ, List, [], ◌∷◌, length}
+use Rattle.std.specs.Prelude.{ℕ, ◌+◌, ◌≤◌, ℤ, List, [], ◌∷◌, length, take, Option, Some, None}
 use Rattle.dsp_defs.specs.Block.{channels_after}
 use Rattle.dsp_unit.specs.Unit.{UnitState, frames_in}
 use Rattle.dsp_unit.specs.Line.{Place, place_behind, place_room, Passes, blocks_of, InLine, AllAccept, AllTaken}
@@ -15,6 +15,11 @@ pub record MayTake (us : List UnitState) (frames : List ℤ) (size : ℕ) : Type
   pub passes : Passes place frames
   pub accepts : AllAccept us (length (frames_in place.channels frames))
   pub room : place_room (place_behind place (blocks_of us)) ≤ size
+
+-- what a line gave of some frames: the first so many samples of the row that it writes to, or the frames as they are
+abbrev pub given_by : Option ℕ → List ℤ → List ℤ → List ℤ
+given_by None frames row = frames
+given_by (Some count) frames row = take count row
 
 -- so much room is enough for what the line gives of its tail, whose units took some frames that they may take
 pub record MayFinish (us : List UnitState) (size : ℕ) : Type 0 where

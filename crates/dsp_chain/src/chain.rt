@@ -51,7 +51,7 @@ impl<U: Unit + Drop> Model for Chain<U> {
 
 impl<U: AnyUnit + Drop> Chain<U> {
     ghost use Rattle.std.specs.Prelude.{◌≡◌, ◌≤◌, ◌<◌, ◌+◌, ◌↔◌, List, true, false, IsTrue, IsFalse};
-    ghost use Rattle.std.specs.Prelude.{IfOk, IfErr, IsErr, None, Some, length, take, slice_get};
+    ghost use Rattle.std.specs.Prelude.{IfOk, IfErr, IfSome, IsErr, None, Some, length, take, slice_get};
     ghost use Rattle.std.specs.Option.{option_map};
     ghost use Rattle.dsp_defs.specs.Shape.{frames_behind, gathered, held, live_frames, whole_frames};
     ghost use Rattle.dsp_defs.specs.Shape.{window_at, is_legal};
@@ -61,7 +61,7 @@ impl<U: AnyUnit + Drop> Chain<U> {
     ghost use Rattle.dsp_unit.specs.Line.{Passes, place_room, blocks_of, measured_by};
     ghost use Rattle.dsp_unit.specs.Unit.{frames_in};
     ghost use Rattle.dsp_chain.specs.Restored.{kept_of, FitsChain, RestoresChain};
-    ghost use Rattle.dsp_chain.specs.Line.{measure_counts};
+    ghost use Rattle.dsp_chain.specs.Line.{given_by, measure_counts};
     ghost use Rattle.dsp_defs.specs.Block.{Frame};
     ghost use Rattle.dsp_defs.specs.Kept.{kept_of_chain, kept_count_of_chain};
     ghost use Rattle.dsp_chain.specs.Chain.{ChainState, ChainStandsFor, output_of, IsTooMuch, FeedsChain};
@@ -136,22 +136,22 @@ impl<U: AnyUnit + Drop> Chain<U> {
         })
     }
 
-    /// Writes the next live frames, and answers the number of their samples. It refuses where the
-    /// correlation would gather more than `MAX_GATHERED` samples of a channel, and then answers the same
-    /// fault from then on.
+    /// Writes the next live frames, and answers the number of their samples, or `None` where they are the
+    /// frames that it takes, which it does not write. It refuses where the correlation would gather more than
+    /// `MAX_GATHERED` samples of a channel, and then answers the same fault from then on.
     pub fn feed<L: Ledger>(
         &mut self,
         frames: &[i32],
         out: &mut [i32],
         steps: &mut Steps<L>,
-    ) -> Result<usize, GatherFull>
+    ) -> Result<Option<usize>, GatherFull>
         requires running { IsFalse self.old.ended }
         requires passes { Passes self.old.input frames.now }
         requires room { place_room (output_of self.old) ≤ length out.old }
         requires count { self.old.frames + length (frames_in self.old.input.channels frames.now) ≤ MAX_INPUT }
-        ensures within { IfOk result (λ given. given ≤ length out.old) }
-        ensures fed { IfOk result (λ given.
-            FeedsChain self.old self.new frames.now (take given out.new) steps.old steps.new) }
+        ensures within { IfOk result (λ given. IfSome given (λ count. count ≤ length out.old)) }
+        ensures fed { IfOk result (λ given. FeedsChain self.old self.new frames.now
+            (given_by given frames.now out.new) steps.old steps.new) }
         ensures full { IsErr result ↔ IsTooMuch self.old
             (length (frames_in self.old.input.channels frames.now)) }
         ensures numbers { self.old.failed ≡ None

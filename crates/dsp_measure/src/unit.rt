@@ -52,9 +52,11 @@ fn zeros(alloc: Global, count: usize) -> Result<Vec<i64>, AllocError>
 }
 
 impl MeasureUnit {
-    ghost use Rattle.std.specs.Prelude.{◌≤◌, ◌*◌, IfOk};
+    ghost use Rattle.std.specs.Prelude.{◌≤◌, ◌*◌, IfOk, IsFalse, length};
+    ghost use Rattle.dsp_defs.specs.Block.{channels_after};
     ghost use Rattle.dsp_defs.specs.Grammar.{Suits};
-    ghost use Rattle.dsp_unit.specs.Unit.{IsNew};
+    ghost use Rattle.dsp_unit.specs.Unit.{Accepts, Feeds, IsNew, IsOutput, IsSignal, frames_in, most_frames};
+    ghost use Rattle.dsp_unit.specs.Unit.{room_of};
     ghost use Rattle.dsp_measure.specs.Measures.{IsMeasureBlock};
 
     /// A unit that has taken nothing, of a block that measures and suits its place, for at most
@@ -84,17 +86,38 @@ impl MeasureUnit {
             ended: false,
         })
     }
+
+    /// Takes the frames, which it gives as they are.
+    fn take<L: Ledger>(&mut self, frames: &[i32], steps: &mut Steps<L>)
+        requires running { IsFalse self.old.ended }
+        requires signal { IsSignal self.old.format self.old.channels frames.now }
+        requires capacity { length (frames_in self.old.channels frames.now) ≤ self.old.capacity }
+        requires accepts { Accepts self.old (length (frames_in self.old.channels frames.now)) }
+        ensures running { IsFalse self.new.ended }
+        ensures room { length frames.now ≤ room_of self.old }
+        ensures output { IsOutput self.old (most_frames self.old.block self.old.capacity) frames.now }
+        ensures fed { Feeds self.old self.new (frames_in self.old.channels frames.now)
+            (frames_in (channels_after self.old.channels self.old.block) frames.now)
+            steps.old steps.new }
+    {
+        let channels = usize::from(self.channels);
+        let kept = self.kept.as_mut_slice();
+        feed_parts(self.measure, self.format, kept, frames, channels, steps);
+    }
 }
 
 impl Unit for MeasureUnit {
     ghost unit = { λ u. u };
 
     fn feed<L: Ledger>(&mut self, frames: &[i32], out: &mut [i32], steps: &mut Steps<L>) -> usize {
-        let channels = usize::from(self.channels);
-        let kept = self.kept.as_mut_slice();
-        feed_parts(self.measure, self.format, kept, frames, channels, steps);
+        self.take(frames, steps);
         out[..frames.len()].copy_from_slice(frames);
         frames.len()
+    }
+
+    fn pass<L: Ledger>(&mut self, frames: &[i32], steps: &mut Steps<L>) -> bool {
+        self.take(frames, steps);
+        true
     }
 
     fn finish<L: Ledger>(&mut self, _out: &mut [i32], _steps: &mut Steps<L>) -> usize {

@@ -65,7 +65,7 @@ fn words(rt: &impl Abort, alloc: Global, numbers: &[i32]) -> Vec<i32>
     words
 }
 
-/// Feeds the chain one piece, and answers how many samples it gave.
+/// Feeds the chain one piece, and answers how many samples it gave, which stand at the front of `out`.
 fn feed_piece<U: AnyUnit + Drop, L: Ledger>(
     rt: &impl Abort,
     alloc: Global,
@@ -89,8 +89,13 @@ fn feed_piece<U: AnyUnit + Drop, L: Ledger>(
     ensures within { result ≤ length out.old }
 {
     let samples = words(rt, alloc, piece);
-    let Ok(count) = chain.feed(&samples, out, steps) else {
+    let Ok(given) = chain.feed(&samples, out, steps) else {
         panic!(rt; "no block gathers");
+    };
+    let Some(count) = given else {
+        assert_holds!(rt; samples.len() <= out.len());
+        out[..samples.len()].copy_from_slice(&samples);
+        return samples.len();
     };
     count
 }

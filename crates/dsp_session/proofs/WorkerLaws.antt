@@ -1,7 +1,8 @@
 -- What the calls of a chain make of bytes.
 use Rattle.std.proofs.Common.{◌≡◌, ℕ, ◌+◌, ◌*◌, ◌/◌, ◌^◌, ◌<◌, ◌≤◌, ℤ, Bool, List, [], ◌∷◌, ◌++◌, length, take}
 use Rattle.std.proofs.Common.{drop, fold, flat_map, All, FitsSigned, refl, sym, ap, ◌∙◌, subst, arith}
-use Rattle.std.proofs.Common.{inl, inr}
+use Rattle.std.proofs.Common.{inl, inr, Option, None, Some}
+use Rattle.std.specs.Prelude.{IfSome, is_some, not, true, false, unwrap_or}
 use Rattle.dsp_defs.specs.Block.{Frame, format_after, channels_after}
 use Rattle.dsp_defs.specs.Bytes.{IsValue, format_in, width, bytes_of, sample_of}
 use Rattle.dsp_defs.specs.Counts.{Counts}
@@ -25,7 +26,7 @@ use Rattle.std.proofs.lemmas.List.{length-take-le}
 use Rattle.std.proofs.lemmas.List.Elements.{All-weaker}
 use Rattle.dsp_defs.specs.Shape.{frames_behind, gathered, held, whole_frames}
 use Rattle.dsp_defs.specs.declared.fault.GatherFull.{GatherFull}
-use Rattle.dsp_chain.proofs.Room.{written-line}
+use Rattle.dsp_chain.specs.Line.{given_by}
 use Rattle.dsp_chain.specs.Chain.{ChainState, ChainStandsFor, SameChain, FeedsChain, FailsChain, FinishesChain}
 use Rattle.dsp_chain.specs.Chain.{IsNewChain, IsTooMuch as chain_too_much, given_of, live_of, output_of, input_place}
 use Rattle.dsp_chain.specs.Chain.{made_of}
@@ -33,7 +34,7 @@ use Rattle.dsp_input.specs.Taking.{frame_bytes}
 use Rattle.dsp_wave.proofs.CodedSizes.{size_of_coded}
 use Rattle.dsp_session.specs.SessionState.{SessionState}
 use Rattle.dsp_session.specs.SampleRow.{SampleRow, HasRead}
-use Rattle.dsp_session.specs.Working.{IsWorking}
+use Rattle.dsp_session.specs.Working.{IsWorking, row_of}
 use Rattle.dsp_session.proofs.OpeningLaws.{frames-whole, some_frame}
 use Rattle.dsp_session.specs.Session.{IsReady, Holds, Feeds, Fails, IsTooMuch, Ends, given_bytes, signal, live_values}
 use Rattle.dsp_session.specs.Session.{products_of, turns_of}
@@ -53,16 +54,23 @@ channels_behind p (block ∷ blocks) = channels_behind (place_after p block) blo
 pub row_room : (n b c w : ℕ) → n ≤ b → n * (c * w) ≤ b * c * w
 row_room n b c w h = grind arith
 
--- how many bytes the samples have that were given to the front of a row
-pub given_size : (coding : Coding) (count len w : ℕ) (new old : List ℤ) → length new ≡ len → count ≤ len →
-    w ≡ width coding → count * w ≡ length (flat_map (bytes_of coding)
-    (take count (take len (new ++ drop (length new) old))))
-given_size coding count len w new old long within is =
-    let row : List ℤ = take len (new ++ drop (length new) old) in
-    let size : length (take count row) ≡ count =
-    ap (λ zs. length (take count zs)) (written-line len new old long)
-    ∙ length-take-le count new (omega (arith, within, long)) in
-    sym (size_of_coded coding (take count row) ∙ (λ i. size i * sym is i))
+-- the samples that a chain gave, where they stand, and how many they are
+pub given_row : (given : Option ℕ) (as_taken : Bool) (count size : ℕ) (taken written : List ℤ) →
+    is_some given ≡ not as_taken → size ≡ unwrap_or given count → count ≤ length taken →
+    IfSome given (λ n. n ≤ length written) →
+    (take size (row_of as_taken taken written) ≡ given_by given (take count taken) written)
+    × (length (take size (row_of as_taken taken written)) ≡ size)
+given_row None true count size taken written flag is within fits =
+    (ap (λ n. take n taken) is, length-take-le size taken (omega (arith, is, within)))
+given_row None false count size taken written flag is within fits = absurd (cc)
+given_row (Some n) true count size taken written flag is within fits = absurd (cc)
+given_row (Some n) false count size taken written flag is within fits =
+    (ap (λ n. take n written) is, length-take-le size written (omega (arith, is, fits)))
+
+-- how many bytes they have
+pub given_size : (coding : Coding) (count w : ℕ) (xs : List ℤ) → length xs ≡ count → w ≡ width coding →
+    count * w ≡ length (flat_map (bytes_of coding) xs)
+given_size coding count w xs size is = sym (size_of_coded coding xs ∙ (λ i. size i * sym is i))
 
 -- the bytes of some of the samples that there is room for have room
 pub bytes_room : (coding : Coding) (count values bytes room : ℕ) (xs : List ℤ) → length xs ≡ count → count ≤ values →
@@ -172,13 +180,10 @@ module _ (script : Script) (block : ℕ) (ready : IsReady script block) where
         in_limit = omega (arith, n, in_limit);
       }
 
-  -- the bytes of the samples that were given to the front of a row
-  pub given_row : (coding : Coding) (count len : ℕ) (new old : List ℤ) → coding ≡ output_coding script →
-      length new ≡ len → flat_map (bytes_of coding) (take count (take len (new ++ drop (length new) old)))
-      ≡ flat_map (bytes_of (output_coding script)) (take count new)
-  given_row coding count len new old is long =
-      ap (λ zs. flat_map (bytes_of coding) (take count zs)) (written-line len new old long)
-      ∙ ap (λ (c : Coding). flat_map (bytes_of c) (take count new)) is
+  -- the bytes of samples that stand in a row
+  pub given_bytes_are : (coding : Coding) (xs ys : List ℤ) → coding ≡ output_coding script → xs ≡ ys →
+      flat_map (bytes_of coding) xs ≡ flat_map (bytes_of (output_coding script)) ys
+  given_bytes_are coding xs ys is same = λ i. flat_map (bytes_of (is i)) (same i)
 
   -- what the chain gives are values of the output's coding
   pub gives_values : (coding : Coding) (ys : List ℤ) → coding ≡ output_coding script →
@@ -358,10 +363,10 @@ pub still_works :
     (s : SessionState) (chain : ChainState) (out : List ℕ) (coding : Coding)
     (samples_room values_room bytes_room given later : ℕ) (ys zs : List ℤ) →
     IsWorking s coding samples_room values_room bytes_room given ys → SameChain s.chain chain → later ≤ values_room →
-    All (IsValue coding) zs →
+    length zs ≡ later → All (IsValue coding) zs →
     IsWorking (with_chain s.script s.block s.banked s.coding chain out) coding samples_room values_room bytes_room later
     zs
-still_works s chain out coding samples_room values_room bytes_room given later ys zs is same within fit = record {
+still_works s chain out coding samples_room values_room bytes_room given later ys zs is same within long fit = record {
   holds = record {
     ready = is.holds.ready;
     input = same.input ∙ is.holds.input;
@@ -374,6 +379,7 @@ still_works s chain out coding samples_room values_room bytes_room given later y
   values = is.values ∙ room;
   bytes = is.bytes ∙ ap (λ r. r * width coding) room;
   within = within;
+  long = long;
   given_fit = fit;
 }
   where

@@ -19,6 +19,7 @@ ghost use Rattle.dsp_defs.specs.Block.{Frame};
 ghost use Rattle.dsp_session.specs.Session.{IsReady, IsNew, StandsFor, SameScript, SameSession, Feeds, Fails};
 ghost use Rattle.dsp_session.specs.Session.{IsTooMuch, Ends, block_bytes, call_room, given_bytes, measured};
 ghost use Rattle.dsp_session.specs.Session.{signal, tail_bytes};
+ghost use Rattle.dsp_session.specs.Working.{row_of};
 
 use crate::samples::Samples;
 use dsp_chain::Chain;
@@ -48,8 +49,25 @@ fn chain_of<U: AnyUnit + Drop>(
     }
 }
 
-/// The blocks of a script at work on bytes. What a call gave stands as samples at the front of `values`, and `bytes` has
-/// room for their bytes.
+/// The samples that a call gave: so many at the front of the row that was read, where they are given as they were
+/// taken, and else of the one that was written.
+fn given_samples<'a>(
+    as_taken: bool,
+    taken: &'a Samples,
+    written: &'a [i32],
+    count: usize,
+) -> &'a [i32]
+    requires { count ≤ length (row_of as_taken taken.now.row written.now) }
+    ensures { result.now ≡ take count (row_of as_taken taken.now.row written.now) }
+{
+    match as_taken {
+        true => taken.front(count),
+        false => &written[..count],
+    }
+}
+
+/// The blocks of a script at work on bytes. What a call gave stands as samples at the front of `values`, or where it is
+/// given as it was taken at that of `samples`, and `bytes` has room for their bytes.
 #[derive(Drop)]
 pub struct Worker<U: Unit + Drop> {
     script: Script,
@@ -61,13 +79,14 @@ pub struct Worker<U: Unit + Drop> {
     values: Vec<i32>,
     bytes: Vec<u8>,
     given: usize,
+    as_taken: bool,
 }
 
 impl<U: Unit + Drop> Model for Worker<U> {
     ghost use Rattle.std.specs.Prelude.{flat_map, length, take, vec_len};
     ghost use Rattle.dsp_defs.specs.Bytes.{bytes_of};
     ghost use Rattle.dsp_session.specs.SessionState.{SessionState};
-    ghost use Rattle.dsp_session.specs.Working.{IsWorking};
+    ghost use Rattle.dsp_session.specs.Working.{IsWorking, row_of};
 
     ghost Value = { SessionState };
 
@@ -77,7 +96,7 @@ impl<U: Unit + Drop> Model for Worker<U> {
       block = w.block;
       coding = w.samples.coding;
       chain = w.chain;
-      out = flat_map (bytes_of w.output) (take w.given w.values.items);
+      out = flat_map (bytes_of w.output) (take w.given (row_of w.as_taken w.samples.row w.values.items));
     } };
 
     ghost invariant = { λ w. IsWorking
@@ -87,10 +106,10 @@ impl<U: Unit + Drop> Model for Worker<U> {
           block = w.block;
           coding = w.samples.coding;
           chain = w.chain;
-          out = flat_map (bytes_of w.output) (take w.given w.values.items);
+          out = flat_map (bytes_of w.output) (take w.given (row_of w.as_taken w.samples.row w.values.items));
         })
         w.output (length w.samples.row) (vec_len w.values) (vec_len w.bytes) w.given
-        (take w.given w.values.items) };
+        (take w.given (row_of w.as_taken w.samples.row w.values.items)) };
 }
 
 impl<U: AnyUnit + Drop> Worker<U> {
@@ -119,6 +138,7 @@ impl<U: AnyUnit + Drop> Worker<U> {
             values,
             bytes,
             given: 0,
+            as_taken: false,
         })
     }
 
@@ -215,7 +235,8 @@ impl<U: AnyUnit + Drop> Worker<U> {
     pub fn out(&self) -> Coded<'_>
         ensures { result ≡ self.now.out }
     {
-        Coded::new(self.output, &self.values[..self.given])
+        let given = given_samples(self.as_taken, &self.samples, &self.values, self.given);
+        Coded::new(self.output, given)
     }
 
     /// Writes the bytes that the last call gave, or a front of them where the sink fails.
@@ -227,8 +248,12 @@ impl<U: AnyUnit + Drop> Worker<U> {
             × Took (K.state output.old) (K.state output.new) (take count self.old.out)) }
         ensures faults { CountsFaults result (K.state output.old).faults (K.state output.new).faults }
     {
-        let given = Coded::new(self.output, &self.values[..self.given]);
-        write_piece(output, &given, self.bytes.as_mut_slice())
+        let given = given_samples(self.as_taken, &self.samples, &self.values, self.given);
+        write_piece(
+            output,
+            &Coded::new(self.output, given),
+            self.bytes.as_mut_slice(),
+        )
     }
 
     /// Takes the frames of the next `size` bytes of a source, at most a block, where it lends them, gives the bytes of
@@ -254,8 +279,9 @@ impl<U: AnyUnit + Drop> Worker<U> {
         let samples = self.samples.front(count);
         match self.chain.feed(samples, self.values.as_mut_slice(), steps) {
             Ok(given) => {
-                self.given = given;
-                Some(Ok(given * width(self.output)))
+                self.as_taken = given.is_none();
+                self.given = given.unwrap_or(count);
+                Some(Ok(self.given * width(self.output)))
             }
             Err(fault) => Some(Err(fault)),
         }
@@ -295,6 +321,7 @@ impl<U: AnyUnit + Drop> Worker<U> {
         ensures within { result ≤ call_room self.old }
         ensures ends { Ends self.old self.new result steps.old steps.new }
     {
+        self.as_taken = false;
         self.given = self.chain.finish(self.values.as_mut_slice(), steps);
         self.given * width(self.output)
     }

@@ -1,4 +1,4 @@
-ghost use Rattle.std.specs.Prelude.{◌≡◌, ◌≤◌, ℕ, Some, length, take, slice_get, IfSome, IsFalse};
+ghost use Rattle.std.specs.Prelude.{◌≡◌, ◌≤◌, ℕ, Some, length, take, slice_get, IfSome, IsFalse, IsTrue};
 ghost use Rattle.dsp_defs.specs.Block.{channels_after};
 ghost use Rattle.dsp_defs.specs.Kept.{Fits, FitsAfter, place_of};
 ghost use Rattle.dsp_unit.specs.Unit.{UnitState, frames_in, room_of, IsSignal, IsOutput, Accepts, Feeds};
@@ -28,6 +28,28 @@ pub trait Unit {
             (frames_in (unit self.old).channels frames.now)
             (frames_in (channels_after (unit self.old).channels (unit self.old).block)
             (take result out.new)) steps.old steps.new };
+
+    /// Takes the frames where it gives them as they are, and answers whether it did. Where it did not, nothing has
+    /// changed, and they are still to be fed. A measure does, so that no frame is copied.
+    fn pass<L: Ledger>(&mut self, frames: &[i32], steps: &mut Steps<L>) -> bool
+        requires running { IsFalse (unit self.old).ended }
+        requires signal { IsSignal (unit self.old).format (unit self.old).channels frames.now }
+        requires capacity { length (frames_in (unit self.old).channels frames.now) ≤
+            (unit self.old).capacity }
+        requires accepts { Accepts (unit self.old)
+            (length (frames_in (unit self.old).channels frames.now)) }
+        ensures running { IsFalse (unit self.new).ended }
+        ensures refused { IsFalse result
+            → (unit self.new ≡ unit self.old) × (steps.new ≡ steps.old) }
+        ensures output { IsTrue result → IsOutput (unit self.old)
+            (most_frames (unit self.old).block (unit self.old).capacity) frames.now }
+        ensures fed { IsTrue result → Feeds (unit self.old) (unit self.new)
+            (frames_in (unit self.old).channels frames.now)
+            (frames_in (channels_after (unit self.old).channels (unit self.old).block) frames.now)
+            steps.old steps.new }
+    {
+        false
+    }
 
     /// Writes the next frames of the tail, and answers the number of their samples: 0 where it is spent.
     fn finish<L: Ledger>(&mut self, out: &mut [i32], steps: &mut Steps<L>) -> usize

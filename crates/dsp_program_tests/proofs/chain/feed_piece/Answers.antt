@@ -46,3 +46,11 @@ returns-clause-frames g c =
     ∙ ap (λ (xs : List ℤ). c.args.chain.now.frames + length (frames_in channels xs))
     (c.deref.ensures.value ∙ c.words-samples.ensures.same)
     ∙ ap (λ (n : ℕ). c.args.chain.now.frames + n) (half channels c.args.piece.now c.requires.channels)
+
+pub returns-in_default-given-clause-frames : goal.returns-in_default-given-clause-frames
+returns-in_default-given-clause-frames g c =
+    let channels = c.args.chain.now.input.channels in
+    c.in-Ok.ensures.fed.counted
+    ∙ ap (λ (xs : List ℤ). c.args.chain.now.frames + length (frames_in channels xs))
+    (c.deref.ensures.value ∙ c.words-samples.ensures.same)
+    ∙ ap (λ (n : ℕ). c.args.chain.now.frames + n) (half channels c.args.piece.now c.requires.channels)

@@ -1,4 +1,4 @@
-use Rattle.std.proofs.Common.{◌≡◌, ◌∙◌, ap, inl, inr, refl, sym, subst, take, length, arith, true, false, Option}
+use Rattle.std.proofs.Common.{◌≡◌, ◌∙◌, ap, inl, inr, refl, sym, subst, length, arith, true, false, Option}
 use Rattle.std.proofs.Common.{Some, None, ◌+◌, ◌<◌, ◌≤◌}
 use Rattle.std.specs.Prelude.{is_some}
 use Rattle.dsp_unit.specs.Line.{Place, InLine, AllCount, AllTaken, blocks_of, place_behind, place_room}
@@ -7,7 +7,7 @@ use Rattle.dsp_defs.specs.declared.limits.TheConstants.{MAX_GATHERED, MAX_INPUT}
 use Rattle.dsp_defs.proofs.FrameLemmas.{length-frames_in}
 use Rattle.dsp_shape.proofs.FewFrames.{few-taken}
 use Rattle.dsp_unit.proofs.TailLaws.{count-runs, count-took}
-use Rattle.dsp_chain.specs.Line.{MayTake}
+use Rattle.dsp_chain.specs.Line.{MayTake, given_by}
 use Rattle.dsp_chain.proofs.Room.{written-line}
 use Rattle.dsp_chain.proofs.ChainCalls.{whole-again, chain-fed}
 use Rattle.dsp_chain.proofs.chain.Chain.feed.Goals as goal
@@ -170,7 +170,7 @@ returns-clause-fed g c =
     (omega (arith, c.feed_line.auto.links, c.as_mut_slice.ensures.len)) in
     rw (← c.self.view_is)
     (chain-fed _ _ c.as_mut_slice.result.now c.feed_line.new.links c.args.frames.now
-    (take c.feed_line.result c.feed_line.new.out) c.args.steps.now c.feed_line.new.steps
+    (given_by c.feed_line.result c.args.frames.now c.feed_line.new.out) c.args.steps.now c.feed_line.new.steps
     c.as_mut_slice.ensures.value whole refl refl running c.in_default.is
     (ap (λ n. c.self.inside.frames + n) c.frame_count.ensures) is.line (is.counts running) fed)
 

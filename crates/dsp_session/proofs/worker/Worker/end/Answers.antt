@@ -1,4 +1,4 @@
-use Rattle.std.proofs.Common.{◌≡◌, ◌*◌, ◌∙◌, sym, length, take, subst, All, arith}
+use Rattle.std.proofs.Common.{◌≡◌, ◌*◌, ◌∙◌, ap, sym, length, take, subst, All, arith}
 use Rattle.std.proofs.lemmas.List.{length-take-le}
 use Rattle.dsp_defs.specs.Bytes.{IsValue, width}
 use Rattle.dsp_defs.proofs.CodingLemmas.{width-some}
@@ -14,6 +14,9 @@ invariant_of-self g c =
     (c.finish-self-inside.auto.out ∙ c.as_mut_slice.ensures.len) in
     laws.still_works _ _ _ _ _ _ _ _ _ _ _ c.self.invariant finished.same
     (omega (arith, c.finish-self-inside.ensures.within, c.as_mut_slice.ensures.len))
+    (ap (λ zs. length (take c.finish-self-inside.result zs)) same
+    ∙ length-take-le c.finish-self-inside.result c.finish-self-inside.new.out
+    (omega (arith, c.finish-self-inside.ensures.within, c.finish-self-inside.auto.out)))
     (subst (λ zs. All (IsValue c.self.inside.output) (take c.finish-self-inside.result zs)) (sym same)
     (laws.gives_values c.self.inside.script c.self.inside.block holds.ready c.self.inside.output _
     c.self.invariant.output (rw (← laws.gives_format c.self.inside.script c.self.inside.block holds.ready
@@ -22,9 +25,12 @@ invariant_of-self g c =
 
 pub returns-clause-given : goal.returns-clause-given
 returns-clause-given g c =
-    laws.given_size c.self.inside.output c.finish-self-inside.result c.self.inside.values.len c.width.result
-    c.finish-self-inside.new.out c.self.inside.values.items (c.finish-self-inside.auto.out ∙ c.as_mut_slice.ensures.len)
-    (omega (arith, c.finish-self-inside.ensures.within, c.as_mut_slice.ensures.len)) c.width.ensures
+    let same = written-line c.self.inside.values.len c.finish-self-inside.new.out c.self.inside.values.items
+    (c.finish-self-inside.auto.out ∙ c.as_mut_slice.ensures.len) in
+    laws.given_size c.self.inside.output c.finish-self-inside.result c.width.result _
+    (ap (λ zs. length (take c.finish-self-inside.result zs)) same
+    ∙ length-take-le c.finish-self-inside.result c.finish-self-inside.new.out
+    (omega (arith, c.finish-self-inside.ensures.within, c.finish-self-inside.auto.out))) c.width.ensures
 
 pub returns-clause-ends : goal.returns-clause-ends
 returns-clause-ends g c =
@@ -32,9 +38,10 @@ returns-clause-ends g c =
     let holds = c.self.invariant.holds in
     let new = c.finish-self-inside.new.out in
     let ys = take c.finish-self-inside.result new in
-    let long = c.finish-self-inside.auto.out ∙ c.as_mut_slice.ensures.len in
-    let out = laws.given_row script c.self.inside.block holds.ready c.self.inside.output c.finish-self-inside.result
-    c.self.inside.values.len new c.self.inside.values.items c.self.invariant.output long in
+    let same = written-line c.self.inside.values.len new c.self.inside.values.items
+    (c.finish-self-inside.auto.out ∙ c.as_mut_slice.ensures.len) in
+    let out = laws.given_bytes_are script c.self.inside.block holds.ready c.self.inside.output _ ys
+    c.self.invariant.output (ap (take c.finish-self-inside.result) same) in
     let size : length ys ≡ c.finish-self-inside.result = length-take-le c.finish-self-inside.result new
     (omega (arith, c.finish-self-inside.ensures.within, c.finish-self-inside.auto.out)) in
     let answer : c.finish-self-inside.result * c.width.result ≡ length ys * width c.self.inside.output =

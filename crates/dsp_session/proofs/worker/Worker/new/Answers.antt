@@ -24,6 +24,7 @@ invariant_of-result g c =
       values = c.in_ok-values.ensures.len ∙ c.room-room.ensures;
       bytes = c.in_ok-bytes.ensures.len ∙ (λ i. c.room-room.ensures i * c.width.ensures i);
       within = omega arith;
+      long = refl;
       given_fit = λ k d less. absurd (omega (arith, less));
     }
 

@@ -29,5 +29,6 @@ invariant_of-self g c =
       values = is.values;
       bytes = is.bytes;
       within = is.within;
+      long = is.long;
       given_fit = is.given_fit;
     })

@@ -1,12 +1,12 @@
-use Rattle.std.proofs.Common.{◌∙◌, ap, refl, sym, subst, ℕ, ℤ, List, ◌+◌, ◌*◌, ◌/◌, ◌≤◌, length, length-take-le, drop}
+use Rattle.std.proofs.Common.{◌∙◌, refl, sym, subst, ℕ, ℤ, List, ◌+◌, ◌*◌, ◌/◌, ◌≤◌, length, arith}
 use Rattle.std.specs.Prelude.{IsFalse}
 use Rattle.dsp_defs.specs.Counts.{Rises}
 use Rattle.dsp_defs.proofs.FrameLemmas.{length-frames_in}
-use Rattle.dsp_unit.specs.Unit.{IsSignal, UnitState}
+use Rattle.dsp_unit.specs.Unit.{IsSignal, UnitState, room_of}
 use Rattle.dsp_measure.specs.Measures.{AllCanTake, PartsFeed, channels_of, parts_of, price_of}
-use Rattle.dsp_measure.proofs.MeasureUnits.{is-measuring, state, can-take, channels-stay, measure-feeds}
-use Rattle.dsp_measure.proofs.MeasureUnits.{measure-output, measure-room, whole-row, front-row}
-use Rattle.dsp_measure.proofs.unit.MeasureUnitUnit.feed.Goals as goal
+use Rattle.dsp_measure.proofs.MeasureUnits.{is-measuring, state, can-take, channels-stay, measure-feeds, measure-output}
+use Rattle.dsp_measure.proofs.MeasureUnits.{measure-room, whole-row}
+use Rattle.dsp_measure.proofs.unit.MeasureUnit.take.Goals as goal
 
 pub feed_parts-requires-clause-kept : goal.feed_parts-requires-clause-kept
 feed_parts-requires-clause-kept g c =
@@ -43,29 +43,6 @@ invariant_of-self g c =
       fits = (many.0 + length frames / u.channels, (many.2, fed.kinds many.0 many.1));
     })
 
-pub returns-clause-fed : goal.returns-clause-fed
-returns-clause-fed g c =
-    let u = c.self.inside in
-    let frames = c.args.frames.now in
-    let new = c.feed_parts.new.kept in
-    let running = rw (← c.self.view_is) at c.requires.running in
-    let kept = whole-row u.kept.len new u.kept.items (c.feed_parts.auto.kept ∙ c.as_mut_slice-kept.ensures.len) in
-    let given = front-row (length frames) c.copy_from_slice.new.self (drop (length frames) c.args.out.now)
-    (ap length c.copy_from_slice.ensures.after) ∙ c.copy_from_slice.ensures.after in
-    let fed = subst (λ (p : ℕ × List ℤ). PartsFeed u.format u.measure p.0 frames p.1 new)
-    (λ i. (c.from-channels.ensures i, c.as_mut_slice-kept.ensures.value i)) c.feed_parts.ensures.fed in
-    let rises = subst (λ k. Rises c.args.steps.now c.feed_parts.new.steps
-    (parts_of u.measure k * (price_of u.measure * (length frames / k)))
-    (parts_of u.measure k * (price_of u.measure * (length frames / k)))) c.from-channels.ensures
-    c.feed_parts.ensures.steps in
-    rw (← c.self.view_is, given, channels-stay u.format u.channels u.measure, kept)
-    (measure-feeds u.measure (state u.measure u.format u.channels u.capacity u.kept.items u.ended)
-    (state u.measure u.format u.channels u.capacity new u.ended) frames c.args.steps.now c.feed_parts.new.steps
-    (is-measuring u.measure u.format u.channels u.capacity u.kept.items u.ended running)
-    (is-measuring u.measure u.format u.channels u.capacity new u.ended running)
-    (record { block = refl; format = refl; channels = refl; capacity = refl; banked = refl })
-    c.self.invariant.fits fed rises)
-
 pub feed_parts-requires-clause-channels : goal.feed_parts-requires-clause-channels
 feed_parts-requires-clause-channels g c = subst (λ k. channels_of c.self.inside.measure ≤ k)
     (sym c.from-channels.ensures) c.self.invariant.enough
@@ -75,54 +52,43 @@ feed_parts-requires-clause-in_format g c =
     (subst (λ (u : UnitState). IsSignal u.format u.channels c.args.frames.now) (sym c.self.view_is)
     c.requires.signal).in_format
 
-pub slice_bounds-copy_from_slice-end : goal.slice_bounds-copy_from_slice-end
-slice_bounds-copy_from_slice-end g c =
-    let u = c.self.inside in
-    let s = state u.measure u.format u.channels u.capacity u.kept.items u.ended in
-    let fit = measure-room u.measure s c.args.frames.now (length c.args.out.now) refl
-    (rw (← c.self.view_is) at c.requires.signal)
-    (rw (← c.self.view_is) at c.requires.capacity) (rw (← c.self.view_is) at c.requires.room) in
-    fit
-
-pub slice_bounds-copy_from_slice-end-2 : goal.slice_bounds-copy_from_slice-end-2
-slice_bounds-copy_from_slice-end-2 g c =
-    let u = c.self.inside in
-    let s = state u.measure u.format u.channels u.capacity u.kept.items u.ended in
-    let fit = measure-room u.measure s c.args.frames.now (length c.args.out.now) refl
-    (rw (← c.self.view_is) at c.requires.signal)
-    (rw (← c.self.view_is) at c.requires.capacity) (rw (← c.self.view_is) at c.requires.room) in
-    sym (length-take-le (length c.args.frames.now) c.args.out.now fit)
-
-pub copy_from_slice-requires : goal.copy_from_slice-requires
-copy_from_slice-requires g c =
-    let u = c.self.inside in
-    let s = state u.measure u.format u.channels u.capacity u.kept.items u.ended in
-    let fit = measure-room u.measure s c.args.frames.now (length c.args.out.now) refl
-    (rw (← c.self.view_is) at c.requires.signal)
-    (rw (← c.self.view_is) at c.requires.capacity) (rw (← c.self.view_is) at c.requires.room) in
-    length-take-le (length c.args.frames.now) c.args.out.now fit
-
 pub returns-clause-running : goal.returns-clause-running
 returns-clause-running g c = subst (λ (u : UnitState). IsFalse u.ended) (sym c.self.view_is) c.requires.running
 
-pub returns-clause-within : goal.returns-clause-within
-returns-clause-within g c =
+pub returns-clause-fed : goal.returns-clause-fed
+returns-clause-fed g c =
+    let u = c.self.inside in
+    let frames = c.args.frames.now in
+    let new = c.feed_parts.new.kept in
+    let running = rw (← c.self.view_is) at c.requires.running in
+    let kept = whole-row u.kept.len new u.kept.items (c.feed_parts.auto.kept ∙ c.as_mut_slice-kept.ensures.len) in
+    let fed = subst (λ (p : ℕ × List ℤ). PartsFeed u.format u.measure p.0 frames p.1 new)
+    (λ i. (c.from-channels.ensures i, c.as_mut_slice-kept.ensures.value i)) c.feed_parts.ensures.fed in
+    let rises = subst (λ k. Rises c.args.steps.now c.feed_parts.new.steps
+    (parts_of u.measure k * (price_of u.measure * (length frames / k)))
+    (parts_of u.measure k * (price_of u.measure * (length frames / k)))) c.from-channels.ensures
+    c.feed_parts.ensures.steps in
+    rw (← c.self.view_is, channels-stay u.format u.channels u.measure, kept)
+    (measure-feeds u.measure (state u.measure u.format u.channels u.capacity u.kept.items u.ended)
+    (state u.measure u.format u.channels u.capacity new u.ended) frames c.args.steps.now c.feed_parts.new.steps
+    (is-measuring u.measure u.format u.channels u.capacity u.kept.items u.ended running)
+    (is-measuring u.measure u.format u.channels u.capacity new u.ended running)
+    (record { block = refl; format = refl; channels = refl; capacity = refl; banked = refl })
+    c.self.invariant.fits fed rises)
+
+pub returns-clause-room : goal.returns-clause-room
+returns-clause-room g c =
     let u = c.self.inside in
     let s = state u.measure u.format u.channels u.capacity u.kept.items u.ended in
-    let fit = measure-room u.measure s c.args.frames.now (length c.args.out.now) refl
-    (rw (← c.self.view_is) at c.requires.signal)
-    (rw (← c.self.view_is) at c.requires.capacity) (rw (← c.self.view_is) at c.requires.room) in
-    fit
+    rw (← c.self.view_is)
+    (measure-room u.measure s c.args.frames.now (room_of s) refl
+    (rw (← c.self.view_is) at c.requires.signal) (rw (← c.self.view_is) at c.requires.capacity) (omega arith))
 
 pub returns-clause-output : goal.returns-clause-output
 returns-clause-output g c =
     let u = c.self.inside in
-    let frames = c.args.frames.now in
     let running = rw (← c.self.view_is) at c.requires.running in
-    let new = c.copy_from_slice.new.self in
-    let after = c.copy_from_slice.ensures.after in
-    let given = front-row (length frames) new (drop (length frames) c.args.out.now) (ap length after) ∙ after in
-    rw (← c.self.view_is, given)
-    (measure-output u.measure (state u.measure u.format u.channels u.capacity u.kept.items u.ended) frames
+    rw (← c.self.view_is)
+    (measure-output u.measure (state u.measure u.format u.channels u.capacity u.kept.items u.ended) c.args.frames.now
     (is-measuring u.measure u.format u.channels u.capacity u.kept.items u.ended running)
     (rw (← c.self.view_is) at c.requires.signal) (rw (← c.self.view_is) at c.requires.capacity))

@@ -169,7 +169,7 @@ impl<R: Files<File: AsRawFd>> Source for FileSource<'_, R> {
         if count == 0 || count > ready || count as u64 > u64::MAX - self.taken {
             return false;
         }
-        self.strayed |= self.ended | (count == 0);
+        self.strayed |= self.ended;
         let start = self.ahead.start;
         let end = start + count;
         taker.take(&self.ahead.bytes[start..end]);
@@ -185,13 +185,25 @@ const GATHERED: usize = 65_536;
 /// A piece of so many bytes is written by itself, since copying it costs more than a call.
 const ALONE: usize = 16_384;
 
-/// The bytes that were accepted, and not written to the file yet: the first `count`. The others are room.
+/// The bytes that were accepted, and not written to the file yet: those from `start` to `end`. The others are room. The
+/// place of a byte is its place in the file modulo `GATHERED`, so that what is written where there is no more room ends
+/// at a multiple of it in the file: a kernel takes whole pages faster.
 #[derive(Drop)]
 struct Gathered {
     bytes: Vec<u8>,
-    count: usize,
+    start: usize,
+    end: usize,
     ghost long: { vec_len bytes ≡ GATHERED },
-    ghost within: { count ≤ GATHERED },
+    ghost in_order: { start ≤ end },
+    ghost within: { end ≤ GATHERED },
+}
+
+impl Gathered {
+    /// All that was gathered is in the file, and so many bytes behind it.
+    fn go_on(&mut self, count: usize) {
+        self.start = (self.end + count % GATHERED) % GATHERED;
+        self.end = self.start;
+    }
 }
 
 /// A file that is opened and emptied, or made, at the first write or flush. A file that the run reads, by this name
@@ -245,7 +257,11 @@ impl<'a, R: Files> FileSink<'a, R> {
         let mut gathered = None;
         if !path.is_empty() {
             let bytes = vec![in alloc; 0; GATHERED]?;
-            gathered = Some(Gathered { bytes, count: 0 });
+            gathered = Some(Gathered {
+                bytes,
+                start: 0,
+                end: 0,
+            });
         }
         Ok(FileSink {
             files,
@@ -307,11 +323,11 @@ fn open_output<R: Files<File: AsRawFd>>(
 
 /// Writes what was gathered. After a failure it is given up, since a part of it may have been written.
 fn spill_to<F: Write>(file: &mut F, gathered: &mut Gathered) -> io::Result<()> {
-    let written = match gathered.count {
-        0 => Ok(()),
-        count => file.write_all(&gathered.bytes[..count]),
+    let written = match gathered.start == gathered.end {
+        true => Ok(()),
+        false => file.write_all(&gathered.bytes[gathered.start..gathered.end]),
     };
-    gathered.count = 0;
+    gathered.go_on(0);
     written
 }
 
@@ -321,16 +337,18 @@ fn gather<F: Write>(file: &mut F, gathered: &mut Gathered, piece: &[u8]) -> io::
     ensures { IfOk result (λ count. count ≤ length piece.now) }
 {
     let is_long = piece.len() >= ALONE;
-    if is_long || gathered.count == GATHERED {
+    if is_long || gathered.end == GATHERED {
         spill_to(file, gathered)?;
     }
     if is_long {
-        return file.write(piece);
+        let count = file.write(piece)?;
+        gathered.go_on(count);
+        return Ok(count);
     }
-    let count = piece.len().min(GATHERED - gathered.count);
-    let end = gathered.count + count;
-    gathered.bytes[gathered.count..end].copy_from_slice(&piece[..count]);
-    gathered.count = end;
+    let count = piece.len().min(GATHERED - gathered.end);
+    let end = gathered.end + count;
+    gathered.bytes[gathered.end..end].copy_from_slice(&piece[..count]);
+    gathered.end = end;
     Ok(count)
 }
 
@@ -340,12 +358,12 @@ fn gather_made<P: Piece>(gathered: &mut Gathered, piece: &P) -> bool
     ensures { IsTrue result → 0 < length (P.bytes piece.now) }
 {
     let size = piece.size();
-    if size == 0 || size >= ALONE || size > GATHERED - gathered.count {
+    if size == 0 || size >= ALONE || size > GATHERED - gathered.end {
         return false;
     }
-    let end = gathered.count + size;
-    piece.write_to(&mut gathered.bytes[gathered.count..end]);
-    gathered.count = end;
+    let end = gathered.end + size;
+    piece.write_to(&mut gathered.bytes[gathered.end..end]);
+    gathered.end = end;
     true
 }
 
@@ -363,6 +381,7 @@ impl<R: Files<File: AsRawFd>> FileSink<'_, R> {
         }
         let mut file = open_output(self.files, self.path, self.script, self.input)?;
         let count = file.write(piece)?;
+        gathered.go_on(count);
         self.file = Some(file);
         Ok(count)
     }

@@ -5,3 +5,4 @@ pub mod PairedProducts
 pub mod Sound
 pub mod Filling
 pub mod Turned
+pub mod ScaledGroups

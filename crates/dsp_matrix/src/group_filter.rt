@@ -36,7 +36,7 @@ impl<T: Sample, W: GroupWork<T> + Drop> Model for GroupFilter<T, W> {
         × (f.capacity ≤ MAX_SAMPLES) };
 }
 
-/// Writes what each whole group of the input becomes, straight from the input.
+/// Writes what each whole group of the input becomes, one group after another.
 fn transform_groups<T: Sample, W: GroupWork<T>, L: Ledger>(
     work: &W,
     input: &[T],
@@ -61,6 +61,27 @@ fn transform_groups<T: Sample, W: GroupWork<T>, L: Ledger>(
             steps,
         );
     }
+}
+
+/// Writes what each whole group of the input becomes, straight from the input: all at once where the
+/// work can.
+fn transform_whole<T: Sample, W: GroupWork<T>, L: Ledger>(
+    work: &W,
+    input: &[T],
+    output: &mut [T],
+    steps: &mut Steps<L>,
+)
+    requires work { W.IsOf (W.block work.now) }
+    requires room { length output.old ≡ given_count (W.group (W.block work.now)) (length input.now) }
+    ensures out { map T.number output.new ≡ given_groups (W.group (W.block work.now))
+        (map T.number input.now) }
+    ensures steps { RisesJust steps.old steps.new
+        (product_count (W.group (W.block work.now)) (length input.now)) }
+{
+    if work.transform_at_once(input, output, steps) {
+        return;
+    }
+    transform_groups(work, input, output, steps)
 }
 
 /// Works on an input that begins a group: writes what its whole groups become to the front of the
@@ -88,7 +109,7 @@ fn feed_whole<T: Sample, W: GroupWork<T>, L: Ledger>(
 {
     let groups = input.len() / work.taken();
     let count = groups * work.given();
-    transform_groups(work, input, &mut output[..count], steps);
+    transform_whole(work, input, &mut output[..count], steps);
     begun.start(&input[groups * work.taken()..]);
     count
 }

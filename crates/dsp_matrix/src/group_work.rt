@@ -1,5 +1,6 @@
-ghost use Rattle.std.specs.Prelude.{◌≡◌, length, map, IfOk};
-ghost use Rattle.dsp_matrix.specs.Groups.{Group, IsGrouped, given_group, RisesJust};
+ghost use Rattle.std.specs.Prelude.{◌≡◌, length, map, IfOk, IsTrue, IsFalse};
+ghost use Rattle.dsp_matrix.specs.Groups.{Group, IsGrouped, given_group, given_groups, given_count};
+ghost use Rattle.dsp_matrix.specs.Groups.{product_count, RisesJust};
 ghost use Rattle.dsp_defs.specs.declared.script.Block.{Block};
 
 use dsp_defs::{Block, Steps};
@@ -39,6 +40,22 @@ pub trait GroupWork<T: Sample> {
         ensures out { map T.number out.new ≡ given_group (group (block self.now))
             (map T.number samples.now) }
         ensures steps { RisesJust steps.old steps.new (group (block self.now)).products };
+
+    /// Transforms all whole groups of the input at once where the work can, and answers whether it did.
+    fn transform_at_once<L: Ledger>(
+        &self,
+        input: &[T],
+        output: &mut [T],
+        steps: &mut Steps<L>,
+    ) -> bool
+        requires work { IsOf (block self.now) }
+        requires room { length output.old ≡ given_count (group (block self.now)) (length input.now) }
+        ensures out { IsTrue result → map T.number output.new ≡ given_groups (group (block self.now))
+            (map T.number input.now) }
+        ensures steps { IsTrue result → RisesJust steps.old steps.new
+            (product_count (group (block self.now)) (length input.now)) }
+        ensures output { IsFalse result → output.new ≡ output.old }
+        ensures uncounted { IsFalse result → steps.new ≡ steps.old };
 
     ghost grouped: { (b : Block) → IsOf b → IsGrouped T.format b (group b) };
 }

@@ -122,4 +122,21 @@ impl<T: MatrixSample> GroupWork<T> for MatrixWork<T> {
             }
         }
     }
+
+    fn transform_at_once<L: Ledger>(
+        &self,
+        input: &[T],
+        output: &mut [T],
+        steps: &mut Steps<L>,
+    ) -> bool {
+        // Each element is scaled by itself, so the groups need not be told apart.
+        match self {
+            MatrixWork::Scale { fract, shift, .. } => {
+                let count = output.len();
+                mat_scale(&input[..count], *fract, *shift, output, steps);
+                true
+            }
+            _ => false,
+        }
+    }
 }

@@ -124,4 +124,13 @@ impl GroupWork<i16> for ProductWork {
         }
         multiply::<i16, ByColumns, L>(samples, &self.turned, rows, columns, given, out, steps)
     }
+
+    fn transform_at_once<L: Ledger>(
+        &self,
+        _input: &[i16],
+        _output: &mut [i16],
+        _steps: &mut Steps<L>,
+    ) -> bool {
+        false
+    }
 }

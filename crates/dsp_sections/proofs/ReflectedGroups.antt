@@ -1,39 +1,31 @@
 -- A section of a lattice over samples, eight at a time and then one by one.
 use Rattle.std.proofs.Common.{ℕ, zero, suc, ◌≡◌, ◌<◌, ◌≤◌, ◌+◌, List, [], ◌∷◌, ◌++◌, length, map, take, drop, set}
-use Rattle.std.proofs.Common.{replicate, ℤ, pos, ◌+ℤ◌, ◌*ℤ◌, refl, sym, ap, ap₂, ◌∙◌, arith, drop-cons, w16}
-use Rattle.std.proofs.lemmas.List.{get_or-drop, take-take, take_all}
+use Rattle.std.proofs.Common.{ℤ, pos, ◌+ℤ◌, ◌*ℤ◌, refl, sym, ap, ap₂, ◌∙◌, arith, drop-cons, w16}
+use Rattle.std.proofs.lemmas.List.{get_or-drop, get_or-take, take-take, take_all}
 use Rattle.std.proofs.lemmas.Simd.{length-chunk, length-zip2}
 use Rattle.std.specs.List.{All}
-use lib.Lanes.{zip2, chunk, put_chunk, pick_l, Each1}
-use mir.Val.{SFits, to_z, of_z}
+use lib.Lanes.{zip2, chunk, put_chunk, pick_l}
+use mir.Val.{SFits, to_z}
 use Rattle.dsp_defs.specs.Numbers.{floor_shift, saturate}
 use Rattle.dsp_defs.specs.Signal.{sample}
 use Rattle.dsp_sections.specs.Reflected.{reflected}
-use Rattle.dsp_lanes.proofs.LaneOps.{bits_of, ints_of_bits, group_fits}
-use Rattle.dsp_lanes.proofs.HalfSums.{by_eight}
+use Rattle.dsp_lanes.proofs.LaneOps.{bits_of, group_fits}
+use Rattle.dsp_lanes.proofs.LaneSums.{lanes_read}
 use Rattle.dsp_lanes.proofs.Groups.{zip2-group, zip2-one, rest-group, rest-one, rest-sample}
+use Rattle.dsp_sections.proofs.LadderLanes.{AreIn, behind_eight, behind_fit}
 
 -- ---- eight samples
 
--- the value before eight and the first seven of them
-abbrev before_lanes : ℤ → List ℤ → List ℕ
-before_lanes before gs = pick_l 0 (replicate 8 (of_z w16 before) ++ bits_of w16 gs)
-    (0 ∷ 8 ∷ 9 ∷ 10 ∷ 11 ∷ 12 ∷ 13 ∷ 14 ∷ [])
-
-before_read : (before : ℤ) (gs : List ℤ) → SFits w16 before → length gs ≡ 8 → Each1 (SFits w16) gs →
-    map (to_z w16) (before_lanes before gs) ≡ before ∷ take 7 gs
-before_read before gs fits long =
-    by_eight (λ gs. Each1 (SFits w16) gs → map (to_z w16) (before_lanes before gs) ≡ before ∷ take 7 gs)
-    (λ a b c d e f x y h. ints_of_bits w16 (before ∷ a ∷ b ∷ c ∷ d ∷ e ∷ f ∷ x ∷ [])
-    (fits, (h.0, (h.1.0, (h.1.1.0, (h.1.1.1.0, (h.1.1.1.1.0, (h.1.1.1.1.1.0, (h.1.1.1.1.1.1.0, tt)))))))))
-    gs long
-
--- the same of a slice
-pub before_chunk : (before : ℤ) (at : ℕ) (gs : List ℤ) → SFits w16 before → at + 8 ≤ length gs → All (SFits w16) gs →
-    map (to_z w16) (before_lanes before (chunk at 8 gs)) ≡ before ∷ chunk at 7 gs
+-- the last of eight values, and the first seven of the next eight of a slice
+pub before_chunk : (before : List ℤ) (at : ℕ) (gs : List ℤ) → AreIn w16 8 before → at + 8 ≤ length gs →
+    All (SFits w16) gs → map (to_z w16) (pick_l 0 (bits_of w16 before ++ bits_of w16 (chunk at 8 gs))
+    (7 ∷ 8 ∷ 9 ∷ 10 ∷ 11 ∷ 12 ∷ 13 ∷ 14 ∷ [])) ≡ sample before 7 ∷ chunk at 7 gs
 before_chunk before at gs fits room all =
-    before_read before (chunk at 8 gs) fits (length-chunk at 8 gs room) (group_fits w16 at 8 gs all room)
-    ∙ ap (λ l. before ∷ l) (take-take 7 8 (drop at gs) (omega arith))
+    let next = chunk at 8 gs in
+    let are : AreIn w16 8 next = (group_fits w16 at 8 gs all room, length-chunk at 8 gs room) in
+    (lanes_read w16 _ (sample before 7 ∷ take 7 next) (behind_eight w16 before next fits.1 are.1)
+    (behind_fit w16 7 before next fits are).0).0
+    ∙ ap (λ l. sample before 7 ∷ l) (take-take 7 8 (drop at gs) (omega arith))
 
 abbrev sums_with : ℤ → List ℤ → List ℤ → List ℤ
 sums_with k others own = zip2 (λ a b. saturate 16 (a +ℤ b)) (map (λ x. floor_shift (k *ℤ x) 15) others) own
@@ -81,7 +73,7 @@ module _ (k before : ℤ) (fs gs old_fs old_gs : List ℤ) (last : ℤ) (at : �
   pub eight-more : (new_fs new_gs : List ℤ) (next : ℤ) (m : ℕ) → m ≡ at + 8 → m ≤ length fs →
       new_fs ≡ put_chunk at old_fs (zip2 (λ f g. reflected k g f) (chunk at 8 old_fs) (last ∷ chunk at 7 old_gs)) →
       new_gs ≡ put_chunk at old_gs (zip2 (λ f g. reflected k f g) (chunk at 8 old_fs) (last ∷ chunk at 7 old_gs)) →
-      next ≡ sample old_gs (at + 7) → Reached k before fs gs new_fs new_gs next m
+      next ≡ sample (chunk at 8 old_gs) 7 → Reached k before fs gs new_fs new_gs next m
   eight-more new_fs new_gs next m more room is_fs is_gs is_next =
       let up : ℤ → ℤ → ℤ = λ f g. reflected k g f in
       let down : ℤ → ℤ → ℤ = λ f g. reflected k f g in
@@ -109,8 +101,9 @@ module _ (k before : ℤ) (fs gs old_fs old_gs : List ℤ) (last : ℤ) (at : �
             (zip2 down (chunk at 8 old_fs) (last ∷ chunk at 7 old_gs))
             (length-eight down at last old_fs old_gs room_fs room_gs) room_gs h.backward_rest is_gs ∙
             ap (λ n. drop n gs) (sym more);
-        last_is = is_next ∙ sym (get_or-drop at old_gs 7 (pos 0)) ∙ ap (λ l. sample l 7) h.backward_rest ∙
-            get_or-drop at gs 7 (pos 0) ∙ sym (behind before gs m (at + 7) (omega (arith, more)));
+        last_is = is_next ∙ get_or-take 8 (drop at old_gs) 7 (pos 0) (omega arith) ∙
+            ap (λ l. sample l 7) h.backward_rest ∙ get_or-drop at gs 7 (pos 0) ∙
+            sym (behind before gs m (at + 7) (omega (arith, more)));
       }
 
   pub one-more : (f g f' g' : ℤ) (m : ℕ) → m ≡ at + 1 → at < length fs → f ≡ sample old_fs at → g ≡ sample old_gs at →

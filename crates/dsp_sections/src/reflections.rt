@@ -90,35 +90,42 @@ fn reflected_value(product: i32, value: i16) -> i16
     sat16(i64::from((product >> 15) + i32::from(value)))
 }
 
-/// Writes over the eight values f and g from `at` on those that the section gives for them; `before` is
-/// the value g before them.
+/// Writes over the eight values f and g from `at` on those that the section gives for them, and answers
+/// the values g that stood there. The last of `before` is the value g before them. It comes in lanes, since
+/// one shuffle of two groups then moves the values g on by a place, where a number put before them takes
+/// three instructions of the one port that shuffles.
 #[inline(always)]
 fn reflect_group<L: Ledger>(
     k: i16,
-    before: i16,
+    before: i16x8,
     forward: &mut [i16],
     backward: &mut [i16],
     at: usize,
     steps: &mut Steps<L>,
-)
+) -> i16x8
     requires apart { k ≢ negsuc 32767 }
+    requires long { length before ≡ 8 }
+    requires fit { Each1 (FitsSigned w16) before }
     requires forward { at + 8 ≤ length forward.old }
     requires backward { at + 8 ≤ length backward.old }
     ensures forward { forward.new ≡ put_chunk at forward.old
         (zip2 (λ f g. reflected k g f) (chunk at 8 forward.old)
-        (before ∷ chunk at 7 backward.old)) }
+        (sample before 7 ∷ chunk at 7 backward.old)) }
     ensures backward { backward.new ≡ put_chunk at backward.old
         (zip2 (λ f g. reflected k f g) (chunk at 8 forward.old)
-        (before ∷ chunk at 7 backward.old)) }
+        (sample before 7 ∷ chunk at 7 backward.old)) }
+    ensures value { result ≡ chunk at 8 backward.old }
+    ensures fit { Each1 (FitsSigned w16) result }
     ensures steps { Rises steps.old steps.new 16 16 }
 {
     q15_fit(forward);
     q15_fit(backward);
     let f = i16x8::from_slice(&forward[at..]);
     let stored = i16x8::from_slice(&backward[at..]);
-    let g = i16x8::splat(before).shuffle(stored, [0, 8, 9, 10, 11, 12, 13, 14]);
+    let g = before.shuffle(stored, [7, 8, 9, 10, 11, 12, 13, 14]);
     saturated_sums(fractions(k, g, steps), f).copy_to_slice(&mut forward[at..]);
     saturated_sums(fractions(k, f, steps), g).copy_to_slice(&mut backward[at..]);
+    stored
 }
 
 /// Writes over the values f and g of each sample those that a section of a lattice without feedback
@@ -138,14 +145,14 @@ pub fn reflect<L: Ledger>(
     ensures last { result ≡ sample (before ∷ backward.old) (length forward.old) }
     ensures steps { Rises steps.old steps.new (length forward.old * 2) (length forward.old * 2) }
 {
-    let mut last = before;
+    let mut lanes = i16x8::splat(before);
     let mut at = 0;
     'groups: while k != i16::MIN && forward.len() - at >= 8 {
-        let next = backward[at + 7];
-        reflect_group(k, last, forward, backward, at, steps);
-        last = next;
+        lanes = reflect_group(k, lanes, forward, backward, at, steps);
         at += 8;
     }
+    let numbers = lanes.to_array();
+    let mut last = numbers[7];
     'rest: while at < forward.len() {
         let f = forward[at];
         let g = backward[at];

@@ -22,8 +22,8 @@ overflow_mul-count g c =
     omega (arith, count, c.requires.room) in
     search rules
 
-pub transform_groups-requires : goal.transform_groups-requires
-transform_groups-requires g c =
+pub transform_whole-requires : goal.transform_whole-requires
+transform_whole-requires g c =
     let input = c.args.input.now in
     let of = g.W.GroupWork.group (g.W.GroupWork.block c.args.work.now) in
     let n = length input / c.taken.result * c.given.result in
@@ -38,28 +38,28 @@ pub returns-clause-given : goal.returns-clause-given
 returns-clause-given g c = ap₂ (λ n m. length c.args.input.now / n * m) c.taken.ensures c.given.ensures
 
 -- the values are as many as their count
-long : (g : _) (c : goal.After-start g) → length c.transform_groups.new.output ≡ length c.args.input.now /
+long : (g : _) (c : goal.After-start g) → length c.transform_whole.new.output ≡ length c.args.input.now /
     c.taken.result * c.given.result
 long g c =
     let input = c.args.input.now in
     let of = g.W.GroupWork.group (g.W.GroupWork.block c.args.work.now) in
     let n = length input / c.taken.result * c.given.result in
     let count : n ≡ given_count of (length input) = ap₂ (λ n m. length input / n * m) c.taken.ensures c.given.ensures in
-    c.transform_groups.auto.output ∙ length-take-le n c.args.output.now (omega (arith, count, c.requires.room))
+    c.transform_whole.auto.output ∙ length-take-le n c.args.output.now (omega (arith, count, c.requires.room))
 
 pub returns-clause-out : goal.returns-clause-out
 returns-clause-out g c =
     let n = length c.args.input.now / c.taken.result * c.given.result in
-    ap (map g.T.Sample.number) (front-written n c.transform_groups.new.output (drop n c.args.output.now) (long g c)) ∙
-    c.transform_groups.ensures.out
+    ap (map g.T.Sample.number) (front-written n c.transform_whole.new.output (drop n c.args.output.now) (long g c)) ∙
+    c.transform_whole.ensures.out
 
 pub returns-clause-rest : goal.returns-clause-rest
 returns-clause-rest g c =
     let n = length c.args.input.now / c.taken.result * c.given.result in
-    rest-stays n c.transform_groups.new.output (drop n c.args.output.now) (long g c)
+    rest-stays n c.transform_whole.new.output (drop n c.args.output.now) (long g c)
 
 pub returns-clause-steps : goal.returns-clause-steps
-returns-clause-steps g c = c.transform_groups.ensures.steps
+returns-clause-steps g c = c.transform_whole.ensures.steps
 
 pub offset_bounds-input-groups : goal.offset_bounds-input-groups
 offset_bounds-input-groups g c =

@@ -4,6 +4,7 @@ use Rattle.std.proofs.lemmas.Simd.{length-chunk}
 use lib.Lanes.{chunk, put_chunk, zip2, Each1}
 use mir.Val.{SFits}
 use Rattle.dsp_defs.specs.Numbers.{floor_shift, saturate}
+use Rattle.dsp_defs.specs.Signal.{sample}
 use Rattle.dsp_lanes.proofs.LaneOps.{ints_of_bits, group_fits}
 use Rattle.dsp_sections.proofs.ReflectedGroups.{before_chunk, forward-is, backward-is}
 use Rattle.dsp_sections.proofs.reflections.reflect_group.Goals as goal
@@ -43,7 +44,8 @@ returns-clause-forward g c =
     let gs = c.args.backward.now in
     let f8 = chunk at 8 c.args.forward.now in
     let fits_f = group_fits w16 at 8 c.args.forward.now c.q15_fit.ensures c.requires.forward in
-    let before = before_chunk c.args.before at gs c.ranges.before c.requires.backward c.q15_fit-2.ensures in
+    let before = before_chunk c.args.before at gs (c.requires.fit, c.requires.long) c.requires.backward
+    c.q15_fit-2.ensures in
     let products = c.fractions.ensures.value ∙ (λ i. map
     (λ x. floor_shift (to_z-of_z w16 c.args.k c.ranges.k i *ℤ x) 15) (before i)) in
     ap (put_chunk at c.args.forward.now)
@@ -51,7 +53,7 @@ returns-clause-forward g c =
     ∙ c.saturated_sums.ensures.value
     ∙ (λ i. zip2 (λ a b. saturate 16 (a +ℤ b)) ((ints_of_bits w16 c.fractions.result c.fractions.ensures.fit ∙
     products) i) (ints_of_bits w16 f8 fits_f i))
-    ∙ forward-is c.args.k f8 (c.args.before ∷ chunk at 7 gs))
+    ∙ forward-is c.args.k f8 (sample c.args.before 7 ∷ chunk at 7 gs))
 
 pub returns-clause-backward : goal.returns-clause-backward
 returns-clause-backward g c =
@@ -59,7 +61,8 @@ returns-clause-backward g c =
     let gs = c.args.backward.now in
     let f8 = chunk at 8 c.args.forward.now in
     let fits_f = group_fits w16 at 8 c.args.forward.now c.q15_fit.ensures c.requires.forward in
-    let before = before_chunk c.args.before at gs c.ranges.before c.requires.backward c.q15_fit-2.ensures in
+    let before = before_chunk c.args.before at gs (c.requires.fit, c.requires.long) c.requires.backward
+    c.q15_fit-2.ensures in
     let products = c.fractions-2.ensures.value ∙ (λ i. map
     (λ x. floor_shift (to_z-of_z w16 c.args.k c.ranges.k i *ℤ x) 15) (ints_of_bits w16 f8 fits_f i)) in
     ap (put_chunk at c.args.backward.now)
@@ -67,4 +70,15 @@ returns-clause-backward g c =
     ∙ c.saturated_sums-2.ensures.value
     ∙ (λ i. zip2 (λ a b. saturate 16 (a +ℤ b)) ((ints_of_bits w16 c.fractions-2.result c.fractions-2.ensures.fit ∙
     products) i) (before i))
-    ∙ backward-is c.args.k f8 (c.args.before ∷ chunk at 7 gs))
+    ∙ backward-is c.args.k f8 (sample c.args.before 7 ∷ chunk at 7 gs))
+
+pub returns-clause-value : goal.returns-clause-value
+returns-clause-value g c =
+    ints_of_bits w16 (chunk c.args.at 8 c.args.backward.now)
+    (group_fits w16 c.args.at 8 c.args.backward.now c.q15_fit-2.ensures c.requires.backward)
+
+pub returns-clause-fit : goal.returns-clause-fit
+returns-clause-fit g c =
+    let fits = group_fits w16 c.args.at 8 c.args.backward.now c.q15_fit-2.ensures c.requires.backward in
+    subst (λ (xs : List ℤ). Each1 (SFits w16) xs)
+    (sym (ints_of_bits w16 (chunk c.args.at 8 c.args.backward.now) fits)) fits
